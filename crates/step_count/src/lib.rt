@@ -1,0 +1,12 @@
+//! Counted reads.
+//!
+//! A structure that promises how few reads a query makes counts each of them by a call of
+//! `Steps::tick`. A counter takes no bytes and its calls do nothing when the program runs; contracts
+//! see it as a number. The crate stands on std alone.
+#![tactic(auto)]
+
+mod steps;
+#[cfg(test)]
+mod tests;
+
+pub use steps::Steps;
