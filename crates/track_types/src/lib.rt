@@ -1,0 +1,20 @@
+//! The plain values that all crates of gract speak of: cells, rows, limits, and whole numbers in text.
+//!
+//! `number` is exact: a word is no numeral, or one that is too large, or its value.
+//! The crate stands on std alone.
+#![tactic(auto)]
+
+mod cell;
+mod limit;
+mod memory;
+mod numeral;
+mod raw_row;
+
+#[cfg(test)]
+mod tests;
+
+pub use cell::Cell;
+pub use limit::LimitKind;
+pub use memory::Memory;
+pub use numeral::{Numeral, number};
+pub use raw_row::{RawRow, RowFault};

@@ -1,0 +1,22 @@
+/// A quantity that has a greatest value.
+#[derive(Clone, Copy, Debug, PartialEq, Eq)]
+pub enum LimitKind {
+    /// Bytes of the CSV file.
+    Csv,
+    /// Data rows of the CSV file.
+    Rows,
+    /// Different objects.
+    Objects,
+    /// Instants from the first to the last, both counted.
+    Span,
+    /// Cells from the least to the greatest of an axis, both counted.
+    Extent,
+    /// Objects times periods.
+    Blocks,
+    /// Terminals of all logs before the grammar.
+    Symbols,
+    /// Bytes of an index file.
+    Index,
+    /// Bytes of question input.
+    Questions,
+}

@@ -1,0 +1,107 @@
+ghost use Rattle.std.specs.Prelude.{◌≡◌, ◌^◌, ◌<◌, ◌≤◌, true, pos, IfSome, IfNone};
+ghost use Rattle.std.specs.List.{list_all};
+ghost use Rattle.track_types.specs.Numeral.{is_blank, is_decimal, is_digit, magnitude_of, numeral_of, signed_of, trimmed, without_blanks_before, without_blanks_behind};
+
+/// What a word is as a whole number.
+#[derive(Clone, Copy, Debug, PartialEq, Eq)]
+pub enum Numeral {
+    /// A numeral whose value is within -2^62 to 2^62.
+    Value(i64),
+    /// A numeral whose value is outside.
+    Large,
+    /// No numeral.
+    Not,
+}
+
+/// The greatest magnitude of a value, 2^62.
+const GREATEST: u128 = 0x4000_0000_0000_0000;
+
+/// Reads a word as a numeral: any number of spaces and tabs, at most one `+` or `-`, at least one
+/// decimal digit, and any number of spaces and tabs. It takes no memory, however long the word is.
+pub fn number(word: &[u8]) -> Numeral
+    ensures { result ≡ numeral_of word.now }
+{
+    match trim_end(trim_start(word)) {
+        [b'-', digits @ ..] => signed(true, digits),
+        [b'+', digits @ ..] => signed(false, digits),
+        digits => signed(false, digits),
+    }
+}
+
+fn trim_start(word: &[u8]) -> &[u8]
+    ensures { result.now ≡ without_blanks_before word.now }
+{
+    let mut left = word;
+    while let [first, rest @ ..] = left {
+        if !is_blank_byte(*first) {
+            break;
+        }
+        left = rest;
+    }
+    left
+}
+
+fn trim_end(word: &[u8]) -> &[u8]
+    ensures { result.now ≡ without_blanks_behind word.now }
+{
+    let mut left = word;
+    while let [rest @ .., last] = left {
+        if !is_blank_byte(*last) {
+            break;
+        }
+        left = rest;
+    }
+    left
+}
+
+fn is_blank_byte(byte: u8) -> bool
+    ensures { result ≡ is_blank byte }
+{
+    byte == b' ' || byte == b'\t'
+}
+
+fn signed(is_negative: bool, digits: &[u8]) -> Numeral
+    ensures { result ≡ signed_of is_negative digits.now }
+{
+    if !is_decimal_text(digits) {
+        return Numeral::Not;
+    }
+    match magnitude(digits) {
+        None => Numeral::Large,
+        Some(size) => Numeral::Value(if is_negative { -size } else { size }),
+    }
+}
+
+fn is_decimal_text(digits: &[u8]) -> bool
+    ensures { result ≡ is_decimal digits.now }
+{
+    !digits.is_empty() && has_digits_alone(digits)
+}
+
+fn has_digits_alone(digits: &[u8]) -> bool
+    ensures { result ≡ list_all is_digit digits.now }
+{
+    digits.iter().all(|digit| is_digit_byte(*digit))
+}
+
+fn is_digit_byte(byte: u8) -> bool
+    ensures { result ≡ is_digit byte }
+{
+    b'0' <= byte && byte <= b'9'
+}
+
+// What the digits mean, or none where that is above `GREATEST`.
+fn magnitude(digits: &[u8]) -> Option<i64>
+    requires { list_all is_digit digits.now ≡ true }
+    ensures within { IfSome result (λ value. (value ≡ pos (magnitude_of digits.now)) × (magnitude_of digits.now ≤ 2 ^ 62)) }
+    ensures large { IfNone result (2 ^ 62 < magnitude_of digits.now) }
+{
+    let mut value: u128 = 0;
+    for digit in digits {
+        value = 10 * value + u128::from(*digit - b'0');
+        if value > GREATEST {
+            return None;
+        }
+    }
+    Some(value as i64)
+}
