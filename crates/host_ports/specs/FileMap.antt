@@ -1,0 +1,22 @@
+-- Files by name, as far as they are told.
+use Rattle.std.specs.Prelude.{◌≡◌, ℕ, List, Option, Some, None, ⊤}
+use Rattle.std.specs.Map.{lookup}
+use Rattle.std.specs.Str.{bytes_eq}
+
+-- a name, then the bytes of that file; of two files of one name the first counts
+abbrev pub FileMap : Type 0
+FileMap = List (List ℕ × List ℕ)
+
+-- the bytes of the file of that name, if there is one
+abbrev pub held : FileMap → List ℕ → Option (List ℕ)
+held files name = lookup (λ key. bytes_eq key name) files
+
+-- where the files are told, there is one of that name, and all its bytes are still to come
+abbrev pub IsOpened : Option FileMap → List ℕ → Option (List ℕ) → Type 0
+IsOpened None name rest = ⊤
+IsOpened (Some files) name rest = (bytes : List ℕ) × (held files name ≡ Some bytes) × (rest ≡ Some bytes)
+
+-- the files are told, and there is none of that name
+abbrev pub IsMissing : Option FileMap → List ℕ → Type 0
+IsMissing None name = ⊥
+IsMissing (Some files) name = held files name ≡ None
