@@ -1,0 +1,34 @@
+-- What a line asks.
+use Rattle.std.specs.Prelude.{ℕ, ◌^◌, ◌-◌, Bool, true, false, nat_lt, if◌then◌else◌, List, [], ◌∷◌, length, codes, ℤ, Option, Some, None}
+use Rattle.std.specs.Str.{bytes_eq}
+use Rattle.gract_top.specs.Lines.{words_of}
+use Rattle.gract_top.specs.Ranges.{natural_within, whole_within}
+use Rattle.gract_top.specs.declared.question.Question.{Question}
+use Rattle.gract_top.specs.declared.question.Question.TheVariants.{Blank, Position, Bad}
+
+-- where the object and the instant are in their ranges
+abbrev pub position_of : Option ℕ → Option ℤ → Question
+position_of (Some object) (Some instant) = Position object instant
+position_of (Some object) None = Bad
+position_of None instant = Bad
+
+-- the two words behind `position`
+abbrev pub position_words : List (List ℕ) → Question
+position_words [] = Bad
+position_words (object ∷ []) = Bad
+position_words (object ∷ instant ∷ []) = position_of (natural_within 0 (2 ^ 32 - 1) object) (whole_within (2 ^ 41) instant)
+position_words (object ∷ instant ∷ more ∷ rest) = Bad
+
+-- the words of a line that is not too long
+abbrev pub question_words : List (List ℕ) → Question
+question_words [] = Blank
+question_words (first ∷ rest) = if bytes_eq first (codes "position") then position_words rest else Bad
+
+-- the words of a line that is too long
+abbrev pub too_long : List (List ℕ) → Question
+too_long [] = Blank
+too_long (first ∷ rest) = Bad
+
+-- a line of more than 1,024 bytes is bad where it has a word
+abbrev pub question_of : List ℕ → Question
+question_of line = if nat_lt 1024 (length line) then too_long (words_of line) else question_words (words_of line)

@@ -1,0 +1,60 @@
+-- What the command words ask for.
+use Rattle.std.specs.Prelude.{ℕ, ◌+◌, ◌^◌, Bool, true, false, if◌then◌else◌, List, [], ◌∷◌, codes, Option, Some, None, map, slice_index_or}
+use denote.Ref.{Bor}
+use Rattle.std.specs.Option.{is_some}
+use Rattle.std.specs.Str.{bytes_eq}
+use Rattle.gract_top.specs.Lines.{has_byte}
+use Rattle.track_types.specs.Numeral.{numeral_of}
+use Rattle.gract_top.specs.Ranges.{magnitude, natural_within}
+use Rattle.gract_top.specs.declared.request.WordKind.{WordKind}
+use Rattle.gract_top.specs.declared.request.WordKind.TheVariants.{File, Number}
+use Rattle.gract_top.specs.declared.request.Request.{Request}
+use Rattle.gract_top.specs.declared.request.Request.TheVariants.{Once, Refused}
+use Rattle.gract_top.specs.declared.request.Settings.{Settings}
+
+-- a file word is any text that is not empty, a number word a numeral in its range
+abbrev pub fits_word : WordKind → List ℕ → Bool
+fits_word File word = has_byte word
+fits_word (Number least greatest) word = is_some (natural_within least greatest word)
+
+-- The place of the first word that does not fit, of the first that is missing, or of the first too many.
+abbrev pub first_bad : List WordKind → List (List ℕ) → ℕ → Option ℕ
+first_bad [] [] place = None
+first_bad [] (word ∷ words) place = Some place
+first_bad (kind ∷ kinds) [] place = Some place
+first_bad (kind ∷ kinds) (word ∷ words) place = if fits_word kind word then first_bad kinds words (place + 1) else Some place
+
+-- the words behind `once`: CSV CELL TICK PERIOD
+abbrev pub once_words : List WordKind
+once_words = File ∷ Number 1 1 ∷ Number 1 1 ∷ Number 1 (2 ^ 22) ∷ []
+
+-- the value of a number word that fits
+abbrev pub natural_value : List ℕ → ℕ
+natural_value word = magnitude (numeral_of word)
+
+abbrev pub settings_of : List (List ℕ) → Settings
+settings_of words = record {
+  cell = natural_value (slice_index_or words 1 []);
+  tick = natural_value (slice_index_or words 2 []);
+  period = natural_value (slice_index_or words 3 []);
+}
+
+abbrev pub refused_or : Option ℕ → Settings → Request
+refused_or (Some place) settings = Refused place
+refused_or None settings = Once settings
+
+abbrev pub once_of : List (List ℕ) → Request
+once_of words = refused_or (first_bad once_words words 2) (settings_of words)
+
+-- What the words ask for: one of the forms with its values, or the place of the first bad word, counted from 1.
+abbrev pub request_of : List (List ℕ) → Request
+request_of [] = Refused 1
+request_of (name ∷ words) = if bytes_eq name (codes "once") then once_of words else Refused 1
+
+-- the name of the CSV file, in words that have a form
+abbrev pub csv_name : List (List ℕ) → List ℕ
+csv_name words = slice_index_or words 1 []
+
+-- the texts that words are
+abbrev pub texts : List (Bor (List ℕ)) → List (List ℕ)
+texts words = map (λ word. word.now) words

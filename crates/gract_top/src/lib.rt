@@ -1,0 +1,23 @@
+//! The whole program as one call: command words in, an outcome out.
+//!
+//! `gract` loads a CSV file, and says for each line of its source the reply that going through the
+//! rows gives. Files, source and sink are handed in, so the call's contract can speak of all that
+//! came and was said. The crate stands on row_reader, host_ports, track_types and step_count.
+#![tactic(auto)]
+
+mod answering;
+mod commands;
+mod line_buffer;
+mod loading;
+mod outcome;
+mod question;
+mod ranges;
+mod reply;
+mod request;
+mod words;
+
+#[cfg(test)]
+mod tests;
+
+// pub use commands::gract;
+pub use outcome::Outcome;

@@ -1,0 +1,24 @@
+use track_types::{LimitKind, RowFault};
+
+/// How a call of the program ended.
+#[derive(Clone, Copy, Debug, PartialEq, Eq)]
+pub enum Outcome {
+    /// Everything was done.
+    Done,
+    /// The command words have no form; the first bad one stands at this place, counted from 1.
+    Words { place: u32 },
+    /// A file could not be read.
+    LoadFailed,
+    /// A quantity passed its limit, at this value.
+    Limit { kind: LimitKind, value: u64 },
+    /// A record of the CSV file is no row.
+    Row { nth: u64, field: u32, fault: RowFault },
+    /// The CSV file has no data row.
+    Empty,
+    /// The questions could not be read.
+    ListenFailed,
+    /// The answers could not be written.
+    SayFailed,
+    /// Memory was refused.
+    Memory,
+}

@@ -1,0 +1,135 @@
+ghost use Rattle.std.specs.Prelude.{◌≡◌, ◌+◌, ◌^◌, ◌≤◌, true, length};
+ghost use Rattle.gract_top.specs.Request.{first_bad, fits_word, natural_value, once_of, request_of, texts};
+
+use crate::ranges::read_natural;
+
+/// What a command wants at a place.
+#[derive(Clone, Copy, Debug, PartialEq, Eq)]
+pub enum WordKind {
+    /// The name of a file: any text that is not empty.
+    File,
+    /// A numeral whose value is from `least` to `greatest`.
+    Number { least: u64, greatest: u64 },
+}
+
+/// What the command words ask for.
+#[derive(Clone, Copy, Debug, PartialEq, Eq)]
+pub enum Request {
+    /// To answer the source's lines from the CSV file that the second word names.
+    Once(Settings),
+    /// Nothing: the first bad word stands at this place, counted from 1.
+    Refused { place: u32 },
+}
+
+/// How rows are gridded, and how the axis of time is cut into periods.
+#[derive(Clone, Copy, Debug, PartialEq, Eq)]
+pub struct Settings {
+    /// The side of a cell.
+    pub cell: u64,
+    /// The length of an instant.
+    pub tick: u64,
+    /// How many instants are in a period.
+    pub period: u32,
+}
+
+/// The greatest CELL.
+const GREATEST_CELL: u64 = 1;
+
+/// The greatest TICK.
+const GREATEST_TICK: u64 = 1;
+
+/// The greatest PERIOD, 2^22.
+const GREATEST_PERIOD: u64 = 0x40_0000;
+
+/// The words behind `once`: CSV CELL TICK PERIOD.
+const ONCE: [WordKind; 4] = [
+    WordKind::File,
+    WordKind::Number {
+        least: 1,
+        greatest: GREATEST_CELL,
+    },
+    WordKind::Number {
+        least: 1,
+        greatest: GREATEST_TICK,
+    },
+    WordKind::Number {
+        least: 1,
+        greatest: GREATEST_PERIOD,
+    },
+];
+
+// Reads the command words.
+pub(crate) fn read_request(words: &[&str]) -> Request
+    ensures { result ≡ request_of (texts words.now) }
+{
+    match words {
+        [] => Request::Refused { place: 1 },
+        [name, rest @ ..] => {
+            if *name == "once" {
+                read_once(rest)
+            } else {
+                Request::Refused { place: 1 }
+            }
+        }
+    }
+}
+
+fn read_once(words: &[&str]) -> Request
+    ensures { result ≡ once_of (texts words.now) }
+{
+    if let Some(place) = first_bad_place(&ONCE, words, 2) {
+        return Request::Refused { place };
+    }
+    Request::Once(Settings {
+        cell: natural(words[1], GREATEST_CELL),
+        tick: natural(words[2], GREATEST_TICK),
+        period: natural(words[3], GREATEST_PERIOD) as u32,
+    })
+}
+
+// The place of the first word that does not fit, is missing or is one too many; the first word stands
+// at `place`.
+fn first_bad_place(kinds: &[WordKind], words: &[&str], place: u32) -> Option<u32>
+    requires { place + length kinds.now ≤ 2 ^ 31 }
+    ensures { result ≡ first_bad kinds.now (texts words.now) place }
+{
+    match kinds {
+        [] => {
+            if words.is_empty() {
+                None
+            } else {
+                Some(place)
+            }
+        }
+        [kind, kinds @ ..] => match words {
+            [] => Some(place),
+            [word, words @ ..] => {
+                if fits(*kind, word) {
+                    first_bad_place(kinds, words, place + 1)
+                } else {
+                    Some(place)
+                }
+            }
+        },
+    }
+}
+
+fn fits(kind: WordKind, word: &str) -> bool
+    ensures { result ≡ fits_word kind word.now }
+{
+    match kind {
+        WordKind::File => !word.is_empty(),
+        WordKind::Number { least, greatest } => {
+            read_natural(word.as_bytes(), least, greatest).is_some()
+        }
+    }
+}
+
+// The value of a number word that fits.
+fn natural(word: &str, greatest: u64) -> u64
+    requires { fits_word (WordKind.Number 1 greatest) word.now ≡ true }
+    ensures value { result ≡ natural_value word.now }
+    ensures within { result ≤ greatest }
+{
+    read_natural(word.as_bytes(), 1, greatest).unwrap()
+}
