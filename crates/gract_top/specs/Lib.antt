@@ -4,3 +4,5 @@ pub mod Question
 pub mod Answers
 pub mod Reply
 pub mod Request
+pub mod LineKept
+pub mod Loading

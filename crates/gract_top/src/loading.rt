@@ -1,1 +1,58 @@
+ghost use Rattle.std.specs.Prelude.{◌≡◌, ℕ, ◌+◌, ◌^◌, ◌<◌, ◌≤◌, ◌⊎◌, length, vec_len, IfOk, Err};
+ghost use Rattle.host_ports.specs.Faults.{Rose};
+ghost use Rattle.host_ports.specs.FileMap.{IsMissing};
+ghost use Rattle.gract_top.specs.Loading.{HoldsAs, HoldsLonger};
 
+use host_ports::Files;
+use std::alloc::Global;
+
+/// Why a file was not loaded.
+#[derive(Clone, Copy, Debug, PartialEq, Eq)]
+pub(crate) enum LoadFault {
+    /// It could not be read, or there is none of that name.
+    Failed,
+    /// It has more bytes than the limit.
+    TooLong,
+    /// Memory was refused.
+    Memory,
+}
+
+/// How many bytes are asked for at a time.
+const PIECE: usize = 0x4000;
+
+// Loads a file of at most `limit` bytes. No byte beyond `limit + 1` is asked for.
+pub(crate) fn load<F: Files>(
+    alloc: Global,
+    files: &mut F,
+    name: &str,
+    limit: usize,
+) -> Result<Vec<u8>, LoadFault>
+    requires { limit < 2 ^ 40 }
+    ensures within { IfOk result (λ bytes. vec_len bytes ≤ limit) }
+    ensures held { IfOk result (λ bytes. HoldsAs (F.map files.old) name.now bytes.items) }
+    ensures failed { result ≡ Err LoadFault.Failed → Rose (F.load_faults files.old) (F.load_faults files.new) ⊎ IsMissing (F.map files.old) name.now }
+    ensures missing { IsMissing (F.map files.old) name.now → result ≡ Err LoadFault.Failed }
+    ensures taken { result ≡ Err LoadFault.TooLong → F.taken files.new ≡ limit + 1 }
+    ensures long { result ≡ Err LoadFault.TooLong → HoldsLonger (F.map files.old) name.now limit }
+    ensures map { F.map files.new ≡ F.map files.old }
+    ensures faults { F.load_faults files.old ≤ F.load_faults files.new }
+{
+    if files.begin(name).is_err() {
+        return Err(LoadFault::Failed);
+    }
+    let mut bytes = Vec::new(alloc);
+    let mut piece = [0; PIECE];
+    'pieces: while bytes.len() <= limit {
+        let room = PIECE.min(limit + 1 - bytes.len());
+        let Ok(count) = files.pull(&mut piece[..room]) else {
+            return Err(LoadFault::Failed);
+        };
+        if count == 0 {
+            return Ok(bytes);
+        }
+        if bytes.extend_from_slice(&piece[..count]).is_err() {
+            return Err(LoadFault::Memory);
+        }
+    }
+    Err(LoadFault::TooLong)
+}

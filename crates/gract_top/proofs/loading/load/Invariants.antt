@@ -1,0 +1,16 @@
+use Rattle.std.proofs.Common.{◌≡◌, ◌+◌, ◌-◌, ◌≤◌, length, vec_len}
+use Rattle.std.specs.Io.KnownBytes.{prepend_known}
+use Rattle.host_ports.specs.FileMap.{IsOpened}
+use Rattle.gract_top.proofs.loading.load.Given as goal
+
+abbrev pub invariant-pieces : goal.invariant-pieces
+invariant-pieces g l = record {
+  taken : g.F.Files.taken l.files ≡ vec_len l.bytes;
+  within : vec_len l.bytes ≤ l.limit + 1;
+  map : g.F.Files.map l.files ≡ g.F.Files.map l.fn.files;
+  faults : g.F.Files.load_faults l.fn.files ≤ g.F.Files.load_faults l.files;
+  opened : IsOpened (g.F.Files.map l.fn.files) l.name (prepend_known l.bytes.items (g.F.Files.rest l.files));
+}
+
+abbrev pub decreases-pieces : goal.decreases-pieces
+decreases-pieces g l = l.limit + 1 - vec_len l.bytes
