@@ -1,3 +1,4 @@
 pub mod LineLemmas
 pub mod RequestLemmas
 pub mod KeptLemmas
+pub mod SessionLemmas

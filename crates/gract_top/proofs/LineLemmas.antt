@@ -3,6 +3,7 @@ use Rattle.std.proofs.Common.{◌≡◌, ℕ, Bool, true, false, not, if◌then�
 use Rattle.std.specs.List.{list_all}
 use Rattle.std.proofs.lemmas.List.{take-append-drop}
 use mathlib.Core.Bool.{false≢true}
+use Rattle.std.proofs.lemmas.List.Folds.{list_all-append}
 use Rattle.std.proofs.lemmas.Bool.{and_parts, not-true}
 use Rattle.gract_top.specs.Lines.{Parts, begin_first, parted, words_of, is_gap, BeginsWord, EndsWord, has_byte}
 
@@ -58,3 +59,52 @@ words_of-take (byte ∷ rest) (suc n) some begins whole ends =
 pub has_byte-nonempty : (text : List ℕ) → nat_eq (length text) 0 ≡ false → has_byte text ≡ true
 has_byte-nonempty [] some = sym some
 has_byte-nonempty (byte ∷ rest) some = refl
+
+-- what comes behind a text is parted behind the text's last piece
+pub parted-append : (is_end : ℕ → Bool) (front back : List ℕ) →
+    let here = parted is_end front in
+    let there = parted is_end (here.left ++ back) in
+    parted is_end (front ++ back) ≡ record { ended = here.ended ++ there.ended; left = there.left }
+parted-append is_end [] back = refl
+parted-append is_end (byte ∷ front) back =
+    rw (parted-append is_end front back) (behind_byte is_end byte back (parted is_end front).ended (parted is_end front).left (is_end byte) refl)
+  where
+    behind_byte : (is_end : ℕ → Bool) (byte : ℕ) (back : List ℕ) (ended : List (List ℕ)) (left : List ℕ) (test : Bool) → is_end byte ≡ test →
+        let there = parted is_end (left ++ back) in
+        let here : Parts = if is_end byte then record { ended = [] ∷ ended; left = left } else begin_first byte ended left in
+        let behind = parted is_end (here.left ++ back) in
+        let whole : Parts = if is_end byte then record { ended = [] ∷ (ended ++ there.ended); left = there.left } else begin_first byte (ended ++ there.ended) there.left in
+        let joined : Parts = record { ended = here.ended ++ behind.ended; left = behind.left } in
+        whole ≡ joined
+    behind_byte is_end byte back ended left true e = rw e refl
+    behind_byte is_end byte back [] left false e = rw e (rw e refl)
+    behind_byte is_end byte back (piece ∷ ended) left false e = rw e refl
+
+-- no end byte is in what follows the last one
+pub piece-left : (is_end : ℕ → Bool) (text : List ℕ) → IsPiece is_end (parted is_end text).left
+piece-left is_end [] = refl
+piece-left is_end (byte ∷ text) = behind_byte is_end byte (parted is_end text).ended (parted is_end text).left (piece-left is_end text) (is_end byte) refl
+  where
+    behind_byte : (is_end : ℕ → Bool) (byte : ℕ) (ended : List (List ℕ)) (left : List ℕ) → IsPiece is_end left → (test : Bool) → is_end byte ≡ test →
+        let here : Parts = if is_end byte then record { ended = [] ∷ ended; left = left } else begin_first byte ended left in
+        IsPiece is_end here.left
+    behind_byte is_end byte ended left whole true e = rw e whole
+    behind_byte is_end byte [] left whole false e = rw (e, e) whole
+    behind_byte is_end byte (piece ∷ ended) left whole false e = rw e whole
+
+piece-push : (is_end : ℕ → Bool) (piece : List ℕ) (byte : ℕ) → IsPiece is_end piece → is_end byte ≡ false → IsPiece is_end (piece ++ byte ∷ [])
+piece-push is_end piece byte whole inside = rw (list_all-append (λ other. not (is_end other)) piece (byte ∷ []), whole, inside) refl
+
+-- a text, and an end byte behind it
+pub parted-end : (is_end : ℕ → Bool) (text : List ℕ) (end : ℕ) → is_end end ≡ true →
+    parted is_end (text ++ end ∷ []) ≡ record { ended = (parted is_end text).ended ++ (parted is_end text).left ∷ []; left = [] }
+parted-end is_end text end ends =
+    rw (parted-append is_end text (end ∷ []), parted-piece is_end (parted is_end text).left end [] (piece-left is_end text) ends) refl
+
+-- a text, and another byte behind it
+pub parted-byte : (is_end : ℕ → Bool) (text : List ℕ) (byte : ℕ) → is_end byte ≡ false →
+    parted is_end (text ++ byte ∷ []) ≡ record { ended = (parted is_end text).ended; left = (parted is_end text).left ++ byte ∷ [] }
+parted-byte is_end text byte inside =
+    let left = (parted is_end text).left in
+    let whole : IsPiece is_end (left ++ byte ∷ []) = piece-push is_end left byte (piece-left is_end text) inside in
+    rw (parted-append is_end text (byte ∷ []), parted-unended is_end (left ++ byte ∷ []) whole, append-nil (parted is_end text).ended) refl

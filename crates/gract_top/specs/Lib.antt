@@ -6,3 +6,4 @@ pub mod Reply
 pub mod Request
 pub mod LineKept
 pub mod Loading
+pub mod Session

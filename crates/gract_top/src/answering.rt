@@ -1,1 +1,80 @@
+ghost use Rattle.std.specs.Prelude.{◌≡◌, ℕ, ◌+◌, ◌^◌, ◌≤◌, ◌∷◌, [], ◌++◌, List, Option, length, take, Err, OnOk, OnErr};
+ghost use Rattle.std.specs.Io.KnownBytes.{Appends, IsAtEnd};
+ghost use Rattle.host_ports.specs.Faults.{Rose};
+ghost use Rattle.gract_top.specs.Lines.{lines_of, whole_lines};
+ghost use Rattle.gract_top.specs.Reply.{replies_of};
+ghost use Rattle.gract_top.specs.Session.{Came, Heard, SaysFront};
 
+use crate::line_buffer::LineBuffer;
+use crate::reply::reply;
+use host_ports::{Cut, Sink, Source};
+use track_types::RawRow;
+
+/// Why the lines of a source were not all answered.
+#[derive(Clone, Copy, Debug, PartialEq, Eq)]
+pub(crate) enum AnswerFault {
+    /// The source failed.
+    Listen,
+    /// The sink failed.
+    Say,
+    /// More bytes came than question input may have.
+    TooLong,
+}
+
+/// How many bytes question input may have, 2^32.
+const LONGEST_INPUT: u64 = 0x1_0000_0000;
+
+/// How many bytes are listened to at a time.
+const PIECE: usize = 4096;
+
+// Answers one byte more of question input: a line is answered as its line feed comes.
+fn take_byte<K: Sink>(
+    line: &mut LineBuffer,
+    rows: &[RawRow],
+    byte: u8,
+    sink: &mut K,
+) -> Result<(), Cut>
+    ensures ok { OnOk result ((before : Option (List ℕ)) (came : List ℕ) → Heard rows.now before (K.said sink.old) came line.old → Heard rows.now before (K.said sink.new) (came ++ byte ∷ []) line.new) }
+    ensures err { OnErr result ((before : Option (List ℕ)) (came : List ℕ) → Heard rows.now before (K.said sink.old) came line.old → SaysFront before (K.said sink.new) (replies_of rows.now (whole_lines (came ++ byte ∷ [])))) }
+    ensures cause { OnErr result (Rose (K.faults sink.old) (K.faults sink.new)) }
+    ensures faults { K.faults sink.old ≤ K.faults sink.new }
+{
+    if byte != b'\n' {
+        line.push(byte);
+        return Ok(());
+    }
+    let text = reply(rows, line.question());
+    line.clear();
+    say_any(text.as_bytes(), sink)
+}
+
+// Answers a piece more of question input.
+fn take_piece<K: Sink>(
+    line: &mut LineBuffer,
+    rows: &[RawRow],
+    piece: &[u8],
+    sink: &mut K,
+) -> Result<(), Cut>
+    ensures ok { OnOk result ((before : Option (List ℕ)) (came : List ℕ) → Heard rows.now before (K.said sink.old) came line.old → Heard rows.now before (K.said sink.new) (came ++ piece.now) line.new) }
+    ensures err { OnErr result ((before : Option (List ℕ)) (came : List ℕ) → Heard rows.now before (K.said sink.old) came line.old → SaysFront before (K.said sink.new) (replies_of rows.now (whole_lines (came ++ piece.now)))) }
+    ensures cause { OnErr result (Rose (K.faults sink.old) (K.faults sink.new)) }
+    ensures faults { K.faults sink.old ≤ K.faults sink.new }
+{
+    for byte in piece {
+        take_byte(line, rows, *byte, sink)?;
+    }
+    Ok(())
+}
+
+// Says a text that may be empty; for an empty one the sink is left alone.
+fn say_any<K: Sink>(text: &[u8], sink: &mut K) -> Result<(), Cut>
+    ensures ok { OnOk result (Appends (K.said sink.old) (K.said sink.new) text.now) }
+    ensures err { OnErr result (SaysFront (K.said sink.old) (K.said sink.new) text.now) }
+    ensures cause { OnErr result (Rose (K.faults sink.old) (K.faults sink.new)) }
+    ensures faults { K.faults sink.old ≤ K.faults sink.new }
+{
+    if text.is_empty() {
+        return Ok(());
+    }
+    sink.say(text)
+}
