@@ -1,8 +1,8 @@
 -- What came from a source and what was said for it.
-use Rattle.std.specs.Prelude.{◌≡◌, ℕ, ◌+◌, List, ◌++◌, length, Option}
-use Rattle.std.specs.Io.KnownBytes.{Appends, Consumes}
+use Rattle.std.specs.Prelude.{◌≡◌, ℕ, ◌+◌, ◌^◌, ◌≤◌, List, ◌++◌, length, take, Option}
+use Rattle.std.specs.Io.KnownBytes.{Appends, Consumes, IsAtEnd}
 use Rattle.track_types.specs.declared.raw_row.RawRow.{RawRow}
-use Rattle.gract_top.specs.Lines.{unended_line, whole_lines}
+use Rattle.gract_top.specs.Lines.{lines_of, unended_line, whole_lines}
 use Rattle.gract_top.specs.LineKept.{LineKept, kept_of}
 use Rattle.gract_top.specs.Reply.{replies_of}
 
@@ -18,7 +18,44 @@ pub record SaysFront (before now : Option (List ℕ)) (whole : List ℕ) : Type 
   pub front : whole ≡ text ++ unsaid
   pub said : Appends before now text
 
--- These bytes came from a source: they were next where it tells what is to come, and are counted.
-pub record Came (rest_before rest_now : Option (List ℕ)) (taken_before taken_now : ℕ) (bytes : List ℕ) : Type 0 where
-  pub consumed : Consumes rest_before rest_now bytes
-  pub counted : taken_now ≡ taken_before + length bytes
+-- What is known of a source and a sink at a moment: the bytes still to come, how many came, and what was said.
+pub record Talk : Type 0 where
+  pub rest : Option (List ℕ)
+  pub taken : ℕ
+  pub said : Option (List ℕ)
+
+abbrev pub talk : Option (List ℕ) → ℕ → Option (List ℕ) → Talk
+talk rest taken said = record { rest = rest; taken = taken; said = said }
+
+-- These bytes came in between: they were next where the source tells what is to come, and are counted.
+pub record Came (before now : Talk) (bytes : List ℕ) : Type 0 where
+  pub consumed : Consumes before.rest now.rest bytes
+  pub counted : now.taken ≡ before.taken + length bytes
+
+-- The source was read to its end, and what was said is the replies to all lines.
+pub record AnswersAll (rows : List RawRow) (before now : Talk) : Type 0 where
+  pub bytes : List ℕ
+  pub came : Came before now bytes
+  pub at_end : IsAtEnd now.rest
+  pub within : length bytes ≤ 2 ^ 32
+  pub said : Appends before.said now.said (replies_of rows (lines_of bytes))
+
+-- What was said is the replies to the whole lines among the bytes that came.
+pub record AnswersWhole (rows : List RawRow) (before now : Talk) : Type 0 where
+  pub bytes : List ℕ
+  pub came : Came before now bytes
+  pub within : length bytes ≤ 2 ^ 32
+  pub said : Appends before.said now.said (replies_of rows (whole_lines bytes))
+
+-- One byte more came than question input may have, and what was said is the replies to the whole lines before it.
+pub record AnswersFirst (rows : List RawRow) (before now : Talk) : Type 0 where
+  pub bytes : List ℕ
+  pub came : Came before now bytes
+  pub past : length bytes ≡ 2 ^ 32 + 1
+  pub said : Appends before.said now.said (replies_of rows (whole_lines (take (2 ^ 32) bytes)))
+
+-- What was said is the front of the replies to the bytes that came.
+pub record AnswersFront (rows : List RawRow) (before now : Talk) : Type 0 where
+  pub bytes : List ℕ
+  pub came : Came before now bytes
+  pub said : SaysFront before.said now.said (replies_of rows (lines_of bytes))

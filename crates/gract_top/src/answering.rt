@@ -1,9 +1,9 @@
-ghost use Rattle.std.specs.Prelude.{◌≡◌, ℕ, ◌+◌, ◌^◌, ◌≤◌, ◌∷◌, [], ◌++◌, List, Option, length, take, Err, OnOk, OnErr};
-ghost use Rattle.std.specs.Io.KnownBytes.{Appends, IsAtEnd};
+ghost use Rattle.std.specs.Prelude.{◌≡◌, ℕ, ◌≤◌, ◌∷◌, [], ◌++◌, List, Option, Err, OnOk, OnErr};
+ghost use Rattle.std.specs.Io.KnownBytes.{Appends};
 ghost use Rattle.host_ports.specs.Faults.{Rose};
 ghost use Rattle.gract_top.specs.Lines.{lines_of, whole_lines};
 ghost use Rattle.gract_top.specs.Reply.{replies_of};
-ghost use Rattle.gract_top.specs.Session.{Came, Heard, SaysFront};
+ghost use Rattle.gract_top.specs.Session.{AnswersAll, AnswersFirst, AnswersFront, AnswersWhole, Heard, SaysFront, talk};
 
 use crate::line_buffer::LineBuffer;
 use crate::reply::reply;
@@ -22,7 +22,7 @@ pub(crate) enum AnswerFault {
 }
 
 /// How many bytes question input may have, 2^32.
-const LONGEST_INPUT: u64 = 0x1_0000_0000;
+const LONGEST_INPUT: usize = 0x1_0000_0000;
 
 /// How many bytes are listened to at a time.
 const PIECE: usize = 4096;
@@ -46,6 +46,55 @@ fn take_byte<K: Sink>(
     let text = reply(rows, line.question());
     line.clear();
     say_any(text.as_bytes(), sink)
+}
+
+// Answers the lines of a source, until its end or a fault.
+pub(crate) fn answer_lines<S: Source, K: Sink>(
+    rows: &[RawRow],
+    source: &mut S,
+    sink: &mut K,
+) -> Result<(), AnswerFault>
+    ensures ok { OnOk result (AnswersAll rows.now (talk (S.rest source.old) (S.taken source.old) (K.said sink.old)) (talk (S.rest source.new) (S.taken source.new) (K.said sink.new))) }
+    ensures listen { result ≡ Err AnswerFault.Listen → AnswersWhole rows.now (talk (S.rest source.old) (S.taken source.old) (K.said sink.old)) (talk (S.rest source.new) (S.taken source.new) (K.said sink.new)) }
+    ensures say { result ≡ Err AnswerFault.Say → AnswersFront rows.now (talk (S.rest source.old) (S.taken source.old) (K.said sink.old)) (talk (S.rest source.new) (S.taken source.new) (K.said sink.new)) }
+    ensures long { result ≡ Err AnswerFault.TooLong → AnswersFirst rows.now (talk (S.rest source.old) (S.taken source.old) (K.said sink.old)) (talk (S.rest source.new) (S.taken source.new) (K.said sink.new)) }
+    ensures listen_cause { result ≡ Err AnswerFault.Listen → Rose (S.faults source.old) (S.faults source.new) }
+    ensures say_cause { result ≡ Err AnswerFault.Say → Rose (K.faults sink.old) (K.faults sink.new) }
+    ensures listen_faults { S.faults source.old ≤ S.faults source.new }
+    ensures say_faults { K.faults sink.old ≤ K.faults sink.new }
+{
+    let mut line = LineBuffer::new();
+    let mut buffer = [0; PIECE];
+    let mut taken = 0;
+    'pieces: while taken <= LONGEST_INPUT {
+        let room = PIECE.min(LONGEST_INPUT + 1 - taken);
+        let Ok(count) = source.listen(&mut buffer[..room]) else {
+            return Err(AnswerFault::Listen);
+        };
+        if count == 0 {
+            let Ok(()) = end_input(&line, rows, sink) else {
+                return Err(AnswerFault::Say);
+            };
+            return Ok(());
+        }
+        // The byte past the longest input is taken and not answered.
+        let counted = count.min(LONGEST_INPUT - taken);
+        let Ok(()) = take_piece(&mut line, rows, &buffer[..counted], sink) else {
+            return Err(AnswerFault::Say);
+        };
+        taken += count;
+    }
+    Err(AnswerFault::TooLong)
+}
+
+// Answers a last line that no line feed ends.
+fn end_input<K: Sink>(line: &LineBuffer, rows: &[RawRow], sink: &mut K) -> Result<(), Cut>
+    ensures ok { OnOk result ((before : Option (List ℕ)) (came : List ℕ) → Heard rows.now before (K.said sink.old) came line.now → Appends before (K.said sink.new) (replies_of rows.now (lines_of came))) }
+    ensures err { OnErr result ((before : Option (List ℕ)) (came : List ℕ) → Heard rows.now before (K.said sink.old) came line.now → SaysFront before (K.said sink.new) (replies_of rows.now (lines_of came))) }
+    ensures cause { OnErr result (Rose (K.faults sink.old) (K.faults sink.new)) }
+    ensures faults { K.faults sink.old ≤ K.faults sink.new }
+{
+    say_any(reply(rows, line.question()).as_bytes(), sink)
 }
 
 // Answers a piece more of question input.
