@@ -1,0 +1,4 @@
+mod Examples
+mod FieldLemmas
+mod ReadingLemmas
+mod RowsLemmas

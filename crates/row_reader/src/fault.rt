@@ -1,0 +1,27 @@
+ghost use Rattle.std.specs.Prelude.{◌≡◌};
+ghost use Rattle.row_reader.specs.declared.fault.RowsFault.TheVariants.{Memory};
+
+use std::alloc::AllocFailed;
+use track_types::RowFault;
+
+/// Why a file gave no rows.
+#[derive(Clone, Copy, Debug, PartialEq, Eq)]
+pub enum RowsFault {
+    /// A record is no row. Records are numbered from 1, and so are its fields; where their count is
+    /// the fault, `field` is how many it has.
+    Row {
+        nth: u64,
+        field: u32,
+        fault: RowFault,
+    },
+    /// Memory was refused. It may be answered to any file.
+    Memory,
+}
+
+impl<T: Drop> From<AllocFailed<T>> for RowsFault {
+    ghost from_gives = { λ _ fault. fault ≡ Memory };
+
+    fn from(_refused: AllocFailed<T>) -> Self {
+        RowsFault::Memory
+    }
+}

@@ -1,0 +1,81 @@
+ghost use Rattle.std.specs.Prelude.{◌≡◌, ◌≢◌, ◌+◌, ◌-◌, ◌*◌, ◌^◌, ◌<◌, ◌≤◌, [], length, pos, neg_ℤ, ◌≤ℤ◌, Some, None, IfOk, IfErr, slice_index_or};
+ghost use Rattle.csv.specs.Records.{fields_of};
+ghost use Rattle.row_reader.specs.Row.{field_fault, raw_of, record_fault, value_of};
+
+use csv::ByteRecord;
+use track_types::{Numeral, RawRow, RowFault, number};
+
+// How many fields a row has.
+const FIELDS: usize = 4;
+
+// The greatest object, 2^32 - 1.
+const MAX_OBJECT: i64 = 4_294_967_295;
+
+// How far from 0 a time and a coordinate may be, 2^40.
+const MAX_PLACE: i64 = 1_099_511_627_776;
+
+// Why a record is no row, and at which of its fields, counted from 1.
+#[derive(Clone, Copy)]
+pub struct FieldFault {
+    pub field: u32,
+    pub fault: RowFault,
+}
+
+/// Reads a record as a row: the number of its fields is judged first, then each from the left.
+pub fn read_row(fields: &ByteRecord) -> Result<RawRow, FieldFault>
+    requires { length (fields_of fields.now) < 2 ^ 32 }
+    ensures ok { let all = fields_of fields.now in
+        IfOk result (λ row. (record_fault all ≡ None) × (row ≡ raw_of all)) }
+    ensures err { IfErr result (λ fault. record_fault (fields_of fields.now) ≡ Some fault) }
+{
+    if fields.len() != FIELDS {
+        return Err(FieldFault {
+            field: fields.len() as u32,
+            fault: RowFault::Count,
+        });
+    }
+    let object = read_field(fields, 1, 0, MAX_OBJECT)?;
+    let time = read_field(fields, 2, -MAX_PLACE, MAX_PLACE)?;
+    let x = read_field(fields, 3, -MAX_PLACE, MAX_PLACE)?;
+    let y = read_field(fields, 4, -MAX_PLACE, MAX_PLACE)?;
+    Ok(RawRow {
+        object: object as u32,
+        time,
+        x,
+        y,
+    })
+}
+
+// The value of a field of a record, counted from 1.
+fn read_field(fields: &ByteRecord, field: u32, least: i64, greatest: i64) -> Result<i64, FieldFault>
+    requires first { 0 < field }
+    requires last { field ≤ length (fields_of fields.now) }
+    ensures ok { let word = slice_index_or (fields_of fields.now) (field - 1) [] in
+        IfOk result (λ value. (field_fault least greatest word ≡ None) × (value ≡ value_of word)) }
+    ensures within { IfOk result (λ value. (least ≤ℤ value) × (value ≤ℤ greatest)) }
+    ensures err { let word = slice_index_or (fields_of fields.now) (field - 1) [] in
+        IfErr result (λ at.
+        (at.field ≡ field) × (field_fault least greatest word ≡ Some at.fault)) }
+{
+    let word = fields.get(field as usize - 1).unwrap();
+    read_value(word, least, greatest).map_err(|fault| FieldFault { field, fault })
+}
+
+// The value of a word that is a numeral within two bounds.
+fn read_value(word: &[u8], least: i64, greatest: i64) -> Result<i64, RowFault>
+    ensures ok { IfOk result (λ value.
+        (field_fault least greatest word.now ≡ None) × (value ≡ value_of word.now)) }
+    ensures within { IfOk result (λ value. (least ≤ℤ value) × (value ≤ℤ greatest)) }
+    ensures err { IfErr result (λ fault. field_fault least greatest word.now ≡ Some fault) }
+{
+    match number(word) {
+        Numeral::Not => Err(RowFault::NotNumber),
+        Numeral::Large => Err(RowFault::Range),
+        Numeral::Value(value) => {
+            if value < least || greatest < value {
+                return Err(RowFault::Range);
+            }
+            Ok(value)
+        }
+    }
+}

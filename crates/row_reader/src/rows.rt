@@ -1,0 +1,56 @@
+ghost use Rattle.std.specs.Prelude.{◌≡◌, ◌+◌, ◌^◌, ◌≤◌, ℕ, List, [], ◌∷◌, ◌++◌, length, None, IfOk, IfErr};
+ghost use Rattle.csv.specs.Records.{fields_of};
+ghost use Rattle.row_reader.specs.Reading.{HasRead, ShowsNext};
+ghost use Rattle.row_reader.specs.Rows.{IsFaultOf, csv_fault, raws_of, records_of};
+
+use crate::fault::RowsFault;
+use crate::row::{FieldFault, read_row};
+use csv::{ByteRecord, Reader, ReaderBuilder};
+use std::alloc::Global;
+use track_types::RawRow;
+
+/// Reads the rows of a CSV file in file order, or tells the first refusal when its records are looked
+/// at in order.
+///
+/// One byte order mark at the front is dropped. Fields are parted by commas and may stand in double
+/// quotes, lines end with LF, CR or both, blank lines are no records, and nothing is trimmed. Each
+/// record is a row of four numerals: the object, 0 to 2^32 - 1, and the time, x and y, each -2^40 to
+/// 2^40. A record that has not four fields is refused as `Count`, whatever they are; else the first
+/// field from the left that is no numeral is refused as `NotNumber`, or as `Range` where its value is
+/// out of its range. `Memory` may be answered to any file.
+pub fn read_rows(alloc: Global, bytes: &[u8]) -> Result<Vec<RawRow>, RowsFault>
+    requires { length bytes.now ≤ 2 ^ 29 }
+    ensures ok { IfOk result (λ rows. (csv_fault bytes.now ≡ None) × (rows.items ≡ raws_of bytes.now)) }
+    ensures fault { IfErr result (IsFaultOf bytes.now) }
+{
+    let mut reader = ReaderBuilder::new()
+        .has_headers(false)
+        .flexible(true)
+        .from_reader(alloc, bytes);
+    let mut fields = ByteRecord::new(alloc);
+    let mut rows = Vec::new(alloc);
+    for nth in 1..u64::MAX {
+        if !read_next(&mut reader, &mut fields)? {
+            return Ok(rows);
+        }
+        match read_row(&fields) {
+            Ok(row) => rows.push(row)?,
+            Err(FieldFault { field, fault }) => return Err(RowsFault::Row { nth, field, fault }),
+        }
+    }
+    // No file has so many records.
+    Err(RowsFault::Memory)
+}
+
+// Reads the next record, where there is one.
+fn read_next(reader: &mut Reader<&[u8]>, fields: &mut ByteRecord) -> Result<bool, RowsFault>
+    ensures found { (bytes : List ℕ) (seen : List (List (List ℕ))) → HasRead bytes seen reader.old →
+        IfOk result (ShowsNext bytes seen (fields_of fields.new) reader.new) }
+    ensures err { IfErr result (λ fault. fault ≡ RowsFault.Memory) }
+{
+    // Records of any length and any bytes are taken, so what csv refuses is want of memory. Its contract
+    // leaves one more error open, that the slice underneath cannot be read, and it is answered alike.
+    reader
+        .read_byte_record(fields)
+        .map_err(|_error| RowsFault::Memory)
+}
