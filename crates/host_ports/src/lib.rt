@@ -5,12 +5,21 @@
 //! The crate stands on track_types alone.
 #![tactic(auto)]
 
+mod copying;
 mod fault;
 mod files;
+mod held_file;
+mod memory_files;
+mod memory_sink;
+mod memory_source;
+mod numbered_calls;
 mod sink;
 mod source;
 
 pub use fault::{Cut, Failed};
 pub use files::Files;
+pub use memory_files::MemFiles;
+pub use memory_sink::{MemSink, NullSink};
+pub use memory_source::{CalmSource, MemSource};
 pub use sink::Sink;
 pub use source::Source;

@@ -1,0 +1,13 @@
+use Rattle.std.proofs.Common.{◌≡◌, ◌≢◌, ◌++◌, List, ℕ, ◌∙◌}
+use Rattle.host_ports.proofs.HeldFiles.{held-put, held-others, bytes_left-append}
+use Rattle.host_ports.proofs.memory_files.MemFiles.put.Goals as goal
+
+-- the file that was put is the newest
+pub returns-clause-ok : goal.returns-clause-ok
+returns-clause-ok c =
+    let files = c.self.inside.files.items in
+    rw (c.in_ok-push.ensures.items, ← c.self.view_is) (record {
+      put = held-put files _ c.args.name.now c.args.bytes.now c.in_ok-from_str.ensures.ok c.in_ok-from_slice.ensures.items;
+      others = λ other differs. held-others files _ other (λ same. differs (same ∙ c.in_ok-from_str.ensures.ok));
+      kept = rw (bytes_left-append files _ c.self.inside.begun c.self.invariant)
+    })
