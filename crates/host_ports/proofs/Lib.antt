@@ -1,2 +1,3 @@
 mod Copies
 mod HeldFiles
+mod KnownBytes

@@ -1,13 +1,31 @@
--- What is known of a device behind std's traits.
-use Rattle.std.specs.Prelude.{ℕ, List, Option}
+-- What is known of a device behind std's reading and writing.
+use Rattle.std.specs.Prelude.{◌≡◌, ℕ, ◌+◌, List, [], Option, Some, None, Result, is_err, if◌then◌else◌}
+use Rattle.host_ports.specs.Faults.{read_count}
+use Rattle.host_ports.specs.NumberedCalls.{raised}
 
--- the bytes that it has left, where it tells them, how many came, and how often it failed
-pub record ReaderView : Type 0 where
-  pub left : Option (List ℕ)
+-- how many bytes came from a device, and how often it failed
+pub record Counts : Type 0 where
   pub taken : ℕ
   pub faults : ℕ
 
--- the bytes that it holds, where it tells them, and how often it failed
+-- nothing came and nothing failed
+abbrev pub no_counts : Counts
+no_counts = record { taken = 0; faults = 0 }
+
+-- the counts after a read: its bytes are counted, or a fault
+abbrev pub after_read : {E : Type 0} → Counts → Result ℕ E → Counts
+after_read counts outcome =
+    record {
+      taken = counts.taken + read_count outcome;
+      faults = if is_err outcome then raised counts.faults else counts.faults
+    }
+
+-- the bytes that a reader has left, where it tells them, and the counts
+pub record ReaderView : Type 0 where
+  pub left : Option (List ℕ)
+  pub counts : Counts
+
+-- the bytes that a writer holds, where it tells them, and how often it failed
 pub record WriterView : Type 0 where
   pub contents : Option (List ℕ)
   pub faults : ℕ

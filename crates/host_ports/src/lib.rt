@@ -6,20 +6,28 @@
 #![tactic(auto)]
 
 mod copying;
+mod disk_files;
 mod fault;
 mod files;
 mod held_file;
+mod input_source;
 mod memory_files;
 mod memory_sink;
 mod memory_source;
+mod meter;
 mod numbered_calls;
+mod output_sink;
+mod retrying;
 mod sink;
 mod source;
 
+pub use disk_files::DiskFiles;
 pub use fault::{Cut, Failed};
 pub use files::Files;
+pub use input_source::InputSource;
 pub use memory_files::MemFiles;
 pub use memory_sink::{MemSink, NullSink};
 pub use memory_source::{CalmSource, MemSource};
+pub use output_sink::OutputSink;
 pub use sink::Sink;
 pub use source::Source;

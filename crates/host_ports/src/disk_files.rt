@@ -1,0 +1,84 @@
+ghost use Rattle.std.specs.Prelude.{◌≡◌, ◌<◌, ◌≤◌, None, is_err, if◌then◌else◌, length};
+ghost use Rattle.std.specs.Io.{ReadsAtMost};
+ghost use Rattle.host_ports.specs.Device.{no_counts, after_read};
+ghost use Rattle.host_ports.specs.NumberedCalls.{raised};
+
+use crate::meter::Meter;
+use crate::retrying::read_piece;
+use crate::{Failed, Files};
+use std::fs;
+use std::marker::Model;
+use std::rt;
+
+/// The files of a runtime. It tells none of them.
+#[derive(Drop)]
+pub struct DiskFiles<'a, R: rt::Files> {
+    rt: &'a R,
+    begun: Option<R::File>,
+    meter: Meter,
+}
+
+impl<'a, R: rt::Files> Model for DiskFiles<'a, R> {
+    ghost use Rattle.host_ports.specs.Device.{Counts};
+
+    ghost Value = { Counts };
+
+    ghost view = { λ f. f.meter };
+}
+
+impl<'a, R: rt::Files> DiskFiles<'a, R> {
+    /// The files of that runtime, of which none was begun.
+    pub fn new(rt: &'a R) -> Self
+        ensures { result ≡ no_counts }
+    {
+        DiskFiles {
+            rt,
+            begun: None,
+            meter: Meter::new(),
+        }
+    }
+}
+
+impl<'a, R: rt::Files> Files for DiskFiles<'a, R> {
+    ghost map = { λ _. None };
+
+    ghost rest = { λ _. None };
+
+    ghost taken = { λ f. f.taken };
+
+    ghost load_faults = { λ f. f.faults };
+
+    /// Opens the file of that name. A missing file is a fault too.
+    fn begin(&mut self, name: &str) -> Result<(), Failed>
+        ensures fresh { self.new.taken ≡ 0 }
+        ensures counted {
+            self.new.faults ≡ (if is_err result then raised self.old.faults else self.old.faults) }
+        ensures faults { self.old.faults ≤ self.new.faults }
+    {
+        self.begun = None;
+        self.meter.forget_taken();
+        let Ok(file) = fs::open(self.rt, name) else {
+            self.meter.count_fault();
+            return Err(Failed);
+        };
+        self.begun = Some(file);
+        Ok(())
+    }
+
+    /// Reads once, and again where a signal interrupts it. Any other error is a fault.
+    fn pull(&mut self, buf: &mut [u8]) -> Result<usize, Failed>
+        requires { 0 < length buf.old }
+        ensures within { ReadsAtMost result buf.new }
+        ensures counts { self.new ≡ after_read self.old result }
+        ensures faults { self.old.faults ≤ self.new.faults }
+    {
+        match &mut self.begun {
+            Some(file) => self.meter.count_read(read_piece(file, buf)),
+            None => Ok(0),
+        }
+    }
+
+    fn taken(&self) -> u64 {
+        self.meter.taken()
+    }
+}

@@ -1,0 +1,57 @@
+ghost use Rattle.std.specs.Prelude.{◌≡◌, ◌≤◌, None, OnOk, IfErr, is_err, if◌then◌else◌, length, take};
+ghost use Rattle.std.specs.Io.KnownBytes.{Appends};
+ghost use Rattle.host_ports.specs.NumberedCalls.{raised};
+
+use crate::retrying::{flush_all, write_piece};
+use crate::{Cut, Sink};
+use std::io::Write;
+use std::marker::Model;
+
+/// A sink over std's writing. It tells none of its bytes.
+#[derive(Drop)]
+pub struct OutputSink<W: Write> {
+    writer: W,
+    faults: u64,
+}
+
+impl<W: Write> Model for OutputSink<W> {
+    ghost use Rattle.host_ports.specs.Device.{WriterView};
+
+    ghost Value = { WriterView };
+
+    ghost view = { λ s. record { contents = W.contents s.writer; faults = s.faults } };
+}
+
+impl<W: Write> OutputSink<W> {
+    /// A sink that says all to the writer.
+    pub fn new(writer: W) -> Self
+        ensures { result ≡ record { contents = W.contents writer; faults = 0 } }
+    {
+        OutputSink { writer, faults: 0 }
+    }
+}
+
+impl<W: Write> Sink for OutputSink<W> {
+    ghost said = { λ _. None };
+
+    ghost faults = { λ s. s.faults };
+
+    /// Writes the piece and flushes. What a signal interrupts is tried again; any other error is a
+    /// fault, and so is a writer that takes nothing.
+    fn say(&mut self, piece: &[u8]) -> Result<(), Cut>
+        ensures written { OnOk result (Appends self.old.contents self.new.contents piece.now) }
+        ensures within { IfErr result (λ cut. cut.sent ≤ length piece.now) }
+        ensures cut { IfErr result (λ cut.
+            Appends self.old.contents self.new.contents (take cut.sent piece.now)) }
+        ensures counted {
+            self.new.faults ≡ (if is_err result then raised self.old.faults else self.old.faults) }
+        ensures faults { self.old.faults ≤ self.new.faults }
+    {
+        let sent = write_piece(&mut self.writer, piece);
+        if sent < piece.len() || flush_all(&mut self.writer).is_err() {
+            self.faults = self.faults.saturating_add(1);
+            return Err(Cut { sent });
+        }
+        Ok(())
+    }
+}
