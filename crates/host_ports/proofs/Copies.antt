@@ -4,8 +4,8 @@ use Rattle.std.proofs.lemmas.List.{drop-append-le, take-append-drop, length-take
 
 -- a copy into a piece of the buffer leaves what a copy into the whole would leave
 pub drop-take-drop :
-  {X : Type 0} (count most : ℕ) (buf : List X) → count ≤ most → most ≤ length buf
-  → drop count (take most buf) ++ drop most buf ≡ drop count buf
+    {X : Type 0} (count most : ℕ) (buf : List X) → count ≤ most → most ≤ length buf
+    → drop count (take most buf) ++ drop most buf ≡ drop count buf
 drop-take-drop count most buf in_piece in_buf =
     let e : length (take most buf) ≡ most = length-take-le most buf in_buf in
     let fits : count ≤ length (take most buf) = omega arith in

@@ -1,3 +1,4 @@
 mod Copies
+mod Examples
 mod HeldFiles
 mod KnownBytes

@@ -1,7 +1,7 @@
 -- What is known of a device behind std's reading and writing.
-use Rattle.std.specs.Prelude.{◌≡◌, ℕ, ◌+◌, List, [], Option, Some, None, Result, is_err, if◌then◌else◌}
+use Rattle.std.specs.Prelude.{ℕ, ◌+◌, List, Option, Result, is_err}
 use Rattle.host_ports.specs.Faults.{read_count}
-use Rattle.host_ports.specs.NumberedCalls.{raised}
+use Rattle.host_ports.specs.NumberedCalls.{raised_if}
 
 -- how many bytes came from a device, and how often it failed
 pub record Counts : Type 0 where
@@ -17,7 +17,7 @@ abbrev pub after_read : {E : Type 0} → Counts → Result ℕ E → Counts
 after_read counts outcome =
     record {
       taken = counts.taken + read_count outcome;
-      faults = if is_err outcome then raised counts.faults else counts.faults
+      faults = raised_if (is_err outcome) counts.faults;
     }
 
 -- the bytes that a reader has left, where it tells them, and the counts

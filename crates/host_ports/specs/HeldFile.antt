@@ -1,5 +1,5 @@
 -- How the files in memory lie: in the order in which they were put.
-use Rattle.std.specs.Prelude.{ℕ, ◌<◌, ◌≤◌, List, [], ◌∷◌, length, drop, map, Option, Some, None, ⊤, string_bytes, slice_get, reverse}
+use Rattle.std.specs.Prelude.{ℕ, ◌<◌, ◌≤◌, List, [], length, drop, map, Option, Some, None, ⊤, string_bytes, slice_get, reverse}
 use Rattle.std.specs.Option.{option_map_or}
 use Rattle.host_ports.specs.FileMap.{FileMap}
 use Rattle.host_ports.specs.declared.held_file.HeldFile.{HeldFile}

@@ -1,5 +1,5 @@
 -- What files in memory do.
-use Rattle.std.specs.Prelude.{◌≡◌, ◌≢◌, ℕ, ◌+◌, min, Bool, true, false, if◌then◌else◌, List, [], length, drop, Option, Some, None, unwrap_or}
+use Rattle.std.specs.Prelude.{◌≡◌, ◌≢◌, ℕ, ◌+◌, min, if◌then◌else◌, List, [], length, drop, Some, unwrap_or}
 use Rattle.host_ports.specs.NumberedCalls.{Calls, no_calls, fails_next, counted}
 use Rattle.host_ports.specs.FileMap.{FileMap, held}
 
@@ -22,7 +22,7 @@ after_begin files name =
     record files {
       rest = if fails_next files.calls then [] else unwrap_or (held files.files name) [];
       taken = 0;
-      calls = counted files.calls (fails_next files.calls)
+      calls = counted files.calls (fails_next files.calls);
     }
 
 -- how many bytes the next call gives to a buffer with that much room
@@ -36,7 +36,7 @@ after_pull files room =
     record files {
       rest = drop count files.rest;
       taken = files.taken + count;
-      calls = counted files.calls (fails_next files.calls)
+      calls = counted files.calls (fails_next files.calls);
     }
 
 -- that name holds the bytes, every other name what it held, and nothing else changed

@@ -1,5 +1,5 @@
 -- What a sink in memory does.
-use Rattle.std.specs.Prelude.{ℕ, ◌-◌, min, Bool, true, false, nat_lt, ◌||◌, if◌then◌else◌, List, [], ◌++◌, length, take}
+use Rattle.std.specs.Prelude.{ℕ, ◌-◌, min, Bool, nat_lt, ◌||◌, if◌then◌else◌, List, [], ◌++◌, length, take}
 use Rattle.host_ports.specs.NumberedCalls.{Calls, no_calls, fails_next, counted}
 
 -- the bytes that were said, how many have room in all, and the calls
@@ -25,5 +25,5 @@ abbrev pub after_say : MemSinkView → List ℕ → MemSinkView
 after_say sink piece =
     record sink {
       said = sink.said ++ take (sent_count sink piece) piece;
-      calls = counted sink.calls (is_cut sink piece)
+      calls = counted sink.calls (is_cut sink piece);
     }

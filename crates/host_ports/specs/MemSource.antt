@@ -1,5 +1,5 @@
 -- What a source in memory does.
-use Rattle.std.specs.Prelude.{ℕ, ◌+◌, min, Bool, true, false, if◌then◌else◌, List, length, drop}
+use Rattle.std.specs.Prelude.{ℕ, ◌+◌, min, if◌then◌else◌, List, length, drop}
 use Rattle.host_ports.specs.NumberedCalls.{Calls, no_calls, fails_next, counted}
 
 -- the bytes that are still to come, how many came, the most of a call, and the calls
@@ -24,7 +24,7 @@ after_listen source room =
     record source {
       rest = drop count source.rest;
       taken = source.taken + count;
-      calls = counted source.calls (fails_next source.calls)
+      calls = counted source.calls (fails_next source.calls);
     }
 
 -- a source that never fails: the bytes that are still to come, and how many came

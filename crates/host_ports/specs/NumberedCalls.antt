@@ -6,6 +6,10 @@ use Rattle.std.specs.List.{list_any}
 abbrev pub raised : ℕ → ℕ
 raised n = min (n + 1) (2 ^ 64 - 1)
 
+-- one fault more, if there was one
+abbrev pub raised_if : Bool → ℕ → ℕ
+raised_if is_fault faults = if is_fault then raised faults else faults
+
 -- how many calls were made, the numbers of those that fail, and how many faults were counted
 pub record Calls : Type 0 where
   pub made : ℕ
@@ -20,6 +24,6 @@ no_calls fails = record { made = 0; fails = fails; faults = 0 }
 abbrev pub fails_next : Calls → Bool
 fails_next calls = list_any (λ number. number == raised calls.made) calls.fails
 
--- one call more, and one fault more where that call was one
+-- one call more, and one fault more if that call was one
 abbrev pub counted : Calls → Bool → Calls
-counted calls is_fault = record calls { made = raised calls.made; faults = if is_fault then raised calls.faults else calls.faults }
+counted calls is_fault = record calls { made = raised calls.made; faults = raised_if is_fault calls.faults }

@@ -1,14 +1,13 @@
-ghost use Rattle.std.specs.Prelude.{◌≡◌, ◌<◌, ◌≤◌, None, is_err, if◌then◌else◌, length};
+ghost use Rattle.std.specs.Prelude.{◌≡◌, ◌<◌, ◌≤◌, None, is_err, length};
 ghost use Rattle.std.specs.Io.{ReadsAtMost};
 ghost use Rattle.host_ports.specs.Device.{no_counts, after_read};
-ghost use Rattle.host_ports.specs.NumberedCalls.{raised};
+ghost use Rattle.host_ports.specs.NumberedCalls.{raised_if};
 
 use crate::meter::Meter;
 use crate::retrying::read_piece;
 use crate::{Failed, Files};
-use std::fs;
 use std::marker::Model;
-use std::rt;
+use std::{fs, rt};
 
 /// The files of a runtime. It tells none of them.
 #[derive(Drop)]
@@ -51,8 +50,7 @@ impl<'a, R: rt::Files> Files for DiskFiles<'a, R> {
     /// Opens the file of that name. A missing file is a fault too.
     fn begin(&mut self, name: &str) -> Result<(), Failed>
         ensures fresh { self.new.taken ≡ 0 }
-        ensures counted {
-            self.new.faults ≡ (if is_err result then raised self.old.faults else self.old.faults) }
+        ensures counted { self.new.faults ≡ raised_if (is_err result) self.old.faults }
         ensures faults { self.old.faults ≤ self.new.faults }
     {
         self.begun = None;

@@ -20,6 +20,8 @@ mod output_sink;
 mod retrying;
 mod sink;
 mod source;
+#[cfg(test)]
+mod tests;
 
 pub use disk_files::DiskFiles;
 pub use fault::{Cut, Failed};

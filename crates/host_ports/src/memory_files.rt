@@ -30,11 +30,12 @@ impl Model for MemFiles {
     ghost Value = { MemFilesView };
 
     ghost view = { λ f. record {
-        files = file_map f.files.items;
-        rest = bytes_left f.files.items f.begun;
-        taken = taken_count f.begun;
-        calls = f.calls;
-        room = vec_capacity f.reserve } };
+      files = file_map f.files.items;
+      rest = bytes_left f.files.items f.begun;
+      taken = taken_count f.begun;
+      calls = f.calls;
+      room = vec_capacity f.reserve;
+    } };
 
     ghost invariant = { λ f. IsBegun f.files.items f.begun };
 }
@@ -100,8 +101,7 @@ impl Files for MemFiles {
         requires { 0 < length buf.old }
         ensures fails { IsErr result ↔ IsTrue (fails_next self.old.calls) }
         ensures count { IfOk result (λ count. count ≡ next_pull self.old (length buf.old)) }
-        ensures filled {
-            let count = next_pull self.old (length buf.old) in
+        ensures filled { let count = next_pull self.old (length buf.old) in
             buf.new ≡ take count self.old.rest ++ drop count buf.old }
         ensures after { self.new ≡ after_pull self.old (length buf.old) }
         ensures read { ReadConsumes (Some self.old.rest) (Some self.new.rest) result buf.new }

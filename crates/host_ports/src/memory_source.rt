@@ -46,8 +46,7 @@ impl Source for CalmSource {
     fn listen(&mut self, buf: &mut [u8]) -> Result<usize, Failed>
         requires { 0 < length buf.old }
         ensures ok { result ≡ Ok (min (length buf.old) (length self.old.rest)) }
-        ensures filled {
-            let count = min (length buf.old) (length self.old.rest) in
+        ensures filled { let count = min (length buf.old) (length self.old.rest) in
             buf.new ≡ take count self.old.rest ++ drop count buf.old }
         ensures after { self.new ≡ after_bytes self.old (min (length buf.old) (length self.old.rest)) }
     {
@@ -108,8 +107,7 @@ impl Source for MemSource {
         requires { 0 < length buf.old }
         ensures fails { IsErr result ↔ IsTrue (fails_next self.old.calls) }
         ensures count { IfOk result (λ count. count ≡ next_count self.old (length buf.old)) }
-        ensures filled {
-            let count = next_count self.old (length buf.old) in
+        ensures filled { let count = next_count self.old (length buf.old) in
             buf.new ≡ take count self.old.rest ++ drop count buf.old }
         ensures after { self.new ≡ after_listen self.old (length buf.old) }
         ensures read { ReadConsumes (Some self.old.rest) (Some self.new.rest) result buf.new }

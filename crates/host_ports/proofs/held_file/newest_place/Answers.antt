@@ -1,7 +1,5 @@
-use Rattle.std.proofs.Common.{◌≡◌, ◌+◌, ◌<◌, Some, length, take, true, false, string_bytes, arith, sym, ◌∙◌, cond, ap}
+use Rattle.std.proofs.Common.{◌≡◌, ◌<◌, length, true, false, string_bytes, arith, ◌∙◌}
 use Rattle.std.specs.Str.{bytes_eq}
-use Rattle.host_ports.specs.FileMap.{held}
-use Rattle.host_ports.specs.HeldFile.{file_map, bytes_at}
 use Rattle.host_ports.proofs.HeldFiles.{held-take_more, bytes_at-read}
 use Rattle.host_ports.proofs.held_file.newest_place.Goals as goal
 use Rattle.host_ports.proofs.held_file.newest_place.Goals.{then-eq, else-eq}
@@ -22,4 +20,5 @@ loop-place-preserved c =
           rw w.found-is (within, step ∙ rw same (cc))
       | else-eq w ↦
           let other : bytes_eq (string_bytes file.name) name ≡ false = cc in
-          rw (w.found-is, step, other) c.loop-place.invariant ]
+          rw (w.found-is, step, other) c.loop-place.invariant
+    ]

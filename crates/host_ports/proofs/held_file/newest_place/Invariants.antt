@@ -9,5 +9,5 @@ abbrev pub invariant-loop-place : goal.invariant-loop-place
 invariant-loop-place l =
     let files = file_map (take l.place l.files) in
     MatchOption l.found
-      (held files l.name ≡ None)
-      (λ place. (place < length l.files) × (held files l.name ≡ Some (bytes_at l.files place)))
+    (held files l.name ≡ None)
+    (λ place. (place < length l.files) × (held files l.name ≡ Some (bytes_at l.files place)))

@@ -19,10 +19,11 @@ loop-preserved g c =
       | in-Ok w ↦
           rw w.sent-is (record {
             within = grind (arith, common_steps, w.in-Ok.ensures.bound);
-            written = appends-take before now after piece sent w.in-Ok.count so_far (rw whole at w.in-Ok.ensures.bytes)
+            written = appends-take before now after piece sent w.in-Ok.count so_far (rw whole at w.in-Ok.ensures.bytes);
           })
       | in-Err w ↦
           rw w.sent-is (record {
             within = c.loop.invariant.within;
-            written = appends-keeps before now after (take sent piece) so_far w.in-Err.ensures.bytes
-          }) ]
+            written = appends-keeps before now after (take sent piece) so_far w.in-Err.ensures.bytes;
+          })
+    ]

@@ -6,5 +6,5 @@ use Rattle.host_ports.proofs.retrying.write_piece.Given as goal
 abbrev pub invariant-loop : goal.invariant-loop
 invariant-loop g l = record {
   within : l.sent ≤ length l.piece;
-  written : Appends (g.W.Write.contents l.fn.writer) (g.W.Write.contents l.writer) (take l.sent l.piece)
+  written : Appends (g.W.Write.contents l.fn.writer) (g.W.Write.contents l.writer) (take l.sent l.piece);
 }

@@ -1,4 +1,4 @@
-use Rattle.std.proofs.Common.{◌≡◌, ◌≢◌, ◌++◌, List, ℕ, ◌∙◌}
+use Rattle.std.proofs.Common.{◌∙◌}
 use Rattle.host_ports.proofs.HeldFiles.{held-put, held-others, bytes_left-append}
 use Rattle.host_ports.proofs.memory_files.MemFiles.put.Goals as goal
 
@@ -9,5 +9,5 @@ returns-clause-ok c =
     rw (c.in_ok-push.ensures.items, ← c.self.view_is) (record {
       put = held-put files _ c.args.name.now c.args.bytes.now c.in_ok-from_str.ensures.ok c.in_ok-from_slice.ensures.items;
       others = λ other differs. held-others files _ other (λ same. differs (same ∙ c.in_ok-from_str.ensures.ok));
-      kept = rw (bytes_left-append files _ c.self.inside.begun c.self.invariant)
+      kept = rw (bytes_left-append files _ c.self.inside.begun c.self.invariant);
     })

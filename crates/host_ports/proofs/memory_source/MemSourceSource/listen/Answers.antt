@@ -1,4 +1,4 @@
-use Rattle.std.proofs.Common.{◌≡◌, ◌≤◌, ◌++◌, length, take, drop, arith, ap, ◌∙◌}
+use Rattle.std.proofs.Common.{arith}
 use Rattle.std.proofs.lemmas.Grind.{common_steps}
 use Rattle.host_ports.proofs.Copies.{drop-take-drop}
 use Rattle.host_ports.proofs.memory_source.MemSourceSource.listen.Goals as goal

@@ -1,0 +1,95 @@
+-- The definitions, run on small cases.
+use Rattle.std.proofs.Common.{◌≡◌, ℕ, ◌-◌, ◌^◌, List, [], ◌∷◌, Some, None, Ok, Err, Bool, true, false, refl, codes}
+use Rattle.host_ports.specs.FileMap.{FileMap, held}
+use Rattle.host_ports.specs.NumberedCalls.{Calls, raised, no_calls, fails_next, counted}
+use Rattle.host_ports.specs.MemFiles.{MemFilesView, new_files, after_begin, after_pull}
+use Rattle.host_ports.specs.MemSource.{MemSourceView, new_source, next_count, after_listen}
+use Rattle.host_ports.specs.MemSink.{MemSinkView, new_sink, is_cut, sent_count, after_say}
+
+-- of two files of one name the first counts
+two : FileMap
+two = (codes "a", codes "new") ∷ (codes "b", codes "other") ∷ (codes "a", codes "old") ∷ []
+
+first_counts : held two (codes "a") ≡ Some (codes "new")
+unfolding two
+first_counts = refl
+
+missing : held two (codes "c") ≡ None
+unfolding two
+missing = refl
+
+-- counts stop at 2^64 - 1
+counts_on : raised 41 ≡ 42
+counts_on = refl
+
+stops : raised (2 ^ 64 - 1) ≡ 2 ^ 64 - 1
+stops = refl
+
+-- of the calls 1, 2 and 3 the second fails
+first_call : fails_next (no_calls (2 ∷ [])) ≡ false
+first_call = refl
+
+second_call : fails_next (counted (no_calls (2 ∷ [])) false) ≡ true
+second_call = refl
+
+third_call : fails_next (counted (counted (no_calls (2 ∷ [])) false) true) ≡ false
+third_call = refl
+
+-- a source of seven bytes in pieces of three, into a buffer of eight
+source : MemSourceView
+source = new_source (codes "abcdefg") 3 (2 ∷ [])
+
+one_piece : (after_listen source 8).rest ≡ codes "defg"
+unfolding source
+one_piece = refl
+
+-- its second call fails: it takes nothing, and is a fault
+no_piece : after_listen (after_listen source 8) 8 ≡ record {
+  rest = codes "defg";
+  taken = 3;
+  piece = 3;
+  calls = record { made = 2; fails = 2 ∷ []; faults = 1 };
+}
+unfolding source
+no_piece = refl
+
+-- a sink with room for eight bytes
+sink : MemSinkView
+sink = after_say (new_sink 8 (3 ∷ [])) (codes "12345")
+
+cut_at_eight : after_say sink (codes "6789") ≡ record {
+  said = codes "12345678";
+  room = 8;
+  calls = record { made = 2; fails = 3 ∷ []; faults = 1 };
+}
+unfolding sink
+cut_at_eight = refl
+
+fits_exactly : is_cut sink (codes "678") ≡ false
+unfolding sink
+fits_exactly = refl
+
+silent_by_number : sent_count (after_say sink (codes "6")) (codes "7") ≡ 0
+unfolding sink
+silent_by_number = refl
+
+-- files whose second call fails
+files : MemFilesView
+files = record (new_files 0 (2 ∷ [])) { files = two }
+
+begun : (after_begin files (codes "a")).rest ≡ codes "new"
+unfolding files two
+begun = refl
+
+failed_pull : (after_pull (after_begin files (codes "a")) 2).rest ≡ codes "new"
+unfolding files two
+failed_pull = refl
+
+pulled : (after_pull (after_pull (after_begin files (codes "a")) 2) 2).rest ≡ codes "w"
+unfolding files two
+pulled = refl
+
+-- a name that is not held is no fault
+not_held : (after_begin files (codes "c")).calls ≡ record { made = 1; fails = 2 ∷ []; faults = 0 }
+unfolding files two
+not_held = refl

@@ -1,0 +1,180 @@
+use super::{
+    CalmSource, Cut, DiskFiles, Failed, Files, InputSource, MemFiles, MemSink, MemSource, NullSink,
+    OutputSink, Sink, Source,
+};
+use std::io::{Error, ErrorKind, Read, Write};
+use std::test::Fail;
+use std::{fs, io};
+
+/// What a device does at one call.
+#[derive(Clone, Copy)]
+enum Step {
+    Move(usize),
+    Interrupt,
+    Break,
+}
+
+/// A reader of a text that moves by steps, and then is at its end.
+#[derive(Drop)]
+struct StepReader<'a> {
+    steps: &'a [Step],
+    text: &'a [u8],
+}
+
+impl<'a> Read for StepReader<'a> {
+    fn read(&mut self, buf: &mut [u8]) -> io::Result<usize> {
+        let most = next_step(&mut self.steps)?.min(buf.len());
+        self.text.read(&mut buf[..most])
+    }
+}
+
+/// A writer that moves by steps, and then takes nothing.
+#[derive(Drop)]
+struct StepWriter<'a> {
+    steps: &'a [Step],
+    got: Vec<u8>,
+    flushed: usize,
+}
+
+impl<'a> Write for StepWriter<'a> {
+    fn write(&mut self, buf: &[u8]) -> io::Result<usize> {
+        let count = next_step(&mut self.steps)?.min(buf.len());
+        self.got.extend_from_slice(&buf[..count])?;
+        Ok(count)
+    }
+
+    fn flush(&mut self) -> io::Result<()> {
+        self.flushed = self.got.len();
+        Ok(())
+    }
+}
+
+fn next_step(steps: &mut &[Step]) -> io::Result<usize> {
+    let Some((step, later)) = steps.split_first() else {
+        return Ok(0);
+    };
+    *steps = later;
+    match step {
+        Step::Move(most) => Ok(*most),
+        Step::Interrupt => Err(Error::from(ErrorKind::Interrupted)),
+        Step::Break => Err(Error::from(ErrorKind::BrokenPipe)),
+    }
+}
+
+#[test]
+fn files_in_memory_fail_at_their_numbers(rt: HostRuntime) -> Result<(), Fail> {
+    let mut files = MemFiles::new(rt.alloc(), 16, vec![in rt.alloc(); 2, 4]?)?;
+    files.put("a", b"first")?;
+    files.put("b", b"other")?;
+    files.put("a", b"second")?;
+    let mut buf = [0u8; 4];
+    assert_eq!(rt; files.begin("a"), Ok(()), "call 1");
+    assert_eq!(rt; files.pull(&mut buf), Err(Failed), "call 2");
+    assert_eq!(rt; files.pull(&mut buf), Ok(4), "call 3");
+    assert_eq!(rt; buf, *b"seco");
+    files.put("a", b"third")?;
+    assert_eq!(rt; files.pull(&mut buf), Err(Failed), "call 4");
+    assert_eq!(rt; files.pull(&mut buf), Ok(2), "call 5");
+    assert_eq!(rt; buf, *b"ndco");
+    assert_eq!(rt; (files.taken(), files.pull(&mut buf)), (6, Ok(0)));
+    assert_eq!(rt; files.begin("c"), Err(Failed), "a name that is not held");
+    assert_eq!(rt; (files.taken(), files.pull(&mut buf)), (0, Ok(0)));
+    Ok(())
+}
+
+#[test]
+fn a_source_in_memory_gives_pieces(rt: HostRuntime) -> Result<(), Fail> {
+    let bytes = Vec::from_slice(rt.alloc(), b"abcdefg")?;
+    let mut source = MemSource::new(bytes, 3, vec![in rt.alloc(); 2]?);
+    let mut buf = [b'-'; 5];
+    for (want, held) in [
+        (Ok(3), b"abc--"),
+        (Err(Failed), b"abc--"),
+        (Ok(3), b"def--"),
+        (Ok(1), b"gef--"),
+        (Ok(0), b"gef--"),
+    ] {
+        assert_eq!(rt; (source.listen(&mut buf), buf), (want, *held));
+    }
+    assert_eq!(rt; source.taken(), 7);
+    Ok(())
+}
+
+#[test]
+fn a_calm_source_gives_what_has_room(rt: HostRuntime) -> Result<(), Fail> {
+    let mut source = CalmSource::new(Vec::from_slice(rt.alloc(), b"abcdefg")?);
+    let mut buf = [b'-'; 5];
+    assert_eq!(rt; (source.listen(&mut buf), buf), (Ok(5), *b"abcde"));
+    assert_eq!(rt; (source.listen(&mut buf), buf), (Ok(2), *b"fgcde"));
+    assert_eq!(rt; source.taken(), 7);
+    Ok(())
+}
+
+#[test]
+fn a_sink_in_memory_cuts_at_its_room(rt: HostRuntime) -> Result<(), Fail> {
+    let mut sink = MemSink::new(rt.alloc(), 8, vec![in rt.alloc(); 2]?)?;
+    assert_eq!(rt; sink.say(b"12345"), Ok(()));
+    assert_eq!(rt; sink.say(b"silent"), Err(Cut { sent: 0 }));
+    assert_eq!(rt; sink.say(b"6789"), Err(Cut { sent: 3 }));
+    assert_eq!(rt; sink.as_slice(), b"12345678".as_slice());
+    assert_eq!(rt; NullSink.say(b"dropped"), Ok(()));
+    Ok(())
+}
+
+#[test]
+fn an_input_fails_once_and_goes_on(rt: HostRuntime) {
+    let steps = [Step::Interrupt, Step::Move(2), Step::Break, Step::Move(9)];
+    let mut source = InputSource::new(StepReader {
+        steps: &steps,
+        text: b"abcde",
+    });
+    let mut buf = [b'-'; 4];
+    for (want, held) in [
+        (Ok(2), b"ab--"),
+        (Err(Failed), b"ab--"),
+        (Ok(3), b"cde-"),
+        (Ok(0), b"cde-"),
+    ] {
+        assert_eq!(rt; (source.listen(&mut buf), buf), (want, *held));
+    }
+    assert_eq!(rt; source.taken(), 5);
+}
+
+#[test]
+fn an_output_says_what_its_writer_takes(rt: HostRuntime) -> Result<(), Fail> {
+    let breaks = [Step::Move(3), Step::Interrupt, Step::Move(3), Step::Break];
+    let stops = [Step::Move(5), Step::Move(0)];
+    let all = [Step::Move(4), Step::Move(9)];
+    for (steps, want, held) in [
+        (breaks.as_slice(), Err(Cut { sent: 6 }), 6usize),
+        (stops.as_slice(), Err(Cut { sent: 5 }), 5),
+        (all.as_slice(), Ok(()), 8),
+    ] {
+        let mut writer = StepWriter {
+            steps,
+            got: Vec::new(rt.alloc()),
+            flushed: 0,
+        };
+        assert_eq!(rt; OutputSink::new(&mut writer).say(b"12345678"), want);
+        assert_eq!(rt; writer.got.as_slice(), &b"12345678"[..held]);
+        assert_eq!(rt; writer.flushed, if want.is_ok() { 8 } else { 0 });
+    }
+    Ok(())
+}
+
+#[test]
+fn files_on_disk_are_read_and_missed(rt: HostRuntime) -> Result<(), Fail> {
+    let name = format!(in rt.alloc(); "host_ports-{}", std::process::id(rt.process()))?;
+    let path = std::env::temp_dir(&rt)?.join(rt.alloc(), name.as_str())?;
+    fs::write(&rt, path.as_str(), "0123456789")?;
+    let mut files = DiskFiles::new(&rt);
+    let mut buf = [0u8; 6];
+    assert_eq!(rt; files.begin(path.as_str()), Ok(()));
+    assert_eq!(rt; (files.pull(&mut buf), buf), (Ok(6), *b"012345"));
+    assert_eq!(rt; (files.pull(&mut buf), buf), (Ok(4), *b"678945"));
+    assert_eq!(rt; (files.pull(&mut buf), files.taken()), (Ok(0), 10));
+    fs::remove_file(&rt, path.as_str())?;
+    assert_eq!(rt; files.begin(path.as_str()), Err(Failed));
+    assert_eq!(rt; (files.pull(&mut buf), files.taken()), (Ok(0), 0));
+    Ok(())
+}
