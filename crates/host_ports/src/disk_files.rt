@@ -1,5 +1,6 @@
-ghost use Rattle.std.specs.Prelude.{◌≡◌, ◌<◌, ◌≤◌, None, is_err, length};
+ghost use Rattle.std.specs.Prelude.{◌≡◌, ◌<◌, ◌≤◌, Some, None, [], OnOk, OnErr, is_err, length};
 ghost use Rattle.std.specs.Io.{ReadsAtMost};
+ghost use Rattle.std.specs.Io.KnownBytes.{IsAtEnd, ReadConsumes};
 ghost use Rattle.host_ports.specs.Device.{no_counts, after_read};
 ghost use Rattle.host_ports.specs.NumberedCalls.{raised_if};
 
@@ -18,17 +19,23 @@ pub struct DiskFiles<'a, R: rt::Files> {
 }
 
 impl<'a, R: rt::Files> Model for DiskFiles<'a, R> {
-    ghost use Rattle.host_ports.specs.Device.{Counts};
+    ghost use Rattle.std.specs.Prelude.{Some, []};
+    ghost use Rattle.std.specs.Option.{option_map_or};
+    ghost use Rattle.host_ports.specs.Device.{ReaderView};
 
-    ghost Value = { Counts };
+    ghost Value = { ReaderView };
 
-    ghost view = { λ f. f.meter };
+    // Nothing is left of no file.
+    ghost view = { λ f. record {
+      left = option_map_or (λ file. R.File.remaining file) f.begun (Some []);
+      counts = f.meter;
+    } };
 }
 
 impl<'a, R: rt::Files> DiskFiles<'a, R> {
     /// The files of that runtime, of which none was begun.
     pub fn new(rt: &'a R) -> Self
-        ensures { result ≡ no_counts }
+        ensures { result ≡ record { left = Some []; counts = no_counts } }
     {
         DiskFiles {
             rt,
@@ -43,15 +50,16 @@ impl<'a, R: rt::Files> Files for DiskFiles<'a, R> {
 
     ghost rest = { λ _. None };
 
-    ghost taken = { λ f. f.taken };
+    ghost taken = { λ f. f.counts.taken };
 
-    ghost load_faults = { λ f. f.faults };
+    ghost load_faults = { λ f. f.counts.faults };
 
     /// Opens the file of that name. A missing file is a fault too.
     fn begin(&mut self, name: &str) -> Result<(), Failed>
-        ensures fresh { self.new.taken ≡ 0 }
-        ensures counted { self.new.faults ≡ raised_if (is_err result) self.old.faults }
-        ensures faults { self.old.faults ≤ self.new.faults }
+        ensures err { OnErr result (IsAtEnd self.new.left) }
+        ensures fresh { self.new.counts.taken ≡ 0 }
+        ensures counted { self.new.counts.faults ≡ raised_if (is_err result) self.old.counts.faults }
+        ensures faults { self.old.counts.faults ≤ self.new.counts.faults }
     {
         self.begun = None;
         self.meter.forget_taken();
@@ -67,8 +75,9 @@ impl<'a, R: rt::Files> Files for DiskFiles<'a, R> {
     fn pull(&mut self, buf: &mut [u8]) -> Result<usize, Failed>
         requires { 0 < length buf.old }
         ensures within { ReadsAtMost result buf.new }
-        ensures counts { self.new ≡ after_read self.old result }
-        ensures faults { self.old.faults ≤ self.new.faults }
+        ensures read { OnOk result (ReadConsumes self.old.left self.new.left result buf.new) }
+        ensures counts { self.new.counts ≡ after_read self.old.counts result }
+        ensures faults { self.old.counts.faults ≤ self.new.counts.faults }
     {
         match &mut self.begun {
             Some(file) => self.meter.count_read(read_piece(file, buf)),

@@ -1,4 +1,4 @@
-ghost use Rattle.std.specs.Prelude.{◌≡◌, ◌+◌, ◌^◌, ◌≤◌, Ok, IfOk};
+ghost use Rattle.std.specs.Prelude.{◌≡◌, ◌+◌, ◌^◌, ◌≤◌, ◌↔◌, Ok, IsErr, IfOk, MatchResult};
 ghost use Rattle.host_ports.specs.Device.{no_counts, after_read};
 ghost use Rattle.host_ports.specs.NumberedCalls.{raised};
 
@@ -35,6 +35,9 @@ impl Meter {
     pub(crate) fn count_read(&mut self, read: io::Result<usize>) -> Result<usize, Failed>
         ensures after { self.new ≡ after_read self.old result }
         ensures ok { IfOk result (λ count. read ≡ Ok count) }
+        ensures fails { MatchResult read
+            (λ count. IsErr result ↔ (2 ^ 64 ≤ self.old.taken + count))
+            (λ _. IsErr result) }
         ensures faults { self.old.faults ≤ self.new.faults }
     {
         if let Ok(count) = read
