@@ -1,0 +1,3 @@
+mod Examples
+mod RingLemmas
+pub mod SpiralLemmas

@@ -1,0 +1,30 @@
+ghost use Rattle.std.specs.Prelude.{◌≡◌, ℕ, ◌*◌, ◌+◌, ◌-◌, ◌^◌, ◌<◌, ◌≤◌, ◌↔◌};
+ghost use Rattle.spiral_code.specs.Spiral.{ring_of, code_of, move_of, square};
+
+use crate::place::Place;
+
+/// The code of the movement `(dx, dy)`.
+pub fn encode_move(dx: i64, dy: i64) -> u64
+    requires { ring_of dx dy < 2 ^ 24 }
+    ensures exact { result ≡ code_of dx dy }
+    ensures within { result < square (2 ^ 25 - 1) }
+    ensures back { move_of result ≡ (dx, dy) }
+{
+    if dx == 0 && dy == 0 {
+        return 0;
+    }
+    Place::from_move(dx, dy).code()
+}
+
+/// The movement of a code.
+pub fn decode_move(code: u64) -> (i64, i64)
+    requires { code < square (2 ^ 25 - 1) }
+    ensures exact { result ≡ move_of code }
+    ensures within { ring_of result.0 result.1 < 2 ^ 24 }
+    ensures back { code_of result.0 result.1 ≡ code }
+{
+    if code == 0 {
+        return (0, 0);
+    }
+    Place::from_code(code).movement()
+}
