@@ -1,11 +1,7 @@
--- The spiral, run on the whole of rings 0 to 2, on ring 3 and on a long movement.
+-- The spiral, run on the whole of rings 0 to 2 and on some codes further out.
 use Rattle.std.proofs.Common.{◌≡◌, ℕ, ℤ, pos, neg_ℤ, List, [], ◌∷◌, ◌++◌, map, refl}
 use Rattle.std.specs.List.{range_with_len}
-use Rattle.spiral_code.specs.Spiral.{side_moves, ring_moves, code_of, ring_of_code, move_of}
-
-computing : Unit {0}
-unfolding side_moves ring_moves code_of ring_of_code move_of
-computing = tt
+use Rattle.spiral_code.specs.Spiral.{code_of, move_of}
 
 -- a distance to the left, or down
 abbrev neg : ℕ → ℤ
@@ -23,32 +19,32 @@ second_ring = (pos 2, neg 1) ∷ (pos 2, pos 0) ∷ (pos 2, pos 1) ∷ (pos 2, p
     ∷ (neg 2, pos 1) ∷ (neg 2, pos 0) ∷ (neg 2, neg 1) ∷ (neg 2, neg 2)
     ∷ (neg 1, neg 2) ∷ (pos 0, neg 2) ∷ (pos 1, neg 2) ∷ (pos 2, neg 2) ∷ []
 
--- rings 0 to 2, in the order of their codes
+-- rings 0 to 2 in the order of their codes, which are 0 to 24
 abbrev inner_rings : List (ℤ × ℤ)
 inner_rings = (pos 0, pos 0) ∷ first_ring ++ second_ring
 
-codes_of_inner_rings : map (λ m. code_of m.0 m.1) inner_rings ≡ range_with_len 0 25
-unfolding computing
-codes_of_inner_rings = refl
+inner_codes : map (λ m. code_of m.0 m.1) inner_rings ≡ range_with_len 0 25
+unfolding code_of
+inner_codes = refl
 
-moves_of_inner_codes : map move_of (range_with_len 0 25) ≡ inner_rings
-unfolding computing
-moves_of_inner_codes = refl
+inner_moves : map move_of (range_with_len 0 25) ≡ inner_rings
+unfolding move_of
+inner_moves = refl
 
--- ring 2 ends at code 24, and ring 3 goes on from there
-moves_on_to_ring_3 : map move_of (24 ∷ 25 ∷ 27 ∷ 30 ∷ []) ≡ (pos 2, neg 2) ∷ (pos 3, neg 2) ∷ (pos 3, pos 0) ∷ (pos 3, pos 3) ∷ []
-unfolding computing
-moves_on_to_ring_3 = refl
-
+-- ring 3 begins at code 25
 three_to_the_right : code_of (pos 3) (pos 0) ≡ 27
-unfolding computing
+unfolding code_of
 three_to_the_right = refl
 
--- the last code of a ring is its lower right corner: 6,560 is 81 * 81 - 1
-last_of_ring_40 : move_of 6560 ≡ (pos 40, neg 40)
-unfolding computing
-last_of_ring_40 = refl
+third_ring_begins : map move_of (25 ∷ 26 ∷ 27 ∷ []) ≡ (pos 3, neg 2) ∷ (pos 3, neg 1) ∷ (pos 3, pos 0) ∷ []
+unfolding move_of
+third_ring_begins = refl
 
-lower_right_of_ring_40 : code_of (pos 40) (neg 40) ≡ 6560
-unfolding computing
-lower_right_of_ring_40 = refl
+-- a ring ends at its lower right corner, ring 40 one before the square of 81
+lower_right_corner : code_of (pos 40) (neg 40) ≡ 6560
+unfolding code_of
+lower_right_corner = refl
+
+last_of_ring_40 : move_of 6560 ≡ (pos 40, neg 40)
+unfolding move_of
+last_of_ring_40 = refl

@@ -1,5 +1,5 @@
 -- The movements of one ring: each stands once in the ring's list, at the place that its side gives it.
-use Rattle.std.proofs.Common.{◌≡◌, ℕ, zero, suc, ◌+◌, ◌-◌, ◌*◌, ◌<◌, ◌≤◌, ℤ, pos, true, false, List, ◌++◌, length, get_or, length-append, refl, sym, ap, ◌∙◌, inl, inr, arith}
+use Rattle.std.proofs.Common.{◌≡◌, ℕ, zero, suc, ◌+◌, ◌-◌, ◌*◌, ◌<◌, ◌≤◌, ℤ, pos, Bool, true, false, List, ◌++◌, length, get_or, length-append, refl, sym, ap, ◌∙◌, inl, inr, arith}
 use Rattle.std.specs.List.{position_or_len}
 use Rattle.std.specs.Ordering.{int_eq}
 use Rattle.std.proofs.lemmas.Bool.{cases_lt, cases_Bool, and_from, and_parts}
@@ -23,9 +23,11 @@ length-side_moves : (r : ℕ) (side : Side) → length (side_moves r side) ≡ 2
 unfolding side_moves
 length-side_moves r side = length-map-range_with_len (move_at r side) 0 (2 * r)
 
-get_or-side_moves : (r : ℕ) (side : Side) (i : ℕ) (d : ℤ × ℤ) → i < 2 * r → get_or (side_moves r side) i d ≡ move_at r side i
+get_or-side_moves : (r : ℕ) (side : Side) (i : ℕ) (d : ℤ × ℤ) → i < 2 * r →
+    get_or (side_moves r side) i d ≡ move_at r side i
 unfolding side_moves
-get_or-side_moves r side i d on_side = get_or-map-range_with_len (move_at r side) 0 (2 * r) i i d on_side (omega arith)
+get_or-side_moves r side i d on_side =
+    get_or-map-range_with_len (move_at r side) 0 (2 * r) i i d on_side (omega arith)
 
 -- a ring from 1 on has 8r movements
 pub length-ring_moves : (r : ℕ) → 0 < r → length (ring_moves r) ≡ 8 * r
@@ -33,69 +35,63 @@ unfolding ring_moves
 length-ring_moves zero outside = absurd (omega arith)
 length-ring_moves (suc n) outside = simp (length-append, length-side_moves) (omega arith)
 
--- Four lists joined, the first three of n items each: an item of one of them, by its place in all.
-module _ (a b c e : List (ℤ × ℤ)) (n : ℕ) (length_a : length a ≡ n) (length_b : length b ≡ n) (length_c : length c ≡ n) where
-  length_two : length (a ++ b) ≡ 2 * n
-  length_two = simp length-append (omega arith)
+-- The four sides joined: item i of one of them, by its place j in all.
+module _ (r : ℕ) where
+  abbrev two : List (ℤ × ℤ)
+  two = side_moves r East ++ side_moves r North
 
-  length_three : length (a ++ b ++ c) ≡ 3 * n
-  length_three = simp length-append (omega arith)
+  abbrev three : List (ℤ × ℤ)
+  three = two ++ side_moves r West
 
-  in_first : (i j : ℕ) (d : ℤ × ℤ) → i < n → j ≡ i → get_or (a ++ b ++ c ++ e) j d ≡ get_or a i d
-  in_first i j d within at_i =
-      get_or_append_left (a ++ b ++ c) e d j (omega (arith, length_three))
-      ∙ get_or_append_left (a ++ b) c d j (omega (arith, length_two))
-      ∙ get_or_append_left a b d j (omega arith)
-      ∙ ap (λ k. get_or a k d) at_i
+  length-two : length two ≡ 4 * r
+  length-two = simp (length-append, length-side_moves) (omega arith)
 
-  in_second : (i j : ℕ) (d : ℤ × ℤ) → i < n → j ≡ n + i → get_or (a ++ b ++ c ++ e) j d ≡ get_or b i d
-  in_second i j d within at_i =
-      get_or_append_left (a ++ b ++ c) e d j (omega (arith, length_three))
-      ∙ get_or_append_left (a ++ b) c d j (omega (arith, length_two))
-      ∙ get_or-append_right a b n j d length_a (omega arith)
-      ∙ ap (λ k. get_or b k d) (omega arith)
+  length-three : length three ≡ 6 * r
+  length-three = simp (length-append, length-side_moves) (omega arith)
 
-  in_third : (i j : ℕ) (d : ℤ × ℤ) → i < n → j ≡ 2 * n + i → get_or (a ++ b ++ c ++ e) j d ≡ get_or c i d
-  in_third i j d within at_i =
-      get_or_append_left (a ++ b ++ c) e d j (omega (arith, length_three))
-      ∙ get_or-append_right (a ++ b) c (2 * n) j d length_two (omega arith)
-      ∙ ap (λ k. get_or c k d) (omega arith)
-
-  in_fourth : (i j : ℕ) (d : ℤ × ℤ) → j ≡ 3 * n + i → get_or (a ++ b ++ c ++ e) j d ≡ get_or e i d
-  in_fourth i j d at_i =
-      get_or-append_right (a ++ b ++ c) e (3 * n) j d length_three (omega arith)
-      ∙ ap (λ k. get_or e k d) (omega arith)
+  get_or-sides : (side : Side) (i j : ℕ) (d : ℤ × ℤ) → i < 2 * r → j ≡ place_in_ring r side i →
+      get_or (three ++ side_moves r South) j d ≡ get_or (side_moves r side) i d
+  get_or-sides East i j d on_side at_place =
+      get_or_append_left three (side_moves r South) d j (omega (arith, length-three))
+      ∙ get_or_append_left two (side_moves r West) d j (omega (arith, length-two))
+      ∙ get_or_append_left (side_moves r East) (side_moves r North) d j (omega (arith, length-side_moves r East))
+      ∙ ap (λ k. get_or (side_moves r East) k d) (omega arith)
+  get_or-sides North i j d on_side at_place =
+      get_or_append_left three (side_moves r South) d j (omega (arith, length-three))
+      ∙ get_or_append_left two (side_moves r West) d j (omega (arith, length-two))
+      ∙ get_or-append_right (side_moves r East) _ (2 * r) j d (length-side_moves r East) (omega arith)
+      ∙ ap (λ k. get_or (side_moves r North) k d) (omega arith)
+  get_or-sides West i j d on_side at_place =
+      get_or_append_left three (side_moves r South) d j (omega (arith, length-three))
+      ∙ get_or-append_right two _ (4 * r) j d length-two (omega arith)
+      ∙ ap (λ k. get_or (side_moves r West) k d) (omega arith)
+  get_or-sides South i j d on_side at_place =
+      get_or-append_right three _ (6 * r) j d length-three (omega arith)
+      ∙ ap (λ k. get_or (side_moves r South) k d) (omega arith)
 
 -- the list of a ring has at each place of a side the movement that lies there
-pub get_or-ring_moves : (r : ℕ) (side : Side) (i : ℕ) (d : ℤ × ℤ) → i < 2 * r → get_or (ring_moves r) (place_in_ring r side i) d ≡ move_at r side i
+pub get_or-ring_moves : (r : ℕ) (side : Side) (i : ℕ) (d : ℤ × ℤ) → i < 2 * r →
+    get_or (ring_moves r) (place_in_ring r side i) d ≡ move_at r side i
 unfolding ring_moves
 get_or-ring_moves zero side i d on_side = absurd (omega arith)
 get_or-ring_moves (suc n) side i d on_side =
-    let r = suc n in
-    let east = side_moves r East in
-    let north = side_moves r North in
-    let west = side_moves r West in
-    let south = side_moves r South in
-    let IsThere : Side → Type 0 = λ s. get_or (east ++ north ++ west ++ south) (place_in_ring r s i) d ≡ get_or (side_moves r s) i d in
-    let there : IsThere side = elim side as IsThere [
-      | East ↦ in_first east north west south (2 * r) (length-side_moves r East) (length-side_moves r North) (length-side_moves r West) i _ d on_side (omega arith)
-      | North ↦ in_second east north west south (2 * r) (length-side_moves r East) (length-side_moves r North) (length-side_moves r West) i _ d on_side (omega arith)
-      | West ↦ in_third east north west south (2 * r) (length-side_moves r East) (length-side_moves r North) (length-side_moves r West) i _ d on_side (omega arith)
-      | South ↦ in_fourth east north west south (2 * r) (length-side_moves r East) (length-side_moves r North) (length-side_moves r West) i _ d (omega arith)
-    ] in
-    there ∙ get_or-side_moves r side i d on_side
+    get_or-sides (suc n) side i (place_in_ring (suc n) side i) d on_side refl
+    ∙ get_or-side_moves (suc n) side i d on_side
 
 -- ---- places
 
 -- a movement lies on the ring of its place
-pub ring_of-move_at : (r : ℕ) (side : Side) (i : ℕ) → i < 2 * r → ring_of (move_at r side i).0 (move_at r side i).1 ≡ r
+pub ring_of-move_at : (r : ℕ) (side : Side) (i : ℕ) → i < 2 * r →
+    ring_of (move_at r side i).0 (move_at r side i).1 ≡ r
 ring_of-move_at r East i on_side = omega (arith, ints)
 ring_of-move_at r North i on_side = omega (arith, ints)
 ring_of-move_at r West i on_side = omega (arith, ints)
 ring_of-move_at r South i on_side = omega (arith, ints)
 
 -- two places of a ring with one movement are one: no corner belongs to two sides
-same_place : (r : ℕ) (s t : Side) (i j : ℕ) → i < 2 * r → j < 2 * r → (move_at r s i).0 ≡ (move_at r t j).0 → (move_at r s i).1 ≡ (move_at r t j).1 → place_in_ring r s i ≡ place_in_ring r t j
+same_place : (r : ℕ) (s t : Side) (i j : ℕ) → i < 2 * r → j < 2 * r →
+    (move_at r s i).0 ≡ (move_at r t j).0 → (move_at r s i).1 ≡ (move_at r t j).1 →
+    place_in_ring r s i ≡ place_in_ring r t j
 same_place r East East i j p q dx dy = omega (arith, ints)
 same_place r East North i j p q dx dy = omega (arith, ints)
 same_place r East West i j p q dx dy = omega (arith, ints)
@@ -121,7 +117,8 @@ place_in_ring-below r West i on_side = omega arith
 place_in_ring-below r South i on_side = omega arith
 
 -- each of the 8r places of a ring belongs to a side
-pub side_of_place : (r k : ℕ) → k < 8 * r → (side : Side) × (i : ℕ) × (i < 2 * r) × (k ≡ place_in_ring r side i)
+pub side_of_place : (r k : ℕ) → k < 8 * r →
+    (side : Side) × (i : ℕ) × (i < 2 * r) × (k ≡ place_in_ring r side i)
 side_of_place r k within = elim (cases_lt k (2 * r)) [
   | inl on_east ↦ (East, k, on_east, omega arith)
   | inr after_east ↦ elim (cases_lt k (4 * r)) [
@@ -135,6 +132,10 @@ side_of_place r k within = elim (cases_lt k (2 * r)) [
 
 -- ---- a movement in the list of its ring
 
+-- whether a movement is the one at a place
+abbrev is_at : ℕ → Side → ℕ → ℤ × ℤ → Bool
+is_at r side i = let m = move_at r side i in is_move m.0 m.1
+
 is_move-self : (dx dy : ℤ) → is_move dx dy (dx, dy) ≡ true
 is_move-self dx dy = and_from _ _ ((Decides-int_eq dx dx).1 refl) ((Decides-int_eq dy dy).1 refl)
 
@@ -145,26 +146,34 @@ is_move-true dx dy m passes =
     ((Decides-int_eq m.0 dx).0 parts.0, (Decides-int_eq m.1 dy).0 parts.1)
 
 -- the movement of a place does not stand before it in the list
-not_before : (r : ℕ) (side : Side) (i k : ℕ) (d : ℤ × ℤ) → i < 2 * r → k < place_in_ring r side i → is_move (move_at r side i).0 (move_at r side i).1 (get_or (ring_moves r) k d) ≡ false
+not_before : (r : ℕ) (side : Side) (i k : ℕ) (d : ℤ × ℤ) → i < 2 * r → k < place_in_ring r side i →
+    is_at r side i (get_or (ring_moves r) k d) ≡ false
 not_before r side i k d on_side before =
     let m = move_at r side i in
     let found = get_or (ring_moves r) k d in
     let at_k = side_of_place r k (omega (arith, place_in_ring-below r side i on_side)) in
-    let found_is : found ≡ move_at r at_k.0 at_k.1 = ap (λ j. get_or (ring_moves r) j d) at_k.3 ∙ get_or-ring_moves r at_k.0 at_k.1 d at_k.2 in
-    elim (cases_Bool (is_move m.0 m.1 found)) [
+    let found_is : found ≡ move_at r at_k.0 at_k.1 =
+        ap (λ j. get_or (ring_moves r) j d) at_k.3 ∙ get_or-ring_moves r at_k.0 at_k.1 d at_k.2
+    in
+    elim (cases_Bool (is_at r side i found)) [
       | inl passes ↦
-          let same = is_move-true m.0 m.1 found passes in
-          let one_place = same_place r at_k.0 side at_k.1 i at_k.2 on_side (sym (ap (λ x. x.0) found_is) ∙ same.0) (sym (ap (λ x. x.1) found_is) ∙ same.1) in
-          absurd (omega (arith, at_k.3, one_place))
+        let same = is_move-true m.0 m.1 found passes in
+        let same_dx = sym (ap (λ x. x.0) found_is) ∙ same.0 in
+        let same_dy = sym (ap (λ x. x.1) found_is) ∙ same.1 in
+        absurd (omega (arith, at_k.3, same_place r at_k.0 side at_k.1 i at_k.2 on_side same_dx same_dy))
       | inr fails ↦ fails
     ]
 
 -- the list of a ring has the movement of a place first at that place
-pub position-move_at : (r : ℕ) (side : Side) (i : ℕ) → i < 2 * r → position_or_len (is_move (move_at r side i).0 (move_at r side i).1) (ring_moves r) ≡ place_in_ring r side i
+pub position-move_at : (r : ℕ) (side : Side) (i : ℕ) → i < 2 * r →
+    position_or_len (is_move (move_at r side i).0 (move_at r side i).1) (ring_moves r) ≡ place_in_ring r side i
 position-move_at r side i on_side =
+    let place = place_in_ring r side i in
     let m = move_at r side i in
     let d : ℤ × ℤ = (pos 0, pos 0) in
-    let within : place_in_ring r side i ≤ length (ring_moves r) = omega (arith, place_in_ring-below r side i on_side, length-ring_moves r (omega arith)) in
-    position_or_len_is (is_move m.0 m.1) (ring_moves r) (place_in_ring r side i) d within
-    (λ k before. not_before r side i k d on_side before)
-    (λ _. ap (is_move m.0 m.1) (get_or-ring_moves r side i d on_side) ∙ is_move-self m.0 m.1)
+    let within : place ≤ length (ring_moves r) =
+        omega (arith, place_in_ring-below r side i on_side, length-ring_moves r (omega arith))
+    in
+    position_or_len_is (is_at r side i) (ring_moves r) place d within
+        (λ k before. not_before r side i k d on_side before)
+        (λ _. ap (is_at r side i) (get_or-ring_moves r side i d on_side) ∙ is_move-self m.0 m.1)

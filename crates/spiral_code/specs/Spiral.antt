@@ -1,6 +1,6 @@
--- The spiral: each ring is the list of its movements, side by side, and a code is a place in these
--- lists. Both directions read the same lists, and neither solves for a side or a place, as the code
--- does; nor is there a square root.
+-- The spiral: each ring is the list of its movements, side by side, and a movement's code is its place in
+-- the lists of all rings. Both directions look into these lists: neither works out a side, how far along
+-- it a movement lies, or a square root, as the code does.
 use Rattle.std.specs.Prelude.{ℕ, zero, suc, ◌+◌, ◌-◌, ◌*◌, max, ℤ, pos, neg_ℤ, ◌+ℤ◌, ◌-ℤ◌, unsigned_abs, Bool, ◌&&◌, nat_lt, List, [], ◌∷◌, ◌++◌, map, slice_index_or}
 use Rattle.std.specs.List.{range_with_len, position_or_len}
 use Rattle.std.specs.Ordering.{int_eq}
@@ -11,7 +11,7 @@ use Rattle.spiral_code.specs.declared.place.Side.TheVariants.{East, North, West,
 abbrev pub ring_of : ℤ → ℤ → ℕ
 ring_of dx dy = max (unsigned_abs dx) (unsigned_abs dy)
 
--- the movement at place i of a side of ring r: up the east side, then left, down and right
+-- the movement at place i of a side of ring r: up the east side, then to the left, down, to the right
 abbrev pub move_at : ℕ → Side → ℕ → ℤ × ℤ
 move_at r East i = (pos r, neg_ℤ (pos r) +ℤ pos (1 + i))
 move_at r North i = (pos r -ℤ pos (1 + i), pos r)
@@ -22,8 +22,9 @@ move_at r South i = (neg_ℤ (pos r) +ℤ pos (1 + i), neg_ℤ (pos r))
 unfoldable pub side_moves : ℕ → Side → List (ℤ × ℤ)
 side_moves r side = map (move_at r side) (range_with_len 0 (2 * r))
 
--- the movements of ring r in the order of their codes: of ring 0 the one that stands still
+-- the movements of ring r in the order of their codes: those of its sides, and in ring 0 the zero movement
 unfoldable pub ring_moves : ℕ → List (ℤ × ℤ)
+unfolding side_moves
 ring_moves zero = (pos 0, pos 0) ∷ []
 ring_moves (suc n) = let r = suc n in
     side_moves r East ++ side_moves r North ++ side_moves r West ++ side_moves r South
@@ -36,21 +37,23 @@ square n = n * n
 abbrev pub first_code : ℕ → ℕ
 first_code r = square (2 * r - 1)
 
--- whether a movement is the one by dx and dy
+-- whether m is the movement (dx, dy)
 abbrev pub is_move : ℤ → ℤ → ℤ × ℤ → Bool
 is_move dx dy m = int_eq m.0 dx && int_eq m.1 dy
 
--- the code of a movement: its ring's first code, and its place among the ring's movements
+-- the code of a movement: the first code of its ring, and its place among the movements of the ring
 unfoldable pub code_of : ℤ → ℤ → ℕ
+unfolding ring_moves
 code_of dx dy = let r = ring_of dx dy in
     first_code r + position_or_len (is_move dx dy) (ring_moves r)
 
--- the ring of a code: the first ring after which the next one begins above the code
+-- the ring of a code: the first one whose next ring begins above the code
 unfoldable pub ring_of_code : ℕ → ℕ
 ring_of_code code =
     position_or_len (λ r. nat_lt code (first_code (suc r))) (range_with_len 0 (suc code))
 
--- the movement of a code: the one at the code's place among its ring's movements
+-- the movement of a code: the one at the code's place among the movements of its ring
 unfoldable pub move_of : ℕ → ℤ × ℤ
+unfolding ring_of_code ring_moves
 move_of code = let r = ring_of_code code in
     slice_index_or (ring_moves r) (code - first_code r) (pos 0, pos 0)

@@ -1,13 +1,15 @@
-//! Movements on a grid as codes, in the order of a square spiral.
+//! Movements on a grid as codes along a square spiral, so that short movements have small codes.
 //!
-//! A movement is given by how far it goes to the right and how far up. The spiral starts at the
-//! movement that stands still and goes round it ring by ring, so that short movements have small
-//! codes. `encode_move` and `decode_move` are each other's inverse. The crate stands on std alone.
+//! `encode_move` and `decode_move` are each other's inverse, and the code of each movement is the one
+//! that the table in `specs/Spiral.antt` gives. The spiral is GraCT's idea (Brisaboa, Gómez-Brandón,
+//! Navarro and Paramá, SPIRE 2016), its order this project's own. The crate stands on std alone.
 #![tactic(auto)]
 
 mod moves;
 mod place;
 mod rings;
+#[cfg(test)]
+mod tests;
 
 pub use moves::{decode_move, encode_move};
 pub use rings::ring;

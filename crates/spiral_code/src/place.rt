@@ -1,8 +1,8 @@
-ghost use Rattle.std.specs.Prelude.{◌≡◌, ℕ, ◌+◌, ◌*◌, ◌^◌, ◌<◌, ◌≤◌, ◌-◌, pos, neg_ℤ, ◌+ℤ◌, ◌<ℤ◌, ◌≤ℤ◌};
+ghost use Rattle.std.specs.Prelude.{◌≡◌, ◌+◌, ◌-◌, ◌*◌, ◌^◌, ◌<◌, pos, neg_ℤ, ◌+ℤ◌, ◌<ℤ◌, ◌≤ℤ◌};
 
 use crate::rings::{first_code, ring};
 
-/// The sides of a ring, in the order in which the spiral goes along them.
+/// The sides of a ring, in the order in which the spiral goes along them. A corner ends a side.
 #[derive(Clone, Copy)]
 pub(crate) enum Side {
     /// Upwards.
@@ -78,8 +78,8 @@ impl Place {
         }
     }
 
-    /// The place on a side where the distance that changes along it, counted in the direction of
-    /// the spiral, is `along`.
+    /// The place on a side where the distance that grows along the side is `along`, which runs from
+    /// `1 - ring` to `ring`.
     fn on(ring: u64, side: Side, along: i64) -> Self
         requires in_range { ring < 2 ^ 24 }
         requires low { neg_ℤ (pos ring) <ℤ along }
@@ -88,11 +88,8 @@ impl Place {
         ensures side { result.side ≡ side }
         ensures step { pos (result.step + 1) ≡ along +ℤ pos ring }
     {
-        Place {
-            ring,
-            side,
-            step: (along + ring as i64 - 1) as u64,
-        }
+        let step = (along + ring as i64 - 1) as u64;
+        Place { ring, side, step }
     }
 
     /// The movement at this place.
@@ -116,19 +113,17 @@ impl Place {
         ensures { move_at result.ring result.side result.step ≡ move_of code }
     {
         let ring = ring(code);
-        let along = code - first_code(ring);
-        let length = 2 * ring;
-        Place {
-            ring,
-            side: Side::nth(along / length),
-            step: along % length,
-        }
+        let place_in_ring = code - first_code(ring);
+        let side = Side::nth(place_in_ring / (2 * ring));
+        let step = place_in_ring % (2 * ring);
+        Place { ring, side, step }
     }
 
     /// The code of this place.
     pub(crate) fn code(self) -> u64
         ensures { let m = move_at self.ring self.side self.step in result ≡ code_of m.0 m.1 }
     {
-        first_code(self.ring) + self.side.number() * (2 * self.ring) + self.step
+        let place_in_ring = self.side.number() * (2 * self.ring) + self.step;
+        first_code(self.ring) + place_in_ring
     }
 }

@@ -1,13 +1,13 @@
-ghost use Rattle.std.specs.Prelude.{◌≡◌, ℕ, ◌*◌, ◌+◌, ◌-◌, ◌^◌, ◌<◌, ◌≤◌, ◌↔◌};
+ghost use Rattle.std.specs.Prelude.{◌≡◌, ◌+◌, ◌-◌, ◌^◌, ◌<◌, ◌≤◌};
 ghost use Rattle.spiral_code.specs.Spiral.{ring_of, move_of, first_code, square};
 
-/// The ring of a code, below 2^24: the greater of the two distances that its movement goes.
+/// The ring of a code: the greater of the two distances, in cells, that its movement goes.
 ///
-/// The codes up to the end of ring `r` are those below `(2 * r + 1)^2`, so a code's whole square
-/// root tells its ring.
+/// Ring `r` has the codes from `(2 * r - 1)^2` to `(2 * r + 1)^2 - 1`, so the whole square root of a
+/// code is `2 * r - 1` or `2 * r`.
 pub fn ring(code: u64) -> u64
     requires { code < square (2 ^ 25 - 1) }
-    ensures exact { let (dx, dy) = move_of code in result ≡ ring_of dx dy }
+    ensures exact { let m = move_of code in result ≡ ring_of m.0 m.1 }
     ensures within { result < 2 ^ 24 }
     ensures begins { first_code result ≤ code }
     ensures ends { code < first_code (result + 1) }

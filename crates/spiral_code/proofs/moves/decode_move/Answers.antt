@@ -10,4 +10,5 @@ pub returns-then-code-eq0-clause-back : goal.returns-then-code-eq0-clause-back
 returns-then-code-eq0-clause-back c = code_of-zero ∙ sym c.if-code-eq0.true
 
 pub returns-clause-back : goal.returns-clause-back
-returns-clause-back c = ap (λ m. code_of m.0 m.1) (c.movement.ensures ∙ c.from_code.ensures) ∙ code_of-move_of c.args.code
+returns-clause-back c =
+    ap (λ m. code_of m.0 m.1) (c.movement.ensures ∙ c.from_code.ensures) ∙ code_of-move_of c.args.code

@@ -5,6 +5,9 @@ use Rattle.spiral_code.proofs.place.Place.code.Goals as goal
 
 pub returns : goal.returns
 returns c =
-    let p = c.args.self in
-    let sides : c.number.result * (2 * p.ring) ≡ sides_before p.side * (2 * p.ring) = ap (λ n. n * (2 * p.ring)) c.number.ensures in
-    omega (arith, c.first_code.ensures) ∙ sym (code_of-move_at p.ring p.side p.step p.on_side)
+    let place = c.args.self in
+    let side_length = 2 * place.ring in
+    let sides : c.number.result * side_length ≡ sides_before place.side * side_length =
+        ap (λ n. n * side_length) c.number.ensures
+    in
+    omega (arith, c.first_code.ensures) ∙ sym (code_of-move_at place.ring place.side place.step place.on_side)

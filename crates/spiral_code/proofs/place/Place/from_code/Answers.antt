@@ -8,10 +8,10 @@ pub returns : goal.returns
 returns c =
     let code = c.args.code in
     let r = c.ring-ring.result in
-    let side = c.nth.result in
-    let along = code - c.first_code.result in
-    let step = along % (2 * r) in
+    let side = c.nth-side.result in
+    let place = code - c.first_code.result in
+    let step = place % (2 * r) in
     let outside : 0 < r = search rules in
-    let sides : sides_before side * (2 * r) ≡ along / (2 * r) * (2 * r) = ap (λ n. n * (2 * r)) c.nth.ensures in
-    let code_is : code_at r side step ≡ code = omega (arith, div-add-mod' along (2 * r)) in
+    let sides : sides_before side * (2 * r) ≡ place / (2 * r) * (2 * r) = ap (λ n. n * (2 * r)) c.nth-side.ensures in
+    let code_is : code_at r side step ≡ code = omega (arith, div-add-mod' place (2 * r)) in
     sym (move_of-code_at r side step (omega arith)) ∙ ap move_of code_is
