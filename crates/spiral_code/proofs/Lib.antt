@@ -1,3 +1,5 @@
 mod Examples
 mod RingLemmas
+pub mod CodeRingLemmas
+mod PlaceLemmas
 pub mod SpiralLemmas

@@ -153,14 +153,14 @@ not_before r side i k d on_side before =
     let found = get_or (ring_moves r) k d in
     let at_k = side_of_place r k (omega (arith, place_in_ring-below r side i on_side)) in
     let found_is : found ≡ move_at r at_k.0 at_k.1 =
-        ap (λ j. get_or (ring_moves r) j d) at_k.3 ∙ get_or-ring_moves r at_k.0 at_k.1 d at_k.2
+    ap (λ j. get_or (ring_moves r) j d) at_k.3 ∙ get_or-ring_moves r at_k.0 at_k.1 d at_k.2
     in
     elim (cases_Bool (is_at r side i found)) [
       | inl passes ↦
-        let same = is_move-true m.0 m.1 found passes in
-        let same_dx = sym (ap (λ x. x.0) found_is) ∙ same.0 in
-        let same_dy = sym (ap (λ x. x.1) found_is) ∙ same.1 in
-        absurd (omega (arith, at_k.3, same_place r at_k.0 side at_k.1 i at_k.2 on_side same_dx same_dy))
+          let same = is_move-true m.0 m.1 found passes in
+          let same_dx = sym (ap (λ x. x.0) found_is) ∙ same.0 in
+          let same_dy = sym (ap (λ x. x.1) found_is) ∙ same.1 in
+          absurd (omega (arith, at_k.3, same_place r at_k.0 side at_k.1 i at_k.2 on_side same_dx same_dy))
       | inr fails ↦ fails
     ]
 
@@ -172,8 +172,8 @@ position-move_at r side i on_side =
     let m = move_at r side i in
     let d : ℤ × ℤ = (pos 0, pos 0) in
     let within : place ≤ length (ring_moves r) =
-        omega (arith, place_in_ring-below r side i on_side, length-ring_moves r (omega arith))
+    omega (arith, place_in_ring-below r side i on_side, length-ring_moves r (omega arith))
     in
     position_or_len_is (is_at r side i) (ring_moves r) place d within
-        (λ k before. not_before r side i k d on_side before)
-        (λ _. ap (is_at r side i) (get_or-ring_moves r side i d on_side) ∙ is_move-self m.0 m.1)
+    (λ k before. not_before r side i k d on_side before)
+    (λ _. ap (is_at r side i) (get_or-ring_moves r side i d on_side) ∙ is_move-self m.0 m.1)

@@ -1,5 +1,6 @@
 use Rattle.std.proofs.Common.{◌∙◌, sym}
-use Rattle.spiral_code.proofs.SpiralLemmas.{ring_of-move_of, ring_of_code-root}
+use Rattle.spiral_code.proofs.CodeRingLemmas.{ring_of_code-root}
+use Rattle.spiral_code.proofs.SpiralLemmas.{ring_of-move_of}
 use Rattle.spiral_code.proofs.rings.ring.Goals as goal
 
 pub returns-clause-exact : goal.returns-clause-exact

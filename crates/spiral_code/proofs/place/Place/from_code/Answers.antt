@@ -1,7 +1,7 @@
 use Rattle.std.proofs.Common.{◌≡◌, ◌-◌, ◌*◌, ◌/◌, ◌%◌, ◌<◌, ap, sym, ◌∙◌, div-add-mod', rules, arith}
 use Rattle.spiral_code.specs.Side.{sides_before}
 use Rattle.spiral_code.specs.Spiral.{move_of}
-use Rattle.spiral_code.proofs.SpiralLemmas.{code_at, move_of-code_at}
+use Rattle.spiral_code.proofs.PlaceLemmas.{code_at, move_of-code_at}
 use Rattle.spiral_code.proofs.place.Place.from_code.Goals as goal
 
 pub returns : goal.returns
