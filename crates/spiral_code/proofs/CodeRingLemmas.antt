@@ -41,9 +41,10 @@ ring_of_code-on code r low high =
     let rings = range_with_len 0 (suc code) in
     let within : r < suc code = omega (arith, ring_le_first_code r) in
     let ring_at = λ (k : ℕ) (below : k < suc code). get_or-range_with_len 0 (suc code) k 0 below ∙ zero-add k in
-    let not_yet = λ (k : ℕ) (before : k < r). le-ltb code (first_code (suc k)) (omega (arith, first_code-le (suc k) r before)) in
+    let begun = λ (k : ℕ) (before : k < r). first_code-le (suc k) r before in
     position_or_len_is begins_above rings r 0 (omega (arith, length-range_with_len 0 (suc code)))
-    (λ k before. ap begins_above (ring_at k (omega arith)) ∙ not_yet k before)
+    (λ k before.
+    ap begins_above (ring_at k (omega arith)) ∙ le-ltb code (first_code (suc k)) (omega (arith, begun k before)))
     (λ _. ap begins_above (ring_at r within) ∙ lt-ltb code (first_code (suc r)) high)
 
 pub ring_of_code-zero : ring_of_code 0 ≡ 0

@@ -36,7 +36,8 @@ three_to_the_right : code_of (pos 3) (pos 0) ≡ 27
 unfolding code_of
 three_to_the_right = refl
 
-third_ring_begins : map move_of (25 ∷ 26 ∷ 27 ∷ []) ≡ (pos 3, neg 2) ∷ (pos 3, neg 1) ∷ (pos 3, pos 0) ∷ []
+third_ring_begins :
+    map move_of (25 ∷ 26 ∷ 27 ∷ []) ≡ (pos 3, neg 2) ∷ (pos 3, neg 1) ∷ (pos 3, pos 0) ∷ []
 unfolding move_of
 third_ring_begins = refl
 

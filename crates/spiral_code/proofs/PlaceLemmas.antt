@@ -34,7 +34,8 @@ ring_of_code-code_at r side i on_side =
     ring_of_code-on (code_at r side i) r (omega arith) ends
 
 -- the movement of the code of a place is that of the place
-pub move_of-code_at : (r : ℕ) (side : Side) (i : ℕ) → i < 2 * r → move_of (code_at r side i) ≡ move_at r side i
+pub move_of-code_at : (r : ℕ) (side : Side) (i : ℕ) → i < 2 * r →
+    move_of (code_at r side i) ≡ move_at r side i
 unfolding move_of
 move_of-code_at r side i on_side =
     let code = code_at r side i in

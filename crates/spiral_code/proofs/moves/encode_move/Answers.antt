@@ -1,4 +1,4 @@
-use Rattle.std.proofs.Common.{◌≡◌, pos, ap, ap₂, sym, ◌∙◌, to_z-of_z, arith}
+use Rattle.std.proofs.Common.{◌≡◌, ◌-◌, ◌^◌, pos, ap, ap₂, sym, ◌∙◌, to_z-of_z, arith}
 use Rattle.std.proofs.lemmas.Int.{ints}
 use Rattle.spiral_code.specs.Spiral.{code_of, move_of}
 use Rattle.spiral_code.proofs.SpiralLemmas.{code_of-zero, move_of-zero, code_of-below, move_of-code_of}
@@ -25,7 +25,7 @@ result_is c =
 
 pub returns-clause-within : goal.returns-clause-within
 returns-clause-within c =
-    omega (arith, result_is c, (code_of-below c.args.dx c.args.dy 16777215).1 (omega (arith, c.requires)))
+    omega (arith, result_is c, (code_of-below c.args.dx c.args.dy (2 ^ 24 - 1)).1 (omega (arith, c.requires)))
 
 pub returns-clause-back : goal.returns-clause-back
 returns-clause-back c = ap move_of (result_is c) ∙ move_of-code_of c.args.dx c.args.dy
