@@ -7,3 +7,5 @@ pub mod Request
 pub mod LineKept
 pub mod Loading
 pub mod Session
+pub mod Refusal
+pub mod Outcome

@@ -1,5 +1,5 @@
 -- What the command words ask for.
-use Rattle.std.specs.Prelude.{ℕ, ◌+◌, ◌^◌, Bool, true, false, if◌then◌else◌, List, [], ◌∷◌, codes, Option, Some, None, map, slice_index_or}
+use Rattle.std.specs.Prelude.{◌≡◌, ℕ, ◌+◌, ◌^◌, Bool, true, false, if◌then◌else◌, List, [], ◌∷◌, codes, Option, Some, None, map, slice_index_or}
 use denote.Ref.{Bor}
 use Rattle.std.specs.Option.{is_some}
 use Rattle.std.specs.Str.{bytes_eq}
@@ -58,3 +58,11 @@ csv_name words = slice_index_or words 1 []
 -- the texts that words are
 abbrev pub texts : List (Bor (List ℕ)) → List (List ℕ)
 texts words = map (λ word. word.now) words
+
+abbrev pub is_accepted : Request → Bool
+is_accepted (Once settings) = true
+is_accepted (Refused place) = false
+
+-- the words have a form
+abbrev pub IsForm : List (List ℕ) → Type 0
+IsForm words = is_accepted (request_of words) ≡ true

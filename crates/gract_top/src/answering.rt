@@ -22,7 +22,7 @@ pub(crate) enum AnswerFault {
 }
 
 /// How many bytes question input may have, 2^32.
-const LONGEST_INPUT: usize = 0x1_0000_0000;
+pub(crate) const LONGEST_INPUT: usize = 0x1_0000_0000;
 
 /// How many bytes are listened to at a time.
 const PIECE: usize = 4096;

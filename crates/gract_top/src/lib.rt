@@ -19,5 +19,5 @@ mod words;
 #[cfg(test)]
 mod tests;
 
-// pub use commands::gract;
+pub use commands::gract;
 pub use outcome::Outcome;

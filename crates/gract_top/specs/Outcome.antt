@@ -1,0 +1,25 @@
+-- What an outcome tells of what came and what was said.
+use Rattle.std.specs.Prelude.{◌≡◌, ℕ, ◌+◌, ◌^◌, false, List, Option}
+use Rattle.host_ports.specs.FileMap.{FileMap}
+use Rattle.track_types.specs.declared.limit.LimitKind.{LimitKind}
+use Rattle.track_types.specs.declared.limit.LimitKind.TheVariants as limit
+use Rattle.track_types.specs.declared.raw_row.RawRow.{RawRow}
+use Rattle.row_reader.specs.Rows.{raws_of}
+use Rattle.gract_top.specs.Refusal.{IsHeld, is_unasked}
+use Rattle.gract_top.specs.Session.{AnswersAll, AnswersFirst, AnswersFront, AnswersWhole, Talk}
+use Rattle.gract_top.specs.declared.outcome.Outcome.{Outcome}
+use Rattle.gract_top.specs.declared.outcome.Outcome.TheVariants as outcome
+
+-- What was answered over these rows: all lines, or those that came before a fault or the limit, or nothing.
+abbrev pub Answered : Outcome → List RawRow → Talk → Talk → Type 0
+Answered outcome.Done rows before now = AnswersAll rows before now
+Answered outcome.ListenFailed rows before now = AnswersWhole rows before now
+Answered outcome.SayFailed rows before now = AnswersFront rows before now
+Answered (outcome.Limit limit.Questions value) rows before now = (value ≡ 2 ^ 32 + 1) × AnswersFirst rows before now
+Answered other rows before now = now ≡ before
+
+-- An outcome answers over some rows; where a question was listened to and the CSV file is told, they are that file's.
+pub record Answers (outcome : Outcome) (files : Option FileMap) (csv : List ℕ) (before now : Talk) : Type 0 where
+  pub rows : List RawRow
+  pub answered : Answered outcome rows before now
+  pub of_file : is_unasked outcome ≡ false → (bytes : List ℕ) → IsHeld files csv bytes → rows ≡ raws_of bytes

@@ -1,0 +1,52 @@
+-- What the CSV file decides before a question is read.
+use Rattle.std.specs.Prelude.{◌≡◌, ℕ, ◌+◌, ◌^◌, ⊤, Bool, true, false, nat_lt, if◌then◌else◌, List, [], ◌∷◌, length, Option, Some, None}
+use Rattle.host_ports.specs.FileMap.{FileMap, held}
+use Rattle.track_types.specs.declared.limit.LimitKind.{LimitKind}
+use Rattle.track_types.specs.declared.limit.LimitKind.TheVariants as limit
+use Rattle.track_types.specs.declared.raw_row.RawRow.{RawRow}
+use Rattle.row_reader.specs.Rows.{csv_fault, raws_of}
+use Rattle.row_reader.specs.declared.fault.RowsFault.{RowsFault}
+use Rattle.row_reader.specs.declared.fault.RowsFault.TheVariants as rows
+use Rattle.gract_top.specs.declared.outcome.Outcome.{Outcome}
+use Rattle.gract_top.specs.declared.outcome.Outcome.TheVariants as outcome
+
+-- the files are told, and the one of that name has these bytes
+abbrev pub IsHeld : Option FileMap → List ℕ → List ℕ → Type 0
+IsHeld None name bytes = ⊥
+IsHeld (Some files) name bytes = held files name ≡ Some bytes
+
+-- the refusal of a file for its rows
+abbrev pub rows_refusal : Option RowsFault → List RawRow → Option Outcome
+rows_refusal (Some (rows.Row nth field fault)) all = Some (outcome.Row nth field fault)
+rows_refusal (Some rows.Memory) all = None
+rows_refusal None [] = Some outcome.Empty
+rows_refusal None (first ∷ others) = None
+
+-- The refusal of a file, or none where it is accepted: it is too long, a record is no row, or there is no data record.
+abbrev pub refusal_of : List ℕ → Option Outcome
+refusal_of bytes =
+    if nat_lt (2 ^ 29) (length bytes) then Some (outcome.Limit limit.Csv (2 ^ 29 + 1)) else rows_refusal (csv_fault bytes) (raws_of bytes)
+
+-- an outcome that the bytes of the CSV file decide
+abbrev pub is_refusal : Outcome → Bool
+is_refusal (outcome.Row nth field fault) = true
+is_refusal outcome.Empty = true
+is_refusal (outcome.Limit limit.Questions value) = false
+is_refusal (outcome.Limit kind value) = true
+is_refusal other = false
+
+-- an outcome that comes while the CSV file is loaded
+abbrev pub is_loading : Outcome → Bool
+is_loading outcome.LoadFailed = true
+is_loading outcome.Memory = true
+is_loading other = is_refusal other
+
+-- an outcome that comes before a question is read
+abbrev pub is_unasked : Outcome → Bool
+is_unasked (outcome.Words place) = true
+is_unasked other = is_loading other
+
+-- where the bytes are refused, the outcome is that refusal; else it comes after the first question
+abbrev pub IsDecided : Option Outcome → Outcome → Type 0
+IsDecided (Some refusal) outcome = outcome ≡ refusal
+IsDecided None outcome = is_unasked outcome ≡ false
