@@ -9,3 +9,4 @@ pub mod Loading
 pub mod Session
 pub mod Refusal
 pub mod Outcome
+pub mod OutcomeText

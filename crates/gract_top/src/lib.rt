@@ -10,6 +10,7 @@ mod commands;
 mod line_buffer;
 mod loading;
 mod outcome;
+mod outcome_text;
 mod question;
 mod ranges;
 mod reply;

@@ -1,0 +1,124 @@
+ghost use Rattle.std.specs.Prelude.{◌≡◌, ◌+◌, ◌≤◌, ◌++◌, length};
+ghost use Rattle.gract_top.specs.OutcomeText.{before_field, behind_field, limit_name, status_of, text_of};
+
+use crate::outcome::Outcome;
+use arrayvec::ArrayString;
+use itoa::Buffer;
+use track_types::{LimitKind, RowFault};
+
+/// The line that a program ends with.
+type Text = ArrayString<160>;
+
+impl Outcome {
+    /// The status that a program ends with: 0 where everything was done.
+    pub fn status(&self) -> u8
+        ensures { result ≡ status_of self.now }
+    {
+        match self {
+            Outcome::Done => 0,
+            Outcome::Words { .. } => 2,
+            Outcome::Row { .. } | Outcome::Empty => 3,
+            Outcome::Limit { .. } => 4,
+            Outcome::LoadFailed | Outcome::ListenFailed | Outcome::SayFailed => 6,
+            Outcome::Memory => 7,
+        }
+    }
+
+    /// The line that a program ends with, without a line feed; empty where everything was done. It
+    /// takes no memory.
+    pub fn text(&self) -> ArrayString<160>
+        ensures { result.bytes ≡ text_of self.now }
+    {
+        match *self {
+            Outcome::Done => Text::new(),
+            Outcome::Words { place } => words_text(place),
+            Outcome::LoadFailed => plain_text("gract: a file could not be read"),
+            Outcome::Limit { kind, value } => limit_text(kind, value),
+            Outcome::Row { nth, field, fault } => record_text(nth, field, fault),
+            Outcome::Empty => plain_text("gract: no rows"),
+            Outcome::ListenFailed => plain_text("gract: the questions could not be read"),
+            Outcome::SayFailed => plain_text("gract: the answers could not be written"),
+            Outcome::Memory => plain_text("gract: no memory"),
+        }
+    }
+}
+
+fn plain_text(line: &str) -> ArrayString<160>
+    requires { length line.now ≤ 160 }
+    ensures { result.bytes ≡ line.now }
+{
+    let mut text = ArrayString::new();
+    text.push_str(line);
+    text
+}
+
+fn words_text(place: u32) -> ArrayString<160>
+    ensures { result.bytes ≡ text_of (Outcome.Words place) }
+{
+    let mut digits = Buffer::new();
+    let mut text = plain_text("gract: word ");
+    text.push_str(digits.format(place));
+    text.push_str(" is not as expected");
+    text
+}
+
+fn limit_text(kind: LimitKind, value: u64) -> ArrayString<160>
+    ensures { result.bytes ≡ text_of (Outcome.Limit kind value) }
+{
+    let mut digits = Buffer::new();
+    let mut text = plain_text("gract: limit ");
+    text.push_str(kind_name(kind));
+    text.push_str(" passed at ");
+    text.push_str(digits.format(value));
+    text
+}
+
+fn kind_name(kind: LimitKind) -> &'static str
+    ensures value { result.now ≡ limit_name kind }
+    ensures short { length result.now ≤ 9 }
+{
+    match kind {
+        LimitKind::Csv => "csv",
+        LimitKind::Rows => "rows",
+        LimitKind::Objects => "objects",
+        LimitKind::Span => "span",
+        LimitKind::Extent => "extent",
+        LimitKind::Blocks => "blocks",
+        LimitKind::Symbols => "symbols",
+        LimitKind::Index => "index",
+        LimitKind::Questions => "questions",
+    }
+}
+
+fn record_text(nth: u64, field: u32, fault: RowFault) -> ArrayString<160>
+    ensures { result.bytes ≡ text_of (Outcome.Row nth field fault) }
+{
+    let mut digits = Buffer::new();
+    let mut text = plain_text("gract: record ");
+    text.push_str(digits.format(nth));
+    text.push_str(words_before(fault));
+    text.push_str(digits.format(field));
+    text.push_str(words_behind(fault));
+    text
+}
+
+fn words_before(fault: RowFault) -> &'static str
+    ensures value { result.now ≡ before_field fault }
+    ensures short { length result.now ≤ 16 }
+{
+    match fault {
+        RowFault::Count => " has ",
+        RowFault::NotNumber | RowFault::Range => " field ",
+    }
+}
+
+fn words_behind(fault: RowFault) -> &'static str
+    ensures value { result.now ≡ behind_field fault }
+    ensures short { length result.now ≤ 16 }
+{
+    match fault {
+        RowFault::Count => " fields",
+        RowFault::NotNumber => " is not a number",
+        RowFault::Range => " is out of range",
+    }
+}
