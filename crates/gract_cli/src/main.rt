@@ -1,0 +1,62 @@
+//! The program: the one call of gract_top over the real files, standard input and standard output.
+//!
+//! An outcome other than `Done` is told in one line on standard error, and each has its status.
+#![tactic(auto)]
+
+ghost use Rattle.std.specs.Prelude.{◌≡◌, ◌<◌};
+
+mod command_line;
+
+use command_line::command_words;
+use gract_top::{Outcome, gract};
+use host_ports::{DiskFiles, InputSource, OutputSink};
+use std::io;
+use std::marker::Brand;
+use std::process::ExitCode;
+use std::rt::Runtime;
+use std::sync::ledger::{Blank, Ledger};
+use step_count::Steps;
+
+fn main(rt: HostRuntime) -> ExitCode {
+    let outcome = match command_words(&rt) {
+        Ok(words) => run_words::<HostRuntime, Brand>(&rt, &words, Blank::new(1)),
+        Err(outcome) => outcome,
+    };
+    if outcome != Outcome::Done {
+        // Where standard error is closed the status alone tells the outcome.
+        let _ = eprintln!(rt; "{}", outcome.text());
+    }
+    ExitCode::from(outcome.status())
+}
+
+// Runs the program on its words; nothing asks how many reads were counted.
+fn run_words<R: Runtime + AllocGlobal, L: Ledger>(
+    rt: &R,
+    args: &Vec<String>,
+    blank: Blank,
+) -> Outcome
+    requires name { blank.name ≡ L.name }
+    requires parts { blank.parts ≡ L.parts }
+    requires some { 0 < L.parts }
+{
+    let alloc = rt.alloc();
+    let Ok(words) = args
+        .iter()
+        .map(|word| word.as_str())
+        .collect::<Vec<&str>>(alloc)
+    else {
+        return Outcome::Memory;
+    };
+    let mut files = DiskFiles::new(rt);
+    let mut source = InputSource::new(rt.reader());
+    let mut sink = OutputSink::new(io::writer(rt));
+    let mut steps = Steps::<L>::new(blank);
+    gract(
+        alloc,
+        words.as_slice(),
+        &mut files,
+        &mut source,
+        &mut sink,
+        &mut steps,
+    )
+}
