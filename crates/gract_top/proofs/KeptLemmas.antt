@@ -82,9 +82,9 @@ pub front-try_push : {T E V : Type 0} (items : V → List ℕ) (result : Result 
     OnOk result (items new ≡ items old ++ byte ∷ []) → OnErr result (new ≡ old) → items new ≡ take 1025 (line ++ byte ∷ [])
 front-try_push items (Ok done) line byte old new is_front room pushed turned_away =
     front-push line byte (items new)
-        (λ below. pushed ∙ ap (λ text. text ++ byte ∷ []) is_front)
-        (λ full. let below : length (items old) < 1025 = room.0 refl in absurd (omega (arith, ap length is_front)))
+    (λ below. pushed ∙ ap (λ text. text ++ byte ∷ []) is_front)
+    (λ full. let below : length (items old) < 1025 = room.0 refl in absurd (omega (arith, ap length is_front)))
 front-try_push items (Err refused) line byte old new is_front room pushed turned_away =
     front-push line byte (items new)
-        (λ below. absurd (false≢true (room.1 (rw is_front below))))
-        (λ full. ap items turned_away ∙ is_front)
+    (λ below. absurd (false≢true (room.1 (rw is_front below))))
+    (λ full. ap items turned_away ∙ is_front)

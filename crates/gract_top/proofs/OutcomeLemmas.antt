@@ -83,6 +83,7 @@ words_of_form (name ∷ words) settings once = by_name (bytes_eq name.now (codes
     behind : (bad : Option ℕ) → first_bad once_words (texts words) 2 ≡ bad → request.Once settings ≡ refused_or bad (settings_of (texts words)) → 1 < length (name ∷ words)
     behind None none same = let form = form_of once_words words 2 none in omega (arith, form.as_many)
     behind (Some place) some same = absurd (cc)
+
     by_name : (test : Bool) → request.Once settings ≡ (if test then once_of (texts words) else request.Refused 1) → 1 < length (name ∷ words)
     by_name true same = behind (first_bad once_words (texts words) 2) refl same
     by_name false same = absurd (cc)

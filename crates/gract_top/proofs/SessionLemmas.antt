@@ -157,8 +157,8 @@ pub came-end : (before between now : Talk) (bytes piece : List ℕ) → piece �
 came-end before between now bytes piece empty came consumed counted =
     let P : List ℕ → Type 0 = λ all. Came before now all in
     subst P (append-nil bytes) (came-more before between now bytes [] came
-        (subst (λ (text : List ℕ). Consumes between.rest now.rest text) empty consumed)
-        (subst (λ (text : List ℕ). now.taken ≡ between.taken + length text) empty counted))
+    (subst (λ (text : List ℕ). Consumes between.rest now.rest text) empty consumed)
+    (subst (λ (text : List ℕ). now.taken ≡ between.taken + length text) empty counted))
 
 -- nothing more came
 pub came-kept : (before between now : Talk) (bytes : List ℕ) → Came before between bytes →
@@ -191,7 +191,7 @@ pub around_byte : (came piece : List ℕ) (i : ℕ) → i < length piece →
     ((came ++ take i piece) ++ get_or piece i 0 ∷ []) ++ drop (i + 1) piece ≡ came ++ piece
 around_byte came piece i below =
     rw (append_assoc came (take i piece) (get_or piece i 0 ∷ []), ← take_more piece i 0 below, append_assoc came (take (i + 1) piece) (drop (i + 1) piece))
-        (ap (λ text. came ++ text) (take-append-drop (i + 1) piece))
+    (ap (λ text. came ++ text) (take-append-drop (i + 1) piece))
 
 -- nothing said
 pub appends_nothing : (said : Option (List ℕ)) → Appends said said []
@@ -227,4 +227,4 @@ pub front-first : (rows : List RawRow) (before now : Option (List ℕ)) (bytes f
 front-first rows before now bytes first is_first cut =
     let P : List ℕ → Type 0 = λ all. SaysFront before now (replies_of rows (lines_of all)) in
     subst P (ap (λ text. text ++ drop (2 ^ 32) bytes) (sym is_first) ∙ take-append-drop (2 ^ 32) bytes)
-        (front-lines rows before now (first ++ drop (2 ^ 32) bytes) (front-more rows before now first (drop (2 ^ 32) bytes) cut))
+    (front-lines rows before now (first ++ drop (2 ^ 32) bytes) (front-more rows before now first (drop (2 ^ 32) bytes) cut))

@@ -1,6 +1,5 @@
 -- The answer to a question, by going through all rows.
 use Rattle.std.specs.Prelude.{ℕ, ◌==◌, ◌&&◌, Bool, List, [], ◌∷◌, filter, ℤ, Option, None}
-
 use Rattle.std.specs.List.{last_or}
 use Rattle.std.specs.Ordering.{int_eq}
 use Rattle.track_types.specs.declared.raw_row.RawRow.{RawRow}

@@ -15,10 +15,9 @@ mod question;
 mod ranges;
 mod reply;
 mod request;
-mod words;
-
 #[cfg(test)]
 mod tests;
+mod words;
 
 pub use commands::gract;
 pub use outcome::Outcome;

@@ -6,13 +6,22 @@ pub enum Outcome {
     /// Everything was done.
     Done,
     /// The command words have no form; the first bad one stands at this place, counted from 1.
-    Words { place: u32 },
+    Words {
+        place: u32,
+    },
     /// A file could not be read.
     LoadFailed,
     /// A quantity passed its limit, at this value.
-    Limit { kind: LimitKind, value: u64 },
+    Limit {
+        kind: LimitKind,
+        value: u64,
+    },
     /// A record of the CSV file is no row.
-    Row { nth: u64, field: u32, fault: RowFault },
+    Row {
+        nth: u64,
+        field: u32,
+        fault: RowFault,
+    },
     /// The CSV file has no data row.
     Empty,
     /// The questions could not be read.

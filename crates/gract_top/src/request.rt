@@ -94,13 +94,7 @@ fn first_bad_place(kinds: &[WordKind], words: &[&str], place: u32) -> Option<u32
     ensures { result ≡ first_bad kinds.now (texts words.now) place }
 {
     match kinds {
-        [] => {
-            if words.is_empty() {
-                None
-            } else {
-                Some(place)
-            }
-        }
+        [] => { if words.is_empty() { None } else { Some(place) } }
         [kind, kinds @ ..] => match words {
             [] => Some(place),
             [word, words @ ..] => {

@@ -69,7 +69,7 @@ returns-in_default-take_piece-clause-say g c is_say =
     let piece = take c.in-Ok.count c.listen.new.buf in
     let heard = heard-all c.args.rows.now (g.K.Sink.said c.args.sink.now) (g.K.Sink.said c.pieces.sink) bytes c.pieces.line (omega arith) c.pieces.invariant.heard in
     let same = piece_heard bytes c.listen.new.buf (drop c.min-room.result c.pieces.buffer) c.in-Ok.count c.min-counted.result
-        (omega arith) c.in-Ok.ensures.within.0 (rw (← c.pieces.invariant.count) c.min-counted.ensures) in
+    (omega arith) c.in-Ok.ensures.within.0 (rw (← c.pieces.invariant.count) c.min-counted.ensures) in
     let cut = c.in_default-take_piece.ensures.err (g.K.Sink.said c.args.sink.now) bytes heard in
     record {
       bytes = bytes ++ piece;
@@ -86,7 +86,7 @@ pieces-preserved g c =
     let piece = take c.in-Ok.count c.listen.new.buf in
     let heard = heard-all c.args.rows.now (g.K.Sink.said c.args.sink.now) (g.K.Sink.said c.pieces.sink) bytes c.pieces.line (omega arith) c.pieces.invariant.heard in
     let same = piece_heard bytes c.listen.new.buf (drop c.min-room.result c.pieces.buffer) c.in-Ok.count c.min-counted.result
-        (omega arith) c.in-Ok.ensures.within.0 (rw (← c.pieces.invariant.count) c.min-counted.ensures) in
+    (omega arith) c.in-Ok.ensures.within.0 (rw (← c.pieces.invariant.count) c.min-counted.ensures) in
     record {
       bytes = bytes ++ piece;
       came = came-more start between now bytes piece c.pieces.invariant.came c.in-Ok.ensures.read.0 (omega (arith, c.in-Ok.ensures.taken, c.in-Ok.ensures.within.1));

@@ -20,9 +20,10 @@ returns-in-Ok-clause-answered g c =
     }
 
 pub returns-in-Err-clause-words : goal.returns-in-Err-clause-words
-returns-in-Err-clause-words g c place =
-    ( (λ is_words. let loading : is_loading c.in-Err.outcome ≡ true = c.in-Err.ensures.loading in absurd (false≢true (rw is_words at loading)))
-    , (λ refused. absurd (cc)) )
+returns-in-Err-clause-words g c place = (
+  (λ is_words. let loading : is_loading c.in-Err.outcome ≡ true = c.in-Err.ensures.loading in absurd (false≢true (rw is_words at loading))),
+  (λ refused. absurd (cc)),
+)
 
 pub returns-in-Err-clause-words_untouched : goal.returns-in-Err-clause-words_untouched
 returns-in-Err-clause-words_untouched g c place is_words =
@@ -42,4 +43,4 @@ returns-in-Err-clause-decided g c form bytes held =
     let nothing : Bor (List ℕ) = record { ref_ptr = (0, 0); now = [] } in
     let long = words_of_form c.args.words.now c.in-Once.field-0 c.in-Once.ensures in
     decided_loading c.in-Err.outcome (refusal_of bytes) c.in-Err.ensures.loading
-        (λ refused. c.in-Err.ensures.refused refused bytes (rw (csv_name-texts c.args.words.now nothing long) at held))
+    (λ refused. c.in-Err.ensures.refused refused bytes (rw (csv_name-texts c.args.words.now nothing long) at held))

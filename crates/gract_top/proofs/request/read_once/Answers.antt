@@ -33,4 +33,3 @@ pub natural-requires-3 : goal.natural-requires-3
 natural-requires-3 c =
     let form = form_of once_words c.args.words.now 2 (sym c.first_bad_place.ensures ∙ c.in_default.is) in
     form.fit 3 File _ (omega arith)
-
