@@ -2,7 +2,7 @@
 //!
 //! Each is a trait whose ghost members say what is known of its contents and how many faults its
 //! device made. A call fails only where that count rose, so a caller can hold the device to it.
-//! The crate stands on track_types alone.
+//! Objects in memory tell all and fail as they are told; the real ones stand over std.
 #![tactic(auto)]
 
 mod copying;

@@ -64,21 +64,34 @@ fn next_step(steps: &mut &[Step]) -> io::Result<usize> {
 #[test]
 fn files_in_memory_fail_at_their_numbers(rt: HostRuntime) -> Result<(), Fail> {
     let mut files = MemFiles::new(rt.alloc(), 16, vec![in rt.alloc(); 2, 4]?)?;
-    files.put("a", b"first")?;
-    files.put("b", b"other")?;
-    files.put("a", b"second")?;
-    let mut buf = [0u8; 4];
-    assert_eq!(rt; files.begin("a"), Ok(()), "call 1");
-    assert_eq!(rt; files.pull(&mut buf), Err(Failed), "call 2");
-    assert_eq!(rt; files.pull(&mut buf), Ok(4), "call 3");
-    assert_eq!(rt; buf, *b"seco");
-    files.put("a", b"third")?;
-    assert_eq!(rt; files.pull(&mut buf), Err(Failed), "call 4");
-    assert_eq!(rt; files.pull(&mut buf), Ok(2), "call 5");
-    assert_eq!(rt; buf, *b"ndco");
-    assert_eq!(rt; (files.taken(), files.pull(&mut buf)), (6, Ok(0)));
-    assert_eq!(rt; files.begin("c"), Err(Failed), "a name that is not held");
-    assert_eq!(rt; (files.taken(), files.pull(&mut buf)), (0, Ok(0)));
+    for (name, bytes) in [("a", b"first."), ("b", b"other."), ("a", b"second")] {
+        files.put(name, bytes)?;
+    }
+    let mut buf = [b'-'; 4];
+    assert_eq!(rt; files.begin("a"), Ok(()));
+    for (want, held) in [
+        (Err(Failed), b"----"),
+        (Ok(4), b"seco"),
+        (Err(Failed), b"seco"),
+        (Ok(2), b"ndco"),
+        (Ok(0), b"ndco"),
+    ] {
+        assert_eq!(rt; (files.pull(&mut buf), buf), (want, *held));
+    }
+    assert_eq!(rt; files.taken(), 6);
+    Ok(())
+}
+
+#[test]
+fn a_begun_file_stands_until_the_next(rt: HostRuntime) -> Result<(), Fail> {
+    let mut files = MemFiles::new(rt.alloc(), 0, Vec::new(rt.alloc()))?;
+    let mut buf = [b'-'; 4];
+    files.put("a", b"old")?;
+    assert_eq!(rt; files.begin("a"), Ok(()));
+    files.put("a", b"later")?;
+    assert_eq!(rt; (files.pull(&mut buf), buf), (Ok(3), *b"old-"));
+    assert_eq!(rt; files.begin("c"), Err(Failed));
+    assert_eq!(rt; (files.pull(&mut buf), files.taken()), (Ok(0), 0));
     Ok(())
 }
 
