@@ -1,9 +1,9 @@
 -- The definitions, run on small cases.
-use Rattle.std.proofs.Common.{◌≡◌, ℕ, ◌-◌, ◌^◌, List, [], ◌∷◌, Some, None, Ok, Err, Bool, true, false, refl, codes}
+use Rattle.std.proofs.Common.{◌≡◌, ◌-◌, ◌^◌, [], ◌∷◌, Some, None, true, false, refl, codes}
 use Rattle.host_ports.specs.FileMap.{FileMap, held}
-use Rattle.host_ports.specs.NumberedCalls.{Calls, raised, no_calls, fails_next, counted}
+use Rattle.host_ports.specs.NumberedCalls.{raised, no_calls, fails_next, counted}
 use Rattle.host_ports.specs.MemFiles.{MemFilesView, new_files, after_begin, after_pull}
-use Rattle.host_ports.specs.MemSource.{MemSourceView, new_source, next_count, after_listen}
+use Rattle.host_ports.specs.MemSource.{MemSourceView, new_source, after_listen}
 use Rattle.host_ports.specs.MemSink.{MemSinkView, new_sink, is_cut, sent_count, after_say}
 
 -- of two files of one name the first counts
