@@ -1,4 +1,4 @@
-ghost use Rattle.std.specs.Prelude.{◌≡◌, ◌<◌, ◌≤◌, min, Some, Ok, length, take, drop, ◌++◌};
+ghost use Rattle.std.specs.Prelude.{◌≡◌, min, Some, Ok, length, take, drop, ◌++◌};
 ghost use Rattle.std.specs.Io.KnownBytes.{ReadConsumes};
 ghost use Rattle.host_ports.specs.declared.fault.Failed.{Failed};
 

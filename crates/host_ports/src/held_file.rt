@@ -1,4 +1,4 @@
-ghost use Rattle.std.specs.Prelude.{◌≡◌, ◌<◌, ◌≤◌, Some, None, MatchOption, length};
+ghost use Rattle.std.specs.Prelude.{◌≡◌, ◌<◌, Some, None, MatchOption, length};
 ghost use Rattle.host_ports.specs.FileMap.{held};
 ghost use Rattle.host_ports.specs.HeldFile.{file_map, bytes_at, bytes_left, IsBegun};
 

@@ -1,4 +1,4 @@
-ghost use Rattle.std.specs.Prelude.{◌≡◌, ◌↔◌, ◌+◌, ◌<◌, ◌≤◌, min, Some, None, Ok, IsTrue, IsOk, IsErr, IfOk, IfErr, length, take, drop, ◌++◌};
+ghost use Rattle.std.specs.Prelude.{◌≡◌, ◌↔◌, ◌≤◌, Some, None, IsTrue, IsOk, IsErr, IfOk, IfErr, length};
 ghost use Rattle.host_ports.specs.MemSink.{new_sink, is_cut, sent_count, after_say};
 
 use crate::numbered_calls::NumberedCalls;

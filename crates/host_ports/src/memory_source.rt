@@ -1,4 +1,4 @@
-ghost use Rattle.std.specs.Prelude.{◌≡◌, ◌↔◌, ◌+◌, ◌<◌, ◌≤◌, min, Some, Ok, IsTrue, IsErr, IfOk, length, take, drop, ◌++◌};
+ghost use Rattle.std.specs.Prelude.{◌≡◌, ◌↔◌, ◌<◌, ◌≤◌, min, Some, Ok, IsTrue, IsErr, IfOk, length, take, drop, ◌++◌};
 ghost use Rattle.std.specs.Io.KnownBytes.{ReadConsumes};
 ghost use Rattle.host_ports.specs.NumberedCalls.{fails_next};
 ghost use Rattle.host_ports.specs.MemSource.{new_source, next_count, after_listen, after_bytes};
