@@ -1,0 +1,54 @@
+-- What the words that a query reads say of its answer.
+use Rattle.std.proofs.Common.{◌≡◌, ℕ, ◌+◌, ◌-◌, ◌*◌, ◌/◌, ◌%◌, ◌^◌, ◌<◌, ◌≤◌, Bool, ◌==◌, Some, List, length, slice_get, zero, suc, sym, ap, ◌∙◌, arith}
+use Rattle.std.proofs.Math.Nat.{pow-suc}
+use Rattle.std.specs.Int.RustNames.{count_ones}
+use Rattle.bit_rank.specs.Bits.{rank_of, window_of}
+use Rattle.bit_rank.proofs.NumberLemmas.{window_of-inside, window_of-past, window_of-narrow, window_of-cat, window_of-bit, rank_of-add}
+
+-- a place is in its word
+place : (p : ℕ) → 64 * (p / 64) + p % 64 ≡ p
+place p = omega arith
+
+-- a bit is that of its word
+pub slice_get-word : (bits : List Bool) (p : ℕ) → p < length bits → slice_get bits p ≡ Some (window_of bits (64 * (p / 64)) 64 / 2 ^ (p % 64) % 2 == 1)
+slice_get-word bits p within =
+    let inside = window_of-inside bits (64 * (p / 64)) (p % 64) 1 64 (omega arith) in
+    window_of-bit bits p within ∙ ap (λ v. Some (v == 1)) (ap (λ q. window_of bits q 1) (sym (place p)) ∙ inside)
+
+-- a window that ends inside its first word
+pub window_of-word : (bits : List Bool) (p n : ℕ) → n ≤ 64 - p % 64 → window_of bits p n ≡ window_of bits (64 * (p / 64)) 64 / 2 ^ (p % 64) % 2 ^ n
+window_of-word bits p n short =
+    let inside = window_of-inside bits (64 * (p / 64)) (p % 64) n 64 (omega arith) in
+    ap (λ q. window_of bits q n) (sym (place p)) ∙ inside
+
+-- a window that goes on into the next word
+pub window_of-words : (bits : List Bool) (p n : ℕ) → 64 - p % 64 ≤ n → n ≤ 64
+    → window_of bits p n ≡ window_of bits (64 * (p / 64)) 64 / 2 ^ (p % 64) + window_of bits (64 * (p / 64 + 1)) 64 % 2 ^ (n - (64 - p % 64)) * 2 ^ (64 - p % 64)
+window_of-words bits p n long wide =
+    let held = 64 - p % 64 in
+    let parts = window_of-cat bits p held (n - held) in
+    let whole : window_of bits p n ≡ window_of bits p (held + (n - held)) = ap (λ m. window_of bits p m) (omega arith) in
+    let past = window_of-past bits (64 * (p / 64)) (p % 64) held in
+    let low : window_of bits p held ≡ window_of bits (64 * (p / 64)) 64 / 2 ^ (p % 64) =
+    ap (λ q. window_of bits q held) (sym (place p)) ∙ past ∙ ap (λ m. window_of bits (64 * (p / 64)) m / 2 ^ (p % 64)) (omega arith) in
+    let next : p + held ≡ 64 * (p / 64 + 1) = omega arith in
+    let high : window_of bits (p + held) (n - held) ≡ window_of bits (64 * (p / 64 + 1)) 64 % 2 ^ (n - held) =
+    ap (λ q. window_of bits q (n - held)) next ∙ window_of-narrow bits (64 * (p / 64 + 1)) (n - held) 64 (omega arith) in
+    whole ∙ parts ∙ ap (λ v. v + window_of bits (p + held) (n - held) * 2 ^ held) low
+    ∙ ap (λ v. window_of bits (64 * (p / 64)) 64 / 2 ^ (p % 64) + v * 2 ^ held) high
+
+-- the rank one word further
+pub rank_of-word : (bits : List Bool) (i : ℕ) → rank_of bits (64 * (i + 1)) ≡ rank_of bits (64 * i) + count_ones (window_of bits (64 * i) 64)
+rank_of-word bits i = ap (λ p. rank_of bits p) (omega arith) ∙ rank_of-add bits (64 * i) 64
+
+-- the rank r places into a word
+pub rank_of-part : (bits : List Bool) (i r : ℕ) → r ≤ 64 → rank_of bits (64 * i + r) ≡ rank_of bits (64 * i) + count_ones (window_of bits (64 * i) 64 % 2 ^ r)
+rank_of-part bits i r within =
+    rank_of-add bits (64 * i) r ∙ ap (λ v. rank_of bits (64 * i) + count_ones v) (window_of-narrow bits (64 * i) r 64 within)
+
+-- where two or more places are left, a halving takes one from the exponent
+pub halved : (k : ℕ) → 1 < 2 ^ k → (0 < k) × (2 ^ k ≡ 2 * 2 ^ (k - 1))
+halved zero large = absurd (omega arith)
+halved (suc k) large =
+    let same : suc k - 1 ≡ k = omega arith in
+    (omega arith, pow-suc 2 k ∙ rw same (omega arith))

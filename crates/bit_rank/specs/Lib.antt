@@ -1,0 +1,4 @@
+-- In reading order.
+pub mod Bits
+pub mod Words
+pub mod Directory

@@ -1,0 +1,11 @@
+use std::fmt::{self, Display, Formatter, Write};
+
+/// Memory was refused: the crate's only refusal.
+#[derive(Clone, Copy, Debug, PartialEq, Eq)]
+pub struct NoRoom;
+
+impl Display for NoRoom {
+    fn fmt<W: Write>(&self, f: &mut Formatter<W>) -> fmt::Result {
+        f.write_str("no memory for the directory of a bit vector")
+    }
+}
