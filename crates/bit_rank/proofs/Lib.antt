@@ -5,3 +5,4 @@ pub mod WordLemmas
 mod DirectoryLemmas
 mod QueryLemmas
 mod BuildLemmas
+mod Examples

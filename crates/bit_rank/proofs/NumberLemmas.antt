@@ -95,6 +95,21 @@ number_of-spare len bits none =
     let nothing : number_of (drop len bits) * 2 ^ length (take len bits) ≡ 0 = rw zero_above (omega arith) in
     omega arith
 
+-- where bits spell 0 there is no one
+pub ones_of-zero : (bits : List Bool) → number_of bits ≡ 0 → ones_of bits ≡ 0
+ones_of-zero bits nothing = sym (count_ones-number_of bits) ∙ ap count_ones nothing ∙ one_bit 0 (omega arith)
+
+-- bits are known by their length and their number
+pub same_from_number_of : (xs ys : List Bool) → length xs ≡ length ys → number_of xs ≡ number_of ys → xs ≡ ys
+unfolding number_of
+same_from_number_of [] [] long same = refl
+same_from_number_of [] (y ∷ ys) long same = absurd (omega arith)
+same_from_number_of (x ∷ xs) [] long same = absurd (omega arith)
+same_from_number_of (true ∷ xs) (true ∷ ys) long same = ap (λ rest. true ∷ rest) (same_from_number_of xs ys (omega arith) (omega arith))
+same_from_number_of (false ∷ xs) (false ∷ ys) long same = ap (λ rest. false ∷ rest) (same_from_number_of xs ys (omega arith) (omega arith))
+same_from_number_of (true ∷ xs) (false ∷ ys) long same = absurd (omega arith)
+same_from_number_of (false ∷ xs) (true ∷ ys) long same = absurd (omega arith)
+
 -- a window is a field of the whole number
 pub window_of-field : (bits : List Bool) (p n : ℕ) → window_of bits p n ≡ number_of bits / 2 ^ p % 2 ^ n
 unfolding window_of

@@ -1,13 +1,14 @@
 -- Words as bits: what they spell, and that packing the bits gives the words back.
-use Rattle.std.proofs.Common.{◌≡◌, ℕ, zero, suc, ◌+◌, ◌*◌, ◌/◌, ◌%◌, ◌^◌, ◌<◌, Bool, cond, ◌==◌, List, [], ◌∷◌, ◌++◌, length, take, drop, get_or, refl, sym, ap, ◌∙◌, arith, length-append, length-take-le}
-use Rattle.std.proofs.Math.Nat.{mod-eq_of_lt}
+use Rattle.std.proofs.Common.{◌≡◌, ℕ, zero, suc, ◌+◌, ◌*◌, ◌/◌, ◌%◌, ◌^◌, ◌<◌, ◌≤◌, Bool, cond, ◌==◌, List, [], ◌∷◌, ◌++◌, length, take, drop, get_or, map, refl, sym, ap, ◌∙◌, arith, length-append, length-take-le}
+use Rattle.std.proofs.Math.Nat.{mod-eq_of_lt, div-eq_of_lt, pow-le-pow_right}
 use Rattle.std.proofs.Math.Seq.{drop-append-add}
 use Rattle.std.proofs.lemmas.List.{take-append-le, take_all, drop_all, drop_more, append_assoc}
 use Rattle.std.proofs.lemmas.List.FromFn.{fill_by_all, length-map-range_with_len, get_or-map-range_with_len}
-use Rattle.std.proofs.lemmas.Nat.{mod-pow-add}
+use Rattle.std.proofs.lemmas.Nat.{mod-pow-add, shr-shr}
+use Rattle.std.specs.List.{range_with_len}
 use Rattle.bit_rank.specs.Bits.{number_of, window_of, packed}
 use Rattle.bit_rank.specs.Words.{low_bits, bits_of, IsPacked}
-use Rattle.bit_rank.proofs.NumberLemmas.{number_of-spare, window_of-same}
+use Rattle.bit_rank.proofs.NumberLemmas.{number_of-lt, number_of-append, number_of-take, number_of-drop, number_of-spare, ones_of-zero, same_from_number_of, window_of-field, window_of-same, window_of-lt}
 
 pub length-low_bits : (n word : ℕ) → length (low_bits n word) ≡ n
 unfolding low_bits
@@ -91,3 +92,52 @@ packed-bits_of words len p wide =
     let bits = take len (bits_of words) in
     let count : length words ≡ (length bits + 63) / 64 = p.fewest ∙ ap (λ n. (n + 63) / 64) (sym (length-take-bits_of words len p)) in
     sym (fill_by_all (λ k. window_of bits (64 * k) 64) words ((length bits + 63) / 64) 0 count (λ k below. sym (window_of-packed words len k p (omega arith) (wide k (omega arith)))))
+
+-- the windows of n words from the a-th on spell a field of the whole number
+number_of-windows : (bits : List Bool) (a n : ℕ)
+    → number_of (bits_of (map (λ k. window_of bits (64 * k) 64) (range_with_len a n))) ≡ number_of bits / 2 ^ (64 * a) % 2 ^ (64 * n)
+unfolding bits_of number_of
+number_of-windows bits a zero = omega arith
+number_of-windows bits a (suc n) =
+    let word = window_of bits (64 * a) 64 in
+    let whole = number_of bits / 2 ^ (64 * a) in
+    let others = bits_of (map (λ k. window_of bits (64 * k) 64) (range_with_len (a + 1) n)) in
+    let parts = number_of-append (low_bits 64 word) others in
+    let low : number_of (low_bits 64 word) ≡ whole % 2 ^ 64 =
+    number_of-low_bits 64 word ∙ mod-eq_of_lt (window_of-lt bits (64 * a) 64) ∙ window_of-field bits (64 * a) 64 in
+    let past : number_of bits / 2 ^ (64 * (a + 1)) ≡ whole / 2 ^ 64 =
+    ap (λ k. number_of bits / 2 ^ k) (let k : 64 * (a + 1) ≡ 64 * a + 64 = omega arith in k) ∙ sym (shr-shr (number_of bits) (64 * a) 64) in
+    let high : number_of others ≡ whole / 2 ^ 64 % 2 ^ (64 * n) = number_of-windows bits (a + 1) n ∙ ap (λ v. v % 2 ^ (64 * n)) past in
+    let joined : whole % 2 ^ (64 * suc n) ≡ whole / 2 ^ 64 % 2 ^ (64 * n) * 2 ^ 64 + whole % 2 ^ 64 =
+    ap (λ k. whole % 2 ^ k) (let k : 64 * suc n ≡ 64 * n + 64 = omega arith in k) ∙ mod-pow-add whole (64 * n) 64 in
+    parts
+    ∙ ap (λ k. number_of others * 2 ^ k + number_of (low_bits 64 word)) (length-low_bits 64 word)
+    ∙ ap (λ v. v * 2 ^ 64 + number_of (low_bits 64 word)) high
+    ∙ ap (λ v. whole / 2 ^ 64 % 2 ^ (64 * n) * 2 ^ 64 + v) low
+    ∙ sym joined
+
+-- packed words spell the bits' number
+number_of-packed : (bits : List Bool) → number_of (bits_of (packed bits)) ≡ number_of bits
+unfolding packed
+number_of-packed bits =
+    let count = (length bits + 63) / 64 in
+    let wide : 2 ^ length bits ≤ 2 ^ (64 * count) = pow-le-pow_right {n = 2} (omega arith) (omega arith) in
+    let small : number_of bits < 2 ^ (64 * count) = omega (arith, number_of-lt bits) in
+    number_of-windows bits 0 count
+    ∙ ap (λ v. v % 2 ^ (64 * count)) (let v : number_of bits / 2 ^ 0 ≡ number_of bits = omega arith in v)
+    ∙ mod-eq_of_lt small
+
+-- bits that are packed stand in packed words
+pub IsPacked-packed : (bits : List Bool) → IsPacked (packed bits) (length bits)
+IsPacked-packed bits =
+    let nothing : number_of (drop (length bits) (bits_of (packed bits))) ≡ 0 =
+    number_of-drop (length bits) (bits_of (packed bits)) ∙ ap (λ v. v / 2 ^ length bits) (number_of-packed bits) ∙ div-eq_of_lt (number_of-lt bits) in
+    record { fewest = length-packed bits; spare = ones_of-zero (drop (length bits) (bits_of (packed bits))) nothing }
+
+-- the words that bits are packed in hold these bits
+pub bits_of-packed : (bits : List Bool) → take (length bits) (bits_of (packed bits)) ≡ bits
+bits_of-packed bits =
+    let kept = take (length bits) (bits_of (packed bits)) in
+    let number : number_of kept ≡ number_of bits =
+    number_of-take (length bits) (bits_of (packed bits)) ∙ ap (λ v. v % 2 ^ length bits) (number_of-packed bits) ∙ mod-eq_of_lt (number_of-lt bits) in
+    same_from_number_of kept bits (length-take-bits_of (packed bits) (length bits) (IsPacked-packed bits)) number

@@ -32,7 +32,8 @@ impl Model for Bits {
 
     ghost view = { λ b. take b.len (bits_of b.words.items) };
 
-    ghost invariant = { λ b. IsIndexed (take b.len (bits_of b.words.items)) b.words.items b.directory.items b.len b.ones };
+    ghost invariant = { λ b. IsIndexed (take b.len (bits_of b.words.items))
+        b.words.items b.directory.items b.len b.ones };
 }
 
 impl Bits {

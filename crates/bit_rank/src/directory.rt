@@ -11,7 +11,8 @@ pub fn count_ones_before(
     len: u32,
 ) -> Result<(Vec<u32>, u32), AllocError>
     requires { IsPacked words.now len }
-    ensures { IfOk result (λ made. IsIndexed (take len (bits_of words.now)) words.now made.0.items len made.1) }
+    ensures { let bits = take len (bits_of words.now) in
+        IfOk result (λ made. IsIndexed bits words.now made.0.items len made.1) }
 {
     let mut counts = Vec::with_capacity(alloc, len.div_ceil(512) as usize + 1)?;
     let mut ones = 0;

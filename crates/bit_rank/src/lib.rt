@@ -8,6 +8,8 @@
 mod bits;
 mod directory;
 mod no_room;
+#[cfg(test)]
+mod tests;
 mod word;
 
 pub use bits::Bits;

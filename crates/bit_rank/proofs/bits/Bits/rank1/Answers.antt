@@ -22,8 +22,10 @@ returns-then-p-gt0-clause-value g c =
     let at_word : c.loop-i.i ≡ c.args.p / 64 = omega arith in
     let before = ap (λ i. rank_of c.args.self.now (64 * i)) at_word in
     let rest = rank_of-part c.args.self.now (c.args.p / 64) (c.args.p % 64) (omega arith) in
-    let place = ap (λ q. rank_of c.args.self.now q) (let p : 64 * (c.args.p / 64) + c.args.p % 64 ≡ c.args.p = omega arith in p) in
-    let read = ap count_ones c.low_part.ensures in
+    let place : rank_of c.args.self.now (64 * (c.args.p / 64) + c.args.p % 64) ≡ rank_of c.args.self.now c.args.p =
+    ap (λ q. rank_of c.args.self.now q) (omega arith) in
+    let low = c.word-then-p-gt0.result % 2 ^ (c.args.p % 64) in
+    let read = ap count_ones {y = low} c.low_part.ensures in
     let same = ap (λ w. count_ones (w % 2 ^ (c.args.p % 64))) c.word-then-p-gt0.ensures.value in
     omega arith
 

@@ -7,7 +7,9 @@ use Rattle.bit_rank.proofs.bits.Bits.select1.Goals as goal
 
 pub loop-word-init : goal.loop-word-init
 loop-word-init g c =
-    let start = ap (λ p. rank_of c.args.self.now p) (let p : 64 * (c.superblock_of-superblock.result * 8) ≡ 512 * c.superblock_of-superblock.result = omega arith in p) in
+    let bits = c.args.self.now in
+    let first = c.superblock_of-superblock.result * 8 in
+    let start : rank_of bits (64 * first) ≡ rank_of bits (512 * c.superblock_of-superblock.result) = ap (λ p. rank_of bits p) (omega arith) in
     record {
       current = c.word-word.ensures.value;
       within = omega arith;
@@ -43,8 +45,8 @@ returns-clause-place g c =
     let behind = rank_of-part bits i (r + 1) (omega arith) in
     let read = ap (λ w. count_ones (w % 2 ^ r)) c.loop-word.invariant.current in
     let read_on = ap (λ w. count_ones (w % 2 ^ (r + 1))) c.loop-word.invariant.current in
-    let place = ap (λ p. rank_of bits p) (let p : i * 64 + r ≡ 64 * i + r = omega arith in p) in
-    let place_on = ap (λ p. rank_of bits p) (let p : i * 64 + r + 1 ≡ 64 * i + (r + 1) = omega arith in p) in
+    let place : rank_of bits (i * 64 + r) ≡ rank_of bits (64 * i + r) = ap (λ p. rank_of bits p) (omega arith) in
+    let place_on : rank_of bits (i * 64 + r + 1) ≡ rank_of bits (64 * i + (r + 1)) = ap (λ p. rank_of bits p) (omega arith) in
     IsSelected-from_rank bits c.args.j (i * 64 + r) (omega arith) (omega arith)
 
 pub returns-clause-value : goal.returns-clause-value
