@@ -10,41 +10,51 @@ place : (p : ℕ) → 64 * (p / 64) + p % 64 ≡ p
 place p = omega arith
 
 -- a bit is that of its word
-pub slice_get-word : (bits : List Bool) (p : ℕ) → p < length bits → slice_get bits p ≡ Some (window_of bits (64 * (p / 64)) 64 / 2 ^ (p % 64) % 2 == 1)
+pub slice_get-word : (bits : List Bool) (p : ℕ) → p < length bits
+    → slice_get bits p ≡ Some (window_of bits (64 * (p / 64)) 64 / 2 ^ (p % 64) % 2 == 1)
 slice_get-word bits p within =
     let inside = window_of-inside bits (64 * (p / 64)) (p % 64) 1 64 (omega arith) in
     window_of-bit bits p within ∙ ap (λ v. Some (v == 1)) (ap (λ q. window_of bits q 1) (sym (place p)) ∙ inside)
 
 -- a window that ends inside its first word
-pub window_of-word : (bits : List Bool) (p n : ℕ) → n ≤ 64 - p % 64 → window_of bits p n ≡ window_of bits (64 * (p / 64)) 64 / 2 ^ (p % 64) % 2 ^ n
+pub window_of-word : (bits : List Bool) (p n : ℕ) → n ≤ 64 - p % 64
+    → window_of bits p n ≡ window_of bits (64 * (p / 64)) 64 / 2 ^ (p % 64) % 2 ^ n
 window_of-word bits p n short =
     let inside = window_of-inside bits (64 * (p / 64)) (p % 64) n 64 (omega arith) in
     ap (λ q. window_of bits q n) (sym (place p)) ∙ inside
 
 -- a window that goes on into the next word
 pub window_of-words : (bits : List Bool) (p n : ℕ) → 64 - p % 64 ≤ n → n ≤ 64
-    → window_of bits p n ≡ window_of bits (64 * (p / 64)) 64 / 2 ^ (p % 64) + window_of bits (64 * (p / 64 + 1)) 64 % 2 ^ (n - (64 - p % 64)) * 2 ^ (64 - p % 64)
+    → window_of bits p n
+    ≡ window_of bits (64 * (p / 64)) 64 / 2 ^ (p % 64)
+    + window_of bits (64 * (p / 64 + 1)) 64 % 2 ^ (n - (64 - p % 64)) * 2 ^ (64 - p % 64)
 window_of-words bits p n long wide =
     let held = 64 - p % 64 in
-    let parts = window_of-cat bits p held (n - held) in
-    let whole : window_of bits p n ≡ window_of bits p (held + (n - held)) = ap (λ m. window_of bits p m) (omega arith) in
-    let past = window_of-past bits (64 * (p / 64)) (p % 64) held in
-    let low : window_of bits p held ≡ window_of bits (64 * (p / 64)) 64 / 2 ^ (p % 64) =
-    ap (λ q. window_of bits q held) (sym (place p)) ∙ past ∙ ap (λ m. window_of bits (64 * (p / 64)) m / 2 ^ (p % 64)) (omega arith) in
-    let next : p + held ≡ 64 * (p / 64 + 1) = omega arith in
-    let high : window_of bits (p + held) (n - held) ≡ window_of bits (64 * (p / 64 + 1)) 64 % 2 ^ (n - held) =
-    ap (λ q. window_of bits q (n - held)) next ∙ window_of-narrow bits (64 * (p / 64 + 1)) (n - held) 64 (omega arith) in
-    whole ∙ parts ∙ ap (λ v. v + window_of bits (p + held) (n - held) * 2 ^ held) low
-    ∙ ap (λ v. window_of bits (64 * (p / 64)) 64 / 2 ^ (p % 64) + v * 2 ^ held) high
+    let first = 64 * (p / 64) in
+    let next = 64 * (p / 64 + 1) in
+    let shift = 2 ^ (p % 64) in
+    let whole : n ≡ held + (n - held) = omega arith in
+    let at_next : p + held ≡ next = omega arith in
+    let full : held + p % 64 ≡ 64 = omega arith in
+    let past = window_of-past bits first (p % 64) held ∙ ap (λ m. window_of bits first m / shift) full in
+    let low = ap (λ q. window_of bits q held) (sym (place p)) ∙ past in
+    let narrow = window_of-narrow bits next (n - held) 64 (omega arith) in
+    let high = ap (λ q. window_of bits q (n - held)) at_next ∙ narrow in
+    ap (λ m. window_of bits p m) whole ∙ window_of-cat bits p held (n - held)
+    ∙ ap (λ v. v + window_of bits (p + held) (n - held) * 2 ^ held) low
+    ∙ ap (λ v. window_of bits first 64 / shift + v * 2 ^ held) high
 
 -- the rank one word further
-pub rank_of-word : (bits : List Bool) (i : ℕ) → rank_of bits (64 * (i + 1)) ≡ rank_of bits (64 * i) + count_ones (window_of bits (64 * i) 64)
+pub rank_of-word : (bits : List Bool) (i : ℕ)
+    → rank_of bits (64 * (i + 1)) ≡ rank_of bits (64 * i) + count_ones (window_of bits (64 * i) 64)
 rank_of-word bits i = ap (λ p. rank_of bits p) (omega arith) ∙ rank_of-add bits (64 * i) 64
 
 -- the rank r places into a word
-pub rank_of-part : (bits : List Bool) (i r : ℕ) → r ≤ 64 → rank_of bits (64 * i + r) ≡ rank_of bits (64 * i) + count_ones (window_of bits (64 * i) 64 % 2 ^ r)
+pub rank_of-part : (bits : List Bool) (i r : ℕ) → r ≤ 64
+    → rank_of bits (64 * i + r) ≡ rank_of bits (64 * i) + count_ones (window_of bits (64 * i) 64 % 2 ^ r)
 rank_of-part bits i r within =
-    rank_of-add bits (64 * i) r ∙ ap (λ v. rank_of bits (64 * i) + count_ones v) (window_of-narrow bits (64 * i) r 64 within)
+    let narrow = window_of-narrow bits (64 * i) r 64 within in
+    rank_of-add bits (64 * i) r ∙ ap (λ v. rank_of bits (64 * i) + count_ones v) narrow
 
 -- where two or more places are left, a halving takes one from the exponent
 pub halved : (k : ℕ) → 1 < 2 ^ k → (0 < k) × (2 ^ k ≡ 2 * 2 ^ (k - 1))

@@ -7,27 +7,34 @@ use Rattle.std.proofs.lemmas.Option.{slice_get-get_or}
 use Rattle.std.proofs.Math.Seq.{take-append-add}
 use Rattle.bit_rank.specs.Bits.{ones_of, rank_of, select_of, IsSelected}
 
+-- joined bits have the ones of both
 pub ones_of-append : (xs ys : List Bool) → ones_of (xs ++ ys) ≡ ones_of xs + ones_of ys
 unfolding ones_of
 ones_of-append xs ys = sum_by-append (λ bit. cond bit 1 0) xs ys
 
+-- no bits have no ones
 pub ones_of-nil : ones_of [] ≡ 0
 unfolding ones_of
 ones_of-nil = refl
 
+-- the first bit counts as one or nothing
 pub ones_of-cons : (bit : Bool) (bits : List Bool) → ones_of (bit ∷ bits) ≡ cond bit 1 0 + ones_of bits
 unfolding ones_of
 ones_of-cons bit bits = sum_by-cons (λ b. cond b 1 0) bit bits
 
+-- there are at most as many ones as bits
 pub ones_of-le-length : (bits : List Bool) → ones_of bits ≤ length bits
 unfolding ones_of
 ones_of-le-length bits = count_by-le-length (λ bit. bit) bits
 
+-- before the first place stands nothing
 pub rank_of-zero : (bits : List Bool) → rank_of bits 0 ≡ 0
 unfolding rank_of ones_of
 rank_of-zero bits = refl
 
-pub rank_of-cons : (bit : Bool) (bits : List Bool) (p : ℕ) → rank_of (bit ∷ bits) (suc p) ≡ cond bit 1 0 + rank_of bits p
+-- one bit more in front
+pub rank_of-cons : (bit : Bool) (bits : List Bool) (p : ℕ)
+    → rank_of (bit ∷ bits) (suc p) ≡ cond bit 1 0 + rank_of bits p
 unfolding rank_of
 rank_of-cons bit bits p = ones_of-cons bit (take p bits)
 
@@ -36,6 +43,7 @@ pub rank_of-all : (bits : List Bool) (p : ℕ) → length bits ≤ p → rank_of
 unfolding rank_of
 rank_of-all bits p past = ap ones_of (take_all p bits past)
 
+-- a rank counts some of the ones
 pub rank_of-le-ones_of : (bits : List Bool) (p : ℕ) → rank_of bits p ≤ ones_of bits
 unfolding rank_of ones_of
 rank_of-le-ones_of bits p = sum_by-take-le (λ bit. cond bit 1 0) bits p
@@ -58,16 +66,19 @@ pub rank_of-take : (bits : List Bool) (n p : ℕ) → p ≤ n → rank_of (take 
 unfolding rank_of
 rank_of-take bits n p before = ap ones_of (take-take p n bits before)
 
+-- a place in the second part has all ones of the first before it
 pub rank_of-append : (xs ys : List Bool) (p : ℕ) → rank_of (xs ++ ys) (length xs + p) ≡ ones_of xs + rank_of ys p
 unfolding rank_of
 rank_of-append xs ys p = ap ones_of (take-append-add xs ys p) ∙ ones_of-append xs (take p ys)
 
+-- a place in the first part does not see the second
 pub rank_of-append_left : (xs ys : List Bool) (p : ℕ) → p ≤ length xs → rank_of (xs ++ ys) p ≡ rank_of xs p
 unfolding rank_of
 rank_of-append_left xs ys p within = ap ones_of (take-append-le p xs ys within)
 
 -- one place further
-pub rank_of-step : (bits : List Bool) (p : ℕ) → p < length bits → rank_of bits (p + 1) ≡ rank_of bits p + cond (get_or bits p false) 1 0
+pub rank_of-step : (bits : List Bool) (p : ℕ) → p < length bits
+    → rank_of bits (p + 1) ≡ rank_of bits p + cond (get_or bits p false) 1 0
 unfolding rank_of ones_of
 rank_of-step bits p within = sum_by_more (λ bit. cond bit 1 0) bits p false within
 
@@ -85,25 +96,26 @@ lt-length-from_rank_of bits p less = elim (cases_lt p (length bits)) [
   | inr past ↦ let all = rank_of-all bits p past in absurd (omega arith)
 ]
 
+-- at a place inside, by the bit there
+reached_at : (bits : List Bool) (j p : ℕ) → p < length bits → (bit : Bool) → get_or bits p false ≡ bit
+    → rank_of bits p < j → j ≤ rank_of bits (p + 1) → IsSelected bits j p
+reached_at bits j p within true is before reached =
+    let step = rank_of-step bits p within ∙ ap (λ b. rank_of bits p + cond b 1 0) is in
+    record { one = slice_get-get_or bits p false within ∙ ap Some is; rank = omega arith }
+reached_at bits j p within false is before reached =
+    let step = rank_of-step bits p within ∙ ap (λ b. rank_of bits p + cond b 1 0) is in
+    absurd (omega arith)
+
 -- where the rank reaches j, there is the j-th one
-pub IsSelected-from_rank : (bits : List Bool) (j p : ℕ) → rank_of bits p < j → j ≤ rank_of bits (p + 1) → IsSelected bits j p
-IsSelected-from_rank bits j p before reached = elim (cases_lt p (length bits)) [
-  | inl within ↦ at_bit bits j p within (get_or bits p false) refl before reached
+pub IsSelected-from_rank_of : (bits : List Bool) (j p : ℕ)
+    → rank_of bits p < j → j ≤ rank_of bits (p + 1) → IsSelected bits j p
+IsSelected-from_rank_of bits j p before reached = elim (cases_lt p (length bits)) [
+  | inl within ↦ reached_at bits j p within (get_or bits p false) refl before reached
   | inr past ↦
-      let end = rank_of-all bits p past in
-      let end' = rank_of-all bits (p + 1) (omega arith) in
+      let here = rank_of-all bits p past in
+      let further = rank_of-all bits (p + 1) (omega arith) in
       absurd (omega arith)
 ]
-  where
-    at_bit : (bits : List Bool) (j p : ℕ) → p < length bits → (bit : Bool) → get_or bits p false ≡ bit → rank_of bits p < j → j ≤ rank_of bits (p + 1) → IsSelected bits j p
-    at_bit bits j p within true is before reached =
-        let step = rank_of-step bits p within in
-        let step' : rank_of bits (p + 1) ≡ rank_of bits p + 1 = step ∙ ap (λ b. rank_of bits p + cond b 1 0) is in
-        record { one = slice_get-get_or bits p false within ∙ ap Some is; rank = omega arith }
-    at_bit bits j p within false is before reached =
-        let step = rank_of-step bits p within in
-        let step' : rank_of bits (p + 1) ≡ rank_of bits p + 0 = step ∙ ap (λ b. rank_of bits p + cond b 1 0) is in
-        absurd (omega arith)
 
 -- the j-th one has one place
 pub select_of-from_IsSelected : (bits : List Bool) (j p : ℕ) → IsSelected bits j p → select_of bits j ≡ p
@@ -122,7 +134,8 @@ select_of-from_IsSelected (true ∷ bits) j (suc p) s =
     (ap suc (select_of-from_IsSelected bits (j - 1) p (record { one = s.one; rank = omega (arith, s.rank) })))
 
 -- each one from 1 to the number of ones has a place
-pub IsSelected-select_of : (bits : List Bool) (j : ℕ) → 1 ≤ j → j ≤ ones_of bits → IsSelected bits j (select_of bits j)
+pub IsSelected-select_of : (bits : List Bool) (j : ℕ) → 1 ≤ j → j ≤ ones_of bits
+    → IsSelected bits j (select_of bits j)
 unfolding select_of
 IsSelected-select_of [] j from_one enough = absurd (omega (arith, ones_of-nil))
 IsSelected-select_of (false ∷ bits) j from_one enough =
@@ -131,6 +144,7 @@ IsSelected-select_of (false ∷ bits) j from_one enough =
 IsSelected-select_of (true ∷ bits) j from_one enough = elim (cases_lt 1 j) [
   | inl later ↦
       let rest = IsSelected-select_of bits (j - 1) (omega arith) (omega (arith, ones_of-cons true bits)) in
-      rw (lt-leb j 1 later) (record { one = rest.one; rank = omega (arith, rest.rank, rank_of-cons true bits (select_of bits (j - 1))) })
+      let step = rank_of-cons true bits (select_of bits (j - 1)) in
+      rw (lt-leb j 1 later) (record { one = rest.one; rank = omega (arith, rest.rank) })
   | inr first ↦ rw (le-leb j 1 first) (record { one = refl; rank = omega (arith, rank_of-zero (true ∷ bits)) })
 ]

@@ -10,6 +10,7 @@ use Rattle.bit_rank.specs.Bits.{number_of, window_of, packed}
 use Rattle.bit_rank.specs.Words.{low_bits, bits_of, IsPacked}
 use Rattle.bit_rank.proofs.NumberLemmas.{number_of-lt, number_of-append, number_of-take, number_of-drop, number_of-spare, ones_of-zero, same_from_number_of, window_of-field, window_of-same, window_of-lt}
 
+-- n bits were asked for
 pub length-low_bits : (n word : ℕ) → length (low_bits n word) ≡ n
 unfolding low_bits
 length-low_bits zero word = refl
@@ -32,11 +33,15 @@ number_of-low_bits (suc n) word =
     let turned : word % 2 ^ suc n ≡ word % 2 ^ (n + 1) = ap (λ k. word % 2 ^ k) (omega arith) in
     omega arith
 
+-- the bits of the second words follow those of the first
 pub bits_of-append : (xs ys : List ℕ) → bits_of (xs ++ ys) ≡ bits_of xs ++ bits_of ys
 unfolding bits_of
 bits_of-append [] ys = refl
-bits_of-append (x ∷ xs) ys = ap (λ rest. low_bits 64 x ++ rest) (bits_of-append xs ys) ∙ sym (append_assoc (low_bits 64 x) (bits_of xs) (bits_of ys))
+bits_of-append (x ∷ xs) ys =
+    ap (λ rest. low_bits 64 x ++ rest) (bits_of-append xs ys)
+    ∙ sym (append_assoc (low_bits 64 x) (bits_of xs) (bits_of ys))
 
+-- each word has 64 bits
 pub length-bits_of : (words : List ℕ) → length (bits_of words) ≡ 64 * length words
 unfolding bits_of
 length-bits_of [] = refl
@@ -54,14 +59,15 @@ drop-bits_of (suc k) (word ∷ words) =
     ap (λ p. drop p (low_bits 64 word ++ bits_of words)) (sym place) ∙ past ∙ drop-bits_of k words
 
 -- the place of a word's bits spells that word
-pub window_of-bits_of : (words : List ℕ) (k : ℕ) → k < length words → get_or words k 0 < 2 ^ 64 → window_of (bits_of words) (64 * k) 64 ≡ get_or words k 0
+pub window_of-bits_of : (words : List ℕ) (k : ℕ) → k < length words → get_or words k 0 < 2 ^ 64
+    → window_of (bits_of words) (64 * k) 64 ≡ get_or words k 0
 unfolding window_of bits_of
 window_of-bits_of words k within wide =
     let word = get_or words k 0 in
     let rest = drop-bits_of k words ∙ ap bits_of (drop_more words k 0 within) in
-    let whole : take 64 (low_bits 64 word ++ bits_of (drop (k + 1) words)) ≡ low_bits 64 word =
-    take-append-le 64 (low_bits 64 word) (bits_of (drop (k + 1) words)) (omega (arith, length-low_bits 64 word))
-    ∙ take_all 64 (low_bits 64 word) (omega (arith, length-low_bits 64 word)) in
+    let long = length-low_bits 64 word in
+    let first = take-append-le 64 (low_bits 64 word) (bits_of (drop (k + 1) words)) (omega arith) in
+    let whole = first ∙ take_all 64 (low_bits 64 word) (omega arith) in
     ap (λ bits. number_of (take 64 bits)) rest ∙ ap number_of whole ∙ number_of-low_bits 64 word ∙ mod-eq_of_lt wide
 
 -- the list that packed words stand for has its length
@@ -69,33 +75,42 @@ pub length-take-bits_of : (words : List ℕ) (len : ℕ) → IsPacked words len 
 length-take-bits_of words len p = length-take-le len (bits_of words) (omega (arith, p.fewest, length-bits_of words))
 
 -- in packed words, the place of a word's bits spells that word, though the list ends inside the last one
-pub window_of-packed : (words : List ℕ) (len k : ℕ) → IsPacked words len → k < length words → get_or words k 0 < 2 ^ 64
+pub window_of-packed : (words : List ℕ) (len k : ℕ)
+    → IsPacked words len → k < length words → get_or words k 0 < 2 ^ 64
     → window_of (take len (bits_of words)) (64 * k) 64 ≡ get_or words k 0
 window_of-packed words len k p within wide =
     let same = number_of-spare len (bits_of words) p.spare in
     window_of-same (take len (bits_of words)) (bits_of words) same (64 * k) 64 ∙ window_of-bits_of words k within wide
 
+-- as many words as the bits take
 pub length-packed : (bits : List Bool) → length (packed bits) ≡ (length bits + 63) / 64
 unfolding packed
 length-packed bits = length-map-range_with_len (λ k. window_of bits (64 * k) 64) 0 ((length bits + 63) / 64)
 
-pub get_or-packed : (bits : List Bool) (k d : ℕ) → 64 * k < length bits → get_or (packed bits) k d ≡ window_of bits (64 * k) 64
+-- a word is the window of its place
+pub get_or-packed : (bits : List Bool) (k d : ℕ) → 64 * k < length bits
+    → get_or (packed bits) k d ≡ window_of bits (64 * k) 64
 unfolding packed
 get_or-packed bits k d within =
-    get_or-map-range_with_len (λ k. window_of bits (64 * k) 64) 0 ((length bits + 63) / 64) k k d (omega arith) (omega arith)
+    let count = (length bits + 63) / 64 in
+    get_or-map-range_with_len (λ k. window_of bits (64 * k) 64) 0 count k k d (omega arith) (omega arith)
 
 -- packing the bits of packed words gives the words back
-pub packed-bits_of : (words : List ℕ) (len : ℕ) → IsPacked words len → ((k : ℕ) → k < length words → get_or words k 0 < 2 ^ 64)
+pub packed-bits_of : (words : List ℕ) (len : ℕ)
+    → IsPacked words len → ((k : ℕ) → k < length words → get_or words k 0 < 2 ^ 64)
     → packed (take len (bits_of words)) ≡ words
 unfolding packed
 packed-bits_of words len p wide =
     let bits = take len (bits_of words) in
-    let count : length words ≡ (length bits + 63) / 64 = p.fewest ∙ ap (λ n. (n + 63) / 64) (sym (length-take-bits_of words len p)) in
-    sym (fill_by_all (λ k. window_of bits (64 * k) 64) words ((length bits + 63) / 64) 0 count (λ k below. sym (window_of-packed words len k p (omega arith) (wide k (omega arith)))))
+    let count = p.fewest ∙ ap (λ n. (n + 63) / 64) (sym (length-take-bits_of words len p)) in
+    let each = λ (k : ℕ) (below : k < (length bits + 63) / 64).
+    sym (window_of-packed words len k p (omega arith) (wide k (omega arith))) in
+    sym (fill_by_all (λ k. window_of bits (64 * k) 64) words ((length bits + 63) / 64) 0 count each)
 
 -- the windows of n words from the a-th on spell a field of the whole number
 number_of-windows : (bits : List Bool) (a n : ℕ)
-    → number_of (bits_of (map (λ k. window_of bits (64 * k) 64) (range_with_len a n))) ≡ number_of bits / 2 ^ (64 * a) % 2 ^ (64 * n)
+    → number_of (bits_of (map (λ k. window_of bits (64 * k) 64) (range_with_len a n)))
+    ≡ number_of bits / 2 ^ (64 * a) % 2 ^ (64 * n)
 unfolding bits_of number_of
 number_of-windows bits a zero = omega arith
 number_of-windows bits a (suc n) =
@@ -103,13 +118,13 @@ number_of-windows bits a (suc n) =
     let whole = number_of bits / 2 ^ (64 * a) in
     let others = bits_of (map (λ k. window_of bits (64 * k) 64) (range_with_len (a + 1) n)) in
     let parts = number_of-append (low_bits 64 word) others in
-    let low : number_of (low_bits 64 word) ≡ whole % 2 ^ 64 =
-    number_of-low_bits 64 word ∙ mod-eq_of_lt (window_of-lt bits (64 * a) 64) ∙ window_of-field bits (64 * a) 64 in
-    let past : number_of bits / 2 ^ (64 * (a + 1)) ≡ whole / 2 ^ 64 =
-    ap (λ k. number_of bits / 2 ^ k) (let k : 64 * (a + 1) ≡ 64 * a + 64 = omega arith in k) ∙ sym (shr-shr (number_of bits) (64 * a) 64) in
-    let high : number_of others ≡ whole / 2 ^ 64 % 2 ^ (64 * n) = number_of-windows bits (a + 1) n ∙ ap (λ v. v % 2 ^ (64 * n)) past in
-    let joined : whole % 2 ^ (64 * suc n) ≡ whole / 2 ^ 64 % 2 ^ (64 * n) * 2 ^ 64 + whole % 2 ^ 64 =
-    ap (λ k. whole % 2 ^ k) (let k : 64 * suc n ≡ 64 * n + 64 = omega arith in k) ∙ mod-pow-add whole (64 * n) 64 in
+    let small = mod-eq_of_lt (window_of-lt bits (64 * a) 64) in
+    let low = number_of-low_bits 64 word ∙ small ∙ window_of-field bits (64 * a) 64 in
+    let next : 64 * (a + 1) ≡ 64 * a + 64 = omega arith in
+    let past = ap (λ k. number_of bits / 2 ^ k) next ∙ sym (shr-shr (number_of bits) (64 * a) 64) in
+    let high = number_of-windows bits (a + 1) n ∙ ap (λ v. v % 2 ^ (64 * n)) past in
+    let width : 64 * suc n ≡ 64 * n + 64 = omega arith in
+    let joined = ap (λ k. whole % 2 ^ k) width ∙ mod-pow-add whole (64 * n) 64 in
     parts
     ∙ ap (λ k. number_of others * 2 ^ k + number_of (low_bits 64 word)) (length-low_bits 64 word)
     ∙ ap (λ v. v * 2 ^ 64 + number_of (low_bits 64 word)) high
@@ -123,21 +138,22 @@ number_of-packed bits =
     let count = (length bits + 63) / 64 in
     let wide : 2 ^ length bits ≤ 2 ^ (64 * count) = pow-le-pow_right {n = 2} (omega arith) (omega arith) in
     let small : number_of bits < 2 ^ (64 * count) = omega (arith, number_of-lt bits) in
-    number_of-windows bits 0 count
-    ∙ ap (λ v. v % 2 ^ (64 * count)) (let v : number_of bits / 2 ^ 0 ≡ number_of bits = omega arith in v)
-    ∙ mod-eq_of_lt small
+    let start : number_of bits / 2 ^ 0 ≡ number_of bits = omega arith in
+    number_of-windows bits 0 count ∙ ap (λ v. v % 2 ^ (64 * count)) start ∙ mod-eq_of_lt small
 
 -- bits that are packed stand in packed words
 pub IsPacked-packed : (bits : List Bool) → IsPacked (packed bits) (length bits)
 IsPacked-packed bits =
-    let nothing : number_of (drop (length bits) (bits_of (packed bits))) ≡ 0 =
-    number_of-drop (length bits) (bits_of (packed bits)) ∙ ap (λ v. v / 2 ^ length bits) (number_of-packed bits) ∙ div-eq_of_lt (number_of-lt bits) in
-    record { fewest = length-packed bits; spare = ones_of-zero (drop (length bits) (bits_of (packed bits))) nothing }
+    let all = bits_of (packed bits) in
+    let beyond = number_of-drop (length bits) all ∙ ap (λ v. v / 2 ^ length bits) (number_of-packed bits) in
+    let nothing = beyond ∙ div-eq_of_lt (number_of-lt bits) in
+    record { fewest = length-packed bits; spare = ones_of-zero (drop (length bits) all) nothing }
 
 -- the words that bits are packed in hold these bits
 pub bits_of-packed : (bits : List Bool) → take (length bits) (bits_of (packed bits)) ≡ bits
 bits_of-packed bits =
-    let kept = take (length bits) (bits_of (packed bits)) in
-    let number : number_of kept ≡ number_of bits =
-    number_of-take (length bits) (bits_of (packed bits)) ∙ ap (λ v. v % 2 ^ length bits) (number_of-packed bits) ∙ mod-eq_of_lt (number_of-lt bits) in
-    same_from_number_of kept bits (length-take-bits_of (packed bits) (length bits) (IsPacked-packed bits)) number
+    let all = bits_of (packed bits) in
+    let low = number_of-take (length bits) all ∙ ap (λ v. v % 2 ^ length bits) (number_of-packed bits) in
+    let number = low ∙ mod-eq_of_lt (number_of-lt bits) in
+    let long = length-take-bits_of (packed bits) (length bits) (IsPacked-packed bits) in
+    same_from_number_of (take (length bits) all) bits long number

@@ -13,8 +13,8 @@ use step_count::Steps;
 /// Up to 2^32 - 1 bits that answer rank and select in a bounded number of reads.
 ///
 /// The bits stand in words of 64, lowest first. A directory has the number of ones before each
-/// superblock of 512 bits, as in the two-level directories of Jacobson ("Space-efficient static trees
-/// and graphs", 1989), whose second level the machine's count of a word's ones replaces.
+/// superblock of 512 bits: the first level of Jacobson's directories ("Space-efficient static trees
+/// and graphs", 1989). In place of the second level the machine counts the ones of a word.
 #[derive(Drop)]
 pub struct Bits {
     words: Vec<u64>,
@@ -38,6 +38,7 @@ impl Model for Bits {
 
 impl Bits {
     /// Indexes the first `len` bits of the words, in one pass that allocates the directory alone.
+    /// There are no more words than hold `len` bits, and beyond these every bit is 0.
     ///
     /// Want of memory for the directory is `NoRoom`; the words are then let go.
     pub fn from_words(alloc: Global, words: Vec<u64>, len: u32) -> Result<Bits, NoRoom>

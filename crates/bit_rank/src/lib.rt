@@ -1,8 +1,9 @@
 //! Bit vectors with rank and select.
 //!
-//! `Bits` holds up to 2^32 - 1 bits in words of 64 and a directory of one count for each superblock of
-//! 512 bits. Contracts see it as a list of bool, over which every answer is exact, and each query
-//! promises how many words and directory entries it reads. The crate stands on `step_count` alone.
+//! `Bits` holds up to 2^32 - 1 bits in words of 64, and a directory of one count for each
+//! superblock of 512 bits. Contracts see it as a list of bool, over which every answer is exact, and
+//! each query promises how many words and directory entries it reads. The crate stands on
+//! `step_count` alone.
 #![tactic(auto)]
 
 mod bits;

@@ -8,17 +8,20 @@ use Rattle.bit_rank.proofs.directory.count_ones_before.Goals.{then-i-eq0+in_ok-p
 
 pub overflow_add-ones : goal.overflow_add-ones
 overflow_add-ones c =
-    let next = rank_of-next c.args.words.now c.args.len c.requires (λ k _. omega (arith, c.type_inv.words k)) c.loop-i.i c.loop-i-test.true in
+    let next = rank_of-next c.args.words.now c.args.len c.requires c.type_inv.words c.loop-i.i c.loop-i-test.true in
     omega (arith, rank_of-le-len c.args.words.now c.args.len c.requires (64 * (c.loop-i.i + 1)))
 
 pub loop-i-init : goal.loop-i-init
-loop-i-init c = record { counted = sym (rank_of-zero (take c.args.len (bits_of c.args.words.now))); entered = c.in_ok-counts.ensures.items }
+loop-i-init c = record {
+  counted = sym (rank_of-zero (take c.args.len (bits_of c.args.words.now)));
+  entered = c.in_ok-counts.ensures.items;
+}
 
 pub loop-i-preserved : goal.loop-i-preserved
 loop-i-preserved c =
     let bits = take c.args.len (bits_of c.args.words.now) in
     let i = c.loop-i.i in
-    let next = rank_of-next c.args.words.now c.args.len c.requires (λ k _. omega (arith, c.type_inv.words k)) i c.loop-i-test.true in
+    let next = rank_of-next c.args.words.now c.args.len c.requires c.type_inv.words i c.loop-i-test.true in
     record {
       counted = omega arith;
       entered = elim c.if-i-eq0.branch [
@@ -28,7 +31,8 @@ loop-i-preserved c =
             ∙ ap (λ r. entries bits ((i + 7) / 8) ++ r ∷ []) c.loop-i.invariant.counted
             ∙ sym (entries-first bits i w.if-i-eq0.true)
         | else-i-eq0 w ↦
-            ap (λ (v : Vec ℕ Global). v.items) w.counts-is ∙ c.loop-i.invariant.entered ∙ sym (entries-other bits i w.if-i-eq0.false)
+            ap (λ (v : Vec ℕ Global). v.items) w.counts-is ∙ c.loop-i.invariant.entered
+            ∙ sym (entries-other bits i w.if-i-eq0.false)
       ];
     }
 

@@ -21,15 +21,18 @@ returns-then-n-held-clause-value g c =
 -- the high part, moved up, loses nothing, and the two words' parts are the window
 pub returns-clause-value : goal.returns-clause-value
 returns-clause-value g c =
-    let held = 64 - c.args.p % 64 in
+    let bits = c.args.self.now in
+    let p = c.args.p in
+    let held = 64 - p % 64 in
+    let left = c.args.n - held in
     let high = c.low_part-high.result in
-    let narrow : high < 2 ^ (c.args.n - held) = rw c.low_part-high.ensures (mod_below c.word-2.result (2 ^ (c.args.n - held)) (pow_pos (c.args.n - held))) in
-    let moved = shl_whole high (c.args.n - held) held 64 narrow (omega arith) in
-    ap (λ v. c.word.result / 2 ^ (c.args.p % 64) + v) moved
-    ∙ ap (λ v. c.word.result / 2 ^ (c.args.p % 64) + v * 2 ^ held) c.low_part-high.ensures
-    ∙ ap (λ w. w / 2 ^ (c.args.p % 64) + c.word-2.result % 2 ^ (c.args.n - held) * 2 ^ held) c.word.ensures.value
-    ∙ ap (λ w. window_of c.args.self.now (64 * (c.args.p / 64)) 64 / 2 ^ (c.args.p % 64) + w % 2 ^ (c.args.n - held) * 2 ^ held) c.word-2.ensures.value
-    ∙ sym (window_of-words c.args.self.now c.args.p c.args.n (omega arith) (omega arith))
+    let narrow : high < 2 ^ left = rw c.low_part-high.ensures (mod_below c.word-2.result (2 ^ left) (pow_pos left)) in
+    let moved = shl_whole high left held 64 narrow (omega arith) in
+    ap (λ v. c.word.result / 2 ^ (p % 64) + v) moved
+    ∙ ap (λ v. c.word.result / 2 ^ (p % 64) + v * 2 ^ held) c.low_part-high.ensures
+    ∙ ap (λ w. w / 2 ^ (p % 64) + c.word-2.result % 2 ^ left * 2 ^ held) c.word.ensures.value
+    ∙ ap (λ w. window_of bits (64 * (p / 64)) 64 / 2 ^ (p % 64) + w % 2 ^ left * 2 ^ held) c.word-2.ensures.value
+    ∙ sym (window_of-words bits p c.args.n (omega arith) (omega arith))
 
 pub overflow_add-result : goal.overflow_add-result
 overflow_add-result g c =
