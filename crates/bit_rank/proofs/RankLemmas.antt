@@ -1,5 +1,5 @@
 -- The ones of bits: how many, and where.
-use Rattle.std.proofs.Common.{◌≡◌, ℕ, zero, suc, ◌+◌, ◌-◌, ◌<◌, ◌≤◌, Bool, true, false, cond, Some, List, [], ◌∷◌, ◌++◌, length, take, get_or, refl, ap, ◌∙◌, inl, inr, arith, length-take, le-leb, None}
+use Rattle.std.proofs.Common.{◌≡◌, ℕ, zero, suc, ◌+◌, ◌-◌, ◌<◌, ◌≤◌, Bool, true, false, cond, Some, List, [], ◌∷◌, ◌++◌, length, take, get_or, refl, sym, ap, ◌∙◌, inl, inr, arith, length-take, le-leb, None}
 use Rattle.std.proofs.lemmas.List.{take_all, take-take, take-append-le}
 use Rattle.std.proofs.lemmas.List.Sums.{sum_by-append, sum_by-cons, sum_by-take-le, sum_by_more, count_by-le-length}
 use Rattle.std.proofs.lemmas.Bool.{cases_lt, lt-leb}
@@ -132,6 +132,11 @@ select_of-from_IsSelected (true ∷ bits) j (suc p) s =
     let step = rank_of-cons true bits p in
     rw (lt-leb j 1 (omega (arith, s.rank)))
     (ap suc (select_of-from_IsSelected bits (j - 1) p (record { one = s.one; rank = omega (arith, s.rank) })))
+
+-- two places of one one are one place
+pub same_from_IsSelected : (bits : List Bool) (j p q : ℕ) → IsSelected bits j p → IsSelected bits j q → p ≡ q
+same_from_IsSelected bits j p q first second =
+    sym (select_of-from_IsSelected bits j p first) ∙ select_of-from_IsSelected bits j q second
 
 -- each one from 1 to the number of ones has a place
 pub IsSelected-select_of : (bits : List Bool) (j : ℕ) → 1 ≤ j → j ≤ ones_of bits
