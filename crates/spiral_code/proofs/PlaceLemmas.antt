@@ -1,6 +1,6 @@
 -- A place of the spiral, its movement and its code; and that each movement and each code but the first
 -- has a place, so that a law need only be shown at places.
-use Rattle.std.proofs.Common.{◌≡◌, ℕ, zero, suc, ◌+◌, ◌-◌, ◌*◌, ◌<◌, ℤ, pos, neg_ℤ, ◌+ℤ◌, ◌-ℤ◌, ◌<ℤ◌, ◌≤ℤ◌, unsigned_abs, get_or, sym, ap, ◌∙◌, subst, subst₂, inl, inr, eq-zero-or-pos, ◌≤◌, arith}
+use Rattle.std.proofs.Common.{◌≡◌, ℕ, zero, suc, ◌+◌, ◌-◌, ◌*◌, ◌<◌, ℤ, pos, neg_ℤ, ◌+ℤ◌, ◌-ℤ◌, ◌<ℤ◌, ◌≤ℤ◌, unsigned_abs, get_or, sym, ap, ◌∙◌, subst, subst₂, ◌⊎◌, inl, inr, eq-zero-or-pos, ◌≤◌, arith}
 use Rattle.std.specs.List.{position_or_len}
 use Rattle.std.proofs.lemmas.Int.{ints, by_lt_z}
 use Rattle.spiral_code.specs.declared.place.Side.{Side}
@@ -49,6 +49,9 @@ steps_to : (r : ℕ) (along : ℤ) → neg_ℤ (pos r) <ℤ along → along ≤�
     (i : ℕ) × (i < 2 * r) × (pos (1 + i) ≡ along +ℤ pos r)
 steps_to r along low high = (unsigned_abs (along +ℤ pos r -ℤ pos 1), omega (arith, ints), omega (arith, ints))
 
+cases_lt_z : (a b : ℤ) → (a <ℤ b) ⊎ (b ≤ℤ a)
+cases_lt_z a b = by_lt_z a b inl inr
+
 -- What holds of the zero movement and of the movement at each place holds of all.
 module _ (P : ℤ → ℤ → Type 0) (still : P (pos 0) (pos 0))
     (at_places : (r : ℕ) (side : Side) (i : ℕ) → i < 2 * r → P (move_at r side i).0 (move_at r side i).1) where
@@ -64,18 +67,22 @@ module _ (P : ℤ → ℤ → Type 0) (still : P (pos 0) (pos 0))
   off_centre : (dx dy : ℤ) → 0 < ring_of dx dy → P dx dy
   off_centre dx dy moving =
       let r = ring_of dx dy in
-      by_lt_z dx (pos r)
-      (λ left. by_lt_z dy (pos r)
-      (λ low. by_lt_z (neg_ℤ (pos r)) dx
-      (λ right. on_side r South dx dx dy right (omega (arith, ints)) (λ i at_i. omega (arith, ints)))
-      (λ leftmost. on_side r West (neg_ℤ dy) dx dy (omega (arith, ints)) (omega (arith, ints))
-      (λ i at_i. omega (arith, ints))))
-      (λ top. on_side r North (neg_ℤ dx) dx dy (omega (arith, ints)) (omega (arith, ints))
-      (λ i at_i. omega (arith, ints))))
-      (λ rightmost. by_lt_z (neg_ℤ (pos r)) dy
-      (λ high. on_side r East dy dx dy high (omega (arith, ints)) (λ i at_i. omega (arith, ints)))
-      (λ bottom. on_side r South dx dx dy (omega (arith, ints)) (omega (arith, ints))
-      (λ i at_i. omega (arith, ints))))
+      elim (cases_lt_z dx (pos r)) [
+        | inl left ↦ elim (cases_lt_z dy (pos r)) [
+          | inl low ↦ elim (cases_lt_z (neg_ℤ (pos r)) dx) [
+            | inl right ↦ on_side r South dx dx dy right (omega (arith, ints)) (λ i at_i. omega (arith, ints))
+            | inr leftmost ↦
+                on_side r West (neg_ℤ dy) dx dy (omega (arith, ints)) (omega (arith, ints)) (λ i at_i. omega (arith, ints))
+          ]
+          | inr top ↦
+              on_side r North (neg_ℤ dx) dx dy (omega (arith, ints)) (omega (arith, ints)) (λ i at_i. omega (arith, ints))
+        ]
+        | inr rightmost ↦ elim (cases_lt_z (neg_ℤ (pos r)) dy) [
+          | inl high ↦ on_side r East dy dx dy high (omega (arith, ints)) (λ i at_i. omega (arith, ints))
+          | inr bottom ↦
+              on_side r South dx dx dy (omega (arith, ints)) (omega (arith, ints)) (λ i at_i. omega (arith, ints))
+        ]
+      ]
 
   pub by_move : (dx dy : ℤ) → P dx dy
   by_move dx dy = elim (eq-zero-or-pos (ring_of dx dy)) [

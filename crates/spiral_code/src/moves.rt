@@ -5,8 +5,8 @@ use crate::place::Place;
 
 /// The code of the movement that goes `dx` cells to the right and `dy` up.
 ///
-/// Both distances are below 2^24 in size. Code 0 is the movement that stands still, and a ring's codes
-/// follow those of all smaller rings.
+/// Both distances are below 2^24 in size. Code 0 is the movement that stands still, and a ring's
+/// codes follow those of all smaller rings.
 pub fn encode_move(dx: i64, dy: i64) -> u64
     requires { ring_of dx dy < 2 ^ 24 }
     ensures exact { result ≡ code_of dx dy }

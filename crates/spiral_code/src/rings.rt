@@ -3,8 +3,8 @@ ghost use Rattle.spiral_code.specs.Spiral.{ring_of, move_of, first_code, square}
 
 /// The ring of a code: the greater of the two distances, in cells, that its movement goes.
 ///
-/// Ring `r` has the codes from `(2 * r - 1)^2` to `(2 * r + 1)^2 - 1`, so the whole square root of a
-/// code is `2 * r - 1` or `2 * r`.
+/// Ring `r` has the codes from `(2 * r - 1)^2` to `(2 * r + 1)^2 - 1`, so the whole square root of
+/// each is `2 * r - 1` or `2 * r`.
 pub fn ring(code: u64) -> u64
     requires { code < square (2 ^ 25 - 1) }
     ensures exact { let m = move_of code in result ≡ ring_of m.0 m.1 }
