@@ -72,10 +72,12 @@ module _ (P : ℤ → ℤ → Type 0) (still : P (pos 0) (pos 0))
           | inl low ↦ elim (cases_lt_z (neg_ℤ (pos r)) dx) [
             | inl right ↦ on_side r South dx dx dy right (omega (arith, ints)) (λ i at_i. omega (arith, ints))
             | inr leftmost ↦
-                on_side r West (neg_ℤ dy) dx dy (omega (arith, ints)) (omega (arith, ints)) (λ i at_i. omega (arith, ints))
+                on_side r West (neg_ℤ dy) dx dy (omega (arith, ints)) (omega (arith, ints))
+                (λ i at_i. omega (arith, ints))
           ]
           | inr top ↦
-              on_side r North (neg_ℤ dx) dx dy (omega (arith, ints)) (omega (arith, ints)) (λ i at_i. omega (arith, ints))
+              on_side r North (neg_ℤ dx) dx dy (omega (arith, ints)) (omega (arith, ints))
+              (λ i at_i. omega (arith, ints))
         ]
         | inr rightmost ↦ elim (cases_lt_z (neg_ℤ (pos r)) dy) [
           | inl high ↦ on_side r East dy dx dy high (omega (arith, ints)) (λ i at_i. omega (arith, ints))

@@ -1,8 +1,8 @@
 //! Movements on a grid as codes along a square spiral, so that short movements have small codes.
 //!
 //! `encode_move` and `decode_move` undo each other, and each code is that of the table in
-//! `specs/Spiral.antt`. The spiral is GraCT's idea (Brisaboa, Gómez-Brandón, Navarro and Paramá, SPIRE
-//! 2016), its order this project's own. The crate stands on std alone.
+//! `specs/Spiral.antt`. The spiral is GraCT's idea (Brisaboa, Gómez-Brandón, Navarro and Paramá,
+//! SPIRE 2016), its order this project's own. The crate stands on std alone.
 #![tactic(auto)]
 
 mod moves;
