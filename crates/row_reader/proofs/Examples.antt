@@ -1,9 +1,9 @@
 -- The definitions, run on files that were worked out by hand.
-use Rattle.std.proofs.Common.{◌≡◌, ◌∷◌, [], Some, None, codes, pos, neg_ℤ, refl}
+use Rattle.std.proofs.Common.{◌≡◌, ℕ, List, ◌∷◌, [], Some, None, codes, pos, neg_ℤ, refl}
 use Rattle.csv.proofs.OnLiterals.{csv_on_literals}
 use Rattle.track_types.specs.declared.raw_row.RowFault.TheVariants.{Count, NotNumber, Range}
-use Rattle.row_reader.specs.Rows.{csv_fault, raws_of, records_of}
-use Rattle.row_reader.specs.declared.fault.RowsFault.TheVariants.{Row}
+use Rattle.row_reader.specs.Rows.{csv_fault, raws_of, records_of, refusal_of}
+use Rattle.row_reader.specs.declared.fault.RowsFault.TheVariants.{Row, Limit}
 
 two_records : records_of (codes "7,0,x,1\r\n\n\"8\"\n") ≡ (codes "7" ∷ codes "0" ∷ codes "x" ∷ codes "1" ∷ []) ∷ (codes "8" ∷ []) ∷ []
 unfolding csv_on_literals
@@ -17,7 +17,7 @@ leftmost_first : csv_fault (codes "-1,0,y,0") ≡ Some (Row 1 1 Range)
 unfolding csv_on_literals
 leftmost_first = refl
 
-three_fields : csv_fault (codes "7,0,0,0\n\n7,0,1") ≡ Some (Row 2 3 Count)
+three_fields : csv_fault (codes "object,instant,x,y\n7,0,1") ≡ Some (Row 2 3 Count)
 unfolding csv_on_literals
 three_fields = refl
 
@@ -28,6 +28,17 @@ too_far = refl
 as_far_as_may_be : csv_fault (codes "7,0,1099511627776,0") ≡ None
 unfolding csv_on_literals
 as_far_as_may_be = refl
+
+second_heading : csv_fault (codes "object,instant,x,y\nobject,instant,x,y\n") ≡ Some (Row 2 1 NotNumber)
+unfolding csv_on_literals
+second_heading = refl
+
+heading_alone : raws_of (codes "object,\"instant\",x,y") ≡ []
+unfolding csv_on_literals
+heading_alone = refl
+
+one_too_many : (nth : ℕ) (fields : List (List ℕ)) → refusal_of 16777216 nth fields ≡ Some (Limit 16777217)
+one_too_many nth fields = refl
 
 one_row : raws_of (codes "7,\" -3\t\",+01,2\n") ≡ record { object = 7; time = neg_ℤ (pos 3); x = pos 1; y = pos 2 } ∷ []
 unfolding csv_on_literals

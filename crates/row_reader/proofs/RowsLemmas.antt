@@ -1,12 +1,24 @@
 -- The rows and the first fault of records, one record after another.
-use Rattle.std.proofs.Common.{◌≡◌, ℕ, ◌+◌, List, [], ◌∷◌, ◌++◌, length, map, slice_get, Some, None, refl, ap, ◌∙◌, arith, append_assoc}
+use Rattle.std.proofs.Common.{◌≡◌, ℕ, ◌+◌, List, [], ◌∷◌, ◌++◌, length, map, filter, Bool, true, false, slice_get, Some, None, refl, ap, ◌∙◌, arith, append_assoc, Option}
 use Rattle.std.specs.List.{enumerate_from, filter_map}
-use Rattle.std.proofs.lemmas.List.{map-append}
-use Rattle.std.proofs.lemmas.List.Elements.{filter_map-append}
+use Rattle.std.proofs.lemmas.List.{append-nil, map-append}
+use Rattle.std.proofs.lemmas.List.Elements.{filter-append, filter_map-append}
 use Rattle.row_reader.specs.Row.{raw_of, record_fault}
-use Rattle.row_reader.specs.Rows.{csv_fault, data_among, faults_among, numbered_fault, raws_among, records_of}
-use Rattle.row_reader.specs.declared.fault.RowsFault.TheVariants.{Row}
+use Rattle.row_reader.specs.Rows.{IsFaultOf, csv_fault, data_among, is_data, records_of, refusal_of, refusals_of, rows_of}
+use Rattle.row_reader.specs.declared.fault.RowsFault.TheVariants.{Row, Limit, Memory}
 use Rattle.row_reader.specs.declared.row.FieldFault.{FieldFault}
+use Rattle.row_reader.specs.declared.fault.RowsFault.{RowsFault}
+
+-- the tests of the definitions, as functions of pairs
+abbrev is_data_pair : ℕ × List (List ℕ) → Bool
+is_data_pair numbered = is_data numbered.0 numbered.1
+
+abbrev refusal_of_placed : ℕ × (ℕ × List (List ℕ)) → Option RowsFault
+refusal_of_placed placed = refusal_of placed.0 placed.1.0 placed.1.1
+
+-- the data records among records that are numbered from another number
+abbrev data_from : ℕ → List (List (List ℕ)) → List (ℕ × List (List ℕ))
+data_from first all = filter is_data_pair (enumerate_from first all)
 
 -- items behind others are numbered on
 enumerate_from-append : {X : Type 0} (first : ℕ) (front back : List X)
@@ -16,34 +28,58 @@ enumerate_from-append first (item ∷ front) back =
     let next : first + 1 + length front ≡ first + length (item ∷ front) = omega arith in
     ap (λ rest. (first, item) ∷ rest) (enumerate_from-append (first + 1) front back ∙ ap (λ n. enumerate_from (first + 1) front ++ enumerate_from n back) next)
 
--- one record more behind others
-data_among-append : (seen after : List (List (List ℕ))) → data_among (seen ++ after) ≡ data_among seen ++ enumerate_from (1 + length seen) after
-data_among-append seen after = enumerate_from-append 1 seen after
+-- a record behind others is data, or it is none
+data_among-append : (seen after : List (List (List ℕ))) → data_among (seen ++ after) ≡ data_among seen ++ data_from (1 + length seen) after
+data_among-append seen after =
+    ap (filter is_data_pair) (enumerate_from-append 1 seen after) ∙ filter-append is_data_pair (enumerate_from 1 seen) (enumerate_from (1 + length seen) after)
 
--- the faults of records behind those that have none
-faults_among-append : (seen after : List (List (List ℕ))) → faults_among seen ≡ []
-    → faults_among (seen ++ after) ≡ filter_map numbered_fault (enumerate_from (1 + length seen) after)
-faults_among-append seen after none =
-    ap (λ data'. filter_map numbered_fault data') (data_among-append seen after)
-    ∙ filter_map-append numbered_fault (data_among seen) (enumerate_from (1 + length seen) after)
-    ∙ ap (λ faults. faults ++ filter_map numbered_fault (enumerate_from (1 + length seen) after)) none
+data_among-data : (seen : List (List (List ℕ))) (fields : List (List ℕ)) (after : List (List (List ℕ))) (nth : ℕ) → nth ≡ length seen + 1
+    → is_data nth fields ≡ true → data_among (seen ++ (fields ∷ after)) ≡ data_among seen ++ ((nth, fields) ∷ data_from (nth + 1) after)
+data_among-data seen fields after nth number is =
+    let here : 1 + length seen ≡ nth = omega arith in
+    data_among-append seen (fields ∷ after) ∙ rw (here, is) refl
+
+pub data_among-heading : (seen : List (List (List ℕ))) (fields : List (List ℕ)) (nth : ℕ) → nth ≡ length seen + 1
+    → is_data nth fields ≡ false → data_among (seen ++ (fields ∷ [])) ≡ data_among seen
+data_among-heading seen fields nth number is =
+    let here : 1 + length seen ≡ nth = omega arith in
+    data_among-append seen (fields ∷ []) ∙ rw (here, is) (append-nil (data_among seen))
+
+-- the refusals of data records behind those that have none
+refusals_of-append : (front back : List (ℕ × List (List ℕ))) → refusals_of front ≡ []
+    → refusals_of (front ++ back) ≡ filter_map refusal_of_placed (enumerate_from (length front) back)
+refusals_of-append front back none =
+    let here : 0 + length front ≡ length front = omega arith in
+    ap (filter_map refusal_of_placed) (enumerate_from-append 0 front back ∙ ap (λ n. enumerate_from 0 front ++ enumerate_from n back) here)
+    ∙ filter_map-append refusal_of_placed (enumerate_from 0 front) (enumerate_from (length front) back)
+    ∙ ap (λ refusals. refusals ++ filter_map refusal_of_placed (enumerate_from (length front) back)) none
 
 -- a row more
-pub faults_among-row : (seen : List (List (List ℕ))) (fields : List (List ℕ)) → faults_among seen ≡ [] → record_fault fields ≡ None
-    → faults_among (seen ++ (fields ∷ [])) ≡ []
-faults_among-row seen fields none sound = faults_among-append seen (fields ∷ []) none ∙ rw sound refl
+pub refusals_of-row : (seen : List (List (List ℕ))) (fields : List (List ℕ)) (nth : ℕ) → nth ≡ length seen + 1 → is_data nth fields ≡ true
+    → refusals_of (data_among seen) ≡ [] → refusal_of (length (data_among seen)) nth fields ≡ None → refusals_of (data_among (seen ++ (fields ∷ []))) ≡ []
+refusals_of-row seen fields nth number is none sound =
+    ap refusals_of (data_among-data seen fields [] nth number is)
+    ∙ refusals_of-append (data_among seen) ((nth, fields) ∷ []) none
+    ∙ rw sound refl
 
-pub raws_among-row : (seen : List (List (List ℕ))) (fields : List (List ℕ)) → raws_among (seen ++ (fields ∷ [])) ≡ raws_among seen ++ (raw_of fields ∷ [])
-raws_among-row seen fields =
-    ap (map (λ numbered. raw_of numbered.1)) (data_among-append seen (fields ∷ []))
-    ∙ map-append (λ numbered. raw_of numbered.1) (data_among seen) (enumerate_from (1 + length seen) (fields ∷ []))
+pub rows_of-row : (seen : List (List (List ℕ))) (fields : List (List ℕ)) (nth : ℕ) → nth ≡ length seen + 1 → is_data nth fields ≡ true
+    → rows_of (data_among (seen ++ (fields ∷ []))) ≡ rows_of (data_among seen) ++ (raw_of fields ∷ [])
+rows_of-row seen fields nth number is =
+    ap rows_of (data_among-data seen fields [] nth number is)
+    ∙ map-append (λ numbered. raw_of numbered.1) (data_among seen) ((nth, fields) ∷ [])
 
--- a record at fault behind rows
-pub csv_fault-record : (bytes : List ℕ) (seen : List (List (List ℕ))) (fields : List (List ℕ)) (after : List (List (List ℕ))) (nth : ℕ) (at : FieldFault)
-    → faults_among seen ≡ [] → record_fault fields ≡ Some at → nth ≡ length seen + 1 → records_of bytes ≡ (seen ++ (fields ∷ [])) ++ after
-    → csv_fault bytes ≡ Some (Row nth at.field at.fault)
-csv_fault-record bytes seen fields after nth at none faulty number whole =
-    let first : 1 + length seen ≡ nth = omega arith in
-    ap (λ all. slice_get (faults_among all) 0) (whole ∙ append_assoc seen (fields ∷ []) after)
-    ∙ ap (λ faults. slice_get faults 0) (faults_among-append seen (fields ∷ after) none)
-    ∙ rw (faulty, first) refl
+-- a record that is refused behind rows
+pub csv_fault-refusal : (bytes : List ℕ) (seen : List (List (List ℕ))) (fields : List (List ℕ)) (after : List (List (List ℕ))) (nth : ℕ) (fault : RowsFault)
+    → nth ≡ length seen + 1 → is_data nth fields ≡ true → refusals_of (data_among seen) ≡ []
+    → refusal_of (length (data_among seen)) nth fields ≡ Some fault → records_of bytes ≡ (seen ++ (fields ∷ [])) ++ after → csv_fault bytes ≡ Some fault
+csv_fault-refusal bytes seen fields after nth fault number is none refused whole =
+    ap (λ all. slice_get (refusals_of (data_among all)) 0) (whole ∙ append_assoc seen (fields ∷ []) after)
+    ∙ ap (λ numbered. slice_get (refusals_of numbered) 0) (data_among-data seen fields after nth number is)
+    ∙ ap (λ refusals. slice_get refusals 0) (refusals_of-append (data_among seen) ((nth, fields) ∷ data_from (nth + 1) after) none)
+    ∙ rw refused refl
+
+-- the first refusal of a file may be answered
+pub IsFaultOf-csv_fault : (bytes : List ℕ) (fault : RowsFault) → csv_fault bytes ≡ Some fault → IsFaultOf bytes fault
+IsFaultOf-csv_fault bytes (Row nth field fault) e = e
+IsFaultOf-csv_fault bytes (Limit value) e = e
+IsFaultOf-csv_fault bytes Memory e = tt

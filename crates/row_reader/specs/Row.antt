@@ -1,5 +1,5 @@
 -- What one record is as a row.
-use Rattle.std.specs.Prelude.{ℕ, ◌-◌, ◌^◌, ℤ, pos, neg_ℤ, Bool, ◌&&◌, if◌then◌else◌, List, [], ◌∷◌, length, Option, Some, None, option_map}
+use Rattle.std.specs.Prelude.{ℕ, ◌-◌, ◌^◌, ℤ, pos, neg_ℤ, ◌≤ℤ◌, Bool, ◌&&◌, if◌then◌else◌, List, [], ◌∷◌, length, Option, Some, None, option_map}
 use Rattle.std.specs.Int.RustNames.{unsigned_abs}
 use Rattle.std.specs.Int.Signed.{le_z}
 use Rattle.std.specs.Option.{option_or}
@@ -57,3 +57,13 @@ value_of word = numeral_value (numeral_of word)
 abbrev pub raw_of : List (List ℕ) → RawRow
 raw_of (object ∷ time ∷ x ∷ y ∷ []) = record { object = unsigned_abs (value_of object); time = value_of time; x = value_of x; y = value_of y }
 raw_of fields = record { object = 0; time = pos 0; x = pos 0; y = pos 0 }
+
+-- a time or a coordinate is at most 2^40 away from 0
+abbrev pub IsPlace : ℤ → Type 0
+IsPlace value = (neg_ℤ (pos (2 ^ 40)) ≤ℤ value) × (value ≤ℤ pos (2 ^ 40))
+
+-- a row as it may be read
+pub record IsRawInRange (row : RawRow) : Type 0 where
+  pub time : IsPlace row.time
+  pub x : IsPlace row.x
+  pub y : IsPlace row.y

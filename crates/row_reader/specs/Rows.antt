@@ -1,41 +1,62 @@
 -- What a file is as rows.
-use Rattle.std.specs.Prelude.{◌≡◌, ℕ, List, map, Option, Some, option_map, slice_get}
+use Rattle.std.specs.Prelude.{◌≡◌, ◌+◌, ℕ, Bool, not, ◌==◌, ◌&&◌, nat_lt, if◌then◌else◌, List, [], ◌∷◌, map, filter, codes, Option, Some, None, option_map, slice_get}
 use Rattle.std.specs.List.{enumerate_from, filter_map}
+use Rattle.std.specs.Cmp.Lexicographic.{pointwise}
+use Rattle.std.specs.Str.{bytes_eq}
 use Rattle.track_types.specs.declared.raw_row.RawRow.{RawRow}
+use Rattle.track_types.specs.declared.raw_row.RowFault.{RowFault}
 use Rattle.csv.specs.Reading.{default_config, records, strip_bom}
 use Rattle.row_reader.specs.Row.{raw_of, record_fault}
 use Rattle.row_reader.specs.declared.fault.RowsFault.{RowsFault}
-use Rattle.row_reader.specs.declared.fault.RowsFault.TheVariants.{Row, Memory}
+use Rattle.row_reader.specs.declared.fault.RowsFault.TheVariants.{Row, Limit, Memory}
 
 -- the records of a file behind one byte order mark, each a list of fields
 abbrev pub records_of : List ℕ → List (List (List ℕ))
 records_of bytes = records default_config (strip_bom bytes)
 
+-- the fields are those of a heading
+abbrev pub is_heading : List (List ℕ) → Bool
+is_heading fields = pointwise bytes_eq fields (codes "object" ∷ codes "instant" ∷ codes "x" ∷ codes "y" ∷ [])
+
+-- a numbered record is data, unless it is the first and a heading
+abbrev pub is_data : ℕ → List (List ℕ) → Bool
+is_data nth fields = not ((nth == 1) && is_heading fields)
+
 -- the data records among records, with their numbers from 1
 abbrev pub data_among : List (List (List ℕ)) → List (ℕ × List (List ℕ))
-data_among all = enumerate_from 1 all
+data_among all = filter (λ numbered. is_data numbered.0 numbered.1) (enumerate_from 1 all)
 
--- the fault of a numbered record
-abbrev pub numbered_fault : ℕ × List (List ℕ) → Option RowsFault
-numbered_fault (nth, fields) = option_map (λ at. Row nth at.field at.fault) (record_fault fields)
+-- the data records of a file, with their numbers
+abbrev pub data_of : List ℕ → List (ℕ × List (List ℕ))
+data_of bytes = data_among (records_of bytes)
 
--- the faults of records, in order
-abbrev pub faults_among : List (List (List ℕ)) → List RowsFault
-faults_among all = filter_map numbered_fault (data_among all)
+-- how many data records a file may have
+abbrev pub row_limit : ℕ
+row_limit = 16777216
 
--- the first refusal when a file's records are looked at in order
+-- why a data record with so many before it is refused: it is one too many, or else it is no row
+abbrev pub refusal_of : ℕ → ℕ → List (List ℕ) → Option RowsFault
+refusal_of before nth fields =
+    if nat_lt before row_limit then option_map (λ at. Row nth at.field at.fault) (record_fault fields) else Some (Limit (row_limit + 1))
+
+-- the refusals of numbered data records, in order
+abbrev pub refusals_of : List (ℕ × List (List ℕ)) → List RowsFault
+refusals_of numbered = filter_map (λ placed. refusal_of placed.0 placed.1.0 placed.1.1) (enumerate_from 0 numbered)
+
+-- the first refusal when a file's data records are looked at in order
 abbrev pub csv_fault : List ℕ → Option RowsFault
-csv_fault bytes = slice_get (faults_among (records_of bytes)) 0
+csv_fault bytes = slice_get (refusals_of (data_of bytes)) 0
 
--- the rows of records
-abbrev pub raws_among : List (List (List ℕ)) → List RawRow
-raws_among all = map (λ numbered. raw_of numbered.1) (data_among all)
+-- the rows that numbered records are
+abbrev pub rows_of : List (ℕ × List (List ℕ)) → List RawRow
+rows_of = map (λ numbered. raw_of numbered.1)
 
 -- the rows of a file
 abbrev pub raws_of : List ℕ → List RawRow
-raws_of bytes = raws_among (records_of bytes)
+raws_of bytes = rows_of (data_of bytes)
 
 -- a fault that a file may be answered: its own, and want of memory whatever it holds
 abbrev pub IsFaultOf : List ℕ → RowsFault → Type 0
 IsFaultOf bytes Memory = Unit {0}
 IsFaultOf bytes (Row nth field fault) = csv_fault bytes ≡ Some (Row nth field fault)
+IsFaultOf bytes (Limit value) = csv_fault bytes ≡ Some (Limit value)

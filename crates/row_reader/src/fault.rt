@@ -14,6 +14,11 @@ pub enum RowsFault {
         field: u32,
         fault: RowFault,
     },
+    /// The file has more data records than 2^24. `value` is 2^24 + 1, the number of the first that is
+    /// one too many, whatever follows it.
+    Limit {
+        value: u64,
+    },
     /// Memory was refused. It may be answered to any file.
     Memory,
 }

@@ -5,6 +5,8 @@
 #![tactic(auto)]
 
 mod fault;
+mod field;
+mod heading;
 mod row;
 mod rows;
 #[cfg(test)]

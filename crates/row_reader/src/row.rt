@@ -1,7 +1,10 @@
-ghost use Rattle.std.specs.Prelude.{◌≡◌, ◌≢◌, ◌+◌, ◌-◌, ◌*◌, ◌^◌, ◌<◌, ◌≤◌, [], length, pos, neg_ℤ, ◌≤ℤ◌, Some, None, IfOk, IfErr, slice_index_or};
+ghost use Rattle.std.specs.Prelude.{◌≡◌, ◌≢◌, ◌+◌, ◌-◌, ◌*◌, ◌^◌, ◌<◌, ◌≤◌, [], length, pos, neg_ℤ, ◌≤ℤ◌, Some, None, IfOk, IfErr, OnOk, slice_index_or};
 ghost use Rattle.csv.specs.Records.{fields_of};
-ghost use Rattle.row_reader.specs.Row.{field_fault, raw_of, record_fault, value_of};
+ghost use Rattle.row_reader.specs.Row.{IsRawInRange, field_fault, raw_of, record_fault, value_of};
+ghost use Rattle.row_reader.specs.Rows.{refusal_of};
 
+use crate::fault::RowsFault;
+use crate::field::field_in;
 use csv::ByteRecord;
 use track_types::{Numeral, RawRow, RowFault, number};
 
@@ -14,18 +17,42 @@ const MAX_OBJECT: i64 = 4_294_967_295;
 // How far from 0 a time and a coordinate may be, 2^40.
 const MAX_PLACE: i64 = 1_099_511_627_776;
 
+// How many data records a file may have, 2^24.
+const MAX_ROWS: usize = 16_777_216;
+
 // Why a record is no row, and at which of its fields, counted from 1.
 #[derive(Clone, Copy)]
-pub struct FieldFault {
-    pub field: u32,
-    pub fault: RowFault,
+struct FieldFault {
+    field: u32,
+    fault: RowFault,
 }
 
-/// Reads a record as a row: the number of its fields is judged first, then each from the left.
-pub fn read_row(fields: &ByteRecord) -> Result<RawRow, FieldFault>
+/// Reads the data record `nth` as a row, behind `count` others.
+pub fn read_data(fields: &ByteRecord, nth: u64, count: usize) -> Result<RawRow, RowsFault>
+    requires { length (fields_of fields.now) < 2 ^ 32 }
+    ensures ok { let all = fields_of fields.now in
+        IfOk result (λ row. (refusal_of count nth all ≡ None) × (row ≡ raw_of all)) }
+    ensures within { OnOk result (count < 2 ^ 24) }
+    ensures ranges { IfOk result IsRawInRange }
+    ensures err { IfErr result (λ fault. refusal_of count nth (fields_of fields.now) ≡ Some fault) }
+{
+    if count >= MAX_ROWS {
+        return Err(RowsFault::Limit {
+            value: MAX_ROWS as u64 + 1,
+        });
+    }
+    match read_row(fields) {
+        Ok(row) => Ok(row),
+        Err(FieldFault { field, fault }) => Err(RowsFault::Row { nth, field, fault }),
+    }
+}
+
+// Reads a record as a row: the number of its fields is judged first, then each from the left.
+fn read_row(fields: &ByteRecord) -> Result<RawRow, FieldFault>
     requires { length (fields_of fields.now) < 2 ^ 32 }
     ensures ok { let all = fields_of fields.now in
         IfOk result (λ row. (record_fault all ≡ None) × (row ≡ raw_of all)) }
+    ensures ranges { IfOk result IsRawInRange }
     ensures err { IfErr result (λ fault. record_fault (fields_of fields.now) ≡ Some fault) }
 {
     if fields.len() != FIELDS {
@@ -57,7 +84,7 @@ fn read_field(fields: &ByteRecord, field: u32, least: i64, greatest: i64) -> Res
         IfErr result (λ at.
         (at.field ≡ field) × (field_fault least greatest word ≡ Some at.fault)) }
 {
-    let word = fields.get(field as usize - 1).unwrap();
+    let word = field_in(fields, field as usize - 1);
     read_value(word, least, greatest).map_err(|fault| FieldFault { field, fault })
 }
 

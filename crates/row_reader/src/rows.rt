@@ -1,10 +1,12 @@
-ghost use Rattle.std.specs.Prelude.{◌≡◌, ◌+◌, ◌^◌, ◌≤◌, ℕ, List, [], ◌∷◌, ◌++◌, length, None, IfOk, IfErr};
+ghost use Rattle.std.specs.Prelude.{◌≡◌, ◌+◌, ◌^◌, ◌≤◌, ℕ, List, [], ◌∷◌, ◌++◌, length, None, IfOk, IfErr, All, vec_len};
 ghost use Rattle.csv.specs.Records.{fields_of};
 ghost use Rattle.row_reader.specs.Reading.{HasRead, ShowsNext};
+ghost use Rattle.row_reader.specs.Row.{IsRawInRange};
 ghost use Rattle.row_reader.specs.Rows.{IsFaultOf, csv_fault, raws_of, records_of};
 
 use crate::fault::RowsFault;
-use crate::row::{FieldFault, read_row};
+use crate::heading::is_data_record;
+use crate::row::read_data;
 use csv::{ByteRecord, Reader, ReaderBuilder};
 use std::alloc::Global;
 use track_types::RawRow;
@@ -13,14 +15,19 @@ use track_types::RawRow;
 /// at in order.
 ///
 /// One byte order mark at the front is dropped. Fields are parted by commas and may stand in double
-/// quotes, lines end with LF, CR or both, blank lines are no records, and nothing is trimmed. Each
-/// record is a row of four numerals: the object, 0 to 2^32 - 1, and the time, x and y, each -2^40 to
-/// 2^40. A record that has not four fields is refused as `Count`, whatever they are; else the first
-/// field from the left that is no numeral is refused as `NotNumber`, or as `Range` where its value is
-/// out of its range. `Memory` may be answered to any file.
+/// quotes, lines end with LF, CR or both, blank lines are no records, and nothing is trimmed. A first
+/// record `object,instant,x,y` is a heading. Each other record is a row of four numerals: the object,
+/// 0 to 2^32 - 1, and the time, x and y, each -2^40 to 2^40.
+///
+/// `Limit` comes at the row that is one more than 2^24, whatever it is. A record that has not four
+/// fields is refused as `Count`, whatever they are; else the first field from the left that is no
+/// numeral is refused as `NotNumber`, or as `Range` where its value is out of its range. `Memory` may
+/// be answered to any file.
 pub fn read_rows(alloc: Global, bytes: &[u8]) -> Result<Vec<RawRow>, RowsFault>
     requires { length bytes.now ≤ 2 ^ 29 }
     ensures ok { IfOk result (λ rows. (csv_fault bytes.now ≡ None) × (rows.items ≡ raws_of bytes.now)) }
+    ensures few { IfOk result (λ rows. vec_len rows ≤ 2 ^ 24) }
+    ensures ranges { IfOk result (λ rows. All IsRawInRange rows.items) }
     ensures fault { IfErr result (IsFaultOf bytes.now) }
 {
     let mut reader = ReaderBuilder::new()
@@ -33,10 +40,11 @@ pub fn read_rows(alloc: Global, bytes: &[u8]) -> Result<Vec<RawRow>, RowsFault>
         if !read_next(&mut reader, &mut fields)? {
             return Ok(rows);
         }
-        match read_row(&fields) {
-            Ok(row) => rows.push(row)?,
-            Err(FieldFault { field, fault }) => return Err(RowsFault::Row { nth, field, fault }),
+        if !is_data_record(nth, &fields) {
+            continue;
         }
+        let row = read_data(&fields, nth, rows.len())?;
+        rows.push(row)?;
     }
     // No file has so many records.
     Err(RowsFault::Memory)

@@ -27,7 +27,13 @@ fn rows_come_in_file_order(rt: HostRuntime) -> Result<(), Fail> {
 
 #[test]
 fn a_file_may_have_no_row(rt: HostRuntime) -> Result<(), Fail> {
-    for file in ["", "\u{feff}", "\n\r\n\r\r"] {
+    for file in [
+        "",
+        "\u{feff}",
+        "\n\r\n\r\r",
+        "object,instant,x,y\n",
+        "\u{feff}\nobject,\"instant\",x,y",
+    ] {
         assert!(rt; file.len() < 100);
         let rows = read_rows(rt.alloc(), file.as_bytes())?;
         assert!(rt; rows.is_empty(), "{file:?}");

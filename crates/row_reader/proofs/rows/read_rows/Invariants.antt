@@ -1,6 +1,7 @@
-use Rattle.std.proofs.Common.{◌≡◌, ◌+◌, List, ℕ, [], length}
+use Rattle.std.proofs.Common.{◌≡◌, ◌+◌, ◌^◌, ◌≤◌, List, ℕ, [], length, All, vec_len}
 use Rattle.row_reader.specs.Reading.{HasRead}
-use Rattle.row_reader.specs.Rows.{faults_among, raws_among}
+use Rattle.row_reader.specs.Row.{IsRawInRange}
+use Rattle.row_reader.specs.Rows.{data_among, refusals_of, rows_of}
 use Rattle.row_reader.proofs.rows.read_rows.Given as goal
 
 abbrev pub invariant-loop-nth : goal.invariant-loop-nth
@@ -8,6 +9,8 @@ invariant-loop-nth l = record {
   seen : List (List (List ℕ));
   has_read : HasRead l.fn.bytes seen l.reader;
   number : l.nth ≡ length seen + 1;
-  faultless : faults_among seen ≡ [];
-  rows : l.rows.items ≡ raws_among seen;
+  accepted : refusals_of (data_among seen) ≡ [];
+  rows : l.rows.items ≡ rows_of (data_among seen);
+  few : vec_len l.rows ≤ 2 ^ 24;
+  ranges : All IsRawInRange l.rows.items;
 }
