@@ -1,11 +1,13 @@
 -- The definitions, run on files that were worked out by hand.
-use Rattle.std.proofs.Common.{◌≡◌, ℕ, List, ◌∷◌, [], Some, None, codes, pos, neg_ℤ, refl}
+use Rattle.std.proofs.Common.{◌≡◌, ℕ, ◌∷◌, [], Some, None, codes, pos, neg_ℤ, refl}
 use Rattle.csv.proofs.OnLiterals.{csv_on_literals}
 use Rattle.track_types.specs.declared.raw_row.RowFault.TheVariants.{Count, NotNumber, Range}
+use Rattle.row_reader.specs.Row.{Fields}
 use Rattle.row_reader.specs.Rows.{csv_fault, raws_of, records_of, refusal_of}
 use Rattle.row_reader.specs.declared.fault.RowsFault.TheVariants.{Row, Limit}
 
-two_records : records_of (codes "7,0,x,1\r\n\n\"8\"\n") ≡ (codes "7" ∷ codes "0" ∷ codes "x" ∷ codes "1" ∷ []) ∷ (codes "8" ∷ []) ∷ []
+two_records : records_of (codes "7,0,x,1\r\n\n\"8\"\n")
+    ≡ (codes "7" ∷ codes "0" ∷ codes "x" ∷ codes "1" ∷ []) ∷ (codes "8" ∷ []) ∷ []
 unfolding csv_on_literals
 two_records = refl
 
@@ -37,7 +39,7 @@ heading_alone : raws_of (codes "object,\"instant\",x,y") ≡ []
 unfolding csv_on_literals
 heading_alone = refl
 
-one_too_many : (nth : ℕ) (fields : List (List ℕ)) → refusal_of 16777216 nth fields ≡ Some (Limit 16777217)
+one_too_many : (nth : ℕ) (fields : Fields) → refusal_of 16777216 nth fields ≡ Some (Limit 16777217)
 one_too_many nth fields = refl
 
 one_row : raws_of (codes "7,\" -3\t\",+01,2\n") ≡ record { object = 7; time = neg_ℤ (pos 3); x = pos 1; y = pos 2 } ∷ []

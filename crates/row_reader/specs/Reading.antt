@@ -6,25 +6,31 @@ use Rattle.csv.specs.declared.parser.State.{State}
 use Rattle.csv.specs.declared.parser.State.TheVariants as st
 use Rattle.csv.specs.declared.reader.Reader.{Reader}
 use Rattle.csv.specs.declared.reader.Trim.TheVariants as trim
+use Rattle.row_reader.specs.Row.{Fields}
 use Rattle.row_reader.specs.Rows.{records_of}
 
 -- so many records are all that a text has from a state
 abbrev pub IsEnough : ℕ → State → List ℕ → Type 0
 IsEnough count state text = (length text < count) ⊎ ((state ≡ st.StartRecord) × (text ≡ []))
 
--- a reader of a file has given its first records, and goes on to give the others
-pub record HasRead (bytes : List ℕ) (seen : List (List (List ℕ))) (reader : Reader (Bor (List ℕ))) : Type 0 where
-  pub left : List ℕ
+-- the records of a file behind those that were seen are the records of this text from this state
+pub record IsBehind (bytes : List ℕ) (seen : List Fields) (state : State) (text : List ℕ) : Type 0 where
   pub count : ℕ
+  pub enough : IsEnough count state text
+  pub whole : records_of bytes ≡ seen ++ records_from default_config count state text
+  pub within : length text ≤ length bytes
+
+-- a reader of a file has given these records, and goes on to give the others
+pub record HasRead (bytes : List ℕ) (seen : List Fields) (reader : Reader (Bor (List ℕ))) : Type 0 where
+  pub text : List ℕ
   pub untrimmed : reader_trim reader ≡ trim.None
   pub ready : Ready reader
   pub plain : reader_config reader ≡ default_config
-  pub source : source_of (λ s. Some s.now) reader ≡ Some left
-  pub within : length left ≤ length bytes
-  pub enough : IsEnough count (reader_state reader) left
-  pub whole : records_of bytes ≡ seen ++ records_from default_config count (reader_state reader) left
+  pub source : source_of (λ s. Some s.now) reader ≡ Some text
+  pub behind : IsBehind bytes seen (reader_state reader) text
 
 -- what a further read shows: one record more, or that the file has no other
-abbrev pub ShowsNext : List ℕ → List (List (List ℕ)) → List (List ℕ) → Reader (Bor (List ℕ)) → Bool → Type 0
-ShowsNext bytes seen fields reader true = HasRead bytes (seen ++ (fields ∷ [])) reader × (length fields ≤ length bytes + 1)
+abbrev pub ShowsNext : List ℕ → List Fields → Fields → Reader (Bor (List ℕ)) → Bool → Type 0
+ShowsNext bytes seen fields reader true =
+    HasRead bytes (seen ++ (fields ∷ [])) reader × (length fields ≤ length bytes + 1)
 ShowsNext bytes seen fields reader false = records_of bytes ≡ seen

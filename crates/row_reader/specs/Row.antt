@@ -11,6 +11,10 @@ use Rattle.track_types.specs.declared.raw_row.RowFault.{RowFault}
 use Rattle.track_types.specs.declared.raw_row.RowFault.TheVariants.{Count, NotNumber, Range}
 use Rattle.row_reader.specs.declared.row.FieldFault.{FieldFault}
 
+-- the fields of a record, each its bytes
+abbrev pub Fields : Type 0
+Fields = List (List ℕ)
+
 -- a value is at least the one and at most the other
 abbrev pub is_within : ℤ → ℤ → ℤ → Bool
 is_within least greatest value = le_z least value && le_z value greatest
@@ -38,9 +42,10 @@ abbrev pub fault_at : ℕ → Option RowFault → Option FieldFault
 fault_at field = option_map (λ fault. record { field = field; fault = fault })
 
 -- why a record is no row: it has not four fields, or else the first of them that is at fault
-abbrev pub record_fault : List (List ℕ) → Option FieldFault
+abbrev pub record_fault : Fields → Option FieldFault
 record_fault (object ∷ time ∷ x ∷ y ∷ []) =
-    option_or (fault_at 1 (object_fault object)) (option_or (fault_at 2 (place_fault time)) (option_or (fault_at 3 (place_fault x)) (fault_at 4 (place_fault y))))
+    option_or (fault_at 1 (object_fault object))
+    (option_or (fault_at 2 (place_fault time)) (option_or (fault_at 3 (place_fault x)) (fault_at 4 (place_fault y))))
 record_fault fields = Some (record { field = length fields; fault = Count })
 
 -- the value of a numeral, and 0 for any other
@@ -54,8 +59,9 @@ abbrev pub value_of : List ℕ → ℤ
 value_of word = numeral_value (numeral_of word)
 
 -- the row that a record without a fault is
-abbrev pub raw_of : List (List ℕ) → RawRow
-raw_of (object ∷ time ∷ x ∷ y ∷ []) = record { object = unsigned_abs (value_of object); time = value_of time; x = value_of x; y = value_of y }
+abbrev pub raw_of : Fields → RawRow
+raw_of (object ∷ time ∷ x ∷ y ∷ []) =
+    record { object = unsigned_abs (value_of object); time = value_of time; x = value_of x; y = value_of y }
 raw_of fields = record { object = 0; time = pos 0; x = pos 0; y = pos 0 }
 
 -- a time or a coordinate is at most 2^40 away from 0

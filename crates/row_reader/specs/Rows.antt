@@ -1,33 +1,32 @@
 -- What a file is as rows.
-use Rattle.std.specs.Prelude.{◌≡◌, ◌+◌, ℕ, Bool, not, ◌==◌, ◌&&◌, nat_lt, if◌then◌else◌, List, [], ◌∷◌, map, filter, codes, Option, Some, None, option_map, slice_get}
+use Rattle.std.specs.Prelude.{◌≡◌, ◌+◌, ℕ, Bool, not, ◌==◌, ◌&&◌, nat_lt, if◌then◌else◌, List, [], ◌∷◌, map, filter, codes, Option, Some, option_map, slice_get}
 use Rattle.std.specs.List.{enumerate_from, filter_map}
 use Rattle.std.specs.Cmp.Lexicographic.{pointwise}
 use Rattle.std.specs.Str.{bytes_eq}
 use Rattle.track_types.specs.declared.raw_row.RawRow.{RawRow}
-use Rattle.track_types.specs.declared.raw_row.RowFault.{RowFault}
 use Rattle.csv.specs.Reading.{default_config, records, strip_bom}
-use Rattle.row_reader.specs.Row.{raw_of, record_fault}
+use Rattle.row_reader.specs.Row.{Fields, raw_of, record_fault}
 use Rattle.row_reader.specs.declared.fault.RowsFault.{RowsFault}
 use Rattle.row_reader.specs.declared.fault.RowsFault.TheVariants.{Row, Limit, Memory}
 
 -- the records of a file behind one byte order mark, each a list of fields
-abbrev pub records_of : List ℕ → List (List (List ℕ))
+abbrev pub records_of : List ℕ → List Fields
 records_of bytes = records default_config (strip_bom bytes)
 
 -- the fields are those of a heading
-abbrev pub is_heading : List (List ℕ) → Bool
+abbrev pub is_heading : Fields → Bool
 is_heading fields = pointwise bytes_eq fields (codes "object" ∷ codes "instant" ∷ codes "x" ∷ codes "y" ∷ [])
 
 -- a numbered record is data, unless it is the first and a heading
-abbrev pub is_data : ℕ → List (List ℕ) → Bool
+abbrev pub is_data : ℕ → Fields → Bool
 is_data nth fields = not ((nth == 1) && is_heading fields)
 
 -- the data records among records, with their numbers from 1
-abbrev pub data_among : List (List (List ℕ)) → List (ℕ × List (List ℕ))
+abbrev pub data_among : List Fields → List (ℕ × Fields)
 data_among all = filter (λ numbered. is_data numbered.0 numbered.1) (enumerate_from 1 all)
 
 -- the data records of a file, with their numbers
-abbrev pub data_of : List ℕ → List (ℕ × List (List ℕ))
+abbrev pub data_of : List ℕ → List (ℕ × Fields)
 data_of bytes = data_among (records_of bytes)
 
 -- how many data records a file may have
@@ -35,12 +34,13 @@ abbrev pub row_limit : ℕ
 row_limit = 16777216
 
 -- why a data record with so many before it is refused: it is one too many, or else it is no row
-abbrev pub refusal_of : ℕ → ℕ → List (List ℕ) → Option RowsFault
+abbrev pub refusal_of : ℕ → ℕ → Fields → Option RowsFault
 refusal_of before nth fields =
-    if nat_lt before row_limit then option_map (λ at. Row nth at.field at.fault) (record_fault fields) else Some (Limit (row_limit + 1))
+    if nat_lt before row_limit then option_map (λ at. Row nth at.field at.fault) (record_fault fields)
+    else Some (Limit (row_limit + 1))
 
 -- the refusals of numbered data records, in order
-abbrev pub refusals_of : List (ℕ × List (List ℕ)) → List RowsFault
+abbrev pub refusals_of : List (ℕ × Fields) → List RowsFault
 refusals_of numbered = filter_map (λ placed. refusal_of placed.0 placed.1.0 placed.1.1) (enumerate_from 0 numbered)
 
 -- the first refusal when a file's data records are looked at in order
@@ -48,7 +48,7 @@ abbrev pub csv_fault : List ℕ → Option RowsFault
 csv_fault bytes = slice_get (refusals_of (data_of bytes)) 0
 
 -- the rows that numbered records are
-abbrev pub rows_of : List (ℕ × List (List ℕ)) → List RawRow
+abbrev pub rows_of : List (ℕ × Fields) → List RawRow
 rows_of = map (λ numbered. raw_of numbered.1)
 
 -- the rows of a file

@@ -14,8 +14,7 @@ pub enum RowsFault {
         field: u32,
         fault: RowFault,
     },
-    /// The file has more data records than 2^24. `value` is 2^24 + 1, the number of the first that is
-    /// one too many, whatever follows it.
+    /// The file has more data records than 2^24. `value` is 2^24 + 1.
     Limit {
         value: u64,
     },

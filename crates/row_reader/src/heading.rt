@@ -3,7 +3,7 @@ ghost use Rattle.std.specs.Str.{bytes_eq};
 ghost use Rattle.csv.specs.Records.{fields_of};
 ghost use Rattle.row_reader.specs.Rows.{is_data, is_heading};
 
-use crate::field::field_in;
+use crate::field::{FIELDS, field_in};
 use csv::ByteRecord;
 
 /// Whether a record is data: it is not the first one, or no heading.
@@ -16,7 +16,7 @@ pub fn is_data_record(nth: u64, fields: &ByteRecord) -> bool
 fn has_heading(fields: &ByteRecord) -> bool
     ensures { result ≡ is_heading (fields_of fields.now) }
 {
-    fields.len() == 4
+    fields.len() == FIELDS
         && is_named(fields, 0, b"object")
         && is_named(fields, 1, b"instant")
         && is_named(fields, 2, b"x")

@@ -4,12 +4,9 @@ ghost use Rattle.row_reader.specs.Row.{IsRawInRange, field_fault, raw_of, record
 ghost use Rattle.row_reader.specs.Rows.{refusal_of};
 
 use crate::fault::RowsFault;
-use crate::field::field_in;
+use crate::field::{FIELDS, field_in};
 use csv::ByteRecord;
 use track_types::{Numeral, RawRow, RowFault, number};
-
-// How many fields a row has.
-const FIELDS: usize = 4;
 
 // The greatest object, 2^32 - 1.
 const MAX_OBJECT: i64 = 4_294_967_295;
@@ -41,10 +38,7 @@ pub fn read_data(fields: &ByteRecord, nth: u64, count: usize) -> Result<RawRow, 
             value: MAX_ROWS as u64 + 1,
         });
     }
-    match read_row(fields) {
-        Ok(row) => Ok(row),
-        Err(FieldFault { field, fault }) => Err(RowsFault::Row { nth, field, fault }),
-    }
+    read_row(fields).map_err(|FieldFault { field, fault }| RowsFault::Row { nth, field, fault })
 }
 
 // Reads a record as a row: the number of its fields is judged first, then each from the left.

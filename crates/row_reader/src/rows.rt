@@ -1,7 +1,7 @@
 ghost use Rattle.std.specs.Prelude.{◌≡◌, ◌+◌, ◌^◌, ◌≤◌, ℕ, List, [], ◌∷◌, ◌++◌, length, None, IfOk, IfErr, All, vec_len};
 ghost use Rattle.csv.specs.Records.{fields_of};
 ghost use Rattle.row_reader.specs.Reading.{HasRead, ShowsNext};
-ghost use Rattle.row_reader.specs.Row.{IsRawInRange};
+ghost use Rattle.row_reader.specs.Row.{Fields, IsRawInRange};
 ghost use Rattle.row_reader.specs.Rows.{IsFaultOf, csv_fault, raws_of, records_of};
 
 use crate::fault::RowsFault;
@@ -11,21 +11,22 @@ use csv::{ByteRecord, Reader, ReaderBuilder};
 use std::alloc::Global;
 use track_types::RawRow;
 
-/// Reads the rows of a CSV file in file order, or tells the first refusal when its records are looked
-/// at in order.
+/// Reads the rows of a CSV file in file order, or tells the first refusal when its records are
+/// looked at in order.
 ///
 /// One byte order mark at the front is dropped. Fields are parted by commas and may stand in double
-/// quotes, lines end with LF, CR or both, blank lines are no records, and nothing is trimmed. A first
-/// record `object,instant,x,y` is a heading. Each other record is a row of four numerals: the object,
-/// 0 to 2^32 - 1, and the time, x and y, each -2^40 to 2^40.
+/// quotes, lines end with LF, CR or both, blank lines are no records, and nothing is trimmed. A
+/// first record `object,instant,x,y` is a heading. Each other record is a row of four numerals: the
+/// object, 0 to 2^32 - 1, and the time, x and y, each -2^40 to 2^40.
 ///
 /// `Limit` comes at the row that is one more than 2^24, whatever it is. A record that has not four
 /// fields is refused as `Count`, whatever they are; else the first field from the left that is no
-/// numeral is refused as `NotNumber`, or as `Range` where its value is out of its range. `Memory` may
-/// be answered to any file.
+/// numeral is refused as `NotNumber`, or as `Range` where its value is out of its range. `Memory`
+/// may be answered to any file.
 pub fn read_rows(alloc: Global, bytes: &[u8]) -> Result<Vec<RawRow>, RowsFault>
     requires { length bytes.now ≤ 2 ^ 29 }
-    ensures ok { IfOk result (λ rows. (csv_fault bytes.now ≡ None) × (rows.items ≡ raws_of bytes.now)) }
+    ensures ok { IfOk result (λ rows.
+        (csv_fault bytes.now ≡ None) × (rows.items ≡ raws_of bytes.now)) }
     ensures few { IfOk result (λ rows. vec_len rows ≤ 2 ^ 24) }
     ensures ranges { IfOk result (λ rows. All IsRawInRange rows.items) }
     ensures fault { IfErr result (IsFaultOf bytes.now) }
@@ -52,12 +53,12 @@ pub fn read_rows(alloc: Global, bytes: &[u8]) -> Result<Vec<RawRow>, RowsFault>
 
 // Reads the next record, where there is one.
 fn read_next(reader: &mut Reader<&[u8]>, fields: &mut ByteRecord) -> Result<bool, RowsFault>
-    ensures found { (bytes : List ℕ) (seen : List (List (List ℕ))) → HasRead bytes seen reader.old →
+    ensures found { (bytes : List ℕ) (seen : List Fields) → HasRead bytes seen reader.old →
         IfOk result (ShowsNext bytes seen (fields_of fields.new) reader.new) }
     ensures err { IfErr result (λ fault. fault ≡ RowsFault.Memory) }
 {
-    // Records of any length and any bytes are taken, so what csv refuses is want of memory. Its contract
-    // leaves one more error open, that the slice underneath cannot be read, and it is answered alike.
+    // Records of any length and any bytes are taken, so what csv refuses is want of memory. Its
+    // contract leaves one more error open, that the slice cannot be read, and it is answered alike.
     reader
         .read_byte_record(fields)
         .map_err(|_error| RowsFault::Memory)

@@ -1,4 +1,4 @@
-use Rattle.std.proofs.Common.{◌≡◌, ◌∙◌, get_or, []}
+use Rattle.std.proofs.Common.{◌∙◌, get_or, []}
 use Rattle.csv.specs.Records.{fields_of}
 use Rattle.row_reader.proofs.FieldLemmas.{IsSome-option_map, field_at-below}
 use Rattle.row_reader.proofs.field.field_in.Goals as goal

@@ -1,12 +1,12 @@
-use Rattle.std.proofs.Common.{◌≡◌, ◌+◌, ◌^◌, ◌≤◌, List, ℕ, [], length, All, vec_len}
+use Rattle.std.proofs.Common.{◌≡◌, ◌+◌, ◌^◌, ◌≤◌, List, [], length, All, vec_len}
 use Rattle.row_reader.specs.Reading.{HasRead}
-use Rattle.row_reader.specs.Row.{IsRawInRange}
+use Rattle.row_reader.specs.Row.{Fields, IsRawInRange}
 use Rattle.row_reader.specs.Rows.{data_among, refusals_of, rows_of}
 use Rattle.row_reader.proofs.rows.read_rows.Given as goal
 
 abbrev pub invariant-loop-nth : goal.invariant-loop-nth
 invariant-loop-nth l = record {
-  seen : List (List (List ℕ));
+  seen : List Fields;
   has_read : HasRead l.fn.bytes seen l.reader;
   number : l.nth ≡ length seen + 1;
   accepted : refusals_of (data_among seen) ≡ [];
