@@ -5,16 +5,20 @@
 #![tactic(auto)]
 
 mod cell;
+mod chart;
 mod limit;
 mod memory;
 mod numeral;
 mod raw_row;
+mod row;
 
 #[cfg(test)]
 mod tests;
 
 pub use cell::Cell;
-pub use limit::LimitKind;
+pub use chart::Chart;
+pub use limit::{LimitKind, MAX_EXTENT, MAX_HEIGHT};
 pub use memory::Memory;
 pub use numeral::{Numeral, number};
 pub use raw_row::{RawRow, RowFault};
+pub use row::Row;

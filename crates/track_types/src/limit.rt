@@ -1,3 +1,9 @@
+/// The greatest extent: cells from the least to the greatest of an axis, both counted.
+pub const MAX_EXTENT: u64 = 1_048_576;
+
+/// The greatest height of a tree over cells, whose grid has a side of 2^height cells.
+pub const MAX_HEIGHT: u32 = 20;
+
 /// A quantity that has a greatest value.
 #[derive(Clone, Copy, Debug, PartialEq, Eq)]
 pub enum LimitKind {
