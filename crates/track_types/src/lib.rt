@@ -11,7 +11,6 @@ mod memory;
 mod numeral;
 mod raw_row;
 mod row;
-
 #[cfg(test)]
 mod tests;
 

@@ -1,0 +1,34 @@
+-- Which quantity of a chart passes its limit.
+use Rattle.std.specs.Prelude.{◌≡◌, ◌≢◌, ℕ, Bool, nat_lt, List, [], ◌∷◌, find, Option, Some, None}
+use Rattle.track_types.specs.Limits.{limit_of}
+use Rattle.track_types.specs.Quantities.{block_count, extent_of, object_count, span_of, symbol_count}
+use Rattle.track_types.specs.declared.limit.LimitKind.{LimitKind}
+use Rattle.track_types.specs.declared.limit.LimitKind.TheVariants.{Objects, Span, Extent, Blocks, Symbols}
+use Rattle.track_types.specs.declared.raw_row.RawRow.{RawRow}
+use Rattle.track_types.specs.declared.row.Row.{Row}
+use Rattle.gridding.specs.ChartOf.{chart_rows}
+use Rattle.gridding.specs.declared.fault.GridFault.{GridFault}
+use Rattle.gridding.specs.declared.fault.GridFault.TheVariants.{Empty, Limit, Memory}
+
+-- the quantities of rows, in the order in which they are judged
+abbrev pub quantities_of : List Row → ℕ → List (LimitKind × ℕ)
+quantities_of rows period =
+    (Objects, object_count rows) ∷ (Span, span_of rows) ∷ (Extent, extent_of rows) ∷ (Blocks, block_count rows period) ∷ (Symbols, symbol_count rows period) ∷ []
+
+-- whether a quantity passes its limit
+abbrev pub is_past : LimitKind × ℕ → Bool
+is_past (kind, value) = nat_lt (limit_of kind) value
+
+-- the first quantity of rows that passes its limit
+abbrev pub first_past : List Row → ℕ → Option (LimitKind × ℕ)
+first_past rows period = find is_past (quantities_of rows period)
+
+-- the first quantity past its limit in the chart of raw rows
+abbrev pub grid_limit : List RawRow → ℕ → ℕ → ℕ → Option (LimitKind × ℕ)
+grid_limit raws cell tick period = first_past (chart_rows raws cell tick) period
+
+-- a fault that raw rows may be answered: their own, and want of memory whatever they are
+abbrev pub IsFaultOf : List RawRow → ℕ → ℕ → ℕ → GridFault → Type 0
+IsFaultOf raws cell tick period Memory = Unit {0}
+IsFaultOf raws cell tick period Empty = raws ≡ []
+IsFaultOf raws cell tick period (Limit kind value) = (raws ≢ []) × (grid_limit raws cell tick period ≡ Some (kind, value))

@@ -1,0 +1,14 @@
+//! Raw rows to a chart: each row's cell and instant by floor division, and of an object's rows in one
+//! instant the last.
+//!
+//! `grid` is exact: it answers the chart of the rows, or that there is no row, or the first quantity
+//! that passes its limit.
+#![tactic(auto)]
+
+mod fault;
+mod gridded;
+#[cfg(test)]
+mod tests;
+
+pub use fault::GridFault;
+pub use gridded::grid;
