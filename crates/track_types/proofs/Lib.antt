@@ -1,2 +1,5 @@
 pub mod Magnitudes
 pub mod QuantityLemmas
+pub mod AscendingLemmas
+pub mod RowLemmas
+mod Examples

@@ -1,5 +1,5 @@
 -- The least and the greatest of numbers, as a loop finds them.
-use Rattle.std.proofs.Common.{◌≡◌, ℕ, ◌<◌, List, [], ◌∷◌, length, get_or, map, refl, sym, ◌∙◌, ap, arith}
+use Rattle.std.proofs.Common.{◌≡◌, ◌<◌, List, [], ◌∷◌, length, get_or, map, sym, arith}
 use Rattle.std.specs.Prelude.{fold, ℤ}
 use Rattle.std.specs.Int.{int_max, int_min}
 use Rattle.std.proofs.lemmas.List.Folds.{fold-map}

@@ -1,5 +1,5 @@
 -- Answers over rows, each by looking at all of them.
-use Rattle.std.specs.Prelude.{ℕ, ℤ, List, Option, option_map, filter, find}
+use Rattle.std.specs.Prelude.{ℕ, ℤ, List, Option, option_map, find}
 use Rattle.track_types.specs.Row.{is_row_of}
 use Rattle.track_types.specs.declared.cell.Cell.{Cell}
 use Rattle.track_types.specs.declared.row.Row.{Row}

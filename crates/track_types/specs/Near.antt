@@ -1,5 +1,5 @@
 -- How far from 0 the times and places of rows may be.
-use Rattle.std.specs.Prelude.{ℕ, ◌^◌, ℤ, pos, neg_ℤ, ◌≤ℤ◌, List}
+use Rattle.std.specs.Prelude.{◌^◌, ℤ, pos, neg_ℤ, ◌≤ℤ◌}
 use Rattle.track_types.specs.declared.raw_row.RawRow.{RawRow}
 use Rattle.track_types.specs.declared.row.Row.{Row}
 

@@ -1,7 +1,7 @@
 -- The order of rows, and the test for a row.
 use Rattle.std.specs.Prelude.{ℕ, ℤ, Bool, ◌&&◌, ◌==◌, List}
 use Rattle.std.specs.List.Sorted.{IsStrictlySortedBy}
-use Rattle.std.specs.Ordering.{int_cmp, int_eq, is_eq, nat_cmp, ordering_then}
+use Rattle.std.specs.Ordering.{int_cmp, int_eq, nat_cmp, ordering_then}
 use Rattle.std.specs.declared.cmp.Ordering.{Ordering}
 use Rattle.track_types.specs.declared.row.Row.{Row}
 
@@ -17,13 +17,13 @@ place_of row = (row.object, row.instant)
 abbrev pub row_order : Row → Row → Ordering
 row_order a b = place_order (place_of a) (place_of b)
 
--- whether two rows are of one object and one instant
-abbrev pub is_same_place : Row → Row → Bool
-is_same_place a b = (a.object == b.object) && int_eq a.instant b.instant
-
 -- whether a row is that of an object and an instant
 abbrev pub is_row_of : ℕ → ℤ → Row → Bool
-is_row_of object instant row = (row.object == object) && int_eq row.instant instant
+is_row_of object instant row = (object == row.object) && int_eq instant row.instant
+
+-- whether two rows are of one object and one instant
+abbrev pub is_same_place : Row → Row → Bool
+is_same_place a b = is_row_of a.object a.instant b
 
 -- rows ascend by object, then by instant, and no pair of these stands twice
 abbrev pub IsAscending : List Row → Type 0

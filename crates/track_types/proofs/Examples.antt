@@ -1,0 +1,57 @@
+-- The definitions, run on rows that were worked out by hand.
+use Rattle.std.proofs.Common.{◌≡◌, ℕ, ℤ, pos, negsuc, List, [], ◌∷◌, Some, None, refl}
+use Rattle.track_types.specs.ByFilter.{cell_at}
+use Rattle.track_types.specs.Quantities.{anchors_of, block_count, distinct, extent_of, first_of, last_of, object_count, objects_of, period_count, span_of, symbol_count}
+use Rattle.track_types.specs.declared.row.Row.{Row}
+
+row : ℕ → ℤ → ℤ → ℤ → Row
+row object instant x y = record { object = object; instant = instant; cell = record { x = x; y = y } }
+
+-- object 1 is absent in the instants 1 and 2, and object 2 comes late
+late : List Row
+unfolding row
+late = row 1 (pos 0) (pos 0) (pos 0) ∷ row 1 (pos 3) (pos 3) (pos 0) ∷ row 2 (pos 3) (pos 1) (pos 1) ∷ []
+
+late_ends : first_of late ∷ last_of late ∷ [] ≡ pos 0 ∷ pos 3 ∷ []
+unfolding late row
+late_ends = refl
+
+late_quantities : span_of late ∷ extent_of late ∷ object_count late ∷ [] ≡ 4 ∷ 4 ∷ 2 ∷ []
+unfolding late row distinct
+late_quantities = refl
+
+late_objects : objects_of late ≡ 1 ∷ 2 ∷ []
+unfolding late row distinct
+late_objects = refl
+
+-- in one period object 1 has three terminals and object 2 none
+late_symbols : period_count late 4 ∷ block_count late 4 ∷ symbol_count late 4 ∷ [] ≡ 1 ∷ 2 ∷ 3 ∷ []
+unfolding late row distinct anchors_of
+late_symbols = refl
+
+-- in periods of three instants the second holds one instant
+late_periods : period_count late 3 ∷ block_count late 3 ∷ symbol_count late 3 ∷ [] ≡ 2 ∷ 4 ∷ 2 ∷ []
+unfolding late row distinct anchors_of
+late_periods = refl
+
+-- with a period for each instant no log has a terminal
+late_instants : period_count late 1 ∷ block_count late 1 ∷ symbol_count late 1 ∷ [] ≡ 4 ∷ 8 ∷ 0 ∷ []
+unfolding late row distinct anchors_of
+late_instants = refl
+
+-- a period ends at its own last instant, also where the span goes on
+around_zero : symbol_count (row 7 (negsuc 1) (pos 0) (pos 0) ∷ row 7 (pos 3) (pos 0) (pos 0) ∷ []) 4 ≡ 3
+unfolding row anchors_of
+around_zero = refl
+
+left_and_below : extent_of (row 7 (pos 0) (negsuc 9) (pos 4) ∷ row 8 (pos 0) (pos 0) (negsuc 20) ∷ []) ≡ 26
+unfolding row
+left_and_below = refl
+
+present : cell_at late 1 (pos 3) ≡ Some (record { x = pos 3; y = pos 0 })
+unfolding late row
+present = refl
+
+absent : cell_at late 1 (pos 2) ∷ cell_at late 3 (pos 3) ∷ [] ≡ None ∷ None ∷ []
+unfolding late row
+absent = refl
