@@ -6,9 +6,11 @@
 #![tactic(auto)]
 
 mod fault;
-mod gridded;
+mod chart_making;
+mod floor;
+mod rows;
 #[cfg(test)]
 mod tests;
 
 pub use fault::GridFault;
-pub use gridded::grid;
+pub use chart_making::grid;
