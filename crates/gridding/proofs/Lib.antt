@@ -1,2 +1,4 @@
 mod KeptLemmas
 mod DedupLemmas
+mod RunLemmas
+mod SymbolLemmas

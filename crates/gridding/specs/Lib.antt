@@ -1,3 +1,5 @@
 pub mod Floor
 pub mod ChartOf
 pub mod GridLimit
+pub mod Axis
+pub mod Block

@@ -7,6 +7,8 @@
 
 mod fault;
 mod chart_making;
+mod counts;
+mod extents;
 mod floor;
 mod rows;
 #[cfg(test)]

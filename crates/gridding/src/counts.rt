@@ -1,0 +1,90 @@
+ghost use Rattle.std.specs.Prelude.{◌≡◌, ◌+◌, ◌-◌, ◌*◌, ◌/◌, ◌^◌, ◌<◌, ◌≤◌, length, min, sum_by};
+ghost use Rattle.std.specs.List.{AllByRecursion};
+ghost use Rattle.gridding.specs.Block.{is_block_of, is_object_of};
+ghost use Rattle.track_types.specs.Limits.{IsPeriod};
+ghost use Rattle.track_types.specs.Quantities.{anchors_of, elapsed, log_length, object_count};
+ghost use Rattle.track_types.specs.Row.{IsAscending};
+
+
+
+use track_types::Row;
+
+/// An object's rows in one period.
+#[derive(Clone, Copy)]
+pub struct Block {
+    pub object: u32,
+    pub period: u64,
+}
+
+/// How many different objects rows in order have.
+pub fn object_count(rows: &[Row]) -> u64
+    requires { IsAscending rows.now }
+    ensures exact { result ≡ object_count rows.now }
+    ensures within { result ≤ length rows.now }
+{
+    let mut count = 0;
+    let mut before = None;
+    for row in rows {
+        if !is_object_of(before, row.object) {
+            count += 1;
+        }
+        before = Some(row.object);
+    }
+    count
+}
+
+fn is_object_of(before: Option<u32>, object: u32) -> bool
+    ensures { result ≡ is_object_of before object }
+{
+    match before {
+        Some(before) => before == object,
+        None => false,
+    }
+}
+
+/// How many terminals the logs of all blocks of rows in order have: one for each instant of a block's
+/// period after the block's first row. Periods begin at `first`, and the last ends where the span does.
+pub fn symbol_count(rows: &[Row], first: i64, span: u64, period: u64) -> u64
+    requires ascending { IsAscending rows.now }
+    requires few { length rows.now ≤ 2 ^ 24 }
+    requires in_span { AllByRecursion (λ row. elapsed first row < span) rows.now }
+    requires span { span ≤ 2 ^ 22 }
+    requires period { IsPeriod period }
+    ensures { result ≡ sum_by (log_length first span period) (anchors_of first period rows.now) }
+{
+    let mut count = 0;
+    let mut before = None;
+    for row in rows {
+        let elapsed = row.instant.abs_diff(first);
+        let block = Block {
+            object: row.object,
+            period: elapsed / period,
+        };
+        if !is_block_of(before, block) {
+            count += log_length(elapsed, span, period);
+        }
+        before = Some(block);
+    }
+    count
+}
+
+// How many instants of its period come after an anchor that so many instants come before.
+fn log_length(elapsed: u64, span: u64, period: u64) -> u64
+    requires in_span { elapsed < span }
+    requires span { span ≤ 2 ^ 22 }
+    requires period { IsPeriod period }
+    ensures exact { result ≡ min ((elapsed / period + 1) * period) span - (elapsed + 1) }
+    ensures within { result ≤ span }
+{
+    let period_end = (elapsed / period + 1) * period;
+    period_end.min(span) - (elapsed + 1)
+}
+
+fn is_block_of(before: Option<Block>, block: Block) -> bool
+    ensures { result ≡ is_block_of before block }
+{
+    match before {
+        Some(before) => before.object == block.object && before.period == block.period,
+        None => false,
+    }
+}
