@@ -63,13 +63,3 @@ abbrev pub raw_of : Fields → RawRow
 raw_of (object ∷ time ∷ x ∷ y ∷ []) =
     record { object = unsigned_abs (value_of object); time = value_of time; x = value_of x; y = value_of y }
 raw_of fields = record { object = 0; time = pos 0; x = pos 0; y = pos 0 }
-
--- a time or a coordinate is at most 2^40 away from 0
-abbrev pub IsPlace : ℤ → Type 0
-IsPlace value = (neg_ℤ (pos (2 ^ 40)) ≤ℤ value) × (value ≤ℤ pos (2 ^ 40))
-
--- a row as it may be read
-pub record IsRawInRange (row : RawRow) : Type 0 where
-  pub time : IsPlace row.time
-  pub x : IsPlace row.x
-  pub y : IsPlace row.y

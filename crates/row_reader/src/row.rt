@@ -1,6 +1,7 @@
 ghost use Rattle.std.specs.Prelude.{◌≡◌, ◌≢◌, ◌+◌, ◌-◌, ◌*◌, ◌^◌, ◌<◌, ◌≤◌, [], length, pos, neg_ℤ, ◌≤ℤ◌, Some, None, IfOk, IfErr, OnOk, slice_index_or};
+ghost use Rattle.track_types.specs.Near.{IsRawInRange};
 ghost use Rattle.csv.specs.Records.{fields_of};
-ghost use Rattle.row_reader.specs.Row.{IsRawInRange, field_fault, raw_of, record_fault, value_of};
+ghost use Rattle.row_reader.specs.Row.{field_fault, raw_of, record_fault, value_of};
 ghost use Rattle.row_reader.specs.Rows.{refusal_of};
 
 use crate::fault::RowsFault;

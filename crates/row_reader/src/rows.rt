@@ -1,7 +1,8 @@
 ghost use Rattle.std.specs.Prelude.{◌≡◌, ◌+◌, ◌^◌, ◌≤◌, ℕ, List, [], ◌∷◌, ◌++◌, length, None, IfOk, IfErr, All, vec_len};
+ghost use Rattle.track_types.specs.Near.{IsRawInRange};
 ghost use Rattle.csv.specs.Records.{fields_of};
 ghost use Rattle.row_reader.specs.Reading.{HasRead, ShowsNext};
-ghost use Rattle.row_reader.specs.Row.{Fields, IsRawInRange};
+ghost use Rattle.row_reader.specs.Row.{Fields};
 ghost use Rattle.row_reader.specs.Rows.{IsFaultOf, csv_fault, raws_of, records_of};
 
 use crate::fault::RowsFault;

@@ -1,9 +1,9 @@
 use Rattle.std.proofs.Common.{rules, ◌≡◌, ◌∙◌, [], ◌∷◌, ◌++◌, length, sym, ap, slice_get, arith, length-append, vec_len}
+use Rattle.track_types.specs.Near.{IsRawInRange}
 use Rattle.csv.specs.Records.{fields_of}
 use Rattle.std.proofs.lemmas.List.{length-map}
 use Rattle.std.proofs.lemmas.List.Elements.{All-append, All-cons, All-nil}
 use Rattle.std.proofs.lemmas.Result.{err_from_is_err_and}
-use Rattle.row_reader.specs.Row.{IsRawInRange}
 use Rattle.row_reader.specs.Rows.{data_among, refusals_of, rows_of}
 use Rattle.row_reader.proofs.ReadingLemmas.{has_read-none}
 use Rattle.row_reader.proofs.RowsLemmas.{IsFaultOf-csv_fault, csv_fault-refusal, data_among-heading, refusals_of-row, rows_of-row}

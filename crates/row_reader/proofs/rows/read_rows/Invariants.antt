@@ -1,6 +1,7 @@
 use Rattle.std.proofs.Common.{◌≡◌, ◌+◌, ◌^◌, ◌≤◌, List, [], length, All, vec_len}
+use Rattle.track_types.specs.Near.{IsRawInRange}
 use Rattle.row_reader.specs.Reading.{HasRead}
-use Rattle.row_reader.specs.Row.{Fields, IsRawInRange}
+use Rattle.row_reader.specs.Row.{Fields}
 use Rattle.row_reader.specs.Rows.{data_among, refusals_of, rows_of}
 use Rattle.row_reader.proofs.rows.read_rows.Given as goal
 
