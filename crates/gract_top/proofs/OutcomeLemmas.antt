@@ -4,10 +4,10 @@ use mathlib.Core.Bool.{false≢true}
 use Rattle.std.specs.Str.{bytes_eq}
 use Rattle.track_types.specs.declared.limit.LimitKind.{LimitKind}
 use Rattle.track_types.specs.declared.limit.LimitKind.TheVariants as limit
-use Rattle.track_types.specs.declared.raw_row.RawRow.{RawRow}
+use Rattle.track_types.specs.declared.row.Row.{Row}
 use Rattle.gract_top.specs.Outcome.{Answered}
 use Rattle.gract_top.specs.Refusal.{IsDecided, is_loading, is_refusal, is_unasked}
-use Rattle.gract_top.specs.Request.{csv_name, first_bad, once_of, once_words, refused_or, request_of, settings_of, texts}
+use Rattle.gract_top.specs.Request.{csv_name, first_bad, once_of, once_words, refused_or, request_of, settings_in, settings_of, texts}
 use Rattle.gract_top.specs.Session.{Talk}
 use Rattle.gract_top.specs.declared.outcome.Outcome.{Outcome}
 use Rattle.gract_top.specs.declared.outcome.Outcome.TheVariants as outcome
@@ -29,7 +29,7 @@ is_unasked-loading outcome.SayFailed loading = loading
 is_unasked-loading outcome.Memory loading = refl
 
 -- and answers nothing
-pub answered_loading : (o : Outcome) → is_loading o ≡ true → (rows : List RawRow) (now : Talk) → Answered o rows now now
+pub answered_loading : (o : Outcome) → is_loading o ≡ true → (rows : List Row) (now : Talk) → Answered o rows now now
 answered_loading outcome.Done loading rows now = absurd (false≢true loading)
 answered_loading (outcome.Words place) loading rows now = refl
 answered_loading outcome.LoadFailed loading rows now = refl
@@ -86,4 +86,16 @@ words_of_form (name ∷ words) settings once = by_name (bytes_eq name.now (codes
 
     by_name : (test : Bool) → request.Once settings ≡ (if test then once_of (texts words) else request.Refused 1) → 1 < length (name ∷ words)
     by_name true same = behind (first_bad once_words (texts words) 2) refl same
+    by_name false same = absurd (cc)
+
+-- their numbers are those of the words
+pub settings_of_form : (words : List (List ℕ)) (settings : Settings) → request.Once settings ≡ request_of words → settings ≡ settings_in words
+settings_of_form [] settings once = absurd (cc)
+settings_of_form (name ∷ words) settings once = by_name (bytes_eq name (codes "once")) once
+  where
+    behind : (bad : Option ℕ) → request.Once settings ≡ refused_or bad (settings_of words) → settings ≡ settings_of words
+    behind None same = cc
+    behind (Some place) same = absurd (cc)
+    by_name : (test : Bool) → request.Once settings ≡ (if test then once_of words else request.Refused 1) → settings ≡ settings_of words
+    by_name true same = behind (first_bad once_words words 2) same
     by_name false same = absurd (cc)

@@ -5,7 +5,7 @@ use Rattle.std.proofs.lemmas.List.{length-take, take_more, take-append-drop, tak
 use Rattle.std.proofs.Math.Seq.{take-append-add}
 use Rattle.std.specs.Io.KnownBytes.{Appends, Consumes, Keeps}
 use Rattle.std.proofs.lemmas.Grind.{flat_map-append}
-use Rattle.track_types.specs.declared.raw_row.RawRow.{RawRow}
+use Rattle.track_types.specs.declared.row.Row.{Row}
 use Rattle.gract_top.specs.Lines.{Parts, parted, is_line_feed, whole_lines, unended_line, lines_of, if_any}
 use Rattle.gract_top.specs.LineKept.{LineKept, kept_of}
 use Rattle.gract_top.specs.Reply.{reply_of, replies_of}
@@ -46,18 +46,18 @@ whole_lines-byte came byte inside = ap (λ (parts : Parts). parts.ended) (parted
 pub unended_line-byte : (came : List ℕ) (byte : ℕ) → is_line_feed byte ≡ false → unended_line (came ++ byte ∷ []) ≡ unended_line came ++ byte ∷ []
 unended_line-byte came byte inside = ap (λ (parts : Parts). parts.left) (parted-byte is_line_feed came byte inside)
 
-pub replies_of-append : (rows : List RawRow) (front back : List (List ℕ)) → replies_of rows (front ++ back) ≡ replies_of rows front ++ replies_of rows back
+pub replies_of-append : (rows : List Row) (front back : List (List ℕ)) → replies_of rows (front ++ back) ≡ replies_of rows front ++ replies_of rows back
 replies_of-append rows front back = flat_map-append (reply_of rows) front back
 
 -- the replies to the whole lines, after a line feed
-pub replies_of-feed : (rows : List RawRow) (came : List ℕ) →
+pub replies_of-feed : (rows : List Row) (came : List ℕ) →
     replies_of rows (whole_lines (came ++ 10 ∷ [])) ≡ replies_of rows (whole_lines came) ++ reply_of rows (unended_line came)
 replies_of-feed rows came =
     ap (replies_of rows) (whole_lines-feed came) ∙ (replies_of-append rows (whole_lines came) (unended_line came ∷ [])
     ∙ ap (λ last. replies_of rows (whole_lines came) ++ last) (append-nil (reply_of rows (unended_line came))))
 
 -- a byte that is no line feed
-pub heard-byte : (rows : List RawRow) (before now : Option (List ℕ)) (came : List ℕ) (byte : ℕ) (line new : LineKept) →
+pub heard-byte : (rows : List Row) (before now : Option (List ℕ)) (came : List ℕ) (byte : ℕ) (line new : LineKept) →
     is_line_feed byte ≡ false → new ≡ kept_of (unended_line came ++ byte ∷ []) →
     Heard rows before now came line → Heard rows before now (came ++ byte ∷ []) new
 heard-byte rows before now came byte line new inside pushed heard = record {
@@ -66,7 +66,7 @@ heard-byte rows before now came byte line new inside pushed heard = record {
 }
 
 -- a line feed, and the reply to the line that it ends
-pub heard-feed : (rows : List RawRow) (before between now : Option (List ℕ)) (came : List ℕ) (line new : LineKept) →
+pub heard-feed : (rows : List Row) (before between now : Option (List ℕ)) (came : List ℕ) (line new : LineKept) →
     Appends between now (reply_of rows (unended_line came)) → new ≡ kept_of [] →
     Heard rows before between came line → Heard rows before now (came ++ 10 ∷ []) new
 heard-feed rows before between now came line new replied cleared heard = record {
@@ -75,7 +75,7 @@ heard-feed rows before between now came line new replied cleared heard = record 
 }
 
 -- a line feed, and the front of the reply
-pub front-feed : (rows : List RawRow) (before between now : Option (List ℕ)) (came : List ℕ) (line : LineKept) →
+pub front-feed : (rows : List Row) (before between now : Option (List ℕ)) (came : List ℕ) (line : LineKept) →
     SaysFront between now (reply_of rows (unended_line came)) → Heard rows before between came line →
     SaysFront before now (replies_of rows (whole_lines (came ++ 10 ∷ [])))
 front-feed rows before between now came line cut heard = record {
@@ -86,7 +86,7 @@ front-feed rows before between now came line cut heard = record {
 }
 
 -- the front of the replies to some bytes is one of the replies to more
-pub front-more : (rows : List RawRow) (before now : Option (List ℕ)) (came more : List ℕ) →
+pub front-more : (rows : List Row) (before now : Option (List ℕ)) (came more : List ℕ) →
     SaysFront before now (replies_of rows (whole_lines came)) → SaysFront before now (replies_of rows (whole_lines (came ++ more)))
 front-more rows before now came more cut =
     let behind = replies_of rows (whole_lines (unended_line came ++ more)) in
@@ -99,7 +99,7 @@ front-more rows before now came more cut =
     }
 
 -- a last line that no line feed ends has a reply of its own; where it has no byte, that is nothing
-pub replies_of-lines_of : (rows : List RawRow) (came : List ℕ) →
+pub replies_of-lines_of : (rows : List Row) (came : List ℕ) →
     replies_of rows (lines_of came) ≡ replies_of rows (whole_lines came) ++ reply_of rows (unended_line came)
 replies_of-lines_of rows came =
     replies_of-append rows (whole_lines came) (if_any (unended_line came)) ∙ ap (λ last. replies_of rows (whole_lines came) ++ last) (last_reply (unended_line came))
@@ -109,13 +109,13 @@ replies_of-lines_of rows came =
     last_reply (byte ∷ line) = append-nil (reply_of rows (byte ∷ line))
 
 -- the end of the input, and the reply to a last line
-pub heard-end : (rows : List RawRow) (before between now : Option (List ℕ)) (came : List ℕ) (line : LineKept) →
+pub heard-end : (rows : List Row) (before between now : Option (List ℕ)) (came : List ℕ) (line : LineKept) →
     Appends between now (reply_of rows (unended_line came)) → Heard rows before between came line →
     Appends before now (replies_of rows (lines_of came))
 heard-end rows before between now came line replied heard =
     rw (replies_of-lines_of rows came) (Appends-append before between now _ _ heard.said replied)
 
-pub front-end : (rows : List RawRow) (before between now : Option (List ℕ)) (came : List ℕ) (line : LineKept) →
+pub front-end : (rows : List Row) (before between now : Option (List ℕ)) (came : List ℕ) (line : LineKept) →
     SaysFront between now (reply_of rows (unended_line came)) → Heard rows before between came line →
     SaysFront before now (replies_of rows (lines_of came))
 front-end rows before between now came line cut heard = record {
@@ -126,7 +126,7 @@ front-end rows before between now came line cut heard = record {
 }
 
 -- the front of the replies to the whole lines is one of the replies to all lines
-pub front-lines : (rows : List RawRow) (before now : Option (List ℕ)) (came : List ℕ) →
+pub front-lines : (rows : List Row) (before now : Option (List ℕ)) (came : List ℕ) →
     SaysFront before now (replies_of rows (whole_lines came)) → SaysFront before now (replies_of rows (lines_of came))
 front-lines rows before now came cut = record {
   text = cut.text;
@@ -175,7 +175,7 @@ came-kept before between now bytes came kept counted = record {
     consumes_kept (Some xs) (Some ys) (Some zs) consumed kept = consumed ∙ ap (λ rest. bytes ++ rest) (sym kept)
 
 -- as long as the input is not too long, all of it is heard
-pub heard-all : (rows : List RawRow) (before now : Option (List ℕ)) (bytes : List ℕ) (line : LineKept) → length bytes ≤ 2 ^ 32 →
+pub heard-all : (rows : List Row) (before now : Option (List ℕ)) (bytes : List ℕ) (line : LineKept) → length bytes ≤ 2 ^ 32 →
     Heard rows before now (take (2 ^ 32) bytes) line → Heard rows before now bytes line
 heard-all rows before now bytes line within heard =
     let P : List ℕ → Type 0 = λ input. Heard rows before now input line in
@@ -222,7 +222,7 @@ piece_heard bytes buffer behind count counted short within least =
     front ∙ ap (λ text. bytes ++ text) (take_least rest count buffer counted least ∙ sym (take-append-le counted buffer behind fits))
 
 -- the front of the replies to what is heard is one of the replies to all that came
-pub front-first : (rows : List RawRow) (before now : Option (List ℕ)) (bytes first : List ℕ) → take (2 ^ 32) bytes ≡ first →
+pub front-first : (rows : List Row) (before now : Option (List ℕ)) (bytes first : List ℕ) → take (2 ^ 32) bytes ≡ first →
     SaysFront before now (replies_of rows (whole_lines first)) → SaysFront before now (replies_of rows (lines_of bytes))
 front-first rows before now bytes first is_first cut =
     let P : List ℕ → Type 0 = λ all. SaysFront before now (replies_of rows (lines_of all)) in

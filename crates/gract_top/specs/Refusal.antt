@@ -7,6 +7,8 @@ use Rattle.track_types.specs.declared.raw_row.RawRow.{RawRow}
 use Rattle.row_reader.specs.Rows.{csv_fault, raws_of}
 use Rattle.row_reader.specs.declared.fault.RowsFault.{RowsFault}
 use Rattle.row_reader.specs.declared.fault.RowsFault.TheVariants as rows
+use Rattle.gridding.specs.GridLimit.{grid_limit}
+use Rattle.gract_top.specs.declared.request.Settings.{Settings}
 use Rattle.gract_top.specs.declared.outcome.Outcome.{Outcome}
 use Rattle.gract_top.specs.declared.outcome.Outcome.TheVariants as outcome
 
@@ -15,17 +17,24 @@ abbrev pub IsHeld : Option FileMap → List ℕ → List ℕ → Type 0
 IsHeld None name bytes = ⊥
 IsHeld (Some files) name bytes = held files name ≡ Some bytes
 
--- the refusal of a file for its rows
-abbrev pub rows_refusal : Option RowsFault → List RawRow → Option Outcome
-rows_refusal (Some (rows.Row nth field fault)) all = Some (outcome.Row nth field fault)
-rows_refusal (Some rows.Memory) all = None
-rows_refusal None [] = Some outcome.Empty
-rows_refusal None (first ∷ others) = None
+-- the refusal of rows for a quantity of their chart
+abbrev pub grid_refusal : Option (LimitKind × ℕ) → Option Outcome
+grid_refusal (Some (kind, value)) = Some (outcome.Limit kind value)
+grid_refusal None = None
 
--- The refusal of a file, or none where it is accepted: it is too long, a record is no row, or there is no data record.
-abbrev pub refusal_of : List ℕ → Option Outcome
-refusal_of bytes =
-    if nat_lt (2 ^ 29) (length bytes) then Some (outcome.Limit limit.Csv (2 ^ 29 + 1)) else rows_refusal (csv_fault bytes) (raws_of bytes)
+-- the refusal of a file for its rows
+abbrev pub rows_refusal : Option RowsFault → List RawRow → Settings → Option Outcome
+rows_refusal (Some (rows.Row nth field fault)) raws settings = Some (outcome.Row nth field fault)
+rows_refusal (Some (rows.Limit value)) raws settings = Some (outcome.Limit limit.Rows value)
+rows_refusal (Some rows.Memory) raws settings = None
+rows_refusal None [] settings = Some outcome.Empty
+rows_refusal None (first ∷ others) settings = grid_refusal (grid_limit (first ∷ others) settings.cell settings.tick settings.period)
+
+-- The refusal of a file, or none where it is accepted: it is too long, a record is no row or one row too many, there is
+-- no data record, or a quantity of the chart passes its limit.
+abbrev pub refusal_of : List ℕ → Settings → Option Outcome
+refusal_of bytes settings =
+    if nat_lt (2 ^ 29) (length bytes) then Some (outcome.Limit limit.Csv (2 ^ 29 + 1)) else rows_refusal (csv_fault bytes) (raws_of bytes) settings
 
 -- an outcome that the bytes of the CSV file decide
 abbrev pub is_refusal : Outcome → Bool

@@ -1,9 +1,10 @@
 -- What the command words ask for.
-use Rattle.std.specs.Prelude.{◌≡◌, ℕ, ◌+◌, ◌^◌, Bool, true, false, if◌then◌else◌, List, [], ◌∷◌, codes, Option, Some, None, map, slice_index_or}
+use Rattle.std.specs.Prelude.{◌≡◌, ⊤, ℕ, ◌+◌, ◌^◌, Bool, true, false, if◌then◌else◌, List, [], ◌∷◌, codes, Option, Some, None, map, slice_index_or}
 use denote.Ref.{Bor}
 use Rattle.std.specs.Option.{is_some}
 use Rattle.std.specs.Str.{bytes_eq}
 use Rattle.gract_top.specs.Lines.{has_byte}
+use Rattle.track_types.specs.Limits.{IsPeriod, IsResolution}
 use Rattle.track_types.specs.Numeral.{numeral_of}
 use Rattle.gract_top.specs.Ranges.{magnitude, natural_within}
 use Rattle.gract_top.specs.declared.request.WordKind.{WordKind}
@@ -26,7 +27,7 @@ first_bad (kind ∷ kinds) (word ∷ words) place = if fits_word kind word then 
 
 -- the words behind `once`: CSV CELL TICK PERIOD
 abbrev pub once_words : List WordKind
-once_words = File ∷ Number 1 1 ∷ Number 1 1 ∷ Number 1 (2 ^ 22) ∷ []
+once_words = File ∷ Number 1 (2 ^ 30) ∷ Number 1 (2 ^ 30) ∷ Number 1 (2 ^ 22) ∷ []
 
 -- the value of a number word that fits
 abbrev pub natural_value : List ℕ → ℕ
@@ -51,6 +52,11 @@ abbrev pub request_of : List (List ℕ) → Request
 request_of [] = Refused 1
 request_of (name ∷ words) = if bytes_eq name (codes "once") then once_of words else Refused 1
 
+-- the numbers of the words, in words that have a form
+abbrev pub settings_in : List (List ℕ) → Settings
+settings_in [] = settings_of []
+settings_in (name ∷ words) = settings_of words
+
 -- the name of the CSV file, in words that have a form
 abbrev pub csv_name : List (List ℕ) → List ℕ
 csv_name words = slice_index_or words 1 []
@@ -66,3 +72,8 @@ is_accepted (Refused place) = false
 -- the words have a form
 abbrev pub IsForm : List (List ℕ) → Type 0
 IsForm words = is_accepted (request_of words) ≡ true
+
+-- the numbers of a request are in their ranges
+abbrev pub AreInRange : Request → Type 0
+AreInRange (Once settings) = IsResolution settings.cell × IsResolution settings.tick × IsPeriod settings.period
+AreInRange (Refused place) = ⊤

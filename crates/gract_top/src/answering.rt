@@ -8,7 +8,7 @@ ghost use Rattle.gract_top.specs.Session.{AnswersAll, AnswersFirst, AnswersFront
 use crate::line_buffer::LineBuffer;
 use crate::reply::reply;
 use host_ports::{Cut, Sink, Source};
-use track_types::RawRow;
+use track_types::Chart;
 
 /// Why the lines of a source were not all answered.
 #[derive(Clone, Copy, Debug, PartialEq, Eq)]
@@ -30,12 +30,12 @@ const PIECE: usize = 4096;
 // Answers one byte more of question input: a line is answered as its line feed comes.
 fn take_byte<K: Sink>(
     line: &mut LineBuffer,
-    rows: &[RawRow],
+    chart: &Chart,
     byte: u8,
     sink: &mut K,
 ) -> Result<(), Cut>
-    ensures ok { OnOk result ((before : Option (List ℕ)) (came : List ℕ) → Heard rows.now before (K.said sink.old) came line.old → Heard rows.now before (K.said sink.new) (came ++ byte ∷ []) line.new) }
-    ensures err { OnErr result ((before : Option (List ℕ)) (came : List ℕ) → Heard rows.now before (K.said sink.old) came line.old → SaysFront before (K.said sink.new) (replies_of rows.now (whole_lines (came ++ byte ∷ [])))) }
+    ensures ok { OnOk result ((before : Option (List ℕ)) (came : List ℕ) → Heard chart.now.rows before (K.said sink.old) came line.old → Heard chart.now.rows before (K.said sink.new) (came ++ byte ∷ []) line.new) }
+    ensures err { OnErr result ((before : Option (List ℕ)) (came : List ℕ) → Heard chart.now.rows before (K.said sink.old) came line.old → SaysFront before (K.said sink.new) (replies_of chart.now.rows (whole_lines (came ++ byte ∷ [])))) }
     ensures cause { OnErr result (Rose (K.faults sink.old) (K.faults sink.new)) }
     ensures faults { K.faults sink.old ≤ K.faults sink.new }
 {
@@ -43,21 +43,21 @@ fn take_byte<K: Sink>(
         line.push(byte);
         return Ok(());
     }
-    let text = reply(rows, line.question());
+    let text = reply(chart, line.question());
     line.clear();
     say_any(text.as_bytes(), sink)
 }
 
 // Answers the lines of a source, until its end or a fault.
 pub(crate) fn answer_lines<S: Source, K: Sink>(
-    rows: &[RawRow],
+    chart: &Chart,
     source: &mut S,
     sink: &mut K,
 ) -> Result<(), AnswerFault>
-    ensures ok { OnOk result (AnswersAll rows.now (talk (S.rest source.old) (S.taken source.old) (K.said sink.old)) (talk (S.rest source.new) (S.taken source.new) (K.said sink.new))) }
-    ensures listen { result ≡ Err AnswerFault.Listen → AnswersWhole rows.now (talk (S.rest source.old) (S.taken source.old) (K.said sink.old)) (talk (S.rest source.new) (S.taken source.new) (K.said sink.new)) }
-    ensures say { result ≡ Err AnswerFault.Say → AnswersFront rows.now (talk (S.rest source.old) (S.taken source.old) (K.said sink.old)) (talk (S.rest source.new) (S.taken source.new) (K.said sink.new)) }
-    ensures long { result ≡ Err AnswerFault.TooLong → AnswersFirst rows.now (talk (S.rest source.old) (S.taken source.old) (K.said sink.old)) (talk (S.rest source.new) (S.taken source.new) (K.said sink.new)) }
+    ensures ok { OnOk result (AnswersAll chart.now.rows (talk (S.rest source.old) (S.taken source.old) (K.said sink.old)) (talk (S.rest source.new) (S.taken source.new) (K.said sink.new))) }
+    ensures listen { result ≡ Err AnswerFault.Listen → AnswersWhole chart.now.rows (talk (S.rest source.old) (S.taken source.old) (K.said sink.old)) (talk (S.rest source.new) (S.taken source.new) (K.said sink.new)) }
+    ensures say { result ≡ Err AnswerFault.Say → AnswersFront chart.now.rows (talk (S.rest source.old) (S.taken source.old) (K.said sink.old)) (talk (S.rest source.new) (S.taken source.new) (K.said sink.new)) }
+    ensures long { result ≡ Err AnswerFault.TooLong → AnswersFirst chart.now.rows (talk (S.rest source.old) (S.taken source.old) (K.said sink.old)) (talk (S.rest source.new) (S.taken source.new) (K.said sink.new)) }
     ensures listen_cause { result ≡ Err AnswerFault.Listen → Rose (S.faults source.old) (S.faults source.new) }
     ensures say_cause { result ≡ Err AnswerFault.Say → Rose (K.faults sink.old) (K.faults sink.new) }
     ensures listen_faults { S.faults source.old ≤ S.faults source.new }
@@ -72,14 +72,14 @@ pub(crate) fn answer_lines<S: Source, K: Sink>(
             return Err(AnswerFault::Listen);
         };
         if count == 0 {
-            let Ok(()) = end_input(&line, rows, sink) else {
+            let Ok(()) = end_input(&line, chart, sink) else {
                 return Err(AnswerFault::Say);
             };
             return Ok(());
         }
         // The byte past the longest input is taken and not answered.
         let counted = count.min(LONGEST_INPUT - taken);
-        let Ok(()) = take_piece(&mut line, rows, &buffer[..counted], sink) else {
+        let Ok(()) = take_piece(&mut line, chart, &buffer[..counted], sink) else {
             return Err(AnswerFault::Say);
         };
         taken += count;
@@ -88,29 +88,29 @@ pub(crate) fn answer_lines<S: Source, K: Sink>(
 }
 
 // Answers a last line that no line feed ends.
-fn end_input<K: Sink>(line: &LineBuffer, rows: &[RawRow], sink: &mut K) -> Result<(), Cut>
-    ensures ok { OnOk result ((before : Option (List ℕ)) (came : List ℕ) → Heard rows.now before (K.said sink.old) came line.now → Appends before (K.said sink.new) (replies_of rows.now (lines_of came))) }
-    ensures err { OnErr result ((before : Option (List ℕ)) (came : List ℕ) → Heard rows.now before (K.said sink.old) came line.now → SaysFront before (K.said sink.new) (replies_of rows.now (lines_of came))) }
+fn end_input<K: Sink>(line: &LineBuffer, chart: &Chart, sink: &mut K) -> Result<(), Cut>
+    ensures ok { OnOk result ((before : Option (List ℕ)) (came : List ℕ) → Heard chart.now.rows before (K.said sink.old) came line.now → Appends before (K.said sink.new) (replies_of chart.now.rows (lines_of came))) }
+    ensures err { OnErr result ((before : Option (List ℕ)) (came : List ℕ) → Heard chart.now.rows before (K.said sink.old) came line.now → SaysFront before (K.said sink.new) (replies_of chart.now.rows (lines_of came))) }
     ensures cause { OnErr result (Rose (K.faults sink.old) (K.faults sink.new)) }
     ensures faults { K.faults sink.old ≤ K.faults sink.new }
 {
-    say_any(reply(rows, line.question()).as_bytes(), sink)
+    say_any(reply(chart, line.question()).as_bytes(), sink)
 }
 
 // Answers a piece more of question input.
 fn take_piece<K: Sink>(
     line: &mut LineBuffer,
-    rows: &[RawRow],
+    chart: &Chart,
     piece: &[u8],
     sink: &mut K,
 ) -> Result<(), Cut>
-    ensures ok { OnOk result ((before : Option (List ℕ)) (came : List ℕ) → Heard rows.now before (K.said sink.old) came line.old → Heard rows.now before (K.said sink.new) (came ++ piece.now) line.new) }
-    ensures err { OnErr result ((before : Option (List ℕ)) (came : List ℕ) → Heard rows.now before (K.said sink.old) came line.old → SaysFront before (K.said sink.new) (replies_of rows.now (whole_lines (came ++ piece.now)))) }
+    ensures ok { OnOk result ((before : Option (List ℕ)) (came : List ℕ) → Heard chart.now.rows before (K.said sink.old) came line.old → Heard chart.now.rows before (K.said sink.new) (came ++ piece.now) line.new) }
+    ensures err { OnErr result ((before : Option (List ℕ)) (came : List ℕ) → Heard chart.now.rows before (K.said sink.old) came line.old → SaysFront before (K.said sink.new) (replies_of chart.now.rows (whole_lines (came ++ piece.now)))) }
     ensures cause { OnErr result (Rose (K.faults sink.old) (K.faults sink.new)) }
     ensures faults { K.faults sink.old ≤ K.faults sink.new }
 {
     for byte in piece {
-        take_byte(line, rows, *byte, sink)?;
+        take_byte(line, chart, *byte, sink)?;
     }
     Ok(())
 }

@@ -1,31 +1,27 @@
-ghost use Rattle.std.specs.Prelude.{◌≡◌, ℕ, ◌+◌, ◌^◌, ◌≤◌, ◌⊎◌, ◌↔◌, true, false, List, Some, None, IfOk, IfErr, vec_len};
+ghost use Rattle.std.specs.Prelude.{◌≡◌, ℕ, ◌+◌, ◌^◌, ◌≤◌, ◌⊎◌, ◌↔◌, true, false, List, Some, All, IfOk, IfErr, vec_len};
 ghost use Rattle.host_ports.specs.Faults.{Rose};
 ghost use Rattle.host_ports.specs.FileMap.{IsMissing};
-ghost use Rattle.row_reader.specs.Rows.{raws_of};
-ghost use Rattle.gract_top.specs.Refusal.{IsDecided, IsHeld, is_loading, is_refusal, is_unasked, refusal_of};
-ghost use Rattle.gract_top.specs.Request.{IsForm, csv_name, request_of, texts};
+ghost use Rattle.track_types.specs.Limits.{IsPeriod, IsResolution};
 ghost use Rattle.gract_top.specs.Outcome.{Answered, Answers};
+ghost use Rattle.gract_top.specs.Refusal.{IsDecided, IsHeld, is_loading, is_refusal, is_unasked, refusal_of};
+ghost use Rattle.gract_top.specs.Request.{IsForm, csv_name, request_of, settings_in, texts};
 ghost use Rattle.gract_top.specs.Session.{talk};
 
 use crate::answering::{AnswerFault, LONGEST_INPUT, answer_lines};
-use crate::loading::{LoadFault, load};
+use crate::chart_loading::load_chart;
 use crate::outcome::Outcome;
 use crate::request::{Request, read_request};
 use host_ports::{Files, Sink, Source};
-use row_reader::{RowsFault, read_rows};
 use std::alloc::Global;
 use std::sync::ledger::Ledger;
 use step_count::Steps;
-use track_types::{LimitKind, RawRow};
-
-/// How many bytes a CSV file may have, 2^29.
-const LONGEST_CSV: usize = 0x2000_0000;
+use track_types::{Chart, LimitKind};
 
 /// Does what the command words ask, and tells how it ended.
 ///
-/// The words are those after the program's name. `once CSV CELL TICK PERIOD` loads the CSV file and
-/// answers the source's lines; until rows are gridded CELL and TICK are 1. A line
-/// `position OBJECT INSTANT` has the cell of the object's last row at the instant as its reply.
+/// The words are those after the program's name. `once CSV CELL TICK PERIOD` loads the CSV file,
+/// grids its rows and answers the source's lines. A line `position OBJECT INSTANT` has the cell of
+/// the object at the instant as its reply.
 ///
 /// Each outcome comes for its cause alone, which its clause states. `Memory` may come to any words
 /// that have a form, before a question is read.
@@ -41,8 +37,8 @@ pub fn gract<F: Files, S: Source, K: Sink, L: Ledger>(
     ensures words { (place : ℕ) → (result ≡ Outcome.Words place) ↔ (request_of (texts words.now) ≡ Request.Refused place) }
     ensures words_untouched { (place : ℕ) → result ≡ Outcome.Words place → files.new ≡ files.old }
 
-    // What was said is what the outcome tells, over the rows of the CSV file where its bytes are told.
-    ensures answered { Answers result (F.map files.old) (csv_name (texts words.now)) (talk (S.rest source.old) (S.taken source.old) (K.said sink.old)) (talk (S.rest source.new) (S.taken source.new) (K.said sink.new)) }
+    // What was said is what the outcome tells, over the chart of the CSV file where its bytes are told.
+    ensures answered { Answers result (F.map files.old) (texts words.now) (talk (S.rest source.old) (S.taken source.old) (K.said sink.old)) (talk (S.rest source.new) (S.taken source.new) (K.said sink.new)) }
     ensures listen_cause { result ≡ Outcome.ListenFailed → Rose (S.faults source.old) (S.faults source.new) }
     ensures say_cause { result ≡ Outcome.SayFailed → Rose (K.faults sink.old) (K.faults sink.new) }
 
@@ -51,32 +47,34 @@ pub fn gract<F: Files, S: Source, K: Sink, L: Ledger>(
     ensures missing { IsForm (texts words.now) → IsMissing (F.map files.old) (csv_name (texts words.now)) → result ≡ Outcome.LoadFailed }
 
     // What the file's bytes decide is answered, and nothing else is answered for them.
-    ensures refused { is_refusal result ≡ true → (bytes : List ℕ) → IsHeld (F.map files.old) (csv_name (texts words.now)) bytes → refusal_of bytes ≡ Some result }
-    ensures decided { IsForm (texts words.now) → (bytes : List ℕ) → IsHeld (F.map files.old) (csv_name (texts words.now)) bytes → (result ≡ Outcome.LoadFailed) ⊎ (result ≡ Outcome.Memory) ⊎ IsDecided (refusal_of bytes) result }
+    ensures refused { is_refusal result ≡ true → (bytes : List ℕ) → IsHeld (F.map files.old) (csv_name (texts words.now)) bytes → refusal_of bytes (settings_in (texts words.now)) ≡ Some result }
+    ensures decided { IsForm (texts words.now) → (bytes : List ℕ) → IsHeld (F.map files.old) (csv_name (texts words.now)) bytes → (result ≡ Outcome.LoadFailed) ⊎ (result ≡ Outcome.Memory) ⊎ IsDecided (refusal_of bytes (settings_in (texts words.now))) result }
     ensures csv_taken { (value : ℕ) → result ≡ Outcome.Limit LimitKind.Csv value → (value ≡ 2 ^ 29 + 1) × (F.taken files.new ≡ 2 ^ 29 + 1) }
 
     // Nothing was listened to or said before the first question.
     ensures unasked { is_unasked result ≡ true → (source.new ≡ source.old) × (sink.new ≡ sink.old) }
     ensures map { F.map files.new ≡ F.map files.old }
 {
-    let csv = match read_request(words) {
-        Request::Refused { place } => return Outcome::Words { place },
-        Request::Once(_) => words[1],
-    };
-    match load_rows(alloc, csv, files) {
-        Ok(rows) => answer(&rows, source, sink),
-        Err(outcome) => outcome,
+    match read_request(words) {
+        Request::Refused { place } => Outcome::Words { place },
+        Request::Once(settings) => {
+            let csv = words[1];
+            match load_chart(alloc, csv, settings, files) {
+                Ok(chart) => answer(&chart, source, sink),
+                Err(outcome) => outcome,
+            }
+        }
     }
 }
 
-// Answers the source's lines from rows.
-fn answer<S: Source, K: Sink>(rows: &[RawRow], source: &mut S, sink: &mut K) -> Outcome
+// Answers the source's lines from a chart.
+fn answer<S: Source, K: Sink>(chart: &Chart, source: &mut S, sink: &mut K) -> Outcome
     ensures asked { is_unasked result ≡ false }
-    ensures answered { Answered result rows.now (talk (S.rest source.old) (S.taken source.old) (K.said sink.old)) (talk (S.rest source.new) (S.taken source.new) (K.said sink.new)) }
+    ensures answered { Answered result chart.now.rows (talk (S.rest source.old) (S.taken source.old) (K.said sink.old)) (talk (S.rest source.new) (S.taken source.new) (K.said sink.new)) }
     ensures listen_cause { result ≡ Outcome.ListenFailed → Rose (S.faults source.old) (S.faults source.new) }
     ensures say_cause { result ≡ Outcome.SayFailed → Rose (K.faults sink.old) (K.faults sink.new) }
 {
-    match answer_lines(rows, source, sink) {
+    match answer_lines(chart, source, sink) {
         Ok(()) => Outcome::Done,
         Err(AnswerFault::Listen) => Outcome::ListenFailed,
         Err(AnswerFault::Say) => Outcome::SayFailed,
@@ -84,42 +82,5 @@ fn answer<S: Source, K: Sink>(rows: &[RawRow], source: &mut S, sink: &mut K) -> 
             kind: LimitKind::Questions,
             value: LONGEST_INPUT as u64 + 1,
         },
-    }
-}
-
-// The rows of the CSV file of that name, or the outcome that it decides.
-fn load_rows<F: Files>(alloc: Global, csv: &str, files: &mut F) -> Result<Vec<RawRow>, Outcome>
-    ensures accepted { IfOk result (λ rows. (bytes : List ℕ) → IsHeld (F.map files.old) csv.now bytes → (refusal_of bytes ≡ None) × (rows.items ≡ raws_of bytes)) }
-    ensures loading { IfErr result (λ outcome. is_loading outcome ≡ true) }
-    ensures load_failed { result ≡ Err Outcome.LoadFailed → Rose (F.load_faults files.old) (F.load_faults files.new) ⊎ IsMissing (F.map files.old) csv.now }
-    ensures missing { IsMissing (F.map files.old) csv.now → result ≡ Err Outcome.LoadFailed }
-    ensures refused { IfErr result (λ outcome. is_refusal outcome ≡ true → (bytes : List ℕ) → IsHeld (F.map files.old) csv.now bytes → refusal_of bytes ≡ Some outcome) }
-    ensures taken { (value : ℕ) → result ≡ Err (Outcome.Limit LimitKind.Csv value) → (value ≡ 2 ^ 29 + 1) × (F.taken files.new ≡ 2 ^ 29 + 1) }
-    ensures map { F.map files.new ≡ F.map files.old }
-    ensures faults { F.load_faults files.old ≤ F.load_faults files.new }
-{
-    let bytes = match load(alloc, files, csv, LONGEST_CSV) {
-        Ok(bytes) => bytes,
-        Err(LoadFault::Failed) => return Err(Outcome::LoadFailed),
-        Err(LoadFault::TooLong) => return Err(csv_too_long()),
-        Err(LoadFault::Memory) => return Err(Outcome::Memory),
-    };
-    let rows = match read_rows(alloc, &bytes) {
-        Ok(rows) => rows,
-        Err(RowsFault::Row { nth, field, fault }) => return Err(Outcome::Row { nth, field, fault }),
-        Err(RowsFault::Memory) => return Err(Outcome::Memory),
-    };
-    if rows.is_empty() {
-        return Err(Outcome::Empty);
-    }
-    Ok(rows)
-}
-
-fn csv_too_long() -> Outcome
-    ensures { result ≡ Outcome.Limit LimitKind.Csv (2 ^ 29 + 1) }
-{
-    Outcome::Limit {
-        kind: LimitKind::Csv,
-        value: LONGEST_CSV as u64 + 1,
     }
 }

@@ -7,7 +7,7 @@ use track_types::{Numeral, number};
 // The value of a word that is a numeral from `least` to `greatest`.
 pub(crate) fn read_natural(word: &[u8], least: u64, greatest: u64) -> Option<u64>
     ensures value { result ≡ natural_within least greatest word.now }
-    ensures within { IfSome result (λ natural. natural ≤ greatest) }
+    ensures within { IfSome result (λ natural. (least ≤ natural) × (natural ≤ greatest)) }
     ensures magnitude { IfSome result (λ natural. natural ≡ magnitude (numeral_of word.now)) }
 {
     match number(word) {

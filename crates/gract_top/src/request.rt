@@ -1,5 +1,5 @@
 ghost use Rattle.std.specs.Prelude.{◌≡◌, ◌+◌, ◌^◌, ◌≤◌, true, length};
-ghost use Rattle.gract_top.specs.Request.{first_bad, fits_word, natural_value, once_of, request_of, texts};
+ghost use Rattle.gract_top.specs.Request.{AreInRange, first_bad, fits_word, natural_value, once_of, request_of, texts};
 
 use crate::ranges::read_natural;
 
@@ -32,11 +32,11 @@ pub struct Settings {
     pub period: u32,
 }
 
-/// The greatest CELL.
-const GREATEST_CELL: u64 = 1;
+/// The greatest CELL, 2^30.
+const GREATEST_CELL: u64 = 0x4000_0000;
 
-/// The greatest TICK.
-const GREATEST_TICK: u64 = 1;
+/// The greatest TICK, 2^30.
+const GREATEST_TICK: u64 = 0x4000_0000;
 
 /// The greatest PERIOD, 2^22.
 const GREATEST_PERIOD: u64 = 0x40_0000;
@@ -60,7 +60,8 @@ const ONCE: [WordKind; 4] = [
 
 // Reads the command words.
 pub(crate) fn read_request(words: &[&str]) -> Request
-    ensures { result ≡ request_of (texts words.now) }
+    ensures value { result ≡ request_of (texts words.now) }
+    ensures ranges { AreInRange result }
 {
     match words {
         [] => Request::Refused { place: 1 },
@@ -75,7 +76,8 @@ pub(crate) fn read_request(words: &[&str]) -> Request
 }
 
 fn read_once(words: &[&str]) -> Request
-    ensures { result ≡ once_of (texts words.now) }
+    ensures value { result ≡ once_of (texts words.now) }
+    ensures ranges { AreInRange result }
 {
     if let Some(place) = first_bad_place(&ONCE, words, 2) {
         return Request::Refused { place };
@@ -123,7 +125,7 @@ fn fits(kind: WordKind, word: &str) -> bool
 fn natural(word: &str, greatest: u64) -> u64
     requires { fits_word (WordKind.Number 1 greatest) word.now ≡ true }
     ensures value { result ≡ natural_value word.now }
-    ensures within { result ≤ greatest }
+    ensures within { (1 ≤ result) × (result ≤ greatest) }
 {
     read_natural(word.as_bytes(), 1, greatest).unwrap()
 }

@@ -21,7 +21,7 @@ returns-in_default-clause-listen g c is_listen =
     let start = talk (g.S.Source.rest c.args.source.now) (g.S.Source.taken c.args.source.now) (g.K.Sink.said c.args.sink.now) in
     let between = talk (g.S.Source.rest c.pieces.source) (g.S.Source.taken c.pieces.source) (g.K.Sink.said c.pieces.sink) in
     let now = talk (g.S.Source.rest c.listen.new.self) (g.S.Source.taken c.listen.new.self) (g.K.Sink.said c.pieces.sink) in
-    let said = heard-all c.args.rows.now (g.K.Sink.said c.args.sink.now) (g.K.Sink.said c.pieces.sink) c.pieces.invariant.bytes c.pieces.line (omega arith) c.pieces.invariant.heard in
+    let said = heard-all c.args.chart.now.rows (g.K.Sink.said c.args.sink.now) (g.K.Sink.said c.pieces.sink) c.pieces.invariant.bytes c.pieces.line (omega arith) c.pieces.invariant.heard in
     record {
       bytes = c.pieces.invariant.bytes;
       came = came-kept start between now c.pieces.invariant.bytes c.pieces.invariant.came c.in_default.ensures.read (omega (arith, c.in_default.ensures.taken));
@@ -34,7 +34,7 @@ returns-in_default-end_input-clause-say g c is_say =
     let start = talk (g.S.Source.rest c.args.source.now) (g.S.Source.taken c.args.source.now) (g.K.Sink.said c.args.sink.now) in
     let between = talk (g.S.Source.rest c.pieces.source) (g.S.Source.taken c.pieces.source) (g.K.Sink.said c.pieces.sink) in
     let now = talk (g.S.Source.rest c.listen.new.self) (g.S.Source.taken c.listen.new.self) (g.K.Sink.said c.end_input.new.sink) in
-    let heard = heard-all c.args.rows.now (g.K.Sink.said c.args.sink.now) (g.K.Sink.said c.pieces.sink) c.pieces.invariant.bytes c.pieces.line (omega arith) c.pieces.invariant.heard in
+    let heard = heard-all c.args.chart.now.rows (g.K.Sink.said c.args.sink.now) (g.K.Sink.said c.pieces.sink) c.pieces.invariant.bytes c.pieces.line (omega arith) c.pieces.invariant.heard in
     let nothing : take c.in-Ok.count c.listen.new.buf ≡ [] = rw c.if-count-eq0.true refl in
     record {
       bytes = c.pieces.invariant.bytes;
@@ -48,7 +48,7 @@ returns-then-count-eq0-clause-ok g c =
     let start = talk (g.S.Source.rest c.args.source.now) (g.S.Source.taken c.args.source.now) (g.K.Sink.said c.args.sink.now) in
     let between = talk (g.S.Source.rest c.pieces.source) (g.S.Source.taken c.pieces.source) (g.K.Sink.said c.pieces.sink) in
     let now = talk (g.S.Source.rest c.listen.new.self) (g.S.Source.taken c.listen.new.self) (g.K.Sink.said c.end_input.new.sink) in
-    let heard = heard-all c.args.rows.now (g.K.Sink.said c.args.sink.now) (g.K.Sink.said c.pieces.sink) c.pieces.invariant.bytes c.pieces.line (omega arith) c.pieces.invariant.heard in
+    let heard = heard-all c.args.chart.now.rows (g.K.Sink.said c.args.sink.now) (g.K.Sink.said c.pieces.sink) c.pieces.invariant.bytes c.pieces.line (omega arith) c.pieces.invariant.heard in
     let nothing : take c.in-Ok.count c.listen.new.buf ≡ [] = rw c.if-count-eq0.true refl in
     let room : 0 < length c.listen.new.buf = search rules in
     record {
@@ -67,14 +67,14 @@ returns-in_default-take_piece-clause-say g c is_say =
     let now = talk (g.S.Source.rest c.listen.new.self) (g.S.Source.taken c.listen.new.self) (g.K.Sink.said c.take_piece.new.sink) in
     let bytes = c.pieces.invariant.bytes in
     let piece = take c.in-Ok.count c.listen.new.buf in
-    let heard = heard-all c.args.rows.now (g.K.Sink.said c.args.sink.now) (g.K.Sink.said c.pieces.sink) bytes c.pieces.line (omega arith) c.pieces.invariant.heard in
+    let heard = heard-all c.args.chart.now.rows (g.K.Sink.said c.args.sink.now) (g.K.Sink.said c.pieces.sink) bytes c.pieces.line (omega arith) c.pieces.invariant.heard in
     let same = piece_heard bytes c.listen.new.buf (drop c.min-room.result c.pieces.buffer) c.in-Ok.count c.min-counted.result
     (omega arith) c.in-Ok.ensures.within.0 (rw (← c.pieces.invariant.count) c.min-counted.ensures) in
     let cut = c.in_default-take_piece.ensures.err (g.K.Sink.said c.args.sink.now) bytes heard in
     record {
       bytes = bytes ++ piece;
       came = came-more start between now bytes piece c.pieces.invariant.came c.in-Ok.ensures.read.0 (omega (arith, c.in-Ok.ensures.taken, c.in-Ok.ensures.within.1));
-      said = front-first c.args.rows.now (g.K.Sink.said c.args.sink.now) (g.K.Sink.said c.take_piece.new.sink) (bytes ++ piece) _ same cut;
+      said = front-first c.args.chart.now.rows (g.K.Sink.said c.args.sink.now) (g.K.Sink.said c.take_piece.new.sink) (bytes ++ piece) _ same cut;
     }
 
 pub pieces-preserved : goal.pieces-preserved
@@ -84,7 +84,7 @@ pieces-preserved g c =
     let now = talk (g.S.Source.rest c.listen.new.self) (g.S.Source.taken c.listen.new.self) (g.K.Sink.said c.take_piece.new.sink) in
     let bytes = c.pieces.invariant.bytes in
     let piece = take c.in-Ok.count c.listen.new.buf in
-    let heard = heard-all c.args.rows.now (g.K.Sink.said c.args.sink.now) (g.K.Sink.said c.pieces.sink) bytes c.pieces.line (omega arith) c.pieces.invariant.heard in
+    let heard = heard-all c.args.chart.now.rows (g.K.Sink.said c.args.sink.now) (g.K.Sink.said c.pieces.sink) bytes c.pieces.line (omega arith) c.pieces.invariant.heard in
     let same = piece_heard bytes c.listen.new.buf (drop c.min-room.result c.pieces.buffer) c.in-Ok.count c.min-counted.result
     (omega arith) c.in-Ok.ensures.within.0 (rw (← c.pieces.invariant.count) c.min-counted.ensures) in
     record {

@@ -9,7 +9,7 @@ invariant-pieces g l = record {
       (talk (g.S.Source.rest l.source) (g.S.Source.taken l.source) (g.K.Sink.said l.sink)) bytes;
   count : l.taken ≡ length bytes;
   within : l.taken ≤ 2 ^ 32 + 1;
-  heard : Heard l.rows (g.K.Sink.said l.fn.sink) (g.K.Sink.said l.sink) (take (2 ^ 32) bytes) l.line;
+  heard : Heard l.chart.rows (g.K.Sink.said l.fn.sink) (g.K.Sink.said l.sink) (take (2 ^ 32) bytes) l.line;
   listen_faults : g.S.Source.faults l.fn.source ≤ g.S.Source.faults l.source;
   say_faults : g.K.Sink.faults l.fn.sink ≤ g.K.Sink.faults l.sink;
 }

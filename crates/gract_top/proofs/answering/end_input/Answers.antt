@@ -11,8 +11,8 @@ pub returns-clause-ok : goal.returns-clause-ok
 returns-clause-ok g c = on_ok_weaker c.say_any.result
     (λ said before came heard.
     let text = c.as_bytes.ensures.value ∙ (c.deref.ensures.0 ∙ (c.reply.ensures
-    ∙ ap (question_reply c.args.rows.now) (c.question.ensures (unended_line came) heard.kept))) in
-    heard-end c.args.rows.now before (g.K.Sink.said c.args.sink.now) (g.K.Sink.said c.say_any.new.sink) came c.args.line.now
+    ∙ ap (question_reply c.args.chart.now.rows) (c.question.ensures (unended_line came) heard.kept))) in
+    heard-end c.args.chart.now.rows before (g.K.Sink.said c.args.sink.now) (g.K.Sink.said c.say_any.new.sink) came c.args.line.now
     (subst (λ (reply : List ℕ). Appends (g.K.Sink.said c.args.sink.now) (g.K.Sink.said c.say_any.new.sink) reply) text said)
     heard)
     c.say_any.ensures.ok
@@ -21,8 +21,8 @@ pub returns-clause-err : goal.returns-clause-err
 returns-clause-err g c = on_err_weaker c.say_any.result
     (λ cut before came heard.
     let text = c.as_bytes.ensures.value ∙ (c.deref.ensures.0 ∙ (c.reply.ensures
-    ∙ ap (question_reply c.args.rows.now) (c.question.ensures (unended_line came) heard.kept))) in
-    front-end c.args.rows.now before (g.K.Sink.said c.args.sink.now) (g.K.Sink.said c.say_any.new.sink) came c.args.line.now
+    ∙ ap (question_reply c.args.chart.now.rows) (c.question.ensures (unended_line came) heard.kept))) in
+    front-end c.args.chart.now.rows before (g.K.Sink.said c.args.sink.now) (g.K.Sink.said c.say_any.new.sink) came c.args.line.now
     (subst (λ (reply : List ℕ). SaysFront (g.K.Sink.said c.args.sink.now) (g.K.Sink.said c.say_any.new.sink) reply) text cut)
     heard)
     c.say_any.ensures.err

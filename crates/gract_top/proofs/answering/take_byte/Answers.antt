@@ -10,15 +10,15 @@ use Rattle.gract_top.proofs.answering.take_byte.Goals as goal
 
 pub returns-then-byte-ne10-clause-ok : goal.returns-then-byte-ne10-clause-ok
 returns-then-byte-ne10-clause-ok g c before came heard =
-    heard-byte c.args.rows.now before (g.K.Sink.said c.args.sink.now) came c.args.byte c.args.line.now c.push.new.self
+    heard-byte c.args.chart.now.rows before (g.K.Sink.said c.args.sink.now) came c.args.byte c.args.line.now c.push.new.self
     (ne_eqb c.args.byte 10 c.if-byte-ne10.true) (c.push.ensures (unended_line came) heard.kept) heard
 
 pub returns-clause-ok : goal.returns-clause-ok
 returns-clause-ok g c = on_ok_weaker c.say_any.result
     (λ said before came heard.
     let text = c.as_bytes.ensures.value ∙ (c.deref.ensures.0 ∙ (c.reply-text.ensures
-    ∙ ap (question_reply c.args.rows.now) (c.question.ensures (unended_line came) heard.kept))) in
-    rw c.if-byte-ne10.false (heard-feed c.args.rows.now before (g.K.Sink.said c.args.sink.now) (g.K.Sink.said c.say_any.new.sink)
+    ∙ ap (question_reply c.args.chart.now.rows) (c.question.ensures (unended_line came) heard.kept))) in
+    rw c.if-byte-ne10.false (heard-feed c.args.chart.now.rows before (g.K.Sink.said c.args.sink.now) (g.K.Sink.said c.say_any.new.sink)
     came c.args.line.now c.clear.new.self
     (subst (λ (reply : List ℕ). Appends (g.K.Sink.said c.args.sink.now) (g.K.Sink.said c.say_any.new.sink) reply) text said)
     c.clear.ensures heard))
@@ -28,8 +28,8 @@ pub returns-clause-err : goal.returns-clause-err
 returns-clause-err g c = on_err_weaker c.say_any.result
     (λ cut before came heard.
     let text = c.as_bytes.ensures.value ∙ (c.deref.ensures.0 ∙ (c.reply-text.ensures
-    ∙ ap (question_reply c.args.rows.now) (c.question.ensures (unended_line came) heard.kept))) in
-    rw c.if-byte-ne10.false (front-feed c.args.rows.now before (g.K.Sink.said c.args.sink.now) (g.K.Sink.said c.say_any.new.sink)
+    ∙ ap (question_reply c.args.chart.now.rows) (c.question.ensures (unended_line came) heard.kept))) in
+    rw c.if-byte-ne10.false (front-feed c.args.chart.now.rows before (g.K.Sink.said c.args.sink.now) (g.K.Sink.said c.say_any.new.sink)
     came c.args.line.now
     (subst (λ (reply : List ℕ). SaysFront (g.K.Sink.said c.args.sink.now) (g.K.Sink.said c.say_any.new.sink) reply) text cut)
     heard))

@@ -7,7 +7,7 @@ use Rattle.gract_top.proofs.answering.take_piece.Goals as goal
 
 pub returns-in_err-take_byte-clause-err : goal.returns-in_err-take_byte-clause-err
 returns-in_err-take_byte-clause-err g c = on_err_always c.from_residual.result (λ before came heard.
-    let rows = c.args.rows.now in
+    let rows = c.args.chart.now.rows in
     let piece = c.args.piece.now in
     let i = c.loop-byte.byte-index in
     let P : List ℕ → Type 0 = λ input. SaysFront before (g.K.Sink.said c.take_byte.new.sink) (replies_of rows (whole_lines input)) in

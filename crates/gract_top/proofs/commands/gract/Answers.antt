@@ -1,33 +1,39 @@
-use Rattle.std.proofs.Common.{◌≡◌, ℕ, List, [], true, sym, ◌∙◌, Bor}
+use Rattle.std.proofs.Common.{◌≡◌, ℕ, List, [], None, true, false, inr, ap, sym, ◌∙◌, Bor}
 use mathlib.Core.Bool.{false≢true}
-use Rattle.gract_top.specs.Refusal.{IsHeld, is_loading, refusal_of}
+use Rattle.row_reader.specs.Rows.{raws_of}
+use Rattle.gridding.specs.ChartOf.{chart_rows}
+use Rattle.track_types.specs.Chart.{ChartView}
+use Rattle.gract_top.specs.Refusal.{IsDecided, is_loading, refusal_of}
+use Rattle.gract_top.specs.Request.{settings_in, texts}
 use Rattle.gract_top.specs.Session.{talk}
-use Rattle.gract_top.specs.declared.outcome.Outcome.{Outcome}
-use Rattle.gract_top.proofs.OutcomeLemmas.{answered_loading, csv_name-texts, decided_loading, is_unasked-loading, words_of_form}
+use Rattle.gract_top.specs.declared.request.Settings.{Settings}
+use Rattle.gract_top.proofs.OutcomeLemmas.{answered_loading, csv_name-texts, decided_loading, is_unasked-loading, settings_of_form, words_of_form}
 use Rattle.gract_top.proofs.commands.gract.Goals as goal
 
 pub bounds-words-1 : goal.bounds-words-1
-bounds-words-1 g c = words_of_form c.args.words.now c.in-Once.field-0 c.in-Once.ensures
+bounds-words-1 g c = words_of_form c.args.words.now c.in-Once.settings c.in-Once.ensures.value
 
 pub returns-in-Ok-clause-answered : goal.returns-in-Ok-clause-answered
 returns-in-Ok-clause-answered g c =
     let nothing : Bor (List ℕ) = record { ref_ptr = (0, 0); now = [] } in
-    let long = words_of_form c.args.words.now c.in-Once.field-0 c.in-Once.ensures in
+    let long = words_of_form c.args.words.now c.in-Once.settings c.in-Once.ensures.value in
+    let numbers = settings_of_form (texts c.args.words.now) c.in-Once.settings c.in-Once.ensures.value in
     record {
-      rows = c.in-Ok.rows.items;
-      answered = rw (← c.deref.ensures.value) c.answer.ensures.answered;
-      of_file = λ asked bytes held. (c.in-Ok.ensures.accepted bytes (rw (csv_name-texts c.args.words.now nothing long) at held)).1;
+      rows = c.in-Ok.chart.rows;
+      answered = c.answer.ensures.answered;
+      of_file = λ asked bytes held.
+          let chart = (c.in-Ok.ensures.chart bytes (rw (csv_name-texts c.args.words.now nothing long) at held)).1 in
+          ap (λ (chart : ChartView). chart.rows) chart ∙ ap (λ (settings : Settings). chart_rows (raws_of bytes) settings.cell settings.tick) numbers;
     }
 
-pub returns-in-Err-clause-words : goal.returns-in-Err-clause-words
-returns-in-Err-clause-words g c place = (
-  (λ is_words. let loading : is_loading c.in-Err.outcome ≡ true = c.in-Err.ensures.loading in absurd (false≢true (rw is_words at loading))),
-  (λ refused. absurd (cc)),
-)
-
-pub returns-in-Err-clause-words_untouched : goal.returns-in-Err-clause-words_untouched
-returns-in-Err-clause-words_untouched g c place is_words =
-    let loading : is_loading c.in-Err.outcome ≡ true = c.in-Err.ensures.loading in absurd (false≢true (rw is_words at loading))
+pub returns-in-Ok-clause-decided : goal.returns-in-Ok-clause-decided
+returns-in-Ok-clause-decided g c form bytes held =
+    let nothing : Bor (List ℕ) = record { ref_ptr = (0, 0); now = [] } in
+    let long = words_of_form c.args.words.now c.in-Once.settings c.in-Once.ensures.value in
+    let numbers = settings_of_form (texts c.args.words.now) c.in-Once.settings c.in-Once.ensures.value in
+    let accepted : refusal_of bytes c.in-Once.settings ≡ None = (c.in-Ok.ensures.chart bytes (rw (csv_name-texts c.args.words.now nothing long) at held)).0 in
+    let none : refusal_of bytes (settings_in (texts c.args.words.now)) ≡ None = ap (refusal_of bytes) (sym numbers) ∙ accepted in
+    inr (inr (rw none c.answer.ensures.asked))
 
 pub returns-in-Err-clause-answered : goal.returns-in-Err-clause-answered
 returns-in-Err-clause-answered g c =
@@ -41,6 +47,7 @@ returns-in-Err-clause-answered g c =
 pub returns-in-Err-clause-decided : goal.returns-in-Err-clause-decided
 returns-in-Err-clause-decided g c form bytes held =
     let nothing : Bor (List ℕ) = record { ref_ptr = (0, 0); now = [] } in
-    let long = words_of_form c.args.words.now c.in-Once.field-0 c.in-Once.ensures in
-    decided_loading c.in-Err.outcome (refusal_of bytes) c.in-Err.ensures.loading
-    (λ refused. c.in-Err.ensures.refused refused bytes (rw (csv_name-texts c.args.words.now nothing long) at held))
+    let long = words_of_form c.args.words.now c.in-Once.settings c.in-Once.ensures.value in
+    let numbers = settings_of_form (texts c.args.words.now) c.in-Once.settings c.in-Once.ensures.value in
+    decided_loading c.in-Err.outcome (refusal_of bytes (settings_in (texts c.args.words.now))) c.in-Err.ensures.loading
+        (λ refused. ap (refusal_of bytes) (sym numbers) ∙ c.in-Err.ensures.refused refused bytes (rw (csv_name-texts c.args.words.now nothing long) at held))
