@@ -1,5 +1,5 @@
 -- Anchors of rows in order: a row is its block's anchor where the row before it is of another block.
-use Rattle.std.proofs.Common.{◌≡◌, ℕ, ℤ, suc, ◌+◌, ◌*◌, ◌/◌, ◌≤◌, ◌<◌, Bool, true, false, List, [], ◌∷◌, ◌++◌, Ordering, Option, Some, None, append_assoc, refl, sym, ◌∙◌, ap, arith}
+use Rattle.std.proofs.Common.{◌≡◌, ℕ, ℤ, suc, ◌+◌, ◌*◌, ◌/◌, ◌≤◌, ◌<◌, Bool, true, false, List, [], ◌∷◌, ◌++◌, Ordering, Option, Some, None, append_assoc, eq-eqb, refl, sym, ◌∙◌, ap, arith, inl, inr, ◌⊎◌}
 use Rattle.std.specs.Prelude.{if◌then◌else◌, ◌==◌, ◌&&◌, ◌||◌, not, filter, sum_by, option_map, MatchOption, ◌<ℤ◌, ◌≤ℤ◌, ◌-ℤ◌, unsigned_abs}
 use Rattle.std.specs.Int.Signed.{lt_z}
 use Rattle.std.specs.List.{AllByRecursion, list_any}
@@ -7,6 +7,8 @@ use Rattle.std.specs.List.Sorted.{IsStrictlySortedBy}
 use Rattle.std.specs.Ordering.{MatchOrdering, int_cmp, nat_cmp, ordering_then}
 use Rattle.std.specs.declared.cmp.Ordering.TheVariants.{Less, Equal, Greater}
 use Rattle.std.proofs.lemmas.Bool.Decides.{nat_tests}
+use Rattle.std.proofs.lemmas.Bool.{and_parts, cases_lt}
+use Rattle.std.proofs.Math.Nat.{mul-le-mul_left}
 use Rattle.std.proofs.lemmas.Int.{ints}
 use Rattle.std.proofs.lemmas.Cmp.{ranked, int_ranked}
 use Rattle.std.proofs.lemmas.List.Folds.{list_any-append}
@@ -18,22 +20,142 @@ use Rattle.track_types.proofs.RowLemmas.{row_order_total}
 use Rattle.gridding.specs.Block.{block_of, is_block_of}
 use Rattle.gridding.specs.declared.counts.Block.{Block}
 
+-- the order of two rows, as an order of their objects and instants
+in_order : (m n : ℕ) (r o : Ordering) {P : Type 0} → MatchOrdering r (m < n) (m ≡ n) (n < m) → (o ≡ Less → P) → ordering_then r o ≡ Less → (m < n) ⊎ ((m ≡ n) × P)
+in_order m n Less o is behind below = inl is
+in_order m n Equal o is behind below = inr (is, behind below)
+in_order m n Greater o is behind below = absurd (cc)
+
+earlier_instant : (x y : ℤ) (o : Ordering) → MatchOrdering o (x <ℤ y) (x ≡ y) (y <ℤ x) → o ≡ Less → x <ℤ y
+earlier_instant x y Less is less = is
+earlier_instant x y Equal is less = absurd (cc)
+earlier_instant x y Greater is less = absurd (cc)
+
+pub order_cases : (a b : Row) → row_order a b ≡ Less → (a.object < b.object) ⊎ ((a.object ≡ b.object) × (a.instant <ℤ b.instant))
+order_cases a b below =
+    in_order a.object b.object (nat_cmp a.object b.object) (int_cmp a.instant b.instant)
+        (ranked a.object b.object (nat_cmp a.object b.object) refl)
+        (earlier_instant a.instant b.instant (int_cmp a.instant b.instant) (int_ranked a.instant b.instant (int_cmp a.instant b.instant) refl))
+        below
+
+and_false : (b : Bool) → (b && false) ≡ false
+and_false true = refl
+and_false false = refl
+
+and_true : (b : Bool) → (b && true) ≡ b
+and_true true = refl
+and_true false = refl
+
+or_false : (b : Bool) → (b || false) ≡ b
+or_false true = refl
+or_false false = refl
+
+-- later instants have no smaller periods
+div_mono : (m n d : ℕ) → 0 < d → m ≤ n → m / d ≤ n / d
+div_mono m n d some below =
+    elim (cases_lt (n / d) (m / d)) [
+      inl less ↦ let up : d * (n / d + 1) ≤ d * (m / d) = mul-le-mul_left d (let next : n / d + 1 ≤ m / d = omega arith in next) in absurd (omega arith)
+    | inr is ↦ is ]
+
+still_behind : (first x y : ℤ) → first ≤ℤ x → x <ℤ y → first ≤ℤ y
+still_behind first x y behind later = omega (arith, ints)
+
+squeezed : (a b row : ℕ) → a ≡ row → a ≤ b → b ≤ row → b ≡ row
+squeezed a b row same up down = omega arith
+
+elapsed_mono : (first x y : ℤ) → first ≤ℤ x → x <ℤ y → unsigned_abs (x -ℤ first) ≤ unsigned_abs (y -ℤ first)
+elapsed_mono first x y behind later = grind (arith, ints)
+
+-- of three rows in order, where the outer two are of one object
+ordered_alike : (a b row : Row) → a.object ≡ row.object →
+    (a.object < b.object) ⊎ ((a.object ≡ b.object) × (a.instant <ℤ b.instant)) →
+    (b.object < row.object) ⊎ ((b.object ≡ row.object) × (b.instant <ℤ row.instant)) →
+    (b.object ≡ row.object) × (a.instant <ℤ b.instant) × (b.instant <ℤ row.instant)
+ordered_alike a b row same (inl below) (inl above) = absurd (omega arith)
+ordered_alike a b row same (inl below) (inr (alike, above)) = absurd (omega arith)
+ordered_alike a b row same (inr (also, below)) (inl above) = absurd (omega arith)
+ordered_alike a b row same (inr (also, below)) (inr (alike, above)) = (alike, below, above)
+
 module _ (first : ℤ) (period : ℕ) where
-  -- whether a row shows that another is not an anchor
+  -- whether another row of a row's block is earlier, so that the row is not its anchor
   abbrev pub is_earlier : Row → Row → Bool
   is_earlier row other = is_same_block first period other row && lt_z other.instant row.instant
 
   -- a row that comes later in order is no earlier one
   not_earlier : (row other : Row) → row_order row other ≡ Less → is_earlier row other ≡ false
-  not_earlier row other below = ?
+  not_earlier row other below =
+      elim (order_cases row other below) [
+        inl objects ↦ let differ : (other.object == row.object) ≡ false = grind (arith, nat_tests) in rw differ refl
+      | inr same ↦ let later : row.instant <ℤ other.instant = same.1 in
+          let not_before : lt_z other.instant row.instant ≡ false = grind (arith, ints) in rw not_before (and_false _) ]
 
   not_earlier_itself : (row : Row) → is_earlier row row ≡ false
-  not_earlier_itself row = ?
+  not_earlier_itself row = let not_before : lt_z row.instant row.instant ≡ false = grind (arith, ints) in rw not_before (and_false _)
 
-  -- of rows in order, the first is earlier in the third's block only where the second is
-  earlier_between : (a b row : Row) → row_order a b ≡ Less → row_order b row ≡ Less → is_earlier row a ≡ true → is_earlier row b ≡ true
-  earlier_between a b row below above earlier = ?
-
-  -- of rows in order, one is earlier in the block of the next where they are of one block
+  -- of two rows in order, the first is earlier in the other's block where they are of one block
   earlier_block : (a row : Row) → row_order a row ≡ Less → is_earlier row a ≡ is_same_block first period a row
-  earlier_block a row below = ?
+  earlier_block a row below =
+      elim (order_cases a row below) [
+        inl objects ↦ let differ : (a.object == row.object) ≡ false = grind (arith, nat_tests) in rw differ refl
+      | inr same ↦ let later : a.instant <ℤ row.instant = same.1 in
+          let before : lt_z a.instant row.instant ≡ true = grind (arith, ints) in rw before (and_true _) ]
+
+  -- of three rows in order, the second is of the block that the first and the third are of
+  block_between : (a b row : Row) → 0 < period → first ≤ℤ a.instant → row_order a b ≡ Less → row_order b row ≡ Less →
+      is_same_block first period a row ≡ true → is_same_block first period b row ≡ true
+  block_between a b row some behind below above same =
+      let parts = and_parts (a.object == row.object) (period_of first period a == period_of first period row) same in
+      let objects : a.object ≡ row.object = grind (arith, nat_tests, parts.0) in
+      let periods : period_of first period a ≡ period_of first period row = grind (arith, nat_tests, parts.1) in
+      let one = ordered_alike a b row objects (order_cases a b below) (order_cases b row above) in
+      let up : period_of first period a ≤ period_of first period b =
+          div_mono (elapsed first a) (elapsed first b) period some (elapsed_mono first a.instant b.instant behind one.1) in
+      let behind_b : first ≤ℤ b.instant = still_behind first a.instant b.instant behind one.1 in
+      let down : period_of first period b ≤ period_of first period row =
+          div_mono (elapsed first b) (elapsed first row) period some (elapsed_mono first b.instant row.instant behind_b one.2) in
+      let same_object : (b.object == row.object) ≡ true = eq-eqb b.object row.object one.0 in
+      let same_period : (period_of first period b == period_of first period row) ≡ true =
+          eq-eqb (period_of first period b) (period_of first period row) (squeezed _ _ _ periods up down) in
+      rw (same_object, same_period) refl
+
+  seen_at : (before row next : Row) → 0 < period → (row_order before row ≡ Less) × (first ≤ℤ before.instant) → row_order row next ≡ Less →
+      row_order before next ≡ Less → (b : Bool) → is_earlier next before ≡ b → (is_earlier next before || is_earlier next row) ≡ is_earlier next row
+  seen_at before row next some above below far true is =
+      let same : is_same_block first period before next ≡ true = sym (earlier_block before next far) ∙ is in
+      let also : is_earlier next row ≡ true =
+          earlier_block row next below ∙ block_between before row next some above.1 above.0 below same in
+      rw (is, also) refl
+  seen_at before row next some above below far false is = rw is refl
+
+  -- whether the row before, if there was one, shows that a row is not an anchor
+  abbrev pub seen : Option Row → Row → Bool
+  seen None row = false
+  seen (Some before) row = is_earlier row before
+
+  -- the row before, if there was one, is below a row and behind the first instant
+  abbrev pub IsAbove : Option Row → Row → Type 0
+  IsAbove None row = Unit {0}
+  IsAbove (Some before) row = (row_order before row ≡ Less) × (first ≤ℤ before.instant)
+
+  -- of all rows before, the last one shows what they show
+  abbrev pub ShowsAll : List Row → Option Row → Type 0
+  ShowsAll front before = (row : Row) → IsAbove before row → list_any (is_earlier row) front ≡ seen before row
+
+  seen_more : (before : Option Row) (row next : Row) → 0 < period → IsAbove before row → row_order row next ≡ Less →
+      (seen before next || is_earlier next row) ≡ is_earlier next row
+  seen_more None row next some above below = refl
+  seen_more (Some before) row next some above below =
+      let far : row_order before next ≡ Less = row_order_total.trans before row next above.0 below in
+      seen_at before row next some above below far (is_earlier next before) refl
+
+  above_next : (before : Option Row) (row next : Row) → IsAbove before row → row_order row next ≡ Less → IsAbove before next
+  above_next None row next above below = tt
+  above_next (Some before) row next above below = (row_order_total.trans before row next above.0 below, above.1)
+
+  ShowsAll-push : (front : List Row) (before : Option Row) (row : Row) → 0 < period → IsAbove before row → ShowsAll front before →
+      ShowsAll (front ++ row ∷ []) (Some row)
+  ShowsAll-push front before row some above shows next below =
+      let parts : list_any (is_earlier next) (front ++ row ∷ []) ≡ (list_any (is_earlier next) front || list_any (is_earlier next) (row ∷ [])) =
+          list_any-append (is_earlier next) front (row ∷ []) in
+      let so_far : list_any (is_earlier next) front ≡ seen before next = shows next (above_next before row next above below.0) in
+      rw (parts, so_far, or_false (is_earlier next row)) (seen_more before row next some above below.0)

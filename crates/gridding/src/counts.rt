@@ -1,11 +1,8 @@
-ghost use Rattle.std.specs.Prelude.{◌≡◌, ◌+◌, ◌-◌, ◌*◌, ◌/◌, ◌^◌, ◌<◌, ◌≤◌, length, min, sum_by};
-ghost use Rattle.std.specs.List.{AllByRecursion};
-ghost use Rattle.gridding.specs.Block.{is_block_of, is_object_of};
+ghost use Rattle.std.specs.Prelude.{All, ◌≡◌, ◌+◌, ◌-◌, ◌*◌, ◌/◌, ◌^◌, ◌<◌, ◌≤◌, length, min, sum_by};
+ghost use Rattle.gridding.specs.Block.{IsInSpan, is_block_of, is_object_of};
 ghost use Rattle.track_types.specs.Limits.{IsPeriod};
 ghost use Rattle.track_types.specs.Quantities.{anchors_of, elapsed, log_length, object_count};
 ghost use Rattle.track_types.specs.Row.{IsAscending};
-
-
 
 use track_types::Row;
 
@@ -47,7 +44,7 @@ fn is_object_of(before: Option<u32>, object: u32) -> bool
 pub fn symbol_count(rows: &[Row], first: i64, span: u64, period: u64) -> u64
     requires ascending { IsAscending rows.now }
     requires few { length rows.now ≤ 2 ^ 24 }
-    requires in_span { AllByRecursion (λ row. elapsed first row < span) rows.now }
+    requires in_span { All (IsInSpan first span) rows.now }
     requires span { span ≤ 2 ^ 22 }
     requires period { IsPeriod period }
     ensures { result ≡ sum_by (log_length first span period) (anchors_of first period rows.now) }
