@@ -87,4 +87,4 @@ pub object_runs-drop : (before : Option ℕ) (rows : List Row) (i : ℕ) (d : Ro
     again ≡ is_object_of before (get_or rows i d).object →
     object_runs before (drop i rows) ≡ (if again then 0 else 1) + object_runs (Some (get_or rows i d).object) (drop (i + 1) rows)
 object_runs-drop before rows i d again below is =
-    rw (add-one, is, drop-cons rows i d) (object_runs-cons before (get_or rows i d) (drop (suc i) rows))
+    rw (add-one i, is, drop-cons rows i d) (object_runs-cons before (get_or rows i d) (drop (suc i) rows))

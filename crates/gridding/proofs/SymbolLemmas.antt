@@ -1,6 +1,6 @@
 -- Anchors of rows in order: a row is its block's anchor where the row before it is of another block.
-use Rattle.std.proofs.Common.{◌≡◌, ℕ, ℤ, suc, ◌+◌, ◌*◌, ◌/◌, ◌≤◌, ◌<◌, Bool, true, false, List, [], ◌∷◌, ◌++◌, Ordering, Option, Some, None, append_assoc, eq-eqb, refl, sym, ◌∙◌, ap, arith, inl, inr, ◌⊎◌}
-use Rattle.std.specs.Prelude.{if◌then◌else◌, ◌==◌, ◌&&◌, ◌||◌, not, filter, sum_by, option_map, MatchOption, ◌<ℤ◌, ◌≤ℤ◌, ◌-ℤ◌, unsigned_abs}
+use Rattle.std.proofs.Common.{◌≡◌, ℕ, ℤ, suc, ◌+◌, ◌*◌, ◌/◌, ◌≤◌, ◌<◌, Bool, true, false, List, [], ◌∷◌, ◌++◌, Ordering, Option, Some, None, add-one, append_assoc, drop, drop-cons, eq-eqb, get_or, length, zero-add, refl, sym, ◌∙◌, ap, arith, inl, inr, ◌⊎◌}
+use Rattle.std.specs.Prelude.{if◌then◌else◌, ◌==◌, ◌&&◌, ◌||◌, not, filter, sum_by, option_map, All, ◌<ℤ◌, ◌≤ℤ◌, ◌-ℤ◌, unsigned_abs}
 use Rattle.std.specs.Int.Signed.{lt_z}
 use Rattle.std.specs.List.{AllByRecursion, list_any}
 use Rattle.std.specs.List.Sorted.{IsStrictlySortedBy}
@@ -11,13 +11,14 @@ use Rattle.std.proofs.lemmas.Bool.{and_parts, cases_lt}
 use Rattle.std.proofs.Math.Nat.{mul-le-mul_left}
 use Rattle.std.proofs.lemmas.Int.{ints}
 use Rattle.std.proofs.lemmas.Cmp.{ranked, int_ranked}
+use Rattle.std.proofs.lemmas.List.Elements.{recursion_from_All}
 use Rattle.std.proofs.lemmas.List.Folds.{list_any-append}
 use Rattle.std.proofs.lemmas.List.Sums.{sum_by-cons}
 use Rattle.track_types.specs.Quantities.{anchors_of, elapsed, is_anchor, is_same_block, log_length, period_of}
 use Rattle.track_types.specs.Row.{IsAscending, row_order}
 use Rattle.track_types.specs.declared.row.Row.{Row}
 use Rattle.track_types.proofs.RowLemmas.{row_order_total}
-use Rattle.gridding.specs.Block.{block_of, is_block_of}
+use Rattle.gridding.specs.Block.{IsInSpan, block_of, is_block_of}
 use Rattle.gridding.specs.declared.counts.Block.{Block}
 
 -- the order of two rows, as an order of their objects and instants
@@ -159,3 +160,92 @@ module _ (first : ℤ) (period : ℕ) where
           list_any-append (is_earlier next) front (row ∷ []) in
       let so_far : list_any (is_earlier next) front ≡ seen before next = shows next (above_next before row next above below.0) in
       rw (parts, so_far, or_false (is_earlier next row)) (seen_more before row next some above below.0)
+
+  -- no later row shows that a row is not an anchor
+  none_later : (row : Row) (rest : List Row) → AllByRecursion (λ y. row_order row y ≡ Less) rest → list_any (is_earlier row) rest ≡ false
+  none_later row [] all = refl
+  none_later row (y ∷ rest) all = rw (not_earlier row y all.0, none_later row rest all.1) refl
+
+  -- a row is an anchor where the row before it does not show that it is none
+  is_anchor-seen : (front rest : List Row) (before : Option Row) (row : Row) → ShowsAll front before → IsAbove before row →
+      AllByRecursion (λ y. row_order row y ≡ Less) rest → is_anchor first period (front ++ row ∷ rest) row ≡ not (seen before row)
+  is_anchor-seen front rest before row shows above all =
+      let parts : list_any (is_earlier row) (front ++ row ∷ rest) ≡ (list_any (is_earlier row) front || list_any (is_earlier row) (row ∷ rest)) =
+          list_any-append (is_earlier row) front (row ∷ rest) in
+      let behind : list_any (is_earlier row) (row ∷ rest) ≡ false = rw (not_earlier_itself row, none_later row rest all) refl in
+      ap not (rw (parts, shows row above, behind) (or_false (seen before row)))
+
+  -- the row before shows this exactly where it is of the same block
+  seen-block : (before : Option Row) (row : Row) → IsAbove before row →
+      seen before row ≡ is_block_of (option_map (block_of first period) before) (block_of first period row)
+  seen-block None row above = refl
+  seen-block (Some before) row above = earlier_block before row above.0
+
+  -- how many terminals the blocks of rows have, where a block begins at each row that is not of the block of the row before
+  pub terminals : ℕ → Option Block → List Row → ℕ
+  terminals span before [] = 0
+  terminals span before (row ∷ rest) =
+      (if is_block_of before (block_of first period row) then 0 else log_length first span period row) + terminals span (Some (block_of first period row)) rest
+
+  terminals-cons : (span : ℕ) (before : Option Block) (row : Row) (rest : List Row) →
+      terminals span before (row ∷ rest)
+      ≡ (if is_block_of before (block_of first period row) then 0 else log_length first span period row) + terminals span (Some (block_of first period row)) rest
+  unfolding terminals
+  terminals-cons span before row rest = refl
+
+  pub terminals-nil : (span : ℕ) (before : Option Block) → terminals span before [] ≡ 0
+  unfolding terminals
+  terminals-nil span before = refl
+
+  -- what the rows that pass add up to, with one row more in front
+  sum-filter_at : (f : Row → ℕ) (p : Row → Bool) (row : Row) (rest : List Row) (left_out : Bool) → p row ≡ not left_out →
+      sum_by f (filter p (row ∷ rest)) ≡ (if left_out then 0 else f row) + sum_by f (filter p rest)
+  sum-filter_at f p row rest true is = rw is (sym (zero-add _))
+  sum-filter_at f p row rest false is = rw is (sum_by-cons f row (filter p rest))
+
+  above_all : (row : Row) (rest : List Row) → first ≤ℤ row.instant → AllByRecursion (λ y. row_order row y ≡ Less) rest → AllByRecursion (IsAbove (Some row)) rest
+  above_all row [] behind all = tt
+  above_all row (y ∷ rest) behind all = ((all.0, behind), above_all row rest behind all.1)
+
+  above_none : (rows : List Row) → AllByRecursion (IsAbove None) rows
+  above_none [] = tt
+  above_none (row ∷ rest) = (tt, above_none rest)
+
+  -- these are the terminals of all anchors
+  terminals-anchors : (span : ℕ) (front rest : List Row) (before : Option Row) → 0 < period → ShowsAll front before →
+      AllByRecursion (IsAbove before) rest → IsAscending rest → AllByRecursion (λ row. first ≤ℤ row.instant) rest →
+      terminals span (option_map (block_of first period) before) rest ≡ sum_by (log_length first span period) (filter (is_anchor first period (front ++ rest)) rest)
+  unfolding terminals IsStrictlySortedBy
+  terminals-anchors span front [] before some shows above up behind = refl
+  terminals-anchors span front (row ∷ rest) before some shows above up behind =
+      let all = front ++ row ∷ rest in
+      let length_of = log_length first span period in
+      let again = is_block_of (option_map (block_of first period) before) (block_of first period row) in
+      let anchor : is_anchor first period all row ≡ not again =
+          is_anchor-seen front rest before row shows above.0 up.0 ∙ ap not (seen-block before row above.0) in
+      let more : sum_by length_of (filter (is_anchor first period all) (row ∷ rest))
+              ≡ (if again then 0 else length_of row) + sum_by length_of (filter (is_anchor first period all) rest) =
+          sum-filter_at length_of (is_anchor first period all) row rest again anchor in
+      let others : terminals span (Some (block_of first period row)) rest
+              ≡ sum_by length_of (filter (is_anchor first period ((front ++ row ∷ []) ++ rest)) rest) =
+          terminals-anchors span (front ++ row ∷ []) rest (Some row) some (ShowsAll-push front before row some above.0 shows)
+              (above_all row rest behind.0 up.0) up.1 behind.1 in
+      let joined : (front ++ row ∷ []) ++ rest ≡ all = append_assoc front (row ∷ []) rest in
+      ap (λ n. (if again then 0 else length_of row) + n) (others ∙ ap (λ rows. sum_by length_of (filter (is_anchor first period rows) rest)) joined)
+          ∙ sym more
+
+  -- of rows in order, those at which a block begins are the anchors
+  pub terminals-ascending : (span : ℕ) (rows : List Row) → 0 < period → IsAscending rows → All (IsInSpan first span) rows →
+      terminals span None rows ≡ sum_by (log_length first span period) (anchors_of first period rows)
+  unfolding anchors_of
+  terminals-ascending span rows some up inside =
+      terminals-anchors span [] rows None some (λ row above. refl) (above_none rows) up
+          (recursion_from_All (λ row. first ≤ℤ row.instant) rows (λ k d below. (inside k d below).behind_first))
+
+  -- one row more, at a step of a loop
+  pub terminals-drop : (span : ℕ) (before : Option Block) (rows : List Row) (i : ℕ) (d : Row) (again : Bool) → i < length rows →
+      again ≡ is_block_of before (block_of first period (get_or rows i d)) →
+      terminals span before (drop i rows)
+      ≡ (if again then 0 else log_length first span period (get_or rows i d)) + terminals span (Some (block_of first period (get_or rows i d))) (drop (i + 1) rows)
+  terminals-drop span before rows i d again below is =
+      rw (add-one i, is, drop-cons rows i d) (terminals-cons span before (get_or rows i d) (drop (suc i) rows))

@@ -1,7 +1,7 @@
-ghost use Rattle.std.specs.Prelude.{All, ◌≡◌, ◌+◌, ◌-◌, ◌*◌, ◌/◌, ◌^◌, ◌<◌, ◌≤◌, length, min, sum_by};
-ghost use Rattle.gridding.specs.Block.{IsInSpan, is_block_of, is_object_of};
+ghost use Rattle.std.specs.Prelude.{◌≡◌, ◌^◌, ◌<◌, ◌≤◌, All, length, sum_by};
+ghost use Rattle.gridding.specs.Block.{IsInSpan, block_of, is_block_of, is_object_of};
 ghost use Rattle.track_types.specs.Limits.{IsPeriod};
-ghost use Rattle.track_types.specs.Quantities.{anchors_of, elapsed, log_length, object_count};
+ghost use Rattle.track_types.specs.Quantities.{anchors_of, log_length, object_count};
 ghost use Rattle.track_types.specs.Row.{IsAscending};
 
 use track_types::Row;
@@ -52,27 +52,34 @@ pub fn symbol_count(rows: &[Row], first: i64, span: u64, period: u64) -> u64
     let mut count = 0;
     let mut before = None;
     for row in rows {
-        let elapsed = row.instant.abs_diff(first);
-        let block = Block {
-            object: row.object,
-            period: elapsed / period,
-        };
+        let block = block_of(row, first, period);
         if !is_block_of(before, block) {
-            count += log_length(elapsed, span, period);
+            count += log_length(row, first, span, period);
         }
         before = Some(block);
     }
     count
 }
 
-// How many instants of its period come after an anchor that so many instants come before.
-fn log_length(elapsed: u64, span: u64, period: u64) -> u64
-    requires in_span { elapsed < span }
+fn block_of(row: &Row, first: i64, period: u64) -> Block
+    requires { 0 < period }
+    ensures { result ≡ block_of first period row.now }
+{
+    Block {
+        object: row.object,
+        period: row.instant.abs_diff(first) / period,
+    }
+}
+
+// How many instants of its period come after an anchor's.
+fn log_length(anchor: &Row, first: i64, span: u64, period: u64) -> u64
+    requires in_span { IsInSpan first span anchor.now }
     requires span { span ≤ 2 ^ 22 }
     requires period { IsPeriod period }
-    ensures exact { result ≡ min ((elapsed / period + 1) * period) span - (elapsed + 1) }
-    ensures within { result ≤ span }
+    ensures exact { result ≡ log_length first span period anchor.now }
+    ensures within { result ≤ 2 ^ 22 }
 {
+    let elapsed = anchor.instant.abs_diff(first);
     let period_end = (elapsed / period + 1) * period;
     period_end.min(span) - (elapsed + 1)
 }
