@@ -2,3 +2,5 @@ mod KeptLemmas
 mod DedupLemmas
 mod RunLemmas
 mod SymbolLemmas
+mod ExtentLemmas
+mod LimitLemmas

@@ -27,6 +27,12 @@ first_past rows period = find is_past (quantities_of rows period)
 abbrev pub grid_limit : List RawRow → ℕ → ℕ → ℕ → Option (LimitKind × ℕ)
 grid_limit raws cell tick period = first_past (chart_rows raws cell tick) period
 
+-- a fault that tells the quantity
+abbrev pub IsRefusal : Option (LimitKind × ℕ) → GridFault → Type 0
+IsRefusal past (Limit kind value) = past ≡ Some (kind, value)
+IsRefusal past Empty = ⊥
+IsRefusal past Memory = ⊥
+
 -- a fault that raw rows may be answered: their own, and want of memory whatever they are
 abbrev pub IsFaultOf : List RawRow → ℕ → ℕ → ℕ → GridFault → Type 0
 IsFaultOf raws cell tick period Memory = Unit {0}

@@ -1,5 +1,5 @@
-ghost use Rattle.std.specs.Prelude.{◌≡◌, ◌+◌, ◌^◌, ◌<◌, ◌≤◌, All, length, map, unsigned_abs, pos, neg_ℤ, ◌-ℤ◌, ◌≤ℤ◌};
-ghost use Rattle.track_types.specs.Near.{IsRowInRange};
+ghost use Rattle.std.specs.Prelude.{◌≡◌, ◌+◌, ◌<◌, ◌-ℤ◌, All, length, map, unsigned_abs};
+ghost use Rattle.track_types.specs.Near.{IsNear};
 ghost use Rattle.track_types.specs.Quantities.{greatest, least};
 
 use track_types::Row;
@@ -38,7 +38,10 @@ impl Extent {
 
     /// From the least to the greatest of rows on an axis.
     pub fn of(rows: &[Row], axis: Axis) -> Self
-        requires { 0 < length rows.now }
+        requires some { 0 < length rows.now }
+        requires near { All (λ row. IsNear (coordinate axis row)) rows.now }
+        ensures near_least { IsNear result.least }
+        ensures near_greatest { IsNear result.greatest }
         ensures least { result.least ≡ least (map (coordinate axis) rows.now) }
         ensures greatest { result.greatest ≡ greatest (map (coordinate axis) rows.now) }
     {
@@ -49,5 +52,14 @@ impl Extent {
             greatest = greatest.max(axis.coordinate(row));
         }
         Extent { least, greatest }
+    }
+
+    /// How many whole numbers there are, the least and the greatest among them.
+    pub fn width(self) -> u64
+        requires least { IsNear self.least }
+        requires greatest { IsNear self.greatest }
+        ensures { result ≡ unsigned_abs (self.greatest -ℤ self.least) + 1 }
+    {
+        self.greatest.abs_diff(self.least) + 1
     }
 }

@@ -10,6 +10,7 @@ mod chart_making;
 mod counts;
 mod extents;
 mod floor;
+mod limits;
 mod rows;
 #[cfg(test)]
 mod tests;

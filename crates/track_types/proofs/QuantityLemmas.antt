@@ -1,9 +1,13 @@
 -- The least and the greatest of numbers, as a loop finds them.
-use Rattle.std.proofs.Common.{◌≡◌, ◌<◌, List, [], ◌∷◌, length, get_or, map, sym, arith}
-use Rattle.std.specs.Prelude.{fold, ℤ}
+use Rattle.std.proofs.Common.{◌≡◌, ◌+◌, ◌<◌, List, [], ◌∷◌, length, get_or, map, refl, sym, arith}
+use Rattle.std.specs.Prelude.{fold, ℤ, pos, ◌≤ℤ◌, ◌-ℤ◌, unsigned_abs, All}
 use Rattle.std.specs.Int.{int_max, int_min}
 use Rattle.std.proofs.lemmas.List.Folds.{fold-map}
-use Rattle.track_types.specs.Quantities.{least, greatest}
+use Rattle.std.proofs.lemmas.Int.{fold-int_max_bounds, fold-int_min_bounds, ints}
+use Rattle.std.proofs.lemmas.List.{get_or-map, length-map}
+use Rattle.std.proofs.lemmas.List.Elements.{All-cons, All-nil}
+use Rattle.track_types.specs.Quantities.{elapsed, first_of, greatest, instants_of, last_of, least, span_of}
+use Rattle.track_types.specs.declared.row.Row.{Row}
 
 int_min-same : (z : ℤ) → int_min z z ≡ z
 int_min-same z = grind arith
@@ -22,3 +26,38 @@ pub greatest-from_first : {X : Type 0} (f : X → ℤ) (xs : List X) (d : X) →
     fold (λ z x. int_max z (f x)) (f (get_or xs 0 d)) xs ≡ greatest (map f xs)
 greatest-from_first f [] d some = absurd (omega arith)
 greatest-from_first f (x ∷ xs) d some = rw (int_max-same (f x)) (sym (fold-map int_max f (f x) xs))
+
+-- what holds of all that is made of elements holds of each of these
+all_from_map : {X : Type 0} (P : ℤ → Type 0) (f : X → ℤ) (xs : List X) → All P (map f xs) → All (λ x. P (f x)) xs
+all_from_map P f xs all k d below =
+    let there : k < length (map f xs) = rw length-map below in
+    rw (get_or-map f xs k d (f d) below) at (all k (f d) there)
+
+-- none is below the least, and none above the greatest
+least-below : (zs : List ℤ) → All (λ z. least zs ≤ℤ z) zs
+least-below [] = All-nil (λ z. pos 0 ≤ℤ z)
+least-below (z ∷ zs) =
+    let bounds = fold-int_min_bounds z zs (fold int_min z zs) refl in
+    All-cons (λ y. fold int_min z zs ≤ℤ y) z zs bounds.0 bounds.1
+
+greatest-above : (zs : List ℤ) → All (λ z. z ≤ℤ greatest zs) zs
+greatest-above [] = All-nil (λ z. z ≤ℤ pos 0)
+greatest-above (z ∷ zs) =
+    let bounds = fold-int_max_bounds z zs (fold int_max z zs) refl in
+    All-cons (λ y. y ≤ℤ fold int_max z zs) z zs bounds.0 bounds.1
+
+-- no row is before the first instant
+pub first_of-below : (rows : List Row) → All (λ row. first_of rows ≤ℤ row.instant) rows
+first_of-below rows = all_from_map (λ z. first_of rows ≤ℤ z) (λ row. row.instant) rows (least-below (instants_of rows))
+
+-- no row is after the last instant
+pub last_of-above : (rows : List Row) → All (λ row. row.instant ≤ℤ last_of rows) rows
+last_of-above rows = all_from_map (λ z. z ≤ℤ last_of rows) (λ row. row.instant) rows (greatest-above (instants_of rows))
+
+within_width : (low z high : ℤ) → low ≤ℤ z → z ≤ℤ high → unsigned_abs (z -ℤ low) < unsigned_abs (high -ℤ low) + 1
+within_width low z high above below = grind (arith, ints)
+
+-- each row lies in the span
+pub elapsed-span : (rows : List Row) → All (λ row. elapsed (first_of rows) row < span_of rows) rows
+elapsed-span rows k d below =
+    within_width (first_of rows) (get_or rows k d).instant (last_of rows) (first_of-below rows k d below) (last_of-above rows k d below)
