@@ -1,12 +1,14 @@
-//! The plain values that all crates of gract speak of: cells, rows, limits, and whole numbers in text.
+//! The plain values that all crates of gract speak of: cells, rows, charts and their limits, lists
+//! that contracts see as lists, and whole numbers in text.
 //!
-//! `number` is exact: a word is no numeral, or one that is too large, or its value.
-//! The crate stands on std alone.
+//! `number` is exact: a word is no numeral, or one that is too large, or its value. A `Chart` keeps
+//! in its type all that holds of gridded rows. The crate stands on std alone.
 #![tactic(auto)]
 
 mod cell;
 mod chart;
 mod limit;
+mod lists;
 mod memory;
 mod numeral;
 mod raw_row;
@@ -17,6 +19,7 @@ mod tests;
 pub use cell::Cell;
 pub use chart::Chart;
 pub use limit::{LimitKind, MAX_EXTENT, MAX_HEIGHT};
+pub use lists::{List32, List64, Lists32, PairList};
 pub use memory::Memory;
 pub use numeral::{Numeral, number};
 pub use raw_row::{RawRow, RowFault};
