@@ -1,0 +1,5 @@
+pub mod WalkLemmas
+mod CycleLemmas
+mod FlawLemmas
+mod SearchLemmas
+mod SettledLemmas

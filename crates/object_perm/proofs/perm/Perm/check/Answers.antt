@@ -1,0 +1,32 @@
+use Rattle.std.proofs.Common.{◌≡◌, Some, ap, sym, ◌∙◌, subst, List, Option, ℕ}
+use Rattle.object_perm.specs.Permutation.{first_flaw}
+use Rattle.object_perm.specs.Shortcuts.{LeadBack}
+use Rattle.object_perm.proofs.FlawLemmas.{permutes-from_none, no_permutation}
+use Rattle.object_perm.proofs.perm.Perm.check.Goals as goal
+
+pub returns-in-Some-clause-flaw : goal.returns-in-Some-clause-flaw
+returns-in-Some-clause-flaw c =
+    let flaw : first_flaw c.args.list ≡ Some c.in-Some.index =
+    sym (ap first_flaw c.as_slice.ensures) ∙ sym c.in_ok-index.ensures ∙ c.in-Some.is in
+    (flaw, no_permutation c.args.list c.in-Some.index flaw)
+
+pub find_shortcuts-requires-clause-permutes : goal.find_shortcuts-requires-clause-permutes
+find_shortcuts-requires-clause-permutes c =
+    permutes-from_none c.as_slice-2.result.now
+    (ap first_flaw (c.as_slice-2.ensures ∙ sym c.as_slice.ensures) ∙ sym c.in_ok-index.ensures ∙ c.in_default.is)
+
+pub returns-clause-exact : goal.returns-clause-exact
+returns-clause-exact c =
+    permutes-from_none c.args.list (sym (ap first_flaw c.as_slice.ensures) ∙ sym c.in_ok-index.ensures ∙ c.in_default.is)
+
+pub invariant_of-result : goal.invariant_of-result
+invariant_of-result c =
+    let lead : LeadBack c.as_slice-2.result.now c.in_ok-targets.targets.items = c.in_ok-targets.ensures in
+    let packed : c.in_ok-shortcuts.shortcuts ≡ c.in_ok-targets.targets.items = c.in_ok-shortcuts.ensures in
+    let P : List ℕ → Type 0 = λ values. LeadBack values c.in_ok-targets.targets.items in
+    let Q : List (Option ℕ) → Type 0 = λ shortcuts. LeadBack c.args.list shortcuts in
+    record {
+      permutes = permutes-from_none c.args.list (sym (ap first_flaw c.as_slice.ensures) ∙ sym c.in_ok-index.ensures ∙ c.in_default.is);
+      short = c.requires;
+      lead_back = subst Q (sym packed) (subst P c.as_slice-2.ensures lead);
+    }

@@ -1,0 +1,5 @@
+pub mod Permutation
+pub mod Fault
+pub mod Walk
+pub mod Shortcuts
+pub mod Settled

@@ -1,0 +1,16 @@
+//! Permutations of fewer than 2^32 places, which tell where a value stands in at most 33 reads.
+//!
+//! `Perm::check` accepts exactly the permutations; contracts see a `Perm` as the list that it was
+//! made from. The crate stands on `track_types` and `step_count`.
+#![tactic(auto)]
+
+mod cycles;
+mod fault;
+mod flaws;
+mod perm;
+mod shortcuts;
+#[cfg(test)]
+mod tests;
+
+pub use fault::PermFault;
+pub use perm::Perm;
