@@ -3,3 +3,4 @@ pub mod QuantityLemmas
 pub mod AscendingLemmas
 pub mod RowLemmas
 mod Examples
+mod NumeralExamples

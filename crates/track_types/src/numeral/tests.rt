@@ -1,0 +1,29 @@
+use super::{Numeral, number};
+use std::test::Fail;
+
+#[test]
+fn a_word_is_a_numeral_or_too_large_or_none(rt: HostRuntime) -> Result<(), Fail> {
+    let cases: [(&[u8], Numeral); 8] = [
+        (b"0", Numeral::Value(0)),
+        (b" \t+007 \t", Numeral::Value(7)),
+        (
+            b"4611686018427387904",
+            Numeral::Value(0x4000_0000_0000_0000),
+        ),
+        (
+            b"-4611686018427387904",
+            Numeral::Value(-0x4000_0000_0000_0000),
+        ),
+        (b"4611686018427387905", Numeral::Large),
+        (
+            b"-00099999999999999999999999999999999999999999",
+            Numeral::Large,
+        ),
+        (b"- 1", Numeral::Not),
+        (b"", Numeral::Not),
+    ];
+    for (word, numeral) in cases {
+        assert_eq!(rt; number(word), numeral);
+    }
+    Ok(())
+}
