@@ -3,3 +3,4 @@ pub mod RequestLemmas
 pub mod KeptLemmas
 pub mod SessionLemmas
 pub mod OutcomeLemmas
+mod Examples

@@ -14,12 +14,12 @@ first_bad-fits kind kinds word words place none = by_test (fits_word kind word) 
     by_test false none = cc
 
 -- words without a bad one: as many as are wanted, and each fits
-pub record IsForm (kinds : List WordKind) (words : List (Bor (List ℕ))) : Type 0 where
+pub record FillsForm (kinds : List WordKind) (words : List (Bor (List ℕ))) : Type 0 where
   pub as_many : length words ≡ length kinds
   pub fit : (k : ℕ) (kind : WordKind) (word : Bor (List ℕ)) → k < length kinds → fits_word (get_or kinds k kind) (get_or words k word).now ≡ true
 
 form-cons : (kind : WordKind) (kinds : List WordKind) (word : Bor (List ℕ)) (words : List (Bor (List ℕ))) →
-    fits_word kind word.now ≡ true → IsForm kinds words → IsForm (kind ∷ kinds) (word ∷ words)
+    fits_word kind word.now ≡ true → FillsForm kinds words → FillsForm (kind ∷ kinds) (word ∷ words)
 form-cons kind kinds word words first rest = record { as_many = omega (arith, rest.as_many); fit = fits }
   where
     fits : (k : ℕ) (other : WordKind) (nothing : Bor (List ℕ)) → k < length (kind ∷ kinds) →
@@ -28,7 +28,7 @@ form-cons kind kinds word words first rest = record { as_many = omega (arith, re
     fits (suc k) other nothing below = rest.fit k other nothing (omega arith)
 
 -- words without a bad one have the form
-pub form_of : (kinds : List WordKind) (words : List (Bor (List ℕ))) (place : ℕ) → first_bad kinds (texts words) place ≡ None → IsForm kinds words
+pub form_of : (kinds : List WordKind) (words : List (Bor (List ℕ))) (place : ℕ) → first_bad kinds (texts words) place ≡ None → FillsForm kinds words
 form_of [] [] place none = record { as_many = refl; fit = λ k kind word below. absurd (omega arith) }
 form_of [] (word ∷ words) place none = absurd (cc)
 form_of (kind ∷ kinds) [] place none = absurd (cc)

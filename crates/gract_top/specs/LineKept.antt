@@ -8,6 +8,7 @@ pub record LineKept : Type 0 where
   pub front : List ℕ
   pub has_word : Bool
 
+-- a byte that is no gap
 abbrev pub is_in_word : ℕ → Bool
 is_in_word byte = not (is_gap byte)
 

@@ -18,6 +18,7 @@ parted is_end (byte ∷ rest) =
     let parts = parted is_end rest in
     if is_end byte then record { ended = [] ∷ parts.ended; left = parts.left } else begin_first byte parts.ended parts.left
 
+-- the byte that ends a line
 abbrev pub is_line_feed : ℕ → Bool
 is_line_feed byte = byte == 10
 
@@ -42,6 +43,7 @@ lines_of input = whole_lines input ++ if_any (unended_line input)
 abbrev pub is_gap : ℕ → Bool
 is_gap byte = ((byte == 32) || (byte == 9)) || (byte == 13)
 
+-- whether a text is not empty
 abbrev pub has_byte : List ℕ → Bool
 has_byte [] = false
 has_byte (byte ∷ rest) = true

@@ -7,6 +7,7 @@ use Rattle.track_types.specs.declared.raw_row.RowFault.TheVariants as fault
 use Rattle.gract_top.specs.declared.outcome.Outcome.{Outcome}
 use Rattle.gract_top.specs.declared.outcome.Outcome.TheVariants as outcome
 
+-- the status of an outcome
 abbrev pub status_of : Outcome → ℕ
 status_of outcome.Done = 0
 status_of (outcome.Words place) = 2
@@ -18,6 +19,7 @@ status_of outcome.ListenFailed = 6
 status_of outcome.SayFailed = 6
 status_of outcome.Memory = 7
 
+-- the name of a quantity in a text
 abbrev pub limit_name : LimitKind → List ℕ
 limit_name limit.Csv = codes "csv"
 limit_name limit.Rows = codes "rows"
@@ -29,17 +31,19 @@ limit_name limit.Symbols = codes "symbols"
 limit_name limit.Index = codes "index"
 limit_name limit.Questions = codes "questions"
 
--- what is wrong with a record, before and behind the number of a field or of the fields
+-- what is wrong with a record: the words before the number of a field or of the fields
 abbrev pub before_field : RowFault → List ℕ
 before_field fault.Count = codes " has "
 before_field fault.NotNumber = codes " field "
 before_field fault.Range = codes " field "
 
+-- the words behind that number
 abbrev pub behind_field : RowFault → List ℕ
 behind_field fault.Count = codes " fields"
 behind_field fault.NotNumber = codes " is not a number"
 behind_field fault.Range = codes " is out of range"
 
+-- the line of an outcome; none where everything was done
 abbrev pub text_of : Outcome → List ℕ
 text_of outcome.Done = []
 text_of (outcome.Words place) = codes "gract: word " ++ decimal place ++ codes " is not as expected"

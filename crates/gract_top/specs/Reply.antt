@@ -19,6 +19,7 @@ position_reply None = said_line (codes "ok 0")
 position_reply (Some cell) =
     said_line (signed_decimal cell.x ++ codes " " ++ signed_decimal cell.y) ++ said_line (codes "ok 1")
 
+-- what is said for a question
 abbrev pub question_reply : List Row → Question → List ℕ
 question_reply rows Blank = []
 question_reply rows (Position object instant) = position_reply (cell_at rows object instant)

@@ -33,6 +33,7 @@ once_words = File ∷ Number 1 (2 ^ 30) ∷ Number 1 (2 ^ 30) ∷ Number 1 (2 ^ 
 abbrev pub natural_value : List ℕ → ℕ
 natural_value word = magnitude (numeral_of word)
 
+-- the numbers of the words behind `once`
 abbrev pub settings_of : List (List ℕ) → Settings
 settings_of words = record {
   cell = natural_value (slice_index_or words 1 []);
@@ -40,10 +41,12 @@ settings_of words = record {
   period = natural_value (slice_index_or words 3 []);
 }
 
+-- a request that is refused where a word is bad
 abbrev pub refused_or : Option ℕ → Settings → Request
 refused_or (Some place) settings = Refused place
 refused_or None settings = Once settings
 
+-- what the words behind `once` ask for
 abbrev pub once_of : List (List ℕ) → Request
 once_of words = refused_or (first_bad once_words words 2) (settings_of words)
 
@@ -65,6 +68,7 @@ csv_name words = slice_index_or words 1 []
 abbrev pub texts : List (Bor (List ℕ)) → List (List ℕ)
 texts words = map (λ word. word.now) words
 
+-- whether a request is not refused
 abbrev pub is_accepted : Request → Bool
 is_accepted (Once settings) = true
 is_accepted (Refused place) = false

@@ -24,6 +24,7 @@ pub record Talk : Type 0 where
   pub taken : ℕ
   pub said : Option (List ℕ)
 
+-- what is known, put together
 abbrev pub talk : Option (List ℕ) → ℕ → Option (List ℕ) → Talk
 talk rest taken said = record { rest = rest; taken = taken; said = said }
 

@@ -1,7 +1,8 @@
 //! The outside of the program: files that are loaded, a source of questions, a sink of replies.
 //!
 //! Each is a trait whose ghost members say what is known of its contents and how many faults its
-//! device made. A call fails only where that count rose, so a caller can hold the device to it.
+//! device made. A call fails only where that count rose or, at `begin`, where the files are told and
+//! hold no such name, so a caller can hold the device to it.
 //! Objects in memory tell all and fail as they are told; the real ones stand over std.
 #![tactic(auto)]
 

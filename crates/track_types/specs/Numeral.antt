@@ -21,6 +21,7 @@ without_blanks_behind word = reverse (without_blanks_before (reverse word))
 abbrev pub trimmed : List ℕ → List ℕ
 trimmed word = without_blanks_behind (without_blanks_before word)
 
+-- a decimal digit
 abbrev pub is_digit : ℕ → Bool
 is_digit byte = nat_le 48 byte && nat_le byte 57
 
