@@ -19,7 +19,7 @@ use Rattle.gridding.specs.ChartOf.{kept, ordered, placed}
 abbrev pub found : Row → List Row → Option Row
 found sought rows = find (is_same_place sought) rows
 
-place_equiv : IsEquivalence is_same_place
+pub place_equiv : IsEquivalence is_same_place
 place_equiv = and_equiv (on_equiv (λ row. row.object) nat_eq_equiv) (on_equiv (λ row. row.instant) int_eq_equiv)
 
 -- two rows of one place are alike to each test for a place
@@ -65,7 +65,7 @@ any-kept_at sought row later true true again passes rest =
 any-kept_at sought row later true false again passes rest = rw (again, passes) rest
 any-kept_at sought row later false passing again passes rest = rw (again, rest) refl
 
-any-kept : (sought : Row) (rows : List Row) → list_any (is_same_place sought) (kept rows) ≡ list_any (is_same_place sought) rows
+pub any-kept : (sought : Row) (rows : List Row) → list_any (is_same_place sought) (kept rows) ≡ list_any (is_same_place sought) rows
 any-kept sought [] = unfold kept in refl
 any-kept sought (row ∷ later) =
     any-kept_at sought row later (list_any (is_same_place row) later) (is_same_place sought row) refl refl (any-kept sought later)
@@ -136,7 +136,7 @@ unfolding placed
 all-placed_at P row next rest true before one here all behind = rw before (here, behind)
 all-placed_at P row next rest false before one here all behind = rw before (one, (here, all))
 
-all-placed : (P : Row → Type 0) (row : Row) (rows : List Row) → P row → AllByRecursion P rows → AllByRecursion P (placed row rows)
+pub all-placed : (P : Row → Type 0) (row : Row) (rows : List Row) → P row → AllByRecursion P rows → AllByRecursion P (placed row rows)
 all-placed P row [] one all = unfold placed in (one, tt)
 all-placed P row (next ∷ rest) one all =
     all-placed_at P row next rest (is_lt (row_order next row)) refl one all.0 all.1 (all-placed P row rest one all.1)
@@ -191,7 +191,7 @@ is_some-find : {X : Type 0} (p : X → Bool) (xs : List X) → is_some (find p x
 is_some-find p [] = refl
 is_some-find p (x ∷ xs) = is_some-cond (p x) (list_any p xs) x (find p xs) (is_some-find p xs)
 
-any-ordered : (sought : Row) (rows : List Row) → list_any (is_same_place sought) (ordered rows) ≡ list_any (is_same_place sought) rows
+pub any-ordered : (sought : Row) (rows : List Row) → list_any (is_same_place sought) (ordered rows) ≡ list_any (is_same_place sought) rows
 any-ordered sought rows =
     sym (is_some-find (is_same_place sought) (ordered rows)) ∙ ap is_some (found-ordered sought rows) ∙ is_some-find (is_same_place sought) rows
 

@@ -1,3 +1,4 @@
+pub mod ChartLemmas
 mod KeptLemmas
 mod DedupLemmas
 mod RunLemmas

@@ -1,6 +1,11 @@
 -- Which quantity is refused.
-use Rattle.std.proofs.Common.{◌≡◌, ℕ, true, false, Option, Some, None, Result, Ok, Err, refl, sym, subst}
-use Rattle.std.specs.Prelude.{IfErr, List}
+use Rattle.std.proofs.Common.{◌≡◌, ℕ, ◌^◌, ◌<◌, ◌≤◌, Bool, true, false, [], ◌∷◌, length, arith, Option, Some, None, Result, Ok, Err, refl, sym, subst}
+use Rattle.std.specs.Prelude.{All, IfErr, List, find, nat_lt}
+use Rattle.std.proofs.lemmas.Bool.Decides.{nat_tests}
+use Rattle.track_types.specs.Chart.{IsChart, chart_with}
+use Rattle.track_types.specs.Limits.{IsPeriod, IsResolution, limit_of}
+use Rattle.track_types.specs.Near.{IsRowInRange}
+use Rattle.track_types.specs.Row.{IsAscending}
 use Rattle.track_types.specs.Quantities.{block_count, extent_of, object_count, span_of, symbol_count}
 use Rattle.track_types.specs.declared.limit.LimitKind.{LimitKind}
 use Rattle.track_types.specs.declared.limit.LimitKind.TheVariants.{Objects, Span, Extent, Blocks, Symbols}
@@ -22,3 +27,44 @@ pub symbols_past : (rows : List Row) (period : ℕ) →
     is_past (Blocks, block_count rows period) ≡ false → is_past (Symbols, symbol_count rows period) ≡ true →
     first_past rows period ≡ Some (Symbols, symbol_count rows period)
 symbols_past rows period objects span extent blocks symbols = rw (objects, span, extent, blocks, symbols) refl
+
+-- a search that finds nothing passed each element over
+passed_over_at : {X : Type 0} (p : X → Bool) (x : X) (xs : List X) (b : Bool) → p x ≡ b → find p (x ∷ xs) ≡ None → (p x ≡ false) × (find p xs ≡ None)
+passed_over_at p x xs true is none = let some : Some x ≡ None = rw is at none in absurd (cc)
+passed_over_at p x xs false is none = (is, rw is at none)
+
+passed_over : {X : Type 0} (p : X → Bool) (x : X) (xs : List X) → find p (x ∷ xs) ≡ None → (p x ≡ false) × (find p xs ≡ None)
+passed_over p x xs none = passed_over_at p x xs (p x) refl none
+
+within_limit : (limit value : ℕ) → nat_lt limit value ≡ false → value ≤ limit
+within_limit limit value not_past = grind (arith, nat_tests)
+
+-- rows in order and in range, of which no quantity passes its limit, are those of a chart
+pub chart_with-IsChart : (rows : List Row) (cell tick period : ℕ) → 0 < length rows → length rows ≤ 2 ^ 24 → IsAscending rows → All IsRowInRange rows →
+    IsResolution cell → IsResolution tick → IsPeriod period → first_past rows period ≡ None → IsChart (chart_with rows cell tick period)
+chart_with-IsChart rows cell tick period some few up in_range is_cell is_tick is_period none =
+    let behind_blocks = (Symbols, symbol_count rows period) ∷ [] in
+    let behind_extent = (Blocks, block_count rows period) ∷ behind_blocks in
+    let behind_span = (Extent, extent_of rows) ∷ behind_extent in
+    let behind_objects = (Span, span_of rows) ∷ behind_span in
+    let objects = passed_over is_past (Objects, object_count rows) behind_objects none in
+    let span = passed_over is_past (Span, span_of rows) behind_span objects.1 in
+    let extent = passed_over is_past (Extent, extent_of rows) behind_extent span.1 in
+    let blocks = passed_over is_past (Blocks, block_count rows period) behind_blocks extent.1 in
+    let symbols = passed_over is_past (Symbols, symbol_count rows period) [] blocks.1 in
+    record {
+      some = some;
+      rows = few;
+      ascending = up;
+      in_range = in_range;
+      first = refl;
+      last = refl;
+      cell = is_cell;
+      tick = is_tick;
+      period = is_period;
+      objects = within_limit (limit_of Objects) (object_count rows) objects.0;
+      span = within_limit (limit_of Span) (span_of rows) span.0;
+      extent = within_limit (limit_of Extent) (extent_of rows) extent.0;
+      blocks = within_limit (limit_of Blocks) (block_count rows period) blocks.0;
+      symbols = within_limit (limit_of Symbols) (symbol_count rows period) symbols.0;
+    }

@@ -5,6 +5,8 @@ ghost use Rattle.track_types.specs.Limits.{IsPeriod, IsResolution, limit_of};
 ghost use Rattle.track_types.specs.Near.{IsRawInRange};
 
 use crate::fault::GridFault;
+use crate::limits::check_limits;
+use crate::rows::chart_rows;
 use std::alloc::Global;
 use track_types::{Chart, LimitKind, RawRow};
 
@@ -32,5 +34,10 @@ pub fn grid(
         × (chart ≡ chart_of rows.now cell tick period)) }
     ensures fault { IfErr result (IsFaultOf rows.now cell tick period) }
 {
-    Err(GridFault::Memory)
+    if rows.is_empty() {
+        return Err(GridFault::Empty);
+    }
+    let made = chart_rows(alloc, rows, cell, tick)?;
+    check_limits(made.as_slice(), period)?;
+    Ok(Chart::new(made, cell, tick, period))
 }

@@ -1,5 +1,8 @@
-use std::alloc::{AllocError, AllocFailed};
-use track_types::{LimitKind, Memory};
+ghost use Rattle.std.specs.Prelude.{◌≡◌};
+ghost use Rattle.gridding.specs.declared.fault.GridFault.TheVariants.{Memory};
+
+use std::alloc::AllocError;
+use track_types::LimitKind;
 
 /// Why rows have no chart.
 #[derive(Clone, Copy, Debug, PartialEq, Eq)]
@@ -16,8 +19,10 @@ pub enum GridFault {
     Memory,
 }
 
-impl From<Memory> for GridFault {
-    fn from(_refused: Memory) -> Self {
+impl From<AllocError> for GridFault {
+    ghost from_gives = { λ _ fault. fault ≡ Memory };
+
+    fn from(_refused: AllocError) -> Self {
         GridFault::Memory
     }
 }

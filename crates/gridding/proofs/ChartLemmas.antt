@@ -1,0 +1,104 @@
+-- What holds of the rows of every chart.
+use Rattle.std.proofs.Common.{◌≡◌, ◌≢◌, ℕ, suc, ◌+◌, ◌/◌, ◌<◌, ◌≤◌, Bool, true, false, cond, List, [], ◌∷◌, length, map, Option, Some, None, refl, sym, ◌∙◌, ap, arith}
+use Rattle.std.specs.Prelude.{All, ℤ, pos, negsuc, find, reverse, option_map, ◌||◌}
+use Rattle.std.specs.List.{AllByRecursion, list_any}
+use Rattle.std.specs.Ordering.{is_lt}
+use Rattle.std.proofs.Math.Nat.{div-le_self}
+use Rattle.std.proofs.lemmas.Bool.{cases_lt}
+use Rattle.std.proofs.lemmas.Int.{ints}
+use Rattle.std.proofs.lemmas.List.{length-map}
+use Rattle.std.proofs.lemmas.List.Elements.{All-from_recursion, recursion_from_All}
+use Rattle.track_types.specs.Limits.{IsResolution}
+use Rattle.track_types.specs.Near.{IsNear, IsRawInRange, IsRowInRange}
+use Rattle.track_types.specs.Row.{IsAscending, is_same_place, row_order}
+use Rattle.track_types.specs.declared.raw_row.RawRow.{RawRow}
+use Rattle.track_types.specs.declared.row.Row.{Row}
+use Rattle.gridding.proofs.KeptLemmas.{all-placed, any-kept, any-ordered, ascending-kept, place_equiv}
+use Rattle.gridding.specs.ChartOf.{chart_rows, gridded, kept, ordered, placed}
+use Rattle.gridding.specs.Floor.{floor_div}
+
+-- they are in order
+pub chart_rows-ascending : (raws : List RawRow) (cell tick : ℕ) → IsAscending (chart_rows raws cell tick)
+unfolding chart_rows
+chart_rows-ascending raws cell tick = ascending-kept (map (gridded cell tick) raws)
+
+-- a quotient is not farther from 0
+IsNear-floor_div : (a : ℤ) (d : ℕ) → IsNear a → IsNear (floor_div a d)
+IsNear-floor_div (pos a) d near = let less : a / d ≤ a = div-le_self a d in
+    record { low = omega (arith, ints); high = omega (arith, ints, near.high) }
+IsNear-floor_div (negsuc a) d near = let less : a / d ≤ a = div-le_self a d in
+    record { low = omega (arith, ints, near.low); high = omega (arith, ints) }
+
+-- what holds of all rows holds of those that are kept, and of these in order
+all-kept_at : (P : Row → Type 0) (row : Row) (later : List Row) (again : Bool) → list_any (is_same_place row) later ≡ again → P row →
+    AllByRecursion P (kept later) → AllByRecursion P (kept (row ∷ later))
+unfolding kept
+all-kept_at P row later true again one all = rw again all
+all-kept_at P row later false again one all = rw again (one, all)
+
+all-kept : (P : Row → Type 0) (rows : List Row) → AllByRecursion P rows → AllByRecursion P (kept rows)
+all-kept P [] all = unfold kept in tt
+all-kept P (row ∷ later) all = all-kept_at P row later (list_any (is_same_place row) later) refl all.0 (all-kept P later all.1)
+
+all-ordered : (P : Row → Type 0) (rows : List Row) → AllByRecursion P rows → AllByRecursion P (ordered rows)
+unfolding ordered
+all-ordered P [] all = tt
+all-ordered P (row ∷ rest) all = all-placed P row (ordered rest) all.0 (all-ordered P rest all.1)
+
+-- they are in range
+pub chart_rows-in_range : (raws : List RawRow) (cell tick : ℕ) → All IsRawInRange raws → All IsRowInRange (chart_rows raws cell tick)
+unfolding chart_rows
+chart_rows-in_range raws cell tick near =
+    All-from_recursion IsRowInRange (chart_rows raws cell tick)
+        (all-ordered IsRowInRange (kept (map (gridded cell tick) raws))
+            (all-kept IsRowInRange (map (gridded cell tick) raws) (gridded_all raws (recursion_from_All IsRawInRange raws near)))) where
+  gridded_all : (raws : List RawRow) → AllByRecursion IsRawInRange raws → AllByRecursion IsRowInRange (map (gridded cell tick) raws)
+  gridded_all [] all = tt
+  gridded_all (raw ∷ raws) all =
+      (record { instant = IsNear-floor_div raw.time tick all.0.time; x = IsNear-floor_div raw.x cell all.0.x; y = IsNear-floor_div raw.y cell all.0.y }
+      , gridded_all raws all.1)
+
+-- there are not more than raw rows
+length-placed_at : (row next : Row) (rest : List Row) (before : Bool) → is_lt (row_order next row) ≡ before →
+    length (placed row rest) ≡ length rest + 1 → length (placed row (next ∷ rest)) ≡ length (next ∷ rest) + 1
+unfolding placed
+length-placed_at row next rest true before behind = rw (before) (let n : length (placed row rest) ≡ length rest + 1 = behind in omega arith)
+length-placed_at row next rest false before behind = rw (before) (omega arith)
+
+length-placed : (row : Row) (rows : List Row) → length (placed row rows) ≡ length rows + 1
+length-placed row [] = unfold placed in refl
+length-placed row (next ∷ rest) = length-placed_at row next rest (is_lt (row_order next row)) refl (length-placed row rest)
+
+length-ordered : (rows : List Row) → length (ordered rows) ≡ length rows
+unfolding ordered
+length-ordered [] = refl
+length-ordered (row ∷ rest) = let more = length-placed row (ordered rest) in let rest_alone = length-ordered rest in omega arith
+
+length-kept_at : (row : Row) (later : List Row) (again : Bool) → list_any (is_same_place row) later ≡ again →
+    length (kept later) ≤ length later → length (kept (row ∷ later)) ≤ length (row ∷ later)
+unfolding kept
+length-kept_at row later true again behind = rw again (omega arith)
+length-kept_at row later false again behind = rw again (omega arith)
+
+length-kept : (rows : List Row) → length (kept rows) ≤ length rows
+length-kept [] = unfold kept in omega arith
+length-kept (row ∷ later) = length-kept_at row later (list_any (is_same_place row) later) refl (length-kept later)
+
+pub chart_rows-few : (raws : List RawRow) (cell tick : ℕ) → length (chart_rows raws cell tick) ≤ length raws
+unfolding chart_rows
+chart_rows-few raws cell tick =
+    rw (length-ordered (kept (map (gridded cell tick) raws)), ← length-map raws (gridded cell tick)) (length-kept (map (gridded cell tick) raws))
+
+-- there is one where there is a raw row
+some_from_any : (p : Row → Bool) (rows : List Row) → list_any p rows ≡ true → 0 < length rows
+some_from_any p [] any = absurd (cc)
+some_from_any p (row ∷ rest) any = omega arith
+
+pub chart_rows-some : (raws : List RawRow) (cell tick : ℕ) → 0 < length raws → 0 < length (chart_rows raws cell tick)
+unfolding chart_rows
+chart_rows-some [] cell tick some = absurd (omega arith)
+chart_rows-some (raw ∷ raws) cell tick some =
+    let row = gridded cell tick raw in
+    let rows = map (gridded cell tick) (raw ∷ raws) in
+    let here : list_any (is_same_place row) rows ≡ true = rw (place_equiv.refl row) refl in
+    some_from_any (is_same_place row) (ordered (kept rows)) (any-ordered row (kept rows) ∙ any-kept row rows ∙ here)
