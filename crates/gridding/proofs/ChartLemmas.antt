@@ -50,13 +50,14 @@ pub chart_rows-in_range : (raws : List RawRow) (cell tick : ℕ) → All IsRawIn
 unfolding chart_rows
 chart_rows-in_range raws cell tick near =
     All-from_recursion IsRowInRange (chart_rows raws cell tick)
-        (all-ordered IsRowInRange (kept (map (gridded cell tick) raws))
-            (all-kept IsRowInRange (map (gridded cell tick) raws) (gridded_all raws (recursion_from_All IsRawInRange raws near)))) where
-  gridded_all : (raws : List RawRow) → AllByRecursion IsRawInRange raws → AllByRecursion IsRowInRange (map (gridded cell tick) raws)
-  gridded_all [] all = tt
-  gridded_all (raw ∷ raws) all =
-      (record { instant = IsNear-floor_div raw.time tick all.0.time; x = IsNear-floor_div raw.x cell all.0.x; y = IsNear-floor_div raw.y cell all.0.y }
-      , gridded_all raws all.1)
+    (all-ordered IsRowInRange (kept (map (gridded cell tick) raws))
+    (all-kept IsRowInRange (map (gridded cell tick) raws) (gridded_all raws (recursion_from_All IsRawInRange raws near)))) where
+      gridded_all : (raws : List RawRow) → AllByRecursion IsRawInRange raws → AllByRecursion IsRowInRange (map (gridded cell tick) raws)
+      gridded_all [] all = tt
+      gridded_all (raw ∷ raws) all = (
+        record { instant = IsNear-floor_div raw.time tick all.0.time; x = IsNear-floor_div raw.x cell all.0.x; y = IsNear-floor_div raw.y cell all.0.y },
+        gridded_all raws all.1,
+      )
 
 -- there are not more than raw rows
 length-placed_at : (row next : Row) (rest : List Row) (before : Bool) → is_lt (row_order next row) ≡ before →

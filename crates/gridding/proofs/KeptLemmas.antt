@@ -89,10 +89,10 @@ found-kept sought [] = unfold kept in refl
 found-kept sought (row ∷ later) =
     let last : reverse (row ∷ later) ≡ reverse later ++ row ∷ [] = reverse-append (row ∷ []) later in
     let behind : found sought (reverse later ++ row ∷ []) ≡ option_or (found sought (reverse later)) (found sought (row ∷ [])) =
-        find-append (is_same_place sought) (reverse later) (row ∷ []) in
+    find-append (is_same_place sought) (reverse later) (row ∷ []) in
     found-kept_at sought row later (list_any (is_same_place row) later) (is_same_place sought row) refl refl
-        ∙ ap (λ before. option_or before (found sought (row ∷ []))) (found-kept sought later)
-        ∙ sym behind ∙ ap (found sought) (sym last)
+    ∙ ap (λ before. option_or before (found sought (row ∷ []))) (found-kept sought later)
+    ∙ sym behind ∙ ap (found sought) (sym last)
 
 -- a row that comes before another in order is not of its place
 not_tied : (o : Ordering) → is_lt o ≡ true → is_eq o ≡ false

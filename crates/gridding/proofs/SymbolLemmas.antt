@@ -35,9 +35,9 @@ earlier_instant x y Greater is less = absurd (cc)
 pub order_cases : (a b : Row) → row_order a b ≡ Less → (a.object < b.object) ⊎ ((a.object ≡ b.object) × (a.instant <ℤ b.instant))
 order_cases a b below =
     in_order a.object b.object (nat_cmp a.object b.object) (int_cmp a.instant b.instant)
-        (ranked a.object b.object (nat_cmp a.object b.object) refl)
-        (earlier_instant a.instant b.instant (int_cmp a.instant b.instant) (int_ranked a.instant b.instant (int_cmp a.instant b.instant) refl))
-        below
+    (ranked a.object b.object (nat_cmp a.object b.object) refl)
+    (earlier_instant a.instant b.instant (int_cmp a.instant b.instant) (int_ranked a.instant b.instant (int_cmp a.instant b.instant) refl))
+    below
 
 and_false : (b : Bool) → (b && false) ≡ false
 and_false true = refl
@@ -55,8 +55,9 @@ or_false false = refl
 div_mono : (m n d : ℕ) → 0 < d → m ≤ n → m / d ≤ n / d
 div_mono m n d some below =
     elim (cases_lt (n / d) (m / d)) [
-      inl less ↦ let up : d * (n / d + 1) ≤ d * (m / d) = mul-le-mul_left d (let next : n / d + 1 ≤ m / d = omega arith in next) in absurd (omega arith)
-    | inr is ↦ is ]
+      | inl less ↦ let up : d * (n / d + 1) ≤ d * (m / d) = mul-le-mul_left d (let next : n / d + 1 ≤ m / d = omega arith in next) in absurd (omega arith)
+      | inr is ↦ is
+    ]
 
 still_behind : (first x y : ℤ) → first ≤ℤ x → x <ℤ y → first ≤ℤ y
 still_behind first x y behind later = omega (arith, ints)
@@ -86,9 +87,10 @@ module _ (first : ℤ) (period : ℕ) where
   not_earlier : (row other : Row) → row_order row other ≡ Less → is_earlier row other ≡ false
   not_earlier row other below =
       elim (order_cases row other below) [
-        inl objects ↦ let differ : (other.object == row.object) ≡ false = grind (arith, nat_tests) in rw differ refl
-      | inr same ↦ let later : row.instant <ℤ other.instant = same.1 in
-          let not_before : lt_z other.instant row.instant ≡ false = grind (arith, ints) in rw not_before (and_false _) ]
+        | inl objects ↦ let differ : (other.object == row.object) ≡ false = grind (arith, nat_tests) in rw differ refl
+        | inr same ↦ let later : row.instant <ℤ other.instant = same.1 in
+            let not_before : lt_z other.instant row.instant ≡ false = grind (arith, ints) in rw not_before (and_false _)
+      ]
 
   not_earlier_itself : (row : Row) → is_earlier row row ≡ false
   not_earlier_itself row = let not_before : lt_z row.instant row.instant ≡ false = grind (arith, ints) in rw not_before (and_false _)
@@ -97,9 +99,10 @@ module _ (first : ℤ) (period : ℕ) where
   earlier_block : (a row : Row) → row_order a row ≡ Less → is_earlier row a ≡ is_same_block first period a row
   earlier_block a row below =
       elim (order_cases a row below) [
-        inl objects ↦ let differ : (a.object == row.object) ≡ false = grind (arith, nat_tests) in rw differ refl
-      | inr same ↦ let later : a.instant <ℤ row.instant = same.1 in
-          let before : lt_z a.instant row.instant ≡ true = grind (arith, ints) in rw before (and_true _) ]
+        | inl objects ↦ let differ : (a.object == row.object) ≡ false = grind (arith, nat_tests) in rw differ refl
+        | inr same ↦ let later : a.instant <ℤ row.instant = same.1 in
+            let before : lt_z a.instant row.instant ≡ true = grind (arith, ints) in rw before (and_true _)
+      ]
 
   -- of three rows in order, the second is of the block that the first and the third are of
   block_between : (a b row : Row) → 0 < period → first ≤ℤ a.instant → row_order a b ≡ Less → row_order b row ≡ Less →
@@ -110,13 +113,13 @@ module _ (first : ℤ) (period : ℕ) where
       let periods : period_of first period a ≡ period_of first period row = grind (arith, nat_tests, parts.1) in
       let one = ordered_alike a b row objects (order_cases a b below) (order_cases b row above) in
       let up : period_of first period a ≤ period_of first period b =
-          div_mono (elapsed first a) (elapsed first b) period some (elapsed_mono first a.instant b.instant behind one.1) in
+      div_mono (elapsed first a) (elapsed first b) period some (elapsed_mono first a.instant b.instant behind one.1) in
       let behind_b : first ≤ℤ b.instant = still_behind first a.instant b.instant behind one.1 in
       let down : period_of first period b ≤ period_of first period row =
-          div_mono (elapsed first b) (elapsed first row) period some (elapsed_mono first b.instant row.instant behind_b one.2) in
+      div_mono (elapsed first b) (elapsed first row) period some (elapsed_mono first b.instant row.instant behind_b one.2) in
       let same_object : (b.object == row.object) ≡ true = eq-eqb b.object row.object one.0 in
       let same_period : (period_of first period b == period_of first period row) ≡ true =
-          eq-eqb (period_of first period b) (period_of first period row) (squeezed _ _ _ periods up down) in
+      eq-eqb (period_of first period b) (period_of first period row) (squeezed _ _ _ periods up down) in
       rw (same_object, same_period) refl
 
   seen_at : (before row next : Row) → 0 < period → (row_order before row ≡ Less) × (first ≤ℤ before.instant) → row_order row next ≡ Less →
@@ -124,7 +127,7 @@ module _ (first : ℤ) (period : ℕ) where
   seen_at before row next some above below far true is =
       let same : is_same_block first period before next ≡ true = sym (earlier_block before next far) ∙ is in
       let also : is_earlier next row ≡ true =
-          earlier_block row next below ∙ block_between before row next some above.1 above.0 below same in
+      earlier_block row next below ∙ block_between before row next some above.1 above.0 below same in
       rw (is, also) refl
   seen_at before row next some above below far false is = rw is refl
 
@@ -157,7 +160,7 @@ module _ (first : ℤ) (period : ℕ) where
       ShowsAll (front ++ row ∷ []) (Some row)
   ShowsAll-push front before row some above shows next below =
       let parts : list_any (is_earlier next) (front ++ row ∷ []) ≡ (list_any (is_earlier next) front || list_any (is_earlier next) (row ∷ [])) =
-          list_any-append (is_earlier next) front (row ∷ []) in
+      list_any-append (is_earlier next) front (row ∷ []) in
       let so_far : list_any (is_earlier next) front ≡ seen before next = shows next (above_next before row next above below.0) in
       rw (parts, so_far, or_false (is_earlier next row)) (seen_more before row next some above below.0)
 
@@ -171,7 +174,7 @@ module _ (first : ℤ) (period : ℕ) where
       AllByRecursion (λ y. row_order row y ≡ Less) rest → is_anchor first period (front ++ row ∷ rest) row ≡ not (seen before row)
   is_anchor-seen front rest before row shows above all =
       let parts : list_any (is_earlier row) (front ++ row ∷ rest) ≡ (list_any (is_earlier row) front || list_any (is_earlier row) (row ∷ rest)) =
-          list_any-append (is_earlier row) front (row ∷ rest) in
+      list_any-append (is_earlier row) front (row ∷ rest) in
       let behind : list_any (is_earlier row) (row ∷ rest) ≡ false = rw (not_earlier_itself row, none_later row rest all) refl in
       ap not (rw (parts, shows row above, behind) (or_false (seen before row)))
 
@@ -222,17 +225,17 @@ module _ (first : ℤ) (period : ℕ) where
       let length_of = log_length first span period in
       let again = is_block_of (option_map (block_of first period) before) (block_of first period row) in
       let anchor : is_anchor first period all row ≡ not again =
-          is_anchor-seen front rest before row shows above.0 up.0 ∙ ap not (seen-block before row above.0) in
+      is_anchor-seen front rest before row shows above.0 up.0 ∙ ap not (seen-block before row above.0) in
       let more : sum_by length_of (filter (is_anchor first period all) (row ∷ rest))
-              ≡ (if again then 0 else length_of row) + sum_by length_of (filter (is_anchor first period all) rest) =
-          sum-filter_at length_of (is_anchor first period all) row rest again anchor in
+      ≡ (if again then 0 else length_of row) + sum_by length_of (filter (is_anchor first period all) rest) =
+      sum-filter_at length_of (is_anchor first period all) row rest again anchor in
       let others : terminals span (Some (block_of first period row)) rest
-              ≡ sum_by length_of (filter (is_anchor first period ((front ++ row ∷ []) ++ rest)) rest) =
-          terminals-anchors span (front ++ row ∷ []) rest (Some row) some (ShowsAll-push front before row some above.0 shows)
-              (above_all row rest behind.0 up.0) up.1 behind.1 in
+      ≡ sum_by length_of (filter (is_anchor first period ((front ++ row ∷ []) ++ rest)) rest) =
+      terminals-anchors span (front ++ row ∷ []) rest (Some row) some (ShowsAll-push front before row some above.0 shows)
+      (above_all row rest behind.0 up.0) up.1 behind.1 in
       let joined : (front ++ row ∷ []) ++ rest ≡ all = append_assoc front (row ∷ []) rest in
       ap (λ n. (if again then 0 else length_of row) + n) (others ∙ ap (λ rows. sum_by length_of (filter (is_anchor first period rows) rest)) joined)
-          ∙ sym more
+      ∙ sym more
 
   -- of rows in order, those at which a block begins are the anchors
   pub terminals-ascending : (span : ℕ) (rows : List Row) → 0 < period → IsAscending rows → All (IsInSpan first span) rows →
@@ -240,7 +243,7 @@ module _ (first : ℤ) (period : ℕ) where
   unfolding anchors_of
   terminals-ascending span rows some up inside =
       terminals-anchors span [] rows None some (λ row above. refl) (above_none rows) up
-          (recursion_from_All (λ row. first ≤ℤ row.instant) rows (λ k d below. (inside k d below).behind_first))
+      (recursion_from_All (λ row. first ≤ℤ row.instant) rows (λ k d below. (inside k d below).behind_first))
 
   -- one row more, at a step of a loop
   pub terminals-drop : (span : ℕ) (before : Option Block) (rows : List Row) (i : ℕ) (d : Row) (again : Bool) → i < length rows →

@@ -5,15 +5,15 @@
 //! that passes its limit.
 #![tactic(auto)]
 
-mod fault;
 mod chart_making;
 mod counts;
 mod extents;
+mod fault;
 mod floor;
 mod limits;
 mod rows;
 #[cfg(test)]
 mod tests;
 
-pub use fault::GridFault;
 pub use chart_making::grid;
+pub use fault::GridFault;

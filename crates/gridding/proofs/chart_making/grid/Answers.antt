@@ -27,9 +27,9 @@ new-requires c =
     let some : 0 < length raws = search rules in
     let none = rw (c.as_slice.ensures.value, c.in_ok-made.ensures) at c.in_ok-check_limits.ensures.ok in
     rw c.in_ok-made.ensures
-        (chart_with-IsChart (chart_rows raws c.args.cell c.args.tick) c.args.cell c.args.tick c.args.period
-            (chart_rows-some raws c.args.cell c.args.tick some)
-            (omega (arith, chart_rows-few raws c.args.cell c.args.tick))
-            (chart_rows-ascending raws c.args.cell c.args.tick)
-            (chart_rows-in_range raws c.args.cell c.args.tick c.requires.near)
-            c.requires.cell c.requires.tick c.requires.period none)
+    (chart_with-IsChart (chart_rows raws c.args.cell c.args.tick) c.args.cell c.args.tick c.args.period
+    (chart_rows-some raws c.args.cell c.args.tick some)
+    (omega (arith, chart_rows-few raws c.args.cell c.args.tick))
+    (chart_rows-ascending raws c.args.cell c.args.tick)
+    (chart_rows-in_range raws c.args.cell c.args.tick c.requires.near)
+    c.requires.cell c.requires.tick c.requires.period none)

@@ -13,14 +13,15 @@ pub loop-row-preserved : goal.loop-row-preserved
 loop-row-preserved c =
     let more = object_runs-drop c.loop-row.before c.args.rows.now c.loop-row.row-index no_row c.is_object_of.result c.loop-row-test.true c.is_object_of.ensures in
     elim c.if-not-is_object_of.branch [
-      then-not-is_object_of w ↦
-        let new : c.is_object_of.result ≡ false = search rules in
-        let more_new = rw new at more in
-        record { so_far = omega arith; few = omega arith }
-    | else-not-is_object_of w ↦
-        let again : c.is_object_of.result ≡ true = search rules in
-        let more_again = rw again at more in
-        record { so_far = omega arith; few = omega arith } ]
+      | then-not-is_object_of w ↦
+          let new : c.is_object_of.result ≡ false = search rules in
+          let more_new = rw new at more in
+          record { so_far = omega arith; few = omega arith }
+      | else-not-is_object_of w ↦
+          let again : c.is_object_of.result ≡ true = search rules in
+          let more_again = rw again at more in
+          record { so_far = omega arith; few = omega arith }
+    ]
 
 pub returns-clause-exact : goal.returns-clause-exact
 returns-clause-exact c =

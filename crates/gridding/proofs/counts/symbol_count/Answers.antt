@@ -20,18 +20,19 @@ loop-row-preserved c =
     let so_far = rw same_first at c.loop-row.invariant.so_far in
     let block : c.block_of-block.result ≡ block_of c.args.first c.args.period row = rw same_first at c.block_of-block.ensures in
     let again : c.is_block_of.result ≡ is_block_of c.loop-row.before (block_of c.args.first c.args.period row) =
-        c.is_block_of.ensures ∙ ap (is_block_of c.loop-row.before) block in
+    c.is_block_of.ensures ∙ ap (is_block_of c.loop-row.before) block in
     let more = terminals-drop c.args.first c.args.period c.args.span c.loop-row.before rows c.loop-row.row-index no_row c.is_block_of.result c.loop-row-test.true again in
     elim c.if-not-is_block_of.branch [
-      then-not-is_block_of w ↦
-        let new : c.is_block_of.result ≡ false = search rules in
-        let more_new = rw new at more in
-        let added = rw same_first at w.log_length-count.ensures.exact in
-        record { so_far = rw (same_first, w.before-is, block) (omega arith); few = omega (arith, w.log_length-count.ensures.within) }
-    | else-not-is_block_of w ↦
-        let still : c.is_block_of.result ≡ true = search rules in
-        let more_still = rw still at more in
-        record { so_far = rw (same_first, w.before-is, block) (omega arith); few = omega arith } ]
+      | then-not-is_block_of w ↦
+          let new : c.is_block_of.result ≡ false = search rules in
+          let more_new = rw new at more in
+          let added = rw same_first at w.log_length-count.ensures.exact in
+          record { so_far = rw (same_first, w.before-is, block) (omega arith); few = omega (arith, w.log_length-count.ensures.within) }
+      | else-not-is_block_of w ↦
+          let still : c.is_block_of.result ≡ true = search rules in
+          let more_still = rw still at more in
+          record { so_far = rw (same_first, w.before-is, block) (omega arith); few = omega arith }
+    ]
 
 pub returns : goal.returns
 returns c =

@@ -29,6 +29,6 @@ returns-clause-limit c =
     let blocks : is_past (Blocks, block_count rows period) ≡ false = rw (count, c.div_ceil.ensures, long, c.from-period.ensures) at c.in_ok-within-4.ensures.ok in
     let fits : FitsSigned w64 c.of-time.result.least = search rules in
     let symbols : c.symbol_count-symbols.result ≡ symbol_count rows period =
-        rw (to_z-of_z w64 _ fits, c.of-time.ensures.least, long, c.from-period.ensures) at c.symbol_count-symbols.ensures in
+    rw (to_z-of_z w64 _ fits, c.of-time.ensures.least, long, c.from-period.ensures) at c.symbol_count-symbols.ensures in
     refused c.within-5.result (first_past rows period) Symbols c.symbol_count-symbols.result
-        (λ past. symbols_past rows period objects span extent blocks (rw symbols at past) ∙ ap (λ n. Some (Symbols, n)) (sym symbols)) c.within-5.ensures.err
+    (λ past. symbols_past rows period objects span extent blocks (rw symbols at past) ∙ ap (λ n. Some (Symbols, n)) (sym symbols)) c.within-5.ensures.err

@@ -17,4 +17,4 @@ returns c =
     let up = c.in_ok-sort_by_key.ensures.sorted place_of (answers_always _ _ _ (λ f a r g h. search rules)) in
     let stable = c.in_ok-sort_by_key.ensures.stable place_of (answers_always _ _ _ (λ f a r g h. search rules)) in
     let deduped = dedup_same _ is_same_place _ (λ x y b f' x' y' k. search rules) _ _ c.dedup_by_key.ensures.filtered in
-    deduped ∙ chart_rows-sorted rows _ up (rw backwards at stable)
+    deduped ∙ chart_rows-sorted rows c.sort_by_key.new.self.items up (rw backwards at stable)

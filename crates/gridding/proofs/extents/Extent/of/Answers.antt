@@ -26,7 +26,8 @@ loop-row-preserved c =
       near_least = rw (to_z-of_z w64 _ fits_least, c.min-least.ensures.value, to_z-of_z w64 _ fits_first, c.coordinate.ensures) (IsNear-int_min _ _ c.loop-row.invariant.near_least here);
       near_greatest = rw (to_z-of_z w64 _ fits_greatest, c.max-greatest.ensures.value, to_z-of_z w64 _ fits_second, c.coordinate-in-loop-row.ensures) (IsNear-int_max _ _ c.loop-row.invariant.near_greatest here);
       least = grind (arith, to_z-of_z, fold_more);
-      greatest = grind (arith, to_z-of_z, fold_more) }
+      greatest = grind (arith, to_z-of_z, fold_more);
+    }
 
 pub returns-clause-least : goal.returns-clause-least
 returns-clause-least c =
@@ -34,8 +35,8 @@ returns-clause-least c =
     let fits : FitsSigned w64 c.coordinate-least.result = search rules in
     let whole : take c.loop-row.row-index rows ≡ rows = take_all _ rows c.loop-row-test.false in
     (rw (to_z-of_z w64 _ fits, whole) at c.loop-row.invariant.least)
-        ∙ ap (λ z. fold (λ z row. int_min z (coordinate c.args.axis row)) z rows) c.coordinate-least.ensures
-        ∙ least-from_first (coordinate c.args.axis) rows _ c.requires.some
+    ∙ ap (λ z. fold (λ z row. int_min z (coordinate c.args.axis row)) z rows) c.coordinate-least.ensures
+    ∙ least-from_first (coordinate c.args.axis) rows _ c.requires.some
 
 pub returns-clause-greatest : goal.returns-clause-greatest
 returns-clause-greatest c =
@@ -43,5 +44,5 @@ returns-clause-greatest c =
     let fits : FitsSigned w64 c.coordinate-least.result = search rules in
     let whole : take c.loop-row.row-index rows ≡ rows = take_all _ rows c.loop-row-test.false in
     (rw (to_z-of_z w64 _ fits, whole) at c.loop-row.invariant.greatest)
-        ∙ ap (λ z. fold (λ z row. int_max z (coordinate c.args.axis row)) z rows) c.coordinate-least.ensures
-        ∙ greatest-from_first (coordinate c.args.axis) rows _ c.requires.some
+    ∙ ap (λ z. fold (λ z row. int_max z (coordinate c.args.axis row)) z rows) c.coordinate-least.ensures
+    ∙ greatest-from_first (coordinate c.args.axis) rows _ c.requires.some
