@@ -8,12 +8,13 @@ use Rattle.std.proofs.lemmas.Bool.{cases_lt}
 use Rattle.std.proofs.lemmas.Int.{ints}
 use Rattle.std.proofs.lemmas.List.{length-map}
 use Rattle.std.proofs.lemmas.List.Elements.{All-from_recursion, recursion_from_All}
+use Rattle.track_types.specs.ByFilter.{cell_at}
 use Rattle.track_types.specs.Limits.{IsResolution}
 use Rattle.track_types.specs.Near.{IsNear, IsRawInRange, IsRowInRange}
-use Rattle.track_types.specs.Row.{IsAscending, is_same_place, row_order}
+use Rattle.track_types.specs.Row.{IsAscending, is_row_of, is_same_place, row_order}
 use Rattle.track_types.specs.declared.raw_row.RawRow.{RawRow}
 use Rattle.track_types.specs.declared.row.Row.{Row}
-use Rattle.gridding.proofs.KeptLemmas.{all-placed, any-kept, any-ordered, ascending-kept, place_equiv}
+use Rattle.gridding.proofs.KeptLemmas.{all-placed, any-kept, any-ordered, ascending-kept, found-chart_rows, place_equiv}
 use Rattle.gridding.specs.ChartOf.{chart_rows, gridded, kept, ordered, placed}
 use Rattle.gridding.specs.Floor.{floor_div}
 
@@ -103,3 +104,12 @@ chart_rows-some (raw ∷ raws) cell tick some =
     let rows = map (gridded cell tick) (raw ∷ raws) in
     let here : list_any (is_same_place row) rows ≡ true = rw (place_equiv.refl row) refl in
     some_from_any (is_same_place row) (ordered (kept rows)) (any-ordered row (kept rows) ∙ any-kept row rows ∙ here)
+
+-- the cell of an object at an instant is that of its last raw row in the instant
+pub cell_at-chart_rows : (raws : List RawRow) (cell tick object : ℕ) (instant : ℤ) →
+    cell_at (chart_rows raws cell tick) object instant
+    ≡ option_map (λ row. row.cell) (find (is_row_of object instant) (reverse (map (gridded cell tick) raws)))
+unfolding chart_rows
+cell_at-chart_rows raws cell tick object instant =
+    let sought : Row = record { object = object; instant = instant; cell = record { x = pos 0; y = pos 0 } } in
+    ap (option_map (λ row. row.cell)) (found-chart_rows sought (map (gridded cell tick) raws))

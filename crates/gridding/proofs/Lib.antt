@@ -5,3 +5,4 @@ mod RunLemmas
 mod SymbolLemmas
 mod ExtentLemmas
 mod LimitLemmas
+mod Examples
