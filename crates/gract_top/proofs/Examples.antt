@@ -1,5 +1,5 @@
 -- The definitions, run on inputs that were worked out by hand.
-use Rattle.std.proofs.Common.{◌≡◌, ℕ, ℤ, pos, negsuc, List, [], ◌∷◌, Some, None, codes, refl}
+use Rattle.std.proofs.Common.{◌≡◌, pos, negsuc, List, [], ◌∷◌, codes, refl}
 use Rattle.std.specs.Fmt.{digits}
 use Rattle.track_types.specs.declared.limit.LimitKind.TheVariants as limit
 use Rattle.track_types.specs.declared.raw_row.RowFault.TheVariants as fault
@@ -61,7 +61,7 @@ instant_above = refl
 -- replies over two rows of object 7
 rows : List Row
 rows = record { object = 7; instant = pos 0; cell = record { x = pos 10; y = negsuc 9 } }
-     ∷ record { object = 7; instant = pos 2; cell = record { x = pos 12; y = pos 11 } } ∷ []
+    ∷ record { object = 7; instant = pos 2; cell = record { x = pos 12; y = pos 11 } } ∷ []
 
 replies_to_lines : replies_of rows (lines_of (codes "position 7 0\n\nposition 7 1\nwhere\nposition 7 2")) ≡ codes "10 -10\nok 1\nok 0\nbad word\n12 11\nok 1\n"
 unfolding rows digits

@@ -1,5 +1,5 @@
 -- What is kept of a line, byte after byte, and what it tells of the line.
-use Rattle.std.proofs.Common.{◌≡◌, ℕ, zero, suc, ◌+◌, ◌<◌, ◌≤◌, Bool, true, false, not, ◌||◌, if◌then◌else◌, List, [], ◌∷◌, ◌++◌, length, take, filter, refl, sym, ap, ◌∙◌, arith, rules, inl, inr, take_all, Result, Ok, Err, IsOk, OnOk, OnErr, ◌↔◌, nat_lt}
+use Rattle.std.proofs.Common.{◌≡◌, ℕ, zero, suc, ◌<◌, ◌≤◌, Bool, true, false, not, ◌||◌, if◌then◌else◌, List, [], ◌∷◌, ◌++◌, length, take, filter, refl, sym, ap, ◌∙◌, arith, inl, inr, take_all, Result, Ok, Err, IsOk, OnOk, OnErr, ◌↔◌}
 use Rattle.std.specs.List.{list_any}
 use Rattle.std.proofs.lemmas.Bool.{cases_lt, lt-ltb}
 use Rattle.std.proofs.Math.Bool.{or-false}
@@ -7,9 +7,8 @@ use mathlib.Core.Bool.{false≢true}
 use Rattle.std.proofs.lemmas.List.{length-take, take-append-le}
 use Rattle.std.proofs.lemmas.List.Folds.{list_any-append}
 use Rattle.gract_top.specs.Lines.{Parts, begin_first, parted, words_of, is_gap, has_byte}
-use Rattle.gract_top.specs.LineKept.{LineKept, is_in_word, kept_of}
-use Rattle.gract_top.specs.Question.{question_of, question_words, too_long}
-use Rattle.gract_top.specs.declared.question.Question.{Question}
+use Rattle.gract_top.specs.LineKept.{is_in_word}
+use Rattle.gract_top.specs.Question.{question_of, too_long}
 use Rattle.gract_top.specs.declared.question.Question.TheVariants.{Blank, Bad}
 
 take-nil : (k : ℕ) → take k (let none : List ℕ = [] in none) ≡ []

@@ -1,8 +1,7 @@
 -- What the outcomes of loading say, and the words that have a form.
-use Rattle.std.proofs.Common.{◌≡◌, ℕ, ◌+◌, ◌^◌, ◌<◌, Bool, true, false, ◌⊎◌, inl, inr, List, [], ◌∷◌, length, get_or, Option, Some, None, if◌then◌else◌, codes, refl, sym, ◌∙◌, ap, arith, Bor}
+use Rattle.std.proofs.Common.{◌≡◌, ℕ, ◌<◌, Bool, true, false, ◌⊎◌, inl, inr, List, [], ◌∷◌, length, get_or, Option, Some, None, if◌then◌else◌, codes, refl, arith, Bor}
 use mathlib.Core.Bool.{false≢true}
 use Rattle.std.specs.Str.{bytes_eq}
-use Rattle.track_types.specs.declared.limit.LimitKind.{LimitKind}
 use Rattle.track_types.specs.declared.limit.LimitKind.TheVariants as limit
 use Rattle.track_types.specs.declared.row.Row.{Row}
 use Rattle.gract_top.specs.Outcome.{Answered}
@@ -11,7 +10,6 @@ use Rattle.gract_top.specs.Request.{csv_name, first_bad, once_of, once_words, re
 use Rattle.gract_top.specs.Session.{Talk}
 use Rattle.gract_top.specs.declared.outcome.Outcome.{Outcome}
 use Rattle.gract_top.specs.declared.outcome.Outcome.TheVariants as outcome
-use Rattle.gract_top.specs.declared.request.Request.{Request}
 use Rattle.gract_top.specs.declared.request.Request.TheVariants as request
 use Rattle.gract_top.specs.declared.request.Settings.{Settings}
 use Rattle.gract_top.proofs.RequestLemmas.{form_of}
@@ -96,6 +94,7 @@ settings_of_form (name ∷ words) settings once = by_name (bytes_eq name (codes 
     behind : (bad : Option ℕ) → request.Once settings ≡ refused_or bad (settings_of words) → settings ≡ settings_of words
     behind None same = cc
     behind (Some place) same = absurd (cc)
+
     by_name : (test : Bool) → request.Once settings ≡ (if test then once_of words else request.Refused 1) → settings ≡ settings_of words
     by_name true same = behind (first_bad once_words words 2) same
     by_name false same = absurd (cc)

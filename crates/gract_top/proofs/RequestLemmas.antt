@@ -1,5 +1,5 @@
 -- What words that have a form are.
-use Rattle.std.proofs.Common.{◌≡◌, ℕ, zero, suc, ◌+◌, ◌<◌, Bool, true, false, List, [], ◌∷◌, length, get_or, Option, Some, None, if◌then◌else◌, refl, arith, Bor}
+use Rattle.std.proofs.Common.{◌≡◌, ℕ, zero, suc, ◌+◌, ◌<◌, Bool, true, false, List, [], ◌∷◌, length, get_or, Some, None, if◌then◌else◌, refl, arith, Bor}
 use Rattle.gract_top.specs.declared.request.WordKind.{WordKind}
 use Rattle.gract_top.specs.Request.{first_bad, fits_word, texts}
 

@@ -1,12 +1,12 @@
 -- Answering byte after byte says the replies to the lines.
-use Rattle.std.proofs.Common.{◌≡◌, ℕ, ◌+◌, Bool, true, false, List, [], ◌∷◌, ◌++◌, length, refl, sym, ap, ◌∙◌, subst, append_assoc, append-nil, length-append, arith, Option, Some, None, Result, Ok, Err, OnErr, take, drop, get_or, ◌<◌, ◌≤◌, ◌^◌, ◌-◌, min, take_all, take-take, inl, inr}
+use Rattle.std.proofs.Common.{◌≡◌, ℕ, ◌+◌, false, List, [], ◌∷◌, ◌++◌, length, refl, sym, ap, ◌∙◌, subst, append_assoc, append-nil, length-append, arith, Option, Some, None, Result, Ok, Err, OnErr, take, drop, get_or, ◌<◌, ◌≤◌, ◌^◌, ◌-◌, min, take_all, take-take, inl, inr}
 use Rattle.std.proofs.lemmas.Bool.{cases_lt}
 use Rattle.std.proofs.lemmas.List.{length-take, take_more, take-append-drop, take-append-le}
 use Rattle.std.proofs.Math.Seq.{take-append-add}
 use Rattle.std.specs.Io.KnownBytes.{Appends, Consumes, Keeps}
 use Rattle.std.proofs.lemmas.Grind.{flat_map-append}
 use Rattle.track_types.specs.declared.row.Row.{Row}
-use Rattle.gract_top.specs.Lines.{Parts, parted, is_line_feed, whole_lines, unended_line, lines_of, if_any}
+use Rattle.gract_top.specs.Lines.{Parts, is_line_feed, whole_lines, unended_line, lines_of, if_any}
 use Rattle.gract_top.specs.LineKept.{LineKept, kept_of}
 use Rattle.gract_top.specs.Reply.{reply_of, replies_of}
 use Rattle.gract_top.specs.Session.{Came, Heard, SaysFront, Talk}

@@ -1,7 +1,6 @@
 -- What an outcome tells of what came and what was said.
 use Rattle.std.specs.Prelude.{◌≡◌, ℕ, ◌+◌, ◌^◌, false, List, Option}
 use Rattle.host_ports.specs.FileMap.{FileMap}
-use Rattle.track_types.specs.declared.limit.LimitKind.{LimitKind}
 use Rattle.track_types.specs.declared.limit.LimitKind.TheVariants as limit
 use Rattle.track_types.specs.declared.row.Row.{Row}
 use Rattle.row_reader.specs.Rows.{raws_of}

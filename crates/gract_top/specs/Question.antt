@@ -1,5 +1,5 @@
 -- What a line asks.
-use Rattle.std.specs.Prelude.{ℕ, ◌^◌, ◌-◌, Bool, true, false, nat_lt, if◌then◌else◌, List, [], ◌∷◌, length, codes, ℤ, Option, Some, None}
+use Rattle.std.specs.Prelude.{ℕ, ◌^◌, ◌-◌, nat_lt, if◌then◌else◌, List, [], ◌∷◌, length, codes, ℤ, Option, Some, None}
 use Rattle.std.specs.Str.{bytes_eq}
 use Rattle.gract_top.specs.Lines.{words_of}
 use Rattle.gract_top.specs.Ranges.{natural_within, whole_within}

@@ -1,5 +1,5 @@
 -- The value of a word that has to be a numeral within a range.
-use Rattle.std.specs.Prelude.{ℕ, ◌&&◌, Bool, true, false, nat_le, if◌then◌else◌, List, ℤ, pos, negsuc, Option, Some, None}
+use Rattle.std.specs.Prelude.{ℕ, ◌&&◌, nat_le, if◌then◌else◌, List, ℤ, pos, negsuc, Option, Some, None}
 use Rattle.std.specs.Int.RustNames.{unsigned_abs}
 use Rattle.track_types.specs.Numeral.{numeral_of}
 use Rattle.track_types.specs.declared.numeral.Numeral.{Numeral}

@@ -127,22 +127,46 @@ fn pieces_of_any_length_say_the_same(rt: HostRuntime) -> Result<(), Fail> {
 }
 
 #[test]
+fn rows_are_gridded_towards_minus_infinity(rt: HostRuntime) -> Result<(), Fail> {
+    let csv = b"object,instant,x,y\r\n1,-1,-1,-10\r\n\"2\", 61,312561,6401250\r\n2,60,0,0\r\n";
+    let lines = b"position 1 -1\nposition 1 0\nposition 2 1\n";
+    let mut outside = make_outside(rt.alloc(), csv, lines, 4096)?;
+    let outcome = run(rt.alloc(), "once t.csv 10 60 4", &mut outside)?;
+    assert_eq!(rt; outcome, Outcome::Done);
+    assert_eq!(rt;
+        outside.sink.as_slice(),
+        b"-1 -1\nok 1\nok 0\n0 0\nok 1\n".as_slice()
+    );
+    Ok(())
+}
+
+#[test]
 fn a_file_is_refused_for_its_cause(rt: HostRuntime) -> Result<(), Fail> {
     let row = |nth, field, fault| Outcome::Row { nth, field, fault };
-    let cases: [(&[u8], Outcome); 5] = [
+    let limit = |kind, value| Outcome::Limit { kind, value };
+    let cases: [(&[u8], Outcome); 8] = [
         (b"", Outcome::Empty),
-        (b"\xef\xbb\xbf7,0,10,10\n", Outcome::Done),
-        (b"7,0,1\n", row(1, 3, RowFault::Count)),
-        (b"7,0,0,0\n7,0,x,1\n", row(2, 3, RowFault::NotNumber)),
+        (b"object,instant,x,y\n", Outcome::Empty),
+        (b"object,instant,x,y\n7,0,1\n", row(2, 3, RowFault::Count)),
+        (b"7,0,x,1\n", row(1, 3, RowFault::NotNumber)),
         (b"-1,0,y,0\n", row(1, 1, RowFault::Range)),
+        (b"7,0,1099511627777,0\n", row(1, 3, RowFault::Range)),
+        (
+            b"1,0,0,0\n1,1,1048576,0\n",
+            limit(LimitKind::Extent, 1_048_577),
+        ),
+        (
+            b"1,0,0,0\n2,0,0,0\n3,0,0,0\n4,0,0,0\n5,0,0,0\n1,4194303,0,0\n",
+            limit(LimitKind::Blocks, 20_971_520),
+        ),
     ];
     for (csv, expected) in cases {
         let mut outside = make_outside(rt.alloc(), csv, b"position 7 0\n", 4096)?;
-        let outcome = run(rt.alloc(), "once t.csv 1 1 4", &mut outside)?;
-        assert_eq!(rt; outcome, expected);
-        if outcome != Outcome::Done {
-            assert_eq!(rt; outside.sink.as_slice(), b"".as_slice());
-        }
+        assert_eq!(rt;
+            run(rt.alloc(), "once t.csv 1 1 1", &mut outside)?,
+            expected
+        );
+        assert_eq!(rt; outside.sink.as_slice(), b"".as_slice());
     }
     Ok(())
 }
@@ -154,7 +178,7 @@ fn the_first_bad_word_is_named(rt: HostRuntime) -> Result<(), Fail> {
         ("fetch", 1),
         ("once", 2),
         ("once t.csv 0 1 4", 3),
-        ("once t.csv 2 1 4", 3),
+        ("once t.csv 1073741825 1 4", 3),
         ("once t.csv 1 x 4", 4),
         ("once t.csv 1 1", 5),
         ("once t.csv 1 1 4194305", 5),
@@ -162,8 +186,10 @@ fn the_first_bad_word_is_named(rt: HostRuntime) -> Result<(), Fail> {
     ];
     for (command, place) in cases {
         let mut outside = make_outside(rt.alloc(), PATH, b"position 7 0\n", 4096)?;
-        let outcome = run(rt.alloc(), command, &mut outside)?;
-        assert_eq!(rt; outcome, Outcome::Words { place });
+        assert_eq!(rt;
+            run(rt.alloc(), command, &mut outside)?,
+            Outcome::Words { place }
+        );
         assert_eq!(rt; outside.sink.as_slice(), b"".as_slice());
     }
     let mut outside = make_outside(rt.alloc(), PATH, b"", 4096)?;

@@ -1,4 +1,4 @@
-use Rattle.std.proofs.Common.{◌≡◌, ℕ, ◌+◌, ◌^◌, ◌<◌, ◌≤◌, List, [], ◌++◌, length, length-append, take, drop, refl, ap, arith, rules}
+use Rattle.std.proofs.Common.{◌≡◌, ◌<◌, [], ◌++◌, length, length-append, take, drop, refl, ap, arith, rules}
 use Rattle.gract_top.specs.Session.{talk}
 use Rattle.gract_top.proofs.SessionLemmas.{appends_nothing, came-end, came-kept, came-more, came-nothing, front-first, heard-all, piece_heard}
 use Rattle.gract_top.proofs.answering.answer_lines.Goals as goal

@@ -1,9 +1,9 @@
-use Rattle.std.proofs.Common.{◌≡◌, ℕ, List, [], None, true, false, inr, ap, sym, ◌∙◌, Bor}
+use Rattle.std.proofs.Common.{◌≡◌, ℕ, List, [], None, inr, ap, sym, ◌∙◌, Bor}
 use mathlib.Core.Bool.{false≢true}
 use Rattle.row_reader.specs.Rows.{raws_of}
 use Rattle.gridding.specs.ChartOf.{chart_rows}
 use Rattle.track_types.specs.Chart.{ChartView}
-use Rattle.gract_top.specs.Refusal.{IsDecided, is_loading, refusal_of}
+use Rattle.gract_top.specs.Refusal.{refusal_of}
 use Rattle.gract_top.specs.Request.{settings_in, texts}
 use Rattle.gract_top.specs.Session.{talk}
 use Rattle.gract_top.specs.declared.request.Settings.{Settings}
@@ -50,4 +50,4 @@ returns-in-Err-clause-decided g c form bytes held =
     let long = words_of_form c.args.words.now c.in-Once.settings c.in-Once.ensures.value in
     let numbers = settings_of_form (texts c.args.words.now) c.in-Once.settings c.in-Once.ensures.value in
     decided_loading c.in-Err.outcome (refusal_of bytes (settings_in (texts c.args.words.now))) c.in-Err.ensures.loading
-        (λ refused. ap (refusal_of bytes) (sym numbers) ∙ c.in-Err.ensures.refused refused bytes (rw (csv_name-texts c.args.words.now nothing long) at held))
+    (λ refused. ap (refusal_of bytes) (sym numbers) ∙ c.in-Err.ensures.refused refused bytes (rw (csv_name-texts c.args.words.now nothing long) at held))

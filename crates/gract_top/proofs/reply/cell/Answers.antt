@@ -1,10 +1,8 @@
-use Rattle.std.proofs.Common.{◌≡◌, ℕ, List, length, Option, Some, None, sym, subst, rules, MatchResult, get_or}
+use Rattle.std.proofs.Common.{sym, rules}
 use Rattle.std.proofs.lemmas.Int.{to_z-of_z}
 use Rattle.std.proofs.lemmas.List.Sorted.{answers_always}
 use Rattle.std.proofs.lemmas.Result.{MatchResult-at_ok, MatchResult-at_err}
-use Rattle.track_types.specs.ByFilter.{cell_at}
 use Rattle.track_types.specs.Row.{IsAscending, place_of}
-use Rattle.track_types.specs.declared.row.Row.{Row}
 use Rattle.track_types.proofs.RowLemmas.{cell_at-binary_search}
 use Rattle.gract_top.proofs.reply.cell.Goals as goal
 

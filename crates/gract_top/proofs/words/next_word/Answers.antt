@@ -1,5 +1,5 @@
-use Rattle.std.proofs.Common.{◌≡◌, ℕ, List, length, true, rules, arith, ◌∷◌, ◌∙◌, sym}
-use Rattle.gract_top.specs.Lines.{has_byte, words_of}
+use Rattle.std.proofs.Common.{◌≡◌, true, ◌∙◌, sym}
+use Rattle.gract_top.specs.Lines.{has_byte}
 use Rattle.gract_top.proofs.LineLemmas.{has_byte-nonempty, words_of-take}
 use Rattle.gract_top.proofs.words.next_word.Goals as goal
 

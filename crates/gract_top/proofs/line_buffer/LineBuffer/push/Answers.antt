@@ -1,4 +1,4 @@
-use Rattle.std.proofs.Common.{◌≡◌, ◌∙◌, sym, ap, refl}
+use Rattle.std.proofs.Common.{◌∙◌, ap, refl}
 use Rattle.gract_top.specs.LineKept.{LineKept}
 use Rattle.gract_top.proofs.KeptLemmas.{front-try_push, list_any-push}
 use Rattle.gract_top.proofs.line_buffer.LineBuffer.push.Goals as goal

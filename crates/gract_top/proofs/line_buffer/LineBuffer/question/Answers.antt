@@ -1,4 +1,4 @@
-use Rattle.std.proofs.Common.{◌≡◌, ◌∙◌, sym, ap, refl, arith}
+use Rattle.std.proofs.Common.{◌∙◌, sym, ap, refl, arith}
 use Rattle.gract_top.specs.LineKept.{LineKept}
 use Rattle.gract_top.proofs.KeptLemmas.{question_of-short, question_of-long}
 use Rattle.gract_top.proofs.line_buffer.LineBuffer.question.Goals as goal
