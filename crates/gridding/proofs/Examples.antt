@@ -1,7 +1,7 @@
 -- The definitions, run on rows that were worked out by hand.
 use Rattle.std.proofs.Common.{◌≡◌, ℕ, ℤ, pos, negsuc, List, [], ◌∷◌, Some, None, refl}
 use Rattle.track_types.specs.Quantities.{anchors_of, distinct, symbol_count}
-use Rattle.track_types.specs.declared.limit.LimitKind.TheVariants.{Objects, Span, Extent, Blocks, Symbols}
+use Rattle.track_types.specs.declared.limit.LimitKind.TheVariants.{Span, Extent, Blocks}
 use Rattle.track_types.specs.declared.raw_row.RawRow.{RawRow}
 use Rattle.track_types.specs.declared.row.Row.{Row}
 use Rattle.gridding.specs.ChartOf.{chart_rows, kept, ordered, placed}

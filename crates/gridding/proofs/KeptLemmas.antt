@@ -1,11 +1,11 @@
 -- What a search for a row's object and instant finds in the rows of a chart, and that these are in order.
-use Rattle.std.proofs.Common.{◌≡◌, Bool, true, false, cond, List, [], ◌∷◌, ◌++◌, Ordering, Option, Some, None, refl, sym, ◌∙◌, ap, arith}
+use Rattle.std.proofs.Common.{◌≡◌, Bool, true, false, cond, List, [], ◌∷◌, ◌++◌, Ordering, Option, Some, None, refl, sym, ◌∙◌, ap}
 use Rattle.std.specs.Prelude.{find, is_some, reverse, ◌||◌}
 use Rattle.std.specs.Cmp.{IsEquivalence}
-use Rattle.std.specs.List.{AllByRecursion, dedup, dedup_from, list_any}
+use Rattle.std.specs.List.{AllByRecursion, list_any}
 use Rattle.std.specs.List.Sorted.{IsStrictlySortedBy}
 use Rattle.std.specs.Option.{option_or}
-use Rattle.std.specs.Ordering.{eq_by_cmp, is_eq, is_lt, ordering_reverse}
+use Rattle.std.specs.Ordering.{is_eq, is_lt, ordering_reverse}
 use Rattle.std.specs.declared.cmp.Ordering.TheVariants.{Less, Equal, Greater}
 use Rattle.std.proofs.lemmas.Cmp.{and_equiv, int_eq_equiv, nat_eq_equiv, on_equiv}
 use Rattle.std.proofs.lemmas.List.{reverse-append}

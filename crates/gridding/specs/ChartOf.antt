@@ -1,5 +1,5 @@
 -- The chart of raw rows: each raw row is judged by looking at all later ones.
-use Rattle.std.specs.Prelude.{ℕ, Bool, if◌then◌else◌, List, [], ◌∷◌, map}
+use Rattle.std.specs.Prelude.{ℕ, if◌then◌else◌, List, [], ◌∷◌, map}
 use Rattle.std.specs.List.{list_any}
 use Rattle.std.specs.Ordering.{is_lt}
 use Rattle.track_types.specs.Chart.{ChartView, chart_with}

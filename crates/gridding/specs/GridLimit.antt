@@ -1,5 +1,5 @@
 -- Which quantity of a chart passes its limit.
-use Rattle.std.specs.Prelude.{◌≡◌, ◌≢◌, ℕ, Bool, nat_lt, List, [], ◌∷◌, find, Option, Some, None}
+use Rattle.std.specs.Prelude.{◌≡◌, ◌≢◌, ℕ, Bool, nat_lt, List, [], ◌∷◌, find, Option, Some}
 use Rattle.track_types.specs.Limits.{limit_of}
 use Rattle.track_types.specs.Quantities.{block_count, extent_of, object_count, span_of, symbol_count}
 use Rattle.track_types.specs.declared.limit.LimitKind.{LimitKind}

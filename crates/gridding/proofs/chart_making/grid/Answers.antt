@@ -1,4 +1,4 @@
-use Rattle.std.proofs.Common.{◌≡◌, ◌≤◌, ◌<◌, ◌∙◌, [], length, arith, rules, sym}
+use Rattle.std.proofs.Common.{◌<◌, length, arith, rules}
 use Rattle.gridding.proofs.ChartLemmas.{chart_rows-ascending, chart_rows-few, chart_rows-in_range, chart_rows-some}
 use Rattle.gridding.proofs.LimitLemmas.{chart_with-IsChart}
 use Rattle.gridding.specs.ChartOf.{chart_rows}

@@ -1,10 +1,9 @@
-use Rattle.std.proofs.Common.{◌≡◌, ◌∙◌, ◌+◌, [], None, Some, drop, get_or, arith, pos, rules, true, false, sym, ap, w64, to_z, of_z}
+use Rattle.std.proofs.Common.{◌≡◌, ◌∙◌, [], drop, get_or, arith, pos, rules, true, false, ap, w64, to_z, of_z}
 use Rattle.std.proofs.lemmas.Int.{to_z-of_z}
 use Rattle.std.proofs.lemmas.List.{drop_all}
-use Rattle.track_types.specs.Quantities.{log_length}
 use Rattle.track_types.specs.declared.row.Row.{Row}
 use Rattle.gridding.specs.Block.{block_of, is_block_of}
-use Rattle.gridding.proofs.SymbolLemmas.{terminals, terminals-ascending, terminals-drop, terminals-nil}
+use Rattle.gridding.proofs.SymbolLemmas.{terminals-ascending, terminals-drop, terminals-nil}
 use Rattle.gridding.proofs.counts.symbol_count.Goals as goal
 use Rattle.gridding.proofs.counts.symbol_count.Goals.{then-not-is_block_of, else-not-is_block_of}
 

@@ -1,4 +1,4 @@
-use Rattle.std.proofs.Common.{◌≡◌, ◌*◌, ◌∙◌, Some, ap, false, rules, sym, true, w64}
+use Rattle.std.proofs.Common.{◌≡◌, ◌∙◌, Some, ap, false, rules, sym, w64}
 use Rattle.std.specs.Prelude.{FitsSigned}
 use Rattle.std.proofs.lemmas.Int.{to_z-of_z}
 use Rattle.track_types.proofs.QuantityLemmas.{elapsed-span, first_of-below}
