@@ -38,9 +38,11 @@ bytes_at-read files place file within read = rw (slice_get_read files (length fi
 -- its name holds its bytes
 pub held-put :
     (files : List HeldFile) (file : HeldFile) (name bytes : List ℕ)
-    → string_bytes file.name ≡ name → file.bytes.items ≡ bytes → held (file_map (files ++ file ∷ [])) name ≡ Some bytes
+    → string_bytes file.name ≡ name → file.bytes.items ≡ bytes
+    → held (file_map (files ++ file ∷ [])) name ≡ Some bytes
 held-put files file name bytes named stored =
-    let same : bytes_eq (string_bytes file.name) name ≡ true = (bytes_eq-Decides (string_bytes file.name) name).1 named in
+    let decides = bytes_eq-Decides (string_bytes file.name) name in
+    let same : bytes_eq (string_bytes file.name) name ≡ true = decides.1 named in
     held-append files file name ∙ rw (same, stored)
 
 -- every other name holds what it held
@@ -48,11 +50,14 @@ pub held-others :
     (files : List HeldFile) (file : HeldFile) (other : List ℕ)
     → other ≢ string_bytes file.name → held (file_map (files ++ file ∷ [])) other ≡ held (file_map files) other
 held-others files file other differs =
+    let decides = bytes_eq-Decides (string_bytes file.name) other in
     held-append files file other
-    ∙ by_test (bytes_eq (string_bytes file.name) other) (λ same. differs (sym ((bytes_eq-Decides (string_bytes file.name) other).0 same)))
+    ∙ by_test (bytes_eq (string_bytes file.name) other) (λ same. differs (sym (decides.0 same)))
   where
-    by_test :
-        (b : Bool) → (b ≡ true → ⊥) → cond b (Some file.bytes.items) (held (file_map files) other) ≡ held (file_map files) other
+    before : Option (List ℕ)
+    before = held (file_map files) other
+
+    by_test : (b : Bool) → (b ≡ true → ⊥) → cond b (Some file.bytes.items) before ≡ before
     by_test true never = absurd (never refl)
     by_test false never = refl
 
@@ -66,6 +71,7 @@ bytes_left-append files file (Some begun) is_begun =
     let more = files ++ file ∷ [] in
     let inside : place < length files = is_begun.0 in
     let inside_more : place < length more = grind (arith, common_steps) in
-    let same : get_or more place file ≡ get_or files place file = get_or_append_left files (file ∷ []) file place inside in
+    let same : get_or more place file ≡ get_or files place file =
+    get_or_append_left files (file ∷ []) file place inside in
     ap (λ entry. drop begun.taken (option_map_or (λ held_file. held_file.bytes.items) entry []))
     (slice_get-get_or more place file inside_more ∙ ap Some same ∙ sym (slice_get-get_or files place file inside))

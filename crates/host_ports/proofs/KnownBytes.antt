@@ -13,7 +13,8 @@ appends-keeps (Some xs) (Some ys) (Some zs) bytes appended kept = kept ∙ appen
 -- the first bytes of a piece, and then the next of them
 pub appends-take :
     (a b c : Option (List ℕ)) (piece : List ℕ) (sent count : ℕ)
-    → Appends a b (take sent piece) → Appends b c (take count (drop sent piece)) → Appends a c (take (sent + count) piece)
+    → Appends a b (take sent piece) → Appends b c (take count (drop sent piece))
+    → Appends a c (take (sent + count) piece)
 appends-take None b c piece sent count first next = tt
 appends-take (Some xs) None c piece sent count first next = absurd first
 appends-take (Some xs) (Some ys) None piece sent count first next = next

@@ -6,7 +6,8 @@ ghost use Rattle.host_ports.specs.declared.fault.Failed.{Failed};
 pub(crate) fn copy_front(bytes: &[u8], buf: &mut [u8]) -> usize
     ensures count { result ≡ min (length buf.old) (length bytes.now) }
     ensures filled { buf.new ≡ take result bytes.now ++ drop result buf.old }
-    ensures read { ReadConsumes {E = Failed} (Some bytes.now) (Some (drop result bytes.now)) (Ok result) buf.new }
+    ensures read { let left = drop result bytes.now in
+        ReadConsumes {E = Failed} (Some bytes.now) (Some left) (Ok result) buf.new }
 {
     let count = buf.len().min(bytes.len());
     buf[..count].copy_from_slice(&bytes[..count]);

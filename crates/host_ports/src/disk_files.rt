@@ -58,7 +58,8 @@ impl<'a, R: rt::Files> Files for DiskFiles<'a, R> {
     fn begin(&mut self, name: &str) -> Result<(), Failed>
         ensures err { OnErr result (IsAtEnd self.new.left) }
         ensures fresh { self.new.counts.taken ≡ 0 }
-        ensures counted { self.new.counts.faults ≡ raised_if (is_err result) self.old.counts.faults }
+        ensures counted { let before = self.old.counts.faults in
+            self.new.counts.faults ≡ raised_if (is_err result) before }
         ensures faults { self.old.counts.faults ≤ self.new.counts.faults }
     {
         self.begun = None;

@@ -20,7 +20,8 @@ pub(crate) struct Begun {
 pub(crate) fn newest_place(files: &[HeldFile], name: &str) -> Option<usize>
     ensures { MatchOption result
         (held (file_map files.now) name.now ≡ None)
-        (λ place. (place < length files.now) × (held (file_map files.now) name.now ≡ Some (bytes_at files.now place))) }
+        (λ place. (place < length files.now)
+        × (held (file_map files.now) name.now ≡ Some (bytes_at files.now place))) }
 {
     let mut found = None;
     for (place, file) in files.iter().enumerate() {

@@ -30,7 +30,8 @@ impl Model for MemSink {
 impl MemSink {
     /// A sink that takes `room` bytes in all, for which it reserves the memory now.
     ///
-    /// Its calls of `say` are numbered from 1, and those whose numbers are in `fails` fail and say nothing.
+    /// Its calls of `say` are numbered from 1, and those whose numbers are in `fails` fail and say
+    /// nothing.
     pub fn new(alloc: Global, room: usize, fails: Vec<u64>) -> Result<Self, Memory>
         ensures { IfOk result (λ sink. sink ≡ new_sink room fails.items) }
     {

@@ -48,7 +48,8 @@ impl Source for CalmSource {
         ensures ok { result ≡ Ok (min (length buf.old) (length self.old.rest)) }
         ensures filled { let count = min (length buf.old) (length self.old.rest) in
             buf.new ≡ take count self.old.rest ++ drop count buf.old }
-        ensures after { self.new ≡ after_bytes self.old (min (length buf.old) (length self.old.rest)) }
+        ensures after { let count = min (length buf.old) (length self.old.rest) in
+            self.new ≡ after_bytes self.old count }
     {
         let count = copy_front(&self.bytes[self.at..], buf);
         self.at += count;
@@ -74,7 +75,12 @@ impl Model for MemSource {
 
     ghost Value = { MemSourceView };
 
-    ghost view = { λ s. record { rest = s.bytes.rest; taken = s.bytes.taken; piece = s.piece; calls = s.calls } };
+    ghost view = { λ s. record {
+      rest = s.bytes.rest;
+      taken = s.bytes.taken;
+      piece = s.piece;
+      calls = s.calls;
+    } };
 
     ghost invariant = { λ s. 0 < s.piece };
 }

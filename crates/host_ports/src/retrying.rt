@@ -24,7 +24,8 @@ pub(crate) fn read_piece<R: Read>(reader: &mut R, buf: &mut [u8]) -> io::Result<
 /// A writer that takes nothing has failed.
 pub(crate) fn write_piece<W: Write>(writer: &mut W, piece: &[u8]) -> usize
     ensures within { result ≤ length piece.now }
-    ensures written { Appends (W.contents writer.old) (W.contents writer.new) (take result piece.now) }
+    ensures written { let sent = take result piece.now in
+        Appends (W.contents writer.old) (W.contents writer.new) sent }
 {
     let mut sent = 0;
     for _ in 0..u64::MAX {
