@@ -59,8 +59,8 @@ impl MemFiles {
 
     /// Puts bytes under a name, in place of what it held.
     ///
-    /// A file that was begun stays as it was, so the bytes that a name held before are kept until the
-    /// files are dropped.
+    /// A file that was begun stays as it was, so what a name held before is kept until the files
+    /// are dropped.
     pub fn put(&mut self, name: &str, bytes: &[u8]) -> Result<(), Memory>
         ensures ok { OnOk result (PutsOnly self.old self.new name.now bytes.now) }
         ensures err { OnErr result (self.new ≡ self.old) }
