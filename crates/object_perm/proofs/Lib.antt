@@ -1,5 +1,7 @@
 pub mod WalkLemmas
 mod CycleLemmas
 mod FlawLemmas
+mod MarksLemmas
+mod PackLemmas
 mod SearchLemmas
 mod SettledLemmas

@@ -1,8 +1,9 @@
 -- From cycle to cycle, until all places were seen.
-use Rattle.std.proofs.Common.{◌≡◌, ℕ, ◌+◌, ◌<◌, Bool, false, List, length, Option, inl, inr, sym, arith, subst}
+use Rattle.std.proofs.Common.{◌≡◌, ℕ, ◌+◌, ◌<◌, Bool, false, List, length, get_or, Option, None, is_some, inl, inr, ap, sym, ◌∙◌, arith, subst}
 use Rattle.std.proofs.lemmas.Bool.{cases_eq, cases_lt}
 use Rattle.std.proofs.lemmas.List.{get_or_past}
-use Rattle.object_perm.specs.Shortcuts.{LeadBack}
+use Rattle.object_perm.specs.Walk.{along}
+use Rattle.object_perm.specs.Shortcuts.{LeadBack, HoldsShortcuts}
 use Rattle.object_perm.specs.Settled.{IsSeen, KeepsMarks, IsSettled}
 
 -- all is seen
@@ -10,7 +11,7 @@ pub settled-all : (values : List ℕ) (seen : List Bool) (shortcuts : List (Opti
     ((place : ℕ) → place < length values → IsSeen seen place) → LeadBack values shortcuts
 settled-all values seen shortcuts settled all =
     record {
-      same_length = settled.same_length;
+      covers = omega (arith, settled.same_length);
       within = λ place target below has.
           elim (cases_lt target (length seen)) [
             | inl inside ↦ omega (arith, settled.seen_length)
@@ -45,3 +46,29 @@ behind-more seen seen' leader kept marked behind place below =
       | inl e ↦ let P : ℕ → Type 0 = λ x. IsSeen seen' x in subst P (sym e) marked
       | inr other ↦ kept place (behind place (omega arith))
     ]
+
+-- shortcuts that are held in another list lead back as they did
+pub lead-held : (values values' : List ℕ) (shortcuts places held : List (Option ℕ)) → values ≡ values' → places ≡ shortcuts →
+    LeadBack values shortcuts → HoldsShortcuts places held → LeadBack values' held
+lead-held values values' shortcuts places held same_values same_places lead holds =
+    let P : List ℕ → Type 0 = λ xs. LeadBack xs held in
+    subst P same_values (record {
+      covers = let covers = lead.covers in omega (arith, covers, holds.covers, ap length same_places);
+      within = λ place target below has. lead.within place target below (read place ∙ has);
+      stored = λ place target below has. ap is_some (sym (read target)) ∙ lead.stored place target below (read place ∙ has);
+      back = λ place target below has. lead.back place target below (read place ∙ has);
+      ahead = λ place below.
+          let meets = lead.ahead place below in
+          record {
+            moves = meets.moves;
+            some = meets.some;
+            few = meets.few;
+            end = elim meets.end [
+              | inl self ↦ inl self
+              | inr found ↦ inr (ap is_some (sym (read (along values meets.moves place))) ∙ found)
+            ];
+          };
+    })
+  where
+    read : (place : ℕ) → get_or shortcuts place None ≡ get_or held place None
+    read place = ap (λ xs. get_or xs place None) (sym same_places) ∙ sym (holds.same place)

@@ -1,5 +1,6 @@
 pub mod Permutation
 pub mod Fault
 pub mod Walk
+pub mod Marks
 pub mod Shortcuts
 pub mod Settled

@@ -27,7 +27,7 @@ pub record MeetsShortcut (values : List ℕ) (shortcuts : List (Option ℕ)) (pl
 
 -- each shortcut leads back by one to sixteen moves to a place that has one, and each place meets a shortcut or itself
 pub record LeadBack (values : List ℕ) (shortcuts : List (Option ℕ)) : Type 0 where
-  pub same_length : length shortcuts ≡ length values
+  pub covers : length values ≤ length shortcuts
   pub within : (place target : ℕ) → place < length values → slice_index_or shortcuts place None ≡ Some target → target < length values
   pub stored : (place target : ℕ) → place < length values → slice_index_or shortcuts place None ≡ Some target → has_shortcut shortcuts target ≡ true
   pub back : (place target : ℕ) → place < length values → slice_index_or shortcuts place None ≡ Some target → IsNear values target place
@@ -38,3 +38,8 @@ pub record IsIndexed (values : List ℕ) (shortcuts : List (Option ℕ)) : Type 
   pub permutes : PermutesPlaces values
   pub short : length values < 2 ^ 32
   pub lead_back : LeadBack values shortcuts
+
+-- a list that goes on without shortcuts behind those of another
+pub record HoldsShortcuts (places : List (Option ℕ)) (shortcuts : List (Option ℕ)) : Type 0 where
+  pub covers : length places ≤ length shortcuts
+  pub same : (place : ℕ) → slice_index_or shortcuts place None ≡ slice_index_or places place None

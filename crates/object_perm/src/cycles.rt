@@ -13,7 +13,8 @@ const GAP: u32 = 16;
 pub fn find_shortcuts(alloc: Global, values: &[u32]) -> Result<Vec<Option<u32>>, Memory>
     requires permutes { PermutesPlaces values.now }
     requires short { length values.now < 2 ^ 32 }
-    ensures { IfOk result (λ shortcuts. LeadBack values.now shortcuts.items) }
+    ensures back { IfOk result (λ shortcuts. LeadBack values.now shortcuts.items) }
+    ensures same_length { IfOk result (λ shortcuts. length shortcuts.items ≡ length values.now) }
 {
     let mut seen = vec![in alloc; false; values.len()]?;
     let mut shortcuts = vec![in alloc; None; values.len()]?;

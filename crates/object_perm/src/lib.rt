@@ -7,6 +7,7 @@
 mod cycles;
 mod fault;
 mod flaws;
+mod group;
 mod perm;
 mod shortcuts;
 #[cfg(test)]

@@ -50,7 +50,7 @@ impl Perm {
             return Err(PermFault::Flaw { index });
         }
         let targets = find_shortcuts(alloc, list.as_slice())?;
-        let shortcuts = Shortcuts::pack(alloc, targets)?;
+        let shortcuts = Shortcuts::pack(alloc, targets.as_slice())?;
         Ok(Perm {
             values: list,
             shortcuts,

@@ -1,5 +1,7 @@
-ghost use Rattle.std.specs.Prelude.{◌≡◌, ◌+◌, ◌<◌, None, length, slice_index_or, IfOk, MatchOption};
+ghost use Rattle.std.specs.Prelude.{◌≡◌, ℕ, ◌+◌, ◌^◌, ◌<◌, ◌≤◌, None, length, slice_index_or, IfOk, MatchOption};
+ghost use Rattle.object_perm.specs.Shortcuts.{HoldsShortcuts};
 
+use crate::group::{Group, PLACES};
 use std::alloc::Global;
 use std::marker::Model;
 use std::sync::ledger::Ledger;
@@ -7,38 +9,55 @@ use step_count::Steps;
 use track_types::Memory;
 
 /// The shortcuts of a permutation: for each place the target, if it has one.
+///
+/// The targets stand packed in the order of their places. A directory has a word for each 32 places:
+/// a mark at each place that has a target, and how many targets stand before. Contracts see the list
+/// of all places of the groups.
 #[derive(Drop)]
 pub struct Shortcuts {
-    targets: Vec<Option<u32>>,
+    groups: Vec<Group>,
+    targets: Vec<u32>,
 }
 
 impl Model for Shortcuts {
     ghost use Rattle.std.specs.Prelude.{ℕ, List, Option};
+    ghost use Rattle.object_perm.specs.Marks.{shortcuts_of, HasTargets};
 
     ghost Value = { List (Option ℕ) };
 
-    ghost view = { λ s. s.targets.items };
+    ghost view = { λ s. shortcuts_of s.groups.items s.targets.items };
+
+    ghost invariant = { λ s. HasTargets s.groups.items s.targets.items };
 }
 
 impl Shortcuts {
-    /// The shortcuts that the list has.
-    pub fn pack(_alloc: Global, targets: Vec<Option<u32>>) -> Result<Shortcuts, Memory>
-        ensures { IfOk result (λ shortcuts. shortcuts ≡ targets.items) }
+    /// The shortcuts of a list, packed, with places without one up to the end of the last group.
+    pub fn pack(alloc: Global, places: &[Option<u32>]) -> Result<Shortcuts, Memory>
+        requires { length places.now < 2 ^ 32 }
+        ensures { IfOk result (HoldsShortcuts places.now) }
     {
-        Ok(Shortcuts { targets })
+        let mut groups = Vec::new(alloc);
+        let mut targets = Vec::new(alloc);
+        for chunk in places.chunks(PLACES as usize) {
+            groups.push(Group::pack(chunk, &mut targets)?)?;
+        }
+        Ok(Shortcuts { groups, targets })
     }
 
-    /// The target of the place's shortcut, if it has one, in one read, and one more where it has.
+    /// The target of the place's shortcut, if it has one: one read of a group, and where it has, one
+    /// of the target.
     pub fn get<L: Ledger>(&self, place: u32, steps: &mut Steps<L>) -> Option<u32>
         requires { place < length self.now }
         ensures value { result ≡ slice_index_or self.now place None }
         ensures cost { MatchOption result (steps.new ≡ steps.old + 1) (λ _. steps.new ≡ steps.old + 2) }
     {
         steps.tick();
-        let target = self.targets[place as usize];
-        if target.is_some() {
-            steps.tick();
+        let group = self.groups[(place / PLACES) as usize];
+        let bit = place % PLACES;
+        if !group.is_marked(bit) {
+            return None;
         }
-        target
+        steps.tick();
+        Some(self.targets[(group.before + group.count_before(bit)) as usize])
     }
 }

@@ -42,7 +42,10 @@ loop-leader-preserved c =
           }
     ]
 
-pub returns : goal.returns
-returns c =
+pub returns-clause-back : goal.returns-clause-back
+returns-clause-back c =
     settled-all c.args.values.now c.loop-leader.seen.items c.loop-leader.shortcuts.items c.loop-leader.invariant.settled
     (λ place within. c.loop-leader.invariant.behind place (omega arith))
+
+pub returns-clause-same_length : goal.returns-clause-same_length
+returns-clause-same_length c = let settled = c.loop-leader.invariant.settled in settled.same_length

@@ -1,7 +1,8 @@
-use Rattle.std.proofs.Common.{◌≡◌, Some, ap, sym, ◌∙◌, subst, List, Option, ℕ}
+use Rattle.std.proofs.Common.{arith, length, ◌≡◌, Some, ap, sym, ◌∙◌}
 use Rattle.object_perm.specs.Permutation.{first_flaw}
-use Rattle.object_perm.specs.Shortcuts.{LeadBack}
+use Rattle.object_perm.specs.Shortcuts.{LeadBack, HoldsShortcuts}
 use Rattle.object_perm.proofs.FlawLemmas.{permutes-from_none, no_permutation}
+use Rattle.object_perm.proofs.SettledLemmas.{lead-held}
 use Rattle.object_perm.proofs.perm.Perm.check.Goals as goal
 
 pub returns-in-Some-clause-flaw : goal.returns-in-Some-clause-flaw
@@ -21,12 +22,17 @@ returns-clause-exact c =
 
 pub invariant_of-result : goal.invariant_of-result
 invariant_of-result c =
-    let lead : LeadBack c.as_slice-2.result.now c.in_ok-targets.targets.items = c.in_ok-targets.ensures in
-    let packed : c.in_ok-shortcuts.shortcuts ≡ c.in_ok-targets.targets.items = c.in_ok-shortcuts.ensures in
-    let P : List ℕ → Type 0 = λ values. LeadBack values c.in_ok-targets.targets.items in
-    let Q : List (Option ℕ) → Type 0 = λ shortcuts. LeadBack c.args.list shortcuts in
+    let lead : LeadBack c.as_slice-2.result.now c.in_ok-targets.targets.items = c.in_ok-targets.ensures.back in
+    let holds : HoldsShortcuts c.as_slice-3.result.now c.in_ok-shortcuts.shortcuts = c.in_ok-shortcuts.ensures in
     record {
-      permutes = permutes-from_none c.args.list (sym (ap first_flaw c.as_slice.ensures) ∙ sym c.in_ok-index.ensures ∙ c.in_default.is);
+      permutes = permutes-from_none c.args.list
+          (sym (ap first_flaw c.as_slice.ensures) ∙ sym c.in_ok-index.ensures ∙ c.in_default.is);
       short = c.requires;
-      lead_back = subst Q (sym packed) (subst P c.as_slice-2.ensures lead);
+      lead_back = lead-held c.as_slice-2.result.now c.args.list c.in_ok-targets.targets.items c.as_slice-3.result.now
+          c.in_ok-shortcuts.shortcuts c.as_slice-2.ensures c.as_slice-3.ensures.value lead holds;
     }
+
+pub pack-requires : goal.pack-requires
+pack-requires c =
+    let whole = ap length c.as_slice-2.ensures in
+    omega (arith, c.in_ok-targets.ensures.same_length, c.as_slice-3.ensures.len, ap length c.as_slice-3.ensures.value, whole, c.requires)
