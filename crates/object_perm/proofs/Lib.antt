@@ -1,7 +1,9 @@
+pub mod FlawLemmas
+pub mod InverseLemmas
 pub mod WalkLemmas
 mod CycleLemmas
-mod FlawLemmas
+mod SettledLemmas
 mod MarksLemmas
 mod PackLemmas
 mod SearchLemmas
-mod SettledLemmas
+mod Examples

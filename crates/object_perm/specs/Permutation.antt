@@ -1,6 +1,6 @@
 -- Permutations of places, and what is wrong with a list that is none.
 use Rattle.std.specs.Prelude.{◌≡◌, ℕ, ◌<◌, Bool, ◌||◌, ◌==◌, nat_le, List, length, take, find, Option, slice_index}
-use Rattle.std.specs.List.{list_any, range_with_len}
+use Rattle.std.specs.List.{list_any, position_or_len, range_with_len}
 
 -- the list is a permutation of 0 to its length - 1: every value is below the length, and none stands at two places
 pub record PermutesPlaces (values : List ℕ) : Type 0 where
@@ -18,3 +18,7 @@ is_flawed values place = nat_le (length values) (slice_index values place) || st
 -- the first place whose value is too great or stood before
 abbrev pub first_flaw : List ℕ → Option ℕ
 first_flaw values = find (is_flawed values) (range_with_len 0 (length values))
+
+-- the place where the value stands first, which is its only one in a permutation
+abbrev pub inverse_of : List ℕ → ℕ → ℕ
+inverse_of values v = position_or_len (λ value. value == v) values

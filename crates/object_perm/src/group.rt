@@ -10,7 +10,7 @@ pub const PLACES: u32 = 32;
 
 /// Which of 32 places have a shortcut, and how many places of earlier groups have one. It is one word
 /// of 64 bits.
-#[derive(Clone, Copy)]
+#[derive(Clone, Copy, Debug)]
 pub struct Group {
     pub marks: u32,
     pub before: u32,

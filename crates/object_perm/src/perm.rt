@@ -1,5 +1,5 @@
 ghost use Rattle.std.specs.Prelude.{◌≡◌, ◌+◌, ◌^◌, ◌<◌, ◌≤◌, length, slice_index, IfErr, IfOk, OnOk};
-ghost use Rattle.object_perm.specs.Permutation.{PermutesPlaces};
+ghost use Rattle.object_perm.specs.Permutation.{PermutesPlaces, inverse_of};
 ghost use Rattle.object_perm.specs.Fault.{IsFaultOf};
 ghost use Rattle.object_perm.specs.Shortcuts.{IsNear, CostsWalk};
 
@@ -18,7 +18,7 @@ use track_types::List32;
 /// Shortcuts, the back pointers of Munro, Raman, Raman and Rao ("Succinct representations of
 /// permutations", 2003), let `inverse` find a place without walking its whole cycle: along each cycle
 /// longer than 16 every 16th element, counted from the cycle's least, leads back to the 16th before it.
-#[derive(Drop)]
+#[derive(Debug, Drop)]
 pub struct Perm {
     values: List32,
     shortcuts: Shortcuts,
@@ -79,6 +79,7 @@ impl Perm {
     pub fn inverse<L: Ledger>(&self, v: u32, steps: &mut Steps<L>) -> u32
         requires { v < length self.now }
         ensures value { slice_index self.now result ≡ v }
+        ensures exact { result ≡ inverse_of self.now v }
         ensures within { result < length self.now }
         ensures cost { steps.new ≤ steps.old + 33 }
     {

@@ -13,7 +13,7 @@ use track_types::Memory;
 /// The targets stand packed in the order of their places. A directory has a word for each 32 places:
 /// a mark at each place that has a target, and how many targets stand before. Contracts see the list
 /// of all places of the groups.
-#[derive(Drop)]
+#[derive(Debug, Drop)]
 pub struct Shortcuts {
     groups: Vec<Group>,
     targets: Vec<u32>,

@@ -1,5 +1,6 @@
 use Rattle.std.proofs.Common.{◌+◌, arith, sym, ◌∙◌}
 use Rattle.object_perm.proofs.WalkLemmas.{along-zero, along-next}
+use Rattle.object_perm.proofs.InverseLemmas.{inverse_of-at}
 use Rattle.object_perm.proofs.SearchLemmas.{IsTarget, beyond-more, passed-more, few_moves, first_target, indexed-same}
 use Rattle.object_perm.proofs.perm.Perm.inverse.Goals as goal
 
@@ -62,3 +63,15 @@ loop-target-preserved g c =
           (sym c.get.ensures.value ∙ c.in_default.is) walk.passed;
       beyond = beyond-more values c.args.v c.args.v walk.moves c.value_at-next.result path c.if-next-v.false walk.beyond;
     }
+
+pub returns-in-Some-clause-exact : goal.returns-in-Some-clause-exact
+returns-in-Some-clause-exact g c =
+    let indexed = indexed-same c.self.inside.values c.args.self.now c.self.inside.shortcuts c.self.view_is c.self.invariant in
+    let found = c.walk_to.ensures in
+    sym (inverse_of-at c.args.self.now c.walk_to.result c.args.v indexed.permutes found.within found.value)
+
+pub returns-then-next-v-clause-exact : goal.returns-then-next-v-clause-exact
+returns-then-next-v-clause-exact g c =
+    let indexed = indexed-same c.self.inside.values c.args.self.now c.self.inside.shortcuts c.self.view_is c.self.invariant in
+    let here = sym c.value_at-next.ensures.value ∙ c.if-next-v.true in
+    sym (inverse_of-at c.args.self.now c.loop-target.place c.args.v indexed.permutes c.loop-target.invariant.within here)
