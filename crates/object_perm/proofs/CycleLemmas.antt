@@ -1,72 +1,13 @@
 -- The steps of the walk that marks a cycle.
-use Rattle.std.proofs.Common.{◌≡◌, ◌≢◌, ℕ, ◌+◌, ◌<◌, Bool, true, false, cond, List, length, get_or, set, Option, None, Some, ◌⊎◌, inl, inr, refl, ap, sym, ◌∙◌, arith, subst}
-use Rattle.std.proofs.lemmas.Bool.{cases_eq, cases_Bool}
-use Rattle.std.proofs.lemmas.List.{get_or-set_same, get_or-set_other, length-set, get_or_past}
-use Rattle.std.proofs.lemmas.Bool.{cases_lt}
-use Rattle.std.proofs.lemmas.List.Sums.{sum_by-set}
+use Rattle.std.proofs.Common.{◌≡◌, ◌≢◌, ℕ, ◌+◌, ◌<◌, Bool, true, false, List, length, get_or, set, Option, None, Some, ◌⊎◌, inl, inr, refl, ap, sym, ◌∙◌, arith, subst}
+use Rattle.std.proofs.lemmas.Bool.{cases_Bool}
+use Rattle.std.proofs.lemmas.List.{get_or-set_same, get_or-set_other, length-set}
 use Rattle.object_perm.specs.Permutation.{PermutesPlaces}
 use Rattle.object_perm.specs.Walk.{along}
 use Rattle.object_perm.specs.Shortcuts.{has_shortcut}
-use Rattle.object_perm.specs.Settled.{IsSeen, KeepsMarks, MeetsSeen, IsSettled, IsOpen, IsInCycle, unseen_count}
-use Rattle.object_perm.proofs.WalkLemmas.{along-zero, along-add, along-split, along-next}
-
--- a place that was seen is within the list
-pub seen_within : (seen : List Bool) (place : ℕ) → IsSeen seen place → place < length seen
-seen_within seen place is_seen =
-    elim (cases_lt place (length seen)) [
-      | inl below ↦ below
-      | inr past ↦ let not_seen = get_or_past seen place false past in absurd (cc)
-    ]
-
--- a place more is seen: what was seen stays so
-pub seen_kept : (seen : List Bool) (i place : ℕ) → i < length seen → IsSeen seen place → IsSeen (set seen i true) place
-seen_kept seen i place within is_seen =
-    elim (cases_eq place i) [
-      | inl e ↦ rw (e, get_or-set_same seen i true false within) refl
-      | inr other ↦ rw (get_or-set_other seen i place true false other) is_seen
-    ]
-
--- a place more is seen: that one alone
-pub seen_cases : (seen : List Bool) (i place : ℕ) → IsSeen (set seen i true) place → (place ≡ i) ⊎ IsSeen seen place
-seen_cases seen i place is_seen =
-    elim (cases_eq place i) [
-      | inl e ↦ inl e
-      | inr other ↦ inr (rw get_or-set_other at is_seen)
-    ]
-
--- a place that is still unseen
-pub unseen_before : (seen : List Bool) (i place : ℕ) → i < length seen → get_or (set seen i true) place false ≡ false →
-    (place ≢ i) × (get_or seen place false ≡ false)
-unseen_before seen i place within unseen =
-    let other : place ≢ i = λ e. let same = get_or-set_same seen i true false within in let there = ap (λ x. get_or (set seen i true) x false) e in cc in
-    (other, sym (get_or-set_other seen i place true false other) ∙ unseen)
-
--- a shortcut more: what had one has one
-pub shortcut_kept : (shortcuts : List (Option ℕ)) (i target place : ℕ) → i < length shortcuts → has_shortcut shortcuts place ≡ true →
-    has_shortcut (set shortcuts i (Some target)) place ≡ true
-shortcut_kept shortcuts i target place within has =
-    elim (cases_eq place i) [
-      | inl e ↦ rw (e, get_or-set_same shortcuts i (Some target) None within) refl
-      | inr other ↦ rw (get_or-set_other shortcuts i place (Some target) None other) has
-    ]
-
-pub shortcut_made : (shortcuts : List (Option ℕ)) (i target : ℕ) → i < length shortcuts → has_shortcut (set shortcuts i (Some target)) i ≡ true
-shortcut_made shortcuts i target within = rw (get_or-set_same shortcuts i (Some target) None within) refl
-
--- what met a shortcut still does when more is seen and more shortcuts are made
-pub meets_kept : (values : List ℕ) (seen seen' : List Bool) (shortcuts shortcuts' : List (Option ℕ)) (place : ℕ) →
-    ((x : ℕ) → IsSeen seen x → IsSeen seen' x) → ((x : ℕ) → has_shortcut shortcuts x ≡ true → has_shortcut shortcuts' x ≡ true) →
-    MeetsSeen values seen shortcuts place → MeetsSeen values seen' shortcuts' place
-meets_kept values seen seen' shortcuts shortcuts' place keeps_seen keeps_shortcut meets =
-    record {
-      moves = meets.moves;
-      some = meets.some;
-      few = meets.few;
-      end = elim meets.end [
-        | inl self ↦ inl self
-        | inr found ↦ inr (keeps_seen (along values meets.moves place) found.0, keeps_shortcut (along values meets.moves place) found.1)
-      ];
-    }
+use Rattle.object_perm.specs.Settled.{IsSeen, KeepsMarks, IsSettled, IsInCycle, unseen_count}
+use Rattle.object_perm.proofs.SeenLemmas.{seen_within, seen_kept, seen_cases, unseen_before, shortcut_kept, shortcut_made, meets_kept, open_meets, unseen_count-set}
+use Rattle.object_perm.proofs.WalkLemmas.{along-zero, along-next}
 
 -- the walk begins at its leader
 pub cycle_begins : (values : List ℕ) (seen : List Bool) (shortcuts : List (Option ℕ)) (leader : ℕ) →
@@ -79,7 +20,8 @@ cycle_begins values seen shortcuts leader within unseen settled =
     let begun : IsSeen seen' leader = get_or-set_same seen leader true false at_leader in
     let no_shortcut : (y target : ℕ) → y ≡ leader → get_or shortcuts y None ≡ Some target → ⊥ =
     λ y target e has. let none = settled.empty leader unseen in let same = ap (λ x. get_or shortcuts x None) e in cc in
-    let before : (y : ℕ) → y < length values → IsSeen seen' (get_or values y 0) → get_or values y 0 ≢ leader → IsSeen seen y =
+    let before : (y : ℕ) → y < length values → IsSeen seen' (get_or values y 0) → get_or values y 0 ≢ leader →
+    IsSeen seen y =
     λ y below is_seen other. elim (seen_cases seen leader (get_or values y 0) is_seen) [
       | inl e ↦ absurd (other e)
       | inr old ↦ settled.closed y below old
@@ -94,7 +36,8 @@ cycle_begins values seen shortcuts leader within unseen settled =
       path = along-zero values leader;
       rooted = inl refl;
       closed = λ y below is_seen other. kept y (before y below is_seen other);
-      ahead_unseen = λ y below is_seen other e. let there = before y below is_seen other in let same = ap (λ x. get_or seen x false) e in cc;
+      ahead_unseen = λ y below is_seen other e. let there = before y below is_seen other in let same =
+          ap (λ x. get_or seen x false) e in cc;
       empty = λ y not_seen. settled.empty y (unseen_before seen leader y at_leader not_seen).1;
       target = λ y target is_seen has. elim (seen_cases seen leader y is_seen) [
         | inl e ↦ absurd (no_shortcut y target e has)
@@ -109,14 +52,21 @@ cycle_begins values seen shortcuts leader within unseen settled =
         | inr old ↦ settled.back y target old has
       ];
       ahead = λ y is_seen. elim (seen_cases seen leader y is_seen) [
-        | inl e ↦ inr (record { behind = 0; before = 0; split = omega arith; path = e ∙ sym (along-zero values leader) })
+        | inl e ↦ inr (record {
+          behind = 0;
+          before = 0;
+          split = omega arith;
+          path = e
+              ∙ sym (along-zero values leader);
+        })
         | inr old ↦ inl (meets_kept values seen seen' shortcuts shortcuts y kept (λ x has. has) (settled.ahead y old))
       ];
     }
 
 -- the next place of the walk was not seen yet
 pub next_unseen : (values : List ℕ) (seen : List Bool) (shortcuts : List (Option ℕ)) (leader place stored gap : ℕ) →
-    IsInCycle values seen shortcuts leader place stored gap → get_or values place 0 ≢ leader → get_or seen (get_or values place 0) false ≡ false
+    IsInCycle values seen shortcuts leader place stored gap → get_or values place 0 ≢ leader →
+    get_or seen (get_or values place 0) false ≡ false
 next_unseen values seen shortcuts leader place stored gap walk other =
     let below : place < length values = let b = seen_within seen place walk.here in omega (arith, walk.seen_length) in
     elim (cases_Bool (get_or seen (get_or values place 0) false)) [
@@ -125,12 +75,15 @@ next_unseen values seen shortcuts leader place stored gap walk other =
     ]
 
 -- what came before a place is seen, once the walk has gone on to the next
-pub closed_after : (values : List ℕ) (seen : List Bool) (shortcuts : List (Option ℕ)) (leader place stored gap next : ℕ) →
+pub closed_after : (values : List ℕ) (seen : List Bool) (shortcuts : List (Option ℕ))
+    (leader place stored gap next : ℕ) →
     PermutesPlaces values → IsInCycle values seen shortcuts leader place stored gap →
     next ≡ get_or values place 0 → next ≢ leader →
-    (y : ℕ) → y < length values → IsSeen (set seen next true) (get_or values y 0) → get_or values y 0 ≢ leader → IsSeen seen y
+    (y : ℕ) → y < length values → IsSeen (set seen next true) (get_or values y 0) → get_or values y 0 ≢ leader →
+    IsSeen seen y
 closed_after values seen shortcuts leader place stored gap next permutes walk is_next other y below is_seen apart =
-    let place_below : place < length values = let b = seen_within seen place walk.here in omega (arith, walk.seen_length) in
+    let place_below : place < length values = let b = seen_within seen place walk.here in
+    omega (arith, walk.seen_length) in
     elim (seen_cases seen next (get_or values y 0) is_seen) [
       | inl e ↦ let same : y ≡ place = permutes.apart y place below place_below (e ∙ is_next) in
           let P : ℕ → Type 0 = λ x. IsSeen seen x in subst P (sym same) walk.here
@@ -138,13 +91,16 @@ closed_after values seen shortcuts leader place stored gap next permutes walk is
     ]
 
 -- one move further, to a place that gets no shortcut
-pub cycle_goes_on : (values : List ℕ) (seen : List Bool) (shortcuts : List (Option ℕ)) (leader place stored gap next : ℕ) →
+pub cycle_goes_on : (values : List ℕ) (seen : List Bool) (shortcuts : List (Option ℕ))
+    (leader place stored gap next : ℕ) →
     PermutesPlaces values → IsInCycle values seen shortcuts leader place stored gap →
     next ≡ get_or values place 0 → next ≢ leader → gap + 1 < 16 →
     IsInCycle values (set seen next true) shortcuts leader next stored (gap + 1)
 cycle_goes_on values seen shortcuts leader place stored gap next permutes walk is_next other still_short =
-    let place_below : place < length values = let b = seen_within seen place walk.here in omega (arith, walk.seen_length) in
-    let next_below : next < length seen = let b = permutes.within place place_below in omega (arith, walk.seen_length) in
+    let place_below : place < length values = let b = seen_within seen place walk.here in
+    omega (arith, walk.seen_length) in
+    let next_below : next < length seen = let b = permutes.within place place_below in
+    omega (arith, walk.seen_length) in
     let seen' : List Bool = set seen next true in
     let kept : KeepsMarks seen seen' = λ y is_seen. seen_kept seen next y next_below is_seen in
     let fresh : get_or seen next false ≡ false =
@@ -152,7 +108,8 @@ cycle_goes_on values seen shortcuts leader place stored gap next permutes walk i
     ap (λ x. get_or seen x false) is_next ∙ next_unseen values seen shortcuts leader place stored gap walk other' in
     let no_shortcut : (y target : ℕ) → y ≡ next → get_or shortcuts y None ≡ Some target → ⊥ =
     λ y target e has. let none = walk.empty next fresh in let same = ap (λ x. get_or shortcuts x None) e in cc in
-    let before : (y : ℕ) → y < length values → IsSeen seen' (get_or values y 0) → get_or values y 0 ≢ leader → IsSeen seen y =
+    let before : (y : ℕ) → y < length values → IsSeen seen' (get_or values y 0) → get_or values y 0 ≢ leader →
+    IsSeen seen y =
     closed_after values seen shortcuts leader place stored gap next permutes walk is_next other in
     record {
       seen_length = rw (length-set seen next true) walk.seen_length;
@@ -198,39 +155,17 @@ cycle_goes_on values seen shortcuts leader place stored gap next permutes walk i
       ];
     }
 
--- from a place that lies open, the moves that are left lead to where the walk is
-pub open_path : (values : List ℕ) (stored gap place y : ℕ) → along values gap stored ≡ place → (opened : IsOpen values stored gap y) →
-    along values opened.before y ≡ place
-open_path values stored gap place y path opened =
-    let sum : opened.before + opened.behind ≡ gap = let s = opened.split in omega arith in
-    ap (along values opened.before) opened.path ∙ sym (along-split values opened.before opened.behind gap stored sum) ∙ path
-
--- a place that lies open meets the next place of the walk, once that has a shortcut
-pub open_meets : (values : List ℕ) (seen : List Bool) (shortcuts : List (Option ℕ)) (place stored gap next y : ℕ) →
-    along values gap stored ≡ place → gap < 16 → next ≡ get_or values place 0 → IsSeen seen next → has_shortcut shortcuts next ≡ true →
-    IsOpen values stored gap y → MeetsSeen values seen shortcuts y
-open_meets values seen shortcuts place stored gap next y path short is_next is_seen has opened =
-    let reached : along values (opened.before + 1) y ≡ next =
-    along-next values opened.before y place (open_path values stored gap place y path opened) ∙ sym is_next in
-    let split = opened.split in
-    record {
-      moves = opened.before + 1;
-      some = omega arith;
-      few = omega arith;
-      end = inr (
-        (let P : ℕ → Type 0 = λ x. IsSeen seen x in subst P (sym reached) is_seen),
-        (let Q : ℕ → Type 0 = λ x. has_shortcut shortcuts x ≡ true in subst Q (sym reached) has),
-      );
-    }
-
 -- one move further, to the sixteenth place after the one that was stored last: it leads back there
-pub cycle_stores : (values : List ℕ) (seen : List Bool) (shortcuts : List (Option ℕ)) (leader place stored gap next : ℕ) →
+pub cycle_stores : (values : List ℕ) (seen : List Bool) (shortcuts : List (Option ℕ))
+    (leader place stored gap next : ℕ) →
     PermutesPlaces values → IsInCycle values seen shortcuts leader place stored gap →
     next ≡ get_or values place 0 → next ≢ leader →
     IsInCycle values (set seen next true) (set shortcuts next (Some stored)) leader next next 0
 cycle_stores values seen shortcuts leader place stored gap next permutes walk is_next other =
-    let place_below : place < length values = let b = seen_within seen place walk.here in omega (arith, walk.seen_length) in
-    let next_below : next < length seen = let b = permutes.within place place_below in omega (arith, walk.seen_length) in
+    let place_below : place < length values = let b = seen_within seen place walk.here in
+    omega (arith, walk.seen_length) in
+    let next_below : next < length seen = let b = permutes.within place place_below in
+    omega (arith, walk.seen_length) in
     let next_in : next < length shortcuts = omega (arith, walk.seen_length, walk.same_length) in
     let seen' : List Bool = set seen next true in
     let shortcuts' : List (Option ℕ) = set shortcuts next (Some stored) in
@@ -242,12 +177,14 @@ cycle_stores values seen shortcuts leader place stored gap next permutes walk is
     ap (λ x. get_or seen x false) is_next ∙ next_unseen values seen shortcuts leader place stored gap walk other' in
     let seen_other : (y : ℕ) → IsSeen seen y → y ≢ next =
     λ y is_seen e. let same = ap (λ x. get_or seen x false) e in cc in
-    let as_before : (y target : ℕ) → IsSeen seen y → get_or shortcuts' y None ≡ Some target → get_or shortcuts y None ≡ Some target =
+    let as_before : (y target : ℕ) → IsSeen seen y → get_or shortcuts' y None ≡ Some target →
+    get_or shortcuts y None ≡ Some target =
     λ y target is_seen has. sym (get_or-set_other shortcuts next y (Some stored) None (seen_other y is_seen)) ∙ has in
     let made : (y target : ℕ) → y ≡ next → get_or shortcuts' y None ≡ Some target → target ≡ stored =
     λ y target e has. let new = get_or-set_same shortcuts next (Some stored) None next_in in
     let same = ap (λ x. get_or shortcuts' x None) e in cc in
-    let before : (y : ℕ) → y < length values → IsSeen seen' (get_or values y 0) → get_or values y 0 ≢ leader → IsSeen seen y =
+    let before : (y : ℕ) → y < length values → IsSeen seen' (get_or values y 0) → get_or values y 0 ≢ leader →
+    IsSeen seen y =
     closed_after values seen shortcuts leader place stored gap next permutes walk is_next other in
     let is_seen_next : IsSeen seen' next = get_or-set_same seen next true false next_below in
     record {
@@ -265,7 +202,8 @@ cycle_stores values seen shortcuts leader place stored gap next permutes walk is
           let old = unseen_before seen next y next_below not_seen in
           get_or-set_other shortcuts next y (Some stored) None old.0 ∙ walk.empty y old.1;
       target = λ y target is_seen has. elim (seen_cases seen next y is_seen) [
-        | inl e ↦ let P : ℕ → Type 0 = λ x. IsSeen seen' x in subst P (sym (made y target e has)) (kept stored walk.base)
+        | inl e ↦ let P : ℕ → Type 0 = λ x. IsSeen seen' x in
+            subst P (sym (made y target e has)) (kept stored walk.base)
         | inr old ↦ kept target (walk.target y target old (as_before y target old has))
       ];
       store = λ y target is_seen has. elim (seen_cases seen next y is_seen) [
@@ -284,7 +222,8 @@ cycle_stores values seen shortcuts leader place stored gap next permutes walk is
           moves = gap + 1;
           some = omega arith;
           few = let s = walk.short in omega arith;
-          path = ap (along values (gap + 1)) (made y target e has) ∙ along-next values gap stored place walk.path ∙ sym is_next ∙ sym e;
+          path = ap (along values (gap + 1)) (made y target e has) ∙ along-next values gap stored place walk.path
+              ∙ sym is_next ∙ sym e;
         }
         | inr old ↦ walk.back y target old (as_before y target old has)
       ];
@@ -298,118 +237,13 @@ cycle_stores values seen shortcuts leader place stored gap next permutes walk is
       ];
     }
 
--- the walk is back at its leader: what came before a place seen was seen
-pub closed_at_end : (values : List ℕ) (seen : List Bool) (shortcuts : List (Option ℕ)) (leader place stored gap : ℕ) →
-    PermutesPlaces values → IsInCycle values seen shortcuts leader place stored gap → get_or values place 0 ≡ leader →
-    (y : ℕ) → y < length values → IsSeen seen (get_or values y 0) → IsSeen seen y
-closed_at_end values seen shortcuts leader place stored gap permutes walk back y below is_seen =
-    let place_below : place < length values = let b = seen_within seen place walk.here in omega (arith, walk.seen_length) in
-    elim (cases_eq (get_or values y 0) leader) [
-      | inl e ↦ let same : y ≡ place = permutes.apart y place below place_below (e ∙ sym back) in
-          let P : ℕ → Type 0 = λ x. IsSeen seen x in subst P (sym same) walk.here
-      | inr other ↦ walk.closed y below is_seen other
-    ]
-
--- the walk is back at its leader after at most sixteen moves
-pub cycle_ends_short : (values : List ℕ) (seen : List Bool) (shortcuts : List (Option ℕ)) (leader place stored gap : ℕ) →
-    PermutesPlaces values → IsInCycle values seen shortcuts leader place stored gap → get_or values place 0 ≡ leader → stored ≡ leader →
-    IsSettled values seen shortcuts
-cycle_ends_short values seen shortcuts leader place stored gap permutes walk back root =
-    record {
-      seen_length = walk.seen_length;
-      same_length = walk.same_length;
-      closed = closed_at_end values seen shortcuts leader place stored gap permutes walk back;
-      empty = walk.empty;
-      target = walk.target;
-      stored = λ y target is_seen has. elim (walk.store y target is_seen has) [
-        | inl has_one ↦ has_one
-        | inr rootless ↦ absurd (rootless.1 root)
-      ];
-      back = walk.back;
-      ahead = λ y is_seen. elim (walk.ahead y is_seen) [
-        | inl meets ↦ meets
-        | inr opened ↦
-            let round : along values (gap + 1) stored ≡ stored = along-next values gap stored place walk.path ∙ back ∙ sym root in
-            let commute : (gap + 1) + opened.behind ≡ opened.behind + (gap + 1) = omega arith in
-            record {
-              moves = gap + 1;
-              some = omega arith;
-              few = let s = walk.short in omega arith;
-              end = inl (ap (along values (gap + 1)) opened.path
-                  ∙ sym (along-add values (gap + 1) opened.behind stored)
-                  ∙ along-split values opened.behind (gap + 1) ((gap + 1) + opened.behind) stored (sym commute)
-                  ∙ ap (along values opened.behind) round
-                  ∙ sym opened.path);
-            }
-      ];
-    }
-
--- the walk is back at its leader, which leads back to the last place that was stored
-pub cycle_ends_long : (values : List ℕ) (seen : List Bool) (shortcuts : List (Option ℕ)) (leader place stored gap : ℕ) →
-    PermutesPlaces values → IsInCycle values seen shortcuts leader place stored gap → get_or values place 0 ≡ leader → stored ≢ leader →
-    IsSettled values seen (set shortcuts leader (Some stored))
-cycle_ends_long values seen shortcuts leader place stored gap permutes walk back apart =
-    let leader_in : leader < length shortcuts = let b = seen_within seen leader walk.started in omega (arith, walk.seen_length, walk.same_length) in
-    let shortcuts' : List (Option ℕ) = set shortcuts leader (Some stored) in
-    let kept_shortcuts : (y : ℕ) → has_shortcut shortcuts y ≡ true → has_shortcut shortcuts' y ≡ true =
-    λ y has. shortcut_kept shortcuts leader stored y leader_in has in
-    let has_leader : has_shortcut shortcuts' leader ≡ true = shortcut_made shortcuts leader stored leader_in in
-    let has_stored : has_shortcut shortcuts' stored ≡ true = elim walk.rooted [
-      | inl root ↦ absurd (apart root)
-      | inr rooted ↦ kept_shortcuts stored rooted
-    ] in
-    let as_before : (y target : ℕ) → y ≢ leader → get_or shortcuts' y None ≡ Some target → get_or shortcuts y None ≡ Some target =
-    λ y target other has. sym (get_or-set_other shortcuts leader y (Some stored) None other) ∙ has in
-    let made : (y target : ℕ) → y ≡ leader → get_or shortcuts' y None ≡ Some target → target ≡ stored =
-    λ y target e has. let new = get_or-set_same shortcuts leader (Some stored) None leader_in in
-    let same = ap (λ x. get_or shortcuts' x None) e in cc in
-    record {
-      seen_length = walk.seen_length;
-      same_length = rw (length-set shortcuts leader (Some stored)) walk.same_length;
-      closed = closed_at_end values seen shortcuts leader place stored gap permutes walk back;
-      empty = λ y not_seen.
-          let other : y ≢ leader = λ e. let started = walk.started in let same = ap (λ x. get_or seen x false) e in cc in
-          get_or-set_other shortcuts leader y (Some stored) None other ∙ walk.empty y not_seen;
-      target = λ y target is_seen has. elim (cases_eq y leader) [
-        | inl e ↦ let P : ℕ → Type 0 = λ x. IsSeen seen x in subst P (sym (made y target e has)) walk.base
-        | inr other ↦ walk.target y target is_seen (as_before y target other has)
-      ];
-      stored = λ y target is_seen has. elim (cases_eq y leader) [
-        | inl e ↦ let P : ℕ → Type 0 = λ x. has_shortcut shortcuts' x ≡ true in subst P (sym (made y target e has)) has_stored
-        | inr other ↦ elim (walk.store y target is_seen (as_before y target other has)) [
-          | inl has_one ↦ kept_shortcuts target has_one
-          | inr root ↦ let P : ℕ → Type 0 = λ x. has_shortcut shortcuts' x ≡ true in subst P (sym root.0) has_leader
-        ]
-      ];
-      back = λ y target is_seen has. elim (cases_eq y leader) [
-        | inl e ↦ record {
-          moves = gap + 1;
-          some = omega arith;
-          few = let s = walk.short in omega arith;
-          path = ap (along values (gap + 1)) (made y target e has) ∙ along-next values gap stored place walk.path ∙ back ∙ sym e;
-        }
-        | inr other ↦ walk.back y target is_seen (as_before y target other has)
-      ];
-      ahead = λ y is_seen. elim (walk.ahead y is_seen) [
-        | inl meets ↦ meets_kept values seen seen shortcuts shortcuts' y (λ x seen_x. seen_x) kept_shortcuts meets
-        | inr opened ↦ open_meets values seen shortcuts' place stored gap leader y walk.path walk.short (sym back) walk.started has_leader opened
-      ];
-    }
-
--- a place more is seen: one fewer is not
-pub unseen_count-set : (seen : List Bool) (i : ℕ) → i < length seen → get_or seen i false ≡ false →
-    unseen_count (set seen i true) < unseen_count seen
-unseen_count-set seen i within unseen =
-    let f : Bool → ℕ = λ is_seen. cond is_seen 0 1 in
-    let sums = sum_by-set f seen i true false within in
-    let one : f (get_or seen i false) ≡ 1 = rw unseen refl in
-    omega (arith, sums, one)
-
 -- where the walk goes on is within the list
 pub next_within : (values : List ℕ) (seen : List Bool) (shortcuts : List (Option ℕ)) (leader place stored gap : ℕ) →
-    PermutesPlaces values → IsInCycle values seen shortcuts leader place stored gap → get_or values place 0 < length seen
+    PermutesPlaces values → IsInCycle values seen shortcuts leader place stored gap →
+    get_or values place 0 < length seen
 next_within values seen shortcuts leader place stored gap permutes walk =
-    let place_below : place < length values = let b = seen_within seen place walk.here in omega (arith, walk.seen_length) in
+    let place_below : place < length values = let b = seen_within seen place walk.here in
+    omega (arith, walk.seen_length) in
     let next_below = permutes.within place place_below in
     omega (arith, walk.seen_length, next_below)
 

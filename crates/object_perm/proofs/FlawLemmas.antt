@@ -7,7 +7,8 @@ use Rattle.std.proofs.lemmas.List.Folds.{list_any_at, Any-from_list_any}
 use Rattle.object_perm.specs.Permutation.{PermutesPlaces, stood_before, is_flawed, first_flaw}
 
 -- the first number of a range that passes a test
-find-range : (test : ℕ → Bool) (from n k : ℕ) → k < n → ((j : ℕ) → j < k → test (from + j) ≡ false) → test (from + k) ≡ true →
+find-range : (test : ℕ → Bool) (from n k : ℕ) → k < n → ((j : ℕ) → j < k → test (from + j) ≡ false) →
+    test (from + k) ≡ true →
     find test (range_with_len from n) ≡ Some (from + k)
 find-range test from zero k within before here = absurd (omega arith)
 find-range test from (suc n) zero within before here =
@@ -22,7 +23,8 @@ find-range test from (suc n) (suc k) within before here =
     (λ j below. ap test (shift j) ∙ before (suc j) (omega arith)) (ap test (shift k) ∙ here))
 
 -- no number of a range passes a test
-find-range_none : (test : ℕ → Bool) (from n : ℕ) → ((j : ℕ) → j < n → test (from + j) ≡ false) → find test (range_with_len from n) ≡ None
+find-range_none : (test : ℕ → Bool) (from n : ℕ) → ((j : ℕ) → j < n → test (from + j) ≡ false) →
+    find test (range_with_len from n) ≡ None
 find-range_none test from zero none = refl
 find-range_none test from (suc n) none =
     let e : from + 0 ≡ from = omega arith in
@@ -32,7 +34,8 @@ find-range_none test from (suc n) none =
 
 -- the first flawed place
 pub first_flaw-at : (values : List ℕ) (place : ℕ) → place < length values →
-    ((before : ℕ) → before < place → is_flawed values before ≡ false) → is_flawed values place ≡ true → first_flaw values ≡ Some place
+    ((before : ℕ) → before < place → is_flawed values before ≡ false) → is_flawed values place ≡ true →
+    first_flaw values ≡ Some place
 first_flaw-at values place within sound flawed =
     let zero_add : (j : ℕ) → 0 + j ≡ j = λ j. omega arith in
     find-range (is_flawed values) 0 (length values) place within
@@ -40,20 +43,23 @@ first_flaw-at values place within sound flawed =
     ∙ ap Some (zero_add place)
 
 -- no place is flawed
-pub first_flaw-none : (values : List ℕ) → ((place : ℕ) → place < length values → is_flawed values place ≡ false) → first_flaw values ≡ None
+pub first_flaw-none : (values : List ℕ) → ((place : ℕ) → place < length values → is_flawed values place ≡ false) →
+    first_flaw values ≡ None
 first_flaw-none values sound =
     let zero_add : (j : ℕ) → 0 + j ≡ j = λ j. omega arith in
     find-range_none (is_flawed values) 0 (length values) (λ j below. ap (is_flawed values) (zero_add j) ∙ sound j below)
 
 -- a value that stands at an earlier place stood before
-stood-earlier : (values : List ℕ) (i j : ℕ) → i < j → j < length values → get_or values i 0 ≡ get_or values j 0 → stood_before values j ≡ true
+stood-earlier : (values : List ℕ) (i j : ℕ) → i < j → j < length values → get_or values i 0 ≡ get_or values j 0 →
+    stood_before values j ≡ true
 stood-earlier values i j earlier within same =
     let long : i < length (take j values) = omega (arith, length-take j values) in
     let there : get_or (take j values) i 0 ≡ get_or values i 0 = get_or-take j values i 0 earlier in
     list_any_at (λ value. eqb value (get_or values j 0)) (take j values) i 0 long (eq-eqb _ _ (there ∙ same))
 
 -- a list without a first flaw has no flawed place
-find-range_all : (test : ℕ → Bool) (from n : ℕ) → find test (range_with_len from n) ≡ None → (j : ℕ) → j < n → test (from + j) ≡ false
+find-range_all : (test : ℕ → Bool) (from n : ℕ) → find test (range_with_len from n) ≡ None → (j : ℕ) → j < n →
+    test (from + j) ≡ false
 find-range_all test from zero none j below = absurd (omega arith)
 find-range_all test from (suc n) none j below =
     elim (cases_Bool (test from)) [
@@ -81,7 +87,8 @@ permutes-from_none values none =
     let not_stood = (or_parts (leb (length values) (get_or values j 0)) (stood_before values j) (sound j within)).1 in
     cc in
     record {
-      within = λ i within. leb-false (length values) (get_or values i 0) (or_parts (leb (length values) (get_or values i 0)) (stood_before values i) (sound i within)).0;
+      within = λ i within. leb-false (length values) (get_or values i 0)
+          (or_parts (leb (length values) (get_or values i 0)) (stood_before values i) (sound i within)).0;
       apart = λ i j i_within j_within same. elim (cases_order i j) [
         | inl e ↦ e
         | inr other ↦ elim other [
@@ -92,7 +99,8 @@ permutes-from_none values none =
     }
 
 -- a place of a permutation is not flawed
-pub unflawed : (values : List ℕ) → PermutesPlaces values → (place : ℕ) → place < length values → is_flawed values place ≡ false
+pub unflawed : (values : List ℕ) → PermutesPlaces values → (place : ℕ) → place < length values →
+    is_flawed values place ≡ false
 unflawed values permutes place within =
     or_from (leb (length values) (get_or values place 0)) (stood_before values place)
     (lt-leb (length values) (get_or values place 0) (permutes.within place within))

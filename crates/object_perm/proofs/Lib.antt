@@ -1,7 +1,9 @@
 pub mod FlawLemmas
 pub mod InverseLemmas
 pub mod WalkLemmas
+mod SeenLemmas
 mod CycleLemmas
+mod CycleEndLemmas
 mod SettledLemmas
 mod MarksLemmas
 mod PackLemmas

@@ -18,7 +18,8 @@ pub marks_of-nil : marks_of [] ≡ 0
 unfolding marks_of
 marks_of-nil = refl
 
-pub marks_of-cons : (target : Option ℕ) (rest : List (Option ℕ)) → marks_of (target ∷ rest) ≡ mark_of target + 2 * marks_of rest
+pub marks_of-cons : (target : Option ℕ) (rest : List (Option ℕ)) →
+    marks_of (target ∷ rest) ≡ mark_of target + 2 * marks_of rest
 unfolding marks_of
 marks_of-cons target rest = refl
 
@@ -57,7 +58,8 @@ bit_at-marks_of (x ∷ xs) (suc i) =
 one_bit : (low : ℕ) → low < 2 → count_ones low ≡ low
 one_bit low small = omega (arith, ones_step low, ones_le_self (low / 2))
 
-length-targets_of : (x : Option ℕ) (xs : List (Option ℕ)) → length (targets_of (x ∷ xs)) ≡ mark_of x + length (targets_of xs)
+length-targets_of : (x : Option ℕ) (xs : List (Option ℕ)) →
+    length (targets_of (x ∷ xs)) ≡ mark_of x + length (targets_of xs)
 length-targets_of None xs = omega arith
 length-targets_of (Some t) xs = omega arith
 
@@ -95,7 +97,8 @@ ones-marks_of (x ∷ xs) (suc i) =
 
 -- the target of a place that has one stands behind those of the places before it
 pub target-here : (xs : List (Option ℕ)) (i target : ℕ) → get_or xs i None ≡ Some target →
-    (length (targets_of (take i xs)) < length (targets_of xs)) × (get_or (targets_of xs) (length (targets_of (take i xs))) 0 ≡ target)
+    (length (targets_of (take i xs)) < length (targets_of xs)) ×
+    (get_or (targets_of xs) (length (targets_of (take i xs))) 0 ≡ target)
 target-here [] i target has = cc
 target-here (None ∷ xs) zero target has = cc
 target-here (Some x ∷ xs) zero target has = (omega arith, cc)
@@ -120,13 +123,15 @@ marks_of-take : (xs : List (Option ℕ)) (k : ℕ) → k < length xs →
     marks_of (take (k + 1) xs) ≡ mark_of (get_or xs k None) * 2 ^ k + marks_of (take k xs)
 marks_of-take xs k within =
     let last : List (Option ℕ) = get_or xs k None ∷ [] in
-    let one : marks_of last ≡ mark_of (get_or xs k None) = omega (arith, marks_of-cons (get_or xs k None) [], marks_of-nil) in
+    let one : marks_of last ≡ mark_of (get_or xs k None) =
+    omega (arith, marks_of-cons (get_or xs k None) [], marks_of-nil) in
     let long : length (take k xs) ≡ k = length-take-le k xs (omega arith) in
     ap marks_of (take_more xs k None within) ∙ marks_of-append (take k xs) last
     ∙ ap (λ n. marks_of last * 2 ^ n + marks_of (take k xs)) long
     ∙ ap (λ n. n * 2 ^ k + marks_of (take k xs)) one
 
-pub marks_of-take_some : (xs : List (Option ℕ)) (k target : ℕ) → k < length xs → k < 32 → get_or xs k None ≡ Some target →
+pub marks_of-take_some : (xs : List (Option ℕ)) (k target : ℕ) → k < length xs → k < 32 →
+    get_or xs k None ≡ Some target →
     marks_of (take (k + 1) xs) ≡ bit_or (marks_of (take k xs)) (1 * 2 ^ k % 2 ^ 32)
 marks_of-take_some xs k target within small has =
     let long : length (take k xs) ≡ k = length-take-le k xs (omega arith) in

@@ -31,7 +31,8 @@ shortcut_in-more group targets more bit within =
       | inl marked ↦ shortcut_in-marked group (targets ++ more) bit marked
           ∙ ap Some (get_or_append_left targets more 0 (target_index group bit) (within marked))
           ∙ sym (shortcut_in-marked group targets bit marked)
-      | inr unmarked ↦ shortcut_in-unmarked group (targets ++ more) bit unmarked ∙ sym (shortcut_in-unmarked group targets bit unmarked)
+      | inr unmarked ↦ shortcut_in-unmarked group (targets ++ more) bit unmarked
+          ∙ sym (shortcut_in-unmarked group targets bit unmarked)
     ]
 
 -- a group that was packed from places, behind the targets that there were
@@ -40,12 +41,14 @@ pub record IsGroupOf (group : Group) (targets : List ℕ) (places : List (Option
   pub before : group.before ≡ length targets
 
 -- the mark of a place of the group
-pub bit_at-group : (group : Group) (targets : List ℕ) (places : List (Option ℕ)) (bit : ℕ) → IsGroupOf group targets places →
+pub bit_at-group : (group : Group) (targets : List ℕ) (places : List (Option ℕ)) (bit : ℕ) →
+    IsGroupOf group targets places →
     bit_at group.marks bit ≡ mark_of (get_or places bit None)
 bit_at-group group targets places bit packed = ap (λ n. bit_at n bit) packed.marks ∙ bit_at-marks_of places bit
 
 -- where the target of a place of the group stands
-pub target_index-group : (group : Group) (targets : List ℕ) (places : List (Option ℕ)) (bit : ℕ) → IsGroupOf group targets places →
+pub target_index-group : (group : Group) (targets : List ℕ) (places : List (Option ℕ)) (bit : ℕ) →
+    IsGroupOf group targets places →
     target_index group bit ≡ length targets + length (targets_of (take bit places))
 target_index-group group targets places bit packed =
     let ones : count_ones (group.marks % 2 ^ bit) ≡ length (targets_of (take bit places)) =
@@ -53,11 +56,13 @@ target_index-group group targets places bit packed =
     omega (arith, ones, packed.before)
 
 -- the target of a marked place of the group is there
-pub target_index-within : (group : Group) (targets : List ℕ) (places : List (Option ℕ)) (bit : ℕ) → IsGroupOf group targets places →
+pub target_index-within : (group : Group) (targets : List ℕ) (places : List (Option ℕ)) (bit : ℕ) →
+    IsGroupOf group targets places →
     bit_at group.marks bit ≡ 1 → target_index group bit < length (targets ++ targets_of places)
 target_index-within group targets places bit packed marked = go (get_or places bit None) refl
   where
-    go : (here : Option ℕ) → get_or places bit None ≡ here → target_index group bit < length (targets ++ targets_of places)
+    go : (here : Option ℕ) → get_or places bit None ≡ here →
+        target_index group bit < length (targets ++ targets_of places)
     go None here = let none = bit_at-group group targets places bit packed ∙ ap mark_of here in absurd (omega arith)
     go (Some target) here =
         let stands = target-here places bit target here in
@@ -65,7 +70,8 @@ target_index-within group targets places bit packed marked = go (get_or places b
         omega (arith, stands.0, index, length-append targets (targets_of places))
 
 -- the group has the shortcuts of its places
-pub shortcut_in-group : (group : Group) (targets : List ℕ) (places : List (Option ℕ)) (bit : ℕ) → IsGroupOf group targets places →
+pub shortcut_in-group : (group : Group) (targets : List ℕ) (places : List (Option ℕ)) (bit : ℕ) →
+    IsGroupOf group targets places →
     shortcut_in group (targets ++ targets_of places) bit ≡ get_or places bit None
 shortcut_in-group group targets places bit packed = go (get_or places bit None) refl
   where
@@ -86,7 +92,8 @@ shortcut_in-group group targets places bit packed = go (get_or places bit None) 
         shortcut_in-marked group (targets ++ targets_of places) bit marked ∙ ap Some found
 
 -- what is left of a list once a chunk was taken from its front
-pub rest-more : (places chunk left rest : List (Option ℕ)) (n : ℕ) → left ≡ drop (32 * n) places → left ≡ chunk ++ rest →
+pub rest-more : (places chunk left rest : List (Option ℕ)) (n : ℕ) → left ≡ drop (32 * n) places →
+    left ≡ chunk ++ rest →
     length chunk ≡ min 32 (length left) → rest ≡ drop (32 * (n + 1)) places
 rest-more places chunk left rest n is_left parts size =
     let next : 32 * n + 32 ≡ 32 * (n + 1) = omega arith in
@@ -98,13 +105,15 @@ rest-more places chunk left rest n is_left parts size =
     ∙ ap (λ k. drop k places) next
 
 -- a place of the next group is the same place of its chunk
-chunk-place : (places chunk left rest : List (Option ℕ)) (n bit : ℕ) → left ≡ drop (32 * n) places → left ≡ chunk ++ rest →
+chunk-place : (places chunk left rest : List (Option ℕ)) (n bit : ℕ) → left ≡ drop (32 * n) places →
+    left ≡ chunk ++ rest →
     length chunk ≡ min 32 (length left) → bit < 32 → get_or chunk bit None ≡ get_or places (32 * n + bit) None
 chunk-place places chunk left rest n bit is_left parts size small =
     let there : get_or left bit None ≡ get_or places (32 * n + bit) None =
     ap (λ xs. get_or xs bit None) is_left ∙ get_or-drop (32 * n) places bit None in
     elim (cases_lt bit (length chunk)) [
-      | inl inside ↦ sym (get_or_append_left chunk rest None bit inside) ∙ ap (λ xs. get_or xs bit None) (sym parts) ∙ there
+      | inl inside ↦ sym (get_or_append_left chunk rest None bit inside) ∙ ap (λ xs. get_or xs bit None) (sym parts)
+          ∙ there
       | inr past ↦
           let past_left : length left ≤ bit = omega arith in
           get_or_past chunk bit None past ∙ sym (get_or_past left bit None past_left) ∙ there
@@ -127,7 +136,8 @@ held-more places chunk left rest groups group targets is_left parts size packed 
           let here : get_or (groups ++ group ∷ []) number empty_group ≡ get_or groups number empty_group =
           get_or_append_left groups (group ∷ []) empty_group number earlier in
           ap (λ g. shortcut_in g (targets ++ targets_of chunk) bit) here
-          ∙ shortcut_in-more (get_or groups number empty_group) targets (targets_of chunk) bit (each number bit earlier small)
+          ∙ shortcut_in-more (get_or groups number empty_group) targets (targets_of chunk) bit
+          (each number bit earlier small)
           ∙ held place (omega arith)
       | inr later ↦
           let last : number ≡ length groups = omega (arith, length-append groups (group ∷ [])) in
@@ -142,7 +152,8 @@ held-more places chunk left rest groups group targets is_left parts size packed 
 
 -- each mark has its target, a group further
 pub each-more : (chunk : List (Option ℕ)) (groups : List Group) (group : Group) (targets : List ℕ) →
-    IsGroupOf group targets chunk → HasEach groups targets → HasEach (groups ++ group ∷ []) (targets ++ targets_of chunk)
+    IsGroupOf group targets chunk → HasEach groups targets →
+    HasEach (groups ++ group ∷ []) (targets ++ targets_of chunk)
 each-more chunk groups group targets packed each number bit within small marked =
     elim (cases_lt number (length groups)) [
       | inl earlier ↦
@@ -162,7 +173,8 @@ each-more chunk groups group targets packed each number bit within small marked 
     ]
 
 -- how many places the groups have
-pub length-shortcuts_of : (groups : List Group) (targets : List ℕ) → length (shortcuts_of groups targets) ≡ 32 * length groups
+pub length-shortcuts_of : (groups : List Group) (targets : List ℕ) →
+    length (shortcuts_of groups targets) ≡ 32 * length groups
 unfolding shortcuts_of
 length-shortcuts_of groups targets = length-map-range_with_len (shortcut_at groups targets) 0 (32 * length groups)
 
@@ -174,7 +186,8 @@ get_or-shortcuts_of groups targets place within =
     get_or-map-range_with_len (shortcut_at groups targets) 0 (32 * length groups) place place None within (omega arith)
 
 -- groups that say what the places say, and leave none over
-pub holds-all : (places : List (Option ℕ)) (groups : List Group) (targets : List ℕ) → length places ≤ 32 * length groups →
+pub holds-all : (places : List (Option ℕ)) (groups : List Group) (targets : List ℕ) →
+    length places ≤ 32 * length groups →
     ((place : ℕ) → place < 32 * length groups → shortcut_at groups targets place ≡ get_or places place None) →
     HoldsShortcuts places (shortcuts_of groups targets)
 holds-all places groups targets covers held =
@@ -186,24 +199,31 @@ holds-all places groups targets covers held =
         | inr past ↦
             let past_groups : length (shortcuts_of groups targets) ≤ place = omega (arith, long) in
             let past_places : length places ≤ place = omega arith in
-            get_or_past (shortcuts_of groups targets) place None past_groups ∙ sym (get_or_past places place None past_places)
+            get_or_past (shortcuts_of groups targets) place None past_groups
+            ∙ sym (get_or_past places place None past_places)
       ];
     }
 
 -- the shortcut of a place, from the group that was read for it
 pub get_or-group : (groups : List Group) (targets : List ℕ) (place : ℕ) (group : Group) → place < 32 * length groups →
-    group ≡ get_or groups (place / 32) group → get_or (shortcuts_of groups targets) place None ≡ shortcut_in group targets (place % 32)
+    group ≡ get_or groups (place / 32) group → get_or
+    (shortcuts_of groups targets) place None ≡ shortcut_in group targets (place % 32)
 unfolding shortcut_at
 get_or-group groups targets place group within read =
     let below : place / 32 < length groups = omega arith in
     get_or-shortcuts_of groups targets place within
-    ∙ ap (λ g. shortcut_in g targets (place % 32)) (get_or_default groups (place / 32) empty_group group below ∙ sym read)
+    ∙ ap (λ g. shortcut_in g targets (place % 32)) (get_or_default groups (place / 32) empty_group group below
+    ∙ sym read)
 
 -- the target of a marked place stands where the group says
-pub index_within : (groups : List Group) (targets : List ℕ) (place : ℕ) (group : Group) → HasEach groups targets → place < 32 * length groups →
-    group ≡ get_or groups (place / 32) group → bit_at group.marks (place % 32) ≡ 1 → target_index group (place % 32) < length targets
+pub index_within : (groups : List Group) (targets : List ℕ) (place : ℕ) (group : Group) → HasEach groups targets →
+    place < 32 * length groups →
+    group ≡ get_or groups (place / 32) group → bit_at group.marks (place % 32) ≡ 1 →
+    target_index group (place % 32) < length targets
 index_within groups targets place group each within read marked =
     let below : place / 32 < length groups = omega arith in
-    let same : get_or groups (place / 32) empty_group ≡ group = get_or_default groups (place / 32) empty_group group below ∙ sym read in
+    let same : get_or groups (place / 32) empty_group ≡ group =
+    get_or_default groups (place / 32) empty_group group below ∙ sym read in
     let P : Group → Type 0 = λ g. target_index g (place % 32) < length targets in
-    subst P same (each (place / 32) (place % 32) below (omega arith) (ap (λ (g : Group). bit_at g.marks (place % 32)) same ∙ marked))
+    subst P same (each (place / 32) (place % 32) below (omega arith)
+    (ap (λ (g : Group). bit_at g.marks (place % 32)) same ∙ marked))

@@ -29,7 +29,8 @@ passed-more values shortcuts v moves place path none passed fewer below =
     ]
 
 -- a place that has a shortcut is not one that has none
-pub no_shortcut : (shortcuts : List (Option ℕ)) (place : ℕ) → get_or shortcuts place None ≡ None → has_shortcut shortcuts place ≡ true → ⊥
+pub no_shortcut : (shortcuts : List (Option ℕ)) (place : ℕ) → get_or shortcuts place None ≡ None →
+    has_shortcut shortcuts place ≡ true → ⊥
 no_shortcut shortcuts place none has = let is_none = ap is_some none in cc
 
 -- a walk that has met neither a shortcut nor its value has made fewer than sixteen moves
@@ -43,7 +44,8 @@ few_moves values shortcuts v moves place meets path none passed beyond =
       | inl self ↦ let past = beyond meets.moves meets.some self in omega arith
       | inr found ↦ elim (cases_order meets.moves moves) [
         | inl e ↦ let there = ap (λ n. along values n v) e in
-            absurd (no_shortcut shortcuts (along values meets.moves v) (ap (λ x. get_or shortcuts x None) (there ∙ path) ∙ none) found)
+            absurd (no_shortcut shortcuts (along values meets.moves v)
+            (ap (λ x. get_or shortcuts x None) (there ∙ path) ∙ none) found)
         | inr other ↦ elim other [
           | inl fewer ↦ absurd (no_shortcut shortcuts (along values meets.moves v) (passed meets.moves fewer) found)
           | inr more ↦ omega arith
@@ -73,7 +75,13 @@ first_target values shortcuts v zero place target permutes lead v_below place_be
     let back = lead.back place target place_below has in
     let few = back.few in
     record {
-      near = record { moves = back.moves; some = back.some; few = back.few; path = back.path ∙ sym path ∙ along-zero values v };
+      near = record {
+        moves = back.moves;
+        some = back.some;
+        few = back.few;
+        path = back.path ∙ sym path
+            ∙ along-zero values v;
+      };
       cost = omega arith;
     }
 first_target values shortcuts v (suc moves) place target permutes lead v_below place_below path has passed =
@@ -86,7 +94,8 @@ first_target values shortcuts v (suc moves) place target permutes lead v_below p
     elim (cases_sum back.moves (suc moves)) [
       | inl longer ↦
           let rest : along values longer.0 target ≡ v =
-          along_apart values (suc moves) (along values longer.0 target) v permutes (along_within values longer.0 target permutes below) v_below
+          along_apart values (suc moves) (along values longer.0 target) v permutes
+          (along_within values longer.0 target permutes below) v_below
           (sym (along-split values (suc moves) longer.0 back.moves target longer.2) ∙ back.path ∙ sym path) in
           let sum = longer.2 in
           record {
@@ -95,11 +104,13 @@ first_target values shortcuts v (suc moves) place target permutes lead v_below p
           }
       | inr shorter ↦
           absurd (unmet shorter.0 (let sum = shorter.1 in let some = back.some in omega arith)
-          (along_apart values back.moves target (along values shorter.0 v) permutes below (along_within values shorter.0 v permutes v_below)
+          (along_apart values back.moves target (along values shorter.0 v) permutes below
+          (along_within values shorter.0 v permutes v_below)
           (back.path ∙ sym path ∙ along-split values back.moves shorter.0 (suc moves) v shorter.1)))
     ]
 
 -- what is indexed under one name is so under an equal one
-pub indexed-same : (values values' : List ℕ) (shortcuts : List (Option ℕ)) → values ≡ values' → IsIndexed values shortcuts → IsIndexed values' shortcuts
+pub indexed-same : (values values' : List ℕ) (shortcuts : List (Option ℕ)) → values ≡ values' →
+    IsIndexed values shortcuts → IsIndexed values' shortcuts
 indexed-same values values' shortcuts same indexed =
     let P : List ℕ → Type 0 = λ xs. IsIndexed xs shortcuts in subst P same indexed

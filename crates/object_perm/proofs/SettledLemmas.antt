@@ -48,14 +48,16 @@ behind-more seen seen' leader kept marked behind place below =
     ]
 
 -- shortcuts that are held in another list lead back as they did
-pub lead-held : (values values' : List ℕ) (shortcuts places held : List (Option ℕ)) → values ≡ values' → places ≡ shortcuts →
+pub lead-held : (values values' : List ℕ) (shortcuts places held : List (Option ℕ)) → values ≡ values' →
+    places ≡ shortcuts →
     LeadBack values shortcuts → HoldsShortcuts places held → LeadBack values' held
 lead-held values values' shortcuts places held same_values same_places lead holds =
     let P : List ℕ → Type 0 = λ xs. LeadBack xs held in
     subst P same_values (record {
       covers = let covers = lead.covers in omega (arith, covers, holds.covers, ap length same_places);
       within = λ place target below has. lead.within place target below (read place ∙ has);
-      stored = λ place target below has. ap is_some (sym (read target)) ∙ lead.stored place target below (read place ∙ has);
+      stored = λ place target below has. ap is_some (sym (read target))
+          ∙ lead.stored place target below (read place ∙ has);
       back = λ place target below has. lead.back place target below (read place ∙ has);
       ahead = λ place below.
           let meets = lead.ahead place below in

@@ -8,7 +8,8 @@ unfolding along
 along-zero values place = refl
 
 -- one move more
-pub along-more : (values : List ℕ) (moves place : ℕ) → along values (suc moves) place ≡ get_or values (along values moves place) 0
+pub along-more : (values : List ℕ) (moves place : ℕ) →
+    along values (suc moves) place ≡ get_or values (along values moves place) 0
 unfolding along
 along-more values moves place = refl
 
@@ -22,20 +23,24 @@ along-add values (suc m) n place =
     rw (e, along-more values (m + n) place, along-more values m (along values n place), along-add values m n place) refl
 
 -- a walk whose number of moves is a sum
-pub along-split : (values : List ℕ) (m n k place : ℕ) → m + n ≡ k → along values k place ≡ along values m (along values n place)
+pub along-split : (values : List ℕ) (m n k place : ℕ) → m + n ≡ k →
+    along values k place ≡ along values m (along values n place)
 along-split values m n k place e = rw (← e) (along-add values m n place)
 
 -- one move more, as a number in code says it
-pub along-next : (values : List ℕ) (moves place here : ℕ) → along values moves place ≡ here → along values (moves + 1) place ≡ get_or values here 0
+pub along-next : (values : List ℕ) (moves place here : ℕ) → along values moves place ≡ here →
+    along values (moves + 1) place ≡ get_or values here 0
 along-next values moves place here e =
     let one : moves + 1 ≡ suc moves = omega arith in
     rw (one, along-more values moves place, e) refl
 
 -- a walk stays within the list
-pub along_within : (values : List ℕ) (moves place : ℕ) → PermutesPlaces values → place < length values → along values moves place < length values
+pub along_within : (values : List ℕ) (moves place : ℕ) → PermutesPlaces values → place < length values →
+    along values moves place < length values
 along_within values zero place permutes within = rw (along-zero values place) within
 along_within values (suc moves) place permutes within =
-    rw (along-more values moves place) (permutes.within (along values moves place) (along_within values moves place permutes within))
+    rw (along-more values moves place) (permutes.within (along values moves place)
+    (along_within values moves place permutes within))
 
 -- equally long walks that end at one place began at one place
 pub along_apart : (values : List ℕ) (moves x y : ℕ) → PermutesPlaces values → x < length values → y < length values →

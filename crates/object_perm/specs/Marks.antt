@@ -24,7 +24,8 @@ target_index group bit = group.before + count_ones (group.marks % 2 ^ bit)
 
 -- the shortcut of the group's place
 unfoldable pub shortcut_in : Group → List ℕ → ℕ → Option ℕ
-shortcut_in group targets bit = if bit_at group.marks bit == 1 then Some (slice_index targets (target_index group bit)) else None
+shortcut_in group targets bit = if bit_at group.marks bit == 1 then Some
+    (slice_index targets (target_index group bit)) else None
 
 -- the shortcut of a place, from its group
 unfoldable pub shortcut_at : List Group → List ℕ → ℕ → Option ℕ
@@ -36,7 +37,8 @@ shortcuts_of groups targets = map (shortcut_at groups targets) (range_with_len 0
 
 -- each mark has a target
 abbrev pub HasEach : List Group → List ℕ → Type 0
-HasEach groups targets = (number bit : ℕ) → number < length groups → bit < 32 → bit_at (slice_index_or groups number empty_group).marks bit ≡ 1
+HasEach groups targets = (number bit : ℕ) → number < length groups → bit < 32 →
+    bit_at (slice_index_or groups number empty_group).marks bit ≡ 1
     → target_index (slice_index_or groups number empty_group) bit < length targets
 
 -- each mark has a target, and there are fewer than 2^32

@@ -25,9 +25,12 @@ pub record IsSettled (values : List ℕ) (seen : List Bool) (shortcuts : List (O
   pub same_length : length shortcuts ≡ length values
   pub closed : (place : ℕ) → place < length values → IsSeen seen (slice_index values place) → IsSeen seen place
   pub empty : (place : ℕ) → slice_index_or seen place false ≡ false → slice_index_or shortcuts place None ≡ None
-  pub target : (place target : ℕ) → IsSeen seen place → slice_index_or shortcuts place None ≡ Some target → IsSeen seen target
-  pub stored : (place target : ℕ) → IsSeen seen place → slice_index_or shortcuts place None ≡ Some target → has_shortcut shortcuts target ≡ true
-  pub back : (place target : ℕ) → IsSeen seen place → slice_index_or shortcuts place None ≡ Some target → IsNear values target place
+  pub target : (place target : ℕ) → IsSeen seen place → slice_index_or shortcuts place None ≡ Some target →
+      IsSeen seen target
+  pub stored : (place target : ℕ) → IsSeen seen place → slice_index_or shortcuts place None ≡ Some target →
+      has_shortcut shortcuts target ≡ true
+  pub back : (place target : ℕ) → IsSeen seen place → slice_index_or shortcuts place None ≡ Some target →
+      IsNear values target place
   pub ahead : (place : ℕ) → IsSeen seen place → MeetsSeen values seen shortcuts place
 
 -- the place lies between the last one that was stored and the one where the walk is
@@ -38,7 +41,8 @@ pub record IsOpen (values : List ℕ) (stored gap place : ℕ) : Type 0 where
   pub path : place ≡ along values behind stored
 
 -- the walk along a cycle is at a place, `gap` moves behind the last one that was stored, which is the leader at first
-pub record IsInCycle (values : List ℕ) (seen : List Bool) (shortcuts : List (Option ℕ)) (leader place stored gap : ℕ) : Type 0 where
+pub record IsInCycle (values : List ℕ) (seen : List Bool) (shortcuts : List (Option ℕ))
+    (leader place stored gap : ℕ) : Type 0 where
   pub seen_length : length seen ≡ length values
   pub same_length : length shortcuts ≡ length values
   pub started : IsSeen seen leader
@@ -47,8 +51,10 @@ pub record IsInCycle (values : List ℕ) (seen : List Bool) (shortcuts : List (O
   pub short : gap < 16
   pub path : along values gap stored ≡ place
   pub rooted : (stored ≡ leader) ⊎ (has_shortcut shortcuts stored ≡ true)
-  pub closed : (y : ℕ) → y < length values → IsSeen seen (slice_index values y) → slice_index values y ≢ leader → IsSeen seen y
-  pub ahead_unseen : (y : ℕ) → y < length values → IsSeen seen (slice_index values y) → slice_index values y ≢ leader → y ≢ place
+  pub closed : (y : ℕ) → y < length values → IsSeen seen (slice_index values y) → slice_index values y ≢ leader →
+      IsSeen seen y
+  pub ahead_unseen : (y : ℕ) → y < length values → IsSeen seen (slice_index values y) →
+      slice_index values y ≢ leader → y ≢ place
   pub empty : (y : ℕ) → slice_index_or seen y false ≡ false → slice_index_or shortcuts y None ≡ None
   pub target : (y target : ℕ) → IsSeen seen y → slice_index_or shortcuts y None ≡ Some target → IsSeen seen target
   pub store : (y target : ℕ) → IsSeen seen y → slice_index_or shortcuts y None ≡ Some target

@@ -28,9 +28,12 @@ pub record MeetsShortcut (values : List ℕ) (shortcuts : List (Option ℕ)) (pl
 -- each shortcut leads back by one to sixteen moves to a place that has one, and each place meets a shortcut or itself
 pub record LeadBack (values : List ℕ) (shortcuts : List (Option ℕ)) : Type 0 where
   pub covers : length values ≤ length shortcuts
-  pub within : (place target : ℕ) → place < length values → slice_index_or shortcuts place None ≡ Some target → target < length values
-  pub stored : (place target : ℕ) → place < length values → slice_index_or shortcuts place None ≡ Some target → has_shortcut shortcuts target ≡ true
-  pub back : (place target : ℕ) → place < length values → slice_index_or shortcuts place None ≡ Some target → IsNear values target place
+  pub within : (place target : ℕ) → place < length values → slice_index_or shortcuts place None ≡ Some target →
+      target < length values
+  pub stored : (place target : ℕ) → place < length values → slice_index_or shortcuts place None ≡ Some target →
+      has_shortcut shortcuts target ≡ true
+  pub back : (place target : ℕ) → place < length values → slice_index_or shortcuts place None ≡ Some target →
+      IsNear values target place
   pub ahead : (place : ℕ) → place < length values → MeetsShortcut values shortcuts place
 
 -- a permutation of fewer than 2^32 places, with its shortcuts

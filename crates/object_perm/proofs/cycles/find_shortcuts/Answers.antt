@@ -17,7 +17,8 @@ loop-leader-preserved c =
           let same_length : length w.mark_cycle.new.shortcuts ≡ c.loop-leader.shortcuts.len =
           settled.same_length ∙ sym before.settled.same_length ∙ sym c.loop-leader.shortcuts.ok.0 in
           let seen_is : c.if-not-index.seen.items ≡ w.mark_cycle.new.seen =
-          ap (λ (v : Vec Bool Global). v.items) w.seen-is ∙ with_items_is c.loop-leader.seen w.mark_cycle.new.seen seen_length in
+          ap (λ (v : Vec Bool Global). v.items) w.seen-is
+          ∙ with_items_is c.loop-leader.seen w.mark_cycle.new.seen seen_length in
           let shortcuts_is : c.if-not-index.shortcuts.items ≡ w.mark_cycle.new.shortcuts =
           ap (λ (v : Vec (Option ℕ) Global). v.items) w.shortcuts-is
           ∙ with_items_is c.loop-leader.shortcuts w.mark_cycle.new.shortcuts same_length in
@@ -28,7 +29,8 @@ loop-leader-preserved c =
             behind = rw seen_is (behind-more _ _ _ kept marked.marked before.behind);
           }
       | else-not-index w ↦
-          let seen_is : c.if-not-index.seen.items ≡ c.loop-leader.seen.items = ap (λ (v : Vec Bool Global). v.items) w.seen-is in
+          let seen_is : c.if-not-index.seen.items ≡ c.loop-leader.seen.items =
+          ap (λ (v : Vec Bool Global). v.items) w.seen-is in
           let shortcuts_is : c.if-not-index.shortcuts.items ≡ c.loop-leader.shortcuts.items =
           ap (λ (v : Vec (Option ℕ) Global). v.items) w.shortcuts-is in
           let here : IsSeen c.loop-leader.seen.items c.loop-leader.leader =

@@ -1,5 +1,7 @@
 use Rattle.std.proofs.Common.{◌+◌, ◌<◌, length, get_or, refl, arith}
-use Rattle.object_perm.proofs.CycleLemmas.{cycle_begins, seen_kept, cycle_goes_on, cycle_stores, cycle_ends_short, cycle_ends_long, unseen_falls, next_within}
+use Rattle.object_perm.proofs.SeenLemmas.{seen_kept}
+use Rattle.object_perm.proofs.CycleLemmas.{cycle_begins, cycle_goes_on, cycle_stores, unseen_falls, next_within}
+use Rattle.object_perm.proofs.CycleEndLemmas.{cycle_ends_short, cycle_ends_long}
 use Rattle.object_perm.proofs.cycles.mark_cycle.Goals as goal
 
 pub loop-place-init : goal.loop-place-init

@@ -13,7 +13,8 @@ returns-then-value-len c =
     sym (first_flaw-at values place c.loop-place-test.true c.loop-place.invariant.sound
     (elim c.then-value-len.branch [
       | then-value-len-via-then-value-len w ↦
-          let great : length values ≤ get_or values place 0 = omega (arith, c.loop-place.invariant.same_length, w.if-value-len.true, c.len.ensures) in
+          let great : length values ≤ get_or values place 0 =
+          omega (arith, c.loop-place.invariant.same_length, w.if-value-len.true, c.len.ensures) in
           or_left (leb (length values) (get_or values place 0)) (stood_before values place) (le-leb _ _ great)
       | then-value-len-via-else-value-len+then-index w ↦
           let met = c.loop-place.met.items in
@@ -21,7 +22,8 @@ returns-then-value-len c =
           let below : value < length met = omega (arith, w.if-value-len.false, c.len.ensures) in
           let marked : get_or met value false ≡ true =
           get_or_default met value false w.index.result.now below ∙ sym w.index.ensures ∙ w.if-index.true in
-          or_right (leb (length values) value) (stood_before values place) (sym (c.loop-place.invariant.met value) ∙ marked)
+          or_right (leb (length values) value) (stood_before values place)
+          (sym (c.loop-place.invariant.met value) ∙ marked)
     ]))
 
 pub returns : goal.returns

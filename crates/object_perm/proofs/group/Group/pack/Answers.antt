@@ -24,7 +24,8 @@ loop-bit-preserved c =
             targets = ap (λ (v : Vec ℕ Global). v.items) w.targets-is ∙ w.in_ok-push.ensures.items
                 ∙ ap (λ items. items ++ w.in-Some.target ∷ []) before.targets
                 ∙ append_assoc c.args.targets.now.items (targets_of (take bit places)) (w.in-Some.target ∷ [])
-                ∙ ap (λ more. c.args.targets.now.items ++ more) (sym (targets_of-take places bit w.in-Some.target within here));
+                ∙ ap (λ more. c.args.targets.now.items ++ more)
+                (sym (targets_of-take places bit w.in-Some.target within here));
           }
       | in_default w ↦
           let here : get_or places bit None ≡ None = w.in_default.is in

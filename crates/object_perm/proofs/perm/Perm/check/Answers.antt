@@ -18,7 +18,8 @@ find_shortcuts-requires-clause-permutes c =
 
 pub returns-clause-exact : goal.returns-clause-exact
 returns-clause-exact c =
-    permutes-from_none c.args.list (sym (ap first_flaw c.as_slice.ensures) ∙ sym c.in_ok-index.ensures ∙ c.in_default.is)
+    permutes-from_none c.args.list (sym (ap first_flaw c.as_slice.ensures) ∙ sym c.in_ok-index.ensures
+    ∙ c.in_default.is)
 
 pub invariant_of-result : goal.invariant_of-result
 invariant_of-result c =
@@ -35,4 +36,11 @@ invariant_of-result c =
 pub pack-requires : goal.pack-requires
 pack-requires c =
     let whole = ap length c.as_slice-2.ensures in
-    omega (arith, c.in_ok-targets.ensures.same_length, c.as_slice-3.ensures.len, ap length c.as_slice-3.ensures.value, whole, c.requires)
+    omega (
+      arith,
+      c.in_ok-targets.ensures.same_length,
+      c.as_slice-3.ensures.len,
+      ap length c.as_slice-3.ensures.value,
+      whole,
+      c.requires,
+    )

@@ -20,7 +20,8 @@ walk_to-requires-clause-near g c =
     let indexed = indexed-same c.self.inside.values c.args.self.now c.self.inside.shortcuts c.self.view_is c.self.invariant in
     let walk = c.loop-target.invariant in
     (first_target c.args.self.now c.self.inside.shortcuts c.args.v walk.moves c.loop-target.place c.in-Some.target
-    indexed.permutes indexed.lead_back c.requires walk.within walk.path (sym c.get.ensures.value ∙ c.in-Some.is) walk.passed).near
+    indexed.permutes indexed.lead_back c.requires walk.within walk.path
+    (sym c.get.ensures.value ∙ c.in-Some.is) walk.passed).near
 
 pub returns-in-Some-clause-cost : goal.returns-in-Some-clause-cost
 returns-in-Some-clause-cost g c =
@@ -28,7 +29,8 @@ returns-in-Some-clause-cost g c =
     let walk = c.loop-target.invariant in
     let found : IsTarget c.args.self.now c.args.v walk.moves c.in-Some.target =
     first_target c.args.self.now c.self.inside.shortcuts c.args.v walk.moves c.loop-target.place c.in-Some.target
-    indexed.permutes indexed.lead_back c.requires walk.within walk.path (sym c.get.ensures.value ∙ c.in-Some.is) walk.passed in
+    indexed.permutes indexed.lead_back c.requires walk.within walk.path
+    (sym c.get.ensures.value ∙ c.in-Some.is) walk.passed in
     let near = found.near in
     let rest = c.walk_to.ensures.cost near.moves near.some near.path in
     omega (arith, found.cost, walk.cost, c.in-Some.ensures.cost, rest)
@@ -38,7 +40,8 @@ returns-then-next-v-clause-cost g c =
     let indexed = indexed-same c.self.inside.values c.args.self.now c.self.inside.shortcuts c.self.view_is c.self.invariant in
     let walk = c.loop-target.invariant in
     let few = few_moves c.args.self.now c.self.inside.shortcuts c.args.v walk.moves c.loop-target.place
-    (indexed.lead_back.ahead c.args.v c.requires) walk.path (sym c.get.ensures.value ∙ c.in_default.is) walk.passed walk.beyond in
+    (indexed.lead_back.ahead c.args.v c.requires) walk.path
+    (sym c.get.ensures.value ∙ c.in_default.is) walk.passed walk.beyond in
     omega (arith, few, walk.cost, c.in_default.ensures.cost, c.value_at-next.ensures.cost)
 
 pub loop-target-smaller : goal.loop-target-smaller
@@ -46,14 +49,16 @@ loop-target-smaller g c =
     let indexed = indexed-same c.self.inside.values c.args.self.now c.self.inside.shortcuts c.self.view_is c.self.invariant in
     let walk = c.loop-target.invariant in
     let few = few_moves c.args.self.now c.self.inside.shortcuts c.args.v walk.moves c.loop-target.place
-    (indexed.lead_back.ahead c.args.v c.requires) walk.path (sym c.get.ensures.value ∙ c.in_default.is) walk.passed walk.beyond in
+    (indexed.lead_back.ahead c.args.v c.requires) walk.path
+    (sym c.get.ensures.value ∙ c.in_default.is) walk.passed walk.beyond in
     omega (arith, few, walk.cost, c.in_default.ensures.cost, c.value_at-next.ensures.cost)
 
 pub loop-target-preserved : goal.loop-target-preserved
 loop-target-preserved g c =
     let walk = c.loop-target.invariant in
     let values = c.args.self.now in
-    let path = along-next values walk.moves c.args.v c.loop-target.place walk.path ∙ sym c.value_at-next.ensures.value in
+    let path = along-next values walk.moves c.args.v c.loop-target.place walk.path
+    ∙ sym c.value_at-next.ensures.value in
     record {
       moves = walk.moves + 1;
       path = path;

@@ -18,9 +18,11 @@ returns-then-not-is_marked-clause-value g c =
     let targets = c.self.inside.targets.items in
     let place = c.args.place in
     let group = c.index-group.result.now in
-    let within : place < 32 * length groups = omega (arith, length-shortcuts_of groups targets, ap length c.self.view_is, c.requires) in
+    let within : place < 32 * length groups = omega
+    (arith, length-shortcuts_of groups targets, ap length c.self.view_is, c.requires) in
     let unmarked = eqb-false (bit_at group.marks (place % 32)) 1 (sym c.is_marked.ensures ∙ c.if-not-is_marked.true) in
-    sym (ap (λ xs. get_or xs place None) (sym c.self.view_is) ∙ get_or-group groups targets place group within c.index-group.ensures
+    sym (ap (λ xs. get_or xs place None) (sym c.self.view_is)
+    ∙ get_or-group groups targets place group within c.index-group.ensures
     ∙ shortcut_in-unmarked group targets (place % 32) unmarked)
 
 pub overflow_add-group : goal.overflow_add-group
@@ -29,7 +31,8 @@ overflow_add-group g c =
     let targets = c.self.inside.targets.items in
     let place = c.args.place in
     let group = c.index-group.result.now in
-    let within : place < 32 * length groups = omega (arith, length-shortcuts_of groups targets, ap length c.self.view_is, c.requires) in
+    let within : place < 32 * length groups = omega
+    (arith, length-shortcuts_of groups targets, ap length c.self.view_is, c.requires) in
     let marked = eqb-true (bit_at group.marks (place % 32)) 1 (sym c.is_marked.ensures ∙ c.if-not-is_marked.false) in
     let index = index_within groups targets place group c.self.invariant.each within c.index-group.ensures marked in
     omega (arith, index, c.count_before.ensures, c.self.invariant.few)
@@ -40,7 +43,8 @@ index-requires g c =
     let targets = c.self.inside.targets.items in
     let place = c.args.place in
     let group = c.index-group.result.now in
-    let within : place < 32 * length groups = omega (arith, length-shortcuts_of groups targets, ap length c.self.view_is, c.requires) in
+    let within : place < 32 * length groups = omega
+    (arith, length-shortcuts_of groups targets, ap length c.self.view_is, c.requires) in
     let marked = eqb-true (bit_at group.marks (place % 32)) 1 (sym c.is_marked.ensures ∙ c.if-not-is_marked.false) in
     let index = index_within groups targets place group c.self.invariant.each within c.index-group.ensures marked in
     omega (arith, index, c.count_before.ensures, c.self.inside.targets.ok.0)
@@ -51,13 +55,16 @@ returns-clause-value g c =
     let targets = c.self.inside.targets.items in
     let place = c.args.place in
     let group = c.index-group.result.now in
-    let within : place < 32 * length groups = omega (arith, length-shortcuts_of groups targets, ap length c.self.view_is, c.requires) in
+    let within : place < 32 * length groups = omega
+    (arith, length-shortcuts_of groups targets, ap length c.self.view_is, c.requires) in
     let marked = eqb-true (bit_at group.marks (place % 32)) 1 (sym c.is_marked.ensures ∙ c.if-not-is_marked.false) in
     let index = index_within groups targets place group c.self.invariant.each within c.index-group.ensures marked in
-    let count : group.before + c.count_before.result ≡ target_index group (place % 32) = ap (λ n. group.before + n) c.count_before.ensures in
+    let count : group.before + c.count_before.result ≡ target_index group (place % 32) =
+    ap (λ n. group.before + n) c.count_before.ensures in
     let at = group.before + c.count_before.result in
     let below : at < length targets = omega (arith, index, c.count_before.ensures) in
     let found : c.index.result.now ≡ get_or targets (target_index group (place % 32)) 0 =
     c.index.ensures ∙ get_or_default targets at c.index.result.now 0 below ∙ ap (λ i. get_or targets i 0) count in
-    sym (ap (λ xs. get_or xs place None) (sym c.self.view_is) ∙ get_or-group groups targets place group within c.index-group.ensures
+    sym (ap (λ xs. get_or xs place None) (sym c.self.view_is)
+    ∙ get_or-group groups targets place group within c.index-group.ensures
     ∙ shortcut_in-marked group targets (place % 32) marked ∙ ap Some (sym found))

@@ -18,16 +18,22 @@ loop-chunk-preserved c =
     let targets = c.loop-chunk.targets.items in
     let parts : left ≡ chunk ++ rest = steps.1.0 in
     let size : length chunk ≡ min 32 (length left) = steps.1.1 ∙ ap (λ n. min n (length left)) before.size in
-    let packed : IsGroupOf group targets chunk = record { marks = c.in_ok-pack.ensures.marks; before = c.in_ok-pack.ensures.before } in
+    let packed : IsGroupOf group targets chunk = record {
+      marks = c.in_ok-pack.ensures.marks;
+      before =
+          c.in_ok-pack.ensures.before;
+    } in
     let groups_is : c.push.new.self.items ≡ groups ++ group ∷ [] = c.in_ok-push.ensures.items in
     let targets_is : c.pack.new.targets.items ≡ targets ++ targets_of chunk = c.in_ok-pack.ensures.targets in
-    let longer : length c.push.new.self.items ≡ length groups + 1 = omega (arith, ap length groups_is, length-append groups (group ∷ [])) in
+    let longer : length c.push.new.self.items ≡ length groups + 1 =
+    omega (arith, ap length groups_is, length-append groups (group ∷ [])) in
     let next_size = steps.0 ∙ before.size in
     record {
       can = omega (arith, next_size);
       finite = tt;
       size = next_size;
-      rest = rest-more places chunk left rest (length groups) before.rest parts size ∙ ap (λ n. drop (32 * n) places) (sym longer);
+      rest = rest-more places chunk left rest (length groups) before.rest parts size
+          ∙ ap (λ n. drop (32 * n) places) (sym longer);
       few = omega (
         arith,
         before.few,
@@ -46,5 +52,10 @@ returns c =
     let before = c.loop-chunk.invariant in
     let over = ap length before.rest in
     let covers : length c.args.places.now ≤ 32 * length c.loop-chunk.groups.items =
-    omega (arith, over, c.in-None.ensures.steps.1.0, length-drop (32 * length c.loop-chunk.groups.items) c.args.places.now) in
+    omega (
+      arith,
+      over,
+      c.in-None.ensures.steps.1.0,
+      length-drop (32 * length c.loop-chunk.groups.items) c.args.places.now,
+    ) in
     holds-all c.args.places.now c.loop-chunk.groups.items c.loop-chunk.targets.items covers before.held

@@ -10,6 +10,7 @@ invariant-loop-chunk l = record {
   size : chunks_size l.chunk-iterator ≡ 32;
   rest : chunks_rest l.chunk-iterator ≡ drop (32 * length l.groups.items) l.places;
   few : length l.targets.items + length (chunks_rest l.chunk-iterator) ≤ length l.places;
-  held : (place : ℕ) → place < 32 * length l.groups.items → shortcut_at l.groups.items l.targets.items place ≡ get_or l.places place None;
+  held : (place : ℕ) → place < 32 * length l.groups.items →
+      shortcut_at l.groups.items l.targets.items place ≡ get_or l.places place None;
   each : HasEach l.groups.items l.targets.items;
 }
