@@ -1,11 +1,12 @@
 -- The end of the walk that marks a cycle.
-use Rattle.std.proofs.Common.{◌≡◌, ◌≢◌, ℕ, ◌+◌, ◌<◌, Bool, true, false, List, length, get_or, set, Option, None, Some, ◌⊎◌, inl, inr, ap, sym, ◌∙◌, arith, subst}
+use Rattle.std.proofs.Common.{◌≡◌, ◌≢◌, ℕ, ◌+◌, ◌<◌, Bool, true, false, List, length, get_or, set, Option, None, Some, inl, inr, ap, sym, ◌∙◌, arith, subst}
 use Rattle.std.proofs.lemmas.Bool.{cases_eq}
 use Rattle.std.proofs.lemmas.List.{get_or-set_same, get_or-set_other, length-set}
 use Rattle.object_perm.specs.Permutation.{PermutesPlaces}
 use Rattle.object_perm.specs.Walk.{along}
 use Rattle.object_perm.specs.Shortcuts.{has_shortcut}
-use Rattle.object_perm.specs.Settled.{IsSeen, IsSettled, IsInCycle}
+use Rattle.object_perm.specs.Settled.{IsSeen, IsSettled}
+use Rattle.object_perm.proofs.CycleWalk.{IsInCycle}
 use Rattle.object_perm.proofs.SeenLemmas.{seen_within, shortcut_kept, shortcut_made, meets_kept, open_meets}
 use Rattle.object_perm.proofs.WalkLemmas.{along-add, along-split, along-next}
 

@@ -1,11 +1,12 @@
 -- The steps of the walk that marks a cycle.
-use Rattle.std.proofs.Common.{◌≡◌, ◌≢◌, ℕ, ◌+◌, ◌<◌, Bool, true, false, List, length, get_or, set, Option, None, Some, ◌⊎◌, inl, inr, refl, ap, sym, ◌∙◌, arith, subst}
+use Rattle.std.proofs.Common.{◌≡◌, ◌≢◌, ℕ, ◌+◌, ◌<◌, Bool, true, false, List, length, get_or, set, Option, None, Some, inl, inr, refl, ap, sym, ◌∙◌, arith, subst}
 use Rattle.std.proofs.lemmas.Bool.{cases_Bool}
 use Rattle.std.proofs.lemmas.List.{get_or-set_same, get_or-set_other, length-set}
 use Rattle.object_perm.specs.Permutation.{PermutesPlaces}
 use Rattle.object_perm.specs.Walk.{along}
 use Rattle.object_perm.specs.Shortcuts.{has_shortcut}
-use Rattle.object_perm.specs.Settled.{IsSeen, KeepsMarks, IsSettled, IsInCycle, unseen_count}
+use Rattle.object_perm.specs.Settled.{IsSeen, KeepsMarks, IsSettled}
+use Rattle.object_perm.proofs.CycleWalk.{IsInCycle, unseen_count}
 use Rattle.object_perm.proofs.SeenLemmas.{seen_within, seen_kept, seen_cases, unseen_before, shortcut_kept, shortcut_made, meets_kept, open_meets, unseen_count-set}
 use Rattle.object_perm.proofs.WalkLemmas.{along-zero, along-next}
 

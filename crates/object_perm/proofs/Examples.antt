@@ -1,5 +1,5 @@
 -- The definitions on worked lists.
-use Rattle.std.proofs.Common.{◌≡◌, List, [], ◌∷◌, Some, None, refl}
+use Rattle.std.proofs.Common.{◌≡◌, [], ◌∷◌, Some, None, refl}
 use Rattle.object_perm.specs.Permutation.{first_flaw, inverse_of}
 use Rattle.object_perm.specs.Walk.{along}
 use Rattle.object_perm.specs.Marks.{marks_of, targets_of}

@@ -1,6 +1,7 @@
 pub mod FlawLemmas
 pub mod InverseLemmas
 pub mod WalkLemmas
+mod CycleWalk
 mod SeenLemmas
 mod CycleLemmas
 mod CycleEndLemmas

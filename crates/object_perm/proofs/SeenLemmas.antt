@@ -5,7 +5,8 @@ use Rattle.std.proofs.lemmas.List.{get_or-set_same, get_or-set_other, get_or_pas
 use Rattle.std.proofs.lemmas.List.Sums.{sum_by-set}
 use Rattle.object_perm.specs.Walk.{along}
 use Rattle.object_perm.specs.Shortcuts.{has_shortcut}
-use Rattle.object_perm.specs.Settled.{IsSeen, MeetsSeen, IsOpen, unseen_count}
+use Rattle.object_perm.specs.Settled.{IsSeen, MeetsSeen}
+use Rattle.object_perm.proofs.CycleWalk.{IsOpen, unseen_count}
 use Rattle.object_perm.proofs.WalkLemmas.{along-split, along-next}
 
 -- a place that was seen is within the list

@@ -6,7 +6,7 @@ ghost use Rattle.object_perm.specs.Settled.{IsSettled, KeepsMarks};
 use std::alloc::Global;
 use track_types::Memory;
 
-/// How many places lie between two shortcuts of a cycle.
+/// How many moves lie between two shortcuts of a cycle.
 const GAP: u32 = 16;
 
 /// For each place the target of its shortcut, if it has one, in one pass over the cycles.

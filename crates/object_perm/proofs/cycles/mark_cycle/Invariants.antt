@@ -1,4 +1,5 @@
-use Rattle.object_perm.specs.Settled.{IsInCycle, KeepsMarks, unseen_count}
+use Rattle.object_perm.specs.Settled.{KeepsMarks}
+use Rattle.object_perm.proofs.CycleWalk.{IsInCycle, unseen_count}
 use Rattle.object_perm.proofs.cycles.mark_cycle.Given as goal
 
 abbrev pub invariant-loop-place : goal.invariant-loop-place
