@@ -2,5 +2,7 @@ pub mod Magnitudes
 pub mod QuantityLemmas
 pub mod AscendingLemmas
 pub mod RowLemmas
+pub mod RegionLemmas
 mod Examples
 mod NumeralExamples
+mod RegionExamples

@@ -5,3 +5,4 @@ pub mod Row
 pub mod Quantities
 pub mod Chart
 pub mod ByFilter
+pub mod Region

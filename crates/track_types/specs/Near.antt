@@ -1,5 +1,7 @@
--- How far from 0 the times and places of rows may be.
+-- How far from 0 the times and places of rows may be, and the numbers about which searches ask.
 use Rattle.std.specs.Prelude.{◌^◌, ℤ, pos, neg_ℤ, ◌≤ℤ◌}
+use Rattle.track_types.specs.declared.cell.Cell.{Cell}
+use Rattle.track_types.specs.declared.cell_box.CellBox.{CellBox}
 use Rattle.track_types.specs.declared.raw_row.RawRow.{RawRow}
 use Rattle.track_types.specs.declared.row.Row.{Row}
 
@@ -19,3 +21,20 @@ pub record IsRowInRange (row : Row) : Type 0 where
   pub instant : IsNear row.instant
   pub x : IsNear row.cell.x
   pub y : IsNear row.cell.y
+
+-- at most 2^42 away from 0
+pub record IsWithin (z : ℤ) : Type 0 where
+  pub low : neg_ℤ (pos (2 ^ 42)) ≤ℤ z
+  pub high : z ≤ℤ pos (2 ^ 42)
+
+-- a cell's coordinates are within
+pub record IsCellWithin (cell : Cell) : Type 0 where
+  pub x : IsWithin cell.x
+  pub y : IsWithin cell.y
+
+-- a box's bounds are within
+pub record IsBoxWithin (area : CellBox) : Type 0 where
+  pub x1 : IsWithin area.x1
+  pub y1 : IsWithin area.y1
+  pub x2 : IsWithin area.x2
+  pub y2 : IsWithin area.y2

@@ -6,21 +6,28 @@
 #![tactic(auto)]
 
 mod cell;
+mod cell_box;
 mod chart;
+mod lazy;
 mod limit;
 mod lists;
 mod memory;
 mod numeral;
 mod raw_row;
+mod region;
 mod row;
 #[cfg(test)]
 mod tests;
 
 pub use cell::Cell;
+pub use cell_box::CellBox;
 pub use chart::Chart;
+pub use lazy::drawn_items::Drawn;
+pub use lazy::{Lazy, drawn};
 pub use limit::{LimitKind, MAX_EXTENT, MAX_HEIGHT};
 pub use lists::{List32, List64, Lists32, PairList};
 pub use memory::Memory;
 pub use numeral::{Numeral, number};
 pub use raw_row::{RawRow, RowFault};
+pub use region::{Region, dist2};
 pub use row::Row;

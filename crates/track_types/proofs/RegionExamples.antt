@@ -1,0 +1,53 @@
+-- Regions, run on cells and boxes that were worked out by hand.
+use Rattle.std.proofs.Common.{◌≡◌, ℕ, ℤ, pos, negsuc, Bool, true, false, List, [], ◌∷◌, map, refl, ◌≤ℤ◌}
+use Rattle.std.specs.Int.Signed.{le_z_yes}
+use Rattle.track_types.specs.Region.{in_region, squared_distance, touches_region}
+use Rattle.track_types.specs.declared.cell.Cell.{Cell}
+use Rattle.track_types.specs.declared.cell_box.CellBox.{CellBox}
+use Rattle.track_types.specs.declared.region.Region.{Region}
+use Rattle.track_types.specs.declared.region.Region.TheVariants.{Rect, Disc}
+
+abbrev at : ℤ → ℤ → Cell
+at x y = record { x = x; y = y }
+
+a_distance : squared_distance (at (negsuc 0) (pos 2)) (at (pos 2) (negsuc 1)) ≡ 25
+a_distance = refl
+
+-- the bounds of a rect are in it
+a_rect : map (in_region (Rect (negsuc 1) (pos 0) (pos 3) (pos 0))) (at (negsuc 1) (pos 0) ∷ at (pos 3) (pos 0) ∷ at (pos 4) (pos 0) ∷ at (pos 0) (pos 1) ∷ [])
+    ≡ true ∷ true ∷ false ∷ false ∷ []
+a_rect = refl
+
+an_inverted_rect : map (in_region (Rect (pos 3) (pos 0) (pos 1) (pos 0))) (at (pos 1) (pos 0) ∷ at (pos 2) (pos 0) ∷ at (pos 3) (pos 0) ∷ []) ≡ false ∷ false ∷ false ∷ []
+an_inverted_rect = refl
+
+-- a cell at the very distance of the radius is in a disc
+a_disc : map (in_region (Disc (pos 0) (pos 0) 5)) (at (negsuc 2) (pos 4) ∷ at (pos 5) (pos 0) ∷ at (pos 4) (pos 4) ∷ [])
+    ≡ true ∷ true ∷ false ∷ []
+a_disc = refl
+
+a_disc_of_one_cell : map (in_region (Disc (pos 7) (pos 7) 0)) (at (pos 7) (pos 7) ∷ at (pos 7) (pos 8) ∷ []) ≡ true ∷ false ∷ []
+a_disc_of_one_cell = refl
+
+-- the cells -10 to 10 each way
+wide : CellBox
+wide = record { x1 = negsuc 9; y1 = negsuc 9; x2 = pos 10; y2 = pos 10; wide = le_z_yes tt; high = le_z_yes tt }
+
+-- the cells 3 to 5 each way
+near : CellBox
+near = record { x1 = pos 3; y1 = pos 3; x2 = pos 5; y2 = pos 5; wide = le_z_yes tt; high = le_z_yes tt }
+
+-- a disc and a rect within a box, all of whose corners are outside
+touched_within : map (λ region. touches_region region wide) (Disc (pos 0) (pos 0) 2 ∷ Rect (pos 1) (pos 1) (pos 2) (pos 2) ∷ []) ≡ true ∷ true ∷ []
+unfolding wide
+touched_within = refl
+
+-- a disc that ends before a corner, though not before its column and its line, and one that reaches the corner
+touched_by_a_corner : map (λ region. touches_region region near) (Disc (pos 0) (pos 0) 4 ∷ Disc (pos 0) (pos 0) 5 ∷ []) ≡ false ∷ true ∷ []
+unfolding near
+touched_by_a_corner = refl
+
+-- a rect that crosses a box has none of its corners in it; an inverted one touches nothing
+touched_by_a_rect : map (λ region. touches_region region near) (Rect (pos 0) (pos 4) (pos 9) (pos 4) ∷ Rect (pos 5) (pos 4) (pos 4) (pos 4) ∷ []) ≡ true ∷ false ∷ []
+unfolding near
+touched_by_a_rect = refl

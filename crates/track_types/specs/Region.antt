@@ -1,0 +1,57 @@
+-- Regions, the cells that they hold, and the boxes that they touch.
+use Rattle.std.specs.Prelude.{ℕ, ◌+◌, ◌*◌, ◌^◌, ◌≤◌, ℤ, ◌-ℤ◌, unsigned_abs, Bool, ◌&&◌, nat_le, IsTrue}
+use Rattle.std.specs.Int.{int_max, int_min}
+use Rattle.std.specs.Int.Signed.{le_z}
+use Rattle.track_types.specs.Near.{IsWithin}
+use Rattle.track_types.specs.declared.cell.Cell.{Cell}
+use Rattle.track_types.specs.declared.cell_box.CellBox.{CellBox}
+use Rattle.track_types.specs.declared.region.Region.{Region}
+use Rattle.track_types.specs.declared.region.Region.TheVariants.{Rect, Disc}
+
+-- a region whose numbers are at most 2^42 away from 0
+abbrev pub IsRegionWithin : Region → Type 0
+IsRegionWithin (Rect x1 y1 x2 y2) = IsWithin x1 × IsWithin y1 × IsWithin x2 × IsWithin y2
+IsRegionWithin (Disc x y r) = IsWithin x × IsWithin y × (r ≤ 2 ^ 42)
+
+-- the square of how far two numbers are apart
+abbrev pub squared_gap : ℤ → ℤ → ℕ
+squared_gap a b = unsigned_abs (a -ℤ b) * unsigned_abs (a -ℤ b)
+
+-- the square of the Euclidean distance of two cells
+abbrev pub squared_distance : Cell → Cell → ℕ
+squared_distance a b = squared_gap a.x b.x + squared_gap a.y b.y
+
+-- whether a number is from low to high, both counted
+abbrev pub is_between : ℤ → ℤ → ℤ → Bool
+is_between low high z = le_z low z && le_z z high
+
+-- whether a cell is in a region: in a rect by the bounds, in a disc by the squared distance from the centre
+abbrev pub in_region : Region → Cell → Bool
+in_region (Rect x1 y1 x2 y2) cell = is_between x1 x2 cell.x && is_between y1 y2 cell.y
+in_region (Disc x y r) cell = nat_le (squared_distance (record { x = x; y = y }) cell) (r * r)
+
+-- a cell is in a region
+abbrev pub InRegion : Region → Cell → Type 0
+InRegion region cell = IsTrue (in_region region cell)
+
+-- whether a cell is in a box
+abbrev pub in_box : CellBox → Cell → Bool
+in_box area cell = is_between area.x1 area.x2 cell.x && is_between area.y1 area.y2 cell.y
+
+-- some cell of the box is in the region
+abbrev pub Touches : Region → CellBox → Type 0
+Touches region area = (cell : Cell) × IsTrue (in_box area cell) × InRegion region cell
+
+-- the lower corner of a rect, or the centre of a disc
+abbrev pub anchor_of : Region → Cell
+anchor_of (Rect x1 y1 x2 y2) = record { x = x1; y = y1 }
+anchor_of (Disc x y r) = record { x = x; y = y }
+
+-- the cell of a box that is nearest to a cell
+abbrev pub nearest_cell : CellBox → Cell → Cell
+nearest_cell area cell =
+    record { x = int_max area.x1 (int_min cell.x area.x2); y = int_max area.y1 (int_min cell.y area.y2) }
+
+-- the test for `Touches`: whether the region has the cell of the box that is nearest to its anchor
+abbrev pub touches_region : Region → CellBox → Bool
+touches_region region area = in_region region (nearest_cell area (anchor_of region))

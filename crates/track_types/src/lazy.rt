@@ -1,0 +1,34 @@
+ghost use Rattle.std.specs.Prelude.{◌≡◌, ◌++◌, ◌+◌, ◌≤◌, ℕ, List, [], MatchOption, option_to_list};
+
+use std::sync::ledger::Ledger;
+use step_count::Steps;
+
+pub mod drawn_items;
+#[cfg(test)]
+mod tests;
+
+use self::drawn_items::Drawn;
+
+/// A list whose items are found one by one, as they are asked for.
+///
+/// It has two meanings. `left` is the list of the items still to come. `budget` bounds the reads that
+/// are still to be made for them.
+pub trait Lazy {
+    type Item;
+
+    ghost left: { Self → List Self.Item };
+
+    ghost budget: { Self → ℕ };
+
+    /// Takes the first item of `left` off and answers it, or `None` exactly where `left` is empty, and
+    /// then it stays empty. What is read is taken from the budget. It takes no memory.
+    fn draw<L: Ledger>(&mut self, steps: &mut Steps<L>) -> Option<Self::Item>
+        ensures found { left self.old ≡ option_to_list result ++ left self.new }
+        ensures none { MatchOption result (left self.old ≡ []) (λ _. Unit {0}) }
+        ensures cost { steps.new + budget self.new ≤ steps.old + budget self.old };
+}
+
+/// The items of a walk as an iterator, which gives exactly those that are left, and ends.
+pub fn drawn<'a, W: Lazy, L: Ledger>(walk: &'a mut W, steps: &'a mut Steps<L>) -> Drawn<'a, W, L> {
+    Drawn::new(walk, steps)
+}

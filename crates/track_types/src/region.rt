@@ -1,0 +1,96 @@
+ghost use Rattle.std.specs.Prelude.{◌≡◌, ◌↔◌, ◌*◌, ◌<◌, ◌≤◌, ◌^◌, IsTrue, ℤ, ◌≤ℤ◌};
+ghost use Rattle.track_types.specs.Near.{IsBoxWithin, IsCellWithin, IsWithin};
+ghost use Rattle.track_types.specs.Region.{IsRegionWithin, Touches, anchor_of, in_region, is_between, nearest_cell, squared_distance, touches_region};
+
+use crate::cell::Cell;
+use crate::cell_box::CellBox;
+
+#[cfg(test)]
+mod tests;
+
+/// A set of cells about which searches ask.
+#[derive(Clone, Copy, Debug, PartialEq, Eq)]
+pub enum Region {
+    /// The cells of the columns `x1` to `x2` and the lines `y1` to `y2`, all ends counted. None where
+    /// `x1 > x2` or `y1 > y2`.
+    Rect { x1: i64, y1: i64, x2: i64, y2: i64 },
+    /// The cells whose squared distance from (x, y) is at most `r * r`.
+    Disc { x: i64, y: i64, r: u64 },
+}
+
+impl Region {
+    /// Whether a cell is in the region. All coordinates are at most 2^42 away from 0, and so is a
+    /// disc's radius. It takes no memory.
+    pub fn contains(&self, cell: Cell) -> bool
+        requires region { IsRegionWithin self.now }
+        requires near { IsCellWithin cell }
+        ensures { result ≡ in_region self.now cell }
+    {
+        match *self {
+            Region::Rect { x1, y1, x2, y2 } => {
+                is_within(x1, x2, cell.x) && is_within(y1, y2, cell.y)
+            }
+            Region::Disc { x, y, r } => dist2(Cell { x, y }, cell) <= square(r),
+        }
+    }
+
+    /// Whether any cell of the box is in the region. All coordinates are at most 2^42 away from 0,
+    /// and so is a disc's radius. It takes no memory.
+    pub fn touches(&self, area: &CellBox) -> bool
+        requires region { IsRegionWithin self.now }
+        requires near { IsBoxWithin area.now }
+        ensures value { result ≡ touches_region self.now area.now }
+        ensures exact { IsTrue result ↔ Touches self.now area.now }
+    {
+        // If the region has a cell of the box at all, then also the one nearest to its anchor.
+        self.contains(nearest(area, self.anchor()))
+    }
+
+    // The lower corner of a rect, also of an inverted one, or the centre of a disc.
+    fn anchor(&self) -> Cell
+        requires { IsRegionWithin self.now }
+        ensures value { result ≡ anchor_of self.now }
+        ensures within { IsCellWithin result }
+    {
+        match *self {
+            Region::Rect { x1, y1, .. } => Cell { x: x1, y: y1 },
+            Region::Disc { x, y, .. } => Cell { x, y },
+        }
+    }
+}
+
+/// The squared Euclidean distance of two cells, whose coordinates are at most 2^42 away from 0.
+pub fn dist2(a: Cell, b: Cell) -> u128
+    requires first { IsCellWithin a }
+    requires second { IsCellWithin b }
+    ensures { result ≡ squared_distance a b }
+{
+    square(a.x.abs_diff(b.x)) + square(a.y.abs_diff(b.y))
+}
+
+// The square of a length.
+fn square(length: u64) -> u128
+    requires { length ≤ 2 ^ 43 }
+    ensures exact { result ≡ length * length }
+    ensures within { result ≤ 2 ^ 86 }
+{
+    u128::from(length) * u128::from(length)
+}
+
+fn is_within(low: i64, high: i64, value: i64) -> bool
+    ensures { result ≡ is_between low high value }
+{
+    low <= value && value <= high
+}
+
+// The cell of the box that is nearest to a cell.
+fn nearest(area: &CellBox, cell: Cell) -> Cell
+    requires near { IsBoxWithin area.now }
+    ensures value { result ≡ nearest_cell area.now cell }
+    ensures within { IsCellWithin result }
+{
+    Cell {
+        x: cell.x.clamp(area.x1, area.x2),
+        y: cell.y.clamp(area.y1, area.y2),
+    }
+}
