@@ -6,3 +6,4 @@ pub mod Quantities
 pub mod Chart
 pub mod ByFilter
 pub mod Region
+pub mod Lazy

@@ -1,4 +1,5 @@
 ghost use Rattle.std.specs.Prelude.{◌≡◌, ◌++◌, ◌+◌, ◌≤◌, ℕ, List, [], MatchOption, option_to_list};
+ghost use Rattle.track_types.specs.Lazy.{drawn_lenders, drawn_steps, drawn_walk};
 
 use std::sync::ledger::Ledger;
 use step_count::Steps;
@@ -28,7 +29,12 @@ pub trait Lazy {
         ensures cost { steps.new + budget self.new ≤ steps.old + budget self.old };
 }
 
-/// The items of a walk as an iterator, which gives exactly those that are left, and ends.
-pub fn drawn<'a, W: Lazy, L: Ledger>(walk: &'a mut W, steps: &'a mut Steps<L>) -> Drawn<'a, W, L> {
+/// The items of a walk as an iterator, which gives exactly those that are left, and ends. What it reads
+/// is taken from the walk's budget.
+pub fn drawn<'a, W: Lazy, L: Ledger>(walk: &'a mut W, steps: &'a mut Steps<L>) -> Drawn<'a, W, L>
+    ensures walk { drawn_walk result ≡ walk.old }
+    ensures steps { drawn_steps result ≡ steps.old }
+    ensures lenders { drawn_lenders result ≡ (walk.entry.ghost_name, steps.entry.ghost_name) }
+{
     Drawn::new(walk, steps)
 }

@@ -1,10 +1,11 @@
-ghost use Rattle.std.specs.Prelude.{◌≡◌, ℕ, List};
+ghost use Rattle.std.specs.Prelude.{◌≡◌};
+ghost use Rattle.track_types.specs.Lazy.{drawn_lenders, drawn_steps, drawn_walk};
 
 use super::Lazy;
 use std::sync::ledger::Ledger;
 use step_count::Steps;
 
-/// An iterator over what is left of a walk.
+/// An iterator over what is left of a walk: exactly these items, in order, and then `None`.
 #[derive(Drop)]
 pub struct Drawn<'a, W, L: Ledger> {
     walk: &'a mut W,
@@ -12,19 +13,24 @@ pub struct Drawn<'a, W, L: Ledger> {
 }
 
 impl<'a, W: Lazy, L: Ledger> Drawn<'a, W, L> {
-    pub(super) fn new(walk: &'a mut W, steps: &'a mut Steps<L>) -> Self {
+    pub(super) fn new(walk: &'a mut W, steps: &'a mut Steps<L>) -> Self
+        ensures walk { drawn_walk result ≡ walk.old }
+        ensures steps { drawn_steps result ≡ steps.old }
+        ensures lenders { drawn_lenders result ≡ (walk.entry.ghost_name, steps.entry.ghost_name) }
+    {
         Drawn { walk, steps }
     }
 }
 
 impl<'a, W: Lazy, L: Ledger> Iterator for Drawn<'a, W, L> {
-    ghost use Rattle.std.specs.Iterator.{YieldsFirst, item_count};
+    ghost use Rattle.std.specs.Iterator.{item_count};
+    ghost use Rattle.track_types.specs.Lazy.{DrawsFirst, drawn_walk};
 
     type Item = W::Item;
 
-    ghost next_gives = { YieldsFirst (λ s. W.left s.walk.now) };
+    ghost next_gives = { DrawsFirst W.left W.budget };
 
-    ghost remaining = { item_count (λ s. W.left s.walk.now) };
+    ghost remaining = { item_count (λ items. W.left (drawn_walk items)) };
 
     fn next(&mut self) -> Option<W::Item> {
         self.walk.draw(self.steps)
