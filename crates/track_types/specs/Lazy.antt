@@ -1,7 +1,7 @@
 -- What contracts see of the items of a walk as an iterator.
 use Rattle.std.specs.Prelude.{◌≡◌, ℕ, ◌+◌, ◌≤◌, List, Option}
 use Rattle.std.specs.Borrow.{GName}
-use Rattle.std.specs.Iterator.{YieldsFirst}
+use Rattle.std.specs.Iterator.{Yields, YieldsFirst}
 use Rattle.track_types.specs.declared.lazy.drawn_items.Drawn.{Drawn}
 
 module _ {W L : Type 0} where
@@ -17,10 +17,20 @@ module _ {W L : Type 0} where
   abbrev pub drawn_lenders : Drawn W L → GName × GName
   drawn_lenders items = (items.walk.ghost_name, items.steps.ghost_name)
 
-  -- where `left` and `budget` are the walk's meanings: the next item is the first of those that are left,
-  -- or none is left, and the reads for it are taken from the budget
   module _ {A : Type 0} (left : W → List A) (budget : W → ℕ) where
+    -- the items that are still to come, where `left` is the walk's list
+    abbrev pub drawn_left : Drawn W L → List A
+    drawn_left items = left (drawn_walk items)
+
+    -- from old to new the reads are taken from the walk's budget, and the walk and the counter are the same ones
+    pub record DrawsWithin (old new : Drawn W L) : Type 0 where
+      pub cost : drawn_steps new + budget (drawn_walk new) ≤ drawn_steps old + budget (drawn_walk old)
+      pub lenders : drawn_lenders new ≡ drawn_lenders old
+
+    -- a call of `next` gave the first of the items that are left, or none is left
     abbrev pub DrawsFirst : Drawn W L → Option A → Drawn W L → Type 0
-    DrawsFirst old item new = YieldsFirst (λ items. left (drawn_walk items)) old item new
-        × (drawn_steps new + budget (drawn_walk new) ≤ drawn_steps old + budget (drawn_walk old))
-        × (drawn_lenders new ≡ drawn_lenders old)
+    DrawsFirst old item new = YieldsFirst drawn_left old item new × DrawsWithin old new
+
+    -- all calls of `next` together take their reads from the budget
+    abbrev pub DrawsAlong : Drawn W L → Type 0
+    DrawsAlong first = (items : List A) (later : Drawn W L) → Yields DrawsFirst first items later → DrawsWithin first later

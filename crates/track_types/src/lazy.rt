@@ -1,5 +1,6 @@
 ghost use Rattle.std.specs.Prelude.{◌≡◌, ◌++◌, ◌+◌, ◌≤◌, ℕ, List, [], MatchOption, option_to_list};
-ghost use Rattle.track_types.specs.Lazy.{drawn_lenders, drawn_steps, drawn_walk};
+ghost use Rattle.std.specs.Iterator.Runs.{YieldsInOrder};
+ghost use Rattle.track_types.specs.Lazy.{DrawsAlong, DrawsFirst, drawn_left, drawn_lenders, drawn_steps, drawn_walk};
 
 use std::sync::ledger::Ledger;
 use step_count::Steps;
@@ -35,6 +36,8 @@ pub fn drawn<'a, W: Lazy, L: Ledger>(walk: &'a mut W, steps: &'a mut Steps<L>) -
     ensures walk { drawn_walk result ≡ walk.old }
     ensures steps { drawn_steps result ≡ steps.old }
     ensures lenders { drawn_lenders result ≡ (walk.entry.ghost_name, steps.entry.ghost_name) }
+    ensures exact { YieldsInOrder (DrawsFirst {W = W} {L = L} W.left W.budget) (drawn_left W.left W.budget) }
+    ensures cost { DrawsAlong W.left W.budget result }
 {
     Drawn::new(walk, steps)
 }

@@ -24,13 +24,13 @@ impl<'a, W: Lazy, L: Ledger> Drawn<'a, W, L> {
 
 impl<'a, W: Lazy, L: Ledger> Iterator for Drawn<'a, W, L> {
     ghost use Rattle.std.specs.Iterator.{item_count};
-    ghost use Rattle.track_types.specs.Lazy.{DrawsFirst, drawn_walk};
+    ghost use Rattle.track_types.specs.Lazy.{DrawsFirst, drawn_left};
 
     type Item = W::Item;
 
     ghost next_gives = { DrawsFirst W.left W.budget };
 
-    ghost remaining = { item_count (λ items. W.left (drawn_walk items)) };
+    ghost remaining = { item_count (drawn_left W.left W.budget) };
 
     fn next(&mut self) -> Option<W::Item> {
         self.walk.draw(self.steps)
