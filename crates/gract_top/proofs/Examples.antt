@@ -52,7 +52,8 @@ word_too_many = refl
 object_below : question_of (codes "position -1 0") ≡ question.Bad
 object_below = refl
 
-greatest_instant : question_of (codes "position 4294967295 2199023255552") ≡ question.Position 4294967295 (pos 2199023255552)
+greatest_instant : question_of (codes "position 4294967295 2199023255552")
+    ≡ question.Position 4294967295 (pos 2199023255552)
 greatest_instant = refl
 
 instant_above : question_of (codes "position 0 2199023255553") ≡ question.Bad
@@ -63,12 +64,14 @@ rows : List Row
 rows = record { object = 7; instant = pos 0; cell = record { x = pos 10; y = negsuc 9 } }
     ∷ record { object = 7; instant = pos 2; cell = record { x = pos 12; y = pos 11 } } ∷ []
 
-replies_to_lines : replies_of rows (lines_of (codes "position 7 0\n\nposition 7 1\nwhere\nposition 7 2")) ≡ codes "10 -10\nok 1\nok 0\nbad word\n12 11\nok 1\n"
+replies_to_lines : replies_of rows (lines_of (codes "position 7 0\n\nposition 7 1\nwhere\nposition 7 2"))
+    ≡ codes "10 -10\nok 1\nok 0\nbad word\n12 11\nok 1\n"
 unfolding rows digits
 replies_to_lines = refl
 
 -- command words
-form_once : request_of (codes "once" ∷ codes "t.csv" ∷ codes "+10" ∷ codes " 60" ∷ codes "4" ∷ []) ≡ request.Once (record { cell = 10; tick = 60; period = 4 })
+form_once : request_of (codes "once" ∷ codes "t.csv" ∷ codes "+10" ∷ codes " 60" ∷ codes "4" ∷ [])
+    ≡ request.Once (record { cell = 10; tick = 60; period = 4 })
 form_once = refl
 
 no_words : request_of [] ≡ request.Refused 1
@@ -86,10 +89,12 @@ cell_below = refl
 period_missing : request_of (codes "once" ∷ codes "t.csv" ∷ codes "1" ∷ codes "1" ∷ []) ≡ request.Refused 5
 period_missing = refl
 
-period_above : request_of (codes "once" ∷ codes "t.csv" ∷ codes "1" ∷ codes "1" ∷ codes "4194305" ∷ []) ≡ request.Refused 5
+period_above : request_of (codes "once" ∷ codes "t.csv" ∷ codes "1" ∷ codes "1" ∷ codes "4194305" ∷ [])
+    ≡ request.Refused 5
 period_above = refl
 
-one_word_more : request_of (codes "once" ∷ codes "t.csv" ∷ codes "1" ∷ codes "1" ∷ codes "4" ∷ codes "x" ∷ []) ≡ request.Refused 6
+one_word_more : request_of (codes "once" ∷ codes "t.csv" ∷ codes "1" ∷ codes "1" ∷ codes "4" ∷ codes "x" ∷ [])
+    ≡ request.Refused 6
 one_word_more = refl
 
 -- texts

@@ -1,5 +1,7 @@
 -- What is kept of a line, byte after byte, and what it tells of the line.
-use Rattle.std.proofs.Common.{◌≡◌, ℕ, zero, suc, ◌<◌, ◌≤◌, Bool, true, false, not, ◌||◌, if◌then◌else◌, List, [], ◌∷◌, ◌++◌, length, take, filter, refl, sym, ap, ◌∙◌, arith, inl, inr, take_all, Result, Ok, Err, IsOk, OnOk, OnErr, ◌↔◌}
+use Rattle.std.proofs.Common.{◌≡◌, ℕ, zero, suc, ◌<◌, ◌≤◌, Bool, true, false, not, ◌||◌, if◌then◌else◌, List, [], ◌∷◌}
+use Rattle.std.proofs.Common.{◌++◌, length, take, filter, refl, sym, ap, ◌∙◌, arith, inl, inr, take_all, Result, Ok}
+use Rattle.std.proofs.Common.{Err, IsOk, OnOk, OnErr, ◌↔◌}
 use Rattle.std.specs.List.{list_any}
 use Rattle.std.proofs.lemmas.Bool.{cases_lt, lt-ltb}
 use Rattle.std.proofs.Math.Bool.{or-false}
@@ -37,8 +39,11 @@ front-push line byte new room full = elim (cases_lt (length (take 1025 line)) 10
 ]
 
 -- whether a line has a word, after one more byte
-pub list_any-push : (line : List ℕ) (byte : ℕ) → list_any is_in_word (line ++ byte ∷ []) ≡ (list_any is_in_word line || not (is_gap byte))
-list_any-push line byte = rw (list_any-append is_in_word line (byte ∷ [])) (ap (λ last. list_any is_in_word line || last) (or-false (not (is_gap byte))))
+pub list_any-push : (line : List ℕ) (byte : ℕ) →
+    list_any is_in_word (line ++ byte ∷ []) ≡ (list_any is_in_word line || not (is_gap byte))
+list_any-push line byte =
+    rw (list_any-append is_in_word line (byte ∷ []))
+    (ap (λ last. list_any is_in_word line || last) (or-false (not (is_gap byte))))
 
 -- a line has a word where a byte of it is in one
 any-byte : (is_end : Bool) (byte : ℕ) (ended : List (List ℕ)) (left : List ℕ) →
@@ -48,22 +53,28 @@ any-byte true byte ended left = refl
 any-byte false byte [] left = refl
 any-byte false byte (piece ∷ ended) left = refl
 
-any-piece : (line : List ℕ) → list_any has_byte ((parted is_gap line).ended ++ (parted is_gap line).left ∷ []) ≡ list_any is_in_word line
+any-piece : (line : List ℕ) →
+    list_any has_byte ((parted is_gap line).ended ++ (parted is_gap line).left ∷ []) ≡ list_any is_in_word line
 any-piece [] = refl
 any-piece (byte ∷ line) =
-    any-byte (is_gap byte) byte (parted is_gap line).ended (parted is_gap line).left ∙ ap (λ rest. not (is_gap byte) || rest) (any-piece line)
+    any-byte (is_gap byte) byte (parted is_gap line).ended (parted is_gap line).left
+    ∙ ap (λ rest. not (is_gap byte) || rest) (any-piece line)
 
-too_long-filter : (pieces : List (List ℕ)) → too_long (filter has_byte pieces) ≡ (if list_any has_byte pieces then Bad else Blank)
+too_long-filter : (pieces : List (List ℕ)) →
+    too_long (filter has_byte pieces) ≡ (if list_any has_byte pieces then Bad else Blank)
 too_long-filter [] = refl
 too_long-filter ([] ∷ pieces) = too_long-filter pieces
 too_long-filter ((byte ∷ piece) ∷ pieces) = refl
 
 -- what a line that is too long asks
 pub too_long-any : (line : List ℕ) → too_long (words_of line) ≡ (if list_any is_in_word line then Bad else Blank)
-too_long-any line = too_long-filter ((parted is_gap line).ended ++ (parted is_gap line).left ∷ []) ∙ ap (λ some. if some then Bad else Blank) (any-piece line)
+too_long-any line =
+    too_long-filter ((parted is_gap line).ended ++ (parted is_gap line).left ∷ [])
+    ∙ ap (λ some. if some then Bad else Blank) (any-piece line)
 
 -- a line that is kept whole
-pub question_of-short : (line front : List ℕ) → front ≡ take 1025 line → length front ≤ 1024 → question_of front ≡ question_of line
+pub question_of-short : (line front : List ℕ) → front ≡ take 1025 line → length front ≤ 1024 →
+    question_of front ≡ question_of line
 question_of-short line front is_front short =
     let whole : length line ≤ 1025 = omega (arith, length-take 1025 line, ap length is_front) in
     ap question_of (is_front ∙ take_all 1025 line whole)
@@ -76,9 +87,11 @@ question_of-long line front is_front long =
     rw (lt-ltb 1024 (length line) too_many) (too_long-any line)
 
 -- a push that a full front turns away
-pub front-try_push : {T E V : Type 0} (items : V → List ℕ) (result : Result T E) (line : List ℕ) (byte : ℕ) (old new : V) →
+pub front-try_push : {T E V : Type 0} (items : V → List ℕ) (result : Result T E) (line : List ℕ) (byte : ℕ)
+    (old new : V) →
     items old ≡ take 1025 line → (IsOk result ↔ (length (items old) < 1025)) →
-    OnOk result (items new ≡ items old ++ byte ∷ []) → OnErr result (new ≡ old) → items new ≡ take 1025 (line ++ byte ∷ [])
+    OnOk result (items new ≡ items old ++ byte ∷ []) → OnErr result (new ≡ old) →
+    items new ≡ take 1025 (line ++ byte ∷ [])
 front-try_push items (Ok done) line byte old new is_front room pushed turned_away =
     front-push line byte (items new)
     (λ below. pushed ∙ ap (λ text. text ++ byte ∷ []) is_front)

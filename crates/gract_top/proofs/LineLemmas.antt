@@ -1,5 +1,6 @@
 -- Parting a text byte by byte, and cutting words off a line.
-use Rattle.std.proofs.Common.{◌≡◌, ℕ, Bool, true, false, not, if◌then◌else◌, List, [], ◌∷◌, ◌++◌, refl, sym, ◌∙◌, ap, append-nil, zero, suc, take, drop, subst, filter, length, nat_eq}
+use Rattle.std.proofs.Common.{◌≡◌, ℕ, Bool, true, false, not, if◌then◌else◌, List, [], ◌∷◌, ◌++◌, refl, sym, ◌∙◌, ap}
+use Rattle.std.proofs.Common.{append-nil, zero, suc, take, drop, subst, filter, length, nat_eq}
 use Rattle.std.specs.List.{list_all}
 use Rattle.std.proofs.lemmas.List.{take-append-drop}
 use mathlib.Core.Bool.{false≢true}
@@ -16,14 +17,18 @@ piece_head is_end byte piece whole =
     not-true (is_end byte) (and_parts (not (is_end byte)) (list_all (λ other. not (is_end other)) piece) whole).0
 
 piece_tail : (is_end : ℕ → Bool) (byte : ℕ) (piece : List ℕ) → IsPiece is_end (byte ∷ piece) → IsPiece is_end piece
-piece_tail is_end byte piece whole = (and_parts (not (is_end byte)) (list_all (λ other. not (is_end other)) piece) whole).1
+piece_tail is_end byte piece whole =
+    (and_parts (not (is_end byte)) (list_all (λ other. not (is_end other)) piece) whole).1
 
 -- a piece, and the end byte behind it
-pub parted-piece : (is_end : ℕ → Bool) (piece : List ℕ) (end : ℕ) (rest : List ℕ) → IsPiece is_end piece → is_end end ≡ true →
-    parted is_end (piece ++ end ∷ rest) ≡ record { ended = piece ∷ (parted is_end rest).ended; left = (parted is_end rest).left }
+pub parted-piece : (is_end : ℕ → Bool) (piece : List ℕ) (end : ℕ) (rest : List ℕ) → IsPiece is_end piece →
+    is_end end ≡ true →
+    parted is_end (piece ++ end ∷ rest)
+    ≡ record { ended = piece ∷ (parted is_end rest).ended; left = (parted is_end rest).left }
 parted-piece is_end [] end rest whole ends = rw ends refl
 parted-piece is_end (byte ∷ piece) end rest whole ends =
-    rw (piece_head is_end byte piece whole, parted-piece is_end piece end rest (piece_tail is_end byte piece whole) ends) refl
+    let behind = parted-piece is_end piece end rest (piece_tail is_end byte piece whole) ends in
+    rw (piece_head is_end byte piece whole, behind) refl
 
 -- a piece with no end byte behind it
 pub parted-unended : (is_end : ℕ → Bool) (piece : List ℕ) → IsPiece is_end piece →
@@ -45,10 +50,12 @@ pub words_of-word : (byte : ℕ) (word rest : List ℕ) → IsPiece is_gap (byte
     words_of ((byte ∷ word) ++ rest) ≡ (byte ∷ word) ∷ words_of rest
 words_of-word byte word [] whole ends = rw (append-nil word) (ap words_in (parted-unended is_gap (byte ∷ word) whole))
 words_of-word byte word (gap ∷ rest) whole ends =
-    ap words_in (parted-piece is_gap (byte ∷ word) gap rest whole ends) ∙ ap (λ words. (byte ∷ word) ∷ words) (sym (words_of-gap gap rest ends))
+    ap words_in (parted-piece is_gap (byte ∷ word) gap rest whole ends)
+    ∙ ap (λ words. (byte ∷ word) ∷ words) (sym (words_of-gap gap rest ends))
 
 -- the first n bytes of a line are its first word
-pub words_of-take : (line : List ℕ) (n : ℕ) → has_byte line ≡ true → BeginsWord line → IsPiece is_gap (take n line) → EndsWord (drop n line) →
+pub words_of-take : (line : List ℕ) (n : ℕ) → has_byte line ≡ true → BeginsWord line → IsPiece is_gap (take n line) →
+    EndsWord (drop n line) →
     words_of line ≡ take n line ∷ words_of (drop n line)
 words_of-take [] n some begins whole ends = absurd (false≢true some)
 words_of-take (byte ∷ rest) zero some begins whole ends = absurd (false≢true (sym begins ∙ ends))
@@ -67,13 +74,19 @@ pub parted-append : (is_end : ℕ → Bool) (front back : List ℕ) →
     parted is_end (front ++ back) ≡ record { ended = here.ended ++ there.ended; left = there.left }
 parted-append is_end [] back = refl
 parted-append is_end (byte ∷ front) back =
-    rw (parted-append is_end front back) (behind_byte is_end byte back (parted is_end front).ended (parted is_end front).left (is_end byte) refl)
+    rw (parted-append is_end front back)
+    (behind_byte is_end byte back (parted is_end front).ended (parted is_end front).left (is_end byte) refl)
   where
-    behind_byte : (is_end : ℕ → Bool) (byte : ℕ) (back : List ℕ) (ended : List (List ℕ)) (left : List ℕ) (test : Bool) → is_end byte ≡ test →
+    behind_byte : (is_end : ℕ → Bool) (byte : ℕ) (back : List ℕ) (ended : List (List ℕ)) (left : List ℕ) (test : Bool) →
+        is_end byte ≡ test →
         let there = parted is_end (left ++ back) in
-        let here : Parts = if is_end byte then record { ended = [] ∷ ended; left = left } else begin_first byte ended left in
+        let here : Parts =
+        if is_end byte then record { ended = [] ∷ ended; left = left } else begin_first byte ended left in
         let behind = parted is_end (here.left ++ back) in
-        let whole : Parts = if is_end byte then record { ended = [] ∷ (ended ++ there.ended); left = there.left } else begin_first byte (ended ++ there.ended) there.left in
+        let whole : Parts =
+        if is_end byte
+        then record { ended = [] ∷ (ended ++ there.ended); left = there.left }
+        else begin_first byte (ended ++ there.ended) there.left in
         let joined : Parts = record { ended = here.ended ++ behind.ended; left = behind.left } in
         whole ≡ joined
     behind_byte is_end byte back ended left true e = rw e refl
@@ -83,28 +96,38 @@ parted-append is_end (byte ∷ front) back =
 -- no end byte is in what follows the last one
 pub piece-left : (is_end : ℕ → Bool) (text : List ℕ) → IsPiece is_end (parted is_end text).left
 piece-left is_end [] = refl
-piece-left is_end (byte ∷ text) = behind_byte is_end byte (parted is_end text).ended (parted is_end text).left (piece-left is_end text) (is_end byte) refl
+piece-left is_end (byte ∷ text) =
+    let parts = parted is_end text in
+    behind_byte is_end byte parts.ended parts.left (piece-left is_end text) (is_end byte) refl
   where
-    behind_byte : (is_end : ℕ → Bool) (byte : ℕ) (ended : List (List ℕ)) (left : List ℕ) → IsPiece is_end left → (test : Bool) → is_end byte ≡ test →
-        let here : Parts = if is_end byte then record { ended = [] ∷ ended; left = left } else begin_first byte ended left in
+    behind_byte : (is_end : ℕ → Bool) (byte : ℕ) (ended : List (List ℕ)) (left : List ℕ) → IsPiece is_end left →
+        (test : Bool) → is_end byte ≡ test →
+        let here : Parts =
+        if is_end byte then record { ended = [] ∷ ended; left = left } else begin_first byte ended left in
         IsPiece is_end here.left
     behind_byte is_end byte ended left whole true e = rw e whole
     behind_byte is_end byte [] left whole false e = rw (e, e) whole
     behind_byte is_end byte (piece ∷ ended) left whole false e = rw e whole
 
-piece-push : (is_end : ℕ → Bool) (piece : List ℕ) (byte : ℕ) → IsPiece is_end piece → is_end byte ≡ false → IsPiece is_end (piece ++ byte ∷ [])
-piece-push is_end piece byte whole inside = rw (list_all-append (λ other. not (is_end other)) piece (byte ∷ []), whole, inside) refl
+piece-push : (is_end : ℕ → Bool) (piece : List ℕ) (byte : ℕ) → IsPiece is_end piece → is_end byte ≡ false →
+    IsPiece is_end (piece ++ byte ∷ [])
+piece-push is_end piece byte whole inside =
+    rw (list_all-append (λ other. not (is_end other)) piece (byte ∷ []), whole, inside) refl
 
 -- a text, and an end byte behind it
 pub parted-end : (is_end : ℕ → Bool) (text : List ℕ) (end : ℕ) → is_end end ≡ true →
-    parted is_end (text ++ end ∷ []) ≡ record { ended = (parted is_end text).ended ++ (parted is_end text).left ∷ []; left = [] }
+    parted is_end (text ++ end ∷ [])
+    ≡ record { ended = (parted is_end text).ended ++ (parted is_end text).left ∷ []; left = [] }
 parted-end is_end text end ends =
-    rw (parted-append is_end text (end ∷ []), parted-piece is_end (parted is_end text).left end [] (piece-left is_end text) ends) refl
+    let behind = parted-piece is_end (parted is_end text).left end [] (piece-left is_end text) ends in
+    rw (parted-append is_end text (end ∷ []), behind) refl
 
 -- a text, and another byte behind it
 pub parted-byte : (is_end : ℕ → Bool) (text : List ℕ) (byte : ℕ) → is_end byte ≡ false →
-    parted is_end (text ++ byte ∷ []) ≡ record { ended = (parted is_end text).ended; left = (parted is_end text).left ++ byte ∷ [] }
+    parted is_end (text ++ byte ∷ [])
+    ≡ record { ended = (parted is_end text).ended; left = (parted is_end text).left ++ byte ∷ [] }
 parted-byte is_end text byte inside =
     let left = (parted is_end text).left in
     let whole : IsPiece is_end (left ++ byte ∷ []) = piece-push is_end left byte (piece-left is_end text) inside in
-    rw (parted-append is_end text (byte ∷ []), parted-unended is_end (left ++ byte ∷ []) whole, append-nil (parted is_end text).ended) refl
+    let behind = parted-unended is_end (left ++ byte ∷ []) whole in
+    rw (parted-append is_end text (byte ∷ []), behind, append-nil (parted is_end text).ended) refl

@@ -1,5 +1,7 @@
 -- Answering byte after byte says the replies to the lines.
-use Rattle.std.proofs.Common.{◌≡◌, ℕ, ◌+◌, false, List, [], ◌∷◌, ◌++◌, length, refl, sym, ap, ◌∙◌, subst, append_assoc, append-nil, length-append, arith, Option, Some, None, Result, Ok, Err, OnErr, take, drop, get_or, ◌<◌, ◌≤◌, ◌^◌, ◌-◌, min, take_all, take-take, inl, inr}
+use Rattle.std.proofs.Common.{◌≡◌, ℕ, ◌+◌, false, List, [], ◌∷◌, ◌++◌, length, refl, sym, ap, ◌∙◌, subst, append_assoc}
+use Rattle.std.proofs.Common.{append-nil, length-append, arith, Option, Some, None, Result, Ok, Err, OnErr, take, drop}
+use Rattle.std.proofs.Common.{get_or, ◌<◌, ◌≤◌, ◌^◌, ◌-◌, min, take_all, take-take, inl, inr}
 use Rattle.std.proofs.lemmas.Bool.{cases_lt}
 use Rattle.std.proofs.lemmas.List.{length-take, take_more, take-append-drop, take-append-le}
 use Rattle.std.proofs.Math.Seq.{take-append-add}
@@ -18,7 +20,8 @@ pub Appends-append : (before between now : Option (List ℕ)) (first second : Li
 Appends-append None between now first second one two = tt
 Appends-append (Some said) None now first second one two = absurd one
 Appends-append (Some said) (Some more) None first second one two = absurd two
-Appends-append (Some said) (Some more) (Some all) first second one two = two ∙ (ap (λ text. text ++ second) one ∙ append_assoc said first second)
+Appends-append (Some said) (Some more) (Some all) first second one two =
+    two ∙ (ap (λ text. text ++ second) one ∙ append_assoc said first second)
 
 -- bytes taken after others
 pub Consumes-append : (before between now : Option (List ℕ)) (first second : List ℕ) →
@@ -26,10 +29,12 @@ pub Consumes-append : (before between now : Option (List ℕ)) (first second : L
 Consumes-append None between now first second one two = tt
 Consumes-append (Some said) None now first second one two = absurd one
 Consumes-append (Some said) (Some more) None first second one two = absurd two
-Consumes-append (Some said) (Some more) (Some all) first second one two = one ∙ (ap (λ text. first ++ text) two ∙ sym (append_assoc first second all))
+Consumes-append (Some said) (Some more) (Some all) first second one two =
+    one ∙ (ap (λ text. first ++ text) two ∙ sym (append_assoc first second all))
 
 -- the whole lines of a text, and of what comes behind it
-pub whole_lines-append : (front back : List ℕ) → whole_lines (front ++ back) ≡ whole_lines front ++ whole_lines (unended_line front ++ back)
+pub whole_lines-append : (front back : List ℕ) →
+    whole_lines (front ++ back) ≡ whole_lines front ++ whole_lines (unended_line front ++ back)
 whole_lines-append front back = ap (λ (parts : Parts). parts.ended) (parted-append is_line_feed front back)
 
 -- a line feed ends the line that was coming
@@ -40,18 +45,22 @@ pub unended_line-feed : (came : List ℕ) → unended_line (came ++ 10 ∷ []) �
 unended_line-feed came = ap (λ (parts : Parts). parts.left) (parted-end is_line_feed came 10 refl)
 
 -- any other byte belongs to it
-pub whole_lines-byte : (came : List ℕ) (byte : ℕ) → is_line_feed byte ≡ false → whole_lines (came ++ byte ∷ []) ≡ whole_lines came
+pub whole_lines-byte : (came : List ℕ) (byte : ℕ) → is_line_feed byte ≡ false →
+    whole_lines (came ++ byte ∷ []) ≡ whole_lines came
 whole_lines-byte came byte inside = ap (λ (parts : Parts). parts.ended) (parted-byte is_line_feed came byte inside)
 
-pub unended_line-byte : (came : List ℕ) (byte : ℕ) → is_line_feed byte ≡ false → unended_line (came ++ byte ∷ []) ≡ unended_line came ++ byte ∷ []
+pub unended_line-byte : (came : List ℕ) (byte : ℕ) → is_line_feed byte ≡ false →
+    unended_line (came ++ byte ∷ []) ≡ unended_line came ++ byte ∷ []
 unended_line-byte came byte inside = ap (λ (parts : Parts). parts.left) (parted-byte is_line_feed came byte inside)
 
-pub replies_of-append : (rows : List Row) (front back : List (List ℕ)) → replies_of rows (front ++ back) ≡ replies_of rows front ++ replies_of rows back
+pub replies_of-append : (rows : List Row) (front back : List (List ℕ)) →
+    replies_of rows (front ++ back) ≡ replies_of rows front ++ replies_of rows back
 replies_of-append rows front back = flat_map-append (reply_of rows) front back
 
 -- the replies to the whole lines, after a line feed
 pub replies_of-feed : (rows : List Row) (came : List ℕ) →
-    replies_of rows (whole_lines (came ++ 10 ∷ [])) ≡ replies_of rows (whole_lines came) ++ reply_of rows (unended_line came)
+    replies_of rows (whole_lines (came ++ 10 ∷ []))
+    ≡ replies_of rows (whole_lines came) ++ reply_of rows (unended_line came)
 replies_of-feed rows came =
     ap (replies_of rows) (whole_lines-feed came) ∙ (replies_of-append rows (whole_lines came) (unended_line came ∷ [])
     ∙ ap (λ last. replies_of rows (whole_lines came) ++ last) (append-nil (reply_of rows (unended_line came))))
@@ -81,19 +90,23 @@ pub front-feed : (rows : List Row) (before between now : Option (List ℕ)) (cam
 front-feed rows before between now came line cut heard = record {
   text = replies_of rows (whole_lines came) ++ cut.text;
   unsaid = cut.unsaid;
-  front = replies_of-feed rows came ∙ (ap (λ last. replies_of rows (whole_lines came) ++ last) cut.front ∙ sym (append_assoc (replies_of rows (whole_lines came)) cut.text cut.unsaid));
+  front = replies_of-feed rows came
+      ∙ (ap (λ last. replies_of rows (whole_lines came) ++ last) cut.front
+      ∙ sym (append_assoc (replies_of rows (whole_lines came)) cut.text cut.unsaid));
   said = Appends-append before between now _ _ heard.said cut.said;
 }
 
 -- the front of the replies to some bytes is one of the replies to more
 pub front-more : (rows : List Row) (before now : Option (List ℕ)) (came more : List ℕ) →
-    SaysFront before now (replies_of rows (whole_lines came)) → SaysFront before now (replies_of rows (whole_lines (came ++ more)))
+    SaysFront before now (replies_of rows (whole_lines came)) →
+    SaysFront before now (replies_of rows (whole_lines (came ++ more)))
 front-more rows before now came more cut =
     let behind = replies_of rows (whole_lines (unended_line came ++ more)) in
     record {
       text = cut.text;
       unsaid = cut.unsaid ++ behind;
-      front = ap (replies_of rows) (whole_lines-append came more) ∙ (replies_of-append rows (whole_lines came) (whole_lines (unended_line came ++ more))
+      front = ap (replies_of rows) (whole_lines-append came more)
+          ∙ (replies_of-append rows (whole_lines came) (whole_lines (unended_line came ++ more))
           ∙ (ap (λ first. first ++ behind) cut.front ∙ append_assoc cut.text cut.unsaid behind));
       said = cut.said;
     }
@@ -102,7 +115,8 @@ front-more rows before now came more cut =
 pub replies_of-lines_of : (rows : List Row) (came : List ℕ) →
     replies_of rows (lines_of came) ≡ replies_of rows (whole_lines came) ++ reply_of rows (unended_line came)
 replies_of-lines_of rows came =
-    replies_of-append rows (whole_lines came) (if_any (unended_line came)) ∙ ap (λ last. replies_of rows (whole_lines came) ++ last) (last_reply (unended_line came))
+    replies_of-append rows (whole_lines came) (if_any (unended_line came))
+    ∙ ap (λ last. replies_of rows (whole_lines came) ++ last) (last_reply (unended_line came))
   where
     last_reply : (line : List ℕ) → replies_of rows (if_any line) ≡ reply_of rows line
     last_reply [] = refl
@@ -121,7 +135,9 @@ pub front-end : (rows : List Row) (before between now : Option (List ℕ)) (came
 front-end rows before between now came line cut heard = record {
   text = replies_of rows (whole_lines came) ++ cut.text;
   unsaid = cut.unsaid;
-  front = replies_of-lines_of rows came ∙ (ap (λ last. replies_of rows (whole_lines came) ++ last) cut.front ∙ sym (append_assoc (replies_of rows (whole_lines came)) cut.text cut.unsaid));
+  front = replies_of-lines_of rows came
+      ∙ (ap (λ last. replies_of rows (whole_lines came) ++ last) cut.front
+      ∙ sym (append_assoc (replies_of rows (whole_lines came)) cut.text cut.unsaid));
   said = Appends-append before between now _ _ heard.said cut.said;
 }
 
@@ -131,7 +147,9 @@ pub front-lines : (rows : List Row) (before now : Option (List ℕ)) (came : Lis
 front-lines rows before now came cut = record {
   text = cut.text;
   unsaid = cut.unsaid ++ reply_of rows (unended_line came);
-  front = replies_of-lines_of rows came ∙ (ap (λ first. first ++ reply_of rows (unended_line came)) cut.front ∙ append_assoc cut.text cut.unsaid (reply_of rows (unended_line came)));
+  front = replies_of-lines_of rows came
+      ∙ (ap (λ first. first ++ reply_of rows (unended_line came)) cut.front
+      ∙ append_assoc cut.text cut.unsaid (reply_of rows (unended_line came)));
   said = cut.said;
 }
 
@@ -168,14 +186,16 @@ came-kept before between now bytes came kept counted = record {
   counted = counted ∙ came.counted;
 }
   where
-    consumes_kept : (first second third : Option (List ℕ)) → Consumes first second bytes → Keeps second third → Consumes first third bytes
+    consumes_kept : (first second third : Option (List ℕ)) → Consumes first second bytes → Keeps second third →
+        Consumes first third bytes
     consumes_kept None second third consumed kept = tt
     consumes_kept (Some xs) None third consumed kept = absurd consumed
     consumes_kept (Some xs) (Some ys) None consumed kept = absurd kept
     consumes_kept (Some xs) (Some ys) (Some zs) consumed kept = consumed ∙ ap (λ rest. bytes ++ rest) (sym kept)
 
 -- as long as the input is not too long, all of it is heard
-pub heard-all : (rows : List Row) (before now : Option (List ℕ)) (bytes : List ℕ) (line : LineKept) → length bytes ≤ 2 ^ 32 →
+pub heard-all : (rows : List Row) (before now : Option (List ℕ)) (bytes : List ℕ) (line : LineKept) →
+    length bytes ≤ 2 ^ 32 →
     Heard rows before now (take (2 ^ 32) bytes) line → Heard rows before now bytes line
 heard-all rows before now bytes line within heard =
     let P : List ℕ → Type 0 = λ input. Heard rows before now input line in
@@ -190,7 +210,8 @@ on_err_always (Err fault) fact = fact
 pub around_byte : (came piece : List ℕ) (i : ℕ) → i < length piece →
     ((came ++ take i piece) ++ get_or piece i 0 ∷ []) ++ drop (i + 1) piece ≡ came ++ piece
 around_byte came piece i below =
-    rw (append_assoc came (take i piece) (get_or piece i 0 ∷ []), ← take_more piece i 0 below, append_assoc came (take (i + 1) piece) (drop (i + 1) piece))
+    let apart = append_assoc came (take (i + 1) piece) (drop (i + 1) piece) in
+    rw (append_assoc came (take i piece) (get_or piece i 0 ∷ []), ← take_more piece i 0 below, apart)
     (ap (λ text. came ++ text) (take-append-drop (i + 1) piece))
 
 -- nothing said
@@ -219,12 +240,15 @@ piece_heard bytes buffer behind count counted short within least =
     let P : ℕ → Type 0 = λ n. take n (bytes ++ take count buffer) ≡ bytes ++ take rest (take count buffer) in
     let front = subst P whole (take-append-add bytes (take count buffer) rest) in
     let fits : counted ≤ length buffer = omega arith in
-    front ∙ ap (λ text. bytes ++ text) (take_least rest count buffer counted least ∙ sym (take-append-le counted buffer behind fits))
+    let same = take_least rest count buffer counted least ∙ sym (take-append-le counted buffer behind fits) in
+    front ∙ ap (λ text. bytes ++ text) same
 
 -- the front of the replies to what is heard is one of the replies to all that came
-pub front-first : (rows : List Row) (before now : Option (List ℕ)) (bytes first : List ℕ) → take (2 ^ 32) bytes ≡ first →
+pub front-first : (rows : List Row) (before now : Option (List ℕ)) (bytes first : List ℕ) →
+    take (2 ^ 32) bytes ≡ first →
     SaysFront before now (replies_of rows (whole_lines first)) → SaysFront before now (replies_of rows (lines_of bytes))
 front-first rows before now bytes first is_first cut =
     let P : List ℕ → Type 0 = λ all. SaysFront before now (replies_of rows (lines_of all)) in
     subst P (ap (λ text. text ++ drop (2 ^ 32) bytes) (sym is_first) ∙ take-append-drop (2 ^ 32) bytes)
-    (front-lines rows before now (first ++ drop (2 ^ 32) bytes) (front-more rows before now first (drop (2 ^ 32) bytes) cut))
+    (front-lines rows before now (first ++ drop (2 ^ 32) bytes)
+    (front-more rows before now first (drop (2 ^ 32) bytes) cut))

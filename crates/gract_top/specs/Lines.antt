@@ -16,7 +16,9 @@ abbrev pub parted : (ℕ → Bool) → List ℕ → Parts
 parted is_end [] = record { ended = []; left = [] }
 parted is_end (byte ∷ rest) =
     let parts = parted is_end rest in
-    if is_end byte then record { ended = [] ∷ parts.ended; left = parts.left } else begin_first byte parts.ended parts.left
+    if is_end byte
+    then record { ended = [] ∷ parts.ended; left = parts.left }
+    else begin_first byte parts.ended parts.left
 
 -- the byte that ends a line
 abbrev pub is_line_feed : ℕ → Bool

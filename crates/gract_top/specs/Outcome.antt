@@ -21,7 +21,8 @@ Answered other rows before now = now ≡ before
 
 -- An outcome answers over some rows; where a question was listened to and the CSV file is told, they are those of the
 -- file's chart.
-pub record Answers (outcome : Outcome) (files : Option FileMap) (words : List (List ℕ)) (before now : Talk) : Type 0 where
+pub record Answers (outcome : Outcome) (files : Option FileMap) (words : List (List ℕ))
+    (before now : Talk) : Type 0 where
   pub rows : List Row
   pub answered : Answered outcome rows before now
   pub of_file : is_unasked outcome ≡ false → (bytes : List ℕ) → IsHeld files (csv_name words) bytes →

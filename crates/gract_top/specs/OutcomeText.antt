@@ -49,7 +49,8 @@ text_of outcome.Done = []
 text_of (outcome.Words place) = codes "gract: word " ++ decimal place ++ codes " is not as expected"
 text_of outcome.LoadFailed = codes "gract: a file could not be read"
 text_of (outcome.Limit kind value) = codes "gract: limit " ++ limit_name kind ++ codes " passed at " ++ decimal value
-text_of (outcome.Row nth field fault) = codes "gract: record " ++ decimal nth ++ before_field fault ++ decimal field ++ behind_field fault
+text_of (outcome.Row nth field fault) =
+    codes "gract: record " ++ decimal nth ++ before_field fault ++ decimal field ++ behind_field fault
 text_of outcome.Empty = codes "gract: no rows"
 text_of outcome.ListenFailed = codes "gract: the questions could not be read"
 text_of outcome.SayFailed = codes "gract: the answers could not be written"

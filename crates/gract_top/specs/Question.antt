@@ -16,7 +16,8 @@ position_of None instant = Bad
 abbrev pub position_words : List (List ℕ) → Question
 position_words [] = Bad
 position_words (object ∷ []) = Bad
-position_words (object ∷ instant ∷ []) = position_of (natural_within 0 (2 ^ 32 - 1) object) (whole_within (2 ^ 41) instant)
+position_words (object ∷ instant ∷ []) =
+    position_of (natural_within 0 (2 ^ 32 - 1) object) (whole_within (2 ^ 41) instant)
 position_words (object ∷ instant ∷ more ∷ rest) = Bad
 
 -- the words of a line that is not too long

@@ -1,5 +1,6 @@
 -- What the CSV file decides before a question is read.
-use Rattle.std.specs.Prelude.{◌≡◌, ℕ, ◌+◌, ◌^◌, Bool, true, false, nat_lt, if◌then◌else◌, List, [], ◌∷◌, length, Option, Some, None}
+use Rattle.std.specs.Prelude.{◌≡◌, ℕ, ◌+◌, ◌^◌, Bool, true, false, nat_lt, if◌then◌else◌, List, [], ◌∷◌, length, Option}
+use Rattle.std.specs.Prelude.{Some, None}
 use Rattle.host_ports.specs.FileMap.{FileMap, held}
 use Rattle.track_types.specs.declared.limit.LimitKind.{LimitKind}
 use Rattle.track_types.specs.declared.limit.LimitKind.TheVariants as limit
@@ -28,13 +29,16 @@ rows_refusal (Some (rows.Row nth field fault)) raws settings = Some (outcome.Row
 rows_refusal (Some (rows.Limit value)) raws settings = Some (outcome.Limit limit.Rows value)
 rows_refusal (Some rows.Memory) raws settings = None
 rows_refusal None [] settings = Some outcome.Empty
-rows_refusal None (first ∷ others) settings = grid_refusal (grid_limit (first ∷ others) settings.cell settings.tick settings.period)
+rows_refusal None (first ∷ others) settings =
+    grid_refusal (grid_limit (first ∷ others) settings.cell settings.tick settings.period)
 
 -- The refusal of a file, or none where it is accepted: it is too long, a record is no row or one row too many, there is
 -- no data record, or a quantity of the chart passes its limit.
 abbrev pub refusal_of : List ℕ → Settings → Option Outcome
 refusal_of bytes settings =
-    if nat_lt (2 ^ 29) (length bytes) then Some (outcome.Limit limit.Csv (2 ^ 29 + 1)) else rows_refusal (csv_fault bytes) (raws_of bytes) settings
+    if nat_lt (2 ^ 29) (length bytes)
+    then Some (outcome.Limit limit.Csv (2 ^ 29 + 1))
+    else rows_refusal (csv_fault bytes) (raws_of bytes) settings
 
 -- an outcome that the bytes of the CSV file decide
 abbrev pub is_refusal : Outcome → Bool

@@ -1,5 +1,6 @@
 -- What the command words ask for.
-use Rattle.std.specs.Prelude.{◌≡◌, ⊤, ℕ, ◌+◌, ◌^◌, Bool, true, false, if◌then◌else◌, List, [], ◌∷◌, codes, Option, Some, None, map, slice_index_or}
+use Rattle.std.specs.Prelude.{◌≡◌, ⊤, ℕ, ◌+◌, ◌^◌, Bool, true, false, if◌then◌else◌, List, [], ◌∷◌, codes, Option, Some}
+use Rattle.std.specs.Prelude.{None, map, slice_index_or}
 use denote.Ref.{Bor}
 use Rattle.std.specs.Option.{is_some}
 use Rattle.std.specs.Str.{bytes_eq}
@@ -23,7 +24,8 @@ abbrev pub first_bad : List WordKind → List (List ℕ) → ℕ → Option ℕ
 first_bad [] [] place = None
 first_bad [] (word ∷ words) place = Some place
 first_bad (kind ∷ kinds) [] place = Some place
-first_bad (kind ∷ kinds) (word ∷ words) place = if fits_word kind word then first_bad kinds words (place + 1) else Some place
+first_bad (kind ∷ kinds) (word ∷ words) place =
+    if fits_word kind word then first_bad kinds words (place + 1) else Some place
 
 -- the words behind `once`: CSV CELL TICK PERIOD
 abbrev pub once_words : List WordKind

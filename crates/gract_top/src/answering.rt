@@ -3,7 +3,8 @@ ghost use Rattle.std.specs.Io.KnownBytes.{Appends};
 ghost use Rattle.host_ports.specs.Faults.{Rose};
 ghost use Rattle.gract_top.specs.Lines.{lines_of, whole_lines};
 ghost use Rattle.gract_top.specs.Reply.{replies_of};
-ghost use Rattle.gract_top.specs.Session.{AnswersAll, AnswersFirst, AnswersFront, AnswersWhole, Heard, SaysFront, talk};
+ghost use Rattle.gract_top.specs.Session.{AnswersAll, AnswersFirst, AnswersFront, AnswersWhole};
+ghost use Rattle.gract_top.specs.Session.{Heard, SaysFront, talk};
 
 use crate::line_buffer::LineBuffer;
 use crate::reply::reply;
@@ -34,8 +35,13 @@ fn take_byte<K: Sink>(
     byte: u8,
     sink: &mut K,
 ) -> Result<(), Cut>
-    ensures ok { OnOk result ((before : Option (List ℕ)) (came : List ℕ) → Heard chart.now.rows before (K.said sink.old) came line.old → Heard chart.now.rows before (K.said sink.new) (came ++ byte ∷ []) line.new) }
-    ensures err { OnErr result ((before : Option (List ℕ)) (came : List ℕ) → Heard chart.now.rows before (K.said sink.old) came line.old → SaysFront before (K.said sink.new) (replies_of chart.now.rows (whole_lines (came ++ byte ∷ [])))) }
+    ensures ok { OnOk result ((before : Option (List ℕ)) (came : List ℕ) →
+        Heard chart.now.rows before (K.said sink.old) came line.old →
+        Heard chart.now.rows before (K.said sink.new) (came ++ byte ∷ []) line.new) }
+    ensures err { OnErr result ((before : Option (List ℕ)) (came : List ℕ) →
+        Heard chart.now.rows before (K.said sink.old) came line.old →
+        SaysFront before (K.said sink.new)
+        (replies_of chart.now.rows (whole_lines (came ++ byte ∷ [])))) }
     ensures cause { OnErr result (Rose (K.faults sink.old) (K.faults sink.new)) }
     ensures faults { K.faults sink.old ≤ K.faults sink.new }
 {
@@ -54,12 +60,26 @@ pub(crate) fn answer_lines<S: Source, K: Sink>(
     source: &mut S,
     sink: &mut K,
 ) -> Result<(), AnswerFault>
-    ensures ok { OnOk result (AnswersAll chart.now.rows (talk (S.rest source.old) (S.taken source.old) (K.said sink.old)) (talk (S.rest source.new) (S.taken source.new) (K.said sink.new))) }
-    ensures listen { result ≡ Err AnswerFault.Listen → AnswersWhole chart.now.rows (talk (S.rest source.old) (S.taken source.old) (K.said sink.old)) (talk (S.rest source.new) (S.taken source.new) (K.said sink.new)) }
-    ensures say { result ≡ Err AnswerFault.Say → AnswersFront chart.now.rows (talk (S.rest source.old) (S.taken source.old) (K.said sink.old)) (talk (S.rest source.new) (S.taken source.new) (K.said sink.new)) }
-    ensures long { result ≡ Err AnswerFault.TooLong → AnswersFirst chart.now.rows (talk (S.rest source.old) (S.taken source.old) (K.said sink.old)) (talk (S.rest source.new) (S.taken source.new) (K.said sink.new)) }
-    ensures listen_cause { result ≡ Err AnswerFault.Listen → Rose (S.faults source.old) (S.faults source.new) }
-    ensures say_cause { result ≡ Err AnswerFault.Say → Rose (K.faults sink.old) (K.faults sink.new) }
+    ensures ok { OnOk result (
+        let before = talk (S.rest source.old) (S.taken source.old) (K.said sink.old) in
+        let now = talk (S.rest source.new) (S.taken source.new) (K.said sink.new) in
+        AnswersAll chart.now.rows before now) }
+    ensures listen { result ≡ Err AnswerFault.Listen →
+        let before = talk (S.rest source.old) (S.taken source.old) (K.said sink.old) in
+        let now = talk (S.rest source.new) (S.taken source.new) (K.said sink.new) in
+        AnswersWhole chart.now.rows before now }
+    ensures say { result ≡ Err AnswerFault.Say →
+        let before = talk (S.rest source.old) (S.taken source.old) (K.said sink.old) in
+        let now = talk (S.rest source.new) (S.taken source.new) (K.said sink.new) in
+        AnswersFront chart.now.rows before now }
+    ensures long { result ≡ Err AnswerFault.TooLong →
+        let before = talk (S.rest source.old) (S.taken source.old) (K.said sink.old) in
+        let now = talk (S.rest source.new) (S.taken source.new) (K.said sink.new) in
+        AnswersFirst chart.now.rows before now }
+    ensures listen_cause { result ≡ Err AnswerFault.Listen →
+        Rose (S.faults source.old) (S.faults source.new) }
+    ensures say_cause { result ≡ Err AnswerFault.Say →
+        Rose (K.faults sink.old) (K.faults sink.new) }
     ensures listen_faults { S.faults source.old ≤ S.faults source.new }
     ensures say_faults { K.faults sink.old ≤ K.faults sink.new }
 {
@@ -89,8 +109,12 @@ pub(crate) fn answer_lines<S: Source, K: Sink>(
 
 // Answers a last line that no line feed ends.
 fn end_input<K: Sink>(line: &LineBuffer, chart: &Chart, sink: &mut K) -> Result<(), Cut>
-    ensures ok { OnOk result ((before : Option (List ℕ)) (came : List ℕ) → Heard chart.now.rows before (K.said sink.old) came line.now → Appends before (K.said sink.new) (replies_of chart.now.rows (lines_of came))) }
-    ensures err { OnErr result ((before : Option (List ℕ)) (came : List ℕ) → Heard chart.now.rows before (K.said sink.old) came line.now → SaysFront before (K.said sink.new) (replies_of chart.now.rows (lines_of came))) }
+    ensures ok { OnOk result ((before : Option (List ℕ)) (came : List ℕ) →
+        Heard chart.now.rows before (K.said sink.old) came line.now →
+        Appends before (K.said sink.new) (replies_of chart.now.rows (lines_of came))) }
+    ensures err { OnErr result ((before : Option (List ℕ)) (came : List ℕ) →
+        Heard chart.now.rows before (K.said sink.old) came line.now →
+        SaysFront before (K.said sink.new) (replies_of chart.now.rows (lines_of came))) }
     ensures cause { OnErr result (Rose (K.faults sink.old) (K.faults sink.new)) }
     ensures faults { K.faults sink.old ≤ K.faults sink.new }
 {
@@ -104,8 +128,13 @@ fn take_piece<K: Sink>(
     piece: &[u8],
     sink: &mut K,
 ) -> Result<(), Cut>
-    ensures ok { OnOk result ((before : Option (List ℕ)) (came : List ℕ) → Heard chart.now.rows before (K.said sink.old) came line.old → Heard chart.now.rows before (K.said sink.new) (came ++ piece.now) line.new) }
-    ensures err { OnErr result ((before : Option (List ℕ)) (came : List ℕ) → Heard chart.now.rows before (K.said sink.old) came line.old → SaysFront before (K.said sink.new) (replies_of chart.now.rows (whole_lines (came ++ piece.now)))) }
+    ensures ok { OnOk result ((before : Option (List ℕ)) (came : List ℕ) →
+        Heard chart.now.rows before (K.said sink.old) came line.old →
+        Heard chart.now.rows before (K.said sink.new) (came ++ piece.now) line.new) }
+    ensures err { OnErr result ((before : Option (List ℕ)) (came : List ℕ) →
+        Heard chart.now.rows before (K.said sink.old) came line.old →
+        SaysFront before (K.said sink.new)
+        (replies_of chart.now.rows (whole_lines (came ++ piece.now)))) }
     ensures cause { OnErr result (Rose (K.faults sink.old) (K.faults sink.new)) }
     ensures faults { K.faults sink.old ≤ K.faults sink.new }
 {

@@ -1,4 +1,5 @@
-ghost use Rattle.std.specs.Prelude.{◌≡◌, ℕ, ◌+◌, ◌^◌, ◌≤◌, ◌⊎◌, true, List, length, Err, Some, None, All, IfOk, IfErr, vec_len};
+ghost use Rattle.std.specs.Prelude.{◌≡◌, ℕ, ◌+◌, ◌^◌, ◌≤◌, ◌⊎◌, true, List, length, Err, Some};
+ghost use Rattle.std.specs.Prelude.{None, All, IfOk, IfErr, vec_len};
 ghost use Rattle.host_ports.specs.Faults.{Rose};
 ghost use Rattle.host_ports.specs.FileMap.{IsMissing};
 ghost use Rattle.track_types.specs.Limits.{IsPeriod, IsResolution, limit_of};
@@ -30,12 +31,18 @@ pub(crate) fn load_chart<F: Files>(
     requires cell { IsResolution settings.cell }
     requires tick { IsResolution settings.tick }
     requires period { IsPeriod settings.period }
-    ensures chart { IfOk result (λ chart. (bytes : List ℕ) → IsHeld (F.map files.old) csv.now bytes → (refusal_of bytes settings ≡ None) × (chart ≡ chart_of (raws_of bytes) settings.cell settings.tick settings.period)) }
+    ensures chart { IfOk result (λ chart. (bytes : List ℕ) →
+        IsHeld (F.map files.old) csv.now bytes → (refusal_of bytes settings ≡ None)
+        × (chart ≡ chart_of (raws_of bytes) settings.cell settings.tick settings.period)) }
     ensures loading { IfErr result (λ outcome. is_loading outcome ≡ true) }
-    ensures load_failed { result ≡ Err Outcome.LoadFailed → Rose (F.load_faults files.old) (F.load_faults files.new) ⊎ IsMissing (F.map files.old) csv.now }
+    ensures load_failed { result ≡ Err Outcome.LoadFailed →
+        Rose (F.load_faults files.old) (F.load_faults files.new)
+        ⊎ IsMissing (F.map files.old) csv.now }
     ensures missing { IsMissing (F.map files.old) csv.now → result ≡ Err Outcome.LoadFailed }
-    ensures refused { IfErr result (λ outcome. is_refusal outcome ≡ true → (bytes : List ℕ) → IsHeld (F.map files.old) csv.now bytes → refusal_of bytes settings ≡ Some outcome) }
-    ensures taken { (value : ℕ) → result ≡ Err (Outcome.Limit LimitKind.Csv value) → (value ≡ 2 ^ 29 + 1) × (F.taken files.new ≡ 2 ^ 29 + 1) }
+    ensures refused { IfErr result (λ outcome. is_refusal outcome ≡ true → (bytes : List ℕ) →
+        IsHeld (F.map files.old) csv.now bytes → refusal_of bytes settings ≡ Some outcome) }
+    ensures taken { (value : ℕ) → result ≡ Err (Outcome.Limit LimitKind.Csv value) →
+        (value ≡ 2 ^ 29 + 1) × (F.taken files.new ≡ 2 ^ 29 + 1) }
     ensures map { F.map files.new ≡ F.map files.old }
     ensures faults { F.load_faults files.old ≤ F.load_faults files.new }
 {
@@ -53,14 +60,20 @@ pub(crate) fn load_chart<F: Files>(
 
 // The raw rows of the CSV file of that name.
 fn load_rows<F: Files>(alloc: Global, csv: &str, files: &mut F) -> Result<Vec<RawRow>, Outcome>
-    ensures rows { IfOk result (λ rows. (bytes : List ℕ) → IsHeld (F.map files.old) csv.now bytes → (length bytes ≤ 2 ^ 29) × (csv_fault bytes ≡ None) × (rows.items ≡ raws_of bytes)) }
+    ensures rows { IfOk result (λ rows. (bytes : List ℕ) → IsHeld (F.map files.old) csv.now bytes →
+        (length bytes ≤ 2 ^ 29) × (csv_fault bytes ≡ None) × (rows.items ≡ raws_of bytes)) }
     ensures few { IfOk result (λ rows. vec_len rows ≤ limit_of LimitKind.Rows) }
     ensures ranges { IfOk result (λ rows. All IsRawInRange rows.items) }
     ensures loading { IfErr result (λ outcome. is_loading outcome ≡ true) }
-    ensures load_failed { result ≡ Err Outcome.LoadFailed → Rose (F.load_faults files.old) (F.load_faults files.new) ⊎ IsMissing (F.map files.old) csv.now }
+    ensures load_failed { result ≡ Err Outcome.LoadFailed →
+        Rose (F.load_faults files.old) (F.load_faults files.new)
+        ⊎ IsMissing (F.map files.old) csv.now }
     ensures missing { IsMissing (F.map files.old) csv.now → result ≡ Err Outcome.LoadFailed }
-    ensures refused { IfErr result (λ outcome. is_refusal outcome ≡ true → (bytes : List ℕ) → IsHeld (F.map files.old) csv.now bytes → (settings : Settings) → refusal_of bytes settings ≡ Some outcome) }
-    ensures taken { (value : ℕ) → result ≡ Err (Outcome.Limit LimitKind.Csv value) → (value ≡ 2 ^ 29 + 1) × (F.taken files.new ≡ 2 ^ 29 + 1) }
+    ensures refused { IfErr result (λ outcome. is_refusal outcome ≡ true → (bytes : List ℕ) →
+        IsHeld (F.map files.old) csv.now bytes → (settings : Settings) →
+        refusal_of bytes settings ≡ Some outcome) }
+    ensures taken { (value : ℕ) → result ≡ Err (Outcome.Limit LimitKind.Csv value) →
+        (value ≡ 2 ^ 29 + 1) × (F.taken files.new ≡ 2 ^ 29 + 1) }
     ensures map { F.map files.new ≡ F.map files.old }
     ensures faults { F.load_faults files.old ≤ F.load_faults files.new }
 {

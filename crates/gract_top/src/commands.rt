@@ -1,9 +1,11 @@
-ghost use Rattle.std.specs.Prelude.{◌≡◌, ℕ, ◌+◌, ◌^◌, ◌≤◌, ◌⊎◌, ◌↔◌, true, false, List, Some, All, IfOk, IfErr, vec_len};
+ghost use Rattle.std.specs.Prelude.{◌≡◌, ℕ, ◌+◌, ◌^◌, ◌≤◌, ◌⊎◌, ◌↔◌, true, false, List, Some, All};
+ghost use Rattle.std.specs.Prelude.{IfOk, IfErr, vec_len};
 ghost use Rattle.host_ports.specs.Faults.{Rose};
 ghost use Rattle.host_ports.specs.FileMap.{IsMissing};
 ghost use Rattle.track_types.specs.Limits.{IsPeriod, IsResolution};
 ghost use Rattle.gract_top.specs.Outcome.{Answered, Answers};
-ghost use Rattle.gract_top.specs.Refusal.{IsDecided, IsHeld, is_loading, is_refusal, is_unasked, refusal_of};
+ghost use Rattle.gract_top.specs.Refusal.{IsDecided, IsHeld, is_loading, is_refusal, is_unasked};
+ghost use Rattle.gract_top.specs.Refusal.{refusal_of};
 ghost use Rattle.gract_top.specs.Request.{IsForm, csv_name, request_of, settings_in, texts};
 ghost use Rattle.gract_top.specs.Session.{talk};
 
@@ -33,23 +35,37 @@ pub fn gract<F: Files, S: Source, K: Sink, L: Ledger>(
     sink: &mut K,
     _steps: &mut Steps<L>,
 ) -> Outcome
-    // The words have no form exactly where the outcome says so, with the place of the first bad one.
-    ensures words { (place : ℕ) → (result ≡ Outcome.Words place) ↔ (request_of (texts words.now) ≡ Request.Refused place) }
+    // The words have no form exactly where the outcome says so, with the first bad one's place.
+    ensures words { (place : ℕ) →
+        (result ≡ Outcome.Words place) ↔ (request_of (texts words.now) ≡ Request.Refused place) }
     ensures words_untouched { (place : ℕ) → result ≡ Outcome.Words place → files.new ≡ files.old }
 
-    // What was said is what the outcome tells, over the chart of the CSV file where its bytes are told.
-    ensures answered { Answers result (F.map files.old) (texts words.now) (talk (S.rest source.old) (S.taken source.old) (K.said sink.old)) (talk (S.rest source.new) (S.taken source.new) (K.said sink.new)) }
-    ensures listen_cause { result ≡ Outcome.ListenFailed → Rose (S.faults source.old) (S.faults source.new) }
-    ensures say_cause { result ≡ Outcome.SayFailed → Rose (K.faults sink.old) (K.faults sink.new) }
+    // What was said is what the outcome tells, over the CSV file's chart where its bytes are told.
+    ensures answered { let before = talk (S.rest source.old) (S.taken source.old) (K.said sink.old) in
+        let now = talk (S.rest source.new) (S.taken source.new) (K.said sink.new) in
+        Answers result (F.map files.old) (texts words.now) before now }
+    ensures listen_cause { result ≡ Outcome.ListenFailed →
+        Rose (S.faults source.old) (S.faults source.new) }
+    ensures say_cause { result ≡ Outcome.SayFailed →
+        Rose (K.faults sink.old) (K.faults sink.new) }
 
     // The file was not loaded: its device failed, or there is none.
-    ensures load_failed { result ≡ Outcome.LoadFailed → Rose (F.load_faults files.old) (F.load_faults files.new) ⊎ IsMissing (F.map files.old) (csv_name (texts words.now)) }
-    ensures missing { IsForm (texts words.now) → IsMissing (F.map files.old) (csv_name (texts words.now)) → result ≡ Outcome.LoadFailed }
+    ensures load_failed { result ≡ Outcome.LoadFailed →
+        Rose (F.load_faults files.old) (F.load_faults files.new)
+        ⊎ IsMissing (F.map files.old) (csv_name (texts words.now)) }
+    ensures missing { IsForm (texts words.now) →
+        IsMissing (F.map files.old) (csv_name (texts words.now)) → result ≡ Outcome.LoadFailed }
 
     // What the file's bytes decide is answered, and nothing else is answered for them.
-    ensures refused { is_refusal result ≡ true → (bytes : List ℕ) → IsHeld (F.map files.old) (csv_name (texts words.now)) bytes → refusal_of bytes (settings_in (texts words.now)) ≡ Some result }
-    ensures decided { IsForm (texts words.now) → (bytes : List ℕ) → IsHeld (F.map files.old) (csv_name (texts words.now)) bytes → (result ≡ Outcome.LoadFailed) ⊎ (result ≡ Outcome.Memory) ⊎ IsDecided (refusal_of bytes (settings_in (texts words.now))) result }
-    ensures csv_taken { (value : ℕ) → result ≡ Outcome.Limit LimitKind.Csv value → (value ≡ 2 ^ 29 + 1) × (F.taken files.new ≡ 2 ^ 29 + 1) }
+    ensures refused { is_refusal result ≡ true → (bytes : List ℕ) →
+        IsHeld (F.map files.old) (csv_name (texts words.now)) bytes →
+        refusal_of bytes (settings_in (texts words.now)) ≡ Some result }
+    ensures decided { IsForm (texts words.now) → (bytes : List ℕ) →
+        IsHeld (F.map files.old) (csv_name (texts words.now)) bytes →
+        (result ≡ Outcome.LoadFailed) ⊎ (result ≡ Outcome.Memory)
+        ⊎ IsDecided (refusal_of bytes (settings_in (texts words.now))) result }
+    ensures csv_taken { (value : ℕ) → result ≡ Outcome.Limit LimitKind.Csv value →
+        (value ≡ 2 ^ 29 + 1) × (F.taken files.new ≡ 2 ^ 29 + 1) }
 
     // Nothing was listened to or said before the first question.
     ensures unasked { is_unasked result ≡ true → (source.new ≡ source.old) × (sink.new ≡ sink.old) }
@@ -70,9 +86,13 @@ pub fn gract<F: Files, S: Source, K: Sink, L: Ledger>(
 // Answers the source's lines from a chart.
 fn answer<S: Source, K: Sink>(chart: &Chart, source: &mut S, sink: &mut K) -> Outcome
     ensures asked { is_unasked result ≡ false }
-    ensures answered { Answered result chart.now.rows (talk (S.rest source.old) (S.taken source.old) (K.said sink.old)) (talk (S.rest source.new) (S.taken source.new) (K.said sink.new)) }
-    ensures listen_cause { result ≡ Outcome.ListenFailed → Rose (S.faults source.old) (S.faults source.new) }
-    ensures say_cause { result ≡ Outcome.SayFailed → Rose (K.faults sink.old) (K.faults sink.new) }
+    ensures answered { let before = talk (S.rest source.old) (S.taken source.old) (K.said sink.old) in
+        let now = talk (S.rest source.new) (S.taken source.new) (K.said sink.new) in
+        Answered result chart.now.rows before now }
+    ensures listen_cause { result ≡ Outcome.ListenFailed →
+        Rose (S.faults source.old) (S.faults source.new) }
+    ensures say_cause { result ≡ Outcome.SayFailed →
+        Rose (K.faults sink.old) (K.faults sink.new) }
 {
     match answer_lines(chart, source, sink) {
         Ok(()) => Outcome::Done,

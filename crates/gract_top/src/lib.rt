@@ -1,9 +1,9 @@
 //! The whole program as one call: command words in, an outcome out.
 //!
 //! `gract` loads a CSV file, grids its rows, and says for each line of its source the reply that
-//! filtering the chart gives. Files, source and sink are handed in, so the call's contract can speak
-//! of all that came and was said. The crate stands on row_reader, gridding, host_ports, track_types
-//! and step_count.
+//! filtering the chart gives. Files, source and sink are handed in, so the call's contract can
+//! speak of all that came and was said. The crate stands on row_reader, gridding, host_ports,
+//! track_types and step_count.
 #![tactic(auto)]
 
 mod answering;

@@ -9,7 +9,7 @@ use std::marker::Model;
 
 /// A line of questions whose bytes are still coming, of any length in bounded room.
 ///
-/// Its front is kept, one byte more than a line may have, and of the rest only whether it has a word.
+/// Its front is kept, a byte more than a line may have, and of the rest only whether it has a word.
 #[derive(Drop)]
 pub(crate) struct LineBuffer {
     front: ArrayVec<u8, 1025>,
@@ -33,7 +33,8 @@ impl LineBuffer {
     }
 
     pub(crate) fn push(&mut self, byte: u8)
-        ensures { (line : List ℕ) → self.old ≡ kept_of line → self.new ≡ kept_of (line ++ byte ∷ []) }
+        ensures { (line : List ℕ) → self.old ≡ kept_of line →
+            self.new ≡ kept_of (line ++ byte ∷ []) }
     {
         // A full front stays as it is: the line is too long already.
         let _ = self.front.try_push(byte);

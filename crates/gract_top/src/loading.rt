@@ -30,7 +30,9 @@ pub(crate) fn load<F: Files>(
     requires { limit < 2 ^ 40 }
     ensures within { IfOk result (λ bytes. vec_len bytes ≤ limit) }
     ensures held { IfOk result (λ bytes. HoldsAs (F.map files.old) name.now bytes.items) }
-    ensures failed { result ≡ Err LoadFault.Failed → Rose (F.load_faults files.old) (F.load_faults files.new) ⊎ IsMissing (F.map files.old) name.now }
+    ensures failed { result ≡ Err LoadFault.Failed →
+        Rose (F.load_faults files.old) (F.load_faults files.new)
+        ⊎ IsMissing (F.map files.old) name.now }
     ensures missing { IsMissing (F.map files.old) name.now → result ≡ Err LoadFault.Failed }
     ensures taken { result ≡ Err LoadFault.TooLong → F.taken files.new ≡ limit + 1 }
     ensures long { result ≡ Err LoadFault.TooLong → HoldsLonger (F.map files.old) name.now limit }

@@ -1,5 +1,6 @@
 ghost use Rattle.std.specs.Prelude.{◌≡◌, ◌+◌, ◌≤◌, ◌++◌, length};
-ghost use Rattle.gract_top.specs.OutcomeText.{before_field, behind_field, limit_name, status_of, text_of};
+ghost use Rattle.gract_top.specs.OutcomeText.{before_field, behind_field, limit_name, status_of};
+ghost use Rattle.gract_top.specs.OutcomeText.{text_of};
 
 use crate::outcome::Outcome;
 use arrayvec::ArrayString;

@@ -59,7 +59,8 @@ fn read_position(line: &[u8]) -> Question
 }
 
 fn position(object: &[u8], instant: &[u8]) -> Question
-    ensures { result ≡ position_of (natural_within 0 (2 ^ 32 - 1) object.now) (whole_within (2 ^ 41) instant.now) }
+    ensures { result ≡ position_of (natural_within 0 (2 ^ 32 - 1) object.now)
+        (whole_within (2 ^ 41) instant.now) }
 {
     match (
         read_natural(object, 0, GREATEST_OBJECT),

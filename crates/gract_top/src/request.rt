@@ -1,5 +1,6 @@
 ghost use Rattle.std.specs.Prelude.{◌≡◌, ◌+◌, ◌^◌, ◌≤◌, true, length};
-ghost use Rattle.gract_top.specs.Request.{AreInRange, first_bad, fits_word, natural_value, once_of, request_of, texts};
+ghost use Rattle.gract_top.specs.Request.{AreInRange, first_bad, fits_word, natural_value, once_of};
+ghost use Rattle.gract_top.specs.Request.{request_of, texts};
 
 use crate::ranges::read_natural;
 
@@ -89,8 +90,8 @@ fn read_once(words: &[&str]) -> Request
     })
 }
 
-// The place of the first word that does not fit, is missing or is one too many; the first word stands
-// at `place`.
+// The place of the first word that does not fit, is missing or is one too many; the first word
+// stands at `place`.
 fn first_bad_place(kinds: &[WordKind], words: &[&str], place: u32) -> Option<u32>
     requires { place + length kinds.now ≤ 2 ^ 31 }
     ensures { result ≡ first_bad kinds.now (texts words.now) place }

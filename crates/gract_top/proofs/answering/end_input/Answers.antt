@@ -8,21 +8,29 @@ use Rattle.gract_top.proofs.SessionLemmas.{front-end, heard-end}
 use Rattle.gract_top.proofs.answering.end_input.Goals as goal
 
 pub returns-clause-ok : goal.returns-clause-ok
-returns-clause-ok g c = on_ok_weaker c.say_any.result
+returns-clause-ok g c =
+    let rows = c.args.chart.now.rows in
+    let between = g.K.Sink.said c.args.sink.now in
+    let now = g.K.Sink.said c.say_any.new.sink in
+    on_ok_weaker c.say_any.result
     (λ said before came heard.
     let text = c.as_bytes.ensures.value ∙ (c.deref.ensures.0 ∙ (c.reply.ensures
-    ∙ ap (question_reply c.args.chart.now.rows) (c.question.ensures (unended_line came) heard.kept))) in
-    heard-end c.args.chart.now.rows before (g.K.Sink.said c.args.sink.now) (g.K.Sink.said c.say_any.new.sink) came c.args.line.now
-    (subst (λ (reply : List ℕ). Appends (g.K.Sink.said c.args.sink.now) (g.K.Sink.said c.say_any.new.sink) reply) text said)
+    ∙ ap (question_reply rows) (c.question.ensures (unended_line came) heard.kept))) in
+    heard-end rows before between now came c.args.line.now
+    (subst (λ (reply : List ℕ). Appends between now reply) text said)
     heard)
     c.say_any.ensures.ok
 
 pub returns-clause-err : goal.returns-clause-err
-returns-clause-err g c = on_err_weaker c.say_any.result
+returns-clause-err g c =
+    let rows = c.args.chart.now.rows in
+    let between = g.K.Sink.said c.args.sink.now in
+    let now = g.K.Sink.said c.say_any.new.sink in
+    on_err_weaker c.say_any.result
     (λ cut before came heard.
     let text = c.as_bytes.ensures.value ∙ (c.deref.ensures.0 ∙ (c.reply.ensures
-    ∙ ap (question_reply c.args.chart.now.rows) (c.question.ensures (unended_line came) heard.kept))) in
-    front-end c.args.chart.now.rows before (g.K.Sink.said c.args.sink.now) (g.K.Sink.said c.say_any.new.sink) came c.args.line.now
-    (subst (λ (reply : List ℕ). SaysFront (g.K.Sink.said c.args.sink.now) (g.K.Sink.said c.say_any.new.sink) reply) text cut)
+    ∙ ap (question_reply rows) (c.question.ensures (unended_line came) heard.kept))) in
+    front-end rows before between now came c.args.line.now
+    (subst (λ (reply : List ℕ). SaysFront between now reply) text cut)
     heard)
     c.say_any.ensures.err

@@ -10,7 +10,9 @@ returns-in_err-take_byte-clause-err g c = on_err_always c.from_residual.result (
     let rows = c.args.chart.now.rows in
     let piece = c.args.piece.now in
     let i = c.loop-byte.byte-index in
-    let P : List ℕ → Type 0 = λ input. SaysFront before (g.K.Sink.said c.take_byte.new.sink) (replies_of rows (whole_lines input)) in
-    let cut = c.in_err-take_byte.ensures.err before (came ++ take i piece) (c.loop-byte.invariant.heard before came heard) in
+    let now = g.K.Sink.said c.take_byte.new.sink in
+    let front = came ++ take i piece in
+    let P : List ℕ → Type 0 = λ input. SaysFront before now (replies_of rows (whole_lines input)) in
+    let cut = c.in_err-take_byte.ensures.err before front (c.loop-byte.invariant.heard before came heard) in
     subst P (around_byte came piece i c.loop-byte-test.true)
-    (front-more rows before (g.K.Sink.said c.take_byte.new.sink) ((came ++ take i piece) ++ get_or piece i 0 ∷ []) (drop (i + 1) piece) cut))
+    (front-more rows before now (front ++ get_or piece i 0 ∷ []) (drop (i + 1) piece) cut))

@@ -7,6 +7,8 @@ pub returns : goal.returns
 returns c line is_kept =
     let front = ap (λ (kept : LineKept). kept.front) (c.self.view_is ∙ is_kept) in
     let words = ap (λ (kept : LineKept). kept.has_word) (c.self.view_is ∙ is_kept) in
-    let new_front = front-try_push (λ front. front.items) c.try_push.result line c.args.byte c.self.inside.front c.try_push.new.self front
+    let old = c.self.inside.front in
+    let new = c.try_push.new.self in
+    let new_front = front-try_push (λ front. front.items) c.try_push.result line c.args.byte old new front
     c.try_push.ensures.variant c.try_push.ensures.ok c.try_push.ensures.err in
     rw (new_front, list_any-push line c.args.byte, words, c.is_gap_byte.ensures) refl
