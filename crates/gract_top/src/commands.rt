@@ -1,8 +1,6 @@
-ghost use Rattle.std.specs.Prelude.{◌≡◌, ℕ, ◌+◌, ◌^◌, ◌≤◌, ◌⊎◌, ◌↔◌, true, false, List, Some, All};
-ghost use Rattle.std.specs.Prelude.{IfOk, IfErr, vec_len};
+ghost use Rattle.std.specs.Prelude.{◌≡◌, ℕ, ◌+◌, ◌^◌, ◌⊎◌, ◌↔◌, true, false, List, Some};
 ghost use Rattle.host_ports.specs.Faults.{Rose};
 ghost use Rattle.host_ports.specs.FileMap.{IsMissing};
-ghost use Rattle.track_types.specs.Limits.{IsPeriod, IsResolution};
 ghost use Rattle.gract_top.specs.Outcome.{Answered, Answers};
 ghost use Rattle.gract_top.specs.Refusal.{IsDecided, IsHeld, is_loading, is_refusal, is_unasked};
 ghost use Rattle.gract_top.specs.Refusal.{refusal_of};
@@ -33,7 +31,7 @@ pub fn gract<F: Files, S: Source, K: Sink, L: Ledger>(
     files: &mut F,
     source: &mut S,
     sink: &mut K,
-    _steps: &mut Steps<L>,
+    steps: &mut Steps<L>,
 ) -> Outcome
     // The words have no form exactly where the outcome says so, with the first bad one's place.
     ensures words { (place : ℕ) →
@@ -71,6 +69,8 @@ pub fn gract<F: Files, S: Source, K: Sink, L: Ledger>(
     ensures unasked { is_unasked result ≡ true → (source.new ≡ source.old) × (sink.new ≡ sink.old) }
     ensures map { F.map files.new ≡ F.map files.old }
 {
+    // Answers from a chart make no counted read.
+    let _ = steps;
     match read_request(words) {
         Request::Refused { place } => Outcome::Words { place },
         Request::Once(settings) => {

@@ -1,6 +1,6 @@
 -- Runs of rows in order: an object's rows stand together, and so do those of a block.
 use Rattle.std.proofs.Common.{◌≡◌, ℕ, suc, ◌+◌, ◌≤◌, ◌<◌, Bool, true, false, List, [], ◌∷◌, add-one, drop, drop-cons, get_or, length, map, Ordering, Option, Some, None, refl, ◌∙◌, ap, arith}
-use Rattle.std.specs.Prelude.{if◌then◌else◌, ◌==◌}
+use Rattle.std.specs.Prelude.{pos, if◌then◌else◌, ◌==◌}
 use Rattle.std.specs.List.{AllByRecursion, list_any}
 use Rattle.std.specs.List.Sorted.{IsStrictlySortedBy}
 use Rattle.std.specs.Ordering.{MatchOrdering, nat_cmp, ordering_then}
@@ -11,6 +11,10 @@ use Rattle.track_types.specs.Quantities.{distinct, object_count}
 use Rattle.track_types.specs.Row.{IsAscending, row_order}
 use Rattle.track_types.specs.declared.row.Row.{Row}
 use Rattle.gridding.specs.Block.{is_object_of}
+
+-- what an index past the end reads
+abbrev pub no_row : Row
+no_row = record { object = 0; instant = pos 0; cell = record { x = pos 0; y = pos 0 } }
 
 -- how often rows go on to another object
 pub object_runs : Option ℕ → List Row → ℕ

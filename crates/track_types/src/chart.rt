@@ -5,10 +5,13 @@ ghost use Rattle.track_types.specs.Quantities.{first_of, last_of};
 use crate::row::Row;
 use std::marker::Model;
 
-/// The table of gridded rows, ascending by object, then instant, with at most one row for each pair.
+/// A chart: the table of gridded rows, ascending by object, then instant, with at most one row for each
+/// pair. An object is absent at an instant for which it has no row.
 ///
-/// An object is absent at an instant for which it has no row.
-#[derive(Drop)]
+/// It has 1 to 2^24 rows, whose instants and coordinates lie within 2^40 of 0; at most 2^16 objects,
+/// 2^22 instants from the first to the last, `MAX_EXTENT` cells from the least to the greatest of each
+/// axis, 2^24 blocks (objects times periods), and 2^25 terminals in the logs of all blocks.
+#[derive(Debug, Drop)]
 pub struct Chart {
     rows: Vec<Row>,
     first: i64,
@@ -29,8 +32,9 @@ impl Model for Chart {
 }
 
 impl Chart {
-    /// The chart of these rows. `cell` is how many units a cell is wide, `tick` how many units of time
-    /// an instant lasts, and `period` how many instants lie between two snapshots.
+    /// The chart of these rows, of which all that a chart keeps is asked. `cell` is how many units a
+    /// cell is wide, `tick` how many units of time an instant lasts (1 to 2^30 each), and `period` how
+    /// many instants lie between two snapshots (1 to 2^22).
     pub fn new(rows: Vec<Row>, cell: u64, tick: u64, period: u32) -> Self
         requires { IsChart (chart_with rows.items cell tick period) }
         ensures { result ≡ chart_with rows.items cell tick period }

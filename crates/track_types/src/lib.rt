@@ -1,8 +1,9 @@
-//! The plain values that all crates of gract speak of: cells, rows, charts and their limits, lists
-//! that contracts see as lists, and whole numbers in text.
+//! The plain values that all crates of gract speak of: cells, regions, rows, charts and their
+//! limits, lists that contracts see as lists, walks that find their items one by one, and whole
+//! numbers in text.
 //!
 //! `number` is exact: a word is no numeral, or one that is too large, or its value. A `Chart` keeps
-//! in its type all that holds of gridded rows. The crate stands on std alone.
+//! in its type all that holds of gridded rows. The crate stands on step_count.
 #![tactic(auto)]
 
 mod cell;

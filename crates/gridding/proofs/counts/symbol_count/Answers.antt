@@ -3,13 +3,10 @@ use Rattle.std.proofs.lemmas.Int.{to_z-of_z}
 use Rattle.std.proofs.lemmas.List.{drop_all}
 use Rattle.track_types.specs.declared.row.Row.{Row}
 use Rattle.gridding.specs.Block.{block_of, is_block_of}
+use Rattle.gridding.proofs.RunLemmas.{no_row}
 use Rattle.gridding.proofs.SymbolLemmas.{terminals-ascending, terminals-drop, terminals-nil}
 use Rattle.gridding.proofs.counts.symbol_count.Goals as goal
 use Rattle.gridding.proofs.counts.symbol_count.Goals.{then-not-is_block_of, else-not-is_block_of}
-
--- what an index past the end reads
-abbrev no_row : Row
-no_row = record { object = 0; instant = pos 0; cell = record { x = pos 0; y = pos 0 } }
 
 pub loop-row-preserved : goal.loop-row-preserved
 loop-row-preserved c =

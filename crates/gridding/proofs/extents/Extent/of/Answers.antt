@@ -7,13 +7,10 @@ use Rattle.std.proofs.lemmas.List.Sums.{fold_more}
 use Rattle.track_types.specs.Near.{IsNear}
 use Rattle.track_types.specs.declared.row.Row.{Row}
 use Rattle.track_types.proofs.QuantityLemmas.{least-from_first, greatest-from_first}
+use Rattle.gridding.proofs.RunLemmas.{no_row}
 use Rattle.gridding.proofs.ExtentLemmas.{IsNear-int_max, IsNear-int_min}
 use Rattle.gridding.specs.Axis.{coordinate}
 use Rattle.gridding.proofs.extents.Extent.of.Goals as goal
-
--- what an index past the end reads
-abbrev no_row : Row
-no_row = record { object = 0; instant = pos 0; cell = record { x = pos 0; y = pos 0 } }
 
 pub loop-row-preserved : goal.loop-row-preserved
 loop-row-preserved c =
