@@ -39,9 +39,9 @@ pub fn gract<F: Files, S: Source, K: Sink, L: Ledger>(
     ensures words_untouched { (place : ℕ) → result ≡ Outcome.Words place → files.new ≡ files.old }
 
     // What was said is what the outcome tells, over the CSV file's chart where its bytes are told.
-    ensures answered { let before = talk (S.rest source.old) (S.taken source.old) (K.said sink.old) in
-        let now = talk (S.rest source.new) (S.taken source.new) (K.said sink.new) in
-        Answers result (F.map files.old) (texts words.now) before now }
+    ensures answered { Answers result (F.map files.old) (texts words.now)
+        (talk (S.rest source.old) (S.taken source.old) (K.said sink.old))
+        (talk (S.rest source.new) (S.taken source.new) (K.said sink.new)) }
     ensures listen_cause { result ≡ Outcome.ListenFailed →
         Rose (S.faults source.old) (S.faults source.new) }
     ensures say_cause { result ≡ Outcome.SayFailed →
@@ -86,9 +86,9 @@ pub fn gract<F: Files, S: Source, K: Sink, L: Ledger>(
 // Answers the source's lines from a chart.
 fn answer<S: Source, K: Sink>(chart: &Chart, source: &mut S, sink: &mut K) -> Outcome
     ensures asked { is_unasked result ≡ false }
-    ensures answered { let before = talk (S.rest source.old) (S.taken source.old) (K.said sink.old) in
-        let now = talk (S.rest source.new) (S.taken source.new) (K.said sink.new) in
-        Answered result chart.now.rows before now }
+    ensures answered { Answered result chart.now.rows
+        (talk (S.rest source.old) (S.taken source.old) (K.said sink.old))
+        (talk (S.rest source.new) (S.taken source.new) (K.said sink.new)) }
     ensures listen_cause { result ≡ Outcome.ListenFailed →
         Rose (S.faults source.old) (S.faults source.new) }
     ensures say_cause { result ≡ Outcome.SayFailed →

@@ -28,7 +28,8 @@ pub trait Files {
     /// It fails where the device does, or where there is no such file, and then nothing is left to come.
     fn begin(&mut self, name: &str) -> Result<(), Failed>
         ensures opened { OnOk result (IsOpened (map self.old) name.now (rest self.new)) }
-        ensures cause { OnErr result (Rose (load_faults self.old) (load_faults self.new) ⊎ IsMissing (map self.old) name.now) }
+        ensures cause { OnErr result
+            (Rose (load_faults self.old) (load_faults self.new) ⊎ IsMissing (map self.old) name.now) }
         ensures err { OnErr result (IsAtEnd (rest self.new)) }
         ensures fresh { taken self.new ≡ 0 }
         ensures map { map self.new ≡ map self.old }

@@ -18,7 +18,8 @@ pub trait Sink {
     fn say(&mut self, piece: &[u8]) -> Result<(), Cut>
         ensures said { OnOk result (Appends (said self.old) (said self.new) piece.now) }
         ensures within { IfErr result (λ cut. cut.sent ≤ length piece.now) }
-        ensures cut { IfErr result (λ cut. Appends (said self.old) (said self.new) (take cut.sent piece.now)) }
+        ensures cut { IfErr result (λ cut.
+            Appends (said self.old) (said self.new) (take cut.sent piece.now)) }
         ensures cause { OnErr result (Rose (faults self.old) (faults self.new)) }
         ensures faults { faults self.old ≤ faults self.new };
 }

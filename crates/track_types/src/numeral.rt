@@ -96,7 +96,8 @@ fn is_digit_byte(byte: u8) -> bool
 // What the digits mean, or none where that is above `GREATEST`.
 fn magnitude(digits: &[u8]) -> Option<i64>
     requires { list_all is_digit digits.now ≡ true }
-    ensures within { IfSome result (λ value. (value ≡ pos (magnitude_of digits.now)) × (magnitude_of digits.now ≤ 2 ^ 62)) }
+    ensures within { IfSome result (λ value.
+        (value ≡ pos (magnitude_of digits.now)) × (magnitude_of digits.now ≤ 2 ^ 62)) }
     ensures large { IfNone result (2 ^ 62 < magnitude_of digits.now) }
 {
     let mut value: u128 = 0;
