@@ -1,5 +1,5 @@
 -- What words are as whole numbers, run on words at the edges.
-use Rattle.std.proofs.Common.{◌≡◌, ℕ, List, [], pos, negsuc, codes, refl}
+use Rattle.std.proofs.Common.{◌≡◌, [], pos, negsuc, codes, refl}
 use Rattle.track_types.specs.Numeral.{numeral_of}
 use Rattle.track_types.specs.declared.numeral.Numeral.TheVariants.{Value, Large, Not}
 

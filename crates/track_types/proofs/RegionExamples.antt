@@ -1,10 +1,9 @@
 -- Regions, run on cells and boxes that were worked out by hand.
-use Rattle.std.proofs.Common.{◌≡◌, ℕ, ℤ, pos, negsuc, Bool, true, false, List, [], ◌∷◌, map, refl, ◌≤ℤ◌}
+use Rattle.std.proofs.Common.{◌≡◌, ℤ, pos, negsuc, true, false, [], ◌∷◌, map, refl}
 use Rattle.std.specs.Int.Signed.{le_z_yes}
 use Rattle.track_types.specs.Region.{in_region, squared_distance, touches_region}
 use Rattle.track_types.specs.declared.cell.Cell.{Cell}
 use Rattle.track_types.specs.declared.cell_box.CellBox.{CellBox}
-use Rattle.track_types.specs.declared.region.Region.{Region}
 use Rattle.track_types.specs.declared.region.Region.TheVariants.{Rect, Disc}
 
 abbrev at : ℤ → ℤ → Cell

@@ -1,13 +1,11 @@
 -- Boxes that a region touches: the cell of the box that is nearest to the region's anchor decides.
-use Rattle.std.proofs.Common.{◌≡◌, ◌↔◌, ℕ, ◌+◌, ◌*◌, ◌≤◌, ℤ, pos, Bool, true, false, IsTrue, refl, sym, ◌∙◌, ap, arith, ◌≤ℤ◌, ◌-ℤ◌}
-use Rattle.std.specs.Prelude.{◌&&◌, nat_le, unsigned_abs}
+use Rattle.std.proofs.Common.{◌≡◌, ◌↔◌, ◌+◌, ◌*◌, ◌≤◌, ℤ, Bool, true, IsTrue, refl, arith, ◌≤ℤ◌, ◌-ℤ◌}
+use Rattle.std.specs.Prelude.{◌&&◌, unsigned_abs}
 use Rattle.std.specs.Int.{int_max, int_min}
-use Rattle.std.specs.Int.Signed.{le_z}
 use Rattle.std.proofs.Math.Nat.{mul-le-mul}
 use Rattle.std.proofs.lemmas.Bool.{and_parts, le-leb, leb-true}
-use Rattle.std.proofs.lemmas.Bool.Decides.{nat_tests}
 use Rattle.std.proofs.lemmas.Int.{clamps, ints}
-use Rattle.track_types.specs.Region.{Touches, InRegion, anchor_of, in_box, in_region, is_between, nearest_cell, squared_distance, squared_gap, touches_region}
+use Rattle.track_types.specs.Region.{Touches, anchor_of, in_box, in_region, is_between, nearest_cell, squared_gap, touches_region}
 use Rattle.track_types.specs.declared.cell.Cell.{Cell}
 use Rattle.track_types.specs.declared.cell_box.CellBox.{CellBox}
 use Rattle.track_types.specs.declared.region.Region.{Region}

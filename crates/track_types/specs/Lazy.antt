@@ -17,11 +17,11 @@ module _ {W L : Type 0} where
   abbrev pub drawn_lenders : Drawn W L → GName × GName
   drawn_lenders items = (items.walk.ghost_name, items.steps.ghost_name)
 
-  module _ {A : Type 0} (left : W → List A) (budget : W → ℕ) where
-    -- the items that are still to come, where `left` is the walk's list
-    abbrev pub drawn_left : Drawn W L → List A
-    drawn_left items = left (drawn_walk items)
+  -- the items that are still to come, where `left` is the walk's list
+  abbrev pub drawn_left : {A : Type 0} → (W → List A) → Drawn W L → List A
+  drawn_left left items = left (drawn_walk items)
 
+  module _ {A : Type 0} (left : W → List A) (budget : W → ℕ) where
     -- from old to new the reads are taken from the walk's budget, and the walk and the counter are the same ones
     pub record DrawsWithin (old new : Drawn W L) : Type 0 where
       pub cost : drawn_steps new + budget (drawn_walk new) ≤ drawn_steps old + budget (drawn_walk old)
@@ -29,7 +29,7 @@ module _ {W L : Type 0} where
 
     -- a call of `next` gave the first of the items that are left, or none is left
     abbrev pub DrawsFirst : Drawn W L → Option A → Drawn W L → Type 0
-    DrawsFirst old item new = YieldsFirst drawn_left old item new × DrawsWithin old new
+    DrawsFirst old item new = YieldsFirst (drawn_left left) old item new × DrawsWithin old new
 
     -- all calls of `next` together take their reads from the budget
     abbrev pub DrawsAlong : Drawn W L → Type 0

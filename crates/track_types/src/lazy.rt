@@ -1,4 +1,4 @@
-ghost use Rattle.std.specs.Prelude.{◌≡◌, ◌++◌, ◌+◌, ◌≤◌, ℕ, List, [], MatchOption, option_to_list};
+ghost use Rattle.std.specs.Prelude.{◌≡◌, ◌++◌, ◌+◌, ◌≤◌, ℕ, List, [], IfNone, option_to_list};
 ghost use Rattle.std.specs.Iterator.Runs.{YieldsInOrder};
 ghost use Rattle.track_types.specs.Lazy.{DrawsAlong, DrawsFirst, drawn_left, drawn_lenders, drawn_steps, drawn_walk};
 
@@ -26,7 +26,7 @@ pub trait Lazy {
     /// then it stays empty. What is read is taken from the budget. It takes no memory.
     fn draw<L: Ledger>(&mut self, steps: &mut Steps<L>) -> Option<Self::Item>
         ensures found { left self.old ≡ option_to_list result ++ left self.new }
-        ensures none { MatchOption result (left self.old ≡ []) (λ _. Unit {0}) }
+        ensures none { IfNone result (left self.old ≡ []) }
         ensures cost { steps.new + budget self.new ≤ steps.old + budget self.old };
 }
 
@@ -36,7 +36,7 @@ pub fn drawn<'a, W: Lazy, L: Ledger>(walk: &'a mut W, steps: &'a mut Steps<L>) -
     ensures walk { drawn_walk result ≡ walk.old }
     ensures steps { drawn_steps result ≡ steps.old }
     ensures lenders { drawn_lenders result ≡ (walk.entry.ghost_name, steps.entry.ghost_name) }
-    ensures exact { YieldsInOrder (DrawsFirst {W = W} {L = L} W.left W.budget) (drawn_left W.left W.budget) }
+    ensures exact { YieldsInOrder (DrawsFirst {W = W} {L = L} W.left W.budget) (drawn_left W.left) }
     ensures cost { DrawsAlong W.left W.budget result }
 {
     Drawn::new(walk, steps)

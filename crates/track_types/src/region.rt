@@ -1,5 +1,5 @@
-ghost use Rattle.std.specs.Prelude.{◌≡◌, ◌↔◌, ◌*◌, ◌<◌, ◌≤◌, ◌^◌, IsTrue, ℤ, ◌≤ℤ◌};
-ghost use Rattle.track_types.specs.Near.{IsBoxWithin, IsCellWithin, IsWithin};
+ghost use Rattle.std.specs.Prelude.{◌≡◌, ◌↔◌, ◌*◌, ◌≤◌, ◌^◌, IsTrue};
+ghost use Rattle.track_types.specs.Near.{IsBoxWithin, IsCellWithin};
 ghost use Rattle.track_types.specs.Region.{IsRegionWithin, Touches, anchor_of, in_region, is_between, nearest_cell, squared_distance, touches_region};
 
 use crate::cell::Cell;
@@ -28,7 +28,7 @@ impl Region {
     {
         match *self {
             Region::Rect { x1, y1, x2, y2 } => {
-                is_within(x1, x2, cell.x) && is_within(y1, y2, cell.y)
+                is_between(x1, x2, cell.x) && is_between(y1, y2, cell.y)
             }
             Region::Disc { x, y, r } => dist2(Cell { x, y }, cell) <= square(r),
         }
@@ -77,7 +77,7 @@ fn square(length: u64) -> u128
     u128::from(length) * u128::from(length)
 }
 
-fn is_within(low: i64, high: i64, value: i64) -> bool
+fn is_between(low: i64, high: i64, value: i64) -> bool
     ensures { result ≡ is_between low high value }
 {
     low <= value && value <= high

@@ -30,7 +30,7 @@ impl<'a, W: Lazy, L: Ledger> Iterator for Drawn<'a, W, L> {
 
     ghost next_gives = { DrawsFirst W.left W.budget };
 
-    ghost remaining = { item_count (drawn_left W.left W.budget) };
+    ghost remaining = { item_count (drawn_left W.left) };
 
     fn next(&mut self) -> Option<W::Item> {
         self.walk.draw(self.steps)

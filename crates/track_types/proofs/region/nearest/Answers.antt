@@ -1,7 +1,6 @@
-use Rattle.std.proofs.Common.{rules, ◌≡◌, refl, w64}
+use Rattle.std.proofs.Common.{rules, refl, w64}
 use Rattle.std.specs.Prelude.{FitsSigned}
 use Rattle.std.proofs.lemmas.Int.{to_z-of_z}
-use Rattle.track_types.specs.Region.{nearest_cell}
 use Rattle.track_types.proofs.region.nearest.Goals as goal
 
 pub returns-clause-value : goal.returns-clause-value
