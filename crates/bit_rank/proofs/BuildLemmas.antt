@@ -4,11 +4,12 @@ use Rattle.std.specs.List.{range_with_len}
 use Rattle.std.specs.Int.RustNames.{count_ones}
 use Rattle.std.proofs.lemmas.List.FromFn.{map-range_with_len_more}
 use Rattle.bit_rank.specs.Bits.{rank_of}
-use Rattle.bit_rank.specs.Words.{bits_of, IsPacked}
+use Rattle.packed_bits.specs.Words.{bits_of, IsPacked}
 use Rattle.bit_rank.specs.Directory.{directory_of}
-use Rattle.bit_rank.proofs.RankLemmas.{ones_of-le-length, rank_of-le-ones_of, rank_of-all}
+use Rattle.bit_rank.proofs.RankLemmas.{rank_of-le-ones_of, rank_of-all}
+use Rattle.packed_bits.proofs.OnesLemmas.{ones_of-le-length}
 use Rattle.bit_rank.proofs.QueryLemmas.{rank_of-word}
-use Rattle.bit_rank.proofs.WordLemmas.{length-take-bits_of, window_of-packed}
+use Rattle.packed_bits.proofs.WordLemmas.{length-take-bits_of, window_of-packed}
 
 -- the first n entries of a directory
 abbrev pub entries : List Bool → ℕ → List ℕ

@@ -1,9 +1,10 @@
 -- What the stored words and directory entries are, place by place.
 use Rattle.std.proofs.Common.{◌≡◌, ℕ, ◌+◌, ◌*◌, ◌/◌, ◌<◌, Bool, List, length, get_or, ap, ◌∙◌, arith}
 use Rattle.std.proofs.lemmas.List.FromFn.{length-map-range_with_len, get_or-map-range_with_len}
-use Rattle.bit_rank.specs.Bits.{rank_of, window_of}
+use Rattle.bit_rank.specs.Bits.{rank_of}
+use Rattle.packed_bits.specs.Bits.{window_of}
 use Rattle.bit_rank.specs.Directory.{directory_of, IsIndexed}
-use Rattle.bit_rank.proofs.WordLemmas.{length-packed, get_or-packed}
+use Rattle.packed_bits.proofs.WordLemmas.{length-packed, get_or-packed}
 
 -- an entry for each superblock, and one at the end
 pub length-directory_of : (bits : List Bool) → length (directory_of bits) ≡ (length bits + 511) / 512 + 1

@@ -1,7 +1,7 @@
 -- Laws of bits, for callers too.
 pub mod RankLemmas
 pub mod NumberLemmas
-pub mod WordLemmas
+pub use Rattle.packed_bits.proofs.WordLemmas
 mod DirectoryLemmas
 mod QueryLemmas
 mod BuildLemmas

@@ -2,19 +2,14 @@
 use Rattle.std.proofs.Common.{◌≡◌, ℕ, ◌+◌, ◌-◌, ◌*◌, ◌/◌, ◌%◌, ◌^◌, ◌<◌, ◌≤◌, Bool, ◌==◌, Some, List, length, slice_get, zero, suc, sym, ap, ◌∙◌, arith}
 use Rattle.std.proofs.Math.Nat.{pow-suc}
 use Rattle.std.specs.Int.RustNames.{count_ones}
-use Rattle.bit_rank.specs.Bits.{rank_of, window_of}
-use Rattle.bit_rank.proofs.NumberLemmas.{window_of-inside, window_of-past, window_of-narrow, window_of-cat, window_of-bit, rank_of-add}
+use Rattle.bit_rank.specs.Bits.{rank_of}
+use Rattle.packed_bits.specs.Bits.{window_of}
+use Rattle.bit_rank.proofs.NumberLemmas.{rank_of-add}
+use Rattle.packed_bits.proofs.NumberLemmas.{window_of-cat, window_of-inside, window_of-narrow, window_of-past}
 
 -- a place is in its word
 place : (p : ℕ) → 64 * (p / 64) + p % 64 ≡ p
 place p = omega arith
-
--- a bit is that of its word
-pub slice_get-word : (bits : List Bool) (p : ℕ) → p < length bits
-    → slice_get bits p ≡ Some (window_of bits (64 * (p / 64)) 64 / 2 ^ (p % 64) % 2 == 1)
-slice_get-word bits p within =
-    let inside = window_of-inside bits (64 * (p / 64)) (p % 64) 1 64 (omega arith) in
-    window_of-bit bits p within ∙ ap (λ v. Some (v == 1)) (ap (λ q. window_of bits q 1) (sym (place p)) ∙ inside)
 
 -- a window that ends inside its first word
 pub window_of-word : (bits : List Bool) (p n : ℕ) → n ≤ 64 - p % 64

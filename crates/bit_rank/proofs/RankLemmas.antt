@@ -1,31 +1,13 @@
--- The ones of bits: how many, and where.
+-- The ones of bits: how many before a place, and where.
 use Rattle.std.proofs.Common.{◌≡◌, ℕ, zero, suc, ◌+◌, ◌-◌, ◌<◌, ◌≤◌, Bool, true, false, cond, Some, List, [], ◌∷◌, ◌++◌, length, take, get_or, refl, sym, ap, ◌∙◌, inl, inr, arith, length-take, le-leb, None}
 use Rattle.std.proofs.lemmas.List.{take_all, take-take, take-append-le}
 use Rattle.std.proofs.lemmas.List.Sums.{sum_by-append, sum_by-cons, sum_by-take-le, sum_by_more, count_by-le-length}
 use Rattle.std.proofs.lemmas.Bool.{cases_lt, lt-leb}
 use Rattle.std.proofs.lemmas.Option.{slice_get-get_or}
 use Rattle.std.proofs.Math.Seq.{take-append-add}
-use Rattle.bit_rank.specs.Bits.{ones_of, rank_of, select_of, IsSelected}
-
--- joined bits have the ones of both
-pub ones_of-append : (xs ys : List Bool) → ones_of (xs ++ ys) ≡ ones_of xs + ones_of ys
-unfolding ones_of
-ones_of-append xs ys = sum_by-append (λ bit. cond bit 1 0) xs ys
-
--- no bits have no ones
-pub ones_of-nil : ones_of [] ≡ 0
-unfolding ones_of
-ones_of-nil = refl
-
--- the first bit counts as one or nothing
-pub ones_of-cons : (bit : Bool) (bits : List Bool) → ones_of (bit ∷ bits) ≡ cond bit 1 0 + ones_of bits
-unfolding ones_of
-ones_of-cons bit bits = sum_by-cons (λ b. cond b 1 0) bit bits
-
--- there are at most as many ones as bits
-pub ones_of-le-length : (bits : List Bool) → ones_of bits ≤ length bits
-unfolding ones_of
-ones_of-le-length bits = count_by-le-length (λ bit. bit) bits
+use Rattle.bit_rank.specs.Bits.{rank_of, select_of, IsSelected}
+use Rattle.packed_bits.specs.Bits.{ones_of}
+pub use Rattle.packed_bits.proofs.OnesLemmas.{ones_of-append, ones_of-nil, ones_of-cons, ones_of-le-length}
 
 -- before the first place stands nothing
 pub rank_of-zero : (bits : List Bool) → rank_of bits 0 ≡ 0

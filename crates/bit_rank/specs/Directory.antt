@@ -1,7 +1,8 @@
 -- The directory of a bit vector: one count for each superblock of 512 bits.
 use Rattle.std.specs.Prelude.{◌≡◌, ℕ, ◌+◌, ◌*◌, ◌/◌, ◌^◌, ◌<◌, Bool, List, length, map}
 use Rattle.std.specs.List.{range_with_len}
-use Rattle.bit_rank.specs.Bits.{ones_of, rank_of, packed}
+use Rattle.bit_rank.specs.Bits.{rank_of}
+use Rattle.packed_bits.specs.Bits.{ones_of, packed}
 
 -- the ones before each superblock, and last the ones of all
 unfoldable pub directory_of : List Bool → List ℕ

@@ -1,4 +1,4 @@
 -- In reading order.
 pub mod Bits
-pub mod Words
+pub use Rattle.packed_bits.specs.Words
 pub mod Directory

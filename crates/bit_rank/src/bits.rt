@@ -1,6 +1,7 @@
 ghost use Rattle.std.specs.Prelude.{◌≡◌, ℕ, ◌+◌, ◌*◌, ◌^◌, ◌<◌, ◌≤◌, Some, IfOk, length, take, slice_get};
-ghost use Rattle.bit_rank.specs.Bits.{ones_of, rank_of, select_of, window_of, packed, IsSelected};
-ghost use Rattle.bit_rank.specs.Words.{bits_of, IsPacked};
+ghost use Rattle.bit_rank.specs.Bits.{rank_of, select_of, IsSelected};
+ghost use Rattle.packed_bits.specs.Bits.{ones_of, window_of, packed};
+ghost use Rattle.packed_bits.specs.Words.{bits_of, IsPacked};
 
 use crate::directory::count_ones_before;
 use crate::no_room::NoRoom;
@@ -25,7 +26,7 @@ pub struct Bits {
 
 impl Model for Bits {
     ghost use Rattle.std.specs.Prelude.{List, Bool, take};
-    ghost use Rattle.bit_rank.specs.Words.{bits_of};
+    ghost use Rattle.packed_bits.specs.Words.{bits_of};
     ghost use Rattle.bit_rank.specs.Directory.{IsIndexed};
 
     ghost Value = { List Bool };

@@ -1,5 +1,5 @@
 ghost use Rattle.std.specs.Prelude.{IfOk, take};
-ghost use Rattle.bit_rank.specs.Words.{bits_of, IsPacked};
+ghost use Rattle.packed_bits.specs.Words.{bits_of, IsPacked};
 ghost use Rattle.bit_rank.specs.Directory.{IsIndexed};
 
 use std::alloc::{AllocError, Global};

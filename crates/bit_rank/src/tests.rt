@@ -1,5 +1,5 @@
 ghost use Rattle.std.specs.Prelude.{◌≡◌, ◌<◌};
-ghost use Rattle.bit_rank.specs.Words.{IsPacked};
+ghost use Rattle.packed_bits.specs.Words.{IsPacked};
 
 use super::{Bits, Steps};
 use std::alloc::Global;

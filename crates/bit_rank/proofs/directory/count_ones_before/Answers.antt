@@ -1,7 +1,7 @@
 use Rattle.std.proofs.Common.{◌≡◌, ℕ, Vec, Global, ◌+◌, ◌*◌, ◌/◌, ◌++◌, [], ◌∷◌, length, take, sym, ap, ◌∙◌, arith}
-use Rattle.bit_rank.specs.Words.{bits_of}
+use Rattle.packed_bits.specs.Words.{bits_of}
 use Rattle.bit_rank.proofs.RankLemmas.{rank_of-zero, rank_of-all}
-use Rattle.bit_rank.proofs.WordLemmas.{length-take-bits_of, packed-bits_of}
+use Rattle.packed_bits.proofs.WordLemmas.{length-take-bits_of, packed-bits_of}
 use Rattle.bit_rank.proofs.BuildLemmas.{entries, entries-first, entries-other, entries-last, rank_of-next, rank_of-le-len}
 use Rattle.bit_rank.proofs.directory.count_ones_before.Goals as goal
 use Rattle.bit_rank.proofs.directory.count_ones_before.Goals.{then-i-eq0+in_ok-push, else-i-eq0}

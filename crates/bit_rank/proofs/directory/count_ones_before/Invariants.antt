@@ -1,6 +1,6 @@
 use Rattle.std.proofs.Common.{◌≡◌, ◌+◌, ◌*◌, ◌/◌, take}
 use Rattle.bit_rank.specs.Bits.{rank_of}
-use Rattle.bit_rank.specs.Words.{bits_of}
+use Rattle.packed_bits.specs.Words.{bits_of}
 use Rattle.bit_rank.proofs.BuildLemmas.{entries}
 use Rattle.bit_rank.proofs.directory.count_ones_before.Given as goal
 

@@ -1,6 +1,6 @@
 use Rattle.std.proofs.Common.{[], refl}
-use Rattle.bit_rank.specs.Bits.{ones_of}
-use Rattle.bit_rank.specs.Words.{bits_of, IsPacked}
+use Rattle.packed_bits.specs.Bits.{ones_of}
+use Rattle.packed_bits.specs.Words.{bits_of, IsPacked}
 use Rattle.bit_rank.proofs.tests.no_bits_have_no_ones.Goals as goal
 
 pub from_words-requires : goal.from_words-requires

@@ -1,6 +1,6 @@
 use Rattle.std.proofs.Common.{refl}
-use Rattle.bit_rank.specs.Bits.{ones_of}
-use Rattle.bit_rank.specs.Words.{low_bits, bits_of}
+use Rattle.packed_bits.specs.Bits.{ones_of}
+use Rattle.packed_bits.specs.Words.{low_bits, bits_of}
 use Rattle.bit_rank.proofs.tests.ranks_and_places_match_a_scan.Goals as goal
 
 pub scan_words-requires : goal.scan_words-requires

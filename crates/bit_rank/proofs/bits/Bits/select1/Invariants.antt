@@ -1,5 +1,6 @@
 use Rattle.std.proofs.Common.{◌≡◌, ◌+◌, ◌*◌, ◌<◌, ◌≤◌, ◌-◌, length}
-use Rattle.bit_rank.specs.Bits.{rank_of, window_of}
+use Rattle.bit_rank.specs.Bits.{rank_of}
+use Rattle.packed_bits.specs.Bits.{window_of}
 use Rattle.bit_rank.proofs.bits.Bits.select1.Given as goal
 
 abbrev pub invariant-loop-word : goal.invariant-loop-word

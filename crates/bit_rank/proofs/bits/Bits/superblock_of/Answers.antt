@@ -1,5 +1,6 @@
 use Rattle.std.proofs.Common.{◌≡◌, ◌+◌, ◌-◌, ◌*◌, ◌<◌, ◌≤◌, length, arith}
-use Rattle.bit_rank.proofs.RankLemmas.{rank_of-zero, rank_of-all, ones_of-le-length}
+use Rattle.bit_rank.proofs.RankLemmas.{rank_of-zero, rank_of-all}
+use Rattle.packed_bits.proofs.OnesLemmas.{ones_of-le-length}
 use Rattle.bit_rank.proofs.QueryLemmas.{halved}
 use Rattle.bit_rank.proofs.bits.Bits.superblock_of.Goals as goal
 

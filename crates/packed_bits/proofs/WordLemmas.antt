@@ -1,14 +1,14 @@
 -- Words as bits: what they spell, and that packing the bits gives the words back.
-use Rattle.std.proofs.Common.{◌≡◌, ℕ, zero, suc, ◌+◌, ◌*◌, ◌/◌, ◌%◌, ◌^◌, ◌<◌, ◌≤◌, Bool, cond, ◌==◌, List, [], ◌∷◌, ◌++◌, length, take, drop, get_or, map, refl, sym, ap, ◌∙◌, arith, length-append, length-take-le}
+use Rattle.std.proofs.Common.{◌≡◌, Some, slice_get, ℕ, zero, suc, ◌+◌, ◌*◌, ◌/◌, ◌%◌, ◌^◌, ◌<◌, ◌≤◌, Bool, cond, ◌==◌, List, [], ◌∷◌, ◌++◌, length, take, drop, get_or, map, refl, sym, ap, ◌∙◌, arith, length-append, length-take-le}
 use Rattle.std.proofs.Math.Nat.{mod-eq_of_lt, div-eq_of_lt, pow-le-pow_right}
 use Rattle.std.proofs.Math.Seq.{drop-append-add}
 use Rattle.std.proofs.lemmas.List.{take-append-le, take_all, drop_all, drop_more, append_assoc}
 use Rattle.std.proofs.lemmas.List.FromFn.{fill_by_all, length-map-range_with_len, get_or-map-range_with_len}
 use Rattle.std.proofs.lemmas.Nat.{mod-pow-add, shr-shr}
 use Rattle.std.specs.List.{range_with_len}
-use Rattle.bit_rank.specs.Bits.{number_of, window_of, packed}
-use Rattle.bit_rank.specs.Words.{low_bits, bits_of, IsPacked}
-use Rattle.bit_rank.proofs.NumberLemmas.{number_of-lt, number_of-append, number_of-take, number_of-drop, number_of-spare, ones_of-zero, same_from_number_of, window_of-field, window_of-same, window_of-lt}
+use Rattle.packed_bits.specs.Bits.{number_of, window_of, packed}
+use Rattle.packed_bits.specs.Words.{low_bits, bits_of, IsPacked}
+use Rattle.packed_bits.proofs.NumberLemmas.{number_of-lt, number_of-append, number_of-take, number_of-drop, number_of-spare, ones_of-zero, same_from_number_of, window_of-field, window_of-same, window_of-lt, window_of-bit, window_of-inside}
 
 -- n bits were asked for
 pub length-low_bits : (n word : ℕ) → length (low_bits n word) ≡ n
@@ -157,3 +157,14 @@ bits_of-packed bits =
     let number = low ∙ mod-eq_of_lt (number_of-lt bits) in
     let long = length-take-bits_of (packed bits) (length bits) (IsPacked-packed bits) in
     same_from_number_of (take (length bits) all) bits long number
+
+-- a place is in its word
+place : (p : ℕ) → 64 * (p / 64) + p % 64 ≡ p
+place p = omega arith
+
+-- a bit is that of its word
+pub slice_get-word : (bits : List Bool) (p : ℕ) → p < length bits
+    → slice_get bits p ≡ Some (window_of bits (64 * (p / 64)) 64 / 2 ^ (p % 64) % 2 == 1)
+slice_get-word bits p within =
+    let inside = window_of-inside bits (64 * (p / 64)) (p % 64) 1 64 (omega arith) in
+    window_of-bit bits p within ∙ ap (λ v. Some (v == 1)) (ap (λ q. window_of bits q 1) (sym (place p)) ∙ inside)

@@ -1,0 +1,5 @@
+-- Laws of packed bits, for callers.
+pub mod OnesLemmas
+pub mod NumberLemmas
+pub mod WordLemmas
+mod Examples
