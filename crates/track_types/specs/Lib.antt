@@ -7,3 +7,4 @@ pub mod Chart
 pub mod ByFilter
 pub mod Region
 pub mod Lazy
+pub mod BitList

@@ -1,11 +1,13 @@
-//! The plain values that all crates of gract speak of: cells, regions, rows, charts and their
-//! limits, lists that contracts see as lists, walks that find their items one by one, and whole
-//! numbers in text.
+//! The plain values that all crates of gract speak of: cells, boxes and regions, rows, charts and
+//! their limits, lists and packed bits that contracts see as lists, walks that find their items one
+//! by one, and whole numbers in text.
 //!
 //! `number` is exact: a word is no numeral, or one that is too large, or its value. A `Chart` keeps
-//! in its type all that holds of gridded rows. The crate stands on step_count.
+//! in its type all that holds of gridded rows. `Region::touches` is true exactly where a cell of the
+//! box is in the region. The crate stands on packed_bits and step_count.
 #![tactic(auto)]
 
+mod bit_list;
 mod cell;
 mod cell_box;
 mod chart;
@@ -20,6 +22,7 @@ mod row;
 #[cfg(test)]
 mod tests;
 
+pub use bit_list::BitList;
 pub use cell::Cell;
 pub use cell_box::CellBox;
 pub use chart::Chart;
