@@ -3,7 +3,7 @@
 //! `Bits` holds up to 2^32 - 1 bits in words of 64, and a directory of one count for each
 //! superblock of 512 bits. Contracts see it as a list of bool, over which every answer is exact, and
 //! each query promises how many words and directory entries it reads. The crate stands on
-//! `step_count` alone.
+//! `packed_bits` and `step_count`.
 #![tactic(auto)]
 
 mod bits;

@@ -1,4 +1,4 @@
-use Rattle.std.proofs.Common.{◌*◌, ◌/◌, ◌%◌, ◌^◌, ◌==◌, Some, get_or, length, sym, ap, ◌∙◌, arith}
+use Rattle.std.proofs.Common.{◌/◌, ◌%◌, ◌^◌, ◌==◌, Some, get_or, length, sym, ap, ◌∙◌, arith}
 use Rattle.std.proofs.lemmas.Nat.Bits.{shr_and_one}
 use Rattle.packed_bits.proofs.WordLemmas.{get_or-packed, length-packed, slice_get-word}
 use Rattle.track_types.proofs.bit_list.BitList.get.Goals as goal

@@ -1,6 +1,4 @@
-use Rattle.std.proofs.Common.{rules, ◌≡◌, ℕ, ◌<◌, ◌^◌, length, get_or, take, sym}
-use Rattle.packed_bits.specs.Bits.{packed}
-use Rattle.packed_bits.specs.Words.{bits_of}
+use Rattle.std.proofs.Common.{rules, ℕ, ◌<◌, ◌^◌, length, get_or, sym}
 use Rattle.packed_bits.proofs.WordLemmas.{length-take-bits_of, packed-bits_of}
 use Rattle.track_types.proofs.bit_list.BitList.new.Goals as goal
 
