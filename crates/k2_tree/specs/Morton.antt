@@ -1,0 +1,46 @@
+-- Cells of a square grid, and the Morton numbers that order them.
+use Rattle.std.specs.Prelude.{◌≡◌, ℕ, zero, suc, ◌+◌, ◌*◌, ◌/◌, ◌%◌, ◌^◌, ◌<◌, ◌≤◌, ℤ, pos, neg_ℤ, ◌+ℤ◌, ◌-ℤ◌, ◌≤ℤ◌}
+use Rattle.std.specs.Int.RustNames.{unsigned_abs}
+use Rattle.track_types.specs.declared.cell.Cell.{Cell}
+use Rattle.track_types.specs.declared.limit.TheConstants.{MAX_HEIGHT}
+
+-- the side of the grid is 2 ^ height, and its least corner is near
+pub record IsGrid (height : ℕ) (base : Cell) : Type 0 where
+  pub some : 1 ≤ height
+  pub limit : height ≤ MAX_HEIGHT
+  pub left : neg_ℤ (pos (2 ^ 41)) ≤ℤ base.x
+  pub right : base.x ≤ℤ pos (2 ^ 41)
+  pub below : neg_ℤ (pos (2 ^ 41)) ≤ℤ base.y
+  pub above : base.y ≤ℤ pos (2 ^ 41)
+
+-- the cell is in the grid
+pub record IsInGrid (height : ℕ) (base cell : Cell) : Type 0 where
+  pub left : base.x ≤ℤ cell.x
+  pub right : unsigned_abs (cell.x -ℤ base.x) < 2 ^ height
+  pub below : base.y ≤ℤ cell.y
+  pub above : unsigned_abs (cell.y -ℤ base.y) < 2 ^ height
+
+-- the number of n digits to base 4, of which each is twice a bit of the row and the same bit of the column
+unfoldable pub interleaved : ℕ → ℕ → ℕ → ℕ
+interleaved zero row column = 0
+interleaved (suc n) row column = 4 * interleaved n (row / 2) (column / 2) + (2 * (row % 2) + column % 2)
+
+-- the Morton number of a cell
+unfoldable pub morton_of : ℕ → Cell → Cell → ℕ
+morton_of height base cell =
+    interleaved height (unsigned_abs (cell.y -ℤ base.y)) (unsigned_abs (cell.x -ℤ base.x))
+
+-- the row that n digits of a Morton number tell
+unfoldable pub row_of : ℕ → ℕ → ℕ
+row_of zero code = 0
+row_of (suc n) code = 2 * row_of n (code / 4) + code % 4 / 2
+
+-- the column that n digits of a Morton number tell
+unfoldable pub column_of : ℕ → ℕ → ℕ
+column_of zero code = 0
+column_of (suc n) code = 2 * column_of n (code / 4) + code % 4 % 2
+
+-- the cell that has the Morton number
+unfoldable pub cell_of : ℕ → Cell → ℕ → Cell
+cell_of height base code =
+    record { x = base.x +ℤ pos (column_of height code); y = base.y +ℤ pos (row_of height code) }

@@ -1,0 +1,32 @@
+-- The bits of a k2-tree, by the prefixes of sorted Morton numbers.
+use Rattle.std.specs.Prelude.{ℕ, zero, suc, ◌+◌, ◌*◌, ◌/◌, ◌^◌, ◌==◌, Bool, List, [], ◌∷◌, ◌++◌, map, flat_map}
+use Rattle.std.specs.List.{dedup, list_any}
+
+-- a level parts each square in so many squares on either side
+abbrev pub side : ℕ
+side = 2
+
+-- a level parts each square in so many
+abbrev pub fan : ℕ
+fan = side * side
+
+-- whether the number is one of the list
+abbrev pub is_in : List ℕ → ℕ → Bool
+is_in codes code = list_any (λ other. other == code) codes
+
+-- the prefixes of ascending Morton numbers that leave n digits away, each once
+unfoldable pub prefixes : ℕ → List ℕ → List ℕ
+prefixes n codes = dedup (λ a b. a == b) (map (λ code. code / fan ^ n) codes)
+
+-- the prefixes one digit longer, whether they occur or not
+unfoldable pub longer : List ℕ → List ℕ
+longer codes = flat_map (λ p. 4 * p ∷ (4 * p + 1) ∷ (4 * p + 2) ∷ (4 * p + 3) ∷ []) codes
+
+-- the level whose squares have n digits below them: for each prefix one digit shorter, whether each longer one occurs
+unfoldable pub level_bits : ℕ → List ℕ → List Bool
+level_bits n codes = map (is_in (prefixes n codes)) (longer (prefixes (suc n) codes))
+
+-- the levels from the top, where the numbers have so many digits
+unfoldable pub morton_bits : ℕ → List ℕ → List Bool
+morton_bits zero codes = []
+morton_bits (suc n) codes = level_bits n codes ++ morton_bits n codes
