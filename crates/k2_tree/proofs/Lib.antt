@@ -1,1 +1,4 @@
+pub mod MortonLemmas
+pub mod RisingLemmas
+pub mod PrefixLemmas
 mod Examples

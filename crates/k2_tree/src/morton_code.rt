@@ -1,7 +1,8 @@
-ghost use Rattle.std.specs.Prelude.{◌≡◌};
-ghost use Rattle.k2_tree.specs.Morton.{morton_of, IsGrid, IsInGrid};
+ghost use Rattle.std.specs.Prelude.{◌≡◌, ◌^◌, ◌≤◌, pos, neg_ℤ, ◌-ℤ◌, ◌≤ℤ◌};
+ghost use Rattle.std.specs.Int.RustNames.{unsigned_abs};
+ghost use Rattle.k2_tree.specs.Morton.{interleaved, morton_of, IsGrid, IsInGrid};
 
-use track_types::Cell;
+use track_types::{Cell, MAX_HEIGHT};
 
 /// The Morton number of a cell in the grid of side `2^height` from the base cell: `height` digits to
 /// base 4, the highest first. Each digit is twice a bit of the row and the same bit of the column,
@@ -11,11 +12,26 @@ pub fn morton(cell: Cell, height: u32, base: Cell) -> u64
     requires inside { IsInGrid height base cell }
     ensures { result ≡ morton_of height base cell }
 {
-    let column = (cell.x - base.x) as u64;
-    let row = (cell.y - base.y) as u64;
+    interleave(offset(cell.y, base.y), offset(cell.x, base.x), height)
+}
+
+// How far a coordinate of the grid is from the base's.
+fn offset(place: i64, base: i64) -> u64
+    requires low { neg_ℤ (pos (2 ^ 41)) ≤ℤ base }
+    requires from_base { base ≤ℤ place }
+    ensures { result ≡ unsigned_abs (place -ℤ base) }
+{
+    place.abs_diff(base)
+}
+
+// The number whose digits to base 4 are made of the bits of a row and a column, the row's above.
+fn interleave(row: u64, column: u64, height: u32) -> u64
+    requires { height ≤ MAX_HEIGHT }
+    ensures { result ≡ interleaved height row column }
+{
     let mut code = 0;
     for level in (0..height).rev() {
-        code = 4 * code + 2 * (row >> level & 1) + (column >> level & 1);
+        code = 4 * code + 2 * ((row >> level) % 2) + (column >> level) % 2;
     }
     code
 }

@@ -1,0 +1,89 @@
+-- Ascending lists of numbers: what they hold tells what they are.
+use Rattle.std.proofs.Common.{◌≡◌, ℕ, zero, suc, ◌+◌, ◌*◌, ◌/◌, ◌%◌, ◌^◌, ◌<◌, ◌≤◌, ◌==◌, ◌||◌, ◌&&◌, ◌⊎◌, Bool, true, false, cond, List, [], ◌∷◌, ◌++◌, length, map, filter, take, drop, get_or, refl, sym, ap, ◌∙◌, inl, inr, arith, nat_eq}
+use Rattle.std.proofs.lemmas.Bool.Decides.{nat_tests}
+use Rattle.std.proofs.lemmas.Bool.{cases_lt}
+use Rattle.std.specs.List.{dedup, dedup_from, list_any}
+use Rattle.std.specs.List.Sorted.{IsStrictlyIncreasing}
+use Rattle.k2_tree.specs.TreeBits.{is_in}
+
+-- the numbers are at least n and each is above the one before
+abbrev pub Rises : ℕ → List ℕ → Type 0
+Rises n [] = Unit {0}
+Rises n (x ∷ xs) = (n ≤ x) × Rises (suc x) xs
+
+-- the numbers are at least n and none is below the one before
+abbrev pub Climbs : ℕ → List ℕ → Type 0
+Climbs n [] = Unit {0}
+Climbs n (x ∷ xs) = (n ≤ x) × Climbs x xs
+
+pub Rises-weaker : (m n : ℕ) (xs : List ℕ) → m ≤ n → Rises n xs → Rises m xs
+Rises-weaker m n [] less r = tt
+Rises-weaker m n (x ∷ xs) less r = (omega (arith, r.0), r.1)
+
+pub Rises-from_increasing : (n x : ℕ) (xs : List ℕ) → n ≤ x → IsStrictlyIncreasing (x ∷ xs) → Rises n (x ∷ xs)
+Rises-from_increasing n x [] low up = (low, tt)
+Rises-from_increasing n x (y ∷ ys) low up =
+    let first : x < y = up 0 (omega arith) in
+    (low, Rises-from_increasing (suc x) y ys (omega arith) (λ k h. let e : suc k + 1 ≡ suc (k + 1) = omega arith in rw e at (up (suc k) (omega arith))))
+
+-- what is compared with itself is equal
+pub same_test : (x : ℕ) → (x == x) ≡ true
+same_test x = grind (arith, nat_tests)
+
+pub other_test : (x y : ℕ) → (x ≡ y → ⊥) → (x == y) ≡ false
+other_test x y differ = grind (arith, nat_tests)
+
+-- a number below all is not there
+pub is_in-below : (n : ℕ) (xs : List ℕ) (c : ℕ) → Rises n xs → c < n → is_in xs c ≡ false
+is_in-below n [] c r less = refl
+is_in-below n (x ∷ xs) c r less =
+    let low : n ≤ x = r.0 in
+    rw (other_test x c (λ e. omega arith), is_in-below (suc x) xs c r.1 (omega arith)) refl
+
+-- the first number is there
+pub is_in-first : (x : ℕ) (xs : List ℕ) → is_in (x ∷ xs) x ≡ true
+is_in-first x xs = rw (same_test x) refl
+
+-- another number is there where it is among the others
+pub is_in-other : (x : ℕ) (xs : List ℕ) (c : ℕ) → (x ≡ c → ⊥) → is_in (x ∷ xs) c ≡ is_in xs c
+is_in-other x xs c differ = rw (other_test x c differ) refl
+
+-- after one common first number
+tails : (x : ℕ) (xs ys : List ℕ) → Rises (suc x) xs → Rises (suc x) ys
+    → ((c : ℕ) → is_in (x ∷ xs) c ≡ is_in (x ∷ ys) c) → (c : ℕ) → is_in xs c ≡ is_in ys c
+tails x xs ys rx ry same c = elim (cases_lt c (suc x)) [
+  | inl low ↦ is_in-below (suc x) xs c rx low ∙ sym (is_in-below (suc x) ys c ry low)
+  | inr high ↦
+      let differ : x ≡ c → ⊥ = λ e. omega arith in
+      sym (is_in-other x xs c differ) ∙ same c ∙ is_in-other x ys c differ
+]
+
+-- ascending lists with the same members are one list
+pub same_from_rising : (n : ℕ) (xs ys : List ℕ) → Rises n xs → Rises n ys
+    → ((c : ℕ) → is_in xs c ≡ is_in ys c) → xs ≡ ys
+same_from_rising n [] [] rx ry same = refl
+same_from_rising n [] (y ∷ ys) rx ry same =
+    let clash : false ≡ true = same y ∙ is_in-first y ys in cc
+same_from_rising n (x ∷ xs) [] rx ry same =
+    let clash : false ≡ true = sym (same x) ∙ is_in-first x xs in cc
+same_from_rising n (x ∷ xs) (y ∷ ys) rx ry same = elim (cases_lt x y) [
+  | inl less ↦
+      let absent = is_in-below y (y ∷ ys) x (omega arith, ry.1) less in
+      let clash : false ≡ true = sym absent ∙ sym (same x) ∙ is_in-first x xs in absurd (cc)
+  | inr more ↦ elim (cases_lt y x) [
+    | inl less ↦
+        let absent = is_in-below x (x ∷ xs) y (omega arith, rx.1) less in
+        let clash : false ≡ true = sym absent ∙ same y ∙ is_in-first y ys in absurd (cc)
+    | inr even ↦
+        let e : y ≡ x = omega arith in
+        same_first x y xs ys e rx.1 ry.1 same (same_from_rising (suc x) xs ys rx.1)
+  ]
+]
+ where
+  same_first : (x y : ℕ) (xs ys : List ℕ) → y ≡ x → Rises (suc x) xs → Rises (suc y) ys
+      → ((c : ℕ) → is_in (x ∷ xs) c ≡ is_in (y ∷ ys) c)
+      → (Rises (suc x) ys → ((c : ℕ) → is_in xs c ≡ is_in ys c) → xs ≡ ys) → x ∷ xs ≡ y ∷ ys
+  same_first x y xs ys e rx ry same hyp =
+      let ry' : Rises (suc x) ys = Rises-weaker (suc x) (suc y) ys (omega arith) ry in
+      let same' : (c : ℕ) → is_in (x ∷ xs) c ≡ is_in (x ∷ ys) c = λ c. same c ∙ ap (λ z. is_in (z ∷ ys) c) e in
+      ap (λ zs. x ∷ zs) (hyp ry' (tails x xs ys rx ry' same')) ∙ ap (λ z. z ∷ ys) (sym e)

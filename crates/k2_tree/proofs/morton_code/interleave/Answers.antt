@@ -1,0 +1,30 @@
+use Rattle.std.proofs.Common.{◌≡◌, ◌<◌, ◌+◌, ◌*◌, ◌^◌, ◌/◌, ◌-◌, refl, arith, ◌∙◌}
+use Rattle.k2_tree.specs.Morton.{interleaved}
+use Rattle.k2_tree.proofs.MortonLemmas.{interleaved-small, interleaved-down, interleaved-whole}
+use Rattle.k2_tree.proofs.morton_code.interleave.Goals as goal
+
+pub loop-level-init : goal.loop-level-init
+unfolding interleaved
+loop-level-init c = let none : c.args.height - c.args.height ≡ 0 = omega arith in rw none refl
+
+pub overflow_mul-code : goal.overflow_mul-code
+overflow_mul-code c =
+    omega (arith, c.loop-level.invariant, interleaved-small (c.args.height - c.loop-level.level) (c.args.row / 2 ^ c.loop-level.level) (c.args.column / 2 ^ c.loop-level.level) (omega arith))
+
+pub overflow_add-code : goal.overflow_add-code
+overflow_add-code c =
+    omega (arith, c.loop-level.invariant, interleaved-small (c.args.height - c.loop-level.level) (c.args.row / 2 ^ c.loop-level.level) (c.args.column / 2 ^ c.loop-level.level) (omega arith))
+
+pub overflow_add-code-in-loop-level : goal.overflow_add-code-in-loop-level
+overflow_add-code-in-loop-level c =
+    omega (arith, c.loop-level.invariant, interleaved-small (c.args.height - c.loop-level.level) (c.args.row / 2 ^ c.loop-level.level) (c.args.column / 2 ^ c.loop-level.level) (omega arith))
+
+pub loop-level-preserved : goal.loop-level-preserved
+loop-level-preserved c =
+    interleaved-down c.args.height c.loop-level.level c.args.row c.args.column c.loop-level.code
+    (omega arith) (omega arith) c.loop-level.invariant
+
+pub returns : goal.returns
+returns c =
+    let end : c.loop-level.level ≡ 0 = omega arith in
+    (rw end at c.loop-level.invariant) ∙ interleaved-whole c.args.height c.args.row c.args.column
