@@ -1,4 +1,6 @@
 pub mod MortonLemmas
 pub mod RisingLemmas
 pub mod PrefixLemmas
+pub mod TreeLemmas
+pub mod NavigationLemmas
 mod Examples

@@ -14,7 +14,7 @@ abbrev once : List ℕ → List ℕ
 once = dedup (λ a b. a == b)
 
 -- by the test's answer
-by_test : (x k : ℕ) → ((x ≡ k) × ((x == k) ≡ true)) ⊎ ((x ≡ k → ⊥) × ((x == k) ≡ false))
+pub by_test : (x k : ℕ) → ((x ≡ k) × ((x == k) ≡ true)) ⊎ ((x ≡ k → ⊥) × ((x == k) ≡ false))
 by_test x k = elim (cases_lt x k) [
   | inl less ↦ let differ : x ≡ k → ⊥ = λ e. omega arith in inr (differ, other_test x k differ)
   | inr more ↦ elim (cases_lt k x) [

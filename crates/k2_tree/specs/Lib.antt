@@ -1,3 +1,4 @@
 -- In reading order.
 pub mod Morton
 pub mod TreeBits
+pub mod Squares

@@ -1,0 +1,131 @@
+-- From a square to its children and to its parent.
+use Rattle.std.proofs.Common.{◌≡◌, ℕ, zero, suc, ◌+◌, ◌*◌, ◌/◌, ◌%◌, ◌^◌, ◌<◌, ◌≤◌, ◌==◌, ◌||◌, ◌⊎◌, Bool, true, false, List, [], ◌∷◌, ◌++◌, length, map, filter, take, get_or, refl, sym, ap, ◌∙◌, inl, inr, arith, All, lit<, subst, length-append, Some}
+use Rattle.std.proofs.lemmas.Bool.{cases_lt}
+use Rattle.std.proofs.lemmas.List.{get_or-append-add, get_or_append_left, get_or-map, length-map}
+use Rattle.std.proofs.lemmas.Option.{slice_get-get_or}
+use Rattle.bit_rank.specs.Bits.{ones_of, rank_of, select_of, IsSelected}
+use Rattle.bit_rank.proofs.RankLemmas.{ones_of-append, rank_of-append, rank_of-append_left, select_of-from_IsSelected}
+use Rattle.k2_tree.specs.TreeBits.{is_in, prefixes, longer, level_bits, morton_bits}
+use Rattle.k2_tree.specs.Squares.{squares_above, IsSquare}
+use Rattle.k2_tree.proofs.RisingLemmas.{Rises, Rises-weaker, is_in-first, is_in-other}
+use Rattle.k2_tree.proofs.PrefixLemmas.{prefixes-from_longer, prefixes-top, prefixes-none, prefixes-rise, prefixes-shorter, by_test}
+use Rattle.k2_tree.proofs.TreeLemmas.{upper_bits, morton_bits-parted, length-longer, get_or-longer, length-level_bits, length-upper_bits, rank_of-map, get_or-filter, ones_of-upper_bits}
+
+-- what holds of the Morton numbers of a tree's cells
+pub record AreCodes (height : ℕ) (codes : List ℕ) : Type 0 where
+  pub rising : Rises 0 codes
+  pub small : All (λ code. code < 4 ^ height) codes
+
+-- where a square is, the top has one
+pub one_top : (height : ℕ) (codes : List ℕ) → AreCodes height codes → (n : ℕ) → 0 < length (prefixes n codes)
+    → prefixes height codes ≡ 0 ∷ []
+one_top height [] are n some = absurd (omega (arith, ap length (prefixes-none n)))
+one_top height (c ∷ cs) are n some = prefixes-top height c cs are.small
+
+-- the place of a square's bit for a digit, in the level below it
+pub level_place : (n i d : ℕ) (codes : List ℕ) → i < length (prefixes (suc n) codes) → d < 4
+    → 4 * i + d < length (longer (prefixes (suc n) codes))
+level_place n i d codes within small = omega (arith, length-longer (prefixes (suc n) codes))
+
+-- a square's bit for a digit tells whether that child is there
+pub level_bit : (n i d : ℕ) (codes : List ℕ) → i < length (prefixes (suc n) codes) → d < 4
+    → get_or (level_bits n codes) (4 * i + d) false ≡ is_in (prefixes n codes) (4 * get_or (prefixes (suc n) codes) i 0 + d)
+unfolding level_bits
+level_bit n i d codes within small =
+    get_or-map (is_in (prefixes n codes)) (longer (prefixes (suc n) codes)) (4 * i + d) 0 false (level_place n i d codes within small)
+    ∙ ap (is_in (prefixes n codes)) (get_or-longer (prefixes (suc n) codes) i d within small)
+
+-- that child's place in its level is the rank of the bit in the level
+pub level_rank : (n i d : ℕ) (codes : List ℕ) → Rises 0 codes → i < length (prefixes (suc n) codes) → d < 4
+    → is_in (prefixes n codes) (4 * get_or (prefixes (suc n) codes) i 0 + d) ≡ true
+    → (rank_of (level_bits n codes) (4 * i + d) < length (prefixes n codes))
+    × (get_or (prefixes n codes) (rank_of (level_bits n codes) (4 * i + d)) 0 ≡ 4 * get_or (prefixes (suc n) codes) i 0 + d)
+unfolding level_bits
+level_rank n i d codes up within small there =
+    let long : List ℕ = longer (prefixes (suc n) codes) in
+    let test : ℕ → Bool = is_in (prefixes n codes) in
+    let stands : get_or long (4 * i + d) 0 ≡ 4 * get_or (prefixes (suc n) codes) i 0 + d = get_or-longer (prefixes (suc n) codes) i d within small in
+    let kept : test (get_or long (4 * i + d) 0) ≡ true = ap test stands ∙ there in
+    let both = get_or-filter test long (4 * i + d) (level_place n i d codes within small) kept in
+    let rank = rank_of-map test long (4 * i + d) in
+    let whole : filter test long ≡ prefixes n codes = prefixes-from_longer n codes up in
+    (omega (arith, both.0, ap length whole),
+     ap (λ r. get_or (prefixes n codes) r 0) rank
+     ∙ ap (λ xs. get_or xs (length (filter test (take (4 * i + d) long))) 0) (sym whole)
+     ∙ both.1 ∙ stands)
+
+-- a tree's bits around a level
+around : (k n height : ℕ) (codes : List ℕ) → k + suc n ≡ height
+    → morton_bits height codes ≡ upper_bits k (suc n) codes ++ (level_bits n codes ++ morton_bits n codes)
+unfolding morton_bits
+around k n height codes high = morton_bits-parted k (suc n) height codes high
+
+-- the children of the square with number j stand at 4 * j: seen from the beginning of their level
+from_level : (height : ℕ) (codes : List ℕ) (n p j d : ℕ) → (square : IsSquare height codes (suc n) p j)
+    → 4 * j + d ≡ length (upper_bits square.above (suc n) codes) + (4 * square.place + d)
+from_level height codes n p j d square = omega (arith, length-upper_bits square.above (suc n) codes, square.counted)
+
+-- the bits of a square's children are in the tree
+pub child_place : (height : ℕ) (codes : List ℕ) (n p j d : ℕ) → IsSquare height codes (suc n) p j → d < 4
+    → 4 * j + d < length (morton_bits height codes)
+child_place height codes n p j d square small =
+    let front : List Bool = upper_bits square.above (suc n) codes in
+    let rest : List Bool = level_bits n codes ++ morton_bits n codes in
+    let whole : length (morton_bits height codes) ≡ length front + length rest =
+        ap length (around square.above n height codes square.high) ∙ length-append front rest in
+    omega (arith, length-append (level_bits n codes) (morton_bits n codes), length-level_bits n codes, from_level height codes n p j d square, square.within)
+
+-- the bit at 4 * j + d tells whether the square with number j has the child d
+pub child_bit : (height : ℕ) (codes : List ℕ) (n p j d : ℕ) → IsSquare height codes (suc n) p j → d < 4
+    → get_or (morton_bits height codes) (4 * j + d) false ≡ is_in (prefixes n codes) (4 * p + d)
+child_bit height codes n p j d square small =
+    let front : List Bool = upper_bits square.above (suc n) codes in
+    let rest : List Bool = level_bits n codes ++ morton_bits n codes in
+    let i : ℕ = square.place in
+    let inside : 4 * i + d < length (level_bits n codes) = omega (arith, length-level_bits n codes, square.within) in
+    ap (λ xs. get_or xs (4 * j + d) false) (around square.above n height codes square.high)
+    ∙ ap (λ q. get_or (front ++ rest) q false) (from_level height codes n p j d square)
+    ∙ get_or-append-add front rest (4 * i + d) false
+    ∙ get_or_append_left (level_bits n codes) (morton_bits n codes) false (4 * i + d) inside
+    ∙ level_bit n i d codes square.within small
+    ∙ ap (λ z. is_in (prefixes n codes) (4 * z + d)) square.stands
+
+-- the child's number is one more than the ones before its bit
+pub child_square : (height : ℕ) (codes : List ℕ) (n p j d : ℕ) → AreCodes height codes
+    → IsSquare height codes (suc n) p j → d < 4 → is_in (prefixes n codes) (4 * p + d) ≡ true
+    → IsSquare height codes n (4 * p + d) (rank_of (morton_bits height codes) (4 * j + d) + 1)
+unfolding squares_above
+child_square height codes n p j d are square small there =
+    let front : List Bool = upper_bits square.above (suc n) codes in
+    let rest : List Bool = level_bits n codes ++ morton_bits n codes in
+    let i : ℕ = square.place in
+    let inside : 4 * i + d < length (level_bits n codes) = omega (arith, length-level_bits n codes, square.within) in
+    let rank : rank_of (morton_bits height codes) (4 * j + d) ≡ ones_of front + rank_of (level_bits n codes) (4 * i + d) =
+        ap (λ xs. rank_of xs (4 * j + d)) (around square.above n height codes square.high)
+        ∙ ap (λ q. rank_of (front ++ rest) q) (from_level height codes n p j d square)
+        ∙ rank_of-append front rest (4 * i + d)
+        ∙ ap (λ r. ones_of front + r) (rank_of-append_left (level_bits n codes) (morton_bits n codes) (4 * i + d) (omega arith)) in
+    let there' : is_in (prefixes n codes) (4 * get_or (prefixes (suc n) codes) i 0 + d) ≡ true =
+        ap (λ z. is_in (prefixes n codes) (4 * z + d)) square.stands ∙ there in
+    let level = level_rank n i d codes are.rising square.within small there' in
+    let top = ap length (one_top height codes are (suc n) (omega (arith, square.within))) in
+    let ones = ones_of-upper_bits square.above (suc n) height codes are.rising square.high in
+    record {
+      above = suc square.above;
+      place = rank_of (level_bits n codes) (4 * i + d);
+      high = omega (arith, square.high);
+      within = level.0;
+      stands = level.1 ∙ ap (λ z. 4 * z + d) square.stands;
+      counted = omega (arith, rank, top, ones);
+    }
+
+-- the topmost square has number 0
+pub root_square : (height : ℕ) (codes : List ℕ) → AreCodes height codes → 0 < length (prefixes height codes)
+    → IsSquare height codes height 0 0
+unfolding squares_above
+root_square height codes are some =
+    let top = one_top height codes are height some in
+    record {
+      above = 0; place = 0; high = omega arith; within = some;
+      stands = ap (λ xs. get_or xs 0 0) top; counted = refl;
+    }

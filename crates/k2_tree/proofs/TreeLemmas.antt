@@ -1,0 +1,112 @@
+-- Where the squares of a tree stand in its bits: a child by rank, a parent by select.
+use Rattle.std.proofs.Common.{◌≡◌, ℕ, zero, suc, ◌+◌, ◌*◌, ◌/◌, ◌%◌, ◌^◌, ◌<◌, ◌≤◌, ◌==◌, ◌||◌, ◌&&◌, ◌⊎◌, Bool, true, false, cond, List, [], ◌∷◌, ◌++◌, length, map, filter, take, drop, get_or, refl, sym, ap, ◌∙◌, inl, inr, arith, All, lit<, subst, append_assoc, length-append}
+use Rattle.std.proofs.lemmas.Bool.{cases_lt}
+use Rattle.std.proofs.lemmas.List.{get_or-append-add, get_or_append_left, get_or-map, length-map}
+use Rattle.bit_rank.specs.Bits.{ones_of, rank_of, select_of, IsSelected}
+use Rattle.bit_rank.proofs.RankLemmas.{ones_of-append, ones_of-nil, ones_of-cons, rank_of-append, rank_of-append_left}
+use Rattle.k2_tree.specs.TreeBits.{is_in, prefixes, longer, level_bits, morton_bits}
+use Rattle.k2_tree.specs.Squares.{squares_above, IsSquare}
+use Rattle.k2_tree.proofs.RisingLemmas.{Rises}
+use Rattle.k2_tree.proofs.PrefixLemmas.{prefixes-from_longer, prefixes-top, prefixes-none}
+
+-- the k levels above the level whose squares have n digits below them
+unfoldable pub upper_bits : ℕ → ℕ → List ℕ → List Bool
+upper_bits zero n codes = []
+upper_bits (suc k) n codes = upper_bits k (suc n) codes ++ level_bits n codes
+
+-- a tree's bits are those above a level and those from it on
+pub morton_bits-parted : (k n height : ℕ) (codes : List ℕ) → k + n ≡ height
+    → morton_bits height codes ≡ upper_bits k n codes ++ morton_bits n codes
+unfolding morton_bits upper_bits
+morton_bits-parted zero n height codes high =
+    let e : height ≡ n = omega arith in ap (λ h. morton_bits h codes) e
+morton_bits-parted (suc k) n height codes high =
+    let e : k + suc n ≡ height = omega arith in
+    morton_bits-parted k (suc n) height codes e
+    ∙ sym (append_assoc (upper_bits k (suc n) codes) (level_bits n codes) (morton_bits n codes))
+
+-- four longer prefixes each
+pub length-longer : (xs : List ℕ) → length (longer xs) ≡ 4 * length xs
+unfolding longer
+length-longer [] = refl
+length-longer (x ∷ xs) = let rest = length-longer xs in omega arith
+
+-- the longer prefixes by place
+pub get_or-longer : (xs : List ℕ) (i d : ℕ) → i < length xs → d < 4 → get_or (longer xs) (4 * i + d) 0 ≡ 4 * get_or xs i 0 + d
+unfolding longer
+get_or-longer [] i d within small = absurd (omega arith)
+get_or-longer (x ∷ xs) zero zero within small = omega arith
+get_or-longer (x ∷ xs) zero (suc zero) within small = refl
+get_or-longer (x ∷ xs) zero (suc (suc zero)) within small = refl
+get_or-longer (x ∷ xs) zero (suc (suc (suc zero))) within small = refl
+get_or-longer (x ∷ xs) zero (suc (suc (suc (suc d)))) within small = absurd (omega arith)
+get_or-longer (x ∷ xs) (suc i) d within small =
+    let e : 4 * suc i + d ≡ suc (suc (suc (suc (4 * i + d)))) = omega arith in
+    rw e (get_or-longer xs i d (omega arith) small)
+
+-- a level has four bits for each square of the level above
+pub length-level_bits : (n : ℕ) (codes : List ℕ) → length (level_bits n codes) ≡ 4 * length (prefixes (suc n) codes)
+unfolding level_bits
+length-level_bits n codes =
+    (simp length-map) ∙ length-longer (prefixes (suc n) codes)
+
+-- the upper levels have four bits for each square in them or above them
+pub length-upper_bits : (k n : ℕ) (codes : List ℕ) → length (upper_bits k n codes) ≡ 4 * squares_above k n codes
+unfolding upper_bits squares_above
+length-upper_bits zero n codes = refl
+length-upper_bits (suc k) n codes =
+    let rest = length-upper_bits k (suc n) codes in
+    let level = length-level_bits n codes in
+    length-append (upper_bits k (suc n) codes) (level_bits n codes) ∙ omega arith
+
+-- the ones of a test are what it keeps
+pub ones_of-map : (p : ℕ → Bool) (xs : List ℕ) → ones_of (map p xs) ≡ length (filter p xs)
+ones_of-map p [] = ones_of-nil
+ones_of-map p (x ∷ xs) = ones_of-cons (p x) (map p xs) ∙ by_kept (p x) refl (ones_of-map p xs)
+ where
+  by_kept : (b : Bool) → p x ≡ b → ones_of (map p xs) ≡ length (filter p xs)
+      → cond (p x) 1 0 + ones_of (map p xs) ≡ length (filter p (x ∷ xs))
+  by_kept true e rest = rw e (omega arith)
+  by_kept false e rest = rw e (omega arith)
+
+-- the ones before a place of a test
+pub rank_of-map : (p : ℕ → Bool) (xs : List ℕ) (q : ℕ) → rank_of (map p xs) q ≡ length (filter p (take q xs))
+unfolding rank_of
+rank_of-map p xs q = ap ones_of (take_of_map xs q) ∙ ones_of-map p (take q xs)
+ where
+  take_of_map : (xs : List ℕ) (q : ℕ) → take q (map p xs) ≡ map p (take q xs)
+  take_of_map xs zero = refl
+  take_of_map [] (suc q) = refl
+  take_of_map (x ∷ xs) (suc q) = ap (λ ys. p x ∷ ys) (take_of_map xs q)
+
+-- what a test keeps stands after what it kept before
+pub get_or-filter : (p : ℕ → Bool) (xs : List ℕ) (q : ℕ) → q < length xs → p (get_or xs q 0) ≡ true
+    → (length (filter p (take q xs)) < length (filter p xs)) × (get_or (filter p xs) (length (filter p (take q xs))) 0 ≡ get_or xs q 0)
+get_or-filter p [] q within kept = absurd (omega arith)
+get_or-filter p (x ∷ xs) zero within kept = rw kept (omega arith, refl)
+get_or-filter p (x ∷ xs) (suc q) within kept = by_kept (p x) refl (get_or-filter p xs q (omega arith) kept)
+ where
+  by_kept : (b : Bool) → p x ≡ b
+      → (length (filter p (take q xs)) < length (filter p xs)) × (get_or (filter p xs) (length (filter p (take q xs))) 0 ≡ get_or xs q 0)
+      → (length (filter p (take (suc q) (x ∷ xs))) < length (filter p (x ∷ xs))) × (get_or (filter p (x ∷ xs)) (length (filter p (take (suc q) (x ∷ xs)))) 0 ≡ get_or xs q 0)
+  by_kept true e rest = rw e (let less : length (filter p (take q xs)) < length (filter p xs) = rest.0 in omega arith, rest.1)
+  by_kept false e rest = rw e rest
+
+-- a level has as many ones as squares
+pub ones_of-level_bits : (n : ℕ) (codes : List ℕ) → Rises 0 codes → ones_of (level_bits n codes) ≡ length (prefixes n codes)
+unfolding level_bits
+ones_of-level_bits n codes up =
+    ones_of-map (is_in (prefixes n codes)) (longer (prefixes (suc n) codes)) ∙ ap length (prefixes-from_longer n codes up)
+
+-- the ones of the upper levels are the squares in them and of this level, but for the topmost
+pub ones_of-upper_bits : (k n height : ℕ) (codes : List ℕ) → Rises 0 codes → k + n ≡ height
+    → ones_of (upper_bits k n codes) + length (prefixes height codes) ≡ squares_above k n codes + length (prefixes n codes)
+unfolding upper_bits squares_above
+ones_of-upper_bits zero n height codes up high =
+    let e : height ≡ n = omega arith in
+    let same : length (prefixes height codes) ≡ length (prefixes n codes) = ap (λ h. length (prefixes h codes)) e in
+    omega (arith, ones_of-nil)
+ones_of-upper_bits (suc k) n height codes up high =
+    let rest = ones_of-upper_bits k (suc n) height codes up (omega arith) in
+    let level = ones_of-level_bits n codes up in
+    omega (arith, ones_of-append (upper_bits k (suc n) codes) (level_bits n codes))

@@ -1,0 +1,17 @@
+-- The squares of a k2-tree: the prefixes of its cells' Morton numbers, numbered level by level from 0.
+use Rattle.std.specs.Prelude.{◌≡◌, ℕ, zero, suc, ◌+◌, ◌<◌, List, length, slice_index}
+use Rattle.k2_tree.specs.TreeBits.{prefixes}
+
+-- how many squares the k levels above have, where a square of this level has n digits below it
+unfoldable pub squares_above : ℕ → ℕ → List ℕ → ℕ
+squares_above zero n codes = 0
+squares_above (suc k) n codes = squares_above k (suc n) codes + length (prefixes (suc n) codes)
+
+-- the square of a prefix has this number: as many squares stand in the levels above and before it in its own
+pub record IsSquare (height : ℕ) (codes : List ℕ) (n prefix number : ℕ) : Type 0 where
+  pub above : ℕ
+  pub place : ℕ
+  pub high : above + n ≡ height
+  pub within : place < length (prefixes n codes)
+  pub stands : slice_index (prefixes n codes) place ≡ prefix
+  pub counted : number ≡ squares_above above n codes + place
