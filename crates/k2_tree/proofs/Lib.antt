@@ -3,4 +3,5 @@ pub mod RisingLemmas
 pub mod PrefixLemmas
 pub mod TreeLemmas
 pub mod NavigationLemmas
+pub mod DescentLemmas
 mod Examples

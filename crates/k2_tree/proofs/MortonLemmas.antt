@@ -1,7 +1,11 @@
 -- Digits of Morton numbers: how large they are, and what their prefixes and last digits tell.
 use Rattle.std.proofs.Common.{◌≡◌, ℕ, zero, suc, ◌+◌, ◌-◌, ◌*◌, ◌/◌, ◌%◌, ◌^◌, ◌<◌, ◌≤◌, refl, sym, ap, ◌∙◌, arith, add-one, lit<}
 use Rattle.std.proofs.Math.Nat.{div-div-eq-div-mul, div-one, pow-suc, pow-le-pow_right}
-use Rattle.k2_tree.specs.Morton.{interleaved, row_of, column_of}
+use Rattle.std.proofs.Common.{ℤ, pos, ◌+ℤ◌, ◌-ℤ◌, ◌≤ℤ◌}
+use Rattle.std.proofs.lemmas.Int.{ints}
+use Rattle.std.specs.Int.RustNames.{unsigned_abs}
+use Rattle.track_types.specs.declared.cell.Cell.{Cell}
+use Rattle.k2_tree.specs.Morton.{interleaved, row_of, column_of, morton_of, cell_of, IsInGrid}
 
 -- halving once more
 pub half_more : (x n : ℕ) → x / 2 ^ n / 2 ≡ x / 2 ^ (suc n)
@@ -48,3 +52,67 @@ interleaved-whole height row column =
     let b : column / 2 ^ 0 ≡ column = div-one column in
     let c : height - 0 ≡ height = omega arith in
     rw (a, b, c) refl
+
+-- a number's row is the row that it was made of
+pub row_of-interleaved : (n row column : ℕ) → row < 2 ^ n → row_of n (interleaved n row column) ≡ row
+unfolding interleaved row_of
+row_of-interleaved zero row column small = omega arith
+row_of-interleaved (suc n) row column small =
+    let rest : row_of n (interleaved n (row / 2) (column / 2)) ≡ row / 2 =
+        row_of-interleaved n (row / 2) (column / 2) (omega (arith, pow-suc 2 n)) in
+    let front : (4 * interleaved n (row / 2) (column / 2) + (2 * (row % 2) + column % 2)) / 4 ≡ interleaved n (row / 2) (column / 2) = omega arith in
+    let last : (4 * interleaved n (row / 2) (column / 2) + (2 * (row % 2) + column % 2)) % 4 / 2 ≡ row % 2 = omega arith in
+    rw (front, last, rest) (omega arith)
+
+-- a number's column is the column that it was made of
+pub column_of-interleaved : (n row column : ℕ) → column < 2 ^ n → column_of n (interleaved n row column) ≡ column
+unfolding interleaved column_of
+column_of-interleaved zero row column small = omega arith
+column_of-interleaved (suc n) row column small =
+    let rest : column_of n (interleaved n (row / 2) (column / 2)) ≡ column / 2 =
+        column_of-interleaved n (row / 2) (column / 2) (omega (arith, pow-suc 2 n)) in
+    let front : (4 * interleaved n (row / 2) (column / 2) + (2 * (row % 2) + column % 2)) / 4 ≡ interleaved n (row / 2) (column / 2) = omega arith in
+    let last : (4 * interleaved n (row / 2) (column / 2) + (2 * (row % 2) + column % 2)) % 4 % 2 ≡ column % 2 = omega arith in
+    rw (front, last, rest) (omega arith)
+
+-- a number is made of its row and its column
+pub interleaved-row_of : (n code : ℕ) → code < 4 ^ n → interleaved n (row_of n code) (column_of n code) ≡ code
+unfolding interleaved row_of column_of
+interleaved-row_of zero code small = omega arith
+interleaved-row_of (suc n) code small =
+    let rest : interleaved n (row_of n (code / 4)) (column_of n (code / 4)) ≡ code / 4 =
+        interleaved-row_of n (code / 4) (omega (arith, pow-suc 4 n)) in
+    let a : (2 * row_of n (code / 4) + code % 4 / 2) / 2 ≡ row_of n (code / 4) = omega arith in
+    let b : (2 * column_of n (code / 4) + code % 4 % 2) / 2 ≡ column_of n (code / 4) = omega arith in
+    let d : (2 * row_of n (code / 4) + code % 4 / 2) % 2 ≡ code % 4 / 2 = omega arith in
+    let e : (2 * column_of n (code / 4) + code % 4 % 2) % 2 ≡ code % 4 % 2 = omega arith in
+    rw (a, b, d, e, rest) (omega arith)
+
+-- a cell's number is below 4 ^ height
+pub morton_of-lt : (height : ℕ) (base cell : Cell) → morton_of height base cell < 4 ^ height
+unfolding morton_of
+morton_of-lt height base cell =
+    interleaved-lt height (unsigned_abs (cell.y -ℤ base.y)) (unsigned_abs (cell.x -ℤ base.x))
+
+abbrev made : ℤ → ℤ → Cell
+made x y = record { x = x; y = y }
+
+-- the cell of a cell's number is that cell
+pub cell_of-morton_of : (height : ℕ) (base cell : Cell) → IsInGrid height base cell
+    → cell_of height base (morton_of height base cell) ≡ cell
+unfolding morton_of cell_of
+cell_of-morton_of height base cell in_grid =
+    let right = column_of-interleaved height (unsigned_abs (cell.y -ℤ base.y)) (unsigned_abs (cell.x -ℤ base.x)) in_grid.right in
+    let above = row_of-interleaved height (unsigned_abs (cell.y -ℤ base.y)) (unsigned_abs (cell.x -ℤ base.x)) in_grid.above in
+    let ex : base.x +ℤ pos (unsigned_abs (cell.x -ℤ base.x)) ≡ cell.x = omega (arith, ints, in_grid.left) in
+    let ey : base.y +ℤ pos (unsigned_abs (cell.y -ℤ base.y)) ≡ cell.y = omega (arith, ints, in_grid.below) in
+    rw (right, above) (ap (λ x. made x (base.y +ℤ pos (unsigned_abs (cell.y -ℤ base.y)))) ex ∙ ap (λ y. made cell.x y) ey)
+
+-- the number of a number's cell is that number
+pub morton_of-cell_of : (height : ℕ) (base : Cell) (code : ℕ) → code < 4 ^ height
+    → morton_of height base (cell_of height base code) ≡ code
+unfolding morton_of cell_of
+morton_of-cell_of height base code small =
+    let ex : unsigned_abs (base.x +ℤ pos (column_of height code) -ℤ base.x) ≡ column_of height code = omega (arith, ints) in
+    let ey : unsigned_abs (base.y +ℤ pos (row_of height code) -ℤ base.y) ≡ row_of height code = omega (arith, ints) in
+    rw (ex, ey) (interleaved-row_of height code small)

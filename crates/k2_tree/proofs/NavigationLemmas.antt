@@ -5,16 +5,11 @@ use Rattle.std.proofs.lemmas.List.{get_or-append-add, get_or_append_left, get_or
 use Rattle.std.proofs.lemmas.Option.{slice_get-get_or}
 use Rattle.bit_rank.specs.Bits.{ones_of, rank_of, select_of, IsSelected}
 use Rattle.bit_rank.proofs.RankLemmas.{ones_of-append, rank_of-append, rank_of-append_left, select_of-from_IsSelected}
-use Rattle.k2_tree.specs.TreeBits.{is_in, prefixes, longer, level_bits, morton_bits}
+use Rattle.k2_tree.specs.TreeBits.{is_in, prefixes, longer, level_bits, morton_bits, Rises, AreCodes}
 use Rattle.k2_tree.specs.Squares.{squares_above, IsSquare}
-use Rattle.k2_tree.proofs.RisingLemmas.{Rises, Rises-weaker, is_in-first, is_in-other}
+use Rattle.k2_tree.proofs.RisingLemmas.{Rises-weaker, is_in-first, is_in-other}
 use Rattle.k2_tree.proofs.PrefixLemmas.{prefixes-from_longer, prefixes-top, prefixes-none, prefixes-rise, prefixes-shorter, by_test}
 use Rattle.k2_tree.proofs.TreeLemmas.{upper_bits, morton_bits-parted, length-longer, get_or-longer, length-level_bits, length-upper_bits, rank_of-map, get_or-filter, ones_of-upper_bits}
-
--- what holds of the Morton numbers of a tree's cells
-pub record AreCodes (height : ℕ) (codes : List ℕ) : Type 0 where
-  pub rising : Rises 0 codes
-  pub small : All (λ code. code < 4 ^ height) codes
 
 -- where a square is, the top has one
 pub one_top : (height : ℕ) (codes : List ℕ) → AreCodes height codes → (n : ℕ) → 0 < length (prefixes n codes)

@@ -3,8 +3,8 @@ use Rattle.std.proofs.Common.{◌≡◌, ℕ, zero, suc, ◌+◌, ◌*◌, ◌/�
 use Rattle.std.proofs.lemmas.Bool.{cases_lt}
 use Rattle.std.proofs.Math.Nat.{div-div-eq-div-mul, div-one, pow-suc, div-eq_of_lt, div-mul-le_self, le-div_iff_mul-le}
 use Rattle.std.specs.List.{dedup, dedup_from, list_any}
-use Rattle.k2_tree.specs.TreeBits.{is_in, prefixes, longer}
-use Rattle.k2_tree.proofs.RisingLemmas.{Rises, Climbs, Rises-weaker, is_in-first, is_in-other, is_in-below, same_test, other_test, same_from_rising}
+use Rattle.k2_tree.specs.TreeBits.{is_in, prefixes, longer, Rises}
+use Rattle.k2_tree.proofs.RisingLemmas.{Climbs, Rises-weaker, is_in-first, is_in-other, is_in-below, same_test, other_test, same_from_rising}
 
 -- each number once
 abbrev once_from : ℕ → List ℕ → List ℕ
@@ -99,6 +99,17 @@ is_in-map f g (x ∷ xs) c is = elim (by_test (f x) c) [
   or_right : (b : Bool) {r : Bool} → r ≡ true → (b || r) ≡ true
   or_right true e = refl
   or_right false e = e
+
+-- a number's prefix occurs
+pub prefixes-of : (n : ℕ) (codes : List ℕ) (c : ℕ) → is_in codes c ≡ true → is_in (prefixes n codes) (c / 4 ^ n) ≡ true
+unfolding prefixes
+prefixes-of n codes c is =
+    let same : is_in (map (λ x. x) codes) c ≡ true = ap (λ xs. is_in xs c) (map_id codes) ∙ is in
+    is_in-once (map (λ x. x / 4 ^ n) codes) (c / 4 ^ n) ∙ is_in-map (λ x. x) (λ x. x / 4 ^ n) codes c same
+ where
+  map_id : (xs : List ℕ) → map (λ x. x) xs ≡ xs
+  map_id [] = refl
+  map_id (x ∷ xs) = ap (λ ys. x ∷ ys) (map_id xs)
 
 -- where a prefix occurs, the one without its last digit does
 pub prefixes-shorter : (n : ℕ) (codes : List ℕ) (c : ℕ)

@@ -4,12 +4,7 @@ use Rattle.std.proofs.lemmas.Bool.Decides.{nat_tests}
 use Rattle.std.proofs.lemmas.Bool.{cases_lt}
 use Rattle.std.specs.List.{dedup, dedup_from, list_any}
 use Rattle.std.specs.List.Sorted.{IsStrictlyIncreasing}
-use Rattle.k2_tree.specs.TreeBits.{is_in}
-
--- the numbers are at least n and each is above the one before
-abbrev pub Rises : ℕ → List ℕ → Type 0
-Rises n [] = Unit {0}
-Rises n (x ∷ xs) = (n ≤ x) × Rises (suc x) xs
+use Rattle.k2_tree.specs.TreeBits.{is_in, Rises}
 
 -- the numbers are at least n and none is below the one before
 abbrev pub Climbs : ℕ → List ℕ → Type 0

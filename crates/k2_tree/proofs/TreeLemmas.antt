@@ -4,9 +4,8 @@ use Rattle.std.proofs.lemmas.Bool.{cases_lt}
 use Rattle.std.proofs.lemmas.List.{get_or-append-add, get_or_append_left, get_or-map, length-map}
 use Rattle.bit_rank.specs.Bits.{ones_of, rank_of, select_of, IsSelected}
 use Rattle.bit_rank.proofs.RankLemmas.{ones_of-append, ones_of-nil, ones_of-cons, rank_of-append, rank_of-append_left}
-use Rattle.k2_tree.specs.TreeBits.{is_in, prefixes, longer, level_bits, morton_bits}
+use Rattle.k2_tree.specs.TreeBits.{is_in, prefixes, longer, level_bits, morton_bits, Rises}
 use Rattle.k2_tree.specs.Squares.{squares_above, IsSquare}
-use Rattle.k2_tree.proofs.RisingLemmas.{Rises}
 use Rattle.k2_tree.proofs.PrefixLemmas.{prefixes-from_longer, prefixes-top, prefixes-none}
 
 -- the k levels above the level whose squares have n digits below them

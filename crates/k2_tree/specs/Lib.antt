@@ -2,3 +2,4 @@
 pub mod Morton
 pub mod TreeBits
 pub mod Squares
+pub mod Tree

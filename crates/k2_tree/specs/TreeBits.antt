@@ -1,5 +1,5 @@
 -- The bits of a k2-tree, by the prefixes of sorted Morton numbers.
-use Rattle.std.specs.Prelude.{ℕ, zero, suc, ◌+◌, ◌*◌, ◌/◌, ◌^◌, ◌==◌, Bool, List, [], ◌∷◌, ◌++◌, map, flat_map}
+use Rattle.std.specs.Prelude.{ℕ, zero, suc, ◌+◌, ◌*◌, ◌/◌, ◌^◌, ◌<◌, ◌≤◌, ◌==◌, Bool, List, [], ◌∷◌, ◌++◌, map, flat_map, All}
 use Rattle.std.specs.List.{dedup, list_any}
 
 -- a level parts each square in so many squares on either side
@@ -30,3 +30,13 @@ level_bits n codes = map (is_in (prefixes n codes)) (longer (prefixes (suc n) co
 unfoldable pub morton_bits : ℕ → List ℕ → List Bool
 morton_bits zero codes = []
 morton_bits (suc n) codes = level_bits n codes ++ morton_bits n codes
+
+-- the numbers are at least n, and each is above the one before
+abbrev pub Rises : ℕ → List ℕ → Type 0
+Rises n [] = Unit {0}
+Rises n (x ∷ xs) = (n ≤ x) × Rises (suc x) xs
+
+-- ascending Morton numbers of so many digits
+pub record AreCodes (height : ℕ) (codes : List ℕ) : Type 0 where
+  pub rising : Rises 0 codes
+  pub small : All (λ code. code < 4 ^ height) codes

@@ -1,4 +1,4 @@
-ghost use Rattle.std.specs.Prelude.{◌≡◌, ◌^◌, ◌≤◌, pos, neg_ℤ, ◌-ℤ◌, ◌≤ℤ◌};
+ghost use Rattle.std.specs.Prelude.{◌≡◌, ◌^◌, ◌≤◌, pos, neg_ℤ, ◌-ℤ◌, ◌≤ℤ◌, ◌↔◌, IsTrue};
 ghost use Rattle.std.specs.Int.RustNames.{unsigned_abs};
 ghost use Rattle.k2_tree.specs.Morton.{interleaved, morton_of, IsGrid, IsInGrid};
 
@@ -13,6 +13,18 @@ pub fn morton(cell: Cell, height: u32, base: Cell) -> u64
     ensures { result ≡ morton_of height base cell }
 {
     interleave(offset(cell.y, base.y), offset(cell.x, base.x), height)
+}
+
+/// Whether the cell is in the grid.
+pub fn is_in_grid(cell: Cell, height: u32, base: Cell) -> bool
+    requires { IsGrid height base }
+    ensures { IsTrue result ↔ IsInGrid height base cell }
+{
+    if cell.x < base.x || cell.y < base.y {
+        return false;
+    }
+    let side = 1 << height;
+    cell.x.abs_diff(base.x) < side && cell.y.abs_diff(base.y) < side
 }
 
 // How far a coordinate of the grid is from the base's.

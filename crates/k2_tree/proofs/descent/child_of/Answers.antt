@@ -1,0 +1,18 @@
+use Rattle.std.proofs.Common.{◌+◌, ◌*◌, true, false, arith, ap}
+use Rattle.std.proofs.lemmas.Option.{get_or_from_slice_get}
+use Rattle.bit_rank.proofs.RankLemmas.{rank_of-le-place}
+use Rattle.k2_tree.proofs.descent.child_of.Goals as goal
+
+pub overflow_add-result : goal.overflow_add-result
+overflow_add-result g c =
+    let place = 4 * c.args.square + c.args.digit in
+    omega (arith, c.rank1.ensures.value, rank_of-le-place c.args.bits.now place, c.requires.inside, c.requires.few)
+
+pub returns-then-get-clause-value : goal.returns-then-get-clause-value
+returns-then-get-clause-value g c =
+    (get_or_from_slice_get c.args.bits.now (4 * c.args.square + c.args.digit) true false c.if-get.ensures.value,
+     ap (λ r. r + 1) c.rank1.ensures.value)
+
+pub returns-else-get-clause-value : goal.returns-else-get-clause-value
+returns-else-get-clause-value g c =
+    get_or_from_slice_get c.args.bits.now (4 * c.args.square + c.args.digit) false false c.if-get.ensures.value

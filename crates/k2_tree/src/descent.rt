@@ -1,0 +1,58 @@
+ghost use Rattle.std.specs.Prelude.{◌≡◌, ◌+◌, ◌*◌, ◌^◌, ◌<◌, ◌≤◌, true, false, length, MatchOption, Some, slice_get, slice_index_or};
+ghost use Rattle.bit_rank.specs.Bits.{rank_of};
+ghost use Rattle.k2_tree.specs.TreeBits.{is_in};
+ghost use Rattle.k2_tree.specs.Tree.{codes_in, AreTreeBits};
+
+use bit_rank::Bits;
+use std::sync::ledger::Ledger;
+use step_count::Steps;
+
+/// The place of a Morton number among those that the bits tell, if it is one of them: from the top to
+/// its leaf, by the rank of one bit at each level.
+pub fn find_leaf<L: Ledger>(
+    bits: &Bits,
+    height: u32,
+    code: u64,
+    steps: &mut Steps<L>,
+) -> Option<u32>
+    requires tree { AreTreeBits height bits.now }
+    requires low { height ≤ 20 }
+    requires small { code < 4 ^ height }
+    requires some { 0 < length bits.now }
+    ensures value { MatchOption result (is_in (codes_in height bits.now) code ≡ false)
+        (λ leaf. slice_get (codes_in height bits.now) leaf ≡ Some code) }
+    ensures cost { steps.new ≤ steps.old + 11 * height }
+{
+    let mut square = 0;
+    for level in (0..height).rev() {
+        let digit = (code >> (2 * level)) % 4;
+        let Some(child) = child_of(bits, square, digit as u32, steps) else {
+            return None;
+        };
+        square = child;
+    }
+    Some(square - bits.len() / 4)
+}
+
+/// The number of a square's child, if that is there. The four bits of the square with number `j`
+/// stand at `4 * j`, and the one at a child's place is the one of the child's number.
+pub fn child_of<L: Ledger>(
+    bits: &Bits,
+    square: u32,
+    digit: u32,
+    steps: &mut Steps<L>,
+) -> Option<u32>
+    requires inside { 4 * square + digit < length bits.now }
+    requires few { length bits.now ≤ 2 ^ 31 }
+    ensures value { MatchOption result (slice_index_or bits.now (4 * square + digit) false ≡ false)
+        (λ child. (slice_index_or bits.now (4 * square + digit) false ≡ true)
+            × (child ≡ rank_of bits.now (4 * square + digit) + 1)) }
+    ensures cost { steps.new ≤ steps.old + 11 }
+{
+    let place = 4 * square + digit;
+    if bits.get(place, steps) {
+        Some(bits.rank1(place, steps) + 1)
+    } else {
+        None
+    }
+}
