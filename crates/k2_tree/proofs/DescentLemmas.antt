@@ -26,7 +26,7 @@ digit_more code n =
     omega arith
 
 -- no cell gives no bits
-morton_bits-none : (height : ℕ) → morton_bits height [] ≡ []
+pub morton_bits-none : (height : ℕ) → morton_bits height [] ≡ []
 unfolding morton_bits level_bits longer
 morton_bits-none zero = refl
 morton_bits-none (suc n) = rw (prefixes-none (suc n)) (morton_bits-none n)

@@ -4,4 +4,7 @@ pub mod PrefixLemmas
 pub mod TreeLemmas
 pub mod NavigationLemmas
 pub mod DescentLemmas
+pub mod DecodingLemmas
+pub mod CellLemmas
+pub mod LevelLemmas
 mod Examples

@@ -116,3 +116,26 @@ morton_of-cell_of height base code small =
     let ex : unsigned_abs (base.x +ℤ pos (column_of height code) -ℤ base.x) ≡ column_of height code = omega (arith, ints) in
     let ey : unsigned_abs (base.y +ℤ pos (row_of height code) -ℤ base.y) ≡ row_of height code = omega (arith, ints) in
     rw (ex, ey) (interleaved-row_of height code small)
+
+row_of-lt : (n code : ℕ) → row_of n code < 2 ^ n
+unfolding row_of
+row_of-lt zero code = omega arith
+row_of-lt (suc n) code = let rest = row_of-lt n (code / 4) in rw (pow-suc 2 n) (omega arith)
+
+column_of-lt : (n code : ℕ) → column_of n code < 2 ^ n
+unfolding column_of
+column_of-lt zero code = omega arith
+column_of-lt (suc n) code = let rest = column_of-lt n (code / 4) in rw (pow-suc 2 n) (omega arith)
+
+-- a number's cell is in the grid
+pub cell_of-inside : (height : ℕ) (base : Cell) (code : ℕ) → IsInGrid height base (cell_of height base code)
+unfolding cell_of
+cell_of-inside height base code =
+    let ex : unsigned_abs (base.x +ℤ pos (column_of height code) -ℤ base.x) ≡ column_of height code = omega (arith, ints) in
+    let ey : unsigned_abs (base.y +ℤ pos (row_of height code) -ℤ base.y) ≡ row_of height code = omega (arith, ints) in
+    record {
+      left = omega (arith, ints);
+      right = omega (arith, ex, column_of-lt height code);
+      below = omega (arith, ints);
+      above = omega (arith, ey, row_of-lt height code);
+    }

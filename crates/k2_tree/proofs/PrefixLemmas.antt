@@ -7,10 +7,10 @@ use Rattle.k2_tree.specs.TreeBits.{is_in, prefixes, longer, Rises}
 use Rattle.k2_tree.proofs.RisingLemmas.{Climbs, Rises-weaker, is_in-first, is_in-other, is_in-below, same_test, other_test, same_from_rising}
 
 -- each number once
-abbrev once_from : ℕ → List ℕ → List ℕ
+abbrev pub once_from : ℕ → List ℕ → List ℕ
 once_from = dedup_from (λ a b. a == b)
 
-abbrev once : List ℕ → List ℕ
+abbrev pub once : List ℕ → List ℕ
 once = dedup (λ a b. a == b)
 
 -- by the test's answer
@@ -53,7 +53,7 @@ is_in-once_from k (x ∷ xs) c = elim (by_test x k) [
   twice : (x k : ℕ) (xs : List ℕ) (c : ℕ) → x ≡ k → is_in (k ∷ x ∷ xs) c ≡ is_in (k ∷ xs) c
   twice x k xs c e = ap (λ z. is_in (k ∷ z ∷ xs) c) e ∙ or_twice (k == c) (is_in xs c)
 
-is_in-once : (xs : List ℕ) (c : ℕ) → is_in (once xs) c ≡ is_in xs c
+pub is_in-once : (xs : List ℕ) (c : ℕ) → is_in (once xs) c ≡ is_in xs c
 is_in-once [] c = refl
 is_in-once (x ∷ xs) c = is_in-once_from x xs c
 
@@ -196,7 +196,7 @@ is_in-filter p (x ∷ xs) c = elim (by_test x c) [
   apart false gone differ test rest = rw (gone, test) rest
 
 -- longer prefixes rise
-longer-rises : (n : ℕ) (xs : List ℕ) → Rises n xs → Rises (4 * n) (longer xs)
+pub longer-rises : (n : ℕ) (xs : List ℕ) → Rises n xs → Rises (4 * n) (longer xs)
 unfolding longer
 longer-rises n [] up = tt
 longer-rises n (x ∷ xs) up =

@@ -82,3 +82,13 @@ same_from_rising n (x ∷ xs) (y ∷ ys) rx ry same = elim (cases_lt x y) [
       let ry' : Rises (suc x) ys = Rises-weaker (suc x) (suc y) ys (omega arith) ry in
       let same' : (c : ℕ) → is_in (x ∷ xs) c ≡ is_in (x ∷ ys) c = λ c. same c ∙ ap (λ z. is_in (z ∷ ys) c) e in
       ap (λ zs. x ∷ zs) (hyp ry' (tails x xs ys rx ry' same')) ∙ ap (λ z. z ∷ ys) (sym e)
+
+-- a number that stands at a place is there
+pub by_place : (xs : List ℕ) (k c : ℕ) → k < length xs → get_or xs k 0 ≡ c → is_in xs c ≡ true
+by_place [] k c within stands = absurd (omega arith)
+by_place (x ∷ xs) zero c within stands = ap (λ z. is_in (z ∷ xs) c) stands ∙ is_in-first c xs
+by_place (x ∷ xs) (suc k) c within stands = or_right (x == c) (by_place xs k c (omega arith) stands)
+ where
+  or_right : (b : Bool) {r : Bool} → r ≡ true → (b || r) ≡ true
+  or_right true e = refl
+  or_right false e = e

@@ -7,5 +7,7 @@
 
 mod descent;
 mod morton_code;
+mod tree;
 
 pub use morton_code::morton;
+pub use tree::K2Tree;

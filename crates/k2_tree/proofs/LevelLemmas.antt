@@ -1,0 +1,158 @@
+-- One number more behind ascending ones: what it changes in a level's bits.
+use Rattle.std.proofs.Common.{◌≡◌, ℕ, zero, suc, ◌+◌, ◌-◌, ◌*◌, ◌/◌, ◌%◌, ◌^◌, ◌<◌, ◌≤◌, ◌==◌, ◌||◌, ◌⊎◌, Bool, true, false, cond, List, [], ◌∷◌, ◌++◌, length, map, take, get_or, refl, sym, ap, ◌∙◌, inl, inr, arith, subst, length-append}
+use Rattle.std.proofs.Math.ListN.{set}
+use Rattle.std.proofs.lemmas.List.{length-map}
+use Rattle.std.proofs.lemmas.List.Folds.{list_any-append}
+use Rattle.std.specs.List.{dedup, dedup_from, list_any}
+use Rattle.k2_tree.specs.TreeBits.{is_in, prefixes, level_bits, longer, Rises}
+use Rattle.k2_tree.proofs.RisingLemmas.{is_in-first, same_test, other_test, is_in-below, Rises-weaker}
+use Rattle.k2_tree.proofs.PrefixLemmas.{by_test, once_from, once, is_in-once, prefixes-rise, prefixes-shorter, longer-rises}
+use Rattle.k2_tree.proofs.TreeLemmas.{length-longer, get_or-longer}
+use Rattle.k2_tree.proofs.DescentLemmas.{digit_more}
+
+-- the last of a number and those behind it
+abbrev pub last_of : ℕ → List ℕ → ℕ
+last_of k [] = k
+last_of k (x ∷ xs) = last_of x xs
+
+-- four places that hold nothing
+abbrev pub four : List Bool
+four = false ∷ false ∷ false ∷ false ∷ []
+
+-- the same number again changes nothing
+once_from-same : (k y : ℕ) (xs : List ℕ) → y ≡ last_of k xs → once_from k (xs ++ y ∷ []) ≡ once_from k xs
+once_from-same k y [] e = rw (ap (λ z. z == k) e, same_test k) refl
+once_from-same k y (x ∷ xs) e = elim (by_test x k) [
+  | inl same ↦ rw same.1 (once_from-same k y xs (e ∙ ap (λ z. last_of z xs) same.0))
+  | inr differ ↦ rw differ.1 (ap (λ ys. k ∷ ys) (once_from-same x y xs e))
+]
+
+-- another number stands behind
+once_from-new : (k y : ℕ) (xs : List ℕ) → (y ≡ last_of k xs → ⊥) → once_from k (xs ++ y ∷ []) ≡ once_from k xs ++ y ∷ []
+once_from-new k y [] e = rw (other_test y k e) refl
+once_from-new k y (x ∷ xs) e = elim (by_test x k) [
+  | inl same ↦ rw same.1 (once_from-new k y xs (λ is. e (is ∙ ap (λ z. last_of z xs) (sym same.0))))
+  | inr differ ↦ rw differ.1 (ap (λ ys. k ∷ ys) (once_from-new x y xs e))
+]
+
+-- the last number stays the last
+once_from-last : (k : ℕ) (xs : List ℕ) → (0 < length (once_from k xs)) × (get_or (once_from k xs) (length (once_from k xs) - 1) 0 ≡ last_of k xs)
+once_from-last k [] = (omega arith, refl)
+once_from-last k (x ∷ xs) = elim (by_test x k) [
+  | inl same ↦ rw same.1 (let rest = once_from-last k xs in (rest.0, rest.1 ∙ ap (λ z. last_of z xs) (sym same.0)))
+  | inr differ ↦
+      let rest = once_from-last x xs in
+      let some : 0 < length (once_from x xs) = rest.0 in
+      let e : suc (length (once_from x xs)) - 1 ≡ suc (length (once_from x xs) - 1) = omega arith in
+      rw differ.1 (omega arith, (rw e rest.1))
+]
+
+-- the last of images
+last_of-map : (f : ℕ → ℕ) (k : ℕ) (xs : List ℕ) → last_of (f k) (map f xs) ≡ f (last_of k xs)
+last_of-map f k [] = refl
+last_of-map f k (x ∷ xs) = last_of-map f x xs
+
+last_of-snoc : (k y : ℕ) (xs : List ℕ) → last_of k (xs ++ y ∷ []) ≡ y
+last_of-snoc k y [] = refl
+last_of-snoc k y (x ∷ xs) = last_of-snoc x y xs
+
+map-snoc : (f : ℕ → ℕ) (xs : List ℕ) (y : ℕ) → map f (xs ++ y ∷ []) ≡ map f xs ++ f y ∷ []
+map-snoc f [] y = refl
+map-snoc f (x ∷ xs) y = ap (λ ys. f x ∷ ys) (map-snoc f xs y)
+
+-- the last prefix is the last number's
+prefixes-last : (n c : ℕ) (xs : List ℕ)
+    → (0 < length (prefixes n (xs ++ c ∷ []))) × (get_or (prefixes n (xs ++ c ∷ [])) (length (prefixes n (xs ++ c ∷ [])) - 1) 0 ≡ c / 4 ^ n)
+unfolding prefixes
+prefixes-last n c [] = (omega arith, refl)
+prefixes-last n c (x ∷ xs) =
+    let both = once_from-last (x / 4 ^ n) (map (λ y. y / 4 ^ n) (xs ++ c ∷ [])) in
+    (both.0, both.1 ∙ last_of-map (λ y. y / 4 ^ n) x (xs ++ c ∷ []) ∙ ap (λ y. y / 4 ^ n) (last_of-snoc x c xs))
+
+-- a prefix that the last number had
+pub prefixes-same : (n c x : ℕ) (xs : List ℕ) → c / 4 ^ n ≡ last_of x xs / 4 ^ n → prefixes n (x ∷ xs ++ c ∷ []) ≡ prefixes n (x ∷ xs)
+unfolding prefixes
+prefixes-same n c x xs e =
+    ap (once_from (x / 4 ^ n)) (map-snoc (λ y. y / 4 ^ n) xs c)
+    ∙ once_from-same (x / 4 ^ n) (c / 4 ^ n) (map (λ y. y / 4 ^ n) xs) (e ∙ sym (last_of-map (λ y. y / 4 ^ n) x xs))
+
+-- a prefix that the last number had not
+pub prefixes-new : (n c x : ℕ) (xs : List ℕ) → (c / 4 ^ n ≡ last_of x xs / 4 ^ n → ⊥)
+    → prefixes n (x ∷ xs ++ c ∷ []) ≡ prefixes n (x ∷ xs) ++ c / 4 ^ n ∷ []
+unfolding prefixes
+prefixes-new n c x xs e =
+    ap (once_from (x / 4 ^ n)) (map-snoc (λ y. y / 4 ^ n) xs c)
+    ∙ once_from-new (x / 4 ^ n) (c / 4 ^ n) (map (λ y. y / 4 ^ n) xs) (λ is. e (is ∙ last_of-map (λ y. y / 4 ^ n) x xs))
+
+-- the prefixes of one number more
+is_in-more : (n c z : ℕ) (xs : List ℕ) → is_in (prefixes n (xs ++ c ∷ [])) z ≡ (is_in (prefixes n xs) z || (c / 4 ^ n == z))
+unfolding prefixes
+is_in-more n c z xs =
+    is_in-once (map (λ y. y / 4 ^ n) (xs ++ c ∷ [])) z
+    ∙ ap (λ ys. is_in ys z) (map-snoc (λ y. y / 4 ^ n) xs c)
+    ∙ list_any-append (λ other. other == z) (map (λ y. y / 4 ^ n) xs) (c / 4 ^ n ∷ [])
+    ∙ ap (λ b. b || is_in (c / 4 ^ n ∷ []) z) (sym (is_in-once (map (λ y. y / 4 ^ n) xs) z))
+    ∙ ap (λ b. is_in (once (map (λ y. y / 4 ^ n) xs)) z || b) (or_false (c / 4 ^ n == z))
+ where
+  or_false : (b : Bool) → (b || false) ≡ b
+  or_false true = refl
+  or_false false = refl
+
+-- what stands at a place of a rising list is at least its least
+Rises-place : (n i : ℕ) (xs : List ℕ) → Rises n xs → i < length xs → n ≤ get_or xs i 0
+Rises-place n i [] up within = absurd (omega arith)
+Rises-place n zero (x ∷ xs) up within = up.0
+Rises-place n (suc i) (x ∷ xs) up within =
+    let later = Rises-place (suc x) i xs up.1 (omega arith) in
+    let low : n ≤ x = up.0 in omega arith
+
+-- a test that has come true at one number alone
+mark : (f g : ℕ → Bool) (p : ℕ) → ((z : ℕ) → g z ≡ (f z || (p == z))) → (n i : ℕ) (xs : List ℕ) → Rises n xs → i < length xs
+    → get_or xs i 0 ≡ p → map g xs ≡ set (map f xs) i true
+mark f g p more n i [] up within here = absurd (omega arith)
+mark f g p more n zero (x ∷ xs) up within here =
+    ap (λ b. b ∷ map g xs) (more x ∙ ap (λ z. f x || (z == x)) (sym here) ∙ ap (λ b. f x || b) (same_test x) ∙ or_true (f x))
+    ∙ ap (λ ys. true ∷ ys) (kept (suc x) xs up.1 (omega (arith, here)))
+ where
+  or_true : (b : Bool) → (b || true) ≡ true
+  or_true true = refl
+  or_true false = refl
+  or_false : (b : Bool) → (b || false) ≡ b
+  or_false true = refl
+  or_false false = refl
+  kept : (n : ℕ) (xs : List ℕ) → Rises n xs → p < n → map g xs ≡ map f xs
+  kept n [] up above = refl
+  kept n (x ∷ xs) up above =
+      let low : n ≤ x = up.0 in
+      ap (λ b. b ∷ map g xs) (more x ∙ ap (λ b. f x || b) (other_test p x (λ e. omega arith)) ∙ or_false (f x))
+      ∙ ap (λ ys. f x ∷ ys) (kept (suc x) xs up.1 (omega arith))
+mark f g p more n (suc i) (x ∷ xs) up within here =
+    let later = Rises-place (suc x) i xs up.1 (omega arith) in
+    ap (λ b. b ∷ map g xs) (more x ∙ ap (λ b. f x || b) (other_test p x (λ e. omega (arith, later, here))) ∙ or_false (f x))
+    ∙ ap (λ ys. f x ∷ ys) (mark f g p more (suc x) i xs up.1 (omega arith) here)
+ where
+  or_false : (b : Bool) → (b || false) ≡ b
+  or_false true = refl
+  or_false false = refl
+
+-- one number more sets one bit in the last group
+pub level_more : (n c : ℕ) (xs : List ℕ) (grown : List Bool) → Rises 0 (xs ++ c ∷ [])
+    → grown ≡ map (is_in (prefixes n xs)) (longer (prefixes (suc n) (xs ++ c ∷ [])))
+    → (4 ≤ length grown) × (level_bits n (xs ++ c ∷ []) ≡ set grown (length grown - 4 + c / 4 ^ n % 4) true)
+unfolding level_bits
+level_more n c xs grown up is =
+    let above : List ℕ = prefixes (suc n) (xs ++ c ∷ []) in
+    let last = prefixes-last (suc n) c xs in
+    let some : 0 < length above = last.0 in
+    let long : length grown ≡ 4 * length above = ap length is ∙ (simp length-map) ∙ length-longer above in
+    let place : length grown - 4 + c / 4 ^ n % 4 ≡ 4 * (length above - 1) + c / 4 ^ n % 4 = omega arith in
+    let prefix : 4 * (c / 4 ^ suc n) + c / 4 ^ n % 4 ≡ c / 4 ^ n = digit_more c n in
+    let here : get_or (longer above) (4 * (length above - 1) + c / 4 ^ n % 4) 0 ≡ c / 4 ^ n =
+        get_or-longer above (length above - 1) (c / 4 ^ n % 4) (omega arith) (omega arith) ∙ ap (λ q. 4 * q + c / 4 ^ n % 4) last.1 ∙ prefix in
+    let up' : Rises 0 (longer above) = longer-rises 0 above (prefixes-rise (suc n) (xs ++ c ∷ []) up) in
+    let inside : 4 * (length above - 1) + c / 4 ^ n % 4 < length (longer above) = omega (arith, length-longer above) in
+    (omega arith,
+     mark (is_in (prefixes n xs)) (is_in (prefixes n (xs ++ c ∷ []))) (c / 4 ^ n) (λ z. is_in-more n c z xs)
+         0 (4 * (length above - 1) + c / 4 ^ n % 4) (longer above) up' inside here
+     ∙ ap (λ ys. set ys (4 * (length above - 1) + c / 4 ^ n % 4) true) (sym is)
+     ∙ ap (λ k. set grown k true) (sym place))

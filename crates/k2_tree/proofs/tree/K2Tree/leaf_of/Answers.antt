@@ -1,0 +1,29 @@
+use Rattle.std.proofs.Common.{◌≡◌, ◌<◌, ◌^◌, false, true, refl, Some, MatchOption, arith, ap, sym, subst}
+use Rattle.std.specs.Prelude.{slice_get, Contains}
+use Rattle.k2_tree.specs.Morton.{morton_of}
+use Rattle.k2_tree.specs.Tree.{Tree, codes_in}
+use Rattle.k2_tree.specs.TreeBits.{is_in}
+use Rattle.k2_tree.proofs.MortonLemmas.{morton_of-lt}
+use Rattle.k2_tree.proofs.CellLemmas.{no_cell, outside_cell, told}
+use Rattle.k2_tree.proofs.tree.K2Tree.leaf_of.Goals as goal
+
+pub returns-then-len-eq0-clause-value : goal.returns-then-len-eq0-clause-value
+returns-then-len-eq0-clause-value g c =
+    subst (λ (t : Tree). Contains t.cells c.args.cell → ⊥) c.self.view_is
+    (no_cell c.self.inside.height c.self.inside.base c.args.cell c.self.inside.bits (omega (arith, c.len.ensures)))
+
+pub returns-then-not-is_in_grid-clause-value : goal.returns-then-not-is_in_grid-clause-value
+returns-then-not-is_in_grid-clause-value g c =
+    subst (λ (t : Tree). Contains t.cells c.args.cell → ⊥) c.self.view_is
+    (outside_cell c.self.inside.height c.self.inside.base c.args.cell (codes_in c.self.inside.height c.self.inside.bits) (λ inside. let clash : false ≡ true = c.if-not-is_in_grid.ensures.1 inside in absurd (cc)))
+
+pub find_leaf-requires-clause-small : goal.find_leaf-requires-clause-small
+find_leaf-requires-clause-small g c =
+    omega (arith, c.morton-code.ensures, morton_of-lt c.self.inside.height c.self.inside.base c.args.cell)
+
+pub returns-clause-value : goal.returns-clause-value
+returns-clause-value g c =
+    subst (λ (t : Tree). MatchOption c.find_leaf.result (Contains t.cells c.args.cell → ⊥) (λ leaf. slice_get t.cells leaf ≡ Some c.args.cell)) c.self.view_is
+    (told c.self.inside.height c.self.inside.base c.args.cell c.self.inside.bits c.find_leaf.result c.self.invariant (c.if-not-is_in_grid.ensures.0 refl)
+        (subst (λ m. MatchOption c.find_leaf.result (is_in (codes_in c.self.inside.height c.self.inside.bits) m ≡ false)
+            (λ l. slice_get (codes_in c.self.inside.height c.self.inside.bits) l ≡ Some m)) c.morton-code.ensures c.find_leaf.ensures.value))
