@@ -156,3 +156,60 @@ level_more n c xs grown up is =
          0 (4 * (length above - 1) + c / 4 ^ n % 4) (longer above) up' inside here
      ∙ ap (λ ys. set ys (4 * (length above - 1) + c / 4 ^ n % 4) true) (sym is)
      ∙ ap (λ k. set grown k true) (sym place))
+
+-- what rises behind a list is not in it
+absent_last : (n q : ℕ) (xs : List ℕ) → Rises n (xs ++ q ∷ []) → (is_in xs q ≡ false) × (n ≤ q)
+absent_last n q [] up = (refl, up.0)
+absent_last n q (x ∷ xs) up =
+    let rest = absent_last (suc x) q xs up.1 in
+    let low : suc x ≤ q = rest.1 in
+    let first : n ≤ x = up.0 in
+    (rw (other_test x q (λ e. omega arith)) rest.0, omega arith)
+
+longer-snoc : (xs : List ℕ) (q : ℕ) → longer (xs ++ q ∷ []) ≡ longer xs ++ (4 * q ∷ (4 * q + 1) ∷ (4 * q + 2) ∷ (4 * q + 3) ∷ [])
+unfolding longer
+longer-snoc [] q = refl
+longer-snoc (x ∷ xs) q = ap (λ ys. 4 * x ∷ (4 * x + 1) ∷ (4 * x + 2) ∷ (4 * x + 3) ∷ ys) (longer-snoc xs q)
+
+map_append : (f : ℕ → Bool) (xs ys : List ℕ) → map f (xs ++ ys) ≡ map f xs ++ map f ys
+map_append f [] ys = refl
+map_append f (x ∷ xs) ys = ap (λ bs. f x ∷ bs) (map_append f xs ys)
+
+-- the first number opens the first group
+pub grown_first : (n c : ℕ) → level_bits n [] ++ four ≡ map (is_in (prefixes n [])) (longer (prefixes (suc n) ([] ++ c ∷ [])))
+unfolding level_bits prefixes longer
+grown_first n c = refl
+
+-- a number of the last group opens none
+pub grown_same : (n c x : ℕ) (xs : List ℕ) → c / 4 ^ suc n ≡ last_of x xs / 4 ^ suc n
+    → level_bits n (x ∷ xs) ≡ map (is_in (prefixes n (x ∷ xs))) (longer (prefixes (suc n) (x ∷ xs ++ c ∷ [])))
+unfolding level_bits
+grown_same n c x xs e = ap (λ ps. map (is_in (prefixes n (x ∷ xs))) (longer ps)) (sym (prefixes-same (suc n) c x xs e))
+
+-- another number opens a group in which nothing was
+pub grown_new : (n c x : ℕ) (xs : List ℕ) → Rises 0 (x ∷ xs ++ c ∷ []) → (c / 4 ^ suc n ≡ last_of x xs / 4 ^ suc n → ⊥)
+    → level_bits n (x ∷ xs) ++ four ≡ map (is_in (prefixes n (x ∷ xs))) (longer (prefixes (suc n) (x ∷ xs ++ c ∷ [])))
+unfolding level_bits
+grown_new n c x xs up differ =
+    let old : List ℕ = prefixes (suc n) (x ∷ xs) in
+    let q : ℕ = c / 4 ^ suc n in
+    let f : ℕ → Bool = is_in (prefixes n (x ∷ xs)) in
+    let new : prefixes (suc n) (x ∷ xs ++ c ∷ []) ≡ old ++ q ∷ [] = prefixes-new (suc n) c x xs differ in
+    let rises : Rises 0 (old ++ q ∷ []) = subst (Rises 0) new (prefixes-rise (suc n) (x ∷ xs ++ c ∷ []) up) in
+    let gone : is_in old q ≡ false = (absent_last 0 q old rises).0 in
+    let none : (d : ℕ) → d < 4 → f (4 * q + d) ≡ false = λ d small. empty_at (4 * q + d) (ap (is_in old) (quotient d small) ∙ gone) in
+    let zero_place : f (4 * q) ≡ false = empty_at (4 * q) (ap (is_in old) (omega arith) ∙ gone) in
+    let fresh : map f (4 * q ∷ (4 * q + 1) ∷ (4 * q + 2) ∷ (4 * q + 3) ∷ []) ≡ four =
+        (rw (zero_place, none 1 (omega arith), none 2 (omega arith), none 3 (omega arith)) refl) in
+    sym (ap (λ ps. map f (longer ps)) new ∙ ap (map f) (longer-snoc old q)
+        ∙ map_append f (longer old) (4 * q ∷ (4 * q + 1) ∷ (4 * q + 2) ∷ (4 * q + 3) ∷ [])
+        ∙ ap (λ bs. map f (longer old) ++ bs) fresh)
+ where
+  quotient : (d : ℕ) → d < 4 → (4 * (c / 4 ^ suc n) + d) / 4 ≡ c / 4 ^ suc n
+  quotient d small = omega arith
+  empty_at : (z : ℕ) → is_in (prefixes (suc n) (x ∷ xs)) (z / 4) ≡ false → is_in (prefixes n (x ∷ xs)) z ≡ false
+  empty_at z gone = by_answer (is_in (prefixes n (x ∷ xs)) z) refl
+   where
+    by_answer : (b : Bool) → is_in (prefixes n (x ∷ xs)) z ≡ b → is_in (prefixes n (x ∷ xs)) z ≡ false
+    by_answer false is = is
+    by_answer true is = let clash : true ≡ false = sym (prefixes-shorter n (x ∷ xs) z is) ∙ gone in absurd (cc)

@@ -7,4 +7,5 @@ pub mod DescentLemmas
 pub mod DecodingLemmas
 pub mod CellLemmas
 pub mod LevelLemmas
+pub mod BuildingLemmas
 mod Examples

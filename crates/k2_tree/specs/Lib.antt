@@ -3,3 +3,4 @@ pub mod Morton
 pub mod TreeBits
 pub mod Squares
 pub mod Tree
+pub mod Building

@@ -5,6 +5,7 @@
 //! The crate stands on `track_types`, `bit_rank` and `step_count`.
 #![tactic(auto)]
 
+mod building;
 mod descent;
 mod morton_code;
 mod tree;
