@@ -4,7 +4,7 @@ use Rattle.std.specs.Prelude.{slice_get, Contains}
 use Rattle.std.proofs.lemmas.List.{length-map, get_or-map}
 use Rattle.std.proofs.lemmas.List.Elements.{All-map}
 use Rattle.std.proofs.lemmas.Option.{slice_get-map}
-use Rattle.bit_rank.specs.Bits.{ones_of}
+use Rattle.packed_bits.specs.Bits.{ones_of}
 use Rattle.track_types.specs.declared.cell.Cell.{Cell}
 use Rattle.k2_tree.specs.Morton.{morton_of, cell_of, IsGrid, IsInGrid}
 use Rattle.k2_tree.specs.TreeBits.{is_in, morton_bits, AreCodes}

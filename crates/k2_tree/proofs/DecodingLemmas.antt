@@ -1,8 +1,8 @@
 -- What a tree's bits tell: the Morton numbers that they were made of.
 use Rattle.std.proofs.Common.{◌≡◌, ℕ, zero, suc, ◌+◌, ◌-◌, ◌*◌, ◌/◌, ◌%◌, ◌^◌, ◌<◌, ◌≤◌, Bool, true, false, cond, List, [], ◌∷◌, ◌++◌, length, map, filter, drop, get_or, refl, sym, ap, ◌∙◌, arith, subst, Some, lit<, All, length-append}
 use Rattle.std.proofs.lemmas.List.{length-map}
-use Rattle.bit_rank.specs.Bits.{ones_of}
-use Rattle.bit_rank.proofs.RankLemmas.{ones_of-append, ones_of-nil}
+use Rattle.packed_bits.specs.Bits.{ones_of}
+use Rattle.packed_bits.proofs.OnesLemmas.{ones_of-append, ones_of-nil}
 use Rattle.k2_tree.specs.TreeBits.{is_in, prefixes, level_bits, longer, morton_bits, Rises, AreCodes}
 use Rattle.k2_tree.specs.Squares.{squares_above}
 use Rattle.k2_tree.specs.Tree.{picked, codes_below, codes_in, AreTreeBits}

@@ -8,4 +8,6 @@ pub mod DecodingLemmas
 pub mod CellLemmas
 pub mod LevelLemmas
 pub mod BuildingLemmas
+pub mod PackingLemmas
+pub mod BuiltLemmas
 mod Examples

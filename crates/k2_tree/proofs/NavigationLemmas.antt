@@ -3,8 +3,10 @@ use Rattle.std.proofs.Common.{◌≡◌, ℕ, zero, suc, ◌+◌, ◌*◌, ◌/�
 use Rattle.std.proofs.lemmas.Bool.{cases_lt}
 use Rattle.std.proofs.lemmas.List.{get_or-append-add, get_or_append_left, get_or-map, length-map}
 use Rattle.std.proofs.lemmas.Option.{slice_get-get_or}
-use Rattle.bit_rank.specs.Bits.{ones_of, rank_of, select_of, IsSelected}
-use Rattle.bit_rank.proofs.RankLemmas.{ones_of-append, rank_of-append, rank_of-append_left, select_of-from_IsSelected}
+use Rattle.packed_bits.specs.Bits.{ones_of}
+use Rattle.bit_rank.specs.Bits.{rank_of, select_of, IsSelected}
+use Rattle.packed_bits.proofs.OnesLemmas.{ones_of-append}
+use Rattle.bit_rank.proofs.RankLemmas.{rank_of-append, rank_of-append_left, select_of-from_IsSelected}
 use Rattle.k2_tree.specs.TreeBits.{is_in, prefixes, longer, level_bits, morton_bits, Rises, AreCodes}
 use Rattle.k2_tree.specs.Squares.{squares_above, IsSquare}
 use Rattle.k2_tree.proofs.RisingLemmas.{Rises-weaker, is_in-first, is_in-other}

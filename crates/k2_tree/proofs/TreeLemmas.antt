@@ -2,8 +2,10 @@
 use Rattle.std.proofs.Common.{◌≡◌, ℕ, zero, suc, ◌+◌, ◌*◌, ◌/◌, ◌%◌, ◌^◌, ◌<◌, ◌≤◌, ◌==◌, ◌||◌, ◌&&◌, ◌⊎◌, Bool, true, false, cond, List, [], ◌∷◌, ◌++◌, length, map, filter, take, drop, get_or, refl, sym, ap, ◌∙◌, inl, inr, arith, All, lit<, subst, append_assoc, length-append}
 use Rattle.std.proofs.lemmas.Bool.{cases_lt}
 use Rattle.std.proofs.lemmas.List.{get_or-append-add, get_or_append_left, get_or-map, length-map}
-use Rattle.bit_rank.specs.Bits.{ones_of, rank_of, select_of, IsSelected}
-use Rattle.bit_rank.proofs.RankLemmas.{ones_of-append, ones_of-nil, ones_of-cons, rank_of-append, rank_of-append_left}
+use Rattle.packed_bits.specs.Bits.{ones_of}
+use Rattle.bit_rank.specs.Bits.{rank_of, select_of, IsSelected}
+use Rattle.packed_bits.proofs.OnesLemmas.{ones_of-append, ones_of-nil, ones_of-cons}
+use Rattle.bit_rank.proofs.RankLemmas.{rank_of-append, rank_of-append_left}
 use Rattle.k2_tree.specs.TreeBits.{is_in, prefixes, longer, level_bits, morton_bits, Rises}
 use Rattle.k2_tree.specs.Squares.{squares_above, IsSquare}
 use Rattle.k2_tree.proofs.PrefixLemmas.{prefixes-from_longer, prefixes-top, prefixes-none}

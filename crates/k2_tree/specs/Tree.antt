@@ -10,6 +10,10 @@ pub record Tree : Type 0 where
   pub base : Cell
   pub cells : List Cell
 
+-- the tree of these cells
+abbrev pub tree_with : ℕ → Cell → List Cell → Tree
+tree_with height base cells = record { height = height; base = base; cells = cells }
+
 -- the Morton numbers of a tree's cells
 abbrev pub codes_of : Tree → List ℕ
 codes_of tree = map (morton_of tree.height tree.base) tree.cells

@@ -8,6 +8,7 @@
 mod building;
 mod descent;
 mod morton_code;
+mod packing;
 mod tree;
 
 pub use morton_code::morton;

@@ -1,8 +1,9 @@
-ghost use Rattle.std.specs.Prelude.{◌≡◌, ◌^◌, ◌≤◌, pos, neg_ℤ, ◌-ℤ◌, ◌≤ℤ◌, ◌↔◌, IsTrue};
+ghost use Rattle.std.specs.Prelude.{◌≡◌, ◌^◌, ◌≤◌, pos, neg_ℤ, ◌-ℤ◌, ◌≤ℤ◌, ◌↔◌, map, All, IfOk, IsTrue};
 ghost use Rattle.std.specs.Int.RustNames.{unsigned_abs};
 ghost use Rattle.k2_tree.specs.Morton.{interleaved, morton_of, IsGrid, IsInGrid};
 
-use track_types::{Cell, MAX_HEIGHT};
+use std::alloc::Global;
+use track_types::{Cell, MAX_HEIGHT, Memory};
 
 /// The Morton number of a cell in the grid of side `2^height` from the base cell: `height` digits to
 /// base 4, the highest first. Each digit is twice a bit of the row and the same bit of the column,
@@ -13,6 +14,24 @@ pub fn morton(cell: Cell, height: u32, base: Cell) -> u64
     ensures { result ≡ morton_of height base cell }
 {
     interleave(offset(cell.y, base.y), offset(cell.x, base.x), height)
+}
+
+/// The Morton numbers of the cells, in their order.
+pub fn codes_of_cells(
+    alloc: Global,
+    cells: &[Cell],
+    height: u32,
+    base: Cell,
+) -> Result<Vec<u64>, Memory>
+    requires grid { IsGrid height base }
+    requires inside { All (IsInGrid height base) cells.now }
+    ensures ok { IfOk result (λ codes. codes.items ≡ map (morton_of height base) cells.now) }
+{
+    let mut codes = Vec::with_capacity(alloc, cells.len())?;
+    for cell in cells {
+        codes.push(morton(*cell, height, base))?;
+    }
+    Ok(codes)
 }
 
 /// Whether the cell is in the grid.

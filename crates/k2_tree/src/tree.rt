@@ -1,14 +1,19 @@
-ghost use Rattle.std.specs.Prelude.{◌≡◌, ◌+◌, ◌*◌, ◌≤◌, length, MatchOption, Some, slice_get, Contains};
-ghost use Rattle.k2_tree.specs.Tree.{IsTree};
+ghost use Rattle.std.specs.Prelude.{◌≡◌, ◌+◌, ◌*◌, ◌^◌, ◌≤◌, length, map, All, Contains, IfOk, MatchOption, Some, slice_get};
+ghost use Rattle.std.specs.List.Sorted.{IsStrictlyIncreasing};
+ghost use Rattle.k2_tree.specs.Morton.{morton_of, IsGrid, IsInGrid};
+ghost use Rattle.k2_tree.specs.TreeBits.{morton_bits};
+ghost use Rattle.k2_tree.specs.Tree.{codes_of, tree_with, IsTree};
 
-use bit_rank::Bits;
+use crate::building::bits_of_codes;
+use crate::descent::find_leaf;
+use crate::morton_code::{codes_of_cells, is_in_grid, morton};
+use crate::packing::pack;
+use bit_rank::{Bits, NoRoom};
+use std::alloc::Global;
 use std::marker::Model;
 use std::sync::ledger::Ledger;
 use step_count::Steps;
-use track_types::Cell;
-
-use crate::descent::find_leaf;
-use crate::morton_code::{is_in_grid, morton};
+use track_types::{BitList, Cell, Memory};
 
 /// A set of cells in the grid of side `2^height` whose least corner is a base cell.
 ///
@@ -33,6 +38,36 @@ impl Model for K2Tree {
 }
 
 impl K2Tree {
+    /// The tree of a set of cells, in one pass over them for each level.
+    ///
+    /// The cells ascend in Morton order, so that none stands twice, and there are at most 2^16. The
+    /// height is 1 to 20, and the base's coordinates are within 2^41 of 0. Memory is taken for the
+    /// Morton numbers, the bits and their directory.
+    pub fn build(alloc: Global, cells: &[Cell], height: u32, base: Cell) -> Result<K2Tree, Memory>
+        requires grid { IsGrid height base }
+        requires few { length cells.now ≤ 2 ^ 16 }
+        requires inside { All (IsInGrid height base) cells.now }
+        requires ascending { IsStrictlyIncreasing (map (morton_of height base) cells.now) }
+        ensures ok { IfOk result (λ t. t ≡ tree_with height base cells.now) }
+    {
+        let codes = codes_of_cells(alloc, cells, height, base)?;
+        let bits = bits_of_codes(alloc, codes.as_slice(), height)?;
+        let words = pack(alloc, bits.as_slice())?;
+        match Bits::from_words(alloc, words, bits.len() as u32) {
+            Ok(bits) => Ok(K2Tree { bits, height, base }),
+            Err(NoRoom) => Err(Memory),
+        }
+    }
+
+    /// The tree bits. The tree is given up, so that none of them can be read uncounted while it is
+    /// lent.
+    pub fn bits(self) -> BitList
+        ensures { result ≡ morton_bits self.height (codes_of self) }
+    {
+        let len = self.bits.len();
+        BitList::new(self.bits.into_words(), len)
+    }
+
     /// The number of leaves.
     pub fn leaves(&self) -> u32
         ensures value { result ≡ length self.now.cells }

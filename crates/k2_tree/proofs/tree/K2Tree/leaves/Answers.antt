@@ -1,6 +1,6 @@
 use Rattle.std.proofs.Common.{◌≡◌, ◌+◌, ◌/◌, length, arith, ap, sym, subst}
-use Rattle.bit_rank.specs.Bits.{ones_of}
-use Rattle.bit_rank.proofs.RankLemmas.{ones_of-le-length}
+use Rattle.packed_bits.specs.Bits.{ones_of}
+use Rattle.packed_bits.proofs.OnesLemmas.{ones_of-le-length}
 use Rattle.k2_tree.specs.Tree.{Tree, IsTree}
 use Rattle.k2_tree.proofs.CellLemmas.{no_leaf, leaf_count, IsTree-stored}
 use Rattle.k2_tree.proofs.tree.K2Tree.leaves.Goals as goal

@@ -1,0 +1,22 @@
+use Rattle.std.proofs.Common.{◌≡◌, List, ℕ, Bool, length, take, sym, ap, ◌∙◌, subst}
+use Rattle.packed_bits.specs.Bits.{packed}
+use Rattle.packed_bits.specs.Words.{IsPacked, bits_of}
+use Rattle.packed_bits.proofs.WordLemmas.{IsPacked-packed, bits_of-packed}
+use Rattle.k2_tree.specs.TreeBits.{morton_bits}
+use Rattle.k2_tree.specs.Tree.{Tree, codes_of}
+use Rattle.k2_tree.proofs.BuiltLemmas.{given_back}
+use Rattle.k2_tree.proofs.tree.K2Tree.bits.Goals as goal
+
+pub new-requires : goal.new-requires
+new-requires c =
+    subst (λ n. IsPacked c.into_words.result.items n) (sym c.len-len.ensures)
+    (subst (λ ws. IsPacked ws (length c.self.inside.bits)) (sym c.into_words.ensures) (IsPacked-packed c.self.inside.bits))
+
+pub returns : goal.returns
+returns c =
+    let whole : take c.len-len.result (bits_of c.into_words.result.items) ≡ c.self.inside.bits =
+        ap (λ n. take n (bits_of c.into_words.result.items)) c.len-len.ensures
+        ∙ ap (λ ws. take (length c.self.inside.bits) (bits_of ws)) c.into_words.ensures
+        ∙ bits_of-packed c.self.inside.bits in
+    subst (λ (t : Tree). c.new.result ≡ morton_bits t.height (codes_of t)) c.self.view_is
+    (c.new.ensures.value ∙ whole ∙ given_back c.self.inside.height c.self.inside.base c.self.inside.bits c.self.invariant)
