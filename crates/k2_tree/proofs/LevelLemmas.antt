@@ -99,7 +99,7 @@ is_in-more n c z xs =
   or_false false = refl
 
 -- what stands at a place of a rising list is at least its least
-Rises-place : (n i : ℕ) (xs : List ℕ) → Rises n xs → i < length xs → n ≤ get_or xs i 0
+pub Rises-place : (n i : ℕ) (xs : List ℕ) → Rises n xs → i < length xs → n ≤ get_or xs i 0
 Rises-place n i [] up within = absurd (omega arith)
 Rises-place n zero (x ∷ xs) up within = up.0
 Rises-place n (suc i) (x ∷ xs) up within =

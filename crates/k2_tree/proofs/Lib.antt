@@ -10,4 +10,6 @@ pub mod LevelLemmas
 pub mod BuildingLemmas
 pub mod PackingLemmas
 pub mod BuiltLemmas
+pub mod ClimbLemmas
+pub mod DigitLemmas
 mod Examples

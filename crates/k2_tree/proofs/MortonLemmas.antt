@@ -117,12 +117,12 @@ morton_of-cell_of height base code small =
     let ey : unsigned_abs (base.y +ℤ pos (row_of height code) -ℤ base.y) ≡ row_of height code = omega (arith, ints) in
     rw (ex, ey) (interleaved-row_of height code small)
 
-row_of-lt : (n code : ℕ) → row_of n code < 2 ^ n
+pub row_of-lt : (n code : ℕ) → row_of n code < 2 ^ n
 unfolding row_of
 row_of-lt zero code = omega arith
 row_of-lt (suc n) code = let rest = row_of-lt n (code / 4) in rw (pow-suc 2 n) (omega arith)
 
-column_of-lt : (n code : ℕ) → column_of n code < 2 ^ n
+pub column_of-lt : (n code : ℕ) → column_of n code < 2 ^ n
 unfolding column_of
 column_of-lt zero code = omega arith
 column_of-lt (suc n) code = let rest = column_of-lt n (code / 4) in rw (pow-suc 2 n) (omega arith)

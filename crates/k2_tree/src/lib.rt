@@ -6,6 +6,7 @@
 #![tactic(auto)]
 
 mod building;
+mod climb;
 mod descent;
 mod morton_code;
 mod packing;

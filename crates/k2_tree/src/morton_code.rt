@@ -1,6 +1,6 @@
-ghost use Rattle.std.specs.Prelude.{◌≡◌, ◌^◌, ◌≤◌, pos, neg_ℤ, ◌-ℤ◌, ◌≤ℤ◌, ◌↔◌, map, All, IfOk, IsTrue};
+ghost use Rattle.std.specs.Prelude.{◌≡◌, ◌^◌, ◌<◌, ◌≤◌, pos, neg_ℤ, ◌+ℤ◌, ◌-ℤ◌, ◌≤ℤ◌, ◌↔◌, map, All, IfOk, IsTrue};
 ghost use Rattle.std.specs.Int.RustNames.{unsigned_abs};
-ghost use Rattle.k2_tree.specs.Morton.{interleaved, morton_of, IsGrid, IsInGrid};
+ghost use Rattle.k2_tree.specs.Morton.{cell_of, column_of, interleaved, morton_of, row_of, IsGrid, IsInGrid};
 
 use std::alloc::Global;
 use track_types::{Cell, MAX_HEIGHT, Memory};
@@ -65,4 +65,51 @@ fn interleave(row: u64, column: u64, height: u32) -> u64
         code = 4 * code + 2 * ((row >> level) % 2) + (column >> level) % 2;
     }
     code
+}
+
+/// The cell that has the Morton number.
+pub fn cell_at(code: u64, height: u32, base: Cell) -> Cell
+    requires grid { IsGrid height base }
+    ensures { result ≡ cell_of height base code }
+{
+    Cell {
+        x: moved(base.x, column_at(code, height)),
+        y: moved(base.y, row_at(code, height)),
+    }
+}
+
+// The coordinate so far from the base's.
+fn moved(base: i64, by: u64) -> i64
+    requires low { neg_ℤ (pos (2 ^ 41)) ≤ℤ base }
+    requires high { base ≤ℤ pos (2 ^ 41) }
+    requires small { by < 2 ^ 20 }
+    ensures { result ≡ base +ℤ pos by }
+{
+    base + by as i64
+}
+
+// The column that the digits of a Morton number tell.
+fn column_at(code: u64, height: u32) -> u64
+    requires { height ≤ MAX_HEIGHT }
+    ensures value { result ≡ column_of height code }
+    ensures small { result < 2 ^ 20 }
+{
+    let mut column = 0;
+    for level in (0..height).rev() {
+        column = 2 * column + (code >> (2 * level)) % 4 % 2;
+    }
+    column
+}
+
+// The row that the digits of a Morton number tell.
+fn row_at(code: u64, height: u32) -> u64
+    requires { height ≤ MAX_HEIGHT }
+    ensures value { result ≡ row_of height code }
+    ensures small { result < 2 ^ 20 }
+{
+    let mut row = 0;
+    for level in (0..height).rev() {
+        row = 2 * row + (code >> (2 * level)) % 4 / 2;
+    }
+    row
 }

@@ -1,12 +1,13 @@
-ghost use Rattle.std.specs.Prelude.{◌≡◌, ◌+◌, ◌*◌, ◌^◌, ◌≤◌, length, map, All, Contains, IfOk, MatchOption, Some, slice_get};
+ghost use Rattle.std.specs.Prelude.{◌≡◌, ◌+◌, ◌*◌, ◌^◌, ◌<◌, ◌≤◌, length, map, All, Contains, IfOk, MatchOption, Some, slice_get};
 ghost use Rattle.std.specs.List.Sorted.{IsStrictlyIncreasing};
 ghost use Rattle.k2_tree.specs.Morton.{morton_of, IsGrid, IsInGrid};
 ghost use Rattle.k2_tree.specs.TreeBits.{morton_bits};
 ghost use Rattle.k2_tree.specs.Tree.{codes_of, tree_with, IsTree};
 
 use crate::building::bits_of_codes;
+use crate::climb::code_of_leaf;
 use crate::descent::find_leaf;
-use crate::morton_code::{codes_of_cells, is_in_grid, morton};
+use crate::morton_code::{cell_at, codes_of_cells, is_in_grid, morton};
 use crate::packing::pack;
 use bit_rank::{Bits, NoRoom};
 use std::alloc::Global;
@@ -77,6 +78,16 @@ impl K2Tree {
             return 0;
         }
         self.bits.ones() + 1 - self.bits.len() / 4
+    }
+
+    /// The cell of a leaf. It climbs to the top by `select1`.
+    pub fn leaf_cell<L: Ledger>(&self, leaf: u32, steps: &mut Steps<L>) -> Cell
+        requires { leaf < length self.now.cells }
+        ensures value { slice_get self.now.cells leaf ≡ Some result }
+        ensures cost { steps.new ≤ steps.old + 41 * self.now.height }
+    {
+        let code = code_of_leaf(&self.bits, self.height, leaf, steps);
+        cell_at(code, self.height, self.base)
     }
 
     /// The number of a cell, if the set has it. It goes down from the top by `rank1`.

@@ -1,0 +1,20 @@
+use Rattle.std.proofs.Common.{◌≡◌, Some, length, map, arith, ap, sym, ◌∙◌, subst}
+use Rattle.std.specs.Prelude.{slice_get}
+use Rattle.std.specs.Option.{option_map}
+use Rattle.std.proofs.lemmas.List.{length-map}
+use Rattle.std.proofs.lemmas.Option.{slice_get-map}
+use Rattle.k2_tree.specs.Morton.{cell_of}
+use Rattle.k2_tree.specs.Tree.{Tree, codes_in}
+use Rattle.k2_tree.proofs.tree.K2Tree.leaf_cell.Goals as goal
+
+pub code_of_leaf-code-requires-clause-within : goal.code_of_leaf-code-requires-clause-within
+code_of_leaf-code-requires-clause-within g c =
+    let same = ap (λ (t : Tree). length t.cells) c.self.view_is in
+    omega (arith, same, length-map (codes_in c.self.inside.height c.self.inside.bits) (cell_of c.self.inside.height c.self.inside.base))
+
+pub returns-clause-value : goal.returns-clause-value
+returns-clause-value g c =
+    subst (λ (t : Tree). slice_get t.cells c.args.leaf ≡ Some c.cell_at.result) c.self.view_is
+    (slice_get-map (cell_of c.self.inside.height c.self.inside.base) (codes_in c.self.inside.height c.self.inside.bits) c.args.leaf
+        ∙ ap (option_map (cell_of c.self.inside.height c.self.inside.base)) c.code_of_leaf-code.ensures.value
+        ∙ ap Some (sym c.cell_at.ensures))
