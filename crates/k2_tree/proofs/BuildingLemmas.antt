@@ -1,5 +1,5 @@
 -- A level's bits, number by number.
-use Rattle.std.proofs.Common.{◌≡◌, ℕ, zero, suc, ◌+◌, ◌-◌, ◌*◌, ◌/◌, ◌%◌, ◌^◌, ◌<◌, ◌≤◌, ◌==◌, ◌⊎◌, Bool, true, false, cond, List, [], ◌∷◌, ◌++◌, length, map, take, get_or, refl, sym, ap, ◌∙◌, inl, inr, arith, subst, length-append, append_assoc, append-nil}
+use Rattle.std.proofs.Common.{◌≡◌, ℕ, zero, suc, ◌+◌, ◌-◌, ◌*◌, ◌/◌, ◌%◌, ◌^◌, ◌<◌, ◌≤◌, Bool, true, List, [], ◌∷◌, ◌++◌, length, map, take, get_or, refl, sym, ap, ◌∙◌, inl, inr, arith, subst, length-append, append_assoc, append-nil}
 use Rattle.std.proofs.Math.ListN.{set}
 use Rattle.std.proofs.Math.Seq.{take-suc}
 use Rattle.std.proofs.lemmas.List.{set-append_right}
@@ -7,7 +7,7 @@ use Rattle.k2_tree.specs.TreeBits.{is_in, prefixes, level_bits, morton_bits, lon
 use Rattle.k2_tree.specs.Building.{room}
 use Rattle.k2_tree.proofs.PrefixLemmas.{by_test}
 use Rattle.k2_tree.proofs.DescentLemmas.{two_bits}
-use Rattle.k2_tree.proofs.LevelLemmas.{last_of, four, level_more, grown_first, grown_same, grown_new}
+use Rattle.k2_tree.proofs.LevelLemmas.{last_of, level_more, grown_first, grown_same, grown_new}
 
 Rises-take : (n i : ℕ) (xs : List ℕ) → Rises n xs → Rises n (take i xs)
 Rises-take n zero xs up = tt
@@ -37,11 +37,11 @@ grown n (suc j) (x ∷ rest) within up =
     elim (by_test (before / 2 ^ (2 * n + 2)) (c / 2 ^ (2 * n + 2))) [
       | inl same ↦
           let e : c / 4 ^ suc n ≡ last_of x (take j rest) / 4 ^ suc n =
-              ap (λ k. c / k) (sym p) ∙ sym same.0 ∙ ap (λ k. before / k) p ∙ ap (λ z. z / 4 ^ suc n) (sym last) in
+          ap (λ k. c / k) (sym p) ∙ sym same.0 ∙ ap (λ k. before / k) p ∙ ap (λ z. z / 4 ^ suc n) (sym last) in
           rw same.1 (append-nil (level_bits n (x ∷ take j rest)) ∙ grown_same n c x (take j rest) e)
       | inr differ ↦
           rw differ.1 (grown_new n c x (take j rest) up
-              (λ e. differ.0 (ap (λ k. before / k) p ∙ ap (λ z. z / 4 ^ suc n) (sym last) ∙ sym e ∙ ap (λ k. c / k) (sym p))))
+          (λ e. differ.0 (ap (λ k. before / k) p ∙ ap (λ z. z / 4 ^ suc n) (sym last) ∙ sym e ∙ ap (λ k. c / k) (sym p))))
     ]
 
 -- one number more
@@ -49,7 +49,7 @@ pub level_step : (n i : ℕ) (codes : List ℕ) (front old : List Bool) → Rise
     → old ≡ front ++ level_bits n (take i codes)
     → (4 ≤ length (old ++ room codes i n))
     × (set (old ++ room codes i n) (length (old ++ room codes i n) - 4 + get_or codes i 0 / 2 ^ (2 * n) % 4) true
-        ≡ front ++ level_bits n (take (i + 1) codes))
+    ≡ front ++ level_bits n (take (i + 1) codes))
 level_step n i codes front old up within is =
     let c : ℕ = get_or codes i 0 in
     let xs : List ℕ = take i codes in
@@ -64,13 +64,14 @@ level_step n i codes front old up within is =
     let digit : c / 2 ^ (2 * n) % 4 ≡ c / 4 ^ n % 4 = ap (λ k. c / k % 4) (two_bits n) in
     let k : ℕ = length (old ++ room codes i n) - 4 + c / 2 ^ (2 * n) % 4 in
     let place : k - length front ≡ length level - 4 + c / 4 ^ n % 4 = omega arith in
-    let behind : length front ≤ k = omega arith in
-    (omega arith,
-     ap (λ bs. set bs k true) whole
-     ∙ set-append_right front level (length front) k true refl behind
-     ∙ ap (λ m. front ++ set level m true) place
-     ∙ ap (λ bs. front ++ bs) (sym more.1)
-     ∙ ap (λ ys. front ++ level_bits n ys) (sym snoc ∙ ap (λ m. take m codes) (sym one_more)))
+    let behind : length front ≤ k = omega arith in (
+      omega arith,
+      ap (λ bs. set bs k true) whole
+          ∙ set-append_right front level (length front) k true refl behind
+          ∙ ap (λ m. front ++ set level m true) place
+          ∙ ap (λ bs. front ++ bs) (sym more.1)
+          ∙ ap (λ ys. front ++ level_bits n ys) (sym snoc ∙ ap (λ m. take m codes) (sym one_more)),
+    )
 
 -- no number, no bits
 pub level_bits-none : (n : ℕ) → level_bits n [] ≡ []

@@ -1,6 +1,6 @@
 -- A tree that was built stands for the cells that it was built from.
-use Rattle.std.proofs.Common.{◌≡◌, ℕ, zero, suc, ◌+◌, ◌*◌, ◌/◌, ◌^◌, ◌<◌, ◌≤◌, ◌==◌, Bool, List, [], ◌∷◌, ◌++◌, length, map, take, refl, sym, ap, ◌∙◌, inl, inr, arith, subst, All, length-append, lit<, get_or}
-use Rattle.std.proofs.Math.Nat.{mul-le-mul_left, mul-le-mul_right}
+use Rattle.std.proofs.Common.{◌≡◌, ℕ, zero, suc, ◌*◌, ◌/◌, ◌^◌, ◌<◌, ◌≤◌, Bool, List, [], ◌∷◌, length, map, take, sym, ap, ◌∙◌, inl, inr, arith, subst, All, length-append, get_or}
+use Rattle.std.proofs.Math.Nat.{mul-le-mul_left}
 use Rattle.std.proofs.lemmas.List.{length-map}
 use Rattle.std.proofs.lemmas.List.Elements.{All-map}
 use Rattle.std.specs.List.Sorted.{IsStrictlyIncreasing}
@@ -10,7 +10,7 @@ use Rattle.packed_bits.proofs.WordLemmas.{bits_of-packed}
 use Rattle.track_types.specs.declared.cell.Cell.{Cell}
 use Rattle.k2_tree.specs.Morton.{morton_of, cell_of, IsGrid, IsInGrid}
 use Rattle.k2_tree.specs.TreeBits.{prefixes, level_bits, morton_bits, Rises, AreCodes}
-use Rattle.k2_tree.specs.Tree.{Tree, codes_of, codes_in, tree_of, tree_with, AreTreeBits, IsStored}
+use Rattle.k2_tree.specs.Tree.{codes_of, codes_in, tree_of, tree_with, AreTreeBits, IsStored}
 use Rattle.k2_tree.proofs.MortonLemmas.{morton_of-lt}
 use Rattle.k2_tree.proofs.RisingLemmas.{Rises-from_increasing}
 use Rattle.k2_tree.proofs.PrefixLemmas.{by_test, once_from}
@@ -71,9 +71,10 @@ built height base cells bits grid few inside up is =
     let long : length codes ≡ length cells = length-map cells (morton_of height base) in
     let low : height ≤ 20 = grid.limit in
     let tree : AreTreeBits height (morton_bits height codes) = AreTreeBits-morton_bits height codes grid.some are (few_bits height codes low (omega arith)) in
-    let told : codes_in height bits ≡ codes = ap (codes_in height) is ∙ codes_in-morton_bits height codes grid.some are in
-    (record { grid = grid; tree = subst (AreTreeBits height) (sym is) tree; },
-     ap (tree_with height base) (ap (map (cell_of height base)) told ∙ cells_back height base cells inside))
+    let told : codes_in height bits ≡ codes = ap (codes_in height) is ∙ codes_in-morton_bits height codes grid.some are in (
+      record { grid = grid; tree = subst (AreTreeBits height) (sym is) tree },
+      ap (tree_with height base) (ap (map (cell_of height base)) told ∙ cells_back height base cells inside),
+    )
 
 -- the bits of a stored tree are those of its cells' numbers
 pub given_back : (height : ℕ) (base : Cell) (bits : List Bool) → IsStored height base bits

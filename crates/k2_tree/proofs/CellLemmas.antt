@@ -1,15 +1,15 @@
 -- A tree's cells and their Morton numbers.
-use Rattle.std.proofs.Common.{◌≡◌, ℕ, zero, suc, ◌+◌, ◌-◌, ◌*◌, ◌/◌, ◌^◌, ◌<◌, ◌≤◌, Bool, true, false, List, [], ◌∷◌, length, map, get_or, refl, sym, ap, ◌∙◌, arith, subst, Option, None, Some, All, MatchOption}
+use Rattle.std.proofs.Common.{◌≡◌, ℕ, suc, ◌+◌, ◌/◌, ◌^◌, ◌<◌, Bool, true, false, List, [], ◌∷◌, length, map, get_or, refl, sym, ap, ◌∙◌, arith, subst, Option, None, Some, All, MatchOption}
 use Rattle.std.specs.Prelude.{slice_get, Contains}
 use Rattle.std.proofs.lemmas.List.{length-map, get_or-map}
 use Rattle.std.proofs.lemmas.List.Elements.{All-map}
 use Rattle.std.proofs.lemmas.Option.{slice_get-map}
 use Rattle.packed_bits.specs.Bits.{ones_of}
 use Rattle.track_types.specs.declared.cell.Cell.{Cell}
-use Rattle.k2_tree.specs.Morton.{morton_of, cell_of, IsGrid, IsInGrid}
-use Rattle.k2_tree.specs.TreeBits.{is_in, morton_bits, AreCodes}
-use Rattle.k2_tree.specs.Tree.{Tree, codes_of, codes_in, tree_of, IsTree, IsStored, AreTreeBits}
-use Rattle.k2_tree.proofs.MortonLemmas.{morton_of-cell_of, cell_of-morton_of, cell_of-inside, morton_of-lt}
+use Rattle.k2_tree.specs.Morton.{morton_of, cell_of, IsInGrid}
+use Rattle.k2_tree.specs.TreeBits.{is_in, AreCodes}
+use Rattle.k2_tree.specs.Tree.{codes_in, tree_of, IsTree, IsStored}
+use Rattle.k2_tree.proofs.MortonLemmas.{morton_of-cell_of, cell_of-morton_of, cell_of-inside}
 use Rattle.k2_tree.proofs.RisingLemmas.{by_place}
 use Rattle.k2_tree.proofs.DecodingLemmas.{length-codes_in, codes_in-none}
 
@@ -52,9 +52,9 @@ pub absent_cell : (height : ℕ) (base cell : Cell) (codes : List ℕ) → All (
 absent_cell height base cell codes small gone (k, within, stands) =
     let long : k < length codes = omega (arith, length-map codes (cell_of height base)) in
     let here : cell_of height base (get_or codes k 0) ≡ cell =
-        sym (get_or-map (cell_of height base) codes k 0 cell long) ∙ stands in
+    sym (get_or-map (cell_of height base) codes k 0 cell long) ∙ stands in
     let number : get_or codes k 0 ≡ morton_of height base cell =
-        sym (morton_of-cell_of height base (get_or codes k 0) (small k 0 long)) ∙ ap (morton_of height base) here in
+    sym (morton_of-cell_of height base (get_or codes k 0) (small k 0 long)) ∙ ap (morton_of height base) here in
     let clash : false ≡ true = sym gone ∙ by_place codes k (morton_of height base cell) long number in
     absurd (cc)
 
@@ -64,7 +64,7 @@ pub outside_cell : (height : ℕ) (base cell : Cell) (codes : List ℕ)
 outside_cell height base cell codes outside (k, within, stands) =
     let long : k < length codes = omega (arith, length-map codes (cell_of height base)) in
     let here : cell_of height base (get_or codes k 0) ≡ cell =
-        sym (get_or-map (cell_of height base) codes k 0 cell long) ∙ stands in
+    sym (get_or-map (cell_of height base) codes k 0 cell long) ∙ stands in
     outside (subst (IsInGrid height base) here (cell_of-inside height base (get_or codes k 0)))
 
 -- no bits, no cells

@@ -1,12 +1,12 @@
 -- From a leaf up to the top.
-use Rattle.std.proofs.Common.{◌≡◌, ℕ, zero, suc, ◌+◌, ◌-◌, ◌*◌, ◌/◌, ◌%◌, ◌^◌, ◌<◌, ◌≤◌, ◌==◌, Bool, true, false, List, [], ◌∷◌, length, get_or, refl, sym, ap, ◌∙◌, inl, inr, arith, subst, Some, lit<, All, cond}
-use Rattle.std.proofs.Math.Nat.{div-one, pow-suc, pow-le-pow_right, mul-le-mul_right}
+use Rattle.std.proofs.Common.{◌≡◌, ℕ, zero, suc, ◌+◌, ◌-◌, ◌*◌, ◌/◌, ◌%◌, ◌^◌, ◌<◌, ◌≤◌, Bool, true, false, List, [], ◌∷◌, length, get_or, refl, sym, ap, ◌∙◌, inl, inr, arith, subst, Some, lit<, cond}
+use Rattle.std.proofs.Math.Nat.{pow-suc, pow-le-pow_right}
 use Rattle.std.proofs.lemmas.Option.{slice_get-get_or, slice_get_within, get_or_from_slice_get}
 use Rattle.std.proofs.lemmas.Bool.{cases_lt}
 use Rattle.std.specs.Prelude.{slice_get}
 use Rattle.packed_bits.specs.Bits.{ones_of}
 use Rattle.packed_bits.proofs.OnesLemmas.{ones_of-le-length}
-use Rattle.bit_rank.specs.Bits.{rank_of, select_of, IsSelected}
+use Rattle.bit_rank.specs.Bits.{rank_of, IsSelected}
 use Rattle.bit_rank.proofs.RankLemmas.{same_from_IsSelected, rank_of-step, rank_of-le-ones_of}
 use Rattle.k2_tree.specs.TreeBits.{is_in, prefixes, morton_bits, Rises, AreCodes}
 use Rattle.k2_tree.specs.Squares.{squares_above, IsSquare}
@@ -25,9 +25,9 @@ place_in (x ∷ xs) c is = elim (by_test x c) [
   | inl same ↦ (0, omega arith, same.0)
   | inr differ ↦ later (place_in xs c (rw differ.1 at is))
 ]
- where
-  later : (i : ℕ) × (i < length xs) × (get_or xs i 0 ≡ c) → (i : ℕ) × (i < length (x ∷ xs)) × (get_or (x ∷ xs) i 0 ≡ c)
-  later (i, within, here) = (suc i, omega arith, here)
+  where
+    later : (i : ℕ) × (i < length xs) × (get_or xs i 0 ≡ c) → (i : ℕ) × (i < length (x ∷ xs)) × (get_or (x ∷ xs) i 0 ≡ c)
+    later (i, within, here) = (suc i, omega arith, here)
 
 -- in a rising list each number has one place
 pub same_place : (n i j : ℕ) (xs : List ℕ) → Rises n xs → i < length xs → j < length xs → get_or xs i 0 ≡ get_or xs j 0 → i ≡ j
@@ -57,27 +57,27 @@ parent_square height codes n q j bits are is low square =
     let here : is_in (prefixes n codes) q ≡ true = by_place (prefixes n codes) square.place q square.within square.stands in
     let above = place_in (prefixes (suc n) codes) (q / 4) (prefixes-shorter n codes q here) in
     found above here
- where
-  found : (i : ℕ) × (i < length (prefixes (suc n) codes)) × (get_or (prefixes (suc n) codes) i 0 ≡ q / 4)
-      → is_in (prefixes n codes) q ≡ true → IsBelow height codes n q j bits
-  found (m, within, stands) here =
-      let k : ℕ = square.above - 1 in
-      let parent : ℕ = squares_above k (suc n) codes + m in
-      let up : IsSquare height codes (suc n) (q / 4) parent =
-          record { above = k; place = m; high = omega (arith, square.high); within = within; stands = stands; counted = refl; } in
-      let whole : 4 * (q / 4) + q % 4 ≡ q = omega arith in
-      let there : is_in (prefixes n codes) (4 * (q / 4) + q % 4) ≡ true = ap (is_in (prefixes n codes)) whole ∙ here in
-      let bit : get_or (morton_bits height codes) (4 * parent + q % 4) false ≡ true = child_bit height codes n (q / 4) parent (q % 4) up (omega arith) ∙ there in
-      let child = subst (λ p. IsSquare height codes n p (rank_of (morton_bits height codes) (4 * parent + q % 4) + 1)) whole
-          (child_square height codes n (q / 4) parent (q % 4) are up (omega arith) there) in
-      let number : rank_of (morton_bits height codes) (4 * parent + q % 4) + 1 ≡ j = same_number height codes n q (rank_of (morton_bits height codes) (4 * parent + q % 4) + 1) j are.rising child square in
-      let inside = child_place height codes n (q / 4) parent (q % 4) up (omega arith) in
-      record {
-        parent = parent;
-        square = up;
-        place = subst (λ bs. IsSelected bs j (4 * parent + q % 4)) (sym is)
-            (record { one = slice_get-get_or (morton_bits height codes) (4 * parent + q % 4) false inside ∙ ap Some bit; rank = number; });
-      }
+  where
+    found : (i : ℕ) × (i < length (prefixes (suc n) codes)) × (get_or (prefixes (suc n) codes) i 0 ≡ q / 4)
+        → is_in (prefixes n codes) q ≡ true → IsBelow height codes n q j bits
+    found (m, within, stands) here =
+        let k : ℕ = square.above - 1 in
+        let parent : ℕ = squares_above k (suc n) codes + m in
+        let up : IsSquare height codes (suc n) (q / 4) parent =
+        record { above = k; place = m; high = omega (arith, square.high); within = within; stands = stands; counted = refl } in
+        let whole : 4 * (q / 4) + q % 4 ≡ q = omega arith in
+        let there : is_in (prefixes n codes) (4 * (q / 4) + q % 4) ≡ true = ap (is_in (prefixes n codes)) whole ∙ here in
+        let bit : get_or (morton_bits height codes) (4 * parent + q % 4) false ≡ true = child_bit height codes n (q / 4) parent (q % 4) up (omega arith) ∙ there in
+        let child = subst (λ p. IsSquare height codes n p (rank_of (morton_bits height codes) (4 * parent + q % 4) + 1)) whole
+        (child_square height codes n (q / 4) parent (q % 4) are up (omega arith) there) in
+        let number : rank_of (morton_bits height codes) (4 * parent + q % 4) + 1 ≡ j = same_number height codes n q (rank_of (morton_bits height codes) (4 * parent + q % 4) + 1) j are.rising child square in
+        let inside = child_place height codes n (q / 4) parent (q % 4) up (omega arith) in
+        record {
+          parent = parent;
+          square = up;
+          place = subst (λ bs. IsSelected bs j (4 * parent + q % 4)) (sym is)
+              (record { one = slice_get-get_or (morton_bits height codes) (4 * parent + q % 4) false inside ∙ ap Some bit; rank = number });
+        }
 
 -- a one that has a place is one of the ones
 pub enough_ones : (bits : List Bool) (j p : ℕ) → p < length bits → get_or bits p false ≡ true → rank_of bits p + 1 ≡ j → j ≤ ones_of bits
@@ -106,17 +106,22 @@ starts height bits leaf are within =
     let count = length-codes_in height bits are (some_bits height bits leaf within) in
     let all : prefixes 0 codes ≡ codes = prefixes-zero codes are.codes.rising in
     let few = inner height bits are in
-    let low : length bits ≤ 2 ^ 31 = are.few in
-    (omega (arith, count, ones_of-le-length bits),
-     record {
-       prefix = get_or codes leaf 0;
-       here = record {
-         above = height; place = leaf; high = omega arith; within = omega (arith, ap length all);
-         stands = ap (λ xs. get_or xs leaf 0) all; counted = omega (arith, few);
-       };
-       digits = omega arith;
-       power = refl;
-     })
+    let low : length bits ≤ 2 ^ 31 = are.few in (
+      omega (arith, count, ones_of-le-length bits),
+      record {
+        prefix = get_or codes leaf 0;
+        here = record {
+          above = height;
+          place = leaf;
+          high = omega arith;
+          within = omega (arith, ap length all);
+          stands = ap (λ xs. get_or xs leaf 0) all;
+          counted = omega (arith, few);
+        };
+        digits = omega arith;
+        power = refl;
+      },
+    )
 
 -- the square's one, and where it stands
 below : (height : ℕ) (bits : List Bool) (leaf level square code weight : ℕ) → AreTreeBits height bits
@@ -167,14 +172,16 @@ climbs height bits leaf level square code weight place are few within climb low 
     let most : 4 ^ height ≤ 4 ^ 20 = pow-le-pow_right {n = 4} (lit< tt) few in
     let lower : level ≤ 20 = omega arith in
     let next : 4 ^ level ≤ 4 ^ 20 = pow-le-pow_right {n = 4} (lit< tt) lower in
-    let one_more : suc level ≡ level + 1 = omega arith in
-    (omega (arith, digits.1), omega (arith, climb.power),
-     record {
-       prefix = climb.prefix / 4;
-       here = subst (λ n. IsSquare height codes n (climb.prefix / 4) (place / 4)) one_more both.0;
-       digits = digits.0;
-       power = ap (λ w. w * 4) climb.power ∙ omega (arith, pow-suc 4 level) ∙ ap (λ n. 4 ^ n) one_more;
-     })
+    let one_more : suc level ≡ level + 1 = omega arith in (
+      omega (arith, digits.1),
+      omega (arith, climb.power),
+      record {
+        prefix = climb.prefix / 4;
+        here = subst (λ n. IsSquare height codes n (climb.prefix / 4) (place / 4)) one_more both.0;
+        digits = digits.0;
+        power = ap (λ w. w * 4) climb.power ∙ omega (arith, pow-suc 4 level) ∙ ap (λ n. 4 ^ n) one_more;
+      },
+    )
 
 -- at the top all digits are left behind
 pub arrives_at_top : (height : ℕ) (bits : List Bool) (leaf level square code weight : ℕ) → AreTreeBits height bits

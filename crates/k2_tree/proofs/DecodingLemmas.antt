@@ -1,13 +1,11 @@
 -- What a tree's bits tell: the Morton numbers that they were made of.
-use Rattle.std.proofs.Common.{◌≡◌, ℕ, zero, suc, ◌+◌, ◌-◌, ◌*◌, ◌/◌, ◌%◌, ◌^◌, ◌<◌, ◌≤◌, Bool, true, false, cond, List, [], ◌∷◌, ◌++◌, length, map, filter, drop, get_or, refl, sym, ap, ◌∙◌, arith, subst, Some, lit<, All, length-append}
-use Rattle.std.proofs.lemmas.List.{length-map}
+use Rattle.std.proofs.Common.{◌≡◌, ℕ, zero, suc, ◌+◌, ◌*◌, ◌/◌, ◌^◌, ◌<◌, ◌≤◌, Bool, true, false, List, [], ◌∷◌, ◌++◌, length, map, filter, drop, refl, sym, ap, ◌∙◌, arith, subst, length-append}
 use Rattle.packed_bits.specs.Bits.{ones_of}
 use Rattle.packed_bits.proofs.OnesLemmas.{ones_of-append, ones_of-nil}
 use Rattle.k2_tree.specs.TreeBits.{is_in, prefixes, level_bits, longer, morton_bits, Rises, AreCodes}
-use Rattle.k2_tree.specs.Squares.{squares_above}
 use Rattle.k2_tree.specs.Tree.{picked, codes_below, codes_in, AreTreeBits}
-use Rattle.k2_tree.proofs.PrefixLemmas.{prefixes-zero, prefixes-top, prefixes-none, prefixes-from_longer}
-use Rattle.k2_tree.proofs.TreeLemmas.{upper_bits, morton_bits-parted, length-upper_bits, length-level_bits, ones_of-upper_bits}
+use Rattle.k2_tree.proofs.PrefixLemmas.{prefixes-zero, prefixes-top, prefixes-from_longer}
+use Rattle.k2_tree.proofs.TreeLemmas.{upper_bits, morton_bits-parted, length-level_bits, ones_of-upper_bits}
 use Rattle.k2_tree.proofs.NavigationLemmas.{one_top}
 use Rattle.k2_tree.proofs.DescentLemmas.{inner, top_from_bits, morton_bits-none}
 
@@ -17,11 +15,11 @@ unfolding picked
 picked-map p [] [] = refl
 picked-map p [] (bit ∷ rest) = refl
 picked-map p (x ∷ xs) rest = by_kept (p x) refl (picked-map p xs rest)
- where
-  by_kept : (b : Bool) → p x ≡ b → picked (map p xs ++ rest) xs ≡ filter p xs
-      → picked (map p (x ∷ xs) ++ rest) (x ∷ xs) ≡ filter p (x ∷ xs)
-  by_kept true e same = rw e (ap (λ ys. x ∷ ys) same)
-  by_kept false e same = rw e same
+  where
+    by_kept : (b : Bool) → p x ≡ b → picked (map p xs ++ rest) xs ≡ filter p xs
+        → picked (map p (x ∷ xs) ++ rest) (x ∷ xs) ≡ filter p (x ∷ xs)
+    by_kept true e same = rw e (ap (λ ys. x ∷ ys) same)
+    by_kept false e same = rw e same
 
 drop_all_front : (n : ℕ) (front rest : List Bool) → length front ≡ n → drop n (front ++ rest) ≡ rest
 drop_all_front zero [] rest long = refl
@@ -38,9 +36,9 @@ codes_below-morton_bits (suc n) codes up =
     let above : List ℕ = prefixes (suc n) codes in
     let level : List Bool = map (is_in (prefixes n codes)) (longer above) in
     let kept : picked (level ++ morton_bits n codes) (longer above) ≡ prefixes n codes =
-        picked-map (is_in (prefixes n codes)) (longer above) (morton_bits n codes) ∙ prefixes-from_longer n codes up in
+    picked-map (is_in (prefixes n codes)) (longer above) (morton_bits n codes) ∙ prefixes-from_longer n codes up in
     let left : drop (4 * length above) (level ++ morton_bits n codes) ≡ morton_bits n codes =
-        drop_all_front (4 * length above) level (morton_bits n codes) (length-level_bits n codes) in
+    drop_all_front (4 * length above) level (morton_bits n codes) (length-level_bits n codes) in
     rw (kept, left) (codes_below-morton_bits n codes up)
 
 -- where there is a topmost square, there are bits
@@ -60,19 +58,19 @@ codes_in-morton_bits (suc n) (c ∷ cs) some are =
     let long : 0 < length (morton_bits (suc n) (c ∷ cs)) = some_bits n (c ∷ cs) top in
     by_bits (morton_bits (suc n) (c ∷ cs)) refl long
     (ap (λ ps. codes_below (suc n) ps (morton_bits (suc n) (c ∷ cs))) (sym top) ∙ codes_below-morton_bits (suc n) (c ∷ cs) are.rising)
- where
-  by_bits : (bits : List Bool) → morton_bits (suc n) (c ∷ cs) ≡ bits → 0 < length (morton_bits (suc n) (c ∷ cs))
-      → codes_below (suc n) (0 ∷ []) (morton_bits (suc n) (c ∷ cs)) ≡ c ∷ cs
-      → codes_in (suc n) (morton_bits (suc n) (c ∷ cs)) ≡ c ∷ cs
-  by_bits [] e long same = absurd (omega (arith, ap length e))
-  by_bits (b ∷ bits) e long same = rw e (ap (codes_below (suc n) (0 ∷ [])) (sym e) ∙ same)
+  where
+    by_bits : (bits : List Bool) → morton_bits (suc n) (c ∷ cs) ≡ bits → 0 < length (morton_bits (suc n) (c ∷ cs))
+        → codes_below (suc n) (0 ∷ []) (morton_bits (suc n) (c ∷ cs)) ≡ c ∷ cs
+        → codes_in (suc n) (morton_bits (suc n) (c ∷ cs)) ≡ c ∷ cs
+    by_bits [] e long same = absurd (omega (arith, ap length e))
+    by_bits (b ∷ bits) e long same = rw e (ap (codes_below (suc n) (0 ∷ [])) (sym e) ∙ same)
 
 -- the bits of Morton numbers are a tree's
 pub AreTreeBits-morton_bits : (height : ℕ) (codes : List ℕ) → 1 ≤ height → AreCodes height codes
     → length (morton_bits height codes) ≤ 2 ^ 31 → AreTreeBits height (morton_bits height codes)
 AreTreeBits-morton_bits height codes some are few =
     let same = codes_in-morton_bits height codes some are in
-    record { codes = subst (AreCodes height) (sym same) are; exact = ap (morton_bits height) (sym same); few = few; }
+    record { codes = subst (AreCodes height) (sym same) are; exact = ap (morton_bits height) (sym same); few = few }
 
 -- how many numbers the bits tell
 pub length-codes_in : (height : ℕ) (bits : List Bool) → AreTreeBits height bits → 0 < length bits

@@ -1,15 +1,15 @@
 -- From the top down to the leaf of a Morton number.
-use Rattle.std.proofs.Common.{◌≡◌, ℕ, zero, suc, ◌+◌, ◌-◌, ◌*◌, ◌/◌, ◌%◌, ◌^◌, ◌<◌, ◌≤◌, Bool, true, false, List, [], ◌∷◌, length, get_or, refl, sym, ap, ◌∙◌, arith, subst, Some, lit<, All, length-append}
+use Rattle.std.proofs.Common.{◌≡◌, ℕ, zero, suc, ◌+◌, ◌-◌, ◌*◌, ◌/◌, ◌%◌, ◌^◌, ◌<◌, ◌≤◌, Bool, true, false, List, [], ◌∷◌, length, get_or, refl, sym, ap, ◌∙◌, arith, subst, Some, All, length-append}
 use Rattle.std.proofs.Math.Nat.{div-one, div-eq_of_lt, div-div-eq-div-mul, pow-suc}
 use Rattle.std.proofs.lemmas.Option.{slice_get-get_or}
 use Rattle.std.specs.Prelude.{slice_get}
 use Rattle.bit_rank.specs.Bits.{rank_of}
-use Rattle.k2_tree.specs.TreeBits.{is_in, prefixes, level_bits, longer, morton_bits, AreCodes}
+use Rattle.k2_tree.specs.TreeBits.{is_in, prefixes, level_bits, longer, morton_bits}
 use Rattle.k2_tree.specs.Squares.{squares_above, IsSquare}
 use Rattle.k2_tree.specs.Tree.{codes_in, AreTreeBits}
-use Rattle.k2_tree.proofs.PrefixLemmas.{prefixes-top, prefixes-zero, prefixes-of, prefixes-none, fan_pos}
+use Rattle.k2_tree.proofs.PrefixLemmas.{prefixes-top, prefixes-zero, prefixes-of, prefixes-none}
 use Rattle.k2_tree.proofs.TreeLemmas.{upper_bits, morton_bits-parted, length-upper_bits}
-use Rattle.k2_tree.proofs.NavigationLemmas.{child_place, child_bit, child_square, root_square, one_top}
+use Rattle.k2_tree.proofs.NavigationLemmas.{child_place, child_bit, child_square, root_square}
 
 -- two bits are a digit to base 4
 pub two_bits : (n : ℕ) → 2 ^ (2 * n) ≡ 4 ^ n
@@ -35,14 +35,14 @@ morton_bits-none (suc n) = rw (prefixes-none (suc n)) (morton_bits-none n)
 pub top_from_bits : (height : ℕ) (bits : List Bool) → AreTreeBits height bits → 0 < length bits
     → 0 < length (prefixes height (codes_in height bits))
 top_from_bits height bits are some = by_codes (codes_in height bits) refl
- where
-  by_codes : (codes : List ℕ) → codes_in height bits ≡ codes → 0 < length (prefixes height (codes_in height bits))
-  by_codes [] e =
-      let nothing : length bits ≡ 0 = ap length (are.exact ∙ ap (morton_bits height) e ∙ morton_bits-none height) in absurd (omega arith)
-  by_codes (c ∷ cs) e =
-      let small : All (λ x. x < 4 ^ height) (c ∷ cs) = subst (λ xs. All (λ x. x < 4 ^ height) xs) e are.codes.small in
-      let top = ap length (ap (prefixes height) e ∙ prefixes-top height c cs small) in
-      omega (arith, top)
+  where
+    by_codes : (codes : List ℕ) → codes_in height bits ≡ codes → 0 < length (prefixes height (codes_in height bits))
+    by_codes [] e =
+        let nothing : length bits ≡ 0 = ap length (are.exact ∙ ap (morton_bits height) e ∙ morton_bits-none height) in absurd (omega arith)
+    by_codes (c ∷ cs) e =
+        let small : All (λ x. x < 4 ^ height) (c ∷ cs) = subst (λ xs. All (λ x. x < 4 ^ height) xs) e are.codes.small in
+        let top = ap length (ap (prefixes height) e ∙ prefixes-top height c cs small) in
+        omega (arith, top)
 
 -- the descent begins at the topmost square
 pub begins : (height code : ℕ) (bits : List Bool) → AreTreeBits height bits → 0 < length bits → code < 4 ^ height
@@ -84,14 +84,14 @@ ends height code (suc n) square bits are some here off =
     let is : digit ≡ code / 4 ^ n % 4 = digit_is code n digit (ap (λ m. code / 2 ^ (2 * m) % 4) e) in
     let prefix : 4 * (code / 4 ^ suc n) + digit ≡ code / 4 ^ n = ap (λ d. 4 * (code / 4 ^ suc n) + d) is ∙ digit_more code n in
     let gone : is_in (prefixes n (codes_in height bits)) (code / 4 ^ n) ≡ false =
-        ap (is_in (prefixes n (codes_in height bits))) (sym prefix) ∙ sym (bit_tells height code n square digit bits are here is) ∙ off in
+    ap (is_in (prefixes n (codes_in height bits))) (sym prefix) ∙ sym (bit_tells height code n square digit bits are here is) ∙ off in
     by_answer (is_in (codes_in height bits) code) refl gone
- where
-  by_answer : (b : Bool) → is_in (codes_in height bits) code ≡ b → is_in (prefixes n (codes_in height bits)) (code / 4 ^ n) ≡ false
-      → is_in (codes_in height bits) code ≡ false
-  by_answer false is gone = is
-  by_answer true is gone =
-      let clash : true ≡ false = sym (prefixes-of n (codes_in height bits) code is) ∙ gone in absurd (cc)
+  where
+    by_answer : (b : Bool) → is_in (codes_in height bits) code ≡ b → is_in (prefixes n (codes_in height bits)) (code / 4 ^ n) ≡ false
+        → is_in (codes_in height bits) code ≡ false
+    by_answer false is gone = is
+    by_answer true is gone =
+        let clash : true ≡ false = sym (prefixes-of n (codes_in height bits) code is) ∙ gone in absurd (cc)
 
 -- where the bit is 1 the descent goes on at the child
 pub goes_on : (height code level square child : ℕ) (bits : List Bool) → AreTreeBits height bits → 0 < level
@@ -109,7 +109,7 @@ goes_on height code (suc n) square child bits are some here on number =
     let there : is_in (prefixes n codes) (4 * (code / 4 ^ suc n) + digit) ≡ true = sym (bit_tells height code n square digit bits are here is) ∙ on in
     let square' = child_square height codes n (code / 4 ^ suc n) square digit are.codes here (omega arith) there in
     let same : rank_of (morton_bits height codes) (4 * square + digit) + 1 ≡ child =
-        ap (λ xs. rank_of xs (4 * square + digit) + 1) (sym are.exact) ∙ sym number in
+    ap (λ xs. rank_of xs (4 * square + digit) + 1) (sym are.exact) ∙ sym number in
     let moved = subst (λ j. IsSquare height codes n (4 * (code / 4 ^ suc n) + digit) j) same square' in
     let named = subst (λ p. IsSquare height codes n p child) prefix moved in
     rw e named
@@ -120,8 +120,13 @@ pub inner : (height : ℕ) (bits : List Bool) → AreTreeBits height bits
 unfolding morton_bits
 inner height bits are =
     let parted = ap length (morton_bits-parted height 0 height (codes_in height bits) (omega arith)) in
-    omega (arith, ap length are.exact, parted, length-append (upper_bits height 0 (codes_in height bits)) [],
-        length-upper_bits height 0 (codes_in height bits))
+    omega (
+      arith,
+      ap length are.exact,
+      parted,
+      length-append (upper_bits height 0 (codes_in height bits)) [],
+      length-upper_bits height 0 (codes_in height bits),
+    )
 
 -- where the descent ends, the leaf is the number of the square without those of the inner squares
 pub arrives : (height code level square : ℕ) (bits : List Bool) → AreTreeBits height bits → level ≡ 0
@@ -136,6 +141,7 @@ arrives height code zero square bits are last here =
     let place : square - length bits / 4 ≡ here.place = omega (arith, counted, few) in
     let all : prefixes 0 codes ≡ codes = prefixes-zero codes are.codes.rising in
     let within : here.place < length codes = omega (arith, here.within, ap length all) in
-    let stands : get_or codes here.place 0 ≡ code = ap (λ xs. get_or xs here.place 0) (sym all) ∙ here.stands ∙ div-one code in
-    (omega (arith, counted, few),
-     ap (slice_get codes) place ∙ slice_get-get_or codes here.place 0 within ∙ ap Some stands)
+    let stands : get_or codes here.place 0 ≡ code = ap (λ xs. get_or xs here.place 0) (sym all) ∙ here.stands ∙ div-one code in (
+      omega (arith, counted, few),
+      ap (slice_get codes) place ∙ slice_get-get_or codes here.place 0 within ∙ ap Some stands,
+    )

@@ -1,5 +1,5 @@
 -- The definitions, run on small sets of cells.
-use Rattle.std.proofs.Common.{◌≡◌, ℕ, Bool, true, false, pos, List, [], ◌∷◌, ◌++◌, map, refl}
+use Rattle.std.proofs.Common.{◌≡◌, ℕ, Bool, true, false, pos, [], ◌∷◌, map, refl}
 use Rattle.track_types.specs.declared.cell.Cell.{Cell}
 use Rattle.k2_tree.specs.Morton.{interleaved, morton_of, row_of, column_of, cell_of}
 use Rattle.k2_tree.specs.TreeBits.{prefixes, longer, level_bits, morton_bits}

@@ -1,11 +1,10 @@
 -- One number more behind ascending ones: what it changes in a level's bits.
-use Rattle.std.proofs.Common.{◌≡◌, ℕ, zero, suc, ◌+◌, ◌-◌, ◌*◌, ◌/◌, ◌%◌, ◌^◌, ◌<◌, ◌≤◌, ◌==◌, ◌||◌, ◌⊎◌, Bool, true, false, cond, List, [], ◌∷◌, ◌++◌, length, map, take, get_or, refl, sym, ap, ◌∙◌, inl, inr, arith, subst, length-append}
+use Rattle.std.proofs.Common.{◌≡◌, ℕ, zero, suc, ◌+◌, ◌-◌, ◌*◌, ◌/◌, ◌%◌, ◌^◌, ◌<◌, ◌≤◌, ◌==◌, ◌||◌, Bool, true, false, List, [], ◌∷◌, ◌++◌, length, map, get_or, refl, sym, ap, ◌∙◌, inl, inr, arith, subst}
 use Rattle.std.proofs.Math.ListN.{set}
 use Rattle.std.proofs.lemmas.List.{length-map}
 use Rattle.std.proofs.lemmas.List.Folds.{list_any-append}
-use Rattle.std.specs.List.{dedup, dedup_from, list_any}
 use Rattle.k2_tree.specs.TreeBits.{is_in, prefixes, level_bits, longer, Rises}
-use Rattle.k2_tree.proofs.RisingLemmas.{is_in-first, same_test, other_test, is_in-below, Rises-weaker}
+use Rattle.k2_tree.proofs.RisingLemmas.{same_test, other_test}
 use Rattle.k2_tree.proofs.PrefixLemmas.{by_test, once_from, once, is_in-once, prefixes-rise, prefixes-shorter, longer-rises}
 use Rattle.k2_tree.proofs.TreeLemmas.{length-longer, get_or-longer}
 use Rattle.k2_tree.proofs.DescentLemmas.{digit_more}
@@ -93,10 +92,10 @@ is_in-more n c z xs =
     ∙ list_any-append (λ other. other == z) (map (λ y. y / 4 ^ n) xs) (c / 4 ^ n ∷ [])
     ∙ ap (λ b. b || is_in (c / 4 ^ n ∷ []) z) (sym (is_in-once (map (λ y. y / 4 ^ n) xs) z))
     ∙ ap (λ b. is_in (once (map (λ y. y / 4 ^ n) xs)) z || b) (or_false (c / 4 ^ n == z))
- where
-  or_false : (b : Bool) → (b || false) ≡ b
-  or_false true = refl
-  or_false false = refl
+  where
+    or_false : (b : Bool) → (b || false) ≡ b
+    or_false true = refl
+    or_false false = refl
 
 -- what stands at a place of a rising list is at least its least
 pub Rises-place : (n i : ℕ) (xs : List ℕ) → Rises n xs → i < length xs → n ≤ get_or xs i 0
@@ -113,27 +112,29 @@ mark f g p more n i [] up within here = absurd (omega arith)
 mark f g p more n zero (x ∷ xs) up within here =
     ap (λ b. b ∷ map g xs) (more x ∙ ap (λ z. f x || (z == x)) (sym here) ∙ ap (λ b. f x || b) (same_test x) ∙ or_true (f x))
     ∙ ap (λ ys. true ∷ ys) (kept (suc x) xs up.1 (omega (arith, here)))
- where
-  or_true : (b : Bool) → (b || true) ≡ true
-  or_true true = refl
-  or_true false = refl
-  or_false : (b : Bool) → (b || false) ≡ b
-  or_false true = refl
-  or_false false = refl
-  kept : (n : ℕ) (xs : List ℕ) → Rises n xs → p < n → map g xs ≡ map f xs
-  kept n [] up above = refl
-  kept n (x ∷ xs) up above =
-      let low : n ≤ x = up.0 in
-      ap (λ b. b ∷ map g xs) (more x ∙ ap (λ b. f x || b) (other_test p x (λ e. omega arith)) ∙ or_false (f x))
-      ∙ ap (λ ys. f x ∷ ys) (kept (suc x) xs up.1 (omega arith))
+  where
+    or_true : (b : Bool) → (b || true) ≡ true
+    or_true true = refl
+    or_true false = refl
+
+    or_false : (b : Bool) → (b || false) ≡ b
+    or_false true = refl
+    or_false false = refl
+
+    kept : (n : ℕ) (xs : List ℕ) → Rises n xs → p < n → map g xs ≡ map f xs
+    kept n [] up above = refl
+    kept n (x ∷ xs) up above =
+        let low : n ≤ x = up.0 in
+        ap (λ b. b ∷ map g xs) (more x ∙ ap (λ b. f x || b) (other_test p x (λ e. omega arith)) ∙ or_false (f x))
+        ∙ ap (λ ys. f x ∷ ys) (kept (suc x) xs up.1 (omega arith))
 mark f g p more n (suc i) (x ∷ xs) up within here =
     let later = Rises-place (suc x) i xs up.1 (omega arith) in
     ap (λ b. b ∷ map g xs) (more x ∙ ap (λ b. f x || b) (other_test p x (λ e. omega (arith, later, here))) ∙ or_false (f x))
     ∙ ap (λ ys. f x ∷ ys) (mark f g p more (suc x) i xs up.1 (omega arith) here)
- where
-  or_false : (b : Bool) → (b || false) ≡ b
-  or_false true = refl
-  or_false false = refl
+  where
+    or_false : (b : Bool) → (b || false) ≡ b
+    or_false true = refl
+    or_false false = refl
 
 -- one number more sets one bit in the last group
 pub level_more : (n c : ℕ) (xs : List ℕ) (grown : List Bool) → Rises 0 (xs ++ c ∷ [])
@@ -148,14 +149,15 @@ level_more n c xs grown up is =
     let place : length grown - 4 + c / 4 ^ n % 4 ≡ 4 * (length above - 1) + c / 4 ^ n % 4 = omega arith in
     let prefix : 4 * (c / 4 ^ suc n) + c / 4 ^ n % 4 ≡ c / 4 ^ n = digit_more c n in
     let here : get_or (longer above) (4 * (length above - 1) + c / 4 ^ n % 4) 0 ≡ c / 4 ^ n =
-        get_or-longer above (length above - 1) (c / 4 ^ n % 4) (omega arith) (omega arith) ∙ ap (λ q. 4 * q + c / 4 ^ n % 4) last.1 ∙ prefix in
+    get_or-longer above (length above - 1) (c / 4 ^ n % 4) (omega arith) (omega arith) ∙ ap (λ q. 4 * q + c / 4 ^ n % 4) last.1 ∙ prefix in
     let up' : Rises 0 (longer above) = longer-rises 0 above (prefixes-rise (suc n) (xs ++ c ∷ []) up) in
-    let inside : 4 * (length above - 1) + c / 4 ^ n % 4 < length (longer above) = omega (arith, length-longer above) in
-    (omega arith,
-     mark (is_in (prefixes n xs)) (is_in (prefixes n (xs ++ c ∷ []))) (c / 4 ^ n) (λ z. is_in-more n c z xs)
-         0 (4 * (length above - 1) + c / 4 ^ n % 4) (longer above) up' inside here
-     ∙ ap (λ ys. set ys (4 * (length above - 1) + c / 4 ^ n % 4) true) (sym is)
-     ∙ ap (λ k. set grown k true) (sym place))
+    let inside : 4 * (length above - 1) + c / 4 ^ n % 4 < length (longer above) = omega (arith, length-longer above) in (
+      omega arith,
+      mark (is_in (prefixes n xs)) (is_in (prefixes n (xs ++ c ∷ []))) (c / 4 ^ n) (λ z. is_in-more n c z xs)
+          0 (4 * (length above - 1) + c / 4 ^ n % 4) (longer above) up' inside here
+          ∙ ap (λ ys. set ys (4 * (length above - 1) + c / 4 ^ n % 4) true) (sym is)
+          ∙ ap (λ k. set grown k true) (sym place),
+    )
 
 -- what rises behind a list is not in it
 absent_last : (n q : ℕ) (xs : List ℕ) → Rises n (xs ++ q ∷ []) → (is_in xs q ≡ false) × (n ≤ q)
@@ -200,16 +202,17 @@ grown_new n c x xs up differ =
     let none : (d : ℕ) → d < 4 → f (4 * q + d) ≡ false = λ d small. empty_at (4 * q + d) (ap (is_in old) (quotient d small) ∙ gone) in
     let zero_place : f (4 * q) ≡ false = empty_at (4 * q) (ap (is_in old) (omega arith) ∙ gone) in
     let fresh : map f (4 * q ∷ (4 * q + 1) ∷ (4 * q + 2) ∷ (4 * q + 3) ∷ []) ≡ four =
-        (rw (zero_place, none 1 (omega arith), none 2 (omega arith), none 3 (omega arith)) refl) in
+    (rw (zero_place, none 1 (omega arith), none 2 (omega arith), none 3 (omega arith)) refl) in
     sym (ap (λ ps. map f (longer ps)) new ∙ ap (map f) (longer-snoc old q)
-        ∙ map_append f (longer old) (4 * q ∷ (4 * q + 1) ∷ (4 * q + 2) ∷ (4 * q + 3) ∷ [])
-        ∙ ap (λ bs. map f (longer old) ++ bs) fresh)
- where
-  quotient : (d : ℕ) → d < 4 → (4 * (c / 4 ^ suc n) + d) / 4 ≡ c / 4 ^ suc n
-  quotient d small = omega arith
-  empty_at : (z : ℕ) → is_in (prefixes (suc n) (x ∷ xs)) (z / 4) ≡ false → is_in (prefixes n (x ∷ xs)) z ≡ false
-  empty_at z gone = by_answer (is_in (prefixes n (x ∷ xs)) z) refl
-   where
-    by_answer : (b : Bool) → is_in (prefixes n (x ∷ xs)) z ≡ b → is_in (prefixes n (x ∷ xs)) z ≡ false
-    by_answer false is = is
-    by_answer true is = let clash : true ≡ false = sym (prefixes-shorter n (x ∷ xs) z is) ∙ gone in absurd (cc)
+    ∙ map_append f (longer old) (4 * q ∷ (4 * q + 1) ∷ (4 * q + 2) ∷ (4 * q + 3) ∷ [])
+    ∙ ap (λ bs. map f (longer old) ++ bs) fresh)
+  where
+    quotient : (d : ℕ) → d < 4 → (4 * (c / 4 ^ suc n) + d) / 4 ≡ c / 4 ^ suc n
+    quotient d small = omega arith
+
+    empty_at : (z : ℕ) → is_in (prefixes (suc n) (x ∷ xs)) (z / 4) ≡ false → is_in (prefixes n (x ∷ xs)) z ≡ false
+    empty_at z gone = by_answer (is_in (prefixes n (x ∷ xs)) z) refl
+      where
+        by_answer : (b : Bool) → is_in (prefixes n (x ∷ xs)) z ≡ b → is_in (prefixes n (x ∷ xs)) z ≡ false
+        by_answer false is = is
+        by_answer true is = let clash : true ≡ false = sym (prefixes-shorter n (x ∷ xs) z is) ∙ gone in absurd (cc)

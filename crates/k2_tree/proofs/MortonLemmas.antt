@@ -1,7 +1,7 @@
 -- Digits of Morton numbers: how large they are, and what their prefixes and last digits tell.
-use Rattle.std.proofs.Common.{◌≡◌, ℕ, zero, suc, ◌+◌, ◌-◌, ◌*◌, ◌/◌, ◌%◌, ◌^◌, ◌<◌, ◌≤◌, refl, sym, ap, ◌∙◌, arith, add-one, lit<}
+use Rattle.std.proofs.Common.{◌≡◌, ℕ, zero, suc, ◌+◌, ◌-◌, ◌*◌, ◌/◌, ◌%◌, ◌^◌, ◌<◌, ◌≤◌, refl, sym, ap, ◌∙◌, arith, lit<}
 use Rattle.std.proofs.Math.Nat.{div-div-eq-div-mul, div-one, pow-suc, pow-le-pow_right}
-use Rattle.std.proofs.Common.{ℤ, pos, ◌+ℤ◌, ◌-ℤ◌, ◌≤ℤ◌}
+use Rattle.std.proofs.Common.{ℤ, pos, ◌+ℤ◌, ◌-ℤ◌}
 use Rattle.std.proofs.lemmas.Int.{ints}
 use Rattle.std.specs.Int.RustNames.{unsigned_abs}
 use Rattle.track_types.specs.declared.cell.Cell.{Cell}
@@ -59,7 +59,7 @@ unfolding interleaved row_of
 row_of-interleaved zero row column small = omega arith
 row_of-interleaved (suc n) row column small =
     let rest : row_of n (interleaved n (row / 2) (column / 2)) ≡ row / 2 =
-        row_of-interleaved n (row / 2) (column / 2) (omega (arith, pow-suc 2 n)) in
+    row_of-interleaved n (row / 2) (column / 2) (omega (arith, pow-suc 2 n)) in
     let front : (4 * interleaved n (row / 2) (column / 2) + (2 * (row % 2) + column % 2)) / 4 ≡ interleaved n (row / 2) (column / 2) = omega arith in
     let last : (4 * interleaved n (row / 2) (column / 2) + (2 * (row % 2) + column % 2)) % 4 / 2 ≡ row % 2 = omega arith in
     rw (front, last, rest) (omega arith)
@@ -70,7 +70,7 @@ unfolding interleaved column_of
 column_of-interleaved zero row column small = omega arith
 column_of-interleaved (suc n) row column small =
     let rest : column_of n (interleaved n (row / 2) (column / 2)) ≡ column / 2 =
-        column_of-interleaved n (row / 2) (column / 2) (omega (arith, pow-suc 2 n)) in
+    column_of-interleaved n (row / 2) (column / 2) (omega (arith, pow-suc 2 n)) in
     let front : (4 * interleaved n (row / 2) (column / 2) + (2 * (row % 2) + column % 2)) / 4 ≡ interleaved n (row / 2) (column / 2) = omega arith in
     let last : (4 * interleaved n (row / 2) (column / 2) + (2 * (row % 2) + column % 2)) % 4 % 2 ≡ column % 2 = omega arith in
     rw (front, last, rest) (omega arith)
@@ -81,7 +81,7 @@ unfolding interleaved row_of column_of
 interleaved-row_of zero code small = omega arith
 interleaved-row_of (suc n) code small =
     let rest : interleaved n (row_of n (code / 4)) (column_of n (code / 4)) ≡ code / 4 =
-        interleaved-row_of n (code / 4) (omega (arith, pow-suc 4 n)) in
+    interleaved-row_of n (code / 4) (omega (arith, pow-suc 4 n)) in
     let a : (2 * row_of n (code / 4) + code % 4 / 2) / 2 ≡ row_of n (code / 4) = omega arith in
     let b : (2 * column_of n (code / 4) + code % 4 % 2) / 2 ≡ column_of n (code / 4) = omega arith in
     let d : (2 * row_of n (code / 4) + code % 4 / 2) % 2 ≡ code % 4 / 2 = omega arith in

@@ -1,16 +1,12 @@
 -- From a square to its children and to its parent.
-use Rattle.std.proofs.Common.{◌≡◌, ℕ, zero, suc, ◌+◌, ◌*◌, ◌/◌, ◌%◌, ◌^◌, ◌<◌, ◌≤◌, ◌==◌, ◌||◌, ◌⊎◌, Bool, true, false, List, [], ◌∷◌, ◌++◌, length, map, filter, take, get_or, refl, sym, ap, ◌∙◌, inl, inr, arith, All, lit<, subst, length-append, Some}
-use Rattle.std.proofs.lemmas.Bool.{cases_lt}
-use Rattle.std.proofs.lemmas.List.{get_or-append-add, get_or_append_left, get_or-map, length-map}
-use Rattle.std.proofs.lemmas.Option.{slice_get-get_or}
+use Rattle.std.proofs.Common.{◌≡◌, ℕ, suc, ◌+◌, ◌*◌, ◌<◌, Bool, true, false, List, [], ◌∷◌, ◌++◌, length, filter, take, get_or, refl, sym, ap, ◌∙◌, arith, length-append}
+use Rattle.std.proofs.lemmas.List.{get_or-append-add, get_or_append_left, get_or-map}
 use Rattle.packed_bits.specs.Bits.{ones_of}
-use Rattle.bit_rank.specs.Bits.{rank_of, select_of, IsSelected}
-use Rattle.packed_bits.proofs.OnesLemmas.{ones_of-append}
-use Rattle.bit_rank.proofs.RankLemmas.{rank_of-append, rank_of-append_left, select_of-from_IsSelected}
+use Rattle.bit_rank.specs.Bits.{rank_of}
+use Rattle.bit_rank.proofs.RankLemmas.{rank_of-append, rank_of-append_left}
 use Rattle.k2_tree.specs.TreeBits.{is_in, prefixes, longer, level_bits, morton_bits, Rises, AreCodes}
 use Rattle.k2_tree.specs.Squares.{squares_above, IsSquare}
-use Rattle.k2_tree.proofs.RisingLemmas.{Rises-weaker, is_in-first, is_in-other}
-use Rattle.k2_tree.proofs.PrefixLemmas.{prefixes-from_longer, prefixes-top, prefixes-none, prefixes-rise, prefixes-shorter, by_test}
+use Rattle.k2_tree.proofs.PrefixLemmas.{prefixes-from_longer, prefixes-top, prefixes-none}
 use Rattle.k2_tree.proofs.TreeLemmas.{upper_bits, morton_bits-parted, length-longer, get_or-longer, length-level_bits, length-upper_bits, rank_of-map, get_or-filter, ones_of-upper_bits}
 
 -- where a square is, the top has one
@@ -45,11 +41,12 @@ level_rank n i d codes up within small there =
     let kept : test (get_or long (4 * i + d) 0) ≡ true = ap test stands ∙ there in
     let both = get_or-filter test long (4 * i + d) (level_place n i d codes within small) kept in
     let rank = rank_of-map test long (4 * i + d) in
-    let whole : filter test long ≡ prefixes n codes = prefixes-from_longer n codes up in
-    (omega (arith, both.0, ap length whole),
-     ap (λ r. get_or (prefixes n codes) r 0) rank
-     ∙ ap (λ xs. get_or xs (length (filter test (take (4 * i + d) long))) 0) (sym whole)
-     ∙ both.1 ∙ stands)
+    let whole : filter test long ≡ prefixes n codes = prefixes-from_longer n codes up in (
+      omega (arith, both.0, ap length whole),
+      ap (λ r. get_or (prefixes n codes) r 0) rank
+          ∙ ap (λ xs. get_or xs (length (filter test (take (4 * i + d) long))) 0) (sym whole)
+          ∙ both.1 ∙ stands,
+    )
 
 -- a tree's bits around a level
 around : (k n height : ℕ) (codes : List ℕ) → k + suc n ≡ height
@@ -69,7 +66,7 @@ child_place height codes n p j d square small =
     let front : List Bool = upper_bits square.above (suc n) codes in
     let rest : List Bool = level_bits n codes ++ morton_bits n codes in
     let whole : length (morton_bits height codes) ≡ length front + length rest =
-        ap length (around square.above n height codes square.high) ∙ length-append front rest in
+    ap length (around square.above n height codes square.high) ∙ length-append front rest in
     omega (arith, length-append (level_bits n codes) (morton_bits n codes), length-level_bits n codes, from_level height codes n p j d square, square.within)
 
 -- the bit at 4 * j + d tells whether the square with number j has the child d
@@ -98,12 +95,12 @@ child_square height codes n p j d are square small there =
     let i : ℕ = square.place in
     let inside : 4 * i + d < length (level_bits n codes) = omega (arith, length-level_bits n codes, square.within) in
     let rank : rank_of (morton_bits height codes) (4 * j + d) ≡ ones_of front + rank_of (level_bits n codes) (4 * i + d) =
-        ap (λ xs. rank_of xs (4 * j + d)) (around square.above n height codes square.high)
-        ∙ ap (λ q. rank_of (front ++ rest) q) (from_level height codes n p j d square)
-        ∙ rank_of-append front rest (4 * i + d)
-        ∙ ap (λ r. ones_of front + r) (rank_of-append_left (level_bits n codes) (morton_bits n codes) (4 * i + d) (omega arith)) in
+    ap (λ xs. rank_of xs (4 * j + d)) (around square.above n height codes square.high)
+    ∙ ap (λ q. rank_of (front ++ rest) q) (from_level height codes n p j d square)
+    ∙ rank_of-append front rest (4 * i + d)
+    ∙ ap (λ r. ones_of front + r) (rank_of-append_left (level_bits n codes) (morton_bits n codes) (4 * i + d) (omega arith)) in
     let there' : is_in (prefixes n codes) (4 * get_or (prefixes (suc n) codes) i 0 + d) ≡ true =
-        ap (λ z. is_in (prefixes n codes) (4 * z + d)) square.stands ∙ there in
+    ap (λ z. is_in (prefixes n codes) (4 * z + d)) square.stands ∙ there in
     let level = level_rank n i d codes are.rising square.within small there' in
     let top = ap length (one_top height codes are (suc n) (omega (arith, square.within))) in
     let ones = ones_of-upper_bits square.above (suc n) height codes are.rising square.high in
@@ -123,6 +120,10 @@ unfolding squares_above
 root_square height codes are some =
     let top = one_top height codes are height some in
     record {
-      above = 0; place = 0; high = omega arith; within = some;
-      stands = ap (λ xs. get_or xs 0 0) top; counted = refl;
+      above = 0;
+      place = 0;
+      high = omega arith;
+      within = some;
+      stands = ap (λ xs. get_or xs 0 0) top;
+      counted = refl;
     }

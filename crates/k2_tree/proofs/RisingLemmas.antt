@@ -1,8 +1,7 @@
 -- Ascending lists of numbers: what they hold tells what they are.
-use Rattle.std.proofs.Common.{◌≡◌, ℕ, zero, suc, ◌+◌, ◌*◌, ◌/◌, ◌%◌, ◌^◌, ◌<◌, ◌≤◌, ◌==◌, ◌||◌, ◌&&◌, ◌⊎◌, Bool, true, false, cond, List, [], ◌∷◌, ◌++◌, length, map, filter, take, drop, get_or, refl, sym, ap, ◌∙◌, inl, inr, arith, nat_eq}
+use Rattle.std.proofs.Common.{◌≡◌, ℕ, zero, suc, ◌+◌, ◌<◌, ◌≤◌, ◌==◌, ◌||◌, Bool, true, false, List, [], ◌∷◌, length, get_or, refl, sym, ap, ◌∙◌, inl, inr, arith}
 use Rattle.std.proofs.lemmas.Bool.Decides.{nat_tests}
 use Rattle.std.proofs.lemmas.Bool.{cases_lt}
-use Rattle.std.specs.List.{dedup, dedup_from, list_any}
 use Rattle.std.specs.List.Sorted.{IsStrictlyIncreasing}
 use Rattle.k2_tree.specs.TreeBits.{is_in, Rises}
 
@@ -74,21 +73,21 @@ same_from_rising n (x ∷ xs) (y ∷ ys) rx ry same = elim (cases_lt x y) [
         same_first x y xs ys e rx.1 ry.1 same (same_from_rising (suc x) xs ys rx.1)
   ]
 ]
- where
-  same_first : (x y : ℕ) (xs ys : List ℕ) → y ≡ x → Rises (suc x) xs → Rises (suc y) ys
-      → ((c : ℕ) → is_in (x ∷ xs) c ≡ is_in (y ∷ ys) c)
-      → (Rises (suc x) ys → ((c : ℕ) → is_in xs c ≡ is_in ys c) → xs ≡ ys) → x ∷ xs ≡ y ∷ ys
-  same_first x y xs ys e rx ry same hyp =
-      let ry' : Rises (suc x) ys = Rises-weaker (suc x) (suc y) ys (omega arith) ry in
-      let same' : (c : ℕ) → is_in (x ∷ xs) c ≡ is_in (x ∷ ys) c = λ c. same c ∙ ap (λ z. is_in (z ∷ ys) c) e in
-      ap (λ zs. x ∷ zs) (hyp ry' (tails x xs ys rx ry' same')) ∙ ap (λ z. z ∷ ys) (sym e)
+  where
+    same_first : (x y : ℕ) (xs ys : List ℕ) → y ≡ x → Rises (suc x) xs → Rises (suc y) ys
+        → ((c : ℕ) → is_in (x ∷ xs) c ≡ is_in (y ∷ ys) c)
+        → (Rises (suc x) ys → ((c : ℕ) → is_in xs c ≡ is_in ys c) → xs ≡ ys) → x ∷ xs ≡ y ∷ ys
+    same_first x y xs ys e rx ry same hyp =
+        let ry' : Rises (suc x) ys = Rises-weaker (suc x) (suc y) ys (omega arith) ry in
+        let same' : (c : ℕ) → is_in (x ∷ xs) c ≡ is_in (x ∷ ys) c = λ c. same c ∙ ap (λ z. is_in (z ∷ ys) c) e in
+        ap (λ zs. x ∷ zs) (hyp ry' (tails x xs ys rx ry' same')) ∙ ap (λ z. z ∷ ys) (sym e)
 
 -- a number that stands at a place is there
 pub by_place : (xs : List ℕ) (k c : ℕ) → k < length xs → get_or xs k 0 ≡ c → is_in xs c ≡ true
 by_place [] k c within stands = absurd (omega arith)
 by_place (x ∷ xs) zero c within stands = ap (λ z. is_in (z ∷ xs) c) stands ∙ is_in-first c xs
 by_place (x ∷ xs) (suc k) c within stands = or_right (x == c) (by_place xs k c (omega arith) stands)
- where
-  or_right : (b : Bool) {r : Bool} → r ≡ true → (b || r) ≡ true
-  or_right true e = refl
-  or_right false e = e
+  where
+    or_right : (b : Bool) {r : Bool} → r ≡ true → (b || r) ≡ true
+    or_right true e = refl
+    or_right false e = e

@@ -46,7 +46,7 @@ pub fn child_of<L: Ledger>(
     requires few { length bits.now ≤ 2 ^ 31 }
     ensures value { MatchOption result (slice_index_or bits.now (4 * square + digit) false ≡ false)
         (λ child. (slice_index_or bits.now (4 * square + digit) false ≡ true)
-            × (child ≡ rank_of bits.now (4 * square + digit) + 1)) }
+        × (child ≡ rank_of bits.now (4 * square + digit) + 1)) }
     ensures cost { steps.new ≤ steps.old + 11 }
 {
     let place = 4 * square + digit;

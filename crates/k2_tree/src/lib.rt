@@ -10,6 +10,8 @@ mod climb;
 mod descent;
 mod morton_code;
 mod packing;
+#[cfg(test)]
+mod tests;
 mod tree;
 
 pub use morton_code::morton;

@@ -10,5 +10,5 @@ loop-level-preserved c =
 
 pub returns : goal.returns
 returns c = record {
-  ok = levels_end c.loop-level.level c.args.codes.now c.loop-level.bits.items (morton_bits c.args.height c.args.codes.now) (omega arith) c.loop-level.invariant
+  ok = levels_end c.loop-level.level c.args.codes.now c.loop-level.bits.items (morton_bits c.args.height c.args.codes.now) (omega arith) c.loop-level.invariant;
 }

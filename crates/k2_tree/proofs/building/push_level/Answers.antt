@@ -1,5 +1,4 @@
-use Rattle.std.proofs.Common.{◌≡◌, ◌++◌, length, vec_len, arith, ap, sym, ◌∙◌, append-nil, take}
-use Rattle.k2_tree.specs.TreeBits.{level_bits}
+use Rattle.std.proofs.Common.{◌≡◌, ◌++◌, length, arith, ap, sym, ◌∙◌, append-nil}
 use Rattle.k2_tree.specs.Building.{room}
 use Rattle.k2_tree.proofs.BuildingLemmas.{level_step, level_bits-none}
 use Rattle.k2_tree.proofs.building.push_level.Goals as goal
@@ -23,5 +22,5 @@ loop-i-preserved c =
     let step = level_step c.args.level c.loop-i.i c.args.codes.now c.args.bits.now.items c.loop-i.bits.items c.requires.ascending (omega arith) c.loop-i.invariant in
     let grown = c.in_ok-make_room.ensures.ok in
     let long : c.len.result ≡ length (c.loop-i.bits.items ++ room c.args.codes.now c.loop-i.i c.args.level) =
-        omega (arith, c.len.ensures, c.make_room.new.bits.ok, ap length grown) in
+    omega (arith, c.len.ensures, c.make_room.new.bits.ok, ap length grown) in
     rw (long, grown) step.1

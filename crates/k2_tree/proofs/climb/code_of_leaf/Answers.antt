@@ -1,4 +1,4 @@
-use Rattle.std.proofs.Common.{◌≡◌, ℕ, ◌+◌, ◌*◌, ◌/◌, ◌%◌, arith, sym, ap, ◌∙◌, subst}
+use Rattle.std.proofs.Common.{◌≡◌, ℕ, ◌+◌, ◌*◌, ◌/◌, ◌%◌, arith, sym, ap, subst}
 use Rattle.k2_tree.proofs.ClimbLemmas.{starts, has_one, climbs, arrives_at_top, IsClimb}
 use Rattle.k2_tree.proofs.climb.code_of_leaf.Goals as goal
 

@@ -9,9 +9,10 @@ overflow_add-result g c =
     omega (arith, c.rank1.ensures.value, rank_of-le-place c.args.bits.now place, c.requires.inside, c.requires.few)
 
 pub returns-then-get-clause-value : goal.returns-then-get-clause-value
-returns-then-get-clause-value g c =
-    (get_or_from_slice_get c.args.bits.now (4 * c.args.square + c.args.digit) true false c.if-get.ensures.value,
-     ap (λ r. r + 1) c.rank1.ensures.value)
+returns-then-get-clause-value g c = (
+  get_or_from_slice_get c.args.bits.now (4 * c.args.square + c.args.digit) true false c.if-get.ensures.value,
+  ap (λ r. r + 1) c.rank1.ensures.value,
+)
 
 pub returns-else-get-clause-value : goal.returns-else-get-clause-value
 returns-else-get-clause-value g c =

@@ -1,5 +1,4 @@
-use Rattle.std.proofs.Common.{◌≡◌, ◌-◌, ◌/◌, ◌^◌, arith, ◌∙◌}
-use Rattle.k2_tree.specs.Morton.{column_of}
+use Rattle.std.proofs.Common.{◌-◌, ◌/◌, ◌^◌, arith, ◌∙◌}
 use Rattle.k2_tree.proofs.DigitLemmas.{column_of-down, column_of-small, column_of-whole, column_of-begin}
 use Rattle.k2_tree.proofs.morton_code.column_at.Goals as goal
 

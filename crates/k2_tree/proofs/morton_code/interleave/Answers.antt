@@ -1,4 +1,4 @@
-use Rattle.std.proofs.Common.{◌≡◌, ◌<◌, ◌+◌, ◌*◌, ◌^◌, ◌/◌, ◌-◌, refl, arith, ◌∙◌}
+use Rattle.std.proofs.Common.{◌≡◌, ◌^◌, ◌/◌, ◌-◌, refl, arith, ◌∙◌}
 use Rattle.k2_tree.specs.Morton.{interleaved}
 use Rattle.k2_tree.proofs.MortonLemmas.{interleaved-small, interleaved-down, interleaved-whole}
 use Rattle.k2_tree.proofs.morton_code.interleave.Goals as goal

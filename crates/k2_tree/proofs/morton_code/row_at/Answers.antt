@@ -1,5 +1,4 @@
-use Rattle.std.proofs.Common.{◌≡◌, ◌-◌, ◌/◌, ◌^◌, arith, ◌∙◌}
-use Rattle.k2_tree.specs.Morton.{row_of}
+use Rattle.std.proofs.Common.{◌-◌, ◌/◌, ◌^◌, arith, ◌∙◌}
 use Rattle.k2_tree.proofs.DigitLemmas.{row_of-down, row_of-small, row_of-whole, row_of-begin}
 use Rattle.k2_tree.proofs.morton_code.row_at.Goals as goal
 

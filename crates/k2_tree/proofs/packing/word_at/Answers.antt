@@ -1,5 +1,4 @@
-use Rattle.std.proofs.Common.{◌≡◌, ◌+◌, ◌-◌, false, get_or, arith, sym, ap, ◌∙◌}
-use Rattle.packed_bits.specs.Bits.{window_of}
+use Rattle.std.proofs.Common.{◌≡◌, ◌-◌, false, get_or, arith, sym, ◌∙◌}
 use Rattle.k2_tree.proofs.PackingLemmas.{window_of-none, window_of-front, window_of-small, window_of-end, byte_is, bit-small}
 use Rattle.k2_tree.proofs.packing.word_at.Goals as goal
 

@@ -1,5 +1,4 @@
-use Rattle.std.proofs.Common.{◌≡◌, List, ℕ, Bool, length, take, sym, ap, ◌∙◌, subst}
-use Rattle.packed_bits.specs.Bits.{packed}
+use Rattle.std.proofs.Common.{◌≡◌, length, take, sym, ap, ◌∙◌, subst}
 use Rattle.packed_bits.specs.Words.{IsPacked, bits_of}
 use Rattle.packed_bits.proofs.WordLemmas.{IsPacked-packed, bits_of-packed}
 use Rattle.k2_tree.specs.TreeBits.{morton_bits}
@@ -15,8 +14,8 @@ new-requires c =
 pub returns : goal.returns
 returns c =
     let whole : take c.len-len.result (bits_of c.into_words.result.items) ≡ c.self.inside.bits =
-        ap (λ n. take n (bits_of c.into_words.result.items)) c.len-len.ensures
-        ∙ ap (λ ws. take (length c.self.inside.bits) (bits_of ws)) c.into_words.ensures
-        ∙ bits_of-packed c.self.inside.bits in
+    ap (λ n. take n (bits_of c.into_words.result.items)) c.len-len.ensures
+    ∙ ap (λ ws. take (length c.self.inside.bits) (bits_of ws)) c.into_words.ensures
+    ∙ bits_of-packed c.self.inside.bits in
     subst (λ (t : Tree). c.new.result ≡ morton_bits t.height (codes_of t)) c.self.view_is
     (c.new.ensures.value ∙ whole ∙ given_back c.self.inside.height c.self.inside.base c.self.inside.bits c.self.invariant)

@@ -1,10 +1,10 @@
-use Rattle.std.proofs.Common.{◌≡◌, ◌≤◌, ◌^◌, List, ℕ, Bool, length, map, take, arith, sym, ap, ◌∙◌, subst}
+use Rattle.std.proofs.Common.{◌≡◌, length, map, arith, sym, ap, ◌∙◌, subst}
 use Rattle.std.proofs.lemmas.List.{length-map}
 use Rattle.packed_bits.specs.Bits.{packed}
 use Rattle.packed_bits.specs.Words.{IsPacked}
 use Rattle.packed_bits.proofs.WordLemmas.{IsPacked-packed}
 use Rattle.k2_tree.specs.Morton.{morton_of}
-use Rattle.k2_tree.specs.TreeBits.{morton_bits, Rises}
+use Rattle.k2_tree.specs.TreeBits.{Rises}
 use Rattle.k2_tree.proofs.BuiltLemmas.{rises, few_bits, built, stored}
 use Rattle.k2_tree.proofs.tree.K2Tree.build.Goals as goal
 
@@ -40,17 +40,19 @@ pub invariant_of-result : goal.invariant_of-result
 invariant_of-result c =
     let long : c.len.result ≡ length c.in_ok-bits.bits.items = omega (arith, c.len.ensures, c.in_ok-bits.bits.ok) in
     (built c.args.height c.args.base c.args.cells.now c.in-Ok.bits c.requires.grid c.requires.few c.requires.inside c.requires.ascending
-        (stored c.args.height c.args.base c.args.cells.now c.in_ok-codes.codes.items c.as_slice.result.now c.in_ok-words.words.items
-            c.in_ok-bits.bits.items c.as_slice-2.result.now c.in-Ok.bits c.len.result
-            c.in_ok-codes.ensures.ok c.as_slice.ensures.value c.in_ok-bits.ensures.ok c.as_slice-2.ensures.value c.in_ok-words.ensures.ok
-            long c.in-Ok.ensures.ok)).0
+    (stored c.args.height c.args.base c.args.cells.now c.in_ok-codes.codes.items c.as_slice.result.now c.in_ok-words.words.items
+    c.in_ok-bits.bits.items c.as_slice-2.result.now c.in-Ok.bits c.len.result
+    c.in_ok-codes.ensures.ok c.as_slice.ensures.value c.in_ok-bits.ensures.ok c.as_slice-2.ensures.value c.in_ok-words.ensures.ok
+    long c.in-Ok.ensures.ok)).0
 
 pub returns-in-Ok : goal.returns-in-Ok
 returns-in-Ok c =
     let long : c.len.result ≡ length c.in_ok-bits.bits.items = omega (arith, c.len.ensures, c.in_ok-bits.bits.ok) in
-    record { ok =
-    (built c.args.height c.args.base c.args.cells.now c.in-Ok.bits c.requires.grid c.requires.few c.requires.inside c.requires.ascending
-        (stored c.args.height c.args.base c.args.cells.now c.in_ok-codes.codes.items c.as_slice.result.now c.in_ok-words.words.items
-            c.in_ok-bits.bits.items c.as_slice-2.result.now c.in-Ok.bits c.len.result
-            c.in_ok-codes.ensures.ok c.as_slice.ensures.value c.in_ok-bits.ensures.ok c.as_slice-2.ensures.value c.in_ok-words.ensures.ok
-            long c.in-Ok.ensures.ok)).1 }
+    record {
+      ok =
+          (built c.args.height c.args.base c.args.cells.now c.in-Ok.bits c.requires.grid c.requires.few c.requires.inside c.requires.ascending
+          (stored c.args.height c.args.base c.args.cells.now c.in_ok-codes.codes.items c.as_slice.result.now c.in_ok-words.words.items
+          c.in_ok-bits.bits.items c.as_slice-2.result.now c.in-Ok.bits c.len.result
+          c.in_ok-codes.ensures.ok c.as_slice.ensures.value c.in_ok-bits.ensures.ok c.as_slice-2.ensures.value c.in_ok-words.ensures.ok
+          long c.in-Ok.ensures.ok)).1;
+    }

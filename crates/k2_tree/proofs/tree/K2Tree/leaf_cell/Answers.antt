@@ -1,4 +1,4 @@
-use Rattle.std.proofs.Common.{◌≡◌, Some, length, map, arith, ap, sym, ◌∙◌, subst}
+use Rattle.std.proofs.Common.{◌≡◌, Some, length, arith, ap, sym, ◌∙◌, subst}
 use Rattle.std.specs.Prelude.{slice_get}
 use Rattle.std.specs.Option.{option_map}
 use Rattle.std.proofs.lemmas.List.{length-map}
@@ -16,5 +16,5 @@ pub returns-clause-value : goal.returns-clause-value
 returns-clause-value g c =
     subst (λ (t : Tree). slice_get t.cells c.args.leaf ≡ Some c.cell_at.result) c.self.view_is
     (slice_get-map (cell_of c.self.inside.height c.self.inside.base) (codes_in c.self.inside.height c.self.inside.bits) c.args.leaf
-        ∙ ap (option_map (cell_of c.self.inside.height c.self.inside.base)) c.code_of_leaf-code.ensures.value
-        ∙ ap Some (sym c.cell_at.ensures))
+    ∙ ap (option_map (cell_of c.self.inside.height c.self.inside.base)) c.code_of_leaf-code.ensures.value
+    ∙ ap Some (sym c.cell_at.ensures))

@@ -1,6 +1,5 @@
-use Rattle.std.proofs.Common.{◌≡◌, ◌<◌, ◌^◌, false, true, refl, Some, MatchOption, arith, ap, sym, subst}
+use Rattle.std.proofs.Common.{◌≡◌, false, true, refl, Some, MatchOption, arith, subst}
 use Rattle.std.specs.Prelude.{slice_get, Contains}
-use Rattle.k2_tree.specs.Morton.{morton_of}
 use Rattle.k2_tree.specs.Tree.{Tree, codes_in}
 use Rattle.k2_tree.specs.TreeBits.{is_in}
 use Rattle.k2_tree.proofs.MortonLemmas.{morton_of-lt}
@@ -25,5 +24,5 @@ pub returns-clause-value : goal.returns-clause-value
 returns-clause-value g c =
     subst (λ (t : Tree). MatchOption c.find_leaf.result (Contains t.cells c.args.cell → ⊥) (λ leaf. slice_get t.cells leaf ≡ Some c.args.cell)) c.self.view_is
     (told c.self.inside.height c.self.inside.base c.args.cell c.self.inside.bits c.find_leaf.result c.self.invariant (c.if-not-is_in_grid.ensures.0 refl)
-        (subst (λ m. MatchOption c.find_leaf.result (is_in (codes_in c.self.inside.height c.self.inside.bits) m ≡ false)
-            (λ l. slice_get (codes_in c.self.inside.height c.self.inside.bits) l ≡ Some m)) c.morton-code.ensures c.find_leaf.ensures.value))
+    (subst (λ m. MatchOption c.find_leaf.result (is_in (codes_in c.self.inside.height c.self.inside.bits) m ≡ false)
+    (λ l. slice_get (codes_in c.self.inside.height c.self.inside.bits) l ≡ Some m)) c.morton-code.ensures c.find_leaf.ensures.value))

@@ -1,5 +1,4 @@
-use Rattle.std.proofs.Common.{◌≡◌, ◌+◌, ◌/◌, length, arith, ap, sym, subst}
-use Rattle.packed_bits.specs.Bits.{ones_of}
+use Rattle.std.proofs.Common.{◌≡◌, length, arith, ap, sym, subst}
 use Rattle.packed_bits.proofs.OnesLemmas.{ones_of-le-length}
 use Rattle.k2_tree.specs.Tree.{Tree, IsTree}
 use Rattle.k2_tree.proofs.CellLemmas.{no_leaf, leaf_count, IsTree-stored}
