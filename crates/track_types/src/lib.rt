@@ -19,8 +19,6 @@ mod numeral;
 mod raw_row;
 mod region;
 mod row;
-#[cfg(test)]
-mod tests;
 
 pub use bit_list::BitList;
 pub use cell::Cell;
