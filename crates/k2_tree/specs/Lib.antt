@@ -2,5 +2,8 @@
 pub mod Morton
 pub mod TreeBits
 pub mod Squares
+pub mod Areas
 pub mod Tree
+pub mod Flaws
+pub mod Pruning
 pub mod Building

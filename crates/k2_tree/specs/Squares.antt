@@ -1,6 +1,20 @@
 -- The squares of a k2-tree: the prefixes of its cells' Morton numbers, numbered level by level from 0.
-use Rattle.std.specs.Prelude.{◌≡◌, ℕ, zero, suc, ◌+◌, ◌<◌, List, length, slice_index}
+use Rattle.std.specs.Prelude.{◌≡◌, ℕ, zero, suc, ◌+◌, ◌<◌, List, ◌++◌, length, map, slice_index}
 use Rattle.k2_tree.specs.TreeBits.{prefixes}
+
+-- a square: how many digits are left away of the Morton numbers of its cells, and the prefix that is left
+pub record Node : Type 0 where
+  pub level : ℕ
+  pub prefix : ℕ
+
+-- the square of a level with this prefix
+abbrev pub node : ℕ → ℕ → Node
+node level prefix = record { level = level; prefix = prefix }
+
+-- the squares of this level and those below it that hold a number, from the top, each level in ascending order
+unfoldable pub squares_from : ℕ → List ℕ → List Node
+squares_from zero codes = map (node 0) (prefixes 0 codes)
+squares_from (suc n) codes = map (node (suc n)) (prefixes (suc n) codes) ++ squares_from n codes
 
 -- how many squares the k levels above have, where a square of this level has n digits below it
 unfoldable pub squares_above : ℕ → ℕ → List ℕ → ℕ

@@ -8,11 +8,13 @@
 mod building;
 mod climb;
 mod descent;
+mod fault;
 mod morton_code;
 mod packing;
 #[cfg(test)]
 mod tests;
 mod tree;
 
+pub use fault::TreeFault;
 pub use morton_code::morton;
 pub use tree::K2Tree;

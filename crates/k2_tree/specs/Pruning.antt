@@ -1,0 +1,49 @@
+-- The leaves all of whose squares pass a test, and how many squares do.
+use Rattle.std.specs.Prelude.{ℕ, zero, suc, ◌+◌, ◌/◌, ◌^◌, Bool, ◌&&◌, if◌then◌else◌, List, [], ◌∷◌, length, filter}
+use Rattle.std.specs.List.{flat_map, sum_by}
+use Rattle.track_types.specs.declared.cell.Cell.{Cell}
+use Rattle.track_types.specs.declared.cell_box.CellBox.{CellBox}
+use Rattle.k2_tree.specs.Morton.{morton_of, cell_of}
+use Rattle.k2_tree.specs.TreeBits.{fan, is_in, prefixes, longer}
+use Rattle.k2_tree.specs.Squares.{Node, node, squares_from}
+use Rattle.k2_tree.specs.Areas.{area_at}
+use Rattle.k2_tree.specs.Tree.{Tree, codes_of}
+
+-- the cells with their numbers, from k on
+unfoldable pub numbered : ℕ → List Cell → List (ℕ × Cell)
+numbered k [] = []
+numbered k (cell ∷ cells) = (k, cell) ∷ numbered (suc k) cells
+
+-- whether a test is true on each square that holds a Morton number, from the one of a level down to its own
+unfoldable pub passes : (Node → Bool) → ℕ → ℕ → Bool
+passes test zero code = test (node 0 code)
+passes test (suc n) code = test (node (suc n) (code / fan ^ suc n)) && passes test n code
+
+-- a test of boxes as one of the tree's squares
+abbrev pub on_areas : (CellBox → Bool) → Tree → Node → Bool
+on_areas keep tree square = keep (area_at tree.base square)
+
+-- the leaves for which a test is true on each square from the top to the cell, each with its number
+abbrev pub kept_leaves : (CellBox → Bool) → Tree → List (ℕ × Cell)
+kept_leaves keep tree =
+    filter (λ leaf. passes (on_areas keep tree) tree.height (morton_of tree.height tree.base leaf.1)) (numbered 0 tree.cells)
+
+-- how many squares that hold a cell, the whole grid and the cells among them, pass a test
+abbrev pub square_count : (CellBox → Bool) → Tree → ℕ
+square_count keep tree = length (filter (on_areas keep tree) (squares_from tree.height (codes_of tree)))
+
+-- the children that hold a number of the square with this prefix, themselves of level n
+unfoldable pub children : ℕ → List ℕ → ℕ → List ℕ
+children n codes prefix = filter (is_in (prefixes n codes)) (longer (prefix ∷ []))
+
+-- the numbers below a square for which a test is true on each square from this one down
+unfoldable pub kept_below : (Node → Bool) → List ℕ → ℕ → ℕ → List ℕ
+kept_below test codes zero prefix = if test (node 0 prefix) then prefix ∷ [] else []
+kept_below test codes (suc n) prefix =
+    if test (node (suc n) prefix) then flat_map (kept_below test codes n) (children n codes prefix) else []
+
+-- the weights of a square and of all squares below it together
+unfoldable pub weight_below : (Node → ℕ) → List ℕ → ℕ → ℕ → ℕ
+weight_below weight codes zero prefix = weight (node 0 prefix)
+weight_below weight codes (suc n) prefix =
+    weight (node (suc n) prefix) + sum_by (weight_below weight codes n) (children n codes prefix)

@@ -1,0 +1,10 @@
+/// Why bits are not taken as a tree.
+#[derive(Clone, Copy, Debug, PartialEq, Eq)]
+pub enum TreeFault {
+    /// The bits are those of no set of cells: `place` is the start of the first group of four, in
+    /// order of place, that is not whole or holds no one, or else the place after the last level,
+    /// where bits remain.
+    Flaw { place: u32 },
+    /// Memory was refused. It may be answered to any bits.
+    Memory,
+}
