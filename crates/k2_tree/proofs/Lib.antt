@@ -1,4 +1,7 @@
+pub mod BoxLemmas
 pub mod MortonLemmas
+pub mod SideLemmas
+pub mod ChildLemmas
 pub mod RisingLemmas
 pub mod PrefixLemmas
 pub mod TreeLemmas

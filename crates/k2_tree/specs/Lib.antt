@@ -4,6 +4,7 @@ pub mod TreeBits
 pub mod Squares
 pub mod Areas
 pub mod Tree
+pub mod TreeSquares
 pub mod Flaws
 pub mod Pruning
 pub mod Building

@@ -11,10 +11,12 @@ mod descent;
 mod fault;
 mod morton_code;
 mod packing;
+mod square;
 #[cfg(test)]
 mod tests;
 mod tree;
 
 pub use fault::TreeFault;
 pub use morton_code::morton;
+pub use square::Square;
 pub use tree::K2Tree;

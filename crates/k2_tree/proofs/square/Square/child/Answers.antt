@@ -1,0 +1,9 @@
+use Rattle.std.proofs.Common.{ap, ◌-◌}
+use Rattle.k2_tree.specs.Squares.{node}
+use Rattle.k2_tree.proofs.ChildLemmas.{interleaved-child}
+use Rattle.k2_tree.proofs.square.Square.child.Goals as goal
+
+pub returns-clause-node : goal.returns-clause-node
+returns-clause-node c =
+    let s = c.args.self.now in
+    ap (node (s.level - 1)) (interleaved-child 19 s.row s.column c.args.digit s.level c.requires.small c.requires.inner s.right s.upper)

@@ -1,0 +1,130 @@
+ghost use Rattle.std.specs.Prelude.{◌≡◌, ◌+◌, ◌-◌, ◌*◌, ◌/◌, ◌%◌, ◌^◌, ◌<◌, ◌≤◌, ◌↔◌, pos, neg_ℤ, ◌+ℤ◌, ◌≤ℤ◌, IsTrue};
+ghost use Rattle.k2_tree.specs.Morton.{IsGrid};
+ghost use Rattle.track_types.specs.Near.{IsBoxWithin, IsWithin};
+ghost use Rattle.track_types.specs.declared.limit.TheConstants.{MAX_HEIGHT};
+
+use track_types::{Cell, CellBox};
+
+/// A square of a tree that holds a cell: the whole grid, one of the four squares that a square of the
+/// tree is split in, and so on down to a cell.
+///
+/// It is a node of the k2-tree. It knows its place in the grid and its number among the squares that
+/// hold a cell, level by level from the top.
+#[derive(Clone, Copy, Debug)]
+pub struct Square {
+    base: Cell,
+    // How many levels stand below it: its side is 2^level.
+    level: u32,
+    // How many squares of its level stand to the left of it and below it in the grid.
+    column: u32,
+    row: u32,
+    number: u32,
+    ghost low: { level ≤ MAX_HEIGHT },
+    ghost right: { (column + 1) * 2 ^ level ≤ 2 ^ MAX_HEIGHT },
+    ghost upper: { (row + 1) * 2 ^ level ≤ 2 ^ MAX_HEIGHT },
+    ghost west: { neg_ℤ (pos (2 ^ 41)) ≤ℤ base.x },
+    ghost east: { base.x ≤ℤ pos (2 ^ 41) },
+    ghost south: { neg_ℤ (pos (2 ^ 41)) ≤ℤ base.y },
+    ghost north: { base.y ≤ℤ pos (2 ^ 41) },
+}
+
+impl Square {
+    ghost use Rattle.k2_tree.specs.TreeSquares.{area_of, child_at, corner_of, level_of, node_of, number_of};
+    ghost use Rattle.k2_tree.specs.Squares.{node};
+
+    /// The cells of the square, whether the tree has them or not. All of its bounds are within 2^42
+    /// of 0. It takes no memory.
+    pub fn area(&self) -> CellBox
+        ensures value { result ≡ area_of self.now }
+        ensures within { IsBoxWithin result }
+    {
+        CellBox {
+            x1: first(self.base.x, self.column, self.level),
+            y1: first(self.base.y, self.row, self.level),
+            x2: last(self.base.x, self.column, self.level),
+            y2: last(self.base.y, self.row, self.level),
+        }
+    }
+
+    /// Whether the square is a cell.
+    pub fn is_leaf(&self) -> bool
+        ensures { IsTrue result ↔ (level_of self.now ≡ 0) }
+    {
+        self.level == 0
+    }
+
+    // The square of the whole grid.
+    pub(crate) fn whole(base: Cell, height: u32) -> Square
+        requires { IsGrid height base }
+        ensures base { result.base ≡ base }
+        ensures node { node_of result ≡ node height 0 }
+        ensures number { number_of result ≡ 0 }
+    {
+        Square {
+            base,
+            level: height,
+            column: 0,
+            row: 0,
+            number: 0,
+        }
+    }
+
+    // The child with a digit, which has this number.
+    pub(crate) fn child(&self, digit: u32, number: u32) -> Square
+        requires inner { 1 ≤ level_of self.now }
+        requires small { digit < 4 }
+        ensures base { result.base ≡ self.now.base }
+        ensures node { node_of result ≡ child_at (node_of self.now) digit }
+        ensures number { number_of result ≡ number }
+    {
+        Square {
+            base: self.base,
+            level: self.level - 1,
+            column: 2 * self.column + digit % 2,
+            row: 2 * self.row + digit / 2,
+            number,
+        }
+    }
+
+    // The least cell.
+    pub(crate) fn corner(&self) -> Cell
+        ensures { result ≡ corner_of self.now }
+    {
+        let area = self.area();
+        Cell {
+            x: area.x1,
+            y: area.y1,
+        }
+    }
+
+    // The square's number.
+    pub(crate) fn number(&self) -> u32
+        ensures { result ≡ number_of self.now }
+    {
+        self.number
+    }
+}
+
+// The first coordinate of a square, where so many squares of its level stand before it.
+fn first(base: i64, before: u32, level: u32) -> i64
+    requires west { neg_ℤ (pos (2 ^ 41)) ≤ℤ base }
+    requires east { base ≤ℤ pos (2 ^ 41) }
+    requires low { level ≤ MAX_HEIGHT }
+    requires inside { (before + 1) * 2 ^ level ≤ 2 ^ MAX_HEIGHT }
+    ensures value { result ≡ base +ℤ pos (before * 2 ^ level) }
+    ensures within { IsWithin result }
+{
+    base + (u64::from(before) << level) as i64
+}
+
+// Its last coordinate.
+fn last(base: i64, before: u32, level: u32) -> i64
+    requires west { neg_ℤ (pos (2 ^ 41)) ≤ℤ base }
+    requires east { base ≤ℤ pos (2 ^ 41) }
+    requires low { level ≤ MAX_HEIGHT }
+    requires inside { (before + 1) * 2 ^ level ≤ 2 ^ MAX_HEIGHT }
+    ensures value { result ≡ base +ℤ pos (before * 2 ^ level) +ℤ pos (2 ^ level - 1) }
+    ensures within { IsWithin result }
+{
+    first(base, before, level) + (1 << level) - 1
+}
