@@ -15,4 +15,5 @@ pub mod PackingLemmas
 pub mod BuiltLemmas
 pub mod ClimbLemmas
 pub mod DigitLemmas
+pub mod SquareLemmas
 mod Examples
