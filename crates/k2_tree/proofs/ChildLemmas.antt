@@ -3,20 +3,7 @@ use Rattle.std.proofs.Common.{◌≡◌, ℕ, zero, suc, ◌+◌, ◌-◌, ◌*�
 use Rattle.std.proofs.lemmas.Nat.{pow_pos}
 use Rattle.std.proofs.Math.Nat.{mul-le-mul_left, pow-suc}
 use Rattle.k2_tree.specs.Morton.{interleaved}
-
--- the first row and the first column have the first number
-pub interleaved-zero : (n : ℕ) → interleaved n 0 0 ≡ 0
-unfolding interleaved
-interleaved-zero zero = refl
-interleaved-zero (suc n) = let rest = interleaved-zero n in omega arith
-
--- digits more than a number has change nothing
-pub interleaved-more : (n row column : ℕ) → row < 2 ^ n → column < 2 ^ n → interleaved (suc n) row column ≡ interleaved n row column
-unfolding interleaved
-interleaved-more zero row column low left = omega arith
-interleaved-more (suc n) row column low left =
-    let rest = interleaved-more n (row / 2) (column / 2) (omega (arith, pow-suc 2 n)) (omega (arith, pow-suc 2 n)) in
-    omega arith
+use Rattle.k2_tree.proofs.HeightLemmas.{interleaved-more}
 
 -- where a square has a level below it, half of the greatest grid stands before it at most
 before-half : (n before level : ℕ) → 1 ≤ level → (before + 1) * 2 ^ level ≤ 2 ^ suc n → before < 2 ^ n

@@ -1,6 +1,7 @@
 pub mod BoxLemmas
 pub mod MortonLemmas
 pub mod SideLemmas
+pub mod HeightLemmas
 pub mod ChildLemmas
 pub mod RisingLemmas
 pub mod PrefixLemmas
@@ -15,5 +16,7 @@ pub mod PackingLemmas
 pub mod BuiltLemmas
 pub mod ClimbLemmas
 pub mod DigitLemmas
+pub mod WalkLemmas
+pub mod LeafSquareLemmas
 pub mod SquareLemmas
 mod Examples

@@ -1,14 +1,17 @@
-ghost use Rattle.std.specs.Prelude.{◌≡◌, ◌+◌, ◌*◌, ◌^◌, ◌<◌, ◌≤◌, length, map, All, Contains, IfOk, MatchOption, Some, slice_get};
+ghost use Rattle.std.specs.Prelude.{◌≡◌, ◌+◌, ◌*◌, ◌^◌, ◌<◌, ◌≤◌, length, map, All, Contains, [], false, IfNone, IfOk, IfSome, MatchOption, Some, slice_get};
 ghost use Rattle.std.specs.List.Sorted.{IsStrictlyIncreasing};
 ghost use Rattle.k2_tree.specs.Morton.{morton_of, IsGrid, IsInGrid};
 ghost use Rattle.k2_tree.specs.TreeBits.{morton_bits};
+ghost use Rattle.k2_tree.specs.Squares.{node};
 ghost use Rattle.k2_tree.specs.Tree.{codes_of, tree_with, IsTree};
+ghost use Rattle.k2_tree.specs.TreeSquares.{child_at, corner_of, holds_cell, level_of, node_of, IsSquareOf};
 
 use crate::building::bits_of_codes;
 use crate::climb::code_of_leaf;
-use crate::descent::find_leaf;
+use crate::descent::{child_of, find_leaf};
 use crate::morton_code::{cell_at, codes_of_cells, is_in_grid, morton};
 use crate::packing::pack;
+use crate::square::Square;
 use bit_rank::{Bits, NoRoom};
 use std::alloc::Global;
 use std::marker::Model;
@@ -104,5 +107,51 @@ impl K2Tree {
         }
         let code = morton(cell, self.height, self.base);
         find_leaf(&self.bits, self.height, code, steps)
+    }
+
+    /// The square of the whole grid, if the set has a cell. It reads nothing that is counted.
+    pub fn root(&self) -> Option<Square>
+        ensures none { IfNone result (self.now.cells ≡ []) }
+        ensures some { IfSome result (λ square. IsSquareOf self.now square) }
+        ensures node { IfSome result (λ square. node_of square ≡ node self.now.height 0) }
+    {
+        if self.bits.len() == 0 {
+            return None;
+        }
+        Some(Square::whole(self.base, self.height))
+    }
+
+    /// The child of a square, by its digit: twice the bit of the row and that of the column. `None`
+    /// exactly where it holds no cell of the set. The square is one of this tree's and no cell, and
+    /// the digit is below 4.
+    pub fn child<L: Ledger>(
+        &self,
+        square: &Square,
+        digit: u32,
+        steps: &mut Steps<L>,
+    ) -> Option<Square>
+        requires of { IsSquareOf self.now square.now }
+        requires inner { 1 ≤ level_of square.now }
+        requires small { digit < 4 }
+        ensures none { IfNone result (holds_cell self.now (child_at (node_of square.now) digit) ≡ false) }
+        ensures some { IfSome result (λ child. IsSquareOf self.now child) }
+        ensures node { IfSome result (λ child. node_of child ≡ child_at (node_of square.now) digit) }
+        ensures cost { steps.new ≤ steps.old + 11 }
+    {
+        let Some(number) = child_of(&self.bits, square.number(), digit, steps) else {
+            return None;
+        };
+        Some(square.child(digit, number))
+    }
+
+    /// The number of the leaf that a square is, which is one of this tree's. It reads nothing that is
+    /// counted.
+    pub fn leaf_number<L: Ledger>(&self, square: &Square, steps: &mut Steps<L>) -> u32
+        requires of { IsSquareOf self.now square.now }
+        requires leaf { level_of square.now ≡ 0 }
+        ensures value { slice_get self.now.cells result ≡ Some (corner_of square.now) }
+        ensures cost { steps.new ≡ steps.old }
+    {
+        square.number() - self.bits.len() / 4
     }
 }

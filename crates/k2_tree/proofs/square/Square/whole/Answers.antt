@@ -2,7 +2,7 @@ use Rattle.std.proofs.Common.{ap, lit<, arith, ◌*◌, ◌≤◌, ◌^◌}
 use Rattle.std.proofs.Math.Nat.{pow-le-pow_right}
 use Rattle.track_types.specs.declared.limit.TheConstants.{MAX_HEIGHT}
 use Rattle.k2_tree.specs.Squares.{node}
-use Rattle.k2_tree.proofs.ChildLemmas.{interleaved-zero}
+use Rattle.k2_tree.proofs.HeightLemmas.{interleaved-zero}
 use Rattle.k2_tree.proofs.square.Square.whole.Goals as goal
 
 pub invariant_of-result : goal.invariant_of-result
