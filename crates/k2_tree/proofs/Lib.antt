@@ -19,4 +19,6 @@ pub mod DigitLemmas
 pub mod WalkLemmas
 pub mod LeafSquareLemmas
 pub mod SquareLemmas
+pub mod FlatLemmas
+pub mod PruningLemmas
 mod Examples

@@ -1,0 +1,150 @@
+-- What tests keep of a tree, level by level.
+use Rattle.std.proofs.Common.{◌≡◌, ℕ, zero, suc, ◌+◌, ◌*◌, ◌/◌, ◌^◌, ◌<◌, Bool, true, false, List, [], ◌∷◌}
+use Rattle.std.proofs.Common.{length, filter, refl, sym, ap, ◌∙◌, arith, All}
+use Rattle.std.proofs.Math.Nat.{div-div-eq-div-mul, div-one, pow-suc}
+use Rattle.std.proofs.lemmas.List.Elements.{All-nil, All-cons, All-weaker, All-filter}
+use Rattle.std.proofs.lemmas.List.{append-nil}
+use Rattle.std.proofs.lemmas.List.Sums.{sum_by-append}
+use Rattle.std.specs.Prelude.{if◌then◌else◌}
+use Rattle.std.specs.List.{flat_map, sum_by}
+use Rattle.k2_tree.specs.TreeBits.{is_in, prefixes, longer, Rises, AreCodes}
+use Rattle.k2_tree.specs.Squares.{Node, node, squares_from}
+use Rattle.k2_tree.specs.Pruning.{passes, children, kept_below, weight_below}
+use Rattle.k2_tree.proofs.PrefixLemmas.{prefixes-from_longer, prefixes-zero, prefixes-top}
+use Rattle.k2_tree.proofs.SquareLemmas.{level_squares}
+use Rattle.k2_tree.proofs.FlatLemmas.{filter-flat_map, flat_map-flat_map, flat_map_agree, All-flat_map, flat_map_if}
+use Rattle.k2_tree.proofs.FlatLemmas.{filter_and, filter_all, filter_none, sum_by-flat_map, sum_by-map, sum_by_plus}
+
+-- what a test keeps of the longer prefixes, prefix by prefix
+filter-longer : (p : ℕ → Bool) (xs : List ℕ) → filter p (longer xs) ≡ flat_map (λ x. filter p (longer (x ∷ []))) xs
+unfolding longer
+filter-longer p xs = filter-flat_map p (λ x. longer (x ∷ [])) xs
+
+-- the children of all squares of a level are the squares of the next
+pub children-flat : (n : ℕ) (codes : List ℕ) → Rises 0 codes
+    → flat_map (children n codes) (prefixes (suc n) codes) ≡ prefixes n codes
+unfolding children
+children-flat n codes up =
+    sym (filter-longer (is_in (prefixes n codes)) (prefixes (suc n) codes)) ∙ prefixes-from_longer n codes up
+
+-- a child has its square's prefix
+children-prefix : (n : ℕ) (codes : List ℕ) (r : ℕ) → All (λ q. q / 4 ≡ r) (children n codes r)
+unfolding children longer
+children-prefix n codes r =
+    let P : ℕ → Type 0 = λ q. q / 4 ≡ r in
+    All-filter (is_in (prefixes n codes)) P (4 * r ∷ (4 * r + 1) ∷ (4 * r + 2) ∷ (4 * r + 3) ∷ [])
+    (All-cons P (4 * r) ((4 * r + 1) ∷ (4 * r + 2) ∷ (4 * r + 3) ∷ []) (omega arith)
+    (All-cons P (4 * r + 1) ((4 * r + 2) ∷ (4 * r + 3) ∷ []) (omega arith)
+    (All-cons P (4 * r + 2) ((4 * r + 3) ∷ []) (omega arith)
+    (All-cons P (4 * r + 3) [] (omega arith) (All-nil P)))))
+
+-- what has the prefix of a child has that of the square
+all_longer-prefix : (n q r : ℕ) (xs : List ℕ) → q / 4 ≡ r
+    → All (λ c. c / 4 ^ n ≡ q) xs → All (λ c. c / 4 ^ suc n ≡ r) xs
+all_longer-prefix n q r xs is each =
+    All-weaker (λ c. c / 4 ^ n ≡ q) (λ c. c / 4 ^ suc n ≡ r)
+    (λ c e. ap (λ p. c / p) (pow-suc 4 n) ∙ sym (div-div-eq-div-mul c (4 ^ n) 4) ∙ ap (λ z. z / 4) e ∙ is) xs each
+
+-- the numbers below the children of a square have its prefix where each has its child's
+flat_map-prefix : (n : ℕ) (codes : List ℕ) (r : ℕ) (below : ℕ → List ℕ)
+    → ((q : ℕ) → All (λ c. c / 4 ^ n ≡ q) (below q))
+    → All (λ c. c / 4 ^ suc n ≡ r) (flat_map below (children n codes r))
+flat_map-prefix n codes r below each =
+    All-flat_map (λ c. c / 4 ^ suc n ≡ r) below (children n codes r)
+    (All-weaker (λ q. q / 4 ≡ r) (λ q. All (λ c. c / 4 ^ suc n ≡ r) (below q))
+    (λ q is. all_longer-prefix n q r (below q) is (each q)) (children n codes r) (children-prefix n codes r))
+
+-- what holds of the list holds of what the test leaves
+all_if : (P : ℕ → Type 0) (b : Bool) (xs : List ℕ) → All P xs → All P (if b then xs else [])
+all_if P true xs each = each
+all_if P false xs each = All-nil P
+
+-- what is kept below a square has its prefix
+kept_below-prefix : (test : Node → Bool) (codes : List ℕ) (n r : ℕ)
+    → All (λ c. c / 4 ^ n ≡ r) (kept_below test codes n r)
+unfolding kept_below
+kept_below-prefix test codes zero r =
+    let P : ℕ → Type 0 = λ c. c / 4 ^ 0 ≡ r in
+    all_if P (test (node 0 r)) (r ∷ []) (All-cons P r [] (div-one r) (All-nil P))
+kept_below-prefix test codes (suc n) r =
+    all_if (λ c. c / 4 ^ suc n ≡ r) (test (node (suc n) r)) (flat_map (kept_below test codes n) (children n codes r))
+    (flat_map-prefix n codes r (kept_below test codes n) (kept_below-prefix test codes n))
+
+-- a test of one prefix keeps all or none of the numbers that have it
+filter-prefix : (p : ℕ → Bool) (n r : ℕ) (xs : List ℕ) → All (λ c. c / 4 ^ n ≡ r) xs
+    → filter (λ c. p (c / 4 ^ n)) xs ≡ (if p r then xs else [])
+filter-prefix p n r xs each = by_test (p r) refl
+  where
+    by_test : (b : Bool) → p r ≡ b → filter (λ c. p (c / 4 ^ n)) xs ≡ (if p r then xs else [])
+    by_test true e =
+        let kept : All (λ c. p (c / 4 ^ n) ≡ true) xs =
+        All-weaker (λ c. c / 4 ^ n ≡ r) (λ c. p (c / 4 ^ n) ≡ true) (λ c is. ap p is ∙ e) xs each in
+        rw e (filter_all (λ c. p (c / 4 ^ n)) xs kept)
+    by_test false e =
+        let gone : All (λ c. p (c / 4 ^ n) ≡ false) xs =
+        All-weaker (λ c. c / 4 ^ n ≡ r) (λ c. p (c / 4 ^ n) ≡ false) (λ c is. ap p is ∙ e) xs each in
+        rw e (filter_none (λ c. p (c / 4 ^ n)) xs gone)
+
+-- a test on a square keeps all or none of what is kept below its children
+kept_below-step : (test : Node → Bool) (codes : List ℕ) (n r : ℕ)
+    → filter (λ c. test (node (suc n) (c / 4 ^ suc n))) (flat_map (kept_below test codes n) (children n codes r))
+    ≡ kept_below test codes (suc n) r
+unfolding kept_below
+kept_below-step test codes n r =
+    filter-prefix (λ p. test (node (suc n) p)) (suc n) r (flat_map (kept_below test codes n) (children n codes r))
+    (flat_map-prefix n codes r (kept_below test codes n) (kept_below-prefix test codes n))
+
+-- what is kept below all squares of a level are the numbers for which the test is true from there on
+pub kept_below-all : (test : Node → Bool) (n : ℕ) (codes : List ℕ) → Rises 0 codes
+    → flat_map (kept_below test codes n) (prefixes n codes) ≡ filter (passes test n) codes
+unfolding kept_below passes
+kept_below-all test zero codes up =
+    flat_map_if (λ p. test (node 0 p)) (prefixes 0 codes) ∙ ap (filter (λ p. test (node 0 p))) (prefixes-zero codes up)
+kept_below-all test (suc n) codes up =
+    let top : ℕ → Bool = λ c. test (node (suc n) (c / 4 ^ suc n)) in
+    let below : ℕ → List ℕ = kept_below test codes n in
+    let each : ℕ → List ℕ = λ r. flat_map below (children n codes r) in
+    let kept : (r : ℕ) → kept_below test codes (suc n) r ≡ filter top (each r) =
+    λ r. sym (kept_below-step test codes n r) in
+    flat_map_agree (kept_below test codes (suc n)) (λ r. filter top (each r)) kept (prefixes (suc n) codes)
+    ∙ sym (filter-flat_map top each (prefixes (suc n) codes))
+    ∙ ap (filter top) (sym (flat_map-flat_map below (children n codes) (prefixes (suc n) codes)))
+    ∙ ap (λ ps. filter top (flat_map below ps)) (children-flat n codes up)
+    ∙ ap (filter top) (kept_below-all test n codes up)
+    ∙ sym (filter_and top (passes test n) codes)
+
+-- what is kept below the topmost square are the numbers for which the test is true
+pub kept_below-top : (test : Node → Bool) (height : ℕ) (codes : List ℕ) → AreCodes height codes → 0 < length codes
+    → kept_below test codes height 0 ≡ filter (passes test height) codes
+kept_below-top test height [] are some = absurd (omega arith)
+kept_below-top test height (c ∷ cs) are some =
+    sym (append-nil (kept_below test (c ∷ cs) height 0))
+    ∙ ap (flat_map (kept_below test (c ∷ cs) height)) (sym (prefixes-top height c cs are.small))
+    ∙ kept_below-all test height (c ∷ cs) are.rising
+
+-- the weights below all squares of a level are those of the squares from there on
+pub weight_below-all : (weight : Node → ℕ) (n : ℕ) (codes : List ℕ) → Rises 0 codes
+    → sum_by (weight_below weight codes n) (prefixes n codes) ≡ sum_by weight (squares_from n codes)
+unfolding weight_below squares_from
+weight_below-all weight zero codes up = sym (sum_by-map weight (node 0) (prefixes 0 codes))
+weight_below-all weight (suc n) codes up =
+    let below : ℕ → ℕ = weight_below weight codes n in
+    let ps : List ℕ = prefixes (suc n) codes in
+    let here : ℕ → ℕ = λ p. weight (node (suc n) p) in
+    let later : sum_by (λ p. sum_by below (children n codes p)) ps ≡ sum_by weight (squares_from n codes) =
+    sym (sum_by-flat_map below (children n codes) ps) ∙ ap (sum_by below) (children-flat n codes up)
+    ∙ weight_below-all weight n codes up in
+    sum_by_plus here (λ p. sum_by below (children n codes p)) ps
+    ∙ ap (λ k. k + sum_by (λ p. sum_by below (children n codes p)) ps) (sym (sum_by-map weight (node (suc n)) ps))
+    ∙ ap (λ k. sum_by weight (level_squares (suc n) codes) + k) later
+    ∙ sym (sum_by-append weight (level_squares (suc n) codes) (squares_from n codes))
+
+-- the weight below the topmost square is that of all squares
+pub weight_below-top : (weight : Node → ℕ) (height : ℕ) (codes : List ℕ) → AreCodes height codes → 0 < length codes
+    → weight_below weight codes height 0 ≡ sum_by weight (squares_from height codes)
+weight_below-top weight height [] are some = absurd (omega arith)
+weight_below-top weight height (c ∷ cs) are some =
+    let below : ℕ → ℕ = weight_below weight (c ∷ cs) height in
+    let one : below 0 ≡ sum_by below (0 ∷ []) = omega arith in
+    one ∙ ap (sum_by below) (sym (prefixes-top height c cs are.small))
+    ∙ weight_below-all weight height (c ∷ cs) are.rising
