@@ -21,4 +21,5 @@ pub mod LeafSquareLemmas
 pub mod SquareLemmas
 pub mod FlatLemmas
 pub mod PruningLemmas
+pub mod LeafLemmas
 mod Examples

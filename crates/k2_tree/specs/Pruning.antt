@@ -1,5 +1,6 @@
 -- The leaves all of whose squares pass a test, and how many squares do.
-use Rattle.std.specs.Prelude.{ℕ, zero, suc, ◌+◌, ◌/◌, ◌^◌, Bool, ◌&&◌, if◌then◌else◌, List, [], ◌∷◌, length, filter}
+use Rattle.std.specs.Prelude.{ℕ, zero, suc, ◌+◌, ◌/◌, ◌^◌, Bool, ◌&&◌, nat_lt, if◌then◌else◌}
+use Rattle.std.specs.Prelude.{List, [], ◌∷◌, length, filter}
 use Rattle.std.specs.List.{flat_map, sum_by}
 use Rattle.track_types.specs.declared.cell.Cell.{Cell}
 use Rattle.track_types.specs.declared.cell_box.CellBox.{CellBox}
@@ -13,6 +14,14 @@ use Rattle.k2_tree.specs.Tree.{Tree, codes_of}
 unfoldable pub numbered : ℕ → List Cell → List (ℕ × Cell)
 numbered k [] = []
 numbered k (cell ∷ cells) = (k, cell) ∷ numbered (suc k) cells
+
+-- how many of the numbers are below one, which is its place among ascending ones
+abbrev pub place_of : List ℕ → ℕ → ℕ
+place_of codes code = length (filter (λ other. nat_lt other code) codes)
+
+-- a leaf by its Morton number: its own number, and its cell
+abbrev pub leaf_with : ℕ → Cell → List ℕ → ℕ → ℕ × Cell
+leaf_with height base codes code = (place_of codes code, cell_of height base code)
 
 -- whether a test is true on each square that holds a Morton number, from the one of a level down to its own
 unfoldable pub passes : (Node → Bool) → ℕ → ℕ → Bool
