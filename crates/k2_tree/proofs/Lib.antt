@@ -16,7 +16,9 @@ pub mod PackingLemmas
 pub mod BuiltLemmas
 pub mod ClimbLemmas
 pub mod DigitLemmas
+pub mod DigitsOfLemmas
 pub mod WalkLemmas
+pub mod GroupLemmas
 pub mod LeafSquareLemmas
 pub mod SquareLemmas
 pub mod FlatLemmas

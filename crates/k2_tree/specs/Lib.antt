@@ -5,6 +5,8 @@ pub mod Squares
 pub mod Areas
 pub mod Tree
 pub mod TreeSquares
+pub mod Digits
+pub mod Pending
 pub mod Flaws
 pub mod Pruning
 pub mod Building

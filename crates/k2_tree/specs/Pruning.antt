@@ -1,6 +1,6 @@
 -- The leaves all of whose squares pass a test, and how many squares do.
-use Rattle.std.specs.Prelude.{ℕ, zero, suc, ◌+◌, ◌/◌, ◌^◌, Bool, ◌&&◌, nat_lt, if◌then◌else◌}
-use Rattle.std.specs.Prelude.{List, [], ◌∷◌, length, filter}
+use Rattle.std.specs.Prelude.{ℕ, zero, suc, ◌+◌, ◌-◌, ◌/◌, ◌^◌, Bool, ◌&&◌, nat_lt, if◌then◌else◌}
+use Rattle.std.specs.Prelude.{List, [], ◌∷◌, length, map, filter}
 use Rattle.std.specs.List.{flat_map, sum_by}
 use Rattle.track_types.specs.declared.cell.Cell.{Cell}
 use Rattle.track_types.specs.declared.cell_box.CellBox.{CellBox}
@@ -44,6 +44,11 @@ square_count keep tree = length (filter (on_areas keep tree) (squares_from tree.
 -- the children that hold a number of the square with this prefix, themselves of level n
 unfoldable pub children : ℕ → List ℕ → ℕ → List ℕ
 children n codes prefix = filter (is_in (prefixes n codes)) (longer (prefix ∷ []))
+
+-- those children of a square of a tree
+abbrev pub child_nodes : Tree → Node → List Node
+child_nodes tree square =
+    map (node (square.level - 1)) (children (square.level - 1) (codes_of tree) square.prefix)
 
 -- the numbers below a square for which a test is true on each square from this one down
 unfoldable pub kept_below : (Node → Bool) → List ℕ → ℕ → ℕ → List ℕ

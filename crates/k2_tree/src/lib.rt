@@ -11,6 +11,7 @@ mod descent;
 mod fault;
 mod morton_code;
 mod packing;
+mod pending;
 mod square;
 #[cfg(test)]
 mod tests;

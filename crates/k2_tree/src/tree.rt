@@ -4,13 +4,16 @@ ghost use Rattle.k2_tree.specs.Morton.{morton_of, IsGrid, IsInGrid};
 ghost use Rattle.k2_tree.specs.TreeBits.{morton_bits};
 ghost use Rattle.k2_tree.specs.Squares.{node};
 ghost use Rattle.k2_tree.specs.Tree.{codes_of, tree_with, IsTree};
-ghost use Rattle.k2_tree.specs.TreeSquares.{child_at, corner_of, holds_cell, level_of, node_of, IsSquareOf};
+ghost use Rattle.k2_tree.specs.TreeSquares.{child_at, corner_of, holds_cell, level_of, node_of, squares_of, IsSquareOf};
+ghost use Rattle.k2_tree.specs.Pending.{nodes_of, StandsAt};
+ghost use Rattle.k2_tree.specs.Pruning.{child_nodes};
 
 use crate::building::bits_of_codes;
 use crate::climb::code_of_leaf;
 use crate::descent::{child_of, find_leaf};
 use crate::morton_code::{cell_at, codes_of_cells, is_in_grid, morton};
 use crate::packing::pack;
+use crate::pending::Pending;
 use crate::square::Square;
 use bit_rank::{Bits, NoRoom};
 use std::alloc::Global;
@@ -153,5 +156,22 @@ impl K2Tree {
         ensures cost { steps.new ≡ steps.old }
     {
         square.number() - self.bits.len() / 4
+    }
+
+    // The children that hold a cell of a square of this tree that is no cell, in order: one window tells
+    // which there are, and one rank their numbers.
+    pub(crate) fn children_of<L: Ledger>(&self, square: Square, steps: &mut Steps<L>) -> Pending
+        requires of { IsSquareOf self.now square }
+        requires inner { 1 ≤ level_of square }
+        ensures square { result.square ≡ square }
+        ensures nodes { nodes_of result ≡ child_nodes self.now (node_of square) }
+        ensures stands { StandsAt (squares_of self.now) result.number (nodes_of result) }
+        ensures cost { steps.new ≤ steps.old + 11 }
+    {
+        let bits = &self.bits;
+        let place = 4 * square.number();
+        let digits = bits.window(place, 4, steps);
+        let number = bits.rank1(place, steps) + 1;
+        Pending::new(square, digits, number)
     }
 }

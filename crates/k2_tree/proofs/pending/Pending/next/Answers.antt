@@ -1,0 +1,34 @@
+use Rattle.std.proofs.Common.{◌≡◌, ◌+◌, ◌-◌, [], ◌∷◌, length, map, arith, ap, sym, ◌∙◌, bit_and}
+use Rattle.k2_tree.specs.TreeSquares.{child_at, node_of}
+use Rattle.k2_tree.specs.Digits.{digits_of}
+use Rattle.k2_tree.proofs.DigitsOfLemmas.{digits_of-zero, lowest}
+use Rattle.k2_tree.proofs.pending.Pending.next.Goals as goal
+
+pub returns-then-self-eq0-clause-none : goal.returns-then-self-eq0-clause-none
+returns-then-self-eq0-clause-none c =
+    let s = c.args.self.now in
+    ap (λ d. map (child_at (node_of s.square)) (digits_of d)) c.if-self-eq0.true ∙ ap (map (child_at (node_of s.square))) digits_of-zero
+
+pub child-child-requires-clause-small : goal.child-child-requires-clause-small
+child-child-requires-clause-small c =
+    let s = c.args.self.now in (lowest s.digits s.four c.if-self-eq0.false).small
+
+pub overflow_add-self : goal.overflow_add-self
+overflow_add-self c =
+    let s = c.args.self.now in
+    let first = ap length (lowest s.digits s.four c.if-self-eq0.false).first in
+    omega (arith, s.room)
+
+pub invariant_of-self : goal.invariant_of-self
+invariant_of-self c =
+    let s = c.args.self.now in
+    let low = lowest s.digits s.four c.if-self-eq0.false in
+    let first = ap length low.first in
+    record { inner = s.inner; four = low.four; room = omega (arith, s.room) }
+
+pub returns-clause-found : goal.returns-clause-found
+returns-clause-found c =
+    let s = c.args.self.now in
+    let low = lowest s.digits s.four c.if-self-eq0.false in
+    ap (map (child_at (node_of s.square))) low.first
+    ∙ ap (λ n. n ∷ map (child_at (node_of s.square)) (digits_of (bit_and s.digits (s.digits - 1)))) (sym c.child-child.ensures.node)

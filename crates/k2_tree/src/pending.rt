@@ -1,0 +1,57 @@
+ghost use Rattle.std.specs.Prelude.{◌≡◌, ◌+◌, ◌^◌, ◌<◌, ◌≤◌, length};
+ghost use Rattle.k2_tree.specs.TreeSquares.{level_of};
+ghost use Rattle.k2_tree.specs.Digits.{digits_of};
+
+use crate::square::Square;
+
+/// The children of a square that are still to be visited.
+#[derive(Clone, Copy)]
+pub struct Pending {
+    square: Square,
+    // A bit for each child, the first child's lowest, where it holds a cell and is still to come.
+    digits: u32,
+    // The number of the next of them. The others have the numbers behind it.
+    number: u32,
+    ghost inner: { 1 ≤ level_of square },
+    ghost four: { digits < 16 },
+    ghost room: { number + length (digits_of digits) < 2 ^ 32 },
+}
+
+impl Pending {
+    ghost use Rattle.std.specs.Prelude.{[], ◌∷◌, IfNone, IfSome};
+    ghost use Rattle.k2_tree.specs.TreeSquares.{node_of, number_of};
+    ghost use Rattle.k2_tree.specs.Pending.{nodes_of};
+
+    pub fn new(square: Square, digits: u32, number: u32) -> Pending
+        requires inner { 1 ≤ level_of square }
+        requires four { digits < 16 }
+        requires room { number + length (digits_of digits) < 2 ^ 32 }
+        ensures square { result.square ≡ square }
+        ensures digits { result.digits ≡ digits }
+        ensures number { result.number ≡ number }
+    {
+        Pending {
+            square,
+            digits,
+            number,
+        }
+    }
+
+    /// Takes the next child off and answers it.
+    pub fn next(&mut self) -> Option<Square>
+        ensures none { IfNone result (nodes_of self.old ≡ []) }
+        ensures found { IfSome result (λ child. nodes_of self.old ≡ node_of child ∷ nodes_of self.new) }
+        ensures base { IfSome result (λ child. child.base ≡ self.old.square.base) }
+        ensures number { IfSome result (λ child. number_of child ≡ self.old.number) }
+        ensures later { IfSome result (λ child. self.new.number ≡ self.old.number + 1) }
+        ensures square { self.new.square ≡ self.old.square }
+    {
+        if self.digits == 0 {
+            return None;
+        }
+        let child = self.square.child(self.digits.trailing_zeros(), self.number);
+        self.digits &= self.digits - 1;
+        self.number += 1;
+        Some(child)
+    }
+}
