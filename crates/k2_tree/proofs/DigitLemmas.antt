@@ -6,7 +6,7 @@ use Rattle.k2_tree.proofs.MortonLemmas.{row_of-lt, column_of-lt}
 use Rattle.k2_tree.proofs.DescentLemmas.{two_bits}
 
 -- a digit less
-fourth : (code n : ℕ) → code / 4 ^ n / 4 ≡ code / 4 ^ suc n
+pub fourth : (code n : ℕ) → code / 4 ^ n / 4 ≡ code / 4 ^ suc n
 fourth code n = div-div-eq-div-mul code (4 ^ n) 4 ∙ ap (λ p. code / p) (sym (pow-suc 4 n))
 
 -- one digit more of a column

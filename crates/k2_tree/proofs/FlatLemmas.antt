@@ -72,6 +72,21 @@ filter_none p [] each = refl
 filter_none p (x ∷ xs) each =
     rw (All-head (λ y. p y ≡ false) x xs each) (filter_none p xs (All-tail (λ y. p y ≡ false) x xs each))
 
+-- what a test keeps does not change where another test took only what it keeps not
+pub filter_implied : {X : Type 0} (a b : X → Bool) (xs : List X) → All (λ x. a x ≡ true → b x ≡ true) xs
+    → filter a (filter b xs) ≡ filter a xs
+filter_implied a b [] each = refl
+filter_implied {X = X} a b (x ∷ xs) each =
+    let P : X → Type 0 = λ y. a y ≡ true → b y ≡ true in
+    by_kept (a x) refl (b x) refl (All-head P x xs each) (filter_implied a b xs (All-tail P x xs each))
+  where
+    by_kept : (k : Bool) → a x ≡ k → (l : Bool) → b x ≡ l → (a x ≡ true → b x ≡ true)
+        → filter a (filter b xs) ≡ filter a xs → filter a (filter b (x ∷ xs)) ≡ filter a (x ∷ xs)
+    by_kept true e true f only rest = rw (f, e) (ap (λ ys. x ∷ ys) rest)
+    by_kept false e true f only rest = rw (f, e) rest
+    by_kept false e false f only rest = rw (e, f) rest
+    by_kept true e false f only rest = let clash : false ≡ true = sym f ∙ only e in absurd (cc)
+
 -- a sum over lists laid end to end
 pub sum_by-flat_map : {X A : Type 0} (f : A → ℕ) (g : X → List A) (xs : List X)
     → sum_by f (flat_map g xs) ≡ sum_by (λ x. sum_by f (g x)) xs

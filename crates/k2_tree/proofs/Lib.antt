@@ -24,4 +24,6 @@ pub mod SquareLemmas
 pub mod FlatLemmas
 pub mod PruningLemmas
 pub mod LeafLemmas
+pub mod AreaLemmas
+pub mod KeptLemmas
 mod Examples

@@ -1,7 +1,7 @@
 -- What tests keep of a tree, level by level.
 use Rattle.std.proofs.Common.{◌≡◌, ℕ, zero, suc, ◌+◌, ◌*◌, ◌/◌, ◌^◌, ◌<◌, Bool, true, false, List, [], ◌∷◌}
 use Rattle.std.proofs.Common.{length, filter, refl, sym, ap, ◌∙◌, arith, All}
-use Rattle.std.proofs.Math.Nat.{div-div-eq-div-mul, div-one, pow-suc}
+use Rattle.std.proofs.Math.Nat.{div-one}
 use Rattle.std.proofs.lemmas.List.Elements.{All-nil, All-cons, All-weaker, All-filter}
 use Rattle.std.proofs.lemmas.List.{append-nil}
 use Rattle.std.proofs.lemmas.List.Sums.{sum_by-append}
@@ -11,6 +11,7 @@ use Rattle.k2_tree.specs.TreeBits.{is_in, prefixes, longer, Rises, AreCodes}
 use Rattle.k2_tree.specs.Squares.{Node, node, squares_from}
 use Rattle.k2_tree.specs.Pruning.{passes, children, kept_below, weight_below}
 use Rattle.k2_tree.proofs.PrefixLemmas.{prefixes-from_longer, prefixes-zero, prefixes-top}
+use Rattle.k2_tree.proofs.DigitLemmas.{fourth}
 use Rattle.k2_tree.proofs.SquareLemmas.{level_squares}
 use Rattle.k2_tree.proofs.FlatLemmas.{filter-flat_map, flat_map-flat_map, flat_map_agree, All-flat_map, flat_map_if}
 use Rattle.k2_tree.proofs.FlatLemmas.{filter_and, filter_all, filter_none, sum_by-flat_map, sum_by-map, sum_by_plus}
@@ -43,7 +44,7 @@ all_longer-prefix : (n q r : ℕ) (xs : List ℕ) → q / 4 ≡ r
     → All (λ c. c / 4 ^ n ≡ q) xs → All (λ c. c / 4 ^ suc n ≡ r) xs
 all_longer-prefix n q r xs is each =
     All-weaker (λ c. c / 4 ^ n ≡ q) (λ c. c / 4 ^ suc n ≡ r)
-    (λ c e. ap (λ p. c / p) (pow-suc 4 n) ∙ sym (div-div-eq-div-mul c (4 ^ n) 4) ∙ ap (λ z. z / 4) e ∙ is) xs each
+    (λ c e. sym (fourth c n) ∙ ap (λ z. z / 4) e ∙ is) xs each
 
 -- the numbers below the children of a square have its prefix where each has its child's
 flat_map-prefix : (n : ℕ) (codes : List ℕ) (r : ℕ) (below : ℕ → List ℕ)
