@@ -19,6 +19,7 @@ pub mod DigitLemmas
 pub mod DigitsOfLemmas
 pub mod WalkLemmas
 pub mod GroupLemmas
+pub mod StackLemmas
 pub mod LeafSquareLemmas
 pub mod SquareLemmas
 pub mod FlatLemmas

@@ -7,6 +7,7 @@ pub mod Tree
 pub mod TreeSquares
 pub mod Digits
 pub mod Pending
+pub mod SquareWalk
 pub mod Flaws
 pub mod Pruning
 pub mod Building

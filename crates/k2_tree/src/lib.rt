@@ -13,6 +13,7 @@ mod morton_code;
 mod packing;
 mod pending;
 mod square;
+mod square_walk;
 #[cfg(test)]
 mod tests;
 mod tree;

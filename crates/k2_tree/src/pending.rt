@@ -3,6 +3,7 @@ ghost use Rattle.k2_tree.specs.TreeSquares.{level_of};
 ghost use Rattle.k2_tree.specs.Digits.{digits_of};
 
 use crate::square::Square;
+use track_types::Cell;
 
 /// The children of a square that are still to be visited.
 #[derive(Clone, Copy)]
@@ -15,6 +16,13 @@ pub struct Pending {
     ghost inner: { 1 ≤ level_of square },
     ghost four: { digits < 16 },
     ghost room: { number + length (digits_of digits) < 2 ^ 32 },
+}
+
+impl Default for Pending {
+    // None, as in the unused places of a stack.
+    fn default() -> Self {
+        Pending::new(Square::whole(Cell { x: 0, y: 0 }, 1), 0, 0)
+    }
 }
 
 impl Pending {
@@ -44,6 +52,7 @@ impl Pending {
         ensures base { IfSome result (λ child. child.base ≡ self.old.square.base) }
         ensures number { IfSome result (λ child. number_of child ≡ self.old.number) }
         ensures later { IfSome result (λ child. self.new.number ≡ self.old.number + 1) }
+        ensures level { IfSome result (λ child. level_of child + 1 ≡ level_of self.old.square) }
         ensures square { self.new.square ≡ self.old.square }
     {
         if self.digits == 0 {

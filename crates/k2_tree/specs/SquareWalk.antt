@@ -1,0 +1,60 @@
+-- Squares that are still to be visited, the next one first.
+use Rattle.std.specs.Prelude.{◌≡◌, ℕ, ◌+◌, ◌-◌, ◌≤◌, List, [], ◌∷◌, ◌++◌, length, slice_get, Option, None, Some, ⊤}
+use Rattle.track_types.specs.declared.cell.Cell.{Cell}
+use Rattle.track_types.specs.declared.limit.TheConstants.{MAX_HEIGHT}
+use Rattle.k2_tree.specs.Squares.{Node}
+use Rattle.k2_tree.specs.Tree.{Tree}
+use Rattle.k2_tree.specs.TreeSquares.{level_of, node_of, number_of, squares_of, IsSquareOf}
+use Rattle.k2_tree.specs.Pending.{nodes_of, StandsAt}
+use Rattle.k2_tree.specs.declared.square.Square.{Square}
+use Rattle.k2_tree.specs.declared.pending.Pending.{Pending}
+
+-- a tree, its squares that are still to be visited, and how many squares are open
+pub record WalkView : Type 0 where
+  pub tree : Tree
+  pub pending : List Node
+  pub depth : ℕ
+
+-- the square, if there is one
+abbrev pub found_nodes : Option Square → List Node
+found_nodes None = []
+found_nodes (Some square) = node_of square ∷ []
+
+-- the children of open squares that are still to be visited, those of the square opened last first
+unfoldable pub open_nodes : List Pending → List Node
+open_nodes [] = []
+open_nodes (pending ∷ later) = open_nodes later ++ nodes_of pending
+
+-- the view of a walk: the whole grid, where it is still to be visited, and then the children of open squares
+abbrev pub walk_of : Tree → Option Square → List Pending → WalkView
+walk_of tree whole stack =
+    record { tree = tree; pending = found_nodes whole ++ open_nodes stack; depth = length stack }
+
+-- an open square is of this level, and its pending children stand among the squares
+pub record IsOpen (squares : List Node) (base : Cell) (level : ℕ) (pending : Pending) : Type 0 where
+  pub high : level_of pending.square ≡ level
+  pub same : pending.square.base ≡ base
+  pub stands : StandsAt squares pending.number (nodes_of pending)
+
+-- so are all open squares, one of each level from this one downwards
+abbrev pub AreOpen : List Node → Cell → ℕ → List Pending → Type 0
+AreOpen squares base level [] = Unit {0}
+AreOpen squares base level (pending ∷ later) = IsOpen squares base level pending × AreOpen squares base (level - 1) later
+
+-- the square is a child that stands among the squares, and was taken from the square opened last
+pub record IsTaken (squares : List Node) (base : Cell) (level : ℕ) (square : Square) (stack : List Pending) : Type 0 where
+  pub same : square.base ≡ base
+  pub stands : slice_get squares (number_of square) ≡ Some (node_of square)
+  pub depth : level_of square + length stack ≡ level
+  pub rest : AreOpen squares base level stack
+
+-- where the whole grid is still to be visited, nothing is open yet
+abbrev pub IsWhole : Tree → Option Square → List Pending → Type 0
+IsWhole tree None stack = ⊤
+IsWhole tree (Some square) stack = (stack ≡ []) × (level_of square ≡ tree.height) × IsSquareOf tree square
+
+-- the parts of a walk belong together
+pub record IsWalk (tree : Tree) (whole : Option Square) (stack : List Pending) : Type 0 where
+  pub low : tree.height ≤ MAX_HEIGHT
+  pub first : IsWhole tree whole stack
+  pub later : AreOpen (squares_of tree) tree.base tree.height stack
