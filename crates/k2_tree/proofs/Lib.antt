@@ -20,6 +20,7 @@ pub mod DigitsOfLemmas
 pub mod WalkLemmas
 pub mod GroupLemmas
 pub mod StackLemmas
+pub mod OpenLemmas
 pub mod LeafSquareLemmas
 pub mod SquareLemmas
 pub mod FlatLemmas

@@ -1,5 +1,5 @@
 -- Squares that are still to be visited, the next one first.
-use Rattle.std.specs.Prelude.{◌≡◌, ℕ, ◌+◌, ◌-◌, ◌≤◌, List, [], ◌∷◌, ◌++◌, length, slice_get, Option, None, Some, ⊤}
+use Rattle.std.specs.Prelude.{◌≡◌, ℕ, ◌+◌, ◌-◌, ◌≤◌, Bool, is_none, List, [], ◌∷◌, ◌++◌, length, slice_get, Option, None, Some, ⊤}
 use Rattle.track_types.specs.declared.cell.Cell.{Cell}
 use Rattle.track_types.specs.declared.limit.TheConstants.{MAX_HEIGHT}
 use Rattle.k2_tree.specs.Squares.{Node}
@@ -9,10 +9,11 @@ use Rattle.k2_tree.specs.Pending.{nodes_of, StandsAt}
 use Rattle.k2_tree.specs.declared.square.Square.{Square}
 use Rattle.k2_tree.specs.declared.pending.Pending.{Pending}
 
--- a tree, its squares that are still to be visited, and how many squares are open
+-- a tree, its squares that are still to be visited, whether the whole grid was visited, and how many squares are open
 pub record WalkView : Type 0 where
   pub tree : Tree
   pub pending : List Node
+  pub begun : Bool
   pub depth : ℕ
 
 -- the square, if there is one
@@ -27,8 +28,12 @@ open_nodes (pending ∷ later) = open_nodes later ++ nodes_of pending
 
 -- the view of a walk: the whole grid, where it is still to be visited, and then the children of open squares
 abbrev pub walk_of : Tree → Option Square → List Pending → WalkView
-walk_of tree whole stack =
-    record { tree = tree; pending = found_nodes whole ++ open_nodes stack; depth = length stack }
+walk_of tree whole stack = record {
+  tree = tree;
+  pending = found_nodes whole ++ open_nodes stack;
+  begun = is_none whole;
+  depth = length stack;
+}
 
 -- an open square is of this level, and its pending children stand among the squares
 pub record IsOpen (squares : List Node) (base : Cell) (level : ℕ) (pending : Pending) : Type 0 where

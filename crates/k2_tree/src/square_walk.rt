@@ -1,14 +1,75 @@
-ghost use Rattle.std.specs.Prelude.{◌≡◌, ◌+◌, ◌≤◌, ◌++◌, [], ℕ, List, IfNone, IfSome, length};
+ghost use Rattle.std.specs.Prelude.{◌≡◌, ◌+◌, ◌≤◌, ◌++◌, [], ℕ, List, IfNone, IfSome, length, true};
 ghost use Rattle.track_types.specs.declared.cell.Cell.{Cell};
+ghost use Rattle.k2_tree.specs.Pruning.{child_nodes};
 ghost use Rattle.k2_tree.specs.Squares.{Node};
 ghost use Rattle.k2_tree.specs.SquareWalk.{AreOpen, IsTaken, found_nodes, open_nodes};
+ghost use Rattle.k2_tree.specs.Tree.{Tree};
+ghost use Rattle.k2_tree.specs.TreeSquares.{level_of, node_of, IsSquareOf};
 
 use crate::pending::Pending;
 use crate::square::Square;
+use crate::tree::K2Tree;
 use arrayvec::ArrayVec;
+use std::marker::Model;
+use std::sync::ledger::Ledger;
+use step_count::Steps;
+use track_types::MAX_HEIGHT;
 
 // One open square for each level above the cells.
-const LEVELS: usize = 20;
+const LEVELS: usize = MAX_HEIGHT as usize;
+
+/// A way over the squares of a tree in Morton order, in which each square is followed by its children
+/// where it is opened, and else by what comes behind them.
+///
+/// It keeps one entry for each level. Contracts see the tree, the squares that are still to be
+/// visited, the next one first, and how many squares are open.
+#[derive(Drop)]
+pub struct SquareWalk<'a> {
+    tree: &'a K2Tree,
+    // The square of the whole grid, until it was visited.
+    whole: Option<Square>,
+    stack: ArrayVec<Pending, LEVELS>,
+}
+
+impl<'a> Model for SquareWalk<'a> {
+    ghost use Rattle.k2_tree.specs.SquareWalk.{WalkView, walk_of, IsWalk};
+
+    ghost Value = { WalkView };
+
+    ghost view = { λ w. walk_of w.tree.now w.whole w.stack.items };
+
+    ghost invariant = { λ w. IsWalk w.tree.now w.whole w.stack.items };
+}
+
+impl<'a> SquareWalk<'a> {
+    /// Takes the next square off and answers it.
+    pub fn next_square(&mut self) -> Option<Square>
+        ensures tree { self.new.tree ≡ self.old.tree }
+        ensures none { IfNone result (self.old.pending ≡ []) }
+        ensures pending { self.old.pending ≡ found_nodes result ++ self.new.pending }
+        ensures of { IfSome result (λ square. IsSquareOf self.old.tree square) }
+        ensures begun { self.new.begun ≡ true }
+        ensures depth { IfSome result (λ square. level_of square + self.new.depth ≡ self.old.tree.height) }
+    {
+        if let Some(whole) = self.whole.take() {
+            return Some(whole);
+        }
+        next_child(&mut self.stack)
+    }
+
+    /// Puts the children of the square that was visited last before all others. It is no cell.
+    pub fn open<L: Ledger>(&mut self, square: Square, steps: &mut Steps<L>)
+        requires of { IsSquareOf self.old.tree square }
+        requires inner { 1 ≤ level_of square }
+        requires depth { level_of square + self.old.depth ≡ self.old.tree.height }
+        requires begun { self.old.begun ≡ true }
+        ensures tree { self.new.tree ≡ self.old.tree }
+        ensures pending { self.new.pending ≡ child_nodes self.old.tree (node_of square) ++ self.old.pending }
+        ensures cost { steps.new ≤ steps.old + 11 }
+    {
+        self.stack.push(self.tree.children_of(square, steps));
+    }
+}
 
 // Takes the next child of the squares that are open, of the one opened last first.
 fn next_child(stack: &mut ArrayVec<Pending, LEVELS>) -> Option<Square>

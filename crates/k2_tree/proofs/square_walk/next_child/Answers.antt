@@ -36,7 +36,7 @@ loop-pending-preserved c =
       nodes = ap (λ nodes. nodes ++ open_nodes front) (sym c.in_default-next.ensures.none) ∙ sym (open_nodes-append front c.in-Some.pending)
           ∙ ap open_nodes (sym c.in-Some.ensures.items) ∙ kept.nodes;
       are = λ squares base level are.
-        (AreOpen-parted squares base level front c.in-Some.pending (subst (AreOpen squares base level) c.in-Some.ensures.items (kept.are squares base level are))).0;
+          (AreOpen-parted squares base level front c.in-Some.pending (subst (AreOpen squares base level) c.in-Some.ensures.items (kept.are squares base level are))).0;
     }
 
 pub returns-clause-none : goal.returns-clause-none
