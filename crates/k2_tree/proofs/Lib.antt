@@ -28,4 +28,5 @@ pub mod PruningLemmas
 pub mod LeafLemmas
 pub mod AreaLemmas
 pub mod KeptLemmas
+pub mod WholeLemmas
 mod Examples

@@ -10,4 +10,5 @@ pub mod Pending
 pub mod SquareWalk
 pub mod Flaws
 pub mod Pruning
+pub mod Pruned
 pub mod Building

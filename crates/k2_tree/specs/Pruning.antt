@@ -23,6 +23,10 @@ place_of codes code = length (filter (λ other. nat_lt other code) codes)
 abbrev pub leaf_with : ℕ → Cell → List ℕ → ℕ → ℕ × Cell
 leaf_with height base codes code = (place_of codes code, cell_of height base code)
 
+-- the leaf of a tree with this Morton number
+abbrev pub leaf_of : Tree → ℕ → ℕ × Cell
+leaf_of tree code = leaf_with tree.height tree.base (codes_of tree) code
+
 -- whether a test is true on each square that holds a Morton number, from the one of a level down to its own
 unfoldable pub passes : (Node → Bool) → ℕ → ℕ → Bool
 passes test zero code = test (node 0 code)

@@ -1,9 +1,10 @@
 -- Squares that are still to be visited, the next one first.
-use Rattle.std.specs.Prelude.{◌≡◌, ℕ, ◌+◌, ◌-◌, ◌≤◌, Bool, is_none, List, [], ◌∷◌, ◌++◌, length, slice_get, Option, None, Some, ⊤}
+use Rattle.std.specs.Prelude.{◌≡◌, ℕ, ◌+◌, ◌-◌, ◌≤◌, Bool, is_none, List, [], ◌∷◌, ◌++◌, length, map, slice_get, Option, None, Some, ⊤}
 use Rattle.track_types.specs.declared.cell.Cell.{Cell}
 use Rattle.track_types.specs.declared.limit.TheConstants.{MAX_HEIGHT}
-use Rattle.k2_tree.specs.Squares.{Node}
-use Rattle.k2_tree.specs.Tree.{Tree}
+use Rattle.k2_tree.specs.TreeBits.{prefixes}
+use Rattle.k2_tree.specs.Squares.{Node, node}
+use Rattle.k2_tree.specs.Tree.{Tree, codes_of}
 use Rattle.k2_tree.specs.TreeSquares.{level_of, node_of, number_of, squares_of, IsSquareOf}
 use Rattle.k2_tree.specs.Pending.{nodes_of, StandsAt}
 use Rattle.k2_tree.specs.declared.square.Square.{Square}
@@ -15,6 +16,10 @@ pub record WalkView : Type 0 where
   pub pending : List Node
   pub begun : Bool
   pub depth : ℕ
+
+-- the square of the whole grid, where it holds a cell
+abbrev pub top_nodes : Tree → List Node
+top_nodes tree = map (node tree.height) (prefixes tree.height (codes_of tree))
 
 -- the square, if there is one
 abbrev pub found_nodes : Option Square → List Node

@@ -9,9 +9,11 @@ mod building;
 mod climb;
 mod descent;
 mod fault;
+mod keep;
 mod morton_code;
 mod packing;
 mod pending;
+mod pruned;
 mod square;
 mod square_walk;
 #[cfg(test)]
@@ -19,6 +21,8 @@ mod tests;
 mod tree;
 
 pub use fault::TreeFault;
+pub use keep::Keep;
 pub use morton_code::morton;
+pub use pruned::Pruned;
 pub use square::Square;
 pub use tree::K2Tree;

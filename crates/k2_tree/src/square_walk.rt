@@ -1,10 +1,10 @@
 ghost use Rattle.std.specs.Prelude.{◌≡◌, ◌+◌, ◌≤◌, ◌++◌, [], ℕ, List, IfNone, IfSome, length, true};
 ghost use Rattle.track_types.specs.declared.cell.Cell.{Cell};
-ghost use Rattle.k2_tree.specs.Pruning.{child_nodes};
+ghost use Rattle.k2_tree.specs.Pruning.{child_nodes, leaf_of};
 ghost use Rattle.k2_tree.specs.Squares.{Node};
-ghost use Rattle.k2_tree.specs.SquareWalk.{AreOpen, IsTaken, found_nodes, open_nodes};
+ghost use Rattle.k2_tree.specs.SquareWalk.{AreOpen, IsTaken, found_nodes, open_nodes, top_nodes};
 ghost use Rattle.k2_tree.specs.Tree.{Tree};
-ghost use Rattle.k2_tree.specs.TreeSquares.{level_of, node_of, IsSquareOf};
+ghost use Rattle.k2_tree.specs.TreeSquares.{level_of, node_of, prefix_of, IsSquareOf};
 
 use crate::pending::Pending;
 use crate::square::Square;
@@ -13,7 +13,7 @@ use arrayvec::ArrayVec;
 use std::marker::Model;
 use std::sync::ledger::Ledger;
 use step_count::Steps;
-use track_types::MAX_HEIGHT;
+use track_types::{Cell, MAX_HEIGHT};
 
 // One open square for each level above the cells.
 const LEVELS: usize = MAX_HEIGHT as usize;
@@ -42,6 +42,18 @@ impl<'a> Model for SquareWalk<'a> {
 }
 
 impl<'a> SquareWalk<'a> {
+    /// The way over all squares of a tree.
+    pub fn new(tree: &'a K2Tree) -> SquareWalk<'a>
+        ensures tree { result.tree ≡ tree.now }
+        ensures pending { result.pending ≡ top_nodes tree.now }
+    {
+        SquareWalk {
+            tree,
+            whole: tree.root(),
+            stack: ArrayVec::new(),
+        }
+    }
+
     /// Takes the next square off and answers it.
     pub fn next_square(&mut self) -> Option<Square>
         ensures tree { self.new.tree ≡ self.old.tree }
@@ -68,6 +80,16 @@ impl<'a> SquareWalk<'a> {
         ensures cost { steps.new ≤ steps.old + 11 }
     {
         self.stack.push(self.tree.children_of(square, steps));
+    }
+
+    /// The leaf that a square is, and its cell. It reads nothing that is counted.
+    pub fn leaf<L: Ledger>(&self, square: &Square, steps: &mut Steps<L>) -> (u32, Cell)
+        requires of { IsSquareOf self.now.tree square.now }
+        requires leaf { level_of square.now ≡ 0 }
+        ensures value { result ≡ leaf_of self.now.tree (prefix_of square.now) }
+        ensures cost { steps.new ≡ steps.old }
+    {
+        (self.tree.leaf_number(square, steps), square.corner())
     }
 }
 

@@ -117,6 +117,7 @@ impl K2Tree {
         ensures none { IfNone result (self.now.cells ≡ []) }
         ensures some { IfSome result (λ square. IsSquareOf self.now square) }
         ensures node { IfSome result (λ square. node_of square ≡ node self.now.height 0) }
+        ensures tree { IsTree self.now }
     {
         if self.bits.len() == 0 {
             return None;
@@ -153,6 +154,7 @@ impl K2Tree {
         requires of { IsSquareOf self.now square.now }
         requires leaf { level_of square.now ≡ 0 }
         ensures value { slice_get self.now.cells result ≡ Some (corner_of square.now) }
+        ensures tree { IsTree self.now }
         ensures cost { steps.new ≡ steps.old }
     {
         square.number() - self.bits.len() / 4

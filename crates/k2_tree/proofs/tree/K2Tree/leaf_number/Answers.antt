@@ -1,6 +1,7 @@
 use Rattle.std.proofs.Common.{◌≡◌, ◌-◌, ◌/◌, arith, ap, sym, ◌∙◌, subst, Some, length}
 use Rattle.std.specs.Prelude.{slice_get}
-use Rattle.k2_tree.specs.Tree.{Tree, tree_of}
+use Rattle.k2_tree.specs.Tree.{Tree, tree_of, IsTree}
+use Rattle.k2_tree.proofs.CellLemmas.{IsTree-stored}
 use Rattle.k2_tree.specs.TreeSquares.{corner_of, number_of, IsSquareOf}
 use Rattle.k2_tree.proofs.LeafSquareLemmas.{leaf_at, leaf_cell}
 use Rattle.k2_tree.proofs.tree.K2Tree.leaf_number.Goals as goal
@@ -22,3 +23,7 @@ returns-clause-value g c =
     subst (λ (t : Tree). slice_get t.cells (c.number.result - c.len.result / 4) ≡ Some (corner_of s)) c.self.view_is
     (ap (slice_get (tree_of c.self.inside.height c.self.inside.base c.self.inside.bits).cells) place
     ∙ leaf_cell c.self.inside.height c.self.inside.base c.self.inside.bits s c.self.invariant of c.requires.leaf)
+
+pub returns-clause-tree : goal.returns-clause-tree
+returns-clause-tree g c =
+    subst IsTree c.self.view_is (IsTree-stored c.self.inside.height c.self.inside.base c.self.inside.bits c.self.invariant)

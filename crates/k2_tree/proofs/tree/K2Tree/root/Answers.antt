@@ -1,6 +1,7 @@
 use Rattle.std.proofs.Common.{◌≡◌, [], arith, ap, sym, ◌∙◌, subst, map}
 use Rattle.k2_tree.specs.Morton.{cell_of}
-use Rattle.k2_tree.specs.Tree.{Tree}
+use Rattle.k2_tree.specs.Tree.{Tree, IsTree}
+use Rattle.k2_tree.proofs.CellLemmas.{IsTree-stored}
 use Rattle.k2_tree.specs.TreeSquares.{IsSquareOf}
 use Rattle.k2_tree.proofs.DecodingLemmas.{codes_in-none}
 use Rattle.k2_tree.proofs.WalkLemmas.{whole_stands}
@@ -16,3 +17,11 @@ returns-clause-some c =
     subst (λ (t : Tree). IsSquareOf t c.whole.result) c.self.view_is
     (whole_stands c.self.inside.height c.self.inside.base c.self.inside.bits c.whole.result c.self.invariant (omega (arith, c.len.ensures))
     c.whole.ensures.base c.whole.ensures.node c.whole.ensures.number)
+
+pub returns-then-len-eq0-clause-tree : goal.returns-then-len-eq0-clause-tree
+returns-then-len-eq0-clause-tree c =
+    subst IsTree c.self.view_is (IsTree-stored c.self.inside.height c.self.inside.base c.self.inside.bits c.self.invariant)
+
+pub returns-clause-tree : goal.returns-clause-tree
+returns-clause-tree c =
+    subst IsTree c.self.view_is (IsTree-stored c.self.inside.height c.self.inside.base c.self.inside.bits c.self.invariant)

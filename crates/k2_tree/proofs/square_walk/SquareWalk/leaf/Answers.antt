@@ -1,0 +1,16 @@
+use Rattle.std.proofs.Common.{◌≡◌, ap, ◌∙◌, subst, sym}
+use Rattle.k2_tree.specs.Pruning.{leaf_of}
+use Rattle.k2_tree.specs.SquareWalk.{WalkView}
+use Rattle.k2_tree.specs.Tree.{Tree}
+use Rattle.k2_tree.specs.TreeSquares.{prefix_of, IsSquareOf}
+use Rattle.k2_tree.proofs.WholeLemmas.{leaf_is}
+use Rattle.k2_tree.proofs.square_walk.SquareWalk.leaf.Goals as goal
+
+pub returns-clause-value : goal.returns-clause-value
+returns-clause-value g c =
+    let s = c.args.square.now in
+    let of : IsSquareOf c.self.inside.tree.now s =
+    subst (λ (t : Tree). IsSquareOf t s) (sym (ap (λ (w : WalkView). w.tree) c.self.view_is)) c.requires.of in
+    ap (λ cell. (c.leaf_number.result, cell)) c.corner.ensures
+    ∙ leaf_is c.self.inside.tree.now s c.leaf_number.result c.leaf_number.ensures.tree of c.requires.leaf c.leaf_number.ensures.value
+    ∙ ap (λ (w : WalkView). leaf_of w.tree (prefix_of s)) c.self.view_is

@@ -1,0 +1,17 @@
+use Rattle.std.proofs.Common.{◌≡◌, [], ◌++◌, sym, ap, ◌∙◌, subst, append-nil}
+use Rattle.k2_tree.specs.SquareWalk.{IsWalk, found_nodes, open_nodes}
+use Rattle.k2_tree.proofs.StackLemmas.{open_nodes-nil}
+use Rattle.k2_tree.proofs.WholeLemmas.{begins_whole, whole_nodes}
+use Rattle.k2_tree.proofs.square_walk.SquareWalk.new.Goals as goal
+
+pub invariant_of-result : goal.invariant_of-result
+invariant_of-result c =
+    subst (IsWalk c.args.tree.now c.root.result) (sym c.new.ensures)
+    (begins_whole c.args.tree.now c.root.result c.root.ensures.tree c.root.ensures.some c.root.ensures.node)
+
+pub returns-clause-pending : goal.returns-clause-pending
+returns-clause-pending c =
+    ap (λ stack. found_nodes c.root.result ++ open_nodes stack) c.new.ensures
+    ∙ ap (λ nodes. found_nodes c.root.result ++ nodes) open_nodes-nil
+    ∙ append-nil (found_nodes c.root.result)
+    ∙ whole_nodes c.args.tree.now c.root.result c.root.ensures.tree c.root.ensures.none c.root.ensures.some c.root.ensures.node

@@ -1,0 +1,51 @@
+ghost use Rattle.std.specs.Prelude.{◌≡◌};
+
+use crate::keep::Keep;
+use crate::square_walk::SquareWalk;
+use std::sync::ledger::Ledger;
+use step_count::Steps;
+use track_types::{Cell, Lazy};
+
+/// The leaves of a tree for which a test is true on each square from the whole grid to the cell, in
+/// Morton order. An item is a leaf and its cell.
+///
+/// Squares that fail the test are skipped with all that is in them. A square that passes costs one
+/// window and one rank of the tree's bits, which are 11 reads. The walk keeps one entry for each level
+/// and takes no memory.
+#[derive(Drop)]
+pub struct Pruned<'a, F> {
+    walk: SquareWalk<'a>,
+    keep: F,
+}
+
+impl<'a, F> Pruned<'a, F> {
+    pub(crate) fn new(walk: SquareWalk<'a>, keep: F) -> Self
+        ensures walk { result.walk ≡ walk.entry }
+        ensures keep { result.keep ≡ keep }
+    {
+        Pruned { walk, keep }
+    }
+}
+
+impl<'a, F: Keep> Lazy for Pruned<'a, F> {
+    ghost use Rattle.k2_tree.specs.Pruned.{pruned_left, pruned_budget};
+
+    type Item = (u32, Cell);
+
+    ghost left = { pruned_left F.keeps };
+
+    ghost budget = { pruned_budget F.keeps };
+
+    fn draw<L: Ledger>(&mut self, steps: &mut Steps<L>) -> Option<(u32, Cell)> {
+        while let Some(square) = self.walk.next_square() {
+            if !self.keep.keep(&square.area()) {
+                continue;
+            }
+            if square.is_leaf() {
+                return Some(self.walk.leaf(&square, steps));
+            }
+            self.walk.open(square, steps);
+        }
+        None
+    }
+}
