@@ -29,4 +29,5 @@ pub mod LeafLemmas
 pub mod AreaLemmas
 pub mod KeptLemmas
 pub mod WholeLemmas
+pub mod PrunedLemmas
 mod Examples
