@@ -30,4 +30,5 @@ pub mod AreaLemmas
 pub mod KeptLemmas
 pub mod WholeLemmas
 pub mod PrunedLemmas
+pub mod PrunedTreeLemmas
 mod Examples

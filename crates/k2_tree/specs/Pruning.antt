@@ -1,9 +1,10 @@
 -- The leaves all of whose squares pass a test, and how many squares do.
-use Rattle.std.specs.Prelude.{ℕ, zero, suc, ◌+◌, ◌-◌, ◌/◌, ◌^◌, Bool, ◌&&◌, nat_lt, if◌then◌else◌}
+use Rattle.std.specs.Prelude.{ℕ, zero, suc, ◌+◌, ◌-◌, ◌/◌, ◌^◌, Bool, ◌&&◌, nat_lt, if◌then◌else◌, IsTrue}
 use Rattle.std.specs.Prelude.{List, [], ◌∷◌, length, map, filter}
 use Rattle.std.specs.List.{flat_map, sum_by}
 use Rattle.track_types.specs.declared.cell.Cell.{Cell}
 use Rattle.track_types.specs.declared.cell_box.CellBox.{CellBox}
+use Rattle.track_types.specs.Region.{in_box}
 use Rattle.k2_tree.specs.Morton.{morton_of, cell_of}
 use Rattle.k2_tree.specs.TreeBits.{fan, is_in, prefixes, longer}
 use Rattle.k2_tree.specs.Squares.{Node, node, squares_from}
@@ -40,6 +41,14 @@ on_areas keep tree square = keep (area_at tree.base square)
 abbrev pub kept_leaves : (CellBox → Bool) → Tree → List (ℕ × Cell)
 kept_leaves keep tree =
     filter (λ leaf. passes (on_areas keep tree) tree.height (morton_of tree.height tree.base leaf.1)) (numbered 0 tree.cells)
+
+-- the test keeps each box in which a wanted cell lies
+abbrev pub IsKeptFor : (CellBox → Bool) → (Cell → Bool) → Type 0
+IsKeptFor keep wanted = (area : CellBox) (cell : Cell) → IsTrue (in_box area cell) → IsTrue (wanted cell) → IsTrue (keep area)
+
+-- those of the leaves whose cells are wanted
+abbrev pub wanted_of : (Cell → Bool) → List (ℕ × Cell) → List (ℕ × Cell)
+wanted_of wanted leaves = filter (λ leaf. wanted leaf.1) leaves
 
 -- how many squares that hold a cell, the whole grid and the cells among them, pass a test
 abbrev pub square_count : (CellBox → Bool) → Tree → ℕ

@@ -3,7 +3,7 @@ ghost use Rattle.track_types.specs.declared.cell.Cell.{Cell};
 ghost use Rattle.k2_tree.specs.Pruning.{child_nodes, leaf_of};
 ghost use Rattle.k2_tree.specs.Squares.{Node};
 ghost use Rattle.k2_tree.specs.SquareWalk.{AreOpen, IsTaken, found_nodes, open_nodes, top_nodes};
-ghost use Rattle.k2_tree.specs.Tree.{Tree};
+ghost use Rattle.k2_tree.specs.Tree.{Tree, IsTree};
 ghost use Rattle.k2_tree.specs.TreeSquares.{level_of, node_of, prefix_of, IsSquareOf};
 
 use crate::pending::Pending;
@@ -46,6 +46,7 @@ impl<'a> SquareWalk<'a> {
     pub fn new(tree: &'a K2Tree) -> SquareWalk<'a>
         ensures tree { result.tree ≡ tree.now }
         ensures pending { result.pending ≡ top_nodes tree.now }
+        ensures is_tree { IsTree tree.now }
     {
         SquareWalk {
             tree,

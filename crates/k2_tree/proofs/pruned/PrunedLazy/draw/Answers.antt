@@ -53,7 +53,7 @@ loop-square-smaller g c =
     let test = test_told g.F.Keep.keeps now.keep c.args.self.now.keep c.keep.result true c.area.result s now.walk.tree
     c.loop-square.invariant.0 c.keep.ensures c.area.ensures.value c.in-Some.ensures.of.base c.if-not-keep.false in
     (given_way (g.F.Keep.keeps c.args.self.now.keep) now.walk mid c.open.new.self (node_of s) next
-      (record { tree = sym c.open.ensures.tree; pending = c.open.ensures.pending }) inner test).fewer
+    (record { tree = sym c.open.ensures.tree; pending = c.open.ensures.pending }) inner test).fewer
 
 pub loop-square-preserved : goal.loop-square-preserved
 loop-square-preserved g c =

@@ -1,0 +1,29 @@
+use Rattle.std.proofs.Common.{◌≡◌, ◌*◌, ap, ◌∙◌}
+use Rattle.k2_tree.specs.Pruned.{walk_budget, walk_left}
+use Rattle.k2_tree.specs.Pruning.{kept_leaves, square_count, wanted_of}
+use Rattle.k2_tree.specs.SquareWalk.{WalkView}
+use Rattle.k2_tree.proofs.KeptLemmas.{kept_leaves-wanted}
+use Rattle.k2_tree.proofs.PrunedTreeLemmas.{budget_whole, left_whole}
+use Rattle.k2_tree.proofs.tree.K2Tree.pruned.Goals as goal
+
+pub returns-clause-left : goal.returns-clause-left
+returns-clause-left g c =
+    let facts = c.new.ensures in
+    ap (λ k. walk_left (g.F.Keep.keeps k) c.new-2.result.walk) c.new-2.ensures.keep
+    ∙ ap (λ (w : WalkView). walk_left (g.F.Keep.keeps c.args.keep) w) c.new-2.ensures.walk
+    ∙ left_whole (g.F.Keep.keeps c.args.keep) c.args.self.now c.new.result facts.is_tree facts.tree facts.pending
+
+pub returns-clause-budget : goal.returns-clause-budget
+returns-clause-budget g c =
+    let facts = c.new.ensures in
+    ap (λ k. walk_budget (g.F.Keep.keeps k) c.new-2.result.walk) c.new-2.ensures.keep
+    ∙ ap (λ (w : WalkView). walk_budget (g.F.Keep.keeps c.args.keep) w) c.new-2.ensures.walk
+    ∙ budget_whole (g.F.Keep.keeps c.args.keep) c.args.self.now c.new.result facts.is_tree facts.tree facts.pending
+
+pub returns-clause-wanted : goal.returns-clause-wanted
+returns-clause-wanted g c = λ wanted kept.
+    let facts = c.new.ensures in
+    ap (λ k. wanted_of wanted (walk_left (g.F.Keep.keeps k) c.new-2.result.walk)) c.new-2.ensures.keep
+    ∙ ap (λ (w : WalkView). wanted_of wanted (walk_left (g.F.Keep.keeps c.args.keep) w)) c.new-2.ensures.walk
+    ∙ ap (wanted_of wanted) (left_whole (g.F.Keep.keeps c.args.keep) c.args.self.now c.new.result facts.is_tree facts.tree facts.pending)
+    ∙ kept_leaves-wanted (g.F.Keep.keeps c.args.keep) wanted c.args.self.now facts.is_tree kept
