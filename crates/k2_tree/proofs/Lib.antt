@@ -18,7 +18,7 @@ pub mod ClimbLemmas
 pub mod DigitLemmas
 pub mod DigitsOfLemmas
 pub mod WalkLemmas
-pub mod GroupLemmas
+pub mod ChildrenLemmas
 pub mod StackLemmas
 pub mod OpenLemmas
 pub mod LeafSquareLemmas

@@ -177,9 +177,9 @@ given_way keep old mid new square first rest some holds =
     }
 
 -- what a test says of a square's area it says of the square
-pub test_told : {F : Type 0} (keeps : F → CellBox → Bool) (keep first : F) (result b : Bool) (area : CellBox) (square : Square) (tree : Tree)
-    → keep ≡ first → result ≡ keeps keep area → area ≡ area_of square → square.base ≡ tree.base → result ≡ b
+pub test_told : {F : Type 0} (keeps : F → CellBox → Bool) (keep first : F) (result b : Bool) (square : Square) (tree : Tree)
+    → keep ≡ first → result ≡ keeps keep (area_of square) → square.base ≡ tree.base → result ≡ b
     → on_areas (keeps first) tree (node_of square) ≡ b
-test_told keeps keep first result b area square tree same told is base answer =
-    ap (λ (c : Cell). keeps first (area_at c (node_of square))) (sym base) ∙ ap (keeps first) (sym is)
-    ∙ ap (λ k. keeps k area) (sym same) ∙ sym told ∙ answer
+test_told keeps keep first result b square tree same told base answer =
+    ap (λ (c : Cell). keeps first (area_at c (node_of square))) (sym base)
+    ∙ ap (λ k. keeps k (area_of square)) (sym same) ∙ sym told ∙ answer

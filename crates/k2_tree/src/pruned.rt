@@ -1,6 +1,8 @@
 ghost use Rattle.std.specs.Prelude.{◌≡◌};
+ghost use Rattle.k2_tree.specs.TreeSquares.{area_of};
 
 use crate::keep::Keep;
+use crate::square::Square;
 use crate::square_walk::SquareWalk;
 use std::sync::ledger::Ledger;
 use step_count::Steps;
@@ -27,6 +29,14 @@ impl<'a, F> Pruned<'a, F> {
     }
 }
 
+impl<'a, F: Keep> Pruned<'a, F> {
+    fn passes(&self, square: &Square) -> bool
+        ensures { result ≡ F.keeps self.now.keep (area_of square.now) }
+    {
+        self.keep.keep(&square.area())
+    }
+}
+
 impl<'a, F: Keep> Lazy for Pruned<'a, F> {
     ghost use Rattle.k2_tree.specs.Pruned.{pruned_left, pruned_budget};
 
@@ -38,7 +48,7 @@ impl<'a, F: Keep> Lazy for Pruned<'a, F> {
 
     fn draw<L: Ledger>(&mut self, steps: &mut Steps<L>) -> Option<(u32, Cell)> {
         while let Some(square) = self.walk.next_square() {
-            if !self.keep.keep(&square.area()) {
+            if !self.passes(&square) {
                 continue;
             }
             if square.is_leaf() {

@@ -8,22 +8,22 @@ use Rattle.k2_tree.specs.TreeSquares.{level_of, node_of, prefix_of}
 use Rattle.k2_tree.proofs.PrunedLemmas.{IsBefore, given_way, skipped, test_told, yielded}
 use Rattle.k2_tree.proofs.pruned.PrunedLazy.draw.Goals as goal
 
-pub loop-square-smaller-then-not-keep : goal.loop-square-smaller-then-not-keep
-loop-square-smaller-then-not-keep g c =
+pub loop-square-smaller-then-not-passes : goal.loop-square-smaller-then-not-passes
+loop-square-smaller-then-not-passes g c =
     let now = c.loop-square.self in
     let s = c.in-Some.square in
     let next : IsBefore (node_of s ∷ []) now.walk c.next_square.new.self = record { tree = c.in-Some.ensures.tree; pending = c.in-Some.ensures.pending } in
-    let test = test_told g.F.Keep.keeps now.keep c.args.self.now.keep c.keep.result false c.area.result s now.walk.tree
-    c.loop-square.invariant.0 c.keep.ensures c.area.ensures.value c.in-Some.ensures.of.base c.if-not-keep.true in
+    let test = test_told g.F.Keep.keeps now.keep c.args.self.now.keep c.passes.result false s now.walk.tree
+    c.loop-square.invariant.0 c.passes.ensures c.in-Some.ensures.of.base c.if-not-passes.true in
     (skipped (g.F.Keep.keeps c.args.self.now.keep) now.walk c.next_square.new.self (node_of s) next test).fewer
 
-pub loop-square-preserved-then-not-keep : goal.loop-square-preserved-then-not-keep
-loop-square-preserved-then-not-keep g c =
+pub loop-square-preserved-then-not-passes : goal.loop-square-preserved-then-not-passes
+loop-square-preserved-then-not-passes g c =
     let now = c.loop-square.self in
     let s = c.in-Some.square in
     let next : IsBefore (node_of s ∷ []) now.walk c.next_square.new.self = record { tree = c.in-Some.ensures.tree; pending = c.in-Some.ensures.pending } in
-    let test = test_told g.F.Keep.keeps now.keep c.args.self.now.keep c.keep.result false c.area.result s now.walk.tree
-    c.loop-square.invariant.0 c.keep.ensures c.area.ensures.value c.in-Some.ensures.of.base c.if-not-keep.true in
+    let test = test_told g.F.Keep.keeps now.keep c.args.self.now.keep c.passes.result false s now.walk.tree
+    c.loop-square.invariant.0 c.passes.ensures c.in-Some.ensures.of.base c.if-not-passes.true in
     let step = skipped (g.F.Keep.keeps c.args.self.now.keep) now.walk c.next_square.new.self (node_of s) next test in
     let drawing = c.loop-square.invariant.1 in
     (c.loop-square.invariant.0, record { left = step.left ∙ drawing.left; cost = omega (arith, step.budget, drawing.cost) })
@@ -34,8 +34,8 @@ returns-then-is_leaf-clause-found g c =
     let keeps = g.F.Keep.keeps c.args.self.now.keep in
     let s = c.in-Some.square in
     let next : IsBefore (node_of s ∷ []) now.walk c.next_square.new.self = record { tree = c.in-Some.ensures.tree; pending = c.in-Some.ensures.pending } in
-    let test = test_told g.F.Keep.keeps now.keep c.args.self.now.keep c.keep.result true c.area.result s now.walk.tree
-    c.loop-square.invariant.0 c.keep.ensures c.area.ensures.value c.in-Some.ensures.of.base c.if-not-keep.false in
+    let test = test_told g.F.Keep.keeps now.keep c.args.self.now.keep c.passes.result true s now.walk.tree
+    c.loop-square.invariant.0 c.passes.ensures c.in-Some.ensures.of.base c.if-not-passes.false in
     let step = yielded keeps now.walk c.next_square.new.self (node_of s) next (c.if-is_leaf.ensures.0 refl) test in
     sym c.loop-square.invariant.1.left ∙ step.left
     ∙ ap (λ (t : Tree). leaf_of t (prefix_of s) ∷ walk_left keeps c.next_square.new.self) (sym c.in-Some.ensures.tree)
@@ -50,8 +50,8 @@ loop-square-smaller g c =
     let next : IsBefore (node_of s ∷ []) now.walk mid = record { tree = c.in-Some.ensures.tree; pending = c.in-Some.ensures.pending } in
     let above : level_of s ≡ 0 → ⊥ = λ e. false≢true (c.if-is_leaf.ensures.1 e) in
     let inner : 1 ≤ level_of s = omega arith in
-    let test = test_told g.F.Keep.keeps now.keep c.args.self.now.keep c.keep.result true c.area.result s now.walk.tree
-    c.loop-square.invariant.0 c.keep.ensures c.area.ensures.value c.in-Some.ensures.of.base c.if-not-keep.false in
+    let test = test_told g.F.Keep.keeps now.keep c.args.self.now.keep c.passes.result true s now.walk.tree
+    c.loop-square.invariant.0 c.passes.ensures c.in-Some.ensures.of.base c.if-not-passes.false in
     (given_way (g.F.Keep.keeps c.args.self.now.keep) now.walk mid c.open.new.self (node_of s) next
     (record { tree = sym c.open.ensures.tree; pending = c.open.ensures.pending }) inner test).fewer
 
@@ -64,8 +64,8 @@ loop-square-preserved g c =
     let next : IsBefore (node_of s ∷ []) now.walk mid = record { tree = c.in-Some.ensures.tree; pending = c.in-Some.ensures.pending } in
     let above : level_of s ≡ 0 → ⊥ = λ e. false≢true (c.if-is_leaf.ensures.1 e) in
     let inner : 1 ≤ level_of s = omega arith in
-    let test = test_told g.F.Keep.keeps now.keep c.args.self.now.keep c.keep.result true c.area.result s now.walk.tree
-    c.loop-square.invariant.0 c.keep.ensures c.area.ensures.value c.in-Some.ensures.of.base c.if-not-keep.false in
+    let test = test_told g.F.Keep.keeps now.keep c.args.self.now.keep c.passes.result true s now.walk.tree
+    c.loop-square.invariant.0 c.passes.ensures c.in-Some.ensures.of.base c.if-not-passes.false in
     let step = given_way keeps now.walk mid c.open.new.self (node_of s) next (record { tree = sym c.open.ensures.tree; pending = c.open.ensures.pending }) inner test in
     let drawing = c.loop-square.invariant.1 in
     (c.loop-square.invariant.0, record { left = step.left ∙ drawing.left; cost = omega (arith, step.budget, drawing.cost, c.open.ensures.cost) })
