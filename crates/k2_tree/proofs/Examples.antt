@@ -4,6 +4,7 @@ use Rattle.track_types.specs.declared.cell.Cell.{Cell}
 use Rattle.k2_tree.specs.Morton.{interleaved, morton_of, row_of, column_of, cell_of}
 use Rattle.k2_tree.specs.TreeBits.{prefixes, longer, level_bits, morton_bits}
 use Rattle.k2_tree.specs.Flaws.{group_flaw, level_flaw, tree_flaw}
+use Rattle.k2_tree.specs.Checking.{group_ones}
 use Rattle.k2_tree.specs.Squares.{node, squares_from}
 use Rattle.k2_tree.specs.Areas.{area_at, box_from}
 use Rattle.k2_tree.specs.Tree.{Tree, tree_with}
@@ -78,6 +79,13 @@ an_empty_top_is_flawed = refl
 a_tree_has_no_flaw : tree_flaw 2 (O ∷ I ∷ O ∷ O ∷ O ∷ I ∷ O ∷ O ∷ []) ≡ None
 unfolding tree_flaw level_flaw group_flaw ones_of
 a_tree_has_no_flaw = refl
+
+a_whole_group_has_its_ones : group_ones (I ∷ O ∷ O ∷ I ∷ I ∷ []) ≡ 2
+unfolding ones_of
+a_whole_group_has_its_ones = refl
+
+a_cut_group_has_none : group_ones (I ∷ I ∷ I ∷ []) ≡ 0
+a_cut_group_has_none = refl
 
 -- three cells of a grid of side 4
 abbrev three : Tree

@@ -14,6 +14,12 @@ pub mod LevelLemmas
 pub mod BuildingLemmas
 pub mod PackingLemmas
 pub mod BuiltLemmas
+pub mod GroupLemmas
+pub mod PickedLemmas
+pub mod FlawlessLemmas
+pub mod FlawedLemmas
+pub mod CheckingLemmas
+pub mod CheckedLemmas
 pub mod ClimbLemmas
 pub mod DigitLemmas
 pub mod DigitsOfLemmas

@@ -1,9 +1,11 @@
 -- The first flaw of bits that are no tree's.
-use Rattle.std.specs.Prelude.{◌≡◌, ℕ, zero, suc, ◌+◌, ◌*◌, Bool, ◌&&◌, nat_le, if◌then◌else◌, List, [], ◌∷◌, length, take, drop, Option, None, Some, ⊤}
+use Rattle.std.specs.Prelude.{◌≡◌, ℕ, zero, suc, ◌+◌, ◌*◌, Bool, ◌&&◌, nat_le, if◌then◌else◌, List, [], ◌∷◌, length, take, drop, Option, None, Some}
 use Rattle.std.specs.Option.{option_map, option_or}
 use Rattle.std.specs.List.{list_any}
 use Rattle.packed_bits.specs.Bits.{ones_of}
+use Rattle.track_types.specs.declared.cell.Cell.{Cell}
 use Rattle.k2_tree.specs.TreeBits.{fan, morton_bits, AreCodes}
+use Rattle.k2_tree.specs.Tree.{Tree, codes_of, IsTree}
 use Rattle.k2_tree.specs.declared.fault.TreeFault.{TreeFault}
 use Rattle.k2_tree.specs.declared.fault.TreeFault.TheVariants.{Flaw, Memory}
 
@@ -33,7 +35,14 @@ tree_flaw height (bit ∷ bits) = level_flaw height 1 (bit ∷ bits)
 abbrev pub AreNoTree : ℕ → List Bool → Type 0
 AreNoTree height bits = (codes : List ℕ) → AreCodes height codes → morton_bits height codes ≡ bits → ⊥
 
--- a flaw is the first one of bits that are no tree's; memory may be wanting for any bits
+-- a flaw is the first one of bits that are no tree's; memory may be wanting for bits without a flaw
 abbrev pub IsFaultOf : ℕ → List Bool → TreeFault → Type 0
 IsFaultOf height bits (Flaw place) = (tree_flaw height bits ≡ Some place) × AreNoTree height bits
-IsFaultOf height bits Memory = ⊤
+IsFaultOf height bits Memory = tree_flaw height bits ≡ None
+
+-- the tree of this height and base has these bits
+pub record StandsFor (height : ℕ) (base : Cell) (bits : List Bool) (tree : Tree) : Type 0 where
+  pub high : tree.height ≡ height
+  pub from : tree.base ≡ base
+  pub is_tree : IsTree tree
+  pub same : morton_bits height (codes_of tree) ≡ bits

@@ -9,6 +9,7 @@ pub mod Digits
 pub mod Pending
 pub mod SquareWalk
 pub mod Flaws
+pub mod Checking
 pub mod Pruning
 pub mod Pruned
 pub mod Building

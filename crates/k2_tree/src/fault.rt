@@ -5,6 +5,6 @@ pub enum TreeFault {
     /// order of place, that is not whole or holds no one, or else the place after the last level,
     /// where bits remain.
     Flaw { place: u32 },
-    /// Memory was refused. It may be answered to any bits.
+    /// Memory was refused. It may be answered to any bits without a flaw.
     Memory,
 }

@@ -6,6 +6,7 @@
 #![tactic(auto)]
 
 mod building;
+mod checking;
 mod climb;
 mod descent;
 mod fault;

@@ -1,12 +1,18 @@
-ghost use Rattle.std.specs.Prelude.{◌≡◌, ◌<◌, length};
+ghost use Rattle.std.specs.Prelude.{◌≡◌, ◌^◌, ◌<◌, ◌≤◌, length, IfOk};
 
-use super::{K2Tree, morton};
+use super::{K2Tree, TreeFault, morton};
+use crate::packing::pack;
+use std::alloc::Global;
 use std::marker::Brand;
 use std::process::Abort;
 use std::sync::ledger::{Blank, Ledger};
 use std::test::Fail;
 use step_count::Steps;
-use track_types::Cell;
+use track_types::{BitList, Cell, Memory};
+
+const O: bool = false;
+
+const I: bool = true;
 
 const BASE: Cell = Cell { x: 10, y: -20 };
 
@@ -70,5 +76,56 @@ fn no_cells_have_no_bits(rt: HostRuntime) -> Result<(), Fail> {
     let tree = K2Tree::build(rt.alloc(), [].as_slice(), 2, BASE)?;
     assert_eq!(rt; tree.leaves(), 0);
     assert_eq!(rt; tree.bits().len(), 0);
+    let no_bits = list_of(rt.alloc(), [].as_slice())?;
+    let tree = K2Tree::check(rt.alloc(), no_bits, 2, BASE)?;
+    assert_eq!(rt; tree.leaves(), 0);
+    Ok(())
+}
+
+// The bits as a list.
+fn list_of(alloc: Global, bits: &[bool]) -> Result<BitList, Memory>
+    requires { length bits.now ≤ 2 ^ 31 }
+    ensures { IfOk result (λ list. list ≡ bits.now) }
+{
+    Ok(BitList::new(pack(alloc, bits)?, bits.len() as u32))
+}
+
+// The first flaw of bits as a tree of this height, if they have one.
+fn flaw_of(alloc: Global, bits: &[bool], height: u32) -> Result<Option<u32>, TreeFault>
+    requires few { length bits.now ≤ 2 ^ 31 }
+    requires some { 1 ≤ height }
+    requires low { height ≤ 20 }
+{
+    let Ok(list) = list_of(alloc, bits) else {
+        return Err(TreeFault::Memory);
+    };
+    match K2Tree::check(alloc, list, height, BASE) {
+        Ok(_tree) => Ok(None),
+        Err(TreeFault::Flaw { place }) => Ok(Some(place)),
+        Err(TreeFault::Memory) => Err(TreeFault::Memory),
+    }
+}
+
+#[test]
+fn bits_that_are_no_tree_have_their_first_flaw(rt: HostRuntime) -> Result<(), Fail> {
+    for (bits, height, flaw) in [
+        ([O, I, O, O].as_slice(), 2, Some(4)),
+        ([O, I, O, O, O, O, O, O].as_slice(), 2, Some(4)),
+        ([O, I, O, O, O, I, O, O, I, O, O, O].as_slice(), 2, Some(8)),
+        ([O, O, O, O].as_slice(), 1, Some(0)),
+    ] {
+        assert_eq!(rt; flaw_of(rt.alloc(), bits, height)?, flaw, "height {height}");
+    }
+    Ok(())
+}
+
+#[test]
+fn the_bits_of_three_cells_are_taken_and_given_back(rt: HostRuntime) -> Result<(), Fail> {
+    let list = list_of(rt.alloc(), [I, I, O, O, I, O, O, I, O, I, O, O].as_slice())?;
+    let tree = K2Tree::check(rt.alloc(), list, 2, BASE)?;
+    assert_eq!(rt; tree.leaves(), 3);
+    let bits = tree.bits();
+    assert_eq!(rt; bits.len(), 12);
+    assert_eq!(rt; bits.into_words().as_slice(), [0b0010_1001_0011].as_slice());
     Ok(())
 }

@@ -1,4 +1,4 @@
-ghost use Rattle.std.specs.Prelude.{◌≡◌, ◌+◌, ◌*◌, ◌^◌, ◌<◌, ◌≤◌, length, map, All, Bool, Contains, [], false, IfNone, IfOk, IfSome, MatchOption, Some, slice_get};
+ghost use Rattle.std.specs.Prelude.{◌≡◌, ◌+◌, ◌*◌, ◌^◌, ◌<◌, ◌≤◌, length, map, All, Bool, Contains, [], false, IfErr, IfNone, IfOk, IfSome, OnOk, MatchOption, None, Some, slice_get};
 ghost use Rattle.std.specs.List.Sorted.{IsStrictlyIncreasing};
 ghost use Rattle.k2_tree.specs.Morton.{morton_of, IsGrid, IsInGrid};
 ghost use Rattle.k2_tree.specs.TreeBits.{morton_bits};
@@ -8,11 +8,14 @@ ghost use Rattle.k2_tree.specs.TreeSquares.{child_at, corner_of, holds_cell, lev
 ghost use Rattle.k2_tree.specs.Pending.{nodes_of, StandsAt};
 ghost use Rattle.k2_tree.specs.Pruned.{pruned_budget, pruned_left};
 ghost use Rattle.k2_tree.specs.Pruning.{child_nodes, kept_leaves, numbered, square_count, wanted_of, IsKeptFor};
+ghost use Rattle.k2_tree.specs.Flaws.{tree_flaw, IsFaultOf, StandsFor};
 ghost use Rattle.track_types.specs.declared.cell.Cell.{Cell};
 
 use crate::building::bits_of_codes;
+use crate::checking::first_flaw;
 use crate::climb::code_of_leaf;
 use crate::descent::{child_of, find_leaf};
+use crate::fault::TreeFault;
 use crate::keep::Keep;
 use crate::morton_code::{cell_at, codes_of_cells, is_in_grid, morton};
 use crate::packing::pack;
@@ -68,6 +71,28 @@ impl K2Tree {
         match Bits::from_words(alloc, words, bits.len() as u32) {
             Ok(bits) => Ok(K2Tree { bits, height, base }),
             Err(NoRoom) => Err(Memory),
+        }
+    }
+
+    /// Takes bits as a tree, in one pass over them.
+    ///
+    /// There are at most 2^31 bits. The height is 1 to 20, and the base's coordinates are within 2^41
+    /// of 0. `Flaw` says at which place the bits first fail to be a tree's of this height. Memory is
+    /// taken for the directory alone.
+    pub fn check(alloc: Global, bits: BitList, height: u32, base: Cell) -> Result<K2Tree, TreeFault>
+        requires grid { IsGrid height base }
+        requires few { length bits ≤ 2 ^ 31 }
+        ensures ok { IfOk result (λ t. StandsFor height base bits t) }
+        ensures exact { OnOk result (tree_flaw height bits ≡ None) }
+        ensures flaw { IfErr result (λ fault. IsFaultOf height bits fault) }
+    {
+        if let Some(place) = first_flaw(&bits, height) {
+            return Err(TreeFault::Flaw { place });
+        }
+        let len = bits.len();
+        match Bits::from_words(alloc, bits.into_words(), len) {
+            Ok(bits) => Ok(K2Tree { bits, height, base }),
+            Err(NoRoom) => Err(TreeFault::Memory),
         }
     }
 

@@ -1,0 +1,32 @@
+use Rattle.std.proofs.Common.{sym, subst}
+use Rattle.k2_tree.specs.Tree.{tree_of, IsStored}
+use Rattle.k2_tree.specs.Flaws.{StandsFor}
+use Rattle.k2_tree.proofs.FlawedLemmas.{AreNoTree-flawed}
+use Rattle.k2_tree.proofs.CheckedLemmas.{held_bits, IsStored-flawless, StandsFor-stored}
+use Rattle.k2_tree.proofs.tree.K2Tree.check.Goals as goal
+
+pub returns-in-Some-clause-flaw : goal.returns-in-Some-clause-flaw
+returns-in-Some-clause-flaw c = (
+  sym c.in-Some.ensures,
+  AreNoTree-flawed c.args.height c.args.bits c.in-Some.place (sym c.in-Some.ensures),
+)
+
+pub invariant_of-result : goal.invariant_of-result
+invariant_of-result c =
+    let same =
+    held_bits c.args.bits c.in-Ok.bits c.into_words.result.items c.len-len.result
+    c.into_words.ensures.value c.len-len.ensures c.in-Ok.ensures.ok in
+    let none = sym c.in_default.ensures in
+    subst (IsStored c.args.height c.args.base) (sym same)
+    (IsStored-flawless c.args.height c.args.base c.args.bits c.requires.grid c.requires.few none)
+
+pub returns-in-Ok-clause-ok : goal.returns-in-Ok-clause-ok
+returns-in-Ok-clause-ok c =
+    let same =
+    held_bits c.args.bits c.in-Ok.bits c.into_words.result.items c.len-len.result
+    c.into_words.ensures.value c.len-len.ensures c.in-Ok.ensures.ok in
+    let none = sym c.in_default.ensures in
+    let stored =
+    IsStored-flawless c.args.height c.args.base c.args.bits c.requires.grid c.requires.few none in
+    subst (λ bits. StandsFor c.args.height c.args.base c.args.bits (tree_of c.args.height c.args.base bits)) (sym same)
+    (StandsFor-stored c.args.height c.args.base c.args.bits stored)
