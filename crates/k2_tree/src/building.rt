@@ -1,6 +1,7 @@
 ghost use Rattle.std.specs.Prelude.{◌≡◌, ◌+◌, ◌*◌, ◌/◌, ◌%◌, ◌^◌, ◌<◌, ◌≤◌, ◌++◌, length, slice_index, IfOk, OnOk};
 ghost use Rattle.k2_tree.specs.TreeBits.{level_bits, morton_bits, Rises};
 ghost use Rattle.k2_tree.specs.Building.{room, with_digit};
+ghost use Rattle.track_types.specs.declared.limit.TheConstants.{MAX_HEIGHT};
 
 use std::alloc::Global;
 use track_types::Memory;
@@ -9,7 +10,7 @@ use track_types::Memory;
 /// level takes one pass over the numbers.
 pub fn bits_of_codes(alloc: Global, codes: &[u64], height: u32) -> Result<Vec<bool>, Memory>
     requires ascending { Rises 0 codes.now }
-    requires low { height ≤ 20 }
+    requires low { height ≤ MAX_HEIGHT }
     ensures ok { IfOk result (λ bits. bits.items ≡ morton_bits height codes.now) }
 {
     let mut bits = Vec::new(alloc);
@@ -22,7 +23,7 @@ pub fn bits_of_codes(alloc: Global, codes: &[u64], height: u32) -> Result<Vec<bo
 // Pushes the level whose squares have `level` digits below them.
 fn push_level(bits: &mut Vec<bool>, codes: &[u64], level: u32) -> Result<(), Memory>
     requires ascending { Rises 0 codes.now }
-    requires low { level < 20 }
+    requires low { level < MAX_HEIGHT }
     ensures ok { OnOk result (bits.new.items ≡ bits.old.items ++ level_bits level codes.now) }
 {
     for i in 0..codes.len() {
@@ -37,7 +38,7 @@ fn push_level(bits: &mut Vec<bool>, codes: &[u64], level: u32) -> Result<(), Mem
 // Pushes the four bits of a square where the number at a place is the first of it.
 fn make_room(bits: &mut Vec<bool>, codes: &[u64], i: usize, level: u32) -> Result<(), Memory>
     requires within { i < length codes.now }
-    requires low { level < 20 }
+    requires low { level < MAX_HEIGHT }
     ensures ok { OnOk result (bits.new.items ≡ bits.old.items ++ room codes.now i level) }
 {
     let above = 2 * level + 2;

@@ -1,5 +1,4 @@
 ghost use Rattle.std.specs.Prelude.{◌≡◌, ◌+◌, ◌*◌, ◌^◌, ◌≤◌, Some, length, drop, IfErr, IfOk};
-ghost use Rattle.track_types.specs.declared.limit.TheConstants.{MAX_HEIGHT};
 ghost use Rattle.k2_tree.specs.Flaws.{group_flaw, tree_flaw};
 ghost use Rattle.k2_tree.specs.Checking.{flaw_from, group_ones, IsLevel};
 
@@ -10,8 +9,7 @@ use track_types::BitList;
 /// Each level has as many groups of four bits as the level above it has ones, and the first has one.
 /// No memory is taken.
 pub fn first_flaw(bits: &BitList, height: u32) -> Option<u32>
-    requires low { height ≤ MAX_HEIGHT }
-    requires few { length bits.now ≤ 2 ^ 31 }
+    requires { length bits.now ≤ 2 ^ 31 }
     ensures { result ≡ tree_flaw height bits.now }
 {
     if bits.len() == 0 {

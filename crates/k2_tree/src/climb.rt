@@ -1,5 +1,6 @@
 ghost use Rattle.std.specs.Prelude.{◌≡◌, ◌+◌, ◌*◌, ◌<◌, ◌≤◌, Some, length, slice_get};
 ghost use Rattle.k2_tree.specs.Tree.{codes_in, AreTreeBits};
+ghost use Rattle.track_types.specs.declared.limit.TheConstants.{MAX_HEIGHT};
 
 use bit_rank::Bits;
 use std::sync::ledger::Ledger;
@@ -9,7 +10,7 @@ use step_count::Steps;
 /// one of a square's number stands in its parent's four bits, at the place of its last digit.
 pub fn code_of_leaf<L: Ledger>(bits: &Bits, height: u32, leaf: u32, steps: &mut Steps<L>) -> u64
     requires tree { AreTreeBits height bits.now }
-    requires low { height ≤ 20 }
+    requires low { height ≤ MAX_HEIGHT }
     requires within { leaf < length (codes_in height bits.now) }
     ensures value { slice_get (codes_in height bits.now) leaf ≡ Some result }
     ensures cost { steps.new ≤ steps.old + 41 * height }

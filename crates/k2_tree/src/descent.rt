@@ -2,6 +2,7 @@ ghost use Rattle.std.specs.Prelude.{◌≡◌, ◌+◌, ◌*◌, ◌^◌, ◌<�
 ghost use Rattle.bit_rank.specs.Bits.{rank_of};
 ghost use Rattle.k2_tree.specs.TreeBits.{is_in};
 ghost use Rattle.k2_tree.specs.Tree.{codes_in, AreTreeBits};
+ghost use Rattle.track_types.specs.declared.limit.TheConstants.{MAX_HEIGHT};
 
 use bit_rank::Bits;
 use std::sync::ledger::Ledger;
@@ -16,7 +17,7 @@ pub fn find_leaf<L: Ledger>(
     steps: &mut Steps<L>,
 ) -> Option<u32>
     requires tree { AreTreeBits height bits.now }
-    requires low { height ≤ 20 }
+    requires low { height ≤ MAX_HEIGHT }
     requires small { code < 4 ^ height }
     requires some { 0 < length bits.now }
     ensures value { MatchOption result (is_in (codes_in height bits.now) code ≡ false)

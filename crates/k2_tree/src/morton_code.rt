@@ -82,7 +82,7 @@ pub fn cell_at(code: u64, height: u32, base: Cell) -> Cell
 fn moved(base: i64, by: u64) -> i64
     requires low { neg_ℤ (pos (2 ^ 41)) ≤ℤ base }
     requires high { base ≤ℤ pos (2 ^ 41) }
-    requires small { by < 2 ^ 20 }
+    requires small { by < 2 ^ MAX_HEIGHT }
     ensures { result ≡ base +ℤ pos by }
 {
     base + by as i64
@@ -92,7 +92,7 @@ fn moved(base: i64, by: u64) -> i64
 fn column_at(code: u64, height: u32) -> u64
     requires { height ≤ MAX_HEIGHT }
     ensures value { result ≡ column_of height code }
-    ensures small { result < 2 ^ 20 }
+    ensures small { result < 2 ^ MAX_HEIGHT }
 {
     let mut column = 0;
     for level in (0..height).rev() {
@@ -105,7 +105,7 @@ fn column_at(code: u64, height: u32) -> u64
 fn row_at(code: u64, height: u32) -> u64
     requires { height ≤ MAX_HEIGHT }
     ensures value { result ≡ row_of height code }
-    ensures small { result < 2 ^ 20 }
+    ensures small { result < 2 ^ MAX_HEIGHT }
 {
     let mut row = 0;
     for level in (0..height).rev() {

@@ -58,7 +58,7 @@ new-requires-clause-room g c =
       c.self.invariant.tree.few,
       c.rank1-number.ensures.value,
       rank_of-le-place c.self.inside.bits (4 * c.number-place.result),
-      length-digits_of c.window-digits.result,
+      length-digits_of,
     )
 
 pub returns-clause-nodes : goal.returns-clause-nodes
