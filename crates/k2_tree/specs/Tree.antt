@@ -2,7 +2,7 @@
 use Rattle.std.specs.Prelude.{◌≡◌, ℕ, zero, suc, ◌*◌, ◌^◌, ◌≤◌, Bool, true, false, List, [], ◌∷◌, length, map, drop, All}
 use Rattle.track_types.specs.declared.cell.Cell.{Cell}
 use Rattle.k2_tree.specs.Morton.{morton_of, cell_of, IsGrid, IsInGrid}
-use Rattle.k2_tree.specs.TreeBits.{longer, morton_bits, AreCodes}
+use Rattle.k2_tree.specs.TreeBits.{fan, longer, morton_bits, AreCodes}
 
 -- a set of cells of the grid of side 2 ^ height from the base, in Morton order
 pub record Tree : Type 0 where
@@ -35,7 +35,7 @@ picked (false ∷ bits) (code ∷ codes) = picked bits codes
 unfoldable pub codes_below : ℕ → List ℕ → List Bool → List ℕ
 codes_below zero prefixes bits = prefixes
 codes_below (suc n) prefixes bits =
-    codes_below n (picked bits (longer prefixes)) (drop (4 * length prefixes) bits)
+    codes_below n (picked bits (longer prefixes)) (drop (fan * length prefixes) bits)
 
 -- the Morton numbers that a tree's bits tell
 unfoldable pub codes_in : ℕ → List Bool → List ℕ

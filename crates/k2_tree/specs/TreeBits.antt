@@ -20,7 +20,7 @@ prefixes n codes = dedup (λ a b. a == b) (map (λ code. code / fan ^ n) codes)
 
 -- the prefixes one digit longer, whether they occur or not
 unfoldable pub longer : List ℕ → List ℕ
-longer codes = flat_map (λ p. 4 * p ∷ (4 * p + 1) ∷ (4 * p + 2) ∷ (4 * p + 3) ∷ []) codes
+longer codes = flat_map (λ p. fan * p ∷ (fan * p + 1) ∷ (fan * p + 2) ∷ (fan * p + 3) ∷ []) codes
 
 -- the level whose squares have n digits below them: for each prefix one digit shorter, whether each longer one occurs
 unfoldable pub level_bits : ℕ → List ℕ → List Bool

@@ -3,6 +3,7 @@ ghost use Rattle.k2_tree.specs.TreeBits.{level_bits, morton_bits, Rises};
 ghost use Rattle.k2_tree.specs.Building.{room, with_digit};
 ghost use Rattle.track_types.specs.declared.limit.TheConstants.{MAX_HEIGHT};
 
+use crate::level::FAN;
 use std::alloc::Global;
 use track_types::Memory;
 
@@ -29,7 +30,7 @@ fn push_level(bits: &mut Vec<bool>, codes: &[u64], level: u32) -> Result<(), Mem
     for i in 0..codes.len() {
         make_room(bits, codes, i, level)?;
         let digit = (codes[i] >> (2 * level)) % 4;
-        let place = bits.len() - 4 + digit as usize;
+        let place = bits.len() - FAN as usize + digit as usize;
         bits[place] = true;
     }
     Ok(())
@@ -45,6 +46,6 @@ fn make_room(bits: &mut Vec<bool>, codes: &[u64], i: usize, level: u32) -> Resul
     if i > 0 && codes[i - 1] >> above == codes[i] >> above {
         return Ok(());
     }
-    bits.extend_from_slice(&[false; 4])?;
+    bits.extend_from_slice(&[false; FAN as usize])?;
     Ok(())
 }

@@ -2,6 +2,7 @@ ghost use Rattle.std.specs.Prelude.{◌≡◌, ◌+◌, ◌*◌, ◌^◌, ◌≤
 ghost use Rattle.k2_tree.specs.Flaws.{group_flaw, tree_flaw};
 ghost use Rattle.k2_tree.specs.Checking.{flaw_from, group_ones, IsLevel};
 
+use crate::level::FAN;
 use track_types::BitList;
 
 /// The place of the first flaw of bits that are no tree's of this height, in one pass over them.
@@ -20,7 +21,7 @@ pub fn first_flaw(bits: &BitList, height: u32) -> Option<u32>
     for _ in 0..height {
         match ones_of_level(bits, start, groups) {
             Ok(ones) => {
-                start += 4 * groups;
+                start += FAN * groups;
                 groups = ones;
             }
             Err(place) => return Some(place),
@@ -50,7 +51,7 @@ fn ones_of_level(bits: &BitList, start: u32, groups: u32) -> Result<u32, u32>
             return Err(place);
         }
         ones += found;
-        place += 4;
+        place += FAN;
     }
     Ok(ones)
 }
@@ -61,11 +62,11 @@ fn ones_of_group(bits: &BitList, place: u32) -> u32
     requires few { length bits.now ≤ 2 ^ 31 }
     ensures { result ≡ group_ones (drop place bits.now) }
 {
-    if bits.len() - place < 4 {
+    if bits.len() - place < FAN {
         return 0;
     }
     let mut ones = 0;
-    for i in place..place + 4 {
+    for i in place..place + FAN {
         ones += u32::from(bits.get(i));
     }
     ones

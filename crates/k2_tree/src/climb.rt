@@ -2,6 +2,7 @@ ghost use Rattle.std.specs.Prelude.{◌≡◌, ◌+◌, ◌*◌, ◌<◌, ◌≤
 ghost use Rattle.k2_tree.specs.Tree.{codes_in, AreTreeBits};
 ghost use Rattle.track_types.specs.declared.limit.TheConstants.{MAX_HEIGHT};
 
+use crate::level::FAN;
 use bit_rank::Bits;
 use std::sync::ledger::Ledger;
 use step_count::Steps;
@@ -15,14 +16,14 @@ pub fn code_of_leaf<L: Ledger>(bits: &Bits, height: u32, leaf: u32, steps: &mut 
     ensures value { slice_get (codes_in height bits.now) leaf ≡ Some result }
     ensures cost { steps.new ≤ steps.old + 41 * height }
 {
-    let mut square = bits.len() / 4 + leaf;
+    let mut square = bits.len() / FAN + leaf;
     let mut code = 0;
     let mut weight = 1;
     for _ in 0..height {
         let place = bits.select1(square, steps);
-        code += u64::from(place % 4) * weight;
+        code += u64::from(place % FAN) * weight;
         weight *= 4;
-        square = place / 4;
+        square = place / FAN;
     }
     code
 }

@@ -4,6 +4,7 @@ ghost use Rattle.k2_tree.specs.TreeBits.{is_in};
 ghost use Rattle.k2_tree.specs.Tree.{codes_in, AreTreeBits};
 ghost use Rattle.track_types.specs.declared.limit.TheConstants.{MAX_HEIGHT};
 
+use crate::level::FAN;
 use bit_rank::Bits;
 use std::sync::ledger::Ledger;
 use step_count::Steps;
@@ -32,7 +33,7 @@ pub fn find_leaf<L: Ledger>(
         };
         square = child;
     }
-    Some(square - bits.len() / 4)
+    Some(square - bits.len() / FAN)
 }
 
 /// The number of a square's child, if that is there. The four bits of the square with number `j`
@@ -50,7 +51,7 @@ pub fn child_of<L: Ledger>(
         × (child ≡ rank_of bits.now (4 * square + digit) + 1)) }
     ensures cost { steps.new ≤ steps.old + 11 }
 {
-    let place = 4 * square + digit;
+    let place = FAN * square + digit;
     if bits.get(place, steps) {
         Some(bits.rank1(place, steps) + 1)
     } else {

@@ -11,6 +11,7 @@ mod climb;
 mod descent;
 mod fault;
 mod keep;
+mod level;
 mod morton_code;
 mod packing;
 mod pending;

@@ -17,6 +17,7 @@ use crate::climb::code_of_leaf;
 use crate::descent::{child_of, find_leaf};
 use crate::fault::TreeFault;
 use crate::keep::Keep;
+use crate::level::FAN;
 use crate::morton_code::{cell_at, codes_of_cells, is_in_grid, morton};
 use crate::packing::pack;
 use crate::pending::Pending;
@@ -113,7 +114,7 @@ impl K2Tree {
         if self.bits.len() == 0 {
             return 0;
         }
-        self.bits.ones() + 1 - self.bits.len() / 4
+        self.bits.ones() + 1 - self.bits.len() / FAN
     }
 
     /// The cell of a leaf. It climbs to the top by `select1`.
@@ -187,7 +188,7 @@ impl K2Tree {
         ensures tree { IsTree self.now }
         ensures cost { steps.new ≡ steps.old }
     {
-        square.number() - self.bits.len() / 4
+        square.number() - self.bits.len() / FAN
     }
 
     /// The leaves for which `keep` is true on every square from the whole grid to the cell itself, in
@@ -214,8 +215,8 @@ impl K2Tree {
         ensures cost { steps.new ≤ steps.old + 11 }
     {
         let bits = &self.bits;
-        let place = 4 * square.number();
-        let digits = bits.window(place, 4, steps);
+        let place = FAN * square.number();
+        let digits = bits.window(place, FAN, steps);
         let number = bits.rank1(place, steps) + 1;
         Pending::new(square, digits, number)
     }
