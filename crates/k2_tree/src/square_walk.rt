@@ -88,7 +88,7 @@ impl<'a> SquareWalk<'a> {
         requires of { IsSquareOf self.now.tree square.now }
         requires leaf { level_of square.now ≡ 0 }
         ensures value { result ≡ leaf_of self.now.tree (prefix_of square.now) }
-        ensures cost { steps.new ≡ steps.old }
+        ensures cost { steps.new ≤ steps.old }
     {
         (self.tree.leaf_number(square, steps), square.corner())
     }

@@ -146,7 +146,7 @@ impl K2Tree {
     /// The square of the whole grid, if the set has a cell. It reads nothing that is counted.
     pub fn root(&self) -> Option<Square>
         ensures none { IfNone result (self.now.cells ≡ []) }
-        ensures some { IfSome result (λ square. IsSquareOf self.now square) }
+        ensures found { IfSome result (λ square. IsSquareOf self.now square) }
         ensures node { IfSome result (λ square. node_of square ≡ node self.now.height 0) }
         ensures tree { IsTree self.now }
     {
@@ -168,8 +168,9 @@ impl K2Tree {
         requires of { IsSquareOf self.now square.now }
         requires inner { 1 ≤ level_of square.now }
         requires small { digit < 4 }
-        ensures none { IfNone result (holds_cell self.now (child_at (node_of square.now) digit) ≡ false) }
-        ensures some { IfSome result (λ child. IsSquareOf self.now child) }
+        ensures none { IfNone result (holds_cell self.now
+            (child_at (node_of square.now) digit) ≡ false) }
+        ensures found { IfSome result (λ child. IsSquareOf self.now child) }
         ensures node { IfSome result (λ child. node_of child ≡ child_at (node_of square.now) digit) }
         ensures cost { steps.new ≤ steps.old + 11 }
     {
@@ -186,7 +187,7 @@ impl K2Tree {
         requires leaf { level_of square.now ≡ 0 }
         ensures value { slice_get self.now.cells result ≡ Some (corner_of square.now) }
         ensures tree { IsTree self.now }
-        ensures cost { steps.new ≡ steps.old }
+        ensures cost { steps.new ≤ steps.old }
     {
         square.number() - self.bits.len() / FAN
     }
@@ -199,7 +200,8 @@ impl K2Tree {
         ensures left { pruned_left F.keeps result ≡ kept_leaves (F.keeps keep) self.now }
         ensures budget { pruned_budget F.keeps result ≡ 11 * square_count (F.keeps keep) self.now }
         ensures wanted { (wanted : Cell → Bool) → IsKeptFor (F.keeps keep) wanted
-            → wanted_of wanted (pruned_left F.keeps result) ≡ wanted_of wanted (numbered 0 self.now.cells) }
+            → wanted_of wanted (pruned_left F.keeps result)
+            ≡ wanted_of wanted (numbered 0 self.now.cells) }
     {
         Pruned::new(SquareWalk::new(self), keep)
     }

@@ -24,8 +24,8 @@ returns-in_default-clause-none g c =
     ∙ ap (λ j. get_or c.self.inside.bits (4 * j + c.args.digit) false) (sym c.number.ensures)
     ∙ c.in_default.ensures.value)
 
-pub returns-clause-some : goal.returns-clause-some
-returns-clause-some g c =
+pub returns-clause-found : goal.returns-clause-found
+returns-clause-found g c =
     let s = c.args.square.now in
     let bits = c.self.inside.bits in
     let of : IsSquareOf (tree_of c.self.inside.height c.self.inside.base bits) s =

@@ -12,8 +12,8 @@ returns-then-len-eq0-clause-none c =
     subst (λ (t : Tree). t.cells ≡ []) c.self.view_is
     (ap (map (cell_of c.self.inside.height c.self.inside.base)) (codes_in-none c.self.inside.height c.self.inside.bits (omega (arith, c.len.ensures))))
 
-pub returns-clause-some : goal.returns-clause-some
-returns-clause-some c =
+pub returns-clause-found : goal.returns-clause-found
+returns-clause-found c =
     subst (λ (t : Tree). IsSquareOf t c.whole.result) c.self.view_is
     (whole_stands c.self.inside.height c.self.inside.base c.self.inside.bits c.whole.result c.self.invariant (omega (arith, c.len.ensures))
     c.whole.ensures.base c.whole.ensures.node c.whole.ensures.number)
