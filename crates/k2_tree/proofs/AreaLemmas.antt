@@ -14,43 +14,7 @@ use Rattle.k2_tree.specs.Squares.{node}
 use Rattle.k2_tree.specs.Areas.{area_at}
 use Rattle.k2_tree.proofs.MortonLemmas.{half_more}
 use Rattle.k2_tree.proofs.DigitLemmas.{fourth}
-
--- 0 has column 0 and row 0
-column_of-zero : (m : ℕ) → column_of m 0 ≡ 0
-unfolding column_of
-column_of-zero zero = refl
-column_of-zero (suc m) = let rest = column_of-zero m in omega arith
-
-row_of-zero : (m : ℕ) → row_of m 0 ≡ 0
-unfolding row_of
-row_of-zero zero = refl
-row_of-zero (suc m) = let rest = row_of-zero m in omega arith
-
--- more digits than a number has tell the same column
-column_of-more : (n m row column : ℕ) → n ≤ m → column < 2 ^ n → column_of m (interleaved n row column) ≡ column
-unfolding interleaved column_of
-column_of-more zero m row column most small = column_of-zero m ∙ omega arith
-column_of-more (suc n) zero row column most small = absurd (omega arith)
-column_of-more (suc n) (suc m) row column most small =
-    let rest : column_of m (interleaved n (row / 2) (column / 2)) ≡ column / 2 =
-    column_of-more n m (row / 2) (column / 2) (omega arith) (omega (arith, pow-suc 2 n)) in
-    let upper : ℕ = interleaved n (row / 2) (column / 2) in
-    let front : (4 * upper + (2 * (row % 2) + column % 2)) / 4 ≡ upper = omega arith in
-    let last : (4 * upper + (2 * (row % 2) + column % 2)) % 4 % 2 ≡ column % 2 = omega arith in
-    rw (front, last, rest) (omega arith)
-
--- more digits than a number has tell the same row
-row_of-more : (n m row column : ℕ) → n ≤ m → row < 2 ^ n → row_of m (interleaved n row column) ≡ row
-unfolding interleaved row_of
-row_of-more zero m row column most small = row_of-zero m ∙ omega arith
-row_of-more (suc n) zero row column most small = absurd (omega arith)
-row_of-more (suc n) (suc m) row column most small =
-    let rest : row_of m (interleaved n (row / 2) (column / 2)) ≡ row / 2 =
-    row_of-more n m (row / 2) (column / 2) (omega arith) (omega (arith, pow-suc 2 n)) in
-    let upper : ℕ = interleaved n (row / 2) (column / 2) in
-    let front : (4 * upper + (2 * (row % 2) + column % 2)) / 4 ≡ upper = omega arith in
-    let last : (4 * upper + (2 * (row % 2) + column % 2)) % 4 / 2 ≡ row % 2 = omega arith in
-    rw (front, last, rest) (omega arith)
+use Rattle.k2_tree.proofs.HeightLemmas.{column_of-more, row_of-more}
 
 -- a digit less halves the column
 column_of-fourth : (k code : ℕ) → column_of k (code / 4) ≡ column_of (suc k) code / 2

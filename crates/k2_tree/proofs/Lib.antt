@@ -1,40 +1,46 @@
-pub mod BoxLemmas
+-- Laws for callers: cells and numbers, ascending numbers and their prefixes, squares, areas, walks, flaws.
 pub mod MortonLemmas
-pub mod SideLemmas
-pub mod HeightLemmas
-pub mod ChildLemmas
+pub mod CellLemmas
+pub mod LeafLemmas
 pub mod RisingLemmas
 pub mod PrefixLemmas
-pub mod TreeLemmas
 pub mod NavigationLemmas
-pub mod DescentLemmas
-pub mod DecodingLemmas
-pub mod CellLemmas
-pub mod LevelLemmas
-pub mod BuildingLemmas
-pub mod PackingLemmas
-pub mod BuiltLemmas
-pub mod GroupLemmas
-pub mod PickedLemmas
+pub mod ClimbLemmas
+pub mod SquareLemmas
+pub mod AreaLemmas
+pub mod PruningLemmas
+pub mod KeptLemmas
 pub mod FlawlessLemmas
 pub mod FlawedLemmas
-pub mod CheckingLemmas
-pub mod CheckedLemmas
-pub mod ClimbLemmas
-pub mod DigitLemmas
-pub mod DigitsOfLemmas
-pub mod WalkLemmas
-pub mod ChildrenLemmas
-pub mod StackLemmas
-pub mod OpenLemmas
-pub mod LeafSquareLemmas
-pub mod SquareLemmas
-pub mod FlatLemmas
-pub mod PruningLemmas
-pub mod LeafLemmas
-pub mod AreaLemmas
-pub mod KeptLemmas
-pub mod WholeLemmas
-pub mod PrunedLemmas
-pub mod PrunedTreeLemmas
+-- Digits of numbers, lists, and boxes.
+mod DigitLemmas
+mod HeightLemmas
+mod FlatLemmas
+mod BoxLemmas
+-- A tree's bits: where squares stand in them, and what they tell.
+mod TreeLemmas
+mod DescentLemmas
+mod DecodingLemmas
+-- Building.
+mod LevelLemmas
+mod BuildingLemmas
+mod PackingLemmas
+mod BuiltLemmas
+-- Checking.
+mod GroupLemmas
+mod PickedLemmas
+mod CheckingLemmas
+mod CheckedLemmas
+-- Squares, and walks over them.
+mod SideLemmas
+mod ChildLemmas
+mod WalkLemmas
+mod DigitsOfLemmas
+mod ChildrenLemmas
+mod LeafSquareLemmas
+mod StackLemmas
+mod OpenLemmas
+mod WholeLemmas
+mod PrunedLemmas
+mod PrunedTreeLemmas
 mod Examples
