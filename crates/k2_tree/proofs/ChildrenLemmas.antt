@@ -18,7 +18,7 @@ use Rattle.k2_tree.specs.Digits.{digits_of}
 use Rattle.k2_tree.specs.Pending.{StandsAt}
 use Rattle.k2_tree.specs.Pruning.{children, child_nodes}
 use Rattle.k2_tree.specs.declared.square.Square.{Square}
-use Rattle.k2_tree.proofs.WalkLemmas.{child_inside, child_stands, child_told}
+use Rattle.k2_tree.proofs.StoredLemmas.{child_inside, child_stands, child_told}
 
 -- a bit of a window is a bit of the list
 pub window_bit : (bits : List Bool) (p d n : ℕ) → 1 + d ≤ n → p + d < length bits

@@ -34,13 +34,13 @@ mod CheckedLemmas
 -- Squares, and walks over them.
 mod SideLemmas
 mod ChildLemmas
-mod WalkLemmas
-mod DigitsOfLemmas
+mod StoredLemmas
+mod PendingLemmas
 mod ChildrenLemmas
-mod LeafSquareLemmas
+mod CellSquareLemmas
 mod StackLemmas
 mod OpenLemmas
-mod WholeLemmas
+mod WalkLemmas
 mod PrunedLemmas
 mod PrunedTreeLemmas
 mod Examples

@@ -1,7 +1,7 @@
 use Rattle.std.proofs.Common.{◌≡◌, ◌+◌, ◌-◌, [], ◌∷◌, length, map, arith, ap, sym, ◌∙◌, bit_and}
 use Rattle.k2_tree.specs.TreeSquares.{child_at, node_of}
 use Rattle.k2_tree.specs.Digits.{digits_of}
-use Rattle.k2_tree.proofs.DigitsOfLemmas.{digits_of-zero, lowest}
+use Rattle.k2_tree.proofs.PendingLemmas.{digits_of-zero, lowest}
 use Rattle.k2_tree.proofs.pending.Pending.next.Goals as goal
 
 pub returns-then-self-eq0-clause-none : goal.returns-then-self-eq0-clause-none

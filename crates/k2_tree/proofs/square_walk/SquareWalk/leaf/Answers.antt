@@ -3,7 +3,7 @@ use Rattle.k2_tree.specs.Pruning.{leaf_of}
 use Rattle.k2_tree.specs.SquareWalk.{WalkView}
 use Rattle.k2_tree.specs.Tree.{Tree}
 use Rattle.k2_tree.specs.TreeSquares.{prefix_of, IsSquareOf}
-use Rattle.k2_tree.proofs.WholeLemmas.{leaf_is}
+use Rattle.k2_tree.proofs.WalkLemmas.{leaf_is}
 use Rattle.k2_tree.proofs.square_walk.SquareWalk.leaf.Goals as goal
 
 pub returns-clause-value : goal.returns-clause-value

@@ -1,7 +1,7 @@
 use Rattle.std.proofs.Common.{◌≡◌, [], ◌++◌, sym, ap, ◌∙◌, subst, append-nil}
 use Rattle.k2_tree.specs.SquareWalk.{IsWalk, found_nodes, open_nodes}
 use Rattle.k2_tree.proofs.StackLemmas.{open_nodes-nil}
-use Rattle.k2_tree.proofs.WholeLemmas.{begins_whole, whole_nodes}
+use Rattle.k2_tree.proofs.WalkLemmas.{begins_whole, whole_nodes}
 use Rattle.k2_tree.proofs.square_walk.SquareWalk.new.Goals as goal
 
 pub invariant_of-result : goal.invariant_of-result

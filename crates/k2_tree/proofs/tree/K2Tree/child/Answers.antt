@@ -3,7 +3,7 @@ use Rattle.std.specs.Prelude.{slice_get}
 use Rattle.bit_rank.specs.Bits.{rank_of}
 use Rattle.k2_tree.specs.Tree.{Tree, tree_of}
 use Rattle.k2_tree.specs.TreeSquares.{child_at, holds_cell, number_of, node_of, squares_of, IsSquareOf}
-use Rattle.k2_tree.proofs.WalkLemmas.{child_inside, child_stands, child_told}
+use Rattle.k2_tree.proofs.StoredLemmas.{child_inside, child_stands, child_told}
 use Rattle.k2_tree.proofs.tree.K2Tree.child.Goals as goal
 
 pub child_of-requires-clause-inside : goal.child_of-requires-clause-inside

@@ -9,7 +9,7 @@ use Rattle.k2_tree.specs.Digits.{digits_of}
 use Rattle.k2_tree.specs.Pending.{nodes_of, StandsAt}
 use Rattle.k2_tree.specs.Pruning.{child_nodes}
 use Rattle.k2_tree.specs.declared.pending.Pending.{Pending}
-use Rattle.k2_tree.proofs.WalkLemmas.{child_inside}
+use Rattle.k2_tree.proofs.StoredLemmas.{child_inside}
 use Rattle.k2_tree.proofs.ChildrenLemmas.{group_nodes, group_stands, length-digits_of}
 use Rattle.k2_tree.proofs.tree.K2Tree.children_of.Given as given
 use Rattle.k2_tree.proofs.tree.K2Tree.children_of.Goals as goal

@@ -3,7 +3,7 @@ use Rattle.std.specs.Prelude.{slice_get}
 use Rattle.k2_tree.specs.Tree.{Tree, tree_of, IsTree}
 use Rattle.k2_tree.proofs.CellLemmas.{IsTree-stored}
 use Rattle.k2_tree.specs.TreeSquares.{corner_of, number_of, IsSquareOf}
-use Rattle.k2_tree.proofs.LeafSquareLemmas.{leaf_at, leaf_cell}
+use Rattle.k2_tree.proofs.CellSquareLemmas.{leaf_at, leaf_cell}
 use Rattle.k2_tree.proofs.tree.K2Tree.leaf_number.Goals as goal
 
 pub overflow_sub-result : goal.overflow_sub-result

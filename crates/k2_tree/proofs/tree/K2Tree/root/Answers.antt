@@ -4,7 +4,7 @@ use Rattle.k2_tree.specs.Tree.{Tree, IsTree}
 use Rattle.k2_tree.proofs.CellLemmas.{IsTree-stored}
 use Rattle.k2_tree.specs.TreeSquares.{IsSquareOf}
 use Rattle.k2_tree.proofs.DecodingLemmas.{codes_in-none}
-use Rattle.k2_tree.proofs.WalkLemmas.{whole_stands}
+use Rattle.k2_tree.proofs.StoredLemmas.{whole_stands}
 use Rattle.k2_tree.proofs.tree.K2Tree.root.Goals as goal
 
 pub returns-then-len-eq0-clause-none : goal.returns-then-len-eq0-clause-none

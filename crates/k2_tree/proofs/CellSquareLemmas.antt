@@ -15,7 +15,7 @@ use Rattle.k2_tree.specs.declared.square.Square.{Square}
 use Rattle.k2_tree.proofs.PrefixLemmas.{prefixes-zero}
 use Rattle.k2_tree.proofs.DescentLemmas.{inner}
 use Rattle.k2_tree.proofs.HeightLemmas.{column_of-highest, row_of-highest}
-use Rattle.k2_tree.proofs.WalkLemmas.{square_in}
+use Rattle.k2_tree.proofs.StoredLemmas.{square_in}
 
 abbrev made : ℤ → ℤ → Cell
 made x y = record { x = x; y = y }
