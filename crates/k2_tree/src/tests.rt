@@ -10,6 +10,9 @@ use std::test::Fail;
 use step_count::Steps;
 use track_types::{BitList, Cell, Memory};
 
+mod touching;
+mod walks;
+
 const O: bool = false;
 
 const I: bool = true;
