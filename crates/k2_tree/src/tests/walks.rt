@@ -25,6 +25,7 @@ fn three_cells(alloc: Global) -> Result<K2Tree, Memory>
     K2Tree::build(alloc, cells.as_slice(), 2, BASE)
 }
 
+// Two of the three leaves, and nothing behind them.
 fn two_of_three_drawn<L: Ledger>(rt: &impl Abort, tree: &K2Tree, blank: Blank)
     requires name { blank.name ≡ L.name }
     requires parts { blank.parts ≡ L.parts }
@@ -55,6 +56,7 @@ fn far_leaf<L: Ledger>(alloc: Global, steps: &mut Steps<L>) -> Result<Option<(u3
     Ok(walk.draw(steps))
 }
 
+// The same with steps of its own.
 fn far_leaf_of_a_blank<L: Ledger>(
     alloc: Global,
     blank: Blank,

@@ -1,0 +1,153 @@
+ghost use Rattle.std.specs.Prelude.{◌≡◌, ◌^◌, ◌<◌, ◌≤◌, length, map, All, IfOk};
+ghost use Rattle.std.specs.List.Sorted.{IsStrictlyIncreasing};
+ghost use Rattle.k2_tree.specs.Morton.{cell_of, morton_of, IsInGrid};
+
+use super::touching::Touching;
+use super::{BASE, at};
+use crate::K2Tree;
+use crate::morton_code::cell_at;
+use std::alloc::{AllocError, Global};
+use std::marker::Brand;
+use std::process::Abort;
+use std::sync::ledger::{Blank, Ledger};
+use std::test::Fail;
+use step_count::Steps;
+use track_types::{Cell, Lazy};
+
+const HEIGHT: u32 = 6;
+
+// So many numbers.
+const COUNT: usize = 300;
+
+// Ascending Morton numbers below 4^6, by a linear congruential generator (D. E. Knuth, "MMIX").
+fn random_codes(alloc: Global, seed: u64) -> Result<Vec<u64>, AllocError>
+    ensures few { IfOk result (λ codes. length codes.items ≤ COUNT) }
+    ensures small { IfOk result (λ codes. All (λ code. code < 4 ^ HEIGHT) codes.items) }
+    ensures ascending { IfOk result (λ codes. IsStrictlyIncreasing codes.items) }
+{
+    let mut codes = Vec::new(alloc);
+    let mut state = seed;
+    let mut next: u64 = 0;
+    'numbers: while codes.len() < COUNT {
+        state = state
+            .wrapping_mul(6_364_136_223_846_793_005)
+            .wrapping_add(1_442_695_040_888_963_407);
+        let code = next + (state >> 33) % 13;
+        codes.push(code)?;
+        next = code + 1;
+    }
+    Ok(codes)
+}
+
+// The cells of such numbers.
+fn random_cells(alloc: Global, seed: u64) -> Result<Vec<Cell>, AllocError>
+    ensures few { IfOk result (λ cells. length cells.items ≤ COUNT) }
+    ensures inside { IfOk result (λ cells. All (IsInGrid HEIGHT BASE) cells.items) }
+    ensures ascending { IfOk result (λ cells. IsStrictlyIncreasing (map (morton_of HEIGHT BASE) cells.items)) }
+{
+    let codes = random_codes(alloc, seed)?;
+    cells_of(alloc, codes.as_slice())
+}
+
+// The cells of the numbers.
+fn cells_of(alloc: Global, codes: &[u64]) -> Result<Vec<Cell>, AllocError>
+    ensures ok { IfOk result (λ cells. cells.items ≡ map (cell_of HEIGHT BASE) codes.now) }
+{
+    codes
+        .iter()
+        .map(|code| cell_at(*code, HEIGHT, BASE))
+        .collect(alloc)
+}
+
+// The place of a cell in the list.
+fn place_in(cells: &[Cell], cell: Cell) -> Option<usize> {
+    cells.iter().position(|other| *other == cell)
+}
+
+fn leaf_cells_agree<L: Ledger>(
+    rt: &impl Abort,
+    tree: &K2Tree,
+    cells: &[Cell],
+    steps: &mut Steps<L>,
+) {
+    assert_eq!(rt; tree.leaves() as usize, cells.len());
+    for leaf in 0..tree.leaves() {
+        let cell = tree.leaf_cell(leaf, steps);
+        assert_eq!(rt;
+            Some(cell),
+            cells.get(leaf as usize).copied(),
+            "leaf {leaf}"
+        );
+    }
+}
+
+// At each cell of the grid and of a frame around it.
+fn leaves_of_cells_agree<L: Ledger>(
+    rt: &impl Abort,
+    tree: &K2Tree,
+    cells: &[Cell],
+    steps: &mut Steps<L>,
+) {
+    for y in -2..66 {
+        for x in -2..66 {
+            let leaf = tree.leaf_of(at(x, y), steps).map(|leaf| leaf as usize);
+            assert_eq!(rt; leaf, place_in(cells, at(x, y)), "at {x} {y}");
+        }
+    }
+}
+
+// The leaves that a walk draws are those whose cells the region has.
+fn walk_agrees<L: Ledger>(
+    rt: &impl Abort,
+    tree: &K2Tree,
+    cells: &[Cell],
+    touching: Touching,
+    steps: &mut Steps<L>,
+)
+    requires { All (IsInGrid HEIGHT BASE) cells.now }
+{
+    let region = touching.region();
+    let mut walk = tree.pruned(touching);
+    let mut leaf: u32 = 0;
+    for cell in cells {
+        if region.contains(*cell) {
+            assert_eq!(rt; walk.draw(steps), Some((leaf, *cell)), "in {region:?}");
+        }
+        leaf = leaf.wrapping_add(1);
+    }
+    assert_eq!(rt; walk.draw(steps), None, "behind {region:?}");
+}
+
+fn all_agree<L: Ledger>(rt: &impl Abort, tree: &K2Tree, cells: &[Cell], blank: Blank)
+    requires name { blank.name ≡ L.name }
+    requires parts { blank.parts ≡ L.parts }
+    requires some { 0 < L.parts }
+    requires inside { All (IsInGrid HEIGHT BASE) cells.now }
+{
+    let mut steps = Steps::<L>::new(blank);
+    leaf_cells_agree(rt, tree, cells, &mut steps);
+    leaves_of_cells_agree(rt, tree, cells, &mut steps);
+    for touching in [
+        Touching::rect(10, -20, 73, 43),
+        Touching::rect(20, -5, 45, 9),
+        Touching::rect(-9, -90, 31, 12),
+        Touching::rect(30, 9, 29, 20),
+        Touching::rect(80, -20, 90, 43),
+        Touching::disc(42, 11, 0),
+        Touching::disc(42, 11, 9),
+        Touching::disc(0, -30, 40),
+        Touching::disc(-7, 60, 20),
+    ] {
+        walk_agrees(rt, tree, cells, touching, &mut steps);
+    }
+}
+
+#[test]
+fn walks_and_leaves_agree_with_a_plain_list(rt: HostRuntime) -> Result<(), Fail> {
+    for seed in [1, 2026] {
+        let cells = random_cells(rt.alloc(), seed)?;
+        let tree = K2Tree::build(rt.alloc(), cells.as_slice(), HEIGHT, BASE)?;
+        all_agree::<Brand>(&rt, &tree, cells.as_slice(), Blank::new(1));
+    }
+    Ok(())
+}
