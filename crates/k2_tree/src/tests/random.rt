@@ -16,36 +16,37 @@ use track_types::{Cell, Lazy};
 
 const HEIGHT: u32 = 6;
 
-// So many numbers.
-const COUNT: usize = 300;
+// So many cells has the grid.
+const CELLS: u64 = 4096;
 
-// Ascending Morton numbers below 4^6, by a linear congruential generator (D. E. Knuth, "MMIX").
-fn random_codes(alloc: Global, seed: u64) -> Result<Vec<u64>, AllocError>
-    ensures few { IfOk result (λ codes. length codes.items ≤ COUNT) }
+// Ascending Morton numbers, one in so many, by a linear congruential generator (D. E. Knuth, "MMIX").
+fn random_codes(alloc: Global, seed: u64, one_in: u64) -> Result<Vec<u64>, AllocError>
+    requires { 1 ≤ one_in }
+    ensures few { IfOk result (λ codes. length codes.items ≤ CELLS) }
     ensures small { IfOk result (λ codes. All (λ code. code < 4 ^ HEIGHT) codes.items) }
     ensures ascending { IfOk result (λ codes. IsStrictlyIncreasing codes.items) }
 {
     let mut codes = Vec::new(alloc);
     let mut state = seed;
-    let mut next: u64 = 0;
-    'numbers: while codes.len() < COUNT {
+    for code in 0..CELLS {
         state = state
             .wrapping_mul(6_364_136_223_846_793_005)
             .wrapping_add(1_442_695_040_888_963_407);
-        let code = next + (state >> 33) % 13;
-        codes.push(code)?;
-        next = code + 1;
+        if (state >> 33) % one_in == 0 {
+            codes.push(code)?;
+        }
     }
     Ok(codes)
 }
 
 // The cells of such numbers.
-fn random_cells(alloc: Global, seed: u64) -> Result<Vec<Cell>, AllocError>
-    ensures few { IfOk result (λ cells. length cells.items ≤ COUNT) }
+fn random_cells(alloc: Global, seed: u64, one_in: u64) -> Result<Vec<Cell>, AllocError>
+    requires { 1 ≤ one_in }
+    ensures few { IfOk result (λ cells. length cells.items ≤ CELLS) }
     ensures inside { IfOk result (λ cells. All (IsInGrid HEIGHT BASE) cells.items) }
     ensures ascending { IfOk result (λ cells. IsStrictlyIncreasing (map (morton_of HEIGHT BASE) cells.items)) }
 {
-    let codes = random_codes(alloc, seed)?;
+    let codes = random_codes(alloc, seed, one_in)?;
     cells_of(alloc, codes.as_slice())
 }
 
@@ -144,8 +145,9 @@ fn all_agree<L: Ledger>(rt: &impl Abort, tree: &K2Tree, cells: &[Cell], blank: B
 
 #[test]
 fn walks_and_leaves_agree_with_a_plain_list(rt: HostRuntime) -> Result<(), Fail> {
-    for seed in [1, 2026] {
-        let cells = random_cells(rt.alloc(), seed)?;
+    for (seed, one_in, least) in [(1, 13, 250), (2026, 4, 900)] {
+        let cells = random_cells(rt.alloc(), seed, one_in)?;
+        assert!(rt; least <= cells.len(), "of {one_in}");
         let tree = K2Tree::build(rt.alloc(), cells.as_slice(), HEIGHT, BASE)?;
         all_agree::<Brand>(&rt, &tree, cells.as_slice(), Blank::new(1));
     }
