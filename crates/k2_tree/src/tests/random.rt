@@ -19,7 +19,8 @@ const HEIGHT: u32 = 6;
 // So many cells has the grid.
 const CELLS: u64 = 4096;
 
-// Ascending Morton numbers, one in so many, by a linear congruential generator (D. E. Knuth, "MMIX").
+// Ascending Morton numbers, about one in so many, by a linear congruential generator with the
+// constants of Knuth's MMIX.
 fn random_codes(alloc: Global, seed: u64, one_in: u64) -> Result<Vec<u64>, AllocError>
     requires { 1 ≤ one_in }
     ensures few { IfOk result (λ codes. length codes.items ≤ CELLS) }
@@ -65,6 +66,7 @@ fn place_in(cells: &[Cell], cell: Cell) -> Option<usize> {
     cells.iter().position(|other| *other == cell)
 }
 
+// Each leaf has the cell at its place in the list.
 fn leaf_cells_agree<L: Ledger>(
     rt: &impl Abort,
     tree: &K2Tree,
@@ -119,6 +121,7 @@ fn walk_agrees<L: Ledger>(
     assert_eq!(rt; walk.draw(steps), None, "behind {region:?}");
 }
 
+// Over steps of its own, with rects, an inverted and a far one among them, and discs.
 fn all_agree<L: Ledger>(rt: &impl Abort, tree: &K2Tree, cells: &[Cell], blank: Blank)
     requires name { blank.name ≡ L.name }
     requires parts { blank.parts ≡ L.parts }
