@@ -29,6 +29,10 @@ walk_left keep walk = map (leaf_of walk.tree) (flat_map (kept_in (on_areas keep 
 abbrev pub walk_budget : (CellBox → Bool) → WalkView → ℕ
 walk_budget keep walk = sum_by (weight_in (reads_of (on_areas keep walk.tree)) walk.tree) walk.pending
 
+-- the tree of a pruned walk
+abbrev pub pruned_tree : {F : Type 0} → Pruned F → Tree
+pruned_tree pruned = pruned.walk.tree
+
 module _ {F : Type 0} (keeps : F → CellBox → Bool) where
   -- the leaves that are left of a pruned walk
   abbrev pub pruned_left : Pruned F → List (ℕ × Cell)

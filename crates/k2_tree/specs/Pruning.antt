@@ -1,5 +1,5 @@
 -- The leaves all of whose squares pass a test, and how many squares do.
-use Rattle.std.specs.Prelude.{ℕ, zero, suc, ◌+◌, ◌-◌, ◌/◌, ◌^◌, Bool, ◌&&◌, nat_lt, if◌then◌else◌, IsTrue}
+use Rattle.std.specs.Prelude.{◌≡◌, ℕ, zero, suc, ◌+◌, ◌-◌, ◌/◌, ◌^◌, Bool, ◌&&◌, nat_lt, if◌then◌else◌, IsTrue, Some, slice_get}
 use Rattle.std.specs.Prelude.{List, [], ◌∷◌, length, map, filter}
 use Rattle.std.specs.List.{flat_map, sum_by}
 use Rattle.track_types.specs.declared.cell.Cell.{Cell}
@@ -27,6 +27,10 @@ leaf_with height base codes code = (place_of codes code, cell_of height base cod
 -- the leaf of a tree with this Morton number
 abbrev pub leaf_of : Tree → ℕ → ℕ × Cell
 leaf_of tree code = leaf_with tree.height tree.base (codes_of tree) code
+
+-- the tree has this leaf, with its cell
+abbrev pub IsLeafOf : Tree → ℕ × Cell → Type 0
+IsLeafOf tree leaf = slice_get tree.cells leaf.0 ≡ Some leaf.1
 
 -- whether a test is true on each square that holds a Morton number, from the one of a level down to its own
 unfoldable pub passes : (Node → Bool) → ℕ → ℕ → Bool

@@ -1,4 +1,4 @@
-ghost use Rattle.std.specs.Prelude.{◌≡◌};
+ghost use Rattle.std.specs.Prelude.{◌≡◌, ◌++◌, ◌+◌, ◌≤◌, [], IfNone, IfSome, option_to_list};
 ghost use Rattle.k2_tree.specs.TreeSquares.{area_of};
 
 use crate::keep::Keep;
@@ -38,7 +38,8 @@ impl<'a, F: Keep> Pruned<'a, F> {
 }
 
 impl<'a, F: Keep> Lazy for Pruned<'a, F> {
-    ghost use Rattle.k2_tree.specs.Pruned.{pruned_left, pruned_budget};
+    ghost use Rattle.k2_tree.specs.Pruned.{pruned_budget, pruned_left, pruned_tree};
+    ghost use Rattle.k2_tree.specs.Pruning.{IsLeafOf};
 
     type Item = (u32, Cell);
 
@@ -46,7 +47,15 @@ impl<'a, F: Keep> Lazy for Pruned<'a, F> {
 
     ghost budget = { pruned_budget F.keeps };
 
-    fn draw<L: Ledger>(&mut self, steps: &mut Steps<L>) -> Option<(u32, Cell)> {
+    fn draw<L: Ledger>(&mut self, steps: &mut Steps<L>) -> Option<(u32, Cell)>
+        ensures found { pruned_left F.keeps self.old
+            ≡ option_to_list result ++ pruned_left F.keeps self.new }
+        ensures none { IfNone result (pruned_left F.keeps self.old ≡ []) }
+        ensures cost { steps.new + pruned_budget F.keeps self.new
+            ≤ steps.old + pruned_budget F.keeps self.old }
+        ensures tree { pruned_tree self.new ≡ pruned_tree self.old }
+        ensures leaf { IfSome result (λ leaf. IsLeafOf (pruned_tree self.old) leaf) }
+    {
         while let Some(square) = self.walk.next_square() {
             if !self.passes(&square) {
                 continue;

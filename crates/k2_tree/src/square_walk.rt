@@ -1,6 +1,6 @@
 ghost use Rattle.std.specs.Prelude.{◌≡◌, ◌+◌, ◌≤◌, ◌++◌, [], ℕ, List, IfNone, IfSome, length, true};
 ghost use Rattle.track_types.specs.declared.cell.Cell.{Cell};
-ghost use Rattle.k2_tree.specs.Pruning.{child_nodes, leaf_of};
+ghost use Rattle.k2_tree.specs.Pruning.{child_nodes, leaf_of, IsLeafOf};
 ghost use Rattle.k2_tree.specs.Squares.{Node};
 ghost use Rattle.k2_tree.specs.SquareWalk.{AreOpen, IsTaken, found_nodes, open_nodes, top_nodes};
 ghost use Rattle.k2_tree.specs.Tree.{Tree, IsTree};
@@ -88,6 +88,7 @@ impl<'a> SquareWalk<'a> {
         requires of { IsSquareOf self.now.tree square.now }
         requires leaf { level_of square.now ≡ 0 }
         ensures value { result ≡ leaf_of self.now.tree (prefix_of square.now) }
+        ensures found { IsLeafOf self.now.tree result }
         ensures cost { steps.new ≤ steps.old }
     {
         (self.tree.leaf_number(square, steps), square.corner())

@@ -6,7 +6,7 @@ ghost use Rattle.k2_tree.specs.Squares.{node};
 ghost use Rattle.k2_tree.specs.Tree.{codes_of, tree_with, IsTree};
 ghost use Rattle.k2_tree.specs.TreeSquares.{child_at, corner_of, holds_cell, level_of, node_of, squares_of, IsSquareOf};
 ghost use Rattle.k2_tree.specs.Pending.{nodes_of, StandsAt};
-ghost use Rattle.k2_tree.specs.Pruned.{pruned_budget, pruned_left};
+ghost use Rattle.k2_tree.specs.Pruned.{pruned_budget, pruned_left, pruned_tree};
 ghost use Rattle.k2_tree.specs.Pruning.{child_nodes, kept_leaves, numbered, square_count, wanted_of, IsKeptFor};
 ghost use Rattle.k2_tree.specs.Flaws.{tree_flaw, IsFaultOf, StandsFor};
 ghost use Rattle.track_types.specs.declared.cell.Cell.{Cell};
@@ -197,6 +197,7 @@ impl K2Tree {
     /// nothing is lost where `keep` is false only on boxes in which nothing wanted lies. It takes no
     /// memory, and its draws read at most 11 for each square with a cell on which `keep` is true.
     pub fn pruned<F: Keep>(&self, keep: F) -> Pruned<'_, F>
+        ensures tree { pruned_tree result ≡ self.now }
         ensures left { pruned_left F.keeps result ≡ kept_leaves (F.keeps keep) self.now }
         ensures budget { pruned_budget F.keeps result ≡ 11 * square_count (F.keeps keep) self.now }
         ensures wanted { (wanted : Cell → Bool) → IsKeptFor (F.keeps keep) wanted

@@ -1,9 +1,9 @@
-use Rattle.std.proofs.Common.{◌≡◌, ◌≤◌, ◌∷◌, [], Bool, true, false, refl, sym, ap, ◌∙◌, arith}
+use Rattle.std.proofs.Common.{◌≡◌, ◌≤◌, ◌∷◌, [], Bool, true, false, refl, sym, ap, ◌∙◌, arith, subst}
 use Rattle.std.proofs.lemmas.Bool.{false≢true}
 use Rattle.k2_tree.specs.Pruned.{walk_left}
 use Rattle.k2_tree.specs.SquareWalk.{WalkView}
 use Rattle.k2_tree.specs.Tree.{Tree}
-use Rattle.k2_tree.specs.Pruning.{leaf_of, on_areas}
+use Rattle.k2_tree.specs.Pruning.{leaf_of, on_areas, IsLeafOf}
 use Rattle.k2_tree.specs.TreeSquares.{level_of, node_of, prefix_of}
 use Rattle.k2_tree.proofs.PrunedLemmas.{IsBefore, given_way, skipped, test_told, yielded}
 use Rattle.k2_tree.proofs.pruned.PrunedLazy.draw.Goals as goal
@@ -25,8 +25,14 @@ loop-square-preserved-then-not-passes g c =
     let test = test_told g.F.Keep.keeps now.keep c.args.self.now.keep c.passes.result false s now.walk.tree
     c.loop-square.invariant.0 c.passes.ensures c.in-Some.ensures.of.base c.if-not-passes.true in
     let step = skipped (g.F.Keep.keeps c.args.self.now.keep) now.walk c.next_square.new.self (node_of s) next test in
-    let drawing = c.loop-square.invariant.1 in
-    (c.loop-square.invariant.0, record { left = step.left ∙ drawing.left; cost = omega (arith, step.budget, drawing.cost) })
+    let drawing = c.loop-square.invariant.1 in (
+      c.loop-square.invariant.0,
+      record {
+        same = c.in-Some.ensures.tree ∙ drawing.same;
+        left = step.left ∙ drawing.left;
+        cost = omega (arith, step.budget, drawing.cost);
+      },
+    )
 
 pub returns-then-is_leaf-clause-found : goal.returns-then-is_leaf-clause-found
 returns-then-is_leaf-clause-found g c =
@@ -41,6 +47,16 @@ returns-then-is_leaf-clause-found g c =
     ∙ ap (λ (t : Tree). leaf_of t (prefix_of s) ∷ walk_left keeps c.next_square.new.self) (sym c.in-Some.ensures.tree)
     ∙ ap (λ leaf. leaf ∷ walk_left keeps c.next_square.new.self) (sym c.leaf.ensures.value)
     ∙ ap (λ k. c.leaf.result ∷ walk_left (g.F.Keep.keeps k) c.next_square.new.self) (sym c.loop-square.invariant.0)
+
+pub returns-then-is_leaf-clause-tree : goal.returns-then-is_leaf-clause-tree
+returns-then-is_leaf-clause-tree g c = c.in-Some.ensures.tree ∙ c.loop-square.invariant.1.same
+
+pub returns-then-is_leaf-clause-leaf : goal.returns-then-is_leaf-clause-leaf
+returns-then-is_leaf-clause-leaf g c =
+    subst (λ (t : Tree). IsLeafOf t c.leaf.result) (c.in-Some.ensures.tree ∙ c.loop-square.invariant.1.same) c.leaf.ensures.found
+
+pub returns-clause-tree : goal.returns-clause-tree
+returns-clause-tree g c = c.next_square.ensures.tree ∙ c.loop-square.invariant.1.same
 
 pub loop-square-smaller : goal.loop-square-smaller
 loop-square-smaller g c =
@@ -67,5 +83,11 @@ loop-square-preserved g c =
     let test = test_told g.F.Keep.keeps now.keep c.args.self.now.keep c.passes.result true s now.walk.tree
     c.loop-square.invariant.0 c.passes.ensures c.in-Some.ensures.of.base c.if-not-passes.false in
     let step = given_way keeps now.walk mid c.open.new.self (node_of s) next (record { tree = sym c.open.ensures.tree; pending = c.open.ensures.pending }) inner test in
-    let drawing = c.loop-square.invariant.1 in
-    (c.loop-square.invariant.0, record { left = step.left ∙ drawing.left; cost = omega (arith, step.budget, drawing.cost, c.open.ensures.cost) })
+    let drawing = c.loop-square.invariant.1 in (
+      c.loop-square.invariant.0,
+      record {
+        same = c.open.ensures.tree ∙ c.in-Some.ensures.tree ∙ drawing.same;
+        left = step.left ∙ drawing.left;
+        cost = omega (arith, step.budget, drawing.cost, c.open.ensures.cost);
+      },
+    )

@@ -7,6 +7,7 @@ use Rattle.k2_tree.proofs.pruned.PrunedLazy.draw.Given as goal
 
 -- what squares that were skipped or opened leave: the same leaves, and the reads from the budget
 pub record IsDrawing (keep : CellBox → Bool) (first now : WalkView) (begun steps : ℕ) : Type 0 where
+  pub same : now.tree ≡ first.tree
   pub left : walk_left keep now ≡ walk_left keep first
   pub cost : steps + walk_budget keep now ≤ begun + walk_budget keep first
 

@@ -6,6 +6,9 @@ use Rattle.k2_tree.proofs.KeptLemmas.{kept_leaves-wanted}
 use Rattle.k2_tree.proofs.PrunedTreeLemmas.{budget_whole, left_whole}
 use Rattle.k2_tree.proofs.tree.K2Tree.pruned.Goals as goal
 
+pub returns-clause-tree : goal.returns-clause-tree
+returns-clause-tree g c = ap (λ (w : WalkView). w.tree) c.new-2.ensures.walk ∙ c.new.ensures.tree
+
 pub returns-clause-left : goal.returns-clause-left
 returns-clause-left g c =
     let facts = c.new.ensures in
