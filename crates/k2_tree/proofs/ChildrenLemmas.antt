@@ -1,19 +1,18 @@
 -- A square's four bits: the children that they tell, and where these stand.
-use Rattle.std.proofs.Common.{◌≡◌, ℕ, zero, suc, ◌+◌, ◌-◌, ◌*◌, ◌/◌, ◌%◌, ◌^◌, ◌<◌, ◌≤◌, ◌==◌, Bool, true, false, List, [], ◌∷◌, length, map, filter, get_or}
-use Rattle.std.proofs.Common.{refl, sym, ap, ◌∙◌, arith, subst, Some, cond}
-use Rattle.std.proofs.lemmas.Option.{slice_get-get_or, get_or_from_slice_get}
-use Rattle.std.specs.Prelude.{slice_get}
+use Rattle.std.proofs.Common.{◌≡◌, ℕ, zero, suc, ◌+◌, ◌-◌, ◌*◌, ◌<◌, ◌≤◌, ◌==◌, Bool, true, false, List, [], ◌∷◌, length, map, filter, get_or}
+use Rattle.std.proofs.Common.{refl, sym, ap, ◌∙◌, arith, subst, cond}
+use Rattle.std.proofs.lemmas.Option.{get_or_from_slice_get}
 use Rattle.std.specs.List.{range_with_len}
 use Rattle.std.specs.Int.{bit_at}
 use Rattle.packed_bits.specs.Bits.{window_of}
-use Rattle.packed_bits.proofs.NumberLemmas.{window_of-bit, window_of-inside, window_of-lt}
+use Rattle.packed_bits.proofs.NumberLemmas.{window_of-bit, window_of-inside}
 use Rattle.bit_rank.specs.Bits.{rank_of}
-use Rattle.bit_rank.proofs.RankLemmas.{rank_of-step, rank_of-le-place}
+use Rattle.bit_rank.proofs.RankLemmas.{rank_of-step}
 use Rattle.track_types.specs.declared.cell.Cell.{Cell}
 use Rattle.k2_tree.specs.TreeBits.{is_in, prefixes, longer}
 use Rattle.k2_tree.specs.Squares.{Node, node}
 use Rattle.k2_tree.specs.Tree.{Tree, codes_of, tree_of, IsStored}
-use Rattle.k2_tree.specs.TreeSquares.{child_at, holds_cell, level_of, node_of, number_of, prefix_of, squares_of, IsSquareOf}
+use Rattle.k2_tree.specs.TreeSquares.{child_at, level_of, node_of, number_of, prefix_of, squares_of, IsSquareOf}
 use Rattle.k2_tree.specs.Digits.{digits_of}
 use Rattle.k2_tree.specs.Pending.{StandsAt}
 use Rattle.k2_tree.specs.Pruning.{children, child_nodes}

@@ -5,8 +5,7 @@ use Rattle.k2_tree.specs.Morton.{interleaved, morton_of, row_of, column_of, cell
 use Rattle.k2_tree.specs.TreeBits.{prefixes, longer, level_bits, morton_bits}
 use Rattle.k2_tree.specs.Flaws.{group_flaw, level_flaw, tree_flaw}
 use Rattle.k2_tree.specs.Checking.{group_ones}
-use Rattle.k2_tree.specs.Squares.{node, squares_from}
-use Rattle.k2_tree.specs.Areas.{area_at, box_from}
+use Rattle.k2_tree.specs.Squares.{squares_from}
 use Rattle.k2_tree.specs.Tree.{Tree, tree_with}
 use Rattle.k2_tree.specs.Pruning.{numbered, passes, kept_leaves, square_count}
 use Rattle.packed_bits.specs.Bits.{ones_of}

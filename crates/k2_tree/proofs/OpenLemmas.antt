@@ -1,12 +1,11 @@
 -- A walk in which one square more is open.
-use Rattle.std.proofs.Common.{◌≡◌, ℕ, ◌+◌, ◌-◌, ◌≤◌, Bool, true, false, List, [], ◌∷◌, ◌++◌, length, Option, None, Some, sym, ap, ◌∙◌, arith, refl, subst, append_assoc}
+use Rattle.std.proofs.Common.{◌≡◌, ◌+◌, ◌-◌, ◌≤◌, true, List, [], ◌∷◌, ◌++◌, length, Option, None, Some, ap, ◌∙◌, arith}
 use Rattle.std.specs.Option.{is_none}
 use Rattle.std.proofs.lemmas.Bool.{false≢true}
-use Rattle.k2_tree.specs.Squares.{Node}
 use Rattle.k2_tree.specs.Tree.{Tree}
 use Rattle.k2_tree.specs.TreeSquares.{level_of, squares_of, IsSquareOf}
 use Rattle.k2_tree.specs.Pending.{nodes_of, StandsAt}
-use Rattle.k2_tree.specs.SquareWalk.{AreOpen, IsOpen, IsWalk, found_nodes, open_nodes}
+use Rattle.k2_tree.specs.SquareWalk.{IsOpen, IsWalk, found_nodes, open_nodes}
 use Rattle.k2_tree.specs.declared.square.Square.{Square}
 use Rattle.k2_tree.specs.declared.pending.Pending.{Pending}
 use Rattle.k2_tree.proofs.StackLemmas.{AreOpen-append, length-open, open_nodes-append}

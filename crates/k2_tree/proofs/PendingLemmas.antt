@@ -1,7 +1,6 @@
 -- The children that a number's bits tell, taken off one by one from the lowest.
-use Rattle.std.proofs.Common.{◌≡◌, ℕ, zero, suc, ◌+◌, ◌-◌, ◌<◌, ◌≤◌, List, [], ◌∷◌, length, refl, arith, bit_and, lit<}
+use Rattle.std.proofs.Common.{◌≡◌, ℕ, zero, suc, ◌-◌, ◌<◌, [], ◌∷◌, refl, arith, bit_and, lit<}
 use Rattle.std.specs.Int.Count.{count_trailing_zeros}
-use Rattle.std.specs.Int.{bit_at}
 use Rattle.k2_tree.specs.Digits.{digits_of}
 
 -- the lowest bit that is set is the first digit, and without it the others are left

@@ -1,14 +1,14 @@
 -- A pruned walk over a whole tree.
-use Rattle.std.proofs.Common.{◌≡◌, ℕ, ◌+◌, ◌*◌, Bool, List, length, map, filter, sym, ap, ◌∙◌}
+use Rattle.std.proofs.Common.{◌≡◌, ℕ, ◌*◌, Bool, List, map, filter, ap, ◌∙◌}
 use Rattle.std.specs.List.{flat_map, sum_by}
 use Rattle.std.proofs.lemmas.List.Folds.{flat_map-map}
 use Rattle.track_types.specs.declared.cell.Cell.{Cell}
 use Rattle.track_types.specs.declared.cell_box.CellBox.{CellBox}
-use Rattle.k2_tree.specs.Morton.{cell_of, morton_of}
+use Rattle.k2_tree.specs.Morton.{morton_of}
 use Rattle.k2_tree.specs.TreeBits.{prefixes}
 use Rattle.k2_tree.specs.Squares.{Node, node, squares_from}
 use Rattle.k2_tree.specs.Tree.{Tree, codes_of, IsTree}
-use Rattle.k2_tree.specs.Pruning.{kept_below, kept_leaves, leaf_of, numbered, on_areas, passes, square_count, weight_below}
+use Rattle.k2_tree.specs.Pruning.{kept_leaves, leaf_of, numbered, on_areas, passes, square_count}
 use Rattle.k2_tree.specs.Pruned.{kept_in, reads_of, walk_budget, walk_left, weight_in}
 use Rattle.k2_tree.specs.SquareWalk.{WalkView, top_nodes}
 use Rattle.k2_tree.proofs.CellLemmas.{cells_back}

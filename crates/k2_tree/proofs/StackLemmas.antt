@@ -1,5 +1,5 @@
 -- The square opened last, and those opened before it.
-use Rattle.std.proofs.Common.{◌≡◌, ℕ, zero, suc, ◌+◌, ◌-◌, ◌<◌, ◌≤◌, List, [], ◌∷◌, ◌++◌, length, refl, sym, ap, ◌∙◌, arith, subst, append_assoc, length-append, append-nil}
+use Rattle.std.proofs.Common.{◌≡◌, ℕ, suc, ◌+◌, ◌-◌, ◌≤◌, List, [], ◌∷◌, ◌++◌, length, refl, sym, ap, ◌∙◌, arith, subst, append_assoc, length-append, append-nil}
 use Rattle.track_types.specs.declared.cell.Cell.{Cell}
 use Rattle.std.specs.Prelude.{slice_get}
 use Rattle.k2_tree.specs.Squares.{Node}

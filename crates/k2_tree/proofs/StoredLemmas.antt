@@ -1,20 +1,17 @@
 -- What a stored tree's bits tell of its squares.
-use Rattle.std.proofs.Common.{◌≡◌, ℕ, zero, suc, ◌+◌, ◌-◌, ◌*◌, ◌/◌, ◌<◌, ◌≤◌, Bool, true, false, List, [], ◌∷◌, length, map, get_or}
-use Rattle.std.proofs.Common.{refl, sym, ap, ◌∙◌, arith, subst, Some}
-use Rattle.std.proofs.lemmas.Option.{slice_get-get_or, slice_get_within, same_Some}
+use Rattle.std.proofs.Common.{◌≡◌, ℕ, zero, suc, ◌+◌, ◌-◌, ◌*◌, ◌<◌, ◌≤◌, Bool, true, false, List, length, get_or}
+use Rattle.std.proofs.Common.{sym, ap, ◌∙◌, arith, subst, Some}
 use Rattle.std.specs.Prelude.{slice_get}
-use Rattle.packed_bits.specs.Bits.{ones_of}
 use Rattle.bit_rank.specs.Bits.{rank_of}
 use Rattle.track_types.specs.declared.cell.Cell.{Cell}
-use Rattle.k2_tree.specs.Morton.{cell_of, morton_of}
 use Rattle.k2_tree.specs.TreeBits.{is_in, prefixes, morton_bits}
-use Rattle.k2_tree.specs.Squares.{Node, node, squares_from, squares_above, IsSquare}
-use Rattle.k2_tree.specs.Tree.{Tree, codes_of, codes_in, tree_of, AreTreeBits, IsStored}
+use Rattle.k2_tree.specs.Squares.{node, squares_from, IsSquare}
+use Rattle.k2_tree.specs.Tree.{codes_of, codes_in, tree_of, IsStored}
 use Rattle.k2_tree.specs.TreeSquares.{level_of, number_of, prefix_of, node_of, squares_of, child_at, holds_cell, IsSquareOf}
 use Rattle.k2_tree.specs.declared.square.Square.{Square}
 use Rattle.k2_tree.proofs.CellLemmas.{codes_back}
 use Rattle.k2_tree.proofs.NavigationLemmas.{child_place, child_bit, child_square, root_square}
-use Rattle.k2_tree.proofs.DescentLemmas.{inner, top_from_bits}
+use Rattle.k2_tree.proofs.DescentLemmas.{top_from_bits}
 use Rattle.k2_tree.proofs.SquareLemmas.{IsSquare-from_list, list-from_IsSquare}
 
 -- the numbers of a stored tree's cells are those that its bits tell

@@ -1,5 +1,5 @@
 -- A walk at its beginning, and the leaves to which it leads.
-use Rattle.std.proofs.Common.{◌≡◌, ℕ, ◌+◌, ◌*◌, ◌^◌, ◌<◌, ◌≤◌, List, [], ◌∷◌, ◌++◌, length, map, get_or, Option, None, Some, IfNone, IfSome, sym, ap, ◌∙◌, arith, subst, refl}
+use Rattle.std.proofs.Common.{◌≡◌, ℕ, ◌^◌, ◌<◌, List, [], ◌∷◌, length, map, get_or, Option, None, Some, IfNone, IfSome, sym, ap, ◌∙◌, arith, subst, refl}
 use Rattle.std.specs.Prelude.{slice_get}
 use Rattle.std.proofs.lemmas.List.{length-map, get_or-map}
 use Rattle.std.proofs.lemmas.Option.{slice_get_within, get_or_from_slice_get}
@@ -13,7 +13,6 @@ use Rattle.k2_tree.specs.TreeSquares.{corner_of, level_of, node_of, number_of, p
 use Rattle.k2_tree.specs.Pruning.{leaf_of, place_of}
 use Rattle.k2_tree.specs.SquareWalk.{IsWalk, found_nodes, top_nodes}
 use Rattle.k2_tree.specs.declared.square.Square.{Square}
-use Rattle.k2_tree.specs.declared.pending.Pending.{Pending}
 use Rattle.k2_tree.proofs.MortonLemmas.{morton_of-cell_of}
 use Rattle.k2_tree.proofs.PrefixLemmas.{prefixes-none, prefixes-zero}
 use Rattle.k2_tree.proofs.NavigationLemmas.{one_top}

@@ -1,4 +1,4 @@
-use Rattle.std.proofs.Common.{◌≡◌, ◌+◌, ◌-◌, [], ◌∷◌, length, map, arith, ap, sym, ◌∙◌, bit_and}
+use Rattle.std.proofs.Common.{◌-◌, ◌∷◌, length, map, arith, ap, sym, ◌∙◌, bit_and}
 use Rattle.k2_tree.specs.TreeSquares.{child_at, node_of}
 use Rattle.k2_tree.specs.Digits.{digits_of}
 use Rattle.k2_tree.proofs.PendingLemmas.{digits_of-zero, lowest}

@@ -1,9 +1,8 @@
-use Rattle.std.proofs.Common.{◌≡◌, ◌≤◌, ◌∷◌, [], Bool, true, false, refl, sym, ap, ◌∙◌, arith, subst}
+use Rattle.std.proofs.Common.{◌≡◌, ◌≤◌, ◌∷◌, [], true, false, refl, sym, ap, ◌∙◌, arith, subst}
 use Rattle.std.proofs.lemmas.Bool.{false≢true}
 use Rattle.k2_tree.specs.Pruned.{walk_left}
-use Rattle.k2_tree.specs.SquareWalk.{WalkView}
 use Rattle.k2_tree.specs.Tree.{Tree}
-use Rattle.k2_tree.specs.Pruning.{leaf_of, on_areas, IsLeafOf}
+use Rattle.k2_tree.specs.Pruning.{leaf_of, IsLeafOf}
 use Rattle.k2_tree.specs.TreeSquares.{level_of, node_of, prefix_of}
 use Rattle.k2_tree.proofs.PrunedLemmas.{IsBefore, given_way, skipped, test_told, yielded}
 use Rattle.k2_tree.proofs.pruned.PrunedLazy.draw.Goals as goal

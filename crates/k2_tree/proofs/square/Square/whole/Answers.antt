@@ -1,4 +1,4 @@
-use Rattle.std.proofs.Common.{ap, lit<, arith, ◌*◌, ◌≤◌, ◌^◌}
+use Rattle.std.proofs.Common.{ap, lit<, arith, ◌≤◌, ◌^◌}
 use Rattle.std.proofs.Math.Nat.{pow-le-pow_right}
 use Rattle.track_types.specs.declared.limit.TheConstants.{MAX_HEIGHT}
 use Rattle.k2_tree.specs.Squares.{node}

@@ -1,4 +1,4 @@
-use Rattle.std.proofs.Common.{◌≡◌, ap, ◌∙◌, subst, sym}
+use Rattle.std.proofs.Common.{ap, ◌∙◌, subst, sym}
 use Rattle.k2_tree.specs.Pruning.{leaf_of}
 use Rattle.k2_tree.specs.SquareWalk.{WalkView}
 use Rattle.k2_tree.specs.Tree.{Tree}

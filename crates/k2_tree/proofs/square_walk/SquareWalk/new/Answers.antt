@@ -1,4 +1,4 @@
-use Rattle.std.proofs.Common.{◌≡◌, [], ◌++◌, sym, ap, ◌∙◌, subst, append-nil}
+use Rattle.std.proofs.Common.{◌++◌, sym, ap, ◌∙◌, subst, append-nil}
 use Rattle.k2_tree.specs.SquareWalk.{IsWalk, found_nodes, open_nodes}
 use Rattle.k2_tree.proofs.StackLemmas.{open_nodes-nil}
 use Rattle.k2_tree.proofs.WalkLemmas.{begins_whole, whole_nodes}

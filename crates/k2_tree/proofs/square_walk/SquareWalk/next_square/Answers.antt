@@ -1,4 +1,3 @@
-use Rattle.std.proofs.Common.{rules}
 use Rattle.k2_tree.proofs.OpenLemmas.{length-walk}
 use Rattle.k2_tree.proofs.square_walk.SquareWalk.next_square.Goals as goal
 

@@ -1,4 +1,4 @@
-use Rattle.std.proofs.Common.{◌≡◌, ◌+◌, ◌++◌, true, length, sym, ap, ◌∙◌, arith, subst}
+use Rattle.std.proofs.Common.{◌≡◌, ◌+◌, ◌++◌, true, length, sym, ap, ◌∙◌, subst}
 use Rattle.std.specs.Option.{is_none}
 use Rattle.k2_tree.specs.Pruning.{child_nodes}
 use Rattle.k2_tree.specs.SquareWalk.{IsWalk, WalkView, found_nodes, open_nodes}

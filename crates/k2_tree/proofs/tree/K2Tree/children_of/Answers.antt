@@ -1,4 +1,4 @@
-use Rattle.std.proofs.Common.{◌≡◌, ◌+◌, ◌*◌, ◌<◌, ◌≤◌, length, map, arith, ap, sym, ◌∙◌, subst}
+use Rattle.std.proofs.Common.{◌≡◌, ◌+◌, ◌*◌, map, arith, ap, sym, ◌∙◌, subst}
 use Rattle.packed_bits.specs.Bits.{window_of}
 use Rattle.packed_bits.proofs.NumberLemmas.{window_of-lt}
 use Rattle.bit_rank.specs.Bits.{rank_of}
@@ -8,10 +8,8 @@ use Rattle.k2_tree.specs.TreeSquares.{child_at, node_of, number_of, squares_of, 
 use Rattle.k2_tree.specs.Digits.{digits_of}
 use Rattle.k2_tree.specs.Pending.{nodes_of, StandsAt}
 use Rattle.k2_tree.specs.Pruning.{child_nodes}
-use Rattle.k2_tree.specs.declared.pending.Pending.{Pending}
 use Rattle.k2_tree.proofs.StoredLemmas.{child_inside}
 use Rattle.k2_tree.proofs.ChildrenLemmas.{group_nodes, group_stands, length-digits_of}
-use Rattle.k2_tree.proofs.tree.K2Tree.children_of.Given as given
 use Rattle.k2_tree.proofs.tree.K2Tree.children_of.Goals as goal
 
 pub overflow_mul-place : goal.overflow_mul-place

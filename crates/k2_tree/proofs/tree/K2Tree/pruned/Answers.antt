@@ -1,6 +1,6 @@
-use Rattle.std.proofs.Common.{◌≡◌, ◌*◌, ap, ◌∙◌}
+use Rattle.std.proofs.Common.{ap, ◌∙◌}
 use Rattle.k2_tree.specs.Pruned.{walk_budget, walk_left}
-use Rattle.k2_tree.specs.Pruning.{kept_leaves, square_count, wanted_of}
+use Rattle.k2_tree.specs.Pruning.{wanted_of}
 use Rattle.k2_tree.specs.SquareWalk.{WalkView}
 use Rattle.k2_tree.proofs.KeptLemmas.{kept_leaves-wanted}
 use Rattle.k2_tree.proofs.PrunedTreeLemmas.{budget_whole, left_whole}

@@ -1,4 +1,4 @@
-use Rattle.std.proofs.Common.{◌≡◌, [], arith, ap, sym, ◌∙◌, subst, map}
+use Rattle.std.proofs.Common.{◌≡◌, [], arith, ap, subst, map}
 use Rattle.k2_tree.specs.Morton.{cell_of}
 use Rattle.k2_tree.specs.Tree.{Tree, IsTree}
 use Rattle.k2_tree.proofs.CellLemmas.{IsTree-stored}
