@@ -16,7 +16,8 @@ same_bounds x1 y1 x2 y2 w v h g =
 pub same_box : (a b : CellBox) → a.x1 ≡ b.x1 → a.y1 ≡ b.y1 → a.x2 ≡ b.x2 → a.y2 ≡ b.y2 → a ≡ b
 same_box a b x1 y1 x2 y2 = by_bounds b.x1 b.y1 b.x2 b.y2 x1 y1 x2 y2 b.wide b.high
   where
-    by_bounds : (p q r s : ℤ) → a.x1 ≡ p → a.y1 ≡ q → a.x2 ≡ r → a.y2 ≡ s → (v : p ≤ℤ r) (g : q ≤ℤ s) → a ≡ box p q r s v g
+    by_bounds : (p q r s : ℤ) → a.x1 ≡ p → a.y1 ≡ q → a.x2 ≡ r → a.y2 ≡ s → (v : p ≤ℤ r) (g : q ≤ℤ s)
+        → a ≡ box p q r s v g
     by_bounds p q r s e f k m =
         subst (λ p. (v : p ≤ℤ r) (g : q ≤ℤ s) → a ≡ box p q r s v g) e
         (subst (λ q. (v : a.x1 ≤ℤ r) (g : q ≤ℤ s) → a ≡ box a.x1 q r s v g) f

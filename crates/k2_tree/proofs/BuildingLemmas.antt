@@ -1,5 +1,7 @@
 -- A level's bits, number by number.
-use Rattle.std.proofs.Common.{◌≡◌, ℕ, zero, suc, ◌+◌, ◌-◌, ◌*◌, ◌/◌, ◌%◌, ◌^◌, ◌<◌, ◌≤◌, Bool, true, List, [], ◌∷◌, ◌++◌, length, map, take, get_or, refl, sym, ap, ◌∙◌, inl, inr, arith, subst, length-append, append_assoc, append-nil}
+use Rattle.std.proofs.Common.{◌≡◌, ℕ, zero, suc, ◌+◌, ◌-◌, ◌*◌, ◌/◌, ◌%◌, ◌^◌, ◌<◌, ◌≤◌, Bool, true}
+use Rattle.std.proofs.Common.{List, [], ◌∷◌, ◌++◌, length, map, take, get_or, length-append, append_assoc, append-nil}
+use Rattle.std.proofs.Common.{refl, sym, ap, ◌∙◌, inl, inr, arith, subst}
 use Rattle.std.proofs.Math.ListN.{set}
 use Rattle.std.proofs.Math.Seq.{take-suc}
 use Rattle.std.proofs.lemmas.List.{set-append_right}
@@ -41,7 +43,8 @@ grown n (suc j) (x ∷ rest) within up =
           rw same.1 (append-nil (level_bits n (x ∷ take j rest)) ∙ grown_same n c x (take j rest) e)
       | inr differ ↦
           rw differ.1 (grown_new n c x (take j rest) up
-          (λ e. differ.0 (ap (λ k. before / k) p ∙ ap (λ z. z / 4 ^ suc n) (sym last) ∙ sym e ∙ ap (λ k. c / k) (sym p))))
+          (λ e. differ.0 (ap (λ k. before / k) p ∙ ap (λ z. z / 4 ^ suc n) (sym last) ∙ sym e
+          ∙ ap (λ k. c / k) (sym p))))
     ]
 
 -- one number more
@@ -59,8 +62,10 @@ level_step n i codes front old up within is =
     let up' : Rises 0 (xs ++ c ∷ []) = subst (Rises 0) snoc (Rises-take 0 (suc i) codes up) in
     let more = level_more n c xs level up' (grown n i codes within up') in
     let enough : 4 ≤ length level = more.0 in
-    let whole : old ++ room codes i n ≡ front ++ level = ap (λ bs. bs ++ room codes i n) is ∙ append_assoc front (level_bits n xs) (room codes i n) in
-    let long : length (old ++ room codes i n) ≡ length front + length level = ap length whole ∙ length-append front level in
+    let whole : old ++ room codes i n ≡ front ++ level =
+    ap (λ bs. bs ++ room codes i n) is ∙ append_assoc front (level_bits n xs) (room codes i n) in
+    let long : length (old ++ room codes i n) ≡ length front + length level =
+    ap length whole ∙ length-append front level in
     let digit : c / 2 ^ (2 * n) % 4 ≡ c / 4 ^ n % 4 = ap (λ k. c / k % 4) (two_bits n) in
     let k : ℕ = length (old ++ room codes i n) - 4 + c / 2 ^ (2 * n) % 4 in
     let place : k - length front ≡ length level - 4 + c / 4 ^ n % 4 = omega arith in
@@ -79,8 +84,9 @@ unfolding level_bits prefixes longer
 level_bits-none n = refl
 
 -- one level more
-pub levels_step : (level : ℕ) (codes : List ℕ) (bits done all : List Bool) → 0 < level → bits ++ morton_bits level codes ≡ all
-    → done ≡ bits ++ level_bits (level - 1) codes → done ++ morton_bits (level - 1) codes ≡ all
+pub levels_step : (level : ℕ) (codes : List ℕ) (bits done all : List Bool) → 0 < level
+    → bits ++ morton_bits level codes ≡ all → done ≡ bits ++ level_bits (level - 1) codes
+    → done ++ morton_bits (level - 1) codes ≡ all
 unfolding morton_bits
 levels_step zero codes bits done all some is made = absurd (omega arith)
 levels_step (suc n) codes bits done all some is made =
@@ -90,7 +96,8 @@ levels_step (suc n) codes bits done all some is made =
     ∙ append_assoc bits (level_bits n codes) (morton_bits n codes) ∙ is
 
 -- after the last level
-pub levels_end : (level : ℕ) (codes : List ℕ) (bits all : List Bool) → level ≡ 0 → bits ++ morton_bits level codes ≡ all → bits ≡ all
+pub levels_end : (level : ℕ) (codes : List ℕ) (bits all : List Bool) → level ≡ 0
+    → bits ++ morton_bits level codes ≡ all → bits ≡ all
 unfolding morton_bits
 levels_end zero codes bits all last is = sym (append-nil bits) ∙ is
 levels_end (suc n) codes bits all last is = absurd (omega arith)

@@ -1,5 +1,6 @@
 -- A tree that was built stands for the cells that it was built from.
-use Rattle.std.proofs.Common.{◌≡◌, ℕ, zero, suc, ◌*◌, ◌/◌, ◌^◌, ◌<◌, ◌≤◌, Bool, List, [], ◌∷◌, length, map, take, sym, ap, ◌∙◌, inl, inr, arith, subst, All, length-append, get_or}
+use Rattle.std.proofs.Common.{◌≡◌, ℕ, zero, suc, ◌*◌, ◌/◌, ◌^◌, ◌<◌, ◌≤◌, Bool, List, [], ◌∷◌, length, map, take}
+use Rattle.std.proofs.Common.{sym, ap, ◌∙◌, inl, inr, arith, subst, All, length-append, get_or}
 use Rattle.std.proofs.Math.Nat.{mul-le-mul_left}
 use Rattle.std.proofs.lemmas.List.{length-map}
 use Rattle.std.proofs.lemmas.List.Elements.{All-map}
@@ -44,7 +45,12 @@ unfolding morton_bits
 length-morton_bits zero codes = omega arith
 length-morton_bits (suc n) codes =
     let rest = length-morton_bits n codes in
-    omega (arith, length-append (level_bits n codes) (morton_bits n codes), length-level_bits n codes, length-prefixes (suc n) codes)
+    omega (
+      arith,
+      length-append (level_bits n codes) (morton_bits n codes),
+      length-level_bits n codes,
+      length-prefixes (suc n) codes,
+    )
 
 -- there are few bits
 pub few_bits : (n : ℕ) (codes : List ℕ) → n ≤ 20 → length codes ≤ 2 ^ 16 → length (morton_bits n codes) ≤ 2 ^ 31
@@ -53,16 +59,19 @@ few_bits n codes low few =
     omega (arith, length-morton_bits n codes)
 
 -- the numbers of cells of the grid
-pub codes_of_cells : (height : ℕ) (base : Cell) (cells : List Cell) → IsStrictlyIncreasing (map (morton_of height base) cells)
-    → AreCodes height (map (morton_of height base) cells)
+pub codes_of_cells : (height : ℕ) (base : Cell) (cells : List Cell)
+    → IsStrictlyIncreasing (map (morton_of height base) cells) → AreCodes height (map (morton_of height base) cells)
 codes_of_cells height base cells up = record {
   rising = rises (map (morton_of height base) cells) up;
-  small = All-map (λ code. code < 4 ^ height) (morton_of height base) cells (λ k d h. morton_of-lt height base (get_or cells k d));
+  small =
+      All-map (λ code. code < 4 ^ height) (morton_of height base) cells
+      (λ k d h. morton_of-lt height base (get_or cells k d));
 }
 
 -- what was packed is stored
-pub built : (height : ℕ) (base : Cell) (cells : List Cell) (bits : List Bool) → IsGrid height base → length cells ≤ 2 ^ 16
-    → All (IsInGrid height base) cells → IsStrictlyIncreasing (map (morton_of height base) cells)
+pub built : (height : ℕ) (base : Cell) (cells : List Cell) (bits : List Bool) → IsGrid height base
+    → length cells ≤ 2 ^ 16 → All (IsInGrid height base) cells
+    → IsStrictlyIncreasing (map (morton_of height base) cells)
     → bits ≡ morton_bits height (map (morton_of height base) cells)
     → (IsStored height base bits) × (tree_of height base bits ≡ tree_with height base cells)
 built height base cells bits grid few inside up is =
@@ -70,8 +79,10 @@ built height base cells bits grid few inside up is =
     let are : AreCodes height codes = codes_of_cells height base cells up in
     let long : length codes ≡ length cells = length-map cells (morton_of height base) in
     let low : height ≤ 20 = grid.limit in
-    let tree : AreTreeBits height (morton_bits height codes) = AreTreeBits-morton_bits height codes grid.some are (few_bits height codes low (omega arith)) in
-    let told : codes_in height bits ≡ codes = ap (codes_in height) is ∙ codes_in-morton_bits height codes grid.some are in (
+    let tree : AreTreeBits height (morton_bits height codes) =
+    AreTreeBits-morton_bits height codes grid.some are (few_bits height codes low (omega arith)) in
+    let told : codes_in height bits ≡ codes =
+    ap (codes_in height) is ∙ codes_in-morton_bits height codes grid.some are in (
       record { grid = grid; tree = subst (AreTreeBits height) (sym is) tree },
       ap (tree_with height base) (ap (map (cell_of height base)) told ∙ cells_back height base cells inside),
     )
@@ -80,12 +91,15 @@ built height base cells bits grid few inside up is =
 pub given_back : (height : ℕ) (base : Cell) (bits : List Bool) → IsStored height base bits
     → bits ≡ morton_bits height (codes_of (tree_of height base bits))
 given_back height base bits stored =
-    stored.tree.exact ∙ ap (morton_bits height) (sym (codes_back height base (codes_in height bits) stored.tree.codes.small))
+    stored.tree.exact
+    ∙ ap (morton_bits height) (sym (codes_back height base (codes_in height bits) stored.tree.codes.small))
 
 -- the steps of building: numbers, bits, words
-pub stored : (height : ℕ) (base : Cell) (cells : List Cell) (codes seen words : List ℕ) (bits shown held : List Bool) (len : ℕ)
-    → codes ≡ map (morton_of height base) cells → seen ≡ codes → bits ≡ morton_bits height seen → shown ≡ bits → words ≡ packed shown
-    → len ≡ length bits → held ≡ take len (bits_of words) → held ≡ morton_bits height (map (morton_of height base) cells)
+pub stored : (height : ℕ) (base : Cell) (cells : List Cell) (codes seen words : List ℕ)
+    (bits shown held : List Bool) (len : ℕ)
+    → codes ≡ map (morton_of height base) cells → seen ≡ codes → bits ≡ morton_bits height seen → shown ≡ bits
+    → words ≡ packed shown → len ≡ length bits → held ≡ take len (bits_of words)
+    → held ≡ morton_bits height (map (morton_of height base) cells)
 stored height base cells codes seen words bits shown held len a b d e f g h =
     let same : shown ≡ bits = e in
     h ∙ ap (λ n. take n (bits_of words)) g ∙ ap (λ ws. take (length bits) (bits_of ws)) (f ∙ ap packed e)

@@ -1,5 +1,6 @@
 -- A tree's cells and their Morton numbers.
-use Rattle.std.proofs.Common.{◌≡◌, ℕ, suc, ◌+◌, ◌/◌, ◌^◌, ◌<◌, Bool, true, false, List, [], ◌∷◌, length, map, get_or, refl, sym, ap, ◌∙◌, arith, subst, Option, None, Some, All, MatchOption}
+use Rattle.std.proofs.Common.{◌≡◌, ℕ, suc, ◌+◌, ◌/◌, ◌^◌, ◌<◌, Bool, true, false, List, [], ◌∷◌, length, map, get_or}
+use Rattle.std.proofs.Common.{refl, sym, ap, ◌∙◌, arith, subst, Option, None, Some, All, MatchOption}
 use Rattle.std.specs.Prelude.{slice_get, Contains}
 use Rattle.std.proofs.lemmas.List.{length-map, get_or-map}
 use Rattle.std.proofs.lemmas.List.Elements.{All-map}
@@ -18,7 +19,8 @@ pub codes_back : (height : ℕ) (base : Cell) (codes : List ℕ) → All (λ cod
     → map (morton_of height base) (map (cell_of height base) codes) ≡ codes
 codes_back height base [] small = refl
 codes_back height base (c ∷ cs) small =
-    ap (λ x. x ∷ map (morton_of height base) (map (cell_of height base) cs)) (morton_of-cell_of height base c (small 0 c (omega arith)))
+    ap (λ x. x ∷ map (morton_of height base) (map (cell_of height base) cs))
+    (morton_of-cell_of height base c (small 0 c (omega arith)))
     ∙ ap (λ xs. c ∷ xs) (codes_back height base cs (λ k d h. small (suc k) d (omega arith)))
 
 -- the cells of the numbers of cells are these cells
@@ -26,16 +28,20 @@ pub cells_back : (height : ℕ) (base : Cell) (cells : List Cell) → All (IsInG
     → map (cell_of height base) (map (morton_of height base) cells) ≡ cells
 cells_back height base [] inside = refl
 cells_back height base (c ∷ cs) inside =
-    ap (λ x. x ∷ map (cell_of height base) (map (morton_of height base) cs)) (cell_of-morton_of height base c (inside 0 c (omega arith)))
+    ap (λ x. x ∷ map (cell_of height base) (map (morton_of height base) cs))
+    (cell_of-morton_of height base c (inside 0 c (omega arith)))
     ∙ ap (λ xs. c ∷ xs) (cells_back height base cs (λ k d h. inside (suc k) d (omega arith)))
 
 -- what is stored is a tree
-pub IsTree-stored : (height : ℕ) (base : Cell) (bits : List Bool) → IsStored height base bits → IsTree (tree_of height base bits)
+pub IsTree-stored : (height : ℕ) (base : Cell) (bits : List Bool) → IsStored height base bits
+    → IsTree (tree_of height base bits)
 IsTree-stored height base bits stored =
     let back = codes_back height base (codes_in height bits) stored.tree.codes.small in
     record {
       grid = stored.grid;
-      inside = All-map (IsInGrid height base) (cell_of height base) (codes_in height bits) (λ k d h. cell_of-inside height base (get_or (codes_in height bits) k d));
+      inside =
+          All-map (IsInGrid height base) (cell_of height base) (codes_in height bits)
+          (λ k d h. cell_of-inside height base (get_or (codes_in height bits) k d));
       codes = subst (AreCodes height) (sym back) stored.tree.codes;
     }
 
@@ -71,14 +77,24 @@ outside_cell height base cell codes outside (k, within, stands) =
 pub no_cell : (height : ℕ) (base cell : Cell) (bits : List Bool) → length bits ≡ 0
     → Contains (map (cell_of height base) (codes_in height bits)) cell → ⊥
 no_cell height base cell bits none (k, within, stands) =
-    omega (arith, within, length-map (codes_in height bits) (cell_of height base), ap length (codes_in-none height bits none))
+    omega (
+      arith,
+      within,
+      length-map (codes_in height bits) (cell_of height base),
+      ap length (codes_in-none height bits none),
+    )
 
 -- what is told of a cell's number is told of the cell
-pub told : (height : ℕ) (base cell : Cell) (bits : List Bool) (leaf : Option ℕ) → IsStored height base bits → IsInGrid height base cell
-    → MatchOption leaf (is_in (codes_in height bits) (morton_of height base cell) ≡ false) (λ l. slice_get (codes_in height bits) l ≡ Some (morton_of height base cell))
-    → MatchOption leaf (Contains (map (cell_of height base) (codes_in height bits)) cell → ⊥) (λ l. slice_get (map (cell_of height base) (codes_in height bits)) l ≡ Some cell)
-told height base cell bits None stored inside is = absent_cell height base cell (codes_in height bits) stored.tree.codes.small is
-told height base cell bits (Some leaf) stored inside is = found_cell height base cell (codes_in height bits) leaf inside is
+pub told : (height : ℕ) (base cell : Cell) (bits : List Bool) (leaf : Option ℕ) → IsStored height base bits
+    → IsInGrid height base cell
+    → MatchOption leaf (is_in (codes_in height bits) (morton_of height base cell) ≡ false)
+    (λ l. slice_get (codes_in height bits) l ≡ Some (morton_of height base cell))
+    → MatchOption leaf (Contains (map (cell_of height base) (codes_in height bits)) cell → ⊥)
+    (λ l. slice_get (map (cell_of height base) (codes_in height bits)) l ≡ Some cell)
+told height base cell bits None stored inside is =
+    absent_cell height base cell (codes_in height bits) stored.tree.codes.small is
+told height base cell bits (Some leaf) stored inside is =
+    found_cell height base cell (codes_in height bits) leaf inside is
 
 -- how many cells the bits tell
 pub leaf_count : (height : ℕ) (base : Cell) (bits : List Bool) → IsStored height base bits → 0 < length bits

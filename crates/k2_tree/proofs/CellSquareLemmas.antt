@@ -1,5 +1,6 @@
 -- Squares that are cells, and the leaves that they are.
-use Rattle.std.proofs.Common.{◌≡◌, ℕ, ◌-◌, ◌*◌, ◌/◌, ◌^◌, ◌<◌, ◌≤◌, ℤ, pos, ◌+ℤ◌, Bool, List, length, map, get_or, sym, ap, ◌∙◌, arith, subst, Some}
+use Rattle.std.proofs.Common.{◌≡◌, ℕ, ◌-◌, ◌*◌, ◌/◌, ◌^◌, ◌<◌, ◌≤◌, ℤ, pos, ◌+ℤ◌, Bool, List, length, map, get_or}
+use Rattle.std.proofs.Common.{sym, ap, ◌∙◌, arith, subst, Some}
 use Rattle.std.proofs.lemmas.Option.{slice_get-get_or, slice_get-map}
 use Rattle.std.specs.Prelude.{slice_get}
 use Rattle.std.specs.Option.{option_map}
@@ -25,7 +26,8 @@ pub cell_from_area : (height : ℕ) (base : Cell) (code : ℕ) → height ≤ MA
     → made (area_at base (node 0 code)).x1 (area_at base (node 0 code)).y1 ≡ cell_of height base code
 unfolding cell_of
 cell_from_area height base code low small =
-    let column : column_of MAX_HEIGHT code * 1 ≡ column_of height code = omega (arith, column_of-highest height code low small) in
+    let column : column_of MAX_HEIGHT code * 1 ≡ column_of height code =
+    omega (arith, column_of-highest height code low small) in
     let row : row_of MAX_HEIGHT code * 1 ≡ row_of height code = omega (arith, row_of-highest height code low small) in
     ap (λ k. made (base.x +ℤ pos k) (base.y +ℤ pos (row_of MAX_HEIGHT code * 1))) column
     ∙ ap (λ k. made (base.x +ℤ pos (column_of height code)) (base.y +ℤ pos k)) row
@@ -43,7 +45,8 @@ leaf_at height base bits s stored of leaf =
     let square : IsSquare height codes 0 (prefix_of s) (number_of s) =
     subst (λ n. IsSquare height codes n (prefix_of s) (number_of s)) leaf (square_in height base bits s stored of) in
     let all : prefixes 0 codes ≡ codes = prefixes-zero codes stored.tree.codes.rising in
-    let levels : squares_above square.above 0 codes ≡ squares_above height 0 codes = ap (λ k. squares_above k 0 codes) (omega (arith, square.high)) in
+    let levels : squares_above square.above 0 codes ≡ squares_above height 0 codes =
+    ap (λ k. squares_above k 0 codes) (omega (arith, square.high)) in
     let few = inner height bits stored.tree in
     let place : number_of s - length bits / 4 ≡ square.place = omega (arith, square.counted) in
     record {
@@ -60,7 +63,8 @@ leaf_cell height base bits s stored of leaf =
     let codes : List ℕ = codes_in height bits in
     let at = leaf_at height base bits s stored of leaf in
     let place : ℕ = number_of s - length bits / 4 in
-    let small : prefix_of s < 4 ^ height = subst (λ c. c < 4 ^ height) at.here (stored.tree.codes.small place 0 at.within) in
+    let small : prefix_of s < 4 ^ height =
+    subst (λ c. c < 4 ^ height) at.here (stored.tree.codes.small place 0 at.within) in
     let corner : corner_of s ≡ cell_of height base (prefix_of s) =
     ap (λ n. made (area_at s.base (node n (prefix_of s))).x1 (area_at s.base (node n (prefix_of s))).y1) leaf
     ∙ ap (λ b. made (area_at b (node 0 (prefix_of s))).x1 (area_at b (node 0 (prefix_of s))).y1) of.base

@@ -24,7 +24,8 @@ interleaved-child n row column digit level small some right upper =
     let left : column < 2 ^ n = before-half n column level some right in
     spread n ∙ ap (λ code. 4 * code + digit) (sym (interleaved-more n row column low left))
   where
-    spread : (n : ℕ) → interleaved (suc n) (2 * row + digit / 2) (2 * column + digit % 2) ≡ 4 * interleaved n row column + digit
+    spread : (n : ℕ)
+        → interleaved (suc n) (2 * row + digit / 2) (2 * column + digit % 2) ≡ 4 * interleaved n row column + digit
     spread n =
         let a : (2 * row + digit / 2) / 2 ≡ row = omega arith in
         let b : (2 * column + digit % 2) / 2 ≡ column = omega arith in

@@ -1,6 +1,6 @@
 -- A square's four bits: the children that they tell, and where these stand.
-use Rattle.std.proofs.Common.{◌≡◌, ℕ, zero, suc, ◌+◌, ◌-◌, ◌*◌, ◌<◌, ◌≤◌, ◌==◌, Bool, true, false, List, [], ◌∷◌, length, map, filter, get_or}
-use Rattle.std.proofs.Common.{refl, sym, ap, ◌∙◌, arith, subst, cond}
+use Rattle.std.proofs.Common.{◌≡◌, ℕ, zero, suc, ◌+◌, ◌-◌, ◌*◌, ◌<◌, ◌≤◌, ◌==◌, Bool, true, false, cond}
+use Rattle.std.proofs.Common.{List, [], ◌∷◌, length, map, filter, get_or, refl, sym, ap, ◌∙◌, arith, subst}
 use Rattle.std.proofs.lemmas.Option.{get_or_from_slice_get}
 use Rattle.std.specs.List.{range_with_len}
 use Rattle.std.specs.Int.{bit_at}
@@ -52,7 +52,8 @@ kept_alike f g m p q same (suc k) d agree = by_kept (p d) refl
         → map g (filter p (range_with_len d (suc k))) ≡ map (node m) (filter q (map f (range_with_len d (suc k))))
     by_kept true e rest =
         let here : q (f d) ≡ true = sym (agree d (omega arith) (omega arith)) ∙ e in
-        rw (e, here) (ap (λ n. n ∷ map g (filter p (range_with_len (d + 1) k))) (same d) ∙ ap (λ ns. node m (f d) ∷ ns) rest)
+        rw (e, here)
+        (ap (λ n. n ∷ map g (filter p (range_with_len (d + 1) k))) (same d) ∙ ap (λ ns. node m (f d) ∷ ns) rest)
     by_kept false e rest =
         let here : q (f d) ≡ false = sym (agree d (omega arith) (omega arith)) ∙ e in
         rw (e, here) rest
@@ -60,7 +61,8 @@ kept_alike f g m p q same (suc k) d agree = by_kept (p d) refl
 -- the digits of a square's four bits are those of its children that hold a cell
 pub group_nodes : (height : ℕ) (base : Cell) (bits : List Bool) (s : Square) → IsStored height base bits
     → IsSquareOf (tree_of height base bits) s → 1 ≤ level_of s
-    → map (child_at (node_of s)) (digits_of (window_of bits (4 * number_of s) 4)) ≡ child_nodes (tree_of height base bits) (node_of s)
+    → map (child_at (node_of s)) (digits_of (window_of bits (4 * number_of s) 4))
+    ≡ child_nodes (tree_of height base bits) (node_of s)
 unfolding digits_of children longer
 group_nodes height base bits s stored of some =
     let tree : Tree = tree_of height base bits in
@@ -68,12 +70,13 @@ group_nodes height base bits s stored of some =
     let q : ℕ = prefix_of s in
     let m : ℕ = level_of s - 1 in
     let first : 4 * q + 0 ≡ 4 * q = omega arith in
-    kept_alike (λ d. 4 * q + d) (child_at (node_of s)) m (λ d. bit_at (window_of bits p 4) d == 1) (is_in (prefixes m (codes_of tree)))
-    (λ d. refl) 4 0
+    kept_alike (λ d. 4 * q + d) (child_at (node_of s)) m (λ d. bit_at (window_of bits p 4) d == 1)
+    (is_in (prefixes m (codes_of tree))) (λ d. refl) 4 0
     (λ d low high.
     let inside : p + d < length bits = child_inside height base bits s d stored of some (omega arith) in
     window_bit bits p d 4 (omega arith) inside ∙ sym (child_told height base bits s d stored of some (omega arith)))
-    ∙ ap (λ z. map (node m) (filter (is_in (prefixes m (codes_of tree))) (z ∷ (4 * q + 1) ∷ (4 * q + 2) ∷ (4 * q + 3) ∷ []))) first
+    ∙ ap (λ z. map (node m) (filter (is_in (prefixes m (codes_of tree)))
+    (z ∷ (4 * q + 1) ∷ (4 * q + 2) ∷ (4 * q + 3) ∷ []))) first
 
 -- they stand one behind another from the rank of the group on
 pub group_stands : (height : ℕ) (base : Cell) (bits : List Bool) (s : Square) → IsStored height base bits
@@ -83,45 +86,49 @@ pub group_stands : (height : ℕ) (base : Cell) (bits : List Bool) (s : Square) 
 unfolding digits_of
 group_stands height base bits s stored of some =
     let none : 4 * number_of s + 0 ≡ 4 * number_of s = omega arith in
-    subst (λ p. StandsAt (squares_of (tree_of height base bits)) (rank_of bits p + 1) (map (child_at (node_of s)) (filter test (range_with_len 0 4)))) none
-    (from 4 0 (omega arith))
+    subst (λ p. StandsAt squares (rank_of bits p + 1) (told_from 0 4)) none (from 4 0 (omega arith))
   where
+    squares : List Node
+    squares = squares_of (tree_of height base bits)
+
     test : ℕ → Bool
     test d = bit_at (window_of bits (4 * number_of s) 4) d == 1
 
-    from : (k d : ℕ) → d + k ≡ 4
-        → StandsAt (squares_of (tree_of height base bits)) (rank_of bits (4 * number_of s + d) + 1) (map (child_at (node_of s)) (filter test (range_with_len d k)))
+    told_from : ℕ → ℕ → List Node
+    told_from d k = map (child_at (node_of s)) (filter test (range_with_len d k))
+
+    rank_at : ℕ → ℕ
+    rank_at d = rank_of bits (4 * number_of s + d)
+
+    bit : ℕ → Bool
+    bit d = get_or bits (4 * number_of s + d) false
+
+    from : (k d : ℕ) → d + k ≡ 4 → StandsAt squares (rank_at d + 1) (told_from d k)
     from zero d end = tt
     from (suc k) d end =
         let p : ℕ = 4 * number_of s + d in
         let inside : p < length bits = child_inside height base bits s d stored of some (omega arith) in
-        let told : test d ≡ get_or bits p false = window_bit bits (4 * number_of s) d 4 (omega arith) inside in
-        by_bit (get_or bits p false) refl told inside (from k (d + 1) (omega arith))
+        let told : test d ≡ bit d = window_bit bits (4 * number_of s) d 4 (omega arith) inside in
+        by_bit (bit d) refl told inside (from k (d + 1) (omega arith))
       where
-        step : 4 * number_of s + d < length bits
-            → rank_of bits (4 * number_of s + (d + 1)) ≡ rank_of bits (4 * number_of s + d) + cond (get_or bits (4 * number_of s + d) false) 1 0
+        step : 4 * number_of s + d < length bits → rank_at (d + 1) ≡ rank_at d + cond (bit d) 1 0
         step inside =
             let place : 4 * number_of s + (d + 1) ≡ 4 * number_of s + d + 1 = omega arith in
             ap (rank_of bits) place ∙ rank_of-step bits (4 * number_of s + d) inside
 
-        next_one : get_or bits (4 * number_of s + d) false ≡ true → 4 * number_of s + d < length bits
-            → rank_of bits (4 * number_of s + (d + 1)) + 1 ≡ suc (rank_of bits (4 * number_of s + d) + 1)
-        next_one e inside =
-            let more = step inside ∙ ap (λ z. rank_of bits (4 * number_of s + d) + cond z 1 0) e in omega (arith, more)
+        next_one : bit d ≡ true → 4 * number_of s + d < length bits → rank_at (d + 1) + 1 ≡ suc (rank_at d + 1)
+        next_one e inside = let more = step inside ∙ ap (λ z. rank_at d + cond z 1 0) e in omega (arith, more)
 
-        next_same : get_or bits (4 * number_of s + d) false ≡ false → 4 * number_of s + d < length bits
-            → rank_of bits (4 * number_of s + (d + 1)) + 1 ≡ rank_of bits (4 * number_of s + d) + 1
-        next_same e inside =
-            let more = step inside ∙ ap (λ z. rank_of bits (4 * number_of s + d) + cond z 1 0) e in omega (arith, more)
+        next_same : bit d ≡ false → 4 * number_of s + d < length bits → rank_at (d + 1) + 1 ≡ rank_at d + 1
+        next_same e inside = let more = step inside ∙ ap (λ z. rank_at d + cond z 1 0) e in omega (arith, more)
 
-        by_bit : (b : Bool) → get_or bits (4 * number_of s + d) false ≡ b → test d ≡ get_or bits (4 * number_of s + d) false
-            → 4 * number_of s + d < length bits
-            → StandsAt (squares_of (tree_of height base bits)) (rank_of bits (4 * number_of s + (d + 1)) + 1) (map (child_at (node_of s)) (filter test (range_with_len (d + 1) k)))
-            → StandsAt (squares_of (tree_of height base bits)) (rank_of bits (4 * number_of s + d) + 1) (map (child_at (node_of s)) (filter test (range_with_len d (suc k))))
+        by_bit : (b : Bool) → bit d ≡ b → test d ≡ bit d → 4 * number_of s + d < length bits
+            → StandsAt squares (rank_at (d + 1) + 1) (told_from (d + 1) k)
+            → StandsAt squares (rank_at d + 1) (told_from d (suc k))
         by_bit true e told inside rest =
             let here : test d ≡ true = told ∙ e in
             let child = child_stands height base bits s d stored of some (omega arith) e in
-            rw here (child, subst (λ r. StandsAt (squares_of (tree_of height base bits)) r (map (child_at (node_of s)) (filter test (range_with_len (d + 1) k)))) (next_one e inside) rest)
+            rw here (child, subst (λ r. StandsAt squares r (told_from (d + 1) k)) (next_one e inside) rest)
         by_bit false e told inside rest =
             let here : test d ≡ false = told ∙ e in
-            rw here (subst (λ r. StandsAt (squares_of (tree_of height base bits)) r (map (child_at (node_of s)) (filter test (range_with_len (d + 1) k)))) (next_same e inside) rest)
+            rw here (subst (λ r. StandsAt squares r (told_from (d + 1) k)) (next_same e inside) rest)

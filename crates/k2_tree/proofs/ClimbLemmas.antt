@@ -1,5 +1,6 @@
 -- From a leaf up to the top.
-use Rattle.std.proofs.Common.{◌≡◌, ℕ, zero, suc, ◌+◌, ◌-◌, ◌*◌, ◌/◌, ◌%◌, ◌^◌, ◌<◌, ◌≤◌, Bool, true, false, List, [], ◌∷◌, length, get_or, refl, sym, ap, ◌∙◌, inl, inr, arith, subst, Some, lit<, cond}
+use Rattle.std.proofs.Common.{◌≡◌, ℕ, zero, suc, ◌+◌, ◌-◌, ◌*◌, ◌/◌, ◌%◌, ◌^◌, ◌<◌, ◌≤◌, Bool, true, false, cond}
+use Rattle.std.proofs.Common.{List, [], ◌∷◌, length, get_or, refl, sym, ap, ◌∙◌, inl, inr, arith, subst, Some, lit<}
 use Rattle.std.proofs.Math.Nat.{pow-suc, pow-le-pow_right}
 use Rattle.std.proofs.lemmas.Option.{slice_get-get_or, slice_get_within, get_or_from_slice_get}
 use Rattle.std.proofs.lemmas.Bool.{cases_lt}
@@ -26,23 +27,32 @@ place_in (x ∷ xs) c is = elim (by_test x c) [
   | inr differ ↦ later (place_in xs c (rw differ.1 at is))
 ]
   where
-    later : (i : ℕ) × (i < length xs) × (get_or xs i 0 ≡ c) → (i : ℕ) × (i < length (x ∷ xs)) × (get_or (x ∷ xs) i 0 ≡ c)
+    later : (i : ℕ) × (i < length xs) × (get_or xs i 0 ≡ c)
+        → (i : ℕ) × (i < length (x ∷ xs)) × (get_or (x ∷ xs) i 0 ≡ c)
     later (i, within, here) = (suc i, omega arith, here)
 
 -- in a rising list each number has one place
-pub same_place : (n i j : ℕ) (xs : List ℕ) → Rises n xs → i < length xs → j < length xs → get_or xs i 0 ≡ get_or xs j 0 → i ≡ j
+pub same_place : (n i j : ℕ) (xs : List ℕ) → Rises n xs → i < length xs → j < length xs
+    → get_or xs i 0 ≡ get_or xs j 0 → i ≡ j
 same_place n i j [] up a b same = absurd (omega arith)
 same_place n zero zero (x ∷ xs) up a b same = refl
-same_place n zero (suc j) (x ∷ xs) up a b same = let high = Rises-place (suc x) j xs up.1 (omega arith) in absurd (omega (arith, same, high))
-same_place n (suc i) zero (x ∷ xs) up a b same = let high = Rises-place (suc x) i xs up.1 (omega arith) in absurd (omega (arith, same, high))
-same_place n (suc i) (suc j) (x ∷ xs) up a b same = ap suc (same_place (suc x) i j xs up.1 (omega arith) (omega arith) same)
+same_place n zero (suc j) (x ∷ xs) up a b same =
+    let high = Rises-place (suc x) j xs up.1 (omega arith) in absurd (omega (arith, same, high))
+same_place n (suc i) zero (x ∷ xs) up a b same =
+    let high = Rises-place (suc x) i xs up.1 (omega arith) in absurd (omega (arith, same, high))
+same_place n (suc i) (suc j) (x ∷ xs) up a b same =
+    ap suc (same_place (suc x) i j xs up.1 (omega arith) (omega arith) same)
 
 -- a square has one number
-pub same_number : (height : ℕ) (codes : List ℕ) (n q i j : ℕ) → Rises 0 codes → IsSquare height codes n q i → IsSquare height codes n q j → i ≡ j
+pub same_number : (height : ℕ) (codes : List ℕ) (n q i j : ℕ) → Rises 0 codes → IsSquare height codes n q i
+    → IsSquare height codes n q j → i ≡ j
 same_number height codes n q i j up a b =
     let levels : a.above ≡ b.above = omega (arith, a.high, b.high) in
-    let places : a.place ≡ b.place = same_place 0 a.place b.place (prefixes n codes) (prefixes-rise n codes up) a.within b.within (a.stands ∙ sym b.stands) in
-    let above : squares_above a.above n codes ≡ squares_above b.above n codes = ap (λ k. squares_above k n codes) levels in
+    let places : a.place ≡ b.place =
+    same_place 0 a.place b.place (prefixes n codes) (prefixes-rise n codes up)
+    a.within b.within (a.stands ∙ sym b.stands) in
+    let above : squares_above a.above n codes ≡ squares_above b.above n codes =
+    ap (λ k. squares_above k n codes) levels in
     omega (arith, a.counted, b.counted, above, places)
 
 -- the one of a square's number stands in its parent's bits
@@ -51,10 +61,11 @@ pub record IsBelow (height : ℕ) (codes : List ℕ) (n q j : ℕ) (bits : List 
   pub square : IsSquare height codes (suc n) (q / 4) parent
   pub place : IsSelected bits j (4 * parent + q % 4)
 
-pub parent_square : (height : ℕ) (codes : List ℕ) (n q j : ℕ) (bits : List Bool) → AreCodes height codes → bits ≡ morton_bits height codes
-    → n < height → IsSquare height codes n q j → IsBelow height codes n q j bits
+pub parent_square : (height : ℕ) (codes : List ℕ) (n q j : ℕ) (bits : List Bool) → AreCodes height codes
+    → bits ≡ morton_bits height codes → n < height → IsSquare height codes n q j → IsBelow height codes n q j bits
 parent_square height codes n q j bits are is low square =
-    let here : is_in (prefixes n codes) q ≡ true = by_place (prefixes n codes) square.place q square.within square.stands in
+    let here : is_in (prefixes n codes) q ≡ true =
+    by_place (prefixes n codes) square.place q square.within square.stands in
     let above = place_in (prefixes (suc n) codes) (q / 4) (prefixes-shorter n codes q here) in
     found above here
   where
@@ -64,23 +75,39 @@ parent_square height codes n q j bits are is low square =
         let k : ℕ = square.above - 1 in
         let parent : ℕ = squares_above k (suc n) codes + m in
         let up : IsSquare height codes (suc n) (q / 4) parent =
-        record { above = k; place = m; high = omega (arith, square.high); within = within; stands = stands; counted = refl } in
+        record {
+          above = k;
+          place = m;
+          high = omega (arith, square.high);
+          within = within;
+          stands = stands;
+          counted = refl;
+        } in
         let whole : 4 * (q / 4) + q % 4 ≡ q = omega arith in
-        let there : is_in (prefixes n codes) (4 * (q / 4) + q % 4) ≡ true = ap (is_in (prefixes n codes)) whole ∙ here in
-        let bit : get_or (morton_bits height codes) (4 * parent + q % 4) false ≡ true = child_bit height codes n (q / 4) parent (q % 4) up (omega arith) ∙ there in
-        let child = subst (λ p. IsSquare height codes n p (rank_of (morton_bits height codes) (4 * parent + q % 4) + 1)) whole
+        let there : is_in (prefixes n codes) (4 * (q / 4) + q % 4) ≡ true =
+        ap (is_in (prefixes n codes)) whole ∙ here in
+        let bit : get_or (morton_bits height codes) (4 * parent + q % 4) false ≡ true =
+        child_bit height codes n (q / 4) parent (q % 4) up (omega arith) ∙ there in
+        let child = subst
+        (λ p. IsSquare height codes n p (rank_of (morton_bits height codes) (4 * parent + q % 4) + 1)) whole
         (child_square height codes n (q / 4) parent (q % 4) are up (omega arith) there) in
-        let number : rank_of (morton_bits height codes) (4 * parent + q % 4) + 1 ≡ j = same_number height codes n q (rank_of (morton_bits height codes) (4 * parent + q % 4) + 1) j are.rising child square in
+        let number : rank_of (morton_bits height codes) (4 * parent + q % 4) + 1 ≡ j =
+        same_number height codes n q (rank_of (morton_bits height codes) (4 * parent + q % 4) + 1) j
+        are.rising child square in
         let inside = child_place height codes n (q / 4) parent (q % 4) up (omega arith) in
         record {
           parent = parent;
           square = up;
           place = subst (λ bs. IsSelected bs j (4 * parent + q % 4)) (sym is)
-              (record { one = slice_get-get_or (morton_bits height codes) (4 * parent + q % 4) false inside ∙ ap Some bit; rank = number });
+              (record {
+                one = slice_get-get_or (morton_bits height codes) (4 * parent + q % 4) false inside ∙ ap Some bit;
+                rank = number;
+              });
         }
 
 -- a one that has a place is one of the ones
-pub enough_ones : (bits : List Bool) (j p : ℕ) → p < length bits → get_or bits p false ≡ true → rank_of bits p + 1 ≡ j → j ≤ ones_of bits
+pub enough_ones : (bits : List Bool) (j p : ℕ) → p < length bits → get_or bits p false ≡ true
+    → rank_of bits p + 1 ≡ j → j ≤ ones_of bits
 enough_ones bits j p within on rank =
     let step = rank_of-step bits p within ∙ ap (λ b. rank_of bits p + cond b 1 0) on in
     omega (arith, rank_of-le-ones_of bits (p + 1))
@@ -125,7 +152,8 @@ starts height bits leaf are within =
 
 -- the square's one, and where it stands
 below : (height : ℕ) (bits : List Bool) (leaf level square code weight : ℕ) → AreTreeBits height bits
-    → (climb : IsClimb height bits leaf level square code weight) → level < height → IsBelow height (codes_in height bits) level climb.prefix square bits
+    → (climb : IsClimb height bits leaf level square code weight) → level < height
+    → IsBelow height (codes_in height bits) level climb.prefix square bits
 below height bits leaf level square code weight are climb low =
     parent_square height (codes_in height bits) level climb.prefix square bits are.codes are.exact low climb.here
 
@@ -137,17 +165,22 @@ has_one height bits leaf level square code weight are climb low =
     let p : ℕ = 4 * up.parent + climb.prefix % 4 in
     let one : slice_get bits p ≡ Some true = up.place.one in
     let rank : rank_of bits p + 1 ≡ square = up.place.rank in
-    (omega arith, enough_ones bits square p (slice_get_within bits p true one) (get_or_from_slice_get bits p true false one) rank)
+    let on = get_or_from_slice_get bits p true false one in
+    (omega arith, enough_ones bits square p (slice_get_within bits p true one) on rank)
 
 -- where the one stands tells the parent and the last digit
 pub digit_place : (height : ℕ) (bits : List Bool) (leaf level square code weight place : ℕ) → AreTreeBits height bits
     → (climb : IsClimb height bits leaf level square code weight) → level < height → IsSelected bits square place
-    → (IsSquare height (codes_in height bits) (suc level) (climb.prefix / 4) (place / 4)) × (place % 4 ≡ climb.prefix % 4)
+    → (IsSquare height (codes_in height bits) (suc level) (climb.prefix / 4) (place / 4))
+    × (place % 4 ≡ climb.prefix % 4)
 digit_place height bits leaf level square code weight place are climb low selected =
     let up = below height bits leaf level square code weight are climb low in
-    let same : place ≡ 4 * up.parent + climb.prefix % 4 = same_from_IsSelected bits square place (4 * up.parent + climb.prefix % 4) selected up.place in
-    let parent : up.parent ≡ place / 4 = omega (arith, same) in
-    (subst (λ j. IsSquare height (codes_in height bits) (suc level) (climb.prefix / 4) j) parent up.square, omega (arith, same))
+    let same : place ≡ 4 * up.parent + climb.prefix % 4 =
+    same_from_IsSelected bits square place (4 * up.parent + climb.prefix % 4) selected up.place in
+    let parent : up.parent ≡ place / 4 = omega (arith, same) in (
+      subst (λ j. IsSquare height (codes_in height bits) (suc level) (climb.prefix / 4) j) parent up.square,
+      omega (arith, same),
+    )
 
 -- the number's digits, one more left behind
 pub digits_more : (p w code whole d : ℕ) → p * w + code ≡ whole → d ≡ p % 4
@@ -159,8 +192,8 @@ digits_more p w code whole d is e =
     (rest, omega arith)
 
 -- one level up
-pub climbs : (height : ℕ) (bits : List Bool) (leaf level square code weight place : ℕ) → AreTreeBits height bits → height ≤ 20
-    → leaf < length (codes_in height bits)
+pub climbs : (height : ℕ) (bits : List Bool) (leaf level square code weight place : ℕ) → AreTreeBits height bits
+    → height ≤ 20 → leaf < length (codes_in height bits)
     → IsClimb height bits leaf level square code weight → level < height → IsSelected bits square place
     → (code + place % 4 * weight < 2 ^ 40) × (weight * 4 < 2 ^ 43)
     × IsClimb height bits leaf (level + 1) (place / 4) (code + place % 4 * weight) (weight * 4)
@@ -189,9 +222,11 @@ pub arrives_at_top : (height : ℕ) (bits : List Bool) (leaf level square code w
     → slice_get (codes_in height bits) leaf ≡ Some code
 arrives_at_top height bits leaf level square code weight are within end climb =
     let codes : List ℕ = codes_in height bits in
-    let here : IsSquare height codes height climb.prefix square = subst (λ n. IsSquare height codes n climb.prefix square) end climb.here in
+    let here : IsSquare height codes height climb.prefix square =
+    subst (λ n. IsSquare height codes n climb.prefix square) end climb.here in
     let top : prefixes height codes ≡ 0 ∷ [] = one_top height codes are.codes height (omega (arith, here.within)) in
     let first : here.place ≡ 0 = omega (arith, here.within, ap length top) in
-    let none : climb.prefix ≡ 0 = sym here.stands ∙ ap (λ xs. get_or xs here.place 0) top ∙ ap (λ i. get_or (0 ∷ []) i 0) first in
+    let none : climb.prefix ≡ 0 =
+    sym here.stands ∙ ap (λ xs. get_or xs here.place 0) top ∙ ap (λ i. get_or (0 ∷ []) i 0) first in
     let gone : climb.prefix * weight ≡ 0 = ap (λ z. z * weight) none ∙ omega arith in
     slice_get-get_or codes leaf 0 within ∙ ap Some (omega (arith, climb.digits, gone))

@@ -1,5 +1,6 @@
 -- What a tree's bits tell: the Morton numbers that they were made of.
-use Rattle.std.proofs.Common.{◌≡◌, ℕ, zero, suc, ◌+◌, ◌*◌, ◌/◌, ◌^◌, ◌<◌, ◌≤◌, Bool, true, false, List, [], ◌∷◌, ◌++◌, length, map, filter, drop, refl, sym, ap, ◌∙◌, arith, subst, length-append}
+use Rattle.std.proofs.Common.{◌≡◌, ℕ, zero, suc, ◌+◌, ◌*◌, ◌/◌, ◌^◌, ◌<◌, ◌≤◌, Bool, true, false, List, [], ◌∷◌, ◌++◌}
+use Rattle.std.proofs.Common.{length, map, filter, drop, refl, sym, ap, ◌∙◌, arith, subst, length-append}
 use Rattle.packed_bits.specs.Bits.{ones_of}
 use Rattle.packed_bits.proofs.OnesLemmas.{ones_of-append, ones_of-nil}
 use Rattle.k2_tree.specs.TreeBits.{is_in, prefixes, level_bits, longer, morton_bits, Rises, AreCodes}
@@ -57,7 +58,8 @@ codes_in-morton_bits (suc n) (c ∷ cs) some are =
     let top : prefixes (suc n) (c ∷ cs) ≡ 0 ∷ [] = prefixes-top (suc n) c cs are.small in
     let long : 0 < length (morton_bits (suc n) (c ∷ cs)) = some_bits n (c ∷ cs) top in
     by_bits (morton_bits (suc n) (c ∷ cs)) refl long
-    (ap (λ ps. codes_below (suc n) ps (morton_bits (suc n) (c ∷ cs))) (sym top) ∙ codes_below-morton_bits (suc n) (c ∷ cs) are.rising)
+    (ap (λ ps. codes_below (suc n) ps (morton_bits (suc n) (c ∷ cs))) (sym top)
+    ∙ codes_below-morton_bits (suc n) (c ∷ cs) are.rising)
   where
     by_bits : (bits : List Bool) → morton_bits (suc n) (c ∷ cs) ≡ bits → 0 < length (morton_bits (suc n) (c ∷ cs))
         → codes_below (suc n) (0 ∷ []) (morton_bits (suc n) (c ∷ cs)) ≡ c ∷ cs
@@ -82,7 +84,16 @@ length-codes_in height bits are some =
     let top = ap length (one_top height codes are.codes height (top_from_bits height bits are some)) in
     let parted = ap ones_of (are.exact ∙ morton_bits-parted height 0 height codes (omega arith)) in
     let all = ap length (prefixes-zero codes are.codes.rising) in
-    omega (arith, ones, top, parted, all, inner height bits are, ones_of-append (upper_bits height 0 codes) [], ones_of-nil)
+    omega (
+      arith,
+      ones,
+      top,
+      parted,
+      all,
+      inner height bits are,
+      ones_of-append (upper_bits height 0 codes) [],
+      ones_of-nil,
+    )
 
 -- no bits tell nothing
 pub codes_in-none : (height : ℕ) (bits : List Bool) → length bits ≡ 0 → codes_in height bits ≡ []

@@ -1,5 +1,6 @@
 -- From the top down to the leaf of a Morton number.
-use Rattle.std.proofs.Common.{◌≡◌, ℕ, zero, suc, ◌+◌, ◌-◌, ◌*◌, ◌/◌, ◌%◌, ◌^◌, ◌<◌, ◌≤◌, Bool, true, false, List, [], ◌∷◌, length, get_or, refl, sym, ap, ◌∙◌, arith, subst, Some, All, length-append}
+use Rattle.std.proofs.Common.{◌≡◌, ℕ, zero, suc, ◌+◌, ◌-◌, ◌*◌, ◌/◌, ◌%◌, ◌^◌, ◌<◌, ◌≤◌, Bool, true, false}
+use Rattle.std.proofs.Common.{List, [], ◌∷◌, length, get_or, refl, sym, ap, ◌∙◌, arith, subst, Some, All, length-append}
 use Rattle.std.proofs.Math.Nat.{div-one, div-eq_of_lt, div-div-eq-div-mul, pow-suc}
 use Rattle.std.proofs.lemmas.Option.{slice_get-get_or}
 use Rattle.std.specs.Prelude.{slice_get}
@@ -22,7 +23,8 @@ two_bits (suc n) =
 -- one digit less to leave away
 pub digit_more : (code n : ℕ) → 4 * (code / 4 ^ suc n) + code / 4 ^ n % 4 ≡ code / 4 ^ n
 digit_more code n =
-    let e : code / 4 ^ suc n ≡ code / 4 ^ n / 4 = ap (λ p. code / p) (pow-suc 4 n) ∙ sym (div-div-eq-div-mul code (4 ^ n) 4) in
+    let e : code / 4 ^ suc n ≡ code / 4 ^ n / 4 =
+    ap (λ p. code / p) (pow-suc 4 n) ∙ sym (div-div-eq-div-mul code (4 ^ n) 4) in
     omega arith
 
 -- no cell gives no bits
@@ -38,7 +40,8 @@ top_from_bits height bits are some = by_codes (codes_in height bits) refl
   where
     by_codes : (codes : List ℕ) → codes_in height bits ≡ codes → 0 < length (prefixes height (codes_in height bits))
     by_codes [] e =
-        let nothing : length bits ≡ 0 = ap length (are.exact ∙ ap (morton_bits height) e ∙ morton_bits-none height) in absurd (omega arith)
+        let nothing : length bits ≡ 0 =
+        ap length (are.exact ∙ ap (morton_bits height) e ∙ morton_bits-none height) in absurd (omega arith)
     by_codes (c ∷ cs) e =
         let small : All (λ x. x < 4 ^ height) (c ∷ cs) = subst (λ xs. All (λ x. x < 4 ^ height) xs) e are.codes.small in
         let top = ap length (ap (prefixes height) e ∙ prefixes-top height c cs small) in
@@ -61,13 +64,15 @@ pub reads_inside : (height code level square : ℕ) (bits : List Bool) → AreTr
     → 4 * square + code / 2 ^ (2 * (level - 1)) % 4 < length bits
 reads_inside height code zero square bits are some here = absurd (omega arith)
 reads_inside height code (suc n) square bits are some here =
-    let place = child_place height (codes_in height bits) n (code / 4 ^ suc n) square (code / 2 ^ (2 * (suc n - 1)) % 4) here (omega arith) in
+    let place = child_place height (codes_in height bits) n (code / 4 ^ suc n) square
+    (code / 2 ^ (2 * (suc n - 1)) % 4) here (omega arith) in
     omega (arith, place, ap length are.exact)
 
 -- what the bit tells of the number's next prefix
 bit_tells : (height code n square digit : ℕ) (bits : List Bool) → AreTreeBits height bits
     → IsSquare height (codes_in height bits) (suc n) (code / 4 ^ suc n) square → digit ≡ code / 4 ^ n % 4
-    → get_or bits (4 * square + digit) false ≡ is_in (prefixes n (codes_in height bits)) (4 * (code / 4 ^ suc n) + digit)
+    → get_or bits (4 * square + digit) false
+    ≡ is_in (prefixes n (codes_in height bits)) (4 * (code / 4 ^ suc n) + digit)
 bit_tells height code n square digit bits are here is =
     ap (λ xs. get_or xs (4 * square + digit) false) are.exact
     ∙ child_bit height (codes_in height bits) n (code / 4 ^ suc n) square digit here (omega arith)
@@ -82,13 +87,15 @@ ends height code (suc n) square bits are some here off =
     let digit : ℕ = code / 2 ^ (2 * (suc n - 1)) % 4 in
     let e : suc n - 1 ≡ n = omega arith in
     let is : digit ≡ code / 4 ^ n % 4 = digit_is code n digit (ap (λ m. code / 2 ^ (2 * m) % 4) e) in
-    let prefix : 4 * (code / 4 ^ suc n) + digit ≡ code / 4 ^ n = ap (λ d. 4 * (code / 4 ^ suc n) + d) is ∙ digit_more code n in
+    let prefix : 4 * (code / 4 ^ suc n) + digit ≡ code / 4 ^ n =
+    ap (λ d. 4 * (code / 4 ^ suc n) + d) is ∙ digit_more code n in
     let gone : is_in (prefixes n (codes_in height bits)) (code / 4 ^ n) ≡ false =
-    ap (is_in (prefixes n (codes_in height bits))) (sym prefix) ∙ sym (bit_tells height code n square digit bits are here is) ∙ off in
+    ap (is_in (prefixes n (codes_in height bits))) (sym prefix)
+    ∙ sym (bit_tells height code n square digit bits are here is) ∙ off in
     by_answer (is_in (codes_in height bits) code) refl gone
   where
-    by_answer : (b : Bool) → is_in (codes_in height bits) code ≡ b → is_in (prefixes n (codes_in height bits)) (code / 4 ^ n) ≡ false
-        → is_in (codes_in height bits) code ≡ false
+    by_answer : (b : Bool) → is_in (codes_in height bits) code ≡ b
+        → is_in (prefixes n (codes_in height bits)) (code / 4 ^ n) ≡ false → is_in (codes_in height bits) code ≡ false
     by_answer false is gone = is
     by_answer true is gone =
         let clash : true ≡ false = sym (prefixes-of n (codes_in height bits) code is) ∙ gone in absurd (cc)
@@ -105,8 +112,10 @@ goes_on height code (suc n) square child bits are some here on number =
     let codes : List ℕ = codes_in height bits in
     let e : suc n - 1 ≡ n = omega arith in
     let is : digit ≡ code / 4 ^ n % 4 = digit_is code n digit (ap (λ m. code / 2 ^ (2 * m) % 4) e) in
-    let prefix : 4 * (code / 4 ^ suc n) + digit ≡ code / 4 ^ n = ap (λ d. 4 * (code / 4 ^ suc n) + d) is ∙ digit_more code n in
-    let there : is_in (prefixes n codes) (4 * (code / 4 ^ suc n) + digit) ≡ true = sym (bit_tells height code n square digit bits are here is) ∙ on in
+    let prefix : 4 * (code / 4 ^ suc n) + digit ≡ code / 4 ^ n =
+    ap (λ d. 4 * (code / 4 ^ suc n) + d) is ∙ digit_more code n in
+    let there : is_in (prefixes n codes) (4 * (code / 4 ^ suc n) + digit) ≡ true =
+    sym (bit_tells height code n square digit bits are here is) ∙ on in
     let square' = child_square height codes n (code / 4 ^ suc n) square digit are.codes here (omega arith) there in
     let same : rank_of (morton_bits height codes) (4 * square + digit) + 1 ≡ child =
     ap (λ xs. rank_of xs (4 * square + digit) + 1) (sym are.exact) ∙ sym number in
@@ -136,12 +145,14 @@ arrives height code (suc n) square bits are last here = absurd (omega arith)
 arrives height code zero square bits are last here =
     let codes : List ℕ = codes_in height bits in
     let whole : here.above ≡ height = omega (arith, here.high) in
-    let counted : square ≡ squares_above height 0 codes + here.place = here.counted ∙ ap (λ k. squares_above k 0 codes + here.place) whole in
+    let counted : square ≡ squares_above height 0 codes + here.place =
+    here.counted ∙ ap (λ k. squares_above k 0 codes + here.place) whole in
     let few = inner height bits are in
     let place : square - length bits / 4 ≡ here.place = omega (arith, counted, few) in
     let all : prefixes 0 codes ≡ codes = prefixes-zero codes are.codes.rising in
     let within : here.place < length codes = omega (arith, here.within, ap length all) in
-    let stands : get_or codes here.place 0 ≡ code = ap (λ xs. get_or xs here.place 0) (sym all) ∙ here.stands ∙ div-one code in (
+    let stands : get_or codes here.place 0 ≡ code =
+    ap (λ xs. get_or xs here.place 0) (sym all) ∙ here.stands ∙ div-one code in (
       omega (arith, counted, few),
       ap (slice_get codes) place ∙ slice_get-get_or codes here.place 0 within ∙ ap Some stands,
     )

@@ -1,5 +1,6 @@
 -- Rows and columns, digit by digit from the highest.
-use Rattle.std.proofs.Common.{◌≡◌, ℕ, zero, suc, ◌+◌, ◌-◌, ◌*◌, ◌/◌, ◌%◌, ◌^◌, ◌<◌, ◌≤◌, refl, sym, ap, ◌∙◌, arith, lit<}
+use Rattle.std.proofs.Common.{◌≡◌, ℕ, zero, suc, ◌+◌, ◌-◌, ◌*◌, ◌/◌, ◌%◌, ◌^◌, ◌<◌, ◌≤◌}
+use Rattle.std.proofs.Common.{refl, sym, ap, ◌∙◌, arith, lit<}
 use Rattle.std.proofs.Math.Nat.{div-div-eq-div-mul, div-one, pow-suc, pow-le-pow_right}
 use Rattle.k2_tree.specs.Morton.{row_of, column_of}
 use Rattle.k2_tree.proofs.MortonLemmas.{row_of-lt, column_of-lt}
@@ -28,7 +29,8 @@ column_of-small n code few =
     omega (arith, column_of-lt n code)
 
 -- at level 0 no digit is left away
-pub column_of-whole : (height level code : ℕ) → level ≡ 0 → column_of (height - level) (code / 4 ^ level) ≡ column_of height code
+pub column_of-whole : (height level code : ℕ) → level ≡ 0
+    → column_of (height - level) (code / 4 ^ level) ≡ column_of height code
 column_of-whole height zero code end =
     let c : height - 0 ≡ height = omega arith in rw (c, div-one code) refl
 column_of-whole height (suc n) code end = absurd (omega arith)

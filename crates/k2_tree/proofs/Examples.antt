@@ -90,7 +90,8 @@ a_cut_group_has_none = refl
 abbrev three : Tree
 three = tree_with 2 (at 0 0) (at 0 0 ∷ at 1 1 ∷ at 3 0 ∷ [])
 
-a_rect_keeps_two_leaves : kept_leaves (touches_region (Rect (pos 1) (pos 0) (pos 3) (pos 3))) three ≡ (1, at 1 1) ∷ (2, at 3 0) ∷ []
+a_rect_keeps_two_leaves : kept_leaves (touches_region (Rect (pos 1) (pos 0) (pos 3) (pos 3))) three
+    ≡ (1, at 1 1) ∷ (2, at 3 0) ∷ []
 unfolding numbered passes morton_of interleaved row_of column_of
 a_rect_keeps_two_leaves = refl
 

@@ -1,11 +1,13 @@
 -- One number more behind ascending ones: what it changes in a level's bits.
-use Rattle.std.proofs.Common.{◌≡◌, ℕ, zero, suc, ◌+◌, ◌-◌, ◌*◌, ◌/◌, ◌%◌, ◌^◌, ◌<◌, ◌≤◌, ◌==◌, ◌||◌, Bool, true, false, List, [], ◌∷◌, ◌++◌, length, map, get_or, refl, sym, ap, ◌∙◌, inl, inr, arith, subst}
+use Rattle.std.proofs.Common.{◌≡◌, ℕ, zero, suc, ◌+◌, ◌-◌, ◌*◌, ◌/◌, ◌%◌, ◌^◌, ◌<◌, ◌≤◌, ◌==◌, ◌||◌, Bool, true, false}
+use Rattle.std.proofs.Common.{List, [], ◌∷◌, ◌++◌, length, map, get_or, refl, sym, ap, ◌∙◌, inl, inr, arith, subst}
 use Rattle.std.proofs.Math.ListN.{set}
 use Rattle.std.proofs.lemmas.List.{length-map}
 use Rattle.std.proofs.lemmas.List.Folds.{list_any-append}
 use Rattle.k2_tree.specs.TreeBits.{is_in, prefixes, level_bits, longer, Rises}
 use Rattle.k2_tree.proofs.RisingLemmas.{same_test, other_test}
-use Rattle.k2_tree.proofs.PrefixLemmas.{by_test, once_from, once, is_in-once, prefixes-rise, prefixes-shorter, longer-rises}
+use Rattle.k2_tree.proofs.PrefixLemmas.{by_test, once_from, once, is_in-once}
+use Rattle.k2_tree.proofs.PrefixLemmas.{prefixes-rise, prefixes-shorter, longer-rises}
 use Rattle.k2_tree.proofs.TreeLemmas.{length-longer, get_or-longer}
 use Rattle.k2_tree.proofs.DescentLemmas.{digit_more}
 
@@ -35,7 +37,8 @@ once_from-new k y (x ∷ xs) e = elim (by_test x k) [
 ]
 
 -- the last number stays the last
-once_from-last : (k : ℕ) (xs : List ℕ) → (0 < length (once_from k xs)) × (get_or (once_from k xs) (length (once_from k xs) - 1) 0 ≡ last_of k xs)
+once_from-last : (k : ℕ) (xs : List ℕ)
+    → (0 < length (once_from k xs)) × (get_or (once_from k xs) (length (once_from k xs) - 1) 0 ≡ last_of k xs)
 once_from-last k [] = (omega arith, refl)
 once_from-last k (x ∷ xs) = elim (by_test x k) [
   | inl same ↦ rw same.1 (let rest = once_from-last k xs in (rest.0, rest.1 ∙ ap (λ z. last_of z xs) (sym same.0)))
@@ -61,7 +64,8 @@ map-snoc f (x ∷ xs) y = ap (λ ys. f x ∷ ys) (map-snoc f xs y)
 
 -- the last prefix is the last number's
 prefixes-last : (n c : ℕ) (xs : List ℕ)
-    → (0 < length (prefixes n (xs ++ c ∷ []))) × (get_or (prefixes n (xs ++ c ∷ [])) (length (prefixes n (xs ++ c ∷ [])) - 1) 0 ≡ c / 4 ^ n)
+    → (0 < length (prefixes n (xs ++ c ∷ [])))
+    × (get_or (prefixes n (xs ++ c ∷ [])) (length (prefixes n (xs ++ c ∷ [])) - 1) 0 ≡ c / 4 ^ n)
 unfolding prefixes
 prefixes-last n c [] = (omega arith, refl)
 prefixes-last n c (x ∷ xs) =
@@ -69,7 +73,8 @@ prefixes-last n c (x ∷ xs) =
     (both.0, both.1 ∙ last_of-map (λ y. y / 4 ^ n) x (xs ++ c ∷ []) ∙ ap (λ y. y / 4 ^ n) (last_of-snoc x c xs))
 
 -- a prefix that the last number had
-pub prefixes-same : (n c x : ℕ) (xs : List ℕ) → c / 4 ^ n ≡ last_of x xs / 4 ^ n → prefixes n (x ∷ xs ++ c ∷ []) ≡ prefixes n (x ∷ xs)
+pub prefixes-same : (n c x : ℕ) (xs : List ℕ) → c / 4 ^ n ≡ last_of x xs / 4 ^ n
+    → prefixes n (x ∷ xs ++ c ∷ []) ≡ prefixes n (x ∷ xs)
 unfolding prefixes
 prefixes-same n c x xs e =
     ap (once_from (x / 4 ^ n)) (map-snoc (λ y. y / 4 ^ n) xs c)
@@ -84,7 +89,8 @@ prefixes-new n c x xs e =
     ∙ once_from-new (x / 4 ^ n) (c / 4 ^ n) (map (λ y. y / 4 ^ n) xs) (λ is. e (is ∙ last_of-map (λ y. y / 4 ^ n) x xs))
 
 -- the prefixes of one number more
-is_in-more : (n c z : ℕ) (xs : List ℕ) → is_in (prefixes n (xs ++ c ∷ [])) z ≡ (is_in (prefixes n xs) z || (c / 4 ^ n == z))
+is_in-more : (n c z : ℕ) (xs : List ℕ)
+    → is_in (prefixes n (xs ++ c ∷ [])) z ≡ (is_in (prefixes n xs) z || (c / 4 ^ n == z))
 unfolding prefixes
 is_in-more n c z xs =
     is_in-once (map (λ y. y / 4 ^ n) (xs ++ c ∷ [])) z
@@ -106,11 +112,12 @@ Rises-place n (suc i) (x ∷ xs) up within =
     let low : n ≤ x = up.0 in omega arith
 
 -- a test that has come true at one number alone
-mark : (f g : ℕ → Bool) (p : ℕ) → ((z : ℕ) → g z ≡ (f z || (p == z))) → (n i : ℕ) (xs : List ℕ) → Rises n xs → i < length xs
-    → get_or xs i 0 ≡ p → map g xs ≡ set (map f xs) i true
+mark : (f g : ℕ → Bool) (p : ℕ) → ((z : ℕ) → g z ≡ (f z || (p == z))) → (n i : ℕ) (xs : List ℕ) → Rises n xs
+    → i < length xs → get_or xs i 0 ≡ p → map g xs ≡ set (map f xs) i true
 mark f g p more n i [] up within here = absurd (omega arith)
 mark f g p more n zero (x ∷ xs) up within here =
-    ap (λ b. b ∷ map g xs) (more x ∙ ap (λ z. f x || (z == x)) (sym here) ∙ ap (λ b. f x || b) (same_test x) ∙ or_true (f x))
+    ap (λ b. b ∷ map g xs)
+    (more x ∙ ap (λ z. f x || (z == x)) (sym here) ∙ ap (λ b. f x || b) (same_test x) ∙ or_true (f x))
     ∙ ap (λ ys. true ∷ ys) (kept (suc x) xs up.1 (omega (arith, here)))
   where
     or_true : (b : Bool) → (b || true) ≡ true
@@ -129,7 +136,8 @@ mark f g p more n zero (x ∷ xs) up within here =
         ∙ ap (λ ys. f x ∷ ys) (kept (suc x) xs up.1 (omega arith))
 mark f g p more n (suc i) (x ∷ xs) up within here =
     let later = Rises-place (suc x) i xs up.1 (omega arith) in
-    ap (λ b. b ∷ map g xs) (more x ∙ ap (λ b. f x || b) (other_test p x (λ e. omega (arith, later, here))) ∙ or_false (f x))
+    ap (λ b. b ∷ map g xs)
+    (more x ∙ ap (λ b. f x || b) (other_test p x (λ e. omega (arith, later, here))) ∙ or_false (f x))
     ∙ ap (λ ys. f x ∷ ys) (mark f g p more (suc x) i xs up.1 (omega arith) here)
   where
     or_false : (b : Bool) → (b || false) ≡ b
@@ -149,9 +157,11 @@ level_more n c xs grown up is =
     let place : length grown - 4 + c / 4 ^ n % 4 ≡ 4 * (length above - 1) + c / 4 ^ n % 4 = omega arith in
     let prefix : 4 * (c / 4 ^ suc n) + c / 4 ^ n % 4 ≡ c / 4 ^ n = digit_more c n in
     let here : get_or (longer above) (4 * (length above - 1) + c / 4 ^ n % 4) 0 ≡ c / 4 ^ n =
-    get_or-longer above (length above - 1) (c / 4 ^ n % 4) (omega arith) (omega arith) ∙ ap (λ q. 4 * q + c / 4 ^ n % 4) last.1 ∙ prefix in
+    get_or-longer above (length above - 1) (c / 4 ^ n % 4) (omega arith) (omega arith)
+    ∙ ap (λ q. 4 * q + c / 4 ^ n % 4) last.1 ∙ prefix in
     let up' : Rises 0 (longer above) = longer-rises 0 above (prefixes-rise (suc n) (xs ++ c ∷ []) up) in
-    let inside : 4 * (length above - 1) + c / 4 ^ n % 4 < length (longer above) = omega (arith, length-longer above) in (
+    let inside : 4 * (length above - 1) + c / 4 ^ n % 4 < length (longer above) =
+    omega (arith, length-longer above) in (
       omega arith,
       mark (is_in (prefixes n xs)) (is_in (prefixes n (xs ++ c ∷ []))) (c / 4 ^ n) (λ z. is_in-more n c z xs)
           0 (4 * (length above - 1) + c / 4 ^ n % 4) (longer above) up' inside here
@@ -168,7 +178,8 @@ absent_last n q (x ∷ xs) up =
     let first : n ≤ x = up.0 in
     (rw (other_test x q (λ e. omega arith)) rest.0, omega arith)
 
-longer-snoc : (xs : List ℕ) (q : ℕ) → longer (xs ++ q ∷ []) ≡ longer xs ++ (4 * q ∷ (4 * q + 1) ∷ (4 * q + 2) ∷ (4 * q + 3) ∷ [])
+longer-snoc : (xs : List ℕ) (q : ℕ)
+    → longer (xs ++ q ∷ []) ≡ longer xs ++ (4 * q ∷ (4 * q + 1) ∷ (4 * q + 2) ∷ (4 * q + 3) ∷ [])
 unfolding longer
 longer-snoc [] q = refl
 longer-snoc (x ∷ xs) q = ap (λ ys. 4 * x ∷ (4 * x + 1) ∷ (4 * x + 2) ∷ (4 * x + 3) ∷ ys) (longer-snoc xs q)
@@ -178,7 +189,8 @@ map_append f [] ys = refl
 map_append f (x ∷ xs) ys = ap (λ bs. f x ∷ bs) (map_append f xs ys)
 
 -- the first number opens the first group
-pub grown_first : (n c : ℕ) → level_bits n [] ++ four ≡ map (is_in (prefixes n [])) (longer (prefixes (suc n) ([] ++ c ∷ [])))
+pub grown_first : (n c : ℕ)
+    → level_bits n [] ++ four ≡ map (is_in (prefixes n [])) (longer (prefixes (suc n) ([] ++ c ∷ [])))
 unfolding level_bits prefixes longer
 grown_first n c = refl
 
@@ -199,7 +211,8 @@ grown_new n c x xs up differ =
     let new : prefixes (suc n) (x ∷ xs ++ c ∷ []) ≡ old ++ q ∷ [] = prefixes-new (suc n) c x xs differ in
     let rises : Rises 0 (old ++ q ∷ []) = subst (Rises 0) new (prefixes-rise (suc n) (x ∷ xs ++ c ∷ []) up) in
     let gone : is_in old q ≡ false = (absent_last 0 q old rises).0 in
-    let none : (d : ℕ) → d < 4 → f (4 * q + d) ≡ false = λ d small. empty_at (4 * q + d) (ap (is_in old) (quotient d small) ∙ gone) in
+    let none : (d : ℕ) → d < 4 → f (4 * q + d) ≡ false =
+    λ d small. empty_at (4 * q + d) (ap (is_in old) (quotient d small) ∙ gone) in
     let zero_place : f (4 * q) ≡ false = empty_at (4 * q) (ap (is_in old) (omega arith) ∙ gone) in
     let fresh : map f (4 * q ∷ (4 * q + 1) ∷ (4 * q + 2) ∷ (4 * q + 3) ∷ []) ≡ four =
     (rw (zero_place, none 1 (omega arith), none 2 (omega arith), none 3 (omega arith)) refl) in

@@ -1,7 +1,7 @@
 -- Digits of Morton numbers: how large they are, and what their prefixes and last digits tell.
-use Rattle.std.proofs.Common.{◌≡◌, ℕ, zero, suc, ◌+◌, ◌-◌, ◌*◌, ◌/◌, ◌%◌, ◌^◌, ◌<◌, ◌≤◌, refl, sym, ap, ◌∙◌, arith, lit<}
+use Rattle.std.proofs.Common.{◌≡◌, ℕ, zero, suc, ◌+◌, ◌-◌, ◌*◌, ◌/◌, ◌%◌, ◌^◌, ◌<◌, ◌≤◌, ℤ, pos, ◌+ℤ◌, ◌-ℤ◌}
+use Rattle.std.proofs.Common.{refl, sym, ap, ◌∙◌, arith, lit<}
 use Rattle.std.proofs.Math.Nat.{div-div-eq-div-mul, div-one, pow-suc, pow-le-pow_right}
-use Rattle.std.proofs.Common.{ℤ, pos, ◌+ℤ◌, ◌-ℤ◌}
 use Rattle.std.proofs.lemmas.Int.{ints}
 use Rattle.std.specs.Int.RustNames.{unsigned_abs}
 use Rattle.track_types.specs.declared.cell.Cell.{Cell}
@@ -28,7 +28,8 @@ interleaved-small n row column few =
 -- one digit more of the numbers without their last bits
 pub interleaved-step : (n level row column : ℕ)
     → interleaved (suc n) (row / 2 ^ level) (column / 2 ^ level)
-    ≡ 4 * interleaved n (row / 2 ^ suc level) (column / 2 ^ suc level) + (2 * (row / 2 ^ level % 2) + column / 2 ^ level % 2)
+    ≡ 4 * interleaved n (row / 2 ^ suc level) (column / 2 ^ suc level)
+    + (2 * (row / 2 ^ level % 2) + column / 2 ^ level % 2)
 unfolding interleaved
 interleaved-step n level row column = rw (half_more row level, half_more column level) refl
 
@@ -60,8 +61,10 @@ row_of-interleaved zero row column small = omega arith
 row_of-interleaved (suc n) row column small =
     let rest : row_of n (interleaved n (row / 2) (column / 2)) ≡ row / 2 =
     row_of-interleaved n (row / 2) (column / 2) (omega (arith, pow-suc 2 n)) in
-    let front : (4 * interleaved n (row / 2) (column / 2) + (2 * (row % 2) + column % 2)) / 4 ≡ interleaved n (row / 2) (column / 2) = omega arith in
-    let last : (4 * interleaved n (row / 2) (column / 2) + (2 * (row % 2) + column % 2)) % 4 / 2 ≡ row % 2 = omega arith in
+    let front : (4 * interleaved n (row / 2) (column / 2) + (2 * (row % 2) + column % 2)) / 4
+    ≡ interleaved n (row / 2) (column / 2) = omega arith in
+    let last : (4 * interleaved n (row / 2) (column / 2) + (2 * (row % 2) + column % 2)) % 4 / 2 ≡ row % 2 =
+    omega arith in
     rw (front, last, rest) (omega arith)
 
 -- a number's column is the column that it was made of
@@ -71,8 +74,10 @@ column_of-interleaved zero row column small = omega arith
 column_of-interleaved (suc n) row column small =
     let rest : column_of n (interleaved n (row / 2) (column / 2)) ≡ column / 2 =
     column_of-interleaved n (row / 2) (column / 2) (omega (arith, pow-suc 2 n)) in
-    let front : (4 * interleaved n (row / 2) (column / 2) + (2 * (row % 2) + column % 2)) / 4 ≡ interleaved n (row / 2) (column / 2) = omega arith in
-    let last : (4 * interleaved n (row / 2) (column / 2) + (2 * (row % 2) + column % 2)) % 4 % 2 ≡ column % 2 = omega arith in
+    let front : (4 * interleaved n (row / 2) (column / 2) + (2 * (row % 2) + column % 2)) / 4
+    ≡ interleaved n (row / 2) (column / 2) = omega arith in
+    let last : (4 * interleaved n (row / 2) (column / 2) + (2 * (row % 2) + column % 2)) % 4 % 2 ≡ column % 2 =
+    omega arith in
     rw (front, last, rest) (omega arith)
 
 -- a number is made of its row and its column
@@ -102,18 +107,21 @@ pub cell_of-morton_of : (height : ℕ) (base cell : Cell) → IsInGrid height ba
     → cell_of height base (morton_of height base cell) ≡ cell
 unfolding morton_of cell_of
 cell_of-morton_of height base cell in_grid =
-    let right = column_of-interleaved height (unsigned_abs (cell.y -ℤ base.y)) (unsigned_abs (cell.x -ℤ base.x)) in_grid.right in
-    let above = row_of-interleaved height (unsigned_abs (cell.y -ℤ base.y)) (unsigned_abs (cell.x -ℤ base.x)) in_grid.above in
-    let ex : base.x +ℤ pos (unsigned_abs (cell.x -ℤ base.x)) ≡ cell.x = omega (arith, ints, in_grid.left) in
-    let ey : base.y +ℤ pos (unsigned_abs (cell.y -ℤ base.y)) ≡ cell.y = omega (arith, ints, in_grid.below) in
-    rw (right, above) (ap (λ x. made x (base.y +ℤ pos (unsigned_abs (cell.y -ℤ base.y)))) ex ∙ ap (λ y. made cell.x y) ey)
+    let x : ℕ = unsigned_abs (cell.x -ℤ base.x) in
+    let y : ℕ = unsigned_abs (cell.y -ℤ base.y) in
+    let right = column_of-interleaved height y x in_grid.right in
+    let above = row_of-interleaved height y x in_grid.above in
+    let ex : base.x +ℤ pos x ≡ cell.x = omega (arith, ints, in_grid.left) in
+    let ey : base.y +ℤ pos y ≡ cell.y = omega (arith, ints, in_grid.below) in
+    rw (right, above) (ap (λ x. made x (base.y +ℤ pos y)) ex ∙ ap (λ y. made cell.x y) ey)
 
 -- the number of a number's cell is that number
 pub morton_of-cell_of : (height : ℕ) (base : Cell) (code : ℕ) → code < 4 ^ height
     → morton_of height base (cell_of height base code) ≡ code
 unfolding morton_of cell_of
 morton_of-cell_of height base code small =
-    let ex : unsigned_abs (base.x +ℤ pos (column_of height code) -ℤ base.x) ≡ column_of height code = omega (arith, ints) in
+    let ex : unsigned_abs (base.x +ℤ pos (column_of height code) -ℤ base.x) ≡ column_of height code =
+    omega (arith, ints) in
     let ey : unsigned_abs (base.y +ℤ pos (row_of height code) -ℤ base.y) ≡ row_of height code = omega (arith, ints) in
     rw (ex, ey) (interleaved-row_of height code small)
 
@@ -131,7 +139,8 @@ column_of-lt (suc n) code = let rest = column_of-lt n (code / 4) in rw (pow-suc 
 pub cell_of-inside : (height : ℕ) (base : Cell) (code : ℕ) → IsInGrid height base (cell_of height base code)
 unfolding cell_of
 cell_of-inside height base code =
-    let ex : unsigned_abs (base.x +ℤ pos (column_of height code) -ℤ base.x) ≡ column_of height code = omega (arith, ints) in
+    let ex : unsigned_abs (base.x +ℤ pos (column_of height code) -ℤ base.x) ≡ column_of height code =
+    omega (arith, ints) in
     let ey : unsigned_abs (base.y +ℤ pos (row_of height code) -ℤ base.y) ≡ row_of height code = omega (arith, ints) in
     record {
       left = omega (arith, ints);

@@ -1,5 +1,6 @@
 -- From a square to its children and to its parent.
-use Rattle.std.proofs.Common.{◌≡◌, ℕ, suc, ◌+◌, ◌*◌, ◌<◌, Bool, true, false, List, [], ◌∷◌, ◌++◌, length, filter, take, get_or, refl, sym, ap, ◌∙◌, arith, length-append}
+use Rattle.std.proofs.Common.{◌≡◌, ℕ, suc, ◌+◌, ◌*◌, ◌<◌, Bool, true, false, List, [], ◌∷◌, ◌++◌}
+use Rattle.std.proofs.Common.{length, filter, take, get_or, refl, sym, ap, ◌∙◌, arith, length-append}
 use Rattle.std.proofs.lemmas.List.{get_or-append-add, get_or_append_left, get_or-map}
 use Rattle.packed_bits.specs.Bits.{ones_of}
 use Rattle.bit_rank.specs.Bits.{rank_of}
@@ -7,7 +8,8 @@ use Rattle.bit_rank.proofs.RankLemmas.{rank_of-append, rank_of-append_left}
 use Rattle.k2_tree.specs.TreeBits.{is_in, prefixes, longer, level_bits, morton_bits, Rises, AreCodes}
 use Rattle.k2_tree.specs.Squares.{squares_above, IsSquare}
 use Rattle.k2_tree.proofs.PrefixLemmas.{prefixes-from_longer, prefixes-top, prefixes-none}
-use Rattle.k2_tree.proofs.TreeLemmas.{upper_bits, morton_bits-parted, length-longer, get_or-longer, length-level_bits, length-upper_bits, rank_of-map, get_or-filter, ones_of-upper_bits}
+use Rattle.k2_tree.proofs.TreeLemmas.{upper_bits, morton_bits-parted, length-longer, get_or-longer, length-level_bits}
+use Rattle.k2_tree.proofs.TreeLemmas.{length-upper_bits, rank_of-map, get_or-filter, ones_of-upper_bits}
 
 -- where a square is, the top has one
 pub one_top : (height : ℕ) (codes : List ℕ) → AreCodes height codes → (n : ℕ) → 0 < length (prefixes n codes)
@@ -22,22 +24,26 @@ level_place n i d codes within small = omega (arith, length-longer (prefixes (su
 
 -- a square's bit for a digit tells whether that child is there
 pub level_bit : (n i d : ℕ) (codes : List ℕ) → i < length (prefixes (suc n) codes) → d < 4
-    → get_or (level_bits n codes) (4 * i + d) false ≡ is_in (prefixes n codes) (4 * get_or (prefixes (suc n) codes) i 0 + d)
+    → get_or (level_bits n codes) (4 * i + d) false
+    ≡ is_in (prefixes n codes) (4 * get_or (prefixes (suc n) codes) i 0 + d)
 unfolding level_bits
 level_bit n i d codes within small =
-    get_or-map (is_in (prefixes n codes)) (longer (prefixes (suc n) codes)) (4 * i + d) 0 false (level_place n i d codes within small)
+    get_or-map (is_in (prefixes n codes)) (longer (prefixes (suc n) codes)) (4 * i + d) 0 false
+    (level_place n i d codes within small)
     ∙ ap (is_in (prefixes n codes)) (get_or-longer (prefixes (suc n) codes) i d within small)
 
 -- that child's place in its level is the rank of the bit in the level
 pub level_rank : (n i d : ℕ) (codes : List ℕ) → Rises 0 codes → i < length (prefixes (suc n) codes) → d < 4
     → is_in (prefixes n codes) (4 * get_or (prefixes (suc n) codes) i 0 + d) ≡ true
     → (rank_of (level_bits n codes) (4 * i + d) < length (prefixes n codes))
-    × (get_or (prefixes n codes) (rank_of (level_bits n codes) (4 * i + d)) 0 ≡ 4 * get_or (prefixes (suc n) codes) i 0 + d)
+    × (get_or (prefixes n codes) (rank_of (level_bits n codes) (4 * i + d)) 0
+    ≡ 4 * get_or (prefixes (suc n) codes) i 0 + d)
 unfolding level_bits
 level_rank n i d codes up within small there =
     let long : List ℕ = longer (prefixes (suc n) codes) in
     let test : ℕ → Bool = is_in (prefixes n codes) in
-    let stands : get_or long (4 * i + d) 0 ≡ 4 * get_or (prefixes (suc n) codes) i 0 + d = get_or-longer (prefixes (suc n) codes) i d within small in
+    let stands : get_or long (4 * i + d) 0 ≡ 4 * get_or (prefixes (suc n) codes) i 0 + d =
+    get_or-longer (prefixes (suc n) codes) i d within small in
     let kept : test (get_or long (4 * i + d) 0) ≡ true = ap test stands ∙ there in
     let both = get_or-filter test long (4 * i + d) (level_place n i d codes within small) kept in
     let rank = rank_of-map test long (4 * i + d) in
@@ -67,7 +73,13 @@ child_place height codes n p j d square small =
     let rest : List Bool = level_bits n codes ++ morton_bits n codes in
     let whole : length (morton_bits height codes) ≡ length front + length rest =
     ap length (around square.above n height codes square.high) ∙ length-append front rest in
-    omega (arith, length-append (level_bits n codes) (morton_bits n codes), length-level_bits n codes, from_level height codes n p j d square, square.within)
+    omega (
+      arith,
+      length-append (level_bits n codes) (morton_bits n codes),
+      length-level_bits n codes,
+      from_level height codes n p j d square,
+      square.within,
+    )
 
 -- the bit at 4 * j + d tells whether the square with number j has the child d
 pub child_bit : (height : ℕ) (codes : List ℕ) (n p j d : ℕ) → IsSquare height codes (suc n) p j → d < 4
@@ -94,11 +106,13 @@ child_square height codes n p j d are square small there =
     let rest : List Bool = level_bits n codes ++ morton_bits n codes in
     let i : ℕ = square.place in
     let inside : 4 * i + d < length (level_bits n codes) = omega (arith, length-level_bits n codes, square.within) in
-    let rank : rank_of (morton_bits height codes) (4 * j + d) ≡ ones_of front + rank_of (level_bits n codes) (4 * i + d) =
+    let rank : rank_of (morton_bits height codes) (4 * j + d)
+    ≡ ones_of front + rank_of (level_bits n codes) (4 * i + d) =
     ap (λ xs. rank_of xs (4 * j + d)) (around square.above n height codes square.high)
     ∙ ap (λ q. rank_of (front ++ rest) q) (from_level height codes n p j d square)
     ∙ rank_of-append front rest (4 * i + d)
-    ∙ ap (λ r. ones_of front + r) (rank_of-append_left (level_bits n codes) (morton_bits n codes) (4 * i + d) (omega arith)) in
+    ∙ ap (λ r. ones_of front + r)
+    (rank_of-append_left (level_bits n codes) (morton_bits n codes) (4 * i + d) (omega arith)) in
     let there' : is_in (prefixes n codes) (4 * get_or (prefixes (suc n) codes) i 0 + d) ≡ true =
     ap (λ z. is_in (prefixes n codes) (4 * z + d)) square.stands ∙ there in
     let level = level_rank n i d codes are.rising square.within small there' in

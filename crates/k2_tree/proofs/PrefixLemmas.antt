@@ -1,5 +1,7 @@
 -- Prefixes of ascending numbers: what they hold, and which of the longer ones occur.
-use Rattle.std.proofs.Common.{◌≡◌, ℕ, zero, suc, ◌+◌, ◌*◌, ◌/◌, ◌%◌, ◌^◌, ◌<◌, ◌≤◌, ◌==◌, ◌||◌, ◌&&◌, ◌⊎◌, Bool, true, false, List, [], ◌∷◌, map, filter, refl, sym, ap, ◌∙◌, inl, inr, arith, All, lit<, subst}
+use Rattle.std.proofs.Common.{◌≡◌, ℕ, zero, suc, ◌+◌, ◌*◌, ◌/◌, ◌%◌, ◌^◌, ◌<◌, ◌≤◌, ◌==◌, ◌||◌, ◌&&◌, ◌⊎◌}
+use Rattle.std.proofs.Common.{Bool, true, false, List, [], ◌∷◌, map, filter, All}
+use Rattle.std.proofs.Common.{refl, sym, ap, ◌∙◌, inl, inr, arith, lit<, subst}
 use Rattle.std.proofs.lemmas.Bool.{cases_lt}
 use Rattle.std.proofs.Math.Nat.{div-div-eq-div-mul, div-one, pow-suc, div-eq_of_lt, div-mul-le_self, le-div_iff_mul-le}
 use Rattle.std.specs.List.{dedup, dedup_from}
@@ -76,7 +78,8 @@ climbs-divided : (n k : ℕ) (xs : List ℕ) → 0 < k → Rises n xs → Climbs
 climbs-divided n k [] some up = tt
 climbs-divided n k (x ∷ xs) some up =
     let later = climbs-divided (suc x) k xs some up.1 in
-    (div-le k n x some up.0, Climbs-weaker (x / k) (suc x / k) (map (λ y. y / k) xs) (div-le k x (suc x) some (omega arith)) later)
+    let next = div-le k x (suc x) some (omega arith) in
+    (div-le k n x some up.0, Climbs-weaker (x / k) (suc x / k) (map (λ y. y / k) xs) next later)
 
 -- prefixes of rising numbers rise
 pub prefixes-rise : (n : ℕ) (codes : List ℕ) → Rises 0 codes → Rises 0 (prefixes n codes)
@@ -118,14 +121,16 @@ pub prefixes-shorter : (n : ℕ) (codes : List ℕ) (c : ℕ)
 unfolding prefixes
 prefixes-shorter n codes c is =
     let there : is_in (map (λ x. x / 4 ^ n) codes) c ≡ true = sym (is_in-once (map (λ x. x / 4 ^ n) codes) c) ∙ is in
-    let image : is_in (map (λ x. x / 4 ^ n / 4) codes) (c / 4) ≡ true = is_in-map (λ x. x / 4 ^ n) (λ x. x / 4) codes c there in
+    let image : is_in (map (λ x. x / 4 ^ n / 4) codes) (c / 4) ≡ true =
+    is_in-map (λ x. x / 4 ^ n) (λ x. x / 4) codes c there in
     let e : map (λ x. x / 4 ^ n / 4) codes ≡ map (λ x. x / 4 ^ suc n) codes =
     map_same (λ x. div-div-eq-div-mul x (4 ^ n) 4 ∙ ap (λ p. x / p) (sym (pow-suc 4 n))) codes in
     is_in-once (map (λ x. x / 4 ^ suc n) codes) (c / 4) ∙ ap (λ xs. is_in xs (c / 4)) (sym e) ∙ image
   where
     map_same : {f g : ℕ → ℕ} → ((x : ℕ) → f x ≡ g x) → (xs : List ℕ) → map f xs ≡ map g xs
     map_same {f = f} {g = g} same [] = refl
-    map_same {f = f} {g = g} same (x ∷ xs) = ap (λ y. y ∷ map f xs) (same x) ∙ ap (λ ys. g x ∷ ys) (map_same {f = f} {g = g} same xs)
+    map_same {f = f} {g = g} same (x ∷ xs) =
+        ap (λ y. y ∷ map f xs) (same x) ∙ ap (λ ys. g x ∷ ys) (map_same {f = f} {g = g} same xs)
 
 -- the prefixes that leave no digit away are the numbers
 pub prefixes-zero : (codes : List ℕ) → Rises 0 codes → prefixes 0 codes ≡ codes
@@ -152,7 +157,8 @@ unfolding prefixes
 prefixes-none n = refl
 
 -- a prefix of no digits is 0
-pub prefixes-top : (n code : ℕ) (codes : List ℕ) → All (λ c. c < 4 ^ n) (code ∷ codes) → prefixes n (code ∷ codes) ≡ 0 ∷ []
+pub prefixes-top : (n code : ℕ) (codes : List ℕ) → All (λ c. c < 4 ^ n) (code ∷ codes)
+    → prefixes n (code ∷ codes) ≡ 0 ∷ []
 unfolding prefixes
 prefixes-top n code codes small =
     ap (λ k. once_from k (map (λ x. x / 4 ^ n) codes)) (div-eq_of_lt (small 0 code (omega arith)))
@@ -206,7 +212,8 @@ longer-rises n [] up = tt
 longer-rises n (x ∷ xs) up =
     let low : n ≤ x = up.0 in
     let rest = longer-rises (suc x) xs up.1 in
-    (omega arith, (omega arith, (omega arith, (omega arith, Rises-weaker (suc (4 * x + 3)) (4 * suc x) (longer xs) (omega arith) rest))))
+    let later = Rises-weaker (suc (4 * x + 3)) (4 * suc x) (longer xs) (omega arith) rest in
+    (omega arith, (omega arith, (omega arith, (omega arith, later))))
 
 -- a prefix without its last digit tells whether it is a longer one
 pub is_in-longer : (xs : List ℕ) (c : ℕ) → is_in (longer xs) c ≡ is_in xs (c / 4)
@@ -242,16 +249,23 @@ is_in-longer (x ∷ xs) c = elim (by_test x (c / 4)) [
     test : (z : ℕ) → z ≡ c → (z == c) ≡ true
     test z e = ap (λ y. y == c) e ∙ same_test c
 
-    one_of : x ≡ c / 4 → (c % 4 ≡ 0) ⊎ ((c % 4 ≡ 1) ⊎ ((c % 4 ≡ 2) ⊎ (c % 4 ≡ 3))) → is_in (longer (x ∷ xs)) c ≡ is_in (x ∷ xs) (c / 4)
+    one_of : x ≡ c / 4 → (c % 4 ≡ 0) ⊎ ((c % 4 ≡ 1) ⊎ ((c % 4 ≡ 2) ⊎ (c % 4 ≡ 3)))
+        → is_in (longer (x ∷ xs)) c ≡ is_in (x ∷ xs) (c / 4)
     one_of same digit =
-        let right : is_in (x ∷ xs) (c / 4) ≡ true = here (x == c / 4) (is_in xs (c / 4)) (ap (λ z. z == c / 4) same ∙ same_test (c / 4)) in
+        let right : is_in (x ∷ xs) (c / 4) ≡ true =
+        here (x == c / 4) (is_in xs (c / 4)) (ap (λ z. z == c / 4) same ∙ same_test (c / 4)) in
         elim digit [
           | inl d ↦ here (4 * x == c) _ (test (4 * x) (omega arith)) ∙ sym right
           | inr digit ↦ elim digit [
             | inl d ↦ later (4 * x == c) _ (here (4 * x + 1 == c) _ (test (4 * x + 1) (omega arith))) ∙ sym right
             | inr digit ↦ elim digit [
-              | inl d ↦ later (4 * x == c) _ (later (4 * x + 1 == c) _ (here (4 * x + 2 == c) _ (test (4 * x + 2) (omega arith)))) ∙ sym right
-              | inr d ↦ later (4 * x == c) _ (later (4 * x + 1 == c) _ (later (4 * x + 2 == c) _ (here (4 * x + 3 == c) _ (test (4 * x + 3) (omega arith))))) ∙ sym right
+              | inl d ↦
+                  later (4 * x == c) _
+                  (later (4 * x + 1 == c) _ (here (4 * x + 2 == c) _ (test (4 * x + 2) (omega arith)))) ∙ sym right
+              | inr d ↦
+                  later (4 * x == c) _
+                  (later (4 * x + 1 == c) _
+                  (later (4 * x + 2 == c) _ (here (4 * x + 3 == c) _ (test (4 * x + 3) (omega arith))))) ∙ sym right
             ]
           ]
         ]
@@ -261,7 +275,8 @@ pub prefixes-from_longer : (n : ℕ) (codes : List ℕ) → Rises 0 codes
     → filter (is_in (prefixes n codes)) (longer (prefixes (suc n) codes)) ≡ prefixes n codes
 prefixes-from_longer n codes up =
     same_from_rising 0 (filter (is_in (prefixes n codes)) (longer (prefixes (suc n) codes))) (prefixes n codes)
-    (Rises-filter 0 (is_in (prefixes n codes)) (longer (prefixes (suc n) codes)) (longer-rises 0 (prefixes (suc n) codes) (prefixes-rise (suc n) codes up)))
+    (Rises-filter 0 (is_in (prefixes n codes)) (longer (prefixes (suc n) codes))
+    (longer-rises 0 (prefixes (suc n) codes) (prefixes-rise (suc n) codes up)))
     (prefixes-rise n codes up)
     (λ c. is_in-filter (is_in (prefixes n codes)) (longer (prefixes (suc n) codes)) c
     ∙ ap (λ b. is_in (prefixes n codes) c && b) (is_in-longer (prefixes (suc n) codes) c)

@@ -1,5 +1,6 @@
 -- What a square that is visited changes in a pruned walk.
-use Rattle.std.proofs.Common.{◌≡◌, ℕ, zero, suc, ◌+◌, ◌-◌, ◌<◌, ◌≤◌, Bool, true, false, if◌then◌else◌, List, [], ◌∷◌, ◌++◌, map, refl, sym, ap, ◌∙◌, arith, append-nil}
+use Rattle.std.proofs.Common.{◌≡◌, ℕ, zero, suc, ◌+◌, ◌-◌, ◌<◌, ◌≤◌, Bool, true, false, if◌then◌else◌}
+use Rattle.std.proofs.Common.{List, [], ◌∷◌, ◌++◌, map, refl, sym, ap, ◌∙◌, arith, append-nil}
 use Rattle.std.specs.List.{flat_map, sum_by}
 use Rattle.std.proofs.lemmas.List.{map-append}
 use Rattle.std.proofs.lemmas.Grind.{flat_map-append}
@@ -45,7 +46,8 @@ kept_in-opened test tree (suc level) prefix some holds =
 
 -- the weights of a square are its own and those of its children
 weight_in-opened : (weight : Node → ℕ) (tree : Tree) (level prefix : ℕ) → 1 ≤ level
-    → weight_in weight tree (node level prefix) ≡ weight (node level prefix) + sum_by (weight_in weight tree) (child_nodes tree (node level prefix))
+    → weight_in weight tree (node level prefix)
+    ≡ weight (node level prefix) + sum_by (weight_in weight tree) (child_nodes tree (node level prefix))
 unfolding weight_below
 weight_in-opened weight tree zero prefix some = absurd (omega arith)
 weight_in-opened weight tree (suc level) prefix some =
@@ -55,7 +57,8 @@ weight_in-opened weight tree (suc level) prefix some =
     ∙ ap (λ n. sum_by (weight_in weight tree) (map (node n) (children n (codes_of tree) prefix))) e)
 
 -- they are at least its own
-weight_in-least : (weight : Node → ℕ) (tree : Tree) (level prefix : ℕ) → weight (node level prefix) ≤ weight_in weight tree (node level prefix)
+weight_in-least : (weight : Node → ℕ) (tree : Tree) (level prefix : ℕ)
+    → weight (node level prefix) ≤ weight_in weight tree (node level prefix)
 unfolding weight_below
 weight_in-least weight tree zero prefix = omega arith
 weight_in-least weight tree (suc level) prefix = omega arith
@@ -76,10 +79,12 @@ turns_in tree squares = sum_by (weight_in (λ square. 1) tree) squares
 abbrev pub turns_of : WalkView → ℕ
 turns_of walk = turns_in walk.tree walk.pending
 
-left_in-append : (keep : CellBox → Bool) (tree : Tree) (xs ys : List Node) → left_in keep tree (xs ++ ys) ≡ left_in keep tree xs ++ left_in keep tree ys
+left_in-append : (keep : CellBox → Bool) (tree : Tree) (xs ys : List Node)
+    → left_in keep tree (xs ++ ys) ≡ left_in keep tree xs ++ left_in keep tree ys
 left_in-append keep tree xs ys =
     ap (map (leaf_of tree)) (flat_map-append (kept_in (on_areas keep tree) tree) xs ys)
-    ∙ map-append (leaf_of tree) (flat_map (kept_in (on_areas keep tree) tree) xs) (flat_map (kept_in (on_areas keep tree) tree) ys)
+    ∙ map-append (leaf_of tree)
+    (flat_map (kept_in (on_areas keep tree) tree) xs) (flat_map (kept_in (on_areas keep tree) tree) ys)
 
 -- squares come before those that are pending
 pub record IsBefore (squares : List Node) (old new : WalkView) : Type 0 where
@@ -95,7 +100,8 @@ left_before keep squares old new is =
 budget_before : (keep : CellBox → Bool) (squares : List Node) (old new : WalkView) → IsBefore squares old new
     → walk_budget keep old ≡ budget_in keep old.tree squares + walk_budget keep new
 budget_before keep squares old new is =
-    ap (budget_in keep old.tree) is.pending ∙ sum_by-append (weight_in (reads_of (on_areas keep old.tree)) old.tree) squares new.pending
+    ap (budget_in keep old.tree) is.pending
+    ∙ sum_by-append (weight_in (reads_of (on_areas keep old.tree)) old.tree) squares new.pending
     ∙ ap (λ (t : Tree). budget_in keep old.tree squares + budget_in keep t new.pending) (sym is.tree)
 
 turns_before : (squares : List Node) (old new : WalkView) → IsBefore squares old new
@@ -120,7 +126,8 @@ pub record IsSkipped (keep : CellBox → Bool) (old new : WalkView) : Type 0 whe
 pub skipped : (keep : CellBox → Bool) (old new : WalkView) (square : Node) → IsBefore (square ∷ []) old new
     → on_areas keep old.tree square ≡ false → IsSkipped keep old new
 skipped keep old new square is fails =
-    let none : kept_in (on_areas keep old.tree) old.tree square ≡ [] = kept_in-failed (on_areas keep old.tree) old.tree square.level square.prefix fails in
+    let none : kept_in (on_areas keep old.tree) old.tree square ≡ [] =
+    kept_in-failed (on_areas keep old.tree) old.tree square.level square.prefix fails in
     let least = weight_in-least (λ square. 1) old.tree square.level square.prefix in
     record {
       left = sym (left_before keep (square ∷ []) old new is
@@ -152,14 +159,17 @@ pub record IsGivenWay (keep : CellBox → Bool) (old new : WalkView) : Type 0 wh
   pub fewer : turns_of new < turns_of old
 
 pub given_way : (keep : CellBox → Bool) (old mid new : WalkView) (square : Node) → IsBefore (square ∷ []) old mid
-    → IsBefore (child_nodes mid.tree square) new mid → 1 ≤ square.level → on_areas keep old.tree square ≡ true → IsGivenWay keep old new
+    → IsBefore (child_nodes mid.tree square) new mid → 1 ≤ square.level → on_areas keep old.tree square ≡ true
+    → IsGivenWay keep old new
 given_way keep old mid new square first rest some holds =
     let below : List Node = child_nodes mid.tree square in
     let same : old.tree ≡ new.tree = sym first.tree ∙ rest.tree in
     let here : child_nodes old.tree square ≡ below = ap (λ (t : Tree). child_nodes t square) (sym first.tree) in
     let numbers : left_in keep old.tree (square ∷ []) ≡ left_in keep new.tree below =
-    ap (λ codes. map (leaf_of old.tree) (codes ++ [])) (kept_in-opened (on_areas keep old.tree) old.tree square.level square.prefix some holds)
-    ∙ ap (map (leaf_of old.tree)) (append-nil (flat_map (kept_in (on_areas keep old.tree) old.tree) (child_nodes old.tree square)))
+    ap (λ codes. map (leaf_of old.tree) (codes ++ []))
+    (kept_in-opened (on_areas keep old.tree) old.tree square.level square.prefix some holds)
+    ∙ ap (map (leaf_of old.tree))
+    (append-nil (flat_map (kept_in (on_areas keep old.tree) old.tree) (child_nodes old.tree square)))
     ∙ ap (left_in keep old.tree) here ∙ ap (λ (t : Tree). left_in keep t below) same in
     let own : reads_of (on_areas keep old.tree) square ≡ 11 = ap (λ b. if b then 11 else 0) holds in
     let reads : weight_in (reads_of (on_areas keep old.tree)) old.tree square ≡ 11 + budget_in keep new.tree below =
@@ -172,12 +182,25 @@ given_way keep old mid new square first rest some holds =
     record {
       left = left_before keep below new mid rest ∙ ap (λ leaves. leaves ++ walk_left keep mid) (sym numbers)
           ∙ sym (left_before keep (square ∷ []) old mid first);
-      budget = omega (arith, budget_before keep below new mid rest, budget_before keep (square ∷ []) old mid first, one_budget keep old.tree square, reads);
-      fewer = omega (arith, turns_before below new mid rest, turns_before (square ∷ []) old mid first, one_turn old.tree square, turns);
+      budget = omega (
+        arith,
+        budget_before keep below new mid rest,
+        budget_before keep (square ∷ []) old mid first,
+        one_budget keep old.tree square,
+        reads,
+      );
+      fewer = omega (
+        arith,
+        turns_before below new mid rest,
+        turns_before (square ∷ []) old mid first,
+        one_turn old.tree square,
+        turns,
+      );
     }
 
 -- what a test says of a square's area it says of the square
-pub test_told : {F : Type 0} (keeps : F → CellBox → Bool) (keep first : F) (result b : Bool) (square : Square) (tree : Tree)
+pub test_told : {F : Type 0} (keeps : F → CellBox → Bool) (keep first : F) (result b : Bool)
+    (square : Square) (tree : Tree)
     → keep ≡ first → result ≡ keeps keep (area_of square) → square.base ≡ tree.base → result ≡ b
     → on_areas (keeps first) tree (node_of square) ≡ b
 test_told keeps keep first result b square tree same told base answer =

@@ -17,23 +17,25 @@ use Rattle.k2_tree.proofs.LeafLemmas.{leaves-numbered}
 use Rattle.k2_tree.proofs.PruningLemmas.{kept_below-all, weight_below-all}
 
 -- what is left at the beginning are the leaves that pass
-pub left_whole : (keep : CellBox → Bool) (tree : Tree) (walk : WalkView) → IsTree tree → walk.tree ≡ tree → walk.pending ≡ top_nodes tree
-    → walk_left keep walk ≡ kept_leaves keep tree
+pub left_whole : (keep : CellBox → Bool) (tree : Tree) (walk : WalkView) → IsTree tree → walk.tree ≡ tree
+    → walk.pending ≡ top_nodes tree → walk_left keep walk ≡ kept_leaves keep tree
 left_whole keep tree walk is same top =
     let test : Node → Bool = on_areas keep tree in
     let codes : List ℕ = codes_of tree in
     let kept : flat_map (kept_in test tree) (top_nodes tree) ≡ filter (passes test tree.height) codes =
-    flat_map-map (kept_in test tree) (node tree.height) (prefixes tree.height codes) ∙ kept_below-all test tree.height codes is.codes.rising in
+    flat_map-map (kept_in test tree) (node tree.height) (prefixes tree.height codes)
+    ∙ kept_below-all test tree.height codes is.codes.rising in
     ap (λ (t : Tree). map (leaf_of t) (flat_map (kept_in (on_areas keep t) t) walk.pending)) same
     ∙ ap (λ squares. map (leaf_of tree) (flat_map (kept_in test tree) squares)) top
     ∙ ap (map (leaf_of tree)) kept
     ∙ leaves-numbered tree.height tree.base (passes test tree.height) codes is.codes
-    ∙ ap (λ cells. filter (λ (leaf : ℕ × Cell). passes test tree.height (morton_of tree.height tree.base leaf.1)) (numbered 0 cells))
+    ∙ ap (λ cells. filter
+    (λ (leaf : ℕ × Cell). passes test tree.height (morton_of tree.height tree.base leaf.1)) (numbered 0 cells))
     (cells_back tree.height tree.base tree.cells is.inside)
 
 -- the budget at the beginning is 11 for each square that passes
-pub budget_whole : (keep : CellBox → Bool) (tree : Tree) (walk : WalkView) → IsTree tree → walk.tree ≡ tree → walk.pending ≡ top_nodes tree
-    → walk_budget keep walk ≡ 11 * square_count keep tree
+pub budget_whole : (keep : CellBox → Bool) (tree : Tree) (walk : WalkView) → IsTree tree → walk.tree ≡ tree
+    → walk.pending ≡ top_nodes tree → walk_budget keep walk ≡ 11 * square_count keep tree
 budget_whole keep tree walk is same top =
     let test : Node → Bool = on_areas keep tree in
     let codes : List ℕ = codes_of tree in

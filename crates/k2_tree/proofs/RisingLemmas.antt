@@ -1,5 +1,6 @@
 -- Ascending lists of numbers: what they hold tells what they are.
-use Rattle.std.proofs.Common.{◌≡◌, ℕ, zero, suc, ◌+◌, ◌<◌, ◌≤◌, ◌==◌, ◌||◌, Bool, true, false, List, [], ◌∷◌, length, get_or, refl, sym, ap, ◌∙◌, inl, inr, arith}
+use Rattle.std.proofs.Common.{◌≡◌, ℕ, zero, suc, ◌+◌, ◌<◌, ◌≤◌, ◌==◌, ◌||◌, Bool}
+use Rattle.std.proofs.Common.{true, false, List, [], ◌∷◌, length, get_or, refl, sym, ap, ◌∙◌, inl, inr, arith}
 use Rattle.std.proofs.lemmas.Bool.Decides.{nat_tests}
 use Rattle.std.proofs.lemmas.Bool.{cases_lt}
 use Rattle.std.specs.List.Sorted.{IsStrictlyIncreasing}
@@ -18,7 +19,9 @@ pub Rises-from_increasing : (n x : ℕ) (xs : List ℕ) → n ≤ x → IsStrict
 Rises-from_increasing n x [] low up = (low, tt)
 Rises-from_increasing n x (y ∷ ys) low up =
     let first : x < y = up 0 (omega arith) in
-    (low, Rises-from_increasing (suc x) y ys (omega arith) (λ k h. let e : suc k + 1 ≡ suc (k + 1) = omega arith in rw e at (up (suc k) (omega arith))))
+    let later : IsStrictlyIncreasing (y ∷ ys) =
+    λ k h. let e : suc k + 1 ≡ suc (k + 1) = omega arith in rw e at (up (suc k) (omega arith)) in
+    (low, Rises-from_increasing (suc x) y ys (omega arith) later)
 
 -- what is compared with itself is equal
 pub same_test : (x : ℕ) → (x == x) ≡ true

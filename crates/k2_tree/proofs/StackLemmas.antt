@@ -1,5 +1,6 @@
 -- The square opened last, and those opened before it.
-use Rattle.std.proofs.Common.{◌≡◌, ℕ, suc, ◌+◌, ◌-◌, ◌≤◌, List, [], ◌∷◌, ◌++◌, length, refl, sym, ap, ◌∙◌, arith, subst, append_assoc, length-append, append-nil}
+use Rattle.std.proofs.Common.{◌≡◌, ℕ, suc, ◌+◌, ◌-◌, ◌≤◌, List, [], ◌∷◌, ◌++◌, length}
+use Rattle.std.proofs.Common.{refl, sym, ap, ◌∙◌, arith, subst, append_assoc, length-append, append-nil}
 use Rattle.track_types.specs.declared.cell.Cell.{Cell}
 use Rattle.std.specs.Prelude.{slice_get}
 use Rattle.k2_tree.specs.Squares.{Node}
@@ -10,7 +11,8 @@ use Rattle.k2_tree.specs.declared.square.Square.{Square}
 use Rattle.k2_tree.specs.declared.pending.Pending.{Pending}
 
 -- the square opened last comes first
-pub open_nodes-append : (front : List Pending) (last : Pending) → open_nodes (front ++ last ∷ []) ≡ nodes_of last ++ open_nodes front
+pub open_nodes-append : (front : List Pending) (last : Pending)
+    → open_nodes (front ++ last ∷ []) ≡ nodes_of last ++ open_nodes front
 unfolding open_nodes
 open_nodes-append [] last = sym (append-nil (nodes_of last))
 open_nodes-append (first ∷ front) last =
@@ -22,8 +24,8 @@ unfolding open_nodes
 open_nodes-nil = refl
 
 -- each level has at most one open square, and the cells none
-pub length-open : (squares : List Node) (base : Cell) (level : ℕ) (stack : List Pending) → AreOpen squares base level stack
-    → length stack ≤ level
+pub length-open : (squares : List Node) (base : Cell) (level : ℕ) (stack : List Pending)
+    → AreOpen squares base level stack → length stack ≤ level
 length-open squares base level [] are = omega arith
 length-open squares base level (first ∷ later) are =
     let rest = length-open squares base (level - 1) later are.1 in
@@ -57,7 +59,8 @@ pub taken : (squares : List Node) (base : Cell) (level : ℕ) (front : List Pend
 taken squares base level front old new child are nodes same number later below square =
     let both = AreOpen-parted squares base level front old are in
     let last : IsOpen squares base (level - length front) old = both.1 in
-    let all : StandsAt squares old.number (node_of child ∷ nodes_of new) = subst (StandsAt squares old.number) nodes last.stands in
+    let all : StandsAt squares old.number (node_of child ∷ nodes_of new) =
+    subst (StandsAt squares old.number) nodes last.stands in
     let next : suc old.number ≡ new.number = omega (arith, later) in
     let is : IsOpen squares base (level - length front) new = record {
       high = ap (λ (s : Square). level_of s) square ∙ last.high;

@@ -1,5 +1,6 @@
 -- Where the squares of a tree stand in its bits: a child by rank, a parent by select.
-use Rattle.std.proofs.Common.{◌≡◌, ℕ, zero, suc, ◌+◌, ◌*◌, ◌<◌, Bool, true, false, cond, List, [], ◌∷◌, ◌++◌, length, map, filter, take, get_or, refl, sym, ap, ◌∙◌, arith, append_assoc, length-append}
+use Rattle.std.proofs.Common.{◌≡◌, ℕ, zero, suc, ◌+◌, ◌*◌, ◌<◌, Bool, true, false, cond, List, [], ◌∷◌, ◌++◌}
+use Rattle.std.proofs.Common.{length, map, filter, take, get_or, refl, sym, ap, ◌∙◌, arith, append_assoc, length-append}
 use Rattle.std.proofs.lemmas.List.{length-map}
 use Rattle.packed_bits.specs.Bits.{ones_of}
 use Rattle.bit_rank.specs.Bits.{rank_of}
@@ -31,7 +32,8 @@ length-longer [] = refl
 length-longer (x ∷ xs) = let rest = length-longer xs in omega arith
 
 -- the longer prefixes by place
-pub get_or-longer : (xs : List ℕ) (i d : ℕ) → i < length xs → d < 4 → get_or (longer xs) (4 * i + d) 0 ≡ 4 * get_or xs i 0 + d
+pub get_or-longer : (xs : List ℕ) (i d : ℕ) → i < length xs → d < 4
+    → get_or (longer xs) (4 * i + d) 0 ≡ 4 * get_or xs i 0 + d
 unfolding longer
 get_or-longer [] i d within small = absurd (omega arith)
 get_or-longer (x ∷ xs) zero zero within small = omega arith
@@ -80,26 +82,33 @@ rank_of-map p xs q = ap ones_of (take_of_map xs q) ∙ ones_of-map p (take q xs)
 
 -- what a test keeps stands after what it kept before
 pub get_or-filter : (p : ℕ → Bool) (xs : List ℕ) (q : ℕ) → q < length xs → p (get_or xs q 0) ≡ true
-    → (length (filter p (take q xs)) < length (filter p xs)) × (get_or (filter p xs) (length (filter p (take q xs))) 0 ≡ get_or xs q 0)
+    → (length (filter p (take q xs)) < length (filter p xs))
+    × (get_or (filter p xs) (length (filter p (take q xs))) 0 ≡ get_or xs q 0)
 get_or-filter p [] q within kept = absurd (omega arith)
 get_or-filter p (x ∷ xs) zero within kept = rw kept (omega arith, refl)
 get_or-filter p (x ∷ xs) (suc q) within kept = by_kept (p x) refl (get_or-filter p xs q (omega arith) kept)
   where
     by_kept : (b : Bool) → p x ≡ b
-        → (length (filter p (take q xs)) < length (filter p xs)) × (get_or (filter p xs) (length (filter p (take q xs))) 0 ≡ get_or xs q 0)
-        → (length (filter p (take (suc q) (x ∷ xs))) < length (filter p (x ∷ xs))) × (get_or (filter p (x ∷ xs)) (length (filter p (take (suc q) (x ∷ xs)))) 0 ≡ get_or xs q 0)
-    by_kept true e rest = rw e (let less : length (filter p (take q xs)) < length (filter p xs) = rest.0 in omega arith, rest.1)
+        → (length (filter p (take q xs)) < length (filter p xs))
+        × (get_or (filter p xs) (length (filter p (take q xs))) 0 ≡ get_or xs q 0)
+        → (length (filter p (take (suc q) (x ∷ xs))) < length (filter p (x ∷ xs)))
+        × (get_or (filter p (x ∷ xs)) (length (filter p (take (suc q) (x ∷ xs)))) 0 ≡ get_or xs q 0)
+    by_kept true e rest =
+        rw e (let less : length (filter p (take q xs)) < length (filter p xs) = rest.0 in omega arith, rest.1)
     by_kept false e rest = rw e rest
 
 -- a level has as many ones as squares
-pub ones_of-level_bits : (n : ℕ) (codes : List ℕ) → Rises 0 codes → ones_of (level_bits n codes) ≡ length (prefixes n codes)
+pub ones_of-level_bits : (n : ℕ) (codes : List ℕ) → Rises 0 codes
+    → ones_of (level_bits n codes) ≡ length (prefixes n codes)
 unfolding level_bits
 ones_of-level_bits n codes up =
-    ones_of-map (is_in (prefixes n codes)) (longer (prefixes (suc n) codes)) ∙ ap length (prefixes-from_longer n codes up)
+    ones_of-map (is_in (prefixes n codes)) (longer (prefixes (suc n) codes))
+    ∙ ap length (prefixes-from_longer n codes up)
 
 -- the ones of the upper levels are the squares in them and of this level, but for the topmost
 pub ones_of-upper_bits : (k n height : ℕ) (codes : List ℕ) → Rises 0 codes → k + n ≡ height
-    → ones_of (upper_bits k n codes) + length (prefixes height codes) ≡ squares_above k n codes + length (prefixes n codes)
+    → ones_of (upper_bits k n codes) + length (prefixes height codes)
+    ≡ squares_above k n codes + length (prefixes n codes)
 unfolding upper_bits squares_above
 ones_of-upper_bits zero n height codes up high =
     let e : height ≡ n = omega arith in

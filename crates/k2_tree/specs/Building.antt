@@ -1,5 +1,6 @@
 -- How a level's bits grow from number to number.
-use Rattle.std.specs.Prelude.{ℕ, zero, suc, ◌+◌, ◌-◌, ◌*◌, ◌/◌, ◌^◌, ◌==◌, Bool, true, false, if◌then◌else◌, List, [], ◌∷◌, length, slice_index, slice_set}
+use Rattle.std.specs.Prelude.{ℕ, zero, suc, ◌+◌, ◌-◌, ◌*◌, ◌/◌, ◌^◌, ◌==◌, Bool}
+use Rattle.std.specs.Prelude.{true, false, if◌then◌else◌, List, [], ◌∷◌, length, slice_index, slice_set}
 
 -- the four places of a square whose first number is the i-th, and none where the number before is in the square too
 abbrev pub room : List ℕ → ℕ → ℕ → List Bool

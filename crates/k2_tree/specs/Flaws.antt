@@ -1,5 +1,6 @@
 -- The first flaw of bits that are no tree's.
-use Rattle.std.specs.Prelude.{◌≡◌, ℕ, zero, suc, ◌+◌, ◌*◌, Bool, ◌&&◌, nat_le, if◌then◌else◌, List, [], ◌∷◌, length, take, drop, Option, None, Some}
+use Rattle.std.specs.Prelude.{◌≡◌, ℕ, zero, suc, ◌+◌, ◌*◌, Bool, ◌&&◌, nat_le, if◌then◌else◌, List, [], ◌∷◌}
+use Rattle.std.specs.Prelude.{length, take, drop, Option, None, Some}
 use Rattle.std.specs.Option.{option_map, option_or}
 use Rattle.std.specs.List.{list_any}
 use Rattle.packed_bits.specs.Bits.{ones_of}
@@ -24,7 +25,8 @@ unfoldable pub level_flaw : ℕ → ℕ → List Bool → Option ℕ
 level_flaw zero groups [] = None
 level_flaw zero groups (bit ∷ bits) = Some 0
 level_flaw (suc n) groups bits = option_or (group_flaw groups bits)
-    (option_map (λ place. fan * groups + place) (level_flaw n (ones_of (take (fan * groups) bits)) (drop (fan * groups) bits)))
+    (option_map (λ place. fan * groups + place)
+    (level_flaw n (ones_of (take (fan * groups) bits)) (drop (fan * groups) bits)))
 
 -- the place of the first flaw of bits that are no tree's of this height
 unfoldable pub tree_flaw : ℕ → List Bool → Option ℕ

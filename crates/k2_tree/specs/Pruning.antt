@@ -1,6 +1,6 @@
 -- The leaves all of whose squares pass a test, and how many squares do.
-use Rattle.std.specs.Prelude.{◌≡◌, ℕ, zero, suc, ◌+◌, ◌-◌, ◌/◌, ◌^◌, Bool, ◌&&◌, nat_lt, if◌then◌else◌, IsTrue, Some, slice_get}
-use Rattle.std.specs.Prelude.{List, [], ◌∷◌, length, map, filter}
+use Rattle.std.specs.Prelude.{◌≡◌, ℕ, zero, suc, ◌+◌, ◌-◌, ◌/◌, ◌^◌, Bool, ◌&&◌, nat_lt, if◌then◌else◌, IsTrue}
+use Rattle.std.specs.Prelude.{Some, slice_get, List, [], ◌∷◌, length, map, filter}
 use Rattle.std.specs.List.{flat_map, sum_by}
 use Rattle.track_types.specs.declared.cell.Cell.{Cell}
 use Rattle.track_types.specs.declared.cell_box.CellBox.{CellBox}
@@ -44,11 +44,13 @@ on_areas keep tree square = keep (area_at tree.base square)
 -- the leaves for which a test is true on each square from the top to the cell, each with its number
 abbrev pub kept_leaves : (CellBox → Bool) → Tree → List (ℕ × Cell)
 kept_leaves keep tree =
-    filter (λ leaf. passes (on_areas keep tree) tree.height (morton_of tree.height tree.base leaf.1)) (numbered 0 tree.cells)
+    filter (λ leaf. passes (on_areas keep tree) tree.height (morton_of tree.height tree.base leaf.1))
+    (numbered 0 tree.cells)
 
 -- the test keeps each box in which a wanted cell lies
 abbrev pub IsKeptFor : (CellBox → Bool) → (Cell → Bool) → Type 0
-IsKeptFor keep wanted = (area : CellBox) (cell : Cell) → IsTrue (in_box area cell) → IsTrue (wanted cell) → IsTrue (keep area)
+IsKeptFor keep wanted =
+    (area : CellBox) (cell : Cell) → IsTrue (in_box area cell) → IsTrue (wanted cell) → IsTrue (keep area)
 
 -- those of the leaves whose cells are wanted
 abbrev pub wanted_of : (Cell → Bool) → List (ℕ × Cell) → List (ℕ × Cell)

@@ -1,5 +1,6 @@
 -- Squares that are still to be visited, the next one first.
-use Rattle.std.specs.Prelude.{◌≡◌, ℕ, ◌+◌, ◌-◌, ◌≤◌, Bool, is_none, List, [], ◌∷◌, ◌++◌, length, map, slice_get, Option, None, Some, ⊤}
+use Rattle.std.specs.Prelude.{◌≡◌, ℕ, ◌+◌, ◌-◌, ◌≤◌, Bool, is_none, List, [], ◌∷◌, ◌++◌}
+use Rattle.std.specs.Prelude.{length, map, slice_get, Option, None, Some, ⊤}
 use Rattle.track_types.specs.declared.cell.Cell.{Cell}
 use Rattle.track_types.specs.declared.limit.TheConstants.{MAX_HEIGHT}
 use Rattle.k2_tree.specs.TreeBits.{prefixes}
@@ -49,10 +50,12 @@ pub record IsOpen (squares : List Node) (base : Cell) (level : ℕ) (pending : P
 -- so are all open squares, one of each level from this one downwards
 abbrev pub AreOpen : List Node → Cell → ℕ → List Pending → Type 0
 AreOpen squares base level [] = Unit {0}
-AreOpen squares base level (pending ∷ later) = IsOpen squares base level pending × AreOpen squares base (level - 1) later
+AreOpen squares base level (pending ∷ later) =
+    IsOpen squares base level pending × AreOpen squares base (level - 1) later
 
 -- the square is a child that stands among the squares, and was taken from the square opened last
-pub record IsTaken (squares : List Node) (base : Cell) (level : ℕ) (square : Square) (stack : List Pending) : Type 0 where
+pub record IsTaken (squares : List Node) (base : Cell) (level : ℕ) (square : Square)
+    (stack : List Pending) : Type 0 where
   pub same : square.base ≡ base
   pub stands : slice_get squares (number_of square) ≡ Some (node_of square)
   pub depth : level_of square + length stack ≡ level

@@ -7,8 +7,8 @@ use track_types::BitList;
 
 /// The place of the first flaw of bits that are no tree's of this height, in one pass over them.
 ///
-/// Each level has as many groups of four bits as the level above it has ones, and the first has one.
-/// No memory is taken.
+/// Each level has as many groups of four bits as the level above it has ones, and the first has
+/// one. No memory is taken.
 pub fn first_flaw(bits: &BitList, height: u32) -> Option<u32>
     requires { length bits.now ≤ 2 ^ 31 }
     ensures { result ≡ tree_flaw height bits.now }

@@ -7,8 +7,8 @@ use bit_rank::Bits;
 use std::sync::ledger::Ledger;
 use step_count::Steps;
 
-/// The Morton number of a leaf: from the leaf to the top, by the place of one bit at each level. The
-/// one of a square's number stands in its parent's four bits, at the place of its last digit.
+/// The Morton number of a leaf: from the leaf to the top, by the place of one bit at each level.
+/// The one of a square's number stands in its parent's four bits, at the place of its last digit.
 pub fn code_of_leaf<L: Ledger>(bits: &Bits, height: u32, leaf: u32, steps: &mut Steps<L>) -> u64
     requires tree { AreTreeBits height bits.now }
     requires low { height ≤ MAX_HEIGHT }

@@ -9,8 +9,8 @@ use bit_rank::Bits;
 use std::sync::ledger::Ledger;
 use step_count::Steps;
 
-/// The place of a Morton number among those that the bits tell, if it is one of them: from the top to
-/// its leaf, by the rank of one bit at each level.
+/// The place of a Morton number among those that the bits tell, if it is one of them: from the top
+/// to its leaf, by the rank of one bit at each level.
 pub fn find_leaf<L: Ledger>(
     bits: &Bits,
     height: u32,

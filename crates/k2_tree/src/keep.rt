@@ -6,8 +6,8 @@ use track_types::CellBox;
 
 /// A test of boxes, by which a walk over a tree skips squares.
 ///
-/// Its meaning, `keeps`, tells for each box whether it is kept. It is determined by the value and the
-/// box.
+/// Its meaning, `keeps`, tells for each box whether it is kept. It is determined by the value and
+/// the box.
 pub trait Keep {
     ghost keeps: { Self → CellBox → Bool };
 

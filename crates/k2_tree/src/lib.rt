@@ -1,8 +1,8 @@
 //! k2-trees: sets of grid cells as bits that answer rank and select.
 //!
 //! A `K2Tree` is a set of cells in a square grid. Its cells are numbered in Morton order, and
-//! `leaf_of` and `leaf_cell` go from a cell to its number and back within a bounded number of reads.
-//! The crate stands on `track_types`, `bit_rank` and `step_count`.
+//! `leaf_of` and `leaf_cell` go from a cell to its number and back within a bounded number of
+//! reads. The crate stands on `track_types`, `bit_rank` and `step_count`.
 #![tactic(auto)]
 
 mod building;

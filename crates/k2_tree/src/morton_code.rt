@@ -5,9 +5,10 @@ ghost use Rattle.k2_tree.specs.Morton.{cell_of, column_of, interleaved, morton_o
 use std::alloc::Global;
 use track_types::{Cell, MAX_HEIGHT, Memory};
 
-/// The Morton number of a cell in the grid of side `2^height` from the base cell: `height` digits to
-/// base 4, the highest first. Each digit is twice a bit of the row and the same bit of the column,
-/// both counted from the base (G. M. Morton, "A computer oriented geodetic data base", 1966).
+/// The Morton number of a cell in the grid of side `2^height` from the base cell: `height` digits
+/// to base 4, the highest first. Each digit is twice a bit of the row and the same bit of the
+/// column, both counted from the base (G. M. Morton, "A computer oriented geodetic data base",
+/// 1966).
 pub fn morton(cell: Cell, height: u32, base: Cell) -> u64
     requires grid { IsGrid height base }
     requires inside { IsInGrid height base cell }

@@ -48,7 +48,8 @@ impl Pending {
     /// Takes the next child off and answers it.
     pub fn next(&mut self) -> Option<Square>
         ensures none { IfNone result (nodes_of self.old ≡ []) }
-        ensures found { IfSome result (λ child. nodes_of self.old ≡ node_of child ∷ nodes_of self.new) }
+        ensures found { IfSome result (λ child.
+            nodes_of self.old ≡ node_of child ∷ nodes_of self.new) }
         ensures base { IfSome result (λ child. child.base ≡ self.old.square.base) }
         ensures number { IfSome result (λ child. number_of child ≡ self.old.number) }
         ensures later { IfSome result (λ child. self.new.number ≡ self.old.number + 1) }

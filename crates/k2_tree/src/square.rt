@@ -5,11 +5,11 @@ ghost use Rattle.track_types.specs.declared.limit.TheConstants.{MAX_HEIGHT};
 
 use track_types::{Cell, CellBox};
 
-/// A square of a tree that holds a cell: the whole grid, one of the four squares that a square of the
-/// tree is split in, and so on down to a cell.
+/// A square of a tree that holds a cell: the whole grid, one of the four squares that a square of
+/// the tree is split in, and so on down to a cell.
 ///
-/// It is a node of the k2-tree. It knows its place in the grid and its number among the squares that
-/// hold a cell, level by level from the top.
+/// It is a node of the k2-tree. It knows its place in the grid and its number among the squares
+/// that hold a cell, level by level from the top.
 #[derive(Clone, Copy, Debug)]
 pub struct Square {
     base: Cell,

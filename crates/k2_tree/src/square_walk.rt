@@ -18,8 +18,8 @@ use track_types::{Cell, MAX_HEIGHT};
 // One open square for each level above the cells.
 const LEVELS: usize = MAX_HEIGHT as usize;
 
-/// A way over the squares of a tree in Morton order, in which each square is followed by its children
-/// where it is opened, and else by what comes behind them.
+/// A way over the squares of a tree in Morton order, in which each square is followed by its
+/// children where it is opened, and else by what comes behind them.
 ///
 /// It keeps one entry for each level. Contracts see the tree, the squares that are still to be
 /// visited, the next one first, and how many squares are open.
@@ -62,7 +62,8 @@ impl<'a> SquareWalk<'a> {
         ensures pending { self.old.pending ≡ found_nodes result ++ self.new.pending }
         ensures of { IfSome result (λ square. IsSquareOf self.old.tree square) }
         ensures begun { self.new.begun ≡ true }
-        ensures depth { IfSome result (λ square. level_of square + self.new.depth ≡ self.old.tree.height) }
+        ensures depth { IfSome result (λ square.
+            level_of square + self.new.depth ≡ self.old.tree.height) }
     {
         if let Some(whole) = self.whole.take() {
             return Some(whole);
@@ -77,7 +78,8 @@ impl<'a> SquareWalk<'a> {
         requires depth { level_of square + self.old.depth ≡ self.old.tree.height }
         requires begun { self.old.begun ≡ true }
         ensures tree { self.new.tree ≡ self.old.tree }
-        ensures pending { self.new.pending ≡ child_nodes self.old.tree (node_of square) ++ self.old.pending }
+        ensures pending { self.new.pending
+            ≡ child_nodes self.old.tree (node_of square) ++ self.old.pending }
         ensures cost { steps.new ≤ steps.old + 11 }
     {
         self.stack.push(self.tree.children_of(square, steps));
@@ -101,7 +103,8 @@ fn next_child(stack: &mut ArrayVec<Pending, LEVELS>) -> Option<Square>
     ensures none { IfNone result (open_nodes stack.old.items ≡ []) }
     ensures nodes { open_nodes stack.old.items ≡ found_nodes result ++ open_nodes stack.new.items }
     ensures taken { IfSome result (λ child. (squares : List Node) (base : Cell) (level : ℕ)
-        → AreOpen squares base level stack.old.items → IsTaken squares base level child stack.new.items) }
+        → AreOpen squares base level stack.old.items
+        → IsTaken squares base level child stack.new.items) }
     ensures empty { IfNone result (stack.new.items ≡ []) }
 {
     while let Some(mut pending) = stack.pop() {

@@ -34,8 +34,8 @@ use track_types::{BitList, Cell, Memory};
 /// A set of cells in the grid of side `2^height` whose least corner is a base cell.
 ///
 /// The bits are those of a k2-tree (Brisaboa, Ladra and Navarro, "Compact representation of web
-/// graphs with extended functionality", 2014): level by level from the top, four bits for each square
-/// that holds a cell. The cells are its leaves, numbered from 0 in Morton order.
+/// graphs with extended functionality", 2014): level by level from the top, four bits for each
+/// square that holds a cell. The cells are its leaves, numbered from 0 in Morton order.
 #[derive(Drop)]
 pub struct K2Tree {
     bits: Bits,
@@ -77,9 +77,9 @@ impl K2Tree {
 
     /// Takes bits as a tree, in one pass over them.
     ///
-    /// There are at most 2^31 bits. The height is 1 to 20, and the base's coordinates are within 2^41
-    /// of 0. `Flaw` says at which place the bits first fail to be a tree's of this height. Memory is
-    /// taken for the directory alone.
+    /// There are at most 2^31 bits. The height is 1 to 20, and the base's coordinates are within
+    /// 2^41 of 0. `Flaw` says at which place the bits first fail to be a tree's of this height.
+    /// Memory is taken for the directory alone.
     pub fn check(alloc: Global, bits: BitList, height: u32, base: Cell) -> Result<K2Tree, TreeFault>
         requires grid { IsGrid height base }
         requires few { length bits ≤ 2 ^ 31 }
@@ -171,7 +171,8 @@ impl K2Tree {
         ensures none { IfNone result (holds_cell self.now
             (child_at (node_of square.now) digit) ≡ false) }
         ensures found { IfSome result (λ child. IsSquareOf self.now child) }
-        ensures node { IfSome result (λ child. node_of child ≡ child_at (node_of square.now) digit) }
+        ensures node { IfSome result (λ child.
+            node_of child ≡ child_at (node_of square.now) digit) }
         ensures cost { steps.new ≤ steps.old + 11 }
     {
         let Some(number) = child_of(&self.bits, square.number(), digit, steps) else {
@@ -180,8 +181,8 @@ impl K2Tree {
         Some(square.child(digit, number))
     }
 
-    /// The number of the leaf that a square is, which is one of this tree's. It reads nothing that is
-    /// counted.
+    /// The number of the leaf that a square is, which is one of this tree's. It reads nothing that
+    /// is counted.
     pub fn leaf_number<L: Ledger>(&self, square: &Square, steps: &mut Steps<L>) -> u32
         requires of { IsSquareOf self.now square.now }
         requires leaf { level_of square.now ≡ 0 }
@@ -192,10 +193,11 @@ impl K2Tree {
         square.number() - self.bits.len() / FAN
     }
 
-    /// The leaves for which `keep` is true on every square from the whole grid to the cell itself, in
-    /// Morton order, each with its cell. A square that fails is skipped with all that is in it, so that
-    /// nothing is lost where `keep` is false only on boxes in which nothing wanted lies. It takes no
-    /// memory, and its draws read at most 11 for each square with a cell on which `keep` is true.
+    /// The leaves for which `keep` is true on every square from the whole grid to the cell itself,
+    /// in Morton order, each with its cell. A square that fails is skipped with all that is in it,
+    /// so that nothing is lost where `keep` is false only on boxes in which nothing wanted lies. It
+    /// takes no memory, and its draws read at most 11 for each square with a cell on which `keep`
+    /// is true.
     pub fn pruned<F: Keep>(&self, keep: F) -> Pruned<'_, F>
         ensures tree { pruned_tree result ≡ self.now }
         ensures left { pruned_left F.keeps result ≡ kept_leaves (F.keeps keep) self.now }
@@ -207,8 +209,8 @@ impl K2Tree {
         Pruned::new(SquareWalk::new(self), keep)
     }
 
-    // The children that hold a cell of a square of this tree that is no cell, in order: one window tells
-    // which there are, and one rank their numbers.
+    // The children that hold a cell of a square of this tree that is no cell, in order: one window
+    // tells which there are, and one rank their numbers.
     pub(crate) fn children_of<L: Ledger>(&self, square: Square, steps: &mut Steps<L>) -> Pending
         requires of { IsSquareOf self.now square }
         requires inner { 1 ≤ level_of square }

@@ -45,7 +45,8 @@ fn random_cells(alloc: Global, seed: u64, one_in: u64) -> Result<Vec<Cell>, Allo
     requires { 1 ≤ one_in }
     ensures few { IfOk result (λ cells. length cells.items ≤ CELLS) }
     ensures inside { IfOk result (λ cells. All (IsInGrid HEIGHT BASE) cells.items) }
-    ensures ascending { IfOk result (λ cells. IsStrictlyIncreasing (map (morton_of HEIGHT BASE) cells.items)) }
+    ensures ascending { IfOk result (λ cells.
+        IsStrictlyIncreasing (map (morton_of HEIGHT BASE) cells.items)) }
 {
     let codes = random_codes(alloc, seed, one_in)?;
     cells_of(alloc, codes.as_slice())

@@ -15,11 +15,15 @@ loop-init g c = record {
 
 pub select1-place-requires-clause-from_one : goal.select1-place-requires-clause-from_one
 select1-place-requires-clause-from_one g c =
-    (has_one c.args.height c.args.bits.now c.args.leaf c.loop.counter c.loop.square c.loop.code c.loop.weight c.requires.tree c.loop.invariant.climb (omega arith)).0
+    let now = c.loop in
+    (has_one c.args.height c.args.bits.now c.args.leaf now.counter now.square now.code now.weight c.requires.tree
+    now.invariant.climb (omega arith)).0
 
 pub select1-place-requires-clause-enough : goal.select1-place-requires-clause-enough
 select1-place-requires-clause-enough g c =
-    (has_one c.args.height c.args.bits.now c.args.leaf c.loop.counter c.loop.square c.loop.code c.loop.weight c.requires.tree c.loop.invariant.climb (omega arith)).1
+    let now = c.loop in
+    (has_one c.args.height c.args.bits.now c.args.leaf now.counter now.square now.code now.weight c.requires.tree
+    now.invariant.climb (omega arith)).1
 
 -- the digit that is added, at its weight
 digit_at : (a b w : ℕ) → a ≡ b → a * w ≡ b * w
@@ -27,28 +31,42 @@ digit_at a b w e = ap (λ z. z * w) e
 
 pub overflow_mul-code : goal.overflow_mul-code
 overflow_mul-code g c =
-    let up = (climbs c.args.height c.args.bits.now c.args.leaf c.loop.counter c.loop.square c.loop.code c.loop.weight c.select1-place.result c.requires.tree c.requires.low c.requires.within c.loop.invariant.climb (omega arith) c.select1-place.ensures.place) in
-    omega (arith, up.0, digit_at c.from.result (c.select1-place.result % 4) c.loop.weight c.from.ensures)
+    let now = c.loop in
+    let up = climbs c.args.height c.args.bits.now c.args.leaf now.counter now.square now.code now.weight
+    c.select1-place.result c.requires.tree c.requires.low c.requires.within now.invariant.climb (omega arith)
+    c.select1-place.ensures.place in
+    omega (arith, up.0, digit_at c.from.result (c.select1-place.result % 4) now.weight c.from.ensures)
 
 pub overflow_add-code : goal.overflow_add-code
 overflow_add-code g c =
-    let up = (climbs c.args.height c.args.bits.now c.args.leaf c.loop.counter c.loop.square c.loop.code c.loop.weight c.select1-place.result c.requires.tree c.requires.low c.requires.within c.loop.invariant.climb (omega arith) c.select1-place.ensures.place) in
-    omega (arith, up.0, digit_at c.from.result (c.select1-place.result % 4) c.loop.weight c.from.ensures)
+    let now = c.loop in
+    let up = climbs c.args.height c.args.bits.now c.args.leaf now.counter now.square now.code now.weight
+    c.select1-place.result c.requires.tree c.requires.low c.requires.within now.invariant.climb (omega arith)
+    c.select1-place.ensures.place in
+    omega (arith, up.0, digit_at c.from.result (c.select1-place.result % 4) now.weight c.from.ensures)
 
 pub overflow_mul-weight : goal.overflow_mul-weight
 overflow_mul-weight g c =
-    let up = (climbs c.args.height c.args.bits.now c.args.leaf c.loop.counter c.loop.square c.loop.code c.loop.weight c.select1-place.result c.requires.tree c.requires.low c.requires.within c.loop.invariant.climb (omega arith) c.select1-place.ensures.place) in
+    let now = c.loop in
+    let up = climbs c.args.height c.args.bits.now c.args.leaf now.counter now.square now.code now.weight
+    c.select1-place.result c.requires.tree c.requires.low c.requires.within now.invariant.climb (omega arith)
+    c.select1-place.ensures.place in
     omega (arith, up.1)
 
 pub loop-preserved : goal.loop-preserved
 loop-preserved g c =
-    let up = (climbs c.args.height c.args.bits.now c.args.leaf c.loop.counter c.loop.square c.loop.code c.loop.weight c.select1-place.result c.requires.tree c.requires.low c.requires.within c.loop.invariant.climb (omega arith) c.select1-place.ensures.place) in
+    let now = c.loop in
+    let up = climbs c.args.height c.args.bits.now c.args.leaf now.counter now.square now.code now.weight
+    c.select1-place.result c.requires.tree c.requires.low c.requires.within now.invariant.climb (omega arith)
+    c.select1-place.ensures.place in
     record {
-      climb = subst (λ d. IsClimb c.args.height c.args.bits.now c.args.leaf (c.loop.counter + 1) (c.select1-place.result / 4) (c.loop.code + d * c.loop.weight) (c.loop.weight * 4))
-          (sym c.from.ensures) up.2;
-      cost = omega (arith, c.loop.invariant.cost, c.select1-place.ensures.cost);
+      climb = subst (λ d. IsClimb c.args.height c.args.bits.now c.args.leaf (now.counter + 1)
+          (c.select1-place.result / 4) (now.code + d * now.weight) (now.weight * 4)) (sym c.from.ensures) up.2;
+      cost = omega (arith, now.invariant.cost, c.select1-place.ensures.cost);
     }
 
 pub returns-clause-value : goal.returns-clause-value
 returns-clause-value g c =
-    arrives_at_top c.args.height c.args.bits.now c.args.leaf c.loop.counter c.loop.square c.loop.code c.loop.weight c.requires.tree c.requires.within (omega arith) c.loop.invariant.climb
+    let now = c.loop in
+    arrives_at_top c.args.height c.args.bits.now c.args.leaf now.counter now.square now.code now.weight
+    c.requires.tree c.requires.within (omega arith) now.invariant.climb

@@ -12,25 +12,36 @@ loop-level-init g c = record {
 
 pub child_of-requires-clause-inside : goal.child_of-requires-clause-inside
 child_of-requires-clause-inside g c =
-    reads_inside c.args.height c.args.code c.loop-level.level c.loop-level.square c.args.bits.now c.requires.tree (omega arith) c.loop-level.invariant.here
+    let now = c.loop-level in
+    reads_inside c.args.height c.args.code now.level now.square c.args.bits.now c.requires.tree (omega arith)
+    now.invariant.here
 
 pub returns-in_default-clause-value : goal.returns-in_default-clause-value
 returns-in_default-clause-value g c =
-    ends c.args.height c.args.code c.loop-level.level c.loop-level.square c.args.bits.now c.requires.tree (omega arith) c.loop-level.invariant.here
-    c.in_default.ensures.value
+    let now = c.loop-level in
+    ends c.args.height c.args.code now.level now.square c.args.bits.now c.requires.tree (omega arith)
+    now.invariant.here c.in_default.ensures.value
 
 pub loop-level-preserved : goal.loop-level-preserved
-loop-level-preserved g c = record {
-  here = goes_on c.args.height c.args.code c.loop-level.level c.loop-level.square c.in-Some.child c.args.bits.now c.requires.tree (omega arith) c.loop-level.invariant.here
-      c.in-Some.ensures.value.0 c.in-Some.ensures.value.1;
-  cost = omega (arith, c.loop-level.invariant.cost, c.in-Some.ensures.cost);
-}
+loop-level-preserved g c =
+    let now = c.loop-level in
+    let told = c.in-Some.ensures.value in
+    record {
+      here = goes_on c.args.height c.args.code now.level now.square c.in-Some.child c.args.bits.now c.requires.tree
+          (omega arith) now.invariant.here told.0 told.1;
+      cost = omega (arith, now.invariant.cost, c.in-Some.ensures.cost);
+    }
 
 pub overflow_sub-result : goal.overflow_sub-result
 overflow_sub-result g c =
-    omega (arith, c.len.ensures, (arrives c.args.height c.args.code c.loop-level.level c.loop-level.square c.args.bits.now c.requires.tree (omega arith) c.loop-level.invariant.here).0)
+    let now = c.loop-level in
+    let end = arrives c.args.height c.args.code now.level now.square c.args.bits.now c.requires.tree (omega arith)
+    now.invariant.here in
+    omega (arith, c.len.ensures, end.0)
 
 pub returns-clause-value : goal.returns-clause-value
 returns-clause-value g c =
-    ap (λ n. slice_get (codes_in c.args.height c.args.bits.now) (c.loop-level.square - n / 4)) c.len.ensures
-    ∙ (arrives c.args.height c.args.code c.loop-level.level c.loop-level.square c.args.bits.now c.requires.tree (omega arith) c.loop-level.invariant.here).1
+    let now = c.loop-level in
+    let end = arrives c.args.height c.args.code now.level now.square c.args.bits.now c.requires.tree (omega arith)
+    now.invariant.here in
+    ap (λ n. slice_get (codes_in c.args.height c.args.bits.now) (now.square - n / 4)) c.len.ensures ∙ end.1

@@ -1,4 +1,4 @@
-use Rattle.std.proofs.Common.{◌≡◌, ◌^◌, ◌/◌, ◌-◌, refl, arith, ◌∙◌}
+use Rattle.std.proofs.Common.{◌≡◌, ◌≤◌, ◌^◌, ◌/◌, ◌-◌, refl, arith, ◌∙◌}
 use Rattle.k2_tree.specs.Morton.{interleaved}
 use Rattle.k2_tree.proofs.MortonLemmas.{interleaved-small, interleaved-down, interleaved-whole}
 use Rattle.k2_tree.proofs.morton_code.interleave.Goals as goal
@@ -9,15 +9,24 @@ loop-level-init c = let none : c.args.height - c.args.height ≡ 0 = omega arith
 
 pub overflow_mul-code : goal.overflow_mul-code
 overflow_mul-code c =
-    omega (arith, c.loop-level.invariant, interleaved-small (c.args.height - c.loop-level.level) (c.args.row / 2 ^ c.loop-level.level) (c.args.column / 2 ^ c.loop-level.level) (omega arith))
+    let level = c.loop-level.level in
+    let few : c.args.height - level ≤ 20 = omega arith in
+    let small = interleaved-small (c.args.height - level) (c.args.row / 2 ^ level) (c.args.column / 2 ^ level) few in
+    omega (arith, c.loop-level.invariant, small)
 
 pub overflow_add-code : goal.overflow_add-code
 overflow_add-code c =
-    omega (arith, c.loop-level.invariant, interleaved-small (c.args.height - c.loop-level.level) (c.args.row / 2 ^ c.loop-level.level) (c.args.column / 2 ^ c.loop-level.level) (omega arith))
+    let level = c.loop-level.level in
+    let few : c.args.height - level ≤ 20 = omega arith in
+    let small = interleaved-small (c.args.height - level) (c.args.row / 2 ^ level) (c.args.column / 2 ^ level) few in
+    omega (arith, c.loop-level.invariant, small)
 
 pub overflow_add-code-in-loop-level : goal.overflow_add-code-in-loop-level
 overflow_add-code-in-loop-level c =
-    omega (arith, c.loop-level.invariant, interleaved-small (c.args.height - c.loop-level.level) (c.args.row / 2 ^ c.loop-level.level) (c.args.column / 2 ^ c.loop-level.level) (omega arith))
+    let level = c.loop-level.level in
+    let few : c.args.height - level ≤ 20 = omega arith in
+    let small = interleaved-small (c.args.height - level) (c.args.row / 2 ^ level) (c.args.column / 2 ^ level) few in
+    omega (arith, c.loop-level.invariant, small)
 
 pub loop-level-preserved : goal.loop-level-preserved
 loop-level-preserved c =

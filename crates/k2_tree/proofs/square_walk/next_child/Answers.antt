@@ -14,7 +14,8 @@ pub returns-in-Some-next-clause-nodes : goal.returns-in-Some-next-clause-nodes
 returns-in-Some-next-clause-nodes c =
     let front = c.pop.new.self.items in
     let child = c.in-Some-next.child in
-    sym c.loop-pending.invariant.nodes ∙ ap open_nodes c.in-Some.ensures.items ∙ open_nodes-append front c.in-Some.pending
+    sym c.loop-pending.invariant.nodes ∙ ap open_nodes c.in-Some.ensures.items
+    ∙ open_nodes-append front c.in-Some.pending
     ∙ ap (λ nodes. nodes ++ open_nodes front) c.in-Some-next.ensures.found
     ∙ ap (λ nodes. node_of child ∷ nodes) (sym (open_nodes-append front c.next.new.self))
     ∙ ap (λ stack. node_of child ∷ open_nodes stack) (sym c.push.ensures.items)
@@ -22,7 +23,8 @@ returns-in-Some-next-clause-nodes c =
 pub returns-in-Some-next-clause-taken : goal.returns-in-Some-next-clause-taken
 returns-in-Some-next-clause-taken c = λ squares base level are.
     let facts = c.in-Some-next.ensures in
-    let before = subst (AreOpen squares base level) c.in-Some.ensures.items (c.loop-pending.invariant.are squares base level are) in
+    let before =
+    subst (AreOpen squares base level) c.in-Some.ensures.items (c.loop-pending.invariant.are squares base level are) in
     subst (IsTaken squares base level c.in-Some-next.child) (sym c.push.ensures.items)
     (taken squares base level c.pop.new.self.items c.in-Some.pending c.next.new.self c.in-Some-next.child before
     facts.found facts.base facts.number facts.later facts.level facts.square)
@@ -33,13 +35,16 @@ loop-pending-preserved c =
     let kept = c.loop-pending.invariant in
     record {
       fits = omega (arith, kept.fits, ap length c.in-Some.ensures.items, length-append front (c.in-Some.pending ∷ []));
-      nodes = ap (λ nodes. nodes ++ open_nodes front) (sym c.in_default-next.ensures.none) ∙ sym (open_nodes-append front c.in-Some.pending)
+      nodes = ap (λ nodes. nodes ++ open_nodes front) (sym c.in_default-next.ensures.none)
+          ∙ sym (open_nodes-append front c.in-Some.pending)
           ∙ ap open_nodes (sym c.in-Some.ensures.items) ∙ kept.nodes;
       are = λ squares base level are.
-          (AreOpen-parted squares base level front c.in-Some.pending (subst (AreOpen squares base level) c.in-Some.ensures.items (kept.are squares base level are))).0;
+          (AreOpen-parted squares base level front c.in-Some.pending
+          (subst (AreOpen squares base level) c.in-Some.ensures.items (kept.are squares base level are))).0;
     }
 
 pub returns-clause-none : goal.returns-clause-none
 returns-clause-none c =
     sym c.loop-pending.invariant.nodes
-    ∙ ap open_nodes (nothing c.loop-pending.stack.items (λ some. false≢true (c.in_default.ensures.variant.1 some))) ∙ open_nodes-nil
+    ∙ ap open_nodes (nothing c.loop-pending.stack.items (λ some. false≢true (c.in_default.ensures.variant.1 some)))
+    ∙ open_nodes-nil

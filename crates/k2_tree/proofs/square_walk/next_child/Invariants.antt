@@ -9,7 +9,8 @@ use Rattle.k2_tree.proofs.square_walk.next_child.Given as goal
 pub record IsLeft (first stack : List Pending) : Type 0 where
   pub fits : length stack ≤ 20
   pub nodes : open_nodes stack ≡ open_nodes first
-  pub are : (squares : List Node) (base : Cell) (level : ℕ) → AreOpen squares base level first → AreOpen squares base level stack
+  pub are : (squares : List Node) (base : Cell) (level : ℕ)
+      → AreOpen squares base level first → AreOpen squares base level stack
 
 abbrev pub invariant-loop-pending : goal.invariant-loop-pending
 invariant-loop-pending l = IsLeft l.fn.stack.items l.stack.items

@@ -7,7 +7,8 @@ use Rattle.k2_tree.proofs.pending.Pending.next.Goals as goal
 pub returns-then-self-eq0-clause-none : goal.returns-then-self-eq0-clause-none
 returns-then-self-eq0-clause-none c =
     let s = c.args.self.now in
-    ap (λ d. map (child_at (node_of s.square)) (digits_of d)) c.if-self-eq0.true ∙ ap (map (child_at (node_of s.square))) digits_of-zero
+    ap (λ d. map (child_at (node_of s.square)) (digits_of d)) c.if-self-eq0.true
+    ∙ ap (map (child_at (node_of s.square))) digits_of-zero
 
 pub child-child-requires-clause-small : goal.child-child-requires-clause-small
 child-child-requires-clause-small c =
@@ -31,4 +32,5 @@ returns-clause-found c =
     let s = c.args.self.now in
     let low = lowest s.digits s.four c.if-self-eq0.false in
     ap (map (child_at (node_of s.square))) low.first
-    ∙ ap (λ n. n ∷ map (child_at (node_of s.square)) (digits_of (bit_and s.digits (s.digits - 1)))) (sym c.child-child.ensures.node)
+    ∙ ap (λ n. n ∷ map (child_at (node_of s.square)) (digits_of (bit_and s.digits (s.digits - 1))))
+    (sym c.child-child.ensures.node)

@@ -13,7 +13,8 @@ pub record IsDrawing (keep : CellBox → Bool) (first now : WalkView) (begun ste
 
 abbrev pub invariant-loop-square : goal.invariant-loop-square
 invariant-loop-square g l =
-    (l.self.keep ≡ l.fn.self.keep) × IsDrawing (g.F.Keep.keeps l.fn.self.keep) l.fn.self.walk l.self.walk l.fn.steps l.steps
+    (l.self.keep ≡ l.fn.self.keep)
+    × IsDrawing (g.F.Keep.keeps l.fn.self.keep) l.fn.self.walk l.self.walk l.fn.steps l.steps
 
 abbrev pub decreases-loop-square : goal.decreases-loop-square
 decreases-loop-square g l = turns_of l.self.walk

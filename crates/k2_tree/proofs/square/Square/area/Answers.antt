@@ -17,11 +17,17 @@ returns-clause-value c =
     column_of-interleaved MAX_HEIGHT s.row s.column (before-lt s.column s.level MAX_HEIGHT s.right) in
     let row : row_of MAX_HEIGHT (prefix_of s) ≡ s.row =
     row_of-interleaved MAX_HEIGHT s.row s.column (before-lt s.row s.level MAX_HEIGHT s.upper) in
+    let columns = column_of MAX_HEIGHT (prefix_of s) in
+    let rows = row_of MAX_HEIGHT (prefix_of s) in
+    let west = c.first.ensures in
+    let south = c.first-2.ensures in
+    let east = c.last.ensures in
+    let north = c.last-2.ensures in
     same_box _ _
-    (first_is s.base.x c.first.result s.column (column_of MAX_HEIGHT (prefix_of s)) s.level x c.first.ensures.within column c.first.ensures.value)
-    (first_is s.base.y c.first-2.result s.row (row_of MAX_HEIGHT (prefix_of s)) s.level y c.first-2.ensures.within row c.first-2.ensures.value)
-    (last_is s.base.x c.last.result s.column (column_of MAX_HEIGHT (prefix_of s)) s.level x c.last.ensures.within column c.last.ensures.value)
-    (last_is s.base.y c.last-2.result s.row (row_of MAX_HEIGHT (prefix_of s)) s.level y c.last-2.ensures.within row c.last-2.ensures.value)
+    (first_is s.base.x c.first.result s.column columns s.level x west.within column west.value)
+    (first_is s.base.y c.first-2.result s.row rows s.level y south.within row south.value)
+    (last_is s.base.x c.last.result s.column columns s.level x east.within column east.value)
+    (last_is s.base.y c.last-2.result s.row rows s.level y north.within row north.value)
 
 pub returns-clause-within : goal.returns-clause-within
 returns-clause-within c = record {

@@ -6,4 +6,5 @@ use Rattle.k2_tree.proofs.square.Square.child.Goals as goal
 pub returns-clause-node : goal.returns-clause-node
 returns-clause-node c =
     let s = c.args.self.now in
-    ap (node (s.level - 1)) (interleaved-child 19 s.row s.column c.args.digit s.level c.requires.small c.requires.inner s.right s.upper)
+    ap (node (s.level - 1))
+    (interleaved-child 19 s.row s.column c.args.digit s.level c.requires.small c.requires.inner s.right s.upper)

@@ -6,12 +6,14 @@ use Rattle.k2_tree.proofs.square_walk.SquareWalk.new.Goals as goal
 
 pub invariant_of-result : goal.invariant_of-result
 invariant_of-result c =
+    let facts = c.root.ensures in
     subst (IsWalk c.args.tree.now c.root.result) (sym c.new.ensures)
-    (begins_whole c.args.tree.now c.root.result c.root.ensures.tree c.root.ensures.found c.root.ensures.node)
+    (begins_whole c.args.tree.now c.root.result facts.tree facts.found facts.node)
 
 pub returns-clause-pending : goal.returns-clause-pending
 returns-clause-pending c =
+    let facts = c.root.ensures in
     ap (λ stack. found_nodes c.root.result ++ open_nodes stack) c.new.ensures
     ∙ ap (λ nodes. found_nodes c.root.result ++ nodes) open_nodes-nil
     ∙ append-nil (found_nodes c.root.result)
-    ∙ whole_nodes c.args.tree.now c.root.result c.root.ensures.tree c.root.ensures.none c.root.ensures.found c.root.ensures.node
+    ∙ whole_nodes c.args.tree.now c.root.result facts.tree facts.none facts.found facts.node

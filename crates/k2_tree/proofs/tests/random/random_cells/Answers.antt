@@ -14,7 +14,8 @@ all_inside : (height : ℕ) (base : Cell) (codes : List ℕ) (cells : List Cell)
     → All (IsInGrid height base) cells
 all_inside height base codes cells e =
     subst (All (IsInGrid height base)) (sym e)
-    (All-map (IsInGrid height base) (cell_of height base) codes (λ k d h. cell_of-inside height base (get_or codes k d)))
+    (All-map (IsInGrid height base) (cell_of height base) codes
+    (λ k d h. cell_of-inside height base (get_or codes k d)))
 
 -- and ascend as the numbers do
 all_ascend : (height : ℕ) (base : Cell) (codes : List ℕ) (cells : List Cell) → cells ≡ map (cell_of height base) codes
@@ -25,10 +26,13 @@ all_ascend height base codes cells e small up =
 
 pub returns-clause-inside : goal.returns-clause-inside
 returns-clause-inside c =
-    IfOk-weaker c.cells_of.result _ _ (λ cells e. all_inside 6 BASE c.as_slice.result.now cells.items e) c.cells_of.ensures.ok
+    IfOk-weaker c.cells_of.result _ _ (λ cells e. all_inside 6 BASE c.as_slice.result.now cells.items e)
+    c.cells_of.ensures.ok
 
 pub returns-clause-ascending : goal.returns-clause-ascending
 returns-clause-ascending c =
-    let small : All (λ code. code < 4 ^ 6) c.as_slice.result.now = rw c.as_slice.ensures.value c.in_ok-codes.ensures.small in
+    let small : All (λ code. code < 4 ^ 6) c.as_slice.result.now =
+    rw c.as_slice.ensures.value c.in_ok-codes.ensures.small in
     let up : IsStrictlyIncreasing c.as_slice.result.now = rw c.as_slice.ensures.value c.in_ok-codes.ensures.ascending in
-    IfOk-weaker c.cells_of.result _ _ (λ cells e. all_ascend 6 BASE c.as_slice.result.now cells.items e small up) c.cells_of.ensures.ok
+    IfOk-weaker c.cells_of.result _ _ (λ cells e. all_ascend 6 BASE c.as_slice.result.now cells.items e small up)
+    c.cells_of.ensures.ok

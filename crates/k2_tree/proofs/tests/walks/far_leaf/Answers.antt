@@ -24,7 +24,8 @@ no_leaf : (tree : Tree) (region : Region) → tree ≡ three → region ≡ far 
 unfolding numbered passes morton_of interleaved cell_of row_of column_of
 no_leaf tree region t r = rw (t, r) refl
 
-no_square : (tree : Tree) (region : Region) → tree ≡ three → region ≡ far → square_count (touches_region region) tree ≡ 0
+no_square : (tree : Tree) (region : Region) → tree ≡ three → region ≡ far
+    → square_count (touches_region region) tree ≡ 0
 unfolding squares_from prefixes morton_of interleaved cell_of row_of column_of
 no_square tree region t r = rw (t, r) refl
 
@@ -39,4 +40,5 @@ returns-clause-none g c =
 
 pub returns-clause-cost : goal.returns-clause-cost
 returns-clause-cost g c =
-    omega (arith, c.draw.ensures.cost, c.pruned-walk.ensures.budget, no_square _ _ c.in_ok-tree.ensures.ok c.rect.ensures)
+    let none = no_square _ _ c.in_ok-tree.ensures.ok c.rect.ensures in
+    omega (arith, c.draw.ensures.cost, c.pruned-walk.ensures.budget, none)

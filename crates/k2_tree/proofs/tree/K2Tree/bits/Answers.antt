@@ -8,14 +8,16 @@ use Rattle.k2_tree.proofs.tree.K2Tree.bits.Goals as goal
 
 pub new-requires : goal.new-requires
 new-requires c =
+    let bits = c.self.inside.bits in
     subst (λ n. IsPacked c.into_words.result.items n) (sym c.len-len.ensures)
-    (subst (λ ws. IsPacked ws (length c.self.inside.bits)) (sym c.into_words.ensures) (IsPacked-packed c.self.inside.bits))
+    (subst (λ ws. IsPacked ws (length bits)) (sym c.into_words.ensures) (IsPacked-packed bits))
 
 pub returns : goal.returns
 returns c =
-    let whole : take c.len-len.result (bits_of c.into_words.result.items) ≡ c.self.inside.bits =
+    let tree = c.self.inside in
+    let whole : take c.len-len.result (bits_of c.into_words.result.items) ≡ tree.bits =
     ap (λ n. take n (bits_of c.into_words.result.items)) c.len-len.ensures
-    ∙ ap (λ ws. take (length c.self.inside.bits) (bits_of ws)) c.into_words.ensures
-    ∙ bits_of-packed c.self.inside.bits in
+    ∙ ap (λ ws. take (length tree.bits) (bits_of ws)) c.into_words.ensures
+    ∙ bits_of-packed tree.bits in
     subst (λ (t : Tree). c.new.result ≡ morton_bits t.height (codes_of t)) c.self.view_is
-    (c.new.ensures.value ∙ whole ∙ given_back c.self.inside.height c.self.inside.base c.self.inside.bits c.self.invariant)
+    (c.new.ensures.value ∙ whole ∙ given_back tree.height tree.base tree.bits c.self.invariant)

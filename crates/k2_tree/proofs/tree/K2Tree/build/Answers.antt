@@ -15,44 +15,55 @@ bits_of_codes-requires-clause-ascending c =
 
 pub pack-requires : goal.pack-requires
 pack-requires c =
+    let codes = c.as_slice.result.now in
     let numbers = c.as_slice.ensures.value ∙ c.in_ok-codes.ensures.ok in
     let long = ap length numbers ∙ length-map c.args.cells.now (morton_of c.args.height c.args.base) in
-    let few = few_bits c.args.height c.as_slice.result.now c.requires.grid.limit (omega (arith, long, c.requires.few)) in
+    let few = few_bits c.args.height codes c.requires.grid.limit (omega (arith, long, c.requires.few)) in
     let same = ap length (c.as_slice-2.ensures.value ∙ c.in_ok-bits.ensures.ok) in
     omega (arith, few, same)
 
 pub overflow_cast-len : goal.overflow_cast-len
 overflow_cast-len c =
+    let codes = c.as_slice.result.now in
     let numbers = c.as_slice.ensures.value ∙ c.in_ok-codes.ensures.ok in
     let long = ap length numbers ∙ length-map c.args.cells.now (morton_of c.args.height c.args.base) in
-    let few = few_bits c.args.height c.as_slice.result.now c.requires.grid.limit (omega (arith, long, c.requires.few)) in
+    let few = few_bits c.args.height codes c.requires.grid.limit (omega (arith, long, c.requires.few)) in
     let same = ap length c.in_ok-bits.ensures.ok in
     omega (arith, few, same, c.len.ensures, c.in_ok-bits.bits.ok)
 
 pub from_words-requires : goal.from_words-requires
 from_words-requires c =
     let long : length c.in_ok-bits.bits.items ≡ c.len.result = omega (arith, c.len.ensures, c.in_ok-bits.bits.ok) in
-    let words : packed c.in_ok-bits.bits.items ≡ c.in_ok-words.words.items = sym (c.in_ok-words.ensures.ok ∙ ap packed c.as_slice-2.ensures.value) in
+    let words : packed c.in_ok-bits.bits.items ≡ c.in_ok-words.words.items =
+    sym (c.in_ok-words.ensures.ok ∙ ap packed c.as_slice-2.ensures.value) in
     subst (λ n. IsPacked c.in_ok-words.words.items n) long
     (subst (λ ws. IsPacked ws (length c.in_ok-bits.bits.items)) words (IsPacked-packed c.in_ok-bits.bits.items))
 
 pub invariant_of-result : goal.invariant_of-result
 invariant_of-result c =
-    let long : c.len.result ≡ length c.in_ok-bits.bits.items = omega (arith, c.len.ensures, c.in_ok-bits.bits.ok) in
-    (built c.args.height c.args.base c.args.cells.now c.in-Ok.bits c.requires.grid c.requires.few c.requires.inside c.requires.ascending
-    (stored c.args.height c.args.base c.args.cells.now c.in_ok-codes.codes.items c.as_slice.result.now c.in_ok-words.words.items
-    c.in_ok-bits.bits.items c.as_slice-2.result.now c.in-Ok.bits c.len.result
-    c.in_ok-codes.ensures.ok c.as_slice.ensures.value c.in_ok-bits.ensures.ok c.as_slice-2.ensures.value c.in_ok-words.ensures.ok
-    long c.in-Ok.ensures.ok)).0
+    let given = c.requires in
+    let cells = c.args.cells.now in
+    let codes = c.in_ok-codes.codes.items in
+    let words = c.in_ok-words.words.items in
+    let bits = c.in_ok-bits.bits.items in
+    let long : c.len.result ≡ length bits = omega (arith, c.len.ensures, c.in_ok-bits.bits.ok) in
+    let same = stored c.args.height c.args.base cells codes c.as_slice.result.now words bits c.as_slice-2.result.now
+    c.in-Ok.bits c.len.result c.in_ok-codes.ensures.ok c.as_slice.ensures.value c.in_ok-bits.ensures.ok
+    c.as_slice-2.ensures.value c.in_ok-words.ensures.ok long c.in-Ok.ensures.ok in
+    (built c.args.height c.args.base cells c.in-Ok.bits given.grid given.few given.inside given.ascending same).0
 
 pub returns-in-Ok : goal.returns-in-Ok
 returns-in-Ok c =
-    let long : c.len.result ≡ length c.in_ok-bits.bits.items = omega (arith, c.len.ensures, c.in_ok-bits.bits.ok) in
+    let given = c.requires in
+    let cells = c.args.cells.now in
+    let codes = c.in_ok-codes.codes.items in
+    let words = c.in_ok-words.words.items in
+    let bits = c.in_ok-bits.bits.items in
+    let long : c.len.result ≡ length bits = omega (arith, c.len.ensures, c.in_ok-bits.bits.ok) in
+    let same = stored c.args.height c.args.base cells codes c.as_slice.result.now words bits c.as_slice-2.result.now
+    c.in-Ok.bits c.len.result c.in_ok-codes.ensures.ok c.as_slice.ensures.value c.in_ok-bits.ensures.ok
+    c.as_slice-2.ensures.value c.in_ok-words.ensures.ok long c.in-Ok.ensures.ok in
     record {
       ok =
-          (built c.args.height c.args.base c.args.cells.now c.in-Ok.bits c.requires.grid c.requires.few c.requires.inside c.requires.ascending
-          (stored c.args.height c.args.base c.args.cells.now c.in_ok-codes.codes.items c.as_slice.result.now c.in_ok-words.words.items
-          c.in_ok-bits.bits.items c.as_slice-2.result.now c.in-Ok.bits c.len.result
-          c.in_ok-codes.ensures.ok c.as_slice.ensures.value c.in_ok-bits.ensures.ok c.as_slice-2.ensures.value c.in_ok-words.ensures.ok
-          long c.in-Ok.ensures.ok)).1;
+          (built c.args.height c.args.base cells c.in-Ok.bits given.grid given.few given.inside given.ascending same).1;
     }

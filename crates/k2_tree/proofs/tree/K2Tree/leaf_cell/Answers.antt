@@ -9,12 +9,14 @@ use Rattle.k2_tree.proofs.tree.K2Tree.leaf_cell.Goals as goal
 
 pub code_of_leaf-code-requires-clause-within : goal.code_of_leaf-code-requires-clause-within
 code_of_leaf-code-requires-clause-within g c =
+    let tree = c.self.inside in
     let same = ap (λ (t : Tree). length t.cells) c.self.view_is in
-    omega (arith, same, length-map (codes_in c.self.inside.height c.self.inside.bits) (cell_of c.self.inside.height c.self.inside.base))
+    omega (arith, same, length-map (codes_in tree.height tree.bits) (cell_of tree.height tree.base))
 
 pub returns-clause-value : goal.returns-clause-value
 returns-clause-value g c =
+    let tree = c.self.inside in
     subst (λ (t : Tree). slice_get t.cells c.args.leaf ≡ Some c.cell_at.result) c.self.view_is
-    (slice_get-map (cell_of c.self.inside.height c.self.inside.base) (codes_in c.self.inside.height c.self.inside.bits) c.args.leaf
-    ∙ ap (option_map (cell_of c.self.inside.height c.self.inside.base)) c.code_of_leaf-code.ensures.value
+    (slice_get-map (cell_of tree.height tree.base) (codes_in tree.height tree.bits) c.args.leaf
+    ∙ ap (option_map (cell_of tree.height tree.base)) c.code_of_leaf-code.ensures.value
     ∙ ap Some (sym c.cell_at.ensures))

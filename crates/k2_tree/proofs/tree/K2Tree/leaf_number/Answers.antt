@@ -9,21 +9,25 @@ use Rattle.k2_tree.proofs.tree.K2Tree.leaf_number.Goals as goal
 pub overflow_sub-result : goal.overflow_sub-result
 overflow_sub-result g c =
     let s = c.args.square.now in
-    let of : IsSquareOf (tree_of c.self.inside.height c.self.inside.base c.self.inside.bits) s =
+    let tree = c.self.inside in
+    let of : IsSquareOf (tree_of tree.height tree.base tree.bits) s =
     subst (λ (t : Tree). IsSquareOf t s) (sym c.self.view_is) c.requires.of in
-    let at = leaf_at c.self.inside.height c.self.inside.base c.self.inside.bits s c.self.invariant of c.requires.leaf in
+    let at = leaf_at tree.height tree.base tree.bits s c.self.invariant of c.requires.leaf in
     omega (arith, at.inner, c.number.ensures, c.len.ensures)
 
 pub returns-clause-value : goal.returns-clause-value
 returns-clause-value g c =
     let s = c.args.square.now in
-    let of : IsSquareOf (tree_of c.self.inside.height c.self.inside.base c.self.inside.bits) s =
+    let tree = c.self.inside in
+    let of : IsSquareOf (tree_of tree.height tree.base tree.bits) s =
     subst (λ (t : Tree). IsSquareOf t s) (sym c.self.view_is) c.requires.of in
-    let place : c.number.result - c.len.result / 4 ≡ number_of s - length c.self.inside.bits / 4 = omega (arith, c.number.ensures, c.len.ensures) in
+    let place : c.number.result - c.len.result / 4 ≡ number_of s - length tree.bits / 4 =
+    omega (arith, c.number.ensures, c.len.ensures) in
     subst (λ (t : Tree). slice_get t.cells (c.number.result - c.len.result / 4) ≡ Some (corner_of s)) c.self.view_is
-    (ap (slice_get (tree_of c.self.inside.height c.self.inside.base c.self.inside.bits).cells) place
-    ∙ leaf_cell c.self.inside.height c.self.inside.base c.self.inside.bits s c.self.invariant of c.requires.leaf)
+    (ap (slice_get (tree_of tree.height tree.base tree.bits).cells) place
+    ∙ leaf_cell tree.height tree.base tree.bits s c.self.invariant of c.requires.leaf)
 
 pub returns-clause-tree : goal.returns-clause-tree
 returns-clause-tree g c =
-    subst IsTree c.self.view_is (IsTree-stored c.self.inside.height c.self.inside.base c.self.inside.bits c.self.invariant)
+    let tree = c.self.inside in
+    subst IsTree c.self.view_is (IsTree-stored tree.height tree.base tree.bits c.self.invariant)

@@ -28,5 +28,6 @@ returns-clause-wanted g c = λ wanted kept.
     let facts = c.new.ensures in
     ap (λ k. wanted_of wanted (walk_left (g.F.Keep.keeps k) c.new-2.result.walk)) c.new-2.ensures.keep
     ∙ ap (λ (w : WalkView). wanted_of wanted (walk_left (g.F.Keep.keeps c.args.keep) w)) c.new-2.ensures.walk
-    ∙ ap (wanted_of wanted) (left_whole (g.F.Keep.keeps c.args.keep) c.args.self.now c.new.result facts.is_tree facts.tree facts.pending)
+    ∙ ap (wanted_of wanted)
+    (left_whole (g.F.Keep.keeps c.args.keep) c.args.self.now c.new.result facts.is_tree facts.tree facts.pending)
     ∙ kept_leaves-wanted (g.F.Keep.keeps c.args.keep) wanted c.args.self.now facts.is_tree kept

@@ -9,19 +9,24 @@ use Rattle.k2_tree.proofs.tree.K2Tree.root.Goals as goal
 
 pub returns-then-len-eq0-clause-none : goal.returns-then-len-eq0-clause-none
 returns-then-len-eq0-clause-none c =
+    let tree = c.self.inside in
     subst (λ (t : Tree). t.cells ≡ []) c.self.view_is
-    (ap (map (cell_of c.self.inside.height c.self.inside.base)) (codes_in-none c.self.inside.height c.self.inside.bits (omega (arith, c.len.ensures))))
+    (ap (map (cell_of tree.height tree.base)) (codes_in-none tree.height tree.bits (omega (arith, c.len.ensures))))
 
 pub returns-clause-found : goal.returns-clause-found
 returns-clause-found c =
+    let tree = c.self.inside in
+    let facts = c.whole.ensures in
     subst (λ (t : Tree). IsSquareOf t c.whole.result) c.self.view_is
-    (whole_stands c.self.inside.height c.self.inside.base c.self.inside.bits c.whole.result c.self.invariant (omega (arith, c.len.ensures))
-    c.whole.ensures.base c.whole.ensures.node c.whole.ensures.number)
+    (whole_stands tree.height tree.base tree.bits c.whole.result c.self.invariant (omega (arith, c.len.ensures))
+    facts.base facts.node facts.number)
 
 pub returns-then-len-eq0-clause-tree : goal.returns-then-len-eq0-clause-tree
 returns-then-len-eq0-clause-tree c =
-    subst IsTree c.self.view_is (IsTree-stored c.self.inside.height c.self.inside.base c.self.inside.bits c.self.invariant)
+    let tree = c.self.inside in
+    subst IsTree c.self.view_is (IsTree-stored tree.height tree.base tree.bits c.self.invariant)
 
 pub returns-clause-tree : goal.returns-clause-tree
 returns-clause-tree c =
-    subst IsTree c.self.view_is (IsTree-stored c.self.inside.height c.self.inside.base c.self.inside.bits c.self.invariant)
+    let tree = c.self.inside in
+    subst IsTree c.self.view_is (IsTree-stored tree.height tree.base tree.bits c.self.invariant)
