@@ -1,6 +1,8 @@
 -- The definitions, run on rows that were worked out by hand.
 use Rattle.std.proofs.Common.{◌≡◌, ℕ, ℤ, pos, negsuc, List, [], ◌∷◌, Some, None, refl}
 use Rattle.track_types.specs.ByFilter.{cell_at}
+use Rattle.track_types.specs.Frame.{periods_of, instants_in}
+use Rattle.track_types.specs.declared.frame.Frame.{Frame}
 use Rattle.track_types.specs.Quantities.{anchors_of, block_count, distinct, extent_of, first_of, last_of, object_count, objects_of, period_count, span_of, symbol_count}
 use Rattle.track_types.specs.declared.row.Row.{Row}
 
@@ -55,3 +57,18 @@ present = refl
 absent : cell_at late 1 (pos 2) ∷ cell_at late 3 (pos 3) ∷ [] ≡ None ∷ None ∷ []
 unfolding late row
 absent = refl
+
+-- five instants in periods of two: the last period has one
+abbrev five : Frame
+five = record {
+  first = pos 0;
+  span = 5;
+  period = 2;
+  height = 1;
+  base = record { x = pos 0; y = pos 0 };
+  cell = 1;
+  tick = 1;
+}
+
+five_periods : periods_of five ∷ instants_in five 0 ∷ instants_in five 1 ∷ instants_in five 2 ∷ [] ≡ 3 ∷ 2 ∷ 2 ∷ 1 ∷ []
+five_periods = refl

@@ -8,3 +8,4 @@ pub mod ByFilter
 pub mod Region
 pub mod Lazy
 pub mod BitList
+pub mod Frame

@@ -1,6 +1,6 @@
 //! The plain values that all crates of gract speak of: cells, boxes and regions, rows, charts and
-//! their limits, lists and packed bits that contracts see as lists, walks that find their items one
-//! by one, and whole numbers in text.
+//! their limits, lists and packed bits that contracts see as lists, the header of an index and what
+//! it holds of a period, flaws, walks that find their items one by one, and whole numbers in text.
 //!
 //! `number` is exact: a word is no numeral, or one that is too large, or its value. A `Chart` keeps
 //! in its type all that holds of gridded rows. `Region::touches` is true exactly where a cell of the
@@ -11,11 +11,14 @@ mod bit_list;
 mod cell;
 mod cell_box;
 mod chart;
+mod flaw;
+mod frame;
 mod lazy;
 mod limit;
 mod lists;
 mod memory;
 mod numeral;
+mod period_parts;
 mod raw_row;
 mod region;
 mod row;
@@ -24,12 +27,15 @@ pub use bit_list::BitList;
 pub use cell::Cell;
 pub use cell_box::CellBox;
 pub use chart::Chart;
+pub use flaw::{Flaw, Kind, Section};
+pub use frame::Frame;
 pub use lazy::drawn_items::Drawn;
 pub use lazy::{Lazy, drawn};
 pub use limit::{LimitKind, MAX_EXTENT, MAX_HEIGHT};
 pub use lists::{List32, List64, Lists32, PairList};
 pub use memory::Memory;
 pub use numeral::{Numeral, number};
+pub use period_parts::PeriodParts;
 pub use raw_row::{RawRow, RowFault};
 pub use region::{Region, dist2};
 pub use row::Row;
