@@ -1,0 +1,72 @@
+-- The first flaw of parts that are not those of a period.
+use Rattle.std.specs.Prelude.{◌≡◌, ℕ, ◌+◌, ◌-◌, ◌<◌, ◌≤◌, ◌==◌, Bool, not, ◌&&◌, ◌||◌, nat_le, false, if◌then◌else◌, List, length, sum, find, slice_index, slice_index_or, Option, None, Some, ⊤, ◌^◌}
+use Rattle.std.specs.Option.{option_map, option_or}
+use Rattle.std.specs.List.{range_with_len}
+use Rattle.packed_bits.specs.Bits.{ones_of}
+use Rattle.object_perm.specs.Permutation.{first_flaw}
+use Rattle.track_types.specs.Frame.{IsFrame, instants_in, periods_of}
+use Rattle.track_types.specs.Limits.{limit_of}
+use Rattle.track_types.specs.declared.limit.LimitKind.TheVariants.{Objects, Symbols}
+use Rattle.track_types.specs.declared.flaw.Flaw.{Flaw}
+use Rattle.track_types.specs.declared.flaw.Section.{Section}
+use Rattle.track_types.specs.declared.flaw.Section.TheVariants.{Offsets, Tree, Lasts, Perm}
+use Rattle.track_types.specs.declared.flaw.Kind.{Kind}
+use Rattle.track_types.specs.declared.flaw.Kind.TheVariants as kind
+use Rattle.k2_tree.specs.Flaws.{tree_flaw}
+use Rattle.snapshots.specs.View.{SnapshotView, tree_in}
+use Rattle.snapshots.specs.declared.fault.SnapFault.{SnapFault}
+use Rattle.snapshots.specs.declared.fault.SnapFault.TheVariants as fault
+
+-- what is known of parts before they are judged: the header's ranges, and lists as long as the presence bits say
+pub record IsShaped (view : SnapshotView) : Type 0 where
+  pub header : IsFrame view.frame
+  pub period : view.number < periods_of view.frame
+  pub some : 1 ≤ view.objects
+  pub few : view.objects ≤ limit_of Objects
+  pub bits : length view.parts.tree ≤ 2 ^ 31
+  pub presence : length view.parts.present ≡ view.objects
+  pub offsets : length view.parts.offsets ≡ ones_of view.parts.present
+  pub lasts : length view.parts.lasts ≡ ones_of view.parts.present
+  pub perm : length view.parts.perm ≡ ones_of view.parts.present
+  pub lengths : length view.parts.lengths ≡ ones_of view.parts.present
+  pub total : view.start + sum view.parts.lengths ≤ limit_of Symbols
+
+-- the first offset that is not below the number of the period's instants
+abbrev pub offset_flaw : ℕ → List ℕ → Option ℕ
+offset_flaw instants offsets = find (λ i. nat_le instants (slice_index offsets i)) (range_with_len 0 (length offsets))
+
+-- as many objects are the last of their cell as there are leaves, and the last object is one of them
+abbrev pub have_cells : List Bool → ℕ → Bool
+have_cells lasts leaves = (ones_of lasts == leaves) && (length lasts == 0 || slice_index_or lasts (length lasts - 1) false)
+
+-- the object at a place in leaf order is in the cell of the one before it, and not greater
+abbrev pub is_disordered : List Bool → List ℕ → ℕ → Bool
+is_disordered lasts perm place = not (slice_index_or lasts (place - 1) false) && nat_le (slice_index perm place) (slice_index perm (place - 1))
+
+-- the first such place
+abbrev pub order_flaw : List Bool → List ℕ → Option ℕ
+order_flaw lasts perm = find (is_disordered lasts perm) (range_with_len 1 (length perm - 1))
+
+-- a flaw of a period
+abbrev pub flaw_at : SnapshotView → Section → Kind → ℕ → Flaw
+flaw_at view section kind index = record { section = section; period = view.number; index = index; kind = kind }
+
+-- the first flaw of a period's parts, or none
+abbrev pub flaw_of : SnapshotView → Option Flaw
+flaw_of view =
+    option_or (option_map (flaw_at view Offsets kind.Offset) (offset_flaw (instants_in view.frame view.number) view.parts.offsets))
+    (option_or (option_map (flaw_at view Tree kind.Tree) (tree_flaw view.frame.height view.parts.tree))
+    (option_or (if have_cells view.parts.lasts (length (tree_in view).cells) then None
+    else Some (flaw_at view Lasts kind.Cells (length view.parts.lasts)))
+    (option_or (option_map (flaw_at view Perm kind.Perm) (first_flaw view.parts.perm))
+    (option_map (flaw_at view Perm kind.CellOrder) (order_flaw view.parts.lasts view.parts.perm)))))
+
+-- a flaw is the first one of the parts; memory may be wanting for any parts
+abbrev pub IsFaultOf : SnapshotView → SnapFault → Type 0
+IsFaultOf view (fault.Flaw flaw) = flaw_of view ≡ Some flaw
+IsFaultOf view fault.Memory = ⊤
+
+-- what holds of every snapshot: its parts are shaped and have no flaw
+pub record IsSnapshot (view : SnapshotView) : Type 0 where
+  pub shaped : IsShaped view
+  pub flawless : flaw_of view ≡ None

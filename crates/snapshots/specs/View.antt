@@ -1,0 +1,59 @@
+-- What a period's snapshot says, on plain lists.
+use Rattle.std.specs.Prelude.{ℕ, ◌+◌, ◌==◌, Bool, false, if◌then◌else◌, List, length, map, filter, take, sum, slice_index, slice_index_or, Option, None, Some}
+use Rattle.std.specs.List.{range_with_len}
+use Rattle.bit_rank.specs.Bits.{rank_of, select_of}
+use Rattle.object_perm.specs.Permutation.{inverse_of}
+use Rattle.track_types.specs.declared.cell.Cell.{Cell}
+use Rattle.track_types.specs.declared.frame.Frame.{Frame}
+use Rattle.track_types.specs.declared.period_parts.PeriodParts.{PeriodParts}
+use Rattle.k2_tree.specs.Tree.{Tree, tree_of}
+use Rattle.snapshots.specs.declared.anchored.Anchored.{Anchored}
+
+-- the parts of a period, with the header, the period's number, how many objects there are, and where its logs begin
+pub record SnapshotView : Type 0 where
+  pub frame : Frame
+  pub number : ℕ
+  pub objects : ℕ
+  pub start : ℕ
+  pub parts : PeriodParts
+
+-- the tree of the anchors' cells
+abbrev pub tree_in : SnapshotView → Tree
+tree_in view = tree_of view.frame.height view.frame.base view.parts.tree
+
+-- the leaf of a place in leaf order
+abbrev pub leaf_at : SnapshotView → ℕ → ℕ
+leaf_at view place = rank_of view.parts.lasts place
+
+-- the block of an object, of which its place among the present objects and its place in leaf order are known
+abbrev pub block_with : SnapshotView → ℕ → ℕ → ℕ → Anchored
+block_with view index rank place = record {
+  index = index;
+  offset = slice_index view.parts.offsets rank;
+  cell = slice_index_or (tree_in view).cells (leaf_at view place) view.frame.base;
+  from = view.start + sum (take rank view.parts.lengths);
+  len = slice_index view.parts.lengths rank;
+}
+
+-- the place of an object among the present ones
+abbrev pub rank_in : SnapshotView → ℕ → ℕ
+rank_in view index = rank_of view.parts.present index
+
+-- the block of an object, if it has one in the period
+abbrev pub block_of : SnapshotView → ℕ → Option Anchored
+block_of view index = if slice_index_or view.parts.present index false
+    then Some (block_with view index (rank_in view index) (inverse_of view.parts.perm (rank_in view index)))
+    else None
+
+-- the block at a place in leaf order
+abbrev pub block_at : SnapshotView → ℕ → Anchored
+block_at view place = block_with view
+    (select_of view.parts.present (slice_index view.parts.perm place + 1)) (slice_index view.parts.perm place) place
+
+-- the places of a leaf in leaf order, from one on
+abbrev pub places_from : SnapshotView → ℕ → ℕ → ℕ → List ℕ
+places_from view leaf first count = filter (λ place. leaf_at view place == leaf) (range_with_len first count)
+
+-- the blocks of a leaf's cell, by object
+abbrev pub blocks_in : SnapshotView → ℕ → List Anchored
+blocks_in view leaf = map (block_at view) (places_from view leaf 0 (length view.parts.perm))
