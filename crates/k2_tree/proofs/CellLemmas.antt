@@ -1,6 +1,6 @@
 -- A tree's cells and their Morton numbers.
-use Rattle.std.proofs.Common.{◌≡◌, ℕ, suc, ◌+◌, ◌/◌, ◌^◌, ◌<◌, Bool, true, false, List, [], ◌∷◌, length, map, get_or}
-use Rattle.std.proofs.Common.{refl, sym, ap, ◌∙◌, arith, subst, Option, None, Some, All, MatchOption}
+use Rattle.std.proofs.Common.{◌≡◌, ℕ, suc, ◌+◌, ◌/◌, ◌^◌, ◌<◌, ◌≤◌, Bool, true, false, List, [], ◌∷◌, length, map}
+use Rattle.std.proofs.Common.{get_or, refl, sym, ap, ◌∙◌, arith, subst, Option, None, Some, All, MatchOption}
 use Rattle.std.specs.Prelude.{slice_get, Contains}
 use Rattle.std.proofs.lemmas.List.{length-map, get_or-map}
 use Rattle.std.proofs.lemmas.List.Elements.{All-map}
@@ -9,10 +9,11 @@ use Rattle.packed_bits.specs.Bits.{ones_of}
 use Rattle.track_types.specs.declared.cell.Cell.{Cell}
 use Rattle.k2_tree.specs.Morton.{morton_of, cell_of, IsInGrid}
 use Rattle.k2_tree.specs.TreeBits.{is_in, AreCodes}
-use Rattle.k2_tree.specs.Tree.{codes_in, tree_of, IsTree, IsStored}
+use Rattle.k2_tree.specs.Tree.{Tree, codes_in, codes_of, tree_of, tree_with, IsTree, IsStored}
+use Rattle.k2_tree.specs.Flaws.{StandsFor}
 use Rattle.k2_tree.proofs.MortonLemmas.{morton_of-cell_of, cell_of-morton_of, cell_of-inside}
 use Rattle.k2_tree.proofs.RisingLemmas.{by_place}
-use Rattle.k2_tree.proofs.DecodingLemmas.{length-codes_in, codes_in-none}
+use Rattle.k2_tree.proofs.DecodingLemmas.{length-codes_in, codes_in-morton_bits, codes_in-none}
 
 -- the numbers of the cells of numbers are these numbers
 pub codes_back : (height : ℕ) (base : Cell) (codes : List ℕ) → All (λ code. code < 4 ^ height) codes
@@ -106,3 +107,18 @@ pub no_leaf : (height : ℕ) (base : Cell) (bits : List Bool) → length bits �
     → length (map (cell_of height base) (codes_in height bits)) ≡ 0
 no_leaf height base bits none =
     omega (arith, length-map (codes_in height bits) (cell_of height base), ap length (codes_in-none height bits none))
+
+-- the tree that has the bits is the one that the bits tell
+pub tree_of-StandsFor : (height : ℕ) (base : Cell) (bits : List Bool) (tree : Tree) → StandsFor height base bits tree
+    → tree_of height base bits ≡ tree
+tree_of-StandsFor height base bits tree stands =
+    let codes : List ℕ = codes_of tree in
+    let is : IsTree tree = stands.is_tree in
+    let some : 1 ≤ height = subst (λ h. 1 ≤ h) stands.high is.grid.some in
+    let are : AreCodes height codes = subst (λ h. AreCodes h codes) stands.high is.codes in
+    let told : codes_in height bits ≡ codes =
+    ap (codes_in height) (sym stands.same) ∙ codes_in-morton_bits height codes some are in
+    ap (λ xs. tree_with height base (map (cell_of height base) xs)) told
+    ∙ ap (λ h. tree_with h base (map (cell_of h base) codes)) (sym stands.high)
+    ∙ ap (λ b. tree_with tree.height b (map (cell_of tree.height b) codes)) (sym stands.from)
+    ∙ ap (tree_with tree.height tree.base) (cells_back tree.height tree.base tree.cells is.inside)

@@ -1,3 +1,4 @@
 -- In reading order.
 pub mod View
 pub mod Flaws
+pub mod Stored

@@ -17,6 +17,11 @@ pub record SnapshotView : Type 0 where
   pub start : ℕ
   pub parts : PeriodParts
 
+-- these parts with these numbers
+abbrev pub view_with : Frame → ℕ → ℕ → ℕ → PeriodParts → SnapshotView
+view_with frame number objects start parts =
+    record { frame = frame; number = number; objects = objects; start = start; parts = parts }
+
 -- the tree of the anchors' cells
 abbrev pub tree_in : SnapshotView → Tree
 tree_in view = tree_of view.frame.height view.frame.base view.parts.tree

@@ -7,6 +7,8 @@
 
 mod anchored;
 mod fault;
+mod snapshot;
 
 pub use anchored::Anchored;
 pub use fault::SnapFault;
+pub use snapshot::Snapshot;
