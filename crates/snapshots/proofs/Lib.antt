@@ -1,1 +1,3 @@
+mod FlawlessLemmas
+mod BlockLemmas
 mod Examples
