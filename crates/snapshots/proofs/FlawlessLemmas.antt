@@ -48,7 +48,7 @@ IsFlawless-from_none view none =
     }
 
 -- the last object is the last of its cell
-last_is : (lasts : List Bool) (leaves : ℕ) → have_cells lasts leaves ≡ true → 0 < length lasts
+pub last_is : (lasts : List Bool) (leaves : ℕ) → have_cells lasts leaves ≡ true → 0 < length lasts
     → get_or lasts (length lasts - 1) false ≡ true
 last_is lasts leaves has some = by_length (length lasts == 0) refl (and_parts _ _ has).1
   where

@@ -1,3 +1,5 @@
 mod FlawlessLemmas
 mod BlockLemmas
+mod PlaceLemmas
+mod PlacesLemmas
 mod Examples

@@ -2,3 +2,4 @@
 pub mod View
 pub mod Flaws
 pub mod Stored
+pub mod Members

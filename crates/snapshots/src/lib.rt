@@ -7,8 +7,11 @@
 
 mod anchored;
 mod fault;
+mod members;
+mod next;
 mod snapshot;
 
 pub use anchored::Anchored;
 pub use fault::SnapFault;
+pub use members::Members;
 pub use snapshot::Snapshot;

@@ -1,8 +1,11 @@
-ghost use Rattle.std.specs.Prelude.{◌≡◌, ◌+◌, ◌*◌, ◌<◌, ◌≤◌, length, take, sum, slice_index};
+ghost use Rattle.std.specs.Prelude.{◌≡◌, ◌+◌, ◌*◌, ◌<◌, ◌≤◌, ◌^◌, ◌∷◌, false, if◌then◌else◌, length, take, sum, Some, slice_get, slice_index};
 ghost use Rattle.packed_bits.specs.Bits.{ones_of};
-ghost use Rattle.snapshots.specs.View.{block_of};
+ghost use Rattle.snapshots.specs.View.{block_at, block_of, blocks_in, leaf_at, tree_in};
+ghost use Rattle.snapshots.specs.Members.{blocks_from, members_left, IsAt};
+ghost use Rattle.snapshots.specs.declared.next.Next.TheVariants.{End, Place};
 
 use crate::anchored::Anchored;
+use crate::members::Members;
 use bit_rank::Bits;
 use k2_tree::K2Tree;
 use object_perm::Perm;
@@ -61,6 +64,67 @@ impl Snapshot {
         let leaf = self.lasts.rank1(place, steps);
         let cell = self.tree.leaf_cell(leaf, steps);
         Some(self.block(index, rank, cell))
+    }
+
+    /// The tree of the cells in which the anchors are.
+    pub fn tree(&self) -> &K2Tree
+        ensures { result.now ≡ tree_in self.now }
+    {
+        &self.tree
+    }
+
+    /// The blocks whose anchors are in the cell of a leaf, by object.
+    pub fn members(&self, leaf: u32, cell: Cell) -> Members<'_>
+        requires { slice_get (tree_in self.now).cells leaf ≡ Some cell }
+        ensures left { result.blocks ≡ blocks_in self.now leaf }
+        ensures budget { result.reads ≡ 41 + 43 * length (blocks_in self.now leaf) }
+    {
+        Members::new(self, leaf, cell)
+    }
+
+    // The first place of a leaf in leaf order.
+    pub(crate) fn first_place<L: Ledger>(&self, leaf: u32, steps: &mut Steps<L>) -> u32
+        requires { leaf < length (tree_in self.now).cells }
+        ensures within { result < length self.now.parts.perm }
+        ensures leaf { leaf_at self.now result ≡ leaf }
+        ensures places { blocks_in self.now leaf ≡ blocks_from self.now leaf result }
+        ensures cost { steps.new ≤ steps.old + 41 }
+    {
+        let lasts = &self.lasts;
+        if leaf == 0 {
+            return 0;
+        }
+        lasts.select1(leaf, steps) + 1
+    }
+
+    // The block at a place in leaf order, in whose leaf's cell its anchor is.
+    pub(crate) fn block_in<L: Ledger>(
+        &self,
+        place: u32,
+        cell: Cell,
+        steps: &mut Steps<L>,
+    ) -> Anchored
+        requires within { place < length self.now.parts.perm }
+        requires cell { slice_get (tree_in self.now).cells (leaf_at self.now place) ≡ Some cell }
+        ensures value { result ≡ block_at self.now place }
+        ensures cost { steps.new ≤ steps.old + 42 }
+    {
+        let rank = self.perm.at(place, steps);
+        let index = self.present.select1(rank + 1, steps);
+        self.block(index, rank, cell)
+    }
+
+    // Whether the object at a place in leaf order is the last of its cell.
+    pub(crate) fn is_last<L: Ledger>(&self, place: u32, steps: &mut Steps<L>) -> bool
+        requires { place < length self.now.parts.perm }
+        ensures room { place + 1 < 2 ^ 32 }
+        ensures more { result ≡ false → IsAt self.now (leaf_at self.now place) (Place (place + 1)) }
+        ensures left { blocks_from self.now (leaf_at self.now place) place
+            ≡ block_at self.now place ∷ members_left self.now (leaf_at self.now place)
+            (if result then End else Place (place + 1)) }
+        ensures cost { steps.new ≤ steps.old + 1 }
+    {
+        self.lasts.get(place, steps)
     }
 
     // The block of the object at a place among the present ones, whose anchor is in this cell.
