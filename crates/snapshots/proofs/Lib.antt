@@ -2,4 +2,5 @@ mod FlawlessLemmas
 mod BlockLemmas
 mod PlaceLemmas
 mod PlacesLemmas
+mod ObjectsLemmas
 mod Examples

@@ -3,3 +3,4 @@ pub mod View
 pub mod Flaws
 pub mod Stored
 pub mod Members
+pub mod Objects

@@ -9,9 +9,11 @@ mod anchored;
 mod fault;
 mod members;
 mod next;
+mod objects_in;
 mod snapshot;
 
 pub use anchored::Anchored;
 pub use fault::SnapFault;
 pub use members::Members;
+pub use objects_in::ObjectsIn;
 pub use snapshot::Snapshot;

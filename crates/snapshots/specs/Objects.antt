@@ -1,0 +1,38 @@
+-- What is left of a walk over the blocks whose anchors lie in squares that pass a test.
+use Rattle.std.specs.Prelude.{◌≡◌, ℕ, ◌+◌, ◌*◌, Bool, List, [], ◌++◌, length, Option, None, Some}
+use Rattle.std.specs.List.{flat_map, sum_by}
+use Rattle.track_types.specs.declared.cell.Cell.{Cell}
+use Rattle.track_types.specs.declared.cell_box.CellBox.{CellBox}
+use Rattle.k2_tree.specs.Pruned.{pruned_budget, pruned_left, pruned_tree}
+use Rattle.snapshots.specs.View.{SnapshotView, blocks_in, tree_in}
+use Rattle.snapshots.specs.Members.{MembersView}
+use Rattle.snapshots.specs.declared.anchored.Anchored.{Anchored}
+use Rattle.snapshots.specs.declared.objects_in.ObjectsIn.{ObjectsIn}
+
+-- the blocks of leaves, leaf by leaf
+abbrev pub blocks_of : SnapshotView → List (ℕ × Cell) → List Anchored
+blocks_of view leaves = flat_map (λ leaf. blocks_in view leaf.0) leaves
+
+-- the reads by which the blocks of leaves are found
+abbrev pub reads_of : SnapshotView → List (ℕ × Cell) → ℕ
+reads_of view leaves = sum_by (λ leaf. 41 + 43 * length (blocks_in view leaf.0)) leaves
+
+-- the blocks that are left of the cell that was begun, if one was
+abbrev pub begun_left : Option MembersView → List Anchored
+begun_left None = []
+begun_left (Some members) = members.blocks
+
+-- the reads that are still to be made for them
+abbrev pub begun_reads : Option MembersView → ℕ
+begun_reads None = 0
+begun_reads (Some members) = members.reads
+
+module _ {F : Type 0} (keeps : F → CellBox → Bool) where
+  -- the blocks that are left
+  abbrev pub objects_left : ObjectsIn F → List Anchored
+  objects_left objects = begun_left objects.members ++ blocks_of objects.snapshot.now (pruned_left keeps objects.pruned)
+
+  -- a bound on the reads that are still to be made for them
+  abbrev pub objects_budget : ObjectsIn F → ℕ
+  objects_budget objects = begun_reads objects.members
+      + (pruned_budget keeps objects.pruned + reads_of objects.snapshot.now (pruned_left keeps objects.pruned))
