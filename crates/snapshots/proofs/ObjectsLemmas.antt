@@ -1,7 +1,13 @@
 -- A walk over blocks, from draw to draw.
-use Rattle.std.proofs.Common.{◌≡◌, ℕ, ◌+◌, ◌≤◌, Bool}
+use Rattle.std.proofs.Common.{◌≡◌, ℕ, ◌+◌, ◌*◌, ◌≤◌, Bool, List, [], ◌∷◌, ◌++◌, length, refl, ap, arith}
+use Rattle.std.proofs.lemmas.List.{length-append}
+use Rattle.std.proofs.lemmas.List.Sums.{sum_by-cons}
+use Rattle.std.specs.Prelude.{None}
+use Rattle.track_types.specs.declared.cell.Cell.{Cell}
 use Rattle.track_types.specs.declared.cell_box.CellBox.{CellBox}
-use Rattle.snapshots.specs.Objects.{objects_budget, objects_left}
+use Rattle.k2_tree.specs.Pruned.{pruned_budget, pruned_left}
+use Rattle.snapshots.specs.View.{SnapshotView, blocks_in}
+use Rattle.snapshots.specs.Objects.{begun_left, begun_reads, blocks_of, objects_budget, objects_left, reads_of}
 use Rattle.snapshots.specs.declared.objects_in.ObjectsIn.{ObjectsIn}
 
 -- what leaves without a block leave: the same snapshot and blocks, and the reads from the budget
@@ -9,3 +15,29 @@ pub record IsGiving {F : Type 0} (keeps : F → CellBox → Bool) (first now : O
   pub same : now.snapshot.now ≡ first.snapshot.now
   pub left : objects_left keeps now ≡ objects_left keeps first
   pub cost : steps + objects_budget keeps now ≤ begun + objects_budget keeps first
+
+-- the reads for the blocks of leaves: so many for each leaf, and so many for each block
+pub reads_of-parts : (view : SnapshotView) (leaves : List (ℕ × Cell))
+    → reads_of view leaves ≡ 41 * length leaves + 43 * length (blocks_of view leaves)
+reads_of-parts view [] = refl
+reads_of-parts view (leaf ∷ leaves) =
+    let first = sum_by-cons (λ leaf. 41 + 43 * length (blocks_in view leaf.0)) leaf leaves in
+    let blocks = length-append (blocks_in view leaf.0) (blocks_of view leaves) in
+    omega (arith, first, blocks, reads_of-parts view leaves)
+
+-- a walk that has begun no cell has the blocks of the leaves that are left
+pub objects_left-unbegun : {F : Type 0} (keeps : F → CellBox → Bool) (objects : ObjectsIn F) → objects.members ≡ None
+    → objects_left keeps objects ≡ blocks_of objects.snapshot.now (pruned_left keeps objects.pruned)
+objects_left-unbegun keeps objects none =
+    ap (λ begun. begun_left begun ++ blocks_of objects.snapshot.now (pruned_left keeps objects.pruned)) none
+
+-- and the reads for them
+pub objects_budget-unbegun : {F : Type 0} (keeps : F → CellBox → Bool) (objects : ObjectsIn F) → objects.members ≡ None
+    → objects_budget keeps objects
+    ≡ pruned_budget keeps objects.pruned + 41 * length (pruned_left keeps objects.pruned) + 43 * length (objects_left keeps objects)
+objects_budget-unbegun keeps objects none =
+    let view : SnapshotView = objects.snapshot.now in
+    let leaves : List (ℕ × Cell) = pruned_left keeps objects.pruned in
+    let reads = ap (λ begun. begun_reads begun + (pruned_budget keeps objects.pruned + reads_of view leaves)) none in
+    let blocks = ap length (objects_left-unbegun keeps objects none) in
+    omega (arith, reads, blocks, reads_of-parts view leaves)

@@ -2,12 +2,15 @@ ghost use Rattle.std.specs.Prelude.{◌≡◌, ◌+◌, ◌*◌, ◌<◌, ◌≤
 ghost use Rattle.packed_bits.specs.Bits.{ones_of};
 ghost use Rattle.snapshots.specs.View.{block_at, block_of, blocks_in, leaf_at, tree_in};
 ghost use Rattle.snapshots.specs.Members.{blocks_from, members_left, IsAt};
+ghost use Rattle.snapshots.specs.Objects.{blocks_of, objects_budget, objects_left};
+ghost use Rattle.k2_tree.specs.Pruning.{kept_leaves, square_count};
 ghost use Rattle.snapshots.specs.declared.next.Next.TheVariants.{End, Place};
 
 use crate::anchored::Anchored;
 use crate::members::Members;
+use crate::objects_in::ObjectsIn;
 use bit_rank::Bits;
-use k2_tree::K2Tree;
+use k2_tree::{K2Tree, Keep};
 use object_perm::Perm;
 use std::marker::Model;
 use std::sync::ledger::Ledger;
@@ -80,6 +83,19 @@ impl Snapshot {
         ensures budget { result.reads ≡ 41 + 43 * length (blocks_in self.now leaf) }
     {
         Members::new(self, leaf, cell)
+    }
+
+    /// The blocks whose anchors lie in squares on which `keep` is true, from the whole grid to the
+    /// anchor's cell: by leaf, then by object. It takes no memory, and its draws read at most 52 for
+    /// each square with an anchor on which `keep` is true, and 43 for each block.
+    pub fn objects_in<F: Keep>(&self, keep: F) -> ObjectsIn<'_, F>
+        ensures left { objects_left F.keeps result
+            ≡ blocks_of self.now (kept_leaves (F.keeps keep) (tree_in self.now)) }
+        ensures budget { objects_budget F.keeps result
+            ≤ 52 * square_count (F.keeps keep) (tree_in self.now)
+            + 43 * length (objects_left F.keeps result) }
+    {
+        ObjectsIn::new(self, self.tree.pruned(keep))
     }
 
     // The first place of a leaf in leaf order.
