@@ -1,6 +1,13 @@
+mod SearchLemmas
+mod OrderLemmas
+mod CellsLemmas
+mod StartsLemmas
+mod PartLemmas
+mod JudgedLemmas
 mod FlawlessLemmas
 mod BlockLemmas
 mod PlaceLemmas
 mod PlacesLemmas
 mod ObjectsLemmas
+mod WordLemmas
 mod Examples

@@ -2,5 +2,6 @@
 pub mod View
 pub mod Flaws
 pub mod Stored
+pub mod Checking
 pub mod Members
 pub mod Objects

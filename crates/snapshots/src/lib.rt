@@ -6,11 +6,14 @@
 #![tactic(auto)]
 
 mod anchored;
+mod checking;
 mod fault;
 mod members;
 mod next;
 mod objects_in;
 mod snapshot;
+#[cfg(test)]
+mod tests;
 
 pub use anchored::Anchored;
 pub use fault::SnapFault;

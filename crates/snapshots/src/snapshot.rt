@@ -1,21 +1,28 @@
 ghost use Rattle.std.specs.Prelude.{◌≡◌, ◌+◌, ◌*◌, ◌<◌, ◌≤◌, ◌^◌, ◌∷◌, false, if◌then◌else◌, length, take, sum, Some, slice_get, slice_index};
+ghost use Rattle.std.specs.Prelude.{None, IfErr, IfOk, OnOk};
 ghost use Rattle.packed_bits.specs.Bits.{ones_of};
-ghost use Rattle.snapshots.specs.View.{block_at, block_of, blocks_in, leaf_at, tree_in};
+ghost use Rattle.snapshots.specs.View.{block_at, block_of, blocks_in, leaf_at, tree_in, view_with};
+ghost use Rattle.snapshots.specs.Flaws.{flaw_of, IsFaultOf, IsShaped};
 ghost use Rattle.snapshots.specs.Members.{blocks_from, members_left, IsAt};
 ghost use Rattle.snapshots.specs.Objects.{blocks_of, objects_budget, objects_left};
 ghost use Rattle.k2_tree.specs.Pruning.{kept_leaves, square_count};
 ghost use Rattle.snapshots.specs.declared.next.Next.TheVariants.{End, Place};
 
 use crate::anchored::Anchored;
+use crate::checking::{
+    check_perm, check_tree, find_late, flaw, has_cells, indexed, instants_in, starts_of,
+};
+use crate::fault::SnapFault;
 use crate::members::Members;
 use crate::objects_in::ObjectsIn;
 use bit_rank::Bits;
 use k2_tree::{K2Tree, Keep};
 use object_perm::Perm;
+use std::alloc::Global;
 use std::marker::Model;
 use std::sync::ledger::Ledger;
 use step_count::Steps;
-use track_types::{Cell, Frame, List32};
+use track_types::{Cell, Frame, Kind, List32, PeriodParts, Section};
 
 /// A period of an index: which objects have a block in it, and where each of them stands first.
 ///
@@ -49,6 +56,68 @@ impl Model for Snapshot {
 }
 
 impl Snapshot {
+    /// Takes the parts of a period as its snapshot, in time linear in their lengths.
+    ///
+    /// It judges in this order: each offset is below the number of the period's instants; the tree
+    /// bits are those of a set of cells; as many objects are the last of their cell as there are
+    /// cells, and the last object of all is one of them; `perm` is a permutation; and the objects
+    /// of each cell ascend. `Flaw` is the first flaw in this order, and of one kind the one at the
+    /// first place. That of the cells stands at the end of `lasts`.
+    ///
+    /// The header is in its ranges, and the number is that of one of its periods. There are 1 to
+    /// 2^16 objects and at most 2^31 tree bits. `present` has a bit for each object, and the other
+    /// lists have a member for each of its ones. `start` and all lengths add up to at most 2^25.
+    /// Memory is taken for the directories of the three lists of bits, the shortcuts of the
+    /// permutation, where each log begins, and marks while the call runs.
+    pub fn check(
+        alloc: Global,
+        frame: &Frame,
+        number: u32,
+        objects: u32,
+        start: u32,
+        parts: PeriodParts,
+    ) -> Result<Snapshot, SnapFault>
+        requires { IsShaped (view_with frame.now number objects start parts) }
+        ensures ok { IfOk result (λ snapshot.
+            snapshot ≡ view_with frame.now number objects start parts) }
+        ensures exact { OnOk result
+            (flaw_of (view_with frame.now number objects start parts) ≡ None) }
+        ensures flaw { IfErr result (λ fault.
+            IsFaultOf (view_with frame.now number objects start parts) fault) }
+    {
+        let PeriodParts {
+            present,
+            offsets,
+            tree,
+            lasts,
+            perm,
+            lengths,
+        } = parts;
+        if let Some(place) = find_late(offsets.as_slice(), instants_in(frame, number)) {
+            return Err(flaw(number, Section::Offsets, Kind::Offset, place));
+        }
+        let tree = check_tree(alloc, tree, frame, number)?;
+        if !has_cells(&lasts, tree.leaves()) {
+            return Err(flaw(number, Section::Lasts, Kind::Cells, lasts.len()));
+        }
+        let perm = check_perm(alloc, perm, &lasts, number)?;
+        let present = indexed(alloc, present)?;
+        let lasts = indexed(alloc, lasts)?;
+        let starts = starts_of(alloc, start, lengths.as_slice())?;
+        Ok(Snapshot {
+            frame: *frame,
+            number,
+            start,
+            present,
+            offsets,
+            tree,
+            lasts,
+            perm,
+            lengths,
+            starts,
+        })
+    }
+
     /// The block of an object, and `None` exactly where the object has none in this period. The object
     /// is told by its place among all objects.
     ///

@@ -1,0 +1,28 @@
+-- The first number of a range that passes a test.
+use Rattle.std.proofs.Common.{◌≡◌, ℕ, zero, suc, ◌+◌, ◌<◌, ◌≤◌, Bool, true, false, None, Some, inl, inr, refl, ap, ◌∙◌, arith}
+use Rattle.std.specs.List.{find, range_with_len}
+use Rattle.std.proofs.lemmas.Bool.{cases_order}
+
+-- a number that passes, where none before it does
+pub find-first : (test : ℕ → Bool) (from n place : ℕ) → from ≤ place → place < from + n
+    → ((j : ℕ) → from ≤ j → j < place → test j ≡ false) → test place ≡ true
+    → find test (range_with_len from n) ≡ Some place
+find-first test from zero place low high before here = absurd (omega arith)
+find-first test from (suc n) place low high before here = elim (cases_order from place) [
+  | inl same ↦ let passes : test from ≡ true = ap test same ∙ here in rw passes (ap Some same)
+  | inr other ↦ elim other [
+    | inl later ↦
+        let fails : test from ≡ false = before from (omega arith) later in
+        rw fails (find-first test (from + 1) n place (omega arith) (omega arith)
+        (λ j above below. before j (omega arith) below) here)
+    | inr earlier ↦ absurd (omega arith)
+  ]
+]
+
+-- none passes
+pub find-none : (test : ℕ → Bool) (from n : ℕ) → ((j : ℕ) → from ≤ j → j < from + n → test j ≡ false)
+    → find test (range_with_len from n) ≡ None
+find-none test from zero fail = refl
+find-none test from (suc n) fail =
+    let fails : test from ≡ false = fail from (omega arith) (omega arith) in
+    rw fails (find-none test (from + 1) n (λ j above below. fail j (omega arith) (omega arith)))

@@ -1,0 +1,160 @@
+ghost use Rattle.std.specs.Prelude.{◌≡◌, ◌≤◌, true, [], ◌∷◌, length, IfOk};
+
+use super::{SnapFault, Snapshot};
+use std::alloc::Global;
+use std::test::Fail;
+use track_types::{BitList, Cell, Flaw, Frame, Kind, List32, Memory, PeriodParts, Section};
+
+const O: bool = false;
+
+const I: bool = true;
+
+// The bits of (0, 0) and (1, 1) in a grid of side 4.
+const TWO_CELLS: [bool; 8] = [I, O, O, O, I, O, O, I];
+
+// Those of (0, 0) alone.
+const ONE_CELL: [bool; 8] = [I, O, O, O, I, O, O, O];
+
+// The bits as a list.
+fn bits_of(alloc: Global, bits: &[bool]) -> Result<BitList, Memory>
+    requires some { 1 ≤ length bits.now }
+    requires few { length bits.now ≤ 32 }
+    ensures { IfOk result (λ list. list ≡ bits.now) }
+{
+    let mut word = 0;
+    for i in (0..bits.len()).rev() {
+        word = 2 * word + u64::from(bits[i]);
+    }
+    Ok(BitList::new(vec![in alloc; word]?, bits.len() as u32))
+}
+
+// The numbers as a list.
+fn numbers_of(alloc: Global, numbers: [u32; 2]) -> Result<List32, Memory>
+    ensures { IfOk result (λ list. list ≡ numbers) }
+{
+    Ok(List32::new(numbers.as_slice().to_vec(alloc)?))
+}
+
+// The parts of a period of two objects, both present, whose logs have three symbols and none.
+fn parts_of(
+    alloc: Global,
+    offsets: [u32; 2],
+    tree: [bool; 8],
+    lasts: [bool; 2],
+    perm: [u32; 2],
+) -> Result<PeriodParts, Memory>
+    ensures parts { IfOk result (λ parts. parts ≡ record {
+      present = true ∷ true ∷ [];
+      offsets = offsets;
+      tree = tree;
+      lasts = lasts;
+      perm = perm;
+      lengths = 3 ∷ 0 ∷ [];
+    }) }
+    ensures offsets { length offsets ≡ 2 }
+    ensures tree { length tree ≡ 8 }
+    ensures lasts { length lasts ≡ 2 }
+    ensures perm { length perm ≡ 2 }
+{
+    Ok(PeriodParts {
+        present: bits_of(alloc, [I, I].as_slice())?,
+        offsets: numbers_of(alloc, offsets)?,
+        tree: bits_of(alloc, tree.as_slice())?,
+        lasts: bits_of(alloc, lasts.as_slice())?,
+        perm: numbers_of(alloc, perm)?,
+        lengths: numbers_of(alloc, [3, 0])?,
+    })
+}
+
+// The first flaw of such parts in a period of four instants, if they have one.
+fn flaw_of(
+    alloc: Global,
+    offsets: [u32; 2],
+    tree: [bool; 8],
+    lasts: [bool; 2],
+    perm: [u32; 2],
+) -> Result<Option<Flaw>, SnapFault> {
+    let parts = parts_of(alloc, offsets, tree, lasts, perm)?;
+    let frame = Frame {
+        first: 0,
+        span: 4,
+        period: 4,
+        height: 2,
+        base: Cell { x: 0, y: 0 },
+        cell: 1,
+        tick: 1,
+    };
+    match Snapshot::check(alloc, &frame, 0, 2, 0, parts) {
+        Ok(_snapshot) => Ok(None),
+        Err(SnapFault::Flaw(flaw)) => Ok(Some(flaw)),
+        Err(SnapFault::Memory) => Err(SnapFault::Memory),
+    }
+}
+
+// A flaw of the first period.
+fn at(section: Section, index: u64, kind: Kind) -> Option<Flaw> {
+    Some(Flaw {
+        section,
+        period: 0,
+        index,
+        kind,
+    })
+}
+
+#[test]
+fn parts_without_a_flaw_are_taken(rt: HostRuntime) -> Result<(), Fail> {
+    let flaw = flaw_of(rt.alloc(), [0, 3], TWO_CELLS, [I, I], [0, 1])?;
+    assert_eq!(rt; flaw, None);
+    Ok(())
+}
+
+#[test]
+fn parts_are_refused_at_their_first_flaw(rt: HostRuntime) -> Result<(), Fail> {
+    for (offsets, tree, lasts, perm, flaw) in [
+        (
+            [0, 4],
+            TWO_CELLS,
+            [I, I],
+            [0, 1],
+            at(Section::Offsets, 1, Kind::Offset),
+        ),
+        (
+            [0, 3],
+            [I, O, O, O, O, O, O, O],
+            [I, I],
+            [0, 1],
+            at(Section::Tree, 4, Kind::Tree),
+        ),
+        (
+            [0, 3],
+            TWO_CELLS,
+            [I, O],
+            [0, 1],
+            at(Section::Lasts, 2, Kind::Cells),
+        ),
+        (
+            [0, 3],
+            TWO_CELLS,
+            [I, I],
+            [0, 0],
+            at(Section::Perm, 1, Kind::Perm),
+        ),
+        (
+            [0, 3],
+            ONE_CELL,
+            [O, I],
+            [1, 0],
+            at(Section::Perm, 1, Kind::CellOrder),
+        ),
+        (
+            [4, 4],
+            ONE_CELL,
+            [I, I],
+            [1, 1],
+            at(Section::Offsets, 0, Kind::Offset),
+        ),
+    ] {
+        assert_eq!(rt; flaw_of(rt.alloc(), offsets, tree, lasts, perm)?, flaw);
+    }
+    Ok(())
+}
