@@ -9,6 +9,7 @@ use Rattle.std.specs.Int.RustNames.{unsigned_abs}
 use Rattle.track_types.specs.Region.{is_between, in_box}
 use Rattle.track_types.specs.declared.cell.Cell.{Cell}
 use Rattle.track_types.specs.declared.limit.TheConstants.{MAX_HEIGHT}
+use Rattle.track_types.proofs.RegionLemmas.{is_between-from}
 use Rattle.k2_tree.specs.Morton.{interleaved, morton_of, row_of, column_of, IsInGrid}
 use Rattle.k2_tree.specs.Squares.{node}
 use Rattle.k2_tree.specs.Areas.{area_at}
@@ -63,10 +64,6 @@ row_of-morton_of height n m base cell inside few =
     let y : ℕ = unsigned_abs (cell.y -ℤ base.y) in
     row_of-prefix m n (interleaved height y x)
     ∙ ap (λ c. c / 2 ^ n) (row_of-more height (m + n) y x (omega arith) inside.above)
-
--- between two numbers is what is not below the one and not above the other
-is_between-from : (low high z : ℤ) → low ≤ℤ z → z ≤ℤ high → is_between low high z ≡ true
-is_between-from low high z above below = grind (arith, ints)
 
 -- a number is between the ends of its stretch, of those as long that are laid from the base on
 is_between-stretch : (base z : ℤ) (far count : ℕ) → base ≤ℤ z → 0 < far → count ≡ unsigned_abs (z -ℤ base) / far

@@ -1,7 +1,7 @@
 -- Regions, run on cells and boxes that were worked out by hand.
 use Rattle.std.proofs.Common.{◌≡◌, ℤ, pos, negsuc, true, false, [], ◌∷◌, map, refl}
 use Rattle.std.specs.Int.Signed.{le_z_yes}
-use Rattle.track_types.specs.Region.{in_region, squared_distance, touches_region}
+use Rattle.track_types.specs.Region.{in_region, squared_distance, intersects_region}
 use Rattle.track_types.specs.declared.cell.Cell.{Cell}
 use Rattle.track_types.specs.declared.cell_box.CellBox.{CellBox}
 use Rattle.track_types.specs.declared.region.Region.TheVariants.{Rect, Disc}
@@ -37,16 +37,16 @@ near : CellBox
 near = record { x1 = pos 3; y1 = pos 3; x2 = pos 5; y2 = pos 5; wide = le_z_yes tt; high = le_z_yes tt }
 
 -- a disc and a rect within a box, all of whose corners are outside
-touched_within : map (λ region. touches_region region wide) (Disc (pos 0) (pos 0) 2 ∷ Rect (pos 1) (pos 1) (pos 2) (pos 2) ∷ []) ≡ true ∷ true ∷ []
+touched_within : map (λ region. intersects_region region wide) (Disc (pos 0) (pos 0) 2 ∷ Rect (pos 1) (pos 1) (pos 2) (pos 2) ∷ []) ≡ true ∷ true ∷ []
 unfolding wide
 touched_within = refl
 
 -- a disc that ends before a corner, though not before its column and its line, and one that reaches the corner
-touched_by_a_corner : map (λ region. touches_region region near) (Disc (pos 0) (pos 0) 4 ∷ Disc (pos 0) (pos 0) 5 ∷ []) ≡ false ∷ true ∷ []
+touched_by_a_corner : map (λ region. intersects_region region near) (Disc (pos 0) (pos 0) 4 ∷ Disc (pos 0) (pos 0) 5 ∷ []) ≡ false ∷ true ∷ []
 unfolding near
 touched_by_a_corner = refl
 
 -- a rect that crosses a box has none of its corners in it; an inverted one touches nothing
-touched_by_a_rect : map (λ region. touches_region region near) (Rect (pos 0) (pos 4) (pos 9) (pos 4) ∷ Rect (pos 5) (pos 4) (pos 4) (pos 4) ∷ []) ≡ true ∷ false ∷ []
+touched_by_a_rect : map (λ region. intersects_region region near) (Rect (pos 0) (pos 4) (pos 9) (pos 4) ∷ Rect (pos 5) (pos 4) (pos 4) (pos 4) ∷ []) ≡ true ∷ false ∷ []
 unfolding near
 touched_by_a_rect = refl

@@ -5,7 +5,7 @@ use Rattle.std.specs.Int.{int_max, int_min}
 use Rattle.std.proofs.Math.Nat.{mul-le-mul}
 use Rattle.std.proofs.lemmas.Bool.{and_parts, le-leb, leb-true}
 use Rattle.std.proofs.lemmas.Int.{clamps, ints}
-use Rattle.track_types.specs.Region.{Touches, anchor_of, in_box, in_region, is_between, nearest_cell, squared_gap, touches_region}
+use Rattle.track_types.specs.Region.{Intersects, anchor_of, in_box, in_region, is_between, nearest_cell, squared_gap, intersects_region}
 use Rattle.track_types.specs.declared.cell.Cell.{Cell}
 use Rattle.track_types.specs.declared.cell_box.CellBox.{CellBox}
 use Rattle.track_types.specs.declared.region.Region.{Region}
@@ -15,7 +15,7 @@ use Rattle.track_types.specs.declared.region.Region.TheVariants.{Rect, Disc}
 is_between-bounds : (low high z : ℤ) → is_between low high z ≡ true → (low ≤ℤ z) × (z ≤ℤ high)
 is_between-bounds low high z holds = (grind (arith, ints), grind (arith, ints))
 
-is_between-from : (low high z : ℤ) → low ≤ℤ z → z ≤ℤ high → is_between low high z ≡ true
+pub is_between-from : (low high z : ℤ) → low ≤ℤ z → z ≤ℤ high → is_between low high z ≡ true
 is_between-from low high z above below = grind (arith, ints)
 
 -- the number from a to b that is nearest to z is between a and b
@@ -68,15 +68,15 @@ nearest_cell-in_box area cell =
     both _ _ (is_between-nearest area.x1 area.x2 cell.x area.wide) (is_between-nearest area.y1 area.y2 cell.y area.high)
 
 -- where a cell of the box is in the region, the one that is nearest to the region's anchor is
-touches_region-from_cell : (region : Region) (area : CellBox) (cell : Cell) →
-    in_box area cell ≡ true → in_region region cell ≡ true → touches_region region area ≡ true
-touches_region-from_cell (Rect x1 y1 x2 y2) area cell inside held =
+intersects_region-from_cell : (region : Region) (area : CellBox) (cell : Cell) →
+    in_box area cell ≡ true → in_region region cell ≡ true → intersects_region region area ≡ true
+intersects_region-from_cell (Rect x1 y1 x2 y2) area cell inside held =
     let box = and_parts (is_between area.x1 area.x2 cell.x) (is_between area.y1 area.y2 cell.y) inside in
     let rect = and_parts (is_between x1 x2 cell.x) (is_between y1 y2 cell.y) held in
     both _ _
     (is_between-nearest_low area.x1 area.x2 x1 x2 cell.x box.0 rect.0)
     (is_between-nearest_low area.y1 area.y2 y1 y2 cell.y box.1 rect.1)
-touches_region-from_cell (Disc x y r) area cell inside held =
+intersects_region-from_cell (Disc x y r) area cell inside held =
     let box = and_parts (is_between area.x1 area.x2 cell.x) (is_between area.y1 area.y2 cell.y) inside in
     let across = squared_gap-nearest area.x1 area.x2 x cell.x box.0 in
     let along = squared_gap-nearest area.y1 area.y2 y cell.y box.1 in
@@ -84,10 +84,10 @@ touches_region-from_cell (Disc x y r) area cell inside held =
     le-leb _ _ (omega arith)
 
 -- the test decides
-pub touches_region-exact : (region : Region) (area : CellBox) → IsTrue (touches_region region area) ↔ Touches region area
-touches_region-exact region area = (
+pub intersects_region-exact : (region : Region) (area : CellBox) → IsTrue (intersects_region region area) ↔ Intersects region area
+intersects_region-exact region area = (
   λ held. (nearest_cell area (anchor_of region), nearest_cell-in_box area (anchor_of region), held),
-  λ touched. touches_region-from_cell region area touched.0 touched.1 touched.2,
+  λ touched. intersects_region-from_cell region area touched.0 touched.1 touched.2,
 )
 
 -- whether a cell is in a rect, from its two coordinates

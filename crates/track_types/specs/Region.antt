@@ -39,8 +39,8 @@ abbrev pub in_box : CellBox → Cell → Bool
 in_box area cell = is_between area.x1 area.x2 cell.x && is_between area.y1 area.y2 cell.y
 
 -- some cell of the box is in the region
-abbrev pub Touches : Region → CellBox → Type 0
-Touches region area = (cell : Cell) × IsTrue (in_box area cell) × InRegion region cell
+abbrev pub Intersects : Region → CellBox → Type 0
+Intersects region area = (cell : Cell) × IsTrue (in_box area cell) × InRegion region cell
 
 -- the lower corner of a rect, or the centre of a disc
 abbrev pub anchor_of : Region → Cell
@@ -52,6 +52,6 @@ abbrev pub nearest_cell : CellBox → Cell → Cell
 nearest_cell area cell =
     record { x = int_max area.x1 (int_min cell.x area.x2); y = int_max area.y1 (int_min cell.y area.y2) }
 
--- the test for `Touches`: whether the region has the cell of the box that is nearest to its anchor
-abbrev pub touches_region : Region → CellBox → Bool
-touches_region region area = in_region region (nearest_cell area (anchor_of region))
+-- the test for `Intersects`: whether the region has the cell of the box that is nearest to its anchor
+abbrev pub intersects_region : Region → CellBox → Bool
+intersects_region region area = in_region region (nearest_cell area (anchor_of region))

@@ -1,6 +1,6 @@
 ghost use Rattle.std.specs.Prelude.{◌≡◌, ◌↔◌, ◌*◌, ◌≤◌, ◌^◌, IsTrue};
 ghost use Rattle.track_types.specs.Near.{IsBoxWithin, IsCellWithin};
-ghost use Rattle.track_types.specs.Region.{IsRegionWithin, Touches, anchor_of, in_region, is_between, nearest_cell, squared_distance, touches_region};
+ghost use Rattle.track_types.specs.Region.{IsRegionWithin, Intersects, anchor_of, in_region, is_between, nearest_cell, squared_distance, intersects_region};
 
 use crate::cell::Cell;
 use crate::cell_box::CellBox;
@@ -34,13 +34,14 @@ impl Region {
         }
     }
 
-    /// Whether any cell of the box is in the region. All coordinates are at most 2^42 away from 0,
-    /// and so is a disc's radius. It takes no memory.
+    /// Whether any cell of the box is in the region. Elsewhere this is called "intersects", and
+    /// "touches" is said of borders alone. All coordinates are at most 2^42 away from 0, and so is a
+    /// disc's radius. It takes no memory.
     pub fn touches(&self, area: &CellBox) -> bool
         requires region { IsRegionWithin self.now }
         requires near { IsBoxWithin area.now }
-        ensures value { result ≡ touches_region self.now area.now }
-        ensures exact { IsTrue result ↔ Touches self.now area.now }
+        ensures value { result ≡ intersects_region self.now area.now }
+        ensures exact { IsTrue result ↔ Intersects self.now area.now }
     {
         // If the region has a cell of the box at all, then also the one nearest to its anchor.
         self.contains(nearest(area, self.anchor()))

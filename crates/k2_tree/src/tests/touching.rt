@@ -1,5 +1,5 @@
 ghost use Rattle.std.specs.Prelude.{◌≡◌};
-ghost use Rattle.track_types.specs.Region.{touches_region, IsRegionWithin};
+ghost use Rattle.track_types.specs.Region.{intersects_region, IsRegionWithin};
 ghost use Rattle.track_types.specs.declared.region.Region.{Region};
 ghost use Rattle.track_types.specs.declared.region.Region.TheVariants.{Disc, Rect};
 
@@ -56,7 +56,7 @@ impl Touching {
 }
 
 impl Keep for Touching {
-    ghost keeps = { touches_region };
+    ghost keeps = { intersects_region };
 
     fn keep(&self, area: &CellBox) -> bool {
         self.region.touches(area)

@@ -1,6 +1,6 @@
 use Rattle.std.proofs.Common.{◌≡◌, pos, negsuc, List, [], ◌∷◌, ◌++◌, map, refl, sym, ◌∙◌, Option, None, Some, arith}
 use Rattle.std.specs.Prelude.{option_to_list}
-use Rattle.track_types.specs.Region.{touches_region}
+use Rattle.track_types.specs.Region.{intersects_region}
 use Rattle.track_types.specs.declared.cell.Cell.{Cell}
 use Rattle.track_types.specs.declared.region.Region.{Region}
 use Rattle.track_types.specs.declared.region.Region.TheVariants.{Rect}
@@ -20,12 +20,12 @@ three = tree_with 2 base (map (cell_of 2 base) (0 ∷ 3 ∷ 5 ∷ []))
 abbrev far : Region
 far = Rect (pos 15) (negsuc 14) (pos 16) (negsuc 13)
 
-no_leaf : (tree : Tree) (region : Region) → tree ≡ three → region ≡ far → kept_leaves (touches_region region) tree ≡ []
+no_leaf : (tree : Tree) (region : Region) → tree ≡ three → region ≡ far → kept_leaves (intersects_region region) tree ≡ []
 unfolding numbered passes morton_of interleaved cell_of row_of column_of
 no_leaf tree region t r = rw (t, r) refl
 
 no_square : (tree : Tree) (region : Region) → tree ≡ three → region ≡ far
-    → square_count (touches_region region) tree ≡ 0
+    → square_count (intersects_region region) tree ≡ 0
 unfolding squares_from prefixes morton_of interleaved cell_of row_of column_of
 no_square tree region t r = rw (t, r) refl
 
