@@ -10,6 +10,7 @@ use std::test::Fail;
 use step_count::Steps;
 use track_types::{BitList, Cell, Memory};
 
+mod building;
 mod random;
 mod touching;
 mod walks;
