@@ -1,16 +1,17 @@
--- The squares of a cell's Morton number have areas that hold the cell.
-use Rattle.std.proofs.Common.{◌≡◌, ℕ, zero, suc, ◌+◌, ◌-◌, ◌*◌, ◌/◌, ◌^◌, ◌<◌, ◌≤◌, ℤ, pos, ◌+ℤ◌, ◌-ℤ◌, ◌≤ℤ◌}
-use Rattle.std.proofs.Common.{true, refl, sym, ap, ◌∙◌, arith}
-use Rattle.std.proofs.Math.Nat.{div-mul-le_self, div-one, lt-div-mul-add}
+-- The squares of a cell's Morton number have areas near 0 that hold the cell.
+use Rattle.std.proofs.Common.{◌≡◌, ℕ, zero, suc, ◌+◌, ◌-◌, ◌*◌, ◌/◌, ◌^◌, ◌<◌, ◌≤◌, ℤ, pos, neg_ℤ, ◌+ℤ◌, ◌-ℤ◌}
+use Rattle.std.proofs.Common.{◌≤ℤ◌, true, refl, sym, ap, ◌∙◌, arith, lit<}
+use Rattle.std.proofs.Math.Nat.{div-mul-le_self, div-one, lt-div-mul-add, pow-le-pow_right}
 use Rattle.std.proofs.lemmas.Nat.{pow_pos}
 use Rattle.std.proofs.lemmas.Bool.{and_from}
 use Rattle.std.proofs.lemmas.Int.{ints}
 use Rattle.std.specs.Int.RustNames.{unsigned_abs}
+use Rattle.track_types.specs.Near.{IsBoxWithin, IsWithin}
 use Rattle.track_types.specs.Region.{is_between, in_box}
 use Rattle.track_types.specs.declared.cell.Cell.{Cell}
 use Rattle.track_types.specs.declared.limit.TheConstants.{MAX_HEIGHT}
 use Rattle.track_types.proofs.RegionLemmas.{is_between-from}
-use Rattle.k2_tree.specs.Morton.{interleaved, morton_of, row_of, column_of, IsInGrid}
+use Rattle.k2_tree.specs.Morton.{interleaved, morton_of, row_of, column_of, IsGrid, IsInGrid}
 use Rattle.k2_tree.specs.Squares.{node}
 use Rattle.k2_tree.specs.Areas.{area_at}
 use Rattle.k2_tree.proofs.MortonLemmas.{half_more}
@@ -77,7 +78,7 @@ is_between-stretch base z far count low some is =
     (omega (arith, ints)) (omega (arith, ints))
 
 -- a cell of the grid is in the area of each square that holds its Morton number
-pub in_area : (height n : ℕ) (base cell : Cell) → IsInGrid height base cell → height ≤ 20
+pub in_area : (height n : ℕ) (base cell : Cell) → IsInGrid height base cell → height ≤ MAX_HEIGHT
     → in_box (area_at base (node n (morton_of height base cell / 4 ^ n))) cell ≡ true
 in_area height n base cell inside few =
     let prefix : ℕ = morton_of height base cell / 4 ^ n in
@@ -86,3 +87,38 @@ in_area height n base cell inside few =
     and_from _ _
     (is_between-stretch base.x cell.x (2 ^ n) (column_of MAX_HEIGHT prefix) inside.left (pow_pos n) across)
     (is_between-stretch base.y cell.y (2 ^ n) (row_of MAX_HEIGHT prefix) inside.below (pow_pos n) along)
+
+-- a stretch of a grid is near 0 from its first number to its last
+are_within-stretch : (base : ℤ) (start far : ℕ) → neg_ℤ (pos (2 ^ 41)) ≤ℤ base → base ≤ℤ pos (2 ^ 41)
+    → start < 2 ^ MAX_HEIGHT → far ≤ 2 ^ MAX_HEIGHT
+    → IsWithin (base +ℤ pos start) × IsWithin (base +ℤ pos start +ℤ pos (far - 1))
+are_within-stretch base start far low high before most = (
+  record { low = omega (arith, ints); high = omega (arith, ints) },
+  record { low = omega (arith, ints); high = omega (arith, ints) },
+)
+
+-- the stretch that holds a number begins before it
+start-lt : (height far count x : ℕ) → height ≤ MAX_HEIGHT → x < 2 ^ height → count ≡ x / far
+    → count * far < 2 ^ MAX_HEIGHT
+start-lt height far count x few small is =
+    let most : 2 ^ height ≤ 2 ^ MAX_HEIGHT = pow-le-pow_right {n = 2} (lit< tt) few in
+    let laid : count * far ≡ x / far * far = ap (λ c. c * far) is in
+    omega (arith, div-mul-le_self x far)
+
+-- the area of each square of the grid that holds the cell is near 0
+pub area_within : (height n : ℕ) (base cell : Cell) → IsGrid height base → IsInGrid height base cell → n ≤ height
+    → IsBoxWithin (area_at base (node n (morton_of height base cell / 4 ^ n)))
+area_within height n base cell grid inside low =
+    let prefix : ℕ = morton_of height base cell / 4 ^ n in
+    let column : ℕ = column_of MAX_HEIGHT prefix in
+    let row : ℕ = row_of MAX_HEIGHT prefix in
+    let few : height ≤ MAX_HEIGHT = grid.limit in
+    let level : n ≤ MAX_HEIGHT = omega arith in
+    let far : 2 ^ n ≤ 2 ^ MAX_HEIGHT = pow-le-pow_right {n = 2} (lit< tt) level in
+    let across = column_of-morton_of height n MAX_HEIGHT base cell inside few in
+    let along = row_of-morton_of height n MAX_HEIGHT base cell inside few in
+    let x = are_within-stretch base.x (column * 2 ^ n) (2 ^ n) grid.left grid.right
+    (start-lt height (2 ^ n) column (unsigned_abs (cell.x -ℤ base.x)) few inside.right across) far in
+    let y = are_within-stretch base.y (row * 2 ^ n) (2 ^ n) grid.below grid.above
+    (start-lt height (2 ^ n) row (unsigned_abs (cell.y -ℤ base.y)) few inside.above along) far in
+    record { x1 = x.0; y1 = y.0; x2 = x.1; y2 = y.1 }

@@ -9,20 +9,16 @@ use Rattle.packed_bits.specs.Bits.{packed}
 use Rattle.packed_bits.specs.Words.{bits_of}
 use Rattle.packed_bits.proofs.WordLemmas.{bits_of-packed}
 use Rattle.track_types.specs.declared.cell.Cell.{Cell}
+use Rattle.track_types.specs.declared.limit.TheConstants.{MAX_HEIGHT}
 use Rattle.k2_tree.specs.Morton.{morton_of, cell_of, IsGrid, IsInGrid}
-use Rattle.k2_tree.specs.TreeBits.{prefixes, level_bits, morton_bits, Rises, AreCodes}
+use Rattle.k2_tree.specs.TreeBits.{prefixes, level_bits, morton_bits, AreCodes}
 use Rattle.k2_tree.specs.Tree.{codes_of, codes_in, tree_of, tree_with, AreTreeBits, IsStored}
 use Rattle.k2_tree.proofs.MortonLemmas.{morton_of-lt}
-use Rattle.k2_tree.proofs.RisingLemmas.{Rises-from_increasing}
+use Rattle.k2_tree.proofs.RisingLemmas.{rises}
 use Rattle.k2_tree.proofs.PrefixLemmas.{by_test, once_from}
 use Rattle.k2_tree.proofs.TreeLemmas.{length-level_bits}
 use Rattle.k2_tree.proofs.DecodingLemmas.{AreTreeBits-morton_bits, codes_in-morton_bits}
 use Rattle.k2_tree.proofs.CellLemmas.{cells_back, codes_back}
-
--- ascending numbers rise
-pub rises : (xs : List ℕ) → IsStrictlyIncreasing xs → Rises 0 xs
-rises [] up = tt
-rises (x ∷ xs) up = Rises-from_increasing 0 x xs (omega arith) up
 
 length-once_from : (k : ℕ) (xs : List ℕ) → length (once_from k xs) ≤ suc (length xs)
 length-once_from k [] = omega arith
@@ -53,7 +49,8 @@ length-morton_bits (suc n) codes =
     )
 
 -- there are few bits
-pub few_bits : (n : ℕ) (codes : List ℕ) → n ≤ 20 → length codes ≤ 2 ^ 16 → length (morton_bits n codes) ≤ 2 ^ 31
+pub few_bits : (n : ℕ) (codes : List ℕ) → n ≤ MAX_HEIGHT → length codes ≤ 2 ^ 16
+    → length (morton_bits n codes) ≤ 2 ^ 31
 few_bits n codes low few =
     let a : n * (4 * length codes) ≤ n * (4 * 2 ^ 16) = mul-le-mul_left n (omega arith) in
     omega (arith, length-morton_bits n codes)
@@ -78,7 +75,7 @@ built height base cells bits grid few inside up is =
     let codes : List ℕ = map (morton_of height base) cells in
     let are : AreCodes height codes = codes_of_cells height base cells up in
     let long : length codes ≡ length cells = length-map cells (morton_of height base) in
-    let low : height ≤ 20 = grid.limit in
+    let low : height ≤ MAX_HEIGHT = grid.limit in
     let tree : AreTreeBits height (morton_bits height codes) =
     AreTreeBits-morton_bits height codes grid.some are (few_bits height codes low (omega arith)) in
     let told : codes_in height bits ≡ codes =

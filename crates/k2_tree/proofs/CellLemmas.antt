@@ -8,7 +8,7 @@ use Rattle.std.proofs.lemmas.Option.{slice_get-map}
 use Rattle.packed_bits.specs.Bits.{ones_of}
 use Rattle.track_types.specs.declared.cell.Cell.{Cell}
 use Rattle.k2_tree.specs.Morton.{morton_of, cell_of, IsInGrid}
-use Rattle.k2_tree.specs.TreeBits.{is_in, AreCodes}
+use Rattle.k2_tree.specs.TreeBits.{is_in, morton_bits, AreCodes}
 use Rattle.k2_tree.specs.Tree.{Tree, codes_in, codes_of, tree_of, tree_with, IsTree, IsStored}
 use Rattle.k2_tree.specs.Flaws.{StandsFor}
 use Rattle.k2_tree.proofs.MortonLemmas.{morton_of-cell_of, cell_of-morton_of, cell_of-inside}
@@ -122,3 +122,20 @@ tree_of-StandsFor height base bits tree stands =
     ∙ ap (λ h. tree_with h base (map (cell_of h base) codes)) (sym stands.high)
     ∙ ap (λ b. tree_with tree.height b (map (cell_of tree.height b) codes)) (sym stands.from)
     ∙ ap (tree_with tree.height tree.base) (cells_back tree.height tree.base tree.cells is.inside)
+
+-- bits stand for one tree alone
+pub StandsFor-unique : (height : ℕ) (base : Cell) (bits : List Bool) (tree other : Tree)
+    → StandsFor height base bits tree → StandsFor height base bits other → tree ≡ other
+StandsFor-unique height base bits tree other stands stands' =
+    sym (tree_of-StandsFor height base bits tree stands) ∙ tree_of-StandsFor height base bits other stands'
+
+-- a tree's own bits stand for it
+pub StandsFor-own : (tree : Tree) → IsTree tree
+    → StandsFor tree.height tree.base (morton_bits tree.height (codes_of tree)) tree
+StandsFor-own tree is = record { high = refl; from = refl; is_tree = is; same = refl }
+
+-- and so they tell it
+pub tree_of-own : (tree : Tree) → IsTree tree
+    → tree_of tree.height tree.base (morton_bits tree.height (codes_of tree)) ≡ tree
+tree_of-own tree is =
+    tree_of-StandsFor tree.height tree.base (morton_bits tree.height (codes_of tree)) tree (StandsFor-own tree is)

@@ -12,7 +12,7 @@ use Rattle.track_types.specs.declared.cell.Cell.{Cell}
 use Rattle.k2_tree.specs.TreeBits.{is_in, prefixes, longer}
 use Rattle.k2_tree.specs.Squares.{Node, node}
 use Rattle.k2_tree.specs.Tree.{Tree, codes_of, tree_of, IsStored}
-use Rattle.k2_tree.specs.TreeSquares.{child_at, level_of, node_of, number_of, prefix_of, squares_of, IsSquareOf}
+use Rattle.k2_tree.specs.TreeSquares.{child_at, level_of, node_of, prefix_of, square_number, squares_of, IsSquareOf}
 use Rattle.k2_tree.specs.Digits.{digits_of}
 use Rattle.k2_tree.specs.Pending.{StandsAt}
 use Rattle.k2_tree.specs.Pruning.{children, child_nodes}
@@ -61,12 +61,12 @@ kept_alike f g m p q same (suc k) d agree = by_kept (p d) refl
 -- the digits of a square's four bits are those of its children that hold a cell
 pub group_nodes : (height : ℕ) (base : Cell) (bits : List Bool) (s : Square) → IsStored height base bits
     → IsSquareOf (tree_of height base bits) s → 1 ≤ level_of s
-    → map (child_at (node_of s)) (digits_of (window_of bits (4 * number_of s) 4))
+    → map (child_at (node_of s)) (digits_of (window_of bits (4 * square_number s) 4))
     ≡ child_nodes (tree_of height base bits) (node_of s)
 unfolding digits_of children longer
 group_nodes height base bits s stored of some =
     let tree : Tree = tree_of height base bits in
-    let p : ℕ = 4 * number_of s in
+    let p : ℕ = 4 * square_number s in
     let q : ℕ = prefix_of s in
     let m : ℕ = level_of s - 1 in
     let first : 4 * q + 0 ≡ 4 * q = omega arith in
@@ -81,48 +81,48 @@ group_nodes height base bits s stored of some =
 -- they stand one behind another from the rank of the group on
 pub group_stands : (height : ℕ) (base : Cell) (bits : List Bool) (s : Square) → IsStored height base bits
     → IsSquareOf (tree_of height base bits) s → 1 ≤ level_of s
-    → StandsAt (squares_of (tree_of height base bits)) (rank_of bits (4 * number_of s) + 1)
-    (map (child_at (node_of s)) (digits_of (window_of bits (4 * number_of s) 4)))
+    → StandsAt (squares_of (tree_of height base bits)) (rank_of bits (4 * square_number s) + 1)
+    (map (child_at (node_of s)) (digits_of (window_of bits (4 * square_number s) 4)))
 unfolding digits_of
 group_stands height base bits s stored of some =
-    let none : 4 * number_of s + 0 ≡ 4 * number_of s = omega arith in
+    let none : 4 * square_number s + 0 ≡ 4 * square_number s = omega arith in
     subst (λ p. StandsAt squares (rank_of bits p + 1) (told_from 0 4)) none (from 4 0 (omega arith))
   where
     squares : List Node
     squares = squares_of (tree_of height base bits)
 
     test : ℕ → Bool
-    test d = bit_at (window_of bits (4 * number_of s) 4) d == 1
+    test d = bit_at (window_of bits (4 * square_number s) 4) d == 1
 
     told_from : ℕ → ℕ → List Node
     told_from d k = map (child_at (node_of s)) (filter test (range_with_len d k))
 
     rank_at : ℕ → ℕ
-    rank_at d = rank_of bits (4 * number_of s + d)
+    rank_at d = rank_of bits (4 * square_number s + d)
 
     bit : ℕ → Bool
-    bit d = get_or bits (4 * number_of s + d) false
+    bit d = get_or bits (4 * square_number s + d) false
 
     from : (k d : ℕ) → d + k ≡ 4 → StandsAt squares (rank_at d + 1) (told_from d k)
     from zero d end = tt
     from (suc k) d end =
-        let p : ℕ = 4 * number_of s + d in
+        let p : ℕ = 4 * square_number s + d in
         let inside : p < length bits = child_inside height base bits s d stored of some (omega arith) in
-        let told : test d ≡ bit d = window_bit bits (4 * number_of s) d 4 (omega arith) inside in
+        let told : test d ≡ bit d = window_bit bits (4 * square_number s) d 4 (omega arith) inside in
         by_bit (bit d) refl told inside (from k (d + 1) (omega arith))
       where
-        step : 4 * number_of s + d < length bits → rank_at (d + 1) ≡ rank_at d + cond (bit d) 1 0
+        step : 4 * square_number s + d < length bits → rank_at (d + 1) ≡ rank_at d + cond (bit d) 1 0
         step inside =
-            let place : 4 * number_of s + (d + 1) ≡ 4 * number_of s + d + 1 = omega arith in
-            ap (rank_of bits) place ∙ rank_of-step bits (4 * number_of s + d) inside
+            let place : 4 * square_number s + (d + 1) ≡ 4 * square_number s + d + 1 = omega arith in
+            ap (rank_of bits) place ∙ rank_of-step bits (4 * square_number s + d) inside
 
-        next_one : bit d ≡ true → 4 * number_of s + d < length bits → rank_at (d + 1) + 1 ≡ suc (rank_at d + 1)
+        next_one : bit d ≡ true → 4 * square_number s + d < length bits → rank_at (d + 1) + 1 ≡ suc (rank_at d + 1)
         next_one e inside = let more = step inside ∙ ap (λ z. rank_at d + cond z 1 0) e in omega (arith, more)
 
-        next_same : bit d ≡ false → 4 * number_of s + d < length bits → rank_at (d + 1) + 1 ≡ rank_at d + 1
+        next_same : bit d ≡ false → 4 * square_number s + d < length bits → rank_at (d + 1) + 1 ≡ rank_at d + 1
         next_same e inside = let more = step inside ∙ ap (λ z. rank_at d + cond z 1 0) e in omega (arith, more)
 
-        by_bit : (b : Bool) → bit d ≡ b → test d ≡ bit d → 4 * number_of s + d < length bits
+        by_bit : (b : Bool) → bit d ≡ b → test d ≡ bit d → 4 * square_number s + d < length bits
             → StandsAt squares (rank_at (d + 1) + 1) (told_from (d + 1) k)
             → StandsAt squares (rank_at d + 1) (told_from d (suc k))
         by_bit true e told inside rest =

@@ -9,6 +9,7 @@ use Rattle.packed_bits.specs.Bits.{ones_of}
 use Rattle.packed_bits.proofs.OnesLemmas.{ones_of-le-length}
 use Rattle.bit_rank.specs.Bits.{rank_of, IsSelected}
 use Rattle.bit_rank.proofs.RankLemmas.{same_from_IsSelected, rank_of-step, rank_of-le-ones_of}
+use Rattle.track_types.specs.declared.limit.TheConstants.{MAX_HEIGHT}
 use Rattle.k2_tree.specs.TreeBits.{is_in, prefixes, morton_bits, Rises, AreCodes}
 use Rattle.k2_tree.specs.Squares.{squares_above, IsSquare}
 use Rattle.k2_tree.specs.Tree.{codes_in, AreTreeBits}
@@ -193,7 +194,7 @@ digits_more p w code whole d is e =
 
 -- one level up
 pub climbs : (height : ℕ) (bits : List Bool) (leaf level square code weight place : ℕ) → AreTreeBits height bits
-    → height ≤ 20 → leaf < length (codes_in height bits)
+    → height ≤ MAX_HEIGHT → leaf < length (codes_in height bits)
     → IsClimb height bits leaf level square code weight → level < height → IsSelected bits square place
     → (code + place % 4 * weight < 2 ^ 40) × (weight * 4 < 2 ^ 43)
     × IsClimb height bits leaf (level + 1) (place / 4) (code + place % 4 * weight) (weight * 4)
@@ -202,9 +203,9 @@ climbs height bits leaf level square code weight place are few within climb low 
     let both = digit_place height bits leaf level square code weight place are climb low selected in
     let digits = digits_more climb.prefix weight code (get_or codes leaf 0) (place % 4) climb.digits both.1 in
     let small : get_or codes leaf 0 < 4 ^ height = are.codes.small leaf 0 within in
-    let most : 4 ^ height ≤ 4 ^ 20 = pow-le-pow_right {n = 4} (lit< tt) few in
-    let lower : level ≤ 20 = omega arith in
-    let next : 4 ^ level ≤ 4 ^ 20 = pow-le-pow_right {n = 4} (lit< tt) lower in
+    let most : 4 ^ height ≤ 4 ^ MAX_HEIGHT = pow-le-pow_right {n = 4} (lit< tt) few in
+    let lower : level ≤ MAX_HEIGHT = omega arith in
+    let next : 4 ^ level ≤ 4 ^ MAX_HEIGHT = pow-le-pow_right {n = 4} (lit< tt) lower in
     let one_more : suc level ≡ level + 1 = omega arith in (
       omega (arith, digits.1),
       omega (arith, climb.power),

@@ -2,6 +2,7 @@
 use Rattle.std.proofs.Common.{◌≡◌, ℕ, zero, suc, ◌+◌, ◌-◌, ◌*◌, ◌/◌, ◌%◌, ◌^◌, ◌<◌, ◌≤◌}
 use Rattle.std.proofs.Common.{refl, sym, ap, ◌∙◌, arith, lit<}
 use Rattle.std.proofs.Math.Nat.{div-div-eq-div-mul, div-one, pow-suc, pow-le-pow_right}
+use Rattle.track_types.specs.declared.limit.TheConstants.{MAX_HEIGHT}
 use Rattle.k2_tree.specs.Morton.{row_of, column_of}
 use Rattle.k2_tree.proofs.MortonLemmas.{row_of-lt, column_of-lt}
 use Rattle.k2_tree.proofs.DescentLemmas.{two_bits}
@@ -23,9 +24,9 @@ column_of-down height (suc n) code column some within is =
     rw (i, e, fourth code n) (omega (arith, is, digit))
 
 -- a column of few digits is small
-pub column_of-small : (n code : ℕ) → n ≤ 20 → column_of n code < 2 ^ 20
+pub column_of-small : (n code : ℕ) → n ≤ MAX_HEIGHT → column_of n code < 2 ^ MAX_HEIGHT
 column_of-small n code few =
-    let most : 2 ^ n ≤ 2 ^ 20 = pow-le-pow_right {n = 2} (lit< tt) few in
+    let most : 2 ^ n ≤ 2 ^ MAX_HEIGHT = pow-le-pow_right {n = 2} (lit< tt) few in
     omega (arith, column_of-lt n code)
 
 -- at level 0 no digit is left away
@@ -53,9 +54,9 @@ row_of-down height (suc n) code row some within is =
     rw (i, e, fourth code n) (omega (arith, is, digit))
 
 -- a row of few digits is small
-pub row_of-small : (n code : ℕ) → n ≤ 20 → row_of n code < 2 ^ 20
+pub row_of-small : (n code : ℕ) → n ≤ MAX_HEIGHT → row_of n code < 2 ^ MAX_HEIGHT
 row_of-small n code few =
-    let most : 2 ^ n ≤ 2 ^ 20 = pow-le-pow_right {n = 2} (lit< tt) few in
+    let most : 2 ^ n ≤ 2 ^ MAX_HEIGHT = pow-le-pow_right {n = 2} (lit< tt) few in
     omega (arith, row_of-lt n code)
 
 -- at level 0 no digit is left away

@@ -6,7 +6,7 @@ use Rattle.std.specs.Prelude.{nat_lt}
 use Rattle.track_types.specs.declared.cell.Cell.{Cell}
 use Rattle.k2_tree.specs.Morton.{morton_of, cell_of}
 use Rattle.k2_tree.specs.TreeBits.{Rises, AreCodes}
-use Rattle.k2_tree.specs.Pruning.{numbered, place_of, leaf_with}
+use Rattle.k2_tree.specs.Pruning.{numbered, place_among, leaf_with}
 use Rattle.k2_tree.proofs.LevelLemmas.{Rises-place}
 use Rattle.k2_tree.proofs.MortonLemmas.{morton_of-cell_of}
 
@@ -17,21 +17,21 @@ is_not_below : (m n : ℕ) → n ≤ m → nat_lt m n ≡ false
 is_not_below m n most = grind (arith, nat_tests)
 
 -- below all there is none
-place_of-low : (n c : ℕ) (codes : List ℕ) → Rises n codes → c ≤ n → place_of codes c ≡ 0
-place_of-low n c [] up low = refl
-place_of-low n c (x ∷ xs) up low =
+place_among-low : (n c : ℕ) (codes : List ℕ) → Rises n codes → c ≤ n → place_among codes c ≡ 0
+place_among-low n c [] up low = refl
+place_among-low n c (x ∷ xs) up low =
     let first : n ≤ x = up.0 in
-    rw (is_not_below x c (omega arith)) (place_of-low (suc x) c xs up.1 (omega arith))
+    rw (is_not_below x c (omega arith)) (place_among-low (suc x) c xs up.1 (omega arith))
 
 -- the place of an ascending number is where it stands
-pub place_of-at : (n i : ℕ) (codes : List ℕ) → Rises n codes → i < length codes
-    → place_of codes (get_or codes i 0) ≡ i
-place_of-at n i [] up within = absurd (omega arith)
-place_of-at n zero (x ∷ xs) up within =
-    rw (is_not_below x x (omega arith)) (place_of-low (suc x) x xs up.1 (omega arith))
-place_of-at n (suc i) (x ∷ xs) up within =
+pub place_among-at : (n i : ℕ) (codes : List ℕ) → Rises n codes → i < length codes
+    → place_among codes (get_or codes i 0) ≡ i
+place_among-at n i [] up within = absurd (omega arith)
+place_among-at n zero (x ∷ xs) up within =
+    rw (is_not_below x x (omega arith)) (place_among-low (suc x) x xs up.1 (omega arith))
+place_among-at n (suc i) (x ∷ xs) up within =
     let high = Rises-place (suc x) i xs up.1 (omega arith) in
-    rw (is_below x (get_or xs i 0) (omega arith)) (ap suc (place_of-at (suc x) i xs up.1 (omega arith)))
+    rw (is_below x (get_or xs i 0) (omega arith)) (ap suc (place_among-at (suc x) i xs up.1 (omega arith)))
 
 -- the cells of numbers that stand from a place on, and what a test keeps of them
 numbered-from : (height : ℕ) (base : Cell) (p : ℕ → Bool) (place : ℕ → ℕ) (k : ℕ) (codes : List ℕ)
@@ -59,5 +59,5 @@ pub leaves-numbered : (height : ℕ) (base : Cell) (p : ℕ → Bool) (codes : L
     → map (leaf_with height base codes) (filter p codes)
     ≡ filter (λ leaf. p (morton_of height base leaf.1)) (numbered 0 (map (cell_of height base) codes))
 leaves-numbered height base p codes are =
-    numbered-from height base p (place_of codes) 0 codes are.small
-    (λ i h. place_of-at 0 i codes are.rising h ∙ omega arith)
+    numbered-from height base p (place_among codes) 0 codes are.small
+    (λ i h. place_among-at 0 i codes are.rising h ∙ omega arith)

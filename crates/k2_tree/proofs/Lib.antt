@@ -5,7 +5,6 @@ pub mod LeafLemmas
 pub mod RisingLemmas
 pub mod PrefixLemmas
 pub mod NavigationLemmas
-pub mod ClimbLemmas
 pub mod SquareLemmas
 pub mod AreaLemmas
 pub mod PruningLemmas
@@ -22,6 +21,7 @@ mod BoxLemmas
 mod TreeLemmas
 mod DescentLemmas
 mod DecodingLemmas
+mod ClimbLemmas
 -- Building.
 mod LevelLemmas
 mod BuildingLemmas

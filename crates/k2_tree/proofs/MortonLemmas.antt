@@ -5,6 +5,7 @@ use Rattle.std.proofs.Math.Nat.{div-div-eq-div-mul, div-one, pow-suc, pow-le-pow
 use Rattle.std.proofs.lemmas.Int.{ints}
 use Rattle.std.specs.Int.RustNames.{unsigned_abs}
 use Rattle.track_types.specs.declared.cell.Cell.{Cell}
+use Rattle.track_types.specs.declared.limit.TheConstants.{MAX_HEIGHT}
 use Rattle.k2_tree.specs.Morton.{interleaved, row_of, column_of, morton_of, cell_of, IsInGrid}
 
 -- halving once more
@@ -19,10 +20,10 @@ interleaved-lt (suc n) row column =
     let less = interleaved-lt n (row / 2) (column / 2) in
     rw (pow-suc 4 n) (omega arith)
 
--- n digits to base 4 of at most 20 are below 2 ^ 40
-pub interleaved-small : (n row column : ℕ) → n ≤ 20 → interleaved n row column < 2 ^ 40
+-- as many digits to base 4 as the greatest grid has, or fewer, are below 2 ^ 40
+pub interleaved-small : (n row column : ℕ) → n ≤ MAX_HEIGHT → interleaved n row column < 2 ^ 40
 interleaved-small n row column few =
-    let most : 4 ^ n ≤ 4 ^ 20 = pow-le-pow_right {n = 4} (lit< tt) few in
+    let most : 4 ^ n ≤ 4 ^ MAX_HEIGHT = pow-le-pow_right {n = 4} (lit< tt) few in
     omega (arith, interleaved-lt n row column)
 
 -- one digit more of the numbers without their last bits
@@ -99,7 +100,8 @@ unfolding morton_of
 morton_of-lt height base cell =
     interleaved-lt height (unsigned_abs (cell.y -ℤ base.y)) (unsigned_abs (cell.x -ℤ base.x))
 
-abbrev made : ℤ → ℤ → Cell
+-- the cell with these coordinates
+abbrev pub made : ℤ → ℤ → Cell
 made x y = record { x = x; y = y }
 
 -- the cell of a cell's number is that cell

@@ -2,6 +2,7 @@
 use Rattle.std.proofs.Common.{◌≡◌, ◌+◌, ◌-◌, ◌≤◌, true, List, [], ◌∷◌, ◌++◌, length, Option, None, Some, ap, ◌∙◌, arith}
 use Rattle.std.specs.Option.{is_none}
 use Rattle.std.proofs.lemmas.Bool.{false≢true}
+use Rattle.track_types.specs.declared.limit.TheConstants.{MAX_HEIGHT}
 use Rattle.k2_tree.specs.Tree.{Tree}
 use Rattle.k2_tree.specs.TreeSquares.{level_of, squares_of, IsSquareOf}
 use Rattle.k2_tree.specs.Pending.{nodes_of, StandsAt}
@@ -12,7 +13,7 @@ use Rattle.k2_tree.proofs.StackLemmas.{AreOpen-append, length-open, open_nodes-a
 
 -- no more squares are open than there are levels above the cells
 pub length-walk : (tree : Tree) (whole : Option Square) (stack : List Pending) → IsWalk tree whole stack
-    → length stack ≤ 20
+    → length stack ≤ MAX_HEIGHT
 length-walk tree whole stack walk =
     omega (arith, length-open (squares_of tree) tree.base tree.height stack walk.later, walk.low)
 

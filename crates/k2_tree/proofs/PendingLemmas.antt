@@ -18,16 +18,26 @@ lowest (suc (suc (suc zero))) four some = record { small = lit< tt; first = refl
 lowest (suc (suc (suc (suc zero)))) four some = record { small = lit< tt; first = refl; four = lit< tt }
 lowest (suc (suc (suc (suc (suc zero))))) four some = record { small = lit< tt; first = refl; four = lit< tt }
 lowest (suc (suc (suc (suc (suc (suc zero)))))) four some = record { small = lit< tt; first = refl; four = lit< tt }
-lowest (suc (suc (suc (suc (suc (suc (suc zero))))))) four some = record { small = lit< tt; first = refl; four = lit< tt }
-lowest (suc (suc (suc (suc (suc (suc (suc (suc zero)))))))) four some = record { small = lit< tt; first = refl; four = lit< tt }
-lowest (suc (suc (suc (suc (suc (suc (suc (suc (suc zero))))))))) four some = record { small = lit< tt; first = refl; four = lit< tt }
-lowest (suc (suc (suc (suc (suc (suc (suc (suc (suc (suc zero)))))))))) four some = record { small = lit< tt; first = refl; four = lit< tt }
-lowest (suc (suc (suc (suc (suc (suc (suc (suc (suc (suc (suc zero))))))))))) four some = record { small = lit< tt; first = refl; four = lit< tt }
-lowest (suc (suc (suc (suc (suc (suc (suc (suc (suc (suc (suc (suc zero)))))))))))) four some = record { small = lit< tt; first = refl; four = lit< tt }
-lowest (suc (suc (suc (suc (suc (suc (suc (suc (suc (suc (suc (suc (suc zero))))))))))))) four some = record { small = lit< tt; first = refl; four = lit< tt }
-lowest (suc (suc (suc (suc (suc (suc (suc (suc (suc (suc (suc (suc (suc (suc zero)))))))))))))) four some = record { small = lit< tt; first = refl; four = lit< tt }
-lowest (suc (suc (suc (suc (suc (suc (suc (suc (suc (suc (suc (suc (suc (suc (suc zero))))))))))))))) four some = record { small = lit< tt; first = refl; four = lit< tt }
-lowest (suc (suc (suc (suc (suc (suc (suc (suc (suc (suc (suc (suc (suc (suc (suc (suc bits)))))))))))))))) four some = absurd (omega arith)
+lowest (suc (suc (suc (suc (suc (suc (suc zero))))))) four some =
+    record { small = lit< tt; first = refl; four = lit< tt }
+lowest (suc (suc (suc (suc (suc (suc (suc (suc zero)))))))) four some =
+    record { small = lit< tt; first = refl; four = lit< tt }
+lowest (suc (suc (suc (suc (suc (suc (suc (suc (suc zero))))))))) four some =
+    record { small = lit< tt; first = refl; four = lit< tt }
+lowest (suc (suc (suc (suc (suc (suc (suc (suc (suc (suc zero)))))))))) four some =
+    record { small = lit< tt; first = refl; four = lit< tt }
+lowest (suc (suc (suc (suc (suc (suc (suc (suc (suc (suc (suc zero))))))))))) four some =
+    record { small = lit< tt; first = refl; four = lit< tt }
+lowest (suc (suc (suc (suc (suc (suc (suc (suc (suc (suc (suc (suc zero)))))))))))) four some =
+    record { small = lit< tt; first = refl; four = lit< tt }
+lowest (suc (suc (suc (suc (suc (suc (suc (suc (suc (suc (suc (suc (suc zero))))))))))))) four some =
+    record { small = lit< tt; first = refl; four = lit< tt }
+lowest (suc (suc (suc (suc (suc (suc (suc (suc (suc (suc (suc (suc (suc (suc zero)))))))))))))) four some =
+    record { small = lit< tt; first = refl; four = lit< tt }
+lowest (suc (suc (suc (suc (suc (suc (suc (suc (suc (suc (suc (suc (suc (suc (suc zero))))))))))))))) four some =
+    record { small = lit< tt; first = refl; four = lit< tt }
+lowest (suc (suc (suc (suc (suc (suc (suc (suc (suc (suc (suc (suc (suc (suc (suc (suc bits)))))))))))))))) four some =
+    absurd (omega arith)
 
 -- no bit, no digit
 pub digits_of-zero : digits_of 0 ≡ []

@@ -23,6 +23,20 @@ Rises-from_increasing n x (y ∷ ys) low up =
     λ k h. let e : suc k + 1 ≡ suc (k + 1) = omega arith in rw e at (up (suc k) (omega arith)) in
     (low, Rises-from_increasing (suc x) y ys (omega arith) later)
 
+-- ascending numbers rise
+pub rises : (xs : List ℕ) → IsStrictlyIncreasing xs → Rises 0 xs
+rises [] up = tt
+rises (x ∷ xs) up = Rises-from_increasing 0 x xs (omega arith) up
+
+-- and numbers that rise ascend
+pub IsStrictlyIncreasing-from_rises : (n : ℕ) (xs : List ℕ) → Rises n xs → IsStrictlyIncreasing xs
+IsStrictlyIncreasing-from_rises n [] up k within = absurd (omega arith)
+IsStrictlyIncreasing-from_rises n (x ∷ []) up k within = absurd (omega arith)
+IsStrictlyIncreasing-from_rises n (x ∷ y ∷ ys) up zero within = up.1.0
+IsStrictlyIncreasing-from_rises n (x ∷ y ∷ ys) up (suc k) within =
+    let e : suc k + 1 ≡ suc (k + 1) = omega arith in
+    rw e (IsStrictlyIncreasing-from_rises (suc x) (y ∷ ys) up.1 k (omega arith))
+
 -- what is compared with itself is equal
 pub same_test : (x : ℕ) → (x == x) ≡ true
 same_test x = grind (arith, nat_tests)

@@ -1,11 +1,11 @@
 -- The square opened last, and those opened before it.
-use Rattle.std.proofs.Common.{◌≡◌, ℕ, suc, ◌+◌, ◌-◌, ◌≤◌, List, [], ◌∷◌, ◌++◌, length}
+use Rattle.std.proofs.Common.{◌≡◌, ℕ, suc, ◌-◌, ◌≤◌, List, [], ◌∷◌, ◌++◌, length}
 use Rattle.std.proofs.Common.{refl, sym, ap, ◌∙◌, arith, subst, append_assoc, length-append, append-nil}
 use Rattle.track_types.specs.declared.cell.Cell.{Cell}
 use Rattle.std.specs.Prelude.{slice_get}
 use Rattle.k2_tree.specs.Squares.{Node}
-use Rattle.k2_tree.specs.TreeSquares.{level_of, node_of, number_of}
-use Rattle.k2_tree.specs.Pending.{nodes_of, StandsAt}
+use Rattle.k2_tree.specs.TreeSquares.{level_of, node_of}
+use Rattle.k2_tree.specs.Pending.{nodes_of, IsNextOf, StandsAt}
 use Rattle.k2_tree.specs.SquareWalk.{open_nodes, AreOpen, IsOpen, IsTaken}
 use Rattle.k2_tree.specs.declared.square.Square.{Square}
 use Rattle.k2_tree.specs.declared.pending.Pending.{Pending}
@@ -53,23 +53,21 @@ AreOpen-append squares base level (first ∷ front) last are is =
 -- a child that was taken from the square opened last
 pub taken : (squares : List Node) (base : Cell) (level : ℕ) (front : List Pending) (old new : Pending) (child : Square)
     → AreOpen squares base level (front ++ old ∷ [])
-    → nodes_of old ≡ node_of child ∷ nodes_of new → child.base ≡ old.square.base → number_of child ≡ old.number
-    → new.number ≡ old.number + 1 → level_of child + 1 ≡ level_of old.square → new.square ≡ old.square
-    → IsTaken squares base level child (front ++ new ∷ [])
-taken squares base level front old new child are nodes same number later below square =
+    → IsNextOf old child new → new.square ≡ old.square → IsTaken squares base level child (front ++ new ∷ [])
+taken squares base level front old new child are next square =
     let both = AreOpen-parted squares base level front old are in
     let last : IsOpen squares base (level - length front) old = both.1 in
     let all : StandsAt squares old.number (node_of child ∷ nodes_of new) =
-    subst (StandsAt squares old.number) nodes last.stands in
-    let next : suc old.number ≡ new.number = omega (arith, later) in
+    subst (StandsAt squares old.number) next.nodes last.stands in
+    let number : suc old.number ≡ new.number = omega (arith, next.later) in
     let is : IsOpen squares base (level - length front) new = record {
       high = ap (λ (s : Square). level_of s) square ∙ last.high;
       same = ap (λ (s : Square). s.base) square ∙ last.same;
-      stands = subst (λ j. StandsAt squares j (nodes_of new)) next all.1;
+      stands = subst (λ j. StandsAt squares j (nodes_of new)) number all.1;
     } in
     record {
-      same = same ∙ last.same;
-      stands = ap (λ j. slice_get squares j) number ∙ all.0;
-      depth = omega (arith, length-append front (new ∷ []), last.high, old.inner, below);
+      same = next.base ∙ last.same;
+      stands = ap (λ j. slice_get squares j) next.number ∙ all.0;
+      depth = omega (arith, length-append front (new ∷ []), last.high, old.inner, next.level);
       rest = AreOpen-append squares base level front new both.0 is;
     }

@@ -7,7 +7,7 @@ use Rattle.track_types.specs.declared.cell.Cell.{Cell}
 use Rattle.k2_tree.specs.TreeBits.{is_in, prefixes, morton_bits}
 use Rattle.k2_tree.specs.Squares.{node, squares_from, IsSquare}
 use Rattle.k2_tree.specs.Tree.{codes_of, codes_in, tree_of, IsStored}
-use Rattle.k2_tree.specs.TreeSquares.{level_of, number_of, prefix_of, node_of, squares_of}
+use Rattle.k2_tree.specs.TreeSquares.{level_of, node_of, prefix_of, square_number, squares_of}
 use Rattle.k2_tree.specs.TreeSquares.{child_at, holds_cell, IsSquareOf}
 use Rattle.k2_tree.specs.declared.square.Square.{Square}
 use Rattle.k2_tree.proofs.CellLemmas.{codes_back}
@@ -23,84 +23,86 @@ same_codes height base bits stored = codes_back height base (codes_in height bit
 -- a square of the tree stands in its bits
 pub square_in : (height : ℕ) (base : Cell) (bits : List Bool) (s : Square) → IsStored height base bits
     → IsSquareOf (tree_of height base bits) s
-    → IsSquare height (codes_in height bits) (level_of s) (prefix_of s) (number_of s)
+    → IsSquare height (codes_in height bits) (level_of s) (prefix_of s) (square_number s)
 square_in height base bits s stored of =
-    IsSquare-from_list height (codes_in height bits) (level_of s) (prefix_of s) (number_of s)
-    (subst (λ codes. slice_get (squares_from height codes) (number_of s) ≡ Some (node_of s))
+    IsSquare-from_list height (codes_in height bits) (level_of s) (prefix_of s) (square_number s)
+    (subst (λ codes. slice_get (squares_from height codes) (square_number s) ≡ Some (node_of s))
     (same_codes height base bits stored) of.stands)
 
 -- what stands in its bits is a square of the tree
 pub square_of : (height : ℕ) (base : Cell) (bits : List Bool) (s : Square) (n q : ℕ) → IsStored height base bits
-    → s.base ≡ base → node_of s ≡ node n q → IsSquare height (codes_in height bits) n q (number_of s)
+    → s.base ≡ base → node_of s ≡ node n q → IsSquare height (codes_in height bits) n q (square_number s)
     → IsSquareOf (tree_of height base bits) s
 square_of height base bits s n q stored same is square = record {
   base = same;
   stands =
-      subst (λ codes. slice_get (squares_from height codes) (number_of s) ≡ Some (node_of s))
+      subst (λ codes. slice_get (squares_from height codes) (square_number s) ≡ Some (node_of s))
       (sym (same_codes height base bits stored))
-      (list-from_IsSquare height (codes_in height bits) n q (number_of s) square ∙ ap Some (sym is));
+      (list-from_IsSquare height (codes_in height bits) n q (square_number s) square ∙ ap Some (sym is));
 }
 
 -- the bits of a square's children are in the tree
 pub child_inside : (height : ℕ) (base : Cell) (bits : List Bool) (s : Square) (d : ℕ) → IsStored height base bits
-    → IsSquareOf (tree_of height base bits) s → 1 ≤ level_of s → d < 4 → 4 * number_of s + d < length bits
+    → IsSquareOf (tree_of height base bits) s → 1 ≤ level_of s → d < 4 → 4 * square_number s + d < length bits
 child_inside height base bits s d stored of some small =
     by_level (level_of s) (square_in height base bits s stored of) some
   where
-    by_level : (n : ℕ) → IsSquare height (codes_in height bits) n (prefix_of s) (number_of s) → 1 ≤ n
-        → 4 * number_of s + d < length bits
+    by_level : (n : ℕ) → IsSquare height (codes_in height bits) n (prefix_of s) (square_number s) → 1 ≤ n
+        → 4 * square_number s + d < length bits
     by_level zero square some = absurd (omega arith)
     by_level (suc n) square some =
-        let place = child_place height (codes_in height bits) n (prefix_of s) (number_of s) d square small in
+        let place = child_place height (codes_in height bits) n (prefix_of s) (square_number s) d square small in
         omega (arith, place, ap length stored.tree.exact)
 
 -- a child's bit tells whether it holds a cell
 pub child_told : (height : ℕ) (base : Cell) (bits : List Bool) (s : Square) (d : ℕ) → IsStored height base bits
     → IsSquareOf (tree_of height base bits) s → 1 ≤ level_of s → d < 4
-    → holds_cell (tree_of height base bits) (child_at (node_of s) d) ≡ get_or bits (4 * number_of s + d) false
+    → holds_cell (tree_of height base bits) (child_at (node_of s) d) ≡ get_or bits (4 * square_number s + d) false
 child_told height base bits s d stored of some small =
     by_level (level_of s) (square_in height base bits s stored of) some
   where
-    by_level : (n : ℕ) → IsSquare height (codes_in height bits) n (prefix_of s) (number_of s) → 1 ≤ n
+    by_level : (n : ℕ) → IsSquare height (codes_in height bits) n (prefix_of s) (square_number s) → 1 ≤ n
         → is_in (prefixes (n - 1) (codes_of (tree_of height base bits))) (4 * prefix_of s + d)
-        ≡ get_or bits (4 * number_of s + d) false
+        ≡ get_or bits (4 * square_number s + d) false
     by_level zero square some = absurd (omega arith)
     by_level (suc n) square some =
         let level : suc n - 1 ≡ n = omega arith in
         ap (λ codes. is_in (prefixes (suc n - 1) codes) (4 * prefix_of s + d)) (same_codes height base bits stored)
         ∙ ap (λ m. is_in (prefixes m (codes_in height bits)) (4 * prefix_of s + d)) level
-        ∙ sym (child_bit height (codes_in height bits) n (prefix_of s) (number_of s) d square small)
-        ∙ ap (λ bs. get_or bs (4 * number_of s + d) false) (sym stored.tree.exact)
+        ∙ sym (child_bit height (codes_in height bits) n (prefix_of s) (square_number s) d square small)
+        ∙ ap (λ bs. get_or bs (4 * square_number s + d) false) (sym stored.tree.exact)
 
 -- a child that is there has the number behind the ones before its bit
 pub child_stands : (height : ℕ) (base : Cell) (bits : List Bool) (s : Square) (d : ℕ) → IsStored height base bits
-    → IsSquareOf (tree_of height base bits) s → 1 ≤ level_of s → d < 4 → get_or bits (4 * number_of s + d) false ≡ true
-    → slice_get (squares_of (tree_of height base bits)) (rank_of bits (4 * number_of s + d) + 1)
+    → IsSquareOf (tree_of height base bits) s → 1 ≤ level_of s → d < 4
+    → get_or bits (4 * square_number s + d) false ≡ true
+    → slice_get (squares_of (tree_of height base bits)) (rank_of bits (4 * square_number s + d) + 1)
     ≡ Some (child_at (node_of s) d)
 child_stands height base bits s d stored of some small on =
-    subst (λ codes. slice_get (squares_from height codes) (rank_of bits (4 * number_of s + d) + 1)
+    subst (λ codes. slice_get (squares_from height codes) (rank_of bits (4 * square_number s + d) + 1)
     ≡ Some (child_at (node_of s) d))
     (sym (same_codes height base bits stored)) (by_level (level_of s) (square_in height base bits s stored of) some)
   where
-    by_level : (n : ℕ) → IsSquare height (codes_in height bits) n (prefix_of s) (number_of s) → 1 ≤ n
-        → slice_get (squares_from height (codes_in height bits)) (rank_of bits (4 * number_of s + d) + 1)
+    by_level : (n : ℕ) → IsSquare height (codes_in height bits) n (prefix_of s) (square_number s) → 1 ≤ n
+        → slice_get (squares_from height (codes_in height bits)) (rank_of bits (4 * square_number s + d) + 1)
         ≡ Some (node (n - 1) (4 * prefix_of s + d))
     by_level zero square some = absurd (omega arith)
     by_level (suc n) square some =
         let codes : List ℕ = codes_in height bits in
         let level : n ≡ suc n - 1 = omega arith in
         let there : is_in (prefixes n codes) (4 * prefix_of s + d) ≡ true =
-        sym (child_bit height codes n (prefix_of s) (number_of s) d square small)
-        ∙ ap (λ bs. get_or bs (4 * number_of s + d) false) (sym stored.tree.exact) ∙ on in
-        let child = child_square height codes n (prefix_of s) (number_of s) d stored.tree.codes square small there in
-        ap (λ bs. slice_get (squares_from height codes) (rank_of bs (4 * number_of s + d) + 1)) stored.tree.exact
+        sym (child_bit height codes n (prefix_of s) (square_number s) d square small)
+        ∙ ap (λ bs. get_or bs (4 * square_number s + d) false) (sym stored.tree.exact) ∙ on in
+        let child =
+        child_square height codes n (prefix_of s) (square_number s) d stored.tree.codes square small there in
+        ap (λ bs. slice_get (squares_from height codes) (rank_of bs (4 * square_number s + d) + 1)) stored.tree.exact
         ∙ list-from_IsSquare height codes n (4 * prefix_of s + d)
-        (rank_of (morton_bits height codes) (4 * number_of s + d) + 1) child
+        (rank_of (morton_bits height codes) (4 * square_number s + d) + 1) child
         ∙ ap (λ m. Some (node m (4 * prefix_of s + d))) level
 
 -- a tree with bits has a topmost square
 pub whole_stands : (height : ℕ) (base : Cell) (bits : List Bool) (s : Square) → IsStored height base bits
-    → 0 < length bits → s.base ≡ base → node_of s ≡ node height 0 → number_of s ≡ 0
+    → 0 < length bits → s.base ≡ base → node_of s ≡ node height 0 → square_number s ≡ 0
     → IsSquareOf (tree_of height base bits) s
 whole_stands height base bits s stored some same is first =
     square_of height base bits s height 0 stored same is

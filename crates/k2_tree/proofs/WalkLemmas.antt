@@ -10,15 +10,15 @@ use Rattle.k2_tree.specs.TreeBits.{prefixes}
 use Rattle.k2_tree.specs.Squares.{Node, node, IsSquare}
 use Rattle.k2_tree.specs.Areas.{area_at}
 use Rattle.k2_tree.specs.Tree.{Tree, codes_of, IsTree}
-use Rattle.k2_tree.specs.TreeSquares.{corner_of, level_of, node_of, number_of, prefix_of, IsSquareOf}
-use Rattle.k2_tree.specs.Pruning.{leaf_of, place_of}
+use Rattle.k2_tree.specs.TreeSquares.{corner_of, level_of, node_of, prefix_of, square_number, IsSquareOf}
+use Rattle.k2_tree.specs.Pruning.{leaf_of, place_among}
 use Rattle.k2_tree.specs.SquareWalk.{IsWalk, found_nodes, top_nodes}
 use Rattle.k2_tree.specs.declared.square.Square.{Square}
 use Rattle.k2_tree.proofs.MortonLemmas.{morton_of-cell_of}
 use Rattle.k2_tree.proofs.PrefixLemmas.{prefixes-none, prefixes-zero}
 use Rattle.k2_tree.proofs.NavigationLemmas.{one_top}
 use Rattle.k2_tree.proofs.SquareLemmas.{IsSquare-from_list}
-use Rattle.k2_tree.proofs.LeafLemmas.{place_of-at}
+use Rattle.k2_tree.proofs.LeafLemmas.{place_among-at}
 use Rattle.k2_tree.proofs.CellSquareLemmas.{cell_from_area}
 
 -- nothing is open at the beginning
@@ -37,7 +37,7 @@ whole_nodes tree None is none of top =
     ap (map (node tree.height)) (sym (ap (prefixes tree.height) gone ∙ prefixes-none tree.height))
 whole_nodes tree (Some square) is none of top =
     let stands = of.stands ∙ ap Some top in
-    let here = IsSquare-from_list tree.height (codes_of tree) tree.height 0 (number_of square) stands in
+    let here = IsSquare-from_list tree.height (codes_of tree) tree.height 0 (square_number square) stands in
     ap (λ n. n ∷ []) top
     ∙ ap (map (node tree.height))
     (sym (one_top tree.height (codes_of tree) is.codes tree.height (omega (arith, here.within))))
@@ -47,9 +47,9 @@ pub leaf_is : (tree : Tree) (s : Square) (leaf : ℕ) → IsTree tree → IsSqua
     → slice_get tree.cells leaf ≡ Some (corner_of s) → (leaf, corner_of s) ≡ leaf_of tree (prefix_of s)
 leaf_is tree s leaf is of bottom found =
     let codes : List ℕ = codes_of tree in
-    let square : IsSquare tree.height codes 0 (prefix_of s) (number_of s) =
-    subst (λ n. IsSquare tree.height codes n (prefix_of s) (number_of s)) bottom
-    (IsSquare-from_list tree.height codes (level_of s) (prefix_of s) (number_of s) of.stands) in
+    let square : IsSquare tree.height codes 0 (prefix_of s) (square_number s) =
+    subst (λ n. IsSquare tree.height codes n (prefix_of s) (square_number s)) bottom
+    (IsSquare-from_list tree.height codes (level_of s) (prefix_of s) (square_number s) of.stands) in
     let all : prefixes 0 codes ≡ codes = prefixes-zero codes is.codes.rising in
     let within : square.place < length codes = omega (arith, square.within, ap length all) in
     let here : get_or codes square.place 0 ≡ prefix_of s =
@@ -67,9 +67,9 @@ leaf_is tree s leaf is of bottom found =
     (get_or_from_slice_get tree.cells leaf (corner_of s) (corner_of s) found ∙ corner)
     ∙ morton_of-cell_of tree.height tree.base (prefix_of s) small in
     let long : leaf < length codes = omega (arith, length-map tree.cells (morton_of tree.height tree.base)) in
-    let place : place_of codes (prefix_of s) ≡ leaf =
-    ap (place_of codes) (sym number) ∙ place_of-at 0 leaf codes is.codes.rising long in
-    both leaf (place_of codes (prefix_of s)) (corner_of s) (cell_of tree.height tree.base (prefix_of s))
+    let place : place_among codes (prefix_of s) ≡ leaf =
+    ap (place_among codes) (sym number) ∙ place_among-at 0 leaf codes is.codes.rising long in
+    both leaf (place_among codes (prefix_of s)) (corner_of s) (cell_of tree.height tree.base (prefix_of s))
     (sym place) corner
   where
     both : (i j : ℕ) (a b : Cell) → i ≡ j → a ≡ b → ◌≡◌ {A = ℕ × Cell} (i, a) (j, b)

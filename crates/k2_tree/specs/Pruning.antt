@@ -4,6 +4,7 @@ use Rattle.std.specs.Prelude.{Some, slice_get, List, [], ◌∷◌, length, map,
 use Rattle.std.specs.List.{flat_map, sum_by}
 use Rattle.track_types.specs.declared.cell.Cell.{Cell}
 use Rattle.track_types.specs.declared.cell_box.CellBox.{CellBox}
+use Rattle.track_types.specs.Near.{IsBoxWithin}
 use Rattle.track_types.specs.Region.{in_box}
 use Rattle.k2_tree.specs.Morton.{morton_of, cell_of}
 use Rattle.k2_tree.specs.TreeBits.{fan, is_in, prefixes, longer}
@@ -17,12 +18,12 @@ numbered k [] = []
 numbered k (cell ∷ cells) = (k, cell) ∷ numbered (suc k) cells
 
 -- how many of the numbers are below one, which is its place among ascending ones
-abbrev pub place_of : List ℕ → ℕ → ℕ
-place_of codes code = length (filter (λ other. nat_lt other code) codes)
+abbrev pub place_among : List ℕ → ℕ → ℕ
+place_among codes code = length (filter (λ other. nat_lt other code) codes)
 
 -- a leaf by its Morton number: its own number, and its cell
 abbrev pub leaf_with : ℕ → Cell → List ℕ → ℕ → ℕ × Cell
-leaf_with height base codes code = (place_of codes code, cell_of height base code)
+leaf_with height base codes code = (place_among codes code, cell_of height base code)
 
 -- the leaf of a tree with this Morton number
 abbrev pub leaf_of : Tree → ℕ → ℕ × Cell
@@ -47,10 +48,10 @@ kept_leaves keep tree =
     filter (λ leaf. passes (on_areas keep tree) tree.height (morton_of tree.height tree.base leaf.1))
     (numbered 0 tree.cells)
 
--- the test keeps each box in which a wanted cell lies
+-- the test keeps each box near 0 in which a wanted cell lies
 abbrev pub IsKeptFor : (CellBox → Bool) → (Cell → Bool) → Type 0
-IsKeptFor keep wanted =
-    (area : CellBox) (cell : Cell) → IsTrue (in_box area cell) → IsTrue (wanted cell) → IsTrue (keep area)
+IsKeptFor keep wanted = (area : CellBox) (cell : Cell)
+    → IsBoxWithin area → IsTrue (in_box area cell) → IsTrue (wanted cell) → IsTrue (keep area)
 
 -- those of the leaves whose cells are wanted
 abbrev pub wanted_of : (Cell → Bool) → List (ℕ × Cell) → List (ℕ × Cell)

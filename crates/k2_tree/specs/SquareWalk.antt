@@ -6,7 +6,7 @@ use Rattle.track_types.specs.declared.limit.TheConstants.{MAX_HEIGHT}
 use Rattle.k2_tree.specs.TreeBits.{prefixes}
 use Rattle.k2_tree.specs.Squares.{Node, node}
 use Rattle.k2_tree.specs.Tree.{Tree, codes_of}
-use Rattle.k2_tree.specs.TreeSquares.{level_of, node_of, number_of, squares_of, IsSquareOf}
+use Rattle.k2_tree.specs.TreeSquares.{level_of, node_of, square_number, squares_of, IsSquareOf}
 use Rattle.k2_tree.specs.Pending.{nodes_of, StandsAt}
 use Rattle.k2_tree.specs.declared.square.Square.{Square}
 use Rattle.k2_tree.specs.declared.pending.Pending.{Pending}
@@ -57,7 +57,7 @@ AreOpen squares base level (pending ∷ later) =
 pub record IsTaken (squares : List Node) (base : Cell) (level : ℕ) (square : Square)
     (stack : List Pending) : Type 0 where
   pub same : square.base ≡ base
-  pub stands : slice_get squares (number_of square) ≡ Some (node_of square)
+  pub stands : slice_get squares (square_number square) ≡ Some (node_of square)
   pub depth : level_of square + length stack ≡ level
   pub rest : AreOpen squares base level stack
 

@@ -40,4 +40,4 @@ Rises n (x ∷ xs) = (n ≤ x) × Rises (suc x) xs
 -- ascending Morton numbers of so many digits
 pub record AreCodes (height : ℕ) (codes : List ℕ) : Type 0 where
   pub rising : Rises 0 codes
-  pub small : All (λ code. code < 4 ^ height) codes
+  pub small : All (λ code. code < fan ^ height) codes

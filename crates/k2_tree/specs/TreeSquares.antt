@@ -19,8 +19,8 @@ abbrev pub prefix_of : Square → ℕ
 prefix_of square = interleaved MAX_HEIGHT square.row square.column
 
 -- its number among the squares that hold a cell
-abbrev pub number_of : Square → ℕ
-number_of square = square.number
+abbrev pub square_number : Square → ℕ
+square_number square = square.number
 
 -- which square it is
 abbrev pub node_of : Square → Node

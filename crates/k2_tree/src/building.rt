@@ -29,7 +29,7 @@ fn push_level(bits: &mut Vec<bool>, codes: &[u64], level: u32) -> Result<(), Mem
 {
     for i in 0..codes.len() {
         make_room(bits, codes, i, level)?;
-        let digit = (codes[i] >> (2 * level)) % 4;
+        let digit = (codes[i] >> (2 * level)) % FAN as u64;
         let place = bits.len() - FAN as usize + digit as usize;
         bits[place] = true;
     }

@@ -22,7 +22,7 @@ pub fn code_of_leaf<L: Ledger>(bits: &Bits, height: u32, leaf: u32, steps: &mut 
     for _ in 0..height {
         let place = bits.select1(square, steps);
         code += u64::from(place % FAN) * weight;
-        weight *= 4;
+        weight *= FAN as u64;
         square = place / FAN;
     }
     code

@@ -1,6 +1,6 @@
 ghost use Rattle.std.specs.Prelude.{◌≡◌, ◌+◌, ◌*◌, ◌^◌, ◌<◌, ◌≤◌, true, false, length, MatchOption, Some, slice_get, slice_index_or};
 ghost use Rattle.bit_rank.specs.Bits.{rank_of};
-ghost use Rattle.k2_tree.specs.TreeBits.{is_in};
+ghost use Rattle.k2_tree.specs.TreeBits.{fan, is_in};
 ghost use Rattle.k2_tree.specs.Tree.{codes_in, AreTreeBits};
 ghost use Rattle.track_types.specs.declared.limit.TheConstants.{MAX_HEIGHT};
 
@@ -19,7 +19,7 @@ pub fn find_leaf<L: Ledger>(
 ) -> Option<u32>
     requires tree { AreTreeBits height bits.now }
     requires low { height ≤ MAX_HEIGHT }
-    requires small { code < 4 ^ height }
+    requires small { code < fan ^ height }
     requires some { 0 < length bits.now }
     ensures value { MatchOption result (is_in (codes_in height bits.now) code ≡ false)
         (λ leaf. slice_get (codes_in height bits.now) leaf ≡ Some code) }
@@ -27,7 +27,7 @@ pub fn find_leaf<L: Ledger>(
 {
     let mut square = 0;
     for level in (0..height).rev() {
-        let digit = (code >> (2 * level)) % 4;
+        let digit = (code >> (2 * level)) % FAN as u64;
         let Some(child) = child_of(bits, square, digit as u32, steps) else {
             return None;
         };
@@ -44,11 +44,12 @@ pub fn child_of<L: Ledger>(
     digit: u32,
     steps: &mut Steps<L>,
 ) -> Option<u32>
-    requires inside { 4 * square + digit < length bits.now }
+    requires inside { fan * square + digit < length bits.now }
     requires few { length bits.now ≤ 2 ^ 31 }
-    ensures value { MatchOption result (slice_index_or bits.now (4 * square + digit) false ≡ false)
-        (λ child. (slice_index_or bits.now (4 * square + digit) false ≡ true)
-        × (child ≡ rank_of bits.now (4 * square + digit) + 1)) }
+    ensures value { MatchOption result
+        (slice_index_or bits.now (fan * square + digit) false ≡ false)
+        (λ child. (slice_index_or bits.now (fan * square + digit) false ≡ true)
+        × (child ≡ rank_of bits.now (fan * square + digit) + 1)) }
     ensures cost { steps.new ≤ steps.old + 11 }
 {
     let place = FAN * square + digit;

@@ -26,10 +26,11 @@ impl Default for Pending {
 }
 
 impl Pending {
-    ghost use Rattle.std.specs.Prelude.{[], ◌∷◌, IfNone, IfSome};
-    ghost use Rattle.k2_tree.specs.TreeSquares.{node_of, number_of};
-    ghost use Rattle.k2_tree.specs.Pending.{nodes_of};
+    ghost use Rattle.std.specs.Prelude.{[], IfNone, IfSome};
+    ghost use Rattle.k2_tree.specs.Pending.{nodes_of, IsNextOf};
 
+    /// Of a square that is no cell the children whose bits are set, with numbers from this one on.
+    /// Only the lowest four bits may be set, and all of the numbers fit 32 bits.
     pub fn new(square: Square, digits: u32, number: u32) -> Pending
         requires inner { 1 ≤ level_of square }
         requires four { digits < 16 }
@@ -48,12 +49,7 @@ impl Pending {
     /// Takes the next child off and answers it.
     pub fn next(&mut self) -> Option<Square>
         ensures none { IfNone result (nodes_of self.old ≡ []) }
-        ensures found { IfSome result (λ child.
-            nodes_of self.old ≡ node_of child ∷ nodes_of self.new) }
-        ensures base { IfSome result (λ child. child.base ≡ self.old.square.base) }
-        ensures number { IfSome result (λ child. number_of child ≡ self.old.number) }
-        ensures later { IfSome result (λ child. self.new.number ≡ self.old.number + 1) }
-        ensures level { IfSome result (λ child. level_of child + 1 ≡ level_of self.old.square) }
+        ensures found { IfSome result (λ child. IsNextOf self.old child self.new) }
         ensures square { self.new.square ≡ self.old.square }
     {
         if self.digits == 0 {

@@ -29,8 +29,10 @@ pub struct Square {
 }
 
 impl Square {
-    ghost use Rattle.k2_tree.specs.TreeSquares.{area_of, child_at, corner_of, level_of, node_of, number_of};
+    ghost use Rattle.k2_tree.specs.TreeSquares.{area_of, child_at, corner_of, level_of, node_of};
+    ghost use Rattle.k2_tree.specs.TreeSquares.{square_number};
     ghost use Rattle.k2_tree.specs.Squares.{node};
+    ghost use Rattle.k2_tree.specs.TreeBits.{fan};
 
     /// The cells of the square, whether the tree has them or not. All of its bounds are within 2^42
     /// of 0. It takes no memory.
@@ -58,7 +60,7 @@ impl Square {
         requires { IsGrid height base }
         ensures base { result.base ≡ base }
         ensures node { node_of result ≡ node height 0 }
-        ensures number { number_of result ≡ 0 }
+        ensures number { square_number result ≡ 0 }
     {
         Square {
             base,
@@ -72,10 +74,10 @@ impl Square {
     // The child with a digit, which has this number.
     pub(crate) fn child(&self, digit: u32, number: u32) -> Square
         requires inner { 1 ≤ level_of self.now }
-        requires small { digit < 4 }
+        requires small { digit < fan }
         ensures base { result.base ≡ self.now.base }
         ensures node { node_of result ≡ child_at (node_of self.now) digit }
-        ensures number { number_of result ≡ number }
+        ensures number { square_number result ≡ number }
     {
         Square {
             base: self.base,
@@ -99,7 +101,7 @@ impl Square {
 
     // The square's number.
     pub(crate) fn number(&self) -> u32
-        ensures { result ≡ number_of self.now }
+        ensures { result ≡ square_number self.now }
     {
         self.number
     }

@@ -1,4 +1,5 @@
 ghost use Rattle.std.specs.Prelude.{◌≡◌, ◌^◌, ◌<◌, ◌≤◌, length, IfOk};
+ghost use Rattle.track_types.specs.declared.limit.TheConstants.{MAX_HEIGHT};
 
 use super::{K2Tree, TreeFault, morton};
 use crate::packing::pack;
@@ -99,7 +100,7 @@ fn list_of(alloc: Global, bits: &[bool]) -> Result<BitList, Memory>
 fn flaw_of(alloc: Global, bits: &[bool], height: u32) -> Result<Option<u32>, TreeFault>
     requires few { length bits.now ≤ 2 ^ 31 }
     requires some { 1 ≤ height }
-    requires low { height ≤ 20 }
+    requires low { height ≤ MAX_HEIGHT }
 {
     let Ok(list) = list_of(alloc, bits) else {
         return Err(TreeFault::Memory);

@@ -1,7 +1,7 @@
 ghost use Rattle.std.specs.Prelude.{◌≡◌, ◌+◌, ◌*◌, ◌^◌, ◌<◌, ◌≤◌, length, map, All, Bool, Contains, [], false, IfErr, IfNone, IfOk, IfSome, OnOk, MatchOption, None, Some, slice_get};
 ghost use Rattle.std.specs.List.Sorted.{IsStrictlyIncreasing};
 ghost use Rattle.k2_tree.specs.Morton.{morton_of, IsGrid, IsInGrid};
-ghost use Rattle.k2_tree.specs.TreeBits.{morton_bits};
+ghost use Rattle.k2_tree.specs.TreeBits.{fan, morton_bits};
 ghost use Rattle.k2_tree.specs.Squares.{node};
 ghost use Rattle.k2_tree.specs.Tree.{codes_of, tree_with, IsTree};
 ghost use Rattle.k2_tree.specs.TreeSquares.{child_at, corner_of, holds_cell, level_of, node_of, squares_of, IsSquareOf};
@@ -167,7 +167,7 @@ impl K2Tree {
     ) -> Option<Square>
         requires of { IsSquareOf self.now square.now }
         requires inner { 1 ≤ level_of square.now }
-        requires small { digit < 4 }
+        requires small { digit < fan }
         ensures none { IfNone result (holds_cell self.now
             (child_at (node_of square.now) digit) ≡ false) }
         ensures found { IfSome result (λ child. IsSquareOf self.now child) }

@@ -1,4 +1,5 @@
 use Rattle.std.proofs.Common.{◌≡◌, ◌≤◌, ◌^◌, ◌/◌, ◌-◌, refl, arith, ◌∙◌}
+use Rattle.track_types.specs.declared.limit.TheConstants.{MAX_HEIGHT}
 use Rattle.k2_tree.specs.Morton.{interleaved}
 use Rattle.k2_tree.proofs.MortonLemmas.{interleaved-small, interleaved-down, interleaved-whole}
 use Rattle.k2_tree.proofs.morton_code.interleave.Goals as goal
@@ -10,21 +11,21 @@ loop-level-init c = let none : c.args.height - c.args.height ≡ 0 = omega arith
 pub overflow_mul-code : goal.overflow_mul-code
 overflow_mul-code c =
     let level = c.loop-level.level in
-    let few : c.args.height - level ≤ 20 = omega arith in
+    let few : c.args.height - level ≤ MAX_HEIGHT = omega arith in
     let small = interleaved-small (c.args.height - level) (c.args.row / 2 ^ level) (c.args.column / 2 ^ level) few in
     omega (arith, c.loop-level.invariant, small)
 
 pub overflow_add-code : goal.overflow_add-code
 overflow_add-code c =
     let level = c.loop-level.level in
-    let few : c.args.height - level ≤ 20 = omega arith in
+    let few : c.args.height - level ≤ MAX_HEIGHT = omega arith in
     let small = interleaved-small (c.args.height - level) (c.args.row / 2 ^ level) (c.args.column / 2 ^ level) few in
     omega (arith, c.loop-level.invariant, small)
 
 pub overflow_add-code-in-loop-level : goal.overflow_add-code-in-loop-level
 overflow_add-code-in-loop-level c =
     let level = c.loop-level.level in
-    let few : c.args.height - level ≤ 20 = omega arith in
+    let few : c.args.height - level ≤ MAX_HEIGHT = omega arith in
     let small = interleaved-small (c.args.height - level) (c.args.row / 2 ^ level) (c.args.column / 2 ^ level) few in
     omega (arith, c.loop-level.invariant, small)
 

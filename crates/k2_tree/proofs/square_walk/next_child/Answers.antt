@@ -16,7 +16,7 @@ returns-in-Some-next-clause-nodes c =
     let child = c.in-Some-next.child in
     sym c.loop-pending.invariant.nodes ∙ ap open_nodes c.in-Some.ensures.items
     ∙ open_nodes-append front c.in-Some.pending
-    ∙ ap (λ nodes. nodes ++ open_nodes front) c.in-Some-next.ensures.found
+    ∙ ap (λ nodes. nodes ++ open_nodes front) c.in-Some-next.ensures.found.nodes
     ∙ ap (λ nodes. node_of child ∷ nodes) (sym (open_nodes-append front c.next.new.self))
     ∙ ap (λ stack. node_of child ∷ open_nodes stack) (sym c.push.ensures.items)
 
@@ -27,7 +27,7 @@ returns-in-Some-next-clause-taken c = λ squares base level are.
     subst (AreOpen squares base level) c.in-Some.ensures.items (c.loop-pending.invariant.are squares base level are) in
     subst (IsTaken squares base level c.in-Some-next.child) (sym c.push.ensures.items)
     (taken squares base level c.pop.new.self.items c.in-Some.pending c.next.new.self c.in-Some-next.child before
-    facts.found facts.base facts.number facts.later facts.level facts.square)
+    facts.found facts.square)
 
 pub loop-pending-preserved : goal.loop-pending-preserved
 loop-pending-preserved c =

@@ -1,4 +1,5 @@
-use Rattle.std.proofs.Common.{◌-◌, ◌∷◌, length, map, arith, ap, sym, ◌∙◌, bit_and}
+use Rattle.std.proofs.Common.{◌-◌, ◌∷◌, refl, length, map, arith, ap, sym, ◌∙◌, bit_and}
+use Rattle.k2_tree.specs.Squares.{Node}
 use Rattle.k2_tree.specs.TreeSquares.{child_at, node_of}
 use Rattle.k2_tree.specs.Digits.{digits_of}
 use Rattle.k2_tree.proofs.PendingLemmas.{digits_of-zero, lowest}
@@ -31,6 +32,13 @@ pub returns-clause-found : goal.returns-clause-found
 returns-clause-found c =
     let s = c.args.self.now in
     let low = lowest s.digits s.four c.if-self-eq0.false in
-    ap (map (child_at (node_of s.square))) low.first
-    ∙ ap (λ n. n ∷ map (child_at (node_of s.square)) (digits_of (bit_and s.digits (s.digits - 1))))
-    (sym c.child-child.ensures.node)
+    let facts = c.child-child.ensures in
+    record {
+      nodes = ap (map (child_at (node_of s.square))) low.first
+          ∙ ap (λ n. n ∷ map (child_at (node_of s.square)) (digits_of (bit_and s.digits (s.digits - 1))))
+          (sym facts.node);
+      number = facts.number;
+      later = refl;
+      base = facts.base;
+      level = omega (arith, ap (λ (n : Node). n.level) facts.node, s.inner);
+    }

@@ -1,4 +1,5 @@
 use Rattle.std.proofs.Common.{ap, ◌-◌}
+use Rattle.track_types.specs.declared.limit.TheConstants.{MAX_HEIGHT}
 use Rattle.k2_tree.specs.Squares.{node}
 use Rattle.k2_tree.proofs.ChildLemmas.{interleaved-child}
 use Rattle.k2_tree.proofs.square.Square.child.Goals as goal
@@ -7,4 +8,5 @@ pub returns-clause-node : goal.returns-clause-node
 returns-clause-node c =
     let s = c.args.self.now in
     ap (node (s.level - 1))
-    (interleaved-child 19 s.row s.column c.args.digit s.level c.requires.small c.requires.inner s.right s.upper)
+    (interleaved-child (MAX_HEIGHT - 1) s.row s.column c.args.digit s.level c.requires.small c.requires.inner
+    s.right s.upper)

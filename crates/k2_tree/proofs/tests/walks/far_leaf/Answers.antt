@@ -20,7 +20,8 @@ three = tree_with 2 base (map (cell_of 2 base) (0 ∷ 3 ∷ 5 ∷ []))
 abbrev far : Region
 far = Rect (pos 15) (negsuc 14) (pos 16) (negsuc 13)
 
-no_leaf : (tree : Tree) (region : Region) → tree ≡ three → region ≡ far → kept_leaves (intersects_region region) tree ≡ []
+no_leaf : (tree : Tree) (region : Region) → tree ≡ three → region ≡ far
+    → kept_leaves (intersects_region region) tree ≡ []
 unfolding numbered passes morton_of interleaved cell_of row_of column_of
 no_leaf tree region t r = rw (t, r) refl
 

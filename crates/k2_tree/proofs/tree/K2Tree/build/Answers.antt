@@ -5,7 +5,8 @@ use Rattle.packed_bits.specs.Words.{IsPacked}
 use Rattle.packed_bits.proofs.WordLemmas.{IsPacked-packed}
 use Rattle.k2_tree.specs.Morton.{morton_of}
 use Rattle.k2_tree.specs.TreeBits.{Rises}
-use Rattle.k2_tree.proofs.BuiltLemmas.{rises, few_bits, built, stored}
+use Rattle.k2_tree.proofs.RisingLemmas.{rises}
+use Rattle.k2_tree.proofs.BuiltLemmas.{few_bits, built, stored}
 use Rattle.k2_tree.proofs.tree.K2Tree.build.Goals as goal
 
 pub bits_of_codes-requires-clause-ascending : goal.bits_of_codes-requires-clause-ascending

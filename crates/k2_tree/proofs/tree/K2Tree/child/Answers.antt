@@ -2,7 +2,7 @@ use Rattle.std.proofs.Common.{◌≡◌, ◌+◌, ◌*◌, true, false, get_or, 
 use Rattle.std.specs.Prelude.{slice_get}
 use Rattle.bit_rank.specs.Bits.{rank_of}
 use Rattle.k2_tree.specs.Tree.{Tree, tree_of}
-use Rattle.k2_tree.specs.TreeSquares.{child_at, holds_cell, number_of, node_of, squares_of, IsSquareOf}
+use Rattle.k2_tree.specs.TreeSquares.{child_at, holds_cell, node_of, square_number, squares_of, IsSquareOf}
 use Rattle.k2_tree.proofs.StoredLemmas.{child_inside, child_stands, child_told}
 use Rattle.k2_tree.proofs.tree.K2Tree.child.Goals as goal
 
@@ -37,9 +37,9 @@ returns-clause-found g c =
     let bits = tree.bits in
     let of : IsSquareOf (tree_of tree.height tree.base bits) s =
     subst (λ (t : Tree). IsSquareOf t s) (sym c.self.view_is) c.requires.of in
-    let on : get_or bits (4 * number_of s + d) false ≡ true =
+    let on : get_or bits (4 * square_number s + d) false ≡ true =
     ap (λ j. get_or bits (4 * j + d) false) (sym c.number.ensures) ∙ c.in-Some.ensures.value.0 in
-    let number : number_of c.child.result ≡ rank_of bits (4 * number_of s + d) + 1 =
+    let number : square_number c.child.result ≡ rank_of bits (4 * square_number s + d) + 1 =
     c.child.ensures.number ∙ c.in-Some.ensures.value.1 ∙ ap (λ j. rank_of bits (4 * j + d) + 1) c.number.ensures in
     let stored = c.self.invariant in
     let stands = child_stands tree.height tree.base bits s d stored of c.requires.inner c.requires.small on in

@@ -5,7 +5,7 @@ use Rattle.bit_rank.specs.Bits.{rank_of}
 use Rattle.bit_rank.proofs.RankLemmas.{rank_of-le-place}
 use Rattle.track_types.specs.declared.cell.Cell.{Cell}
 use Rattle.k2_tree.specs.Tree.{Tree, tree_of, IsStored}
-use Rattle.k2_tree.specs.TreeSquares.{child_at, level_of, node_of, number_of, squares_of, IsSquareOf}
+use Rattle.k2_tree.specs.TreeSquares.{child_at, level_of, node_of, square_number, squares_of, IsSquareOf}
 use Rattle.k2_tree.specs.Digits.{digits_of}
 use Rattle.k2_tree.specs.Pending.{nodes_of, StandsAt}
 use Rattle.k2_tree.specs.Pruning.{child_nodes}
@@ -21,7 +21,7 @@ of_bits height base bits t s told of = subst (λ (t : Tree). IsSquareOf t s) (sy
 
 -- its four bits are in the tree
 four_inside : (height : ℕ) (base : Cell) (bits : List Bool) (t : Tree) (s : Square) → tree_of height base bits ≡ t
-    → IsStored height base bits → IsSquareOf t s → 1 ≤ level_of s → 4 * number_of s + 3 < length bits
+    → IsStored height base bits → IsSquareOf t s → 1 ≤ level_of s → 4 * square_number s + 3 < length bits
 four_inside height base bits t s told stored of inner =
     child_inside height base bits s 3 stored (of_bits height base bits t s told of) inner (omega arith)
 
@@ -72,7 +72,7 @@ returns-clause-nodes g c =
     let tree = c.self.inside in
     let bits = tree.bits in
     let of = of_bits tree.height tree.base bits _ s c.self.view_is c.requires.of in
-    let digits : c.new.result.digits ≡ window_of bits (4 * number_of s) 4 =
+    let digits : c.new.result.digits ≡ window_of bits (4 * square_number s) 4 =
     c.new.ensures.digits ∙ c.window-digits.ensures.value ∙ ap (λ j. window_of bits (4 * j) 4) c.number-place.ensures in
     ap (λ q. map (child_at (node_of q)) (digits_of c.new.result.digits)) c.new.ensures.square
     ∙ ap (λ d. map (child_at (node_of s)) (digits_of d)) digits
@@ -86,15 +86,16 @@ returns-clause-stands g c =
     let bits = tree.bits in
     let squares = squares_of (tree_of tree.height tree.base bits) in
     let of = of_bits tree.height tree.base bits _ s c.self.view_is c.requires.of in
-    let digits : c.new.result.digits ≡ window_of bits (4 * number_of s) 4 =
+    let digits : c.new.result.digits ≡ window_of bits (4 * square_number s) 4 =
     c.new.ensures.digits ∙ c.window-digits.ensures.value ∙ ap (λ j. window_of bits (4 * j) 4) c.number-place.ensures in
-    let number : c.new.result.number ≡ rank_of bits (4 * number_of s) + 1 =
+    let number : c.new.result.number ≡ rank_of bits (4 * square_number s) + 1 =
     c.new.ensures.number ∙ ap (λ r. r + 1) c.rank1-number.ensures.value
     ∙ ap (λ j. rank_of bits (4 * j) + 1) c.number-place.ensures in
-    let nodes : nodes_of c.new.result ≡ map (child_at (node_of s)) (digits_of (window_of bits (4 * number_of s) 4)) =
+    let nodes : nodes_of c.new.result
+    ≡ map (child_at (node_of s)) (digits_of (window_of bits (4 * square_number s) 4)) =
     ap (λ q. map (child_at (node_of q)) (digits_of c.new.result.digits)) c.new.ensures.square
     ∙ ap (λ d. map (child_at (node_of s)) (digits_of d)) digits in
     let stands = group_stands tree.height tree.base bits s c.self.invariant of c.requires.inner in
     subst (λ (t : Tree). StandsAt (squares_of t) c.new.result.number (nodes_of c.new.result)) c.self.view_is
     (subst (λ j. StandsAt squares j (nodes_of c.new.result)) (sym number)
-    (subst (λ ns. StandsAt squares (rank_of bits (4 * number_of s) + 1) ns) (sym nodes) stands))
+    (subst (λ ns. StandsAt squares (rank_of bits (4 * square_number s) + 1) ns) (sym nodes) stands))

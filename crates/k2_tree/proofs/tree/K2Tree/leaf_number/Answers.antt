@@ -2,7 +2,7 @@ use Rattle.std.proofs.Common.{◌≡◌, ◌-◌, ◌/◌, arith, ap, sym, ◌�
 use Rattle.std.specs.Prelude.{slice_get}
 use Rattle.k2_tree.specs.Tree.{Tree, tree_of, IsTree}
 use Rattle.k2_tree.proofs.CellLemmas.{IsTree-stored}
-use Rattle.k2_tree.specs.TreeSquares.{corner_of, number_of, IsSquareOf}
+use Rattle.k2_tree.specs.TreeSquares.{corner_of, square_number, IsSquareOf}
 use Rattle.k2_tree.proofs.CellSquareLemmas.{leaf_at, leaf_cell}
 use Rattle.k2_tree.proofs.tree.K2Tree.leaf_number.Goals as goal
 
@@ -21,7 +21,7 @@ returns-clause-value g c =
     let tree = c.self.inside in
     let of : IsSquareOf (tree_of tree.height tree.base tree.bits) s =
     subst (λ (t : Tree). IsSquareOf t s) (sym c.self.view_is) c.requires.of in
-    let place : c.number.result - c.len.result / 4 ≡ number_of s - length tree.bits / 4 =
+    let place : c.number.result - c.len.result / 4 ≡ square_number s - length tree.bits / 4 =
     omega (arith, c.number.ensures, c.len.ensures) in
     subst (λ (t : Tree). slice_get t.cells (c.number.result - c.len.result / 4) ≡ Some (corner_of s)) c.self.view_is
     (ap (slice_get (tree_of tree.height tree.base tree.bits).cells) place
