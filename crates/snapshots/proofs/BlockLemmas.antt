@@ -1,13 +1,13 @@
 -- The block of an object, step by step.
-use Rattle.std.proofs.Common.{◌≡◌, ℕ, zero, suc, ◌+◌, ◌-◌, ◌<◌, ◌≤◌, Bool, true, false, List, [], ◌∷◌, length, get_or, take, sum, map, Option, None, Some, refl, sym, ap, ◌∙◌, arith, cond, subst}
+use Rattle.std.proofs.Common.{◌≡◌, ℕ, ◌+◌, ◌<◌, Bool, true, false, List, length, get_or, take, sum, None, Some, refl, sym, ap, ◌∙◌, arith, cond}
 use Rattle.std.specs.List.{range_with_len}
 use Rattle.std.proofs.lemmas.List.{get_or-map, length-map}
 use Rattle.std.proofs.lemmas.List.FromFn.{get_or-range_with_len, length-range_with_len}
 use Rattle.std.proofs.lemmas.Option.{get_or_from_slice_get}
-use Rattle.std.specs.Prelude.{slice_get, slice_index_or, slice_index, if◌then◌else◌}
+use Rattle.std.specs.Prelude.{slice_get, slice_index_or, slice_index}
 use Rattle.packed_bits.specs.Bits.{ones_of}
 use Rattle.bit_rank.specs.Bits.{rank_of}
-use Rattle.bit_rank.proofs.RankLemmas.{rank_of-step, rank_of-le, rank_of-le-ones_of}
+use Rattle.bit_rank.proofs.RankLemmas.{rank_of-step, rank_of-le-ones_of}
 use Rattle.object_perm.specs.Permutation.{inverse_of}
 use Rattle.track_types.specs.declared.cell.Cell.{Cell}
 use Rattle.k2_tree.specs.Tree.{Tree}
@@ -15,7 +15,7 @@ use Rattle.k2_tree.proofs.CellLemmas.{tree_of-StandsFor}
 use Rattle.snapshots.specs.View.{SnapshotView, block_of, block_with, tree_in}
 use Rattle.snapshots.specs.Stored.{IsStored, starts_of}
 use Rattle.snapshots.specs.declared.anchored.Anchored.{Anchored}
-use Rattle.snapshots.proofs.FlawlessLemmas.{IsFlawless, IsFlawless-from_none, leaf_within}
+use Rattle.snapshots.proofs.FlawlessLemmas.{IsFlawless-from_none, leaf_within}
 
 -- a present object's place among the present ones is below their number
 pub rank_within : (present : List Bool) (index : ℕ) → slice_get present index ≡ Some true → index < length present
@@ -29,15 +29,18 @@ rank_within present index is within =
 pub start_at : (start rank : ℕ) (lengths : List ℕ) → rank < length lengths
     → get_or (starts_of start lengths) rank 0 ≡ start + sum (take rank lengths)
 start_at start rank lengths within =
-    get_or-map (λ r. start + sum (take r lengths)) (range_with_len 0 (length lengths)) rank 0 0 (omega (arith, length-range_with_len 0 (length lengths)))
+    get_or-map (λ r. start + sum (take r lengths)) (range_with_len 0 (length lengths)) rank 0 0
+    (omega (arith, length-range_with_len 0 (length lengths)))
     ∙ ap (λ r. start + sum (take r lengths)) (get_or-range_with_len 0 (length lengths) rank 0 within ∙ omega arith)
 
 pub length-starts_of : (start : ℕ) (lengths : List ℕ) → length (starts_of start lengths) ≡ length lengths
 length-starts_of start lengths =
-    length-map (range_with_len 0 (length lengths)) (λ r. start + sum (take r lengths)) ∙ length-range_with_len 0 (length lengths)
+    length-map (range_with_len 0 (length lengths)) (λ r. start + sum (take r lengths))
+    ∙ length-range_with_len 0 (length lengths)
 
 -- blocks with the same fields are the same
-same_block : (a b : Anchored) → a.index ≡ b.index → a.offset ≡ b.offset → a.cell ≡ b.cell → a.from ≡ b.from → a.len ≡ b.len → a ≡ b
+same_block : (a b : Anchored) → a.index ≡ b.index → a.offset ≡ b.offset → a.cell ≡ b.cell → a.from ≡ b.from
+    → a.len ≡ b.len → a ≡ b
 same_block a b index offset cell from len =
     ap (λ i. with_fields i a.offset a.cell a.from a.len) index
     ∙ ap (λ o. with_fields b.index o a.cell a.from a.len) offset
@@ -57,30 +60,37 @@ pub record IsRead (view : SnapshotView) (index rank : ℕ) (cell : Cell) (block 
   pub long : block.len ≡ slice_index view.parts.lengths rank
 
 -- it is the block, where the cell is that of the place's leaf
-pub block_read : (view : SnapshotView) (tree : Tree) (starts : List ℕ) (index rank place : ℕ) (cell : Cell) (block : Anchored)
+pub block_read : (view : SnapshotView) (tree : Tree) (starts : List ℕ) (index rank place : ℕ) (cell : Cell)
+    (block : Anchored)
     → IsStored view tree starts → IsRead view index rank cell block
     → slice_get tree.cells (rank_of view.parts.lasts place) ≡ Some cell
     → block ≡ block_with view index rank place
 block_read view tree starts index rank place cell block stored read found =
     let told : (tree_in view).cells ≡ tree.cells =
-    ap (λ (t : Tree). t.cells) (tree_of-StandsFor view.frame.height view.frame.base view.parts.tree tree stored.tree_is) in
+    ap (λ (t : Tree). t.cells) (tree_of-StandsFor view.frame.height view.frame.base view.parts.tree tree stored.tree_is)
+    in
     let here : cell ≡ slice_index_or (tree_in view).cells (rank_of view.parts.lasts place) view.frame.base =
     sym (ap (λ cells. slice_index_or cells (rank_of view.parts.lasts place) view.frame.base) told
     ∙ get_or_from_slice_get tree.cells (rank_of view.parts.lasts place) cell view.frame.base found) in
-    same_block block (block_with view index rank place) read.number read.begins (read.stands ∙ here) read.logged read.long
+    same_block block (block_with view index rank place) read.number read.begins (read.stands ∙ here) read.logged
+    read.long
 
 -- a present object has its block
 pub block_found : (view : SnapshotView) (index : ℕ) (block : Anchored) → slice_get view.parts.present index ≡ Some true
-    → block ≡ block_with view index (rank_of view.parts.present index) (inverse_of view.parts.perm (rank_of view.parts.present index))
+    → block ≡ block_with view index (rank_of view.parts.present index)
+    (inverse_of view.parts.perm (rank_of view.parts.present index))
     → Some block ≡ block_of view index
 block_found view index block present is =
-    let on : slice_index_or view.parts.present index false ≡ true = get_or_from_slice_get view.parts.present index true false present in
+    let on : slice_index_or view.parts.present index false ≡ true =
+    get_or_from_slice_get view.parts.present index true false present in
     rw on (ap Some is)
 
 -- an absent object has none
-pub block_missing : (view : SnapshotView) (index : ℕ) → slice_get view.parts.present index ≡ Some false → None ≡ block_of view index
+pub block_missing : (view : SnapshotView) (index : ℕ) → slice_get view.parts.present index ≡ Some false
+    → None ≡ block_of view index
 block_missing view index absent =
-    let off : slice_index_or view.parts.present index false ≡ false = get_or_from_slice_get view.parts.present index false false absent in
+    let off : slice_index_or view.parts.present index false ≡ false =
+    get_or_from_slice_get view.parts.present index false false absent in
     rw off refl
 
 -- each place in leaf order has a leaf of the tree
@@ -89,7 +99,9 @@ pub leaf_known : (view : SnapshotView) (tree : Tree) (starts : List ℕ) (place 
 leaf_known view tree starts place stored within =
     let shaped = stored.is.shaped in
     let flawless = IsFlawless-from_none view stored.is.flawless in
-    let told = ap (λ (t : Tree). length t.cells) (tree_of-StandsFor view.frame.height view.frame.base view.parts.tree tree stored.tree_is) in
+    let told =
+    ap (λ (t : Tree). length t.cells)
+    (tree_of-StandsFor view.frame.height view.frame.base view.parts.tree tree stored.tree_is) in
     let inside : place < length view.parts.lasts = omega (arith, shaped.perm, shaped.lasts) in
     omega (arith, told, leaf_within view.parts.lasts (length (tree_in view).cells) place flawless.cells inside)
 

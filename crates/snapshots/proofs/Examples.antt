@@ -1,6 +1,5 @@
 -- The definitions, run on a period of two objects.
-use Rattle.std.proofs.Common.{◌≡◌, ℕ, Bool, true, false, pos, List, [], ◌∷◌, map, refl, None, Some}
-use Rattle.track_types.specs.declared.cell.Cell.{Cell}
+use Rattle.std.proofs.Common.{◌≡◌, ℕ, Bool, true, false, pos, List, [], ◌∷◌, refl, None, Some}
 use Rattle.track_types.specs.declared.flaw.Section.TheVariants.{Offsets, Lasts}
 use Rattle.track_types.specs.declared.flaw.Kind.TheVariants.{Offset, Cells}
 use Rattle.k2_tree.specs.Morton.{row_of, column_of, cell_of}
@@ -9,8 +8,8 @@ use Rattle.k2_tree.specs.TreeBits.{longer}
 use Rattle.k2_tree.specs.Flaws.{group_flaw, level_flaw, tree_flaw}
 use Rattle.packed_bits.specs.Bits.{ones_of}
 use Rattle.bit_rank.specs.Bits.{rank_of, select_of}
-use Rattle.snapshots.specs.View.{SnapshotView, block_of, blocks_in}
-use Rattle.snapshots.specs.Flaws.{flaw_of, flaw_at}
+use Rattle.snapshots.specs.View.{SnapshotView, block_of}
+use Rattle.snapshots.specs.Flaws.{flaw_of, flaw_in}
 
 abbrev I : Bool
 I = true
@@ -53,11 +52,11 @@ unfolding row_of column_of cell_of picked codes_below codes_in longer rank_of on
 the_parts_have_no_flaw = refl
 
 a_late_anchor_is_flawed : flaw_of (two (0 ∷ 4 ∷ []) (I ∷ I ∷ []))
-    ≡ Some (flaw_at (two (0 ∷ 4 ∷ []) (I ∷ I ∷ [])) Offsets Offset 1)
+    ≡ Some (flaw_in 0 Offsets Offset 1)
 unfolding row_of column_of cell_of picked codes_below codes_in longer rank_of ones_of group_flaw level_flaw tree_flaw
 a_late_anchor_is_flawed = refl
 
 a_last_object_that_is_none_is_flawed : flaw_of (two (0 ∷ 3 ∷ []) (I ∷ O ∷ []))
-    ≡ Some (flaw_at (two (0 ∷ 3 ∷ []) (I ∷ O ∷ [])) Lasts Cells 2)
+    ≡ Some (flaw_in 0 Lasts Cells 2)
 unfolding row_of column_of cell_of picked codes_below codes_in longer rank_of ones_of group_flaw level_flaw tree_flaw
 a_last_object_that_is_none_is_flawed = refl

@@ -1,7 +1,7 @@
 -- What it means that a period's parts have no flaw.
-use Rattle.std.proofs.Common.{◌≡◌, ℕ, zero, suc, ◌+◌, ◌-◌, ◌<◌, ◌≤◌, Bool, true, false, List, [], ◌∷◌, length, get_or, Option, None, Some, refl, sym, ap, ◌∙◌, arith, cond}
+use Rattle.std.proofs.Common.{◌≡◌, ℕ, ◌+◌, ◌-◌, ◌<◌, Bool, true, false, List, length, get_or, Option, None, Some, refl, ap, ◌∙◌, arith, cond}
 use Rattle.std.specs.Option.{option_map, option_or}
-use Rattle.std.specs.Prelude.{◌&&◌, ◌||◌, ◌==◌, if◌then◌else◌}
+use Rattle.std.specs.Prelude.{◌||◌, ◌==◌, if◌then◌else◌}
 use Rattle.std.proofs.lemmas.Bool.{and_parts, eqb-true}
 use Rattle.packed_bits.specs.Bits.{ones_of}
 use Rattle.bit_rank.specs.Bits.{rank_of}
@@ -52,7 +52,8 @@ pub last_is : (lasts : List Bool) (leaves : ℕ) → have_cells lasts leaves ≡
     → get_or lasts (length lasts - 1) false ≡ true
 last_is lasts leaves has some = by_length (length lasts == 0) refl (and_parts _ _ has).1
   where
-    by_length : (b : Bool) → (length lasts == 0) ≡ b → ((length lasts == 0) || get_or lasts (length lasts - 1) false) ≡ true
+    by_length : (b : Bool) → (length lasts == 0) ≡ b
+        → ((length lasts == 0) || get_or lasts (length lasts - 1) false) ≡ true
         → get_or lasts (length lasts - 1) false ≡ true
     by_length false e is = (rw e at is)
     by_length true e is = absurd (omega (arith, eqb-true (length lasts) 0 e))
@@ -63,7 +64,9 @@ pub leaf_within : (lasts : List Bool) (leaves place : ℕ) → have_cells lasts 
 leaf_within lasts leaves place has within =
     let some : 0 < length lasts = omega arith in
     let behind : length lasts - 1 < length lasts = omega arith in
-    let step = rank_of-step lasts (length lasts - 1) behind ∙ ap (λ b. rank_of lasts (length lasts - 1) + cond b 1 0) (last_is lasts leaves has some) in
+    let step =
+    rank_of-step lasts (length lasts - 1) behind
+    ∙ ap (λ b. rank_of lasts (length lasts - 1) + cond b 1 0) (last_is lasts leaves has some) in
     let low = rank_of-le lasts place (length lasts - 1) (omega arith) in
     let high = rank_of-le-ones_of lasts (length lasts - 1 + 1) in
     let all = eqb-true (ones_of lasts) leaves (and_parts _ _ has).0 in

@@ -1,8 +1,7 @@
 -- The first flaw of a period, from those of its parts; and parts without one, which are stored.
-use Rattle.std.proofs.Common.{◌≡◌, ℕ, Bool, true, false, List, length, Option, None, Some, refl, ap, sym, ◌∙◌}
+use Rattle.std.proofs.Common.{◌≡◌, ℕ, Bool, true, false, List, length, None, Some, refl, ap, sym, ◌∙◌}
 use Rattle.object_perm.specs.Permutation.{PermutesPlaces}
 use Rattle.track_types.specs.Frame.{instants_in}
-use Rattle.track_types.specs.declared.flaw.Flaw.{Flaw}
 use Rattle.track_types.specs.declared.flaw.Section.TheVariants.{Lasts}
 use Rattle.track_types.specs.declared.flaw.Kind.TheVariants.{Cells}
 use Rattle.k2_tree.specs.Tree.{Tree, codes_of}
@@ -10,11 +9,8 @@ use Rattle.k2_tree.specs.TreeBits.{morton_bits}
 use Rattle.k2_tree.specs.Flaws.{StandsFor}
 use Rattle.k2_tree.proofs.CellLemmas.{tree_of-StandsFor}
 use Rattle.snapshots.specs.View.{SnapshotView, tree_in}
-use Rattle.snapshots.specs.Flaws.{flaw_at, flaw_of, have_cells, offset_flaw, IsFaultOf, IsShaped}
+use Rattle.snapshots.specs.Flaws.{bits_flaw, flaw_in, flaw_of, have_cells, offset_flaw, perm_flaw, IsShaped}
 use Rattle.snapshots.specs.Stored.{starts_of, view_of, IsStored}
-use Rattle.snapshots.specs.Checking.{bits_flaw, perm_flaw, IsFaultFor}
-use Rattle.snapshots.specs.declared.fault.SnapFault.{SnapFault}
-use Rattle.snapshots.specs.declared.fault.SnapFault.TheVariants as fault
 
 -- the anchors and the tree have no flaw, and it is known whether the last objects fit the leaves
 pub record IsBegun (view : SnapshotView) (fit : Bool) : Type 0 where
@@ -39,19 +35,13 @@ IsBegun-found view tree instants leaves offsets fit a b late bits stands count c
 
 -- the last objects do not fit the leaves
 pub flaw_of-cells : (view : SnapshotView) (fit : Bool) → IsBegun view fit → fit ≡ false
-    → flaw_of view ≡ Some (flaw_at view Lasts Cells (length view.parts.lasts))
+    → flaw_of view ≡ Some (flaw_in view.number Lasts Cells (length view.parts.lasts))
 flaw_of-cells view fit begun not = rw (begun.late, begun.bits, begun.cells, not) refl
 
 -- the last objects fit the leaves
 pub flaw_of-perm : (view : SnapshotView) (fit : Bool) → IsBegun view fit → fit ≡ true
     → flaw_of view ≡ perm_flaw view.number view.parts.lasts view.parts.perm
 flaw_of-perm view fit begun is = rw (begun.late, begun.bits, begun.cells, is) refl
-
--- a fault by what the first flaw is
-pub IsFaultOf-first : (view : SnapshotView) (first : Option Flaw) (fault : SnapFault) → flaw_of view ≡ first
-    → IsFaultFor first fault → IsFaultOf view fault
-IsFaultOf-first view first (fault.Flaw flaw) same is = same ∙ is
-IsFaultOf-first view first fault.Memory same is = tt
 
 -- what is stored of the parts tells them
 pub view_of-parts : (view : SnapshotView) (present lasts : List Bool) (perm : List ℕ) (tree : Tree)

@@ -1,4 +1,3 @@
-mod SearchLemmas
 mod OrderLemmas
 mod CellsLemmas
 mod StartsLemmas

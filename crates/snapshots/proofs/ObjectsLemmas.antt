@@ -34,7 +34,8 @@ objects_left-unbegun keeps objects none =
 -- and the reads for them
 pub objects_budget-unbegun : {F : Type 0} (keeps : F → CellBox → Bool) (objects : ObjectsIn F) → objects.members ≡ None
     → objects_budget keeps objects
-    ≡ pruned_budget keeps objects.pruned + 41 * length (pruned_left keeps objects.pruned) + 43 * length (objects_left keeps objects)
+    ≡ pruned_budget keeps objects.pruned + 41 * length (pruned_left keeps objects.pruned)
+    + 43 * length (objects_left keeps objects)
 objects_budget-unbegun keeps objects none =
     let view : SnapshotView = objects.snapshot.now in
     let leaves : List (ℕ × Cell) = pruned_left keeps objects.pruned in

@@ -4,7 +4,7 @@ use Rattle.std.specs.Prelude.{slice_get, not}
 use Rattle.std.proofs.lemmas.Bool.{cases_lt, le-leb, lt-leb, and_from, and_left, and_right, not_from_true, not_from_false}
 use Rattle.std.proofs.lemmas.Option.{get_or_from_slice_get}
 use Rattle.snapshots.specs.Flaws.{offset_flaw, is_disordered, order_flaw}
-use Rattle.snapshots.proofs.SearchLemmas.{find-first, find-none}
+use Rattle.object_perm.proofs.FlawLemmas.{find-first, find-none}
 
 -- an offset that is not below the instants, behind others that are
 pub offset_flaw-at : (instants : ℕ) (offsets : List ℕ) (place : ℕ) → place < length offsets

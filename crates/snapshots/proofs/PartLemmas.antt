@@ -4,8 +4,7 @@ use Rattle.object_perm.specs.Permutation.{PermutesPlaces, first_flaw}
 use Rattle.object_perm.proofs.FlawLemmas.{first_flaw-permutes}
 use Rattle.track_types.specs.declared.flaw.Section.TheVariants.{Perm}
 use Rattle.track_types.specs.declared.flaw.Kind.TheVariants.{CellOrder}
-use Rattle.snapshots.specs.Flaws.{order_flaw}
-use Rattle.snapshots.specs.Checking.{flaw_in, perm_flaw}
+use Rattle.snapshots.specs.Flaws.{flaw_in, order_flaw, perm_flaw}
 
 -- a permutation whose cells do not all ascend
 pub perm_flaw-order : (number : ℕ) (lasts : List Bool) (perm : List ℕ) (place : ℕ) → PermutesPlaces perm

@@ -1,7 +1,7 @@
 -- The places of a leaf in leaf order: the first of them, and the one behind another.
-use Rattle.std.proofs.Common.{◌≡◌, ℕ, zero, suc, ◌+◌, ◌-◌, ◌<◌, ◌≤◌, Bool, true, false, List, [], ◌∷◌, length, get_or, filter, Some, refl, sym, ap, ◌∙◌, arith, cond, inl, inr, subst}
+use Rattle.std.proofs.Common.{◌≡◌, ℕ, zero, suc, ◌+◌, ◌-◌, ◌<◌, ◌≤◌, Bool, true, false, List, [], ◌∷◌, length, get_or, filter, refl, sym, ap, ◌∙◌, arith, cond, inl, inr}
 use Rattle.std.specs.List.{range_with_len}
-use Rattle.std.specs.Prelude.{◌==◌, slice_get}
+use Rattle.std.specs.Prelude.{◌==◌}
 use Rattle.std.proofs.lemmas.Bool.{cases_lt, eq-eqb}
 use Rattle.std.proofs.lemmas.Bool.Decides.{eqb_tells}
 use Rattle.std.proofs.lemmas.Option.{get_or_from_slice_get, slice_get_within}
@@ -81,7 +81,8 @@ pub place_first : (lasts : List Bool) (place : ℕ) → place < length lasts
     ≡ place ∷ kept_from lasts (rank_of lasts place) (place + 1) (length lasts - (place + 1))
 place_first lasts place within =
     let more : length lasts - place ≡ suc (length lasts - (place + 1)) = omega arith in
-    let on : (rank_of lasts place == rank_of lasts place) ≡ true = eq-eqb (rank_of lasts place) (rank_of lasts place) refl in
+    let on : (rank_of lasts place == rank_of lasts place) ≡ true =
+    eq-eqb (rank_of lasts place) (rank_of lasts place) refl in
     ap (kept_from lasts (rank_of lasts place) place) more ∙ (rw on refl)
 
 -- behind the last object of a cell the leaf has no place

@@ -37,34 +37,45 @@ offset_flaw instants offsets = find (λ i. nat_le instants (slice_index offsets 
 
 -- as many objects are the last of their cell as there are leaves, and the last object is one of them
 abbrev pub have_cells : List Bool → ℕ → Bool
-have_cells lasts leaves = (ones_of lasts == leaves) && (length lasts == 0 || slice_index_or lasts (length lasts - 1) false)
+have_cells lasts leaves = (ones_of lasts == leaves)
+    && (length lasts == 0 || slice_index_or lasts (length lasts - 1) false)
 
 -- the object at a place in leaf order is in the cell of the one before it, and not greater
 abbrev pub is_disordered : List Bool → List ℕ → ℕ → Bool
-is_disordered lasts perm place = not (slice_index_or lasts (place - 1) false) && nat_le (slice_index perm place) (slice_index perm (place - 1))
+is_disordered lasts perm place = not (slice_index_or lasts (place - 1) false)
+    && nat_le (slice_index perm place) (slice_index perm (place - 1))
 
 -- the first such place
 abbrev pub order_flaw : List Bool → List ℕ → Option ℕ
 order_flaw lasts perm = find (is_disordered lasts perm) (range_with_len 1 (length perm - 1))
 
--- a flaw of a period
-abbrev pub flaw_at : SnapshotView → Section → Kind → ℕ → Flaw
-flaw_at view section kind index = record { section = section; period = view.number; index = index; kind = kind }
+-- a flaw of the period with this number
+abbrev pub flaw_in : ℕ → Section → Kind → ℕ → Flaw
+flaw_in number section kind index = record { section = section; period = number; index = index; kind = kind }
+
+-- the first flaw of bits that are no tree's of this height
+abbrev pub bits_flaw : ℕ → ℕ → List Bool → Option Flaw
+bits_flaw number height bits = option_map (flaw_in number Tree kind.Tree) (tree_flaw height bits)
+
+-- the first flaw of a list that is no permutation, or does not ascend in each cell
+abbrev pub perm_flaw : ℕ → List Bool → List ℕ → Option Flaw
+perm_flaw number lasts perm = option_or (option_map (flaw_in number Perm kind.Perm) (first_flaw perm))
+    (option_map (flaw_in number Perm kind.CellOrder) (order_flaw lasts perm))
 
 -- the first flaw of a period's parts, or none
 abbrev pub flaw_of : SnapshotView → Option Flaw
 flaw_of view =
-    option_or (option_map (flaw_at view Offsets kind.Offset) (offset_flaw (instants_in view.frame view.number) view.parts.offsets))
-    (option_or (option_map (flaw_at view Tree kind.Tree) (tree_flaw view.frame.height view.parts.tree))
+    option_or (option_map (flaw_in view.number Offsets kind.Offset)
+    (offset_flaw (instants_in view.frame view.number) view.parts.offsets))
+    (option_or (bits_flaw view.number view.frame.height view.parts.tree)
     (option_or (if have_cells view.parts.lasts (length (tree_in view).cells) then None
-    else Some (flaw_at view Lasts kind.Cells (length view.parts.lasts)))
-    (option_or (option_map (flaw_at view Perm kind.Perm) (first_flaw view.parts.perm))
-    (option_map (flaw_at view Perm kind.CellOrder) (order_flaw view.parts.lasts view.parts.perm)))))
+    else Some (flaw_in view.number Lasts kind.Cells (length view.parts.lasts)))
+    (perm_flaw view.number view.parts.lasts view.parts.perm)))
 
--- a flaw is the first one of the parts; memory may be wanting for any parts
-abbrev pub IsFaultOf : SnapshotView → SnapFault → Type 0
-IsFaultOf view (fault.Flaw flaw) = flaw_of view ≡ Some flaw
-IsFaultOf view fault.Memory = ⊤
+-- a flaw is this one; memory may be wanting for any parts
+abbrev pub IsFaultFor : Option Flaw → SnapFault → Type 0
+IsFaultFor first (fault.Flaw flaw) = first ≡ Some flaw
+IsFaultFor first fault.Memory = ⊤
 
 -- what holds of every snapshot: its parts are shaped and have no flaw
 pub record IsSnapshot (view : SnapshotView) : Type 0 where

@@ -2,6 +2,5 @@
 pub mod View
 pub mod Flaws
 pub mod Stored
-pub mod Checking
 pub mod Members
 pub mod Objects

@@ -1,10 +1,10 @@
 -- What is left of a walk over the blocks whose anchors lie in squares that pass a test.
-use Rattle.std.specs.Prelude.{◌≡◌, ℕ, ◌+◌, ◌*◌, Bool, List, [], ◌++◌, length, Option, None, Some}
+use Rattle.std.specs.Prelude.{ℕ, ◌+◌, ◌*◌, Bool, List, [], ◌++◌, length, Option, None, Some}
 use Rattle.std.specs.List.{flat_map, sum_by}
 use Rattle.track_types.specs.declared.cell.Cell.{Cell}
 use Rattle.track_types.specs.declared.cell_box.CellBox.{CellBox}
-use Rattle.k2_tree.specs.Pruned.{pruned_budget, pruned_left, pruned_tree}
-use Rattle.snapshots.specs.View.{SnapshotView, blocks_in, tree_in}
+use Rattle.k2_tree.specs.Pruned.{pruned_budget, pruned_left}
+use Rattle.snapshots.specs.View.{SnapshotView, blocks_in}
 use Rattle.snapshots.specs.Members.{MembersView}
 use Rattle.snapshots.specs.declared.anchored.Anchored.{Anchored}
 use Rattle.snapshots.specs.declared.objects_in.ObjectsIn.{ObjectsIn}

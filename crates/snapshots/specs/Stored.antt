@@ -2,7 +2,6 @@
 use Rattle.std.specs.Prelude.{◌≡◌, ℕ, ◌+◌, Bool, List, length, map, take, sum}
 use Rattle.std.specs.List.{range_with_len}
 use Rattle.track_types.specs.declared.frame.Frame.{Frame}
-use Rattle.track_types.specs.declared.period_parts.PeriodParts.{PeriodParts}
 use Rattle.object_perm.specs.Permutation.{PermutesPlaces}
 use Rattle.k2_tree.specs.Tree.{Tree, codes_of}
 use Rattle.k2_tree.specs.TreeBits.{morton_bits}

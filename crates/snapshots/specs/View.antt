@@ -1,9 +1,8 @@
 -- What a period's snapshot says, on plain lists.
-use Rattle.std.specs.Prelude.{ℕ, ◌+◌, ◌==◌, Bool, false, if◌then◌else◌, List, length, map, filter, take, sum, slice_index, slice_index_or, Option, None, Some}
+use Rattle.std.specs.Prelude.{ℕ, ◌+◌, ◌==◌, false, if◌then◌else◌, List, length, map, filter, take, sum, slice_index, slice_index_or, Option, None, Some}
 use Rattle.std.specs.List.{range_with_len}
 use Rattle.bit_rank.specs.Bits.{rank_of, select_of}
 use Rattle.object_perm.specs.Permutation.{inverse_of}
-use Rattle.track_types.specs.declared.cell.Cell.{Cell}
 use Rattle.track_types.specs.declared.frame.Frame.{Frame}
 use Rattle.track_types.specs.declared.period_parts.PeriodParts.{PeriodParts}
 use Rattle.k2_tree.specs.Tree.{Tree, tree_of}

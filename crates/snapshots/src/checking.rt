@@ -2,9 +2,8 @@ ghost use Rattle.std.specs.Prelude.{◌≡◌, ◌+◌, ◌^◌, ◌<◌, ◌≤
 ghost use Rattle.object_perm.specs.Permutation.{PermutesPlaces};
 ghost use Rattle.track_types.specs.Frame.{instants_in, periods_of, IsFrame};
 ghost use Rattle.k2_tree.specs.Flaws.{StandsFor};
-ghost use Rattle.snapshots.specs.Flaws.{have_cells, offset_flaw, order_flaw};
+ghost use Rattle.snapshots.specs.Flaws.{bits_flaw, flaw_in, have_cells, offset_flaw, order_flaw, perm_flaw, IsFaultFor};
 ghost use Rattle.snapshots.specs.Stored.{starts_of};
-ghost use Rattle.snapshots.specs.Checking.{bits_flaw, flaw_in, perm_flaw, IsFaultFor};
 ghost use Rattle.snapshots.specs.declared.fault.SnapFault.TheVariants.{Flaw as IsFlaw};
 
 use crate::fault::SnapFault;
@@ -140,8 +139,8 @@ pub fn indexed(alloc: Global, list: BitList) -> Result<Bits, Memory>
     }
 }
 
-/// Where each log begins, of which the first one begins at `start`. All lengths and the start add up
-/// to at most 2^25.
+/// Where each log begins, of which the first one begins at `start`. All lengths and the start add
+/// up to at most 2^25.
 pub fn starts_of(alloc: Global, start: u32, lengths: &[u32]) -> Result<List32, Memory>
     requires { start + sum lengths.now ≤ 2 ^ 25 }
     ensures { IfOk result (λ starts. starts ≡ starts_of start lengths.now) }

@@ -1,8 +1,8 @@
 //! Snapshots: where each object stands first in a period, by object and by square.
 //!
-//! A `Snapshot` is checked from the parts of a period. `find` leads from an object to its block in a
-//! bounded number of reads, and `objects_in` gives the blocks whose anchors lie in squares that pass a
-//! test. The crate stands on `k2_tree`, `object_perm`, `bit_rank` and `track_types`.
+//! A `Snapshot` is checked from the parts of a period. `find` leads from an object to its block in
+//! a bounded number of reads, and `objects_in` gives the blocks whose anchors lie in squares that
+//! pass a test. The crate stands on `k2_tree`, `object_perm`, `bit_rank` and `track_types`.
 #![tactic(auto)]
 
 mod anchored;

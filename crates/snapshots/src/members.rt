@@ -13,7 +13,8 @@ use track_types::{Cell, Lazy};
 
 /// The blocks whose anchors are in one cell, by object.
 ///
-/// Contracts see the blocks that are left and a bound on the reads that are still to be made for them.
+/// Contracts see the blocks that are left and a bound on the reads that are still to be made for
+/// them.
 #[derive(Drop)]
 pub struct Members<'a> {
     snapshot: &'a Snapshot,

@@ -2,7 +2,7 @@ ghost use Rattle.std.specs.Prelude.{◌≡◌, ◌+◌, ◌*◌, ◌<◌, ◌≤
 ghost use Rattle.std.specs.Prelude.{None, IfErr, IfOk, OnOk};
 ghost use Rattle.packed_bits.specs.Bits.{ones_of};
 ghost use Rattle.snapshots.specs.View.{block_at, block_of, blocks_in, leaf_at, tree_in, view_with};
-ghost use Rattle.snapshots.specs.Flaws.{flaw_of, IsFaultOf, IsShaped};
+ghost use Rattle.snapshots.specs.Flaws.{flaw_of, IsFaultFor, IsShaped};
 ghost use Rattle.snapshots.specs.Members.{blocks_from, members_left, IsAt};
 ghost use Rattle.snapshots.specs.Objects.{blocks_of, objects_budget, objects_left};
 ghost use Rattle.k2_tree.specs.Pruning.{kept_leaves, square_count};
@@ -26,8 +26,8 @@ use track_types::{Cell, Frame, Kind, List32, PeriodParts, Section};
 
 /// A period of an index: which objects have a block in it, and where each of them stands first.
 ///
-/// Contracts see the parts that it was checked from, with the header, the period's number, the number
-/// of objects, and where its logs begin among all symbols.
+/// Contracts see the parts that it was checked from, with the header, the period's number, the
+/// number of objects, and where its logs begin among all symbols.
 #[derive(Drop)]
 pub struct Snapshot {
     frame: Frame,
@@ -48,7 +48,8 @@ impl Model for Snapshot {
 
     ghost Value = { SnapshotView };
 
-    ghost view = { λ s. view_of s.frame s.number s.start s.present s.offsets s.tree s.lasts s.perm s.lengths };
+    ghost view = { λ s.
+        view_of s.frame s.number s.start s.present s.offsets s.tree s.lasts s.perm s.lengths };
 
     ghost invariant = { λ s. IsStored
         (view_of s.frame s.number s.start s.present s.offsets s.tree s.lasts s.perm s.lengths)
@@ -83,7 +84,7 @@ impl Snapshot {
         ensures exact { OnOk result
             (flaw_of (view_with frame.now number objects start parts) ≡ None) }
         ensures flaw { IfErr result (λ fault.
-            IsFaultOf (view_with frame.now number objects start parts) fault) }
+            IsFaultFor (flaw_of (view_with frame.now number objects start parts)) fault) }
     {
         let PeriodParts {
             present,
@@ -118,11 +119,11 @@ impl Snapshot {
         })
     }
 
-    /// The block of an object, and `None` exactly where the object has none in this period. The object
-    /// is told by its place among all objects.
+    /// The block of an object, and `None` exactly where the object has none in this period. The
+    /// object is told by its place among all objects.
     ///
-    /// It goes from the object to its place among the present ones, by the inverse permutation to its
-    /// place in leaf order, and climbs the tree from its leaf to the cell.
+    /// It goes from the object to its place among the present ones, by the inverse permutation to
+    /// its place in leaf order, and climbs the tree from its leaf to the cell.
     pub fn find<L: Ledger>(&self, index: u32, steps: &mut Steps<L>) -> Option<Anchored>
         requires { index < self.now.objects }
         ensures value { result ≡ block_of self.now index }
@@ -155,8 +156,8 @@ impl Snapshot {
     }
 
     /// The blocks whose anchors lie in squares on which `keep` is true, from the whole grid to the
-    /// anchor's cell: by leaf, then by object. It takes no memory, and its draws read at most 52 for
-    /// each square with an anchor on which `keep` is true, and 43 for each block.
+    /// anchor's cell: by leaf, then by object. It takes no memory, and its draws read at most 52
+    /// for each square with an anchor on which `keep` is true, and 43 for each block.
     pub fn objects_in<F: Keep>(&self, keep: F) -> ObjectsIn<'_, F>
         ensures left { objects_left F.keeps result
             ≡ blocks_of self.now (kept_leaves (F.keeps keep) (tree_in self.now)) }

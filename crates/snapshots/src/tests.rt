@@ -1,9 +1,14 @@
-ghost use Rattle.std.specs.Prelude.{◌≡◌, ◌≤◌, true, [], ◌∷◌, length, IfOk};
+ghost use Rattle.std.specs.Prelude.{◌≡◌, ◌≤◌, [], ◌∷◌, length, IfOk};
+ghost use Rattle.packed_bits.specs.Bits.{ones_of};
 
-use super::{SnapFault, Snapshot};
+use super::{Anchored, SnapFault, Snapshot};
 use std::alloc::Global;
 use std::test::Fail;
 use track_types::{BitList, Cell, Flaw, Frame, Kind, List32, Memory, PeriodParts, Section};
+
+mod finding;
+mod touching;
+mod walks;
 
 const O: bool = false;
 
@@ -14,6 +19,35 @@ const TWO_CELLS: [bool; 8] = [I, O, O, O, I, O, O, I];
 
 // Those of (0, 0) alone.
 const ONE_CELL: [bool; 8] = [I, O, O, O, I, O, O, O];
+
+// A grid of side 4, of which four instants are one period.
+const FRAME: Frame = Frame {
+    first: 0,
+    span: 4,
+    period: 4,
+    height: 2,
+    base: Cell { x: 0, y: 0 },
+    cell: 1,
+    tick: 1,
+};
+
+// The block of the first present object, which is at (0, 0).
+const FIRST: Anchored = Anchored {
+    index: 0,
+    offset: 0,
+    cell: Cell { x: 0, y: 0 },
+    from: 0,
+    len: 3,
+};
+
+// That of the second one, at (1, 1) from the fourth instant on.
+const SECOND: Anchored = Anchored {
+    index: 1,
+    offset: 3,
+    cell: Cell { x: 1, y: 1 },
+    from: 3,
+    len: 0,
+};
 
 // The bits as a list.
 fn bits_of(alloc: Global, bits: &[bool]) -> Result<BitList, Memory>
@@ -35,16 +69,19 @@ fn numbers_of(alloc: Global, numbers: [u32; 2]) -> Result<List32, Memory>
     Ok(List32::new(numbers.as_slice().to_vec(alloc)?))
 }
 
-// The parts of a period of two objects, both present, whose logs have three symbols and none.
+// The parts of a period with two present objects, whose logs have three symbols and none.
 fn parts_of(
     alloc: Global,
+    present: &[bool],
     offsets: [u32; 2],
     tree: [bool; 8],
     lasts: [bool; 2],
     perm: [u32; 2],
 ) -> Result<PeriodParts, Memory>
+    requires some { 1 ≤ length present.now }
+    requires few { length present.now ≤ 32 }
     ensures parts { IfOk result (λ parts. parts ≡ record {
-      present = true ∷ true ∷ [];
+      present = present.now;
       offsets = offsets;
       tree = tree;
       lasts = lasts;
@@ -57,7 +94,7 @@ fn parts_of(
     ensures perm { length perm ≡ 2 }
 {
     Ok(PeriodParts {
-        present: bits_of(alloc, [I, I].as_slice())?,
+        present: bits_of(alloc, present)?,
         offsets: numbers_of(alloc, offsets)?,
         tree: bits_of(alloc, tree.as_slice())?,
         lasts: bits_of(alloc, lasts.as_slice())?,
@@ -66,7 +103,32 @@ fn parts_of(
     })
 }
 
-// The first flaw of such parts in a period of four instants, if they have one.
+// What the check makes of such parts.
+fn checked(
+    alloc: Global,
+    present: &[bool],
+    offsets: [u32; 2],
+    tree: [bool; 8],
+    lasts: [bool; 2],
+    perm: [u32; 2],
+) -> Result<Snapshot, SnapFault>
+    requires some { 1 ≤ length present.now }
+    requires few { length present.now ≤ 32 }
+    requires two { ones_of present.now ≡ 2 }
+    ensures { IfOk result (λ snapshot. snapshot.objects ≡ length present.now) }
+{
+    let parts = parts_of(alloc, present, offsets, tree, lasts, perm)?;
+    Snapshot::check(alloc, &FRAME, 0, present.len() as u32, 0, parts)
+}
+
+// The snapshot of two objects, both present, with these cells.
+fn two_objects(alloc: Global, tree: [bool; 8], lasts: [bool; 2]) -> Result<Snapshot, SnapFault>
+    ensures { IfOk result (λ snapshot. snapshot.objects ≡ 2) }
+{
+    checked(alloc, [I, I].as_slice(), [0, 3], tree, lasts, [0, 1])
+}
+
+// The first flaw of such parts of two objects, if they have one.
 fn flaw_of(
     alloc: Global,
     offsets: [u32; 2],
@@ -74,17 +136,7 @@ fn flaw_of(
     lasts: [bool; 2],
     perm: [u32; 2],
 ) -> Result<Option<Flaw>, SnapFault> {
-    let parts = parts_of(alloc, offsets, tree, lasts, perm)?;
-    let frame = Frame {
-        first: 0,
-        span: 4,
-        period: 4,
-        height: 2,
-        base: Cell { x: 0, y: 0 },
-        cell: 1,
-        tick: 1,
-    };
-    match Snapshot::check(alloc, &frame, 0, 2, 0, parts) {
+    match checked(alloc, [I, I].as_slice(), offsets, tree, lasts, perm) {
         Ok(_snapshot) => Ok(None),
         Err(SnapFault::Flaw(flaw)) => Ok(Some(flaw)),
         Err(SnapFault::Memory) => Err(SnapFault::Memory),

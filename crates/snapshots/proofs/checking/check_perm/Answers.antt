@@ -1,6 +1,5 @@
 use Rattle.std.proofs.Common.{◌≡◌, None, Some, ap, sym, subst, ◌∙◌}
-use Rattle.snapshots.specs.Flaws.{order_flaw}
-use Rattle.snapshots.specs.Checking.{perm_flaw, IsFaultFor}
+use Rattle.snapshots.specs.Flaws.{order_flaw, perm_flaw, IsFaultFor}
 use Rattle.snapshots.proofs.PartLemmas.{perm_flaw-order, perm_flaw-none}
 use Rattle.snapshots.proofs.checking.check_perm.Goals as goal
 

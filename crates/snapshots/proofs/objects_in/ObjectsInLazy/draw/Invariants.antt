@@ -1,4 +1,4 @@
-use Rattle.std.proofs.Common.{ℕ, length}
+use Rattle.std.proofs.Common.{length}
 use Rattle.k2_tree.specs.Pruned.{pruned_left}
 use Rattle.snapshots.proofs.ObjectsLemmas.{IsGiving}
 use Rattle.snapshots.proofs.objects_in.ObjectsInLazy.draw.Given as goal

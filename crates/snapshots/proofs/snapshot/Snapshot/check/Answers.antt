@@ -1,11 +1,10 @@
 use Rattle.std.proofs.Common.{◌≡◌, None, ap, sym, subst, ◌∙◌}
 use Rattle.std.proofs.lemmas.Result.{err_from_is_err_and}
 use Rattle.snapshots.specs.View.{SnapshotView, view_with}
-use Rattle.snapshots.specs.Flaws.{flaw_of, IsFaultOf}
-use Rattle.snapshots.specs.Checking.{perm_flaw}
+use Rattle.snapshots.specs.Flaws.{flaw_of, IsFaultFor}
 use Rattle.snapshots.specs.Stored.{starts_of, IsStored}
 use Rattle.snapshots.proofs.JudgedLemmas.{flaw_of-cells, flaw_of-perm, view_of-parts, IsBegun, IsBegun-found}
-use Rattle.snapshots.proofs.JudgedLemmas.{IsFaultOf-first, IsStored-flawless}
+use Rattle.snapshots.proofs.JudgedLemmas.{IsStored-flawless}
 use Rattle.snapshots.proofs.snapshot.Snapshot.check.Goals as goal
 
 pub returns-then-not-has_cells-clause-flaw : goal.returns-then-not-has_cells-clause-flaw
@@ -15,7 +14,7 @@ returns-then-not-has_cells-clause-flaw c =
     IsBegun-found view c.in_ok-tree.tree c.instants_in.result c.leaves.result c.as_slice.result.now c.has_cells.result
     c.as_slice.ensures c.instants_in.ensures c.in_default.ensures c.in_ok-tree.ensures.exact c.in_ok-tree.ensures.ok
     c.leaves.ensures.value c.has_cells.ensures in
-    subst (IsFaultOf view) (sym c.flaw-then-not-has_cells.ensures)
+    subst (IsFaultFor (flaw_of view)) (sym c.flaw-then-not-has_cells.ensures)
     (rw c.len.ensures (flaw_of-cells view c.has_cells.result begun c.if-not-has_cells.true))
 
 pub returns-in_err-perm-clause-flaw : goal.returns-in_err-perm-clause-flaw
@@ -25,10 +24,9 @@ returns-in_err-perm-clause-flaw c =
     IsBegun-found view c.in_ok-tree.tree c.instants_in.result c.leaves.result c.as_slice.result.now c.has_cells.result
     c.as_slice.ensures c.instants_in.ensures c.in_default.ensures c.in_ok-tree.ensures.exact c.in_ok-tree.ensures.ok
     c.leaves.ensures.value c.has_cells.ensures in
-    let first = perm_flaw view.number view.parts.lasts view.parts.perm in
-    let known : IsFaultOf view c.in_err-perm.field-0.0 =
-    IsFaultOf-first view first c.in_err-perm.field-0.0
-    (flaw_of-perm view c.has_cells.result begun c.if-not-has_cells.false) c.in_err-perm.ensures.flaw in
+    let known : IsFaultFor (flaw_of view) c.in_err-perm.field-0.0 =
+    subst (λ first. IsFaultFor first c.in_err-perm.field-0.0)
+    (sym (flaw_of-perm view c.has_cells.result begun c.if-not-has_cells.false)) c.in_err-perm.ensures.flaw in
     let given = err_from_is_err_and c.from_residual-in_err-perm.result c.from_residual-in_err-perm.ensures.1 in
     rw (given.1, given.2) known
 

@@ -19,8 +19,10 @@ pub returns-clause-more : goal.returns-clause-more
 returns-clause-more g c = λ other.
     let s = c.self.inside in
     let view = view_of s.frame s.number s.start s.present s.offsets s.tree s.lasts s.perm s.lengths in
-    let within : c.args.place < length s.perm = subst (λ (v : SnapshotView). c.args.place < length v.parts.perm) (sym c.self.view_is) c.requires in
-    let bit : get_or s.lasts c.args.place false ≡ c.get.result = get_or_from_slice_get s.lasts c.args.place c.get.result false c.get.ensures.value in
+    let within : c.args.place < length s.perm =
+    subst (λ (v : SnapshotView). c.args.place < length v.parts.perm) (sym c.self.view_is) c.requires in
+    let bit : get_or s.lasts c.args.place false ≡ c.get.result =
+    get_or_from_slice_get s.lasts c.args.place c.get.result false c.get.ensures.value in
     subst (λ v. IsAt v (leaf_at v c.args.place) (Place (c.args.place + 1))) c.self.view_is
     (goes_on_at view s.tree s.starts c.args.place c.self.invariant within (bit ∙ other))
 
@@ -28,8 +30,11 @@ pub returns-clause-left : goal.returns-clause-left
 returns-clause-left g c =
     let s = c.self.inside in
     let view = view_of s.frame s.number s.start s.present s.offsets s.tree s.lasts s.perm s.lengths in
-    let within : c.args.place < length s.perm = subst (λ (v : SnapshotView). c.args.place < length v.parts.perm) (sym c.self.view_is) c.requires in
-    let bit : get_or s.lasts c.args.place false ≡ c.get.result = get_or_from_slice_get s.lasts c.args.place c.get.result false c.get.ensures.value in
+    let within : c.args.place < length s.perm =
+    subst (λ (v : SnapshotView). c.args.place < length v.parts.perm) (sym c.self.view_is) c.requires in
+    let bit : get_or s.lasts c.args.place false ≡ c.get.result =
+    get_or_from_slice_get s.lasts c.args.place c.get.result false c.get.ensures.value in
     subst (λ v. blocks_from v (leaf_at v c.args.place) c.args.place
-    ≡ block_at v c.args.place ∷ members_left v (leaf_at v c.args.place) (if c.get.result then End else Place (c.args.place + 1))) c.self.view_is
+    ≡ block_at v c.args.place ∷ members_left v (leaf_at v c.args.place)
+    (if c.get.result then End else Place (c.args.place + 1))) c.self.view_is
     (place_left view s.tree s.starts c.args.place c.get.result c.self.invariant within bit)

@@ -1,8 +1,8 @@
-use Rattle.std.proofs.Common.{◌≡◌, ◌*◌, ◌≤◌, ap, sym, ◌∙◌, arith, length}
+use Rattle.std.proofs.Common.{ap, sym, ◌∙◌, arith, length}
 use Rattle.k2_tree.specs.Pruned.{pruned_budget, pruned_left}
 use Rattle.k2_tree.specs.Pruning.{square_count}
 use Rattle.k2_tree.proofs.FewLemmas.{kept_leaves-few}
-use Rattle.snapshots.specs.View.{SnapshotView, tree_in}
+use Rattle.snapshots.specs.View.{tree_in}
 use Rattle.snapshots.specs.Stored.{view_of}
 use Rattle.snapshots.proofs.PlacesLemmas.{stored_tree}
 use Rattle.snapshots.proofs.ObjectsLemmas.{objects_budget-unbegun}

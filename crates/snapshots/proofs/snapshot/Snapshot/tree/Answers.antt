@@ -1,5 +1,5 @@
 use Rattle.std.proofs.Common.{sym, ap, ◌∙◌}
-use Rattle.snapshots.specs.View.{SnapshotView, tree_in}
+use Rattle.snapshots.specs.View.{tree_in}
 use Rattle.snapshots.specs.Stored.{view_of}
 use Rattle.snapshots.proofs.PlacesLemmas.{stored_tree}
 use Rattle.snapshots.proofs.snapshot.Snapshot.tree.Goals as goal
