@@ -1,5 +1,6 @@
 -- The block of an object, step by step.
-use Rattle.std.proofs.Common.{◌≡◌, ℕ, ◌+◌, ◌<◌, Bool, true, false, List, length, get_or, take, sum, None, Some, refl, sym, ap, ◌∙◌, arith, cond}
+use Rattle.std.proofs.Common.{◌≡◌, ℕ, ◌+◌, ◌<◌, Bool, true, false, List, length, get_or, take, sum, None}
+use Rattle.std.proofs.Common.{Some, refl, sym, ap, ◌∙◌, arith, cond}
 use Rattle.std.specs.List.{range_with_len}
 use Rattle.std.proofs.lemmas.List.{get_or-map, length-map}
 use Rattle.std.proofs.lemmas.List.FromFn.{get_or-range_with_len, length-range_with_len}

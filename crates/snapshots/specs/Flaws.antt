@@ -1,5 +1,7 @@
 -- The first flaw of parts that are not those of a period.
-use Rattle.std.specs.Prelude.{◌≡◌, ℕ, ◌+◌, ◌-◌, ◌<◌, ◌≤◌, ◌==◌, Bool, not, ◌&&◌, ◌||◌, nat_le, false, if◌then◌else◌, List, length, sum, find, slice_index, slice_index_or, Option, None, Some, ⊤, ◌^◌}
+use Rattle.std.specs.Prelude.{◌≡◌, ℕ, ◌+◌, ◌-◌, ◌<◌, ◌≤◌, ◌==◌, Bool, not, ◌&&◌, ◌||◌, nat_le, false}
+use Rattle.std.specs.Prelude.{if◌then◌else◌, List, length, sum, find, slice_index, slice_index_or, Option}
+use Rattle.std.specs.Prelude.{None, Some, ⊤, ◌^◌}
 use Rattle.std.specs.Option.{option_map, option_or}
 use Rattle.std.specs.List.{range_with_len}
 use Rattle.packed_bits.specs.Bits.{ones_of}

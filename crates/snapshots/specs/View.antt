@@ -1,5 +1,6 @@
 -- What a period's snapshot says, on plain lists.
-use Rattle.std.specs.Prelude.{ℕ, ◌+◌, ◌==◌, false, if◌then◌else◌, List, length, map, filter, take, sum, slice_index, slice_index_or, Option, None, Some}
+use Rattle.std.specs.Prelude.{ℕ, ◌+◌, ◌==◌, false, if◌then◌else◌, List, length, map, filter, take, sum}
+use Rattle.std.specs.Prelude.{slice_index, slice_index_or, Option, None, Some}
 use Rattle.std.specs.List.{range_with_len}
 use Rattle.bit_rank.specs.Bits.{rank_of, select_of}
 use Rattle.object_perm.specs.Permutation.{inverse_of}

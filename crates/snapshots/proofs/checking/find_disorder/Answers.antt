@@ -1,8 +1,10 @@
 use Rattle.std.proofs.Common.{◌≡◌, false, arith, sym}
 use Rattle.snapshots.specs.Flaws.{is_disordered}
-use Rattle.snapshots.proofs.OrderLemmas.{disordered, ordered-first, ordered-greater, ordered-more, order_flaw-at, order_flaw-none}
+use Rattle.snapshots.proofs.OrderLemmas.{disordered, ordered-first, ordered-greater, ordered-more}
+use Rattle.snapshots.proofs.OrderLemmas.{order_flaw-at, order_flaw-none}
 use Rattle.snapshots.proofs.checking.find_disorder.Goals as goal
-use Rattle.snapshots.proofs.checking.find_disorder.Goals.{else-not-get-via-then-not-get+else-perm-i, else-not-get-via-else-not-get}
+use Rattle.snapshots.proofs.checking.find_disorder.Goals.{else-not-get-via-then-not-get+else-perm-i}
+use Rattle.snapshots.proofs.checking.find_disorder.Goals.{else-not-get-via-else-not-get}
 
 pub returns-then-perm-i : goal.returns-then-perm-i
 returns-then-perm-i c =
