@@ -20,6 +20,9 @@ const TWO_CELLS: [bool; 8] = [I, O, O, O, I, O, O, I];
 // Those of (0, 0) alone.
 const ONE_CELL: [bool; 8] = [I, O, O, O, I, O, O, O];
 
+// Those of a square in which no cell is, which are no tree's.
+const NO_CELL: [bool; 8] = [I, O, O, O, O, O, O, O];
+
 // A grid of side 4, of which four instants are one period.
 const FRAME: Frame = Frame {
     first: 0,
@@ -162,49 +165,19 @@ fn parts_without_a_flaw_are_taken(rt: HostRuntime) -> Result<(), Fail> {
 
 #[test]
 fn parts_are_refused_at_their_first_flaw(rt: HostRuntime) -> Result<(), Fail> {
+    let late = at(Section::Offsets, 1, Kind::Offset);
+    let no_cell = at(Section::Tree, 4, Kind::Tree);
+    let unended = at(Section::Lasts, 2, Kind::Cells);
+    let twice = at(Section::Perm, 1, Kind::Perm);
+    let disorder = at(Section::Perm, 1, Kind::CellOrder);
+    let first_of_all = at(Section::Offsets, 0, Kind::Offset);
     for (offsets, tree, lasts, perm, flaw) in [
-        (
-            [0, 4],
-            TWO_CELLS,
-            [I, I],
-            [0, 1],
-            at(Section::Offsets, 1, Kind::Offset),
-        ),
-        (
-            [0, 3],
-            [I, O, O, O, O, O, O, O],
-            [I, I],
-            [0, 1],
-            at(Section::Tree, 4, Kind::Tree),
-        ),
-        (
-            [0, 3],
-            TWO_CELLS,
-            [I, O],
-            [0, 1],
-            at(Section::Lasts, 2, Kind::Cells),
-        ),
-        (
-            [0, 3],
-            TWO_CELLS,
-            [I, I],
-            [0, 0],
-            at(Section::Perm, 1, Kind::Perm),
-        ),
-        (
-            [0, 3],
-            ONE_CELL,
-            [O, I],
-            [1, 0],
-            at(Section::Perm, 1, Kind::CellOrder),
-        ),
-        (
-            [4, 4],
-            ONE_CELL,
-            [I, I],
-            [1, 1],
-            at(Section::Offsets, 0, Kind::Offset),
-        ),
+        ([0, 4], TWO_CELLS, [I, I], [0, 1], late),
+        ([0, 3], NO_CELL, [I, I], [0, 1], no_cell),
+        ([0, 3], TWO_CELLS, [I, O], [0, 1], unended),
+        ([0, 3], TWO_CELLS, [I, I], [0, 0], twice),
+        ([0, 3], ONE_CELL, [O, I], [1, 0], disorder),
+        ([4, 4], ONE_CELL, [I, I], [1, 1], first_of_all),
     ] {
         assert_eq!(rt; flaw_of(rt.alloc(), offsets, tree, lasts, perm)?, flaw);
     }
