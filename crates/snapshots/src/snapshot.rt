@@ -2,7 +2,7 @@ ghost use Rattle.std.specs.Prelude.{◌≡◌, ◌+◌, ◌*◌, ◌<◌, ◌≤
 ghost use Rattle.std.specs.Prelude.{None, IfErr, IfOk, OnOk};
 ghost use Rattle.packed_bits.specs.Bits.{ones_of};
 ghost use Rattle.snapshots.specs.View.{block_at, block_of, blocks_in, leaf_at, tree_in, view_with};
-ghost use Rattle.snapshots.specs.Flaws.{flaw_of, IsFaultFor, IsShaped};
+ghost use Rattle.snapshots.specs.Flaws.{flaw_of, IsFaultFor, IsShaped, IsSnapshot};
 ghost use Rattle.snapshots.specs.Members.{blocks_from, members_left, IsAt};
 ghost use Rattle.snapshots.specs.Objects.{blocks_of, objects_budget, objects_left};
 ghost use Rattle.k2_tree.specs.Pruning.{kept_leaves, square_count};
@@ -139,9 +139,10 @@ impl Snapshot {
         Some(self.block(index, rank, cell))
     }
 
-    /// The tree of the cells in which the anchors are.
+    /// The tree of the cells in which the anchors are. It reads nothing that is counted.
     pub fn tree(&self) -> &K2Tree
-        ensures { result.now ≡ tree_in self.now }
+        ensures value { result.now ≡ tree_in self.now }
+        ensures snapshot { IsSnapshot self.now }
     {
         &self.tree
     }
