@@ -1,3 +1,6 @@
+-- Laws for callers.
+pub mod BlocksLemmas
+-- The parts, the blocks and the places of a period.
 mod OrderLemmas
 mod CellsLemmas
 mod StartsLemmas
@@ -8,5 +11,7 @@ mod BlockLemmas
 mod PlaceLemmas
 mod PlacesLemmas
 mod ObjectsLemmas
+mod OntoLemmas
+mod ChosenLemmas
 mod WordLemmas
 mod Examples

@@ -1,5 +1,5 @@
 -- What a period's snapshot says, on plain lists.
-use Rattle.std.specs.Prelude.{ℕ, ◌+◌, ◌==◌, false, if◌then◌else◌, List, length, map, filter, take, sum}
+use Rattle.std.specs.Prelude.{ℕ, ◌+◌, ◌==◌, ◌&&◌, Bool, false, if◌then◌else◌, List, length, map, filter, take, sum}
 use Rattle.std.specs.Prelude.{slice_index, slice_index_or, Option, None, Some}
 use Rattle.std.specs.List.{range_with_len}
 use Rattle.bit_rank.specs.Bits.{rank_of, select_of}
@@ -44,11 +44,17 @@ block_with view index rank place = record {
 abbrev pub rank_in : SnapshotView → ℕ → ℕ
 rank_in view index = rank_of view.parts.present index
 
+-- the place of a present object in leaf order
+abbrev pub place_in : SnapshotView → ℕ → ℕ
+place_in view index = inverse_of view.parts.perm (rank_in view index)
+
+-- the block of a present object
+abbrev pub present_block : SnapshotView → ℕ → Anchored
+present_block view index = block_with view index (rank_in view index) (place_in view index)
+
 -- the block of an object, if it has one in the period
 abbrev pub block_of : SnapshotView → ℕ → Option Anchored
-block_of view index = if slice_index_or view.parts.present index false
-    then Some (block_with view index (rank_in view index) (inverse_of view.parts.perm (rank_in view index)))
-    else None
+block_of view index = if slice_index_or view.parts.present index false then Some (present_block view index) else None
 
 -- the block at a place in leaf order
 abbrev pub block_at : SnapshotView → ℕ → Anchored
@@ -62,3 +68,11 @@ places_from view leaf first count = filter (λ place. leaf_at view place == leaf
 -- the blocks of a leaf's cell, by object
 abbrev pub blocks_in : SnapshotView → ℕ → List Anchored
 blocks_in view leaf = map (block_at view) (places_from view leaf 0 (length view.parts.perm))
+
+-- the object is present, and its block is in the leaf's cell
+abbrev pub is_at : SnapshotView → ℕ → ℕ → Bool
+is_at view leaf index = slice_index_or view.parts.present index false && (leaf_at view (place_in view index) == leaf)
+
+-- the blocks of a leaf's cell, found by going through all objects in order
+abbrev pub objects_at : SnapshotView → ℕ → List Anchored
+objects_at view leaf = map (present_block view) (filter (is_at view leaf) (range_with_len 0 view.objects))

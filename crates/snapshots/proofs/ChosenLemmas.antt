@@ -1,0 +1,125 @@
+-- Numbers of a range that pass a test, and what is made of each.
+use Rattle.std.proofs.Common.{◌≡◌, ℕ, zero, suc, ◌+◌, ◌<◌, ◌≤◌, Bool, true, false, ◌∷◌, map, filter, refl, sym}
+use Rattle.std.proofs.Common.{ap, ◌∙◌, arith, inl, inr}
+use Rattle.std.specs.List.{find, range_with_len}
+use Rattle.std.specs.Prelude.{◌==◌, ◌||◌, None, Some}
+use Rattle.std.proofs.lemmas.Bool.{cases_Bool, cases_order, eqb-true, or_cases}
+use Rattle.k2_tree.specs.TreeBits.{is_in, Rises}
+use Rattle.k2_tree.proofs.RisingLemmas.{is_in-first}
+
+-- made at once or in two steps
+pub made_same : {X : Type 0} (f h : ℕ → X) (k : ℕ → ℕ) (test : ℕ → Bool) (first count : ℕ)
+    → ((p : ℕ) → p < first + count → f p ≡ h (k p))
+    → map f (filter test (range_with_len first count)) ≡ map h (map k (filter test (range_with_len first count)))
+made_same f h k test first zero same = refl
+made_same f h k test first (suc count) same =
+    let rest = made_same f h k test (first + 1) count (λ p less. same p (omega arith)) in
+    elim (cases_Bool (test first)) [
+      | inl on ↦ rw on
+          (ap (λ x. x ∷ map f (filter test (range_with_len (first + 1) count))) (same first (omega arith))
+          ∙ ap (λ xs. h (k first) ∷ xs) rest)
+      | inr off ↦ rw off rest
+    ]
+
+-- what is made rises where each is greater than the one before
+pub Rises-made : (k : ℕ → ℕ) (test : ℕ → Bool) (first count low : ℕ)
+    → ((p : ℕ) → first ≤ p → p < first + count → test p ≡ true → low ≤ k p)
+    → ((p q : ℕ) → p < q → q < first + count → test p ≡ true → test q ≡ true → k p < k q)
+    → Rises low (map k (filter test (range_with_len first count)))
+Rises-made k test first zero low above grows = tt
+Rises-made k test first (suc count) low above grows = elim (cases_Bool (test first)) [
+  | inl on ↦
+      let rest = Rises-made k test (first + 1) count (suc (k first))
+      (λ p from to is. let more = grows first p (omega arith) (omega arith) on is in omega arith)
+      (λ p q less to. grows p q less (omega arith)) in
+      rw on (above first (omega arith) (omega arith) on, rest)
+  | inr off ↦ rw off
+      (Rises-made k test (first + 1) count low (λ p from to. above p (omega arith) (omega arith))
+      (λ p q less to. grows p q less (omega arith)))
+]
+
+-- a number of the range that passes, and of which c is made
+pub record IsMade (k : ℕ → ℕ) (test : ℕ → Bool) (first count c : ℕ) : Type 0 where
+  pub place : ℕ
+  pub from : first ≤ place
+  pub to : place < first + count
+  pub passes : test place ≡ true
+  pub stands : k place ≡ c
+
+-- one of them is made of such a number
+pub IsMade-from_in : (k : ℕ → ℕ) (test : ℕ → Bool) (first count c : ℕ)
+    → is_in (map k (filter test (range_with_len first count))) c ≡ true → IsMade k test first count c
+IsMade-from_in k test first zero c is = let clash : false ≡ true = is in absurd (cc)
+IsMade-from_in k test first (suc count) c is = elim (cases_Bool (test first)) [
+  | inl on ↦
+      let parts : (k first == c || is_in (map k (filter test (range_with_len (first + 1) count))) c) ≡ true =
+      rw on at is in
+      elim (or_cases _ _ parts) [
+        | inl here ↦ record {
+          place = first;
+          from = omega arith;
+          to = omega arith;
+          passes = on;
+          stands = eqb-true (k first) c here;
+        }
+        | inr later ↦ wider k test first count c (IsMade-from_in k test (first + 1) count c later)
+      ]
+  | inr off ↦
+      let later : is_in (map k (filter test (range_with_len (first + 1) count))) c ≡ true = rw off at is in
+      wider k test first count c (IsMade-from_in k test (first + 1) count c later)
+]
+  where
+    wider : (k : ℕ → ℕ) (test : ℕ → Bool) (first count c : ℕ) → IsMade k test (first + 1) count c
+        → IsMade k test first (suc count) c
+    wider k test first count c made = record {
+      place = made.place;
+      from = omega (arith, made.from);
+      to = omega (arith, made.to);
+      passes = made.passes;
+      stands = made.stands;
+    }
+
+-- and each such number makes one
+pub in-from_made : (k : ℕ → ℕ) (test : ℕ → Bool) (first count place : ℕ) → first ≤ place → place < first + count
+    → test place ≡ true → is_in (map k (filter test (range_with_len first count))) (k place) ≡ true
+in-from_made k test first zero place from to passes = absurd (omega arith)
+in-from_made k test first (suc count) place from to passes = elim (cases_order first place) [
+  | inl same ↦
+      let on : test first ≡ true = ap test same ∙ passes in
+      let begun = is_in-first (k first) (map k (filter test (range_with_len (first + 1) count))) in
+      let here : is_in (map k (filter test (range_with_len first (suc count)))) (k first) ≡ true = rw on begun in
+      ap (λ p. is_in (map k (filter test (range_with_len first (suc count)))) (k p)) (sym same) ∙ here
+  | inr apart ↦ elim apart [
+    | inl later ↦
+        let rest = in-from_made k test (first + 1) count place (omega arith) (omega arith) passes in
+        elim (cases_Bool (test first)) [
+          | inl on ↦ rw on (or_right (k first == k place) rest)
+          | inr off ↦ rw off rest
+        ]
+    | inr earlier ↦ absurd (omega arith)
+  ]
+]
+  where
+    or_right : (b : Bool) {r : Bool} → r ≡ true → (b || r) ≡ true
+    or_right true e = refl
+    or_right false e = e
+
+-- tests that pass together are one
+pub same_tests : (a b : Bool) → (a ≡ true → b ≡ true) → (b ≡ true → a ≡ true) → a ≡ b
+same_tests true b to from = sym (to refl)
+same_tests false true to from = from refl
+same_tests false false to from = refl
+
+-- where none was found, none passes
+pub none_passes : (test : ℕ → Bool) (first count : ℕ) → find test (range_with_len first count) ≡ None
+    → (p : ℕ) → first ≤ p → p < first + count → test p ≡ false
+none_passes test first zero none p from to = absurd (omega arith)
+none_passes test first (suc count) none p from to = elim (cases_Bool (test first)) [
+  | inl on ↦ let found : find test (range_with_len first (suc count)) ≡ Some first = rw on refl in absurd (cc)
+  | inr off ↦
+      let later : find test (range_with_len (first + 1) count) ≡ None = rw off at none in
+      elim (cases_order p first) [
+        | inl same ↦ ap test same ∙ off
+        | inr other ↦ none_passes test (first + 1) count later p (omega arith) (omega arith)
+      ]
+]
