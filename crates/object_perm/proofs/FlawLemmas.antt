@@ -53,7 +53,7 @@ stood-earlier values i j earlier within same =
     list_any_at (λ value. eqb value (get_or values j 0)) (take j values) i 0 long (eq-eqb _ _ (there ∙ same))
 
 -- where none was found, no number of the range passes
-find-all : (test : ℕ → Bool) (from n : ℕ) → find test (range_with_len from n) ≡ None → (j : ℕ) → from ≤ j →
+pub find-all : (test : ℕ → Bool) (from n : ℕ) → find test (range_with_len from n) ≡ None → (j : ℕ) → from ≤ j →
     j < from + n → test j ≡ false
 find-all test from zero none j low high = absurd (omega arith)
 find-all test from (suc n) none j low high = elim (cases_Bool (test from)) [

@@ -1,5 +1,6 @@
 pub mod FlawLemmas
 pub mod InverseLemmas
+pub mod OntoLemmas
 pub mod WalkLemmas
 mod CycleWalk
 mod SeenLemmas

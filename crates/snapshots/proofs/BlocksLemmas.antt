@@ -1,5 +1,5 @@
 -- The blocks of a snapshot: one at each place in leaf order, and those of a leaf are its objects', by object.
-use Rattle.std.proofs.Common.{◌≡◌, ℕ, zero, suc, ◌+◌, ◌-◌, ◌<◌, Bool, true, false, leb, cond, List, length}
+use Rattle.std.proofs.Common.{◌≡◌, ℕ, zero, suc, ◌+◌, ◌-◌, ◌<◌, Bool, true, false, leb, cond, List, [], ◌∷◌, ◌++◌, length}
 use Rattle.std.proofs.Common.{get_or, map, filter, inl, inr, refl, sym, ap, ◌∙◌, arith}
 use Rattle.std.specs.List.{range_with_len}
 use Rattle.std.specs.Prelude.{◌==◌, ◌&&◌, not, None, Some, slice_index, slice_index_or}
@@ -11,17 +11,19 @@ use Rattle.bit_rank.specs.Bits.{IsSelected, rank_of, select_of}
 use Rattle.bit_rank.proofs.RankLemmas.{lt-from_rank_of, rank_of-le, rank_of-step, IsSelected-select_of}
 use Rattle.bit_rank.proofs.RankLemmas.{select_of-from_IsSelected}
 use Rattle.object_perm.specs.Permutation.{PermutesPlaces, inverse_of}
-use Rattle.object_perm.proofs.FlawLemmas.{permutes-from_none}
+use Rattle.object_perm.proofs.FlawLemmas.{find-all, permutes-from_none}
 use Rattle.object_perm.proofs.InverseLemmas.{at-inverse_of, inverse_of-at}
+use Rattle.object_perm.proofs.OntoLemmas.{inverse_of-within}
 use Rattle.k2_tree.specs.TreeBits.{is_in, Rises}
 use Rattle.k2_tree.proofs.RisingLemmas.{same_from_rising}
+use Rattle.track_types.specs.declared.cell.Cell.{Cell}
 use Rattle.snapshots.specs.View.{SnapshotView, block_at, block_of, block_with, blocks_in, is_at, leaf_at, objects_at}
 use Rattle.snapshots.specs.View.{place_in, places_from, present_block, rank_in}
+use Rattle.snapshots.specs.Objects.{blocks_of, objects_of}
 use Rattle.snapshots.specs.Flaws.{is_disordered, order_flaw, IsSnapshot}
 use Rattle.snapshots.proofs.FlawlessLemmas.{IsFlawless-from_none}
 use Rattle.snapshots.proofs.BlockLemmas.{block_found, rank_within}
-use Rattle.snapshots.proofs.OntoLemmas.{inverse_of-within}
-use Rattle.snapshots.proofs.ChosenLemmas.{in-from_made, made_same, none_passes, same_tests, IsMade-from_in, Rises-made}
+use Rattle.snapshots.proofs.ChosenLemmas.{in-from_made, made_same, same_tests, IsMade-from_in, Rises-made}
 
 -- the object at a place in leaf order
 abbrev pub index_at : SnapshotView → ℕ → ℕ
@@ -93,7 +95,7 @@ next_greater lasts perm place none long within same =
     let other : get_or lasts place false ≡ false = by_bit (get_or lasts place false) refl in
     let before : place + 1 - 1 ≡ place = omega arith in
     let fails =
-    none_passes (is_disordered lasts perm) 1 (length perm - 1) none (place + 1) (omega arith) (omega arith) in
+    find-all (is_disordered lasts perm) 1 (length perm - 1) none (place + 1) (omega arith) (omega arith) in
     let fails' : (not (get_or lasts place false) && leb (get_or perm (place + 1) 0) (get_or perm place 0)) ≡ false =
     rw before at fails in
     leb-false (get_or perm (place + 1) 0) (get_or perm place 0) (second (get_or lasts place false) _ other fails')
@@ -216,3 +218,11 @@ blocks_in-by_object view leaf is =
     made_same (block_at view) (present_block view) (index_at view) (λ place. leaf_at view place == leaf) 0
     (length view.parts.perm) (λ place within. block_back view place laid (omega arith))
     ∙ ap (map (present_block view)) (indices_in-by_object view leaf is)
+
+-- so are the blocks of leaves, leaf by leaf
+pub blocks_of-objects : (view : SnapshotView) (leaves : List (ℕ × Cell)) → IsSnapshot view
+    → blocks_of view leaves ≡ objects_of view leaves
+blocks_of-objects view [] is = refl
+blocks_of-objects view (leaf ∷ leaves) is =
+    ap (λ blocks. blocks ++ blocks_of view leaves) (blocks_in-by_object view leaf.0 is)
+    ∙ ap (λ blocks. objects_at view leaf.0 ++ blocks) (blocks_of-objects view leaves is)

@@ -1,8 +1,8 @@
 -- Numbers of a range that pass a test, and what is made of each.
 use Rattle.std.proofs.Common.{◌≡◌, ℕ, zero, suc, ◌+◌, ◌<◌, ◌≤◌, Bool, true, false, ◌∷◌, map, filter, refl, sym}
 use Rattle.std.proofs.Common.{ap, ◌∙◌, arith, inl, inr}
-use Rattle.std.specs.List.{find, range_with_len}
-use Rattle.std.specs.Prelude.{◌==◌, ◌||◌, None, Some}
+use Rattle.std.specs.List.{range_with_len}
+use Rattle.std.specs.Prelude.{◌==◌, ◌||◌}
 use Rattle.std.proofs.lemmas.Bool.{cases_Bool, cases_order, eqb-true, or_cases}
 use Rattle.k2_tree.specs.TreeBits.{is_in, Rises}
 use Rattle.k2_tree.proofs.RisingLemmas.{is_in-first}
@@ -109,17 +109,3 @@ pub same_tests : (a b : Bool) → (a ≡ true → b ≡ true) → (b ≡ true �
 same_tests true b to from = sym (to refl)
 same_tests false true to from = from refl
 same_tests false false to from = refl
-
--- where none was found, none passes
-pub none_passes : (test : ℕ → Bool) (first count : ℕ) → find test (range_with_len first count) ≡ None
-    → (p : ℕ) → first ≤ p → p < first + count → test p ≡ false
-none_passes test first zero none p from to = absurd (omega arith)
-none_passes test first (suc count) none p from to = elim (cases_Bool (test first)) [
-  | inl on ↦ let found : find test (range_with_len first (suc count)) ≡ Some first = rw on refl in absurd (cc)
-  | inr off ↦
-      let later : find test (range_with_len (first + 1) count) ≡ None = rw off at none in
-      elim (cases_order p first) [
-        | inl same ↦ ap test same ∙ off
-        | inr other ↦ none_passes test (first + 1) count later p (omega arith) (omega arith)
-      ]
-]

@@ -11,7 +11,6 @@ mod BlockLemmas
 mod PlaceLemmas
 mod PlacesLemmas
 mod ObjectsLemmas
-mod OntoLemmas
 mod ChosenLemmas
 mod WordLemmas
 mod Examples

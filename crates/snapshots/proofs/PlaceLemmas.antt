@@ -3,8 +3,7 @@ use Rattle.std.proofs.Common.{◌≡◌, ℕ, zero, suc, ◌+◌, ◌-◌, ◌<�
 use Rattle.std.proofs.Common.{get_or, filter, refl, sym, ap, ◌∙◌, arith, cond, inl, inr}
 use Rattle.std.specs.List.{range_with_len}
 use Rattle.std.specs.Prelude.{◌==◌}
-use Rattle.std.proofs.lemmas.Bool.{cases_lt, eq-eqb}
-use Rattle.std.proofs.lemmas.Bool.Decides.{eqb_tells}
+use Rattle.std.proofs.lemmas.Bool.{cases_lt, eq-eqb, ne_eqb}
 use Rattle.std.proofs.lemmas.Option.{get_or_from_slice_get, slice_get_within}
 use Rattle.packed_bits.specs.Bits.{ones_of}
 use Rattle.bit_rank.specs.Bits.{rank_of, IsSelected}
@@ -13,9 +12,6 @@ use Rattle.bit_rank.proofs.RankLemmas.{rank_of-step, rank_of-le, rank_of-zero, l
 -- the places of a leaf among so many, from one on
 abbrev kept_from : List Bool → ℕ → ℕ → ℕ → List ℕ
 kept_from lasts leaf first count = filter (λ place. rank_of lasts place == leaf) (range_with_len first count)
-
-differ : (a b : ℕ) → (a ≡ b → ⊥) → (a == b) ≡ false
-differ a b apart = elim (eqb_tells a b) [ inl same ↦ absurd (apart same.1) | inr other ↦ other.0 ]
 
 -- places of earlier leaves are passed over
 skipped : (lasts : List Bool) (leaf first k count : ℕ) → ((p : ℕ) → first ≤ p → p < first + k → rank_of lasts p < leaf)
@@ -27,7 +23,7 @@ skipped lasts leaf first zero count early =
 skipped lasts leaf first (suc k) count early =
     let more : suc k + count ≡ suc (k + count) = omega arith in
     let low : rank_of lasts first < leaf = early first (omega arith) (omega arith) in
-    let off : (rank_of lasts first == leaf) ≡ false = differ (rank_of lasts first) leaf (λ e. omega arith) in
+    let off : (rank_of lasts first == leaf) ≡ false = ne_eqb (rank_of lasts first) leaf (λ e. omega arith) in
     let next : first + 1 + k ≡ first + suc k = omega arith in
     let rest = skipped lasts leaf (first + 1) k count (λ p from to. early p (omega arith) (omega arith)) in
     ap (kept_from lasts leaf first) more ∙ (rw off (rest ∙ ap (λ f. kept_from lasts leaf f count) next))
@@ -38,7 +34,7 @@ none_behind : (lasts : List Bool) (leaf first count : ℕ) → ((p : ℕ) → fi
 none_behind lasts leaf first zero late = refl
 none_behind lasts leaf first (suc count) late =
     let high : leaf < rank_of lasts first = late first (omega arith) in
-    let off : (rank_of lasts first == leaf) ≡ false = differ (rank_of lasts first) leaf (λ e. omega arith) in
+    let off : (rank_of lasts first == leaf) ≡ false = ne_eqb (rank_of lasts first) leaf (λ e. omega arith) in
     rw off (none_behind lasts leaf (first + 1) count (λ p from. late p (omega arith)))
 
 -- the place behind the last one of the leaf before

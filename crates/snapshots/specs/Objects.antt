@@ -4,7 +4,7 @@ use Rattle.std.specs.List.{flat_map, sum_by}
 use Rattle.track_types.specs.declared.cell.Cell.{Cell}
 use Rattle.track_types.specs.declared.cell_box.CellBox.{CellBox}
 use Rattle.k2_tree.specs.Pruned.{pruned_budget, pruned_left}
-use Rattle.snapshots.specs.View.{SnapshotView, blocks_in}
+use Rattle.snapshots.specs.View.{SnapshotView, blocks_in, objects_at}
 use Rattle.snapshots.specs.Members.{MembersView}
 use Rattle.snapshots.specs.declared.anchored.Anchored.{Anchored}
 use Rattle.snapshots.specs.declared.objects_in.ObjectsIn.{ObjectsIn}
@@ -12,6 +12,10 @@ use Rattle.snapshots.specs.declared.objects_in.ObjectsIn.{ObjectsIn}
 -- the blocks of leaves, leaf by leaf
 abbrev pub blocks_of : SnapshotView → List (ℕ × Cell) → List Anchored
 blocks_of view leaves = flat_map (λ leaf. blocks_in view leaf.0) leaves
+
+-- the same, each leaf's found by going through all objects in order
+abbrev pub objects_of : SnapshotView → List (ℕ × Cell) → List Anchored
+objects_of view leaves = flat_map (λ leaf. objects_at view leaf.0) leaves
 
 -- the reads by which the blocks of leaves are found
 abbrev pub reads_of : SnapshotView → List (ℕ × Cell) → ℕ

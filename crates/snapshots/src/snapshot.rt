@@ -4,7 +4,7 @@ ghost use Rattle.packed_bits.specs.Bits.{ones_of};
 ghost use Rattle.snapshots.specs.View.{block_at, block_of, blocks_in, leaf_at, tree_in, view_with};
 ghost use Rattle.snapshots.specs.Flaws.{flaw_of, IsFaultFor, IsShaped, IsSnapshot};
 ghost use Rattle.snapshots.specs.Members.{blocks_from, members_left, IsAt};
-ghost use Rattle.snapshots.specs.Objects.{blocks_of, objects_budget, objects_left};
+ghost use Rattle.snapshots.specs.Objects.{blocks_of, objects_budget, objects_left, objects_of};
 ghost use Rattle.k2_tree.specs.Pruning.{kept_leaves, square_count};
 ghost use Rattle.snapshots.specs.declared.next.Next.TheVariants.{End, Place};
 
@@ -162,6 +162,8 @@ impl Snapshot {
     pub fn objects_in<F: Keep>(&self, keep: F) -> ObjectsIn<'_, F>
         ensures left { objects_left F.keeps result
             ≡ blocks_of self.now (kept_leaves (F.keeps keep) (tree_in self.now)) }
+        ensures objects { objects_left F.keeps result
+            ≡ objects_of self.now (kept_leaves (F.keeps keep) (tree_in self.now)) }
         ensures budget { objects_budget F.keeps result
             ≤ 52 * square_count (F.keeps keep) (tree_in self.now)
             + 43 * length (objects_left F.keeps result) }
