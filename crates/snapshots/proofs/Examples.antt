@@ -1,15 +1,17 @@
--- The definitions, run on a period of two objects.
-use Rattle.std.proofs.Common.{◌≡◌, ℕ, Bool, true, false, pos, List, [], ◌∷◌, refl, None, Some}
-use Rattle.track_types.specs.declared.flaw.Section.TheVariants.{Offsets, Lasts}
-use Rattle.track_types.specs.declared.flaw.Kind.TheVariants.{Offset, Cells}
+-- The definitions, run on periods of two objects.
+use Rattle.std.proofs.Common.{◌≡◌, ℕ, Bool, true, false, pos, List, [], ◌∷◌, length, take, refl, None, Some}
+use Rattle.track_types.specs.declared.flaw.Section.TheVariants.{Offsets, Tree, Lasts, Perm}
+use Rattle.track_types.specs.declared.flaw.Kind.TheVariants.{Offset, Cells, CellOrder}
+use Rattle.track_types.specs.declared.flaw.Kind.TheVariants as kind
 use Rattle.k2_tree.specs.Morton.{row_of, column_of, cell_of}
 use Rattle.k2_tree.specs.Tree.{picked, codes_below, codes_in}
 use Rattle.k2_tree.specs.TreeBits.{longer}
 use Rattle.k2_tree.specs.Flaws.{group_flaw, level_flaw, tree_flaw}
 use Rattle.packed_bits.specs.Bits.{ones_of}
 use Rattle.bit_rank.specs.Bits.{rank_of, select_of}
-use Rattle.snapshots.specs.View.{SnapshotView, block_of}
-use Rattle.snapshots.specs.Flaws.{flaw_of, flaw_in}
+use Rattle.snapshots.specs.View.{SnapshotView, block_at, block_of, blocks_in}
+use Rattle.snapshots.specs.Flaws.{bits_flaw, flaw_of, flaw_in}
+use Rattle.snapshots.specs.declared.anchored.Anchored.{Anchored}
 
 abbrev I : Bool
 I = true
@@ -17,9 +19,9 @@ I = true
 abbrev O : Bool
 O = false
 
--- two objects at (0, 0) and (1, 1), the second one from the fourth instant on
-abbrev two : List ℕ → List Bool → SnapshotView
-two offsets lasts = record {
+-- two objects, and anchors in cells of a grid of side 4
+abbrev with : List Bool → List ℕ → List Bool → List Bool → List ℕ → SnapshotView
+with present offsets tree lasts perm = record {
   frame = record {
     first = pos 0;
     span = 4;
@@ -33,14 +35,35 @@ two offsets lasts = record {
   objects = 2;
   start = 0;
   parts = record {
-    present = I ∷ I ∷ [];
+    present = present;
     offsets = offsets;
-    tree = I ∷ O ∷ O ∷ O ∷ I ∷ O ∷ O ∷ I ∷ [];
+    tree = tree;
     lasts = lasts;
-    perm = 0 ∷ 1 ∷ [];
-    lengths = 3 ∷ 0 ∷ [];
+    perm = perm;
+    lengths = take (length perm) (3 ∷ 0 ∷ []);
   };
 }
+
+-- the bits of (0, 0) and (1, 1)
+abbrev two_cells : List Bool
+two_cells = I ∷ O ∷ O ∷ O ∷ I ∷ O ∷ O ∷ I ∷ []
+
+-- the bits of (0, 0) alone
+abbrev one_cell : List Bool
+one_cell = I ∷ O ∷ O ∷ O ∷ I ∷ O ∷ O ∷ O ∷ []
+
+-- two objects at (0, 0) and (1, 1), the second one from the fourth instant on
+abbrev two : List ℕ → List Bool → SnapshotView
+two offsets lasts = with (I ∷ I ∷ []) offsets two_cells lasts (0 ∷ 1 ∷ [])
+
+-- both at (0, 0)
+abbrev both : List ℕ → SnapshotView
+both perm = with (I ∷ I ∷ []) (0 ∷ 3 ∷ []) one_cell (O ∷ I ∷ []) perm
+
+-- the block of an object at (0, 0)
+abbrev block : ℕ → ℕ → ℕ → ℕ → Anchored
+block index offset from len =
+    record { index = index; offset = offset; cell = record { x = pos 0; y = pos 0 }; from = from; len = len }
 
 the_second_object_has_its_block : block_of (two (0 ∷ 3 ∷ []) (I ∷ I ∷ [])) 1
     ≡ Some (record { index = 1; offset = 3; cell = record { x = pos 1; y = pos 1 }; from = 3; len = 0 })
@@ -60,3 +83,36 @@ a_last_object_that_is_none_is_flawed : flaw_of (two (0 ∷ 3 ∷ []) (I ∷ O �
     ≡ Some (flaw_in 0 Lasts Cells 2)
 unfolding row_of column_of cell_of picked codes_below codes_in longer rank_of ones_of group_flaw level_flaw tree_flaw
 a_last_object_that_is_none_is_flawed = refl
+
+two_objects_in_one_cell_come_by_object : blocks_in (both (0 ∷ 1 ∷ [])) 0 ≡ block 0 0 0 3 ∷ block 1 3 3 0 ∷ []
+unfolding row_of column_of cell_of picked codes_below codes_in longer rank_of select_of ones_of
+two_objects_in_one_cell_come_by_object = refl
+
+the_second_place_has_the_second_object : block_at (both (0 ∷ 1 ∷ [])) 1 ≡ block 1 3 3 0
+unfolding row_of column_of cell_of picked codes_below codes_in longer rank_of select_of ones_of
+the_second_place_has_the_second_object = refl
+
+objects_of_one_cell_have_no_flaw : flaw_of (both (0 ∷ 1 ∷ [])) ≡ None
+unfolding row_of column_of cell_of picked codes_below codes_in longer rank_of ones_of group_flaw level_flaw tree_flaw
+objects_of_one_cell_have_no_flaw = refl
+
+objects_that_do_not_ascend_are_flawed : flaw_of (both (1 ∷ 0 ∷ [])) ≡ Some (flaw_in 0 Perm CellOrder 1)
+unfolding row_of column_of cell_of picked codes_below codes_in longer rank_of ones_of group_flaw level_flaw tree_flaw
+objects_that_do_not_ascend_are_flawed = refl
+
+an_object_that_stands_twice_is_flawed : flaw_of (both (0 ∷ 0 ∷ [])) ≡ Some (flaw_in 0 Perm kind.Perm 1)
+unfolding row_of column_of cell_of picked codes_below codes_in longer rank_of ones_of group_flaw level_flaw tree_flaw
+an_object_that_stands_twice_is_flawed = refl
+
+an_empty_group_is_flawed : bits_flaw 0 2 (I ∷ O ∷ O ∷ O ∷ O ∷ O ∷ O ∷ O ∷ []) ≡ Some (flaw_in 0 Tree kind.Tree 4)
+unfolding ones_of group_flaw level_flaw tree_flaw
+an_empty_group_is_flawed = refl
+
+cells_without_objects_are_flawed : flaw_of (with (O ∷ O ∷ []) [] two_cells [] []) ≡ Some (flaw_in 0 Lasts Cells 0)
+unfolding row_of column_of cell_of picked codes_below codes_in longer rank_of ones_of group_flaw level_flaw tree_flaw
+cells_without_objects_are_flawed = refl
+
+objects_without_cells_are_flawed : flaw_of (with (I ∷ I ∷ []) (0 ∷ 1 ∷ []) [] (I ∷ I ∷ []) (0 ∷ 1 ∷ []))
+    ≡ Some (flaw_in 0 Lasts Cells 2)
+unfolding row_of column_of cell_of picked codes_below codes_in longer rank_of ones_of group_flaw level_flaw tree_flaw
+objects_without_cells_are_flawed = refl

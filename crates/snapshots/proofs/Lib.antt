@@ -12,5 +12,4 @@ mod PlaceLemmas
 mod PlacesLemmas
 mod ObjectsLemmas
 mod ChosenLemmas
-mod WordLemmas
 mod Examples

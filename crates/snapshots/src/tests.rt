@@ -1,5 +1,5 @@
-ghost use Rattle.std.specs.Prelude.{◌≡◌, ◌≤◌, [], ◌∷◌, length, IfOk};
-ghost use Rattle.packed_bits.specs.Bits.{ones_of};
+ghost use Rattle.std.specs.Prelude.{◌≡◌, ◌≤◌, length, sum, IfOk};
+ghost use Rattle.packed_bits.specs.Bits.{number_of, ones_of, packed};
 
 use super::{Anchored, SnapFault, Snapshot};
 use std::alloc::Global;
@@ -8,6 +8,7 @@ use track_types::{BitList, Cell, Flaw, Frame, Kind, List32, Memory, PeriodParts,
 
 mod finding;
 mod touching;
+mod turned;
 mod walks;
 
 const O: bool = false;
@@ -23,86 +24,107 @@ const ONE_CELL: [bool; 8] = [I, O, O, O, I, O, O, O];
 // Those of a square in which no cell is, which are no tree's.
 const NO_CELL: [bool; 8] = [I, O, O, O, O, O, O, O];
 
-// A grid of side 4, of which four instants are one period.
+// A grid of side 4 far from (0, 0), and instants of which the second period has two.
 const FRAME: Frame = Frame {
     first: 0,
-    span: 4,
+    span: 6,
     period: 4,
     height: 2,
-    base: Cell { x: 0, y: 0 },
+    base: Cell { x: 10, y: -20 },
     cell: 1,
     tick: 1,
 };
 
-// The block of the first present object, which is at (0, 0).
+// The period of all tests, and where its logs begin.
+const NUMBER: u32 = 1;
+
+const START: u32 = 5;
+
+// The block of the first present object, which is at the base.
 const FIRST: Anchored = Anchored {
     index: 0,
     offset: 0,
-    cell: Cell { x: 0, y: 0 },
-    from: 0,
+    cell: Cell { x: 10, y: -20 },
+    from: 5,
     len: 3,
 };
 
-// That of the second one, at (1, 1) from the fourth instant on.
+// That of the second one, at (1, 1) from the base, from the second instant on.
 const SECOND: Anchored = Anchored {
     index: 1,
-    offset: 3,
-    cell: Cell { x: 1, y: 1 },
-    from: 3,
+    offset: 1,
+    cell: Cell { x: 11, y: -19 },
+    from: 8,
     len: 0,
 };
 
+// The number that the bits spell, the first one lowest.
+#[cycle(word)]
+fn word_of(bits: &[bool]) -> u64
+    requires { length bits.now ≤ 32 }
+    ensures { result ≡ number_of bits.now }
+{
+    match bits.split_first() {
+        Some((bit, rest)) => 2 * word_of(rest) + u64::from(*bit),
+        None => 0,
+    }
+}
+
+// The words that hold the bits.
+fn words_of(alloc: Global, bits: &[bool]) -> Result<Vec<u64>, Memory>
+    requires { length bits.now ≤ 32 }
+    ensures { IfOk result (λ words. words.items ≡ packed bits.now) }
+{
+    if bits.is_empty() {
+        return Ok(Vec::new(alloc));
+    }
+    Ok(vec![in alloc; word_of(bits)]?)
+}
+
 // The bits as a list.
 fn bits_of(alloc: Global, bits: &[bool]) -> Result<BitList, Memory>
-    requires some { 1 ≤ length bits.now }
-    requires few { length bits.now ≤ 32 }
+    requires { length bits.now ≤ 32 }
     ensures { IfOk result (λ list. list ≡ bits.now) }
 {
-    let mut word = 0;
-    for i in (0..bits.len()).rev() {
-        word = 2 * word + u64::from(bits[i]);
-    }
-    Ok(BitList::new(vec![in alloc; word]?, bits.len() as u32))
+    Ok(BitList::new(words_of(alloc, bits)?, bits.len() as u32))
 }
 
 // The numbers as a list.
-fn numbers_of(alloc: Global, numbers: [u32; 2]) -> Result<List32, Memory>
-    ensures { IfOk result (λ list. list ≡ numbers) }
+fn numbers_of(alloc: Global, numbers: &[u32]) -> Result<List32, Memory>
+    ensures { IfOk result (λ list. list ≡ numbers.now) }
 {
-    Ok(List32::new(numbers.as_slice().to_vec(alloc)?))
+    Ok(List32::new(numbers.to_vec(alloc)?))
 }
 
-// The parts of a period with two present objects, whose logs have three symbols and none.
+// The parts of a period.
 fn parts_of(
     alloc: Global,
     present: &[bool],
-    offsets: [u32; 2],
-    tree: [bool; 8],
-    lasts: [bool; 2],
-    perm: [u32; 2],
+    offsets: &[u32],
+    tree: &[bool],
+    lasts: &[bool],
+    perm: &[u32],
+    lengths: &[u32],
 ) -> Result<PeriodParts, Memory>
-    requires some { 1 ≤ length present.now }
-    requires few { length present.now ≤ 32 }
-    ensures parts { IfOk result (λ parts. parts ≡ record {
+    requires present { length present.now ≤ 32 }
+    requires tree { length tree.now ≤ 32 }
+    requires lasts { length lasts.now ≤ 32 }
+    ensures { IfOk result (λ parts. parts ≡ record {
       present = present.now;
-      offsets = offsets;
-      tree = tree;
-      lasts = lasts;
-      perm = perm;
-      lengths = 3 ∷ 0 ∷ [];
+      offsets = offsets.now;
+      tree = tree.now;
+      lasts = lasts.now;
+      perm = perm.now;
+      lengths = lengths.now;
     }) }
-    ensures offsets { length offsets ≡ 2 }
-    ensures tree { length tree ≡ 8 }
-    ensures lasts { length lasts ≡ 2 }
-    ensures perm { length perm ≡ 2 }
 {
     Ok(PeriodParts {
         present: bits_of(alloc, present)?,
         offsets: numbers_of(alloc, offsets)?,
-        tree: bits_of(alloc, tree.as_slice())?,
-        lasts: bits_of(alloc, lasts.as_slice())?,
+        tree: bits_of(alloc, tree)?,
+        lasts: bits_of(alloc, lasts)?,
         perm: numbers_of(alloc, perm)?,
-        lengths: numbers_of(alloc, [3, 0])?,
+        lengths: numbers_of(alloc, lengths)?,
     })
 }
 
@@ -110,25 +132,48 @@ fn parts_of(
 fn checked(
     alloc: Global,
     present: &[bool],
-    offsets: [u32; 2],
-    tree: [bool; 8],
-    lasts: [bool; 2],
-    perm: [u32; 2],
+    offsets: &[u32],
+    tree: &[bool],
+    lasts: &[bool],
+    perm: &[u32],
+    lengths: &[u32],
 ) -> Result<Snapshot, SnapFault>
     requires some { 1 ≤ length present.now }
     requires few { length present.now ≤ 32 }
-    requires two { ones_of present.now ≡ 2 }
+    requires tree { length tree.now ≤ 32 }
+    requires count { ones_of present.now ≡ length offsets.now }
+    requires lasts { length lasts.now ≡ length offsets.now }
+    requires perm { length perm.now ≡ length offsets.now }
+    requires lengths { length lengths.now ≡ length offsets.now }
+    requires total { sum lengths.now ≤ 3 }
     ensures { IfOk result (λ snapshot. snapshot.objects ≡ length present.now) }
 {
-    let parts = parts_of(alloc, present, offsets, tree, lasts, perm)?;
-    Snapshot::check(alloc, &FRAME, 0, present.len() as u32, 0, parts)
+    let parts = parts_of(alloc, present, offsets, tree, lasts, perm, lengths)?;
+    Snapshot::check(alloc, &FRAME, NUMBER, present.len() as u32, START, parts)
 }
 
 // The snapshot of two objects, both present, with these cells.
 fn two_objects(alloc: Global, tree: [bool; 8], lasts: [bool; 2]) -> Result<Snapshot, SnapFault>
     ensures { IfOk result (λ snapshot. snapshot.objects ≡ 2) }
 {
-    checked(alloc, [I, I].as_slice(), [0, 3], tree, lasts, [0, 1])
+    checked(
+        alloc,
+        [I, I].as_slice(),
+        [0, 1].as_slice(),
+        tree.as_slice(),
+        lasts.as_slice(),
+        [0, 1].as_slice(),
+        [3, 0].as_slice(),
+    )
+}
+
+// The flaw, where there is one.
+fn flaw_in(checked: Result<Snapshot, SnapFault>) -> Result<Option<Flaw>, SnapFault> {
+    match checked {
+        Ok(_snapshot) => Ok(None),
+        Err(SnapFault::Flaw(flaw)) => Ok(Some(flaw)),
+        Err(SnapFault::Memory) => Err(SnapFault::Memory),
+    }
 }
 
 // The first flaw of such parts of two objects, if they have one.
@@ -139,18 +184,39 @@ fn flaw_of(
     lasts: [bool; 2],
     perm: [u32; 2],
 ) -> Result<Option<Flaw>, SnapFault> {
-    match checked(alloc, [I, I].as_slice(), offsets, tree, lasts, perm) {
-        Ok(_snapshot) => Ok(None),
-        Err(SnapFault::Flaw(flaw)) => Ok(Some(flaw)),
-        Err(SnapFault::Memory) => Err(SnapFault::Memory),
-    }
+    flaw_in(checked(
+        alloc,
+        [I, I].as_slice(),
+        offsets.as_slice(),
+        tree.as_slice(),
+        lasts.as_slice(),
+        perm.as_slice(),
+        [3, 0].as_slice(),
+    ))
 }
 
-// A flaw of the first period.
+// The first flaw of parts of two absent objects with a tree.
+fn flaw_without_objects(alloc: Global, tree: &[bool]) -> Result<Option<Flaw>, SnapFault>
+    requires { length tree.now ≤ 32 }
+{
+    let bits = [].as_slice();
+    let numbers = [].as_slice();
+    let present = [O, O].as_slice();
+    flaw_in(checked(alloc, present, numbers, tree, bits, numbers, numbers))
+}
+
+// The first flaw of parts of two present objects without a tree.
+fn flaw_without_tree(alloc: Global) -> Result<Option<Flaw>, SnapFault> {
+    let both = [I, I].as_slice();
+    let numbers = [0, 1].as_slice();
+    flaw_in(checked(alloc, both, numbers, [].as_slice(), both, numbers, numbers))
+}
+
+// A flaw of the period.
 fn at(section: Section, index: u64, kind: Kind) -> Option<Flaw> {
     Some(Flaw {
         section,
-        period: 0,
+        period: NUMBER,
         index,
         kind,
     })
@@ -158,7 +224,7 @@ fn at(section: Section, index: u64, kind: Kind) -> Option<Flaw> {
 
 #[test]
 fn parts_without_a_flaw_are_taken(rt: HostRuntime) -> Result<(), Fail> {
-    let flaw = flaw_of(rt.alloc(), [0, 3], TWO_CELLS, [I, I], [0, 1])?;
+    let flaw = flaw_of(rt.alloc(), [0, 1], TWO_CELLS, [I, I], [0, 1])?;
     assert_eq!(rt; flaw, None);
     Ok(())
 }
@@ -172,14 +238,30 @@ fn parts_are_refused_at_their_first_flaw(rt: HostRuntime) -> Result<(), Fail> {
     let disorder = at(Section::Perm, 1, Kind::CellOrder);
     let first_of_all = at(Section::Offsets, 0, Kind::Offset);
     for (offsets, tree, lasts, perm, flaw) in [
-        ([0, 4], TWO_CELLS, [I, I], [0, 1], late),
-        ([0, 3], NO_CELL, [I, I], [0, 1], no_cell),
-        ([0, 3], TWO_CELLS, [I, O], [0, 1], unended),
-        ([0, 3], TWO_CELLS, [I, I], [0, 0], twice),
-        ([0, 3], ONE_CELL, [O, I], [1, 0], disorder),
-        ([4, 4], ONE_CELL, [I, I], [1, 1], first_of_all),
+        ([0, 2], TWO_CELLS, [I, I], [0, 1], late),
+        ([0, 1], NO_CELL, [I, I], [0, 1], no_cell),
+        ([0, 1], TWO_CELLS, [I, O], [0, 1], unended),
+        ([0, 1], TWO_CELLS, [I, I], [0, 0], twice),
+        ([0, 1], ONE_CELL, [O, I], [1, 0], disorder),
+        ([0, 1], NO_CELL, [I, O], [0, 1], no_cell),
+        ([0, 1], TWO_CELLS, [I, O], [0, 0], unended),
+        ([0, 1], ONE_CELL, [O, I], [0, 0], twice),
+        ([2, 2], ONE_CELL, [I, I], [1, 1], first_of_all),
     ] {
         assert_eq!(rt; flaw_of(rt.alloc(), offsets, tree, lasts, perm)?, flaw);
     }
+    Ok(())
+}
+
+#[test]
+fn objects_and_cells_want_each_other(rt: HostRuntime) -> Result<(), Fail> {
+    let no_object = at(Section::Lasts, 0, Kind::Cells);
+    let no_cell = at(Section::Lasts, 2, Kind::Cells);
+    assert_eq!(rt;
+        flaw_without_objects(rt.alloc(), TWO_CELLS.as_slice())?,
+        no_object
+    );
+    assert_eq!(rt; flaw_without_objects(rt.alloc(), [].as_slice())?, None);
+    assert_eq!(rt; flaw_without_tree(rt.alloc())?, no_cell);
     Ok(())
 }

@@ -1,4 +1,4 @@
-ghost use Rattle.std.specs.Prelude.{◌≡◌, ◌<◌, IfOk};
+ghost use Rattle.std.specs.Prelude.{◌≡◌, ◌<◌, ◌≤◌, length, IfOk};
 
 use super::{FIRST, I, O, SECOND, TWO_CELLS, checked, two_objects};
 use crate::{Anchored, SnapFault, Snapshot};
@@ -9,6 +9,25 @@ use std::sync::ledger::{Blank, Ledger};
 use std::test::Fail;
 use step_count::Steps;
 
+// The objects have these blocks, asked from the last one on.
+pub fn found_are<L: Ledger>(
+    rt: &impl Abort,
+    snapshot: &Snapshot,
+    blocks: &[Option<Anchored>],
+    steps: &mut Steps<L>,
+)
+    requires all { length blocks.now ≡ snapshot.now.objects }
+    requires few { length blocks.now ≤ 32 }
+{
+    for index in (0..blocks.len()).rev() {
+        assert_eq!(rt;
+            snapshot.find(index as u32, steps),
+            blocks[index],
+            "of object {index}"
+        );
+    }
+}
+
 // Both objects of a period have their blocks.
 fn both_found<L: Ledger>(rt: &impl Abort, snapshot: &Snapshot, blank: Blank)
     requires objects { snapshot.now.objects ≡ 2 }
@@ -17,8 +36,8 @@ fn both_found<L: Ledger>(rt: &impl Abort, snapshot: &Snapshot, blank: Blank)
     requires some { 0 < L.parts }
 {
     let mut steps = Steps::<L>::new(blank);
-    assert_eq!(rt; snapshot.find(1, &mut steps), Some(SECOND));
-    assert_eq!(rt; snapshot.find(0, &mut steps), Some(FIRST));
+    let blocks = [Some(FIRST), Some(SECOND)];
+    found_are(rt, snapshot, blocks.as_slice(), &mut steps);
 }
 
 #[test]
@@ -36,12 +55,9 @@ fn outer_two_found<L: Ledger>(rt: &impl Abort, snapshot: &Snapshot, blank: Blank
     requires some { 0 < L.parts }
 {
     let mut steps = Steps::<L>::new(blank);
-    assert_eq!(rt; snapshot.find(0, &mut steps), Some(FIRST));
-    assert_eq!(rt; snapshot.find(1, &mut steps), None);
-    assert_eq!(rt;
-        snapshot.find(2, &mut steps),
-        Some(Anchored { index: 2, ..SECOND })
-    );
+    let last = Anchored { index: 2, ..SECOND };
+    let blocks = [Some(FIRST), None, Some(last)];
+    found_are(rt, snapshot, blocks.as_slice(), &mut steps);
 }
 
 // The snapshot of three objects, of which the second one is absent.
@@ -49,7 +65,15 @@ fn three_objects(alloc: Global) -> Result<Snapshot, SnapFault>
     ensures { IfOk result (λ snapshot. snapshot.objects ≡ 3) }
 {
     let present = [I, O, I];
-    checked(alloc, present.as_slice(), [0, 3], TWO_CELLS, [I, I], [0, 1])
+    checked(
+        alloc,
+        present.as_slice(),
+        [0, 1].as_slice(),
+        TWO_CELLS.as_slice(),
+        [I, I].as_slice(),
+        [0, 1].as_slice(),
+        [3, 0].as_slice(),
+    )
 }
 
 #[test]

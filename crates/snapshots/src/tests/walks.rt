@@ -12,7 +12,7 @@ use step_count::Steps;
 use track_types::Lazy;
 
 // The blocks of a leaf's cell, and nothing behind them.
-fn members_are<L: Ledger>(
+pub fn members_are<L: Ledger>(
     rt: &impl Abort,
     snapshot: &Snapshot,
     leaf: u32,
@@ -74,7 +74,7 @@ fn objects_in_one_cell_come_by_object(rt: HostRuntime) -> Result<(), Fail> {
 }
 
 // The blocks that a rect touches, and nothing behind them.
-fn blocks_are<L: Ledger>(
+pub fn blocks_are<L: Ledger>(
     rt: &impl Abort,
     snapshot: &Snapshot,
     touching: Touching,
@@ -89,7 +89,7 @@ fn blocks_are<L: Ledger>(
     assert_eq!(rt; walk.draw(steps), None, "once more");
 }
 
-// With a rect about (1, 1), the whole grid and a far rect.
+// With a rect about the second object, the whole grid and a far rect.
 fn rects_agree<L: Ledger>(rt: &impl Abort, snapshot: &Snapshot, blank: Blank)
     requires name { blank.name ≡ L.name }
     requires parts { blank.parts ≡ L.parts }
@@ -97,9 +97,9 @@ fn rects_agree<L: Ledger>(rt: &impl Abort, snapshot: &Snapshot, blank: Blank)
 {
     let mut steps = Steps::<L>::new(blank);
     for (touching, blocks) in [
-        (Touching::rect(1, 1, 2, 2), [SECOND].as_slice()),
-        (Touching::rect(0, 0, 3, 3), [FIRST, SECOND].as_slice()),
-        (Touching::rect(5, 5, 6, 6), [].as_slice()),
+        (Touching::rect(11, -19, 12, -18), [SECOND].as_slice()),
+        (Touching::rect(10, -20, 13, -17), [FIRST, SECOND].as_slice()),
+        (Touching::rect(15, -15, 16, -14), [].as_slice()),
     ] {
         blocks_are(rt, snapshot, touching, blocks, &mut steps);
     }

@@ -1,7 +1,6 @@
-use Rattle.std.proofs.Common.{◌≡◌, ◌≤◌, ℕ, Bool, List, [], ◌∷◌, ◌∙◌, length, refl, subst, sym, arith}
+use Rattle.std.proofs.Common.{◌∙◌, length, refl, subst, sym, arith}
 use Rattle.std.proofs.lemmas.Int.{ints}
-use Rattle.packed_bits.specs.Bits.{ones_of}
-use Rattle.track_types.specs.declared.period_parts.PeriodParts.{PeriodParts}
+use Rattle.packed_bits.proofs.OnesLemmas.{ones_of-le-length}
 use Rattle.track_types.specs.Frame.{IsFrame}
 use Rattle.snapshots.specs.View.{view_with}
 use Rattle.snapshots.specs.Flaws.{IsShaped}
@@ -23,37 +22,23 @@ IsFrame-FRAME = record {
   ticks = record { some = omega arith; limit = omega arith };
 }
 
-abbrev parts : List Bool → List ℕ → List Bool → List Bool → List ℕ → PeriodParts
-parts present offsets tree lasts perm = record {
-  present = present;
-  offsets = offsets;
-  tree = tree;
-  lasts = lasts;
-  perm = perm;
-  lengths = 3 ∷ 0 ∷ [];
-}
-
-IsShaped-parts : (present : List Bool) (offsets : List ℕ) (tree lasts : List Bool) (perm : List ℕ)
-    → 1 ≤ length present → length present ≤ 32 → ones_of present ≡ 2 → length offsets ≡ 2 → length tree ≡ 8
-    → length lasts ≡ 2 → length perm ≡ 2
-    → IsShaped (view_with FRAME 0 (length present) 0 (parts present offsets tree lasts perm))
-IsShaped-parts present offsets tree lasts perm some few two a b c d = record {
-  header = IsFrame-FRAME;
-  period = omega arith;
-  some = some;
-  few = omega (arith, few);
-  bits = omega (arith, b);
-  presence = refl;
-  offsets = a ∙ sym two;
-  lasts = c ∙ sym two;
-  perm = d ∙ sym two;
-  lengths = sym two;
-  total = omega arith;
-}
-
 pub check-requires : goal.check-requires
 check-requires c =
-    subst (λ p. IsShaped (view_with FRAME 0 (length c.args.present.now) 0 p)) (sym c.in_ok-parts.ensures.parts)
-    (IsShaped-parts c.args.present.now c.args.offsets c.args.tree c.args.lasts c.args.perm c.requires.some
-    c.requires.few c.requires.two c.parts_of.ensures.offsets c.parts_of.ensures.tree c.parts_of.ensures.lasts
-    c.parts_of.ensures.perm)
+    subst (λ p. IsShaped (view_with FRAME 1 (length c.args.present.now) 5 p)) (sym c.in_ok-parts.ensures)
+    (record {
+      header = IsFrame-FRAME;
+      period = omega arith;
+      some = c.requires.some;
+      few = omega (arith, c.requires.few);
+      bits = omega (arith, c.requires.tree);
+      presence = refl;
+      offsets = sym c.requires.count;
+      lasts = c.requires.lasts ∙ sym c.requires.count;
+      perm = c.requires.perm ∙ sym c.requires.count;
+      lengths = c.requires.lengths ∙ sym c.requires.count;
+      total = omega (arith, c.requires.total);
+    })
+
+pub parts_of-requires-clause-lasts : goal.parts_of-requires-clause-lasts
+parts_of-requires-clause-lasts c =
+    omega (arith, c.requires.few, c.requires.count, c.requires.lasts, ones_of-le-length c.args.present.now)
