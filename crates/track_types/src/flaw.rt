@@ -1,11 +1,14 @@
 /// Where an index is not of its format, and how.
 #[derive(Clone, Copy, Debug, PartialEq, Eq)]
 pub struct Flaw {
+    /// The section in which it is.
     pub section: Section,
     /// The period, from 0; 0 outside the sections of periods.
     pub period: u32,
-    /// The place in the section, as its kind counts it.
+    /// The element of the section, in its period, from 0. In sections of bits it is a byte. Some
+    /// kinds count otherwise, and say how.
     pub index: u64,
+    /// How it is not of the format.
     pub kind: Kind,
 }
 
@@ -48,19 +51,21 @@ pub enum Kind {
     Rule,
     /// A symbol is neither a terminal nor a rule.
     Symbol,
-    /// The lengths of all blocks do not add up to the log's length.
+    /// The lengths of all blocks do not add up to the log's length. It is told at the last period's
+    /// first length.
     Total,
     /// An anchor is behind its period's end.
     Offset,
-    /// Bits are those of no tree.
+    /// Bits are those of no tree. The index is that of a bit.
     Tree,
-    /// The last objects of cells do not fit the tree's leaves.
+    /// The last objects of cells do not fit the tree's leaves. The index is how many objects are
+    /// present.
     Cells,
     /// A list is no permutation.
     Perm,
     /// The objects of a cell do not ascend.
     CellOrder,
-    /// A block leaves the grid.
+    /// A block leaves the grid. The index is that of an entry among all symbols.
     OffGrid,
     /// A block does not last to its period's end.
     Duration,

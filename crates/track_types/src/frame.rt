@@ -3,10 +3,11 @@ use crate::cell::Cell;
 /// The header of an index: where its instants and its cells begin, how far they reach, and how they
 /// were made.
 ///
-/// It promises nothing by itself. `IsFrame` in specs/ has the ranges of one that was written.
+/// It promises nothing by itself. `IsFrame` in specs/ states the ranges of its fields; how many
+/// blocks an index may have, objects times periods, is no part of them.
 #[derive(Clone, Copy, Debug, PartialEq, Eq)]
 pub struct Frame {
-    /// The first instant.
+    /// The first instant: -2^40 to 2^40, and so is the last one.
     pub first: i64,
     /// Instants from the first to the last, both counted: 1 to 2^22.
     pub span: u32,
@@ -14,7 +15,7 @@ pub struct Frame {
     pub period: u32,
     /// The grid of cells has the side 2^height: 1 to `MAX_HEIGHT`.
     pub height: u32,
-    /// The least cell of the grid.
+    /// The least cell of the grid. Its coordinates are -2^40 to 2^40.
     pub base: Cell,
     /// Units of a cell: 1 to 2^30.
     pub cell: u64,
