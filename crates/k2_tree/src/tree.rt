@@ -117,7 +117,8 @@ impl K2Tree {
         self.bits.ones() + 1 - self.bits.len() / FAN
     }
 
-    /// The cell of a leaf. It climbs to the top by `select1`.
+    /// The cell of a leaf, which is one of this tree's. It climbs to the top by `select1`, which is
+    /// at most 41 reads for each level, and takes no memory.
     pub fn leaf_cell<L: Ledger>(&self, leaf: u32, steps: &mut Steps<L>) -> Cell
         requires { leaf < length self.now.cells }
         ensures value { slice_get self.now.cells leaf ≡ Some result }
@@ -127,7 +128,9 @@ impl K2Tree {
         cell_at(code, self.height, self.base)
     }
 
-    /// The number of a cell, if the set has it. It goes down from the top by `rank1`.
+    /// The number of a cell, and `None` exactly where the set does not have it, also outside the
+    /// grid. It goes down from the top by `rank1`, which is at most 11 reads for each level, and
+    /// takes no memory.
     pub fn leaf_of<L: Ledger>(&self, cell: Cell, steps: &mut Steps<L>) -> Option<u32>
         ensures value { MatchOption result (Contains self.now.cells cell → ⊥)
             (λ leaf. slice_get self.now.cells leaf ≡ Some cell) }

@@ -120,10 +120,11 @@ impl Snapshot {
     }
 
     /// The block of an object, and `None` exactly where the object has none in this period. The
-    /// object is told by its place among all objects.
+    /// object is told by its place among all objects, which is below their number.
     ///
     /// It goes from the object to its place among the present ones, by the inverse permutation to
-    /// its place in leaf order, and climbs the tree from its leaf to the cell.
+    /// its place in leaf order, and climbs the tree from its leaf to the cell: at most 52 reads, and
+    /// 41 for each level of the tree. It takes no memory.
     pub fn find<L: Ledger>(&self, index: u32, steps: &mut Steps<L>) -> Option<Anchored>
         requires { index < self.now.objects }
         ensures value { result ≡ block_of self.now index }
@@ -147,7 +148,9 @@ impl Snapshot {
         &self.tree
     }
 
-    /// The blocks whose anchors are in the cell of a leaf, by object.
+    /// The blocks whose anchors are in the cell of a leaf, by object. The leaf is one of the tree's,
+    /// and the cell is its own. It takes no memory, and its draws read at most 41, and 43 for each
+    /// block.
     pub fn members(&self, leaf: u32, cell: Cell) -> Members<'_>
         requires { slice_get (tree_in self.now).cells leaf ≡ Some cell }
         ensures left { result.blocks ≡ blocks_in self.now leaf }
