@@ -4,16 +4,15 @@ ghost use Rattle.packed_bits.specs.Words.{IsPacked};
 use super::{Bits, Steps};
 use std::alloc::Global;
 use std::marker::Brand;
-use std::process::Abort;
 use std::sync::ledger::{Blank, Ledger};
 use std::test::Fail;
 
-fn answer_on_four_bits<L: Ledger>(rt: &impl Abort, bits: &Bits, blank: Blank)
+fn answer_on_four_bits<L: Ledger>(rt: &HostRuntime, bits: &Bits, blank: Blank)
     requires name { blank.name ≡ L.name }
     requires parts { blank.parts ≡ L.parts }
     requires some { 0 < L.parts }
 {
-    let mut steps = Steps::<L>::new(blank);
+    let mut steps = Steps::<L>::new(rt, blank);
     assert_eq!(rt; bits.len(), 4);
     assert_eq!(rt; bits.ones(), 2);
     assert_eq!(rt; bits.rank1(3, &mut steps), 1, "one one before place 3");
@@ -43,12 +42,12 @@ fn no_bits_have_no_ones(rt: HostRuntime) -> Result<(), Fail> {
 }
 
 // Compares every rank and select with a scan of the bits.
-fn scan<L: Ledger>(rt: &impl Abort, bits: &Bits, blank: Blank)
+fn scan<L: Ledger>(rt: &HostRuntime, bits: &Bits, blank: Blank)
     requires name { blank.name ≡ L.name }
     requires parts { blank.parts ≡ L.parts }
     requires some { 0 < L.parts }
 {
-    let mut steps = Steps::<L>::new(blank);
+    let mut steps = Steps::<L>::new(rt, blank);
     let mut ones = 0;
     for p in 0..bits.len() {
         assert_eq!(rt; bits.rank1(p, &mut steps), ones, "the rank of {p}");
@@ -71,7 +70,7 @@ fn scan<L: Ledger>(rt: &impl Abort, bits: &Bits, blank: Blank)
     assert_eq!(rt; bits.ones(), ones);
 }
 
-fn scan_words(rt: &impl Abort, alloc: Global, words: &[u64], len: u32) -> Result<(), Fail>
+fn scan_words(rt: &HostRuntime, alloc: Global, words: &[u64], len: u32) -> Result<(), Fail>
     requires { IsPacked words.now len }
 {
     let bits = Bits::from_words(alloc, Vec::from_slice(alloc, words)?, len)?;

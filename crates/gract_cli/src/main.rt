@@ -13,13 +13,12 @@ use host_ports::{DiskFiles, InputSource, OutputSink};
 use std::io;
 use std::marker::Brand;
 use std::process::ExitCode;
-use std::rt::Runtime;
 use std::sync::ledger::{Blank, Ledger};
 use step_count::Steps;
 
 fn main(rt: HostRuntime) -> ExitCode {
     let outcome = match command_words(&rt) {
-        Ok(words) => run_words::<HostRuntime, Brand>(&rt, &words, Blank::new(1)),
+        Ok(words) => run_words::<Brand>(&rt, &words, Blank::new(1)),
         Err(outcome) => outcome,
     };
     if outcome != Outcome::Done {
@@ -30,11 +29,7 @@ fn main(rt: HostRuntime) -> ExitCode {
 }
 
 // Runs the program on its words; nothing asks how many reads were counted.
-fn run_words<R: Runtime + AllocGlobal, L: Ledger>(
-    rt: &R,
-    args: &Vec<String>,
-    blank: Blank,
-) -> Outcome
+fn run_words<L: Ledger>(rt: &HostRuntime, args: &Vec<String>, blank: Blank) -> Outcome
     requires name { blank.name ≡ L.name }
     requires parts { blank.parts ≡ L.parts }
     requires some { 0 < L.parts }
@@ -50,7 +45,7 @@ fn run_words<R: Runtime + AllocGlobal, L: Ledger>(
     let mut files = DiskFiles::new(rt);
     let mut source = InputSource::new(rt.reader());
     let mut sink = OutputSink::new(io::writer(rt));
-    let mut steps = Steps::<L>::new(blank);
+    let mut steps = Steps::<L>::new(rt, blank);
     gract(
         alloc,
         words.as_slice(),

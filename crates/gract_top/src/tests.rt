@@ -41,7 +41,7 @@ fn words(alloc: Global, command: &str) -> Result<Vec<String>, AllocError> {
 }
 
 fn call<L: Ledger>(
-    alloc: Global,
+    rt: &HostRuntime,
     command: &Vec<String>,
     outside: &mut Outside,
     blank: Blank,
@@ -50,10 +50,13 @@ fn call<L: Ledger>(
     requires parts { blank.parts ≡ L.parts }
     requires some { 0 < L.parts }
 {
-    let words: Vec<&str> = command.iter().map(|word| word.as_str()).collect(alloc)?;
-    let mut steps = Steps::<L>::new(blank);
+    let words: Vec<&str> = command
+        .iter()
+        .map(|word| word.as_str())
+        .collect(rt.alloc())?;
+    let mut steps = Steps::<L>::new(rt, blank);
     Ok(gract(
-        alloc,
+        rt.alloc(),
         words.as_slice(),
         &mut outside.files,
         &mut outside.source,
@@ -62,9 +65,9 @@ fn call<L: Ledger>(
     ))
 }
 
-fn run(alloc: Global, command: &str, outside: &mut Outside) -> Result<Outcome, AllocError> {
-    let command = words(alloc, command)?;
-    call::<Brand>(alloc, &command, outside, Blank::new(1))
+fn run(rt: &HostRuntime, command: &str, outside: &mut Outside) -> Result<Outcome, AllocError> {
+    let command = words(rt.alloc(), command)?;
+    call::<Brand>(rt, &command, outside, Blank::new(1))
 }
 
 const PATH: &[u8] = b"7,0,10,10\n7,1,11,10\n7,2,12,10\n7,2,12,11\n";
@@ -89,7 +92,7 @@ fn the_last_row_of_an_instant_answers(rt: HostRuntime) -> Result<(), Fail> {
     ];
     for (csv, lines, said) in cases {
         let mut outside = make_outside(rt.alloc(), csv, lines, 4096)?;
-        let outcome = run(rt.alloc(), "once t.csv 1 1 4", &mut outside)?;
+        let outcome = run(&rt, "once t.csv 1 1 4", &mut outside)?;
         assert_eq!(rt; outcome, Outcome::Done);
         assert_eq!(rt; outside.sink.as_slice(), said);
     }
@@ -115,7 +118,7 @@ fn pieces_of_any_length_say_the_same(rt: HostRuntime) -> Result<(), Fail> {
     lines.extend_from_slice(b"\nposition 7 1")?;
     for piece in [1, 2, 3, 4096] {
         let mut outside = make_outside(rt.alloc(), PATH, lines.as_slice(), piece)?;
-        let outcome = run(rt.alloc(), "once t.csv 1 1 4", &mut outside)?;
+        let outcome = run(&rt, "once t.csv 1 1 4", &mut outside)?;
         assert_eq!(rt; outcome, Outcome::Done);
         assert_eq!(rt;
             outside.sink.as_slice(),
@@ -131,7 +134,7 @@ fn rows_are_gridded_towards_minus_infinity(rt: HostRuntime) -> Result<(), Fail> 
     let csv = b"object,instant,x,y\r\n1,-1,-1,-10\r\n\"2\", 61,312561,6401250\r\n2,60,0,0\r\n";
     let lines = b"position 1 -1\nposition 1 0\nposition 2 1\n";
     let mut outside = make_outside(rt.alloc(), csv, lines, 4096)?;
-    let outcome = run(rt.alloc(), "once t.csv 10 60 4", &mut outside)?;
+    let outcome = run(&rt, "once t.csv 10 60 4", &mut outside)?;
     assert_eq!(rt; outcome, Outcome::Done);
     assert_eq!(rt;
         outside.sink.as_slice(),
@@ -163,7 +166,7 @@ fn a_file_is_refused_for_its_cause(rt: HostRuntime) -> Result<(), Fail> {
     for (csv, expected) in cases {
         let mut outside = make_outside(rt.alloc(), csv, b"position 7 0\n", 4096)?;
         assert_eq!(rt;
-            run(rt.alloc(), "once t.csv 1 1 1", &mut outside)?,
+            run(&rt, "once t.csv 1 1 1", &mut outside)?,
             expected
         );
         assert_eq!(rt; outside.sink.as_slice(), b"".as_slice());
@@ -187,14 +190,14 @@ fn the_first_bad_word_is_named(rt: HostRuntime) -> Result<(), Fail> {
     for (command, place) in cases {
         let mut outside = make_outside(rt.alloc(), PATH, b"position 7 0\n", 4096)?;
         assert_eq!(rt;
-            run(rt.alloc(), command, &mut outside)?,
+            run(&rt, command, &mut outside)?,
             Outcome::Words { place }
         );
         assert_eq!(rt; outside.sink.as_slice(), b"".as_slice());
     }
     let mut outside = make_outside(rt.alloc(), PATH, b"", 4096)?;
     assert_eq!(rt;
-        run(rt.alloc(), "once none.csv +1 01 4194304", &mut outside)?,
+        run(&rt, "once none.csv +1 01 4194304", &mut outside)?,
         Outcome::LoadFailed
     );
     Ok(())
@@ -210,7 +213,7 @@ fn a_failing_device_ends_the_call(rt: HostRuntime) -> Result<(), Fail> {
         vec![in alloc; 2]?,
     );
     assert_eq!(rt;
-        run(alloc, "once t.csv 1 1 4", &mut outside)?,
+        run(&rt, "once t.csv 1 1 4", &mut outside)?,
         Outcome::ListenFailed
     );
     assert_eq!(rt;
@@ -225,7 +228,7 @@ fn a_failing_device_ends_the_call(rt: HostRuntime) -> Result<(), Fail> {
     );
     outside.sink = MemSink::new(alloc, 8, Vec::new(alloc))?;
     assert_eq!(rt;
-        run(alloc, "once t.csv 1 1 4", &mut outside)?,
+        run(&rt, "once t.csv 1 1 4", &mut outside)?,
         Outcome::SayFailed
     );
     assert_eq!(rt; outside.sink.as_slice(), b"12 11\nok".as_slice());
@@ -233,7 +236,7 @@ fn a_failing_device_ends_the_call(rt: HostRuntime) -> Result<(), Fail> {
     outside.files = MemFiles::new(alloc, 0, vec![in alloc; 2]?)?;
     outside.files.put("t.csv", PATH)?;
     assert_eq!(rt;
-        run(alloc, "once t.csv 1 1 4", &mut outside)?,
+        run(&rt, "once t.csv 1 1 4", &mut outside)?,
         Outcome::LoadFailed
     );
     Ok(())

@@ -13,3 +13,4 @@ pub mod Checking
 pub mod Pruning
 pub mod Pruned
 pub mod Building
+pub mod Cost

@@ -5,7 +5,6 @@ use super::{K2Tree, TreeFault, morton};
 use crate::packing::pack;
 use std::alloc::Global;
 use std::marker::Brand;
-use std::process::Abort;
 use std::sync::ledger::{Blank, Ledger};
 use std::test::Fail;
 use step_count::Steps;
@@ -30,12 +29,12 @@ fn at(x: i64, y: i64) -> Cell {
     }
 }
 
-fn asked<L: Ledger>(rt: &impl Abort, tree: &K2Tree, blank: Blank)
+fn asked<L: Ledger>(rt: &HostRuntime, tree: &K2Tree, blank: Blank)
     requires name { blank.name ≡ L.name }
     requires parts { blank.parts ≡ L.parts }
     requires some { 0 < L.parts }
 {
-    let mut steps = Steps::<L>::new(blank);
+    let mut steps = Steps::<L>::new(rt, blank);
     assert_eq!(rt; tree.leaf_of(at(0, 0), &mut steps), Some(0));
     assert_eq!(rt; tree.leaf_of(at(3, 0), &mut steps), Some(2));
     assert_eq!(rt; tree.leaf_of(at(2, 0), &mut steps), None, "not in the set");

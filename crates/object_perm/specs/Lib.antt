@@ -4,3 +4,4 @@ pub mod Walk
 pub mod Marks
 pub mod Shortcuts
 pub mod Settled
+pub mod Cost

@@ -21,24 +21,24 @@ fn flaw_of(alloc: Global, values: &[u32]) -> Result<Option<u32>, PermFault>
 }
 
 // The value at a place, read on a counter of its own.
-fn value_at<L: Ledger>(perm: &Perm, place: u32, blank: Blank) -> u32
+fn value_at<L: Ledger>(rt: &HostRuntime, perm: &Perm, place: u32, blank: Blank) -> u32
     requires name { blank.name ≡ L.name }
     requires parts { blank.parts ≡ L.parts }
     requires some { 0 < L.parts }
     requires within { place < length perm.now }
 {
-    perm.at(place, &mut Steps::<L>::new(blank))
+    perm.at(place, &mut Steps::<L>::new(rt, blank))
 }
 
 // The place of a value, searched on a counter of its own.
-fn place_of<L: Ledger>(perm: &Perm, value: u32, blank: Blank) -> u32
+fn place_of<L: Ledger>(rt: &HostRuntime, perm: &Perm, value: u32, blank: Blank) -> u32
     requires name { blank.name ≡ L.name }
     requires parts { blank.parts ≡ L.parts }
     requires some { 0 < L.parts }
     requires within { value < length perm.now }
     ensures { result < length perm.now }
 {
-    perm.inverse(value, &mut Steps::<L>::new(blank))
+    perm.inverse(value, &mut Steps::<L>::new(rt, blank))
 }
 
 #[test]
@@ -68,9 +68,9 @@ fn a_flawed_list_is_refused_at_its_first_flaw(rt: HostRuntime) -> Result<(), Fai
 fn three_places_are_read_both_ways(rt: HostRuntime) -> Result<(), Fail> {
     let perm = Perm::check(rt.alloc(), List32::new([2, 0, 1].to_vec(rt.alloc())?))?;
     assert_eq!(rt; perm.len(), 3);
-    assert_eq!(rt; value_at::<Brand>(&perm, 0, Blank::new(1)), 2);
-    assert_eq!(rt; place_of::<Brand>(&perm, 0, Blank::new(1)), 1);
-    assert_eq!(rt; place_of::<Brand>(&perm, 2, Blank::new(1)), 0);
+    assert_eq!(rt; value_at::<Brand>(&rt, &perm, 0, Blank::new(1)), 2);
+    assert_eq!(rt; place_of::<Brand>(&rt, &perm, 0, Blank::new(1)), 1);
+    assert_eq!(rt; place_of::<Brand>(&rt, &perm, 2, Blank::new(1)), 0);
     Ok(())
 }
 
@@ -81,7 +81,7 @@ fn one_cycle_of_a_thousand_places_is_turned_round(rt: HostRuntime) -> Result<(),
     let perm = Perm::check(rt.alloc(), List32::new(values))?;
     for value in 0..perm.len() {
         assert_eq!(rt;
-            place_of::<Brand>(&perm, value, Blank::new(1)),
+            place_of::<Brand>(&rt, &perm, value, Blank::new(1)),
             (value + 993) % 1000
         );
     }
@@ -94,7 +94,7 @@ fn five_hundred_cycles_of_two_places_are_turned_round(rt: HostRuntime) -> Result
     assert_eq!(rt; values.len(), 1000);
     let perm = Perm::check(rt.alloc(), List32::new(values))?;
     for value in 0..perm.len() {
-        assert_eq!(rt; place_of::<Brand>(&perm, value, Blank::new(1)), value ^ 1);
+        assert_eq!(rt; place_of::<Brand>(&rt, &perm, value, Blank::new(1)), value ^ 1);
     }
     Ok(())
 }

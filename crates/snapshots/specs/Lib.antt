@@ -4,3 +4,4 @@ pub mod Flaws
 pub mod Stored
 pub mod Members
 pub mod Objects
+pub mod Cost

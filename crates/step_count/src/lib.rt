@@ -5,8 +5,12 @@
 //! see it as a number. The crate stands on std alone.
 #![tactic(auto)]
 
+mod counted_list;
+mod one_read;
 mod steps;
 #[cfg(test)]
 mod tests;
 
+pub use counted_list::CountedList;
+pub use one_read::OneRead;
 pub use steps::Steps;

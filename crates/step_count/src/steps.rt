@@ -24,7 +24,10 @@ impl<L: Ledger> Model for Steps<L> {
 
 impl<L: Ledger> Steps<L> {
     /// A counter of no reads, which opens the blank ledger for `L`.
-    pub fn new(blank: Blank) -> Self
+    ///
+    /// A `HostRuntime` exists in `main` and in tests alone. A library can make no counter of its own,
+    /// so each of its reads goes to the counter of its caller.
+    pub fn new(_host: &HostRuntime, blank: Blank) -> Self
         requires name { blank.name ≡ L.name }
         requires parts { blank.parts ≡ L.parts }
         requires some { 0 < L.parts }

@@ -13,18 +13,18 @@ fn read_twice<L: Ledger>(steps: &mut Steps<L>)
     steps.tick();
 }
 
-fn counted<L: Ledger>(blank: Blank)
+fn counted<L: Ledger>(rt: &HostRuntime, blank: Blank)
     requires name { blank.name ≡ L.name }
     requires parts { blank.parts ≡ L.parts }
     requires some { 0 < L.parts }
 {
-    let mut steps = Steps::<L>::new(blank);
+    let mut steps = Steps::<L>::new(rt, blank);
     read_twice(&mut steps);
 }
 
 #[test]
 fn a_counter_takes_no_bytes(rt: HostRuntime) -> Result<(), Fail> {
-    counted::<Brand>(Blank::new(1));
+    counted::<Brand>(&rt, Blank::new(1));
     assert_eq!(rt; size_of::<Steps<Brand>>(), 0);
     Ok(())
 }

@@ -123,13 +123,13 @@ fn walk_agrees<L: Ledger>(
 }
 
 // Over steps of its own, with rects, an inverted and a far one among them, and discs.
-fn all_agree<L: Ledger>(rt: &impl Abort, tree: &K2Tree, cells: &[Cell], blank: Blank)
+fn all_agree<L: Ledger>(rt: &HostRuntime, tree: &K2Tree, cells: &[Cell], blank: Blank)
     requires name { blank.name ≡ L.name }
     requires parts { blank.parts ≡ L.parts }
     requires some { 0 < L.parts }
     requires inside { All (IsInGrid HEIGHT BASE) cells.now }
 {
-    let mut steps = Steps::<L>::new(blank);
+    let mut steps = Steps::<L>::new(rt, blank);
     leaf_cells_agree(rt, tree, cells, &mut steps);
     leaves_of_cells_agree(rt, tree, cells, &mut steps);
     for touching in [

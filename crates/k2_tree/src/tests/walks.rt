@@ -7,7 +7,6 @@ use super::{BASE, at};
 use crate::{K2Tree, Square};
 use std::alloc::Global;
 use std::marker::Brand;
-use std::process::Abort;
 use std::sync::ledger::{Blank, Ledger};
 use std::test::Fail;
 use step_count::Steps;
@@ -26,12 +25,12 @@ fn three_cells(alloc: Global) -> Result<K2Tree, Memory>
 }
 
 // Two of the three leaves, and nothing behind them.
-fn two_of_three_drawn<L: Ledger>(rt: &impl Abort, tree: &K2Tree, blank: Blank)
+fn two_of_three_drawn<L: Ledger>(rt: &HostRuntime, tree: &K2Tree, blank: Blank)
     requires name { blank.name ≡ L.name }
     requires parts { blank.parts ≡ L.parts }
     requires some { 0 < L.parts }
 {
-    let mut steps = Steps::<L>::new(blank);
+    let mut steps = Steps::<L>::new(rt, blank);
     let mut walk = tree.pruned(Touching::rect(11, -20, 13, -17));
     assert_eq!(rt; walk.draw(&mut steps), Some((1, at(1, 1))));
     assert_eq!(rt; walk.draw(&mut steps), Some((2, at(3, 0))));
@@ -58,21 +57,21 @@ fn far_leaf<L: Ledger>(alloc: Global, steps: &mut Steps<L>) -> Result<Option<(u3
 
 // The same with steps of its own.
 fn far_leaf_of_a_blank<L: Ledger>(
-    alloc: Global,
+    rt: &HostRuntime,
     blank: Blank,
 ) -> Result<Option<(u32, Cell)>, Memory>
     requires name { blank.name ≡ L.name }
     requires parts { blank.parts ≡ L.parts }
     requires some { 0 < L.parts }
 {
-    let mut steps = Steps::<L>::new(blank);
-    far_leaf(alloc, &mut steps)
+    let mut steps = Steps::<L>::new(rt, blank);
+    far_leaf(rt.alloc(), &mut steps)
 }
 
 #[test]
 fn a_far_rect_gives_nothing(rt: HostRuntime) -> Result<(), Fail> {
     assert_eq!(rt;
-        far_leaf_of_a_blank::<Brand>(rt.alloc(), Blank::new(1))?,
+        far_leaf_of_a_blank::<Brand>(&rt, Blank::new(1))?,
         None
     );
     Ok(())
@@ -80,7 +79,7 @@ fn a_far_rect_gives_nothing(rt: HostRuntime) -> Result<(), Fail> {
 
 // The leaves that a rect touches, by a walk as an iterator.
 fn leaves_drawn<L: Ledger>(
-    alloc: Global,
+    rt: &HostRuntime,
     tree: &K2Tree,
     blank: Blank,
 ) -> Result<Vec<(u32, Cell)>, Memory>
@@ -88,15 +87,15 @@ fn leaves_drawn<L: Ledger>(
     requires parts { blank.parts ≡ L.parts }
     requires some { 0 < L.parts }
 {
-    let mut steps = Steps::<L>::new(blank);
+    let mut steps = Steps::<L>::new(rt, blank);
     let mut walk = tree.pruned(Touching::rect(11, -20, 13, -17));
-    Ok(drawn(&mut walk, &mut steps).collect(alloc)?)
+    Ok(drawn(&mut walk, &mut steps).collect(rt.alloc())?)
 }
 
 #[test]
 fn drawn_gives_the_leaves_of_a_walk(rt: HostRuntime) -> Result<(), Fail> {
     let tree = three_cells(rt.alloc())?;
-    let leaves = leaves_drawn::<Brand>(rt.alloc(), &tree, Blank::new(1))?;
+    let leaves = leaves_drawn::<Brand>(&rt, &tree, Blank::new(1))?;
     assert_eq!(rt;
         leaves.as_slice(),
         [(1, at(1, 1)), (2, at(3, 0))].as_slice()
@@ -111,12 +110,12 @@ fn bounds(square: &Square) -> (i64, i64, i64, i64) {
 }
 
 // From the whole grid by the first child's last child to a cell.
-fn led_to_a_leaf<L: Ledger>(rt: &impl Abort, tree: &K2Tree, blank: Blank)
+fn led_to_a_leaf<L: Ledger>(rt: &HostRuntime, tree: &K2Tree, blank: Blank)
     requires name { blank.name ≡ L.name }
     requires parts { blank.parts ≡ L.parts }
     requires some { 0 < L.parts }
 {
-    let mut steps = Steps::<L>::new(blank);
+    let mut steps = Steps::<L>::new(rt, blank);
     let Some(whole) = tree.root() else {
         panic!(rt; "no root");
     };

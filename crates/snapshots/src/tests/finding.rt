@@ -29,13 +29,13 @@ pub fn found_are<L: Ledger>(
 }
 
 // Both objects of a period have their blocks.
-fn both_found<L: Ledger>(rt: &impl Abort, snapshot: &Snapshot, blank: Blank)
+fn both_found<L: Ledger>(rt: &HostRuntime, snapshot: &Snapshot, blank: Blank)
     requires objects { snapshot.now.objects ≡ 2 }
     requires name { blank.name ≡ L.name }
     requires parts { blank.parts ≡ L.parts }
     requires some { 0 < L.parts }
 {
-    let mut steps = Steps::<L>::new(blank);
+    let mut steps = Steps::<L>::new(rt, blank);
     let blocks = [Some(FIRST), Some(SECOND)];
     found_are(rt, snapshot, blocks.as_slice(), &mut steps);
 }
@@ -48,13 +48,13 @@ fn each_object_has_its_block(rt: HostRuntime) -> Result<(), Fail> {
 }
 
 // Of three objects the first and the last have blocks.
-fn outer_two_found<L: Ledger>(rt: &impl Abort, snapshot: &Snapshot, blank: Blank)
+fn outer_two_found<L: Ledger>(rt: &HostRuntime, snapshot: &Snapshot, blank: Blank)
     requires objects { snapshot.now.objects ≡ 3 }
     requires name { blank.name ≡ L.name }
     requires parts { blank.parts ≡ L.parts }
     requires some { 0 < L.parts }
 {
-    let mut steps = Steps::<L>::new(blank);
+    let mut steps = Steps::<L>::new(rt, blank);
     let last = Anchored { index: 2, ..SECOND };
     let blocks = [Some(FIRST), None, Some(last)];
     found_are(rt, snapshot, blocks.as_slice(), &mut steps);

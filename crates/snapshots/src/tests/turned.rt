@@ -7,7 +7,6 @@ use super::{I, O, checked};
 use crate::{Anchored, SnapFault, Snapshot};
 use std::alloc::Global;
 use std::marker::Brand;
-use std::process::Abort;
 use std::sync::ledger::{Blank, Ledger};
 use std::test::Fail;
 use step_count::Steps;
@@ -58,13 +57,13 @@ fn turned(alloc: Global) -> Result<Snapshot, SnapFault>
 }
 
 // Each object has its block.
-fn all_found<L: Ledger>(rt: &impl Abort, snapshot: &Snapshot, blank: Blank)
+fn all_found<L: Ledger>(rt: &HostRuntime, snapshot: &Snapshot, blank: Blank)
     requires objects { snapshot.now.objects ≡ 4 }
     requires name { blank.name ≡ L.name }
     requires parts { blank.parts ≡ L.parts }
     requires some { 0 < L.parts }
 {
-    let mut steps = Steps::<L>::new(blank);
+    let mut steps = Steps::<L>::new(rt, blank);
     let blocks = [Some(FIRST), None, Some(THIRD), Some(LAST)];
     found_are(rt, snapshot, blocks.as_slice(), &mut steps);
 }
@@ -77,12 +76,12 @@ fn turned_objects_have_their_blocks(rt: HostRuntime) -> Result<(), Fail> {
 }
 
 // The first leaf has one block, and the second one two.
-fn one_and_two<L: Ledger>(rt: &impl Abort, snapshot: &Snapshot, blank: Blank)
+fn one_and_two<L: Ledger>(rt: &HostRuntime, snapshot: &Snapshot, blank: Blank)
     requires name { blank.name ≡ L.name }
     requires parts { blank.parts ≡ L.parts }
     requires some { 0 < L.parts }
 {
-    let mut steps = Steps::<L>::new(blank);
+    let mut steps = Steps::<L>::new(rt, blank);
     let leaves = snapshot.tree().leaves();
     assert!(rt; leaves == 2);
     members_are(rt, snapshot, 0, [LAST].as_slice(), &mut steps);
@@ -97,12 +96,12 @@ fn turned_leaves_have_their_blocks(rt: HostRuntime) -> Result<(), Fail> {
 }
 
 // By leaf in the whole grid, then in each of the two cells alone, and in a cell without anchors.
-fn walks_agree<L: Ledger>(rt: &impl Abort, snapshot: &Snapshot, blank: Blank)
+fn walks_agree<L: Ledger>(rt: &HostRuntime, snapshot: &Snapshot, blank: Blank)
     requires name { blank.name ≡ L.name }
     requires parts { blank.parts ≡ L.parts }
     requires some { 0 < L.parts }
 {
-    let mut steps = Steps::<L>::new(blank);
+    let mut steps = Steps::<L>::new(rt, blank);
     for (touching, blocks) in [
         (
             Touching::rect(10, -20, 13, -17),

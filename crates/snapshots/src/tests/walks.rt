@@ -31,12 +31,12 @@ pub fn members_are<L: Ledger>(
 }
 
 // Each of two leaves has one block.
-fn one_each<L: Ledger>(rt: &impl Abort, snapshot: &Snapshot, blank: Blank)
+fn one_each<L: Ledger>(rt: &HostRuntime, snapshot: &Snapshot, blank: Blank)
     requires name { blank.name ≡ L.name }
     requires parts { blank.parts ≡ L.parts }
     requires some { 0 < L.parts }
 {
-    let mut steps = Steps::<L>::new(blank);
+    let mut steps = Steps::<L>::new(rt, blank);
     let leaves = snapshot.tree().leaves();
     assert!(rt; leaves == 2);
     members_are(rt, snapshot, 0, [FIRST].as_slice(), &mut steps);
@@ -51,12 +51,12 @@ fn each_leaf_has_its_block(rt: HostRuntime) -> Result<(), Fail> {
 }
 
 // The only leaf has two blocks, by object.
-fn two_in_one<L: Ledger>(rt: &impl Abort, snapshot: &Snapshot, blank: Blank)
+fn two_in_one<L: Ledger>(rt: &HostRuntime, snapshot: &Snapshot, blank: Blank)
     requires name { blank.name ≡ L.name }
     requires parts { blank.parts ≡ L.parts }
     requires some { 0 < L.parts }
 {
-    let mut steps = Steps::<L>::new(blank);
+    let mut steps = Steps::<L>::new(rt, blank);
     let leaves = snapshot.tree().leaves();
     assert!(rt; leaves == 1);
     let second = Anchored {
@@ -90,12 +90,12 @@ pub fn blocks_are<L: Ledger>(
 }
 
 // With a rect about the second object, the whole grid and a far rect.
-fn rects_agree<L: Ledger>(rt: &impl Abort, snapshot: &Snapshot, blank: Blank)
+fn rects_agree<L: Ledger>(rt: &HostRuntime, snapshot: &Snapshot, blank: Blank)
     requires name { blank.name ≡ L.name }
     requires parts { blank.parts ≡ L.parts }
     requires some { 0 < L.parts }
 {
-    let mut steps = Steps::<L>::new(blank);
+    let mut steps = Steps::<L>::new(rt, blank);
     for (touching, blocks) in [
         (Touching::rect(11, -19, 12, -18), [SECOND].as_slice()),
         (Touching::rect(10, -20, 13, -17), [FIRST, SECOND].as_slice()),

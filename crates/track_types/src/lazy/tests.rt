@@ -43,7 +43,7 @@ where
 
 // All but the first of these numbers, and what comes behind the last.
 fn numbers_drawn<L: Ledger>(
-    alloc: Global,
+    rt: &HostRuntime,
     blank: Blank,
 ) -> Result<(Vec<u32>, Option<u32>), AllocError>
     requires name { blank.name ≡ L.name }
@@ -51,18 +51,18 @@ fn numbers_drawn<L: Ledger>(
     requires some { 0 < L.parts }
     ensures { IfOk result (λ found. found.0.items ≡ 9 ∷ 0 ∷ 8 ∷ []) }
 {
-    let mut steps = Steps::<L>::new(blank);
+    let mut steps = Steps::<L>::new(rt, blank);
     let mut walk = Numbers {
         rest: &[7, 9, 0, 8],
     };
     let _first = walk.draw(&mut steps);
-    let found = all_drawn(alloc, &mut walk, &mut steps)?;
+    let found = all_drawn(rt.alloc(), &mut walk, &mut steps)?;
     Ok((found, walk.draw(&mut steps)))
 }
 
 #[test]
 fn drawn_gives_what_is_left_and_ends(rt: HostRuntime) -> Result<(), Fail> {
-    let (found, behind) = numbers_drawn::<Brand>(rt.alloc(), Blank::new(1))?;
+    let (found, behind) = numbers_drawn::<Brand>(&rt, Blank::new(1))?;
     assert_eq!(rt; found.as_slice(), [9, 0, 8].as_slice());
     assert_eq!(rt; behind, None);
     Ok(())
