@@ -22,6 +22,7 @@ mod period_parts;
 mod raw_row;
 mod region;
 mod row;
+mod stop;
 
 pub use bit_list::BitList;
 pub use cell::Cell;
@@ -39,3 +40,4 @@ pub use period_parts::PeriodParts;
 pub use raw_row::{RawRow, RowFault};
 pub use region::{Region, dist2};
 pub use row::Row;
+pub use stop::Stop;
