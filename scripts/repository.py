@@ -1,0 +1,97 @@
+"""What the repository's own checks read of it: crates, their definitions, clauses and edits."""
+
+import re
+from pathlib import Path
+
+TOP = Path(__file__).resolve().parent.parent
+
+# A line of specs/ that begins a definition, and its name.
+DEFINITION = re.compile(r"^ *(?:abbrev |unfoldable |opaque )?pub (?:record |data )?([^\s:(]+)")
+NOT_DEFINITIONS = ("use", "mod", "open")
+
+
+def crates():
+    """Each crate of crates.txt with what it stands on, in the order of the file."""
+    listed = {}
+    for line in (TOP / "crates.txt").read_text().splitlines():
+        name, colon, below = line.partition("#")[0].partition(":")
+        if colon:
+            listed[name.split()[0]] = below.split()
+    return listed
+
+
+def folder(crate):
+    return TOP / "crates" / crate
+
+
+def definitions(file):
+    """Each public definition of a file of specs/: its name, and the comment above it, if it has one."""
+    found, comment, record = [], [], None
+    for line in file.read_text().splitlines():
+        if line.lstrip().startswith("-- "):
+            comment.append(line.strip()[3:])
+            continue
+        indent = len(line) - len(line.lstrip())
+        if line.strip() and record is not None and indent <= record:
+            record = None
+        match = DEFINITION.match(line)
+        if match and match.group(1) not in NOT_DEFINITIONS and " use " not in line and record is None:
+            found.append((match.group(1), " ".join(comment)))
+            if "pub record " in line or "pub data " in line:
+                record = indent
+        comment = []
+    return found
+
+
+def spec_files(crate):
+    """The files of a crate's definitions, in the reading order of its Lib.antt."""
+    specs = folder(crate) / "specs"
+    library = specs / "Lib.antt"
+    if not library.exists():
+        return []
+    names = re.findall(r"^(?:pub )?mod (\w+)", library.read_text(), re.MULTILINE)
+    files = [specs / f"{name}.antt" for name in names]
+    return [file for file in files if file.exists()]
+
+
+def edits(crate):
+    """The names of a crate's wrong bodies."""
+    return sorted(file.name for file in (folder(crate) / "must-fail").glob("*.edit"))
+
+
+def sources(crate):
+    return [file for file in (folder(crate) / "src").rglob("*.rt")]
+
+
+def labels(crate):
+    """The labels of all clauses of a crate."""
+    found = set()
+    for file in sources(crate):
+        found.update(re.findall(r"^ *(?:requires|ensures) (\w+) ", file.read_text(), re.MULTILINE))
+    return found
+
+
+def readme(crate):
+    file = folder(crate) / "README.md"
+    return file.read_text() if file.exists() else ""
+
+
+def first_sentence(text):
+    """The sentence after a page's heading, in one line."""
+    body = text.split("\n", 1)[1].strip() if "\n" in text else ""
+    paragraph = " ".join(body.split("\n\n", 1)[0].split())
+    return re.split(r"(?<=[.])\s", paragraph)[0]
+
+
+def tables(text, header):
+    """The rows, as lists of cells, of the tables of a page whose heading row begins with these cells."""
+    rows, inside = [], False
+    for line in text.splitlines():
+        cells = [cell.strip() for cell in line.strip().strip("|").split(" | ")] if line.startswith("|") else None
+        if cells is None:
+            inside = False
+        elif cells[: len(header)] == header:
+            inside = True
+        elif inside and not set(line) <= set("|- "):
+            rows.append(cells)
+    return rows
