@@ -9,3 +9,5 @@ pub mod Region
 pub mod Lazy
 pub mod BitList
 pub mod Frame
+pub mod Table
+pub mod Shape

@@ -38,3 +38,8 @@ pub record IsBoxWithin (area : CellBox) : Type 0 where
   pub y1 : IsWithin area.y1
   pub x2 : IsWithin area.x2
   pub y2 : IsWithin area.y2
+
+-- at most 2^41 away from 0, as instants and coordinates that are asked for
+pub record IsAsked (z : ℤ) : Type 0 where
+  pub low : neg_ℤ (pos (2 ^ 41)) ≤ℤ z
+  pub high : z ≤ℤ pos (2 ^ 41)

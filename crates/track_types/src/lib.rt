@@ -7,10 +7,12 @@
 //! box is in the region. The crate stands on packed_bits and step_count.
 #![tactic(auto)]
 
+mod answerer;
 mod bit_list;
 mod cell;
 mod cell_box;
 mod chart;
+mod facts;
 mod flaw;
 mod frame;
 mod lazy;
@@ -18,25 +20,31 @@ mod limit;
 mod lists;
 mod memory;
 mod numeral;
+mod parts;
 mod period_parts;
+mod question;
 mod raw_row;
 mod region;
 mod row;
 mod stop;
 
+pub use answerer::Answerer;
 pub use bit_list::BitList;
 pub use cell::Cell;
 pub use cell_box::CellBox;
 pub use chart::Chart;
+pub use facts::Facts;
 pub use flaw::{Flaw, Kind, Section};
 pub use frame::Frame;
 pub use lazy::drawn_items::Drawn;
 pub use lazy::{Lazy, drawn};
 pub use limit::{LimitKind, MAX_EXTENT, MAX_HEIGHT};
-pub use lists::{List32, List64, Lists32, PairList};
+pub use lists::{List32, List64, Lists32, PairList, PeriodList};
 pub use memory::Memory;
 pub use numeral::{Numeral, number};
+pub use parts::Parts;
 pub use period_parts::PeriodParts;
+pub use question::Question;
 pub use raw_row::{RawRow, RowFault};
 pub use region::{Region, dist2};
 pub use row::Row;

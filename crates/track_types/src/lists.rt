@@ -1,5 +1,6 @@
 ghost use Rattle.std.specs.Prelude.{◌≡◌};
 
+use crate::period_parts::PeriodParts;
 use std::marker::Model;
 
 #[cfg(test)]
@@ -158,5 +159,45 @@ impl Lists32 {
         ensures { result.items ≡ self }
     {
         self.lists
+    }
+}
+
+/// A list of what an index holds of its periods, in order.
+///
+/// It is made from a `Vec` and gives it back, and takes no memory. Contracts see the periods in order.
+#[derive(Debug, Drop)]
+pub struct PeriodList {
+    periods: Vec<PeriodParts>,
+}
+
+impl Model for PeriodList {
+    ghost use Rattle.std.specs.Prelude.{List};
+    ghost use Rattle.track_types.specs.declared.period_parts.PeriodParts as declared;
+
+    ghost Value = { List declared.PeriodParts };
+
+    ghost view = { λ list. list.periods.items };
+}
+
+impl PeriodList {
+    /// The list of these periods.
+    pub fn new(periods: Vec<PeriodParts>) -> PeriodList
+        ensures { result ≡ periods.items }
+    {
+        PeriodList { periods }
+    }
+
+    /// The periods in order.
+    pub fn as_slice(&self) -> &[PeriodParts]
+        ensures { result.now ≡ self.now }
+    {
+        self.periods.as_slice()
+    }
+
+    /// The `Vec` that the list was made from.
+    pub fn into_vec(self) -> Vec<PeriodParts>
+        ensures { result.items ≡ self }
+    {
+        self.periods
     }
 }
