@@ -5,6 +5,7 @@ use Rattle.track_types.specs.declared.cell.Cell.{Cell}
 use Rattle.track_types.specs.declared.cell_box.CellBox.{CellBox}
 use Rattle.k2_tree.specs.Pruned.{pruned_budget, pruned_left}
 use Rattle.snapshots.specs.View.{SnapshotView, blocks_in, objects_at}
+use Rattle.snapshots.specs.Cost.{block_reads, first_reads}
 use Rattle.snapshots.specs.Members.{MembersView}
 use Rattle.snapshots.specs.declared.anchored.Anchored.{Anchored}
 use Rattle.snapshots.specs.declared.objects_in.ObjectsIn.{ObjectsIn}
@@ -19,7 +20,7 @@ objects_of view leaves = flat_map (λ leaf. objects_at view leaf.0) leaves
 
 -- the reads by which the blocks of leaves are found
 abbrev pub reads_of : SnapshotView → List (ℕ × Cell) → ℕ
-reads_of view leaves = sum_by (λ leaf. 41 + 43 * length (blocks_in view leaf.0)) leaves
+reads_of view leaves = sum_by (λ leaf. first_reads + block_reads * length (blocks_in view leaf.0)) leaves
 
 -- the blocks that are left of the cell that was begun, if one was
 abbrev pub begun_left : Option MembersView → List Anchored

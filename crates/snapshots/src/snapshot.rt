@@ -6,6 +6,9 @@ ghost use Rattle.snapshots.specs.Flaws.{flaw_of, IsFaultFor, IsShaped, IsSnapsho
 ghost use Rattle.snapshots.specs.Members.{blocks_from, members_left, IsAt};
 ghost use Rattle.snapshots.specs.Objects.{blocks_of, objects_budget, objects_left, objects_of};
 ghost use Rattle.k2_tree.specs.Pruning.{kept_leaves, square_count};
+ghost use Rattle.bit_rank.specs.Cost.{get_reads, select_reads};
+ghost use Rattle.object_perm.specs.Cost.{at_reads};
+ghost use Rattle.snapshots.specs.Cost.{block_reads, find_reads, first_reads, square_reads};
 ghost use Rattle.snapshots.specs.declared.next.Next.TheVariants.{End, Place};
 
 use crate::anchored::Anchored;
@@ -123,12 +126,12 @@ impl Snapshot {
     /// object is told by its place among all objects, which is below their number.
     ///
     /// It goes from the object to its place among the present ones, by the inverse permutation to
-    /// its place in leaf order, and climbs the tree from its leaf to the cell: at most 52 reads, and
-    /// 41 for each level of the tree. It takes no memory.
+    /// its place in leaf order, and climbs the tree from its leaf to the cell, in at most `find_reads`
+    /// of the tree's height. It takes no memory.
     pub fn find<L: Ledger>(&self, index: u32, steps: &mut Steps<L>) -> Option<Anchored>
         requires { index < self.now.objects }
         ensures value { result ≡ block_of self.now index }
-        ensures cost { steps.new ≤ steps.old + (52 + 41 * self.now.frame.height) }
+        ensures cost { steps.new ≤ steps.old + find_reads self.now.frame.height }
     {
         if !self.present.get(index, steps) {
             return None;
@@ -149,27 +152,28 @@ impl Snapshot {
     }
 
     /// The blocks whose anchors are in the cell of a leaf, by object. The leaf is one of the tree's,
-    /// and the cell is its own. It takes no memory, and its draws read at most 41, and 43 for each
-    /// block.
+    /// and the cell is its own. It takes no memory, and its draws make at most `first_reads`, and
+    /// `block_reads` for each block.
     pub fn members(&self, leaf: u32, cell: Cell) -> Members<'_>
         requires { slice_get (tree_in self.now).cells leaf ≡ Some cell }
         ensures left { result.blocks ≡ blocks_in self.now leaf }
-        ensures budget { result.reads ≡ 41 + 43 * length (blocks_in self.now leaf) }
+        ensures budget { result.reads ≡ first_reads + block_reads * length (blocks_in self.now leaf) }
     {
         Members::new(self, leaf, cell)
     }
 
     /// The blocks whose anchors lie in squares on which `keep` is true, from the whole grid to the
-    /// anchor's cell: by leaf, then by object. It takes no memory, and its draws read at most 52
-    /// for each square with an anchor on which `keep` is true, and 43 for each block.
+    /// anchor's cell: by leaf, then by object. It takes no memory, and its draws make at most
+    /// `square_reads` for each square with an anchor on which `keep` is true, and `block_reads` for
+    /// each block.
     pub fn objects_in<F: Keep>(&self, keep: F) -> ObjectsIn<'_, F>
         ensures left { objects_left F.keeps result
             ≡ blocks_of self.now (kept_leaves (F.keeps keep) (tree_in self.now)) }
         ensures objects { objects_left F.keeps result
             ≡ objects_of self.now (kept_leaves (F.keeps keep) (tree_in self.now)) }
         ensures budget { objects_budget F.keeps result
-            ≤ 52 * square_count (F.keeps keep) (tree_in self.now)
-            + 43 * length (objects_left F.keeps result) }
+            ≤ square_reads * square_count (F.keeps keep) (tree_in self.now)
+            + block_reads * length (objects_left F.keeps result) }
     {
         ObjectsIn::new(self, self.tree.pruned(keep))
     }
@@ -180,7 +184,7 @@ impl Snapshot {
         ensures within { result < length self.now.parts.perm }
         ensures leaf { leaf_at self.now result ≡ leaf }
         ensures places { blocks_in self.now leaf ≡ blocks_from self.now leaf result }
-        ensures cost { steps.new ≤ steps.old + 41 }
+        ensures cost { steps.new ≤ steps.old + first_reads }
     {
         let lasts = &self.lasts;
         if leaf == 0 {
@@ -199,7 +203,7 @@ impl Snapshot {
         requires within { place < length self.now.parts.perm }
         requires cell { slice_get (tree_in self.now).cells (leaf_at self.now place) ≡ Some cell }
         ensures value { result ≡ block_at self.now place }
-        ensures cost { steps.new ≤ steps.old + 42 }
+        ensures cost { steps.new ≤ steps.old + (at_reads + select_reads) }
     {
         let rank = self.perm.at(place, steps);
         let index = self.present.select1(rank + 1, steps);
@@ -214,7 +218,7 @@ impl Snapshot {
         ensures left { blocks_from self.now (leaf_at self.now place) place
             ≡ block_at self.now place ∷ members_left self.now (leaf_at self.now place)
             (if result then End else Place (place + 1)) }
-        ensures cost { steps.new ≤ steps.old + 1 }
+        ensures cost { steps.new ≤ steps.old + get_reads }
     {
         self.lasts.get(place, steps)
     }
