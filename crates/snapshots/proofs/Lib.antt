@@ -1,10 +1,12 @@
 -- Laws for callers.
 pub mod BlocksLemmas
+pub mod SoundLemmas
 -- The parts, the blocks and the places of a period.
 mod OrderLemmas
 mod CellsLemmas
 mod StartsLemmas
 mod PartLemmas
+mod AbsentLemmas
 mod JudgedLemmas
 mod FlawlessLemmas
 mod BlockLemmas

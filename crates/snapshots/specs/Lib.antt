@@ -2,6 +2,7 @@
 pub mod Cost
 pub mod View
 pub mod Flaws
+pub mod Sound
 pub mod Stored
 pub mod Members
 pub mod Objects
