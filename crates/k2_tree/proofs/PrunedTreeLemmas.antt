@@ -4,6 +4,7 @@ use Rattle.std.specs.List.{flat_map, sum_by}
 use Rattle.std.proofs.lemmas.List.Folds.{flat_map-map}
 use Rattle.track_types.specs.declared.cell.Cell.{Cell}
 use Rattle.track_types.specs.declared.cell_box.CellBox.{CellBox}
+use Rattle.k2_tree.specs.Cost.{child_reads}
 use Rattle.k2_tree.specs.Morton.{morton_of}
 use Rattle.k2_tree.specs.TreeBits.{prefixes}
 use Rattle.k2_tree.specs.Squares.{Node, node, squares_from}
@@ -33,9 +34,9 @@ left_whole keep tree walk is same top =
     (λ (leaf : ℕ × Cell). passes test tree.height (morton_of tree.height tree.base leaf.1)) (numbered 0 cells))
     (cells_back tree.height tree.base tree.cells is.inside)
 
--- the budget at the beginning is 11 for each square that passes
+-- the budget at the beginning is one window and one rank for each square that passes
 pub budget_whole : (keep : CellBox → Bool) (tree : Tree) (walk : WalkView) → IsTree tree → walk.tree ≡ tree
-    → walk.pending ≡ top_nodes tree → walk_budget keep walk ≡ 11 * square_count keep tree
+    → walk.pending ≡ top_nodes tree → walk_budget keep walk ≡ child_reads * square_count keep tree
 budget_whole keep tree walk is same top =
     let test : Node → Bool = on_areas keep tree in
     let codes : List ℕ = codes_of tree in
@@ -43,4 +44,4 @@ budget_whole keep tree walk is same top =
     ∙ ap (sum_by (weight_in (reads_of test) tree)) top
     ∙ sum_by-map (weight_in (reads_of test) tree) (node tree.height) (prefixes tree.height codes)
     ∙ weight_below-all (reads_of test) tree.height codes is.codes.rising
-    ∙ sum_by_if 11 test (squares_from tree.height codes)
+    ∙ sum_by_if child_reads test (squares_from tree.height codes)

@@ -1,5 +1,6 @@
 ghost use Rattle.std.specs.Prelude.{◌≡◌, ◌+◌, ◌*◌, ◌^◌, ◌<◌, ◌≤◌, length, map, All, Bool, Contains, [], false, IfErr, IfNone, IfOk, IfSome, OnOk, MatchOption, None, Some, slice_get};
 ghost use Rattle.std.specs.List.Sorted.{IsStrictlyIncreasing};
+ghost use Rattle.k2_tree.specs.Cost.{child_reads, climb_reads, descent_reads};
 ghost use Rattle.k2_tree.specs.Morton.{morton_of, IsGrid, IsInGrid};
 ghost use Rattle.k2_tree.specs.TreeBits.{fan, morton_bits};
 ghost use Rattle.k2_tree.specs.Squares.{node};
@@ -122,7 +123,7 @@ impl K2Tree {
     pub fn leaf_cell<L: Ledger>(&self, leaf: u32, steps: &mut Steps<L>) -> Cell
         requires { leaf < length self.now.cells }
         ensures value { slice_get self.now.cells leaf ≡ Some result }
-        ensures cost { steps.new ≤ steps.old + 41 * self.now.height }
+        ensures cost { steps.new ≤ steps.old + climb_reads self.now.height }
     {
         let code = code_of_leaf(&self.bits, self.height, leaf, steps);
         cell_at(code, self.height, self.base)
@@ -134,7 +135,7 @@ impl K2Tree {
     pub fn leaf_of<L: Ledger>(&self, cell: Cell, steps: &mut Steps<L>) -> Option<u32>
         ensures value { MatchOption result (Contains self.now.cells cell → ⊥)
             (λ leaf. slice_get self.now.cells leaf ≡ Some cell) }
-        ensures cost { steps.new ≤ steps.old + 11 * self.now.height }
+        ensures cost { steps.new ≤ steps.old + descent_reads self.now.height }
     {
         if self.bits.len() == 0 {
             return None;
@@ -176,7 +177,7 @@ impl K2Tree {
         ensures found { IfSome result (λ child. IsSquareOf self.now child) }
         ensures node { IfSome result (λ child.
             node_of child ≡ child_at (node_of square.now) digit) }
-        ensures cost { steps.new ≤ steps.old + 11 }
+        ensures cost { steps.new ≤ steps.old + child_reads }
     {
         let Some(number) = child_of(&self.bits, square.number(), digit, steps) else {
             return None;
@@ -204,7 +205,7 @@ impl K2Tree {
     pub fn pruned<F: Keep>(&self, keep: F) -> Pruned<'_, F>
         ensures tree { pruned_tree result ≡ self.now }
         ensures left { pruned_left F.keeps result ≡ kept_leaves (F.keeps keep) self.now }
-        ensures budget { pruned_budget F.keeps result ≡ 11 * square_count (F.keeps keep) self.now }
+        ensures budget { pruned_budget F.keeps result ≡ child_reads * square_count (F.keeps keep) self.now }
         ensures wanted { (wanted : Cell → Bool) → IsKeptFor (F.keeps keep) wanted
             → wanted_of wanted (pruned_left F.keeps result)
             ≡ wanted_of wanted (numbered 0 self.now.cells) }
@@ -220,7 +221,7 @@ impl K2Tree {
         ensures square { result.square ≡ square }
         ensures nodes { nodes_of result ≡ child_nodes self.now (node_of square) }
         ensures stands { StandsAt (squares_of self.now) result.number (nodes_of result) }
-        ensures cost { steps.new ≤ steps.old + 11 }
+        ensures cost { steps.new ≤ steps.old + child_reads }
     {
         let bits = &self.bits;
         let place = FAN * square.number();
