@@ -2,13 +2,13 @@ ghost use Rattle.std.specs.Prelude.{◌≡◌, ◌+◌, ◌*◌, ◌^◌, ◌<�
 ghost use Rattle.std.specs.List.Sorted.{IsStrictlyIncreasing};
 ghost use Rattle.k2_tree.specs.Cost.{child_reads, climb_reads, descent_reads};
 ghost use Rattle.k2_tree.specs.Morton.{morton_of, IsGrid, IsInGrid};
-ghost use Rattle.k2_tree.specs.TreeBits.{fan, morton_bits};
+ghost use Rattle.k2_tree.specs.TreeBits.{fan};
 ghost use Rattle.k2_tree.specs.Squares.{node};
-ghost use Rattle.k2_tree.specs.Tree.{codes_of, tree_with, IsTree};
+ghost use Rattle.k2_tree.specs.Tree.{tree_bits, tree_with, IsTree};
 ghost use Rattle.k2_tree.specs.TreeSquares.{child_at, corner_of, holds_cell, level_of, node_of, squares_of, IsSquareOf};
 ghost use Rattle.k2_tree.specs.Pending.{nodes_of, StandsAt};
 ghost use Rattle.k2_tree.specs.Pruned.{pruned_budget, pruned_left, pruned_tree};
-ghost use Rattle.k2_tree.specs.Pruning.{child_nodes, kept_leaves, numbered, square_count, wanted_of, IsKeptFor};
+ghost use Rattle.k2_tree.specs.Pruning.{child_nodes, kept_leaves, leaves_of, square_count, wanted_of, IsKeptFor};
 ghost use Rattle.k2_tree.specs.Flaws.{tree_flaw, IsFaultOf, StandsFor};
 ghost use Rattle.track_types.specs.declared.cell.Cell.{Cell};
 
@@ -101,7 +101,7 @@ impl K2Tree {
     /// The tree bits. The tree is given up, so that none of them can be read uncounted while it is
     /// lent.
     pub fn bits(self) -> BitList
-        ensures { result ≡ morton_bits self.height (codes_of self) }
+        ensures { result ≡ tree_bits self }
     {
         let len = self.bits.len();
         BitList::new(self.bits.into_words(), len)
@@ -208,7 +208,7 @@ impl K2Tree {
         ensures budget { pruned_budget F.keeps result ≡ child_reads * square_count (F.keeps keep) self.now }
         ensures wanted { (wanted : Cell → Bool) → IsKeptFor (F.keeps keep) wanted
             → wanted_of wanted (pruned_left F.keeps result)
-            ≡ wanted_of wanted (numbered 0 self.now.cells) }
+            ≡ wanted_of wanted (leaves_of self.now) }
     {
         Pruned::new(SquareWalk::new(self), keep)
     }

@@ -4,8 +4,7 @@ use Rattle.object_perm.specs.Permutation.{PermutesPlaces}
 use Rattle.track_types.specs.Frame.{instants_in}
 use Rattle.track_types.specs.declared.flaw.Section.TheVariants.{Lasts}
 use Rattle.track_types.specs.declared.flaw.Kind.TheVariants.{Cells}
-use Rattle.k2_tree.specs.Tree.{Tree, codes_of}
-use Rattle.k2_tree.specs.TreeBits.{morton_bits}
+use Rattle.k2_tree.specs.Tree.{Tree}
 use Rattle.k2_tree.specs.Flaws.{StandsFor}
 use Rattle.k2_tree.proofs.CellLemmas.{tree_of-StandsFor}
 use Rattle.snapshots.specs.View.{SnapshotView, tree_in}
@@ -49,9 +48,7 @@ pub view_of-parts : (view : SnapshotView) (present lasts : List Bool) (perm : Li
     → present ≡ view.parts.present → lasts ≡ view.parts.lasts → perm ≡ view.parts.perm
     → view_of view.frame view.number view.start present view.parts.offsets tree lasts perm view.parts.lengths ≡ view
 view_of-parts view present lasts perm tree stands objects a b c =
-    let bits : morton_bits tree.height (codes_of tree) ≡ view.parts.tree =
-    ap (λ h. morton_bits h (codes_of tree)) stands.high ∙ stands.same in
-    rw (a, bits, b, c, objects) refl
+    rw (a, stands.same, b, c, objects) refl
 
 -- parts without a flaw are stored
 pub IsStored-flawless : (view : SnapshotView) (tree : Tree) (starts : List ℕ) → IsShaped view

@@ -3,8 +3,7 @@ use Rattle.std.specs.Prelude.{◌≡◌, ℕ, ◌+◌, Bool, List, length, map, 
 use Rattle.std.specs.List.{range_with_len}
 use Rattle.track_types.specs.declared.frame.Frame.{Frame}
 use Rattle.object_perm.specs.Permutation.{PermutesPlaces}
-use Rattle.k2_tree.specs.Tree.{Tree, codes_of}
-use Rattle.k2_tree.specs.TreeBits.{morton_bits}
+use Rattle.k2_tree.specs.Tree.{Tree, tree_bits}
 use Rattle.k2_tree.specs.Flaws.{StandsFor}
 use Rattle.snapshots.specs.View.{SnapshotView}
 use Rattle.snapshots.specs.Flaws.{IsSnapshot}
@@ -23,7 +22,7 @@ view_of frame number start present offsets tree lasts perm lengths = record {
   parts = record {
     present = present;
     offsets = offsets;
-    tree = morton_bits tree.height (codes_of tree);
+    tree = tree_bits tree;
     lasts = lasts;
     perm = perm;
     lengths = lengths;
