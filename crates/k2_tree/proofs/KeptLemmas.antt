@@ -12,7 +12,7 @@ use Rattle.k2_tree.specs.Areas.{area_at}
 use Rattle.k2_tree.specs.Tree.{Tree, IsTree}
 use Rattle.k2_tree.specs.Pruning.{kept_leaves, leaves_of, on_areas, passes, passes_at, IsKeptFor}
 use Rattle.k2_tree.proofs.AreaLemmas.{area_within, in_area}
-use Rattle.k2_tree.proofs.FlatLemmas.{filter_implied}
+use Rattle.list_laws.proofs.FilterLemmas.{filter_implied}
 
 -- a test that is true on each square from a level down passes
 pub passes-from_each : (test : Node → Bool) (n code : ℕ)

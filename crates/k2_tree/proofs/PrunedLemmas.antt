@@ -17,7 +17,7 @@ use Rattle.k2_tree.specs.declared.square.Square.{Square}
 use Rattle.k2_tree.specs.Pruning.{child_nodes, children, kept_below, leaf_of, on_areas, weight_below}
 use Rattle.k2_tree.specs.Pruned.{kept_in, reads_of, walk_budget, walk_left, weight_in}
 use Rattle.k2_tree.specs.SquareWalk.{WalkView}
-use Rattle.k2_tree.proofs.FlatLemmas.{sum_by-map}
+use Rattle.list_laws.proofs.FlatLemmas.{sum_by-map}
 
 -- a square that fails has no kept number
 kept_in-failed : (test : Node → Bool) (tree : Tree) (level prefix : ℕ) → test (node level prefix) ≡ false

@@ -13,7 +13,8 @@ use Rattle.k2_tree.specs.Pruning.{kept_leaves, leaf_of, on_areas, passes, passes
 use Rattle.k2_tree.specs.Pruned.{kept_in, reads_of, walk_budget, walk_left, weight_in}
 use Rattle.k2_tree.specs.SquareWalk.{WalkView, top_nodes}
 use Rattle.k2_tree.proofs.CellLemmas.{cells_back}
-use Rattle.k2_tree.proofs.FlatLemmas.{sum_by-map, sum_by_if}
+use Rattle.list_laws.proofs.FilterLemmas.{sum_by_if}
+use Rattle.list_laws.proofs.FlatLemmas.{sum_by-map}
 use Rattle.k2_tree.proofs.LeafLemmas.{leaves-enumerated}
 use Rattle.k2_tree.proofs.PruningLemmas.{kept_below-all, weight_below-all}
 

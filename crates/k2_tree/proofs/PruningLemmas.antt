@@ -14,8 +14,8 @@ use Rattle.k2_tree.specs.Pruning.{passes, children, kept_below, weight_below}
 use Rattle.k2_tree.proofs.PrefixLemmas.{prefixes-from_longer, prefixes-zero, prefixes-top}
 use Rattle.k2_tree.proofs.DigitLemmas.{fourth}
 use Rattle.k2_tree.proofs.SquareLemmas.{squares_from-zero}
-use Rattle.k2_tree.proofs.FlatLemmas.{filter-flat_map, flat_map-flat_map, flat_map_agree, All-flat_map, flat_map_if}
-use Rattle.k2_tree.proofs.FlatLemmas.{filter_and, filter_all, filter_none, sum_by-flat_map, sum_by-map, sum_by_plus}
+use Rattle.list_laws.proofs.FilterLemmas.{flat_map_if, filter_and, filter-all, filter-none}
+use Rattle.list_laws.proofs.FlatLemmas.{filter-flat_map, flat_map-flat_map, flat_map_agree, All-flat_map, sum_by-flat_map, sum_by-map, sum_by_plus}
 
 -- what a test keeps of the longer prefixes, prefix by prefix
 filter-longer : (p : ℕ → Bool) (xs : List ℕ) → filter p (longer xs) ≡ flat_map (λ x. filter p (longer (x ∷ []))) xs
@@ -81,11 +81,11 @@ filter-prefix p n r xs each = by_test (p r) refl
     by_test true e =
         let kept : All (λ c. p (c / 4 ^ n) ≡ true) xs =
         All-weaker (λ c. c / 4 ^ n ≡ r) (λ c. p (c / 4 ^ n) ≡ true) (λ c is. ap p is ∙ e) xs each in
-        rw e (filter_all (λ c. p (c / 4 ^ n)) xs kept)
+        rw e (filter-all (λ c. p (c / 4 ^ n)) xs kept)
     by_test false e =
         let gone : All (λ c. p (c / 4 ^ n) ≡ false) xs =
         All-weaker (λ c. c / 4 ^ n ≡ r) (λ c. p (c / 4 ^ n) ≡ false) (λ c is. ap p is ∙ e) xs each in
-        rw e (filter_none (λ c. p (c / 4 ^ n)) xs gone)
+        rw e (filter-none (λ c. p (c / 4 ^ n)) xs gone)
 
 -- a test on a square keeps all or none of what is kept below its children
 kept_below-step : (test : Node → Bool) (codes : List ℕ) (n r : ℕ)

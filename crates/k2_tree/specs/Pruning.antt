@@ -54,6 +54,10 @@ abbrev pub IsKeptFor : (CellBox → Bool) → (Cell → Bool) → Type 0
 IsKeptFor keep wanted = (area : CellBox) (cell : Cell)
     → IsBoxWithin area → IsTrue (in_box area cell) → IsTrue (wanted cell) → IsTrue (keep area)
 
+-- a test keeps each box near 0 that another keeps
+abbrev pub IsWeaker : (CellBox → Bool) → (CellBox → Bool) → Type 0
+IsWeaker weak strong = (area : CellBox) → IsBoxWithin area → IsTrue (strong area) → IsTrue (weak area)
+
 -- those of the leaves whose cells are wanted
 abbrev pub wanted_of : (Cell → Bool) → List (ℕ × Cell) → List (ℕ × Cell)
 wanted_of wanted leaves = filter (λ leaf. wanted leaf.1) leaves

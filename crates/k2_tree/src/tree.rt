@@ -1,11 +1,12 @@
 ghost use Rattle.std.specs.Prelude.{◌≡◌, ◌+◌, ◌*◌, ◌^◌, ◌<◌, ◌≤◌, length, map, All, Bool, Contains, [], false, IfErr, IfNone, IfOk, IfSome, OnOk, MatchOption, None, Some, slice_get};
 ghost use Rattle.std.specs.List.Sorted.{IsStrictlyIncreasing};
+ghost use Rattle.k2_tree.specs.Areas.{IsBoxInside};
 ghost use Rattle.k2_tree.specs.Cost.{child_reads, climb_reads, descent_reads};
 ghost use Rattle.k2_tree.specs.Morton.{morton_of, IsGrid, IsInGrid};
 ghost use Rattle.k2_tree.specs.TreeBits.{fan};
 ghost use Rattle.k2_tree.specs.Squares.{node};
 ghost use Rattle.k2_tree.specs.Tree.{tree_bits, tree_with, IsTree};
-ghost use Rattle.k2_tree.specs.TreeSquares.{child_at, corner_of, holds_cell, level_of, node_of, squares_of, IsSquareOf};
+ghost use Rattle.k2_tree.specs.TreeSquares.{area_of, child_at, corner_of, holds_cell, level_of, node_of, squares_of, IsSquareOf};
 ghost use Rattle.k2_tree.specs.Pending.{nodes_of, StandsAt};
 ghost use Rattle.k2_tree.specs.Pruned.{pruned_budget, pruned_left, pruned_tree};
 ghost use Rattle.k2_tree.specs.Pruning.{child_nodes, kept_leaves, leaves_of, square_count, wanted_of, IsKeptFor};
@@ -177,6 +178,8 @@ impl K2Tree {
         ensures found { IfSome result (λ child. IsSquareOf self.now child) }
         ensures node { IfSome result (λ child.
             node_of child ≡ child_at (node_of square.now) digit) }
+        ensures inside { IfSome result (λ child.
+            IsBoxInside (area_of child) (area_of square.now)) }
         ensures cost { steps.new ≤ steps.old + child_reads }
     {
         let Some(number) = child_of(&self.bits, square.number(), digit, steps) else {
