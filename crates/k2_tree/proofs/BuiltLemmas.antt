@@ -12,7 +12,7 @@ use Rattle.track_types.specs.declared.cell.Cell.{Cell}
 use Rattle.track_types.specs.declared.limit.TheConstants.{MAX_HEIGHT}
 use Rattle.k2_tree.specs.Morton.{morton_of, cell_of, IsGrid, IsInGrid}
 use Rattle.k2_tree.specs.TreeBits.{prefixes, level_bits, morton_bits, AreCodes}
-use Rattle.k2_tree.specs.Tree.{codes_of, codes_in, tree_of, tree_with, AreTreeBits, IsStored}
+use Rattle.k2_tree.specs.Tree.{codes_in, tree_bits, tree_of, tree_with, AreTreeBits, IsStored}
 use Rattle.k2_tree.proofs.MortonLemmas.{morton_of-lt}
 use Rattle.k2_tree.proofs.RisingLemmas.{rises}
 use Rattle.k2_tree.proofs.PrefixLemmas.{by_test, once_from}
@@ -84,9 +84,10 @@ built height base cells bits grid few inside up is =
       ap (tree_with height base) (ap (map (cell_of height base)) told ∙ cells_back height base cells inside),
     )
 
--- the bits of a stored tree are those of its cells' numbers
+-- a stored tree's bits are those that are stored
 pub given_back : (height : ℕ) (base : Cell) (bits : List Bool) → IsStored height base bits
-    → bits ≡ morton_bits height (codes_of (tree_of height base bits))
+    → bits ≡ tree_bits (tree_of height base bits)
+unfolding tree_bits
 given_back height base bits stored =
     stored.tree.exact
     ∙ ap (morton_bits height) (sym (codes_back height base (codes_in height bits) stored.tree.codes.small))

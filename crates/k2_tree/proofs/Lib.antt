@@ -12,10 +12,9 @@ pub mod KeptLemmas
 pub mod FewLemmas
 pub mod FlawlessLemmas
 pub mod FlawedLemmas
--- Digits of numbers, lists, and boxes.
+-- Digits of numbers, and boxes.
 mod DigitLemmas
 mod HeightLemmas
-mod FlatLemmas
 mod BoxLemmas
 -- A tree's bits: where squares stand in them, and what they tell.
 mod TreeLemmas
@@ -35,6 +34,7 @@ mod CheckedLemmas
 -- Squares, and walks over them.
 mod SideLemmas
 mod ChildLemmas
+mod InsideLemmas
 mod StoredLemmas
 mod PendingLemmas
 mod ChildrenLemmas

@@ -5,8 +5,7 @@ use Rattle.track_types.specs.Frame.{instants_in}
 use Rattle.track_types.specs.declared.flaw.Section.TheVariants.{Lasts}
 use Rattle.track_types.specs.declared.flaw.Kind.TheVariants.{Cells}
 use Rattle.track_types.specs.declared.period_parts.PeriodParts.{PeriodParts}
-use Rattle.k2_tree.specs.Tree.{Tree, codes_of}
-use Rattle.k2_tree.specs.TreeBits.{morton_bits}
+use Rattle.k2_tree.specs.Tree.{Tree}
 use Rattle.k2_tree.specs.Flaws.{StandsFor}
 use Rattle.k2_tree.proofs.CellLemmas.{tree_of-StandsFor}
 use Rattle.snapshots.specs.View.{SnapshotView, tree_in, view_with}
@@ -64,10 +63,8 @@ module _ (view : SnapshotView) (tree : Tree) (blocks : Option (Box Blocks))
   -- tells them
   pub view_of-parts : view_of view.frame view.number view.objects view.start tree blocks ≡ view
   view_of-parts =
-      let bits : morton_bits tree.height (codes_of tree) ≡ view.parts.tree =
-      ap (λ h. morton_bits h (codes_of tree)) stands.high ∙ stands.same in
       ap (λ parts. view_with view.frame view.number view.objects view.start parts)
-      (ap (λ tree_bits. parts_with view.objects tree_bits blocks) bits ∙ told)
+      (ap (λ bits. parts_with view.objects bits blocks) stands.same ∙ told)
 
   -- and is stored as it should be
   pub IsStored-flawless : IsShaped view → flaw_of view ≡ None → starts_in blocks ≡ starts_of view.start view.parts.lengths

@@ -13,7 +13,7 @@ use Rattle.object_perm.proofs.FlawLemmas.{find-all, find-none, first_flaw-permut
 use Rattle.track_types.specs.Frame.{instants_in}
 use Rattle.track_types.specs.declared.cell.Cell.{Cell}
 use Rattle.k2_tree.specs.Morton.{IsGrid}
-use Rattle.k2_tree.specs.Tree.{codes_of, tree_of, IsTree}
+use Rattle.k2_tree.specs.Tree.{tree_bits, tree_of}
 use Rattle.k2_tree.specs.TreeBits.{morton_bits, AreCodes}
 use Rattle.k2_tree.specs.Flaws.{tree_flaw, StandsFor}
 use Rattle.k2_tree.proofs.CellLemmas.{codes_back, IsTree-stored}
@@ -81,6 +81,7 @@ IsGrid-shaped view shaped =
 -- bits without a flaw are those of the tree that they tell
 stands : (height : ℕ) (base : Cell) (bits : List Bool) → IsGrid height base → length bits ≤ 2 ^ 31
     → tree_flaw height bits ≡ None → StandsFor height base bits (tree_of height base bits)
+unfolding tree_bits
 stands height base bits grid few none =
     let are = AreTreeBits-flawless height bits few none in
     record {

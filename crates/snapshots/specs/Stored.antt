@@ -4,8 +4,7 @@ use Rattle.std.specs.List.{range_with_len}
 use Rattle.std.specs.Global.{Box}
 use Rattle.track_types.specs.declared.frame.Frame.{Frame}
 use Rattle.track_types.specs.declared.period_parts.PeriodParts.{PeriodParts}
-use Rattle.k2_tree.specs.Tree.{Tree, codes_of}
-use Rattle.k2_tree.specs.TreeBits.{morton_bits}
+use Rattle.k2_tree.specs.Tree.{Tree, tree_bits}
 use Rattle.snapshots.specs.View.{SnapshotView, tree_in}
 use Rattle.snapshots.specs.Sound.{IsSnapshot}
 use Rattle.snapshots.specs.declared.blocks.Blocks.{Blocks}
@@ -45,7 +44,7 @@ view_of frame number objects start tree blocks = record {
   number = number;
   objects = objects;
   start = start;
-  parts = parts_with objects (morton_bits tree.height (codes_of tree)) blocks;
+  parts = parts_with objects (tree_bits tree) blocks;
 }
 
 -- what is stored belongs to the view

@@ -70,10 +70,7 @@ fn far_leaf_of_a_blank<L: Ledger>(
 
 #[test]
 fn a_far_rect_gives_nothing(rt: HostRuntime) -> Result<(), Fail> {
-    assert_eq!(rt;
-        far_leaf_of_a_blank::<Brand>(&rt, Blank::new(1))?,
-        None
-    );
+    assert_eq!(rt; far_leaf_of_a_blank::<Brand>(&rt, Blank::new(1))?, None);
     Ok(())
 }
 

@@ -8,7 +8,7 @@ use Rattle.k2_tree.specs.Morton.{morton_of, interleaved, cell_of, row_of, column
 use Rattle.k2_tree.specs.TreeBits.{prefixes}
 use Rattle.k2_tree.specs.Squares.{squares_from}
 use Rattle.k2_tree.specs.Tree.{Tree, tree_with}
-use Rattle.k2_tree.specs.Pruning.{numbered, passes, kept_leaves, square_count}
+use Rattle.k2_tree.specs.Pruning.{passes, passes_at, kept_leaves, square_count}
 use Rattle.k2_tree.proofs.tests.walks.far_leaf.Goals as goal
 
 abbrev base : Cell
@@ -22,7 +22,7 @@ far = Rect (pos 15) (negsuc 14) (pos 16) (negsuc 13)
 
 no_leaf : (tree : Tree) (region : Region) → tree ≡ three → region ≡ far
     → kept_leaves (intersects_region region) tree ≡ []
-unfolding numbered passes morton_of interleaved cell_of row_of column_of
+unfolding passes_at passes morton_of interleaved cell_of row_of column_of
 no_leaf tree region t r = rw (t, r) refl
 
 no_square : (tree : Tree) (region : Region) → tree ≡ three → region ≡ far

@@ -1,8 +1,7 @@
 use Rattle.std.proofs.Common.{◌≡◌, length, take, sym, ap, ◌∙◌, subst}
 use Rattle.packed_bits.specs.Words.{IsPacked, bits_of}
 use Rattle.packed_bits.proofs.WordLemmas.{IsPacked-packed, bits_of-packed}
-use Rattle.k2_tree.specs.TreeBits.{morton_bits}
-use Rattle.k2_tree.specs.Tree.{Tree, codes_of}
+use Rattle.k2_tree.specs.Tree.{Tree, tree_bits}
 use Rattle.k2_tree.proofs.BuiltLemmas.{given_back}
 use Rattle.k2_tree.proofs.tree.K2Tree.bits.Goals as goal
 
@@ -19,5 +18,5 @@ returns c =
     ap (λ n. take n (bits_of c.into_words.result.items)) c.len-len.ensures
     ∙ ap (λ ws. take (length tree.bits) (bits_of ws)) c.into_words.ensures
     ∙ bits_of-packed tree.bits in
-    subst (λ (t : Tree). c.new.result ≡ morton_bits t.height (codes_of t)) c.self.view_is
+    subst (λ (t : Tree). c.new.result ≡ tree_bits t) c.self.view_is
     (c.new.ensures.value ∙ whole ∙ given_back tree.height tree.base tree.bits c.self.invariant)
