@@ -1,2 +1,3 @@
 pub mod FilterLemmas
 pub mod FlatLemmas
+pub mod SumLemmas
