@@ -1,13 +1,13 @@
 -- The blocks of a snapshot: one at each place in leaf order, and those of a leaf are its objects', by object.
-use Rattle.std.proofs.Common.{◌≡◌, ℕ, zero, suc, ◌+◌, ◌-◌, ◌<◌, Bool, true, false, leb, cond, List, [], ◌∷◌, ◌++◌, length}
-use Rattle.std.proofs.Common.{get_or, map, filter, inl, inr, refl, sym, ap, ◌∙◌, arith}
+use Rattle.std.proofs.Common.{◌≡◌, ℕ, ◌+◌, ◌<◌, true, false, List, [], ◌∷◌, ◌++◌, length}
+use Rattle.std.proofs.Common.{map, filter, refl, sym, ap, ◌∙◌, arith}
 use Rattle.std.specs.List.{range_with_len}
-use Rattle.std.specs.Prelude.{◌==◌, ◌&&◌, not, None, Some, slice_index, slice_index_or}
-use Rattle.std.proofs.lemmas.Bool.{and_from, and_parts, cases_lt, eq-eqb, eqb-true, leb-false}
+use Rattle.std.specs.Prelude.{◌==◌, Some, slice_index, slice_index_or}
+use Rattle.std.proofs.lemmas.Bool.{and_from, and_parts, eq-eqb, eqb-true}
 use Rattle.std.proofs.lemmas.List.{map-id}
 use Rattle.std.proofs.lemmas.Option.{get_or_from_slice_get, slice_get-get_or, slice_get_within}
-use Rattle.bit_rank.specs.Bits.{IsSelected, rank_of, select_of}
-use Rattle.bit_rank.proofs.RankLemmas.{lt-from_rank_of, rank_of-le, rank_of-step, IsSelected-select_of}
+use Rattle.bit_rank.specs.Bits.{IsSelected, select_of}
+use Rattle.bit_rank.proofs.RankLemmas.{lt-from_rank_of, IsSelected-select_of}
 use Rattle.bit_rank.proofs.RankLemmas.{select_of-from_IsSelected}
 use Rattle.object_perm.specs.Permutation.{inverse_of}
 use Rattle.object_perm.proofs.InverseLemmas.{at-inverse_of, inverse_of-at}

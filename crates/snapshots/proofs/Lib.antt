@@ -5,6 +5,7 @@ pub mod SoundLemmas
 mod OrderLemmas
 mod CellsLemmas
 mod StartsLemmas
+pub mod BlockFactsLemmas
 mod PartLemmas
 mod AbsentLemmas
 mod JudgedLemmas

@@ -3,7 +3,6 @@ use Rattle.std.proofs.Common.{◌≡◌, ℕ, ◌+◌, ◌-◌, ◌<◌, ◌≤�
 use Rattle.std.proofs.Common.{map, sym, ap, subst, ◌∙◌, arith}
 use Rattle.std.specs.Prelude.{if◌then◌else◌}
 use Rattle.std.proofs.lemmas.Option.{get_or_from_slice_get}
-use Rattle.packed_bits.specs.Bits.{ones_of}
 use Rattle.packed_bits.proofs.OnesLemmas.{ones_of-le-length}
 use Rattle.bit_rank.specs.Bits.{IsSelected}
 use Rattle.snapshots.specs.View.{SnapshotView, block_at, blocks_in, leaf_at, places_from, tree_in}

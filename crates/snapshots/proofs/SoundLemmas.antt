@@ -1,20 +1,20 @@
 -- Shaped parts have no flaw if and only if they are sound.
-use Rattle.std.proofs.Common.{◌≡◌, ℕ, zero, suc, ◌+◌, ◌-◌, ◌^◌, ◌<◌, ◌≤◌, Bool, true, false, leb, cond, List, length, get_or, All}
-use Rattle.std.proofs.Common.{Option, None, Some, inl, inr, refl, sym, ap, ◌∙◌, arith, subst, pos}
-use Rattle.std.specs.Prelude.{◌==◌, ◌&&◌, ◌||◌, not, slice_get}
+use Rattle.std.proofs.Common.{◌≡◌, ℕ, zero, suc, ◌+◌, ◌-◌, ◌^◌, ◌<◌, ◌≤◌, Bool, true, false, leb, cond, List, length, get_or}
+use Rattle.std.proofs.Common.{Option, None, Some, inl, inr, refl, sym, ap, ◌∙◌, arith}
+use Rattle.std.specs.Prelude.{◌==◌, ◌&&◌, ◌||◌, not}
 use Rattle.std.proofs.lemmas.Bool.{and_from, cases_Bool, cases_lt, eq-eqb, leb-false, lt-leb}
+use Rattle.std.proofs.lemmas.Bool.Decides.{nat_tests}
 use Rattle.std.proofs.lemmas.Int.{ints}
 use Rattle.std.proofs.lemmas.List.Elements.{All-from_get_or, All-get_or}
 use Rattle.std.proofs.lemmas.Option.{get_or_from_slice_get}
-use Rattle.packed_bits.specs.Bits.{ones_of}
 use Rattle.bit_rank.specs.Bits.{rank_of}
 use Rattle.bit_rank.proofs.RankLemmas.{rank_of-le, rank_of-step}
 use Rattle.object_perm.proofs.FlawLemmas.{find-all, find-none, first_flaw-permutes, permutes-from_none}
 use Rattle.track_types.specs.Frame.{instants_in}
 use Rattle.track_types.specs.declared.cell.Cell.{Cell}
 use Rattle.k2_tree.specs.Morton.{IsGrid}
-use Rattle.k2_tree.specs.Tree.{tree_bits, tree_of}
-use Rattle.k2_tree.specs.TreeBits.{morton_bits, AreCodes}
+use Rattle.k2_tree.specs.Tree.{codes_of, tree_bits, tree_of}
+use Rattle.k2_tree.specs.TreeBits.{morton_bits}
 use Rattle.k2_tree.specs.Flaws.{tree_flaw, StandsFor}
 use Rattle.k2_tree.proofs.CellLemmas.{codes_back, IsTree-stored}
 use Rattle.k2_tree.proofs.FlawlessLemmas.{AreTreeBits-flawless}
@@ -22,7 +22,7 @@ use Rattle.k2_tree.proofs.FlawedLemmas.{AreNoTree-flawed}
 use Rattle.snapshots.specs.View.{SnapshotView, leaf_at, tree_in}
 use Rattle.snapshots.specs.Flaws.{flaw_of, have_cells, is_disordered, offset_flaw, order_flaw, IsShaped}
 use Rattle.snapshots.specs.Sound.{IsSound}
-use Rattle.snapshots.proofs.FlawlessLemmas.{cells_from, IsFlawless, IsFlawless-from_none}
+use Rattle.snapshots.proofs.FlawlessLemmas.{cells_from, IsFlawless-from_none}
 
 -- behind a place that is not the last of its leaf stands a greater rank
 next_greater : (lasts : List Bool) (perm : List ℕ) (place : ℕ) → order_flaw lasts perm ≡ None
@@ -107,3 +107,61 @@ IsSound-flawless view shaped none =
       order = λ p q less within same.
           ascends view.parts.lasts view.parts.perm p q flawless.order (shaped.perm ∙ sym shaped.lasts) less within same;
     }
+
+-- the tests of sound parts, from the last to the first
+module _ (view : SnapshotView) (shaped : IsShaped view) (sound : IsSound view) where
+  no_late : offset_flaw (instants_in view.frame view.number) view.parts.offsets ≡ None
+  no_late = find-none _ 0 (length view.parts.offsets) (λ i low within.
+      lt-leb (instants_in view.frame view.number) (get_or view.parts.offsets i 0)
+      (All-get_or (λ x. x < instants_in view.frame view.number) view.parts.offsets i 0 (omega arith) sound.offsets))
+
+  no_tree_flaw : tree_flaw view.frame.height view.parts.tree ≡ None
+  unfolding tree_bits
+  no_tree_flaw =
+      let stands = sound.tree in by_flaw (tree_flaw view.frame.height view.parts.tree) refl
+    where
+      by_flaw : (first : Option ℕ) → tree_flaw view.frame.height view.parts.tree ≡ first → first ≡ None
+      by_flaw None e = refl
+      by_flaw (Some place) e =
+          absurd (AreNoTree-flawed view.frame.height view.parts.tree place e (codes_of (tree_in view))
+          sound.tree.is_tree.codes sound.tree.same)
+
+  have : have_cells view.parts.lasts (length (tree_in view).cells) ≡ true
+  have = and_from _ _ (eq-eqb _ _ sound.cells) (by_length (length view.parts.lasts == 0) refl)
+    where
+      by_length : (b : Bool) → (length view.parts.lasts == 0) ≡ b
+          → ((length view.parts.lasts == 0) || get_or view.parts.lasts (length view.parts.lasts - 1) false) ≡ true
+      by_length true e = rw e refl
+      by_length false e =
+          let some : 0 < length view.parts.lasts = grind (arith, nat_tests, e) in
+          rw e (get_or_from_slice_get view.parts.lasts (length view.parts.lasts - 1) true false (sound.last some))
+
+  no_disorder : order_flaw view.parts.lasts view.parts.perm ≡ None
+  no_disorder =
+      find-none (is_disordered view.parts.lasts view.parts.perm) 1 (length view.parts.perm - 1)
+      (λ place low high. ordered place low (omega arith))
+    where
+      ordered : (place : ℕ) → 1 ≤ place → place < length view.parts.perm
+          → is_disordered view.parts.lasts view.parts.perm place ≡ false
+      ordered place some within = elim (cases_Bool (get_or view.parts.lasts (place - 1) false)) [
+        | inl last ↦ rw last refl
+        | inr other ↦
+            let next : place - 1 + 1 ≡ place = omega arith in
+            let step = rank_of-step view.parts.lasts (place - 1) (omega (arith, shaped.perm, shaped.lasts))
+            ∙ ap (λ b. rank_of view.parts.lasts (place - 1) + cond b 1 0) other in
+            let same : leaf_at view (place - 1) ≡ leaf_at view place =
+            sym (step ∙ omega arith) ∙ ap (leaf_at view) next in
+            let up = sound.order (place - 1) place (omega arith) within same in
+            rw (other, lt-leb (get_or view.parts.perm place 0) (get_or view.parts.perm (place - 1) 0) up) refl
+      ]
+
+  -- sound parts have no flaw
+  pub flaw_of-sound : flaw_of view ≡ None
+  flaw_of-sound =
+      let permutes = first_flaw-permutes view.parts.perm sound.permutes in
+      rw (no_late, no_tree_flaw, have, permutes, no_disorder) refl
+
+-- shaped parts have no flaw if and only if they are sound
+pub flaw_of-none : (view : SnapshotView) → IsShaped view
+    → (flaw_of view ≡ None → IsSound view) × (IsSound view → flaw_of view ≡ None)
+flaw_of-none view shaped = (IsSound-flawless view shaped, flaw_of-sound view shaped)

@@ -1,12 +1,15 @@
 ghost use Rattle.std.specs.Prelude.{◌≡◌, ◌+◌, ◌*◌, ◌<◌, ◌≤◌, ◌^◌, ◌∷◌, false, if◌then◌else◌, length, take, sum, Some, slice_get, slice_index};
-ghost use Rattle.std.specs.Prelude.{None, IfErr, IfOk, OnOk};
-ghost use Rattle.snapshots.specs.View.{block_at, block_of, blocks_in, leaf_at, tree_in, view_with};
+ghost use Rattle.std.specs.Prelude.{All, Bool, None, map, IfErr, IfOk, IfSome, OnOk};
+ghost use Rattle.snapshots.specs.View.{all_blocks, block_at, block_of, blocks_in, leaf_at, objects_at, tree_in, view_with};
 ghost use Rattle.snapshots.specs.Flaws.{flaw_of, IsFaultFor, IsShaped};
-ghost use Rattle.snapshots.specs.Sound.{IsSnapshot, IsSound};
+ghost use Rattle.snapshots.specs.Sound.{IsBlock, IsSnapshot, IsSound};
 ghost use Rattle.snapshots.specs.Stored.{AreBlocksOf};
 ghost use Rattle.snapshots.specs.Members.{blocks_from, members_left, IsAt};
 ghost use Rattle.snapshots.specs.Objects.{blocks_of, objects_budget, objects_left, objects_of};
-ghost use Rattle.k2_tree.specs.Pruning.{kept_leaves, square_count};
+ghost use Rattle.snapshots.specs.Objects.{passing_blocks, wanted_blocks, WeighSame};
+ghost use Rattle.std.specs.List.Sorted.{IsStrictlyIncreasing};
+ghost use Rattle.k2_tree.specs.Pruning.{kept_leaves, square_count, IsKeptFor};
+ghost use Rattle.track_types.specs.declared.cell.Cell.{Cell};
 ghost use Rattle.bit_rank.specs.Cost.{get_reads, select_reads};
 ghost use Rattle.object_perm.specs.Cost.{at_reads};
 ghost use Rattle.snapshots.specs.Cost.{block_reads, find_reads, first_reads, square_reads};
@@ -120,6 +123,7 @@ impl Snapshot {
     pub fn find<L: Ledger>(&self, index: u32, steps: &mut Steps<L>) -> Option<Anchored>
         requires { index < self.now.objects }
         ensures value { result ≡ block_of self.now index }
+        ensures block { IfSome result (IsBlock self.now) }
         ensures cost { steps.new ≤ steps.old + find_reads self.now.frame.height }
     {
         if !self.is_present(index, steps) {
@@ -147,8 +151,13 @@ impl Snapshot {
     pub fn members(&self, leaf: u32, cell: Cell) -> Members<'_>
         requires { slice_get (tree_in self.now).cells leaf ≡ Some cell }
         ensures left { result.blocks ≡ blocks_in self.now leaf }
+        ensures objects { result.blocks ≡ objects_at self.now leaf }
+        ensures order { IsStrictlyIncreasing (map (λ block. block.index) result.blocks) }
+        ensures cell { All (λ block. block.cell ≡ cell) result.blocks }
+        ensures blocks { All (IsBlock self.now) result.blocks }
         ensures budget { result.reads ≡ first_reads + block_reads * length (blocks_in self.now leaf) }
     {
+        let _ = self.tree(); // says what holds of every snapshot
         Members::new(self, leaf, cell)
     }
 
@@ -161,6 +170,12 @@ impl Snapshot {
             ≡ blocks_of self.now (kept_leaves (F.keeps keep) (tree_in self.now)) }
         ensures objects { objects_left F.keeps result
             ≡ objects_of self.now (kept_leaves (F.keeps keep) (tree_in self.now)) }
+        ensures blocks { All (IsBlock self.now) (objects_left F.keeps result) }
+        ensures weights { WeighSame
+            (objects_left F.keeps result) (passing_blocks (F.keeps keep) self.now) }
+        ensures wanted { (wanted : Cell → Bool) → IsKeptFor (F.keeps keep) wanted
+            → WeighSame (wanted_blocks wanted (objects_left F.keeps result))
+            (wanted_blocks wanted (all_blocks self.now)) }
         ensures budget { objects_budget F.keeps result
             ≤ square_reads * square_count (F.keeps keep) (tree_in self.now)
             + block_reads * length (objects_left F.keeps result) }

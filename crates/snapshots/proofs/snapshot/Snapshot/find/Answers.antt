@@ -1,9 +1,10 @@
-use Rattle.std.proofs.Common.{◌≡◌, ◌<◌, Some, true, ap, sym, ◌∙◌, arith, length}
+use Rattle.std.proofs.Common.{◌≡◌, ◌<◌, Some, ap, sym, ◌∙◌, arith, length}
 use Rattle.std.specs.Prelude.{slice_get}
 use Rattle.bit_rank.specs.Bits.{rank_of}
 use Rattle.object_perm.specs.Permutation.{inverse_of}
 use Rattle.snapshots.specs.View.{block_with, leaf_at, place_in, rank_in, tree_in}
 use Rattle.snapshots.proofs.BlockLemmas.{IsRead, block_found, block_read, leaf_known, rank_in-within}
+use Rattle.snapshots.proofs.BlockFactsLemmas.{IsBlock-from_block_of}
 use Rattle.snapshots.proofs.snapshot.Snapshot.find.Goals as goal
 
 pub blocks-blocks-requires : goal.blocks-blocks-requires
@@ -60,3 +61,8 @@ returns-clause-value g c =
     read found
     ∙ ap (block_with view c.args.index c.rank1-rank.result) place
     ∙ ap (λ r. block_with view c.args.index r (place_in view c.args.index)) rank)
+
+pub returns-clause-block : goal.returns-clause-block
+returns-clause-block g c =
+    IsBlock-from_block_of c.args.self.now c.is_present.ensures.snapshot c.args.index c.block.result
+    (sym (returns-clause-value g c))

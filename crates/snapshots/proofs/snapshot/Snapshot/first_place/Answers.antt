@@ -1,4 +1,4 @@
-use Rattle.std.proofs.Common.{◌≡◌, ◌+◌, sym, ◌∙◌, arith}
+use Rattle.std.proofs.Common.{sym, ◌∙◌, arith}
 use Rattle.snapshots.proofs.PlacesLemmas.{few_places, first_place_behind, first_place_zero, some_place}
 use Rattle.snapshots.proofs.snapshot.Snapshot.first_place.Goals as goal
 
