@@ -10,6 +10,7 @@ pub mod AreaLemmas
 pub mod PruningLemmas
 pub mod KeptLemmas
 pub mod FewLemmas
+pub mod StrongerLemmas
 pub mod FlawlessLemmas
 pub mod FlawedLemmas
 -- Digits of numbers, and boxes.

@@ -1,4 +1,5 @@
-ghost use Rattle.std.specs.Prelude.{◌≡◌, ◌+◌, ◌*◌, ◌^◌, ◌<◌, ◌≤◌, length, map, All, Bool, Contains, [], false, IfErr, IfNone, IfOk, IfSome, OnOk, MatchOption, None, Some, slice_get};
+ghost use Rattle.std.specs.Prelude.{◌≡◌, ◌+◌, ◌*◌, ◌^◌, ◌<◌, ◌≤◌, length, map, All, Bool, Contains, [], false, IfErr, IfNone, IfOk, IfSome, OnOk, MatchOption, None, Some, slice_get, ℕ, if◌then◌else◌};
+ghost use Rattle.std.specs.List.{sum_by};
 ghost use Rattle.std.specs.List.Sorted.{IsStrictlyIncreasing};
 ghost use Rattle.k2_tree.specs.Areas.{IsBoxInside};
 ghost use Rattle.k2_tree.specs.Cost.{child_reads, climb_reads, descent_reads};
@@ -9,7 +10,7 @@ ghost use Rattle.k2_tree.specs.Tree.{tree_bits, tree_with, IsTree};
 ghost use Rattle.k2_tree.specs.TreeSquares.{area_of, child_at, corner_of, holds_cell, level_of, node_of, squares_of, IsSquareOf};
 ghost use Rattle.k2_tree.specs.Pending.{nodes_of, StandsAt};
 ghost use Rattle.k2_tree.specs.Pruned.{pruned_budget, pruned_left, pruned_tree};
-ghost use Rattle.k2_tree.specs.Pruning.{child_nodes, kept_leaves, leaves_of, square_count, wanted_of, IsKeptFor};
+ghost use Rattle.k2_tree.specs.Pruning.{child_nodes, kept_leaves, leaves_of, passes_at, square_count, wanted_of, IsKeptFor};
 ghost use Rattle.k2_tree.specs.Flaws.{tree_flaw, IsFaultOf, StandsFor};
 ghost use Rattle.track_types.specs.declared.cell.Cell.{Cell};
 
@@ -208,6 +209,9 @@ impl K2Tree {
     pub fn pruned<F: Keep>(&self, keep: F) -> Pruned<'_, F>
         ensures tree { pruned_tree result ≡ self.now }
         ensures left { pruned_left F.keeps result ≡ kept_leaves (F.keeps keep) self.now }
+        ensures weights { (weight : ℕ × Cell → ℕ) → sum_by weight (pruned_left F.keeps result)
+            ≡ sum_by (λ leaf. if passes_at (F.keeps keep) self.now leaf.1 then weight leaf else 0)
+            (leaves_of self.now) }
         ensures budget { pruned_budget F.keeps result ≡ child_reads * square_count (F.keeps keep) self.now }
         ensures wanted { (wanted : Cell → Bool) → IsKeptFor (F.keeps keep) wanted
             → wanted_of wanted (pruned_left F.keeps result)
