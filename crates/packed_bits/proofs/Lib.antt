@@ -2,4 +2,5 @@
 pub mod OnesLemmas
 pub mod NumberLemmas
 pub mod WordLemmas
+mod PackingLemmas
 mod Examples

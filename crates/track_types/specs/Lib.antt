@@ -7,5 +7,4 @@ pub mod Chart
 pub mod ByFilter
 pub mod Region
 pub mod Lazy
-pub mod BitList
 pub mod Frame

@@ -7,7 +7,6 @@
 //! box is in the region. The crate stands on packed_bits and step_count.
 #![tactic(auto)]
 
-mod bit_list;
 mod cell;
 mod cell_box;
 mod chart;
@@ -24,7 +23,6 @@ mod region;
 mod row;
 mod stop;
 
-pub use bit_list::BitList;
 pub use cell::Cell;
 pub use cell_box::CellBox;
 pub use chart::Chart;
@@ -36,6 +34,7 @@ pub use limit::{LimitKind, MAX_EXTENT, MAX_HEIGHT};
 pub use lists::{List32, List64, Lists32, PairList};
 pub use memory::Memory;
 pub use numeral::{Numeral, number};
+pub use packed_bits::BitList;
 pub use period_parts::PeriodParts;
 pub use raw_row::{RawRow, RowFault};
 pub use region::{Region, dist2};
