@@ -136,6 +136,10 @@ fn bits_are_a_tree_or_have_their_first_flaw(rt: HostRuntime) -> Result<(), Fail>
     ] {
         assert_eq!(rt; flaw_of(rt.alloc(), bits, height)?, flaw, "height {height}");
     }
+    assert_eq!(rt;
+        format!(in rt.alloc(); "{}", TreeFault::Flaw { place: 4 })?.as_str(),
+        "no tree has these bits: the first flaw is at place 4"
+    );
     let list = list_of(rt.alloc(), [I, I, O, O, I, O, O, I, O, I, O, O].as_slice())?;
     let tree = K2Tree::check(rt.alloc(), list, 2, BASE)?;
     assert_eq!(rt; tree.leaves(), 3);
