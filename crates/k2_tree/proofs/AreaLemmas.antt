@@ -15,7 +15,7 @@ use Rattle.k2_tree.specs.Morton.{interleaved, morton_of, row_of, column_of, IsGr
 use Rattle.k2_tree.specs.Squares.{node}
 use Rattle.k2_tree.specs.Areas.{area_at}
 use Rattle.k2_tree.proofs.MortonLemmas.{half_more}
-use Rattle.k2_tree.proofs.DigitLemmas.{fourth}
+use Rattle.k2_tree.proofs.PrefixLemmas.{fourth}
 use Rattle.k2_tree.proofs.HeightLemmas.{column_of-more, row_of-more}
 
 -- a digit less halves the column

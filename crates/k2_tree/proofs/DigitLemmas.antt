@@ -1,15 +1,12 @@
 -- Rows and columns, digit by digit from the highest.
 use Rattle.std.proofs.Common.{◌≡◌, ℕ, zero, suc, ◌+◌, ◌-◌, ◌*◌, ◌/◌, ◌%◌, ◌^◌, ◌<◌, ◌≤◌}
-use Rattle.std.proofs.Common.{refl, sym, ap, ◌∙◌, arith, lit<}
-use Rattle.std.proofs.Math.Nat.{div-div-eq-div-mul, div-one, pow-suc, pow-le-pow_right}
+use Rattle.std.proofs.Common.{refl, ap, arith, lit<}
+use Rattle.std.proofs.Math.Nat.{div-one, pow-le-pow_right}
 use Rattle.track_types.specs.declared.limit.TheConstants.{MAX_HEIGHT}
 use Rattle.k2_tree.specs.Morton.{row_of, column_of}
 use Rattle.k2_tree.proofs.MortonLemmas.{row_of-lt, column_of-lt}
+use Rattle.k2_tree.proofs.PrefixLemmas.{fourth}
 use Rattle.k2_tree.proofs.DescentLemmas.{two_bits}
-
--- a digit less
-pub fourth : (code n : ℕ) → code / 4 ^ n / 4 ≡ code / 4 ^ suc n
-fourth code n = div-div-eq-div-mul code (4 ^ n) 4 ∙ ap (λ p. code / p) (sym (pow-suc 4 n))
 
 -- one digit more of a column
 pub column_of-down : (height level code column : ℕ) → 0 < level → level ≤ height

@@ -8,10 +8,9 @@ use Rattle.std.specs.Option.{option_map}
 use Rattle.k2_tree.specs.TreeBits.{is_in, prefixes, longer, level_bits, morton_bits, Rises, AreCodes}
 use Rattle.k2_tree.specs.Flaws.{group_flaw, level_flaw, tree_flaw, AreNoTree}
 use Rattle.k2_tree.proofs.RisingLemmas.{is_in-first}
-use Rattle.k2_tree.proofs.PrefixLemmas.{by_test, prefixes-top}
+use Rattle.k2_tree.proofs.PrefixLemmas.{by_test, is_in-parents, prefixes-top}
 use Rattle.k2_tree.proofs.TreeLemmas.{length-level_bits, ones_of-level_bits}
 use Rattle.k2_tree.proofs.DescentLemmas.{morton_bits-none}
-use Rattle.k2_tree.proofs.PickedLemmas.{is_in-parents}
 
 -- whether a child of the square with this prefix is there
 abbrev any_child : List ℕ → ℕ → Bool

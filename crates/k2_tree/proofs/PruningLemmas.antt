@@ -12,7 +12,7 @@ use Rattle.k2_tree.specs.TreeBits.{is_in, prefixes, longer, Rises, AreCodes}
 use Rattle.k2_tree.specs.Squares.{Node, node, level_squares, squares_from}
 use Rattle.k2_tree.specs.Pruning.{passes, children, kept_below, weight_below}
 use Rattle.k2_tree.proofs.PrefixLemmas.{prefixes-from_longer, prefixes-zero, prefixes-top}
-use Rattle.k2_tree.proofs.DigitLemmas.{fourth}
+use Rattle.k2_tree.proofs.PrefixLemmas.{fourth}
 use Rattle.k2_tree.proofs.SquareLemmas.{squares_from-zero}
 use Rattle.list_laws.proofs.FilterLemmas.{flat_map_if, filter_and, filter-all, filter-none}
 use Rattle.list_laws.proofs.FlatLemmas.{filter-flat_map, flat_map-flat_map, flat_map_agree, All-flat_map, sum_by-flat_map, sum_by-map, sum_by_plus}
