@@ -1,7 +1,7 @@
 -- A test of boxes keeps at most as many leaves as squares.
-use Rattle.std.proofs.Common.{◌≡◌, ℕ, zero, suc, ◌+◌, ◌≤◌, Bool, true, false, List, [], ◌∷◌, length, map, filter}
-use Rattle.std.proofs.Common.{refl, sym, ap, ◌∙◌, arith}
-use Rattle.std.proofs.lemmas.Bool.{and_parts, true≢false}
+use Rattle.std.proofs.Common.{◌≡◌, ℕ, zero, suc, ◌+◌, ◌≤◌, Bool, true, List, [], ◌∷◌, length, map, filter}
+use Rattle.std.proofs.Common.{sym, ap, ◌∙◌, arith}
+use Rattle.std.proofs.lemmas.Bool.{and_parts}
 use Rattle.std.proofs.lemmas.List.{length-append}
 use Rattle.std.proofs.lemmas.List.Elements.{filter-append}
 use Rattle.track_types.specs.declared.cell.Cell.{Cell}
@@ -28,23 +28,8 @@ few-cells : (test : Node → Bool) (height : ℕ) (base : Cell) (k : ℕ) (cells
     ≤ length (filter test (map (node 0) (map (morton_of height base) cells)))
 few-cells test height base k [] = omega arith
 few-cells test height base k (cell ∷ cells) =
-    by_test (passes test height code) refl (test (node 0 code)) refl (few-cells test height base (k + 1) cells)
-  where
-    code : ℕ
-    code = morton_of height base cell
-
-    passing : ℕ × Cell → Bool
-    passing leaf = passes test height (morton_of height base leaf.1)
-
-    by_test : (p : Bool) → passes test height code ≡ p → (q : Bool) → test (node 0 code) ≡ q
-        → length (filter passing (enumerate_from (k + 1) cells))
-        ≤ length (filter test (map (node 0) (map (morton_of height base) cells)))
-        → length (filter passing ((k, cell) ∷ enumerate_from (k + 1) cells))
-        ≤ length (filter test (node 0 code ∷ map (node 0) (map (morton_of height base) cells)))
-    by_test true e true f rest = rw (e, f) (omega (arith, rest))
-    by_test true e false f rest = absurd (true≢false (sym (passes-own test height code e) ∙ f))
-    by_test false e true f rest = rw (e, f) (omega (arith, rest))
-    by_test false e false f rest = rw (e, f) rest
+    let own = passes-own test height (morton_of height base cell) in
+    grind (arith, own, few-cells test height base (k + 1) cells)
 
 -- the squares of the lowest level are among those from a level down
 few-squares : (test : Node → Bool) (n : ℕ) (codes : List ℕ)

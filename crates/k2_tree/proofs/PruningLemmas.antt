@@ -1,9 +1,9 @@
 -- What tests keep of a tree, level by level.
 use Rattle.std.proofs.Common.{◌≡◌, ℕ, zero, suc, ◌+◌, ◌*◌, ◌/◌, ◌^◌, ◌<◌, Bool, true, false, List, [], ◌∷◌}
-use Rattle.std.proofs.Common.{length, filter, refl, sym, ap, ◌∙◌, arith, All}
+use Rattle.std.proofs.Common.{length, filter, sym, ap, ◌∙◌, arith, All}
 use Rattle.std.proofs.Math.Bool.{and-true}
 use Rattle.std.proofs.Math.Nat.{div-one}
-use Rattle.std.proofs.lemmas.List.Elements.{filter_agree, All-nil, All-cons, All-weaker, All-filter}
+use Rattle.std.proofs.lemmas.List.Elements.{filter_agree, All-head, All-tail, All-nil, All-cons, All-weaker, All-filter}
 use Rattle.std.proofs.lemmas.List.{append-nil}
 use Rattle.std.proofs.lemmas.List.Sums.{sum_by-append}
 use Rattle.std.specs.Prelude.{if◌then◌else◌}
@@ -12,9 +12,9 @@ use Rattle.k2_tree.specs.TreeBits.{is_in, prefixes, longer, Rises, AreCodes}
 use Rattle.k2_tree.specs.Squares.{Node, node, level_squares, squares_from}
 use Rattle.k2_tree.specs.Pruning.{passes, children, kept_below, weight_below}
 use Rattle.k2_tree.proofs.PrefixLemmas.{prefixes-from_longer, prefixes-zero, prefixes-top}
-use Rattle.k2_tree.proofs.DigitLemmas.{fourth}
+use Rattle.k2_tree.proofs.PrefixLemmas.{fourth}
 use Rattle.k2_tree.proofs.SquareLemmas.{squares_from-zero}
-use Rattle.list_laws.proofs.FilterLemmas.{flat_map_if, filter_and, filter-all, filter-none}
+use Rattle.list_laws.proofs.FilterLemmas.{flat_map_if, filter_and}
 use Rattle.list_laws.proofs.FlatLemmas.{filter-flat_map, flat_map-flat_map, flat_map_agree, All-flat_map, sum_by-flat_map, sum_by-map, sum_by_plus}
 
 -- what a test keeps of the longer prefixes, prefix by prefix
@@ -75,17 +75,10 @@ kept_below-prefix test codes (suc n) r =
 -- a test of one prefix keeps all or none of the numbers that have it
 filter-prefix : (p : ℕ → Bool) (n r : ℕ) (xs : List ℕ) → All (λ c. c / 4 ^ n ≡ r) xs
     → filter (λ c. p (c / 4 ^ n)) xs ≡ (if p r then xs else [])
-filter-prefix p n r xs each = by_test (p r) refl
-  where
-    by_test : (b : Bool) → p r ≡ b → filter (λ c. p (c / 4 ^ n)) xs ≡ (if p r then xs else [])
-    by_test true e =
-        let kept : All (λ c. p (c / 4 ^ n) ≡ true) xs =
-        All-weaker (λ c. c / 4 ^ n ≡ r) (λ c. p (c / 4 ^ n) ≡ true) (λ c is. ap p is ∙ e) xs each in
-        rw e (filter-all (λ c. p (c / 4 ^ n)) xs kept)
-    by_test false e =
-        let gone : All (λ c. p (c / 4 ^ n) ≡ false) xs =
-        All-weaker (λ c. c / 4 ^ n ≡ r) (λ c. p (c / 4 ^ n) ≡ false) (λ c is. ap p is ∙ e) xs each in
-        rw e (filter-none (λ c. p (c / 4 ^ n)) xs gone)
+filter-prefix p n r [] each = grind arith
+filter-prefix p n r (x ∷ xs) each =
+    let P : ℕ → Type 0 = λ c. c / 4 ^ n ≡ r in
+    grind (arith, All-head P x xs each, filter-prefix p n r xs (All-tail P x xs each))
 
 -- a test on a square keeps all or none of what is kept below its children
 kept_below-step : (test : Node → Bool) (codes : List ℕ) (n r : ℕ)

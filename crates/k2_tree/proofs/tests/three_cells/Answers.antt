@@ -1,7 +1,7 @@
 use Rattle.std.proofs.Common.{zero, suc, [], ◌∷◌, arith}
 use Rattle.std.specs.List.Sorted.{IsStrictlyIncreasing}
 use Rattle.k2_tree.specs.Morton.{morton_of, interleaved, cell_of, row_of, column_of}
-use Rattle.k2_tree.proofs.tests.walks.three_cells.Goals as goal
+use Rattle.k2_tree.proofs.tests.three_cells.Goals as goal
 
 numbers : IsStrictlyIncreasing (0 ∷ 3 ∷ 5 ∷ [])
 numbers zero within = omega arith
