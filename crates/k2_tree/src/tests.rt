@@ -2,7 +2,6 @@ ghost use Rattle.std.specs.Prelude.{◌≡◌, ◌^◌, ◌<◌, ◌≤◌, leng
 ghost use Rattle.track_types.specs.declared.limit.TheConstants.{MAX_HEIGHT};
 
 use super::{K2Tree, TreeFault, morton};
-use crate::packing::pack;
 use std::alloc::Global;
 use std::marker::Brand;
 use std::sync::ledger::{Blank, Ledger};
@@ -92,7 +91,7 @@ fn list_of(alloc: Global, bits: &[bool]) -> Result<BitList, Memory>
     requires { length bits.now ≤ 2 ^ 31 }
     ensures { IfOk result (λ list. list ≡ bits.now) }
 {
-    Ok(BitList::new(pack(alloc, bits)?, bits.len() as u32))
+    Ok(BitList::pack(alloc, bits)?)
 }
 
 // The first flaw of bits as a tree of this height, if they have one.
