@@ -25,7 +25,6 @@ mod ClimbLemmas
 -- Building.
 mod LevelLemmas
 mod BuildingLemmas
-mod PackingLemmas
 mod BuiltLemmas
 -- Checking.
 mod GroupLemmas

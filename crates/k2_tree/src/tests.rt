@@ -4,7 +4,6 @@ ghost use Rattle.k2_tree.specs.Tree.{tree_with};
 ghost use Rattle.track_types.specs.declared.limit.TheConstants.{MAX_HEIGHT};
 
 use super::{K2Tree, TreeFault, morton};
-use crate::packing::pack;
 use std::alloc::Global;
 use std::marker::Brand;
 use std::process::Abort;
@@ -105,7 +104,7 @@ fn list_of(alloc: Global, bits: &[bool]) -> Result<BitList, Memory>
     requires { length bits.now ≤ 2 ^ 31 }
     ensures { IfOk result (λ list. list ≡ bits.now) }
 {
-    Ok(BitList::new(pack(alloc, bits)?, bits.len() as u32))
+    Ok(BitList::pack(alloc, bits)?)
 }
 
 // The first flaw of bits as a tree of this height, if they have one.

@@ -22,7 +22,6 @@ use crate::fault::TreeFault;
 use crate::keep::Keep;
 use crate::level::FAN;
 use crate::morton_code::{cell_at, codes_of_cells, is_in_grid, morton};
-use crate::packing::pack;
 use crate::pending::Pending;
 use crate::pruned::Pruned;
 use crate::square::Square;
@@ -71,8 +70,8 @@ impl K2Tree {
     {
         let codes = codes_of_cells(alloc, cells, height, base)?;
         let bits = bits_of_codes(alloc, codes.as_slice(), height)?;
-        let words = pack(alloc, bits.as_slice())?;
-        match Bits::from_words(alloc, words, bits.len() as u32) {
+        let list = BitList::pack(alloc, bits.as_slice())?;
+        match Bits::from_list(alloc, list) {
             Ok(bits) => Ok(K2Tree { bits, height, base }),
             Err(NoRoom) => Err(Memory),
         }
@@ -93,8 +92,7 @@ impl K2Tree {
         if let Some(place) = first_flaw(&bits, height) {
             return Err(TreeFault::Flaw { place });
         }
-        let len = bits.len();
-        match Bits::from_words(alloc, bits.into_words(), len) {
+        match Bits::from_list(alloc, bits) {
             Ok(bits) => Ok(K2Tree { bits, height, base }),
             Err(NoRoom) => Err(TreeFault::Memory),
         }
@@ -105,8 +103,7 @@ impl K2Tree {
     pub fn bits(self) -> BitList
         ensures { result ≡ tree_bits self }
     {
-        let len = self.bits.len();
-        BitList::new(self.bits.into_words(), len)
+        self.bits.into_list()
     }
 
     /// The number of leaves.

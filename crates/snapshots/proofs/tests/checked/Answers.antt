@@ -1,2 +1,0 @@
-use Rattle.std.proofs.Common.{arith}
-use Rattle.snapshots.proofs.tests.checked.Goals as goal
