@@ -1,8 +1,9 @@
 -- The definitions, run on small bits.
-use Rattle.std.proofs.Common.{Bool, true, false, List, [], ◌∷◌, ◌++◌, ◌≡◌, replicate, refl}
+use Rattle.std.proofs.Common.{Bool, true, false, List, [], ◌∷◌, ◌++◌, ◌≡◌, ◌+◌, ◌*◌, replicate, refl, arith}
 use Rattle.packed_bits.specs.Bits.{ones_of}
 use Rattle.bit_rank.specs.Bits.{rank_of, select_of, IsSelected}
-use Rattle.bit_rank.specs.Directory.{directory_of}
+use Rattle.bit_rank.specs.Directory.{counts_of, HasOne}
+use Rattle.bit_rank.specs.declared.superblock.TheConstants.{SUPERBLOCK}
 
 -- the word 10, lowest bit first
 abbrev ten : List Bool
@@ -40,12 +41,28 @@ select_over_the_edge : select_of edge 2 ≡ 64
 unfolding select_of
 select_over_the_edge = refl
 
--- the count before the only superblock, and that of all
-directory_of_ten : directory_of ten ≡ 0 ∷ 2 ∷ []
-unfolding directory_of rank_of ones_of
-directory_of_ten = refl
+-- the count before the only superblock
+counts_of_ten : counts_of ten ≡ 0 ∷ []
+unfolding counts_of rank_of ones_of
+counts_of_ten = refl
 
--- 513 ones fill a superblock and begin another
-directory_of_ones : directory_of (replicate 513 true) ≡ 0 ∷ 512 ∷ 513 ∷ []
-unfolding directory_of rank_of ones_of
-directory_of_ones = refl
+-- 512 ones fill a superblock, and the next one begins another
+counts_of_full : counts_of (replicate 512 true) ≡ 0 ∷ []
+unfolding counts_of rank_of ones_of
+counts_of_full = refl
+
+counts_of_ones : counts_of (replicate 513 true) ≡ 0 ∷ 512 ∷ []
+unfolding counts_of rank_of ones_of
+counts_of_ones = refl
+
+-- the one after 512 is in the second superblock
+rank_before : rank_of (replicate 513 true) (SUPERBLOCK * 1) ≡ 512
+unfolding rank_of ones_of
+rank_before = refl
+
+rank_after : rank_of (replicate 513 true) (SUPERBLOCK * (1 + 1)) ≡ 513
+unfolding rank_of ones_of
+rank_after = refl
+
+sample_of_ones : HasOne (replicate 513 true) (SUPERBLOCK * (0 + 1) + 1) 1
+sample_of_ones = record { before = omega (arith, rank_before); reached = omega (arith, rank_after) }

@@ -1,25 +1,33 @@
 ghost use Rattle.std.specs.Prelude.{◌≡◌, ℕ, ◌+◌, ◌*◌, ◌^◌, ◌<◌, ◌≤◌, Some, IfOk, length, take, slice_get};
 ghost use Rattle.bit_rank.specs.Bits.{rank_of, select_of, IsSelected};
+ghost use Rattle.bit_rank.specs.Cost.{get_reads, window_reads, rank_reads, select_reads};
+ghost use Rattle.bit_rank.specs.Directory.{HasOne};
+ghost use Rattle.bit_rank.specs.declared.superblock.TheConstants.{SUPERBLOCK};
 ghost use Rattle.packed_bits.specs.Bits.{ones_of, window_of, packed};
 ghost use Rattle.packed_bits.specs.Words.{bits_of, IsPacked};
 
-use crate::directory::count_ones_before;
+use crate::directory::Directory;
+use crate::indexing::index;
 use crate::no_room::NoRoom;
+use crate::superblock::{SUPERBLOCK, WORDS};
 use crate::word::{low_part, place_of_one};
+use packed_bits::BitList;
 use std::alloc::Global;
 use std::marker::Model;
 use std::sync::ledger::Ledger;
-use step_count::Steps;
+use step_count::{CountedList, Steps};
 
 /// Up to 2^32 - 1 bits that answer rank and select in a bounded number of reads.
 ///
 /// The bits stand in words of 64, lowest first. A directory has the number of ones before each
 /// superblock of 512 bits: the first level of Jacobson's directories ("Space-efficient static trees
-/// and graphs", 1989). In place of the second level the machine counts the ones of a word.
+/// and graphs", 1989). In place of the second level the machine counts the ones of a word. For
+/// select it has a sample of each 512th one (Clark, "Compact pat trees", 1996), between two of which
+/// the counts are searched by halving.
 #[derive(Drop)]
 pub struct Bits {
-    words: Vec<u64>,
-    directory: Vec<u32>,
+    words: CountedList<u64>,
+    directory: Directory,
     len: u32,
     ones: u32,
 }
@@ -31,10 +39,9 @@ impl Model for Bits {
 
     ghost Value = { List Bool };
 
-    ghost view = { λ b. take b.len (bits_of b.words.items) };
+    ghost view = { λ b. take b.len (bits_of b.words) };
 
-    ghost invariant = { λ b. IsIndexed (take b.len (bits_of b.words.items))
-        b.words.items b.directory.items b.len b.ones };
+    ghost invariant = { λ b. IsIndexed (take b.len (bits_of b.words)) b.words b.directory b.len b.ones };
 }
 
 impl Bits {
@@ -47,15 +54,24 @@ impl Bits {
         ensures ok { IfOk result (λ bits. bits ≡ take len (bits_of words.items)) }
         ensures words { IfOk result (λ bits. packed bits ≡ words.items) }
     {
-        match count_ones_before(alloc, words.as_slice(), len) {
+        match index(alloc, words.as_slice(), len) {
             Ok((directory, ones)) => Ok(Bits {
-                words,
+                words: CountedList::new(words),
                 directory,
                 len,
                 ones,
             }),
             Err(_) => Err(NoRoom),
         }
+    }
+
+    /// Indexes the bits of a list, whose words it takes over. Want of memory for the directory is
+    /// `NoRoom`.
+    pub fn from_list(alloc: Global, list: BitList) -> Result<Bits, NoRoom>
+        ensures ok { IfOk result (λ bits. bits ≡ list) }
+    {
+        let len = list.len();
+        Bits::from_words(alloc, list.into_words(), len)
     }
 
     /// The number of bits.
@@ -77,14 +93,22 @@ impl Bits {
     pub fn into_words(self) -> Vec<u64>
         ensures { result.items ≡ packed self }
     {
-        self.words
+        self.words.into_vec()
+    }
+
+    /// The bits as a list, which takes the words over.
+    pub fn into_list(self) -> BitList
+        ensures { result ≡ self }
+    {
+        let len = self.len;
+        BitList::new(self.words.into_vec(), len)
     }
 
     /// The bit at place `p`.
     pub fn get<L: Ledger>(&self, p: u32, steps: &mut Steps<L>) -> bool
         requires { p < length self.now }
         ensures value { slice_get self.now p ≡ Some result }
-        ensures cost { steps.new ≤ steps.old + 1 }
+        ensures cost { steps.new ≤ steps.old + get_reads }
     {
         self.word(p / 64, steps) >> (p % 64) & 1 == 1
     }
@@ -94,7 +118,7 @@ impl Bits {
         requires narrow { n ≤ 32 }
         requires within { p + n ≤ length self.now }
         ensures value { result ≡ window_of self.now p n }
-        ensures cost { steps.new ≤ steps.old + 2 }
+        ensures cost { steps.new ≤ steps.old + window_reads }
     {
         if n == 0 {
             return 0;
@@ -113,10 +137,13 @@ impl Bits {
     pub fn rank1<L: Ledger>(&self, p: u32, steps: &mut Steps<L>) -> u32
         requires { p ≤ length self.now }
         ensures value { result ≡ rank_of self.now p }
-        ensures cost { steps.new ≤ steps.old + 9 }
+        ensures cost { steps.new ≤ steps.old + rank_reads }
     {
-        let mut count = self.count_before(p / 512, steps);
-        for i in p / 512 * 8..p / 64 {
+        if p == self.len {
+            return self.ones;
+        }
+        let mut count = self.count_before(p / SUPERBLOCK, steps);
+        for i in p / SUPERBLOCK * WORDS..p / 64 {
             count += self.word(i, steps).count_ones();
         }
         if p % 64 > 0 {
@@ -131,11 +158,11 @@ impl Bits {
         requires enough { j ≤ ones_of self.now }
         ensures value { result ≡ select_of self.now j }
         ensures place { IsSelected self.now j result }
-        ensures cost { steps.new ≤ steps.old + 41 }
+        ensures cost { steps.new ≤ steps.old + select_reads }
     {
         let superblock = self.superblock_of(j, steps);
         let mut rest = j - self.count_before(superblock, steps);
-        let mut i = superblock * 8;
+        let mut i = superblock * WORDS;
         let mut word = self.word(i, steps);
         while word.count_ones() < rest {
             rest -= word.count_ones();
@@ -145,18 +172,16 @@ impl Bits {
         i * 64 + place_of_one(word, rest)
     }
 
-    // The superblock of the `j`-th one, by binary search over the directory.
+    // The superblock of the `j`-th one, by halving those between two samples.
     fn superblock_of<L: Ledger>(&self, j: u32, steps: &mut Steps<L>) -> u32
         requires from_one { 1 ≤ j }
         requires enough { j ≤ ones_of self.now }
-        ensures before { rank_of self.now (512 * result) < j }
-        ensures reached { j ≤ rank_of self.now (512 * (result + 1)) }
-        ensures within { 512 * result < length self.now }
+        ensures one { HasOne self.now j result }
+        ensures within { SUPERBLOCK * result < length self.now }
         ensures small { length self.now < 2 ^ 32 }
-        ensures cost { steps.new ≤ steps.old + 32 }
+        ensures cost { steps.new ≤ steps.old + 25 }
     {
-        let mut low = 0;
-        let mut high = self.len.div_ceil(512);
+        let (mut low, mut high) = self.superblocks_around(j, steps);
         while high - low > 1 {
             let middle = low + (high - low) / 2;
             if self.count_before(middle, steps) < j {
@@ -168,23 +193,40 @@ impl Bits {
         low
     }
 
+    // The superblocks among which the `j`-th one is, by the samples before and after it: the first
+    // of them, and the one after the last.
+    fn superblocks_around<L: Ledger>(&self, j: u32, steps: &mut Steps<L>) -> (u32, u32)
+        requires from_one { 1 ≤ j }
+        requires enough { j ≤ ones_of self.now }
+        ensures before { rank_of self.now (SUPERBLOCK * result.0) < j }
+        ensures reached { j ≤ rank_of self.now (SUPERBLOCK * result.1) }
+        ensures within { SUPERBLOCK * result.1 < length self.now + SUPERBLOCK }
+        ensures small { length self.now < 2 ^ 32 }
+        ensures cost { steps.new ≤ steps.old + 2 }
+    {
+        let sample = (j - 1) / SUPERBLOCK;
+        let low = self.directory.sample(sample, steps);
+        if self.directory.samples() == sample as usize {
+            return (low, self.len.div_ceil(SUPERBLOCK));
+        }
+        (low, self.directory.sample(sample + 1, steps) + 1)
+    }
+
     // Reads a word.
     fn word<L: Ledger>(&self, i: u32, steps: &mut Steps<L>) -> u64
         requires { 64 * i < length self.now }
         ensures value { result ≡ window_of self.now (64 * i) 64 }
         ensures cost { steps.new ≡ steps.old + 1 }
     {
-        steps.tick();
-        self.words[i as usize]
+        self.words.at(i as usize, steps)
     }
 
-    // Reads a directory entry: the number of ones before a superblock.
+    // The number of ones before a superblock, by at most one read of the directory.
     fn count_before<L: Ledger>(&self, superblock: u32, steps: &mut Steps<L>) -> u32
-        requires { 512 * superblock < length self.now + 512 }
-        ensures value { result ≡ rank_of self.now (512 * superblock) }
-        ensures cost { steps.new ≡ steps.old + 1 }
+        requires { SUPERBLOCK * superblock < length self.now }
+        ensures value { result ≡ rank_of self.now (SUPERBLOCK * superblock) }
+        ensures cost { steps.new ≤ steps.old + 1 }
     {
-        steps.tick();
-        self.directory[superblock as usize]
+        self.directory.count_before(superblock, steps)
     }
 }

@@ -1,4 +1,4 @@
-ghost use Rattle.std.specs.Prelude.{◌≡◌, ℕ, ◌+◌, ◌%◌, ◌^◌, ◌<◌, ◌≤◌};
+ghost use Rattle.std.specs.Prelude.{◌≡◌, ◌+◌, ◌*◌, ◌%◌, ◌^◌, ◌<◌, ◌≤◌};
 ghost use Rattle.std.specs.Int.RustNames.{count_ones};
 
 /// The `n` lowest bits of a word.
@@ -17,15 +17,28 @@ pub fn place_of_one(word: u64, j: u32) -> u32
     ensures before { count_ones (word % 2 ^ result) < j }
     ensures reached { j ≤ count_ones (word % 2 ^ (result + 1)) }
 {
-    let mut low = 0;
-    let mut high = 64;
-    while high - low > 1 {
-        let middle = (low + high) / 2;
-        if low_part(word, middle).count_ones() < j {
-            low = middle;
-        } else {
-            high = middle;
-        }
+    let low = half_with_one(word, j, 0, 32);
+    let low = half_with_one(word, j, low, 16);
+    let low = half_with_one(word, j, low, 8);
+    let low = half_with_one(word, j, low, 4);
+    let low = half_with_one(word, j, low, 2);
+    half_with_one(word, j, low, 1)
+}
+
+// Of two halves of `width` places each, from place `low`, the first place of that with the `j`-th one.
+fn half_with_one(word: u64, j: u32, low: u32, width: u32) -> u32
+    requires some { 1 ≤ width }
+    requires within { low + 2 * width ≤ 64 }
+    requires before { count_ones (word % 2 ^ low) < j }
+    requires reached { j ≤ count_ones (word % 2 ^ (low + 2 * width)) }
+    ensures within { result + width ≤ 64 }
+    ensures before { count_ones (word % 2 ^ result) < j }
+    ensures reached { j ≤ count_ones (word % 2 ^ (result + width)) }
+{
+    let middle = low + width;
+    if low_part(word, middle).count_ones() < j {
+        middle
+    } else {
+        low
     }
-    low
 }

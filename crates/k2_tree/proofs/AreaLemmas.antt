@@ -1,7 +1,7 @@
 -- The squares of a cell's Morton number have areas near 0 that hold the cell.
 use Rattle.std.proofs.Common.{◌≡◌, ℕ, zero, suc, ◌+◌, ◌-◌, ◌*◌, ◌/◌, ◌^◌, ◌<◌, ◌≤◌, ℤ, pos, neg_ℤ, ◌+ℤ◌, ◌-ℤ◌}
 use Rattle.std.proofs.Common.{◌≤ℤ◌, true, refl, sym, ap, ◌∙◌, arith, lit<}
-use Rattle.std.proofs.Math.Nat.{div-mul-le_self, div-one, lt-div-mul-add, pow-le-pow_right}
+use Rattle.std.proofs.Math.Nat.{div-div-eq-div-mul, div-mul-le_self, div-one, lt-div-mul-add, pow-le-pow_right}
 use Rattle.std.proofs.lemmas.Nat.{pow_pos}
 use Rattle.std.proofs.lemmas.Bool.{and_from}
 use Rattle.std.proofs.lemmas.Int.{ints}
@@ -14,18 +14,13 @@ use Rattle.track_types.proofs.RegionLemmas.{is_between-from}
 use Rattle.k2_tree.specs.Morton.{interleaved, morton_of, row_of, column_of, IsGrid, IsInGrid}
 use Rattle.k2_tree.specs.Squares.{node}
 use Rattle.k2_tree.specs.Areas.{area_at}
-use Rattle.k2_tree.proofs.MortonLemmas.{half_more}
-use Rattle.k2_tree.proofs.DigitLemmas.{fourth}
-use Rattle.k2_tree.proofs.HeightLemmas.{column_of-more, row_of-more}
+use Rattle.k2_tree.proofs.PrefixLemmas.{fourth}
+use Rattle.k2_tree.proofs.MortonLemmas.{column_of-more, half_more, row_of-half, row_of-more}
 
 -- a digit less halves the column
 column_of-fourth : (k code : ℕ) → column_of k (code / 4) ≡ column_of (suc k) code / 2
 unfolding column_of
 column_of-fourth k code = omega arith
-
-row_of-fourth : (k code : ℕ) → row_of k (code / 4) ≡ row_of (suc k) code / 2
-unfolding row_of
-row_of-fourth k code = omega arith
 
 -- n digits less halve it n times
 column_of-prefix : (k n code : ℕ) → column_of k (code / 4 ^ n) ≡ column_of (k + n) code / 2 ^ n
@@ -38,13 +33,11 @@ column_of-prefix k (suc n) code =
     ∙ ap (λ m. column_of m code / 2 ^ suc n) e
 
 row_of-prefix : (k n code : ℕ) → row_of k (code / 4 ^ n) ≡ row_of (k + n) code / 2 ^ n
-row_of-prefix k zero code =
-    let e : k + 0 ≡ k = omega arith in rw (div-one code, e, div-one (row_of k code)) refl
-row_of-prefix k (suc n) code =
-    let e : suc k + n ≡ k + suc n = omega arith in
-    ap (row_of k) (sym (fourth code n)) ∙ row_of-fourth k (code / 4 ^ n)
-    ∙ ap (λ c. c / 2) (row_of-prefix (suc k) n code) ∙ half_more (row_of (suc k + n) code) n
-    ∙ ap (λ m. row_of m code / 2 ^ suc n) e
+row_of-prefix k n code =
+    let e : code / 4 ^ n / 2 ≡ code / 2 / 4 ^ n =
+    div-div-eq-div-mul code (4 ^ n) 2 ∙ ap (λ p. code / p) (omega arith) ∙ sym (div-div-eq-div-mul code 2 (4 ^ n)) in
+    row_of-half k (code / 4 ^ n) ∙ ap (column_of k) e ∙ column_of-prefix k n (code / 2)
+    ∙ ap (λ r. r / 2 ^ n) (sym (row_of-half (k + n) code))
 
 -- the column of a square that holds the cell
 column_of-morton_of : (height n m : ℕ) (base cell : Cell) → IsInGrid height base cell → height ≤ m

@@ -5,14 +5,11 @@ use Rattle.std.proofs.Math.Nat.{mul-le-mul_left}
 use Rattle.std.proofs.lemmas.List.{length-map}
 use Rattle.std.proofs.lemmas.List.Elements.{All-map}
 use Rattle.std.specs.List.Sorted.{IsStrictlyIncreasing}
-use Rattle.packed_bits.specs.Bits.{packed}
-use Rattle.packed_bits.specs.Words.{bits_of}
-use Rattle.packed_bits.proofs.WordLemmas.{bits_of-packed}
 use Rattle.track_types.specs.declared.cell.Cell.{Cell}
 use Rattle.track_types.specs.declared.limit.TheConstants.{MAX_HEIGHT}
 use Rattle.k2_tree.specs.Morton.{morton_of, cell_of, IsGrid, IsInGrid}
 use Rattle.k2_tree.specs.TreeBits.{prefixes, level_bits, morton_bits, AreCodes}
-use Rattle.k2_tree.specs.Tree.{codes_of, codes_in, tree_of, tree_with, AreTreeBits, IsStored}
+use Rattle.k2_tree.specs.Tree.{codes_in, tree_bits, tree_of, tree_with, AreTreeBits, IsStored}
 use Rattle.k2_tree.proofs.MortonLemmas.{morton_of-lt}
 use Rattle.k2_tree.proofs.RisingLemmas.{rises}
 use Rattle.k2_tree.proofs.PrefixLemmas.{by_test, once_from}
@@ -84,20 +81,10 @@ built height base cells bits grid few inside up is =
       ap (tree_with height base) (ap (map (cell_of height base)) told ∙ cells_back height base cells inside),
     )
 
--- the bits of a stored tree are those of its cells' numbers
+-- a stored tree's bits are those that are stored
 pub given_back : (height : ℕ) (base : Cell) (bits : List Bool) → IsStored height base bits
-    → bits ≡ morton_bits height (codes_of (tree_of height base bits))
+    → bits ≡ tree_bits (tree_of height base bits)
+unfolding tree_bits
 given_back height base bits stored =
     stored.tree.exact
     ∙ ap (morton_bits height) (sym (codes_back height base (codes_in height bits) stored.tree.codes.small))
-
--- the steps of building: numbers, bits, words
-pub stored : (height : ℕ) (base : Cell) (cells : List Cell) (codes seen words : List ℕ)
-    (bits shown held : List Bool) (len : ℕ)
-    → codes ≡ map (morton_of height base) cells → seen ≡ codes → bits ≡ morton_bits height seen → shown ≡ bits
-    → words ≡ packed shown → len ≡ length bits → held ≡ take len (bits_of words)
-    → held ≡ morton_bits height (map (morton_of height base) cells)
-stored height base cells codes seen words bits shown held len a b d e f g h =
-    let same : shown ≡ bits = e in
-    h ∙ ap (λ n. take n (bits_of words)) g ∙ ap (λ ws. take (length bits) (bits_of ws)) (f ∙ ap packed e)
-    ∙ bits_of-packed bits ∙ d ∙ ap (morton_bits height) (b ∙ a)

@@ -9,7 +9,7 @@ use Rattle.packed_bits.specs.Bits.{ones_of}
 use Rattle.track_types.specs.declared.cell.Cell.{Cell}
 use Rattle.k2_tree.specs.Morton.{morton_of, cell_of, IsInGrid}
 use Rattle.k2_tree.specs.TreeBits.{is_in, morton_bits, AreCodes}
-use Rattle.k2_tree.specs.Tree.{Tree, codes_in, codes_of, tree_of, tree_with, IsTree, IsStored}
+use Rattle.k2_tree.specs.Tree.{Tree, codes_in, codes_of, tree_bits, tree_of, tree_with, IsTree, IsStored}
 use Rattle.k2_tree.specs.Flaws.{StandsFor}
 use Rattle.k2_tree.proofs.MortonLemmas.{morton_of-cell_of, cell_of-morton_of, cell_of-inside}
 use Rattle.k2_tree.proofs.RisingLemmas.{by_place}
@@ -111,13 +111,14 @@ no_leaf height base bits none =
 -- the tree that has the bits is the one that the bits tell
 pub tree_of-StandsFor : (height : ℕ) (base : Cell) (bits : List Bool) (tree : Tree) → StandsFor height base bits tree
     → tree_of height base bits ≡ tree
+unfolding tree_bits
 tree_of-StandsFor height base bits tree stands =
     let codes : List ℕ = codes_of tree in
     let is : IsTree tree = stands.is_tree in
     let some : 1 ≤ height = subst (λ h. 1 ≤ h) stands.high is.grid.some in
     let are : AreCodes height codes = subst (λ h. AreCodes h codes) stands.high is.codes in
     let told : codes_in height bits ≡ codes =
-    ap (codes_in height) (sym stands.same) ∙ codes_in-morton_bits height codes some are in
+    ap (codes_in height) (sym stands.same ∙ ap (λ h. morton_bits h codes) stands.high) ∙ codes_in-morton_bits height codes some are in
     ap (λ xs. tree_with height base (map (cell_of height base) xs)) told
     ∙ ap (λ h. tree_with h base (map (cell_of h base) codes)) (sym stands.high)
     ∙ ap (λ b. tree_with tree.height b (map (cell_of tree.height b) codes)) (sym stands.from)
@@ -131,11 +132,11 @@ StandsFor-unique height base bits tree other stands stands' =
 
 -- a tree's own bits stand for it
 pub StandsFor-own : (tree : Tree) → IsTree tree
-    → StandsFor tree.height tree.base (morton_bits tree.height (codes_of tree)) tree
+    → StandsFor tree.height tree.base (tree_bits tree) tree
 StandsFor-own tree is = record { high = refl; from = refl; is_tree = is; same = refl }
 
 -- and so they tell it
 pub tree_of-own : (tree : Tree) → IsTree tree
-    → tree_of tree.height tree.base (morton_bits tree.height (codes_of tree)) ≡ tree
+    → tree_of tree.height tree.base (tree_bits tree) ≡ tree
 tree_of-own tree is =
-    tree_of-StandsFor tree.height tree.base (morton_bits tree.height (codes_of tree)) tree (StandsFor-own tree is)
+    tree_of-StandsFor tree.height tree.base (tree_bits tree) tree (StandsFor-own tree is)

@@ -1,8 +1,5 @@
 -- Bits without a flaw are stored as the tree that they stand for.
 use Rattle.std.proofs.Common.{◌≡◌, ℕ, ◌^◌, ◌≤◌, Bool, List, length, take, refl, sym, ap, ◌∙◌, None}
-use Rattle.packed_bits.specs.Bits.{packed}
-use Rattle.packed_bits.specs.Words.{bits_of}
-use Rattle.packed_bits.proofs.WordLemmas.{bits_of-packed}
 use Rattle.track_types.specs.declared.cell.Cell.{Cell}
 use Rattle.k2_tree.specs.Morton.{IsGrid}
 use Rattle.k2_tree.specs.Tree.{tree_of, IsStored}
@@ -10,12 +7,6 @@ use Rattle.k2_tree.specs.Flaws.{tree_flaw, StandsFor}
 use Rattle.k2_tree.proofs.CellLemmas.{IsTree-stored}
 use Rattle.k2_tree.proofs.BuiltLemmas.{given_back}
 use Rattle.k2_tree.proofs.FlawlessLemmas.{AreTreeBits-flawless}
-
--- the words of bits hold these bits
-pub held_bits : (bits held : List Bool) (words : List ℕ) (len : ℕ) → words ≡ packed bits → len ≡ length bits
-    → held ≡ take len (bits_of words) → held ≡ bits
-held_bits bits held words len a b c =
-    c ∙ ap (λ n. take n (bits_of words)) b ∙ ap (λ ws. take (length bits) (bits_of ws)) a ∙ bits_of-packed bits
 
 -- bits without a flaw are stored
 pub IsStored-flawless : (height : ℕ) (base : Cell) (bits : List Bool) → IsGrid height base → length bits ≤ 2 ^ 31

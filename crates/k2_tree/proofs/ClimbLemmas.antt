@@ -3,14 +3,14 @@ use Rattle.std.proofs.Common.{◌≡◌, ℕ, zero, suc, ◌+◌, ◌-◌, ◌*�
 use Rattle.std.proofs.Common.{List, [], ◌∷◌, length, get_or, refl, sym, ap, ◌∙◌, inl, inr, arith, subst, Some, lit<}
 use Rattle.std.proofs.Math.Nat.{pow-suc, pow-le-pow_right}
 use Rattle.std.proofs.lemmas.Option.{slice_get-get_or, slice_get_within, get_or_from_slice_get}
-use Rattle.std.proofs.lemmas.Bool.{cases_lt}
+use Rattle.std.proofs.lemmas.Bool.{cases_lt, false≢true}
 use Rattle.std.specs.Prelude.{slice_get}
 use Rattle.packed_bits.specs.Bits.{ones_of}
 use Rattle.packed_bits.proofs.OnesLemmas.{ones_of-le-length}
 use Rattle.bit_rank.specs.Bits.{rank_of, IsSelected}
 use Rattle.bit_rank.proofs.RankLemmas.{same_from_IsSelected, rank_of-step, rank_of-le-ones_of}
 use Rattle.track_types.specs.declared.limit.TheConstants.{MAX_HEIGHT}
-use Rattle.k2_tree.specs.TreeBits.{is_in, prefixes, morton_bits, Rises, AreCodes}
+use Rattle.k2_tree.specs.TreeBits.{code_limit, is_in, prefixes, morton_bits, Rises, AreCodes}
 use Rattle.k2_tree.specs.Squares.{squares_above, IsSquare}
 use Rattle.k2_tree.specs.Tree.{codes_in, AreTreeBits}
 use Rattle.k2_tree.proofs.RisingLemmas.{by_place}
@@ -22,15 +22,11 @@ use Rattle.k2_tree.proofs.DecodingLemmas.{length-codes_in, codes_in-none}
 
 -- a member stands at some place
 pub place_in : (xs : List ℕ) (c : ℕ) → is_in xs c ≡ true → (i : ℕ) × (i < length xs) × (get_or xs i 0 ≡ c)
-place_in [] c is = let clash : false ≡ true = is in absurd (cc)
+place_in [] c is = absurd (false≢true is)
 place_in (x ∷ xs) c is = elim (by_test x c) [
   | inl same ↦ (0, omega arith, same.0)
-  | inr differ ↦ later (place_in xs c (rw differ.1 at is))
+  | inr differ ↦ let later = place_in xs c (rw differ.1 at is) in (suc later.0, omega (arith, later.1), later.2)
 ]
-  where
-    later : (i : ℕ) × (i < length xs) × (get_or xs i 0 ≡ c)
-        → (i : ℕ) × (i < length (x ∷ xs)) × (get_or (x ∷ xs) i 0 ≡ c)
-    later (i, within, here) = (suc i, omega arith, here)
 
 -- in a rising list each number has one place
 pub same_place : (n i j : ℕ) (xs : List ℕ) → Rises n xs → i < length xs → j < length xs
@@ -65,46 +61,36 @@ pub record IsBelow (height : ℕ) (codes : List ℕ) (n q j : ℕ) (bits : List 
 pub parent_square : (height : ℕ) (codes : List ℕ) (n q j : ℕ) (bits : List Bool) → AreCodes height codes
     → bits ≡ morton_bits height codes → n < height → IsSquare height codes n q j → IsBelow height codes n q j bits
 parent_square height codes n q j bits are is low square =
+    let all : List Bool = morton_bits height codes in
     let here : is_in (prefixes n codes) q ≡ true =
     by_place (prefixes n codes) square.place q square.within square.stands in
     let above = place_in (prefixes (suc n) codes) (q / 4) (prefixes-shorter n codes q here) in
-    found above here
-  where
-    found : (i : ℕ) × (i < length (prefixes (suc n) codes)) × (get_or (prefixes (suc n) codes) i 0 ≡ q / 4)
-        → is_in (prefixes n codes) q ≡ true → IsBelow height codes n q j bits
-    found (m, within, stands) here =
-        let k : ℕ = square.above - 1 in
-        let parent : ℕ = squares_above k (suc n) codes + m in
-        let up : IsSquare height codes (suc n) (q / 4) parent =
-        record {
-          above = k;
-          place = m;
-          high = omega (arith, square.high);
-          within = within;
-          stands = stands;
-          counted = refl;
-        } in
-        let whole : 4 * (q / 4) + q % 4 ≡ q = omega arith in
-        let there : is_in (prefixes n codes) (4 * (q / 4) + q % 4) ≡ true =
-        ap (is_in (prefixes n codes)) whole ∙ here in
-        let bit : get_or (morton_bits height codes) (4 * parent + q % 4) false ≡ true =
-        child_bit height codes n (q / 4) parent (q % 4) up (omega arith) ∙ there in
-        let child = subst
-        (λ p. IsSquare height codes n p (rank_of (morton_bits height codes) (4 * parent + q % 4) + 1)) whole
-        (child_square height codes n (q / 4) parent (q % 4) are up (omega arith) there) in
-        let number : rank_of (morton_bits height codes) (4 * parent + q % 4) + 1 ≡ j =
-        same_number height codes n q (rank_of (morton_bits height codes) (4 * parent + q % 4) + 1) j
-        are.rising child square in
-        let inside = child_place height codes n (q / 4) parent (q % 4) up (omega arith) in
-        record {
-          parent = parent;
-          square = up;
-          place = subst (λ bs. IsSelected bs j (4 * parent + q % 4)) (sym is)
-              (record {
-                one = slice_get-get_or (morton_bits height codes) (4 * parent + q % 4) false inside ∙ ap Some bit;
-                rank = number;
-              });
-        }
+    let k : ℕ = square.above - 1 in
+    let parent : ℕ = squares_above k (suc n) codes + above.0 in
+    let up : IsSquare height codes (suc n) (q / 4) parent =
+    record {
+      above = k;
+      place = above.0;
+      high = omega (arith, square.high);
+      within = above.1;
+      stands = above.2;
+      counted = refl;
+    } in
+    let whole : 4 * (q / 4) + q % 4 ≡ q = omega arith in
+    let there : is_in (prefixes n codes) (4 * (q / 4) + q % 4) ≡ true = ap (is_in (prefixes n codes)) whole ∙ here in
+    let bit : get_or all (4 * parent + q % 4) false ≡ true =
+    child_bit height codes n (q / 4) parent (q % 4) up (omega arith) ∙ there in
+    let child = subst (λ p. IsSquare height codes n p (rank_of all (4 * parent + q % 4) + 1)) whole
+    (child_square height codes n (q / 4) parent (q % 4) are up (omega arith) there) in
+    let number : rank_of all (4 * parent + q % 4) + 1 ≡ j =
+    same_number height codes n q (rank_of all (4 * parent + q % 4) + 1) j are.rising child square in
+    let inside = child_place height codes n (q / 4) parent (q % 4) up (omega arith) in
+    record {
+      parent = parent;
+      square = up;
+      place = subst (λ bs. IsSelected bs j (4 * parent + q % 4)) (sym is)
+          (record { one = slice_get-get_or all (4 * parent + q % 4) false inside ∙ ap Some bit; rank = number });
+    }
 
 -- a one that has a place is one of the ones
 pub enough_ones : (bits : List Bool) (j p : ℕ) → p < length bits → get_or bits p false ≡ true
@@ -192,30 +178,36 @@ digits_more p w code whole d is e =
     let rest : p / 4 * (w * 4) + (code + d * w) ≡ whole = omega arith in
     (rest, omega arith)
 
+-- a digit more was left behind, at its weight
+pub record IsHigher (height : ℕ) (bits : List Bool) (leaf level place code digit weight : ℕ) : Type 0 where
+  pub small : code + digit * weight < code_limit
+  pub light : weight * 4 < 8 * code_limit
+  pub climb : IsClimb height bits leaf level (place / 4) (code + digit * weight) (weight * 4)
+
 -- one level up
-pub climbs : (height : ℕ) (bits : List Bool) (leaf level square code weight place : ℕ) → AreTreeBits height bits
+pub climbs : (height : ℕ) (bits : List Bool) (leaf level square code weight place digit : ℕ) → AreTreeBits height bits
     → height ≤ MAX_HEIGHT → leaf < length (codes_in height bits)
     → IsClimb height bits leaf level square code weight → level < height → IsSelected bits square place
-    → (code + place % 4 * weight < 2 ^ 40) × (weight * 4 < 2 ^ 43)
-    × IsClimb height bits leaf (level + 1) (place / 4) (code + place % 4 * weight) (weight * 4)
-climbs height bits leaf level square code weight place are few within climb low selected =
+    → digit ≡ place % 4 → IsHigher height bits leaf (level + 1) place code digit weight
+climbs height bits leaf level square code weight place digit are few within climb low selected is =
     let codes : List ℕ = codes_in height bits in
     let both = digit_place height bits leaf level square code weight place are climb low selected in
-    let digits = digits_more climb.prefix weight code (get_or codes leaf 0) (place % 4) climb.digits both.1 in
+    let digits = digits_more climb.prefix weight code (get_or codes leaf 0) digit climb.digits (is ∙ both.1) in
     let small : get_or codes leaf 0 < 4 ^ height = are.codes.small leaf 0 within in
     let most : 4 ^ height ≤ 4 ^ MAX_HEIGHT = pow-le-pow_right {n = 4} (lit< tt) few in
     let lower : level ≤ MAX_HEIGHT = omega arith in
     let next : 4 ^ level ≤ 4 ^ MAX_HEIGHT = pow-le-pow_right {n = 4} (lit< tt) lower in
-    let one_more : suc level ≡ level + 1 = omega arith in (
-      omega (arith, digits.1),
-      omega (arith, climb.power),
-      record {
+    let one_more : suc level ≡ level + 1 = omega arith in
+    record {
+      small = omega (arith, digits.1);
+      light = omega (arith, climb.power);
+      climb = record {
         prefix = climb.prefix / 4;
         here = subst (λ n. IsSquare height codes n (climb.prefix / 4) (place / 4)) one_more both.0;
         digits = digits.0;
         power = ap (λ w. w * 4) climb.power ∙ omega (arith, pow-suc 4 level) ∙ ap (λ n. 4 ^ n) one_more;
-      },
-    )
+      };
+    }
 
 -- at the top all digits are left behind
 pub arrives_at_top : (height : ℕ) (bits : List Bool) (leaf level square code weight : ℕ) → AreTreeBits height bits

@@ -1,6 +1,8 @@
 -- What a tree's bits tell: the Morton numbers that they were made of.
-use Rattle.std.proofs.Common.{◌≡◌, ℕ, zero, suc, ◌+◌, ◌*◌, ◌/◌, ◌^◌, ◌<◌, ◌≤◌, Bool, true, false, List, [], ◌∷◌, ◌++◌}
-use Rattle.std.proofs.Common.{length, map, filter, drop, refl, sym, ap, ◌∙◌, arith, subst, length-append}
+use Rattle.std.proofs.Common.{◌≡◌, ℕ, zero, suc, ◌+◌, ◌*◌, ◌/◌, ◌^◌, ◌<◌, ◌≤◌, Bool, List, [], ◌∷◌, ◌++◌}
+use Rattle.std.proofs.Common.{length, map, filter, drop, refl, inl, inr, sym, ap, ◌∙◌, arith, subst, length-append}
+use Rattle.std.proofs.lemmas.Bool.{cases_Bool}
+use Rattle.std.proofs.lemmas.List.{drop_at}
 use Rattle.packed_bits.specs.Bits.{ones_of}
 use Rattle.packed_bits.proofs.OnesLemmas.{ones_of-append, ones_of-nil}
 use Rattle.k2_tree.specs.TreeBits.{is_in, prefixes, level_bits, longer, morton_bits, Rises, AreCodes}
@@ -15,18 +17,10 @@ picked-map : (p : ℕ → Bool) (xs : List ℕ) (rest : List Bool) → picked (m
 unfolding picked
 picked-map p [] [] = refl
 picked-map p [] (bit ∷ rest) = refl
-picked-map p (x ∷ xs) rest = by_kept (p x) refl (picked-map p xs rest)
-  where
-    by_kept : (b : Bool) → p x ≡ b → picked (map p xs ++ rest) xs ≡ filter p xs
-        → picked (map p (x ∷ xs) ++ rest) (x ∷ xs) ≡ filter p (x ∷ xs)
-    by_kept true e same = rw e (ap (λ ys. x ∷ ys) same)
-    by_kept false e same = rw e same
-
-drop_all_front : (n : ℕ) (front rest : List Bool) → length front ≡ n → drop n (front ++ rest) ≡ rest
-drop_all_front zero [] rest long = refl
-drop_all_front zero (b ∷ front) rest long = absurd (omega arith)
-drop_all_front (suc n) [] rest long = absurd (omega arith)
-drop_all_front (suc n) (b ∷ front) rest long = drop_all_front n front rest (omega arith)
+picked-map p (x ∷ xs) rest = elim (cases_Bool (p x)) [
+  | inl kept ↦ rw kept (ap (λ ys. x ∷ ys) (picked-map p xs rest))
+  | inr gone ↦ rw gone (picked-map p xs rest)
+]
 
 -- from a level downwards
 codes_below-morton_bits : (n : ℕ) (codes : List ℕ) → Rises 0 codes
@@ -39,7 +33,7 @@ codes_below-morton_bits (suc n) codes up =
     let kept : picked (level ++ morton_bits n codes) (longer above) ≡ prefixes n codes =
     picked-map (is_in (prefixes n codes)) (longer above) (morton_bits n codes) ∙ prefixes-from_longer n codes up in
     let left : drop (4 * length above) (level ++ morton_bits n codes) ≡ morton_bits n codes =
-    drop_all_front (4 * length above) level (morton_bits n codes) (length-level_bits n codes) in
+    drop_at level (morton_bits n codes) (4 * length above) (length-level_bits n codes) in
     rw (kept, left) (codes_below-morton_bits n codes up)
 
 -- where there is a topmost square, there are bits

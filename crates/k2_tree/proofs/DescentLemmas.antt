@@ -92,13 +92,7 @@ ends height code (suc n) square bits are some here off =
     let gone : is_in (prefixes n (codes_in height bits)) (code / 4 ^ n) ≡ false =
     ap (is_in (prefixes n (codes_in height bits))) (sym prefix)
     ∙ sym (bit_tells height code n square digit bits are here is) ∙ off in
-    by_answer (is_in (codes_in height bits) code) refl gone
-  where
-    by_answer : (b : Bool) → is_in (codes_in height bits) code ≡ b
-        → is_in (prefixes n (codes_in height bits)) (code / 4 ^ n) ≡ false → is_in (codes_in height bits) code ≡ false
-    by_answer false is gone = is
-    by_answer true is gone =
-        let clash : true ≡ false = sym (prefixes-of n (codes_in height bits) code is) ∙ gone in absurd (cc)
+    grind (arith, prefixes-of n (codes_in height bits) code, gone)
 
 -- where the bit is 1 the descent goes on at the child
 pub goes_on : (height code level square child : ℕ) (bits : List Bool) → AreTreeBits height bits → 0 < level

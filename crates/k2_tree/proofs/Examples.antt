@@ -7,7 +7,7 @@ use Rattle.k2_tree.specs.Flaws.{group_flaw, level_flaw, tree_flaw}
 use Rattle.k2_tree.specs.Checking.{group_ones}
 use Rattle.k2_tree.specs.Squares.{squares_from}
 use Rattle.k2_tree.specs.Tree.{Tree, tree_with}
-use Rattle.k2_tree.specs.Pruning.{numbered, passes, kept_leaves, square_count}
+use Rattle.k2_tree.specs.Pruning.{passes, passes_at, kept_leaves, square_count}
 use Rattle.packed_bits.specs.Bits.{ones_of}
 use Rattle.track_types.specs.Region.{intersects_region}
 use Rattle.track_types.specs.declared.region.Region.TheVariants.{Rect}
@@ -92,7 +92,7 @@ three = tree_with 2 (at 0 0) (at 0 0 ∷ at 1 1 ∷ at 3 0 ∷ [])
 
 a_rect_keeps_two_leaves : kept_leaves (intersects_region (Rect (pos 1) (pos 0) (pos 3) (pos 3))) three
     ≡ (1, at 1 1) ∷ (2, at 3 0) ∷ []
-unfolding numbered passes morton_of interleaved row_of column_of
+unfolding passes_at passes morton_of interleaved row_of column_of
 a_rect_keeps_two_leaves = refl
 
 a_rect_touches_five_squares : square_count (intersects_region (Rect (pos 1) (pos 0) (pos 3) (pos 3))) three ≡ 5
@@ -100,5 +100,5 @@ unfolding squares_from prefixes morton_of interleaved row_of column_of
 a_rect_touches_five_squares = refl
 
 a_far_rect_keeps_none : kept_leaves (intersects_region (Rect (pos 5) (pos 5) (pos 6) (pos 6))) three ≡ []
-unfolding numbered passes morton_of interleaved row_of column_of
+unfolding passes_at passes morton_of interleaved row_of column_of
 a_far_rect_keeps_none = refl

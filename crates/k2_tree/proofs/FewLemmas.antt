@@ -1,54 +1,41 @@
 -- A test of boxes keeps at most as many leaves as squares.
-use Rattle.std.proofs.Common.{◌≡◌, ℕ, zero, suc, ◌≤◌, Bool, true, false, List, [], ◌∷◌, length, map, filter}
-use Rattle.std.proofs.Common.{refl, sym, ap, ◌∙◌, arith}
-use Rattle.std.proofs.lemmas.Bool.{and_parts, true≢false}
+use Rattle.std.proofs.Common.{◌≡◌, ℕ, zero, suc, ◌+◌, ◌≤◌, Bool, true, List, [], ◌∷◌, length, map, filter}
+use Rattle.std.proofs.Common.{sym, ap, ◌∙◌, arith}
+use Rattle.std.proofs.lemmas.Bool.{and_parts}
 use Rattle.std.proofs.lemmas.List.{length-append}
 use Rattle.std.proofs.lemmas.List.Elements.{filter-append}
 use Rattle.track_types.specs.declared.cell.Cell.{Cell}
 use Rattle.track_types.specs.declared.cell_box.CellBox.{CellBox}
+use Rattle.std.specs.List.{enumerate_from}
+use Rattle.std.proofs.Math.Nat.{div-one}
 use Rattle.k2_tree.specs.Morton.{morton_of}
 use Rattle.k2_tree.specs.TreeBits.{prefixes}
 use Rattle.k2_tree.specs.Squares.{Node, node, squares_from}
 use Rattle.k2_tree.specs.Tree.{Tree, IsTree, codes_of}
-use Rattle.k2_tree.specs.Pruning.{numbered, passes, on_areas, kept_leaves, square_count}
+use Rattle.k2_tree.specs.Pruning.{kept_leaves, on_areas, passes, passes_at, square_count}
 use Rattle.k2_tree.proofs.PrefixLemmas.{prefixes-zero}
+use Rattle.k2_tree.proofs.SquareLemmas.{squares_from-zero}
 
 -- where each square of a number passes, its own does
 passes-own : (test : Node → Bool) (n code : ℕ) → passes test n code ≡ true → test (node 0 code) ≡ true
 unfolding passes
-passes-own test zero code e = e
+passes-own test zero code e = ap (λ c. test (node 0 c)) (sym (div-one code)) ∙ (and_parts _ _ e).0
 passes-own test (suc n) code e = passes-own test n code (and_parts _ _ e).1
 
 -- of cells at most as many pass as have an own square that does
 few-cells : (test : Node → Bool) (height : ℕ) (base : Cell) (k : ℕ) (cells : List Cell)
-    → length (filter (λ leaf. passes test height (morton_of height base leaf.1)) (numbered k cells))
+    → length (filter (λ leaf. passes test height (morton_of height base leaf.1)) (enumerate_from k cells))
     ≤ length (filter test (map (node 0) (map (morton_of height base) cells)))
-unfolding numbered
 few-cells test height base k [] = omega arith
 few-cells test height base k (cell ∷ cells) =
-    by_test (passes test height code) refl (test (node 0 code)) refl (few-cells test height base (suc k) cells)
-  where
-    code : ℕ
-    code = morton_of height base cell
-
-    passing : ℕ × Cell → Bool
-    passing leaf = passes test height (morton_of height base leaf.1)
-
-    by_test : (p : Bool) → passes test height code ≡ p → (q : Bool) → test (node 0 code) ≡ q
-        → length (filter passing (numbered (suc k) cells))
-        ≤ length (filter test (map (node 0) (map (morton_of height base) cells)))
-        → length (filter passing ((k, cell) ∷ numbered (suc k) cells))
-        ≤ length (filter test (node 0 code ∷ map (node 0) (map (morton_of height base) cells)))
-    by_test true e true f rest = rw (e, f) (omega (arith, rest))
-    by_test true e false f rest = absurd (true≢false (sym (passes-own test height code e) ∙ f))
-    by_test false e true f rest = rw (e, f) (omega (arith, rest))
-    by_test false e false f rest = rw (e, f) rest
+    let own = passes-own test height (morton_of height base cell) in
+    grind (arith, own, few-cells test height base (k + 1) cells)
 
 -- the squares of the lowest level are among those from a level down
 few-squares : (test : Node → Bool) (n : ℕ) (codes : List ℕ)
     → length (filter test (map (node 0) (prefixes 0 codes))) ≤ length (filter test (squares_from n codes))
 unfolding squares_from
-few-squares test zero codes = omega arith
+few-squares test zero codes = let e = ap (λ xs. length (filter test xs)) (squares_from-zero codes) in omega (arith, e)
 few-squares test (suc n) codes =
     let here : List Node = map (node (suc n)) (prefixes (suc n) codes) in
     let parts = ap length (filter-append test here (squares_from n codes))
@@ -59,6 +46,7 @@ few-squares test (suc n) codes =
 -- a test keeps at most as many leaves of a tree as squares
 pub kept_leaves-few : (keep : CellBox → Bool) (tree : Tree) → IsTree tree
     → length (kept_leaves keep tree) ≤ square_count keep tree
+unfolding passes_at
 kept_leaves-few keep tree is =
     let test : Node → Bool = on_areas keep tree in
     let all : prefixes 0 (codes_of tree) ≡ codes_of tree = prefixes-zero (codes_of tree) is.codes.rising in

@@ -1,17 +1,16 @@
 -- The bits of Morton numbers have no flaw, so flawed bits are those of none.
 use Rattle.std.proofs.Common.{◌≡◌, ℕ, zero, suc, ◌+◌, ◌*◌, ◌/◌, ◌%◌, ◌==◌, ◌||◌, Bool, true, false, List, []}
 use Rattle.std.proofs.Common.{◌∷◌, ◌++◌, length, map, take, drop, refl, sym, ap, ◌∙◌, inl, inr, arith, None, Some}
-use Rattle.std.proofs.lemmas.Bool.{false≢true, le-leb, or_left, or_right}
+use Rattle.std.proofs.lemmas.Bool.{false≢true, le-leb, or_right}
 use Rattle.std.proofs.lemmas.Option.{none-some}
 use Rattle.std.proofs.lemmas.List.{take_at, drop_at}
 use Rattle.std.specs.Option.{option_map}
 use Rattle.k2_tree.specs.TreeBits.{is_in, prefixes, longer, level_bits, morton_bits, Rises, AreCodes}
 use Rattle.k2_tree.specs.Flaws.{group_flaw, level_flaw, tree_flaw, AreNoTree}
 use Rattle.k2_tree.proofs.RisingLemmas.{is_in-first}
-use Rattle.k2_tree.proofs.PrefixLemmas.{by_test, prefixes-top}
+use Rattle.k2_tree.proofs.PrefixLemmas.{by_test, is_in-parents, prefixes-top}
 use Rattle.k2_tree.proofs.TreeLemmas.{length-level_bits, ones_of-level_bits}
 use Rattle.k2_tree.proofs.DescentLemmas.{morton_bits-none}
-use Rattle.k2_tree.proofs.PickedLemmas.{is_in-parents}
 
 -- whether a child of the square with this prefix is there
 abbrev any_child : List ℕ → ℕ → Bool
@@ -21,25 +20,10 @@ any_child codes p =
 
 -- a number is its parent's child
 any_child-of : (codes : List ℕ) (x : ℕ) → is_in codes x ≡ true → any_child codes (x / 4) ≡ true
-any_child-of codes x is = by_digit (x % 4) refl
-  where
-    child : ℕ → Bool
-    child d = is_in codes (4 * (x / 4) + d)
-
-    at : (y : ℕ) → y ≡ x → is_in codes y ≡ true
-    at y e = ap (is_in codes) e ∙ is
-
-    by_digit : (d : ℕ) → x % 4 ≡ d → any_child codes (x / 4) ≡ true
-    by_digit zero e = or_left (is_in codes (4 * (x / 4))) _ (at (4 * (x / 4)) (omega arith))
-    by_digit (suc zero) e =
-        or_right (is_in codes (4 * (x / 4))) _ (or_left (child 1) _ (at (4 * (x / 4) + 1) (omega arith)))
-    by_digit (suc (suc zero)) e =
-        or_right (is_in codes (4 * (x / 4))) _
-        (or_right (child 1) _ (or_left (child 2) _ (at (4 * (x / 4) + 2) (omega arith))))
-    by_digit (suc (suc (suc zero))) e =
-        or_right (is_in codes (4 * (x / 4))) _
-        (or_right (child 1) _ (or_right (child 2) _ (or_left (child 3) _ (at (4 * (x / 4) + 3) (omega arith)))))
-    by_digit (suc (suc (suc (suc d)))) e = absurd (omega arith)
+any_child-of codes x is =
+    let digit : (d : ℕ) → x % 4 ≡ d → is_in codes (4 * (x / 4) + d) ≡ true =
+    λ d e. ap (is_in codes) (omega arith) ∙ is in
+    grind (arith, digit 0, digit 1, digit 2, digit 3)
 
 -- a parent has a child
 child_from_parents : (codes : List ℕ) (p : ℕ) → is_in (map (λ x. x / 4) codes) p ≡ true
@@ -48,22 +32,16 @@ child_from_parents [] p is = absurd (false≢true is)
 child_from_parents (x ∷ xs) p is = elim (by_test (x / 4) p) [
   | inl same ↦ (x, is_in-first x xs, same.0)
   | inr differ ↦
-      let there : is_in (map (λ y. y / 4) xs) p ≡ true = (rw differ.1 at is) in
-      later (child_from_parents xs p there)
+      let later = child_from_parents xs p (rw differ.1 at is) in
+      (later.0, or_right (x == later.0) (is_in xs later.0) later.1, later.2)
 ]
-  where
-    later : (y : ℕ) × (is_in xs y ≡ true) × (y / 4 ≡ p) → (y : ℕ) × (is_in (x ∷ xs) y ≡ true) × (y / 4 ≡ p)
-    later (y, there, parent) = (y, or_right (x == y) (is_in xs y) there, parent)
 
 -- each square of a level has a child in the next
 any_child-prefixes : (n : ℕ) (codes : List ℕ) (p : ℕ) → is_in (prefixes (suc n) codes) p ≡ true
     → any_child (prefixes n codes) p ≡ true
 any_child-prefixes n codes p is =
-    by_child (child_from_parents (prefixes n codes) p (sym (is_in-parents n codes p) ∙ is))
-  where
-    by_child : (x : ℕ) × (is_in (prefixes n codes) x ≡ true) × (x / 4 ≡ p) → any_child (prefixes n codes) p ≡ true
-    by_child (x, there, parent) =
-        ap (any_child (prefixes n codes)) (sym parent) ∙ any_child-of (prefixes n codes) x there
+    let child = child_from_parents (prefixes n codes) p (sym (is_in-parents n codes p) ∙ is) in
+    ap (any_child (prefixes n codes)) (sym child.2) ∙ any_child-of (prefixes n codes) child.0 child.1
 
 -- where each square has a child, no group is flawed
 group_flaw-children : (above below : List ℕ) (rest : List Bool)

@@ -13,11 +13,11 @@ use Rattle.k2_tree.specs.TreeBits.{is_in, prefixes, longer, level_bits, morton_b
 use Rattle.k2_tree.specs.Tree.{picked, codes_below, codes_in, AreTreeBits}
 use Rattle.k2_tree.specs.Flaws.{group_flaw, level_flaw, tree_flaw}
 use Rattle.k2_tree.proofs.RisingLemmas.{same_from_rising, by_place}
-use Rattle.k2_tree.proofs.PrefixLemmas.{by_test, prefixes-rise, prefixes-zero, prefixes-of, longer-rises, fan_pos}
+use Rattle.k2_tree.proofs.PrefixLemmas.{by_test, is_in-parents, prefixes-rise, prefixes-zero, prefixes-of, longer-rises, fan_pos}
 use Rattle.k2_tree.proofs.TreeLemmas.{length-longer}
 use Rattle.k2_tree.proofs.DescentLemmas.{morton_bits-none}
 use Rattle.k2_tree.proofs.GroupLemmas.{option_or-none, option_map-none, group_flaw-within}
-use Rattle.k2_tree.proofs.PickedLemmas.{Rises-picked, length-picked, map-picked, is_in-map-picked, is_in-parents}
+use Rattle.k2_tree.proofs.PickedLemmas.{Rises-picked, length-picked, map-picked, is_in-map-picked}
 
 -- numbers that rise, have these prefixes and have these bits
 record AreBelow (n : ℕ) (above : List ℕ) (bits : List Bool) (codes : List ℕ) : Type 0 where

@@ -1,7 +1,7 @@
 -- Groups of four bits: what it means that none of them is flawed.
 use Rattle.std.proofs.Common.{◌≡◌, ℕ, zero, suc, ◌+◌, ◌*◌, ◌≤◌, nat_le, Bool, true, false, List, [], ◌∷◌}
-use Rattle.std.proofs.Common.{length, take, drop, refl, sym, ap, ◌∙◌, arith, Option, None, Some, length-drop}
-use Rattle.std.proofs.lemmas.Bool.{le-leb, leb-true, and_parts}
+use Rattle.std.proofs.Common.{length, take, drop, refl, sym, ap, ◌∙◌, inl, inr, arith, Option, None, Some, length-drop}
+use Rattle.std.proofs.lemmas.Bool.{cases_Bool, le-leb, leb-true, and_parts}
 use Rattle.std.proofs.lemmas.Option.{none-some}
 use Rattle.std.specs.Option.{option_map, option_or}
 use Rattle.std.specs.List.{list_any}
@@ -44,13 +44,12 @@ group_flaw-here groups bits lacks = rw lacks refl
 -- the group at the front of those without a flaw has a one, and those behind it have no flaw
 pub group_flaw-none : (groups : ℕ) (bits : List Bool) → group_flaw (suc groups) bits ≡ None
     → (has_group bits ≡ true) × (group_flaw groups (drop 4 bits) ≡ None)
-group_flaw-none groups bits none = by_group (has_group bits) refl
-  where
-    by_group : (b : Bool) → has_group bits ≡ b → (has_group bits ≡ true) × (group_flaw groups (drop 4 bits) ≡ None)
-    by_group true has =
-        let behind = sym (group_flaw-behind groups bits has) ∙ none in
-        (has, option_map-none (λ place. 4 + place) (group_flaw groups (drop 4 bits)) behind)
-    by_group false lacks = absurd (none-some 0 (sym none ∙ group_flaw-here groups bits lacks))
+group_flaw-none groups bits none = elim (cases_Bool (has_group bits)) [
+  | inl has ↦
+      (has, option_map-none (λ place. 4 + place) (group_flaw groups (drop 4 bits))
+      (sym (group_flaw-behind groups bits has) ∙ none))
+  | inr lacks ↦ absurd (none-some 0 (sym none ∙ group_flaw-here groups bits lacks))
+]
 
 -- groups without a flaw are all there
 pub group_flaw-within : (groups : ℕ) (bits : List Bool) → group_flaw groups bits ≡ None → 4 * groups ≤ length bits
@@ -74,8 +73,4 @@ any-ones (false ∷ bits) =
 
 -- there is a group where it has ones
 pub has_group-ones : (bits : List Bool) → has_group bits ≡ nat_le 1 (group_ones bits)
-has_group-ones bits = by_length (nat_le 4 (length bits)) refl
-  where
-    by_length : (b : Bool) → nat_le 4 (length bits) ≡ b → has_group bits ≡ nat_le 1 (group_ones bits)
-    by_length true e = rw e (any-ones (take 4 bits))
-    by_length false e = rw e refl
+has_group-ones bits = grind (arith, any-ones (take 4 bits))

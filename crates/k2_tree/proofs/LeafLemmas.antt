@@ -1,63 +1,52 @@
 -- Leaves by their Morton numbers, and the numbers that they have.
-use Rattle.std.proofs.Common.{◌≡◌, ℕ, zero, suc, ◌+◌, ◌^◌, ◌<◌, ◌≤◌, Bool, true, false, List, [], ◌∷◌, length}
-use Rattle.std.proofs.Common.{map, filter, get_or, refl, ap, ◌∙◌, arith, All}
+use Rattle.std.proofs.Common.{◌≡◌, ℕ, zero, suc, ◌+◌, ◌^◌, ◌<◌, ◌≤◌, Bool, List, [], ◌∷◌, length}
+use Rattle.std.proofs.Common.{map, filter, get_or, refl, inl, inr, ap, ◌∙◌, arith, All}
+use Rattle.std.proofs.lemmas.Bool.{cases_Bool}
 use Rattle.std.proofs.lemmas.Bool.Decides.{nat_tests}
-use Rattle.std.specs.Prelude.{nat_lt}
 use Rattle.track_types.specs.declared.cell.Cell.{Cell}
+use Rattle.std.specs.List.{enumerate_from}
 use Rattle.k2_tree.specs.Morton.{morton_of, cell_of}
 use Rattle.k2_tree.specs.TreeBits.{Rises, AreCodes}
-use Rattle.k2_tree.specs.Pruning.{numbered, place_among, leaf_with}
+use Rattle.k2_tree.specs.Pruning.{place_among, leaf_with}
 use Rattle.k2_tree.proofs.LevelLemmas.{Rises-place}
 use Rattle.k2_tree.proofs.MortonLemmas.{morton_of-cell_of}
-
-is_below : (m n : ℕ) → m < n → nat_lt m n ≡ true
-is_below m n less = grind (arith, nat_tests)
-
-is_not_below : (m n : ℕ) → n ≤ m → nat_lt m n ≡ false
-is_not_below m n most = grind (arith, nat_tests)
 
 -- below all there is none
 place_among-low : (n c : ℕ) (codes : List ℕ) → Rises n codes → c ≤ n → place_among codes c ≡ 0
 place_among-low n c [] up low = refl
 place_among-low n c (x ∷ xs) up low =
-    let first : n ≤ x = up.0 in
-    rw (is_not_below x c (omega arith)) (place_among-low (suc x) c xs up.1 (omega arith))
+    let first : n ≤ x = up.0 in grind (arith, nat_tests, place_among-low (suc x) c xs up.1 (omega arith))
 
 -- the place of an ascending number is where it stands
 pub place_among-at : (n i : ℕ) (codes : List ℕ) → Rises n codes → i < length codes
     → place_among codes (get_or codes i 0) ≡ i
 place_among-at n i [] up within = absurd (omega arith)
 place_among-at n zero (x ∷ xs) up within =
-    rw (is_not_below x x (omega arith)) (place_among-low (suc x) x xs up.1 (omega arith))
+    grind (arith, nat_tests, place_among-low (suc x) x xs up.1 (omega arith))
 place_among-at n (suc i) (x ∷ xs) up within =
     let high = Rises-place (suc x) i xs up.1 (omega arith) in
-    rw (is_below x (get_or xs i 0) (omega arith)) (ap suc (place_among-at (suc x) i xs up.1 (omega arith)))
+    grind (arith, nat_tests, high, place_among-at (suc x) i xs up.1 (omega arith))
 
 -- the cells of numbers that stand from a place on, and what a test keeps of them
-numbered-from : (height : ℕ) (base : Cell) (p : ℕ → Bool) (place : ℕ → ℕ) (k : ℕ) (codes : List ℕ)
+enumerate_from-cells : (height : ℕ) (base : Cell) (p : ℕ → Bool) (place : ℕ → ℕ) (k : ℕ) (codes : List ℕ)
     → All (λ code. code < 4 ^ height) codes → ((i : ℕ) → i < length codes → place (get_or codes i 0) ≡ k + i)
     → map (λ code. (place code, cell_of height base code)) (filter p codes)
-    ≡ filter (λ leaf. p (morton_of height base leaf.1)) (numbered k (map (cell_of height base) codes))
-unfolding numbered
-numbered-from height base p place k [] small stands = refl
-numbered-from height base p place k (c ∷ cs) small stands =
+    ≡ filter (λ leaf. p (morton_of height base leaf.1)) (enumerate_from k (map (cell_of height base) codes))
+enumerate_from-cells height base p place k [] small stands = refl
+enumerate_from-cells height base p place k (c ∷ cs) small stands =
     let back = morton_of-cell_of height base c (small 0 c (omega arith)) in
-    by_kept (p c) refl (stands 0 (omega arith) ∙ omega arith) back
-    (numbered-from height base p place (suc k) cs (λ i d h. small (suc i) d (omega arith))
-    (λ i h. stands (suc i) (omega arith) ∙ omega arith))
-  where
-    by_kept : (b : Bool) → p c ≡ b → place c ≡ k → morton_of height base (cell_of height base c) ≡ c
-        → map (λ code. (place code, cell_of height base code)) (filter p cs)
-        ≡ filter (λ leaf. p (morton_of height base leaf.1)) (numbered (suc k) (map (cell_of height base) cs))
-        → map (λ code. (place code, cell_of height base code)) (filter p (c ∷ cs))
-        ≡ filter (λ leaf. p (morton_of height base leaf.1)) (numbered k (map (cell_of height base) (c ∷ cs)))
-    by_kept true e here back rest = rw (back, e, here) (ap (λ xs. (k, cell_of height base c) ∷ xs) rest)
-    by_kept false e here back rest = rw (back, e) rest
+    let here : place c ≡ k = stands 0 (omega arith) ∙ omega arith in
+    let rest = enumerate_from-cells height base p place (k + 1) cs (λ i d h. small (suc i) d (omega arith))
+    (λ i h. stands (suc i) (omega arith) ∙ omega arith) in
+    elim (cases_Bool (p c)) [
+      | inl kept ↦ rw (back, kept, here) (ap (λ xs. (k, cell_of height base c) ∷ xs) rest)
+      | inr gone ↦ rw (back, gone) rest
+    ]
 
--- the leaves of the numbers that pass a test are the numbered cells whose numbers pass it
-pub leaves-numbered : (height : ℕ) (base : Cell) (p : ℕ → Bool) (codes : List ℕ) → AreCodes height codes
+-- the leaves of the numbers that pass a test are the cells with their numbers whose numbers pass it
+pub leaves-enumerated : (height : ℕ) (base : Cell) (p : ℕ → Bool) (codes : List ℕ) → AreCodes height codes
     → map (leaf_with height base codes) (filter p codes)
-    ≡ filter (λ leaf. p (morton_of height base leaf.1)) (numbered 0 (map (cell_of height base) codes))
-leaves-numbered height base p codes are =
-    numbered-from height base p (place_among codes) 0 codes are.small
+    ≡ filter (λ leaf. p (morton_of height base leaf.1)) (enumerate_from 0 (map (cell_of height base) codes))
+leaves-enumerated height base p codes are =
+    enumerate_from-cells height base p (place_among codes) 0 codes are.small
     (λ i h. place_among-at 0 i codes are.rising h ∙ omega arith)

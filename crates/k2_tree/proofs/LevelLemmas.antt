@@ -2,11 +2,12 @@
 use Rattle.std.proofs.Common.{◌≡◌, ℕ, zero, suc, ◌+◌, ◌-◌, ◌*◌, ◌/◌, ◌%◌, ◌^◌, ◌<◌, ◌≤◌, ◌==◌, ◌||◌, Bool, true, false}
 use Rattle.std.proofs.Common.{List, [], ◌∷◌, ◌++◌, length, map, get_or, refl, sym, ap, ◌∙◌, inl, inr, arith, subst}
 use Rattle.std.proofs.Math.ListN.{set}
-use Rattle.std.proofs.lemmas.List.{length-map}
+use Rattle.std.proofs.lemmas.List.{length-map, map-append}
+use Rattle.std.proofs.lemmas.Bool.Decides.{nat_tests}
 use Rattle.std.proofs.lemmas.List.Folds.{list_any-append}
 use Rattle.k2_tree.specs.TreeBits.{is_in, prefixes, level_bits, longer, Rises}
-use Rattle.k2_tree.proofs.RisingLemmas.{same_test, other_test}
-use Rattle.k2_tree.proofs.PrefixLemmas.{by_test, once_from, once, is_in-once}
+use Rattle.k2_tree.proofs.RisingLemmas.{other_test}
+use Rattle.k2_tree.proofs.PrefixLemmas.{by_test, once_from, is_in-once}
 use Rattle.k2_tree.proofs.PrefixLemmas.{prefixes-rise, prefixes-shorter, longer-rises}
 use Rattle.k2_tree.proofs.TreeLemmas.{length-longer, get_or-longer}
 use Rattle.k2_tree.proofs.DescentLemmas.{digit_more}
@@ -22,11 +23,8 @@ four = false ∷ false ∷ false ∷ false ∷ []
 
 -- the same number again changes nothing
 once_from-same : (k y : ℕ) (xs : List ℕ) → y ≡ last_of k xs → once_from k (xs ++ y ∷ []) ≡ once_from k xs
-once_from-same k y [] e = rw (ap (λ z. z == k) e, same_test k) refl
-once_from-same k y (x ∷ xs) e = elim (by_test x k) [
-  | inl same ↦ rw same.1 (once_from-same k y xs (e ∙ ap (λ z. last_of z xs) same.0))
-  | inr differ ↦ rw differ.1 (ap (λ ys. k ∷ ys) (once_from-same x y xs e))
-]
+once_from-same k y [] e = grind (arith, nat_tests)
+once_from-same k y (x ∷ xs) e = grind (arith, nat_tests, once_from-same k y xs, once_from-same x y xs e)
 
 -- another number stands behind
 once_from-new : (k y : ℕ) (xs : List ℕ) → (y ≡ last_of k xs → ⊥) → once_from k (xs ++ y ∷ []) ≡ once_from k xs ++ y ∷ []
@@ -58,10 +56,6 @@ last_of-snoc : (k y : ℕ) (xs : List ℕ) → last_of k (xs ++ y ∷ []) ≡ y
 last_of-snoc k y [] = refl
 last_of-snoc k y (x ∷ xs) = last_of-snoc x y xs
 
-map-snoc : (f : ℕ → ℕ) (xs : List ℕ) (y : ℕ) → map f (xs ++ y ∷ []) ≡ map f xs ++ f y ∷ []
-map-snoc f [] y = refl
-map-snoc f (x ∷ xs) y = ap (λ ys. f x ∷ ys) (map-snoc f xs y)
-
 -- the last prefix is the last number's
 prefixes-last : (n c : ℕ) (xs : List ℕ)
     → (0 < length (prefixes n (xs ++ c ∷ [])))
@@ -77,7 +71,7 @@ pub prefixes-same : (n c x : ℕ) (xs : List ℕ) → c / 4 ^ n ≡ last_of x xs
     → prefixes n (x ∷ xs ++ c ∷ []) ≡ prefixes n (x ∷ xs)
 unfolding prefixes
 prefixes-same n c x xs e =
-    ap (once_from (x / 4 ^ n)) (map-snoc (λ y. y / 4 ^ n) xs c)
+    ap (once_from (x / 4 ^ n)) (map-append (λ y. y / 4 ^ n) xs (c ∷ []))
     ∙ once_from-same (x / 4 ^ n) (c / 4 ^ n) (map (λ y. y / 4 ^ n) xs) (e ∙ sym (last_of-map (λ y. y / 4 ^ n) x xs))
 
 -- a prefix that the last number had not
@@ -85,7 +79,7 @@ pub prefixes-new : (n c x : ℕ) (xs : List ℕ) → (c / 4 ^ n ≡ last_of x xs
     → prefixes n (x ∷ xs ++ c ∷ []) ≡ prefixes n (x ∷ xs) ++ c / 4 ^ n ∷ []
 unfolding prefixes
 prefixes-new n c x xs e =
-    ap (once_from (x / 4 ^ n)) (map-snoc (λ y. y / 4 ^ n) xs c)
+    ap (once_from (x / 4 ^ n)) (map-append (λ y. y / 4 ^ n) xs (c ∷ []))
     ∙ once_from-new (x / 4 ^ n) (c / 4 ^ n) (map (λ y. y / 4 ^ n) xs) (λ is. e (is ∙ last_of-map (λ y. y / 4 ^ n) x xs))
 
 -- the prefixes of one number more
@@ -94,14 +88,9 @@ is_in-more : (n c z : ℕ) (xs : List ℕ)
 unfolding prefixes
 is_in-more n c z xs =
     is_in-once (map (λ y. y / 4 ^ n) (xs ++ c ∷ [])) z
-    ∙ ap (λ ys. is_in ys z) (map-snoc (λ y. y / 4 ^ n) xs c)
+    ∙ ap (λ ys. is_in ys z) (map-append (λ y. y / 4 ^ n) xs (c ∷ []))
     ∙ list_any-append (λ other. other == z) (map (λ y. y / 4 ^ n) xs) (c / 4 ^ n ∷ [])
-    ∙ ap (λ b. b || is_in (c / 4 ^ n ∷ []) z) (sym (is_in-once (map (λ y. y / 4 ^ n) xs) z))
-    ∙ ap (λ b. is_in (once (map (λ y. y / 4 ^ n) xs)) z || b) (or_false (c / 4 ^ n == z))
-  where
-    or_false : (b : Bool) → (b || false) ≡ b
-    or_false true = refl
-    or_false false = refl
+    ∙ grind (arith, is_in-once (map (λ y. y / 4 ^ n) xs) z)
 
 -- what stands at a place of a rising list is at least its least
 pub Rises-place : (n i : ℕ) (xs : List ℕ) → Rises n xs → i < length xs → n ≤ get_or xs i 0
@@ -116,33 +105,19 @@ mark : (f g : ℕ → Bool) (p : ℕ) → ((z : ℕ) → g z ≡ (f z || (p == z
     → i < length xs → get_or xs i 0 ≡ p → map g xs ≡ set (map f xs) i true
 mark f g p more n i [] up within here = absurd (omega arith)
 mark f g p more n zero (x ∷ xs) up within here =
-    ap (λ b. b ∷ map g xs)
-    (more x ∙ ap (λ z. f x || (z == x)) (sym here) ∙ ap (λ b. f x || b) (same_test x) ∙ or_true (f x))
-    ∙ ap (λ ys. true ∷ ys) (kept (suc x) xs up.1 (omega (arith, here)))
+    let one : g x ≡ true = grind (arith, nat_tests, more x) in
+    rw one (ap (λ ys. true ∷ ys) (kept (suc x) xs up.1 (omega (arith, here))))
   where
-    or_true : (b : Bool) → (b || true) ≡ true
-    or_true true = refl
-    or_true false = refl
-
-    or_false : (b : Bool) → (b || false) ≡ b
-    or_false true = refl
-    or_false false = refl
-
     kept : (n : ℕ) (xs : List ℕ) → Rises n xs → p < n → map g xs ≡ map f xs
     kept n [] up above = refl
     kept n (x ∷ xs) up above =
         let low : n ≤ x = up.0 in
-        ap (λ b. b ∷ map g xs) (more x ∙ ap (λ b. f x || b) (other_test p x (λ e. omega arith)) ∙ or_false (f x))
-        ∙ ap (λ ys. f x ∷ ys) (kept (suc x) xs up.1 (omega arith))
+        let same : g x ≡ f x = grind (arith, nat_tests, more x) in
+        rw same (ap (λ ys. f x ∷ ys) (kept (suc x) xs up.1 (omega arith)))
 mark f g p more n (suc i) (x ∷ xs) up within here =
     let later = Rises-place (suc x) i xs up.1 (omega arith) in
-    ap (λ b. b ∷ map g xs)
-    (more x ∙ ap (λ b. f x || b) (other_test p x (λ e. omega (arith, later, here))) ∙ or_false (f x))
-    ∙ ap (λ ys. f x ∷ ys) (mark f g p more (suc x) i xs up.1 (omega arith) here)
-  where
-    or_false : (b : Bool) → (b || false) ≡ b
-    or_false true = refl
-    or_false false = refl
+    let same : g x ≡ f x = grind (arith, nat_tests, more x, later, here) in
+    rw same (ap (λ ys. f x ∷ ys) (mark f g p more (suc x) i xs up.1 (omega arith) here))
 
 -- one number more sets one bit in the last group
 pub level_more : (n c : ℕ) (xs : List ℕ) (grown : List Bool) → Rises 0 (xs ++ c ∷ [])
@@ -176,17 +151,13 @@ absent_last n q (x ∷ xs) up =
     let rest = absent_last (suc x) q xs up.1 in
     let low : suc x ≤ q = rest.1 in
     let first : n ≤ x = up.0 in
-    (rw (other_test x q (λ e. omega arith)) rest.0, omega arith)
+    (grind (arith, nat_tests, rest.0), omega arith)
 
 longer-snoc : (xs : List ℕ) (q : ℕ)
     → longer (xs ++ q ∷ []) ≡ longer xs ++ (4 * q ∷ (4 * q + 1) ∷ (4 * q + 2) ∷ (4 * q + 3) ∷ [])
 unfolding longer
 longer-snoc [] q = refl
 longer-snoc (x ∷ xs) q = ap (λ ys. 4 * x ∷ (4 * x + 1) ∷ (4 * x + 2) ∷ (4 * x + 3) ∷ ys) (longer-snoc xs q)
-
-map_append : (f : ℕ → Bool) (xs ys : List ℕ) → map f (xs ++ ys) ≡ map f xs ++ map f ys
-map_append f [] ys = refl
-map_append f (x ∷ xs) ys = ap (λ bs. f x ∷ bs) (map_append f xs ys)
 
 -- the first number opens the first group
 pub grown_first : (n c : ℕ)
@@ -210,22 +181,12 @@ grown_new n c x xs up differ =
     let f : ℕ → Bool = is_in (prefixes n (x ∷ xs)) in
     let new : prefixes (suc n) (x ∷ xs ++ c ∷ []) ≡ old ++ q ∷ [] = prefixes-new (suc n) c x xs differ in
     let rises : Rises 0 (old ++ q ∷ []) = subst (Rises 0) new (prefixes-rise (suc n) (x ∷ xs ++ c ∷ []) up) in
-    let gone : is_in old q ≡ false = (absent_last 0 q old rises).0 in
-    let none : (d : ℕ) → d < 4 → f (4 * q + d) ≡ false =
-    λ d small. empty_at (4 * q + d) (ap (is_in old) (quotient d small) ∙ gone) in
-    let zero_place : f (4 * q) ≡ false = empty_at (4 * q) (ap (is_in old) (omega arith) ∙ gone) in
+    let none : (z : ℕ) → z / 4 ≡ q → f z ≡ false =
+    λ z parent.
+    grind (arith, prefixes-shorter n (x ∷ xs) z, ap (is_in old) parent ∙ (absent_last 0 q old rises).0) in
     let fresh : map f (4 * q ∷ (4 * q + 1) ∷ (4 * q + 2) ∷ (4 * q + 3) ∷ []) ≡ four =
-    (rw (zero_place, none 1 (omega arith), none 2 (omega arith), none 3 (omega arith)) refl) in
+    (rw (none (4 * q) (omega arith), none (4 * q + 1) (omega arith), none (4 * q + 2) (omega arith),
+    none (4 * q + 3) (omega arith)) refl) in
     sym (ap (λ ps. map f (longer ps)) new ∙ ap (map f) (longer-snoc old q)
-    ∙ map_append f (longer old) (4 * q ∷ (4 * q + 1) ∷ (4 * q + 2) ∷ (4 * q + 3) ∷ [])
+    ∙ map-append f (longer old) (4 * q ∷ (4 * q + 1) ∷ (4 * q + 2) ∷ (4 * q + 3) ∷ [])
     ∙ ap (λ bs. map f (longer old) ++ bs) fresh)
-  where
-    quotient : (d : ℕ) → d < 4 → (4 * (c / 4 ^ suc n) + d) / 4 ≡ c / 4 ^ suc n
-    quotient d small = omega arith
-
-    empty_at : (z : ℕ) → is_in (prefixes (suc n) (x ∷ xs)) (z / 4) ≡ false → is_in (prefixes n (x ∷ xs)) z ≡ false
-    empty_at z gone = by_answer (is_in (prefixes n (x ∷ xs)) z) refl
-      where
-        by_answer : (b : Bool) → is_in (prefixes n (x ∷ xs)) z ≡ b → is_in (prefixes n (x ∷ xs)) z ≡ false
-        by_answer false is = is
-        by_answer true is = let clash : true ≡ false = sym (prefixes-shorter n (x ∷ xs) z is) ∙ gone in absurd (cc)

@@ -10,12 +10,12 @@ pub mod AreaLemmas
 pub mod PruningLemmas
 pub mod KeptLemmas
 pub mod FewLemmas
+pub mod StrongerLemmas
 pub mod FlawlessLemmas
 pub mod FlawedLemmas
--- Digits of numbers, lists, and boxes.
+-- Digits of numbers, and boxes.
 mod DigitLemmas
 mod HeightLemmas
-mod FlatLemmas
 mod BoxLemmas
 -- A tree's bits: where squares stand in them, and what they tell.
 mod TreeLemmas
@@ -25,7 +25,6 @@ mod ClimbLemmas
 -- Building.
 mod LevelLemmas
 mod BuildingLemmas
-mod PackingLemmas
 mod BuiltLemmas
 -- Checking.
 mod GroupLemmas
@@ -35,6 +34,7 @@ mod CheckedLemmas
 -- Squares, and walks over them.
 mod SideLemmas
 mod ChildLemmas
+mod InsideLemmas
 mod StoredLemmas
 mod PendingLemmas
 mod ChildrenLemmas

@@ -6,6 +6,7 @@ use Rattle.std.proofs.lemmas.Int.{ints}
 use Rattle.std.specs.Int.RustNames.{unsigned_abs}
 use Rattle.track_types.specs.declared.cell.Cell.{Cell}
 use Rattle.track_types.specs.declared.limit.TheConstants.{MAX_HEIGHT}
+use Rattle.k2_tree.specs.TreeBits.{code_limit}
 use Rattle.k2_tree.specs.Morton.{interleaved, row_of, column_of, morton_of, cell_of, IsInGrid}
 
 -- halving once more
@@ -20,11 +21,13 @@ interleaved-lt (suc n) row column =
     let less = interleaved-lt n (row / 2) (column / 2) in
     rw (pow-suc 4 n) (omega arith)
 
--- as many digits to base 4 as the greatest grid has, or fewer, are below 2 ^ 40
-pub interleaved-small : (n row column : ℕ) → n ≤ MAX_HEIGHT → interleaved n row column < 2 ^ 40
-interleaved-small n row column few =
-    let most : 4 ^ n ≤ 4 ^ MAX_HEIGHT = pow-le-pow_right {n = 4} (lit< tt) few in
-    omega (arith, interleaved-lt n row column)
+-- as many digits to base 4 as the greatest grid has, or fewer, are below the limit of all
+pub interleaved-small : (height level row column code : ℕ) → height ≤ MAX_HEIGHT
+    → code ≡ interleaved (height - level) (row / 2 ^ level) (column / 2 ^ level) → code < code_limit
+interleaved-small height level row column code few is =
+    let fewer : height - level ≤ MAX_HEIGHT = omega arith in
+    let most : 4 ^ (height - level) ≤ 4 ^ MAX_HEIGHT = pow-le-pow_right {n = 4} (lit< tt) fewer in
+    omega (arith, is, interleaved-lt (height - level) (row / 2 ^ level) (column / 2 ^ level))
 
 -- one digit more of the numbers without their last bits
 pub interleaved-step : (n level row column : ℕ)
@@ -55,31 +58,55 @@ interleaved-whole height row column =
     let c : height - 0 ≡ height = omega arith in
     rw (a, b, c) refl
 
+-- the row is the column of the number without its last bit
+pub row_of-half : (n code : ℕ) → row_of n code ≡ column_of n (code / 2)
+unfolding row_of column_of
+row_of-half zero code = refl
+row_of-half (suc n) code =
+    let rest = row_of-half n (code / 4) in
+    let e : code / 4 / 2 ≡ code / 2 / 4 = omega arith in
+    omega (arith, rest, ap (column_of n) e)
+
+-- 0 has column 0 and row 0
+column_of-zero : (m : ℕ) → column_of m 0 ≡ 0
+unfolding column_of
+column_of-zero zero = refl
+column_of-zero (suc m) = let rest = column_of-zero m in omega arith
+
+-- what is in front of the last digit, and the two bits of that
+last_digit : (upper row column : ℕ)
+    → ((4 * upper + (2 * (row % 2) + column % 2)) / 4 ≡ upper)
+    × ((4 * upper + (2 * (row % 2) + column % 2)) % 4 / 2 ≡ row % 2)
+    × ((4 * upper + (2 * (row % 2) + column % 2)) % 4 % 2 ≡ column % 2)
+last_digit upper row column = (omega arith, omega arith, omega arith)
+
+-- a number's column is the column that it was made of, also by more digits than it has
+pub column_of-more : (n m row column : ℕ) → n ≤ m → column < 2 ^ n → column_of m (interleaved n row column) ≡ column
+unfolding interleaved column_of
+column_of-more zero m row column most small = column_of-zero m ∙ omega arith
+column_of-more (suc n) zero row column most small = absurd (omega arith)
+column_of-more (suc n) (suc m) row column most small =
+    let rest = column_of-more n m (row / 2) (column / 2) (omega arith) (omega (arith, pow-suc 2 n)) in
+    let last = last_digit (interleaved n (row / 2) (column / 2)) row column in
+    rw (last.0, last.2, rest) (omega arith)
+
+-- and so is its row
+pub row_of-more : (n m row column : ℕ) → n ≤ m → row < 2 ^ n → row_of m (interleaved n row column) ≡ row
+unfolding interleaved row_of
+row_of-more zero m row column most small = row_of-half m 0 ∙ column_of-zero m ∙ omega arith
+row_of-more (suc n) zero row column most small = absurd (omega arith)
+row_of-more (suc n) (suc m) row column most small =
+    let rest = row_of-more n m (row / 2) (column / 2) (omega arith) (omega (arith, pow-suc 2 n)) in
+    let last = last_digit (interleaved n (row / 2) (column / 2)) row column in
+    rw (last.0, last.1, rest) (omega arith)
+
 -- a number's row is the row that it was made of
 pub row_of-interleaved : (n row column : ℕ) → row < 2 ^ n → row_of n (interleaved n row column) ≡ row
-unfolding interleaved row_of
-row_of-interleaved zero row column small = omega arith
-row_of-interleaved (suc n) row column small =
-    let rest : row_of n (interleaved n (row / 2) (column / 2)) ≡ row / 2 =
-    row_of-interleaved n (row / 2) (column / 2) (omega (arith, pow-suc 2 n)) in
-    let front : (4 * interleaved n (row / 2) (column / 2) + (2 * (row % 2) + column % 2)) / 4
-    ≡ interleaved n (row / 2) (column / 2) = omega arith in
-    let last : (4 * interleaved n (row / 2) (column / 2) + (2 * (row % 2) + column % 2)) % 4 / 2 ≡ row % 2 =
-    omega arith in
-    rw (front, last, rest) (omega arith)
+row_of-interleaved n row column small = row_of-more n n row column (omega arith) small
 
 -- a number's column is the column that it was made of
 pub column_of-interleaved : (n row column : ℕ) → column < 2 ^ n → column_of n (interleaved n row column) ≡ column
-unfolding interleaved column_of
-column_of-interleaved zero row column small = omega arith
-column_of-interleaved (suc n) row column small =
-    let rest : column_of n (interleaved n (row / 2) (column / 2)) ≡ column / 2 =
-    column_of-interleaved n (row / 2) (column / 2) (omega (arith, pow-suc 2 n)) in
-    let front : (4 * interleaved n (row / 2) (column / 2) + (2 * (row % 2) + column % 2)) / 4
-    ≡ interleaved n (row / 2) (column / 2) = omega arith in
-    let last : (4 * interleaved n (row / 2) (column / 2) + (2 * (row % 2) + column % 2)) % 4 % 2 ≡ column % 2 =
-    omega arith in
-    rw (front, last, rest) (omega arith)
+column_of-interleaved n row column small = column_of-more n n row column (omega arith) small
 
 -- a number is made of its row and its column
 pub interleaved-row_of : (n code : ℕ) → code < 4 ^ n → interleaved n (row_of n code) (column_of n code) ≡ code
@@ -127,15 +154,13 @@ morton_of-cell_of height base code small =
     let ey : unsigned_abs (base.y +ℤ pos (row_of height code) -ℤ base.y) ≡ row_of height code = omega (arith, ints) in
     rw (ex, ey) (interleaved-row_of height code small)
 
-pub row_of-lt : (n code : ℕ) → row_of n code < 2 ^ n
-unfolding row_of
-row_of-lt zero code = omega arith
-row_of-lt (suc n) code = let rest = row_of-lt n (code / 4) in rw (pow-suc 2 n) (omega arith)
-
 pub column_of-lt : (n code : ℕ) → column_of n code < 2 ^ n
 unfolding column_of
 column_of-lt zero code = omega arith
 column_of-lt (suc n) code = let rest = column_of-lt n (code / 4) in rw (pow-suc 2 n) (omega arith)
+
+pub row_of-lt : (n code : ℕ) → row_of n code < 2 ^ n
+row_of-lt n code = omega (arith, row_of-half n code, column_of-lt n (code / 2))
 
 -- a number's cell is in the grid
 pub cell_of-inside : (height : ℕ) (base : Cell) (code : ℕ) → IsInGrid height base (cell_of height base code)

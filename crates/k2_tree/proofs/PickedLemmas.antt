@@ -1,15 +1,13 @@
 -- The prefixes that a level's bits pick among the longer ones: they rise, and tell the bits.
-use Rattle.std.proofs.Common.{◌≡◌, ℕ, suc, ◌+◌, ◌*◌, ◌/◌, ◌^◌, ◌≤◌, ◌==◌, ◌&&◌, ◌||◌, Bool, true, false, List, []}
-use Rattle.std.proofs.Common.{◌∷◌, length, map, take, refl, sym, ap, ◌∙◌, arith, inl, inr, None}
-use Rattle.std.proofs.Math.Nat.{div-div-eq-div-mul, pow-suc}
+use Rattle.std.proofs.Common.{◌≡◌, ℕ, suc, ◌+◌, ◌*◌, ◌/◌, ◌≤◌, ◌==◌, ◌&&◌, ◌||◌, Bool, true, false, List, []}
+use Rattle.std.proofs.Common.{◌∷◌, length, map, take, refl, sym, ap, ◌∙◌, arith, None}
 use Rattle.std.proofs.lemmas.Bool.{false≢true}
 use Rattle.packed_bits.specs.Bits.{ones_of}
 use Rattle.packed_bits.proofs.OnesLemmas.{ones_of-nil, ones_of-cons}
-use Rattle.k2_tree.specs.TreeBits.{is_in, prefixes, longer, Rises}
+use Rattle.k2_tree.specs.TreeBits.{is_in, longer, Rises}
 use Rattle.k2_tree.specs.Tree.{picked}
 use Rattle.k2_tree.specs.Flaws.{group_flaw}
 use Rattle.k2_tree.proofs.RisingLemmas.{Rises-weaker, is_in-below, is_in-first, is_in-other}
-use Rattle.k2_tree.proofs.PrefixLemmas.{by_test, once, once_from, is_in-once}
 use Rattle.k2_tree.proofs.GroupLemmas.{group_flaw-none, has_group-one}
 
 -- what is picked rises
@@ -40,10 +38,8 @@ map_without : (code : ℕ) (others xs : List ℕ) → Rises (suc code) xs
 map_without code others [] up = refl
 map_without code others (x ∷ xs) up =
     let low : suc code ≤ x = up.0 in
-    let differ : code ≡ x → ⊥ = λ e. omega arith in
-    let above = Rises-weaker (suc code) (suc x) xs (omega arith) up.1 in
-    ap (λ b. b ∷ map (is_in (code ∷ others)) xs) (is_in-other code others x differ)
-    ∙ ap (λ bs. is_in others x ∷ bs) (map_without code others xs above)
+    let rest = map_without code others xs (Rises-weaker (suc code) (suc x) xs (omega arith) up.1) in
+    rw (is_in-other code others x (λ e. omega arith)) (ap (λ bs. is_in others x ∷ bs) rest)
 
 -- what is picked tells the bits
 pub map-picked : (n : ℕ) (bits : List Bool) (codes : List ℕ) → Rises n codes → length codes ≤ length bits
@@ -73,16 +69,7 @@ parent false bits code p codes c e = refl
 -- one true bit of four is enough
 one_of_four : (b0 b1 b2 b3 t r : Bool) → (b0 || (b1 || (b2 || (b3 || false)))) ≡ true
     → ((b0 && t) || ((b1 && t) || ((b2 && t) || ((b3 && t) || r)))) ≡ (t || r)
-one_of_four b0 b1 b2 b3 false r some = skip b0 _ ∙ skip b1 _ ∙ skip b2 _ ∙ skip b3 _
-  where
-    skip : (b r : Bool) → ((b && false) || r) ≡ r
-    skip true r = refl
-    skip false r = refl
-one_of_four true b1 b2 b3 true r some = refl
-one_of_four false true b2 b3 true r some = refl
-one_of_four false false true b3 true r some = refl
-one_of_four false false false true true r some = refl
-one_of_four false false false false true r some = cc
+one_of_four b0 b1 b2 b3 t r some = grind arith
 
 -- where each group has a one, the parents of what is picked are all of the prefixes
 pub is_in-map-picked : (prefixes : List ℕ) (bits : List Bool) (c : ℕ) → group_flaw (length prefixes) bits ≡ None
@@ -111,38 +98,3 @@ is_in-map-picked (p ∷ ps) (b0 ∷ b1 ∷ b2 ∷ b3 ∷ bits) c none =
     ∙ ap (λ r. (b2 && (p == c)) || r) (parent b3 bits (4 * p + 3) p (longer ps) c (omega arith))))
     ∙ one_of_four b0 b1 b2 b3 (p == c) (is_in (map (λ x. x / 4) (picked bits (longer ps))) c) some
     ∙ ap (λ r. (p == c) || r) (is_in-map-picked ps bits c parts.1)
-
--- numbers have the images of the list in which each stands once
-is_in-map-once_from : (f : ℕ → ℕ) (k : ℕ) (xs : List ℕ) (c : ℕ)
-    → is_in (map f (once_from k xs)) c ≡ is_in (map f (k ∷ xs)) c
-is_in-map-once_from f k [] c = refl
-is_in-map-once_from f k (x ∷ xs) c = elim (by_test x k) [
-  | inl same ↦ rw same.1 (is_in-map-once_from f k xs c ∙ sym (twice same.0))
-  | inr differ ↦ rw differ.1 (ap (λ b. (f k == c) || b) (is_in-map-once_from f x xs c))
-]
-  where
-    or_twice : (b r : Bool) → (b || (b || r)) ≡ (b || r)
-    or_twice true r = refl
-    or_twice false r = refl
-
-    twice : x ≡ k → is_in (map f (k ∷ x ∷ xs)) c ≡ is_in (map f (k ∷ xs)) c
-    twice e = ap (λ z. is_in (f k ∷ f z ∷ map f xs) c) e ∙ or_twice (f k == c) (is_in (map f xs) c)
-
-is_in-map-once : (f : ℕ → ℕ) (xs : List ℕ) (c : ℕ) → is_in (map f (once xs)) c ≡ is_in (map f xs) c
-is_in-map-once f [] c = refl
-is_in-map-once f (x ∷ xs) c = is_in-map-once_from f x xs c
-
--- the prefixes one digit shorter are the parents of these
-pub is_in-parents : (n : ℕ) (codes : List ℕ) (c : ℕ)
-    → is_in (prefixes (suc n) codes) c ≡ is_in (map (λ x. x / 4) (prefixes n codes)) c
-unfolding prefixes
-is_in-parents n codes c =
-    is_in-once (map (λ x. x / 4 ^ suc n) codes) c
-    ∙ ap (λ xs. is_in xs c) (divided codes)
-    ∙ sym (is_in-map-once (λ x. x / 4) (map (λ x. x / 4 ^ n) codes) c)
-  where
-    divided : (xs : List ℕ) → map (λ x. x / 4 ^ suc n) xs ≡ map (λ x. x / 4) (map (λ x. x / 4 ^ n) xs)
-    divided [] = refl
-    divided (x ∷ xs) =
-        let e : x / 4 ^ suc n ≡ x / 4 ^ n / 4 = ap (λ p. x / p) (pow-suc 4 n) ∙ sym (div-div-eq-div-mul x (4 ^ n) 4) in
-        ap (λ y. y ∷ map (λ z. z / 4 ^ suc n) xs) e ∙ ap (λ ys. x / 4 ^ n / 4 ∷ ys) (divided xs)

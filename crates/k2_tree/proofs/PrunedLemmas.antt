@@ -8,6 +8,7 @@ use Rattle.std.proofs.lemmas.List.Folds.{flat_map-map}
 use Rattle.std.proofs.lemmas.List.Sums.{sum_by-cons, sum_by-append}
 use Rattle.track_types.specs.declared.cell.Cell.{Cell}
 use Rattle.track_types.specs.declared.cell_box.CellBox.{CellBox}
+use Rattle.k2_tree.specs.Cost.{child_reads}
 use Rattle.k2_tree.specs.Squares.{Node, node}
 use Rattle.k2_tree.specs.Areas.{area_at}
 use Rattle.k2_tree.specs.Tree.{Tree, codes_of}
@@ -16,7 +17,7 @@ use Rattle.k2_tree.specs.declared.square.Square.{Square}
 use Rattle.k2_tree.specs.Pruning.{child_nodes, children, kept_below, leaf_of, on_areas, weight_below}
 use Rattle.k2_tree.specs.Pruned.{kept_in, reads_of, walk_budget, walk_left, weight_in}
 use Rattle.k2_tree.specs.SquareWalk.{WalkView}
-use Rattle.k2_tree.proofs.FlatLemmas.{sum_by-map}
+use Rattle.list_laws.proofs.FlatLemmas.{sum_by-map}
 
 -- a square that fails has no kept number
 kept_in-failed : (test : Node → Bool) (tree : Tree) (level prefix : ℕ) → test (node level prefix) ≡ false
@@ -155,7 +156,7 @@ yielded keep old new square is cell holds =
 -- another square that passes gives way to its children
 pub record IsGivenWay (keep : CellBox → Bool) (old new : WalkView) : Type 0 where
   pub left : walk_left keep new ≡ walk_left keep old
-  pub budget : walk_budget keep new + 11 ≤ walk_budget keep old
+  pub budget : walk_budget keep new + child_reads ≤ walk_budget keep old
   pub fewer : turns_of new < turns_of old
 
 pub given_way : (keep : CellBox → Bool) (old mid new : WalkView) (square : Node) → IsBefore (square ∷ []) old mid
@@ -171,11 +172,11 @@ given_way keep old mid new square first rest some holds =
     ∙ ap (map (leaf_of old.tree))
     (append-nil (flat_map (kept_in (on_areas keep old.tree) old.tree) (child_nodes old.tree square)))
     ∙ ap (left_in keep old.tree) here ∙ ap (λ (t : Tree). left_in keep t below) same in
-    let own : reads_of (on_areas keep old.tree) square ≡ 11 = ap (λ b. if b then 11 else 0) holds in
-    let reads : weight_in (reads_of (on_areas keep old.tree)) old.tree square ≡ 11 + budget_in keep new.tree below =
+    let own : reads_of (on_areas keep old.tree) square ≡ child_reads = ap (λ b. if b then child_reads else 0) holds in
+    let reads : weight_in (reads_of (on_areas keep old.tree)) old.tree square ≡ child_reads + budget_in keep new.tree below =
     weight_in-opened (reads_of (on_areas keep old.tree)) old.tree square.level square.prefix some
     ∙ ap (λ n. n + budget_in keep old.tree (child_nodes old.tree square)) own
-    ∙ ap (λ squares. 11 + budget_in keep old.tree squares) here ∙ ap (λ (t : Tree). 11 + budget_in keep t below) same in
+    ∙ ap (λ squares. child_reads + budget_in keep old.tree squares) here ∙ ap (λ (t : Tree). child_reads + budget_in keep t below) same in
     let turns : weight_in (λ square. 1) old.tree square ≡ 1 + turns_in new.tree below =
     weight_in-opened (λ square. 1) old.tree square.level square.prefix some
     ∙ ap (λ squares. 1 + turns_in old.tree squares) here ∙ ap (λ (t : Tree). 1 + turns_in t below) same in

@@ -1,20 +1,21 @@
 -- What tests keep of a tree, level by level.
 use Rattle.std.proofs.Common.{◌≡◌, ℕ, zero, suc, ◌+◌, ◌*◌, ◌/◌, ◌^◌, ◌<◌, Bool, true, false, List, [], ◌∷◌}
-use Rattle.std.proofs.Common.{length, filter, refl, sym, ap, ◌∙◌, arith, All}
+use Rattle.std.proofs.Common.{length, filter, sym, ap, ◌∙◌, arith, All}
+use Rattle.std.proofs.Math.Bool.{and-true}
 use Rattle.std.proofs.Math.Nat.{div-one}
-use Rattle.std.proofs.lemmas.List.Elements.{All-nil, All-cons, All-weaker, All-filter}
+use Rattle.std.proofs.lemmas.List.Elements.{filter_agree, All-head, All-tail, All-nil, All-cons, All-weaker, All-filter}
 use Rattle.std.proofs.lemmas.List.{append-nil}
 use Rattle.std.proofs.lemmas.List.Sums.{sum_by-append}
 use Rattle.std.specs.Prelude.{if◌then◌else◌}
 use Rattle.std.specs.List.{flat_map, sum_by}
 use Rattle.k2_tree.specs.TreeBits.{is_in, prefixes, longer, Rises, AreCodes}
-use Rattle.k2_tree.specs.Squares.{Node, node, squares_from}
+use Rattle.k2_tree.specs.Squares.{Node, node, level_squares, squares_from}
 use Rattle.k2_tree.specs.Pruning.{passes, children, kept_below, weight_below}
 use Rattle.k2_tree.proofs.PrefixLemmas.{prefixes-from_longer, prefixes-zero, prefixes-top}
-use Rattle.k2_tree.proofs.DigitLemmas.{fourth}
-use Rattle.k2_tree.proofs.SquareLemmas.{level_squares}
-use Rattle.k2_tree.proofs.FlatLemmas.{filter-flat_map, flat_map-flat_map, flat_map_agree, All-flat_map, flat_map_if}
-use Rattle.k2_tree.proofs.FlatLemmas.{filter_and, filter_all, filter_none, sum_by-flat_map, sum_by-map, sum_by_plus}
+use Rattle.k2_tree.proofs.PrefixLemmas.{fourth}
+use Rattle.k2_tree.proofs.SquareLemmas.{squares_from-zero}
+use Rattle.list_laws.proofs.FilterLemmas.{flat_map_if, filter_and}
+use Rattle.list_laws.proofs.FlatLemmas.{filter-flat_map, flat_map-flat_map, flat_map_agree, All-flat_map, sum_by-flat_map, sum_by-map, sum_by_plus}
 
 -- what a test keeps of the longer prefixes, prefix by prefix
 filter-longer : (p : ℕ → Bool) (xs : List ℕ) → filter p (longer xs) ≡ flat_map (λ x. filter p (longer (x ∷ []))) xs
@@ -74,17 +75,10 @@ kept_below-prefix test codes (suc n) r =
 -- a test of one prefix keeps all or none of the numbers that have it
 filter-prefix : (p : ℕ → Bool) (n r : ℕ) (xs : List ℕ) → All (λ c. c / 4 ^ n ≡ r) xs
     → filter (λ c. p (c / 4 ^ n)) xs ≡ (if p r then xs else [])
-filter-prefix p n r xs each = by_test (p r) refl
-  where
-    by_test : (b : Bool) → p r ≡ b → filter (λ c. p (c / 4 ^ n)) xs ≡ (if p r then xs else [])
-    by_test true e =
-        let kept : All (λ c. p (c / 4 ^ n) ≡ true) xs =
-        All-weaker (λ c. c / 4 ^ n ≡ r) (λ c. p (c / 4 ^ n) ≡ true) (λ c is. ap p is ∙ e) xs each in
-        rw e (filter_all (λ c. p (c / 4 ^ n)) xs kept)
-    by_test false e =
-        let gone : All (λ c. p (c / 4 ^ n) ≡ false) xs =
-        All-weaker (λ c. c / 4 ^ n ≡ r) (λ c. p (c / 4 ^ n) ≡ false) (λ c is. ap p is ∙ e) xs each in
-        rw e (filter_none (λ c. p (c / 4 ^ n)) xs gone)
+filter-prefix p n r [] each = grind arith
+filter-prefix p n r (x ∷ xs) each =
+    let P : ℕ → Type 0 = λ c. c / 4 ^ n ≡ r in
+    grind (arith, All-head P x xs each, filter-prefix p n r xs (All-tail P x xs each))
 
 -- a test on a square keeps all or none of what is kept below its children
 kept_below-step : (test : Node → Bool) (codes : List ℕ) (n r : ℕ)
@@ -95,12 +89,18 @@ kept_below-step test codes n r =
     filter-prefix (λ p. test (node (suc n) p)) (suc n) r (flat_map (kept_below test codes n) (children n codes r))
     (flat_map-prefix n codes r (kept_below test codes n) (kept_below-prefix test codes n))
 
+-- at level 0 the own square alone is tested
+passes-zero : (test : Node → Bool) (code : ℕ) → passes test 0 code ≡ test (node 0 code)
+unfolding passes
+passes-zero test code = rw (div-one code) (and-true (test (node 0 code)))
+
 -- what is kept below all squares of a level are the numbers for which the test is true from there on
 pub kept_below-all : (test : Node → Bool) (n : ℕ) (codes : List ℕ) → Rises 0 codes
     → flat_map (kept_below test codes n) (prefixes n codes) ≡ filter (passes test n) codes
 unfolding kept_below passes
 kept_below-all test zero codes up =
     flat_map_if (λ p. test (node 0 p)) (prefixes 0 codes) ∙ ap (filter (λ p. test (node 0 p))) (prefixes-zero codes up)
+    ∙ filter_agree (λ p. test (node 0 p)) (passes test 0) (λ c. sym (passes-zero test c)) codes
 kept_below-all test (suc n) codes up =
     let top : ℕ → Bool = λ c. test (node (suc n) (c / 4 ^ suc n)) in
     let below : ℕ → List ℕ = kept_below test codes n in
@@ -127,7 +127,8 @@ kept_below-top test height (c ∷ cs) are some =
 pub weight_below-all : (weight : Node → ℕ) (n : ℕ) (codes : List ℕ) → Rises 0 codes
     → sum_by (weight_below weight codes n) (prefixes n codes) ≡ sum_by weight (squares_from n codes)
 unfolding weight_below squares_from
-weight_below-all weight zero codes up = sym (sum_by-map weight (node 0) (prefixes 0 codes))
+weight_below-all weight zero codes up =
+    sym (ap (sum_by weight) (squares_from-zero codes) ∙ sum_by-map weight (node 0) (prefixes 0 codes))
 weight_below-all weight (suc n) codes up =
     let below : ℕ → ℕ = weight_below weight codes n in
     let ps : List ℕ = prefixes (suc n) codes in

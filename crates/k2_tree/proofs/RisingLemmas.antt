@@ -1,8 +1,8 @@
 -- Ascending lists of numbers: what they hold tells what they are.
-use Rattle.std.proofs.Common.{◌≡◌, ℕ, zero, suc, ◌+◌, ◌<◌, ◌≤◌, ◌==◌, ◌||◌, Bool}
-use Rattle.std.proofs.Common.{true, false, List, [], ◌∷◌, length, get_or, refl, sym, ap, ◌∙◌, inl, inr, arith}
+use Rattle.std.proofs.Common.{◌≡◌, ℕ, zero, suc, ◌+◌, ◌<◌, ◌≤◌, ◌==◌}
+use Rattle.std.proofs.Common.{true, false, List, [], ◌∷◌, length, get_or, refl, sym, ap, ◌∙◌, arith}
 use Rattle.std.proofs.lemmas.Bool.Decides.{nat_tests}
-use Rattle.std.proofs.lemmas.Bool.{cases_lt}
+use Rattle.std.proofs.lemmas.Bool.{false≢true}
 use Rattle.std.specs.List.Sorted.{IsStrictlyIncreasing}
 use Rattle.k2_tree.specs.TreeBits.{is_in, Rises}
 
@@ -48,8 +48,7 @@ other_test x y differ = grind (arith, nat_tests)
 pub is_in-below : (n : ℕ) (xs : List ℕ) (c : ℕ) → Rises n xs → c < n → is_in xs c ≡ false
 is_in-below n [] c r less = refl
 is_in-below n (x ∷ xs) c r less =
-    let low : n ≤ x = r.0 in
-    rw (other_test x c (λ e. omega arith), is_in-below (suc x) xs c r.1 (omega arith)) refl
+    let low : n ≤ x = r.0 in grind (arith, nat_tests, is_in-below (suc x) xs c r.1 (omega arith))
 
 -- the first number is there
 pub is_in-first : (x : ℕ) (xs : List ℕ) → is_in (x ∷ xs) x ≡ true
@@ -62,49 +61,33 @@ is_in-other x xs c differ = rw (other_test x c differ) refl
 -- after one common first number
 tails : (x : ℕ) (xs ys : List ℕ) → Rises (suc x) xs → Rises (suc x) ys
     → ((c : ℕ) → is_in (x ∷ xs) c ≡ is_in (x ∷ ys) c) → (c : ℕ) → is_in xs c ≡ is_in ys c
-tails x xs ys rx ry same c = elim (cases_lt c (suc x)) [
-  | inl low ↦ is_in-below (suc x) xs c rx low ∙ sym (is_in-below (suc x) ys c ry low)
-  | inr high ↦
-      let differ : x ≡ c → ⊥ = λ e. omega arith in
-      sym (is_in-other x xs c differ) ∙ same c ∙ is_in-other x ys c differ
-]
+tails x xs ys rx ry same c =
+    grind (arith, nat_tests, same c, is_in-below (suc x) xs c rx, is_in-below (suc x) ys c ry)
 
 -- ascending lists with the same members are one list
 pub same_from_rising : (n : ℕ) (xs ys : List ℕ) → Rises n xs → Rises n ys
     → ((c : ℕ) → is_in xs c ≡ is_in ys c) → xs ≡ ys
 same_from_rising n [] [] rx ry same = refl
-same_from_rising n [] (y ∷ ys) rx ry same =
-    let clash : false ≡ true = same y ∙ is_in-first y ys in cc
-same_from_rising n (x ∷ xs) [] rx ry same =
-    let clash : false ≡ true = sym (same x) ∙ is_in-first x xs in cc
-same_from_rising n (x ∷ xs) (y ∷ ys) rx ry same = elim (cases_lt x y) [
-  | inl less ↦
-      let absent = is_in-below y (y ∷ ys) x (omega arith, ry.1) less in
-      let clash : false ≡ true = sym absent ∙ sym (same x) ∙ is_in-first x xs in absurd (cc)
-  | inr more ↦ elim (cases_lt y x) [
-    | inl less ↦
-        let absent = is_in-below x (x ∷ xs) y (omega arith, rx.1) less in
-        let clash : false ≡ true = sym absent ∙ same y ∙ is_in-first y ys in absurd (cc)
-    | inr even ↦
-        let e : y ≡ x = omega arith in
-        same_first x y xs ys e rx.1 ry.1 same (same_from_rising (suc x) xs ys rx.1)
-  ]
-]
-  where
-    same_first : (x y : ℕ) (xs ys : List ℕ) → y ≡ x → Rises (suc x) xs → Rises (suc y) ys
-        → ((c : ℕ) → is_in (x ∷ xs) c ≡ is_in (y ∷ ys) c)
-        → (Rises (suc x) ys → ((c : ℕ) → is_in xs c ≡ is_in ys c) → xs ≡ ys) → x ∷ xs ≡ y ∷ ys
-    same_first x y xs ys e rx ry same hyp =
-        let ry' : Rises (suc x) ys = Rises-weaker (suc x) (suc y) ys (omega arith) ry in
-        let same' : (c : ℕ) → is_in (x ∷ xs) c ≡ is_in (x ∷ ys) c = λ c. same c ∙ ap (λ z. is_in (z ∷ ys) c) e in
-        ap (λ zs. x ∷ zs) (hyp ry' (tails x xs ys rx ry' same')) ∙ ap (λ z. z ∷ ys) (sym e)
+same_from_rising n [] (y ∷ ys) rx ry same = absurd (false≢true (same y ∙ is_in-first y ys))
+same_from_rising n (x ∷ xs) [] rx ry same = absurd (false≢true (sym (same x) ∙ is_in-first x xs))
+same_from_rising n (x ∷ xs) (y ∷ ys) rx ry same =
+    let e : y ≡ x =
+    grind (
+      arith,
+      same x,
+      same y,
+      is_in-first x xs,
+      is_in-first y ys,
+      is_in-below y (y ∷ ys) x (omega arith, ry.1),
+      is_in-below x (x ∷ xs) y (omega arith, rx.1),
+    ) in
+    let ry' : Rises (suc x) ys = Rises-weaker (suc x) (suc y) ys (omega arith) ry.1 in
+    let same' : (c : ℕ) → is_in (x ∷ xs) c ≡ is_in (x ∷ ys) c = λ c. same c ∙ ap (λ z. is_in (z ∷ ys) c) e in
+    ap (λ zs. x ∷ zs) (same_from_rising (suc x) xs ys rx.1 ry' (tails x xs ys rx.1 ry' same'))
+    ∙ ap (λ z. z ∷ ys) (sym e)
 
 -- a number that stands at a place is there
 pub by_place : (xs : List ℕ) (k c : ℕ) → k < length xs → get_or xs k 0 ≡ c → is_in xs c ≡ true
 by_place [] k c within stands = absurd (omega arith)
-by_place (x ∷ xs) zero c within stands = ap (λ z. is_in (z ∷ xs) c) stands ∙ is_in-first c xs
-by_place (x ∷ xs) (suc k) c within stands = or_right (x == c) (by_place xs k c (omega arith) stands)
-  where
-    or_right : (b : Bool) {r : Bool} → r ≡ true → (b || r) ≡ true
-    or_right true e = refl
-    or_right false e = e
+by_place (x ∷ xs) zero c within stands = grind (arith, nat_tests)
+by_place (x ∷ xs) (suc k) c within stands = grind (arith, by_place xs k c (omega arith) stands)

@@ -1,16 +1,17 @@
 -- The squares of a tree in one list, and the numbers that they have in it.
-use Rattle.std.proofs.Common.{◌≡◌, ℕ, zero, suc, ◌+◌, ◌-◌, ◌<◌, List, [], ◌∷◌, ◌++◌, length, map, get_or}
+use Rattle.std.proofs.Common.{◌≡◌, ℕ, zero, suc, ◌+◌, ◌-◌, ◌<◌, List, [], ◌∷◌, ◌++◌, length, get_or}
 use Rattle.std.proofs.Common.{refl, sym, ap, ◌∙◌, inl, inr, arith, subst, Some, append_assoc, length-append}
-use Rattle.std.proofs.lemmas.List.{length-map, get_or-map}
+use Rattle.std.proofs.lemmas.List.{append-nil, length-map, get_or-map}
 use Rattle.std.proofs.lemmas.Option.{slice_get-get_or, slice_get_within, same_Some}
 use Rattle.std.proofs.lemmas.Bool.{cases_lt}
 use Rattle.std.specs.Prelude.{slice_get}
 use Rattle.k2_tree.specs.TreeBits.{prefixes}
-use Rattle.k2_tree.specs.Squares.{Node, node, squares_from, squares_above, IsSquare}
+use Rattle.k2_tree.specs.Squares.{Node, node, level_squares, squares_from, squares_above, IsSquare}
 
--- the squares of a level
-abbrev pub level_squares : ℕ → List ℕ → List Node
-level_squares n codes = map (node n) (prefixes n codes)
+-- the squares of the cells' level
+pub squares_from-zero : (codes : List ℕ) → squares_from 0 codes ≡ level_squares 0 codes
+unfolding squares_from
+squares_from-zero codes = append-nil (level_squares 0 codes)
 
 -- the squares of the k levels above
 unfoldable pub upper_squares : ℕ → ℕ → List ℕ → List Node
@@ -63,7 +64,8 @@ slice_get-level n i codes within =
 slice_get-squares_from : (n i : ℕ) (codes : List ℕ) → i < length (prefixes n codes)
     → slice_get (squares_from n codes) i ≡ Some (node n (get_or (prefixes n codes) i 0))
 unfolding squares_from
-slice_get-squares_from zero i codes within = slice_get-level 0 i codes within
+slice_get-squares_from zero i codes within =
+    ap (λ xs. slice_get xs i) (squares_from-zero codes) ∙ slice_get-level 0 i codes within
 slice_get-squares_from (suc n) i codes within =
     let long = length-map (prefixes (suc n) codes) (node (suc n)) in
     let inside : i < length (level_squares (suc n) codes) = omega arith in
@@ -100,7 +102,9 @@ from_level : (m k height : ℕ) (codes : List ℕ) (n q i j : ℕ) → k + m ≡
     → IsSquare height codes n q j
 unfolding squares_from squares_above
 from_level zero k height codes n q i j high stands number =
-    let inside : i < length (level_squares 0 codes) = slice_get_within (level_squares 0 codes) i (node n q) stands in
+    let inside : i < length (level_squares 0 codes) =
+    slice_get_within (level_squares 0 codes) i (node n q)
+    (ap (λ xs. slice_get xs i) (sym (squares_from-zero codes)) ∙ stands) in
     at_level 0 k height codes n q i j high (omega (arith, length-map (prefixes 0 codes) (node 0))) stands number
 from_level (suc m) k height codes n q i j high stands number = elim (cases_lt i (length (prefixes (suc m) codes))) [
   | inl within ↦ at_level (suc m) k height codes n q i j high within stands number

@@ -1,7 +1,8 @@
 -- Where the squares of a tree stand in its bits: a child by rank, a parent by select.
-use Rattle.std.proofs.Common.{◌≡◌, ℕ, zero, suc, ◌+◌, ◌*◌, ◌<◌, Bool, true, false, cond, List, [], ◌∷◌, ◌++◌}
-use Rattle.std.proofs.Common.{length, map, filter, take, get_or, refl, sym, ap, ◌∙◌, arith, append_assoc, length-append}
-use Rattle.std.proofs.lemmas.List.{length-map}
+use Rattle.std.proofs.Common.{◌≡◌, ℕ, zero, suc, ◌+◌, ◌*◌, ◌<◌, Bool, true, List, [], ◌∷◌, ◌++◌}
+use Rattle.std.proofs.Common.{length, map, filter, take, get_or, refl, sym, ap, inl, inr, ◌∙◌, arith, append_assoc, length-append}
+use Rattle.std.proofs.lemmas.Bool.{cases_Bool}
+use Rattle.std.proofs.lemmas.List.{length-map, take-map}
 use Rattle.packed_bits.specs.Bits.{ones_of}
 use Rattle.bit_rank.specs.Bits.{rank_of}
 use Rattle.packed_bits.proofs.OnesLemmas.{ones_of-append, ones_of-nil, ones_of-cons}
@@ -63,22 +64,12 @@ length-upper_bits (suc k) n codes =
 -- the ones of a test are what it keeps
 pub ones_of-map : (p : ℕ → Bool) (xs : List ℕ) → ones_of (map p xs) ≡ length (filter p xs)
 ones_of-map p [] = ones_of-nil
-ones_of-map p (x ∷ xs) = ones_of-cons (p x) (map p xs) ∙ by_kept (p x) refl (ones_of-map p xs)
-  where
-    by_kept : (b : Bool) → p x ≡ b → ones_of (map p xs) ≡ length (filter p xs)
-        → cond (p x) 1 0 + ones_of (map p xs) ≡ length (filter p (x ∷ xs))
-    by_kept true e rest = rw e (omega arith)
-    by_kept false e rest = rw e (omega arith)
+ones_of-map p (x ∷ xs) = grind (arith, ones_of-cons (p x) (map p xs), ones_of-map p xs)
 
 -- the ones before a place of a test
 pub rank_of-map : (p : ℕ → Bool) (xs : List ℕ) (q : ℕ) → rank_of (map p xs) q ≡ length (filter p (take q xs))
 unfolding rank_of
-rank_of-map p xs q = ap ones_of (take_of_map xs q) ∙ ones_of-map p (take q xs)
-  where
-    take_of_map : (xs : List ℕ) (q : ℕ) → take q (map p xs) ≡ map p (take q xs)
-    take_of_map xs zero = refl
-    take_of_map [] (suc q) = refl
-    take_of_map (x ∷ xs) (suc q) = ap (λ ys. p x ∷ ys) (take_of_map xs q)
+rank_of-map p xs q = ap ones_of (take-map p q xs) ∙ ones_of-map p (take q xs)
 
 -- what a test keeps stands after what it kept before
 pub get_or-filter : (p : ℕ → Bool) (xs : List ℕ) (q : ℕ) → q < length xs → p (get_or xs q 0) ≡ true
@@ -86,16 +77,10 @@ pub get_or-filter : (p : ℕ → Bool) (xs : List ℕ) (q : ℕ) → q < length 
     × (get_or (filter p xs) (length (filter p (take q xs))) 0 ≡ get_or xs q 0)
 get_or-filter p [] q within kept = absurd (omega arith)
 get_or-filter p (x ∷ xs) zero within kept = rw kept (omega arith, refl)
-get_or-filter p (x ∷ xs) (suc q) within kept = by_kept (p x) refl (get_or-filter p xs q (omega arith) kept)
-  where
-    by_kept : (b : Bool) → p x ≡ b
-        → (length (filter p (take q xs)) < length (filter p xs))
-        × (get_or (filter p xs) (length (filter p (take q xs))) 0 ≡ get_or xs q 0)
-        → (length (filter p (take (suc q) (x ∷ xs))) < length (filter p (x ∷ xs)))
-        × (get_or (filter p (x ∷ xs)) (length (filter p (take (suc q) (x ∷ xs)))) 0 ≡ get_or xs q 0)
-    by_kept true e rest =
-        rw e (let less : length (filter p (take q xs)) < length (filter p xs) = rest.0 in omega arith, rest.1)
-    by_kept false e rest = rw e rest
+get_or-filter p (x ∷ xs) (suc q) within kept =
+    let rest = get_or-filter p xs q (omega arith) kept in
+    let more : length (filter p (take q xs)) < length (filter p xs) = rest.0 in
+    elim (cases_Bool (p x)) [ inl e ↦ rw e (omega arith, rest.1) | inr e ↦ rw e rest ]
 
 -- a level has as many ones as squares
 pub ones_of-level_bits : (n : ℕ) (codes : List ℕ) → Rises 0 codes

@@ -24,6 +24,13 @@ box_from x y far = record {
   high = le-more y far;
 }
 
+-- one box lies within another
+pub record IsBoxInside (inner outer : CellBox) : Type 0 where
+  pub left : outer.x1 ≤ℤ inner.x1
+  pub right : inner.x2 ≤ℤ outer.x2
+  pub below : outer.y1 ≤ℤ inner.y1
+  pub above : inner.y2 ≤ℤ outer.y2
+
 -- the cells of a square, in a grid from the base
 abbrev pub area_at : Cell → Node → CellBox
 area_at base square = box_from

@@ -6,7 +6,7 @@ use Rattle.std.specs.List.{list_any}
 use Rattle.packed_bits.specs.Bits.{ones_of}
 use Rattle.track_types.specs.declared.cell.Cell.{Cell}
 use Rattle.k2_tree.specs.TreeBits.{fan, morton_bits, AreCodes}
-use Rattle.k2_tree.specs.Tree.{Tree, codes_of, IsTree}
+use Rattle.k2_tree.specs.Tree.{Tree, tree_bits, IsTree}
 use Rattle.k2_tree.specs.declared.fault.TreeFault.{TreeFault}
 use Rattle.k2_tree.specs.declared.fault.TreeFault.TheVariants.{Flaw, Memory}
 
@@ -47,4 +47,4 @@ pub record StandsFor (height : ℕ) (base : Cell) (bits : List Bool) (tree : Tre
   pub high : tree.height ≡ height
   pub from : tree.base ≡ base
   pub is_tree : IsTree tree
-  pub same : morton_bits height (codes_of tree) ≡ bits
+  pub same : tree_bits tree ≡ bits

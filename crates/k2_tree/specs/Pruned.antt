@@ -3,6 +3,7 @@ use Rattle.std.specs.Prelude.{ℕ, Bool, if◌then◌else◌, List, map}
 use Rattle.std.specs.List.{flat_map, sum_by}
 use Rattle.track_types.specs.declared.cell.Cell.{Cell}
 use Rattle.track_types.specs.declared.cell_box.CellBox.{CellBox}
+use Rattle.k2_tree.specs.Cost.{child_reads}
 use Rattle.k2_tree.specs.Squares.{Node}
 use Rattle.k2_tree.specs.Tree.{Tree, codes_of}
 use Rattle.k2_tree.specs.Pruning.{kept_below, leaf_of, on_areas, weight_below}
@@ -19,7 +20,7 @@ weight_in weight tree square = weight_below weight (codes_of tree) square.level 
 
 -- one window and one rank for each square that passes a test
 abbrev pub reads_of : (Node → Bool) → Node → ℕ
-reads_of test square = if test square then 11 else 0
+reads_of test square = if test square then child_reads else 0
 
 -- the leaves that are left, in the squares that are still to be visited
 abbrev pub walk_left : (CellBox → Bool) → WalkView → List (ℕ × Cell)

@@ -1,21 +1,17 @@
 -- The leaves all of whose squares pass a test, and how many squares do.
-use Rattle.std.specs.Prelude.{◌≡◌, ℕ, zero, suc, ◌+◌, ◌-◌, ◌/◌, ◌^◌, Bool, ◌&&◌, nat_lt, if◌then◌else◌, IsTrue}
+use Rattle.std.specs.Prelude.{◌≡◌, ℕ, zero, suc, ◌+◌, ◌-◌, ◌/◌, ◌^◌, Bool, nat_lt, if◌then◌else◌, IsTrue}
 use Rattle.std.specs.Prelude.{Some, slice_get, List, [], ◌∷◌, length, map, filter}
-use Rattle.std.specs.List.{flat_map, sum_by}
+use Rattle.std.specs.List.{enumerate_from, flat_map, list_all, sum_by}
 use Rattle.track_types.specs.declared.cell.Cell.{Cell}
 use Rattle.track_types.specs.declared.cell_box.CellBox.{CellBox}
 use Rattle.track_types.specs.Near.{IsBoxWithin}
 use Rattle.track_types.specs.Region.{in_box}
 use Rattle.k2_tree.specs.Morton.{morton_of, cell_of}
-use Rattle.k2_tree.specs.TreeBits.{fan, is_in, prefixes, longer}
-use Rattle.k2_tree.specs.Squares.{Node, node, squares_from}
+use Rattle.k2_tree.specs.TreeBits.{fan, is_in, levels_below, longer, prefixes}
+use Rattle.k2_tree.specs.Squares.{Node, node}
 use Rattle.k2_tree.specs.Areas.{area_at}
 use Rattle.k2_tree.specs.Tree.{Tree, codes_of}
-
--- the cells with their numbers, from k on
-unfoldable pub numbered : ℕ → List Cell → List (ℕ × Cell)
-numbered k [] = []
-numbered k (cell ∷ cells) = (k, cell) ∷ numbered (suc k) cells
+use Rattle.k2_tree.specs.TreeSquares.{squares_of}
 
 -- how many of the numbers are below one, which is its place among ascending ones
 abbrev pub place_among : List ℕ → ℕ → ℕ
@@ -35,23 +31,32 @@ IsLeafOf tree leaf = slice_get tree.cells leaf.0 ≡ Some leaf.1
 
 -- whether a test is true on each square that holds a Morton number, from the one of a level down to its own
 unfoldable pub passes : (Node → Bool) → ℕ → ℕ → Bool
-passes test zero code = test (node 0 code)
-passes test (suc n) code = test (node (suc n) (code / fan ^ suc n)) && passes test n code
+passes test n code = list_all (λ level. test (node level (code / fan ^ level))) (levels_below (suc n))
 
 -- a test of boxes as one of the tree's squares
 abbrev pub on_areas : (CellBox → Bool) → Tree → Node → Bool
 on_areas keep tree square = keep (area_at tree.base square)
 
--- the leaves for which a test is true on each square from the top to the cell, each with its number
+-- whether a test is true on each square of a tree from the whole grid to this cell
+unfoldable pub passes_at : (CellBox → Bool) → Tree → Cell → Bool
+passes_at keep tree cell = passes (on_areas keep tree) tree.height (morton_of tree.height tree.base cell)
+
+-- a tree's leaves: its cells with their numbers
+abbrev pub leaves_of : Tree → List (ℕ × Cell)
+leaves_of tree = enumerate_from 0 tree.cells
+
+-- the leaves for which a test is true on each square from the whole grid to the cell
 abbrev pub kept_leaves : (CellBox → Bool) → Tree → List (ℕ × Cell)
-kept_leaves keep tree =
-    filter (λ leaf. passes (on_areas keep tree) tree.height (morton_of tree.height tree.base leaf.1))
-    (numbered 0 tree.cells)
+kept_leaves keep tree = filter (λ leaf. passes_at keep tree leaf.1) (leaves_of tree)
 
 -- the test keeps each box near 0 in which a wanted cell lies
 abbrev pub IsKeptFor : (CellBox → Bool) → (Cell → Bool) → Type 0
 IsKeptFor keep wanted = (area : CellBox) (cell : Cell)
     → IsBoxWithin area → IsTrue (in_box area cell) → IsTrue (wanted cell) → IsTrue (keep area)
+
+-- a test keeps each box near 0 that another keeps
+abbrev pub IsWeaker : (CellBox → Bool) → (CellBox → Bool) → Type 0
+IsWeaker weak strong = (area : CellBox) → IsBoxWithin area → IsTrue (strong area) → IsTrue (weak area)
 
 -- those of the leaves whose cells are wanted
 abbrev pub wanted_of : (Cell → Bool) → List (ℕ × Cell) → List (ℕ × Cell)
@@ -59,7 +64,7 @@ wanted_of wanted leaves = filter (λ leaf. wanted leaf.1) leaves
 
 -- how many squares that hold a cell, the whole grid and the cells among them, pass a test
 abbrev pub square_count : (CellBox → Bool) → Tree → ℕ
-square_count keep tree = length (filter (on_areas keep tree) (squares_from tree.height (codes_of tree)))
+square_count keep tree = length (filter (on_areas keep tree) (squares_of tree))
 
 -- the children that hold a number of the square with this prefix, themselves of level n
 unfoldable pub children : ℕ → List ℕ → ℕ → List ℕ

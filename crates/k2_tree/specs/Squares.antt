@@ -1,6 +1,6 @@
 -- The squares of a k2-tree: the prefixes of its cells' Morton numbers, numbered level by level from 0.
-use Rattle.std.specs.Prelude.{◌≡◌, ℕ, zero, suc, ◌+◌, ◌<◌, List, ◌++◌, length, map, slice_index}
-use Rattle.k2_tree.specs.TreeBits.{prefixes}
+use Rattle.std.specs.Prelude.{◌≡◌, ℕ, zero, suc, ◌+◌, ◌<◌, List, length, map, flat_map, slice_index}
+use Rattle.k2_tree.specs.TreeBits.{prefixes, levels_below}
 
 -- a square: how many digits are left away of the Morton numbers of its cells, and the prefix that is left
 pub record Node : Type 0 where
@@ -11,10 +11,13 @@ pub record Node : Type 0 where
 abbrev pub node : ℕ → ℕ → Node
 node level prefix = record { level = level; prefix = prefix }
 
--- the squares of this level and those below it that hold a number, from the top, each level in ascending order
+-- the squares of a level that hold a number, in ascending order
+abbrev pub level_squares : ℕ → List ℕ → List Node
+level_squares n codes = map (node n) (prefixes n codes)
+
+-- the squares of this level and of those below it that hold a number, level by level from the top
 unfoldable pub squares_from : ℕ → List ℕ → List Node
-squares_from zero codes = map (node 0) (prefixes 0 codes)
-squares_from (suc n) codes = map (node (suc n)) (prefixes (suc n) codes) ++ squares_from n codes
+squares_from n codes = flat_map (λ level. level_squares level codes) (levels_below (suc n))
 
 -- how many squares the k levels above have, where a square of this level has n digits below it
 unfoldable pub squares_above : ℕ → ℕ → List ℕ → ℕ

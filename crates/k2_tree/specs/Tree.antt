@@ -19,6 +19,10 @@ tree_with height base cells = record { height = height; base = base; cells = cel
 abbrev pub codes_of : Tree → List ℕ
 codes_of tree = map (morton_of tree.height tree.base) tree.cells
 
+-- a tree's bits
+unfoldable pub tree_bits : Tree → List Bool
+tree_bits tree = morton_bits tree.height (codes_of tree)
+
 -- what holds of every tree
 pub record IsTree (tree : Tree) : Type 0 where
   pub grid : IsGrid tree.height tree.base

@@ -1,4 +1,5 @@
 ghost use Rattle.std.specs.Prelude.{◌≡◌, ◌+◌, ◌*◌, ◌<◌, ◌≤◌, Some, length, slice_get};
+ghost use Rattle.k2_tree.specs.Cost.{climb_reads};
 ghost use Rattle.k2_tree.specs.Tree.{codes_in, AreTreeBits};
 ghost use Rattle.track_types.specs.declared.limit.TheConstants.{MAX_HEIGHT};
 
@@ -14,7 +15,7 @@ pub fn code_of_leaf<L: Ledger>(bits: &Bits, height: u32, leaf: u32, steps: &mut 
     requires low { height ≤ MAX_HEIGHT }
     requires within { leaf < length (codes_in height bits.now) }
     ensures value { slice_get (codes_in height bits.now) leaf ≡ Some result }
-    ensures cost { steps.new ≤ steps.old + 41 * height }
+    ensures cost { steps.new ≤ steps.old + climb_reads height }
 {
     let mut square = bits.len() / FAN + leaf;
     let mut code = 0;

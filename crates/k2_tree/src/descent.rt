@@ -1,5 +1,6 @@
 ghost use Rattle.std.specs.Prelude.{◌≡◌, ◌+◌, ◌*◌, ◌^◌, ◌<◌, ◌≤◌, true, false, length, MatchOption, Some, slice_get, slice_index_or};
 ghost use Rattle.bit_rank.specs.Bits.{rank_of};
+ghost use Rattle.k2_tree.specs.Cost.{child_reads, descent_reads};
 ghost use Rattle.k2_tree.specs.TreeBits.{fan, is_in};
 ghost use Rattle.k2_tree.specs.Tree.{codes_in, AreTreeBits};
 ghost use Rattle.track_types.specs.declared.limit.TheConstants.{MAX_HEIGHT};
@@ -23,7 +24,7 @@ pub fn find_leaf<L: Ledger>(
     requires some { 0 < length bits.now }
     ensures value { MatchOption result (is_in (codes_in height bits.now) code ≡ false)
         (λ leaf. slice_get (codes_in height bits.now) leaf ≡ Some code) }
-    ensures cost { steps.new ≤ steps.old + 11 * height }
+    ensures cost { steps.new ≤ steps.old + descent_reads height }
 {
     let mut square = 0;
     for level in (0..height).rev() {
@@ -50,7 +51,7 @@ pub fn child_of<L: Ledger>(
         (slice_index_or bits.now (fan * square + digit) false ≡ false)
         (λ child. (slice_index_or bits.now (fan * square + digit) false ≡ true)
         × (child ≡ rank_of bits.now (fan * square + digit) + 1)) }
-    ensures cost { steps.new ≤ steps.old + 11 }
+    ensures cost { steps.new ≤ steps.old + child_reads }
 {
     let place = FAN * square + digit;
     if bits.get(place, steps) {

@@ -1,3 +1,6 @@
+use std::error::Error;
+use std::fmt::{self, Display, Formatter, Write};
+
 /// Why bits are not taken as a tree.
 #[derive(Clone, Copy, Debug, PartialEq, Eq)]
 pub enum TreeFault {
@@ -8,3 +11,17 @@ pub enum TreeFault {
     /// Memory was refused. It may be answered to any bits without a flaw.
     Memory,
 }
+
+impl Display for TreeFault {
+    fn fmt<W: Write>(&self, f: &mut Formatter<W>) -> fmt::Result {
+        match self {
+            TreeFault::Flaw { place } => write!(
+                f,
+                "no tree has these bits: the first flaw is at place {place}"
+            ),
+            TreeFault::Memory => write!(f, "out of memory"),
+        }
+    }
+}
+
+impl Error for TreeFault {}

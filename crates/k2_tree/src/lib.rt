@@ -13,7 +13,6 @@ mod fault;
 mod keep;
 mod level;
 mod morton_code;
-mod packing;
 mod pending;
 mod pruned;
 mod square;

@@ -102,15 +102,11 @@ fn column_at(code: u64, height: u32) -> u64
     column
 }
 
-// The row that the digits of a Morton number tell.
+// The row that the digits of a Morton number tell: its bits stand above those of the column.
 fn row_at(code: u64, height: u32) -> u64
     requires { height ≤ MAX_HEIGHT }
     ensures value { result ≡ row_of height code }
     ensures small { result < 2 ^ MAX_HEIGHT }
 {
-    let mut row = 0;
-    for level in (0..height).rev() {
-        row = 2 * row + (code >> (2 * level)) % 4 / 2;
-    }
-    row
+    column_at(code / 2, height)
 }

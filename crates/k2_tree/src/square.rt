@@ -31,6 +31,7 @@ pub struct Square {
 impl Square {
     ghost use Rattle.k2_tree.specs.TreeSquares.{area_of, child_at, corner_of, level_of, node_of};
     ghost use Rattle.k2_tree.specs.TreeSquares.{square_number};
+    ghost use Rattle.k2_tree.specs.Areas.{IsBoxInside};
     ghost use Rattle.k2_tree.specs.Squares.{node};
     ghost use Rattle.k2_tree.specs.TreeBits.{fan};
 
@@ -78,6 +79,7 @@ impl Square {
         ensures base { result.base ≡ self.now.base }
         ensures node { node_of result ≡ child_at (node_of self.now) digit }
         ensures number { square_number result ≡ number }
+        ensures inside { IsBoxInside (area_of result) (area_of self.now) }
     {
         Square {
             base: self.base,

@@ -1,5 +1,6 @@
 ghost use Rattle.std.specs.Prelude.{◌≡◌, ◌+◌, ◌≤◌, ◌++◌, [], ℕ, List, IfNone, IfSome, length, true};
 ghost use Rattle.track_types.specs.declared.cell.Cell.{Cell};
+ghost use Rattle.k2_tree.specs.Cost.{child_reads};
 ghost use Rattle.k2_tree.specs.Pruning.{child_nodes, leaf_of, IsLeafOf};
 ghost use Rattle.k2_tree.specs.Squares.{Node};
 ghost use Rattle.k2_tree.specs.SquareWalk.{AreOpen, IsTaken, found_nodes, open_nodes, top_nodes};
@@ -80,7 +81,7 @@ impl<'a> SquareWalk<'a> {
         ensures tree { self.new.tree ≡ self.old.tree }
         ensures pending { self.new.pending
             ≡ child_nodes self.old.tree (node_of square) ++ self.old.pending }
-        ensures cost { steps.new ≤ steps.old + 11 }
+        ensures cost { steps.new ≤ steps.old + child_reads }
     {
         self.stack.push(self.tree.children_of(square, steps));
     }

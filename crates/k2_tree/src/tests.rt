@@ -1,16 +1,17 @@
-ghost use Rattle.std.specs.Prelude.{◌≡◌, ◌^◌, ◌<◌, ◌≤◌, length, IfOk};
+ghost use Rattle.std.specs.Prelude.{◌≡◌, ◌^◌, ◌<◌, ◌≤◌, [], ◌∷◌, length, map, IfOk};
+ghost use Rattle.k2_tree.specs.Morton.{cell_of};
+ghost use Rattle.k2_tree.specs.Tree.{tree_with};
 ghost use Rattle.track_types.specs.declared.limit.TheConstants.{MAX_HEIGHT};
 
 use super::{K2Tree, TreeFault, morton};
-use crate::packing::pack;
 use std::alloc::Global;
 use std::marker::Brand;
+use std::process::Abort;
 use std::sync::ledger::{Blank, Ledger};
 use std::test::Fail;
 use step_count::Steps;
 use track_types::{BitList, Cell, Memory};
 
-mod building;
 mod random;
 mod touching;
 mod walks;
@@ -18,6 +19,8 @@ mod walks;
 const O: bool = false;
 
 const I: bool = true;
+
+const ORIGIN: Cell = Cell { x: 0, y: 0 };
 
 const BASE: Cell = Cell { x: 10, y: -20 };
 
@@ -29,12 +32,25 @@ fn at(x: i64, y: i64) -> Cell {
     }
 }
 
-fn asked<L: Ledger>(rt: &HostRuntime, tree: &K2Tree, blank: Blank)
+// The tree of three cells of a grid of side 4.
+fn three_cells(alloc: Global) -> Result<K2Tree, Memory>
+    ensures ok { IfOk result (λ t. t ≡ tree_with 2 BASE (map (cell_of 2 BASE) (0 ∷ 3 ∷ 5 ∷ []))) }
+{
+    let cells = [
+        Cell { x: 10, y: -20 },
+        Cell { x: 11, y: -19 },
+        Cell { x: 13, y: -20 },
+    ];
+    K2Tree::build(alloc, cells.as_slice(), 2, BASE)
+}
+
+// The leaves of three cells, and the ways back from their cells.
+fn leaves_found<L: Ledger>(rt: &impl Abort, host: &HostRuntime, tree: &K2Tree, blank: Blank)
     requires name { blank.name ≡ L.name }
     requires parts { blank.parts ≡ L.parts }
     requires some { 0 < L.parts }
 {
-    let mut steps = Steps::<L>::new(rt, blank);
+    let mut steps = Steps::<L>::new(host, blank);
     assert_eq!(rt; tree.leaf_of(at(0, 0), &mut steps), Some(0));
     assert_eq!(rt; tree.leaf_of(at(3, 0), &mut steps), Some(2));
     assert_eq!(rt; tree.leaf_of(at(2, 0), &mut steps), None, "not in the set");
@@ -53,37 +69,33 @@ fn asked<L: Ledger>(rt: &HostRuntime, tree: &K2Tree, blank: Blank)
     }
 }
 
+// The bits are these, in one word or none.
+fn bits_are(rt: &impl Abort, bits: BitList, len: u32, words: &[u64]) {
+    assert_eq!(rt; bits.len(), len);
+    assert_eq!(rt; bits.into_words().as_slice(), words);
+}
+
 #[test]
-fn the_row_bit_stands_above_the_column_bit(rt: HostRuntime) -> Result<(), Fail> {
-    assert_eq!(rt; morton(Cell { x: 10, y: -19 }, 2, BASE), 2);
+fn small_sets_have_their_numbers_and_bits(rt: HostRuntime) -> Result<(), Fail> {
+    assert_eq!(rt;
+        morton(Cell { x: 10, y: -19 }, 2, BASE),
+        2,
+        "the row's bit above"
+    );
     assert_eq!(rt; morton(Cell { x: 13, y: -20 }, 2, BASE), 5);
-    Ok(())
-}
-
-#[test]
-fn three_cells_have_their_numbers_and_bits(rt: HostRuntime) -> Result<(), Fail> {
-    let cells = [
-        Cell { x: 10, y: -20 },
-        Cell { x: 11, y: -19 },
-        Cell { x: 13, y: -20 },
-    ];
-    let tree = K2Tree::build(rt.alloc(), cells.as_slice(), 2, BASE)?;
+    let tree = three_cells(rt.alloc())?;
     assert_eq!(rt; tree.leaves(), 3);
-    asked::<Brand>(&rt, &tree, Blank::new(1));
-    let bits = tree.bits();
-    assert_eq!(rt; bits.len(), 12);
-    assert_eq!(rt; bits.into_words().as_slice(), [0b0010_1001_0011].as_slice());
-    Ok(())
-}
-
-#[test]
-fn no_cells_have_no_bits(rt: HostRuntime) -> Result<(), Fail> {
+    leaves_found::<Brand>(&rt, &rt, &tree, Blank::new(1));
+    bits_are(&rt, tree.bits(), 12, [0b0010_1001_0011].as_slice());
+    let corner = [Cell { x: 3, y: 0 }];
+    let tree = K2Tree::build(rt.alloc(), corner.as_slice(), 2, ORIGIN)?;
+    bits_are(&rt, tree.bits(), 8, [0b0010_0010].as_slice());
+    let diagonal = [ORIGIN, Cell { x: 1, y: 1 }];
+    let tree = K2Tree::build(rt.alloc(), diagonal.as_slice(), 1, ORIGIN)?;
+    bits_are(&rt, tree.bits(), 4, [0b1001].as_slice());
     let tree = K2Tree::build(rt.alloc(), [].as_slice(), 2, BASE)?;
     assert_eq!(rt; tree.leaves(), 0);
-    assert_eq!(rt; tree.bits().len(), 0);
-    let no_bits = list_of(rt.alloc(), [].as_slice())?;
-    let tree = K2Tree::check(rt.alloc(), no_bits, 2, BASE)?;
-    assert_eq!(rt; tree.leaves(), 0);
+    bits_are(&rt, tree.bits(), 0, [].as_slice());
     Ok(())
 }
 
@@ -92,7 +104,7 @@ fn list_of(alloc: Global, bits: &[bool]) -> Result<BitList, Memory>
     requires { length bits.now ≤ 2 ^ 31 }
     ensures { IfOk result (λ list. list ≡ bits.now) }
 {
-    Ok(BitList::new(pack(alloc, bits)?, bits.len() as u32))
+    Ok(BitList::pack(alloc, bits)?)
 }
 
 // The first flaw of bits as a tree of this height, if they have one.
@@ -112,25 +124,24 @@ fn flaw_of(alloc: Global, bits: &[bool], height: u32) -> Result<Option<u32>, Tre
 }
 
 #[test]
-fn bits_that_are_no_tree_have_their_first_flaw(rt: HostRuntime) -> Result<(), Fail> {
+fn bits_are_a_tree_or_have_their_first_flaw(rt: HostRuntime) -> Result<(), Fail> {
     for (bits, height, flaw) in [
         ([O, I, O, O].as_slice(), 2, Some(4)),
         ([O, I, O, O, O, O, O, O].as_slice(), 2, Some(4)),
         ([O, I, O, O, O, I, O, O, I, O, O, O].as_slice(), 2, Some(8)),
         ([O, O, O, O].as_slice(), 1, Some(0)),
+        ([I, I, O, O, I, O, O, I, O, I, O, O].as_slice(), 2, None),
+        ([].as_slice(), 2, None),
     ] {
         assert_eq!(rt; flaw_of(rt.alloc(), bits, height)?, flaw, "height {height}");
     }
-    Ok(())
-}
-
-#[test]
-fn the_bits_of_three_cells_are_taken_and_given_back(rt: HostRuntime) -> Result<(), Fail> {
+    assert_eq!(rt;
+        format!(in rt.alloc(); "{}", TreeFault::Flaw { place: 4 })?.as_str(),
+        "no tree has these bits: the first flaw is at place 4"
+    );
     let list = list_of(rt.alloc(), [I, I, O, O, I, O, O, I, O, I, O, O].as_slice())?;
     let tree = K2Tree::check(rt.alloc(), list, 2, BASE)?;
     assert_eq!(rt; tree.leaves(), 3);
-    let bits = tree.bits();
-    assert_eq!(rt; bits.len(), 12);
-    assert_eq!(rt; bits.into_words().as_slice(), [0b0010_1001_0011].as_slice());
+    bits_are(&rt, tree.bits(), 12, [0b0010_1001_0011].as_slice());
     Ok(())
 }

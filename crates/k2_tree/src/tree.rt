@@ -1,13 +1,16 @@
-ghost use Rattle.std.specs.Prelude.{◌≡◌, ◌+◌, ◌*◌, ◌^◌, ◌<◌, ◌≤◌, length, map, All, Bool, Contains, [], false, IfErr, IfNone, IfOk, IfSome, OnOk, MatchOption, None, Some, slice_get};
+ghost use Rattle.std.specs.Prelude.{◌≡◌, ◌+◌, ◌*◌, ◌^◌, ◌<◌, ◌≤◌, length, map, All, Bool, Contains, [], false, IfErr, IfNone, IfOk, IfSome, OnOk, MatchOption, None, Some, slice_get, ℕ, if◌then◌else◌};
+ghost use Rattle.std.specs.List.{sum_by};
 ghost use Rattle.std.specs.List.Sorted.{IsStrictlyIncreasing};
+ghost use Rattle.k2_tree.specs.Areas.{IsBoxInside};
+ghost use Rattle.k2_tree.specs.Cost.{child_reads, climb_reads, descent_reads};
 ghost use Rattle.k2_tree.specs.Morton.{morton_of, IsGrid, IsInGrid};
-ghost use Rattle.k2_tree.specs.TreeBits.{fan, morton_bits};
+ghost use Rattle.k2_tree.specs.TreeBits.{fan};
 ghost use Rattle.k2_tree.specs.Squares.{node};
-ghost use Rattle.k2_tree.specs.Tree.{codes_of, tree_with, IsTree};
-ghost use Rattle.k2_tree.specs.TreeSquares.{child_at, corner_of, holds_cell, level_of, node_of, squares_of, IsSquareOf};
+ghost use Rattle.k2_tree.specs.Tree.{tree_bits, tree_with, IsTree};
+ghost use Rattle.k2_tree.specs.TreeSquares.{area_of, child_at, corner_of, holds_cell, level_of, node_of, squares_of, IsSquareOf};
 ghost use Rattle.k2_tree.specs.Pending.{nodes_of, StandsAt};
 ghost use Rattle.k2_tree.specs.Pruned.{pruned_budget, pruned_left, pruned_tree};
-ghost use Rattle.k2_tree.specs.Pruning.{child_nodes, kept_leaves, numbered, square_count, wanted_of, IsKeptFor};
+ghost use Rattle.k2_tree.specs.Pruning.{child_nodes, kept_leaves, leaves_of, passes_at, square_count, wanted_of, IsKeptFor};
 ghost use Rattle.k2_tree.specs.Flaws.{tree_flaw, IsFaultOf, StandsFor};
 ghost use Rattle.track_types.specs.declared.cell.Cell.{Cell};
 
@@ -19,7 +22,6 @@ use crate::fault::TreeFault;
 use crate::keep::Keep;
 use crate::level::FAN;
 use crate::morton_code::{cell_at, codes_of_cells, is_in_grid, morton};
-use crate::packing::pack;
 use crate::pending::Pending;
 use crate::pruned::Pruned;
 use crate::square::Square;
@@ -68,8 +70,8 @@ impl K2Tree {
     {
         let codes = codes_of_cells(alloc, cells, height, base)?;
         let bits = bits_of_codes(alloc, codes.as_slice(), height)?;
-        let words = pack(alloc, bits.as_slice())?;
-        match Bits::from_words(alloc, words, bits.len() as u32) {
+        let list = BitList::pack(alloc, bits.as_slice())?;
+        match Bits::from_list(alloc, list) {
             Ok(bits) => Ok(K2Tree { bits, height, base }),
             Err(NoRoom) => Err(Memory),
         }
@@ -90,8 +92,7 @@ impl K2Tree {
         if let Some(place) = first_flaw(&bits, height) {
             return Err(TreeFault::Flaw { place });
         }
-        let len = bits.len();
-        match Bits::from_words(alloc, bits.into_words(), len) {
+        match Bits::from_list(alloc, bits) {
             Ok(bits) => Ok(K2Tree { bits, height, base }),
             Err(NoRoom) => Err(TreeFault::Memory),
         }
@@ -100,10 +101,9 @@ impl K2Tree {
     /// The tree bits. The tree is given up, so that none of them can be read uncounted while it is
     /// lent.
     pub fn bits(self) -> BitList
-        ensures { result ≡ morton_bits self.height (codes_of self) }
+        ensures { result ≡ tree_bits self }
     {
-        let len = self.bits.len();
-        BitList::new(self.bits.into_words(), len)
+        self.bits.into_list()
     }
 
     /// The number of leaves.
@@ -122,7 +122,7 @@ impl K2Tree {
     pub fn leaf_cell<L: Ledger>(&self, leaf: u32, steps: &mut Steps<L>) -> Cell
         requires { leaf < length self.now.cells }
         ensures value { slice_get self.now.cells leaf ≡ Some result }
-        ensures cost { steps.new ≤ steps.old + 41 * self.now.height }
+        ensures cost { steps.new ≤ steps.old + climb_reads self.now.height }
     {
         let code = code_of_leaf(&self.bits, self.height, leaf, steps);
         cell_at(code, self.height, self.base)
@@ -134,7 +134,7 @@ impl K2Tree {
     pub fn leaf_of<L: Ledger>(&self, cell: Cell, steps: &mut Steps<L>) -> Option<u32>
         ensures value { MatchOption result (Contains self.now.cells cell → ⊥)
             (λ leaf. slice_get self.now.cells leaf ≡ Some cell) }
-        ensures cost { steps.new ≤ steps.old + 11 * self.now.height }
+        ensures cost { steps.new ≤ steps.old + descent_reads self.now.height }
     {
         if self.bits.len() == 0 {
             return None;
@@ -176,7 +176,9 @@ impl K2Tree {
         ensures found { IfSome result (λ child. IsSquareOf self.now child) }
         ensures node { IfSome result (λ child.
             node_of child ≡ child_at (node_of square.now) digit) }
-        ensures cost { steps.new ≤ steps.old + 11 }
+        ensures inside { IfSome result (λ child.
+            IsBoxInside (area_of child) (area_of square.now)) }
+        ensures cost { steps.new ≤ steps.old + child_reads }
     {
         let Some(number) = child_of(&self.bits, square.number(), digit, steps) else {
             return None;
@@ -204,10 +206,13 @@ impl K2Tree {
     pub fn pruned<F: Keep>(&self, keep: F) -> Pruned<'_, F>
         ensures tree { pruned_tree result ≡ self.now }
         ensures left { pruned_left F.keeps result ≡ kept_leaves (F.keeps keep) self.now }
-        ensures budget { pruned_budget F.keeps result ≡ 11 * square_count (F.keeps keep) self.now }
+        ensures weights { (weight : ℕ × Cell → ℕ) → sum_by weight (pruned_left F.keeps result)
+            ≡ sum_by (λ leaf. if passes_at (F.keeps keep) self.now leaf.1 then weight leaf else 0)
+            (leaves_of self.now) }
+        ensures budget { pruned_budget F.keeps result ≡ child_reads * square_count (F.keeps keep) self.now }
         ensures wanted { (wanted : Cell → Bool) → IsKeptFor (F.keeps keep) wanted
             → wanted_of wanted (pruned_left F.keeps result)
-            ≡ wanted_of wanted (numbered 0 self.now.cells) }
+            ≡ wanted_of wanted (leaves_of self.now) }
     {
         Pruned::new(SquareWalk::new(self), keep)
     }
@@ -220,7 +225,7 @@ impl K2Tree {
         ensures square { result.square ≡ square }
         ensures nodes { nodes_of result ≡ child_nodes self.now (node_of square) }
         ensures stands { StandsAt (squares_of self.now) result.number (nodes_of result) }
-        ensures cost { steps.new ≤ steps.old + 11 }
+        ensures cost { steps.new ≤ steps.old + child_reads }
     {
         let bits = &self.bits;
         let place = FAN * square.number();

@@ -1,0 +1,3 @@
+pub mod FilterLemmas
+pub mod FlatLemmas
+pub mod SumLemmas

@@ -1,22 +1,21 @@
 -- The block of an object, step by step.
-use Rattle.std.proofs.Common.{◌≡◌, ℕ, ◌+◌, ◌<◌, Bool, true, false, List, length, get_or, take, sum, None}
+use Rattle.std.proofs.Common.{◌≡◌, ℕ, ◌+◌, ◌-◌, ◌<◌, Bool, true, false, List, length, get_or, take, sum, None}
 use Rattle.std.proofs.Common.{Some, refl, sym, ap, ◌∙◌, arith, cond}
 use Rattle.std.specs.List.{range_with_len}
 use Rattle.std.proofs.lemmas.List.{get_or-map, length-map}
 use Rattle.std.proofs.lemmas.List.FromFn.{get_or-range_with_len, length-range_with_len}
-use Rattle.std.proofs.lemmas.Option.{get_or_from_slice_get}
+use Rattle.std.proofs.lemmas.Option.{get_or_from_slice_get, slice_get_within}
 use Rattle.std.specs.Prelude.{slice_get, slice_index_or, slice_index}
 use Rattle.packed_bits.specs.Bits.{ones_of}
 use Rattle.bit_rank.specs.Bits.{rank_of}
 use Rattle.bit_rank.proofs.RankLemmas.{rank_of-step, rank_of-le-ones_of}
 use Rattle.object_perm.specs.Permutation.{inverse_of}
 use Rattle.track_types.specs.declared.cell.Cell.{Cell}
-use Rattle.k2_tree.specs.Tree.{Tree}
-use Rattle.k2_tree.proofs.CellLemmas.{tree_of-StandsFor}
-use Rattle.snapshots.specs.View.{SnapshotView, block_of, block_with, tree_in}
-use Rattle.snapshots.specs.Stored.{IsStored, starts_of}
+use Rattle.snapshots.specs.View.{SnapshotView, block_of, block_with, leaf_at, rank_in, tree_in}
+use Rattle.snapshots.specs.Sound.{IsSnapshot}
+use Rattle.snapshots.specs.Stored.{starts_of}
 use Rattle.snapshots.specs.declared.anchored.Anchored.{Anchored}
-use Rattle.snapshots.proofs.FlawlessLemmas.{IsFlawless-from_none, leaf_within}
+use Rattle.snapshots.proofs.FlawlessLemmas.{leaf_within}
 
 -- a present object's place among the present ones is below their number
 pub rank_within : (present : List Bool) (index : ℕ) → slice_get present index ≡ Some true → index < length present
@@ -25,6 +24,13 @@ rank_within present index is within =
     let on : get_or present index false ≡ true = get_or_from_slice_get present index true false is in
     let step = rank_of-step present index within ∙ ap (λ b. rank_of present index + cond b 1 0) on in
     omega (arith, rank_of-le-ones_of present (index + 1))
+
+-- a present object has a rank, which is a place in leaf order
+pub rank_in-within : (view : SnapshotView) (index : ℕ) → IsSnapshot view → slice_get view.parts.present index ≡ Some true
+    → rank_in view index < length view.parts.perm
+rank_in-within view index is here =
+    let inside = slice_get_within view.parts.present index true here in
+    omega (arith, rank_within view.parts.present index here inside, is.shaped.perm)
 
 -- where a log begins
 pub start_at : (start rank : ℕ) (lengths : List ℕ) → rank < length lengths
@@ -61,18 +67,13 @@ pub record IsRead (view : SnapshotView) (index rank : ℕ) (cell : Cell) (block 
   pub long : block.len ≡ slice_index view.parts.lengths rank
 
 -- it is the block, where the cell is that of the place's leaf
-pub block_read : (view : SnapshotView) (tree : Tree) (starts : List ℕ) (index rank place : ℕ) (cell : Cell)
-    (block : Anchored)
-    → IsStored view tree starts → IsRead view index rank cell block
-    → slice_get tree.cells (rank_of view.parts.lasts place) ≡ Some cell
+pub block_read : (view : SnapshotView) (index rank place : ℕ) (cell : Cell) (block : Anchored)
+    → IsRead view index rank cell block
+    → slice_get (tree_in view).cells (leaf_at view place) ≡ Some cell
     → block ≡ block_with view index rank place
-block_read view tree starts index rank place cell block stored read found =
-    let told : (tree_in view).cells ≡ tree.cells =
-    ap (λ (t : Tree). t.cells) (tree_of-StandsFor view.frame.height view.frame.base view.parts.tree tree stored.tree_is)
-    in
-    let here : cell ≡ slice_index_or (tree_in view).cells (rank_of view.parts.lasts place) view.frame.base =
-    sym (ap (λ cells. slice_index_or cells (rank_of view.parts.lasts place) view.frame.base) told
-    ∙ get_or_from_slice_get tree.cells (rank_of view.parts.lasts place) cell view.frame.base found) in
+block_read view index rank place cell block read found =
+    let here : cell ≡ slice_index_or (tree_in view).cells (leaf_at view place) view.frame.base =
+    sym (get_or_from_slice_get (tree_in view).cells (leaf_at view place) cell view.frame.base found) in
     same_block block (block_with view index rank place) read.number read.begins (read.stands ∙ here) read.logged
     read.long
 
@@ -95,19 +96,16 @@ block_missing view index absent =
     rw off refl
 
 -- each place in leaf order has a leaf of the tree
-pub leaf_known : (view : SnapshotView) (tree : Tree) (starts : List ℕ) (place : ℕ) → IsStored view tree starts
-    → place < length view.parts.perm → rank_of view.parts.lasts place < length tree.cells
-leaf_known view tree starts place stored within =
-    let shaped = stored.is.shaped in
-    let flawless = IsFlawless-from_none view stored.is.flawless in
-    let told =
-    ap (λ (t : Tree). length t.cells)
-    (tree_of-StandsFor view.frame.height view.frame.base view.parts.tree tree stored.tree_is) in
-    let inside : place < length view.parts.lasts = omega (arith, shaped.perm, shaped.lasts) in
-    omega (arith, told, leaf_within view.parts.lasts (length (tree_in view).cells) place flawless.cells inside)
+pub leaf_known : (view : SnapshotView) (place : ℕ) → IsSnapshot view → place < length view.parts.perm
+    → leaf_at view place < length (tree_in view).cells
+leaf_known view place is within =
+    let inside : place < length view.parts.lasts = omega (arith, is.shaped.perm, is.shaped.lasts) in
+    let last = get_or_from_slice_get view.parts.lasts (length view.parts.lasts - 1) true false
+    (is.sound.last (omega arith)) in
+    omega (arith, is.sound.cells, leaf_within view.parts.lasts place last inside)
 
 -- as many logs begin as objects are present
-pub length-starts : (view : SnapshotView) (tree : Tree) (starts : List ℕ) → IsStored view tree starts
-    → length starts ≡ ones_of view.parts.present
-length-starts view tree starts stored =
-    ap length stored.begin ∙ length-starts_of view.start view.parts.lengths ∙ stored.is.shaped.lengths
+pub length-starts : (view : SnapshotView) (starts : List ℕ) → IsSnapshot view
+    → starts ≡ starts_of view.start view.parts.lengths → length starts ≡ ones_of view.parts.present
+length-starts view starts is begin =
+    ap length begin ∙ length-starts_of view.start view.parts.lengths ∙ is.shaped.lengths

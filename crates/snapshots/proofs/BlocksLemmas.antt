@@ -1,17 +1,15 @@
 -- The blocks of a snapshot: one at each place in leaf order, and those of a leaf are its objects', by object.
-use Rattle.std.proofs.Common.{◌≡◌, ℕ, zero, suc, ◌+◌, ◌-◌, ◌<◌, Bool, true, false, leb, cond, List, [], ◌∷◌, ◌++◌, length}
-use Rattle.std.proofs.Common.{get_or, map, filter, inl, inr, refl, sym, ap, ◌∙◌, arith}
+use Rattle.std.proofs.Common.{◌≡◌, ℕ, ◌+◌, ◌<◌, true, false, List, [], ◌∷◌, ◌++◌, length}
+use Rattle.std.proofs.Common.{map, filter, refl, sym, ap, ◌∙◌, arith}
 use Rattle.std.specs.List.{range_with_len}
-use Rattle.std.specs.Prelude.{◌==◌, ◌&&◌, not, None, Some, slice_index, slice_index_or}
-use Rattle.std.proofs.lemmas.Bool.{and_from, and_parts, cases_lt, eq-eqb, eqb-true, leb-false}
+use Rattle.std.specs.Prelude.{◌==◌, Some, slice_index, slice_index_or}
+use Rattle.std.proofs.lemmas.Bool.{and_from, and_parts, eq-eqb, eqb-true}
 use Rattle.std.proofs.lemmas.List.{map-id}
 use Rattle.std.proofs.lemmas.Option.{get_or_from_slice_get, slice_get-get_or, slice_get_within}
-use Rattle.packed_bits.specs.Bits.{ones_of}
-use Rattle.bit_rank.specs.Bits.{IsSelected, rank_of, select_of}
-use Rattle.bit_rank.proofs.RankLemmas.{lt-from_rank_of, rank_of-le, rank_of-step, IsSelected-select_of}
+use Rattle.bit_rank.specs.Bits.{IsSelected, select_of}
+use Rattle.bit_rank.proofs.RankLemmas.{lt-from_rank_of, IsSelected-select_of}
 use Rattle.bit_rank.proofs.RankLemmas.{select_of-from_IsSelected}
-use Rattle.object_perm.specs.Permutation.{PermutesPlaces, inverse_of}
-use Rattle.object_perm.proofs.FlawLemmas.{find-all, permutes-from_none}
+use Rattle.object_perm.specs.Permutation.{inverse_of}
 use Rattle.object_perm.proofs.InverseLemmas.{at-inverse_of, inverse_of-at}
 use Rattle.object_perm.proofs.OntoLemmas.{inverse_of-within}
 use Rattle.k2_tree.specs.TreeBits.{is_in, Rises}
@@ -20,8 +18,7 @@ use Rattle.track_types.specs.declared.cell.Cell.{Cell}
 use Rattle.snapshots.specs.View.{SnapshotView, block_at, block_of, block_with, blocks_in, is_at, leaf_at, objects_at}
 use Rattle.snapshots.specs.View.{place_in, places_from, present_block, rank_in}
 use Rattle.snapshots.specs.Objects.{blocks_of, objects_of}
-use Rattle.snapshots.specs.Flaws.{is_disordered, order_flaw, IsSnapshot}
-use Rattle.snapshots.proofs.FlawlessLemmas.{IsFlawless-from_none}
+use Rattle.snapshots.specs.Sound.{IsSnapshot}
 use Rattle.snapshots.proofs.BlockLemmas.{block_found, rank_within}
 use Rattle.snapshots.proofs.ChosenLemmas.{in-from_made, made_same, same_tests, IsMade-from_in, Rises-made}
 
@@ -33,128 +30,65 @@ index_at view place = select_of view.parts.present (slice_index view.parts.perm 
 abbrev pub indices_in : SnapshotView → ℕ → List ℕ
 indices_in view leaf = map (index_at view) (places_from view leaf 0 (length view.parts.perm))
 
--- what is needed of the parts
-record IsLaid (view : SnapshotView) : Type 0 where
-  permutes : PermutesPlaces view.parts.perm
-  present : length view.parts.perm ≡ ones_of view.parts.present
-  lasts : length view.parts.perm ≡ length view.parts.lasts
-  order : order_flaw view.parts.lasts view.parts.perm ≡ None
-  objects : length view.parts.present ≡ view.objects
-
-IsLaid-from_IsSnapshot : (view : SnapshotView) → IsSnapshot view → IsLaid view
-IsLaid-from_IsSnapshot view is =
-    let flawless = IsFlawless-from_none view is.flawless in
-    record {
-      permutes = permutes-from_none view.parts.perm flawless.perm;
-      present = is.shaped.perm;
-      lasts = is.shaped.perm ∙ sym is.shaped.lasts;
-      order = flawless.order;
-      objects = is.shaped.presence;
-    }
-
 -- the object at a place is the present one of the rank that stands there
-selected_at : (view : SnapshotView) (place : ℕ) → IsLaid view → place < length view.parts.perm
+selected_at : (view : SnapshotView) (place : ℕ) → IsSnapshot view → place < length view.parts.perm
     → IsSelected view.parts.present (slice_index view.parts.perm place + 1) (index_at view place)
-selected_at view place laid within =
-    let below = laid.permutes.within place within in
+selected_at view place is within =
+    let below = is.sound.permutes.within place within in
     IsSelected-select_of view.parts.present (slice_index view.parts.perm place + 1) (omega arith)
-    (omega (arith, below, laid.present))
+    (omega (arith, below, is.shaped.perm))
 
-rank_at : (view : SnapshotView) (place : ℕ) → IsLaid view → place < length view.parts.perm
+rank_at : (view : SnapshotView) (place : ℕ) → IsSnapshot view → place < length view.parts.perm
     → rank_in view (index_at view place) ≡ slice_index view.parts.perm place
-rank_at view place laid within = omega (arith, (selected_at view place laid within).rank)
+rank_at view place is within = omega (arith, (selected_at view place is within).rank)
 
 -- and its place is this one
-place_back : (view : SnapshotView) (place : ℕ) → IsLaid view → place < length view.parts.perm
+place_back : (view : SnapshotView) (place : ℕ) → IsSnapshot view → place < length view.parts.perm
     → place_in view (index_at view place) ≡ place
-place_back view place laid within =
-    ap (inverse_of view.parts.perm) (rank_at view place laid within)
-    ∙ inverse_of-at view.parts.perm place (slice_index view.parts.perm place) laid.permutes within refl
+place_back view place is within =
+    ap (inverse_of view.parts.perm) (rank_at view place is within)
+    ∙ inverse_of-at view.parts.perm place (slice_index view.parts.perm place) is.sound.permutes within refl
 
 -- so the block at a place is the block of the object there
-block_back : (view : SnapshotView) (place : ℕ) → IsLaid view → place < length view.parts.perm
+block_back : (view : SnapshotView) (place : ℕ) → IsSnapshot view → place < length view.parts.perm
     → block_at view place ≡ present_block view (index_at view place)
-block_back view place laid within =
+block_back view place is within =
     let index : ℕ = index_at view place in
-    sym (ap (λ rank. block_with view index rank (place_in view index)) (rank_at view place laid within)
-    ∙ ap (block_with view index (slice_index view.parts.perm place)) (place_back view place laid within))
+    sym (ap (λ rank. block_with view index rank (place_in view index)) (rank_at view place is within)
+    ∙ ap (block_with view index (slice_index view.parts.perm place)) (place_back view place is within))
 
 -- the block at a place is the one that its object has
 pub block_at-is_block : (view : SnapshotView) (place : ℕ) → IsSnapshot view → place < length view.parts.perm
     → block_of view (block_at view place).index ≡ Some (block_at view place)
 block_at-is_block view place is within =
-    let laid = IsLaid-from_IsSnapshot view is in
-    sym (block_found view (index_at view place) (block_at view place) (selected_at view place laid within).one
-    (block_back view place laid within))
-
--- behind a place that is not the last of its leaf stands a greater rank
-next_greater : (lasts : List Bool) (perm : List ℕ) (place : ℕ) → order_flaw lasts perm ≡ None
-    → length perm ≡ length lasts → place + 1 < length perm → rank_of lasts place ≡ rank_of lasts (place + 1)
-    → get_or perm place 0 < get_or perm (place + 1) 0
-next_greater lasts perm place none long within same =
-    let other : get_or lasts place false ≡ false = by_bit (get_or lasts place false) refl in
-    let before : place + 1 - 1 ≡ place = omega arith in
-    let fails =
-    find-all (is_disordered lasts perm) 1 (length perm - 1) none (place + 1) (omega arith) (omega arith) in
-    let fails' : (not (get_or lasts place false) && leb (get_or perm (place + 1) 0) (get_or perm place 0)) ≡ false =
-    rw before at fails in
-    leb-false (get_or perm (place + 1) 0) (get_or perm place 0) (second (get_or lasts place false) _ other fails')
-  where
-    second : (b c : Bool) → b ≡ false → (not b && c) ≡ false → c ≡ false
-    second false c e fails = fails
-    second true c e fails = let clash : true ≡ false = e in absurd (cc)
-
-    by_bit : (b : Bool) → get_or lasts place false ≡ b → get_or lasts place false ≡ false
-    by_bit false e = e
-    by_bit true e =
-        let step = rank_of-step lasts place (omega arith) ∙ ap (λ b. rank_of lasts place + cond b 1 0) e in
-        absurd (omega arith)
-
--- in a leaf the ranks ascend
-ascends : (lasts : List Bool) (perm : List ℕ) (p q : ℕ) → order_flaw lasts perm ≡ None
-    → length perm ≡ length lasts → p < q → q < length perm → rank_of lasts p ≡ rank_of lasts q
-    → get_or perm p 0 < get_or perm q 0
-ascends lasts perm p zero none long less within same = absurd (omega arith)
-ascends lasts perm p (suc q) none long less within same =
-    let next : suc q ≡ q + 1 = omega arith in
-    let same' : rank_of lasts p ≡ rank_of lasts (q + 1) = same ∙ ap (rank_of lasts) next in
-    let low = rank_of-le lasts p q (omega arith) in
-    let high = rank_of-le lasts q (q + 1) (omega arith) in
-    let step = next_greater lasts perm q none long (omega arith) (omega arith) in
-    let up : get_or perm q 0 < get_or perm (suc q) 0 = rw next step in
-    elim (cases_lt p q) [
-      | inl before ↦
-          let earlier = ascends lasts perm p q none long before (omega arith) (omega arith) in omega arith
-      | inr not ↦ let here : p ≡ q = omega arith in rw here up
-    ]
+    sym (block_found view (index_at view place) (block_at view place) (selected_at view place is within).one
+    (block_back view place is within))
 
 -- the objects of a leaf ascend
 pub Rises-indices_in : (view : SnapshotView) (leaf : ℕ) → IsSnapshot view → Rises 0 (indices_in view leaf)
 Rises-indices_in view leaf is =
-    let laid = IsLaid-from_IsSnapshot view is in
     Rises-made (index_at view) (λ place. leaf_at view place == leaf) 0 (length view.parts.perm) 0
-    (λ p from to passes. omega arith) (grows laid)
+    (λ p from to passes. omega arith) (grows is)
   where
-    grows : IsLaid view → (p q : ℕ) → p < q → q < 0 + length view.parts.perm → (leaf_at view p == leaf) ≡ true
+    grows : IsSnapshot view → (p q : ℕ) → p < q → q < 0 + length view.parts.perm → (leaf_at view p == leaf) ≡ true
         → (leaf_at view q == leaf) ≡ true → index_at view p < index_at view q
-    grows laid p q less within p_here q_here =
+    grows is p q less within p_here q_here =
         let p_leaf = eqb-true (leaf_at view p) leaf p_here in
         let q_leaf = eqb-true (leaf_at view q) leaf q_here in
-        let up = ascends view.parts.lasts view.parts.perm p q laid.order laid.lasts less (omega arith) (omega arith) in
-        let p_rank = rank_at view p laid (omega arith) in
-        let q_rank = rank_at view q laid (omega arith) in
+        let up = is.sound.order p q less (omega arith) (p_leaf ∙ sym q_leaf) in
+        let p_rank = rank_at view p is (omega arith) in
+        let q_rank = rank_at view q is (omega arith) in
         lt-from_rank_of view.parts.present (index_at view p) (index_at view q) (omega arith)
 
 -- the object at a place of the leaf is one of the leaf
 pub index_at-is_at : (view : SnapshotView) (leaf place : ℕ) → IsSnapshot view → place < length view.parts.perm
     → leaf_at view place ≡ leaf → (index_at view place < view.objects) × (is_at view leaf (index_at view place) ≡ true)
 index_at-is_at view leaf place is within here =
-    let laid = IsLaid-from_IsSnapshot view is in
-    let selected = selected_at view place laid within in
+    let selected = selected_at view place is within in
     let inside = slice_get_within view.parts.present (index_at view place) true selected.one in
     let there : leaf_at view (place_in view (index_at view place)) ≡ leaf =
-    ap (leaf_at view) (place_back view place laid within) ∙ here in (
-      omega (arith, inside, laid.objects),
+    ap (leaf_at view) (place_back view place is within) ∙ here in (
+      omega (arith, inside, is.shaped.presence),
       and_from _ _ (get_or_from_slice_get view.parts.present (index_at view place) true false selected.one)
           (eq-eqb (leaf_at view (place_in view (index_at view place))) leaf there),
     )
@@ -164,12 +98,11 @@ pub index_at-place_in : (view : SnapshotView) (index : ℕ) → IsSnapshot view 
     → slice_index_or view.parts.present index false ≡ true
     → (place_in view index < length view.parts.perm) × (index_at view (place_in view index) ≡ index)
 index_at-place_in view index is within on =
-    let laid = IsLaid-from_IsSnapshot view is in
-    let inside : index < length view.parts.present = omega (arith, laid.objects) in
+    let inside : index < length view.parts.present = omega (arith, is.shaped.presence) in
     let read = slice_get-get_or view.parts.present index false inside ∙ ap Some on in
     let rank : rank_in view index < length view.parts.perm =
-    omega (arith, laid.present, rank_within view.parts.present index read inside) in
-    let place = inverse_of-within view.parts.perm (rank_in view index) laid.permutes rank in
+    omega (arith, is.shaped.perm, rank_within view.parts.present index read inside) in
+    let place = inverse_of-within view.parts.perm (rank_in view index) is.sound.permutes rank in
     let stands = at-inverse_of view.parts.perm (rank_in view index) place in (
       place,
       ap (λ rank. select_of view.parts.present (rank + 1)) stands
@@ -214,9 +147,8 @@ indices_in-by_object view leaf is =
 pub blocks_in-by_object : (view : SnapshotView) (leaf : ℕ) → IsSnapshot view
     → blocks_in view leaf ≡ objects_at view leaf
 blocks_in-by_object view leaf is =
-    let laid = IsLaid-from_IsSnapshot view is in
     made_same (block_at view) (present_block view) (index_at view) (λ place. leaf_at view place == leaf) 0
-    (length view.parts.perm) (λ place within. block_back view place laid (omega arith))
+    (length view.parts.perm) (λ place within. block_back view place is (omega arith))
     ∙ ap (map (present_block view)) (indices_in-by_object view leaf is)
 
 -- so are the blocks of leaves, leaf by leaf

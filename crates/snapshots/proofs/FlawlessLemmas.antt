@@ -2,8 +2,9 @@
 use Rattle.std.proofs.Common.{◌≡◌, ℕ, ◌+◌, ◌-◌, ◌<◌, Bool, true, false, List, length, get_or, Option, None}
 use Rattle.std.proofs.Common.{Some, refl, ap, ◌∙◌, arith, cond}
 use Rattle.std.specs.Option.{option_map, option_or}
-use Rattle.std.specs.Prelude.{◌||◌, ◌==◌, if◌then◌else◌}
+use Rattle.std.specs.Prelude.{◌||◌, ◌==◌, if◌then◌else◌, slice_get}
 use Rattle.std.proofs.lemmas.Bool.{and_parts, eqb-true}
+use Rattle.std.proofs.lemmas.Option.{slice_get-get_or}
 use Rattle.packed_bits.specs.Bits.{ones_of}
 use Rattle.bit_rank.specs.Bits.{rank_of}
 use Rattle.bit_rank.proofs.RankLemmas.{rank_of-step, rank_of-le, rank_of-le-ones_of}
@@ -48,27 +49,28 @@ IsFlawless-from_none view none =
       order = map_none _ _ perm.1;
     }
 
--- the last object is the last of its cell
-pub last_is : (lasts : List Bool) (leaves : ℕ) → have_cells lasts leaves ≡ true → 0 < length lasts
-    → get_or lasts (length lasts - 1) false ≡ true
-last_is lasts leaves has some = by_length (length lasts == 0) refl (and_parts _ _ has).1
+-- where as many are the last of a cell as there are leaves, and the last one of all is
+pub cells_from : (lasts : List Bool) (leaves : ℕ) → have_cells lasts leaves ≡ true
+    → (ones_of lasts ≡ leaves) × (0 < length lasts → slice_get lasts (length lasts - 1) ≡ Some true)
+cells_from lasts leaves has =
+    let both = and_parts _ _ has in
+    (eqb-true (ones_of lasts) leaves both.0, λ some. by_length (length lasts == 0) refl both.1 some)
   where
     by_length : (b : Bool) → (length lasts == 0) ≡ b
         → ((length lasts == 0) || get_or lasts (length lasts - 1) false) ≡ true
-        → get_or lasts (length lasts - 1) false ≡ true
-    by_length false e is = (rw e at is)
-    by_length true e is = absurd (omega (arith, eqb-true (length lasts) 0 e))
+        → 0 < length lasts → slice_get lasts (length lasts - 1) ≡ Some true
+    by_length false e is some =
+        let on : get_or lasts (length lasts - 1) false ≡ true = rw e at is in
+        slice_get-get_or lasts (length lasts - 1) false (omega arith) ∙ ap Some on
+    by_length true e is some = absurd (omega (arith, eqb-true (length lasts) 0 e))
 
 -- each place in leaf order has a leaf
-pub leaf_within : (lasts : List Bool) (leaves place : ℕ) → have_cells lasts leaves ≡ true → place < length lasts
-    → rank_of lasts place < leaves
-leaf_within lasts leaves place has within =
-    let some : 0 < length lasts = omega arith in
-    let behind : length lasts - 1 < length lasts = omega arith in
+pub leaf_within : (lasts : List Bool) (place : ℕ) → get_or lasts (length lasts - 1) false ≡ true
+    → place < length lasts → rank_of lasts place < ones_of lasts
+leaf_within lasts place last within =
     let step =
-    rank_of-step lasts (length lasts - 1) behind
-    ∙ ap (λ b. rank_of lasts (length lasts - 1) + cond b 1 0) (last_is lasts leaves has some) in
+    rank_of-step lasts (length lasts - 1) (omega arith)
+    ∙ ap (λ b. rank_of lasts (length lasts - 1) + cond b 1 0) last in
     let low = rank_of-le lasts place (length lasts - 1) (omega arith) in
     let high = rank_of-le-ones_of lasts (length lasts - 1 + 1) in
-    let all = eqb-true (ones_of lasts) leaves (and_parts _ _ has).0 in
     omega arith

@@ -1,16 +1,18 @@
 -- The first flaw of a period, from those of its parts; and parts without one, which are stored.
-use Rattle.std.proofs.Common.{◌≡◌, ℕ, Bool, true, false, List, length, None, Some, refl, ap, sym, ◌∙◌}
-use Rattle.object_perm.specs.Permutation.{PermutesPlaces}
+use Rattle.std.proofs.Common.{◌≡◌, ℕ, Bool, true, false, List, length, Option, None, Some, refl, ap, sym, subst, ◌∙◌}
+use Rattle.std.specs.Global.{Box}
 use Rattle.track_types.specs.Frame.{instants_in}
 use Rattle.track_types.specs.declared.flaw.Section.TheVariants.{Lasts}
 use Rattle.track_types.specs.declared.flaw.Kind.TheVariants.{Cells}
-use Rattle.k2_tree.specs.Tree.{Tree, codes_of}
-use Rattle.k2_tree.specs.TreeBits.{morton_bits}
+use Rattle.track_types.specs.declared.period_parts.PeriodParts.{PeriodParts}
+use Rattle.k2_tree.specs.Tree.{Tree}
 use Rattle.k2_tree.specs.Flaws.{StandsFor}
 use Rattle.k2_tree.proofs.CellLemmas.{tree_of-StandsFor}
-use Rattle.snapshots.specs.View.{SnapshotView, tree_in}
+use Rattle.snapshots.specs.View.{SnapshotView, tree_in, view_with}
 use Rattle.snapshots.specs.Flaws.{bits_flaw, flaw_in, flaw_of, have_cells, offset_flaw, perm_flaw, IsShaped}
-use Rattle.snapshots.specs.Stored.{starts_of, view_of, IsStored}
+use Rattle.snapshots.specs.Stored.{parts_with, starts_in, starts_of, view_of, IsStored}
+use Rattle.snapshots.specs.declared.blocks.Blocks.{Blocks}
+use Rattle.snapshots.proofs.SoundLemmas.{IsSound-flawless}
 
 -- the anchors and the tree have no flaw, and it is known whether the last objects fit the leaves
 pub record IsBegun (view : SnapshotView) (fit : Bool) : Type 0 where
@@ -43,23 +45,32 @@ pub flaw_of-perm : (view : SnapshotView) (fit : Bool) → IsBegun view fit → f
     → flaw_of view ≡ perm_flaw view.number view.parts.lasts view.parts.perm
 flaw_of-perm view fit begun is = rw (begun.late, begun.bits, begun.cells, is) refl
 
--- what is stored of the parts tells them
-pub view_of-parts : (view : SnapshotView) (present lasts : List Bool) (perm : List ℕ) (tree : Tree)
-    → StandsFor view.frame.height view.frame.base view.parts.tree tree → length view.parts.present ≡ view.objects
-    → present ≡ view.parts.present → lasts ≡ view.parts.lasts → perm ≡ view.parts.perm
-    → view_of view.frame view.number view.start present view.parts.offsets tree lasts perm view.parts.lengths ≡ view
-view_of-parts view present lasts perm tree stands objects a b c =
-    let bits : morton_bits tree.height (codes_of tree) ≡ view.parts.tree =
-    ap (λ h. morton_bits h (codes_of tree)) stands.high ∙ stands.same in
-    rw (a, bits, b, c, objects) refl
-
--- parts without a flaw are stored
-pub IsStored-flawless : (view : SnapshotView) (tree : Tree) (starts : List ℕ) → IsShaped view
-    → StandsFor view.frame.height view.frame.base view.parts.tree tree → flaw_of view ≡ None
-    → PermutesPlaces view.parts.perm → starts ≡ starts_of view.start view.parts.lengths → IsStored view tree starts
-IsStored-flawless view tree starts shaped stands none permutes begin = record {
-  is = record { shaped = shaped; flawless = none };
-  tree_is = stands;
-  permutes = permutes;
-  begin = begin;
+-- the parts with this list in place of theirs
+abbrev pub with_perm : PeriodParts → List ℕ → PeriodParts
+with_perm parts perm = record {
+  present = parts.present;
+  offsets = parts.offsets;
+  tree = parts.tree;
+  lasts = parts.lasts;
+  perm = perm;
+  lengths = parts.lengths;
 }
+
+-- what is stored of parts without a flaw
+module _ (view : SnapshotView) (tree : Tree) (blocks : Option (Box Blocks))
+    (stands : StandsFor view.frame.height view.frame.base view.parts.tree tree)
+    (told : parts_with view.objects view.parts.tree blocks ≡ view.parts) where
+  -- tells them
+  pub view_of-parts : view_of view.frame view.number view.objects view.start tree blocks ≡ view
+  view_of-parts =
+      ap (λ parts. view_with view.frame view.number view.objects view.start parts)
+      (ap (λ bits. parts_with view.objects bits blocks) stands.same ∙ told)
+
+  -- and is stored as it should be
+  pub IsStored-flawless : IsShaped view → flaw_of view ≡ None → starts_in blocks ≡ starts_of view.start view.parts.lengths
+      → IsStored (view_of view.frame view.number view.objects view.start tree blocks) tree (starts_in blocks)
+  IsStored-flawless shaped none begin = subst (λ v. IsStored v tree (starts_in blocks)) (sym view_of-parts) (record {
+    is = record { shaped = shaped; sound = IsSound-flawless view shaped none };
+    tree_is = tree_of-StandsFor view.frame.height view.frame.base view.parts.tree tree stands;
+    begin = begin;
+  })

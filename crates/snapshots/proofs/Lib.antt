@@ -1,10 +1,13 @@
 -- Laws for callers.
 pub mod BlocksLemmas
+pub mod SoundLemmas
 -- The parts, the blocks and the places of a period.
 mod OrderLemmas
 mod CellsLemmas
 mod StartsLemmas
+pub mod BlockFactsLemmas
 mod PartLemmas
+mod AbsentLemmas
 mod JudgedLemmas
 mod FlawlessLemmas
 mod BlockLemmas

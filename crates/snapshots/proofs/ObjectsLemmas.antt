@@ -7,6 +7,7 @@ use Rattle.track_types.specs.declared.cell.Cell.{Cell}
 use Rattle.track_types.specs.declared.cell_box.CellBox.{CellBox}
 use Rattle.k2_tree.specs.Pruned.{pruned_budget, pruned_left}
 use Rattle.snapshots.specs.View.{SnapshotView, blocks_in}
+use Rattle.snapshots.specs.Cost.{block_reads, first_reads}
 use Rattle.snapshots.specs.Objects.{begun_left, begun_reads, blocks_of, objects_budget, objects_left, reads_of}
 use Rattle.snapshots.specs.declared.objects_in.ObjectsIn.{ObjectsIn}
 
@@ -18,10 +19,10 @@ pub record IsGiving {F : Type 0} (keeps : F → CellBox → Bool) (first now : O
 
 -- the reads for the blocks of leaves: so many for each leaf, and so many for each block
 pub reads_of-parts : (view : SnapshotView) (leaves : List (ℕ × Cell))
-    → reads_of view leaves ≡ 41 * length leaves + 43 * length (blocks_of view leaves)
+    → reads_of view leaves ≡ first_reads * length leaves + block_reads * length (blocks_of view leaves)
 reads_of-parts view [] = refl
 reads_of-parts view (leaf ∷ leaves) =
-    let first = sum_by-cons (λ leaf. 41 + 43 * length (blocks_in view leaf.0)) leaf leaves in
+    let first = sum_by-cons (λ leaf. first_reads + block_reads * length (blocks_in view leaf.0)) leaf leaves in
     let blocks = length-append (blocks_in view leaf.0) (blocks_of view leaves) in
     omega (arith, first, blocks, reads_of-parts view leaves)
 
@@ -34,8 +35,8 @@ objects_left-unbegun keeps objects none =
 -- and the reads for them
 pub objects_budget-unbegun : {F : Type 0} (keeps : F → CellBox → Bool) (objects : ObjectsIn F) → objects.members ≡ None
     → objects_budget keeps objects
-    ≡ pruned_budget keeps objects.pruned + 41 * length (pruned_left keeps objects.pruned)
-    + 43 * length (objects_left keeps objects)
+    ≡ pruned_budget keeps objects.pruned + first_reads * length (pruned_left keeps objects.pruned)
+    + block_reads * length (objects_left keeps objects)
 objects_budget-unbegun keeps objects none =
     let view : SnapshotView = objects.snapshot.now in
     let leaves : List (ℕ × Cell) = pruned_left keeps objects.pruned in

@@ -78,8 +78,3 @@ flaw_of view =
 abbrev pub IsFaultFor : Option Flaw → SnapFault → Type 0
 IsFaultFor first (fault.Flaw flaw) = first ≡ Some flaw
 IsFaultFor first fault.Memory = ⊤
-
--- what holds of every snapshot: its parts are shaped and have no flaw
-pub record IsSnapshot (view : SnapshotView) : Type 0 where
-  pub shaped : IsShaped view
-  pub flawless : flaw_of view ≡ None

@@ -1,7 +1,8 @@
 -- In reading order.
+pub mod Cost
 pub mod View
 pub mod Flaws
+pub mod Sound
 pub mod Stored
 pub mod Members
 pub mod Objects
-pub mod Cost

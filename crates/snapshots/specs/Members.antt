@@ -2,6 +2,7 @@
 use Rattle.std.specs.Prelude.{◌≡◌, ℕ, ◌+◌, ◌-◌, ◌*◌, ◌<◌, List, [], length, map, slice_get, Some, ⊤}
 use Rattle.track_types.specs.declared.cell.Cell.{Cell}
 use Rattle.snapshots.specs.View.{SnapshotView, block_at, blocks_in, leaf_at, places_from, tree_in}
+use Rattle.snapshots.specs.Cost.{block_reads, first_reads}
 use Rattle.snapshots.specs.declared.anchored.Anchored.{Anchored}
 use Rattle.snapshots.specs.declared.next.Next.{Next}
 use Rattle.snapshots.specs.declared.next.Next.TheVariants.{First, Place, End}
@@ -23,7 +24,7 @@ members_left view leaf End = []
 
 -- the reads by which the first place is looked for
 abbrev pub search_reads : Next → ℕ
-search_reads First = 41
+search_reads First = first_reads
 search_reads (Place place) = 0
 search_reads End = 0
 
@@ -31,7 +32,7 @@ search_reads End = 0
 abbrev pub members_of : SnapshotView → ℕ → Next → MembersView
 members_of view leaf next = record {
   blocks = members_left view leaf next;
-  reads = search_reads next + 43 * length (members_left view leaf next);
+  reads = search_reads next + block_reads * length (members_left view leaf next);
 }
 
 -- a place is one of the leaf's

@@ -1,10 +1,12 @@
 -- What is left of a walk over the blocks whose anchors lie in squares that pass a test.
-use Rattle.std.specs.Prelude.{ℕ, ◌+◌, ◌*◌, Bool, List, [], ◌++◌, length, Option, None, Some}
+use Rattle.std.specs.Prelude.{◌≡◌, ℕ, ◌+◌, ◌*◌, Bool, List, [], ◌++◌, length, filter, Option, None, Some}
 use Rattle.std.specs.List.{flat_map, sum_by}
 use Rattle.track_types.specs.declared.cell.Cell.{Cell}
 use Rattle.track_types.specs.declared.cell_box.CellBox.{CellBox}
+use Rattle.k2_tree.specs.Pruning.{passes_at}
 use Rattle.k2_tree.specs.Pruned.{pruned_budget, pruned_left}
-use Rattle.snapshots.specs.View.{SnapshotView, blocks_in, objects_at}
+use Rattle.snapshots.specs.View.{SnapshotView, all_blocks, blocks_in, objects_at, tree_in}
+use Rattle.snapshots.specs.Cost.{block_reads, first_reads}
 use Rattle.snapshots.specs.Members.{MembersView}
 use Rattle.snapshots.specs.declared.anchored.Anchored.{Anchored}
 use Rattle.snapshots.specs.declared.objects_in.ObjectsIn.{ObjectsIn}
@@ -17,9 +19,21 @@ blocks_of view leaves = flat_map (λ leaf. blocks_in view leaf.0) leaves
 abbrev pub objects_of : SnapshotView → List (ℕ × Cell) → List Anchored
 objects_of view leaves = flat_map (λ leaf. objects_at view leaf.0) leaves
 
+-- the blocks of the period whose cells pass a test on each square from the whole grid down, by object
+unfoldable pub passing_blocks : (CellBox → Bool) → SnapshotView → List Anchored
+passing_blocks keep view = filter (λ block. passes_at keep (tree_in view) block.cell) (all_blocks view)
+
+-- those of the blocks whose cells are wanted
+abbrev pub wanted_blocks : (Cell → Bool) → List Anchored → List Anchored
+wanted_blocks wanted blocks = filter (λ block. wanted block.cell) blocks
+
+-- the lists have the same blocks, each as often, in whatever order: every weight adds up to the same over both
+unfoldable pub WeighSame : List Anchored → List Anchored → Type 0
+WeighSame blocks others = (weight : Anchored → ℕ) → sum_by weight blocks ≡ sum_by weight others
+
 -- the reads by which the blocks of leaves are found
 abbrev pub reads_of : SnapshotView → List (ℕ × Cell) → ℕ
-reads_of view leaves = sum_by (λ leaf. 41 + 43 * length (blocks_in view leaf.0)) leaves
+reads_of view leaves = sum_by (λ leaf. first_reads + block_reads * length (blocks_in view leaf.0)) leaves
 
 -- the blocks that are left of the cell that was begun, if one was
 abbrev pub begun_left : Option MembersView → List Anchored

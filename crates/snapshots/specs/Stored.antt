@@ -1,38 +1,63 @@
--- How a snapshot is stored: its tree, and where each log begins.
-use Rattle.std.specs.Prelude.{◌≡◌, ℕ, ◌+◌, Bool, List, length, map, take, sum}
+-- How a snapshot is stored: its tree, and what there is of its blocks where it has one.
+use Rattle.std.specs.Prelude.{◌≡◌, ℕ, ◌+◌, Bool, false, List, [], length, map, take, sum, Option, None, Some, replicate}
 use Rattle.std.specs.List.{range_with_len}
+use Rattle.std.specs.Global.{Box}
 use Rattle.track_types.specs.declared.frame.Frame.{Frame}
-use Rattle.object_perm.specs.Permutation.{PermutesPlaces}
-use Rattle.k2_tree.specs.Tree.{Tree, codes_of}
-use Rattle.k2_tree.specs.TreeBits.{morton_bits}
-use Rattle.k2_tree.specs.Flaws.{StandsFor}
-use Rattle.snapshots.specs.View.{SnapshotView}
-use Rattle.snapshots.specs.Flaws.{IsSnapshot}
+use Rattle.track_types.specs.declared.period_parts.PeriodParts.{PeriodParts}
+use Rattle.k2_tree.specs.Tree.{Tree, tree_bits}
+use Rattle.snapshots.specs.View.{SnapshotView, tree_in}
+use Rattle.snapshots.specs.Sound.{IsSnapshot}
+use Rattle.snapshots.specs.declared.blocks.Blocks.{Blocks}
 
 -- where the log of each present object begins, the first one at a place
 abbrev pub starts_of : ℕ → List ℕ → List ℕ
 starts_of start lengths = map (λ rank. start + sum (take rank lengths)) (range_with_len 0 (length lengths))
 
--- the view of these parts, of which the tree tells its bits
-abbrev pub view_of : Frame → ℕ → ℕ → List Bool → List ℕ → Tree → List Bool → List ℕ → List ℕ → SnapshotView
-view_of frame number start present offsets tree lasts perm lengths = record {
+-- the parts of so many objects that are stored: where nothing is stored of blocks, no object is present
+abbrev pub parts_with : ℕ → List Bool → Option (Box Blocks) → PeriodParts
+parts_with objects tree None = record {
+  present = replicate objects false;
+  offsets = [];
+  tree = tree;
+  lasts = [];
+  perm = [];
+  lengths = [];
+}
+parts_with objects tree (Some blocks) = record {
+  present = blocks.value.present;
+  offsets = blocks.value.offsets;
+  tree = tree;
+  lasts = blocks.value.lasts;
+  perm = blocks.value.perm;
+  lengths = blocks.value.lengths;
+}
+
+-- where the logs are stored to begin
+abbrev pub starts_in : Option (Box Blocks) → List ℕ
+starts_in None = []
+starts_in (Some blocks) = blocks.value.starts
+
+-- the view of what is stored, of which the tree tells its bits
+abbrev pub view_of : Frame → ℕ → ℕ → ℕ → Tree → Option (Box Blocks) → SnapshotView
+view_of frame number objects start tree blocks = record {
   frame = frame;
   number = number;
-  objects = length present;
+  objects = objects;
   start = start;
-  parts = record {
-    present = present;
-    offsets = offsets;
-    tree = morton_bits tree.height (codes_of tree);
-    lasts = lasts;
-    perm = perm;
-    lengths = lengths;
-  };
+  parts = parts_with objects (tree_bits tree) blocks;
 }
 
 -- what is stored belongs to the view
 pub record IsStored (view : SnapshotView) (tree : Tree) (starts : List ℕ) : Type 0 where
   pub is : IsSnapshot view
-  pub tree_is : StandsFor view.frame.height view.frame.base view.parts.tree tree
-  pub permutes : PermutesPlaces view.parts.perm
+  pub tree_is : tree_in view ≡ tree
   pub begin : starts ≡ starts_of view.start view.parts.lengths
+
+-- what is stored of the view's blocks
+pub record AreBlocksOf (view : SnapshotView) (blocks : Blocks) : Type 0 where
+  pub present : blocks.present ≡ view.parts.present
+  pub offsets : blocks.offsets ≡ view.parts.offsets
+  pub lasts : blocks.lasts ≡ view.parts.lasts
+  pub perm : blocks.perm ≡ view.parts.perm
+  pub lengths : blocks.lengths ≡ view.parts.lengths
+  pub starts : blocks.starts ≡ starts_of view.start view.parts.lengths

@@ -1,7 +1,7 @@
 -- What a period's snapshot says, on plain lists.
 use Rattle.std.specs.Prelude.{ℕ, ◌+◌, ◌==◌, ◌&&◌, Bool, false, if◌then◌else◌, List, length, map, filter, take, sum}
 use Rattle.std.specs.Prelude.{slice_index, slice_index_or, Option, None, Some}
-use Rattle.std.specs.List.{range_with_len}
+use Rattle.std.specs.List.{filter_map, range_with_len}
 use Rattle.bit_rank.specs.Bits.{rank_of, select_of}
 use Rattle.object_perm.specs.Permutation.{inverse_of}
 use Rattle.track_types.specs.declared.frame.Frame.{Frame}
@@ -55,6 +55,10 @@ present_block view index = block_with view index (rank_in view index) (place_in 
 -- the block of an object, if it has one in the period
 abbrev pub block_of : SnapshotView → ℕ → Option Anchored
 block_of view index = if slice_index_or view.parts.present index false then Some (present_block view index) else None
+
+-- all blocks of the period, by object
+unfoldable pub all_blocks : SnapshotView → List Anchored
+all_blocks view = filter_map (block_of view) (range_with_len 0 view.objects)
 
 -- the block at a place in leaf order
 abbrev pub block_at : SnapshotView → ℕ → Anchored

@@ -1,6 +1,8 @@
 ghost use Rattle.std.specs.Prelude.{◌≡◌};
 ghost use Rattle.snapshots.specs.declared.fault.SnapFault.TheVariants.{Memory};
 
+use std::error::Error;
+use std::fmt::{self, Display, Formatter, Write};
 use track_types::Flaw;
 
 /// Why parts are not taken as a period's snapshot.
@@ -11,6 +13,21 @@ pub enum SnapFault {
     /// Memory was refused. It may be answered to any parts.
     Memory,
 }
+
+impl Display for SnapFault {
+    fn fmt<W: Write>(&self, f: &mut Formatter<W>) -> fmt::Result {
+        match self {
+            SnapFault::Flaw(flaw) => write!(
+                f,
+                "flawed {:?} of period {} at {}: {:?}",
+                flaw.section, flaw.period, flaw.index, flaw.kind
+            ),
+            SnapFault::Memory => f.write_str("out of memory"),
+        }
+    }
+}
+
+impl Error for SnapFault {}
 
 impl From<track_types::Memory> for SnapFault {
     ghost from_gives = { λ _ fault. fault ≡ Memory };

@@ -7,6 +7,7 @@
 #![tactic(auto)]
 
 mod anchored;
+mod blocks;
 mod checking;
 mod fault;
 mod members;

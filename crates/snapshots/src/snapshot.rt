@@ -1,28 +1,32 @@
 ghost use Rattle.std.specs.Prelude.{◌≡◌, ◌+◌, ◌*◌, ◌<◌, ◌≤◌, ◌^◌, ◌∷◌, false, if◌then◌else◌, length, take, sum, Some, slice_get, slice_index};
-ghost use Rattle.std.specs.Prelude.{None, IfErr, IfOk, OnOk};
-ghost use Rattle.packed_bits.specs.Bits.{ones_of};
-ghost use Rattle.snapshots.specs.View.{block_at, block_of, blocks_in, leaf_at, tree_in, view_with};
-ghost use Rattle.snapshots.specs.Flaws.{flaw_of, IsFaultFor, IsShaped, IsSnapshot};
+ghost use Rattle.std.specs.Prelude.{All, Bool, None, map, IfErr, IfOk, IfSome, OnOk};
+ghost use Rattle.snapshots.specs.View.{all_blocks, block_at, block_of, blocks_in, leaf_at, objects_at, tree_in, view_with};
+ghost use Rattle.snapshots.specs.Flaws.{flaw_of, IsFaultFor, IsShaped};
+ghost use Rattle.snapshots.specs.Sound.{IsBlock, IsSnapshot, IsSound};
+ghost use Rattle.snapshots.specs.Stored.{AreBlocksOf};
 ghost use Rattle.snapshots.specs.Members.{blocks_from, members_left, IsAt};
 ghost use Rattle.snapshots.specs.Objects.{blocks_of, objects_budget, objects_left, objects_of};
-ghost use Rattle.k2_tree.specs.Pruning.{kept_leaves, square_count};
+ghost use Rattle.snapshots.specs.Objects.{passing_blocks, wanted_blocks, WeighSame};
+ghost use Rattle.std.specs.List.Sorted.{IsStrictlyIncreasing};
+ghost use Rattle.k2_tree.specs.Pruning.{kept_leaves, square_count, IsKeptFor};
+ghost use Rattle.track_types.specs.declared.cell.Cell.{Cell};
+ghost use Rattle.bit_rank.specs.Cost.{get_reads, select_reads};
+ghost use Rattle.object_perm.specs.Cost.{at_reads};
+ghost use Rattle.snapshots.specs.Cost.{block_reads, find_reads, first_reads, square_reads};
 ghost use Rattle.snapshots.specs.declared.next.Next.TheVariants.{End, Place};
 
 use crate::anchored::Anchored;
-use crate::checking::{
-    check_perm, check_tree, find_late, flaw, has_cells, indexed, instants_in, starts_of,
-};
+use crate::blocks::Blocks;
+use crate::checking::{check_perm, check_tree, find_late, flaw, has_cells, instants_in};
 use crate::fault::SnapFault;
 use crate::members::Members;
 use crate::objects_in::ObjectsIn;
-use bit_rank::Bits;
 use k2_tree::{K2Tree, Keep};
-use object_perm::Perm;
 use std::alloc::Global;
 use std::marker::Model;
 use std::sync::ledger::Ledger;
 use step_count::Steps;
-use track_types::{Cell, Frame, Kind, List32, PeriodParts, Section};
+use track_types::{Cell, Frame, Kind, PeriodParts, Section};
 
 /// A period of an index: which objects have a block in it, and where each of them stands first.
 ///
@@ -32,28 +36,23 @@ use track_types::{Cell, Frame, Kind, List32, PeriodParts, Section};
 pub struct Snapshot {
     frame: Frame,
     number: u32,
+    objects: u32,
     start: u32,
-    present: Bits,
-    offsets: List32,
     tree: K2Tree,
-    lasts: Bits,
-    perm: Perm,
-    lengths: List32,
-    starts: List32,
+    // An index may have 2^22 periods, most of them without a block: these keep nothing else.
+    blocks: Option<Box<Blocks>>,
 }
 
 impl Model for Snapshot {
     ghost use Rattle.snapshots.specs.View.{SnapshotView};
-    ghost use Rattle.snapshots.specs.Stored.{view_of, IsStored};
+    ghost use Rattle.snapshots.specs.Stored.{starts_in, view_of, IsStored};
 
     ghost Value = { SnapshotView };
 
-    ghost view = { λ s.
-        view_of s.frame s.number s.start s.present s.offsets s.tree s.lasts s.perm s.lengths };
+    ghost view = { λ s. view_of s.frame s.number s.objects s.start s.tree s.blocks };
 
     ghost invariant = { λ s. IsStored
-        (view_of s.frame s.number s.start s.present s.offsets s.tree s.lasts s.perm s.lengths)
-        s.tree s.starts };
+        (view_of s.frame s.number s.objects s.start s.tree s.blocks) s.tree (starts_in s.blocks) };
 }
 
 impl Snapshot {
@@ -83,6 +82,8 @@ impl Snapshot {
             snapshot ≡ view_with frame.now number objects start parts) }
         ensures exact { OnOk result
             (flaw_of (view_with frame.now number objects start parts) ≡ None) }
+        ensures sound { OnOk result
+            (IsSound (view_with frame.now number objects start parts)) }
         ensures flaw { IfErr result (λ fault.
             IsFaultFor (flaw_of (view_with frame.now number objects start parts)) fault) }
     {
@@ -102,20 +103,14 @@ impl Snapshot {
             return Err(flaw(number, Section::Lasts, Kind::Cells, lasts.len()));
         }
         let perm = check_perm(alloc, perm, &lasts, number)?;
-        let present = indexed(alloc, present)?;
-        let lasts = indexed(alloc, lasts)?;
-        let starts = starts_of(alloc, start, lengths.as_slice())?;
+        let blocks = Blocks::store(alloc, present, offsets, lasts, perm, lengths, start)?;
         Ok(Snapshot {
             frame: *frame,
             number,
+            objects,
             start,
-            present,
-            offsets,
             tree,
-            lasts,
-            perm,
-            lengths,
-            starts,
+            blocks,
         })
     }
 
@@ -123,20 +118,22 @@ impl Snapshot {
     /// object is told by its place among all objects, which is below their number.
     ///
     /// It goes from the object to its place among the present ones, by the inverse permutation to
-    /// its place in leaf order, and climbs the tree from its leaf to the cell: at most 52 reads, and
-    /// 41 for each level of the tree. It takes no memory.
+    /// its place in leaf order, and climbs the tree from its leaf to the cell, in at most `find_reads`
+    /// of the tree's height. It takes no memory.
     pub fn find<L: Ledger>(&self, index: u32, steps: &mut Steps<L>) -> Option<Anchored>
         requires { index < self.now.objects }
         ensures value { result ≡ block_of self.now index }
-        ensures cost { steps.new ≤ steps.old + (52 + 41 * self.now.frame.height) }
+        ensures block { IfSome result (IsBlock self.now) }
+        ensures cost { steps.new ≤ steps.old + find_reads self.now.frame.height }
     {
-        if !self.present.get(index, steps) {
+        if !self.is_present(index, steps) {
             return None;
         }
-        let rank = self.present.rank1(index, steps);
-        let place = self.perm.inverse(rank, steps);
-        let leaf = self.lasts.rank1(place, steps);
-        let cell = self.tree.leaf_cell(leaf, steps);
+        let blocks = self.blocks();
+        let rank = blocks.present.rank1(index, steps);
+        let place = blocks.perm.inverse(rank, steps);
+        let leaf = blocks.lasts.rank1(place, steps);
+        let cell = self.tree().leaf_cell(leaf, steps);
         Some(self.block(index, rank, cell))
     }
 
@@ -149,29 +146,41 @@ impl Snapshot {
     }
 
     /// The blocks whose anchors are in the cell of a leaf, by object. The leaf is one of the tree's,
-    /// and the cell is its own. It takes no memory, and its draws read at most 41, and 43 for each
-    /// block.
+    /// and the cell is its own. It takes no memory, and its draws make at most `first_reads`, and
+    /// `block_reads` for each block.
     pub fn members(&self, leaf: u32, cell: Cell) -> Members<'_>
         requires { slice_get (tree_in self.now).cells leaf ≡ Some cell }
         ensures left { result.blocks ≡ blocks_in self.now leaf }
-        ensures budget { result.reads ≡ 41 + 43 * length (blocks_in self.now leaf) }
+        ensures objects { result.blocks ≡ objects_at self.now leaf }
+        ensures order { IsStrictlyIncreasing (map (λ block. block.index) result.blocks) }
+        ensures cell { All (λ block. block.cell ≡ cell) result.blocks }
+        ensures blocks { All (IsBlock self.now) result.blocks }
+        ensures budget { result.reads ≡ first_reads + block_reads * length (blocks_in self.now leaf) }
     {
+        let _ = self.tree(); // says what holds of every snapshot
         Members::new(self, leaf, cell)
     }
 
     /// The blocks whose anchors lie in squares on which `keep` is true, from the whole grid to the
-    /// anchor's cell: by leaf, then by object. It takes no memory, and its draws read at most 52
-    /// for each square with an anchor on which `keep` is true, and 43 for each block.
+    /// anchor's cell: by leaf, then by object. It takes no memory, and its draws make at most
+    /// `square_reads` for each square with an anchor on which `keep` is true, and `block_reads` for
+    /// each block.
     pub fn objects_in<F: Keep>(&self, keep: F) -> ObjectsIn<'_, F>
         ensures left { objects_left F.keeps result
             ≡ blocks_of self.now (kept_leaves (F.keeps keep) (tree_in self.now)) }
         ensures objects { objects_left F.keeps result
             ≡ objects_of self.now (kept_leaves (F.keeps keep) (tree_in self.now)) }
+        ensures blocks { All (IsBlock self.now) (objects_left F.keeps result) }
+        ensures weights { WeighSame
+            (objects_left F.keeps result) (passing_blocks (F.keeps keep) self.now) }
+        ensures wanted { (wanted : Cell → Bool) → IsKeptFor (F.keeps keep) wanted
+            → WeighSame (wanted_blocks wanted (objects_left F.keeps result))
+            (wanted_blocks wanted (all_blocks self.now)) }
         ensures budget { objects_budget F.keeps result
-            ≤ 52 * square_count (F.keeps keep) (tree_in self.now)
-            + 43 * length (objects_left F.keeps result) }
+            ≤ square_reads * square_count (F.keeps keep) (tree_in self.now)
+            + block_reads * length (objects_left F.keeps result) }
     {
-        ObjectsIn::new(self, self.tree.pruned(keep))
+        ObjectsIn::new(self, self.tree().pruned(keep))
     }
 
     // The first place of a leaf in leaf order.
@@ -180,13 +189,13 @@ impl Snapshot {
         ensures within { result < length self.now.parts.perm }
         ensures leaf { leaf_at self.now result ≡ leaf }
         ensures places { blocks_in self.now leaf ≡ blocks_from self.now leaf result }
-        ensures cost { steps.new ≤ steps.old + 41 }
+        ensures cost { steps.new ≤ steps.old + first_reads }
     {
-        let lasts = &self.lasts;
+        let _ = self.tree(); // says what holds of every snapshot
         if leaf == 0 {
             return 0;
         }
-        lasts.select1(leaf, steps) + 1
+        self.blocks().lasts.select1(leaf, steps) + 1
     }
 
     // The block at a place in leaf order, in whose leaf's cell its anchor is.
@@ -199,10 +208,11 @@ impl Snapshot {
         requires within { place < length self.now.parts.perm }
         requires cell { slice_get (tree_in self.now).cells (leaf_at self.now place) ≡ Some cell }
         ensures value { result ≡ block_at self.now place }
-        ensures cost { steps.new ≤ steps.old + 42 }
+        ensures cost { steps.new ≤ steps.old + (at_reads + select_reads) }
     {
-        let rank = self.perm.at(place, steps);
-        let index = self.present.select1(rank + 1, steps);
+        let blocks = self.blocks();
+        let rank = blocks.perm.at(place, steps);
+        let index = blocks.present.select1(rank + 1, steps);
         self.block(index, rank, cell)
     }
 
@@ -214,27 +224,53 @@ impl Snapshot {
         ensures left { blocks_from self.now (leaf_at self.now place) place
             ≡ block_at self.now place ∷ members_left self.now (leaf_at self.now place)
             (if result then End else Place (place + 1)) }
-        ensures cost { steps.new ≤ steps.old + 1 }
+        ensures cost { steps.new ≤ steps.old + get_reads }
     {
-        self.lasts.get(place, steps)
+        self.blocks().lasts.get(place, steps)
     }
 
     // The block of the object at a place among the present ones, whose anchor is in this cell.
     fn block(&self, index: u32, rank: u32, cell: Cell) -> Anchored
-        requires { rank < ones_of self.now.parts.present }
+        requires { rank < length self.now.parts.perm }
         ensures index { result.index ≡ index }
         ensures offset { result.offset ≡ slice_index self.now.parts.offsets rank }
         ensures cell { result.cell ≡ cell }
         ensures from { result.from ≡ self.now.start + sum (take rank self.now.parts.lengths) }
         ensures len { result.len ≡ slice_index self.now.parts.lengths rank }
     {
+        let blocks = self.blocks();
         let rank = rank as usize;
         Anchored {
             index,
-            offset: self.offsets.as_slice()[rank],
+            offset: blocks.offsets.as_slice()[rank],
             cell,
-            from: self.starts.as_slice()[rank],
-            len: self.lengths.as_slice()[rank],
+            from: blocks.starts.as_slice()[rank],
+            len: blocks.lengths.as_slice()[rank],
+        }
+    }
+
+    // Whether an object has a block.
+    fn is_present<L: Ledger>(&self, index: u32, steps: &mut Steps<L>) -> bool
+        requires { index < self.now.objects }
+        ensures value { slice_get self.now.parts.present index ≡ Some result }
+        ensures snapshot { IsSnapshot self.now }
+        ensures cost { steps.new ≤ steps.old + get_reads }
+    {
+        match &self.blocks {
+            Some(blocks) => blocks.present.get(index, steps),
+            None => false,
+        }
+    }
+
+    // What is stored of the blocks of a period that has one.
+    fn blocks(&self) -> &Blocks
+        requires { 0 < length self.now.parts.perm }
+        ensures blocks { AreBlocksOf self.now result.now }
+        ensures snapshot { IsSnapshot self.now }
+    {
+        match &self.blocks {
+            Some(blocks) => blocks,
+            None => unreachable!(),
         }
     }
 }

@@ -1,31 +1,35 @@
-ghost use Rattle.std.specs.Prelude.{◌≡◌, ◌≤◌, length, sum, IfOk};
-ghost use Rattle.packed_bits.specs.Bits.{number_of, ones_of, packed};
+ghost use Rattle.std.specs.Prelude.{◌≡◌, ◌<◌, sum, IfOk, IfSome};
 
-use super::{Anchored, SnapFault, Snapshot};
-use std::alloc::Global;
+use crate::checking::indexed;
+use crate::{Anchored, SnapFault, Snapshot};
+use std::alloc::{AllocError, Global};
+use std::marker::Brand;
+use std::mem::size_of;
+use std::process::Abort;
+use std::sync::ledger::{Blank, Ledger};
 use std::test::Fail;
-use track_types::{BitList, Cell, Flaw, Frame, Kind, List32, Memory, PeriodParts, Section};
+use step_count::Steps;
+use track_types::{
+    BitList, Cell, Flaw, Frame, Kind, Lazy, List32, Memory, PeriodParts, Section, drawn,
+};
 
-mod finding;
 mod touching;
-mod turned;
-mod walks;
 
-const O: bool = false;
+use touching::Touching;
 
-const I: bool = true;
+// The header of an index of one period of four instants, with a grid of side 4 from (0, 0).
+const ONE_PERIOD: Frame = Frame {
+    first: 0,
+    span: 4,
+    period: 4,
+    height: 2,
+    base: Cell { x: 0, y: 0 },
+    cell: 1,
+    tick: 1,
+};
 
-// The bits of (0, 0) and (1, 1) in a grid of side 4.
-const TWO_CELLS: [bool; 8] = [I, O, O, O, I, O, O, I];
-
-// Those of (0, 0) alone.
-const ONE_CELL: [bool; 8] = [I, O, O, O, I, O, O, O];
-
-// Those of a square in which no cell is, which are no tree's.
-const NO_CELL: [bool; 8] = [I, O, O, O, O, O, O, O];
-
-// A grid of side 4 far from (0, 0), and instants of which the second period has two.
-const FRAME: Frame = Frame {
+// That of an index whose second period has two instants, with a grid far from (0, 0).
+const TWO_PERIODS: Frame = Frame {
     first: 0,
     span: 6,
     period: 4,
@@ -35,233 +39,311 @@ const FRAME: Frame = Frame {
     tick: 1,
 };
 
-// The period of all tests, and where its logs begin.
-const NUMBER: u32 = 1;
+// Two objects at (0, 0) and (1, 1), the second one from the fourth instant on.
+const TWO: [&str; 6] = ["11", "0 3", "1000 1001", "11", "0 1", "3 0"];
 
-const START: u32 = 5;
+// The same from the second instant on; of three objects, of which the second one is absent; and both
+// in one cell.
+const NEAR: [&str; 6] = ["11", "0 1", "1000 1001", "11", "0 1", "3 0"];
 
-// The block of the first present object, which is at the base.
-const FIRST: Anchored = Anchored {
-    index: 0,
-    offset: 0,
-    cell: Cell { x: 10, y: -20 },
-    from: 5,
-    len: 3,
-};
+const OUTER: [&str; 6] = ["101", "0 1", "1000 1001", "11", "0 1", "3 0"];
 
-// That of the second one, at (1, 1) from the base, from the second instant on.
-const SECOND: Anchored = Anchored {
-    index: 1,
-    offset: 1,
-    cell: Cell { x: 11, y: -19 },
-    from: 8,
-    len: 0,
-};
+const BOTH: [&str; 6] = ["11", "0 1", "1000 1000", "01", "0 1", "3 0"];
 
-// The number that the bits spell, the first one lowest.
-#[cycle(word)]
-fn word_of(bits: &[bool]) -> u64
-    requires { length bits.now ≤ 32 }
-    ensures { result ≡ number_of bits.now }
+// Four objects, of which the second one is absent and none stands at its own place in leaf order: the
+// last one alone at (2, 1), and the two others at (3, 2).
+const TURNED: [&str; 6] = ["1011", "1 0 1", "0101 0010 0100", "101", "2 0 1", "2 0 1"];
+
+// No object has a block.
+const EMPTY: [&str; 6] = ["00", "", "", "", "", ""];
+
+// Bits as digits, between spaces.
+fn bits_of(alloc: Global, digits: &str) -> Result<Vec<bool>, AllocError> {
+    digits
+        .bytes()
+        .filter(|digit| *digit != b' ')
+        .map(|digit| digit == b'1')
+        .collect(alloc)
+}
+
+// Numbers between spaces.
+fn numbers_of(alloc: Global, words: &str) -> Result<Vec<u32>, AllocError> {
+    words
+        .split(' ')
+        .filter(|word| !word.is_empty())
+        .map(|word| word.parse::<u32>().unwrap_or(0))
+        .collect(alloc)
+}
+
+// The numbers added up, where they are not too great for that.
+fn total_of(numbers: &[u32]) -> Option<u32>
+    ensures { IfSome result (λ total. total ≡ sum numbers.now) }
 {
-    match bits.split_first() {
-        Some((bit, rest)) => 2 * word_of(rest) + u64::from(*bit),
-        None => 0,
+    let mut total = 0u32;
+    for number in numbers {
+        total = total.checked_add(*number)?;
     }
+    Some(total)
 }
 
-// The words that hold the bits.
-fn words_of(alloc: Global, bits: &[bool]) -> Result<Vec<u64>, Memory>
-    requires { length bits.now ≤ 32 }
-    ensures { IfOk result (λ words. words.items ≡ packed bits.now) }
-{
-    if bits.is_empty() {
-        return Ok(Vec::new(alloc));
-    }
-    Ok(vec![in alloc; word_of(bits)]?)
-}
-
-// The bits as a list.
-fn bits_of(alloc: Global, bits: &[bool]) -> Result<BitList, Memory>
-    requires { length bits.now ≤ 32 }
-    ensures { IfOk result (λ list. list ≡ bits.now) }
-{
-    Ok(BitList::new(words_of(alloc, bits)?, bits.len() as u32))
-}
-
-// The numbers as a list.
-fn numbers_of(alloc: Global, numbers: &[u32]) -> Result<List32, Memory>
-    ensures { IfOk result (λ list. list ≡ numbers.now) }
-{
-    Ok(List32::new(numbers.to_vec(alloc)?))
-}
-
-// The parts of a period.
-fn parts_of(
-    alloc: Global,
-    present: &[bool],
-    offsets: &[u32],
-    tree: &[bool],
-    lasts: &[bool],
-    perm: &[u32],
-    lengths: &[u32],
-) -> Result<PeriodParts, Memory>
-    requires present { length present.now ≤ 32 }
-    requires tree { length tree.now ≤ 32 }
-    requires lasts { length lasts.now ≤ 32 }
-    ensures { IfOk result (λ parts. parts ≡ record {
-      present = present.now;
-      offsets = offsets.now;
-      tree = tree.now;
-      lasts = lasts.now;
-      perm = perm.now;
-      lengths = lengths.now;
-    }) }
-{
-    Ok(PeriodParts {
-        present: bits_of(alloc, present)?,
-        offsets: numbers_of(alloc, offsets)?,
-        tree: bits_of(alloc, tree)?,
-        lasts: bits_of(alloc, lasts)?,
-        perm: numbers_of(alloc, perm)?,
-        lengths: numbers_of(alloc, lengths)?,
-    })
-}
-
-// What the check makes of such parts.
+// What the check makes of the parts that are spelt so: presence, offsets, tree, lasts, perm and
+// lengths. They are those of the one period, or of the second one, whose logs begin at 5. With the
+// snapshot comes how many objects it has.
 fn checked(
+    rt: &impl Abort,
     alloc: Global,
-    present: &[bool],
-    offsets: &[u32],
-    tree: &[bool],
-    lasts: &[bool],
-    perm: &[u32],
-    lengths: &[u32],
-) -> Result<Snapshot, SnapFault>
-    requires some { 1 ≤ length present.now }
-    requires few { length present.now ≤ 32 }
-    requires tree { length tree.now ≤ 32 }
-    requires count { ones_of present.now ≡ length offsets.now }
-    requires lasts { length lasts.now ≡ length offsets.now }
-    requires perm { length perm.now ≡ length offsets.now }
-    requires lengths { length lengths.now ≡ length offsets.now }
-    requires total { sum lengths.now ≤ 3 }
-    ensures { IfOk result (λ snapshot. snapshot.objects ≡ length present.now) }
+    is_second: bool,
+    spelt: [&str; 6],
+) -> Result<(Snapshot, u32), SnapFault>
+    ensures { IfOk result (λ made. made.1 ≡ made.0.objects) }
 {
-    let parts = parts_of(alloc, present, offsets, tree, lasts, perm, lengths)?;
-    Snapshot::check(alloc, &FRAME, NUMBER, present.len() as u32, START, parts)
+    let [present, offsets, tree, lasts, perm, lengths] = spelt;
+    let present = bits_of(alloc, present).map_err(Memory::from)?;
+    let offsets = numbers_of(alloc, offsets).map_err(Memory::from)?;
+    let tree = bits_of(alloc, tree).map_err(Memory::from)?;
+    let lasts = bits_of(alloc, lasts).map_err(Memory::from)?;
+    let perm = numbers_of(alloc, perm).map_err(Memory::from)?;
+    let lengths = numbers_of(alloc, lengths).map_err(Memory::from)?;
+    let Some(total) = total_of(lengths.as_slice()) else {
+        panic!(rt; "lengths of a test are small");
+    };
+    let list = BitList::pack(alloc, present.as_slice()).map_err(Memory::from)?;
+    let count = indexed(alloc, list)?.ones() as usize;
+    let objects = present.len() as u32;
+    assert!(rt; objects >= 1 && objects <= 32 && tree.len() <= 32 && total <= 32);
+    assert!(rt; offsets.len() == count && lasts.len() == count);
+    assert!(rt; perm.len() == count && lengths.len() == count);
+    let parts = PeriodParts {
+        present: BitList::pack(alloc, present.as_slice()).map_err(Memory::from)?,
+        offsets: List32::new(offsets),
+        tree: BitList::pack(alloc, tree.as_slice()).map_err(Memory::from)?,
+        lasts: BitList::pack(alloc, lasts.as_slice()).map_err(Memory::from)?,
+        perm: List32::new(perm),
+        lengths: List32::new(lengths),
+    };
+    let snapshot = if is_second {
+        Snapshot::check(alloc, &TWO_PERIODS, 1, objects, 5, parts)?
+    } else {
+        Snapshot::check(alloc, &ONE_PERIOD, 0, objects, 0, parts)?
+    };
+    Ok((snapshot, objects))
 }
 
-// The snapshot of two objects, both present, with these cells.
-fn two_objects(alloc: Global, tree: [bool; 8], lasts: [bool; 2]) -> Result<Snapshot, SnapFault>
-    ensures { IfOk result (λ snapshot. snapshot.objects ≡ 2) }
-{
-    checked(
-        alloc,
-        [I, I].as_slice(),
-        [0, 1].as_slice(),
-        tree.as_slice(),
-        lasts.as_slice(),
-        [0, 1].as_slice(),
-        [3, 0].as_slice(),
-    )
-}
-
-// The flaw, where there is one.
-fn flaw_in(checked: Result<Snapshot, SnapFault>) -> Result<Option<Flaw>, SnapFault> {
+// The first flaw of parts, if they have one.
+fn flaw_in(checked: Result<(Snapshot, u32), SnapFault>) -> Result<Option<Flaw>, SnapFault> {
     match checked {
-        Ok(_snapshot) => Ok(None),
+        Ok(_made) => Ok(None),
         Err(SnapFault::Flaw(flaw)) => Ok(Some(flaw)),
         Err(SnapFault::Memory) => Err(SnapFault::Memory),
     }
 }
 
-// The first flaw of such parts of two objects, if they have one.
-fn flaw_of(
-    alloc: Global,
-    offsets: [u32; 2],
-    tree: [bool; 8],
-    lasts: [bool; 2],
-    perm: [u32; 2],
-) -> Result<Option<Flaw>, SnapFault> {
-    flaw_in(checked(
-        alloc,
-        [I, I].as_slice(),
-        offsets.as_slice(),
-        tree.as_slice(),
-        lasts.as_slice(),
-        perm.as_slice(),
-        [3, 0].as_slice(),
-    ))
-}
-
-// The first flaw of parts of two absent objects with a tree.
-fn flaw_without_objects(alloc: Global, tree: &[bool]) -> Result<Option<Flaw>, SnapFault>
-    requires { length tree.now ≤ 32 }
-{
-    let bits = [].as_slice();
-    let numbers = [].as_slice();
-    let present = [O, O].as_slice();
-    flaw_in(checked(alloc, present, numbers, tree, bits, numbers, numbers))
-}
-
-// The first flaw of parts of two present objects without a tree.
-fn flaw_without_tree(alloc: Global) -> Result<Option<Flaw>, SnapFault> {
-    let both = [I, I].as_slice();
-    let numbers = [0, 1].as_slice();
-    flaw_in(checked(alloc, both, numbers, [].as_slice(), both, numbers, numbers))
-}
-
-// A flaw of the period.
-fn at(section: Section, index: u64, kind: Kind) -> Option<Flaw> {
+// A flaw of a period.
+fn at(period: u32, section: Section, index: u64, kind: Kind) -> Option<Flaw> {
     Some(Flaw {
         section,
-        period: NUMBER,
+        period,
         index,
         kind,
     })
 }
 
 #[test]
-fn parts_without_a_flaw_are_taken(rt: HostRuntime) -> Result<(), Fail> {
-    let flaw = flaw_of(rt.alloc(), [0, 1], TWO_CELLS, [I, I], [0, 1])?;
-    assert_eq!(rt; flaw, None);
-    Ok(())
-}
-
-#[test]
 fn parts_are_refused_at_their_first_flaw(rt: HostRuntime) -> Result<(), Fail> {
-    let late = at(Section::Offsets, 1, Kind::Offset);
-    let no_cell = at(Section::Tree, 4, Kind::Tree);
-    let unended = at(Section::Lasts, 2, Kind::Cells);
-    let twice = at(Section::Perm, 1, Kind::Perm);
-    let disorder = at(Section::Perm, 1, Kind::CellOrder);
-    let first_of_all = at(Section::Offsets, 0, Kind::Offset);
-    for (offsets, tree, lasts, perm, flaw) in [
-        ([0, 2], TWO_CELLS, [I, I], [0, 1], late),
-        ([0, 1], NO_CELL, [I, I], [0, 1], no_cell),
-        ([0, 1], TWO_CELLS, [I, O], [0, 1], unended),
-        ([0, 1], TWO_CELLS, [I, I], [0, 0], twice),
-        ([0, 1], ONE_CELL, [O, I], [1, 0], disorder),
-        ([0, 1], NO_CELL, [I, O], [0, 1], no_cell),
-        ([0, 1], TWO_CELLS, [I, O], [0, 0], unended),
-        ([0, 1], ONE_CELL, [O, I], [0, 0], twice),
-        ([2, 2], ONE_CELL, [I, I], [1, 1], first_of_all),
+    let unended = at(0, Section::Lasts, 2, Kind::Cells);
+    let late = at(1, Section::Offsets, 1, Kind::Offset);
+    let no_tree = at(1, Section::Tree, 4, Kind::Tree);
+    let twice = at(1, Section::Perm, 1, Kind::Perm);
+    let disorder = at(1, Section::Perm, 1, Kind::CellOrder);
+    for (is_second, spelt, flaw) in [
+        (false, TWO, None),
+        (false, EMPTY, None),
+        (
+            false,
+            ["11", "0 4", "1000 1001", "11", "0 1", "3 0"],
+            at(0, Section::Offsets, 1, Kind::Offset),
+        ),
+        (
+            false,
+            ["11", "0 3", "1000 1001", "10", "0 1", "3 0"],
+            unended,
+        ),
+        (
+            false,
+            ["00", "", "1000 1001", "", "", ""],
+            at(0, Section::Lasts, 0, Kind::Cells),
+        ),
+        (false, ["11", "0 1", "", "11", "0 1", "3 0"], unended),
+        (true, NEAR, None),
+        (true, ["11", "0 2", "1000 1001", "11", "0 1", "3 0"], late),
+        (
+            true,
+            ["11", "0 1", "1000 0000", "11", "0 1", "3 0"],
+            no_tree,
+        ),
+        (true, ["11", "0 1", "1000 1001", "11", "0 0", "3 0"], twice),
+        (
+            true,
+            ["11", "0 1", "1000 1000", "01", "1 0", "3 0"],
+            disorder,
+        ),
+        (
+            true,
+            ["11", "0 1", "1000 0000", "10", "0 1", "3 0"],
+            no_tree,
+        ),
+        (
+            true,
+            ["11", "0 1", "1000 1001", "10", "0 0", "3 0"],
+            at(1, Section::Lasts, 2, Kind::Cells),
+        ),
+        (true, ["11", "0 1", "1000 1000", "01", "0 0", "3 0"], twice),
+        (
+            true,
+            ["11", "2 2", "1000 1000", "11", "1 1", "3 0"],
+            at(1, Section::Offsets, 0, Kind::Offset),
+        ),
     ] {
-        assert_eq!(rt; flaw_of(rt.alloc(), offsets, tree, lasts, perm)?, flaw);
+        assert_eq!(rt; flaw_in(checked(&rt, rt.alloc(), is_second, spelt))?, flaw);
     }
     Ok(())
 }
 
+// A block in the grid from (0, 0), and one in the far grid.
+fn block(index: u32, offset: u32, x: i64, y: i64, from: u32, len: u32) -> Anchored {
+    let cell = Cell { x, y };
+    Anchored {
+        index,
+        offset,
+        cell,
+        from,
+        len,
+    }
+}
+
+// The block that each object has, asked from the last one on.
+fn found_from_last<L: Ledger>(
+    rt: &HostRuntime,
+    snapshot: &Snapshot,
+    objects: u32,
+    blank: Blank,
+) -> Result<Vec<Option<Anchored>>, Memory>
+    requires all { objects ≡ snapshot.now.objects }
+    requires name { blank.name ≡ L.name }
+    requires parts { blank.parts ≡ L.parts }
+    requires some { 0 < L.parts }
+{
+    let mut steps = Steps::<L>::new(rt, blank);
+    let mut blocks = Vec::new(rt.alloc());
+    for index in (0..objects).rev() {
+        blocks.push(snapshot.find(index, &mut steps))?;
+    }
+    Ok(blocks)
+}
+
 #[test]
-fn objects_and_cells_want_each_other(rt: HostRuntime) -> Result<(), Fail> {
-    let no_object = at(Section::Lasts, 0, Kind::Cells);
-    let no_cell = at(Section::Lasts, 2, Kind::Cells);
-    assert_eq!(rt;
-        flaw_without_objects(rt.alloc(), TWO_CELLS.as_slice())?,
-        no_object
-    );
-    assert_eq!(rt; flaw_without_objects(rt.alloc(), [].as_slice())?, None);
-    assert_eq!(rt; flaw_without_tree(rt.alloc())?, no_cell);
+fn each_object_has_its_block(rt: HostRuntime) -> Result<(), Fail> {
+    let first = Some(block(0, 0, 10, -20, 5, 3));
+    let second = Some(block(1, 1, 11, -19, 8, 0));
+    let third = Some(block(2, 1, 11, -19, 8, 0));
+    let at_base = Some(block(1, 1, 10, -20, 8, 0));
+    let turned = [
+        Some(block(3, 1, 12, -19, 7, 1)),
+        Some(block(2, 0, 13, -18, 7, 0)),
+        None,
+        Some(block(0, 1, 13, -18, 5, 2)),
+    ];
+    let worked = [Some(block(1, 3, 1, 1, 3, 0)), Some(block(0, 0, 0, 0, 0, 3))];
+    for (is_second, spelt, blocks) in [
+        (false, TWO, worked.as_slice()),
+        (false, EMPTY, [None, None].as_slice()),
+        (true, NEAR, [second, first].as_slice()),
+        (true, OUTER, [third, None, first].as_slice()),
+        (true, BOTH, [at_base, first].as_slice()),
+        (true, TURNED, turned.as_slice()),
+    ] {
+        let (snapshot, objects) = checked(&rt, rt.alloc(), is_second, spelt)?;
+        let found = found_from_last::<Brand>(&rt, &snapshot, objects, Blank::new(1))?;
+        assert_eq!(rt; found.as_slice(), blocks);
+    }
+    Ok(())
+}
+
+// What the walks over the blocks of all leaves draw, leaf by leaf, and once more behind each leaf.
+fn drawn_from_leaves<L: Ledger>(
+    rt: &HostRuntime,
+    snapshot: &Snapshot,
+    blank: Blank,
+) -> Result<Vec<Option<Anchored>>, Memory>
+    requires name { blank.name ≡ L.name }
+    requires parts { blank.parts ≡ L.parts }
+    requires some { 0 < L.parts }
+{
+    let mut steps = Steps::<L>::new(rt, blank);
+    let mut blocks = Vec::new(rt.alloc());
+    for leaf in 0..snapshot.tree().leaves() {
+        let cell = snapshot.tree().leaf_cell(leaf, &mut steps);
+        let mut members = snapshot.members(leaf, cell);
+        for block in drawn(&mut members, &mut steps) {
+            blocks.push(Some(block))?;
+        }
+        blocks.push(members.draw(&mut steps))?;
+    }
+    Ok(blocks)
+}
+
+// What a walk over the blocks in squares that a rect touches draws, and once more at its end.
+fn drawn_from_rect<L: Ledger>(
+    rt: &HostRuntime,
+    snapshot: &Snapshot,
+    touching: Touching,
+    blank: Blank,
+) -> Result<Vec<Option<Anchored>>, Memory>
+    requires name { blank.name ≡ L.name }
+    requires parts { blank.parts ≡ L.parts }
+    requires some { 0 < L.parts }
+{
+    let mut steps = Steps::<L>::new(rt, blank);
+    let mut walk = snapshot.objects_in(touching);
+    let mut blocks = Vec::new(rt.alloc());
+    for block in drawn(&mut walk, &mut steps) {
+        blocks.push(Some(block))?;
+    }
+    blocks.push(walk.draw(&mut steps))?;
+    Ok(blocks)
+}
+
+#[test]
+fn leaves_and_rects_give_blocks_by_object(rt: HostRuntime) -> Result<(), Fail> {
+    let first = Some(block(0, 0, 10, -20, 5, 3));
+    let second = Some(block(1, 1, 11, -19, 8, 0));
+    let at_base = Some(block(1, 1, 10, -20, 8, 0));
+    let alone = Some(block(3, 1, 12, -19, 7, 1));
+    let left = Some(block(0, 1, 13, -18, 5, 2));
+    let right = Some(block(2, 0, 13, -18, 7, 0));
+    for (spelt, blocks) in [
+        (NEAR, [first, None, second, None].as_slice()),
+        (BOTH, [first, at_base, None].as_slice()),
+        (TURNED, [alone, None, left, right, None].as_slice()),
+    ] {
+        let (snapshot, _objects) = checked(&rt, rt.alloc(), true, spelt)?;
+        let found = drawn_from_leaves::<Brand>(&rt, &snapshot, Blank::new(1))?;
+        assert_eq!(rt; found.as_slice(), blocks);
+    }
+    for (spelt, rect, blocks) in [
+        (NEAR, [11, -19, 12, -18], [second, None].as_slice()),
+        (NEAR, [10, -20, 13, -17], [first, second, None].as_slice()),
+        (NEAR, [15, -15, 16, -14], [None].as_slice()),
+        (TURNED, [10, -20, 13, -17], [alone, left, right, None].as_slice()),
+        (TURNED, [12, -19, 12, -19], [alone, None].as_slice()),
+        (TURNED, [13, -18, 13, -18], [left, right, None].as_slice()),
+        (TURNED, [13, -19, 13, -19], [None].as_slice()),
+    ] {
+        let [x1, y1, x2, y2] = rect;
+        let (snapshot, _objects) = checked(&rt, rt.alloc(), true, spelt)?;
+        let touching = Touching::rect(x1, y1, x2, y2);
+        let found = drawn_from_rect::<Brand>(&rt, &snapshot, touching, Blank::new(1))?;
+        assert_eq!(rt; found.as_slice(), blocks);
+    }
     Ok(())
 }

@@ -1,6 +1,7 @@
 ghost use Rattle.std.specs.Prelude.{◌≡◌, ◌^◌, ◌<◌, ◌≤◌, length, map, All, IfOk};
 ghost use Rattle.std.specs.List.Sorted.{IsStrictlyIncreasing};
-ghost use Rattle.k2_tree.specs.Morton.{cell_of, morton_of, IsInGrid};
+ghost use Rattle.k2_tree.specs.Morton.{cell_of, morton_of, IsGrid, IsInGrid};
+ghost use Rattle.track_types.specs.declared.limit.TheConstants.{MAX_HEIGHT};
 
 use super::touching::Touching;
 use super::{BASE, at};
@@ -14,22 +15,24 @@ use std::test::Fail;
 use step_count::Steps;
 use track_types::{Cell, Lazy};
 
-const HEIGHT: u32 = 6;
+// A tree is built of at most so many cells.
+const CELLS: usize = 1 << 16;
 
-// So many cells has the grid.
-const CELLS: u64 = 4096;
-
-// Ascending Morton numbers, about one in so many, by a linear congruential generator with the
-// constants of Knuth's MMIX.
-fn random_codes(alloc: Global, seed: u64, one_in: u64) -> Result<Vec<u64>, AllocError>
-    requires { 1 ≤ one_in }
-    ensures few { IfOk result (λ codes. length codes.items ≤ CELLS) }
-    ensures small { IfOk result (λ codes. All (λ code. code < 4 ^ HEIGHT) codes.items) }
+// Ascending Morton numbers of a grid, about one in so many, by a linear congruential generator with
+// the constants of Knuth's MMIX.
+fn random_codes(alloc: Global, height: u32, seed: u64, one_in: u64) -> Result<Vec<u64>, AllocError>
+    requires low { height ≤ MAX_HEIGHT }
+    requires some { 1 ≤ one_in }
+    ensures few { IfOk result (λ codes. length codes.items ≤ 2 ^ 16) }
+    ensures small { IfOk result (λ codes. All (λ code. code < 4 ^ height) codes.items) }
     ensures ascending { IfOk result (λ codes. IsStrictlyIncreasing codes.items) }
 {
     let mut codes = Vec::new(alloc);
     let mut state = seed;
-    for code in 0..CELLS {
+    for code in 0..1 << (2 * height) {
+        if codes.len() == CELLS {
+            break;
+        }
         state = state
             .wrapping_mul(6_364_136_223_846_793_005)
             .wrapping_add(1_442_695_040_888_963_407);
@@ -41,24 +44,26 @@ fn random_codes(alloc: Global, seed: u64, one_in: u64) -> Result<Vec<u64>, Alloc
 }
 
 // The cells of such numbers.
-fn random_cells(alloc: Global, seed: u64, one_in: u64) -> Result<Vec<Cell>, AllocError>
-    requires { 1 ≤ one_in }
-    ensures few { IfOk result (λ cells. length cells.items ≤ CELLS) }
-    ensures inside { IfOk result (λ cells. All (IsInGrid HEIGHT BASE) cells.items) }
+fn random_cells(alloc: Global, height: u32, seed: u64, one_in: u64) -> Result<Vec<Cell>, AllocError>
+    requires grid { IsGrid height BASE }
+    requires some { 1 ≤ one_in }
+    ensures few { IfOk result (λ cells. length cells.items ≤ 2 ^ 16) }
+    ensures inside { IfOk result (λ cells. All (IsInGrid height BASE) cells.items) }
     ensures ascending { IfOk result (λ cells.
-        IsStrictlyIncreasing (map (morton_of HEIGHT BASE) cells.items)) }
+        IsStrictlyIncreasing (map (morton_of height BASE) cells.items)) }
 {
-    let codes = random_codes(alloc, seed, one_in)?;
-    cells_of(alloc, codes.as_slice())
+    let codes = random_codes(alloc, height, seed, one_in)?;
+    cells_of(alloc, codes.as_slice(), height)
 }
 
 // The cells of the numbers.
-fn cells_of(alloc: Global, codes: &[u64]) -> Result<Vec<Cell>, AllocError>
-    ensures ok { IfOk result (λ cells. cells.items ≡ map (cell_of HEIGHT BASE) codes.now) }
+fn cells_of(alloc: Global, codes: &[u64], height: u32) -> Result<Vec<Cell>, AllocError>
+    requires { IsGrid height BASE }
+    ensures ok { IfOk result (λ cells. cells.items ≡ map (cell_of height BASE) codes.now) }
 {
     codes
         .iter()
-        .map(|code| cell_at(*code, HEIGHT, BASE))
+        .map(|code| cell_at(*code, height, BASE))
         .collect(alloc)
 }
 
@@ -78,6 +83,11 @@ fn leaf_cells_agree<L: Ledger>(
     for leaf in 0..tree.leaves() {
         let cell = tree.leaf_cell(leaf, steps);
         assert_eq!(rt;
+            tree.leaf_of(cell, steps),
+            Some(leaf),
+            "the way back of {leaf}"
+        );
+        assert_eq!(rt;
             Some(cell),
             cells.get(leaf as usize).copied(),
             "leaf {leaf}"
@@ -85,15 +95,16 @@ fn leaf_cells_agree<L: Ledger>(
     }
 }
 
-// At each cell of the grid and of a frame around it.
+// At each cell from one left of the grid and below it up to another, which may lie beyond it.
 fn leaves_of_cells_agree<L: Ledger>(
     rt: &impl Abort,
     tree: &K2Tree,
     cells: &[Cell],
+    far: i64,
     steps: &mut Steps<L>,
 ) {
-    for y in -2..66 {
-        for x in -2..66 {
+    for y in -2..far {
+        for x in -2..far {
             let leaf = tree.leaf_of(at(x, y), steps).map(|leaf| leaf as usize);
             assert_eq!(rt; leaf, place_in(cells, at(x, y)), "at {x} {y}");
         }
@@ -108,7 +119,7 @@ fn walk_agrees<L: Ledger>(
     touching: Touching,
     steps: &mut Steps<L>,
 )
-    requires { All (IsInGrid HEIGHT BASE) cells.now }
+    requires { All (IsInGrid tree.now.height BASE) cells.now }
 {
     let region = touching.region();
     let mut walk = tree.pruned(touching);
@@ -119,19 +130,26 @@ fn walk_agrees<L: Ledger>(
         }
         leaf = leaf.wrapping_add(1);
     }
-    assert_eq!(rt; walk.draw(steps), None, "behind {region:?}");
+    assert_eq!(rt; walk.draw(steps), None, "after {region:?}");
 }
 
 // Over steps of its own, with rects, an inverted and a far one among them, and discs.
-fn all_agree<L: Ledger>(rt: &HostRuntime, tree: &K2Tree, cells: &[Cell], blank: Blank)
+fn all_agree<L: Ledger>(
+    rt: &impl Abort,
+    host: &HostRuntime,
+    tree: &K2Tree,
+    cells: &[Cell],
+    far: i64,
+    blank: Blank,
+)
     requires name { blank.name ≡ L.name }
     requires parts { blank.parts ≡ L.parts }
     requires some { 0 < L.parts }
-    requires inside { All (IsInGrid HEIGHT BASE) cells.now }
+    requires inside { All (IsInGrid tree.now.height BASE) cells.now }
 {
-    let mut steps = Steps::<L>::new(rt, blank);
+    let mut steps = Steps::<L>::new(host, blank);
     leaf_cells_agree(rt, tree, cells, &mut steps);
-    leaves_of_cells_agree(rt, tree, cells, &mut steps);
+    leaves_of_cells_agree(rt, tree, cells, far, &mut steps);
     for touching in [
         Touching::rect(10, -20, 73, 43),
         Touching::rect(20, -5, 45, 9),
@@ -149,11 +167,15 @@ fn all_agree<L: Ledger>(rt: &HostRuntime, tree: &K2Tree, cells: &[Cell], blank: 
 
 #[test]
 fn walks_and_leaves_agree_with_a_plain_list(rt: HostRuntime) -> Result<(), Fail> {
-    for (seed, one_in, least) in [(1, 13, 250), (2026, 4, 900)] {
-        let cells = random_cells(rt.alloc(), seed, one_in)?;
+    for (height, seed, one_in, least, far) in [
+        (6, 1, 13, 250, 66),
+        (6, 2026, 4, 900, 66),
+        (9, 7, 3, CELLS, 2),
+    ] {
+        let cells = random_cells(rt.alloc(), height, seed, one_in)?;
         assert!(rt; least <= cells.len(), "of {one_in}");
-        let tree = K2Tree::build(rt.alloc(), cells.as_slice(), HEIGHT, BASE)?;
-        all_agree::<Brand>(&rt, &tree, cells.as_slice(), Blank::new(1));
+        let tree = K2Tree::build(rt.alloc(), cells.as_slice(), height, BASE)?;
+        all_agree::<Brand>(&rt, &rt, &tree, cells.as_slice(), far, Blank::new(1));
     }
     Ok(())
 }

@@ -1,6 +1,8 @@
-use Rattle.std.proofs.Common.{◌≡◌, ℕ, ◌+◌, ◌*◌, ◌/◌, ◌%◌, arith, sym, ap, subst}
-use Rattle.k2_tree.proofs.ClimbLemmas.{starts, has_one, climbs, arrives_at_top, IsClimb}
+use Rattle.std.proofs.Common.{◌+◌, ◌/◌, arith, sym, subst}
+use Rattle.k2_tree.proofs.ClimbLemmas.{starts, has_one, climbs, arrives_at_top, IsClimb, IsHigher}
 use Rattle.k2_tree.proofs.climb.code_of_leaf.Goals as goal
+use Rattle.k2_tree.proofs.climb.code_of_leaf.Goals.{After-from}
+use Rattle.k2_tree.proofs.climb.code_of_leaf.Given.{Over}
 
 pub overflow_add-square : goal.overflow_add-square
 overflow_add-square g c =
@@ -25,45 +27,29 @@ select1-place-requires-clause-enough g c =
     (has_one c.args.height c.args.bits.now c.args.leaf now.counter now.square now.code now.weight c.requires.tree
     now.invariant.climb (omega arith)).1
 
--- the digit that is added, at its weight
-digit_at : (a b w : ℕ) → a ≡ b → a * w ≡ b * w
-digit_at a b w e = ap (λ z. z * w) e
+-- one level up
+up : (g : Over) (c : After-from g) → IsHigher c.args.height c.args.bits.now c.args.leaf (c.loop.counter + 1)
+    c.select1-place.result c.loop.code c.from.result c.loop.weight
+up g c =
+    let now = c.loop in
+    climbs c.args.height c.args.bits.now c.args.leaf now.counter now.square now.code now.weight
+    c.select1-place.result c.from.result c.requires.tree c.requires.low c.requires.within now.invariant.climb
+    c.loop-test.true c.select1-place.ensures.place c.from.ensures
 
 pub overflow_mul-code : goal.overflow_mul-code
-overflow_mul-code g c =
-    let now = c.loop in
-    let up = climbs c.args.height c.args.bits.now c.args.leaf now.counter now.square now.code now.weight
-    c.select1-place.result c.requires.tree c.requires.low c.requires.within now.invariant.climb (omega arith)
-    c.select1-place.ensures.place in
-    omega (arith, up.0, digit_at c.from.result (c.select1-place.result % 4) now.weight c.from.ensures)
+overflow_mul-code g c = omega (arith, (up g (goal.at.overflow_mul-code g c).After-from).small)
 
 pub overflow_add-code : goal.overflow_add-code
-overflow_add-code g c =
-    let now = c.loop in
-    let up = climbs c.args.height c.args.bits.now c.args.leaf now.counter now.square now.code now.weight
-    c.select1-place.result c.requires.tree c.requires.low c.requires.within now.invariant.climb (omega arith)
-    c.select1-place.ensures.place in
-    omega (arith, up.0, digit_at c.from.result (c.select1-place.result % 4) now.weight c.from.ensures)
+overflow_add-code g c = omega (arith, (up g (goal.at.overflow_add-code g c).After-from).small)
 
 pub overflow_mul-weight : goal.overflow_mul-weight
-overflow_mul-weight g c =
-    let now = c.loop in
-    let up = climbs c.args.height c.args.bits.now c.args.leaf now.counter now.square now.code now.weight
-    c.select1-place.result c.requires.tree c.requires.low c.requires.within now.invariant.climb (omega arith)
-    c.select1-place.ensures.place in
-    omega (arith, up.1)
+overflow_mul-weight g c = omega (arith, (up g (goal.at.overflow_mul-weight g c).After-from).light)
 
 pub loop-preserved : goal.loop-preserved
-loop-preserved g c =
-    let now = c.loop in
-    let up = climbs c.args.height c.args.bits.now c.args.leaf now.counter now.square now.code now.weight
-    c.select1-place.result c.requires.tree c.requires.low c.requires.within now.invariant.climb (omega arith)
-    c.select1-place.ensures.place in
-    record {
-      climb = subst (λ d. IsClimb c.args.height c.args.bits.now c.args.leaf (now.counter + 1)
-          (c.select1-place.result / 4) (now.code + d * now.weight) (now.weight * 4)) (sym c.from.ensures) up.2;
-      cost = omega (arith, now.invariant.cost, c.select1-place.ensures.cost);
-    }
+loop-preserved g c = record {
+  climb = (up g (goal.at.loop-preserved g c).After-from).climb;
+  cost = omega (arith, c.loop.invariant.cost, c.select1-place.ensures.cost);
+}
 
 pub returns-clause-value : goal.returns-clause-value
 returns-clause-value g c =

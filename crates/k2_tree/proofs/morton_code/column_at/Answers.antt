@@ -1,4 +1,4 @@
-use Rattle.std.proofs.Common.{◌-◌, ◌/◌, ◌^◌, arith, ◌∙◌}
+use Rattle.std.proofs.Common.{◌/◌, ◌^◌, arith, ◌∙◌}
 use Rattle.k2_tree.proofs.DigitLemmas.{column_of-down, column_of-small, column_of-whole, column_of-begin}
 use Rattle.k2_tree.proofs.morton_code.column_at.Goals as goal
 
@@ -7,20 +7,18 @@ loop-level-init c = column_of-begin c.args.height (c.args.code / 4 ^ c.args.heig
 
 pub overflow_mul-column : goal.overflow_mul-column
 overflow_mul-column c =
-    let level = c.loop-level.level in
-    let small = column_of-small (c.args.height - level) (c.args.code / 4 ^ level) (omega arith) in
-    omega (arith, c.loop-level.invariant, small)
+    let l = c.loop-level in
+    omega (arith, column_of-small c.args.height l.level c.args.code l.column c.requires l.invariant)
 
 pub overflow_add-column : goal.overflow_add-column
 overflow_add-column c =
-    let level = c.loop-level.level in
-    let small = column_of-small (c.args.height - level) (c.args.code / 4 ^ level) (omega arith) in
-    omega (arith, c.loop-level.invariant, small)
+    let l = c.loop-level in
+    omega (arith, column_of-small c.args.height l.level c.args.code l.column c.requires l.invariant)
 
 pub loop-level-preserved : goal.loop-level-preserved
 loop-level-preserved c =
-    column_of-down c.args.height c.loop-level.level c.args.code c.loop-level.column (omega arith) (omega arith)
-    c.loop-level.invariant
+    let l = c.loop-level in
+    column_of-down c.args.height l.level c.args.code l.column (omega arith) (omega arith) l.invariant
 
 pub returns-clause-value : goal.returns-clause-value
 returns-clause-value c =
@@ -28,6 +26,4 @@ returns-clause-value c =
 
 pub returns-clause-small : goal.returns-clause-small
 returns-clause-small c =
-    let level = c.loop-level.level in
-    let small = column_of-small (c.args.height - level) (c.args.code / 4 ^ level) (omega arith) in
-    omega (arith, c.loop-level.invariant, small)
+    let l = c.loop-level in column_of-small c.args.height l.level c.args.code l.column c.requires l.invariant

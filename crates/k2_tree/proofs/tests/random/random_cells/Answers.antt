@@ -26,13 +26,13 @@ all_ascend height base codes cells e small up =
 
 pub returns-clause-inside : goal.returns-clause-inside
 returns-clause-inside c =
-    IfOk-weaker c.cells_of.result _ _ (λ cells e. all_inside 6 BASE c.as_slice.result.now cells.items e)
+    IfOk-weaker c.cells_of.result _ _ (λ cells e. all_inside c.args.height BASE c.as_slice.result.now cells.items e)
     c.cells_of.ensures.ok
 
 pub returns-clause-ascending : goal.returns-clause-ascending
 returns-clause-ascending c =
-    let small : All (λ code. code < 4 ^ 6) c.as_slice.result.now =
+    let small : All (λ code. code < 4 ^ c.args.height) c.as_slice.result.now =
     rw c.as_slice.ensures.value c.in_ok-codes.ensures.small in
     let up : IsStrictlyIncreasing c.as_slice.result.now = rw c.as_slice.ensures.value c.in_ok-codes.ensures.ascending in
-    IfOk-weaker c.cells_of.result _ _ (λ cells e. all_ascend 6 BASE c.as_slice.result.now cells.items e small up)
+    IfOk-weaker c.cells_of.result _ _ (λ cells e. all_ascend c.args.height BASE c.as_slice.result.now cells.items e small up)
     c.cells_of.ensures.ok

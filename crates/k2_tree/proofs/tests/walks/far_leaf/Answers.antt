@@ -1,4 +1,4 @@
-use Rattle.std.proofs.Common.{◌≡◌, pos, negsuc, List, [], ◌∷◌, ◌++◌, map, refl, sym, ◌∙◌, Option, None, Some, arith}
+use Rattle.std.proofs.Common.{◌≡◌, pos, negsuc, List, [], ◌∷◌, ◌++◌, map, refl, sym, ap, ◌∙◌, Option, None, Some, arith}
 use Rattle.std.specs.Prelude.{option_to_list}
 use Rattle.track_types.specs.Region.{intersects_region}
 use Rattle.track_types.specs.declared.cell.Cell.{Cell}
@@ -8,7 +8,7 @@ use Rattle.k2_tree.specs.Morton.{morton_of, interleaved, cell_of, row_of, column
 use Rattle.k2_tree.specs.TreeBits.{prefixes}
 use Rattle.k2_tree.specs.Squares.{squares_from}
 use Rattle.k2_tree.specs.Tree.{Tree, tree_with}
-use Rattle.k2_tree.specs.Pruning.{numbered, passes, kept_leaves, square_count}
+use Rattle.k2_tree.specs.Pruning.{passes, passes_at, kept_leaves, square_count}
 use Rattle.k2_tree.proofs.tests.walks.far_leaf.Goals as goal
 
 abbrev base : Cell
@@ -22,13 +22,18 @@ far = Rect (pos 15) (negsuc 14) (pos 16) (negsuc 13)
 
 no_leaf : (tree : Tree) (region : Region) → tree ≡ three → region ≡ far
     → kept_leaves (intersects_region region) tree ≡ []
-unfolding numbered passes morton_of interleaved cell_of row_of column_of
+unfolding passes_at passes morton_of interleaved cell_of row_of column_of
 no_leaf tree region t r = rw (t, r) refl
+
+none_of_three : square_count (intersects_region far) three ≡ 0
+unfolding squares_from prefixes morton_of interleaved cell_of row_of column_of
+none_of_three = refl
 
 no_square : (tree : Tree) (region : Region) → tree ≡ three → region ≡ far
     → square_count (intersects_region region) tree ≡ 0
-unfolding squares_from prefixes morton_of interleaved cell_of row_of column_of
-no_square tree region t r = rw (t, r) refl
+no_square tree region t r =
+    ap (λ z. square_count (intersects_region region) z) t
+    ∙ ap (λ z. square_count (intersects_region z) three) r ∙ none_of_three
 
 none_found : {A : Type 0} (found : Option A) (rest : List A) → [] ≡ option_to_list found ++ rest → found ≡ None
 none_found None rest e = refl

@@ -2,7 +2,7 @@ use Rattle.std.proofs.Common.{sym, subst}
 use Rattle.k2_tree.specs.Tree.{tree_of, IsStored}
 use Rattle.k2_tree.specs.Flaws.{StandsFor}
 use Rattle.k2_tree.proofs.FlawedLemmas.{AreNoTree-flawed}
-use Rattle.k2_tree.proofs.CheckedLemmas.{held_bits, IsStored-flawless, StandsFor-stored}
+use Rattle.k2_tree.proofs.CheckedLemmas.{IsStored-flawless, StandsFor-stored}
 use Rattle.k2_tree.proofs.tree.K2Tree.check.Goals as goal
 
 pub returns-in-Some-clause-flaw : goal.returns-in-Some-clause-flaw
@@ -13,20 +13,14 @@ returns-in-Some-clause-flaw c = (
 
 pub invariant_of-result : goal.invariant_of-result
 invariant_of-result c =
-    let same =
-    held_bits c.args.bits c.in-Ok.bits c.into_words.result.items c.len-len.result
-    c.into_words.ensures.value c.len-len.ensures c.in-Ok.ensures.ok in
     let none = sym c.in_default.ensures in
-    subst (IsStored c.args.height c.args.base) (sym same)
+    subst (IsStored c.args.height c.args.base) (sym c.in-Ok.ensures.ok)
     (IsStored-flawless c.args.height c.args.base c.args.bits c.requires.grid c.requires.few none)
 
 pub returns-in-Ok-clause-ok : goal.returns-in-Ok-clause-ok
 returns-in-Ok-clause-ok c =
-    let same =
-    held_bits c.args.bits c.in-Ok.bits c.into_words.result.items c.len-len.result
-    c.into_words.ensures.value c.len-len.ensures c.in-Ok.ensures.ok in
     let none = sym c.in_default.ensures in
     let stored =
     IsStored-flawless c.args.height c.args.base c.args.bits c.requires.grid c.requires.few none in
-    subst (λ bits. StandsFor c.args.height c.args.base c.args.bits (tree_of c.args.height c.args.base bits)) (sym same)
-    (StandsFor-stored c.args.height c.args.base c.args.bits stored)
+    subst (λ bits. StandsFor c.args.height c.args.base c.args.bits (tree_of c.args.height c.args.base bits))
+    (sym c.in-Ok.ensures.ok) (StandsFor-stored c.args.height c.args.base c.args.bits stored)

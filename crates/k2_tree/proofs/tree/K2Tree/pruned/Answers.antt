@@ -1,8 +1,9 @@
 use Rattle.std.proofs.Common.{ap, ◌∙◌}
+use Rattle.std.specs.List.{sum_by}
 use Rattle.k2_tree.specs.Pruned.{walk_budget, walk_left}
 use Rattle.k2_tree.specs.Pruning.{wanted_of}
 use Rattle.k2_tree.specs.SquareWalk.{WalkView}
-use Rattle.k2_tree.proofs.KeptLemmas.{kept_leaves-wanted}
+use Rattle.k2_tree.proofs.KeptLemmas.{kept_leaves-sum, kept_leaves-wanted}
 use Rattle.k2_tree.proofs.PrunedTreeLemmas.{budget_whole, left_whole}
 use Rattle.k2_tree.proofs.tree.K2Tree.pruned.Goals as goal
 
@@ -15,6 +16,15 @@ returns-clause-left g c =
     ap (λ k. walk_left (g.F.Keep.keeps k) c.new-2.result.walk) c.new-2.ensures.keep
     ∙ ap (λ (w : WalkView). walk_left (g.F.Keep.keeps c.args.keep) w) c.new-2.ensures.walk
     ∙ left_whole (g.F.Keep.keeps c.args.keep) c.args.self.now c.new.result facts.is_tree facts.tree facts.pending
+
+pub returns-clause-weights : goal.returns-clause-weights
+returns-clause-weights g c = λ weight.
+    let facts = c.new.ensures in
+    ap (λ k. sum_by weight (walk_left (g.F.Keep.keeps k) c.new-2.result.walk)) c.new-2.ensures.keep
+    ∙ ap (λ (w : WalkView). sum_by weight (walk_left (g.F.Keep.keeps c.args.keep) w)) c.new-2.ensures.walk
+    ∙ ap (sum_by weight)
+    (left_whole (g.F.Keep.keeps c.args.keep) c.args.self.now c.new.result facts.is_tree facts.tree facts.pending)
+    ∙ kept_leaves-sum (g.F.Keep.keeps c.args.keep) c.args.self.now weight
 
 pub returns-clause-budget : goal.returns-clause-budget
 returns-clause-budget g c =

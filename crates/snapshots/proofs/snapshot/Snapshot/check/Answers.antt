@@ -1,10 +1,11 @@
-use Rattle.std.proofs.Common.{◌≡◌, None, ap, sym, subst, ◌∙◌}
+use Rattle.std.proofs.Common.{ap, sym, subst, ◌∙◌}
 use Rattle.std.proofs.lemmas.Result.{err_from_is_err_and}
 use Rattle.snapshots.specs.View.{SnapshotView, view_with}
 use Rattle.snapshots.specs.Flaws.{flaw_of, IsFaultFor}
-use Rattle.snapshots.specs.Stored.{starts_of, IsStored}
-use Rattle.snapshots.proofs.JudgedLemmas.{flaw_of-cells, flaw_of-perm, view_of-parts, IsBegun, IsBegun-found}
+use Rattle.snapshots.specs.Stored.{parts_with}
+use Rattle.snapshots.proofs.JudgedLemmas.{flaw_of-cells, flaw_of-perm, view_of-parts, with_perm, IsBegun, IsBegun-found}
 use Rattle.snapshots.proofs.JudgedLemmas.{IsStored-flawless}
+use Rattle.snapshots.proofs.SoundLemmas.{IsSound-flawless}
 use Rattle.snapshots.proofs.snapshot.Snapshot.check.Goals as goal
 
 pub returns-then-not-has_cells-clause-flaw : goal.returns-then-not-has_cells-clause-flaw
@@ -37,16 +38,30 @@ invariant_of-result c =
     IsBegun-found view c.in_ok-tree.tree c.instants_in.result c.leaves.result c.as_slice.result.now c.has_cells.result
     c.as_slice.ensures c.instants_in.ensures c.in_default.ensures c.in_ok-tree.ensures.exact c.in_ok-tree.ensures.ok
     c.leaves.ensures.value c.has_cells.ensures in
-    let none : flaw_of view ≡ None =
-    flaw_of-perm view c.has_cells.result begun c.if-not-has_cells.false ∙ c.in_ok-perm.ensures.exact in
-    let begin : c.in_ok-starts.starts ≡ starts_of view.start view.parts.lengths =
-    c.in_ok-starts.ensures ∙ ap (starts_of view.start) c.as_slice-2.ensures in
-    let same =
-    view_of-parts view c.in_ok-present.present c.in_ok-lasts.lasts c.in_ok-perm.perm c.in_ok-tree.tree
-    c.in_ok-tree.ensures.ok c.requires.presence c.in_ok-present.ensures c.in_ok-lasts.ensures c.in_ok-perm.ensures.ok in
-    subst (λ v. IsStored v c.in_ok-tree.tree c.in_ok-starts.starts) (sym same)
-    (IsStored-flawless view c.in_ok-tree.tree c.in_ok-starts.starts c.requires c.in_ok-tree.ensures.ok none
-    c.in_ok-perm.ensures.permutes begin)
+    let told = ap (λ objects. parts_with objects view.parts.tree c.in_ok-blocks.blocks) (sym c.requires.presence)
+    ∙ c.in_ok-blocks.ensures.parts view.parts.tree
+    ∙ ap (with_perm view.parts) c.in_ok-perm.ensures.ok in
+    let none = flaw_of-perm view c.has_cells.result begun c.if-not-has_cells.false ∙ c.in_ok-perm.ensures.exact in
+    IsStored-flawless view c.in_ok-tree.tree c.in_ok-blocks.blocks c.in_ok-tree.ensures.ok told c.requires none
+    c.in_ok-blocks.ensures.starts
+
+pub returns-clause-ok : goal.returns-clause-ok
+returns-clause-ok c =
+    let view : SnapshotView = view_with c.args.frame.now c.args.number c.args.objects c.args.start c.args.parts in
+    let told = ap (λ objects. parts_with objects view.parts.tree c.in_ok-blocks.blocks) (sym c.requires.presence)
+    ∙ c.in_ok-blocks.ensures.parts view.parts.tree
+    ∙ ap (with_perm view.parts) c.in_ok-perm.ensures.ok in
+    view_of-parts view c.in_ok-tree.tree c.in_ok-blocks.blocks c.in_ok-tree.ensures.ok told
+
+pub returns-clause-sound : goal.returns-clause-sound
+returns-clause-sound c =
+    let view : SnapshotView = view_with c.args.frame.now c.args.number c.args.objects c.args.start c.args.parts in
+    let begun : IsBegun view c.has_cells.result =
+    IsBegun-found view c.in_ok-tree.tree c.instants_in.result c.leaves.result c.as_slice.result.now c.has_cells.result
+    c.as_slice.ensures c.instants_in.ensures c.in_default.ensures c.in_ok-tree.ensures.exact c.in_ok-tree.ensures.ok
+    c.leaves.ensures.value c.has_cells.ensures in
+    IsSound-flawless view c.requires
+    (flaw_of-perm view c.has_cells.result begun c.if-not-has_cells.false ∙ c.in_ok-perm.ensures.exact)
 
 pub returns-clause-exact : goal.returns-clause-exact
 returns-clause-exact c =

@@ -1,6 +1,0 @@
-use Rattle.std.proofs.Common.{◌≡◌, ◌-◌, ◌/◌, ◌^◌}
-use Rattle.k2_tree.specs.Morton.{row_of}
-use Rattle.k2_tree.proofs.morton_code.row_at.Given as goal
-
-abbrev pub invariant-loop-level : goal.invariant-loop-level
-invariant-loop-level l = l.row ≡ row_of (l.height - l.level) (l.code / 4 ^ l.level)

@@ -1,0 +1,71 @@
+ghost use Rattle.std.specs.Prelude.{◌≡◌, ◌+◌, ◌^◌, ◌≤◌, Bool, List, length, sum, IfOk};
+ghost use Rattle.packed_bits.specs.Bits.{ones_of};
+ghost use Rattle.snapshots.specs.Stored.{parts_with, starts_in, starts_of};
+
+use crate::checking::{indexed, starts_of};
+use bit_rank::Bits;
+use object_perm::Perm;
+use std::alloc::Global;
+use track_types::{BitList, List32, Memory};
+
+/// What is stored of a period's blocks: its parts but for the tree, and where each log begins.
+#[derive(Drop)]
+pub struct Blocks {
+    /// For each object whether it has a block.
+    pub present: Bits,
+    /// By object: how many instants each anchor is behind the period's first.
+    pub offsets: List32,
+    /// In leaf order: whether the object is the last of its cell.
+    pub lasts: Bits,
+    /// In leaf order: the object's place among the present ones.
+    pub perm: Perm,
+    /// By object: how many symbols each log has.
+    pub lengths: List32,
+    /// By object: where each log begins.
+    pub starts: List32,
+}
+
+impl Blocks {
+    /// Stores the blocks of these parts, whose logs begin at `start`, and nothing where no object is
+    /// present: most periods of an index may have no block. The start and all lengths add up to at
+    /// most 2^25.
+    pub fn store(
+        alloc: Global,
+        present: BitList,
+        offsets: List32,
+        lasts: BitList,
+        perm: Perm,
+        lengths: List32,
+        start: u32,
+    ) -> Result<Option<Box<Blocks>>, Memory>
+        requires offsets { length offsets ≡ ones_of present }
+        requires lasts { length lasts ≡ ones_of present }
+        requires perm { length perm ≡ ones_of present }
+        requires lengths { length lengths ≡ ones_of present }
+        requires total { start + sum lengths ≤ 2 ^ 25 }
+        ensures parts { IfOk result (λ blocks. (tree : List Bool)
+            → parts_with (length present) tree blocks ≡ record {
+              present = present;
+              offsets = offsets;
+              tree = tree;
+              lasts = lasts;
+              perm = perm;
+              lengths = lengths;
+            }) }
+        ensures starts { IfOk result (λ blocks. starts_in blocks ≡ starts_of start lengths) }
+    {
+        if offsets.as_slice().is_empty() {
+            return Ok(None);
+        }
+        let starts = starts_of(alloc, start, lengths.as_slice())?;
+        let blocks = Blocks {
+            present: indexed(alloc, present)?,
+            offsets,
+            lasts: indexed(alloc, lasts)?,
+            perm,
+            lengths,
+            starts,
+        };
+        Ok(Some(Box::new(alloc, blocks)?))
+    }
+}
