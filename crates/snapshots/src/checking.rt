@@ -132,8 +132,7 @@ pub fn check_perm(
 pub fn indexed(alloc: Global, list: BitList) -> Result<Bits, Memory>
     ensures { IfOk result (λ bits. bits ≡ list) }
 {
-    let len = list.len();
-    match Bits::from_words(alloc, list.into_words(), len) {
+    match Bits::from_list(alloc, list) {
         Ok(bits) => Ok(bits),
         Err(NoRoom) => Err(Memory),
     }
