@@ -111,12 +111,9 @@ turns_before squares old new is =
     ap (turns_in old.tree) is.pending ∙ sum_by-append (weight_in (λ square. 1) old.tree) squares new.pending
     ∙ ap (λ (t : Tree). turns_in old.tree squares + turns_in t new.pending) (sym is.tree)
 
-one_budget : (keep : CellBox → Bool) (tree : Tree) (square : Node)
-    → budget_in keep tree (square ∷ []) ≡ weight_in (reads_of (on_areas keep tree)) tree square
-one_budget keep tree square = sum_by-cons (weight_in (reads_of (on_areas keep tree)) tree) square [] ∙ omega arith
-
-one_turn : (tree : Tree) (square : Node) → turns_in tree (square ∷ []) ≡ weight_in (λ square. 1) tree square
-one_turn tree square = sum_by-cons (weight_in (λ square. 1) tree) square [] ∙ omega arith
+one_weight : (weight : Node → ℕ) (tree : Tree) (square : Node)
+    → sum_by (weight_in weight tree) (square ∷ []) ≡ weight_in weight tree square
+one_weight weight tree square = sum_by-cons (weight_in weight tree) square [] ∙ omega arith
 
 -- a square that fails is skipped with all that is in it
 pub record IsSkipped (keep : CellBox → Bool) (old new : WalkView) : Type 0 where
@@ -134,7 +131,7 @@ skipped keep old new square is fails =
       left = sym (left_before keep (square ∷ []) old new is
           ∙ ap (λ codes. map (leaf_of old.tree) (codes ++ []) ++ walk_left keep new) none);
       budget = omega (arith, budget_before keep (square ∷ []) old new is);
-      fewer = omega (arith, turns_before (square ∷ []) old new is, one_turn old.tree square, least);
+      fewer = omega (arith, turns_before (square ∷ []) old new is, one_weight (λ square. 1) old.tree square, least);
     }
 
 -- a cell that passes is found
@@ -187,23 +184,27 @@ given_way keep old mid new square first rest some holds =
         arith,
         budget_before keep below new mid rest,
         budget_before keep (square ∷ []) old mid first,
-        one_budget keep old.tree square,
+        one_weight (reads_of (on_areas keep old.tree)) old.tree square,
         reads,
       );
       fewer = omega (
         arith,
         turns_before below new mid rest,
         turns_before (square ∷ []) old mid first,
-        one_turn old.tree square,
+        one_weight (λ square. 1) old.tree square,
         turns,
       );
     }
 
 -- what a test says of a square's area it says of the square
-pub test_told : {F : Type 0} (keeps : F → CellBox → Bool) (keep first : F) (result b : Bool)
-    (square : Square) (tree : Tree)
-    → keep ≡ first → result ≡ keeps keep (area_of square) → square.base ≡ tree.base → result ≡ b
-    → on_areas (keeps first) tree (node_of square) ≡ b
-test_told keeps keep first result b square tree same told base answer =
+pub test_told : {F : Type 0} (keeps : F → CellBox → Bool) (keep first : F) (result : Bool) (square : Square)
+    (tree : Tree) → keep ≡ first → result ≡ keeps keep (area_of square) → square.base ≡ tree.base
+    → on_areas (keeps first) tree (node_of square) ≡ result
+test_told keeps keep first result square tree same told base =
     ap (λ (c : Cell). keeps first (area_at c (node_of square))) (sym base)
-    ∙ ap (λ k. keeps k (area_of square)) (sym same) ∙ sym told ∙ answer
+    ∙ ap (λ k. keeps k (area_of square)) (sym same) ∙ sym told
+
+-- a square is visited, and the test says so much of it
+pub record IsVisited (keep : CellBox → Bool) (old new : WalkView) (square : Node) (answer : Bool) : Type 0 where
+  pub before : IsBefore (square ∷ []) old new
+  pub told : on_areas keep old.tree square ≡ answer

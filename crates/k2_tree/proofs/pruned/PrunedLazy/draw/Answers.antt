@@ -1,35 +1,47 @@
-use Rattle.std.proofs.Common.{◌≡◌, ◌≤◌, ◌∷◌, [], true, false, refl, sym, ap, ◌∙◌, arith, subst}
+use Rattle.std.proofs.Common.{◌≡◌, ◌∷◌, refl, sym, ap, ◌∙◌, arith, subst}
 use Rattle.std.proofs.lemmas.Bool.{false≢true}
 use Rattle.k2_tree.specs.Pruned.{walk_left}
 use Rattle.k2_tree.specs.Tree.{Tree}
 use Rattle.k2_tree.specs.Pruning.{leaf_of, IsLeafOf}
 use Rattle.k2_tree.specs.TreeSquares.{level_of, node_of, prefix_of}
-use Rattle.k2_tree.proofs.PrunedLemmas.{IsBefore, given_way, skipped, test_told, yielded}
+use Rattle.k2_tree.proofs.PrunedLemmas.{given_way, skipped, test_told, yielded, IsGivenWay, IsVisited}
 use Rattle.k2_tree.proofs.pruned.PrunedLazy.draw.Goals as goal
+use Rattle.k2_tree.proofs.pruned.PrunedLazy.draw.Given.{Over}
+use Rattle.k2_tree.proofs.pruned.PrunedLazy.draw.Goals.{After-passes, After-open}
+
+-- the square that is visited, and what the test says of it
+visited : (g : Over) (c : After-passes g)
+    → IsVisited (g.F.Keep.keeps c.args.self.now.keep) c.loop-square.self.walk c.next_square.new.self
+    (node_of c.in-Some.square) c.passes.result
+visited g c = record {
+  before = record { tree = c.in-Some.ensures.tree; pending = c.in-Some.ensures.pending };
+  told = test_told g.F.Keep.keeps c.loop-square.self.keep c.args.self.now.keep c.passes.result c.in-Some.square
+      c.loop-square.self.walk.tree c.loop-square.invariant.0 c.passes.ensures c.in-Some.ensures.of.base;
+}
+
+-- one that passes, and is no cell, gives way to its children
+gives_way : (g : Over) (c : After-open g)
+    → IsVisited (g.F.Keep.keeps c.args.self.now.keep) c.loop-square.self.walk c.next_square.new.self
+    (node_of c.in-Some.square) c.passes.result
+    → IsGivenWay (g.F.Keep.keeps c.args.self.now.keep) c.loop-square.self.walk c.open.new.self
+gives_way g c visited =
+    let above : level_of c.in-Some.square ≡ 0 → ⊥ = λ e. false≢true (c.if-is_leaf.ensures.1 e) in
+    given_way (g.F.Keep.keeps c.args.self.now.keep) c.loop-square.self.walk c.next_square.new.self c.open.new.self
+    (node_of c.in-Some.square) visited.before
+    (record { tree = sym c.open.ensures.tree; pending = c.open.ensures.pending }) (omega arith)
+    (visited.told ∙ c.if-not-passes.false)
 
 pub loop-square-smaller-then-not-passes : goal.loop-square-smaller-then-not-passes
 loop-square-smaller-then-not-passes g c =
-    let now = c.loop-square.self in
-    let keeps = g.F.Keep.keeps c.args.self.now.keep in
-    let mid = c.next_square.new.self in
-    let s = c.in-Some.square in
-    let next : IsBefore (node_of s ∷ []) now.walk mid =
-    record { tree = c.in-Some.ensures.tree; pending = c.in-Some.ensures.pending } in
-    let test = test_told g.F.Keep.keeps now.keep c.args.self.now.keep c.passes.result false s now.walk.tree
-    c.loop-square.invariant.0 c.passes.ensures c.in-Some.ensures.of.base c.if-not-passes.true in
-    (skipped keeps now.walk mid (node_of s) next test).fewer
+    let visit = visited g (goal.at.loop-square-smaller-then-not-passes g c).After-passes in
+    (skipped (g.F.Keep.keeps c.args.self.now.keep) c.loop-square.self.walk c.next_square.new.self
+    (node_of c.in-Some.square) visit.before (visit.told ∙ c.if-not-passes.true)).fewer
 
 pub loop-square-preserved-then-not-passes : goal.loop-square-preserved-then-not-passes
 loop-square-preserved-then-not-passes g c =
-    let now = c.loop-square.self in
-    let keeps = g.F.Keep.keeps c.args.self.now.keep in
-    let mid = c.next_square.new.self in
-    let s = c.in-Some.square in
-    let next : IsBefore (node_of s ∷ []) now.walk mid =
-    record { tree = c.in-Some.ensures.tree; pending = c.in-Some.ensures.pending } in
-    let test = test_told g.F.Keep.keeps now.keep c.args.self.now.keep c.passes.result false s now.walk.tree
-    c.loop-square.invariant.0 c.passes.ensures c.in-Some.ensures.of.base c.if-not-passes.true in
-    let step = skipped keeps now.walk mid (node_of s) next test in
+    let visit = visited g (goal.at.loop-square-preserved-then-not-passes g c).After-passes in
+    let step = skipped (g.F.Keep.keeps c.args.self.now.keep) c.loop-square.self.walk c.next_square.new.self
+    (node_of c.in-Some.square) visit.before (visit.told ∙ c.if-not-passes.true) in
     let drawing = c.loop-square.invariant.1 in (
       c.loop-square.invariant.0,
       record {
@@ -41,17 +53,13 @@ loop-square-preserved-then-not-passes g c =
 
 pub returns-then-is_leaf-clause-found : goal.returns-then-is_leaf-clause-found
 returns-then-is_leaf-clause-found g c =
-    let now = c.loop-square.self in
     let keeps = g.F.Keep.keeps c.args.self.now.keep in
     let mid = c.next_square.new.self in
-    let s = c.in-Some.square in
-    let next : IsBefore (node_of s ∷ []) now.walk mid =
-    record { tree = c.in-Some.ensures.tree; pending = c.in-Some.ensures.pending } in
-    let test = test_told g.F.Keep.keeps now.keep c.args.self.now.keep c.passes.result true s now.walk.tree
-    c.loop-square.invariant.0 c.passes.ensures c.in-Some.ensures.of.base c.if-not-passes.false in
-    let step = yielded keeps now.walk mid (node_of s) next (c.if-is_leaf.ensures.0 refl) test in
+    let visit = visited g (goal.at.returns-then-is_leaf-clause-found g c).After-passes in
+    let step = yielded keeps c.loop-square.self.walk mid (node_of c.in-Some.square) visit.before
+    (c.if-is_leaf.ensures.0 refl) (visit.told ∙ c.if-not-passes.false) in
     sym c.loop-square.invariant.1.left ∙ step.left
-    ∙ ap (λ (t : Tree). leaf_of t (prefix_of s) ∷ walk_left keeps mid) (sym c.in-Some.ensures.tree)
+    ∙ ap (λ (t : Tree). leaf_of t (prefix_of c.in-Some.square) ∷ walk_left keeps mid) (sym c.in-Some.ensures.tree)
     ∙ ap (λ leaf. leaf ∷ walk_left keeps mid) (sym c.leaf.ensures.value)
     ∙ ap (λ k. c.leaf.result ∷ walk_left (g.F.Keep.keeps k) mid) (sym c.loop-square.invariant.0)
 
@@ -68,33 +76,12 @@ returns-clause-tree g c = c.next_square.ensures.tree ∙ c.loop-square.invariant
 
 pub loop-square-smaller : goal.loop-square-smaller
 loop-square-smaller g c =
-    let now = c.loop-square.self in
-    let keeps = g.F.Keep.keeps c.args.self.now.keep in
-    let mid = c.next_square.new.self in
-    let s = c.in-Some.square in
-    let next : IsBefore (node_of s ∷ []) now.walk mid =
-    record { tree = c.in-Some.ensures.tree; pending = c.in-Some.ensures.pending } in
-    let above : level_of s ≡ 0 → ⊥ = λ e. false≢true (c.if-is_leaf.ensures.1 e) in
-    let inner : 1 ≤ level_of s = omega arith in
-    let test = test_told g.F.Keep.keeps now.keep c.args.self.now.keep c.passes.result true s now.walk.tree
-    c.loop-square.invariant.0 c.passes.ensures c.in-Some.ensures.of.base c.if-not-passes.false in
-    (given_way keeps now.walk mid c.open.new.self (node_of s) next
-    (record { tree = sym c.open.ensures.tree; pending = c.open.ensures.pending }) inner test).fewer
+    let at = goal.at.loop-square-smaller g c in (gives_way g at.After-open (visited g at.After-passes)).fewer
 
 pub loop-square-preserved : goal.loop-square-preserved
 loop-square-preserved g c =
-    let now = c.loop-square.self in
-    let keeps = g.F.Keep.keeps c.args.self.now.keep in
-    let mid = c.next_square.new.self in
-    let s = c.in-Some.square in
-    let next : IsBefore (node_of s ∷ []) now.walk mid =
-    record { tree = c.in-Some.ensures.tree; pending = c.in-Some.ensures.pending } in
-    let above : level_of s ≡ 0 → ⊥ = λ e. false≢true (c.if-is_leaf.ensures.1 e) in
-    let inner : 1 ≤ level_of s = omega arith in
-    let test = test_told g.F.Keep.keeps now.keep c.args.self.now.keep c.passes.result true s now.walk.tree
-    c.loop-square.invariant.0 c.passes.ensures c.in-Some.ensures.of.base c.if-not-passes.false in
-    let step = given_way keeps now.walk mid c.open.new.self (node_of s) next
-    (record { tree = sym c.open.ensures.tree; pending = c.open.ensures.pending }) inner test in
+    let at = goal.at.loop-square-preserved g c in
+    let step = gives_way g at.After-open (visited g at.After-passes) in
     let drawing = c.loop-square.invariant.1 in (
       c.loop-square.invariant.0,
       record {
