@@ -1,0 +1,2 @@
+pub mod OrderedLemmas
+mod Examples

@@ -1,4 +1,5 @@
-ghost use Rattle.std.specs.Prelude.{◌≡◌};
+ghost use Rattle.std.specs.Prelude.{◌≡◌, ◌≤◌, length};
+ghost use Rattle.track_types.specs.FaultText.{limit_name};
 ghost use Rattle.track_types.specs.Limits.{limit_of};
 
 /// The greatest length of a CSV file in bytes, 2^29.
@@ -78,6 +79,24 @@ impl LimitKind {
             LimitKind::Symbols => MAX_SYMBOLS,
             LimitKind::Index => MAX_INDEX,
             LimitKind::Questions => MAX_QUESTIONS,
+        }
+    }
+
+    /// The quantity's name in texts, in lower case.
+    pub fn name(self) -> &'static str
+        ensures value { result.now ≡ limit_name self }
+        ensures short { length result.now ≤ 9 }
+    {
+        match self {
+            LimitKind::Csv => "csv",
+            LimitKind::Rows => "rows",
+            LimitKind::Objects => "objects",
+            LimitKind::Span => "span",
+            LimitKind::Extent => "extent",
+            LimitKind::Blocks => "blocks",
+            LimitKind::Symbols => "symbols",
+            LimitKind::Index => "index",
+            LimitKind::Questions => "questions",
         }
     }
 }
