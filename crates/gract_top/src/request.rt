@@ -125,5 +125,7 @@ fn natural(word: &str, greatest: i64) -> u64
     ensures value { result ≡ natural_value word.now }
     ensures within { (1 ≤ result) × (pos result ≤ℤ greatest) }
 {
-    number_within(word.as_bytes(), 1, greatest).unwrap().unsigned_abs()
+    number_within(word.as_bytes(), 1, greatest)
+        .unwrap()
+        .unsigned_abs()
 }
