@@ -1,5 +1,4 @@
 pub mod Lines
-pub mod Ranges
 pub mod Question
 pub mod Reply
 pub mod Request

@@ -1,6 +1,7 @@
 -- What an outcome tells of what came and what was said.
-use Rattle.std.specs.Prelude.{◌≡◌, ℕ, ◌+◌, ◌^◌, false, List, Option}
+use Rattle.std.specs.Prelude.{◌≡◌, ℕ, ◌+◌, false, List, Option}
 use Rattle.host_ports.specs.FileMap.{FileMap}
+use Rattle.track_types.specs.Limits.{limit_of}
 use Rattle.track_types.specs.declared.limit.LimitKind.TheVariants as limit
 use Rattle.track_types.specs.declared.row.Row.{Row}
 use Rattle.row_reader.specs.Rows.{raws_of}
@@ -16,7 +17,7 @@ abbrev pub Answered : Outcome → List Row → Talk → Talk → Type 0
 Answered outcome.Done rows before now = AnswersAll rows before now
 Answered outcome.ListenFailed rows before now = AnswersWhole rows before now
 Answered outcome.SayFailed rows before now = AnswersFront rows before now
-Answered (outcome.Limit limit.Questions value) rows before now = (value ≡ 2 ^ 32 + 1) × AnswersFirst rows before now
+Answered (outcome.Limit limit.Questions value) rows before now = (value ≡ limit_of limit.Questions + 1) × AnswersFirst rows before now
 Answered other rows before now = now ≡ before
 
 -- An outcome answers over some rows; where a question was listened to and the CSV file is told, they are those of the

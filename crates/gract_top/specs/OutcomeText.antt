@@ -1,7 +1,6 @@
 -- The status and the line that a program ends with.
 use Rattle.std.specs.Prelude.{ℕ, List, [], ◌++◌, codes, decimal}
-use Rattle.track_types.specs.declared.limit.LimitKind.{LimitKind}
-use Rattle.track_types.specs.declared.limit.LimitKind.TheVariants as limit
+use Rattle.track_types.specs.FaultText.{limit_name}
 use Rattle.track_types.specs.declared.raw_row.RowFault.{RowFault}
 use Rattle.track_types.specs.declared.raw_row.RowFault.TheVariants as fault
 use Rattle.gract_top.specs.declared.outcome.Outcome.{Outcome}
@@ -18,18 +17,6 @@ status_of outcome.Empty = 3
 status_of outcome.ListenFailed = 6
 status_of outcome.SayFailed = 6
 status_of outcome.Memory = 7
-
--- the name of a quantity in a text
-abbrev pub limit_name : LimitKind → List ℕ
-limit_name limit.Csv = codes "csv"
-limit_name limit.Rows = codes "rows"
-limit_name limit.Objects = codes "objects"
-limit_name limit.Span = codes "span"
-limit_name limit.Extent = codes "extent"
-limit_name limit.Blocks = codes "blocks"
-limit_name limit.Symbols = codes "symbols"
-limit_name limit.Index = codes "index"
-limit_name limit.Questions = codes "questions"
 
 -- what is wrong with a record: the words before the number of a field or of the fields
 abbrev pub before_field : RowFault → List ℕ

@@ -1,7 +1,8 @@
 -- What the CSV file decides before a question is read.
-use Rattle.std.specs.Prelude.{◌≡◌, ℕ, ◌+◌, ◌^◌, Bool, true, false, nat_lt, if◌then◌else◌, List, [], ◌∷◌, length, Option}
+use Rattle.std.specs.Prelude.{◌≡◌, ℕ, ◌+◌, Bool, true, false, nat_lt, if◌then◌else◌, List, [], ◌∷◌, length, Option}
 use Rattle.std.specs.Prelude.{Some, None}
 use Rattle.host_ports.specs.FileMap.{FileMap, held}
+use Rattle.track_types.specs.Limits.{limit_of}
 use Rattle.track_types.specs.declared.limit.LimitKind.{LimitKind}
 use Rattle.track_types.specs.declared.limit.LimitKind.TheVariants as limit
 use Rattle.track_types.specs.declared.raw_row.RawRow.{RawRow}
@@ -34,10 +35,10 @@ rows_refusal None (first ∷ others) settings =
 
 -- The refusal of a file, or none where it is accepted: it is too long, a record is no row or one row too many, there is
 -- no data record, or a quantity of the chart passes its limit.
-abbrev pub refusal_of : List ℕ → Settings → Option Outcome
-refusal_of bytes settings =
-    if nat_lt (2 ^ 29) (length bytes)
-    then Some (outcome.Limit limit.Csv (2 ^ 29 + 1))
+abbrev pub file_refusal : List ℕ → Settings → Option Outcome
+file_refusal bytes settings =
+    if nat_lt (limit_of limit.Csv) (length bytes)
+    then Some (outcome.Limit limit.Csv (limit_of limit.Csv + 1))
     else rows_refusal (csv_fault bytes) (raws_of bytes) settings
 
 -- an outcome that the bytes of the CSV file decide

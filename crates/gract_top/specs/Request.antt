@@ -1,13 +1,14 @@
 -- What the command words ask for.
-use Rattle.std.specs.Prelude.{◌≡◌, ⊤, ℕ, ◌+◌, ◌^◌, Bool, true, false, if◌then◌else◌, List, [], ◌∷◌, codes, Option, Some}
+use Rattle.std.specs.Prelude.{◌≡◌, ⊤, ℕ, ◌+◌, pos, Bool, true, false, if◌then◌else◌, List, [], ◌∷◌, codes, Option, Some, is_ok}
 use Rattle.std.specs.Prelude.{None, map, slice_index_or}
 use denote.Ref.{Bor}
-use Rattle.std.specs.Option.{is_some}
+use Rattle.std.specs.Int.RustNames.{unsigned_abs}
 use Rattle.std.specs.Str.{bytes_eq}
 use Rattle.gract_top.specs.Lines.{has_byte}
 use Rattle.track_types.specs.Limits.{IsPeriod, IsResolution}
-use Rattle.track_types.specs.Numeral.{numeral_of}
-use Rattle.gract_top.specs.Ranges.{magnitude, natural_within}
+use Rattle.track_types.specs.Bounds.{number_within}
+use Rattle.track_types.specs.declared.limit.TheConstants.{MAX_PERIOD, MAX_RESOLUTION}
+use Rattle.row_reader.specs.Row.{value_of}
 use Rattle.gract_top.specs.declared.request.WordKind.{WordKind}
 use Rattle.gract_top.specs.declared.request.WordKind.TheVariants.{File, Number}
 use Rattle.gract_top.specs.declared.request.Request.{Request}
@@ -17,7 +18,7 @@ use Rattle.gract_top.specs.declared.request.Settings.{Settings}
 -- a file word is any text that is not empty, a number word a numeral in its range
 abbrev pub fits_word : WordKind → List ℕ → Bool
 fits_word File word = has_byte word
-fits_word (Number least greatest) word = is_some (natural_within least greatest word)
+fits_word (Number least greatest) word = is_ok (number_within least greatest word)
 
 -- The place of the first word that does not fit, of the first that is missing, or of the first too many.
 abbrev pub first_bad : List WordKind → List (List ℕ) → ℕ → Option ℕ
@@ -29,11 +30,11 @@ first_bad (kind ∷ kinds) (word ∷ words) place =
 
 -- the words behind `once`: CSV CELL TICK PERIOD
 abbrev pub once_words : List WordKind
-once_words = File ∷ Number 1 (2 ^ 30) ∷ Number 1 (2 ^ 30) ∷ Number 1 (2 ^ 22) ∷ []
+once_words = File ∷ Number (pos 1) (pos MAX_RESOLUTION) ∷ Number (pos 1) (pos MAX_RESOLUTION) ∷ Number (pos 1) (pos MAX_PERIOD) ∷ []
 
 -- the value of a number word that fits
 abbrev pub natural_value : List ℕ → ℕ
-natural_value word = magnitude (numeral_of word)
+natural_value word = unsigned_abs (value_of word)
 
 -- the numbers of the words behind `once`
 abbrev pub settings_of : List (List ℕ) → Settings

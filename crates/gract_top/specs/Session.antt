@@ -1,6 +1,8 @@
 -- What came from a source and what was said for it.
-use Rattle.std.specs.Prelude.{◌≡◌, ℕ, ◌+◌, ◌^◌, ◌≤◌, List, ◌++◌, length, take, Option}
+use Rattle.std.specs.Prelude.{◌≡◌, ℕ, ◌+◌, ◌≤◌, List, ◌++◌, length, take, Option}
 use Rattle.std.specs.Io.KnownBytes.{Appends, Consumes, IsAtEnd}
+use Rattle.track_types.specs.Limits.{limit_of}
+use Rattle.track_types.specs.declared.limit.LimitKind.TheVariants.{Questions}
 use Rattle.track_types.specs.declared.row.Row.{Row}
 use Rattle.gract_top.specs.Lines.{lines_of, unended_line, whole_lines}
 use Rattle.gract_top.specs.LineKept.{LineKept, kept_of}
@@ -38,22 +40,22 @@ pub record AnswersAll (rows : List Row) (before now : Talk) : Type 0 where
   pub bytes : List ℕ
   pub came : Came before now bytes
   pub at_end : IsAtEnd now.rest
-  pub within : length bytes ≤ 2 ^ 32
+  pub within : length bytes ≤ limit_of Questions
   pub said : Appends before.said now.said (replies_of rows (lines_of bytes))
 
 -- What was said is the replies to the whole lines among the bytes that came.
 pub record AnswersWhole (rows : List Row) (before now : Talk) : Type 0 where
   pub bytes : List ℕ
   pub came : Came before now bytes
-  pub within : length bytes ≤ 2 ^ 32
+  pub within : length bytes ≤ limit_of Questions
   pub said : Appends before.said now.said (replies_of rows (whole_lines bytes))
 
 -- One byte more came than question input may have, and what was said is the replies to the whole lines before it.
 pub record AnswersFirst (rows : List Row) (before now : Talk) : Type 0 where
   pub bytes : List ℕ
   pub came : Came before now bytes
-  pub past : length bytes ≡ 2 ^ 32 + 1
-  pub said : Appends before.said now.said (replies_of rows (whole_lines (take (2 ^ 32) bytes)))
+  pub past : length bytes ≡ limit_of Questions + 1
+  pub said : Appends before.said now.said (replies_of rows (whole_lines (take (limit_of Questions) bytes)))
 
 -- What was said is the front of the replies to the bytes that came.
 pub record AnswersFront (rows : List Row) (before now : Talk) : Type 0 where

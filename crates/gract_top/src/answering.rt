@@ -9,7 +9,7 @@ ghost use Rattle.gract_top.specs.Session.{Heard, SaysFront, talk};
 use crate::line_buffer::LineBuffer;
 use crate::reply::reply;
 use host_ports::{Cut, Sink, Source};
-use track_types::Chart;
+use track_types::{Chart, MAX_QUESTIONS};
 
 /// Why the lines of a source were not all answered.
 #[derive(Clone, Copy, Debug, PartialEq, Eq)]
@@ -22,8 +22,8 @@ pub(crate) enum AnswerFault {
     TooLong,
 }
 
-/// How many bytes question input may have, 2^32.
-pub(crate) const LONGEST_INPUT: usize = 0x1_0000_0000;
+/// How many bytes question input may have.
+const LONGEST_INPUT: usize = MAX_QUESTIONS as usize;
 
 /// How many bytes are listened to at a time.
 const PIECE: usize = 4096;

@@ -6,7 +6,7 @@ ghost use Rattle.track_types.specs.Limits.{IsPeriod, IsResolution, limit_of};
 ghost use Rattle.track_types.specs.Near.{IsRawInRange};
 ghost use Rattle.row_reader.specs.Rows.{csv_fault, raws_of};
 ghost use Rattle.gridding.specs.ChartOf.{chart_of};
-ghost use Rattle.gract_top.specs.Refusal.{IsHeld, is_loading, is_refusal, refusal_of};
+ghost use Rattle.gract_top.specs.Refusal.{IsHeld, is_loading, is_refusal, file_refusal};
 ghost use Rattle.gract_top.specs.declared.request.Settings.{Settings};
 
 use crate::loading::{LoadFault, load};
@@ -16,10 +16,7 @@ use gridding::{GridFault, grid};
 use host_ports::Files;
 use row_reader::{RowsFault, read_rows};
 use std::alloc::Global;
-use track_types::{Chart, LimitKind, RawRow};
-
-/// How many bytes a CSV file may have, 2^29.
-const LONGEST_CSV: usize = 0x2000_0000;
+use track_types::{Chart, LimitKind, MAX_CSV, RawRow};
 
 // The chart of the CSV file of that name, or the outcome that it decides.
 pub(crate) fn load_chart<F: Files>(
@@ -32,7 +29,7 @@ pub(crate) fn load_chart<F: Files>(
     requires tick { IsResolution settings.tick }
     requires period { IsPeriod settings.period }
     ensures chart { IfOk result (λ chart. (bytes : List ℕ) →
-        IsHeld (F.map files.old) csv.now bytes → (refusal_of bytes settings ≡ None)
+        IsHeld (F.map files.old) csv.now bytes → (file_refusal bytes settings ≡ None)
         × (chart ≡ chart_of (raws_of bytes) settings.cell settings.tick settings.period)) }
     ensures loading { IfErr result (λ outcome. is_loading outcome ≡ true) }
     ensures load_failed { result ≡ Err Outcome.LoadFailed →
@@ -40,9 +37,9 @@ pub(crate) fn load_chart<F: Files>(
         ⊎ IsMissing (F.map files.old) csv.now }
     ensures missing { IsMissing (F.map files.old) csv.now → result ≡ Err Outcome.LoadFailed }
     ensures refused { IfErr result (λ outcome. is_refusal outcome ≡ true → (bytes : List ℕ) →
-        IsHeld (F.map files.old) csv.now bytes → refusal_of bytes settings ≡ Some outcome) }
+        IsHeld (F.map files.old) csv.now bytes → file_refusal bytes settings ≡ Some outcome) }
     ensures taken { (value : ℕ) → result ≡ Err (Outcome.Limit LimitKind.Csv value) →
-        (value ≡ 2 ^ 29 + 1) × (F.taken files.new ≡ 2 ^ 29 + 1) }
+        (value ≡ limit_of LimitKind.Csv + 1) × (F.taken files.new ≡ limit_of LimitKind.Csv + 1) }
     ensures map { F.map files.new ≡ F.map files.old }
     ensures faults { F.load_faults files.old ≤ F.load_faults files.new }
 {
@@ -61,7 +58,7 @@ pub(crate) fn load_chart<F: Files>(
 // The raw rows of the CSV file of that name.
 fn load_rows<F: Files>(alloc: Global, csv: &str, files: &mut F) -> Result<Vec<RawRow>, Outcome>
     ensures rows { IfOk result (λ rows. (bytes : List ℕ) → IsHeld (F.map files.old) csv.now bytes →
-        (length bytes ≤ 2 ^ 29) × (csv_fault bytes ≡ None) × (rows.items ≡ raws_of bytes)) }
+        (length bytes ≤ limit_of LimitKind.Csv) × (csv_fault bytes ≡ None) × (rows.items ≡ raws_of bytes)) }
     ensures few { IfOk result (λ rows. vec_len rows ≤ limit_of LimitKind.Rows) }
     ensures ranges { IfOk result (λ rows. All IsRawInRange rows.items) }
     ensures loading { IfErr result (λ outcome. is_loading outcome ≡ true) }
@@ -71,13 +68,13 @@ fn load_rows<F: Files>(alloc: Global, csv: &str, files: &mut F) -> Result<Vec<Ra
     ensures missing { IsMissing (F.map files.old) csv.now → result ≡ Err Outcome.LoadFailed }
     ensures refused { IfErr result (λ outcome. is_refusal outcome ≡ true → (bytes : List ℕ) →
         IsHeld (F.map files.old) csv.now bytes → (settings : Settings) →
-        refusal_of bytes settings ≡ Some outcome) }
+        file_refusal bytes settings ≡ Some outcome) }
     ensures taken { (value : ℕ) → result ≡ Err (Outcome.Limit LimitKind.Csv value) →
-        (value ≡ 2 ^ 29 + 1) × (F.taken files.new ≡ 2 ^ 29 + 1) }
+        (value ≡ limit_of LimitKind.Csv + 1) × (F.taken files.new ≡ limit_of LimitKind.Csv + 1) }
     ensures map { F.map files.new ≡ F.map files.old }
     ensures faults { F.load_faults files.old ≤ F.load_faults files.new }
 {
-    let bytes = match load(alloc, files, csv, LONGEST_CSV) {
+    let bytes = match load(alloc, files, csv, MAX_CSV as usize) {
         Ok(bytes) => bytes,
         Err(LoadFault::Failed) => return Err(Outcome::LoadFailed),
         Err(LoadFault::TooLong) => return Err(csv_too_long()),
@@ -95,10 +92,10 @@ fn load_rows<F: Files>(alloc: Global, csv: &str, files: &mut F) -> Result<Vec<Ra
 }
 
 fn csv_too_long() -> Outcome
-    ensures { result ≡ Outcome.Limit LimitKind.Csv (2 ^ 29 + 1) }
+    ensures { result ≡ Outcome.Limit LimitKind.Csv (limit_of LimitKind.Csv + 1) }
 {
     Outcome::Limit {
         kind: LimitKind::Csv,
-        value: LONGEST_CSV as u64 + 1,
+        value: MAX_CSV + 1,
     }
 }

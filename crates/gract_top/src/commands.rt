@@ -1,13 +1,14 @@
 ghost use Rattle.std.specs.Prelude.{◌≡◌, ℕ, ◌+◌, ◌^◌, ◌⊎◌, ◌↔◌, true, false, List, Some};
 ghost use Rattle.host_ports.specs.Faults.{Rose};
 ghost use Rattle.host_ports.specs.FileMap.{IsMissing};
+ghost use Rattle.track_types.specs.Limits.{limit_of};
 ghost use Rattle.gract_top.specs.Outcome.{Answered, Answers};
 ghost use Rattle.gract_top.specs.Refusal.{IsDecided, IsHeld, is_loading, is_refusal, is_unasked};
-ghost use Rattle.gract_top.specs.Refusal.{refusal_of};
+ghost use Rattle.gract_top.specs.Refusal.{file_refusal};
 ghost use Rattle.gract_top.specs.Request.{IsForm, csv_name, request_of, settings_in, texts};
 ghost use Rattle.gract_top.specs.Session.{talk};
 
-use crate::answering::{AnswerFault, LONGEST_INPUT, answer_lines};
+use crate::answering::{AnswerFault, answer_lines};
 use crate::chart_loading::load_chart;
 use crate::outcome::Outcome;
 use crate::request::{Request, read_request};
@@ -15,7 +16,7 @@ use host_ports::{Files, Sink, Source};
 use std::alloc::Global;
 use std::sync::ledger::Ledger;
 use step_count::Steps;
-use track_types::{Chart, LimitKind};
+use track_types::{Chart, LimitKind, MAX_QUESTIONS};
 
 /// Does what the command words ask, and tells how it ended.
 ///
@@ -57,13 +58,13 @@ pub fn gract<F: Files, S: Source, K: Sink, L: Ledger>(
     // What the file's bytes decide is answered, and nothing else is answered for them.
     ensures refused { is_refusal result ≡ true → (bytes : List ℕ) →
         IsHeld (F.map files.old) (csv_name (texts words.now)) bytes →
-        refusal_of bytes (settings_in (texts words.now)) ≡ Some result }
+        file_refusal bytes (settings_in (texts words.now)) ≡ Some result }
     ensures decided { IsForm (texts words.now) → (bytes : List ℕ) →
         IsHeld (F.map files.old) (csv_name (texts words.now)) bytes →
         (result ≡ Outcome.LoadFailed) ⊎ (result ≡ Outcome.Memory)
-        ⊎ IsDecided (refusal_of bytes (settings_in (texts words.now))) result }
+        ⊎ IsDecided (file_refusal bytes (settings_in (texts words.now))) result }
     ensures csv_taken { (value : ℕ) → result ≡ Outcome.Limit LimitKind.Csv value →
-        (value ≡ 2 ^ 29 + 1) × (F.taken files.new ≡ 2 ^ 29 + 1) }
+        (value ≡ limit_of LimitKind.Csv + 1) × (F.taken files.new ≡ value) }
 
     // Nothing was listened to or said before the first question.
     ensures unasked { is_unasked result ≡ true → (source.new ≡ source.old) × (sink.new ≡ sink.old) }
@@ -100,7 +101,7 @@ fn answer<S: Source, K: Sink>(chart: &Chart, source: &mut S, sink: &mut K) -> Ou
         Err(AnswerFault::Say) => Outcome::SayFailed,
         Err(AnswerFault::TooLong) => Outcome::Limit {
             kind: LimitKind::Questions,
-            value: LONGEST_INPUT as u64 + 1,
+            value: MAX_QUESTIONS + 1,
         },
     }
 }

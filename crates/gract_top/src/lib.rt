@@ -14,7 +14,6 @@ mod loading;
 mod outcome;
 mod outcome_text;
 mod question;
-mod ranges;
 mod reply;
 mod request;
 #[cfg(test)]

@@ -1,5 +1,5 @@
 ghost use Rattle.std.specs.Prelude.{◌≡◌, ◌+◌, ◌≤◌, ◌++◌, length};
-ghost use Rattle.gract_top.specs.OutcomeText.{before_field, behind_field, limit_name, status_of};
+ghost use Rattle.gract_top.specs.OutcomeText.{before_field, behind_field, status_of};
 ghost use Rattle.gract_top.specs.OutcomeText.{text_of};
 
 use crate::outcome::Outcome;
@@ -68,27 +68,10 @@ fn limit_text(kind: LimitKind, value: u64) -> ArrayString<160>
 {
     let mut digits = Buffer::new();
     let mut text = plain_text("gract: limit ");
-    text.push_str(kind_name(kind));
+    text.push_str(kind.name());
     text.push_str(" passed at ");
     text.push_str(digits.format(value));
     text
-}
-
-fn kind_name(kind: LimitKind) -> &'static str
-    ensures value { result.now ≡ limit_name kind }
-    ensures short { length result.now ≤ 9 }
-{
-    match kind {
-        LimitKind::Csv => "csv",
-        LimitKind::Rows => "rows",
-        LimitKind::Objects => "objects",
-        LimitKind::Span => "span",
-        LimitKind::Extent => "extent",
-        LimitKind::Blocks => "blocks",
-        LimitKind::Symbols => "symbols",
-        LimitKind::Index => "index",
-        LimitKind::Questions => "questions",
-    }
 }
 
 fn record_text(nth: u64, field: u32, fault: RowFault) -> ArrayString<160>

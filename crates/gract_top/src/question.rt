@@ -1,19 +1,19 @@
-ghost use Rattle.std.specs.Prelude.{◌≡◌, ◌-◌, ◌^◌};
+ghost use Rattle.std.specs.Prelude.{◌≡◌, ◌-◌, ◌^◌, pos, neg_ℤ};
 ghost use Rattle.gract_top.specs.Lines.{words_of};
 ghost use Rattle.gract_top.specs.Question.{position_of, position_words, question_of};
-ghost use Rattle.gract_top.specs.Ranges.{natural_within, whole_within};
+ghost use Rattle.track_types.specs.Bounds.{number_within};
 
-use crate::ranges::{read_natural, read_whole};
 use crate::words::next_word;
+use track_types::number_within;
 
 /// How many bytes a line of questions may have, without its line feed.
 pub(crate) const LONGEST_LINE: usize = 1024;
 
 /// The greatest object number of a question.
-const GREATEST_OBJECT: u64 = 0xffff_ffff;
+const GREATEST_OBJECT: i64 = 0xffff_ffff;
 
 /// The greatest magnitude of an instant of a question, 2^41.
-const GREATEST_INSTANT: u64 = 0x200_0000_0000;
+const GREATEST_INSTANT: i64 = 0x200_0000_0000;
 
 /// What a line asks.
 #[derive(Clone, Copy, Debug, PartialEq, Eq)]
@@ -59,14 +59,14 @@ fn read_position(line: &[u8]) -> Question
 }
 
 fn position(object: &[u8], instant: &[u8]) -> Question
-    ensures { result ≡ position_of (natural_within 0 (2 ^ 32 - 1) object.now)
-        (whole_within (2 ^ 41) instant.now) }
+    ensures { result ≡ position_of (number_within (pos 0) (pos (2 ^ 32 - 1)) object.now)
+        (number_within (neg_ℤ (pos (2 ^ 41))) (pos (2 ^ 41)) instant.now) }
 {
     match (
-        read_natural(object, 0, GREATEST_OBJECT),
-        read_whole(instant, GREATEST_INSTANT),
+        number_within(object, 0, GREATEST_OBJECT),
+        number_within(instant, -GREATEST_INSTANT, GREATEST_INSTANT),
     ) {
-        (Some(object), Some(instant)) => Question::Position {
+        (Ok(object), Ok(instant)) => Question::Position {
             object: object as u32,
             instant,
         },

@@ -1,8 +1,8 @@
-ghost use Rattle.std.specs.Prelude.{◌≡◌, ◌+◌, ◌^◌, ◌≤◌, true, length};
+ghost use Rattle.std.specs.Prelude.{◌≡◌, ◌+◌, ◌^◌, ◌≤◌, ◌≤ℤ◌, pos, true, length};
 ghost use Rattle.gract_top.specs.Request.{AreInRange, first_bad, fits_word, natural_value, once_of};
 ghost use Rattle.gract_top.specs.Request.{request_of, texts};
 
-use crate::ranges::read_natural;
+use track_types::{MAX_PERIOD, MAX_RESOLUTION, number_within};
 
 /// What a command wants at a place.
 #[derive(Clone, Copy, Debug, PartialEq, Eq)]
@@ -10,7 +10,7 @@ pub enum WordKind {
     /// The name of a file: any text that is not empty.
     File,
     /// A numeral whose value is from `least` to `greatest`.
-    Number { least: u64, greatest: u64 },
+    Number { least: i64, greatest: i64 },
 }
 
 /// What the command words ask for.
@@ -33,29 +33,26 @@ pub struct Settings {
     pub period: u32,
 }
 
-/// The greatest CELL, 2^30.
-const GREATEST_CELL: u64 = 0x4000_0000;
+/// The greatest CELL and TICK.
+const RESOLUTION: i64 = MAX_RESOLUTION as i64;
 
-/// The greatest TICK, 2^30.
-const GREATEST_TICK: u64 = 0x4000_0000;
-
-/// The greatest PERIOD, 2^22.
-const GREATEST_PERIOD: u64 = 0x40_0000;
+/// The greatest PERIOD.
+const PERIOD: i64 = MAX_PERIOD as i64;
 
 /// The words behind `once`: CSV CELL TICK PERIOD.
 const ONCE: [WordKind; 4] = [
     WordKind::File,
     WordKind::Number {
         least: 1,
-        greatest: GREATEST_CELL,
+        greatest: RESOLUTION,
     },
     WordKind::Number {
         least: 1,
-        greatest: GREATEST_TICK,
+        greatest: RESOLUTION,
     },
     WordKind::Number {
         least: 1,
-        greatest: GREATEST_PERIOD,
+        greatest: PERIOD,
     },
 ];
 
@@ -84,9 +81,9 @@ fn read_once(words: &[&str]) -> Request
         return Request::Refused { place };
     }
     Request::Once(Settings {
-        cell: natural(words[1], GREATEST_CELL),
-        tick: natural(words[2], GREATEST_TICK),
-        period: natural(words[3], GREATEST_PERIOD) as u32,
+        cell: natural(words[1], RESOLUTION),
+        tick: natural(words[2], RESOLUTION),
+        period: natural(words[3], PERIOD) as u32,
     })
 }
 
@@ -117,16 +114,18 @@ fn fits(kind: WordKind, word: &str) -> bool
     match kind {
         WordKind::File => !word.is_empty(),
         WordKind::Number { least, greatest } => {
-            read_natural(word.as_bytes(), least, greatest).is_some()
+            number_within(word.as_bytes(), least, greatest).is_ok()
         }
     }
 }
 
 // The value of a number word that fits.
-fn natural(word: &str, greatest: u64) -> u64
-    requires { fits_word (WordKind.Number 1 greatest) word.now ≡ true }
+fn natural(word: &str, greatest: i64) -> u64
+    requires { fits_word (WordKind.Number (pos 1) greatest) word.now ≡ true }
     ensures value { result ≡ natural_value word.now }
-    ensures within { (1 ≤ result) × (result ≤ greatest) }
+    ensures within { (1 ≤ result) × (pos result ≤ℤ greatest) }
 {
-    read_natural(word.as_bytes(), 1, greatest).unwrap()
+    number_within(word.as_bytes(), 1, greatest)
+        .unwrap()
+        .unsigned_abs()
 }

@@ -165,10 +165,7 @@ fn a_file_is_refused_for_its_cause(rt: HostRuntime) -> Result<(), Fail> {
     ];
     for (csv, expected) in cases {
         let mut outside = make_outside(rt.alloc(), csv, b"position 7 0\n", 4096)?;
-        assert_eq!(rt;
-            run(&rt, "once t.csv 1 1 1", &mut outside)?,
-            expected
-        );
+        assert_eq!(rt; run(&rt, "once t.csv 1 1 1", &mut outside)?, expected);
         assert_eq!(rt; outside.sink.as_slice(), b"".as_slice());
     }
     Ok(())
@@ -189,10 +186,7 @@ fn the_first_bad_word_is_named(rt: HostRuntime) -> Result<(), Fail> {
     ];
     for (command, place) in cases {
         let mut outside = make_outside(rt.alloc(), PATH, b"position 7 0\n", 4096)?;
-        assert_eq!(rt;
-            run(&rt, command, &mut outside)?,
-            Outcome::Words { place }
-        );
+        assert_eq!(rt; run(&rt, command, &mut outside)?, Outcome::Words { place });
         assert_eq!(rt; outside.sink.as_slice(), b"".as_slice());
     }
     let mut outside = make_outside(rt.alloc(), PATH, b"", 4096)?;
@@ -239,6 +233,28 @@ fn a_failing_device_ends_the_call(rt: HostRuntime) -> Result<(), Fail> {
         run(&rt, "once t.csv 1 1 4", &mut outside)?,
         Outcome::LoadFailed
     );
+    Ok(())
+}
+
+#[test]
+fn a_file_is_loaded_to_its_end_and_no_further(rt: HostRuntime) -> Result<(), Fail> {
+    let alloc = rt.alloc();
+    // Two pieces and more.
+    let mut csv = Vec::from_slice(alloc, b"7,0,10,10\n")?;
+    for _ in 0..4_000u32 {
+        csv.extend_from_slice(b"8,0,10,10\n")?;
+    }
+    csv.extend_from_slice(b"7,2,12,11\n")?;
+    let mut outside = make_outside(alloc, csv.as_slice(), b"position 7 2\n", 4096)?;
+    assert_eq!(rt; run(&rt, "once t.csv 1 1 4", &mut outside)?, Outcome::Done);
+    assert_eq!(rt; outside.sink.as_slice(), b"12 11\nok 1\n".as_slice());
+
+    // The file is begun by call 1, read by call 2, and at its end at call 3.
+    let mut outside = make_outside(alloc, PATH, b"position 7 2\n", 4096)?;
+    outside.files = MemFiles::new(alloc, 0, vec![in alloc; 4]?)?;
+    outside.files.put("t.csv", PATH)?;
+    assert_eq!(rt; run(&rt, "once t.csv 1 1 4", &mut outside)?, Outcome::Done);
+    assert_eq!(rt; outside.sink.as_slice(), b"12 11\nok 1\n".as_slice());
     Ok(())
 }
 

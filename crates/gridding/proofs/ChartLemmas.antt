@@ -1,8 +1,8 @@
 -- What holds of the rows of every chart.
-use Rattle.std.proofs.Common.{◌≡◌, ℕ, ◌+◌, ◌/◌, ◌<◌, ◌≤◌, Bool, true, false, List, [], ◌∷◌, length, map, refl, ◌∙◌, ap, arith}
+use Rattle.std.proofs.Common.{◌≡◌, ℕ, ◌/◌, ◌<◌, ◌≤◌, Bool, true, false, List, [], ◌∷◌, length, map, refl, ◌∙◌, ap, arith}
 use Rattle.std.specs.Prelude.{All, ℤ, pos, negsuc, find, reverse, option_map}
 use Rattle.std.specs.List.{AllByRecursion, list_any}
-use Rattle.std.specs.Ordering.{is_lt}
+use Rattle.std.proofs.lemmas.List.Sorted.{length_permutation}
 use Rattle.std.proofs.Math.Nat.{div-le_self}
 use Rattle.std.proofs.lemmas.Int.{ints}
 use Rattle.std.proofs.lemmas.List.{length-map}
@@ -12,8 +12,10 @@ use Rattle.track_types.specs.Near.{IsNear, IsRawInRange, IsRowInRange}
 use Rattle.track_types.specs.Row.{IsAscending, is_row_of, is_same_place, row_order}
 use Rattle.track_types.specs.declared.raw_row.RawRow.{RawRow}
 use Rattle.track_types.specs.declared.row.Row.{Row}
-use Rattle.gridding.proofs.KeptLemmas.{all-placed, any-kept, any-ordered, ascending-kept, found-chart_rows, place_equiv}
-use Rattle.gridding.specs.ChartOf.{chart_rows, gridded, kept, ordered, placed}
+use Rattle.list_laws.specs.Ordered.{ordered}
+use Rattle.list_laws.proofs.OrderedLemmas.{IsPermutation-ordered, all-ordered, any-ordered}
+use Rattle.gridding.proofs.KeptLemmas.{any-kept, ascending-kept, found-chart_rows, place_equiv}
+use Rattle.gridding.specs.ChartOf.{chart_rows, gridded, kept}
 use Rattle.gridding.specs.Floor.{floor_div}
 
 -- they are in order
@@ -28,7 +30,7 @@ IsNear-floor_div (pos a) d near = let less : a / d ≤ a = div-le_self a d in
 IsNear-floor_div (negsuc a) d near = let less : a / d ≤ a = div-le_self a d in
     record { low = omega (arith, ints, near.low); high = omega (arith, ints) }
 
--- what holds of all rows holds of those that are kept, and of these in order
+-- what holds of all rows holds of those that are kept
 all-kept_at : (P : Row → Type 0) (row : Row) (later : List Row) (again : Bool) → list_any (is_same_place row) later ≡ again → P row →
     AllByRecursion P (kept later) → AllByRecursion P (kept (row ∷ later))
 unfolding kept
@@ -39,17 +41,12 @@ all-kept : (P : Row → Type 0) (rows : List Row) → AllByRecursion P rows → 
 all-kept P [] all = unfold kept in tt
 all-kept P (row ∷ later) all = all-kept_at P row later (list_any (is_same_place row) later) refl all.0 (all-kept P later all.1)
 
-all-ordered : (P : Row → Type 0) (rows : List Row) → AllByRecursion P rows → AllByRecursion P (ordered rows)
-unfolding ordered
-all-ordered P [] all = tt
-all-ordered P (row ∷ rest) all = all-placed P row (ordered rest) all.0 (all-ordered P rest all.1)
-
 -- they are in range
 pub chart_rows-in_range : (raws : List RawRow) (cell tick : ℕ) → All IsRawInRange raws → All IsRowInRange (chart_rows raws cell tick)
 unfolding chart_rows
 chart_rows-in_range raws cell tick near =
     All-from_recursion IsRowInRange (chart_rows raws cell tick)
-    (all-ordered IsRowInRange (kept (map (gridded cell tick) raws))
+    (all-ordered row_order IsRowInRange (kept (map (gridded cell tick) raws))
     (all-kept IsRowInRange (map (gridded cell tick) raws) (gridded_all raws (recursion_from_All IsRawInRange raws near)))) where
       gridded_all : (raws : List RawRow) → AllByRecursion IsRawInRange raws → AllByRecursion IsRowInRange (map (gridded cell tick) raws)
       gridded_all [] all = tt
@@ -59,21 +56,6 @@ chart_rows-in_range raws cell tick near =
       )
 
 -- there are not more than raw rows
-length-placed_at : (row next : Row) (rest : List Row) (before : Bool) → is_lt (row_order next row) ≡ before →
-    length (placed row rest) ≡ length rest + 1 → length (placed row (next ∷ rest)) ≡ length (next ∷ rest) + 1
-unfolding placed
-length-placed_at row next rest true before behind = rw (before) (let n : length (placed row rest) ≡ length rest + 1 = behind in omega arith)
-length-placed_at row next rest false before behind = rw (before) (omega arith)
-
-length-placed : (row : Row) (rows : List Row) → length (placed row rows) ≡ length rows + 1
-length-placed row [] = unfold placed in refl
-length-placed row (next ∷ rest) = length-placed_at row next rest (is_lt (row_order next row)) refl (length-placed row rest)
-
-length-ordered : (rows : List Row) → length (ordered rows) ≡ length rows
-unfolding ordered
-length-ordered [] = refl
-length-ordered (row ∷ rest) = let more = length-placed row (ordered rest) in let rest_alone = length-ordered rest in omega arith
-
 length-kept_at : (row : Row) (later : List Row) (again : Bool) → list_any (is_same_place row) later ≡ again →
     length (kept later) ≤ length later → length (kept (row ∷ later)) ≤ length (row ∷ later)
 unfolding kept
@@ -87,7 +69,9 @@ length-kept (row ∷ later) = length-kept_at row later (list_any (is_same_place 
 pub chart_rows-few : (raws : List RawRow) (cell tick : ℕ) → length (chart_rows raws cell tick) ≤ length raws
 unfolding chart_rows
 chart_rows-few raws cell tick =
-    rw (length-ordered (kept (map (gridded cell tick) raws)), ← length-map raws (gridded cell tick)) (length-kept (map (gridded cell tick) raws))
+    let rows = kept (map (gridded cell tick) raws) in
+    rw (length_permutation rows (ordered row_order rows) (IsPermutation-ordered row_order rows), ← length-map raws (gridded cell tick))
+    (length-kept (map (gridded cell tick) raws))
 
 -- there is one where there is a raw row
 some_from_any : (p : Row → Bool) (rows : List Row) → list_any p rows ≡ true → 0 < length rows
@@ -101,7 +85,7 @@ chart_rows-some (raw ∷ raws) cell tick some =
     let row = gridded cell tick raw in
     let rows = map (gridded cell tick) (raw ∷ raws) in
     let here : list_any (is_same_place row) rows ≡ true = rw (place_equiv.refl row) refl in
-    some_from_any (is_same_place row) (ordered (kept rows)) (any-ordered row (kept rows) ∙ any-kept row rows ∙ here)
+    some_from_any (is_same_place row) (ordered row_order (kept rows)) (any-ordered row_order (is_same_place row) (kept rows) ∙ any-kept row rows ∙ here)
 
 -- the cell of an object at an instant is that of its last raw row in the instant
 pub cell_at-chart_rows : (raws : List RawRow) (cell tick object : ℕ) (instant : ℤ) →

@@ -4,7 +4,8 @@ use Rattle.track_types.specs.Quantities.{anchors_of, distinct, symbol_count}
 use Rattle.track_types.specs.declared.limit.LimitKind.TheVariants.{Span, Extent, Blocks}
 use Rattle.track_types.specs.declared.raw_row.RawRow.{RawRow}
 use Rattle.track_types.specs.declared.row.Row.{Row}
-use Rattle.gridding.specs.ChartOf.{chart_rows, kept, ordered, placed}
+use Rattle.list_laws.specs.Ordered.{ordered, placed}
+use Rattle.gridding.specs.ChartOf.{chart_rows, kept}
 use Rattle.gridding.specs.Floor.{floor_div}
 use Rattle.gridding.specs.GridLimit.{grid_limit}
 

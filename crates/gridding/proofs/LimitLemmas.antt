@@ -1,5 +1,5 @@
 -- Which quantity is refused.
-use Rattle.std.proofs.Common.{◌≡◌, ℕ, ◌^◌, ◌<◌, ◌≤◌, Bool, true, false, [], ◌∷◌, length, arith, Option, Some, None, Result, Ok, Err, refl, sym, subst}
+use Rattle.std.proofs.Common.{◌≡◌, ℕ, ◌<◌, ◌≤◌, Bool, true, false, [], ◌∷◌, length, arith, Option, Some, None, Result, Ok, Err, refl, sym, subst}
 use Rattle.std.specs.Prelude.{All, IfErr, List, find, nat_lt}
 use Rattle.std.proofs.lemmas.Bool.Decides.{nat_tests}
 use Rattle.track_types.specs.Chart.{IsChart, chart_with}
@@ -8,7 +8,7 @@ use Rattle.track_types.specs.Near.{IsRowInRange}
 use Rattle.track_types.specs.Row.{IsAscending}
 use Rattle.track_types.specs.Quantities.{block_count, extent_of, object_count, span_of, symbol_count}
 use Rattle.track_types.specs.declared.limit.LimitKind.{LimitKind}
-use Rattle.track_types.specs.declared.limit.LimitKind.TheVariants.{Objects, Span, Extent, Blocks, Symbols}
+use Rattle.track_types.specs.declared.limit.LimitKind.TheVariants.{Rows, Objects, Span, Extent, Blocks, Symbols}
 use Rattle.track_types.specs.declared.row.Row.{Row}
 use Rattle.gridding.specs.GridLimit.{IsRefusal, first_past, is_past}
 use Rattle.gridding.specs.declared.fault.GridFault.{GridFault}
@@ -40,7 +40,7 @@ within_limit : (limit value : ℕ) → nat_lt limit value ≡ false → value �
 within_limit limit value not_past = grind (arith, nat_tests)
 
 -- rows in order and in range, of which no quantity passes its limit, are those of a chart
-pub chart_with-IsChart : (rows : List Row) (cell tick period : ℕ) → 0 < length rows → length rows ≤ 2 ^ 24 → IsAscending rows → All IsRowInRange rows →
+pub chart_with-IsChart : (rows : List Row) (cell tick period : ℕ) → 0 < length rows → length rows ≤ limit_of Rows → IsAscending rows → All IsRowInRange rows →
     IsResolution cell → IsResolution tick → IsPeriod period → first_past rows period ≡ None → IsChart (chart_with rows cell tick period)
 chart_with-IsChart rows cell tick period some few up in_range is_cell is_tick is_period none =
     let behind_blocks = (Symbols, symbol_count rows period) ∷ [] in

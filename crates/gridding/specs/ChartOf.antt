@@ -1,7 +1,7 @@
 -- The chart of raw rows: each raw row is judged by looking at all later ones.
 use Rattle.std.specs.Prelude.{ℕ, if◌then◌else◌, List, [], ◌∷◌, map}
 use Rattle.std.specs.List.{list_any}
-use Rattle.std.specs.Ordering.{is_lt}
+use Rattle.list_laws.specs.Ordered.{ordered}
 use Rattle.track_types.specs.Chart.{ChartView, chart_with}
 use Rattle.track_types.specs.Row.{is_same_place, row_order}
 use Rattle.track_types.specs.declared.raw_row.RawRow.{RawRow}
@@ -18,19 +18,9 @@ unfoldable pub kept : List Row → List Row
 kept [] = []
 kept (row ∷ later) = if list_any (is_same_place row) later then kept later else row ∷ kept later
 
--- a row put in its place among rows in order
-unfoldable pub placed : Row → List Row → List Row
-placed row [] = row ∷ []
-placed row (next ∷ rest) = if is_lt (row_order next row) then next ∷ placed row rest else row ∷ next ∷ rest
-
--- rows in order: by object, then by instant
-unfoldable pub ordered : List Row → List Row
-ordered [] = []
-ordered (row ∷ rest) = placed row (ordered rest)
-
--- the rows of the chart of raw rows
+-- the rows of the chart of raw rows, by object, then by instant
 unfoldable pub chart_rows : List RawRow → ℕ → ℕ → List Row
-chart_rows raws cell tick = ordered (kept (map (gridded cell tick) raws))
+chart_rows raws cell tick = ordered row_order (kept (map (gridded cell tick) raws))
 
 -- the chart of raw rows
 abbrev pub chart_of : List RawRow → ℕ → ℕ → ℕ → ChartView

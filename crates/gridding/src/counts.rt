@@ -1,10 +1,10 @@
 ghost use Rattle.std.specs.Prelude.{◌≡◌, ◌^◌, ◌<◌, ◌≤◌, All, length, sum_by};
 ghost use Rattle.gridding.specs.Block.{IsInSpan, block_of, is_block_of, is_object_of};
-ghost use Rattle.track_types.specs.Limits.{IsPeriod};
+ghost use Rattle.track_types.specs.Limits.{IsPeriod, limit_of};
 ghost use Rattle.track_types.specs.Quantities.{anchors_of, log_length, object_count};
 ghost use Rattle.track_types.specs.Row.{IsAscending};
 
-use track_types::Row;
+use track_types::{LimitKind, Row};
 
 /// An object's rows in one period.
 #[derive(Clone, Copy)]
@@ -43,9 +43,9 @@ fn is_object_of(before: Option<u32>, object: u32) -> bool
 /// period after the block's first row. Periods begin at `first`, and the last ends where the span does.
 pub fn symbol_count(rows: &[Row], first: i64, span: u64, period: u64) -> u64
     requires ascending { IsAscending rows.now }
-    requires few { length rows.now ≤ 2 ^ 24 }
+    requires few { length rows.now ≤ limit_of LimitKind.Rows }
     requires in_span { All (IsInSpan first span) rows.now }
-    requires span { span ≤ 2 ^ 22 }
+    requires span { span ≤ limit_of LimitKind.Span }
     requires period { IsPeriod period }
     ensures { result ≡ sum_by (log_length first span period) (anchors_of first period rows.now) }
 {
@@ -74,10 +74,10 @@ fn block_of(row: &Row, first: i64, period: u64) -> Block
 // How many instants of its period come after an anchor's.
 fn log_length(anchor: &Row, first: i64, span: u64, period: u64) -> u64
     requires in_span { IsInSpan first span anchor.now }
-    requires span { span ≤ 2 ^ 22 }
+    requires span { span ≤ limit_of LimitKind.Span }
     requires period { IsPeriod period }
     ensures exact { result ≡ log_length first span period anchor.now }
-    ensures within { result ≤ 2 ^ 22 }
+    ensures within { result ≤ limit_of LimitKind.Span }
 {
     let elapsed = anchor.instant.abs_diff(first);
     let period_end = (elapsed / period + 1) * period;

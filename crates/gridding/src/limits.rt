@@ -8,12 +8,12 @@ ghost use Rattle.track_types.specs.Row.{IsAscending};
 use crate::counts::{object_count, symbol_count};
 use crate::extents::{Axis, Extent};
 use crate::fault::GridFault;
-use track_types::{LimitKind, MAX_EXTENT, Row};
+use track_types::{LimitKind, Row};
 
 /// Refuses the first quantity of rows in order that passes its limit.
 pub fn check_limits(rows: &[Row], period: u32) -> Result<(), GridFault>
     requires some { 0 < length rows.now }
-    requires few { length rows.now ≤ 2 ^ 24 }
+    requires few { length rows.now ≤ limit_of LimitKind.Rows }
     requires ascending { IsAscending rows.now }
     requires in_range { All IsRowInRange rows.now }
     requires period { IsPeriod period }
@@ -48,24 +48,8 @@ fn within(kind: LimitKind, value: u64) -> Result<(), GridFault>
     ensures err { IfErr result (λ fault. (fault ≡ GridFault.Limit kind value)
         × (is_past (kind, value) ≡ true)) }
 {
-    if value > greatest(kind) {
+    if value > kind.greatest() {
         return Err(GridFault::Limit { kind, value });
     }
     Ok(())
-}
-
-// The greatest value of a quantity.
-fn greatest(kind: LimitKind) -> u64
-    ensures { result ≡ limit_of kind }
-{
-    match kind {
-        LimitKind::Objects => 1 << 16,
-        LimitKind::Span => 1 << 22,
-        LimitKind::Rows | LimitKind::Blocks => 1 << 24,
-        LimitKind::Symbols => 1 << 25,
-        LimitKind::Csv => 1 << 29,
-        LimitKind::Index => 1 << 30,
-        LimitKind::Questions => 1 << 32,
-        LimitKind::Extent => MAX_EXTENT,
-    }
 }

@@ -210,3 +210,24 @@ fn limits_are_judged_in_order(rt: HostRuntime) -> Result<(), Fail> {
     }
     Ok(())
 }
+
+// 200 raw rows of each of 1,000 objects, in order of their times; x is the time.
+fn long_tracks(alloc: Global) -> Result<Vec<(u32, i32, i32, i32)>, AllocError> {
+    let mut rows = Vec::new(alloc);
+    for place in 0..200_000u32 {
+        let time = (place / 1000) as i32;
+        rows.push((place % 1000, time, time, 0))?;
+    }
+    Ok(rows)
+}
+
+#[test]
+fn a_hundred_thousand_rows_have_a_chart(rt: HostRuntime) -> Result<(), Fail> {
+    let rows = long_tracks(rt.alloc())?;
+    assert!(rt; rows.len() <= 200_000);
+    let chart = gridded(rt.alloc(), rows.as_slice(), 1, 2, 8)?;
+    assert_eq!(rt; chart.rows().len(), 100_000);
+    assert_eq!(rt; chart.rows().get(54_321), Some(&row(543, 21, 43, 0)));
+    assert_eq!(rt; chart.rows().last(), Some(&row(999, 99, 199, 0)));
+    Ok(())
+}

@@ -1,5 +1,6 @@
 -- Files by name, as far as they are told.
-use Rattle.std.specs.Prelude.{◌≡◌, ℕ, List, Option, Some, None, ⊤}
+use Rattle.std.specs.Prelude.{◌≡◌, ℕ, List, [], Option, Some, None, ⊤}
+use Rattle.std.specs.Io.KnownBytes.{IsAtEnd}
 use Rattle.std.specs.Map.{lookup}
 use Rattle.std.specs.Str.{bytes_eq}
 
@@ -20,3 +21,8 @@ IsOpened (Some files) name rest = (bytes : List ℕ) × (held files name ≡ Som
 abbrev pub IsMissing : Option FileMap → List ℕ → Type 0
 IsMissing None name = ⊥
 IsMissing (Some files) name = held files name ≡ None
+
+-- nothing is left to come, and where it was told what is, it is told still
+abbrev pub LeavesNothing : Option (List ℕ) → Option (List ℕ) → Type 0
+LeavesNothing None after = IsAtEnd after
+LeavesNothing (Some bytes) after = after ≡ Some []

@@ -1,8 +1,8 @@
 ghost use Rattle.std.specs.Prelude.{◌≡◌, ℕ, ◌+◌, ◌<◌, ◌≤◌, ◌⊎◌, List, Option, length, OnOk, OnErr};
 ghost use Rattle.std.specs.Io.{ReadsAtMost};
-ghost use Rattle.std.specs.Io.KnownBytes.{IsAtEnd, ReadConsumes};
+ghost use Rattle.std.specs.Io.KnownBytes.{ReadConsumes};
 ghost use Rattle.host_ports.specs.Faults.{Rose, read_count};
-ghost use Rattle.host_ports.specs.FileMap.{FileMap, IsMissing, IsOpened};
+ghost use Rattle.host_ports.specs.FileMap.{FileMap, IsMissing, IsOpened, LeavesNothing};
 
 use crate::Failed;
 
@@ -26,19 +26,21 @@ pub trait Files {
     /// Begins the file of that name, from its first byte.
     ///
     /// It fails where the device does, or where there is no such file, and then nothing is left to come.
+    /// A call that does not fail leaves the count of faults as it was.
     fn begin(&mut self, name: &str) -> Result<(), Failed>
         ensures opened { OnOk result (IsOpened (map self.old) name.now (rest self.new)) }
         ensures cause { OnErr result
             (Rose (load_faults self.old) (load_faults self.new) ⊎ IsMissing (map self.old) name.now) }
-        ensures err { OnErr result (IsAtEnd (rest self.new)) }
+        ensures err { OnErr result (LeavesNothing (rest self.old) (rest self.new)) }
         ensures fresh { taken self.new ≡ 0 }
         ensures map { map self.new ≡ map self.old }
+        ensures untouched { OnOk result (load_faults self.new ≡ load_faults self.old) }
         ensures faults { load_faults self.old ≤ load_faults self.new };
 
     /// Takes the next bytes of the begun file into the front of the buffer, and answers how many: 0
     /// exactly at the file's end.
     ///
-    /// It fails where the device does, and then nothing was taken.
+    /// It fails where the device does, and then nothing was taken; else the count of faults stays.
     fn pull(&mut self, buf: &mut [u8]) -> Result<usize, Failed>
         requires { 0 < length buf.old }
         ensures within { ReadsAtMost result buf.new }
@@ -46,6 +48,7 @@ pub trait Files {
         ensures taken { taken self.new ≡ taken self.old + read_count result }
         ensures cause { OnErr result (Rose (load_faults self.old) (load_faults self.new)) }
         ensures map { map self.new ≡ map self.old }
+        ensures untouched { OnOk result (load_faults self.new ≡ load_faults self.old) }
         ensures faults { load_faults self.old ≤ load_faults self.new };
 
     /// How many bytes of the begun file came.

@@ -1,4 +1,4 @@
-ghost use Rattle.std.specs.Prelude.{◌≡◌, ℕ, ◌+◌, ◌<◌, ◌≤◌, List, Option, length, OnErr};
+ghost use Rattle.std.specs.Prelude.{◌≡◌, ℕ, ◌+◌, ◌<◌, ◌≤◌, List, Option, length, OnOk, OnErr};
 ghost use Rattle.std.specs.Io.{ReadsAtMost};
 ghost use Rattle.std.specs.Io.KnownBytes.{ReadConsumes};
 ghost use Rattle.host_ports.specs.Faults.{Rose, read_count};
@@ -18,13 +18,14 @@ pub trait Source {
 
     /// Takes the next bytes into the front of the buffer, and answers how many: 0 exactly at the end.
     ///
-    /// It fails where the device does, and then nothing was taken.
+    /// It fails where the device does, and then nothing was taken; else the count of faults stays.
     fn listen(&mut self, buf: &mut [u8]) -> Result<usize, Failed>
         requires { 0 < length buf.old }
         ensures within { ReadsAtMost result buf.new }
         ensures read { ReadConsumes (rest self.old) (rest self.new) result buf.new }
         ensures taken { taken self.new ≡ taken self.old + read_count result }
         ensures cause { OnErr result (Rose (faults self.old) (faults self.new)) }
+        ensures untouched { OnOk result (faults self.new ≡ faults self.old) }
         ensures faults { faults self.old ≤ faults self.new };
 
     /// How many bytes came.

@@ -155,22 +155,40 @@ fn an_input_fails_once_and_goes_on(rt: HostRuntime) {
 
 #[test]
 fn an_output_says_what_its_writer_takes(rt: HostRuntime) -> Result<(), Fail> {
-    let breaks = [Step::Move(3), Step::Interrupt, Step::Move(3), Step::Break];
-    let stops = [Step::Move(5), Step::Move(0)];
+    // The writer would take more after it breaks, but a fault ends the piece.
+    let breaks = [
+        Step::Move(3),
+        Step::Interrupt,
+        Step::Move(3),
+        Step::Break,
+        Step::Move(9),
+    ];
+    let stops = [Step::Move(5), Step::Move(0), Step::Move(9)];
     let all = [Step::Move(4), Step::Move(9)];
-    for (steps, want, held) in [
-        (breaks.as_slice(), Err(Cut { sent: 6 }), 6usize),
-        (stops.as_slice(), Err(Cut { sent: 5 }), 5),
-        (all.as_slice(), Ok(()), 8),
+    for (steps, piece, want, held) in [
+        (
+            breaks.as_slice(),
+            b"12345678".as_slice(),
+            Err(Cut { sent: 6 }),
+            6usize,
+        ),
+        (
+            stops.as_slice(),
+            b"12345678".as_slice(),
+            Err(Cut { sent: 5 }),
+            5,
+        ),
+        (all.as_slice(), b"12345678".as_slice(), Ok(()), 8),
+        (all.as_slice(), b"1".as_slice(), Ok(()), 1),
     ] {
         let mut writer = StepWriter {
             steps,
             got: Vec::new(rt.alloc()),
             flushed: 0,
         };
-        assert_eq!(rt; OutputSink::new(&mut writer).say(b"12345678"), want);
+        assert_eq!(rt; OutputSink::new(&mut writer).say(piece), want);
         assert_eq!(rt; writer.got.as_slice(), &b"12345678"[..held]);
-        assert_eq!(rt; writer.flushed, if want.is_ok() { 8 } else { 0 });
+        assert_eq!(rt; writer.flushed, if want.is_ok() { held } else { 0 });
     }
     Ok(())
 }

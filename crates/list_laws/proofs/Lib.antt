@@ -1,3 +1,5 @@
 pub mod FilterLemmas
 pub mod FlatLemmas
 pub mod SumLemmas
+pub mod OrderedLemmas
+mod Examples

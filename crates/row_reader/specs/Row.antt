@@ -1,33 +1,30 @@
 -- What one record is as a row.
-use Rattle.std.specs.Prelude.{ℕ, ◌-◌, ◌^◌, ℤ, pos, neg_ℤ, ◌≤ℤ◌, Bool, ◌&&◌, if◌then◌else◌, List, [], ◌∷◌, length, Option, Some, None, option_map}
+use Rattle.std.specs.Prelude.{ℕ, ◌-◌, ◌^◌, ℤ, pos, neg_ℤ, List, [], ◌∷◌, length, Option, Some, None, option_map, Result, Ok, Err}
 use Rattle.std.specs.Int.RustNames.{unsigned_abs}
-use Rattle.std.specs.Int.Signed.{le_z}
 use Rattle.std.specs.Option.{option_or}
+use Rattle.track_types.specs.Bounds.{number_within, row_fault_of}
 use Rattle.track_types.specs.Numeral.{numeral_of}
+use Rattle.track_types.specs.declared.bounds.NumberFault.{NumberFault}
+use Rattle.track_types.specs.declared.limit.TheConstants.{MAX_PLACE}
 use Rattle.track_types.specs.declared.numeral.Numeral.{Numeral}
 use Rattle.track_types.specs.declared.numeral.Numeral.TheVariants.{Value, Large, Not}
 use Rattle.track_types.specs.declared.raw_row.RawRow.{RawRow}
 use Rattle.track_types.specs.declared.raw_row.RowFault.{RowFault}
-use Rattle.track_types.specs.declared.raw_row.RowFault.TheVariants.{Count, NotNumber, Range}
+use Rattle.track_types.specs.declared.raw_row.RowFault.TheVariants.{Count}
 use Rattle.row_reader.specs.declared.row.FieldFault.{FieldFault}
 
 -- the fields of a record, each its bytes
 abbrev pub Fields : Type 0
 Fields = List (List ℕ)
 
--- a value is at least the one and at most the other
-abbrev pub is_within : ℤ → ℤ → ℤ → Bool
-is_within least greatest value = le_z least value && le_z value greatest
-
--- why a numeral is not one within two bounds
-abbrev pub numeral_fault : ℤ → ℤ → Numeral → Option RowFault
-numeral_fault least greatest (Value value) = if is_within least greatest value then None else Some Range
-numeral_fault least greatest Large = Some Range
-numeral_fault least greatest Not = Some NotNumber
+-- why a field is no number within two bounds
+abbrev pub fault_in : Result ℤ NumberFault → Option RowFault
+fault_in (Ok value) = None
+fault_in (Err fault) = Some (row_fault_of fault)
 
 -- why a field is no numeral within two bounds
 abbrev pub field_fault : ℤ → ℤ → List ℕ → Option RowFault
-field_fault least greatest word = numeral_fault least greatest (numeral_of word)
+field_fault least greatest word = fault_in (number_within least greatest word)
 
 -- an object is a number of 32 bits
 abbrev pub object_fault : List ℕ → Option RowFault
@@ -35,7 +32,7 @@ object_fault = field_fault (pos 0) (pos (2 ^ 32 - 1))
 
 -- a time and a coordinate are at most 2^40 away from 0
 abbrev pub place_fault : List ℕ → Option RowFault
-place_fault = field_fault (neg_ℤ (pos (2 ^ 40))) (pos (2 ^ 40))
+place_fault = field_fault (neg_ℤ (pos MAX_PLACE)) (pos MAX_PLACE)
 
 -- a fault with its field's number
 abbrev pub fault_at : ℕ → Option RowFault → Option FieldFault

@@ -3,6 +3,8 @@ use Rattle.std.specs.Prelude.{◌≡◌, ◌+◌, ℕ, Bool, not, ◌==◌, ◌&
 use Rattle.std.specs.List.{enumerate_from, filter_map}
 use Rattle.std.specs.Cmp.Lexicographic.{pointwise}
 use Rattle.std.specs.Str.{bytes_eq}
+use Rattle.track_types.specs.Limits.{limit_of}
+use Rattle.track_types.specs.declared.limit.LimitKind.TheVariants.{Rows}
 use Rattle.track_types.specs.declared.raw_row.RawRow.{RawRow}
 use Rattle.csv.specs.Reading.{default_config, records, strip_bom}
 use Rattle.row_reader.specs.Row.{Fields, raw_of, record_fault}
@@ -29,15 +31,11 @@ data_among all = filter (λ numbered. is_data numbered.0 numbered.1) (enumerate_
 abbrev pub data_of : List ℕ → List (ℕ × Fields)
 data_of bytes = data_among (records_of bytes)
 
--- how many data records a file may have
-abbrev pub row_limit : ℕ
-row_limit = 16777216
-
 -- why a data record with so many before it is refused: it is one too many, or else it is no row
 abbrev pub refusal_of : ℕ → ℕ → Fields → Option RowsFault
 refusal_of before nth fields =
-    if nat_lt before row_limit then option_map (λ at. Row nth at.field at.fault) (record_fault fields)
-    else Some (Limit (row_limit + 1))
+    if nat_lt before (limit_of Rows) then option_map (λ at. Row nth at.field at.fault) (record_fault fields)
+    else Some (Limit (limit_of Rows + 1))
 
 -- the refusals of numbered data records, in order
 abbrev pub refusals_of : List (ℕ × Fields) → List RowsFault

@@ -1,4 +1,5 @@
 ghost use Rattle.std.specs.Prelude.{◌≡◌, ◌≢◌, ◌+◌, ◌-◌, ◌*◌, ◌^◌, ◌<◌, ◌≤◌, [], length, pos, neg_ℤ, ◌≤ℤ◌, Some, None, IfOk, IfErr, OnOk, slice_index_or};
+ghost use Rattle.track_types.specs.Limits.{limit_of};
 ghost use Rattle.track_types.specs.Near.{IsRawInRange};
 ghost use Rattle.csv.specs.Records.{fields_of};
 ghost use Rattle.row_reader.specs.Row.{field_fault, raw_of, record_fault, value_of};
@@ -7,16 +8,13 @@ ghost use Rattle.row_reader.specs.Rows.{refusal_of};
 use crate::fault::RowsFault;
 use crate::field::{FIELDS, field_in};
 use csv::ByteRecord;
-use track_types::{Numeral, RawRow, RowFault, number};
+use track_types::{LimitKind, MAX_PLACE, MAX_ROWS, RawRow, RowFault, number_within};
 
 // The greatest object, 2^32 - 1.
 const MAX_OBJECT: i64 = 4_294_967_295;
 
-// How far from 0 a time and a coordinate may be, 2^40.
-const MAX_PLACE: i64 = 1_099_511_627_776;
-
-// How many data records a file may have, 2^24.
-const MAX_ROWS: usize = 16_777_216;
+// How far from 0 a time and a coordinate may be.
+const FAR: i64 = MAX_PLACE as i64;
 
 // Why a record is no row, and at which of its fields, counted from 1.
 #[derive(Clone, Copy)]
@@ -30,13 +28,13 @@ pub fn read_data(fields: &ByteRecord, nth: u64, count: usize) -> Result<RawRow, 
     requires { length (fields_of fields.now) < 2 ^ 32 }
     ensures ok { let all = fields_of fields.now in
         IfOk result (λ row. (refusal_of count nth all ≡ None) × (row ≡ raw_of all)) }
-    ensures within { OnOk result (count < 2 ^ 24) }
+    ensures within { OnOk result (count < limit_of LimitKind.Rows) }
     ensures ranges { IfOk result IsRawInRange }
     ensures err { IfErr result (λ fault. refusal_of count nth (fields_of fields.now) ≡ Some fault) }
 {
-    if count >= MAX_ROWS {
+    if count as u64 >= MAX_ROWS {
         return Err(RowsFault::Limit {
-            value: MAX_ROWS as u64 + 1,
+            value: MAX_ROWS + 1,
         });
     }
     read_row(fields).map_err(|FieldFault { field, fault }| RowsFault::Row { nth, field, fault })
@@ -57,9 +55,9 @@ fn read_row(fields: &ByteRecord) -> Result<RawRow, FieldFault>
         });
     }
     let object = read_field(fields, 1, 0, MAX_OBJECT)?;
-    let time = read_field(fields, 2, -MAX_PLACE, MAX_PLACE)?;
-    let x = read_field(fields, 3, -MAX_PLACE, MAX_PLACE)?;
-    let y = read_field(fields, 4, -MAX_PLACE, MAX_PLACE)?;
+    let time = read_field(fields, 2, -FAR, FAR)?;
+    let x = read_field(fields, 3, -FAR, FAR)?;
+    let y = read_field(fields, 4, -FAR, FAR)?;
     Ok(RawRow {
         object: object as u32,
         time,
@@ -80,24 +78,8 @@ fn read_field(fields: &ByteRecord, field: u32, least: i64, greatest: i64) -> Res
         (at.field ≡ field) × (field_fault least greatest word ≡ Some at.fault)) }
 {
     let word = field_in(fields, field as usize - 1);
-    read_value(word, least, greatest).map_err(|fault| FieldFault { field, fault })
-}
-
-// The value of a word that is a numeral within two bounds.
-fn read_value(word: &[u8], least: i64, greatest: i64) -> Result<i64, RowFault>
-    ensures ok { IfOk result (λ value.
-        (field_fault least greatest word.now ≡ None) × (value ≡ value_of word.now)) }
-    ensures within { IfOk result (λ value. (least ≤ℤ value) × (value ≤ℤ greatest)) }
-    ensures err { IfErr result (λ fault. field_fault least greatest word.now ≡ Some fault) }
-{
-    match number(word) {
-        Numeral::Not => Err(RowFault::NotNumber),
-        Numeral::Large => Err(RowFault::Range),
-        Numeral::Value(value) => {
-            if value < least || greatest < value {
-                return Err(RowFault::Range);
-            }
-            Ok(value)
-        }
-    }
+    number_within(word, least, greatest).map_err(|fault| FieldFault {
+        field,
+        fault: RowFault::from(fault),
+    })
 }

@@ -1,4 +1,5 @@
 ghost use Rattle.std.specs.Prelude.{◌≡◌, ◌+◌, ◌^◌, ◌≤◌, ℕ, List, [], ◌∷◌, ◌++◌, length, None, IfOk, IfErr, All, vec_len};
+ghost use Rattle.track_types.specs.Limits.{limit_of};
 ghost use Rattle.track_types.specs.Near.{IsRawInRange};
 ghost use Rattle.csv.specs.Records.{fields_of};
 ghost use Rattle.row_reader.specs.Reading.{HasRead, ShowsNext};
@@ -10,7 +11,7 @@ use crate::heading::is_data_record;
 use crate::row::read_data;
 use csv::{ByteRecord, Reader, ReaderBuilder};
 use std::alloc::Global;
-use track_types::RawRow;
+use track_types::{LimitKind, RawRow};
 
 /// Reads the rows of a CSV file in file order, or tells the first refusal when its records are
 /// looked at in order.
@@ -25,10 +26,10 @@ use track_types::RawRow;
 /// numeral is refused as `NotNumber`, or as `Range` where its value is out of its range. `Memory`
 /// may be answered to any file.
 pub fn read_rows(alloc: Global, bytes: &[u8]) -> Result<Vec<RawRow>, RowsFault>
-    requires { length bytes.now ≤ 2 ^ 29 }
+    requires { length bytes.now ≤ limit_of LimitKind.Csv }
     ensures ok { IfOk result (λ rows.
         (csv_fault bytes.now ≡ None) × (rows.items ≡ raws_of bytes.now)) }
-    ensures few { IfOk result (λ rows. vec_len rows ≤ 2 ^ 24) }
+    ensures few { IfOk result (λ rows. vec_len rows ≤ limit_of LimitKind.Rows) }
     ensures ranges { IfOk result (λ rows. All IsRawInRange rows.items) }
     ensures fault { IfErr result (IsFaultOf bytes.now) }
 {

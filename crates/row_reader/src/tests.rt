@@ -156,3 +156,24 @@ fn the_first_refusal_is_told(rt: HostRuntime) -> Result<(), Fail> {
     }
     Ok(())
 }
+
+#[test]
+fn seventy_thousand_rows_and_the_one_after(rt: HostRuntime) -> Result<(), Fail> {
+    let mut file = Vec::new(rt.alloc());
+    for object in 0..70_000u32 {
+        let line = format!(in rt.alloc(); "{object},-5,{object},6401239\n")?;
+        file.extend_from_slice(line.as_bytes())?;
+    }
+    assert!(rt; file.len() < 10_000_000);
+    let rows = read_rows(rt.alloc(), file.as_slice())?;
+    assert_eq!(rt; rows.len(), 70_000);
+    assert_eq!(rt; rows.get(65_537), Some(&row(65_537, -5, 65_537, 6_401_239)));
+
+    file.extend_from_slice(b"7,0,1\n")?;
+    assert!(rt; file.len() < 10_000_000);
+    assert_eq!(rt;
+        read_rows(rt.alloc(), file.as_slice()).err(),
+        Some(fault(70_001, 3, RowFault::Count))
+    );
+    Ok(())
+}

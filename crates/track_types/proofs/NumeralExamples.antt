@@ -1,5 +1,7 @@
 -- What words are as whole numbers, run on words at the edges.
-use Rattle.std.proofs.Common.{◌≡◌, [], pos, negsuc, codes, refl}
+use Rattle.std.proofs.Common.{◌≡◌, [], ◌∷◌, map, Ok, Err, pos, negsuc, codes, refl}
+use Rattle.track_types.specs.Bounds.{number_within}
+use Rattle.track_types.specs.declared.bounds.NumberFault.TheVariants.{NotNumber, Range}
 use Rattle.track_types.specs.Numeral.{numeral_of}
 use Rattle.track_types.specs.declared.numeral.Numeral.TheVariants.{Value, Large, Not}
 
@@ -35,3 +37,11 @@ numeral_blank_inside = refl
 
 numeral_blank_behind_sign : numeral_of (codes "- 1") ≡ Not
 numeral_blank_behind_sign = refl
+
+-- within two bounds, of which both count
+within_bounds : map (number_within (negsuc 1) (pos 5)) (codes "-2" ∷ codes " +05" ∷ codes "6" ∷ codes "-3" ∷ codes "4611686018427387905" ∷ codes "5." ∷ [] ∷ [])
+    ≡ Ok (negsuc 1) ∷ Ok (pos 5) ∷ Err Range ∷ Err Range ∷ Err Range ∷ Err NotNumber ∷ Err NotNumber ∷ []
+within_bounds = refl
+
+within_no_bounds : number_within (pos 5) (pos 4) (codes "5") ≡ Err Range
+within_no_bounds = refl

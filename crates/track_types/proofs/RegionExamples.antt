@@ -1,7 +1,8 @@
 -- Regions, run on cells and boxes that were worked out by hand.
 use Rattle.std.proofs.Common.{◌≡◌, ℤ, pos, negsuc, true, false, [], ◌∷◌, map, refl}
 use Rattle.std.specs.Int.Signed.{le_z_yes}
-use Rattle.track_types.specs.Region.{in_region, squared_distance, intersects_region}
+use Rattle.track_types.specs.Region.{in_box, in_region, nearest_cell, squared_distance, intersects_region}
+use Rattle.track_types.specs.Widening.{widened}
 use Rattle.track_types.specs.declared.cell.Cell.{Cell}
 use Rattle.track_types.specs.declared.cell_box.CellBox.{CellBox}
 use Rattle.track_types.specs.declared.region.Region.TheVariants.{Rect, Disc}
@@ -50,3 +51,12 @@ touched_by_a_corner = refl
 touched_by_a_rect : map (λ region. intersects_region region near) (Rect (pos 0) (pos 4) (pos 9) (pos 4) ∷ Rect (pos 5) (pos 4) (pos 4) (pos 4) ∷ []) ≡ true ∷ false ∷ []
 unfolding near
 touched_by_a_rect = refl
+
+-- two cells more on each side of the box reach to 1 and to 7
+a_widened_box : map (in_box (widened 2 near)) (at (pos 1) (pos 7) ∷ at (pos 0) (pos 4) ∷ at (pos 4) (pos 8) ∷ []) ≡ true ∷ false ∷ false ∷ []
+unfolding near
+a_widened_box = refl
+
+the_nearest_of_a_box : map (nearest_cell near) (at (pos 0) (pos 4) ∷ at (pos 9) (negsuc 0) ∷ at (pos 4) (pos 5) ∷ []) ≡ at (pos 3) (pos 4) ∷ at (pos 5) (pos 3) ∷ at (pos 4) (pos 5) ∷ []
+unfolding near
+the_nearest_of_a_box = refl

@@ -6,7 +6,12 @@ pub mod Quantities
 pub mod Chart
 pub mod ByFilter
 pub mod Region
+pub mod Widening
 pub mod Lazy
+pub mod Bounds
+pub mod FaultText
+pub mod FlawText
+pub mod BitList
 pub mod Frame
 pub mod Table
 pub mod Shape

@@ -2,13 +2,14 @@
 use Rattle.std.specs.Prelude.{◌^◌, ℤ, pos, neg_ℤ, ◌≤ℤ◌}
 use Rattle.track_types.specs.declared.cell.Cell.{Cell}
 use Rattle.track_types.specs.declared.cell_box.CellBox.{CellBox}
+use Rattle.track_types.specs.declared.limit.TheConstants.{MAX_PLACE}
 use Rattle.track_types.specs.declared.raw_row.RawRow.{RawRow}
 use Rattle.track_types.specs.declared.row.Row.{Row}
 
--- at most 2^40 away from 0
+-- at most 2^40 away from 0, as are the times and places of rows
 pub record IsNear (z : ℤ) : Type 0 where
-  pub low : neg_ℤ (pos (2 ^ 40)) ≤ℤ z
-  pub high : z ≤ℤ pos (2 ^ 40)
+  pub low : neg_ℤ (pos MAX_PLACE) ≤ℤ z
+  pub high : z ≤ℤ pos MAX_PLACE
 
 -- a raw row's time and place are near
 pub record IsRawInRange (raw : RawRow) : Type 0 where

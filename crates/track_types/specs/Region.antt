@@ -42,16 +42,18 @@ in_box area cell = is_between area.x1 area.x2 cell.x && is_between area.y1 area.
 abbrev pub Intersects : Region → CellBox → Type 0
 Intersects region area = (cell : Cell) × IsTrue (in_box area cell) × InRegion region cell
 
--- the lower corner of a rect, or the centre of a disc
-abbrev pub anchor_of : Region → Cell
-anchor_of (Rect x1 y1 x2 y2) = record { x = x1; y = y1 }
-anchor_of (Disc x y r) = record { x = x; y = y }
-
 -- the cell of a box that is nearest to a cell
 abbrev pub nearest_cell : CellBox → Cell → Cell
 nearest_cell area cell =
     record { x = int_max area.x1 (int_min cell.x area.x2); y = int_max area.y1 (int_min cell.y area.y2) }
 
--- the test for `Intersects`: whether the region has the cell of the box that is nearest to its anchor
+-- whether some number is from low to high and from first to last, all of them counted
+abbrev pub overlaps : ℤ → ℤ → ℤ → ℤ → Bool
+overlaps low high first last = le_z (int_max low first) (int_min high last)
+
+-- The test for `Intersects`: a rect overlaps the box in both axes, and a disc has the cell of the box that is nearest
+-- to its centre.
 abbrev pub intersects_region : Region → CellBox → Bool
-intersects_region region area = in_region region (nearest_cell area (anchor_of region))
+intersects_region (Rect x1 y1 x2 y2) area = overlaps x1 x2 area.x1 area.x2 && overlaps y1 y2 area.y1 area.y2
+intersects_region (Disc x y r) area =
+    let centre : Cell = record { x = x; y = y } in nat_le (squared_distance centre (nearest_cell area centre)) (r * r)

@@ -1,3 +1,9 @@
+ghost use Rattle.std.specs.Prelude.{◌≡◌};
+ghost use Rattle.track_types.specs.FlawText.{kind_name, section_name};
+
+use std::error::Error;
+use std::fmt::{self, Display, Formatter, Write};
+
 /// Where an index is not of its format, and how.
 #[derive(Clone, Copy, Debug, PartialEq, Eq)]
 pub struct Flaw {
@@ -70,3 +76,72 @@ pub enum Kind {
     /// A block does not last to its period's end.
     Duration,
 }
+
+impl Section {
+    /// The section's name in texts, in lower case.
+    pub fn name(self) -> &'static str
+        ensures { result.now ≡ section_name self }
+    {
+        match self {
+            Section::Header => "header",
+            Section::Objects => "objects",
+            Section::Alphabet => "alphabet",
+            Section::Rules => "rules",
+            Section::Presence => "presence",
+            Section::Offsets => "offsets",
+            Section::TreeLen => "treelen",
+            Section::Tree => "tree",
+            Section::Lasts => "lasts",
+            Section::Perm => "perm",
+            Section::Lengths => "lengths",
+            Section::Log => "log",
+            Section::End => "end",
+        }
+    }
+}
+
+impl Kind {
+    /// The kind's name in texts, in lower case.
+    pub fn name(self) -> &'static str
+        ensures { result.now ≡ kind_name self }
+    {
+        match self {
+            Kind::Short => "short",
+            Kind::Magic => "magic",
+            Kind::Field => "field",
+            Kind::Order => "order",
+            Kind::Pad => "pad",
+            Kind::Extra => "extra",
+            Kind::Code => "code",
+            Kind::Rule => "rule",
+            Kind::Symbol => "symbol",
+            Kind::Total => "total",
+            Kind::Offset => "offset",
+            Kind::Tree => "tree",
+            Kind::Cells => "cells",
+            Kind::Perm => "perm",
+            Kind::CellOrder => "cellorder",
+            Kind::OffGrid => "offgrid",
+            Kind::Duration => "duration",
+        }
+    }
+}
+
+impl Display for Flaw {
+    ghost use Rattle.std.specs.Prelude.{Some};
+    ghost use Rattle.track_types.specs.FlawText.{flaw_text};
+
+    ghost output = { λ flaw. Some (flaw_text flaw) };
+
+    fn fmt<W: Write>(&self, f: &mut Formatter<W>) -> fmt::Result {
+        let section = self.section.name();
+        let kind = self.kind.name();
+        write!(
+            f,
+            "index {section} period {} place {}: {kind}",
+            self.period, self.index
+        )
+    }
+}
+
+impl Error for Flaw {}

@@ -3,9 +3,6 @@ ghost use Rattle.std.specs.Prelude.{◌≡◌};
 use crate::period_parts::PeriodParts;
 use std::marker::Model;
 
-#[cfg(test)]
-mod tests;
-
 /// A list of numbers below 2^32, as objects, offsets or symbols.
 ///
 /// It is made from a `Vec` and gives it back, and takes no memory. Contracts see the values in order.

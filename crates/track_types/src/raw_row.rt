@@ -1,3 +1,10 @@
+ghost use Rattle.std.specs.Prelude.{◌≡◌};
+ghost use Rattle.track_types.specs.Bounds.{row_fault_of};
+
+use crate::bounds::NumberFault;
+use std::error::Error;
+use std::fmt::{self, Display, Formatter, Write};
+
 /// A row of the CSV file as it was read: where an object was at a time, in the file's own units.
 #[derive(Clone, Copy, Debug, PartialEq, Eq)]
 pub struct RawRow {
@@ -18,4 +25,32 @@ pub enum RowFault {
     NotNumber,
     /// A field's value is out of its range.
     Range,
+}
+
+impl Display for RowFault {
+    ghost use Rattle.std.specs.Prelude.{Some};
+    ghost use Rattle.track_types.specs.FaultText.{row_fault_text};
+
+    ghost output = { λ fault. Some (row_fault_text fault) };
+
+    fn fmt<W: Write>(&self, f: &mut Formatter<W>) -> fmt::Result {
+        f.write_str(match self {
+            RowFault::Count => "not four fields",
+            RowFault::NotNumber => "not a number",
+            RowFault::Range => "out of range",
+        })
+    }
+}
+
+impl Error for RowFault {}
+
+impl From<NumberFault> for RowFault {
+    ghost from_gives = { λ fault row. row ≡ row_fault_of fault };
+
+    fn from(fault: NumberFault) -> Self {
+        match fault {
+            NumberFault::NotNumber => RowFault::NotNumber,
+            NumberFault::Range => RowFault::Range,
+        }
+    }
 }

@@ -1,6 +1,6 @@
 ghost use Rattle.std.specs.Prelude.{◌≡◌, ◌↔◌, ◌*◌, ◌≤◌, ◌^◌, IsTrue};
 ghost use Rattle.track_types.specs.Near.{IsBoxWithin, IsCellWithin};
-ghost use Rattle.track_types.specs.Region.{IsRegionWithin, Intersects, anchor_of, in_region, is_between, nearest_cell, squared_distance, intersects_region};
+ghost use Rattle.track_types.specs.Region.{IsRegionWithin, Intersects, in_region, is_between, nearest_cell, overlaps, squared_distance, intersects_region};
 
 use crate::cell::Cell;
 use crate::cell_box::CellBox;
@@ -43,19 +43,22 @@ impl Region {
         ensures value { result ≡ intersects_region self.now area.now }
         ensures exact { IsTrue result ↔ Intersects self.now area.now }
     {
-        // If the region has a cell of the box at all, then also the one nearest to its anchor.
-        self.contains(nearest(area, self.anchor()))
+        self.intersects(area)
     }
 
-    // The lower corner of a rect, also of an inverted one, or the centre of a disc.
-    fn anchor(&self) -> Cell
-        requires { IsRegionWithin self.now }
-        ensures value { result ≡ anchor_of self.now }
-        ensures within { IsCellWithin result }
+    fn intersects(&self, area: &CellBox) -> bool
+        requires region { IsRegionWithin self.now }
+        requires near { IsBoxWithin area.now }
+        ensures { result ≡ intersects_region self.now area.now }
     {
         match *self {
-            Region::Rect { x1, y1, .. } => Cell { x: x1, y: y1 },
-            Region::Disc { x, y, .. } => Cell { x, y },
+            Region::Rect { x1, y1, x2, y2 } => {
+                overlaps(x1, x2, area.x1, area.x2) && overlaps(y1, y2, area.y1, area.y2)
+            }
+            Region::Disc { x, y, r } => {
+                let centre = Cell { x, y };
+                dist2(centre, nearest(area, centre)) <= square(r)
+            }
         }
     }
 }
@@ -82,6 +85,13 @@ fn is_between(low: i64, high: i64, value: i64) -> bool
     ensures { result ≡ is_between low high value }
 {
     low <= value && value <= high
+}
+
+// Whether some number is from `low` to `high` and from `first` to `last`.
+fn overlaps(low: i64, high: i64, first: i64, last: i64) -> bool
+    ensures { result ≡ overlaps low high first last }
+{
+    low.max(first) <= high.min(last)
 }
 
 // The cell of the box that is nearest to a cell.

@@ -3,7 +3,7 @@ use mathlib.Core.Bool.{false≢true}
 use Rattle.row_reader.specs.Rows.{raws_of}
 use Rattle.gridding.specs.ChartOf.{chart_of, chart_rows}
 use Rattle.track_types.specs.Chart.{ChartView}
-use Rattle.gract_top.specs.Refusal.{refusal_of}
+use Rattle.gract_top.specs.Refusal.{file_refusal}
 use Rattle.gract_top.specs.Request.{settings_in, texts}
 use Rattle.gract_top.specs.Session.{talk}
 use Rattle.gract_top.specs.declared.request.Settings.{Settings}
@@ -37,10 +37,10 @@ returns-in-Ok-clause-decided g c form bytes held =
     let nothing : Bor (List ℕ) = record { ref_ptr = (0, 0); now = [] } in
     let long = words_of_form c.args.words.now c.in-Once.settings c.in-Once.ensures.value in
     let numbers = settings_of_form (texts c.args.words.now) c.in-Once.settings c.in-Once.ensures.value in
-    let accepted : refusal_of bytes c.in-Once.settings ≡ None =
+    let accepted : file_refusal bytes c.in-Once.settings ≡ None =
     (c.in-Ok.ensures.chart bytes (rw (csv_name-texts c.args.words.now nothing long) at held)).0 in
-    let none : refusal_of bytes (settings_in (texts c.args.words.now)) ≡ None =
-    ap (refusal_of bytes) (sym numbers) ∙ accepted in
+    let none : file_refusal bytes (settings_in (texts c.args.words.now)) ≡ None =
+    ap (file_refusal bytes) (sym numbers) ∙ accepted in
     inr (inr (rw none c.answer.ensures.asked))
 
 pub returns-in-Err-clause-answered : goal.returns-in-Err-clause-answered
@@ -59,6 +59,6 @@ returns-in-Err-clause-decided g c form bytes held =
     let nothing : Bor (List ℕ) = record { ref_ptr = (0, 0); now = [] } in
     let long = words_of_form c.args.words.now c.in-Once.settings c.in-Once.ensures.value in
     let numbers = settings_of_form (texts c.args.words.now) c.in-Once.settings c.in-Once.ensures.value in
-    decided_loading c.in-Err.outcome (refusal_of bytes (settings_in (texts c.args.words.now))) c.in-Err.ensures.loading
-    (λ refused. ap (refusal_of bytes) (sym numbers)
+    decided_loading c.in-Err.outcome (file_refusal bytes (settings_in (texts c.args.words.now))) c.in-Err.ensures.loading
+    (λ refused. ap (file_refusal bytes) (sym numbers)
     ∙ c.in-Err.ensures.refused refused bytes (rw (csv_name-texts c.args.words.now nothing long) at held))

@@ -1,6 +1,5 @@
-use Rattle.std.proofs.Common.{◌≡◌, [], drop, arith, pos, rules, true, false}
+use Rattle.std.proofs.Common.{◌≡◌, [], drop, arith, rules, true, false}
 use Rattle.std.proofs.lemmas.List.{drop_all}
-use Rattle.track_types.specs.declared.row.Row.{Row}
 use Rattle.gridding.proofs.RunLemmas.{no_row, object_runs-ascending, object_runs-drop, object_runs-nil}
 use Rattle.gridding.proofs.counts.object_count.Goals as goal
 use Rattle.gridding.proofs.counts.object_count.Goals.{then-not-is_object_of, else-not-is_object_of}

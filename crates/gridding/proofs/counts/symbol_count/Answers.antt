@@ -1,7 +1,6 @@
-use Rattle.std.proofs.Common.{◌≡◌, ◌∙◌, [], drop, get_or, arith, pos, rules, true, false, ap, w64, to_z, of_z}
+use Rattle.std.proofs.Common.{◌≡◌, ◌∙◌, [], drop, get_or, arith, rules, true, false, ap, w64, to_z, of_z}
 use Rattle.std.proofs.lemmas.Int.{to_z-of_z}
 use Rattle.std.proofs.lemmas.List.{drop_all}
-use Rattle.track_types.specs.declared.row.Row.{Row}
 use Rattle.gridding.specs.Block.{block_of, is_block_of}
 use Rattle.gridding.proofs.RunLemmas.{no_row}
 use Rattle.gridding.proofs.SymbolLemmas.{terminals-ascending, terminals-drop, terminals-nil}

@@ -1,11 +1,10 @@
-use Rattle.std.proofs.Common.{rules, ◌≡◌, ◌∙◌, ap, take, get_or, arith, pos, w64}
+use Rattle.std.proofs.Common.{rules, ◌≡◌, ◌∙◌, ap, take, get_or, arith, w64}
 use Rattle.std.specs.Prelude.{FitsSigned, fold}
 use Rattle.std.specs.Int.{int_max, int_min}
 use Rattle.std.proofs.lemmas.Int.{to_z-of_z}
 use Rattle.std.proofs.lemmas.List.{take_all}
 use Rattle.std.proofs.lemmas.List.Sums.{fold_more}
 use Rattle.track_types.specs.Near.{IsNear}
-use Rattle.track_types.specs.declared.row.Row.{Row}
 use Rattle.track_types.proofs.QuantityLemmas.{least-from_first, greatest-from_first}
 use Rattle.gridding.proofs.RunLemmas.{no_row}
 use Rattle.gridding.proofs.ExtentLemmas.{IsNear-int_max, IsNear-int_min}
