@@ -1,1 +1,2 @@
 -- In reading order.
+pub mod Grown
