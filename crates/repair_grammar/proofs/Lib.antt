@@ -1,0 +1,6 @@
+mod PassLemmas
+mod CountLemmas
+mod KeyLemmas
+mod FirstLemmas
+pub mod RoundLemmas
+mod Examples
