@@ -11,9 +11,9 @@ use Rattle.std.proofs.lemmas.List.Elements.{All-contains}
 use Rattle.std.proofs.lemmas.Map.Views.{Contains-from_lookup}
 use Rattle.list_laws.proofs.MemberLemmas.{first_member, later_member, member_cases, no_member}
 use Rattle.repair_grammar.specs.declared.key.Key.{Key}
-use Rattle.repair_grammar.specs.RePair.{key_order}
+use Rattle.repair_grammar.specs.RePair.{key_order, key_of, keys_of, first_key, pair_count}
 use Rattle.repair_grammar.specs.Counts.{IsFirst, AllBelowTwo, count_in, earlier_of, key_at, first_in}
-use Rattle.repair_grammar.proofs.KeyLemmas.{key_order_total}
+use Rattle.repair_grammar.proofs.KeyLemmas.{key_order_total, first_key-only, key_stands}
 
 -- no entry
 pub first_in-nil : (first : Option Key) → first_in first [] ≡ first
@@ -205,3 +205,36 @@ module _ {S : Type 0} (counts : HashMap (ℕ × ℕ) ℕ S)
         first = λ other. rw count (not_before_first key other (get (λ x y. nat_eq x.0 y.0 && nat_eq x.1 y.1) counts other)
             found.two (λ value is above. found.each (other, value) (entry_of other value is) above));
       }
+
+-- of keys, one is after none
+least : (first : Key) (keys : List Key) →
+    (key : Key) × Contains (first ∷ keys) key × ((other : Key) → Contains (first ∷ keys) other → IsUpTo key other)
+least first [] = (first, first_member first [], λ other inside. elim (member_cases other first [] inside) [
+  | inl same ↦ rw (sym same) (upto_itself first)
+  | inr later ↦ no_member other later
+])
+least first (second ∷ keys) = let best = least second keys in elim (cases_Bool (is_lt (key_order first best.0))) [
+  | inl less ↦ (first, first_member first (second ∷ keys), λ other inside. elim (member_cases other first (second ∷ keys) inside) [
+      | inl same ↦ rw (sym same) (upto_itself first)
+      | inr later ↦ upto key_order_total first best.0 other (less_upto (key_order first best.0) less) (best.2 other later)
+    ])
+  | inr not_less ↦ (best.0, later_member best.0 first (second ∷ keys) best.1, λ other inside.
+      elim (member_cases other first (second ∷ keys) inside) [
+        | inl same ↦ rw (sym same) (upto_from best.0 first not_less)
+        | inr later ↦ best.2 other later
+      ])
+]
+
+-- so a key is taken where there is one
+no_first : (keys : List Key) → first_key keys ≡ None → (key : Key) → Contains keys key → ⊥
+no_first [] none key inside = no_member key inside
+no_first (first ∷ keys) none key inside = let best = least first keys in
+    let taken = first_key-only (first ∷ keys) best.0 best.1 (λ other among. not_before best.0 other (best.2 other among)) in
+    absurd (let never : Some best.0 ≡ None = sym taken ∙ none in cc)
+
+-- and where none is, no pair counts two
+pub none_counts_two : (blocks : List (List ℕ)) → first_key (keys_of blocks) ≡ None → AllBelowTwo (pair_count blocks)
+none_counts_two blocks none = λ pair. elim (cases_lt 1 (pair_count blocks pair)) [
+  | inl two ↦ absurd (no_first (keys_of blocks) none (key_of blocks pair) (key_stands blocks pair two))
+  | inr one ↦ omega (arith, one)
+]

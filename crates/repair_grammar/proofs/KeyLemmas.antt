@@ -59,17 +59,24 @@ counted_stands (block ∷ blocks) pair some = elim (cases_lt 0 (met pair block))
       (counted_stands blocks pair (omega (arith, sum_by-cons (met pair) block blocks)))
 ]
 
+-- a pair that counts two has a key
+pub key_stands : (blocks : List (List ℕ)) (pair : ℕ × ℕ) → 1 < pair_count blocks pair →
+    Contains (keys_of blocks) (key_of blocks pair)
+unfolding keys_of pair_count
+key_stands blocks pair two =
+    let pairs = flat_map pairs_in blocks in
+    Contains-filter (λ key. nat_lt 1 key.count) (map (key_of blocks) pairs) (key_of blocks pair)
+    (lt-ltb 1 (pair_count blocks pair) two)
+    (Contains-map (key_of blocks) pairs pair (counted_stands blocks pair (omega (arith, two))))
+
 -- the first pair's key is taken
 pub key_taken : (blocks : List (List ℕ)) (pair : ℕ × ℕ) → IsFirst (pair_count blocks) pair →
     first_key (keys_of blocks) ≡ Some (key_of blocks pair)
-unfolding keys_of pair_count
+unfolding keys_of
 key_taken blocks pair first =
     let pairs = flat_map pairs_in blocks in
     let test : Key → Bool = λ key. nat_lt 1 key.count in
-    let stands = counted_stands blocks pair (omega (arith, first.two)) in
-    first_key-only (keys_of blocks) (key_of blocks pair)
-    (Contains-filter test (map (key_of blocks) pairs) (key_of blocks pair) (lt-ltb 1 (pair_count blocks pair) (omega (arith, first.two)))
-    (Contains-map (key_of blocks) pairs pair stands))
+    first_key-only (keys_of blocks) (key_of blocks pair) (key_stands blocks pair first.two)
     (λ other among. let from = member_of_map (key_of blocks) pairs other
     (member_of_filter test (map (key_of blocks) pairs) other among).0 in
     rw (sym from.2) (first.first from.0))

@@ -9,6 +9,7 @@ use Rattle.repair_grammar.specs.RePair.{met, replaced, pair_count, key_of, keys_
 use Rattle.repair_grammar.specs.Counts.{IsFirst, AllBelowTwo}
 use Rattle.repair_grammar.proofs.PassLemmas.{length-replaced, met-le}
 use Rattle.repair_grammar.proofs.KeyLemmas.{key_taken, no_key, taken_is}
+use Rattle.repair_grammar.proofs.FirstLemmas.{none_counts_two}
 
 -- how many symbols the passes leave
 pub symbols-replaced : (pair : ℕ × ℕ) (symbol : ℕ) (blocks : List (List ℕ)) →
@@ -73,6 +74,23 @@ rounds-enough (suc few) (suc many) alphabet grammar low high =
     let fewer = round_shorter alphabet grammar key taken in
     rounds-enough few many alphabet (after_round alphabet grammar key.pair) (omega (arith, fewer)) (omega (arith, fewer)))
 
+-- after as many rounds as symbols, no key is left to be taken
+ended_by : (more alphabet : ℕ) (grammar : Grammar) (next : Option Key) → first_key (keys_of grammar.blocks) ≡ next →
+    ((key : Key) → first_key (keys_of grammar.blocks) ≡ Some key →
+    first_key (keys_of (rounds more alphabet (after_round alphabet grammar key.pair)).blocks) ≡ None) →
+    first_key (keys_of (rounds (suc more) alphabet grammar).blocks) ≡ None
+ended_by more alphabet grammar None is later = rw (rounds-none (suc more) alphabet grammar is) is
+ended_by more alphabet grammar (Some key) is later = rw (rounds-some more alphabet grammar key is) (later key is)
+
+pub rounds-ended : (more alphabet : ℕ) (grammar : Grammar) → sum_by length grammar.blocks ≤ more →
+    first_key (keys_of (rounds more alphabet grammar).blocks) ≡ None
+rounds-ended zero alphabet grammar few =
+    let none = no_round alphabet grammar (omega arith) (first_key (keys_of grammar.blocks)) refl in
+    rw (rounds-none zero alphabet grammar none) none
+rounds-ended (suc more) alphabet grammar few =
+    ended_by more alphabet grammar (first_key (keys_of grammar.blocks)) refl (λ key taken.
+    rounds-ended more alphabet (after_round alphabet grammar key.pair) (omega (arith, round_shorter alphabet grammar key taken)))
+
 -- a round, and the rounds that are left after it
 pub rounds-step : (alphabet : ℕ) (grammar : Grammar) (pair : ℕ × ℕ) → IsFirst (pair_count grammar.blocks) pair →
     rounds (sum_by length grammar.blocks) alphabet grammar
@@ -121,3 +139,9 @@ pub re_pair-is : (alphabet : ℕ) (blocks : List (List ℕ)) →
     re_pair alphabet blocks ≡ rounds (sum_by length blocks) alphabet (record { rules = []; blocks = blocks })
 unfolding re_pair
 re_pair-is alphabet blocks = refl
+
+-- afterwards no pair counts two
+pub re_pair-done : (alphabet : ℕ) (blocks : List (List ℕ)) → AllBelowTwo (pair_count (re_pair alphabet blocks).blocks)
+unfolding re_pair
+re_pair-done alphabet blocks = none_counts_two (re_pair alphabet blocks).blocks
+    (rounds-ended (sum_by length blocks) alphabet (record { rules = []; blocks = blocks }) (omega arith))

@@ -1,6 +1,6 @@
 -- Re-Pair by rounds. Each round counts every pair afresh, takes the one that counts most, and replaces it.
 use Rattle.std.specs.Prelude.{ℕ, zero, suc, ◌+◌, ◌<◌, Bool, ◌&&◌, ◌==◌, nat_lt, not, if◌then◌else◌, Option, None, Some, List, [], ◌∷◌, ◌++◌, length, map, filter, find}
-use Rattle.std.specs.List.{list_any, sum_by, flat_map, All}
+use Rattle.std.specs.List.{list_any, sum_by, flat_map, AllByRecursion}
 use Rattle.std.specs.Ordering.{ordering_then, nat_cmp, is_lt}
 use Rattle.std.specs.declared.cmp.Ordering.{Ordering}
 use Rattle.repair_grammar.specs.declared.grammar.Grammar.{Grammar}
@@ -73,4 +73,4 @@ re_pair alphabet blocks = rounds (sum_by length blocks) alphabet (record { rules
 
 -- every symbol of the blocks is below this number
 unfoldable pub AreBelow : ℕ → List (List ℕ) → Type 0
-AreBelow limit blocks = All (All (λ symbol. symbol < limit)) blocks
+AreBelow limit blocks = AllByRecursion (AllByRecursion (λ symbol. symbol < limit)) blocks

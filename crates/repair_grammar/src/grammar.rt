@@ -1,8 +1,9 @@
-ghost use Rattle.std.specs.Prelude.{◌≡◌, ◌^◌, ◌≤◌, length, IfOk};
+ghost use Rattle.std.specs.Prelude.{◌≡◌, ℕ, ◌^◌, ◌<◌, ◌≤◌, length, IfOk};
 ghost use Rattle.std.specs.List.{sum_by};
 ghost use Rattle.track_types.specs.Limits.{limit_of};
 ghost use Rattle.track_types.specs.declared.limit.LimitKind.TheVariants.{Symbols};
-ghost use Rattle.repair_grammar.specs.RePair.{re_pair, AreBelow};
+ghost use Rattle.repair_grammar.specs.GrammarOf.{IsGrammarOf};
+ghost use Rattle.repair_grammar.specs.RePair.{AreBelow, pair_count, re_pair};
 
 use crate::recounting::recounted;
 use std::alloc::Global;
@@ -29,6 +30,8 @@ pub fn compress(alloc: Global, alphabet: u32, blocks: &Lists32) -> Result<Gramma
     requires few { sum_by length blocks.now ≤ limit_of Symbols }
     requires small { alphabet ≤ 2 ^ 25 }
     ensures ok { IfOk result (λ grammar. grammar ≡ re_pair alphabet blocks.now) }
+    ensures sound { IfOk result (IsGrammarOf alphabet blocks.now) }
+    ensures done { IfOk result (λ grammar. (pair : ℕ × ℕ) → pair_count grammar.blocks pair < 2) }
 {
     recounted(alloc, alphabet, blocks)
 }
