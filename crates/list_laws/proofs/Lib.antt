@@ -3,3 +3,5 @@ pub mod FlatLemmas
 pub mod SumLemmas
 pub mod OrderedLemmas
 mod Examples
+pub mod GrownLemmas
+pub mod MemberLemmas

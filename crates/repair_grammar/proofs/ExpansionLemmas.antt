@@ -1,0 +1,133 @@
+-- What symbols stand for after a pass, and after a rule more.
+use Rattle.std.proofs.Common.{◌≡◌, ◌⊎◌, ℕ, zero, suc, ◌+◌, ◌*◌, ◌<◌, ◌≤◌, Bool, true, false, List, [], ◌∷◌, ◌++◌, length, get_or, map, refl, sym, ◌∙◌, ap, arith, inl, inr, append_assoc}
+use Rattle.std.specs.List.{sum_by, flat_map, range_with_len, AllByRecursion, Contains}
+use Rattle.std.proofs.lemmas.Bool.{cases_Bool}
+use Rattle.std.proofs.Math.ListN.{get_or-append}
+use Rattle.std.proofs.Math.Seq.{get_or-append_seam}
+use Rattle.std.proofs.lemmas.List.{length-append, length-map, get_or-map}
+use Rattle.std.proofs.lemmas.List.FromFn.{length-map-range_with_len, get_or-map-range_with_len}
+use Rattle.std.proofs.lemmas.List.Elements.{Contains-append_cases}
+use Rattle.list_laws.specs.Grown.{grown}
+use Rattle.list_laws.proofs.GrownLemmas.{length-grown, grown-append, grown-keeps, grown-last}
+use Rattle.list_laws.proofs.MemberLemmas.{member_cases, no_member}
+use Rattle.repair_grammar.specs.RePair.{is_pair, met, replaced, pairs_in, AreBelow}
+use Rattle.repair_grammar.specs.GrammarOf.{expansions, expanded}
+use Rattle.repair_grammar.proofs.PassLemmas.{left_of_pair, right_of_pair}
+
+-- a pass keeps what a block stands for, where the symbol stands for the pair and all others for what they did
+module _ {A : Type 0} (old new : ℕ → List A) (pair : ℕ × ℕ) (symbol : ℕ) (whole : new symbol ≡ old pair.0 ++ old pair.1)
+    (same : (other : ℕ) → other < symbol → new other ≡ old other) where
+  pub flat_map-replaced : (block : List ℕ) → AllByRecursion (λ other. other < symbol) block →
+      flat_map new (replaced pair symbol block) ≡ flat_map old block
+  unfolding replaced
+  flat_map-replaced [] below = refl
+  flat_map-replaced (x ∷ []) below = rw (same x below.0) refl
+  flat_map-replaced (x ∷ y ∷ rest) below = elim (cases_Bool (is_pair pair x y)) [
+    | inl is ↦ rw (is, whole, left_of_pair pair x y is, right_of_pair pair x y is, flat_map-replaced rest below.1.1, append_assoc) refl
+    | inr other ↦ rw (other, same x below.0, flat_map-replaced (y ∷ rest) below.1) refl
+  ]
+
+-- the symbols after a pass
+pub below-more : (limit : ℕ) (block : List ℕ) → AllByRecursion (λ symbol. symbol < limit) block → AllByRecursion (λ symbol. symbol < limit + 1) block
+below-more limit [] below = below
+below-more limit (x ∷ rest) below = (omega (arith, below.0), below-more limit rest below.1)
+
+pub below-replaced : (pair : ℕ × ℕ) (symbol : ℕ) (block : List ℕ) → AllByRecursion (λ other. other < symbol) block →
+    AllByRecursion (λ other. other < symbol + 1) (replaced pair symbol block)
+unfolding replaced
+below-replaced pair symbol [] below = below
+below-replaced pair symbol (x ∷ []) below = (omega (arith, below.0), below.1)
+below-replaced pair symbol (x ∷ y ∷ rest) below = elim (cases_Bool (is_pair pair x y)) [
+  | inl is ↦ rw is (omega arith, below-replaced pair symbol rest below.1.1)
+  | inr other ↦ rw other (omega (arith, below.0), below-replaced pair symbol (y ∷ rest) below.1)
+]
+
+pub all_below-replaced : (pair : ℕ × ℕ) (symbol : ℕ) (blocks : List (List ℕ)) → AreBelow symbol blocks →
+    AreBelow (symbol + 1) (map (replaced pair symbol) blocks)
+unfolding AreBelow
+all_below-replaced pair symbol [] below = below
+all_below-replaced pair symbol (block ∷ blocks) below =
+    (below-replaced pair symbol block below.0, all_below-replaced pair symbol blocks below.1)
+
+-- the parts of a pair that stands in a block
+pair_below : (limit : ℕ) (block : List ℕ) (pair : ℕ × ℕ) → AllByRecursion (λ symbol. symbol < limit) block →
+    Contains (pairs_in block) pair → (pair.0 < limit) × (pair.1 < limit)
+unfolding pairs_in
+pair_below limit [] pair below inside = no_member pair inside
+pair_below limit (x ∷ []) pair below inside = no_member pair inside
+pair_below limit (x ∷ y ∷ rest) pair below inside = elim (member_cases pair (x, y) (pairs_in (y ∷ rest)) inside) [
+  | inl same ↦ rw (sym same) (below.0, below.1.0)
+  | inr later ↦ pair_below limit (y ∷ rest) pair below.1 later
+]
+
+pub parts_below : (limit : ℕ) (blocks : List (List ℕ)) (pair : ℕ × ℕ) → AreBelow limit blocks →
+    Contains (flat_map pairs_in blocks) pair → (pair.0 < limit) × (pair.1 < limit)
+unfolding AreBelow
+parts_below limit [] pair below inside = no_member pair inside
+parts_below limit (block ∷ blocks) pair below inside =
+    elim (Contains-append_cases (pairs_in block) (flat_map pairs_in blocks) pair inside) [
+      | inl here ↦ pair_below limit block pair below.0 here
+      | inr later ↦ parts_below limit blocks pair below.1 later
+    ]
+
+-- what a table of expansions has
+abbrev terminals : ℕ → List (List ℕ)
+terminals alphabet = map (λ terminal. terminal ∷ []) (range_with_len 0 alphabet)
+
+pub length-expansions : (alphabet : ℕ) (rules : List (ℕ × ℕ)) → length (expansions alphabet rules) ≡ alphabet + length rules
+unfolding expansions
+length-expansions alphabet rules = length-grown (◌++◌) [] (terminals alphabet) rules
+    ∙ ap (λ n. n + length rules) (length-map-range_with_len (λ terminal. terminal ∷ []) 0 alphabet)
+
+-- a terminal stands for itself
+pub expansions-terminal : (alphabet : ℕ) (rules : List (ℕ × ℕ)) (terminal : ℕ) → terminal < alphabet →
+    get_or (expansions alphabet rules) terminal [] ≡ terminal ∷ []
+unfolding expansions
+expansions-terminal alphabet rules terminal below =
+    grown-keeps (◌++◌) [] (terminals alphabet) rules terminal (rw (length-map-range_with_len (λ t. t ∷ []) 0 alphabet) below)
+    ∙ get_or-map-range_with_len (λ t. t ∷ []) 0 alphabet terminal terminal [] below (omega arith)
+
+-- a new rule's symbol stands for what its parts stand for, one after the other
+pub expansions-last : (alphabet : ℕ) (rules : List (ℕ × ℕ)) (pair : ℕ × ℕ) →
+    get_or (expansions alphabet (rules ++ pair ∷ [])) (alphabet + length rules) []
+    ≡ get_or (expansions alphabet rules) pair.0 [] ++ get_or (expansions alphabet rules) pair.1 []
+unfolding expansions
+expansions-last alphabet rules pair =
+    rw (length-map-range_with_len (λ t. t ∷ []) 0 alphabet) at (grown-last (◌++◌) [] (terminals alphabet) rules pair)
+
+-- all other symbols stand for what they stood for
+grown_other : (alphabet : ℕ) (rules more : List (ℕ × ℕ)) (symbol : ℕ) → symbol < length (expansions alphabet rules) →
+    get_or (expansions alphabet (rules ++ more)) symbol [] ≡ get_or (expansions alphabet rules) symbol []
+unfolding expansions
+grown_other alphabet rules more symbol below = ap (λ table. get_or table symbol []) (grown-append (◌++◌) [] (terminals alphabet) rules more)
+    ∙ grown-keeps (◌++◌) [] (grown (◌++◌) [] (terminals alphabet) rules) more symbol below
+
+pub expansions-other : (alphabet : ℕ) (rules more : List (ℕ × ℕ)) (symbol : ℕ) → symbol < alphabet + length rules →
+    get_or (expansions alphabet (rules ++ more)) symbol [] ≡ get_or (expansions alphabet rules) symbol []
+expansions-other alphabet rules more symbol below = grown_other alphabet rules more symbol (rw (length-expansions alphabet rules) below)
+
+-- a block stands for the same after a round
+module _ (alphabet : ℕ) (rules : List (ℕ × ℕ)) (pair : ℕ × ℕ) where
+  pub expanded-round : (blocks : List (List ℕ)) → AreBelow (alphabet + length rules) blocks →
+      map (expanded alphabet (rules ++ pair ∷ [])) (map (replaced pair (alphabet + length rules)) blocks)
+      ≡ map (expanded alphabet rules) blocks
+  unfolding expanded AreBelow
+  expanded-round [] below = refl
+  expanded-round (block ∷ blocks) below = rw (expanded-round blocks below.1,
+      flat_map-replaced (λ symbol. get_or (expansions alphabet rules) symbol [])
+      (λ symbol. get_or (expansions alphabet (rules ++ pair ∷ [])) symbol []) pair (alphabet + length rules)
+      (expansions-last alphabet rules pair) (λ symbol small. expansions-other alphabet rules (pair ∷ []) symbol small) block below.0) refl
+
+-- to begin with, each block stands for itself
+expanded_itself : (alphabet : ℕ) (block : List ℕ) → AllByRecursion (λ symbol. symbol < alphabet) block →
+    flat_map (λ symbol. get_or (expansions alphabet []) symbol []) block ≡ block
+expanded_itself alphabet [] below = refl
+expanded_itself alphabet (x ∷ rest) below =
+    rw (expansions-terminal alphabet [] x below.0, expanded_itself alphabet rest below.1) refl
+
+pub expanded-none : (alphabet : ℕ) (blocks : List (List ℕ)) → AreBelow alphabet blocks →
+    map (expanded alphabet []) blocks ≡ blocks
+unfolding expanded AreBelow
+expanded-none alphabet [] below = refl
+expanded-none alphabet (block ∷ blocks) below =
+    rw (expanded_itself alphabet block below.0, expanded-none alphabet blocks below.1) refl

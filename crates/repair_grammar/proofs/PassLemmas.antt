@@ -1,0 +1,194 @@
+-- One pass from left to right: what it meets, and what it leaves.
+use Rattle.std.proofs.Common.{◌≡◌, ◌⊎◌, ℕ, zero, suc, ◌+◌, ◌*◌, ◌<◌, ◌≤◌, ◌==◌, Bool, true, false, cond, ◌&&◌, List, [], ◌∷◌, ◌++◌, length, get_or, take, drop, set, refl, sym, ◌∙◌, ap, arith, inl, inr, append_assoc, add-one}
+use Rattle.std.specs.List.{Contains}
+use Rattle.std.proofs.lemmas.Bool.{cases_Bool, and_parts, and_left, and_right, and_cases, both_ways, eqb-true, eqb-false, ne_eqb, false_from_ne_true}
+use Rattle.std.proofs.lemmas.List.{take_more_set, drop-set-lt, drop-drop}
+use Rattle.std.proofs.Math.Seq.{drop-cons}
+use Rattle.list_laws.proofs.MemberLemmas.{first_member, later_member}
+use Rattle.repair_grammar.specs.RePair.{is_pair, met, replaced, pairs_in}
+use Rattle.repair_grammar.specs.Counts.{met_after, stands_first}
+
+-- the two symbols of a pair that is met
+pub left_of_pair : (pair : ℕ × ℕ) (x y : ℕ) → is_pair pair x y ≡ true → x ≡ pair.0
+left_of_pair pair x y is = eqb-true x pair.0 (and_parts (x == pair.0) (y == pair.1) is).0
+
+pub right_of_pair : (pair : ℕ × ℕ) (x y : ℕ) → is_pair pair x y ≡ true → y ≡ pair.1
+right_of_pair pair x y is = eqb-true y pair.1 (and_parts (x == pair.0) (y == pair.1) is).1
+
+pub whole_pair : (pair : ℕ × ℕ) (x y : ℕ) → is_pair pair x y ≡ true → (x, y) ≡ pair
+whole_pair pair x y is = λ i. (left_of_pair pair x y is i, right_of_pair pair x y is i)
+
+-- each replacement takes one symbol away
+pub length-replaced : (pair : ℕ × ℕ) (symbol : ℕ) (block : List ℕ) →
+    length (replaced pair symbol block) + met pair block ≡ length block
+unfolding replaced met
+length-replaced pair symbol [] = refl
+length-replaced pair symbol (x ∷ []) = refl
+length-replaced pair symbol (x ∷ y ∷ rest) = elim (cases_Bool (is_pair pair x y)) [
+  | inl is ↦ rw is (omega (arith, length-replaced pair symbol rest))
+  | inr other ↦ rw other (omega (arith, length-replaced pair symbol (y ∷ rest)))
+]
+
+-- each one takes two
+pub met-le : (pair : ℕ × ℕ) (block : List ℕ) → 2 * met pair block ≤ length block
+unfolding met
+met-le pair [] = omega arith
+met-le pair (x ∷ []) = omega arith
+met-le pair (x ∷ y ∷ rest) = elim (cases_Bool (is_pair pair x y)) [
+  | inl is ↦ rw is (omega (arith, met-le pair rest))
+  | inr other ↦ rw other (omega (arith, met-le pair (y ∷ rest)))
+]
+
+-- a pair that is met stands side by side
+pub met_stands : (pair : ℕ × ℕ) (block : List ℕ) → 0 < met pair block → Contains (pairs_in block) pair
+unfolding met pairs_in
+met_stands pair [] some = absurd (omega arith)
+met_stands pair (x ∷ []) some = absurd (omega arith)
+met_stands pair (x ∷ y ∷ rest) some = elim (cases_Bool (is_pair pair x y)) [
+  | inl is ↦ rw (sym (whole_pair pair x y is)) (first_member (x, y) (pairs_in (y ∷ rest)))
+  | inr other ↦ later_member pair (x, y) (pairs_in (y ∷ rest)) (met_stands pair (y ∷ rest) (rw other at some))
+]
+
+-- a symbol that isn't the left one is passed
+met-other : (pair : ℕ × ℕ) (x : ℕ) (rest : List ℕ) → (x == pair.0) ≡ false → met pair (x ∷ rest) ≡ met pair rest
+unfolding met
+met-other pair x [] other = refl
+met-other pair x (y ∷ rest) other = rw (and_left (x == pair.0) (y == pair.1) other) refl
+
+-- nothing is met where no two symbols stand
+pub met-none : (pair : ℕ × ℕ) → met pair [] ≡ 0
+unfolding met
+met-none pair = refl
+
+pub met_after-single : (taken : Bool) (pair : ℕ × ℕ) (x : ℕ) → met_after taken pair (x ∷ []) ≡ 0
+unfolding met_after met
+met_after-single taken pair x = elim (cases_Bool (taken && is_pair pair x x)) [ inl is ↦ rw is refl | inr other ↦ rw other refl ]
+
+-- with nothing taken, what is still met is what is met
+pub met_after-fresh : (pair : ℕ × ℕ) (block : List ℕ) → met_after false pair block ≡ met pair block
+unfolding met_after met
+met_after-fresh pair [] = refl
+met_after-fresh pair (x ∷ rest) = refl
+
+-- in a run, a pair that overlaps the one taken before it is passed
+pub met_after-overlap : (pair : ℕ × ℕ) (x : ℕ) (rest : List ℕ) →
+    met_after true pair (x ∷ x ∷ rest) ≡ met_after false pair (x ∷ rest)
+unfolding met_after met
+met_after-overlap pair x rest = elim (cases_Bool (is_pair pair x x)) [ inl is ↦ rw is refl | inr other ↦ rw other refl ]
+
+-- each other pair counts: of two alike symbols, where nothing is taken
+counted_alike : (pair : ℕ × ℕ) (x : ℕ) (rest : List ℕ) →
+    met_after false pair (x ∷ x ∷ rest) ≡ cond (is_pair pair x x) 1 0 + met_after true pair (x ∷ rest)
+unfolding met_after met
+counted_alike pair x rest = elim (cases_Bool (is_pair pair x x)) [
+  | inl is ↦ rw is (omega arith)
+  | inr other ↦ rw other (omega arith)
+]
+
+-- of two others
+apart_from : (pair : ℕ × ℕ) (x y : ℕ) → (x == y) ≡ false → is_pair pair x y ≡ true → is_pair pair x x ≡ false
+apart_from pair x y apart is = false_from_ne_true (is_pair pair x x) (λ alike.
+    eqb-false x y apart (right_of_pair pair x x alike ∙ sym (right_of_pair pair x y is)))
+
+passed_next : (pair : ℕ × ℕ) (x y : ℕ) → (x == y) ≡ false → is_pair pair x y ≡ true → (y == pair.0) ≡ false
+passed_next pair x y apart is = ne_eqb y pair.0 (λ same. eqb-false x y apart (left_of_pair pair x y is ∙ sym same))
+
+counted_apart : (taken : Bool) (pair : ℕ × ℕ) (x y : ℕ) (rest : List ℕ) → (x == y) ≡ false →
+    met_after taken pair (x ∷ y ∷ rest) ≡ cond (is_pair pair x y) 1 0 + met_after false pair (y ∷ rest)
+unfolding met_after met
+counted_apart taken pair x y rest apart = elim (cases_Bool (is_pair pair x y)) [
+  | inl is ↦ rw (and_right taken (is_pair pair x x) (apart_from pair x y apart is), is,
+    met-other pair y rest (passed_next pair x y apart is)) (omega arith)
+  | inr other ↦ elim (cases_Bool (taken && is_pair pair x x)) [
+      | inl alike ↦ rw (alike, other) (omega arith)
+      | inr unlike ↦ rw (unlike, other) (omega arith)
+    ]
+]
+
+-- so each pair counts that doesn't overlap the one before it
+counted_same : (taken : Bool) (pair : ℕ × ℕ) (x y : ℕ) (rest : List ℕ) → (x == y) ≡ true → taken ≡ false →
+    met_after taken pair (x ∷ y ∷ rest) ≡ cond (is_pair pair x y) 1 0 + met_after true pair (y ∷ rest)
+counted_same taken pair x y rest same fresh = rw (fresh, sym (eqb-true x y same)) (counted_alike pair x rest)
+
+pub met_after-counted : (taken : Bool) (pair : ℕ × ℕ) (x y : ℕ) (rest : List ℕ) → (taken && (x == y)) ≡ false →
+    met_after taken pair (x ∷ y ∷ rest) ≡ cond (is_pair pair x y) 1 0 + met_after (x == y) pair (y ∷ rest)
+met_after-counted taken pair x y rest free = elim (cases_Bool (x == y)) [
+  | inr apart ↦ rw apart (counted_apart taken pair x y rest apart)
+  | inl same ↦ elim (and_cases taken (x == y) free) [
+      | inl fresh ↦ rw same (counted_same taken pair x y rest same fresh)
+      | inr apart ↦ absurd (both_ways (x == y) apart same)
+    ]
+]
+
+-- one symbol more of a walk through a block
+module _ (taken : Bool) (pair : ℕ × ℕ) (x : ℕ) (rest : List ℕ) (i : ℕ) (within : i < length rest) where
+  overlap_at : (y : ℕ) (later : List ℕ) → drop i rest ≡ y ∷ later → (taken && (x == y)) ≡ true →
+      met_after taken pair (x ∷ drop i rest) ≡ met_after false pair (y ∷ later)
+  overlap_at y later here overlaps = let parts = and_parts taken (x == y) overlaps in
+      rw (here, parts.0, eqb-true x y parts.1) (met_after-overlap pair y later)
+
+  pub overlap_step : (taken && (x == get_or rest i 0)) ≡ true →
+      met_after taken pair (x ∷ drop i rest) ≡ met_after false pair (get_or rest i 0 ∷ drop (i + 1) rest)
+  overlap_step overlaps = overlap_at (get_or rest i 0) (drop (i + 1) rest) (rw add-one (drop-cons rest i 0 within)) overlaps
+
+  pub counted_step : (taken && (x == get_or rest i 0)) ≡ false →
+      met_after taken pair (x ∷ drop i rest)
+      ≡ cond (is_pair pair x (get_or rest i 0)) 1 0 + met_after (x == get_or rest i 0) pair (get_or rest i 0 ∷ drop (i + 1) rest)
+  counted_step free = rw (drop-cons rest i 0 within, add-one)
+      (met_after-counted taken pair x (get_or rest i 0) (drop (suc i) rest) free)
+
+-- what stands first, by the length
+pub stands_first-short : (pair : ℕ × ℕ) (block : List ℕ) → length block < 2 → stands_first pair block ≡ false
+unfolding stands_first
+stands_first-short pair [] short = refl
+stands_first-short pair (x ∷ []) short = refl
+stands_first-short pair (x ∷ y ∷ rest) short = absurd (omega arith)
+
+pub stands_first-long : (pair : ℕ × ℕ) (block : List ℕ) → 2 ≤ length block →
+    stands_first pair block ≡ is_pair pair (get_or block 0 0) (get_or block 1 0)
+unfolding stands_first
+stands_first-long pair [] long = absurd (omega arith)
+stands_first-long pair (x ∷ []) long = absurd (omega arith)
+stands_first-long pair (x ∷ y ∷ rest) long = refl
+
+-- one step of the pass
+pub replaced-met : (pair : ℕ × ℕ) (symbol : ℕ) (block : List ℕ) → stands_first pair block ≡ true →
+    replaced pair symbol block ≡ symbol ∷ replaced pair symbol (drop 2 block)
+unfolding replaced stands_first
+replaced-met pair symbol [] stands = absurd (cc)
+replaced-met pair symbol (x ∷ []) stands = absurd (cc)
+replaced-met pair symbol (x ∷ y ∷ rest) stands = rw stands refl
+
+pub replaced-passed : (pair : ℕ × ℕ) (symbol x : ℕ) (rest : List ℕ) → stands_first pair (x ∷ rest) ≡ false →
+    replaced pair symbol (x ∷ rest) ≡ x ∷ replaced pair symbol rest
+unfolding replaced stands_first
+replaced-passed pair symbol x [] passed = refl
+replaced-passed pair symbol x (y ∷ rest) passed = rw passed refl
+
+-- a symbol that is written before what is still to be read
+pub put_before : (f : List ℕ → List ℕ) (items : List ℕ) (written read x : ℕ) → written < read → written < length items →
+    take (written + 1) (set items written x) ++ f (drop read (set items written x)) ≡ take written items ++ x ∷ f (drop read items)
+put_before f items written read x before below =
+    rw (take_more_set items written x below, drop-set-lt read items written x before, append_assoc) refl
+
+-- the step of a pass that writes over what it has read
+module _ (pair : ℕ × ℕ) (symbol : ℕ) (items : List ℕ) (written read : ℕ) (behind : written ≤ read) (within : read < length items) where
+  pub step_met : stands_first pair (drop read items) ≡ true →
+      take (written + 1) (set items written symbol) ++ replaced pair symbol (drop (read + 2) (set items written symbol))
+      ≡ take written items ++ replaced pair symbol (drop read items)
+  step_met stands = put_before (replaced pair symbol) items written (read + 2) symbol (omega arith) (omega arith)
+      ∙ sym (ap (λ rest. take written items ++ rest)
+      (replaced-met pair symbol (drop read items) stands ∙ ap (λ rest. symbol ∷ replaced pair symbol rest) (drop-drop 2 read items)))
+
+  pub step_passed : (x : ℕ) → x ≡ get_or items read 0 → stands_first pair (drop read items) ≡ false →
+      take (written + 1) (set items written x) ++ replaced pair symbol (drop (read + 1) (set items written x))
+      ≡ take written items ++ replaced pair symbol (drop read items)
+  step_passed x is passed = let here : drop read items ≡ x ∷ drop (read + 1) items = rw (is, add-one) (drop-cons items read 0 within) in
+      put_before (replaced pair symbol) items written (read + 1) x (omega arith) (omega arith)
+      ∙ sym (ap (λ rest. take written items ++ rest) (ap (replaced pair symbol) here
+      ∙ replaced-passed pair symbol x (drop (read + 1) items) (rw here at passed)))
+
+-- nothing is left
+pub replaced-none : (pair : ℕ × ℕ) (symbol : ℕ) → replaced pair symbol [] ≡ []
+unfolding replaced
+replaced-none pair symbol = refl

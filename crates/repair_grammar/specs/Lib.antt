@@ -1,0 +1,4 @@
+-- In reading order.
+pub mod RePair
+pub mod GrammarOf
+pub mod Counts

@@ -1,0 +1,16 @@
+//! Re-Pair: blocks of symbols made shorter by rules, each of which stands for two symbols side by
+//! side.
+//!
+//! `compress` gives exactly the rules and blocks of `re_pair` in `specs/RePair.antt`. The method is
+//! Larsson and Moffat's (Off-Line Dictionary-Based Compression, Proceedings of the IEEE 88, 2000);
+//! how ties and overlaps are settled is this project's own. The crate stands on `track_types` and
+//! `list_laws`.
+#![tactic(auto)]
+
+mod counting;
+mod grammar;
+mod key;
+mod recounting;
+mod replacing;
+
+pub use grammar::{Grammar, compress};
