@@ -1,1 +1,3 @@
 pub mod GrownLemmas
+pub mod FindLemmas
+pub mod RuleLemmas
