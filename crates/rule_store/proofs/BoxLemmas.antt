@@ -1,12 +1,12 @@
 -- Least boxes: round joined lists of cells, and round cells that are moved.
 use Rattle.std.proofs.Common.{◌≡◌, ℕ, ℤ, pos, ◌+ℤ◌, ◌≤ℤ◌, List, [], ◌∷◌, ◌++◌, Option, Some, None, map, refl, ap, sym, ◌∙◌, arith, subst}
-use Rattle.std.specs.Prelude.{fold}
+use Rattle.std.specs.Prelude.{fold, unwrap_or}
 use Rattle.std.specs.Int.{int_max, int_min}
 use Rattle.std.proofs.Props.{props}
 use Rattle.std.proofs.lemmas.Int.{ints}
 use Rattle.std.proofs.lemmas.List.{map-append}
 use Rattle.std.proofs.lemmas.List.Sums.{fold-append}
-use Rattle.std.proofs.Math.ListN.{append-nil}
+use Rattle.std.proofs.lemmas.List.{append-nil}
 use Rattle.track_types.specs.Quantities.{greatest, least}
 use Rattle.track_types.specs.declared.cell.Cell.{Cell}
 use Rattle.track_types.specs.declared.cell_box.CellBox.{CellBox}
@@ -86,9 +86,12 @@ pub box_round-bounds : (area : CellBox) (first : Cell) (rest : List Cell) → So
     Bounds area first rest
 unfolding box_round
 box_round-bounds area first rest is =
-    let same : area ≡ box (least (map column (first ∷ rest))) (least (map line (first ∷ rest)))
-        (greatest (map column (first ∷ rest))) (greatest (map line (first ∷ rest))) _ _ = cc in
-    record { x1 = ap (λ b. b.x1) same; y1 = ap (λ b. b.y1) same; x2 = ap (λ b. b.x2) same; y2 = ap (λ b. b.y2) same }
+    record {
+      x1 = ap (λ o. (unwrap_or o area).x1) is;
+      y1 = ap (λ o. (unwrap_or o area).y1) is;
+      x2 = ap (λ o. (unwrap_or o area).x2) is;
+      y2 = ap (λ o. (unwrap_or o area).y2) is;
+    }
 
 pub box_round-is : (area : CellBox) (first : Cell) (rest : List Cell) → Bounds area first rest →
     Some area ≡ box_round (first ∷ rest)

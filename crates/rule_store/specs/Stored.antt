@@ -1,11 +1,11 @@
 -- What a rule store keeps of each symbol, packed into 32 bytes, and what its entries are to its rules.
-use Rattle.std.specs.Prelude.{◌≡◌, ℕ, ◌+◌, ◌<◌, ◌≤◌, ◌≤ℤ◌, ◌<ℤ◌, List, length, get_or, Option, Some, None}
+use Rattle.std.specs.Prelude.{◌≡◌, ℕ, ◌+◌, ◌^◌, ◌<◌, ◌≤◌, ◌≤ℤ◌, ◌<ℤ◌, List, length, get_or, Option, Some, None}
 use Rattle.track_types.specs.declared.cell_box.CellBox.{CellBox}
 use Rattle.rule_store.specs.View.{RulesView, rules_with, symbols_in}
 use Rattle.rule_store.specs.Expansion.{depth_in, depth_of, values_of}
 use Rattle.rule_store.specs.Cells.{displacement_of}
 use Rattle.rule_store.specs.Boxes.{bounding_box_of}
-use Rattle.rule_store.specs.Flaws.{AreRules}
+use Rattle.rule_store.specs.Flaws.{AreRules, left_of, right_of}
 use Rattle.rule_store.specs.declared.packed_box.PackedBox.{PackedBox}
 use Rattle.rule_store.specs.declared.packed_entry.PackedEntry.{PackedEntry}
 use Rattle.rule_store.specs.declared.raw_rules.RawRules.{RawRules}
@@ -44,3 +44,11 @@ pub record IsStored (view : RulesView) (entries : List PackedEntry) (depth : ℕ
   pub many : length entries ≡ symbols_in view
   pub entries_are : AreEntries view entries
   pub depth_is : depth ≡ depth_in view
+  pub depth_fits : depth ≤ 2 ^ 26
+
+-- what is read of a rule: the parts of a symbol, which are below it
+pub record IsReadRule (view : RulesView) (symbol : ℕ) (parts : ℕ × ℕ) : Type 0 where
+  pub left : left_of view symbol ≡ parts.0
+  pub right : right_of view symbol ≡ parts.1
+  pub left_below : parts.0 < symbol
+  pub right_below : parts.1 < symbol

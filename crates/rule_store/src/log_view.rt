@@ -18,7 +18,6 @@ pub struct LogView<'a> {
 impl<'a> LogView<'a> {
     ghost use Rattle.rule_store.specs.Entry.{entry_of};
     ghost use Rattle.rule_store.specs.View.{symbols_in};
-    ghost use Rattle.rule_store.specs.Flaws.{AreRules};
     ghost use Rattle.rule_store.specs.Log.{log_of};
     ghost use Rattle.rule_store.specs.Cost.{entry_reads};
 
@@ -41,8 +40,7 @@ impl<'a> LogView<'a> {
 
     /// The rules that the symbols are of.
     pub fn rules(&self) -> &'a RuleStore
-        ensures value { result.now ≡ self.now.rules.now }
-        ensures rules { AreRules result.now }
+        ensures { result.now ≡ self.now.rules.now }
     {
         self.rules
     }

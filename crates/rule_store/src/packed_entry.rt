@@ -29,7 +29,8 @@ impl PackedEntry {
         requires shallow { depth ≤ 2 ^ 26 }
         requires near { ring_of entry.dx entry.dy < 2 ^ 20 }
         requires within { box_passes MAX_HEIGHT entry.hull ≡ false }
-        ensures packed { (values : List ℕ) → entry ≡ entry_with entry.symbol values → IsPacked values result }
+        ensures packed { (symbol : ℕ) (values : List ℕ) → entry ≡ entry_with symbol values
+            → IsPacked values result }
         ensures depth { result.depth ≡ depth }
     {
         PackedEntry {

@@ -3,7 +3,7 @@ ghost use Rattle.rule_store.specs.View.{rules_with, symbols_in, IsShaped};
 ghost use Rattle.rule_store.specs.Expansion.{depth_in, depth_of};
 ghost use Rattle.rule_store.specs.Entry.{entry_of};
 ghost use Rattle.rule_store.specs.Flaws.{rules_flaw, AreRules, IsFaultFor, left_of, right_of};
-ghost use Rattle.rule_store.specs.Stored.{IsEntryOf};
+ghost use Rattle.rule_store.specs.Stored.{IsEntryOf, IsReadRule};
 ghost use Rattle.rule_store.specs.Cost.{parts_reads};
 
 use crate::entry::Entry;
@@ -160,8 +160,7 @@ impl RuleStore {
         ensures right_below { right_of self.now symbol < symbol }
         ensures cost { steps.new ≡ steps.old + parts_reads }
     {
-        let rule = symbol as usize - self.alphabet.len();
-        let (left, right) = self.rules.at(rule, steps);
+        let (left, right) = self.read_rule(symbol, steps);
         (self.entry(left), self.entry(right))
     }
 
@@ -172,6 +171,7 @@ impl RuleStore {
         ensures from { result.from ≡ from }
         ensures len { result.len ≡ len }
     {
+        let _ = &self.symbols; // opens the invariant, which bounds their number
         LogView::new(self, from, len)
     }
 
@@ -185,10 +185,22 @@ impl RuleStore {
         self.symbols.at(place as usize, steps)
     }
 
+    // The two parts of a rule, by one read.
+    fn read_rule<L: Ledger>(&self, symbol: u32, steps: &mut Steps<L>) -> (u32, u32)
+        requires rule { length self.now.alphabet ≤ symbol }
+        requires within { symbol < symbols_in self.now }
+        ensures parts { IsReadRule self.now symbol result }
+        ensures cost { steps.new ≡ steps.old + 1 }
+    {
+        let rule = symbol as usize - self.alphabet.len();
+        self.rules.at(rule, steps)
+    }
+
     // What is kept of a symbol.
     fn packed(&self, symbol: u32) -> PackedEntry
         requires { symbol < symbols_in self.now }
-        ensures { IsEntryOf self.now symbol result }
+        ensures entry { IsEntryOf self.now symbol result }
+        ensures rules { AreRules self.now }
     {
         self.entries[symbol as usize]
     }
@@ -196,7 +208,8 @@ impl RuleStore {
 
 // The depth of the deepest symbol.
 fn greatest_depth(entries: &[PackedEntry]) -> u32
-    ensures { result ≡ fold (λ deepest entry. max deepest entry.depth) 0 entries.now }
+    ensures value { result ≡ fold (λ deepest entry. max deepest entry.depth) 0 entries.now }
+    ensures within { result ≤ 2 ^ 26 }
 {
     let mut depth = 0;
     for entry in entries {
