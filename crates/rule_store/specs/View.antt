@@ -1,7 +1,6 @@
 -- What contracts see of a rule store: the lists that it was checked from.
-use Rattle.std.specs.Prelude.{ℕ, ◌+◌, ◌^◌, ◌≤◌, List, length}
-use Rattle.std.specs.List.Sorted.{IsStrictlySortedBy}
-use Rattle.std.specs.Ordering.{nat_cmp}
+use Rattle.std.specs.Prelude.{ℕ, ◌+◌, ◌≤◌, List, length}
+use Rattle.std.specs.List.Sorted.{IsStrictlyIncreasing}
 use Rattle.track_types.specs.Limits.{IsPeriod, limit_of}
 use Rattle.track_types.specs.declared.limit.LimitKind.TheVariants.{Symbols}
 use Rattle.track_types.specs.declared.limit.TheConstants.{MAX_HEIGHT}
@@ -25,7 +24,7 @@ symbols_in view = length view.alphabet + length view.rules
 
 -- what is known of lists before they are judged
 pub record IsShaped (view : RulesView) : Type 0 where
-  pub ascending : IsStrictlySortedBy nat_cmp view.alphabet
+  pub ascending : IsStrictlyIncreasing view.alphabet
   pub alphabet_fits : length view.alphabet ≤ limit_of Symbols
   pub rules_fit : length view.rules ≤ limit_of Symbols
   pub symbols_fit : length view.symbols ≤ limit_of Symbols

@@ -1,5 +1,5 @@
-ghost use Rattle.std.specs.Prelude.{◌≡◌, ◌≤◌, ◌<◌, ◌+◌, ◌^◌, length};
-ghost use Rattle.rule_store.specs.View.{rules_with, IsShaped};
+ghost use Rattle.std.specs.Prelude.{◌≡◌, ◌<◌, OnTrue};
+ghost use Rattle.std.specs.List.Sorted.{IsStrictlyIncreasing};
 
 use super::{Entry, RuleFault, RuleStore};
 use std::alloc::Global;
@@ -9,7 +9,19 @@ use std::test::Fail;
 use step_count::Steps;
 use track_types::{List32, List64, Memory, PairList};
 
-// Lists, checked as the rules of an index.
+// Whether numbers ascend.
+fn ascends(numbers: &[u64]) -> bool
+    ensures { OnTrue result (IsStrictlyIncreasing numbers.now) }
+{
+    for i in 1..numbers.len() {
+        if numbers[i] <= numbers[i - 1] {
+            return false;
+        }
+    }
+    true
+}
+
+// Lists, checked as the rules of an index; `Memory` where they are no lists to be judged.
 fn store_of(
     alloc: Global,
     alphabet: &[u64],
@@ -17,9 +29,13 @@ fn store_of(
     symbols: &[u32],
     height: u32,
     period: u32,
-) -> Result<RuleStore, RuleFault>
-    requires { IsShaped (rules_with alphabet.now rules.now symbols.now height period) }
-{
+) -> Result<RuleStore, RuleFault> {
+    if !ascends(alphabet) || alphabet.len() > 100 || rules.len() > 100 || symbols.len() > 100 {
+        return Err(RuleFault::Memory);
+    }
+    if height < 1 || height > 20 || period < 1 || period > 4194304 {
+        return Err(RuleFault::Memory);
+    }
     RuleStore::check(
         alloc,
         List64::new(alphabet.to_vec(alloc).map_err(Memory::from)?),
@@ -168,7 +184,6 @@ fn entries_sum_up_expansions(rt: HostRuntime) -> Result<(), Fail> {
     let alphabet: [u64; 10] = [0, 1, 2, 3, 4, 5, 6, 7, 8, 9];
     for seed in 0..200u64 {
         let rules = random_rules(alloc, seed)?;
-        assert!(rt; rules.len() <= 24);
         let store = store_of(alloc, &alphabet, rules.as_slice(), &[], 20, 4194304)?;
         let expansions = expand(alloc, &alphabet, rules.as_slice())?;
         for (symbol, values) in expansions.iter().enumerate() {
