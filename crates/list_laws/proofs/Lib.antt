@@ -5,3 +5,5 @@ pub mod OrderedLemmas
 mod Examples
 pub mod GrownLemmas
 pub mod MemberLemmas
+pub mod FindLemmas
+pub mod RuleLemmas

@@ -1,0 +1,9 @@
+pub mod CellLemmas
+pub mod BoxLemmas
+pub mod ExpansionLemmas
+pub mod FlawLemmas
+pub mod LogLemmas
+pub mod NodeLemmas
+mod PackLemmas
+mod StoredLemmas
+mod Examples

@@ -1,0 +1,38 @@
+use Rattle.std.proofs.Common.{◌≡◌, None, ap, max, arith, subst, sym, ◌∙◌}
+use Rattle.std.specs.Prelude.{fold}
+use Rattle.rule_store.specs.declared.packed_entry.PackedEntry.{PackedEntry}
+use Rattle.rule_store.specs.Flaws.{AreRules, rule_flaw}
+use Rattle.rule_store.specs.Stored.{IsStored}
+use Rattle.rule_store.specs.View.{IsShaped, RulesView, rules_with}
+use Rattle.rule_store.proofs.FlawLemmas.{rules_flaw-none}
+use Rattle.rule_store.proofs.StoredLemmas.{depth_in-entries, same_view}
+use Rattle.rule_store.proofs.store.RuleStore.check.Goals as goal
+
+pub invariant_of-result : goal.invariant_of-result
+invariant_of-result c =
+    let judged : RulesView = rules_with c.as_slice.result.now c.as_slice-2.result.now c.as_slice-3.result.now c.args.height c.args.period in
+    let given = same_view c.as_slice.result.now c.args.alphabet c.as_slice-2.result.now c.args.rules c.as_slice-3.result.now c.args.symbols
+        c.args.height c.args.period c.as_slice.ensures c.as_slice-2.ensures c.as_slice-3.ensures in
+    let kept = same_view c.as_slice.result.now c.new.result c.as_slice-2.result.now c.new-2.result c.as_slice-3.result.now c.new-3.result
+        c.args.height c.args.period (c.as_slice.ensures ∙ sym c.into_vec.ensures ∙ sym c.new.ensures)
+        (c.as_slice-2.ensures ∙ sym c.into_vec-2.ensures ∙ sym c.new-2.ensures)
+        (c.as_slice-3.ensures ∙ sym c.into_vec-3.ensures ∙ sym c.new-3.ensures) in
+    let none : rule_flaw judged ≡ None = sym c.in_ok-rule.ensures.flaw ∙ c.in_default-2.is in
+    let stored : IsStored judged c.add_rules.new.entries.items c.greatest_depth-depth.result = record {
+      rules = record {
+        shaped = subst IsShaped (sym given) c.requires;
+        flawless = rules_flaw-none judged (record {
+          codes = sym c.find_long.ensures ∙ c.in_default.is;
+          rules = none;
+          symbols = sym c.find_unknown.ensures ∙ c.in_default-find_unknown.is;
+        });
+      };
+      many = c.in_ok-rule.ensures.many c.in_default-2.is;
+      entries_are = c.in_ok-rule.ensures.ok c.in_default-2.is;
+      depth_is = c.greatest_depth-depth.ensures.value
+          ∙ ap (λ entries. fold (λ deepest (entry : PackedEntry). max deepest entry.depth) 0 entries) c.as_slice-4.ensures.value
+          ∙ depth_in-entries judged c.add_rules.new.entries.items (c.in_ok-rule.ensures.many c.in_default-2.is)
+          (c.in_ok-rule.ensures.ok c.in_default-2.is);
+      depth_fits = c.greatest_depth-depth.ensures.within;
+    } in
+    subst (λ view. IsStored view c.add_rules.new.entries.items c.greatest_depth-depth.result) kept stored

@@ -1,0 +1,10 @@
+pub mod View
+pub mod Expansion
+pub mod Cells
+pub mod Boxes
+pub mod Entry
+pub mod Flaws
+pub mod Stored
+pub mod Log
+pub mod Nodes
+pub mod Cost

@@ -1,0 +1,70 @@
+-- The rule nodes of parse trees, and how many of them a walk over a window opens.
+use Rattle.std.specs.Prelude.{ℕ, ◌+◌, ℤ, pos, ◌+ℤ◌, Bool, ◌&&◌, List, [], ◌∷◌, ◌++◌, length, map, filter, slice_index}
+use Rattle.std.specs.Option.{is_some}
+use Rattle.std.specs.Int.Signed.{le_z}
+use Rattle.std.specs.List.{range_with_len}
+use Rattle.list_laws.specs.Grown.{grown, known_of}
+use Rattle.rule_store.specs.View.{RulesView}
+use Rattle.rule_store.specs.Boxes.{bounding_box_of}
+
+-- a rule's node in a parse tree: the terminals that come before it, and those that it stands for
+pub record Node : Type 0 where
+  pub before : List ℕ
+  pub inside : List ℕ
+
+-- the same node, where more terminals come before it
+abbrev pub after : List ℕ → Node → Node
+after terminals node = record { before = terminals ++ node.before; inside = node.inside }
+
+-- a symbol's parse tree: the terminals that it stands for, and its rule nodes
+pub record Parsed : Type 0 where
+  pub terminals : List ℕ
+  pub nodes : List Node
+
+-- the parse tree of a rule: its own node, and those of its parts
+abbrev pub parsed_with : Parsed → Parsed → Parsed
+parsed_with left right = record {
+  terminals = left.terminals ++ right.terminals;
+  nodes = record { before = []; inside = left.terminals ++ right.terminals }
+      ∷ left.nodes ++ map (after left.terminals) right.nodes;
+}
+
+-- the tree of a terminal has no node
+abbrev pub leaf : ℕ → Parsed
+leaf terminal = record { terminals = terminal ∷ []; nodes = [] }
+
+abbrev pub unparsed : Parsed
+unparsed = record { terminals = []; nodes = [] }
+
+-- the parse tree of a symbol
+unfoldable pub parsed : RulesView → ℕ → Parsed
+parsed view symbol = known_of parsed_with unparsed
+    (grown parsed_with unparsed (map leaf (range_with_len 0 (length view.alphabet))) view.rules) symbol
+
+-- the rule nodes of a log's parse trees
+unfoldable pub nodes_in : RulesView → List ℕ → List Node
+nodes_in view [] = []
+nodes_in view (symbol ∷ log) =
+    (parsed view symbol).nodes ++ map (after (parsed view symbol).terminals) (nodes_in view log)
+
+-- the instants of a node meet the window: it begins an instant after those before it, in a block whose anchor is
+-- at this instant
+abbrev pub meets : ℤ → ℤ → ℤ → Node → Bool
+meets instant from to node = le_z (instant +ℤ pos (length node.before + 1)) to
+    && le_z from (instant +ℤ pos (length node.before + length node.inside))
+
+-- the object is present at some instant of the node
+abbrev pub has_box : RulesView → Node → Bool
+has_box view node = is_some (bounding_box_of (map (slice_index view.alphabet) node.inside))
+
+-- a walk over the window opens the node
+abbrev pub is_opened : RulesView → ℤ → ℤ → ℤ → Node → Bool
+is_opened view instant from to node = meets instant from to node && has_box view node
+
+-- how many rule nodes of a log's parse trees have instants in the window and a box
+unfoldable pub opened_count : RulesView → ℤ → List ℕ → ℤ → ℤ → ℕ
+opened_count view instant log from to = length (filter (is_opened view instant from to) (nodes_in view log))
+
+-- how much a walk over the window reads at most: each symbol of the log, and the parts of each opened rule
+unfoldable pub block_budget : RulesView → ℤ → List ℕ → ℤ → ℤ → ℕ
+block_budget view instant log from to = length log + opened_count view instant log from to

@@ -1,0 +1,41 @@
+ghost use Rattle.std.specs.Prelude.{◌≡◌};
+ghost use Rattle.rule_store.specs.declared.fault.RuleFault.TheVariants.{Memory};
+
+use std::error::Error;
+use std::fmt::{self, Display, Formatter, Write};
+
+/// Why lists are not taken as the rules of an index.
+#[derive(Clone, Copy, Debug, PartialEq, Eq)]
+pub enum RuleFault {
+    /// The value at this place of the alphabet is a movement that leads out of each grid of this
+    /// height.
+    Code { index: u32 },
+    /// This rule, counted from 0, has a part that is not below its own symbol, or lasts longer than
+    /// a period leaves, or moves too far.
+    Rule { rule: u32 },
+    /// The stored symbol at this place is neither a terminal nor a rule.
+    Symbol { index: u32 },
+    /// Memory was refused. It may be answered to any lists.
+    Memory,
+}
+
+impl Display for RuleFault {
+    fn fmt<W: Write>(&self, f: &mut Formatter<W>) -> fmt::Result {
+        match self {
+            RuleFault::Code { index } => write!(f, "movement {index} is too long for the grid"),
+            RuleFault::Rule { rule } => write!(f, "rule {rule} has wrong parts or goes too far"),
+            RuleFault::Symbol { index } => write!(f, "symbol {index} is unknown"),
+            RuleFault::Memory => write!(f, "out of memory"),
+        }
+    }
+}
+
+impl Error for RuleFault {}
+
+impl From<track_types::Memory> for RuleFault {
+    ghost from_gives = { λ _ fault. fault ≡ Memory };
+
+    fn from(_memory: track_types::Memory) -> Self {
+        RuleFault::Memory
+    }
+}

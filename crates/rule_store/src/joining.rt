@@ -1,0 +1,80 @@
+ghost use Rattle.std.specs.Prelude.{◌≡◌, ℕ, List, ◌++◌, ◌∷◌, [], ◌^◌, ◌-◌, ◌≤◌, map, IfSome};
+ghost use Rattle.spiral_code.specs.Spiral.{square};
+ghost use Rattle.track_types.specs.Near.{IsBoxWithin, IsWithin};
+ghost use Rattle.track_types.specs.declared.cell.Cell.{Cell};
+ghost use Rattle.rule_store.specs.Cells.{moved};
+ghost use Rattle.rule_store.specs.Boxes.{box_round};
+ghost use Rattle.rule_store.specs.Entry.{entry_with};
+ghost use Rattle.rule_store.specs.Stored.{IsPacked};
+
+use crate::entry::Entry;
+use crate::packed_entry::PackedEntry;
+use spiral_code::decode_move;
+use track_types::CellBox;
+
+/// The entry of a terminal: an absence, or the movement of a code.
+pub(crate) fn terminal_entry(symbol: u32, value: u64) -> Entry
+    requires { value ≤ square (2 ^ 21 - 1) }
+    ensures { result ≡ entry_with symbol (value ∷ []) }
+{
+    if value == 0 {
+        return Entry { symbol, duration: 1, dx: 0, dy: 0, hull: None };
+    }
+    let (dx, dy) = decode_move(value - 1);
+    let hull = CellBox { x1: dx, y1: dy, x2: dx, y2: dy };
+    Entry { symbol, duration: 1, dx, dy, hull: Some(hull) }
+}
+
+/// The entry of a rule, from those of its parts.
+///
+/// The right part begins where the left one leads, so its box is moved by the left displacement.
+pub(crate) fn join(symbol: u32, left: PackedEntry, right: PackedEntry) -> Entry
+    ensures { (lefts rights : List ℕ) → IsPacked lefts left → IsPacked rights right
+        → result ≡ entry_with symbol (lefts ++ rights) }
+{
+    let (x, y) = left.displacement();
+    let (dx, dy) = right.displacement();
+    Entry {
+        symbol,
+        duration: left.duration + right.duration,
+        dx: x + dx,
+        dy: y + dy,
+        hull: join_boxes(left.hull.unpack(), shift(right.hull.unpack(), x, y)),
+    }
+}
+
+// A box moved by a displacement.
+fn shift(hull: Option<CellBox>, dx: i64, dy: i64) -> Option<CellBox>
+    requires within { IfSome hull IsBoxWithin }
+    requires right { IsWithin dx }
+    requires up { IsWithin dy }
+    ensures { (cells : List Cell) → hull ≡ box_round cells
+        → result ≡ box_round (map (λ cell. moved cell (dx, dy)) cells) }
+{
+    match hull {
+        Some(hull) => Some(CellBox {
+            x1: hull.x1 + dx,
+            y1: hull.y1 + dy,
+            x2: hull.x2 + dx,
+            y2: hull.y2 + dy,
+        }),
+        None => None,
+    }
+}
+
+// The least box round two boxes.
+fn join_boxes(left: Option<CellBox>, right: Option<CellBox>) -> Option<CellBox>
+    ensures { (lefts rights : List Cell) → left ≡ box_round lefts → right ≡ box_round rights
+        → result ≡ box_round (lefts ++ rights) }
+{
+    match (left, right) {
+        (Some(a), Some(b)) => Some(CellBox {
+            x1: a.x1.min(b.x1),
+            y1: a.y1.min(b.y1),
+            x2: a.x2.max(b.x2),
+            y2: a.y2.max(b.y2),
+        }),
+        (Some(_), None) => left,
+        (None, _) => right,
+    }
+}

@@ -1,0 +1,23 @@
+//! Grammar rules over movements: what each symbol stands for, summed up without expanding it.
+//!
+//! `RuleStore::check` takes exactly the alphabets, rules and symbols whose sums stay within a grid
+//! and a period. `RuleStore::entry` is the summary of a symbol's expansion (`specs/Entry.antt`), and
+//! rules and stored symbols are read by counted reads alone. The crate stands on `track_types`,
+//! `spiral_code`, `step_count` and `list_laws`.
+#![tactic(auto)]
+
+mod entry;
+mod fault;
+mod joining;
+mod log_view;
+mod packed_box;
+mod packed_entry;
+mod raw_rules;
+mod store;
+#[cfg(test)]
+mod tests;
+
+pub use entry::Entry;
+pub use fault::RuleFault;
+pub use log_view::LogView;
+pub use store::RuleStore;

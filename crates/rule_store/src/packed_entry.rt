@@ -1,0 +1,68 @@
+ghost use Rattle.std.specs.Prelude.{◌≡◌, ℕ, List, ◌^◌, ◌<◌, ◌≤◌, false};
+ghost use Rattle.spiral_code.specs.Spiral.{ring_of};
+ghost use Rattle.track_types.specs.Near.{IsWithin};
+ghost use Rattle.track_types.specs.declared.limit.TheConstants.{MAX_HEIGHT};
+
+use crate::entry::Entry;
+use crate::packed_box::PackedBox;
+
+/// The entry of a symbol in 32 bytes, with its depth.
+#[derive(Clone, Copy)]
+pub(crate) struct PackedEntry {
+    pub(crate) duration: u32,
+    pub(crate) depth: u32,
+    dx: i32,
+    dy: i32,
+    pub(crate) hull: PackedBox,
+    ghost short: { duration ≤ 2 ^ 22 },
+    ghost shallow: { depth ≤ 2 ^ 26 },
+}
+
+impl PackedEntry {
+    ghost use Rattle.rule_store.specs.Entry.{entry_with};
+    ghost use Rattle.rule_store.specs.Flaws.{box_passes};
+    ghost use Rattle.rule_store.specs.Stored.{IsPacked};
+
+    /// Packs an entry, whose distances stay within the reach of the highest grid.
+    pub(crate) fn pack(entry: Entry, depth: u32) -> PackedEntry
+        requires short { entry.duration ≤ 2 ^ 22 }
+        requires shallow { depth ≤ 2 ^ 26 }
+        requires near { ring_of entry.dx entry.dy < 2 ^ 20 }
+        requires within { box_passes MAX_HEIGHT entry.hull ≡ false }
+        ensures packed { (symbol : ℕ) (values : List ℕ) → entry ≡ entry_with symbol values
+            → IsPacked values result }
+        ensures depth { result.depth ≡ depth }
+    {
+        PackedEntry {
+            duration: entry.duration,
+            depth,
+            dx: entry.dx as i32,
+            dy: entry.dy as i32,
+            hull: PackedBox::pack(entry.hull),
+        }
+    }
+
+    /// How many cells the symbol moves to the right, and how many up, in all.
+    pub(crate) fn displacement(self) -> (i64, i64)
+        ensures right { result.0 ≡ self.dx }
+        ensures up { result.1 ≡ self.dy }
+        ensures right_within { IsWithin result.0 }
+        ensures up_within { IsWithin result.1 }
+    {
+        (i64::from(self.dx), i64::from(self.dy))
+    }
+
+    /// The entry, as that of a symbol.
+    pub(crate) fn unpack(self, symbol: u32) -> Entry
+        ensures { (values : List ℕ) → IsPacked values self → result ≡ entry_with symbol values }
+    {
+        let (dx, dy) = self.displacement();
+        Entry {
+            symbol,
+            duration: self.duration,
+            dx,
+            dy,
+            hull: self.hull.unpack(),
+        }
+    }
+}

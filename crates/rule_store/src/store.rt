@@ -1,0 +1,219 @@
+ghost use Rattle.std.specs.Prelude.{◌≡◌, ◌+◌, ◌<◌, ◌≤◌, ◌^◌, None, Some, length, max, fold, slice_get, IfErr, IfOk, OnOk, IsTrue, nat_le};
+ghost use Rattle.rule_store.specs.View.{rules_with, symbols_in, IsShaped};
+ghost use Rattle.rule_store.specs.Expansion.{depth_in, depth_of};
+ghost use Rattle.rule_store.specs.Entry.{entry_of};
+ghost use Rattle.rule_store.specs.Flaws.{rules_flaw, AreRules, IsFaultFor, left_of, right_of};
+ghost use Rattle.rule_store.specs.Stored.{IsEntryOf, IsReadRule};
+ghost use Rattle.rule_store.specs.Cost.{parts_reads};
+
+use crate::entry::Entry;
+use crate::fault::RuleFault;
+use crate::log_view::LogView;
+use crate::packed_entry::PackedEntry;
+use crate::raw_rules::RawRules;
+use std::alloc::Global;
+use std::marker::Model;
+use std::sync::ledger::Ledger;
+use step_count::{CountedList, Steps};
+use track_types::{List32, List64, PairList};
+
+/// A grammar over movements, with an entry for each of its symbols, and the symbols of all logs.
+///
+/// A symbol below the size of the alphabet is a terminal, and the others are the rules in order.
+/// Contracts see the lists that the store was checked from, with the height of the grid and the
+/// length of a period.
+#[derive(Drop)]
+pub struct RuleStore {
+    alphabet: CountedList<u64>,
+    rules: CountedList<(u32, u32)>,
+    symbols: CountedList<u32>,
+    entries: Vec<PackedEntry>,
+    depth: u32,
+    height: u32,
+    period: u32,
+}
+
+impl Model for RuleStore {
+    ghost use Rattle.rule_store.specs.View.{RulesView, rules_with};
+    ghost use Rattle.rule_store.specs.Stored.{IsStored};
+
+    ghost Value = { RulesView };
+
+    ghost view = { λ s. rules_with s.alphabet s.rules s.symbols s.height s.period };
+
+    ghost invariant = { λ s. IsStored (rules_with s.alphabet s.rules s.symbols s.height s.period)
+        s.entries.items s.depth };
+}
+
+impl RuleStore {
+    /// Takes lists as the rules of an index, in time linear in their lengths.
+    ///
+    /// It judges in this order: no value of the alphabet is a movement whose ring is above
+    /// `2^height - 1`; of each rule the parts are below its own symbol, the duration is at most
+    /// `period - 1`, and the displacement and the box stay within `2^height - 1` of the start; each
+    /// stored symbol is a terminal or a rule. The fault is the first place that fails. Each rule is
+    /// judged before a later one sums it, so that no sum leaves its type.
+    ///
+    /// The alphabet ascends; it, the rules and the symbols have at most 2^25 members each; `height`
+    /// is 1 to 20 and `period` 1 to 2^22. Memory is taken for the entries, 32 bytes for each symbol
+    /// of the grammar.
+    pub fn check(
+        alloc: Global,
+        alphabet: List64,
+        rules: PairList,
+        symbols: List32,
+        height: u32,
+        period: u32,
+    ) -> Result<RuleStore, RuleFault>
+        requires { IsShaped (rules_with alphabet rules symbols height period) }
+        ensures ok { IfOk result (λ store. store ≡ rules_with alphabet rules symbols height period) }
+        ensures exact { OnOk result
+            (rules_flaw (rules_with alphabet rules symbols height period) ≡ None) }
+        ensures flaw { IfErr result (λ fault.
+            IsFaultFor (rules_flaw (rules_with alphabet rules symbols height period)) fault) }
+    {
+        let raw = RawRules {
+            alphabet: alphabet.as_slice(),
+            rules: rules.as_slice(),
+            symbols: symbols.as_slice(),
+            height,
+            period,
+        };
+        if let Some(index) = raw.find_long() {
+            return Err(RuleFault::Code { index });
+        }
+        let mut entries = raw.terminal_entries(alloc)?;
+        if let Some(rule) = raw.add_rules(&mut entries)? {
+            return Err(RuleFault::Rule { rule });
+        }
+        if let Some(index) = raw.find_unknown() {
+            return Err(RuleFault::Symbol { index });
+        }
+        let depth = greatest_depth(entries.as_slice());
+        Ok(RuleStore {
+            alphabet: CountedList::new(alphabet.into_vec()),
+            rules: CountedList::new(rules.into_vec()),
+            symbols: CountedList::new(symbols.into_vec()),
+            entries,
+            depth,
+            height,
+            period,
+        })
+    }
+
+    /// The summary of a symbol, which is below the number of terminals and rules. It reads nothing
+    /// that is counted.
+    pub fn entry(&self, symbol: u32) -> Entry
+        requires { symbol < symbols_in self.now }
+        ensures value { result ≡ entry_of self.now symbol }
+        ensures rules { AreRules self.now }
+    {
+        self.packed(symbol).unpack(symbol)
+    }
+
+    /// Whether a symbol, which is in range, is a rule. The others are terminals.
+    pub fn is_rule(&self, symbol: u32) -> bool
+        requires { symbol < symbols_in self.now }
+        ensures { result ≡ nat_le (length self.now.alphabet) symbol }
+    {
+        symbol as usize >= self.alphabet.len()
+    }
+
+    /// The depth of a symbol, which is in range: 0 for a terminal, else one more than the greater
+    /// depth of its parts.
+    pub fn depth_of(&self, symbol: u32) -> u32
+        requires { symbol < symbols_in self.now }
+        ensures { result ≡ depth_of self.now symbol }
+    {
+        self.packed(symbol).depth
+    }
+
+    /// The depth of the deepest symbol, which is the height of the grammar; 0 without rules.
+    pub fn depth(&self) -> u32
+        ensures value { result ≡ depth_in self.now }
+        ensures within { result ≤ 2 ^ 26 }
+    {
+        self.depth
+    }
+
+    /// How many terminals, rules and stored symbols there are.
+    pub fn sizes(&self) -> (u32, u32, u32)
+        ensures alphabet { result.0 ≡ length self.now.alphabet }
+        ensures rules { result.1 ≡ length self.now.rules }
+        ensures symbols { result.2 ≡ length self.now.symbols }
+        ensures sound { AreRules self.now }
+    {
+        (
+            self.alphabet.len() as u32,
+            self.rules.len() as u32,
+            self.symbols.len() as u32,
+        )
+    }
+
+    /// The entries of the two parts of a rule, left and right, by one read. The symbol is a rule's.
+    pub fn parts<L: Ledger>(&self, symbol: u32, steps: &mut Steps<L>) -> (Entry, Entry)
+        requires rule { length self.now.alphabet ≤ symbol }
+        requires within { symbol < symbols_in self.now }
+        ensures left { result.0 ≡ entry_of self.now (left_of self.now symbol) }
+        ensures right { result.1 ≡ entry_of self.now (right_of self.now symbol) }
+        ensures left_below { left_of self.now symbol < symbol }
+        ensures right_below { right_of self.now symbol < symbol }
+        ensures cost { steps.new ≡ steps.old + parts_reads }
+    {
+        let (left, right) = self.read_rule(symbol, steps);
+        (self.entry(left), self.entry(right))
+    }
+
+    /// The log of a block: so many stored symbols from a place on, which are among them.
+    pub fn block(&self, from: u32, len: u32) -> LogView<'_>
+        requires { from + len ≤ length self.now.symbols }
+        ensures rules { result.rules.now ≡ self.now }
+        ensures from { result.from ≡ from }
+        ensures len { result.len ≡ len }
+    {
+        let _ = &self.symbols; // opens the invariant, which bounds their number
+        LogView::new(self, from, len)
+    }
+
+    // The stored symbol at a place, by one read.
+    pub(crate) fn symbol_at<L: Ledger>(&self, place: u32, steps: &mut Steps<L>) -> u32
+        requires { place < length self.now.symbols }
+        ensures value { slice_get self.now.symbols place ≡ Some result }
+        ensures within { result < symbols_in self.now }
+        ensures cost { steps.new ≡ steps.old + 1 }
+    {
+        self.symbols.at(place as usize, steps)
+    }
+
+    // The two parts of a rule, by one read.
+    fn read_rule<L: Ledger>(&self, symbol: u32, steps: &mut Steps<L>) -> (u32, u32)
+        requires rule { length self.now.alphabet ≤ symbol }
+        requires within { symbol < symbols_in self.now }
+        ensures parts { IsReadRule self.now symbol result }
+        ensures cost { steps.new ≡ steps.old + 1 }
+    {
+        let rule = symbol as usize - self.alphabet.len();
+        self.rules.at(rule, steps)
+    }
+
+    // What is kept of a symbol.
+    fn packed(&self, symbol: u32) -> PackedEntry
+        requires { symbol < symbols_in self.now }
+        ensures entry { IsEntryOf self.now symbol result }
+        ensures rules { AreRules self.now }
+    {
+        self.entries[symbol as usize]
+    }
+}
+
+// The depth of the deepest symbol.
+fn greatest_depth(entries: &[PackedEntry]) -> u32
+    ensures value { result ≡ fold (λ deepest entry. max deepest entry.depth) 0 entries.now }
+    ensures within { result ≤ 2 ^ 26 }
+{
+    let mut depth = 0;
+    for entry in entries {
+        depth = depth.max(entry.depth);
+    }
+    depth
+}
