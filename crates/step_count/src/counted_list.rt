@@ -27,7 +27,7 @@ impl<T: OneRead> CountedList<T> {
     pub fn new(items: Vec<T>) -> CountedList<T>
         ensures { result ≡ items.items }
     {
-        CountedList { items }
+        Self { items }
     }
 
     /// How many items there are. Nothing is counted.
@@ -51,6 +51,7 @@ impl<T: OneRead> CountedList<T> {
     pub fn into_vec(self) -> Vec<T>
         ensures { result.items ≡ self }
     {
-        self.items
+        let CountedList { items } = self;
+        items
     }
 }

@@ -7,7 +7,6 @@ pub mod Chart
 pub mod ByFilter
 pub mod Region
 pub mod Lazy
-pub mod BitList
 pub mod Frame
 pub mod Table
 pub mod Shape

@@ -8,7 +8,6 @@
 #![tactic(auto)]
 
 mod answerer;
-mod bit_list;
 mod cell;
 mod cell_box;
 mod chart;
@@ -29,7 +28,6 @@ mod row;
 mod stop;
 
 pub use answerer::Answerer;
-pub use bit_list::BitList;
 pub use cell::Cell;
 pub use cell_box::CellBox;
 pub use chart::Chart;
@@ -42,6 +40,7 @@ pub use limit::{LimitKind, MAX_EXTENT, MAX_HEIGHT};
 pub use lists::{List32, List64, Lists32, PairList, PeriodList};
 pub use memory::Memory;
 pub use numeral::{Numeral, number};
+pub use packed_bits::BitList;
 pub use parts::Parts;
 pub use period_parts::PeriodParts;
 pub use question::Question;

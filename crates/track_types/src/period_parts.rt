@@ -1,5 +1,5 @@
-use crate::bit_list::BitList;
 use crate::lists::List32;
+use packed_bits::BitList;
 
 /// What an index holds of one period, but for the logs. The lists promise nothing by themselves.
 #[derive(Debug, Drop)]
