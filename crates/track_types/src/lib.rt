@@ -49,8 +49,8 @@ pub use limit::{
 pub use lists::{List32, List64, Lists32, PairList};
 pub use memory::Memory;
 pub use numeral::{Numeral, number};
-pub use parts::Parts;
 pub use packed_bits::BitList;
+pub use parts::Parts;
 pub use period_parts::PeriodParts;
 pub use question::Question;
 pub use raw_row::{RawRow, RowFault};

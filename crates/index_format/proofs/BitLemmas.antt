@@ -1,0 +1,338 @@
+-- Bits in bytes: what the bytes spell, and that filling bytes with their bits gives them back.
+use Rattle.std.proofs.Common.{◌≡◌, ℕ, zero, suc, ◌+◌, ◌*◌, ◌/◌, ◌%◌, ◌^◌, ◌<◌, ◌≤◌, Bool, false, List, [], ◌∷◌, ◌++◌, length, take, drop, get_or, Ok, refl, sym, ap, ◌∙◌, inl, inr, append_assoc, arith, ltb, append-nil, drop-drop, take-add}
+use Rattle.std.proofs.Math.Nat.{mod-eq_of_lt, div-eq_of_lt, pow-le-pow_right}
+use Rattle.std.specs.Int.{w64, from_le_bytes}
+use Rattle.std.proofs.lemmas.List.{nil_from_length, length-append, length-drop, length-take, length-take-le, take-append-drop, get_or-drop, get_or-take, get_or_past, drop_at, drop_all, drop_more}
+use Rattle.std.proofs.lemmas.Bool.{cases_lt, ltb-false, le-ltb, lt-ltb}
+use Rattle.std.proofs.lemmas.Grind.{flat_map-append}
+use Rattle.std.specs.Int.RustNames.{count_ones}
+use Rattle.packed_bits.specs.Bits.{number_of, ones_of, window_of}
+use Rattle.packed_bits.proofs.OnesLemmas.{ones_of-append, ones_of-le-length}
+use Rattle.packed_bits.specs.Words.{low_bits, bits_of, IsPacked}
+use Rattle.packed_bits.proofs.NumberLemmas.{number_of-lt, number_of-append, number_of-take, number_of-drop, number_of-zero, count_ones-number_of, ones_of-zero, number_of-spare, same_from_number_of}
+use Rattle.packed_bits.proofs.WordLemmas.{length-low_bits, number_of-low_bits, bits_of-append, length-bits_of}
+use Rattle.track_types.specs.declared.flaw.Section.{Section}
+use Rattle.index_format.specs.Fields.{has_spare, bits_at}
+use Rattle.index_format.specs.Spelling.{bits_in, bytes_filled, byte_count, bit_bytes}
+
+-- each is below 256
+abbrev pub IsBytes : List ℕ → Type 0
+IsBytes bytes = (i : ℕ) → get_or bytes i 0 < 256
+
+pub IsBytes-rest : (byte : ℕ) (bytes : List ℕ) → IsBytes (byte ∷ bytes) → IsBytes bytes
+IsBytes-rest byte bytes fits i = fits (suc i)
+
+pub IsBytes-drop : (n : ℕ) (bytes : List ℕ) → IsBytes bytes → IsBytes (drop n bytes)
+IsBytes-drop n bytes fits i = rw get_or-drop (fits (n + i))
+
+pub IsBytes-take : (n : ℕ) (bytes : List ℕ) → IsBytes bytes → IsBytes (take n bytes)
+IsBytes-take n bytes fits i =
+    elim (cases_lt i n) [
+      | inl low ↦ rw (get_or-take n bytes i 0 low) (fits i)
+      | inr high ↦ rw (get_or_past (take n bytes) i 0 (omega (arith, length-take n bytes))) (omega arith)
+    ]
+
+-- the bits of the second bytes follow those of the first
+pub bits_in-append : (xs ys : List ℕ) → bits_in (xs ++ ys) ≡ bits_in xs ++ bits_in ys
+unfolding bits_in
+bits_in-append xs ys = flat_map-append (low_bits 8) xs ys
+
+-- each byte has eight bits
+pub length-bits_in : (bytes : List ℕ) → length (bits_in bytes) ≡ 8 * length bytes
+unfolding bits_in
+length-bits_in [] = refl
+length-bits_in (byte ∷ bytes) =
+    omega (arith, length-append (low_bits 8 byte) (bits_in bytes), length-low_bits 8 byte, length-bits_in bytes)
+
+-- a byte stands below those after it
+pub number_of-bits_in : (byte : ℕ) (bytes : List ℕ) → byte < 256
+    → number_of (bits_in (byte ∷ bytes)) ≡ number_of (bits_in bytes) * 256 + byte
+unfolding bits_in
+number_of-bits_in byte bytes small =
+    let parts = number_of-append (low_bits 8 byte) (bits_in bytes) in
+    let low = number_of-low_bits 8 byte in
+    let long = length-low_bits 8 byte in
+    parts ∙ ap (λ n. number_of (bits_in bytes) * 2 ^ n + number_of (low_bits 8 byte)) long ∙ rw low (omega arith)
+
+-- no bytes spell 0
+pub number_of-no_bits : number_of (bits_in []) ≡ 0
+unfolding bits_in number_of
+number_of-no_bits = refl
+
+-- one byte spells itself
+pub number_of-one_byte : (byte : ℕ) → byte < 256 → number_of (bits_in (byte ∷ [])) ≡ byte
+number_of-one_byte byte small = omega (arith, number_of-bits_in byte [] small, number_of-no_bits)
+
+-- bits that spell what the bytes do fill these bytes
+pub bytes_filled-bits_in : (bytes : List ℕ) (bits : List Bool) → IsBytes bytes
+    → number_of bits ≡ number_of (bits_in bytes) → bytes_filled (length bytes) bits ≡ bytes
+unfolding bytes_filled
+bytes_filled-bits_in [] bits fits same = refl
+bytes_filled-bits_in (byte ∷ bytes) bits fits same =
+    let parts = number_of-bits_in byte bytes (fits 0) in
+    let low : number_of (take 8 bits) ≡ byte = number_of-take 8 bits ∙ (let e = fits 0 in omega arith) in
+    let high : number_of (drop 8 bits) ≡ number_of (bits_in bytes) = number_of-drop 8 bits ∙ (let e = fits 0 in omega arith) in
+    rw (low, bytes_filled-bits_in bytes (drop 8 bits) (IsBytes-rest byte bytes fits) high) refl
+
+-- as many bytes as were asked for
+pub length-bytes_filled : (n : ℕ) (bits : List Bool) → length (bytes_filled n bits) ≡ n
+unfolding bytes_filled
+length-bytes_filled zero bits = refl
+length-bytes_filled (suc n) bits = ap suc (length-bytes_filled n (drop 8 bits))
+
+-- eight bits make a byte
+byte_below : (bits : List Bool) → number_of (take 8 bits) < 256
+byte_below bits = omega (arith, number_of-take 8 bits)
+
+-- bytes that have room for all bits spell what these do
+pub number_of-bytes_filled : (n : ℕ) (bits : List Bool) → length bits ≤ 8 * n
+    → number_of (bits_in (bytes_filled n bits)) ≡ number_of bits
+unfolding bytes_filled number_of
+number_of-bytes_filled zero [] room = number_of-no_bits
+number_of-bytes_filled zero (bit ∷ bits) room = absurd (omega arith)
+number_of-bytes_filled (suc n) bits room =
+    let parts = number_of-bits_in (number_of (take 8 bits)) (bytes_filled n (drop 8 bits)) (byte_below bits) in
+    let rest = number_of-bytes_filled n (drop 8 bits) (omega (arith, length-drop 8 bits)) in
+    parts ∙ omega (arith, rest, number_of-take 8 bits, number_of-drop 8 bits)
+
+-- the bits that the bytes of bits hold are these bits
+pub take-bits_in : (bits : List Bool) → take (length bits) (bits_in (bit_bytes bits)) ≡ bits
+unfolding bit_bytes
+take-bits_in bits =
+    let bytes = bytes_filled (byte_count (length bits)) bits in
+    let same = number_of-bytes_filled (byte_count (length bits)) bits (omega arith) in
+    let all : length (bits_in bytes) ≡ 8 * byte_count (length bits) =
+        length-bits_in bytes ∙ ap (λ n. 8 * n) (length-bytes_filled (byte_count (length bits)) bits) in
+    let long = length-take-le (length bits) (bits_in bytes) (omega arith) in
+    let number = number_of-take (length bits) (bits_in bytes) ∙ ap (λ v. v % 2 ^ length bits) same
+        ∙ mod-eq_of_lt (number_of-lt bits) in
+    same_from_number_of (take (length bits) (bits_in bytes)) bits long number
+
+-- and no bit after them is 1
+pub spare-bit_bytes : (bits : List Bool) → ones_of (drop (length bits) (bits_in (bit_bytes bits))) ≡ 0
+unfolding bit_bytes
+spare-bit_bytes bits =
+    let bytes = bytes_filled (byte_count (length bits)) bits in
+    let same = number_of-bytes_filled (byte_count (length bits)) bits (omega arith) in
+    let beyond = number_of-drop (length bits) (bits_in bytes) ∙ ap (λ v. v / 2 ^ length bits) same in
+    ones_of-zero (drop (length bits) (bits_in bytes)) (beyond ∙ div-eq_of_lt (number_of-lt bits))
+
+-- bytes whose spare bits are 0 are those of their bits
+pub bit_bytes-take : (count : ℕ) (bytes : List ℕ) → IsBytes bytes → length bytes ≡ byte_count count
+    → ones_of (drop count (bits_in bytes)) ≡ 0 → bit_bytes (take count (bits_in bytes)) ≡ bytes
+unfolding bit_bytes
+bit_bytes-take count bytes fits long spare =
+    let bits = take count (bits_in bytes) in
+    let count_is : length bits ≡ count = length-take-le count (bits_in bytes) (omega (arith, length-bits_in bytes)) in
+    let same = number_of-spare count (bits_in bytes) spare in
+    let bytes_is : byte_count (length bits) ≡ length bytes = rw count_is (sym long) in
+    ap (λ n. bytes_filled n bits) bytes_is ∙ bytes_filled-bits_in bytes bits fits same
+
+-- eight bytes as a word spell what their bits do
+pub from_le_bytes-bits_in : (bytes : List ℕ) → IsBytes bytes → length bytes ≡ 8
+    → from_le_bytes w64 bytes ≡ number_of (bits_in bytes)
+from_le_bytes-bits_in (a ∷ b ∷ c ∷ d ∷ e ∷ f ∷ g ∷ h ∷ []) fits long =
+    let n0 = number_of-bits_in a (b ∷ c ∷ d ∷ e ∷ f ∷ g ∷ h ∷ []) (fits 0) in
+    let n1 = number_of-bits_in b (c ∷ d ∷ e ∷ f ∷ g ∷ h ∷ []) (fits 1) in
+    let n2 = number_of-bits_in c (d ∷ e ∷ f ∷ g ∷ h ∷ []) (fits 2) in
+    let n3 = number_of-bits_in d (e ∷ f ∷ g ∷ h ∷ []) (fits 3) in
+    let n4 = number_of-bits_in e (f ∷ g ∷ h ∷ []) (fits 4) in
+    let n5 = number_of-bits_in f (g ∷ h ∷ []) (fits 5) in
+    let n6 = number_of-bits_in g (h ∷ []) (fits 6) in
+    let n7 = number_of-bits_in h [] (fits 7) in
+    omega (arith, n0, n1, n2, n3, n4, n5, n6, n7, number_of-no_bits)
+from_le_bytes-bits_in [] fits long = absurd (omega arith)
+from_le_bytes-bits_in (a ∷ []) fits long = absurd (omega arith)
+from_le_bytes-bits_in (a ∷ b ∷ []) fits long = absurd (omega arith)
+from_le_bytes-bits_in (a ∷ b ∷ c ∷ []) fits long = absurd (omega arith)
+from_le_bytes-bits_in (a ∷ b ∷ c ∷ d ∷ []) fits long = absurd (omega arith)
+from_le_bytes-bits_in (a ∷ b ∷ c ∷ d ∷ e ∷ []) fits long = absurd (omega arith)
+from_le_bytes-bits_in (a ∷ b ∷ c ∷ d ∷ e ∷ f ∷ []) fits long = absurd (omega arith)
+from_le_bytes-bits_in (a ∷ b ∷ c ∷ d ∷ e ∷ f ∷ g ∷ []) fits long = absurd (omega arith)
+from_le_bytes-bits_in (a ∷ b ∷ c ∷ d ∷ e ∷ f ∷ g ∷ h ∷ i ∷ rest) fits long = absurd (omega arith)
+
+-- the bytes that come after stand above
+pub number_of-more_bytes : (before chunk : List ℕ)
+    → number_of (bits_in (before ++ chunk)) ≡ number_of (bits_in chunk) * 2 ^ (8 * length before) + number_of (bits_in before)
+number_of-more_bytes before chunk =
+    ap number_of (bits_in-append before chunk) ∙ number_of-append (bits_in before) (bits_in chunk)
+    ∙ ap (λ n. number_of (bits_in chunk) * 2 ^ n + number_of (bits_in before)) (length-bits_in before)
+
+-- a word after others spells what its bytes do after theirs
+pub number_of-more_words : (words before chunk : List ℕ) (word : ℕ)
+    → number_of (bits_of words) ≡ number_of (bits_in before) → length before ≡ 8 * length words
+    → word < 2 ^ 64 → word ≡ number_of (bits_in chunk)
+    → number_of (bits_of (words ++ word ∷ [])) ≡ number_of (bits_in (before ++ chunk))
+unfolding bits_of
+number_of-more_words words before chunk word same long small is =
+    let alone : number_of (bits_of (word ∷ [])) ≡ word =
+        ap number_of (append-nil (low_bits 64 word)) ∙ number_of-low_bits 64 word ∙ mod-eq_of_lt small in
+    let parts = ap number_of (bits_of-append words (word ∷ [])) ∙ number_of-append (bits_of words) (bits_of (word ∷ [])) in
+    let width : length (bits_of words) ≡ 8 * length before = omega (arith, length-bits_of words, long) in
+    parts ∙ ap (λ n. number_of (bits_of (word ∷ [])) * 2 ^ n + number_of (bits_of words)) width
+    ∙ rw (alone, is, same) (sym (number_of-more_bytes before chunk))
+
+-- past the first k bytes come the bits of the others
+drop-bits_in : (k : ℕ) (bytes : List ℕ) → k ≤ length bytes → drop (8 * k) (bits_in bytes) ≡ bits_in (drop k bytes)
+drop-bits_in k bytes within =
+    let whole = ap bits_in (take-append-drop k bytes) in
+    let parts = bits_in-append (take k bytes) (drop k bytes) in
+    let long : length (bits_in (take k bytes)) ≡ 8 * k =
+        length-bits_in (take k bytes) ∙ ap (λ n. 8 * n) (length-take-le k bytes within) in
+    ap (drop (8 * k)) (sym whole ∙ parts) ∙ drop_at (bits_in (take k bytes)) (bits_in (drop k bytes)) (8 * k) long
+
+-- there is a 1 exactly where the bits do not spell 0
+pub any_one : (bits : List Bool) → ltb 0 (ones_of bits) ≡ ltb 0 (number_of bits)
+any_one bits = elim (cases_lt 0 (ones_of bits)) [
+  | inl some ↦ elim (cases_lt 0 (number_of bits)) [
+    | inl more ↦ lt-ltb 0 (ones_of bits) some ∙ sym (lt-ltb 0 (number_of bits) more)
+    | inr none ↦ absurd (omega (arith, some, ones_of-zero bits (omega arith)))
+  ]
+  | inr none ↦
+      let nothing = number_of-zero bits (omega (arith, none)) in
+      le-ltb 0 (ones_of bits) none ∙ sym (le-ltb 0 (number_of bits) (omega (arith, nothing)))
+]
+
+-- the bits past the last byte's used ones spell its quotient
+pub spare-last : (count : ℕ) (bytes : List ℕ) → IsBytes bytes → length bytes ≡ byte_count count → 0 < count % 8
+    → number_of (drop count (bits_in bytes)) ≡ get_or bytes (count / 8) 0 / 2 ^ (count % 8)
+spare-last count bytes fits long used =
+    let k = count / 8 in
+    let last = get_or bytes k 0 in
+    let rest : drop k bytes ≡ last ∷ [] =
+        drop_more bytes k 0 (omega arith) ∙ ap (λ tail. last ∷ tail) (drop_all (k + 1) bytes (omega arith)) in
+    let inside : drop (8 * k) (bits_in bytes) ≡ bits_in (last ∷ []) =
+        drop-bits_in k bytes (omega arith) ∙ ap bits_in rest in
+    let whole : number_of (bits_in (last ∷ [])) ≡ last =
+        number_of-one_byte last (fits k) in
+    let place : count ≡ 8 * k + count % 8 = omega arith in
+    let twice : drop count (bits_in bytes) ≡ drop (count % 8) (drop (8 * k) (bits_in bytes)) =
+        ap (λ n. drop n (bits_in bytes)) place ∙ sym (drop-drop (count % 8) (8 * k) (bits_in bytes)) in
+    ap number_of twice ∙ ap (λ bits. number_of (drop (count % 8) bits)) inside
+    ∙ number_of-drop (count % 8) (bits_in (last ∷ [])) ∙ ap (λ n. n / 2 ^ (count % 8)) whole
+
+-- bits that fill their bytes have no spare ones
+pub spare-full : (count : ℕ) (bytes : List ℕ) → length bytes ≡ byte_count count → count % 8 ≡ 0
+    → drop count (bits_in bytes) ≡ []
+spare-full count bytes long full = drop_all count (bits_in bytes) (omega (arith, length-bits_in bytes))
+
+-- the words spell what the bytes before the rest do
+pub record IsSpelt (words : List ℕ) (rest bytes : List ℕ) : Type 0 where
+  pub before : List ℕ
+  pub split : bytes ≡ before ++ rest
+  pub long : length before ≡ 8 * length words
+  pub same : number_of (bits_of words) ≡ number_of (bits_in before)
+  pub fits : IsBytes rest
+
+-- nothing is spelt yet
+pub IsSpelt-start : (bytes : List ℕ) → IsBytes bytes → IsSpelt [] bytes bytes
+unfolding bits_of number_of
+IsSpelt-start bytes fits = record { before = []; split = refl; long = refl; same = sym number_of-no_bits; fits = fits }
+
+module _ {words rest bytes : List ℕ} (spelt : IsSpelt words rest bytes) where
+  -- eight more bytes are a word
+  pub IsSpelt-more : (front after new : List ℕ) (word : ℕ) → 8 ≤ length rest → front ≡ take 8 rest → after ≡ drop 8 rest
+      → word ≡ from_le_bytes w64 front → word < 2 ^ 64 → new ≡ words ++ word ∷ [] → IsSpelt new after bytes
+  IsSpelt-more front after new word enough front_is after_is word_is small new_is =
+      let eight : length front ≡ 8 = rw front_is (length-take-le 8 rest enough) in
+      let front_fits : IsBytes front = rw front_is (IsBytes-take 8 rest spelt.fits) in
+      let value = word_is ∙ from_le_bytes-bits_in front front_fits eight in
+      let whole : rest ≡ front ++ after = sym (rw (front_is, after_is) (take-append-drop 8 rest)) in
+      record {
+        before = spelt.before ++ front;
+        split = spelt.split ∙ ap (λ tail. spelt.before ++ tail) whole ∙ sym (append_assoc spelt.before front after);
+        long = rw new_is (omega (arith, spelt.long, eight, length-append spelt.before front, length-append words (word ∷ [])));
+        same = ap (λ list. number_of (bits_of list)) new_is
+            ∙ number_of-more_words words spelt.before front word spelt.same spelt.long small value;
+        fits = rw after_is (IsBytes-drop 8 rest spelt.fits);
+      }
+
+  -- all bytes are spelt
+  pub IsSpelt-whole : length rest ≡ 0
+      → (length words ≡ (length bytes + 7) / 8) × (number_of (bits_of words) ≡ number_of (bits_in bytes))
+  IsSpelt-whole over =
+      let whole : bytes ≡ spelt.before = spelt.split
+          ∙ ap (λ tail. spelt.before ++ tail) (nil_from_length rest over) ∙ append-nil spelt.before in
+      (rw whole (omega (arith, spelt.long)), spelt.same ∙ ap (λ list. number_of (bits_in list)) (sym whole))
+
+  -- fewer than eight bytes are the last word
+  pub IsSpelt-last : (new : List ℕ) (word : ℕ) → 0 < length rest → length rest ≤ 7 → word ≡ number_of (bits_in rest)
+      → word < 2 ^ 64 → new ≡ words ++ word ∷ []
+      → (length new ≡ (length bytes + 7) / 8) × (number_of (bits_of new) ≡ number_of (bits_in bytes))
+  IsSpelt-last new word some few word_is small new_is =
+      let long = ap length spelt.split ∙ length-append spelt.before rest in
+      (rw new_is (omega (arith, spelt.long, long, length-append words (word ∷ []))),
+      ap (λ list. number_of (bits_of list)) new_is
+      ∙ number_of-more_words words spelt.before rest word spelt.same spelt.long small word_is
+      ∙ ap (λ list. number_of (bits_in list)) (sym spelt.split))
+
+module _ (words bytes : List ℕ) (count : ℕ) (long : length bytes ≡ byte_count count) (fewest : length words ≡ (length bytes + 7) / 8) (same : number_of (bits_of words) ≡ number_of (bits_in bytes)) where
+  -- words that spell what bytes without spare bits do are packed
+  pub IsPacked-bytes : ltb 0 (ones_of (drop count (bits_in bytes))) ≡ false → IsPacked words count
+  IsPacked-bytes spare =
+      let none : ones_of (drop count (bits_in bytes)) ≡ 0 = omega (arith, ltb-false _ _ spare) in
+      let nothing = number_of-drop count (bits_of words) ∙ ap (λ n. n / 2 ^ count) same
+          ∙ sym (number_of-drop count (bits_in bytes)) in
+      let zero_above = nothing ∙ number_of-zero (drop count (bits_in bytes)) none in
+      record { fewest = omega (arith, fewest, long); spare = ones_of-zero (drop count (bits_of words)) zero_above }
+
+  -- and they have the same bits
+  pub take-bits_of-bytes : take count (bits_of words) ≡ take count (bits_in bytes)
+  take-bits_of-bytes =
+      let left = length-take-le count (bits_of words) (omega (arith, length-bits_of words, fewest, long)) in
+      let right = length-take-le count (bits_in bytes) (omega (arith, length-bits_in bytes, long)) in
+      let number = number_of-take count (bits_of words) ∙ ap (λ n. n % 2 ^ count) same
+          ∙ sym (number_of-take count (bits_in bytes)) in
+      same_from_number_of (take count (bits_of words)) (take count (bits_in bytes)) (left ∙ sym right) number
+
+module _ (bytes : List ℕ) (fits : IsBytes bytes) (i : ℕ) (within : i < length bytes) where
+  -- one more byte stands above those before it
+  byte-taken : number_of (bits_in (take (i + 1) bytes))
+      ≡ get_or bytes i 0 * 2 ^ (8 * i) + number_of (bits_in (take i bytes))
+  byte-taken =
+      let next : take 1 (drop i bytes) ≡ get_or bytes i 0 ∷ [] = ap (take 1) (drop_more bytes i 0 within) in
+      let parts = take-add i 1 bytes ∙ ap (λ tail. take i bytes ++ tail) next in
+      let alone : number_of (bits_in (get_or bytes i 0 ∷ [])) ≡ get_or bytes i 0 =
+          number_of-one_byte (get_or bytes i 0) (fits i) in
+      ap (λ list. number_of (bits_in list)) parts ∙ number_of-more_bytes (take i bytes) (get_or bytes i 0 ∷ [])
+      ∙ ap (λ n. n * 2 ^ (8 * length (take i bytes)) + number_of (bits_in (take i bytes))) alone
+      ∙ ap (λ n. get_or bytes i 0 * 2 ^ (8 * n) + number_of (bits_in (take i bytes)))
+      (length-take-le i bytes (omega arith))
+
+  -- at most eight bytes spell a number below 2^64
+  pub byte-fits : length bytes ≤ 7 → number_of (bits_in (take (i + 1) bytes)) < 2 ^ 64
+  byte-fits few =
+      let bits = bits_in (take (i + 1) bytes) in
+      let long : length bits ≤ 64 =
+          omega (arith, length-bits_in (take (i + 1) bytes), length-take-le (i + 1) bytes (omega arith)) in
+      omega (arith, number_of-lt bits, pow-le-pow_right {n = 2} (omega arith) long)
+
+  -- the sum that the code makes
+  pub byte-step : length bytes ≤ 7
+      → number_of (bits_in (take i bytes)) + get_or bytes i 0 * 2 ^ (8 * i) % 2 ^ 64 ≡ number_of (bits_in (take (i + 1) bytes))
+  byte-step few =
+      let small : get_or bytes i 0 * 2 ^ (8 * i) < 2 ^ 64 = omega (arith, byte-taken, byte-fits few) in
+      ap (λ n. number_of (bits_in (take i bytes)) + n) (mod-eq_of_lt small) ∙ omega (arith, byte-taken)
+
+-- 64 more bits have the ones of their word
+pub ones_of-word : (bits : List Bool) (i : ℕ)
+    → ones_of (take (64 * (i + 1)) bits) ≡ ones_of (take (64 * i) bits) + count_ones (window_of bits (64 * i) 64)
+unfolding window_of
+ones_of-word bits i =
+    let more : 64 * (i + 1) ≡ 64 * i + 64 = omega arith in
+    ap (λ n. ones_of (take n bits)) more ∙ ap ones_of (take-add (64 * i) 64 bits)
+    ∙ ones_of-append (take (64 * i) bits) (take 64 (drop (64 * i) bits))
+    ∙ ap (λ n. ones_of (take (64 * i) bits) + n) (sym (count_ones-number_of (take 64 (drop (64 * i) bits))))
+
+-- no more ones than bits
+pub ones_of-take-le : (bits : List Bool) (n : ℕ) → ones_of (take n bits) ≤ length bits
+ones_of-take-le bits n = omega (arith, ones_of-le-length (take n bits), length-take n bits)
+
+-- what was read of bits whose bytes are there and have no spare ones
+pub bits_at-ok : (section : Section) (period count : ℕ) (bytes words : List ℕ) → byte_count count ≤ length bytes
+    → has_spare count (take (byte_count count) bytes) ≡ false
+    → take count (bits_of words) ≡ take count (bits_in (take (byte_count count) bytes))
+    → bits_at section period count bytes ≡ Ok (take count (bits_of words), drop (byte_count count) bytes)
+unfolding bits_at
+bits_at-ok section period count bytes words enough full same =
+    rw (le-ltb (length bytes) (byte_count count) enough, full, same) refl

@@ -1,0 +1,135 @@
+-- Items one after the other, as a loop reads them.
+use Rattle.std.proofs.Common.{◌≡◌, ℕ, suc, ◌+◌, ◌-◌, ◌<◌, ◌≤◌, true, false, List, [], ◌∷◌, ◌++◌, length, get_or, eqb, Ok, Err, refl, sym, ap, ◌∙◌, arith}
+use Rattle.std.specs.Int.{Width, w32}
+use Rattle.std.proofs.lemmas.Bool.{lt-ltb, le-ltb}
+use Rattle.std.proofs.lemmas.Grind.{get_or_default_zero}
+use Rattle.std.proofs.lemmas.Bool.Decides.{nat_tests}
+use Rattle.std.proofs.lemmas.List.{length-append}
+use Rattle.track_types.specs.declared.flaw.Flaw.{Flaw}
+use Rattle.track_types.specs.declared.flaw.Section.{Section}
+use Rattle.track_types.specs.declared.flaw.Section.TheVariants.{Rules}
+use Rattle.track_types.specs.declared.flaw.Kind.TheVariants.{Short, Order}
+use Rattle.index_format.specs.declared.fault.FormatFault.{FormatFault}
+use Rattle.index_format.specs.declared.fault.FormatFault.TheVariants as fault
+use Rattle.index_format.specs.Answers.{IsFaultOf}
+use Rattle.index_format.specs.Fields.{Taken, flaw_at, number_at, items_at, short_at, rises, rising_at, rule_at}
+
+-- i of count items were read, and what is left to read gives what the whole does
+pub record IsUnderWay {A : Type 0} (next : List A → List ℕ → Taken A) (count i : ℕ) (seen : List A) (rest bytes : List ℕ) : Type 0 where
+  pub long : length seen ≡ i
+  pub read : items_at next (count - i) seen rest ≡ items_at next count [] bytes
+
+module _ {A : Type 0} {next : List A → List ℕ → Taken A} {count i : ℕ} {seen : List A} {rest bytes : List ℕ} (so_far : IsUnderWay next count i seen rest bytes) where
+  -- one more item was read
+  pub items_at-more : (item : A) (after : List ℕ) (new : List A)
+      → i < count → next seen rest ≡ Ok (item, after) → new ≡ seen ++ item ∷ []
+      → IsUnderWay next count (i + 1) new after bytes
+  unfolding items_at
+  items_at-more item after new within read appended =
+      let left : count - i ≡ suc (count - (i + 1)) = omega arith in
+      let one : items_at next (count - i) seen rest ≡ items_at next (count - (i + 1)) (seen ++ item ∷ []) after =
+          rw (left, read) refl in
+      record {
+        long = rw appended (omega (arith, so_far.long, length-append seen (item ∷ [])));
+        read = rw appended (sym one ∙ so_far.read);
+      }
+
+  -- an item could not be read: so can the whole not
+  pub items_at-fault : (why : FormatFault)
+      → i < count → IsFaultOf (next seen rest) why → IsFaultOf (items_at next count [] bytes) why
+  unfolding items_at
+  items_at-fault fault.Memory within read = tt
+  items_at-fault (fault.Flaw flaw) within read =
+      let left : count - i ≡ suc (count - (i + 1)) = omega arith in
+      let one : items_at next (count - i) seen rest ≡ Err flaw = rw (left, read) refl in
+      sym so_far.read ∙ one
+
+  -- all items were read
+  pub items_at-done : count ≤ i → items_at next count [] bytes ≡ Ok (seen, rest)
+  unfolding items_at
+  items_at-done over =
+      let left : count - i ≡ 0 = omega arith in
+      let one : items_at next (count - i) seen rest ≡ Ok (seen, rest) = rw left refl in
+      sym so_far.read ∙ one
+
+-- a number in a list is the number at the front
+pub short_at-number : (section : Section) (period i : ℕ) (seen bytes : List ℕ) (missing : Flaw)
+    → length seen ≡ i → missing ≡ flaw_at section period i Short
+    → short_at section period seen bytes ≡ number_at w32 missing bytes
+unfolding short_at
+short_at-number section period i seen bytes missing long is =
+    ap (λ k. number_at w32 (flaw_at section period k Short) bytes) long
+    ∙ ap (λ flaw. number_at w32 flaw bytes) (sym is)
+
+module _ (seen : List ℕ) (n i : ℕ) (long : length seen ≡ i) where
+  -- a first number rises
+  pub rises-first : i ≤ 0 → rises seen n ≡ true
+  rises-first first = let none : length seen ≡ 0 = omega arith in rw none refl
+
+  -- one above the last rises
+  pub rises-above : (last : ℕ) → 0 < i → last ≡ get_or seen (i - 1) last → last < n → rises seen n ≡ true
+  rises-above last some is above =
+      let zero_default : last ≡ get_or seen (length seen - 1) 0 =
+          is ∙ get_or_default_zero seen (i - 1) last (omega arith) ∙ ap (λ k. get_or seen (k - 1) 0) (sym long) in
+      let test = lt-ltb (get_or seen (length seen - 1) 0) n (omega arith) in
+      let more : eqb (length seen) 0 ≡ false = grind (arith, nat_tests) in
+      rw (more, test) refl
+
+  -- one that is not above the last falls
+  pub rises-below : (last : ℕ) → 0 < i → last ≡ get_or seen (i - 1) last → n ≤ last → rises seen n ≡ false
+  rises-below last some is below =
+      let zero_default : last ≡ get_or seen (length seen - 1) 0 =
+          is ∙ get_or_default_zero seen (i - 1) last (omega arith) ∙ ap (λ k. get_or seen (k - 1) 0) (sym long) in
+      let test = le-ltb (get_or seen (length seen - 1) 0) n (omega arith) in
+      let more : eqb (length seen) 0 ≡ false = grind (arith, nat_tests) in
+      rw (more, test) refl
+
+module _ (w : Width) (section : Section) (i : ℕ) (seen bytes : List ℕ) (missing : Flaw) (long : length seen ≡ i) (is : missing ≡ flaw_at section 0 i Short) where
+  -- the flaw of a number, as the list's length tells it
+  number : number_at w (flaw_at section 0 (length seen) Short) bytes ≡ number_at w missing bytes
+  number = ap (λ k. number_at w (flaw_at section 0 k Short) bytes) long
+      ∙ ap (λ flaw. number_at w flaw bytes) (sym is)
+
+  -- a number that is not there is not one that rises
+  pub rising_at-fault : (why : FormatFault) → IsFaultOf (number_at w missing bytes) why
+      → IsFaultOf (rising_at w section seen bytes) why
+  unfolding rising_at
+  rising_at-fault fault.Memory read = tt
+  rising_at-fault (fault.Flaw flaw) read = rw (number, read) refl
+
+  -- a number that does not rise is a flaw
+  pub rising_at-order : (n : ℕ) (rest : List ℕ) → number_at w missing bytes ≡ Ok (n, rest) → rises seen n ≡ false
+      → rising_at w section seen bytes ≡ Err (flaw_at section 0 i Order)
+  unfolding rising_at
+  rising_at-order n rest read falls = rw (number, read, falls, long) refl
+
+  -- a number that rises is taken
+  pub rising_at-ok : (n : ℕ) (rest : List ℕ) → number_at w missing bytes ≡ Ok (n, rest) → rises seen n ≡ true
+      → rising_at w section seen bytes ≡ Ok (n, rest)
+  unfolding rising_at
+  rising_at-ok n rest read up = rw (number, read, up) refl
+
+module _ (i : ℕ) (seen : List (ℕ × ℕ)) (bytes : List ℕ) (missing : Flaw) (long : length seen ≡ i) (is : missing ≡ flaw_at Rules 0 i Short) where
+  -- the flaw of either number of a rule
+  half : (bytes : List ℕ) → number_at w32 (flaw_at Rules 0 (length seen) Short) bytes ≡ number_at w32 missing bytes
+  half bytes = ap (λ k. number_at w32 (flaw_at Rules 0 k Short) bytes) long
+      ∙ ap (λ flaw. number_at w32 flaw bytes) (sym is)
+
+  -- a rule whose first number is not there
+  pub rule_at-left : (why : FormatFault) → IsFaultOf (number_at w32 missing bytes) why → IsFaultOf (rule_at seen bytes) why
+  unfolding rule_at
+  rule_at-left fault.Memory read = tt
+  rule_at-left (fault.Flaw flaw) read = rw (half bytes, read) refl
+
+  -- a rule whose second number is not there
+  pub rule_at-right : (left : ℕ) (rest : List ℕ) (why : FormatFault) → number_at w32 missing bytes ≡ Ok (left, rest)
+      → IsFaultOf (number_at w32 missing rest) why → IsFaultOf (rule_at seen bytes) why
+  unfolding rule_at
+  rule_at-right left rest fault.Memory first second = tt
+  rule_at-right left rest (fault.Flaw flaw) first second = rw (half bytes, first, half rest, second) refl
+
+  -- a rule
+  pub rule_at-ok : (left : ℕ) (rest : List ℕ) (right : ℕ) (behind : List ℕ) → number_at w32 missing bytes ≡ Ok (left, rest)
+      → number_at w32 missing rest ≡ Ok (right, behind) → rule_at seen bytes ≡ Ok ((left, right), behind)
+  unfolding rule_at
+  rule_at-ok left rest right behind first second = rw (half bytes, first, half rest, second) refl

@@ -1,0 +1,3 @@
+mod ItemLemmas
+mod BitLemmas
+mod Examples

@@ -1,0 +1,15 @@
+-- What a function that reads may answer, beside what reading gives.
+use Rattle.std.specs.Prelude.{◌≡◌, Result, Ok, Err}
+use Rattle.track_types.specs.declared.flaw.Flaw.{Flaw}
+use Rattle.index_format.specs.declared.fault.FormatFault.{FormatFault}
+use Rattle.index_format.specs.declared.fault.FormatFault.TheVariants as fault
+
+-- a flaw is that of the reading; memory may be wanting for any bytes
+abbrev pub IsFaultOf : {Y : Type 0} → Result Y Flaw → FormatFault → Type 0
+IsFaultOf read (fault.Flaw flaw) = read ≡ Err flaw
+IsFaultOf read fault.Memory = Unit {0}
+
+-- what was answered, seen by view, is what reading gives, unless memory was refused
+abbrev pub Gives : {X Y : Type 0} → (X → Y) → Result X FormatFault → Result Y Flaw → Type 0
+Gives view (Ok x) read = read ≡ Ok (view x)
+Gives view (Err fault) read = IsFaultOf read fault

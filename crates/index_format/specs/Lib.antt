@@ -1,0 +1,5 @@
+-- In reading order.
+pub mod Spelling
+pub mod Fields
+pub mod Reading
+pub mod Answers

@@ -1,0 +1,74 @@
+-- How the parts of an index stand in its bytes: numbers lowest byte first, bits from the lowest of a byte.
+use Rattle.std.specs.Prelude.{ℕ, ℤ, zero, suc, ◌+◌, ◌/◌, Bool, List, [], ◌∷◌, ◌++◌, length, take, drop}
+use Rattle.std.specs.List.{flat_map}
+use Rattle.std.specs.Int.{w32, w64, to_le_bytes, cast_unsigned}
+use Rattle.packed_bits.specs.Bits.{number_of}
+use Rattle.packed_bits.specs.Words.{low_bits}
+use Rattle.track_types.specs.declared.frame.Frame.{Frame}
+use Rattle.track_types.specs.declared.parts.Parts.{Parts}
+use Rattle.track_types.specs.declared.period_parts.PeriodParts.{PeriodParts}
+
+-- the eight bytes that an index begins with: GRACT001
+abbrev pub magic : List ℕ
+magic = 71 ∷ 82 ∷ 65 ∷ 67 ∷ 84 ∷ 48 ∷ 48 ∷ 49 ∷ []
+
+-- a number below 2^32 as four bytes
+unfoldable pub short_bytes : ℕ → List ℕ
+short_bytes n = to_le_bytes w32 n
+
+-- a number below 2^64 as eight bytes
+unfoldable pub long_bytes : ℕ → List ℕ
+long_bytes n = to_le_bytes w64 n
+
+-- a signed number as eight bytes, in two's complement
+unfoldable pub signed_bytes : ℤ → List ℕ
+signed_bytes z = to_le_bytes w64 (cast_unsigned w64 z)
+
+-- the two numbers of a rule
+unfoldable pub rule_bytes : ℕ × ℕ → List ℕ
+rule_bytes rule = short_bytes rule.0 ++ short_bytes rule.1
+
+-- all bits of the bytes, each byte's lowest first
+unfoldable pub bits_in : List ℕ → List Bool
+bits_in bytes = flat_map (low_bits 8) bytes
+
+-- as many bytes of the bits, eight a byte; past the last bit all is 0
+unfoldable pub bytes_filled : ℕ → List Bool → List ℕ
+bytes_filled zero bits = []
+bytes_filled (suc n) bits = number_of (take 8 bits) ∷ bytes_filled n (drop 8 bits)
+
+-- how many bytes that many bits take
+abbrev pub byte_count : ℕ → ℕ
+byte_count bits = (bits + 7) / 8
+
+-- the bytes of a list of bits
+unfoldable pub bit_bytes : List Bool → List ℕ
+bit_bytes bits = bytes_filled (byte_count (length bits)) bits
+
+-- what an index holds of a period
+unfoldable pub period_bytes : PeriodParts → List ℕ
+period_bytes period =
+    bit_bytes period.present ++ flat_map short_bytes period.offsets
+    ++ short_bytes (length period.tree) ++ bit_bytes period.tree ++ bit_bytes period.lasts
+    ++ flat_map short_bytes period.perm ++ flat_map short_bytes period.lengths
+
+-- the header's numbers of four bytes: settings, and how long the lists are that no other number tells
+unfoldable pub size_bytes : Parts → List ℕ
+size_bytes parts =
+    short_bytes parts.frame.period ++ short_bytes parts.frame.height ++ short_bytes (length parts.objects)
+    ++ short_bytes parts.frame.span ++ short_bytes (length parts.alphabet) ++ short_bytes (length parts.rules)
+    ++ short_bytes (length parts.symbols)
+
+-- the header's numbers of eight bytes
+unfoldable pub place_bytes : Frame → List ℕ
+place_bytes frame =
+    signed_bytes frame.first ++ signed_bytes frame.base.x ++ signed_bytes frame.base.y
+    ++ long_bytes frame.cell ++ long_bytes frame.tick
+
+-- an index file
+unfoldable pub bytes_of_parts : Parts → List ℕ
+bytes_of_parts parts =
+    magic ++ size_bytes parts ++ place_bytes parts.frame
+    ++ flat_map short_bytes parts.objects ++ flat_map long_bytes parts.alphabet
+    ++ flat_map rule_bytes parts.rules ++ flat_map period_bytes parts.periods
+    ++ flat_map short_bytes parts.symbols

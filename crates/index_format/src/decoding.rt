@@ -1,0 +1,34 @@
+ghost use Rattle.std.specs.Prelude.{◌≡◌, ◌≤◌, ◌^◌, IfOk, IfErr, Ok, length};
+ghost use Rattle.index_format.specs.Answers.{Gives};
+ghost use Rattle.index_format.specs.Reading.{parts_in};
+
+use crate::fault::FormatFault;
+use crate::header::header_of;
+use crate::lists::{alphabet_of, objects_of, rules_of, shorts_of};
+use crate::periods::periods_of;
+use crate::place::Place;
+use std::alloc::Global;
+use track_types::{Kind, Parts, Section};
+
+/// The parts that the bytes hold, all of the bytes.
+#[tactic(auto, unfolding(crate::specs::Reading::parts_in))]
+fn parts_of(alloc: Global, bytes: &[u8]) -> Result<Parts, FormatFault>
+    ensures { Gives (λ parts. parts) result (parts_in bytes.now) }
+{
+    let (header, rest) = header_of(bytes)?;
+    let (objects, rest) = objects_of(alloc, header.objects, rest)?;
+    let (alphabet, rest) = alphabet_of(alloc, header.alphabet, rest)?;
+    let (rules, rest) = rules_of(alloc, header.rules, rest)?;
+    let count = header.frame.span.div_ceil(header.frame.period);
+    let (periods, rest) = periods_of(alloc, header.objects, count, rest)?;
+    let (symbols, rest) = shorts_of(alloc, Place::of(Section::Log, 0), header.symbols, rest)?;
+    if !rest.is_empty() {
+        return Err(FormatFault::Flaw(Place::of(Section::End, 0).flaw(0, Kind::Extra)));
+    }
+    Ok(Parts { frame: header.frame, objects, alphabet, rules, periods, symbols })
+}
+
+pub fn decode(alloc: Global, bytes: &[u8]) -> Result<Parts, FormatFault>
+{
+    parts_of(alloc, bytes)
+}

@@ -1,0 +1,32 @@
+ghost use Rattle.std.specs.Prelude.{◌≡◌};
+ghost use Rattle.index_format.specs.declared.fault.FormatFault.TheVariants.{Memory};
+
+use std::alloc::{AllocError, AllocFailed};
+use std::error::Error;
+use std::fmt::{self, Display, Formatter, Write};
+use track_types::Flaw;
+
+/// Why bytes are not taken as those of an index.
+#[derive(Clone, Copy, Debug, PartialEq, Eq)]
+pub enum FormatFault {
+    /// The bytes are not of the format: the first of their flaws.
+    Flaw(Flaw),
+    /// Memory was refused. It may be answered to any bytes.
+    Memory,
+}
+
+impl From<AllocError> for FormatFault {
+    ghost from_gives = { λ _ fault. fault ≡ Memory };
+
+    fn from(_error: AllocError) -> Self {
+        FormatFault::Memory
+    }
+}
+
+impl<T: Drop> From<AllocFailed<T>> for FormatFault {
+    ghost from_gives = { λ _ fault. fault ≡ Memory };
+
+    fn from(_refused: AllocFailed<T>) -> Self {
+        FormatFault::Memory
+    }
+}

@@ -1,0 +1,156 @@
+ghost use Rattle.std.specs.Prelude.{◌≡◌, ◌≤◌, ◌^◌, IfOk, pos};
+ghost use Rattle.std.specs.Int.{w32, w64};
+ghost use Rattle.index_format.specs.Answers.{Gives};
+ghost use Rattle.index_format.specs.Reading.{header_flaw, is_between, is_span, is_first, is_near, after_magic, field_at, signed_at, sizes_at, header_at};
+
+use crate::fault::FormatFault;
+use crate::fields::{long_of, short_of};
+use crate::limits::{FAR, MAX_BLOCKS, MAX_OBJECTS, MAX_SPAN, MAX_SYMBOLS, MAX_UNITS};
+use crate::place::Place;
+use track_types::{Cell, Flaw, Frame, Kind, MAX_HEIGHT, Section};
+
+/// The eight bytes that an index begins with.
+pub const MAGIC: [u8; 8] = *b"GRACT001";
+
+/// The numbers of four bytes in a header.
+#[derive(Clone, Copy)]
+pub struct Sizes {
+    pub period: u32,
+    pub height: u32,
+    pub objects: u32,
+    pub span: u32,
+    pub alphabet: u32,
+    pub rules: u32,
+    pub symbols: u32,
+}
+
+/// A header: the frame, and how long the lists are.
+#[derive(Clone, Copy)]
+pub struct Header {
+    pub frame: Frame,
+    pub objects: u32,
+    pub alphabet: u32,
+    pub rules: u32,
+    pub symbols: u32,
+}
+
+fn header_flaw(index: usize, kind: Kind) -> Flaw
+    ensures { result ≡ header_flaw index kind }
+{
+    Place::of(Section::Header, 0).flaw(index, kind)
+}
+
+/// The bytes after the eight of the format.
+#[tactic(auto, unfolding(crate::specs::Reading::after_magic))]
+fn magic_of(bytes: &[u8]) -> Result<&[u8], FormatFault>
+    ensures { Gives (λ rest. rest.now) result (after_magic bytes.now) }
+{
+    if bytes.len() < MAGIC.len() {
+        return Err(FormatFault::Flaw(header_flaw(0, Kind::Short)));
+    }
+    let (front, rest) = bytes.split_at(MAGIC.len());
+    if front != MAGIC.as_slice() {
+        return Err(FormatFault::Flaw(header_flaw(0, Kind::Magic)));
+    }
+    Ok(rest)
+}
+
+/// A field of four bytes in its range.
+#[tactic(auto, unfolding(crate::specs::Reading::field_at))]
+fn field_of(bytes: &[u8], index: usize, least: u32, greatest: u32) -> Result<(u32, &[u8]), FormatFault>
+    ensures exact { Gives (λ x. (x.0, x.1.now)) result (field_at w32 index (is_between least greatest) bytes.now) }
+    ensures within { IfOk result (λ x. least ≤ x.0) }
+{
+    let (number, rest) = short_of(bytes, header_flaw(index, Kind::Short))?;
+    if number < least || number > greatest {
+        return Err(FormatFault::Flaw(header_flaw(index, Kind::Field)));
+    }
+    Ok((number, rest))
+}
+
+/// How many units a cell or an instant has.
+#[tactic(auto, unfolding(crate::specs::Reading::field_at))]
+fn units_of(bytes: &[u8], index: usize) -> Result<(u64, &[u8]), FormatFault>
+    ensures { Gives (λ x. (x.0, x.1.now)) result (field_at w64 index (is_between 1 (2 ^ 30)) bytes.now) }
+{
+    let (units, rest) = long_of(bytes, header_flaw(index, Kind::Short))?;
+    if units < 1 || units > MAX_UNITS {
+        return Err(FormatFault::Flaw(header_flaw(index, Kind::Field)));
+    }
+    Ok((units, rest))
+}
+
+/// The span, with which objects times periods are few enough.
+#[tactic(auto, unfolding(crate::specs::Reading::field_at))]
+fn span_of(bytes: &[u8], objects: u32, period: u32) -> Result<(u32, &[u8]), FormatFault>
+    requires { 1 ≤ period }
+    ensures exact { Gives (λ x. (x.0, x.1.now)) result (field_at w32 4 (is_span objects period) bytes.now) }
+    ensures within { IfOk result (λ x. 1 ≤ x.0) }
+{
+    let (span, rest) = short_of(bytes, header_flaw(4, Kind::Short))?;
+    let in_range = 1 <= span && span <= MAX_SPAN;
+    if !in_range || u64::from(objects) * u64::from(span.div_ceil(period)) > MAX_BLOCKS {
+        return Err(FormatFault::Flaw(header_flaw(4, Kind::Field)));
+    }
+    Ok((span, rest))
+}
+
+/// The first instant of a span.
+#[tactic(auto, unfolding(crate::specs::Reading::signed_at))]
+fn first_of(bytes: &[u8], span: u32) -> Result<(i64, &[u8]), FormatFault>
+    requires { 1 ≤ span }
+    ensures { Gives (λ x. (x.0, x.1.now)) result (signed_at 8 (is_first span) bytes.now) }
+{
+    let (number, rest) = long_of(bytes, header_flaw(8, Kind::Short))?;
+    let first = number.cast_signed();
+    if first < -FAR || first > FAR - i64::from(span - 1) {
+        return Err(FormatFault::Flaw(header_flaw(8, Kind::Field)));
+    }
+    Ok((first, rest))
+}
+
+/// A coordinate of the base.
+#[tactic(auto, unfolding(crate::specs::Reading::signed_at))]
+fn coordinate_of(bytes: &[u8], index: usize) -> Result<(i64, &[u8]), FormatFault>
+    ensures { Gives (λ x. (x.0, x.1.now)) result (signed_at index is_near bytes.now) }
+{
+    let (number, rest) = long_of(bytes, header_flaw(index, Kind::Short))?;
+    let coordinate = number.cast_signed();
+    if coordinate < -FAR || coordinate > FAR {
+        return Err(FormatFault::Flaw(header_flaw(index, Kind::Field)));
+    }
+    Ok((coordinate, rest))
+}
+
+/// The header's numbers of four bytes.
+#[tactic(auto, unfolding(crate::specs::Reading::sizes_at))]
+fn sizes_of(bytes: &[u8]) -> Result<(Sizes, &[u8]), FormatFault>
+    ensures exact { Gives (λ x. (x.0, x.1.now)) result (sizes_at bytes.now) }
+    ensures within { IfOk result (λ x. 1 ≤ x.0.span) }
+{
+    let (period, rest) = field_of(bytes, 1, 1, MAX_SPAN)?;
+    let (height, rest) = field_of(rest, 2, 1, MAX_HEIGHT)?;
+    let (objects, rest) = field_of(rest, 3, 1, MAX_OBJECTS)?;
+    let (span, rest) = span_of(rest, objects, period)?;
+    let (alphabet, rest) = field_of(rest, 5, 0, MAX_SYMBOLS)?;
+    let (rules, rest) = field_of(rest, 6, 0, MAX_SYMBOLS)?;
+    let (symbols, rest) = field_of(rest, 7, 0, MAX_SYMBOLS)?;
+    Ok((Sizes { period, height, objects, span, alphabet, rules, symbols }, rest))
+}
+
+/// The header at the front, and the bytes after it.
+#[tactic(auto, unfolding(crate::specs::Reading::header_at))]
+pub fn header_of(bytes: &[u8]) -> Result<(Header, &[u8]), FormatFault>
+    ensures { Gives (λ x. (x.0, x.1.now)) result (header_at bytes.now) }
+{
+    let rest = magic_of(bytes)?;
+    let (sizes, rest) = sizes_of(rest)?;
+    let Sizes { period, height, objects, span, alphabet, rules, symbols } = sizes;
+    let (first, rest) = first_of(rest, span)?;
+    let (x, rest) = coordinate_of(rest, 9)?;
+    let (y, rest) = coordinate_of(rest, 10)?;
+    let (cell, rest) = units_of(rest, 11)?;
+    let (tick, rest) = units_of(rest, 12)?;
+    let frame = Frame { first, span, period, height, base: Cell { x, y }, cell, tick };
+    Ok((Header { frame, objects, alphabet, rules, symbols }, rest))
+}

@@ -1,0 +1,16 @@
+//! The bytes of an index file: writing the parts of an index, and reading them with the first flaw
+//! named by its place.
+#![tactic(auto)]
+
+mod decoding;
+mod fault;
+mod fields;
+mod header;
+mod limits;
+mod lists;
+mod packed;
+mod periods;
+mod place;
+
+pub use decoding::decode;
+pub use fault::FormatFault;
