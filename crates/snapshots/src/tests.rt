@@ -1,8 +1,12 @@
-ghost use Rattle.std.specs.Prelude.{◌≡◌, ◌<◌, sum, IfOk, IfSome};
+ghost use Rattle.std.specs.Prelude.{◌≡◌, ℕ, ◌<◌, ◌≤◌, length, sum, true, IfOk, IfSome};
+ghost use Rattle.packed_bits.specs.Bits.{ones_of};
+ghost use Rattle.track_types.specs.Frame.{periods_of, IsFrame};
+ghost use Rattle.track_types.specs.declared.frame.Frame.{Frame as FrameView};
+ghost use Rattle.snapshots.specs.View.{view_with};
+ghost use Rattle.snapshots.specs.Flaws.{IsShaped};
 
-use crate::checking::indexed;
 use crate::{Anchored, SnapFault, Snapshot};
-use std::alloc::{AllocError, Global};
+use std::alloc::Global;
 use std::marker::Brand;
 use std::mem::size_of;
 use std::process::Abort;
@@ -58,21 +62,50 @@ const TURNED: [&str; 6] = ["1011", "1 0 1", "0101 0010 0100", "101", "2 0 1", "2
 const EMPTY: [&str; 6] = ["00", "", "", "", "", ""];
 
 // Bits as digits, between spaces.
-fn bits_of(alloc: Global, digits: &str) -> Result<Vec<bool>, AllocError> {
-    digits
+fn bits_of(alloc: Global, digits: &str) -> Result<BitList, Memory> {
+    let bits: Vec<bool> = digits
         .bytes()
         .filter(|digit| *digit != b' ')
         .map(|digit| digit == b'1')
-        .collect(alloc)
+        .collect(alloc)?;
+    if bits.len() > 32 {
+        return Err(Memory);
+    }
+    Ok(BitList::pack(alloc, bits.as_slice())?)
 }
 
 // Numbers between spaces.
-fn numbers_of(alloc: Global, words: &str) -> Result<Vec<u32>, AllocError> {
-    words
+fn numbers_of(alloc: Global, words: &str) -> Result<List32, Memory> {
+    let numbers = words
         .split(' ')
         .filter(|word| !word.is_empty())
         .map(|word| word.parse::<u32>().unwrap_or(0))
-        .collect(alloc)
+        .collect(alloc)?;
+    Ok(List32::new(numbers))
+}
+
+// The parts that are spelt so: presence, offsets, tree, lasts, perm and lengths.
+fn parts_of(alloc: Global, spelt: [&str; 6]) -> Result<PeriodParts, Memory> {
+    let [present, offsets, tree, lasts, perm, lengths] = spelt;
+    Ok(PeriodParts {
+        present: bits_of(alloc, present)?,
+        offsets: numbers_of(alloc, offsets)?,
+        tree: bits_of(alloc, tree)?,
+        lasts: bits_of(alloc, lasts)?,
+        perm: numbers_of(alloc, perm)?,
+        lengths: numbers_of(alloc, lengths)?,
+    })
+}
+
+// How many ones there are.
+fn count_ones(bits: &BitList) -> u32
+    ensures { result ≡ ones_of bits.now }
+{
+    let mut ones = 0;
+    for place in 0..bits.len() {
+        ones += u32::from(bits.get(place));
+    }
+    ones
 }
 
 // The numbers added up, where they are not too great for that.
@@ -86,9 +119,31 @@ fn total_of(numbers: &[u32]) -> Option<u32>
     Some(total)
 }
 
-// What the check makes of the parts that are spelt so: presence, offsets, tree, lasts, perm and
-// lengths. They are those of the one period, or of the second one, whose logs begin at 5. With the
-// snapshot comes how many objects it has.
+// Whether the parts are small, and as long as their presence bits say.
+fn have_shape(parts: &PeriodParts) -> bool
+    ensures { result ≡ true → (frame : FrameView) → (number start : ℕ)
+        → IsFrame frame → number < periods_of frame → start ≤ 32
+        → IsShaped (view_with frame number (length parts.now.present) start parts.now) }
+{
+    let objects = parts.present.len();
+    let count = count_ones(&parts.present) as usize;
+    let Some(total) = total_of(parts.lengths.as_slice()) else {
+        return false;
+    };
+    if objects < 1 || objects > 32 || total > 32 {
+        return false;
+    }
+    if parts.tree.len() > 32 || parts.lasts.len() as usize != count {
+        return false;
+    }
+    if parts.offsets.as_slice().len() != count || parts.perm.as_slice().len() != count {
+        return false;
+    }
+    parts.lengths.as_slice().len() == count
+}
+
+// What the check makes of parts: those of the one period, or of the second one, whose logs begin at
+// 5. With the snapshot comes how many objects it has.
 fn checked(
     rt: &impl Abort,
     alloc: Global,
@@ -97,30 +152,9 @@ fn checked(
 ) -> Result<(Snapshot, u32), SnapFault>
     ensures { IfOk result (λ made. made.1 ≡ made.0.objects) }
 {
-    let [present, offsets, tree, lasts, perm, lengths] = spelt;
-    let present = bits_of(alloc, present).map_err(Memory::from)?;
-    let offsets = numbers_of(alloc, offsets).map_err(Memory::from)?;
-    let tree = bits_of(alloc, tree).map_err(Memory::from)?;
-    let lasts = bits_of(alloc, lasts).map_err(Memory::from)?;
-    let perm = numbers_of(alloc, perm).map_err(Memory::from)?;
-    let lengths = numbers_of(alloc, lengths).map_err(Memory::from)?;
-    let Some(total) = total_of(lengths.as_slice()) else {
-        panic!(rt; "lengths of a test are small");
-    };
-    let list = BitList::pack(alloc, present.as_slice()).map_err(Memory::from)?;
-    let count = indexed(alloc, list)?.ones() as usize;
-    let objects = present.len() as u32;
-    assert!(rt; objects >= 1 && objects <= 32 && tree.len() <= 32 && total <= 32);
-    assert!(rt; offsets.len() == count && lasts.len() == count);
-    assert!(rt; perm.len() == count && lengths.len() == count);
-    let parts = PeriodParts {
-        present: BitList::pack(alloc, present.as_slice()).map_err(Memory::from)?,
-        offsets: List32::new(offsets),
-        tree: BitList::pack(alloc, tree.as_slice()).map_err(Memory::from)?,
-        lasts: BitList::pack(alloc, lasts.as_slice()).map_err(Memory::from)?,
-        perm: List32::new(perm),
-        lengths: List32::new(lengths),
-    };
+    let parts = parts_of(alloc, spelt)?;
+    assert!(rt; have_shape(&parts), "as long as the presence bits say");
+    let objects = parts.present.len();
     let snapshot = if is_second {
         Snapshot::check(alloc, &TWO_PERIODS, 1, objects, 5, parts)?
     } else {
@@ -206,6 +240,8 @@ fn parts_are_refused_at_their_first_flaw(rt: HostRuntime) -> Result<(), Fail> {
     ] {
         assert_eq!(rt; flaw_in(checked(&rt, rt.alloc(), is_second, spelt))?, flaw);
     }
+    // A period without a block allocates nothing: its snapshot is all that it takes.
+    assert!(rt; size_of::<Snapshot>() < 200);
     Ok(())
 }
 
