@@ -168,6 +168,12 @@ levels_go_on height bits done start groups ones passed more level =
           ∙ flaw_from-twice start (4 * groups) (level_flaw n ones (drop (start + 4 * groups) bits));
     }
 
+-- the flaw of the first of two
+first : (start place : ℕ) (x y : Option ℕ) → flaw_from start x ≡ Some place
+    → flaw_from start (option_or x y) ≡ Some place
+first start place None y e = absurd (none-some place e)
+first start place (Some p) y e = e
+
 -- the flaw of a level is the tree's
 pub level_fails : (height : ℕ) (bits : List Bool) (done start groups place : ℕ)
     → IsPassed height bits done start groups → done < height
@@ -178,11 +184,7 @@ level_fails height bits done start groups place passed more fails =
     let n : ℕ = height - (done + 1) in
     let next : height - done ≡ suc n = omega arith in
     let below : Option ℕ = level_flaw n (ones_of (take (4 * groups) rest)) (drop (4 * groups) rest) in
-    passed.left ∙ rw next (first (group_flaw groups rest) (flaw_from (4 * groups) below) fails)
-  where
-    first : (x y : Option ℕ) → flaw_from start x ≡ Some place → flaw_from start (option_or x y) ≡ Some place
-    first None y e = absurd (none-some place e)
-    first (Some p) y e = e
+    passed.left ∙ rw next (first start place (group_flaw groups rest) (flaw_from (4 * groups) below) fails)
 
 -- behind the last level
 pub levels_end : (height : ℕ) (bits : List Bool) (start groups : ℕ) → IsPassed height bits height start groups

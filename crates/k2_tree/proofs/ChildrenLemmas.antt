@@ -1,6 +1,7 @@
 -- A square's four bits: the children that they tell, and where these stand.
-use Rattle.std.proofs.Common.{◌≡◌, ℕ, zero, suc, ◌+◌, ◌-◌, ◌*◌, ◌<◌, ◌≤◌, ◌==◌, Bool, true, false, cond}
-use Rattle.std.proofs.Common.{List, [], ◌∷◌, length, map, filter, get_or, refl, sym, ap, ◌∙◌, arith, subst}
+use Rattle.std.proofs.Common.{◌≡◌, ℕ, zero, suc, ◌+◌, ◌-◌, ◌*◌, ◌<◌, ◌≤◌, ◌==◌, Bool, false, cond}
+use Rattle.std.proofs.Common.{List, [], ◌∷◌, length, map, filter, get_or, refl, sym, ap, ◌∙◌, inl, inr, arith, subst}
+use Rattle.std.proofs.lemmas.Bool.{cases_Bool}
 use Rattle.std.proofs.lemmas.Option.{get_or_from_slice_get}
 use Rattle.std.specs.List.{range_with_len}
 use Rattle.std.specs.Int.{bit_at}
@@ -33,30 +34,22 @@ length-digits_of bits = fewer (λ digit. bit_at bits digit == 1) (0 ∷ 1 ∷ 2 
   where
     fewer : (p : ℕ → Bool) (xs : List ℕ) → length (filter p xs) ≤ length xs
     fewer p [] = omega arith
-    fewer p (x ∷ xs) = by_kept (p x) refl (fewer p xs)
-      where
-        by_kept : (b : Bool) → p x ≡ b → length (filter p xs) ≤ length xs → length (filter p (x ∷ xs)) ≤ suc (length xs)
-        by_kept true e rest = rw e (omega arith)
-        by_kept false e rest = rw e (omega arith)
+    fewer p (x ∷ xs) = grind (arith, fewer p xs)
 
 -- tests that agree on a list keep the same of it, also where it is mapped
 kept_alike : (f : ℕ → ℕ) (g : ℕ → Node) (m : ℕ) (p q : ℕ → Bool) → ((d : ℕ) → g d ≡ node m (f d))
     → (k d : ℕ) → ((e : ℕ) → d ≤ e → e < d + k → p e ≡ q (f e))
     → map g (filter p (range_with_len d k)) ≡ map (node m) (filter q (map f (range_with_len d k)))
 kept_alike f g m p q same zero d agree = refl
-kept_alike f g m p q same (suc k) d agree = by_kept (p d) refl
-    (kept_alike f g m p q same k (d + 1) (λ e low high. agree e (omega arith) (omega arith)))
-  where
-    by_kept : (b : Bool) → p d ≡ b
-        → map g (filter p (range_with_len (d + 1) k)) ≡ map (node m) (filter q (map f (range_with_len (d + 1) k)))
-        → map g (filter p (range_with_len d (suc k))) ≡ map (node m) (filter q (map f (range_with_len d (suc k))))
-    by_kept true e rest =
-        let here : q (f d) ≡ true = sym (agree d (omega arith) (omega arith)) ∙ e in
-        rw (e, here)
-        (ap (λ n. n ∷ map g (filter p (range_with_len (d + 1) k))) (same d) ∙ ap (λ ns. node m (f d) ∷ ns) rest)
-    by_kept false e rest =
-        let here : q (f d) ≡ false = sym (agree d (omega arith) (omega arith)) ∙ e in
-        rw (e, here) rest
+kept_alike f g m p q same (suc k) d agree =
+    let rest = kept_alike f g m p q same k (d + 1) (λ e low high. agree e (omega arith) (omega arith)) in
+    let here = agree d (omega arith) (omega arith) in
+    elim (cases_Bool (p d)) [
+      | inl e ↦
+          rw (e, sym here ∙ e)
+          (ap (λ n. n ∷ map g (filter p (range_with_len (d + 1) k))) (same d) ∙ ap (λ ns. node m (f d) ∷ ns) rest)
+      | inr e ↦ rw (e, sym here ∙ e) rest
+    ]
 
 -- the digits of a square's four bits are those of its children that hold a cell
 pub group_nodes : (height : ℕ) (base : Cell) (bits : List Bool) (s : Square) → IsStored height base bits
@@ -100,35 +93,24 @@ group_stands height base bits s stored of some =
     rank_at : ℕ → ℕ
     rank_at d = rank_of bits (4 * square_number s + d)
 
-    bit : ℕ → Bool
-    bit d = get_or bits (4 * square_number s + d) false
-
     from : (k d : ℕ) → d + k ≡ 4 → StandsAt squares (rank_at d + 1) (told_from d k)
     from zero d end = tt
     from (suc k) d end =
         let p : ℕ = 4 * square_number s + d in
         let inside : p < length bits = child_inside height base bits s d stored of some (omega arith) in
-        let told : test d ≡ bit d = window_bit bits (4 * square_number s) d 4 (omega arith) inside in
-        by_bit (bit d) refl told inside (from k (d + 1) (omega arith))
-      where
-        step : 4 * square_number s + d < length bits → rank_at (d + 1) ≡ rank_at d + cond (bit d) 1 0
-        step inside =
-            let place : 4 * square_number s + (d + 1) ≡ 4 * square_number s + d + 1 = omega arith in
-            ap (rank_of bits) place ∙ rank_of-step bits (4 * square_number s + d) inside
-
-        next_one : bit d ≡ true → 4 * square_number s + d < length bits → rank_at (d + 1) + 1 ≡ suc (rank_at d + 1)
-        next_one e inside = let more = step inside ∙ ap (λ z. rank_at d + cond z 1 0) e in omega (arith, more)
-
-        next_same : bit d ≡ false → 4 * square_number s + d < length bits → rank_at (d + 1) + 1 ≡ rank_at d + 1
-        next_same e inside = let more = step inside ∙ ap (λ z. rank_at d + cond z 1 0) e in omega (arith, more)
-
-        by_bit : (b : Bool) → bit d ≡ b → test d ≡ bit d → 4 * square_number s + d < length bits
-            → StandsAt squares (rank_at (d + 1) + 1) (told_from (d + 1) k)
-            → StandsAt squares (rank_at d + 1) (told_from d (suc k))
-        by_bit true e told inside rest =
-            let here : test d ≡ true = told ∙ e in
-            let child = child_stands height base bits s d stored of some (omega arith) e in
-            rw here (child, subst (λ r. StandsAt squares r (told_from (d + 1) k)) (next_one e inside) rest)
-        by_bit false e told inside rest =
-            let here : test d ≡ false = told ∙ e in
-            rw here (subst (λ r. StandsAt squares r (told_from (d + 1) k)) (next_same e inside) rest)
+        let told : test d ≡ get_or bits p false = window_bit bits (4 * square_number s) d 4 (omega arith) inside in
+        let place : 4 * square_number s + (d + 1) ≡ p + 1 = omega arith in
+        let step : rank_at (d + 1) ≡ rank_at d + cond (get_or bits p false) 1 0 =
+        ap (rank_of bits) place ∙ rank_of-step bits p inside in
+        let rest = from k (d + 1) (omega arith) in
+        elim (cases_Bool (get_or bits p false)) [
+          | inl e ↦
+              let next : rank_at (d + 1) + 1 ≡ suc (rank_at d + 1) =
+              omega (arith, step, ap (λ b. rank_at d + cond b 1 0) e) in
+              let child = child_stands height base bits s d stored of some (omega arith) e in
+              rw (told ∙ e) (child, subst (λ r. StandsAt squares r (told_from (d + 1) k)) next rest)
+          | inr e ↦
+              let next : rank_at (d + 1) + 1 ≡ rank_at d + 1 =
+              omega (arith, step, ap (λ b. rank_at d + cond b 1 0) e) in
+              rw (told ∙ e) (subst (λ r. StandsAt squares r (told_from (d + 1) k)) next rest)
+        ]

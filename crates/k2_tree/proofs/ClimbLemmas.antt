@@ -81,7 +81,7 @@ parent_square height codes n q j bits are is low square =
     let bit : get_or all (4 * parent + q % 4) false ≡ true =
     child_bit height codes n (q / 4) parent (q % 4) up (omega arith) ∙ there in
     let child = subst (λ p. IsSquare height codes n p (rank_of all (4 * parent + q % 4) + 1)) whole
-    (child_square height codes n (q / 4) parent (q % 4) are up (omega arith) there) in
+    (child_square height codes n (q / 4) parent (q % 4) up (omega arith) are there) in
     let number : rank_of all (4 * parent + q % 4) + 1 ≡ j =
     same_number height codes n q (rank_of all (4 * parent + q % 4) + 1) j are.rising child square in
     let inside = child_place height codes n (q / 4) parent (q % 4) up (omega arith) in

@@ -110,7 +110,7 @@ goes_on height code (suc n) square child bits are some here on number =
     ap (λ d. 4 * (code / 4 ^ suc n) + d) is ∙ digit_more code n in
     let there : is_in (prefixes n codes) (4 * (code / 4 ^ suc n) + digit) ≡ true =
     sym (bit_tells height code n square digit bits are here is) ∙ on in
-    let square' = child_square height codes n (code / 4 ^ suc n) square digit are.codes here (omega arith) there in
+    let square' = child_square height codes n (code / 4 ^ suc n) square digit here (omega arith) are.codes there in
     let same : rank_of (morton_bits height codes) (4 * square + digit) + 1 ≡ child =
     ap (λ xs. rank_of xs (4 * square + digit) + 1) (sym are.exact) ∙ sym number in
     let moved = subst (λ j. IsSquare height codes n (4 * (code / 4 ^ suc n) + digit) j) same square' in

@@ -1,8 +1,9 @@
 -- Bits without a flaw are those of the Morton numbers that they tell.
-use Rattle.std.proofs.Common.{◌≡◌, ℕ, zero, suc, ◌+◌, ◌*◌, ◌/◌, ◌^◌, ◌<◌, ◌≤◌, ◌==◌, ◌⊎◌, Bool, true, false}
+use Rattle.std.proofs.Common.{◌≡◌, ℕ, zero, suc, ◌+◌, ◌*◌, ◌/◌, ◌^◌, ◌<◌, ◌≤◌, Bool, true}
 use Rattle.std.proofs.Common.{List, [], ◌∷◌, ◌++◌, length, map, take, drop, get_or, refl, sym, ap, ◌∙◌, inl, inr}
 use Rattle.std.proofs.Common.{arith, Option, None, All}
-use Rattle.std.proofs.lemmas.Bool.{false≢true, cases_lt}
+use Rattle.std.proofs.lemmas.Bool.{cases_lt}
+use Rattle.std.proofs.lemmas.Bool.Decides.{nat_tests}
 use Rattle.std.proofs.lemmas.List.Elements.{All-nil}
 use Rattle.std.proofs.Math.Nat.{le-div_iff_mul-le}
 use Rattle.std.proofs.lemmas.Option.{none-some}
@@ -13,7 +14,7 @@ use Rattle.k2_tree.specs.TreeBits.{is_in, prefixes, longer, level_bits, morton_b
 use Rattle.k2_tree.specs.Tree.{picked, codes_below, codes_in, AreTreeBits}
 use Rattle.k2_tree.specs.Flaws.{group_flaw, level_flaw, tree_flaw}
 use Rattle.k2_tree.proofs.RisingLemmas.{same_from_rising, by_place}
-use Rattle.k2_tree.proofs.PrefixLemmas.{by_test, is_in-parents, prefixes-rise, prefixes-zero, prefixes-of, longer-rises, fan_pos}
+use Rattle.k2_tree.proofs.PrefixLemmas.{is_in-parents, prefixes-rise, prefixes-zero, prefixes-of, longer-rises, fan_pos}
 use Rattle.k2_tree.proofs.TreeLemmas.{length-longer}
 use Rattle.k2_tree.proofs.DescentLemmas.{morton_bits-none}
 use Rattle.k2_tree.proofs.GroupLemmas.{option_or-none, option_map-none, group_flaw-within}
@@ -97,17 +98,12 @@ AreBelow-codes_below (suc n) above bits up none =
 
 -- a number whose prefix is 0 is small
 small_prefix : (n code : ℕ) → is_in (0 ∷ []) (code / 4 ^ n) ≡ true → code < 4 ^ n
-small_prefix n code is = by_prefix (by_test 0 (code / 4 ^ n))
-  where
-    by_prefix : ((0 ≡ code / 4 ^ n) × ((0 == code / 4 ^ n) ≡ true))
-        ⊎ ((0 ≡ code / 4 ^ n → ⊥) × ((0 == code / 4 ^ n) ≡ false)) → code < 4 ^ n
-    by_prefix (inr differ) = absurd (false≢true (rw differ.1 at is))
-    by_prefix (inl same) = elim (cases_lt code (4 ^ n)) [
+small_prefix n code is =
+    let none : code / 4 ^ n ≡ 0 = grind (arith, nat_tests) in
+    let divides = le-div_iff_mul-le {k = 4 ^ n} {x = 1} {y = code} (fan_pos n) in
+    elim (cases_lt code (4 ^ n)) [
       | inl low ↦ low
-      | inr high ↦
-          let divides = le-div_iff_mul-le {k = 4 ^ n} {x = 1} {y = code} (fan_pos n) in
-          let some : 1 ≤ code / 4 ^ n = divides.1 (omega arith) in
-          absurd (omega (arith, same.0))
+      | inr high ↦ let some : 1 ≤ code / 4 ^ n = divides.1 (omega arith) in absurd (omega arith)
     ]
 
 -- numbers whose one prefix is 0 are small

@@ -6,7 +6,6 @@ use Rattle.std.proofs.lemmas.List.{length-map, map-append}
 use Rattle.std.proofs.lemmas.Bool.Decides.{nat_tests}
 use Rattle.std.proofs.lemmas.List.Folds.{list_any-append}
 use Rattle.k2_tree.specs.TreeBits.{is_in, prefixes, level_bits, longer, Rises}
-use Rattle.k2_tree.proofs.RisingLemmas.{other_test}
 use Rattle.k2_tree.proofs.PrefixLemmas.{by_test, once_from, is_in-once}
 use Rattle.k2_tree.proofs.PrefixLemmas.{prefixes-rise, prefixes-shorter, longer-rises}
 use Rattle.k2_tree.proofs.TreeLemmas.{length-longer, get_or-longer}
@@ -28,11 +27,8 @@ once_from-same k y (x ∷ xs) e = grind (arith, nat_tests, once_from-same k y xs
 
 -- another number stands behind
 once_from-new : (k y : ℕ) (xs : List ℕ) → (y ≡ last_of k xs → ⊥) → once_from k (xs ++ y ∷ []) ≡ once_from k xs ++ y ∷ []
-once_from-new k y [] e = rw (other_test y k e) refl
-once_from-new k y (x ∷ xs) e = elim (by_test x k) [
-  | inl same ↦ rw same.1 (once_from-new k y xs (λ is. e (is ∙ ap (λ z. last_of z xs) (sym same.0))))
-  | inr differ ↦ rw differ.1 (ap (λ ys. k ∷ ys) (once_from-new x y xs e))
-]
+once_from-new k y [] e = grind (arith, nat_tests, e)
+once_from-new k y (x ∷ xs) e = grind (arith, nat_tests, once_from-new k y xs, once_from-new x y xs e)
 
 -- the last number stays the last
 once_from-last : (k : ℕ) (xs : List ℕ)

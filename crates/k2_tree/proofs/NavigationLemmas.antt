@@ -60,72 +60,67 @@ around : (k n height : ℕ) (codes : List ℕ) → k + suc n ≡ height
 unfolding morton_bits
 around k n height codes high = morton_bits-parted k (suc n) height codes high
 
--- the children of the square with number j stand at 4 * j: seen from the beginning of their level
-from_level : (height : ℕ) (codes : List ℕ) (n p j d : ℕ) → (square : IsSquare height codes (suc n) p j)
-    → 4 * j + d ≡ length (upper_bits square.above (suc n) codes) + (4 * square.place + d)
-from_level height codes n p j d square = omega (arith, length-upper_bits square.above (suc n) codes, square.counted)
+-- a child of the square with number j, by its digit
+module _ (height : ℕ) (codes : List ℕ) (n p j d : ℕ) (square : IsSquare height codes (suc n) p j) (small : d < 4) where
+  -- the levels above the children, and the others
+  abbrev upper : List Bool
+  upper = upper_bits square.above (suc n) codes
 
--- the bits of a square's children are in the tree
-pub child_place : (height : ℕ) (codes : List ℕ) (n p j d : ℕ) → IsSquare height codes (suc n) p j → d < 4
-    → 4 * j + d < length (morton_bits height codes)
-child_place height codes n p j d square small =
-    let front : List Bool = upper_bits square.above (suc n) codes in
-    let rest : List Bool = level_bits n codes ++ morton_bits n codes in
-    let whole : length (morton_bits height codes) ≡ length front + length rest =
-    ap length (around square.above n height codes square.high) ∙ length-append front rest in
-    omega (
-      arith,
-      length-append (level_bits n codes) (morton_bits n codes),
-      length-level_bits n codes,
-      from_level height codes n p j d square,
-      square.within,
-    )
+  abbrev lower : List Bool
+  lower = level_bits n codes ++ morton_bits n codes
 
--- the bit at 4 * j + d tells whether the square with number j has the child d
-pub child_bit : (height : ℕ) (codes : List ℕ) (n p j d : ℕ) → IsSquare height codes (suc n) p j → d < 4
-    → get_or (morton_bits height codes) (4 * j + d) false ≡ is_in (prefixes n codes) (4 * p + d)
-child_bit height codes n p j d square small =
-    let front : List Bool = upper_bits square.above (suc n) codes in
-    let rest : List Bool = level_bits n codes ++ morton_bits n codes in
-    let i : ℕ = square.place in
-    let inside : 4 * i + d < length (level_bits n codes) = omega (arith, length-level_bits n codes, square.within) in
-    ap (λ xs. get_or xs (4 * j + d) false) (around square.above n height codes square.high)
-    ∙ ap (λ q. get_or (front ++ rest) q false) (from_level height codes n p j d square)
-    ∙ get_or-append-add front rest (4 * i + d) false
-    ∙ get_or_append_left (level_bits n codes) (morton_bits n codes) false (4 * i + d) inside
-    ∙ level_bit n i d codes square.within small
-    ∙ ap (λ z. is_in (prefixes n codes) (4 * z + d)) square.stands
+  -- the children stand at 4 * j: seen from the beginning of their level
+  from_level : 4 * j + d ≡ length upper + (4 * square.place + d)
+  from_level = omega (arith, length-upper_bits square.above (suc n) codes, square.counted)
 
--- the child's number is one more than the ones before its bit
-pub child_square : (height : ℕ) (codes : List ℕ) (n p j d : ℕ) → AreCodes height codes
-    → IsSquare height codes (suc n) p j → d < 4 → is_in (prefixes n codes) (4 * p + d) ≡ true
-    → IsSquare height codes n (4 * p + d) (rank_of (morton_bits height codes) (4 * j + d) + 1)
-unfolding squares_above
-child_square height codes n p j d are square small there =
-    let front : List Bool = upper_bits square.above (suc n) codes in
-    let rest : List Bool = level_bits n codes ++ morton_bits n codes in
-    let i : ℕ = square.place in
-    let inside : 4 * i + d < length (level_bits n codes) = omega (arith, length-level_bits n codes, square.within) in
-    let rank : rank_of (morton_bits height codes) (4 * j + d)
-    ≡ ones_of front + rank_of (level_bits n codes) (4 * i + d) =
-    ap (λ xs. rank_of xs (4 * j + d)) (around square.above n height codes square.high)
-    ∙ ap (λ q. rank_of (front ++ rest) q) (from_level height codes n p j d square)
-    ∙ rank_of-append front rest (4 * i + d)
-    ∙ ap (λ r. ones_of front + r)
-    (rank_of-append_left (level_bits n codes) (morton_bits n codes) (4 * i + d) (omega arith)) in
-    let there' : is_in (prefixes n codes) (4 * get_or (prefixes (suc n) codes) i 0 + d) ≡ true =
-    ap (λ z. is_in (prefixes n codes) (4 * z + d)) square.stands ∙ there in
-    let level = level_rank n i d codes are.rising square.within small there' in
-    let top = ap length (one_top height codes are (suc n) (omega (arith, square.within))) in
-    let ones = ones_of-upper_bits square.above (suc n) height codes are.rising square.high in
-    record {
-      above = suc square.above;
-      place = rank_of (level_bits n codes) (4 * i + d);
-      high = omega (arith, square.high);
-      within = level.0;
-      stands = level.1 ∙ ap (λ z. 4 * z + d) square.stands;
-      counted = omega (arith, rank, top, ones);
-    }
+  in_level : 4 * square.place + d < length (level_bits n codes)
+  in_level = omega (arith, length-level_bits n codes, square.within)
+
+  -- the bits of a square's children are in the tree
+  pub child_place : 4 * j + d < length (morton_bits height codes)
+  child_place =
+      omega (
+        arith,
+        ap length (around square.above n height codes square.high) ∙ length-append upper lower,
+        length-append (level_bits n codes) (morton_bits n codes),
+        from_level,
+        in_level,
+      )
+
+  -- the bit at 4 * j + d tells whether the square with number j has the child d
+  pub child_bit : get_or (morton_bits height codes) (4 * j + d) false ≡ is_in (prefixes n codes) (4 * p + d)
+  child_bit =
+      ap (λ xs. get_or xs (4 * j + d) false) (around square.above n height codes square.high)
+      ∙ ap (λ q. get_or (upper ++ lower) q false) from_level
+      ∙ get_or-append-add upper lower (4 * square.place + d) false
+      ∙ get_or_append_left (level_bits n codes) (morton_bits n codes) false (4 * square.place + d) in_level
+      ∙ level_bit n square.place d codes square.within small
+      ∙ ap (λ z. is_in (prefixes n codes) (4 * z + d)) square.stands
+
+  -- the child's number is one more than the ones before its bit
+  pub child_square : AreCodes height codes → is_in (prefixes n codes) (4 * p + d) ≡ true
+      → IsSquare height codes n (4 * p + d) (rank_of (morton_bits height codes) (4 * j + d) + 1)
+  unfolding squares_above
+  child_square are there =
+      let rank : rank_of (morton_bits height codes) (4 * j + d)
+      ≡ ones_of upper + rank_of (level_bits n codes) (4 * square.place + d) =
+      ap (λ xs. rank_of xs (4 * j + d)) (around square.above n height codes square.high)
+      ∙ ap (λ q. rank_of (upper ++ lower) q) from_level
+      ∙ rank_of-append upper lower (4 * square.place + d)
+      ∙ ap (λ r. ones_of upper + r)
+      (rank_of-append_left (level_bits n codes) (morton_bits n codes) (4 * square.place + d) (omega (arith, in_level))) in
+      let level = level_rank n square.place d codes are.rising square.within small
+      (ap (λ z. is_in (prefixes n codes) (4 * z + d)) square.stands ∙ there) in
+      let top = ap length (one_top height codes are (suc n) (omega (arith, square.within))) in
+      let ones = ones_of-upper_bits square.above (suc n) height codes are.rising square.high in
+      record {
+        above = suc square.above;
+        place = rank_of (level_bits n codes) (4 * square.place + d);
+        high = omega (arith, square.high);
+        within = level.0;
+        stands = level.1 ∙ ap (λ z. 4 * z + d) square.stands;
+        counted = omega (arith, rank, top, ones);
+      }
 
 -- the topmost square has number 0
 pub root_square : (height : ℕ) (codes : List ℕ) → AreCodes height codes → 0 < length (prefixes height codes)

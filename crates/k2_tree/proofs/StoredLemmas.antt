@@ -94,7 +94,7 @@ child_stands height base bits s d stored of some small on =
         sym (child_bit height codes n (prefix_of s) (square_number s) d square small)
         ∙ ap (λ bs. get_or bs (4 * square_number s + d) false) (sym stored.tree.exact) ∙ on in
         let child =
-        child_square height codes n (prefix_of s) (square_number s) d stored.tree.codes square small there in
+        child_square height codes n (prefix_of s) (square_number s) d square small stored.tree.codes there in
         ap (λ bs. slice_get (squares_from height codes) (rank_of bs (4 * square_number s + d) + 1)) stored.tree.exact
         ∙ list-from_IsSquare height codes n (4 * prefix_of s + d)
         (rank_of (morton_bits height codes) (4 * square_number s + d) + 1) child

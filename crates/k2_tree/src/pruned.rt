@@ -12,8 +12,8 @@ use track_types::{Cell, Lazy};
 /// Morton order. An item is a leaf and its cell.
 ///
 /// Squares that fail the test are skipped with all that is in them. A square that passes costs one
-/// window and one rank of the tree's bits, which are 11 reads. The walk keeps one entry for each
-/// level and takes no memory.
+/// window and one rank of the tree's bits. The walk keeps one entry for each level and takes no
+/// memory.
 #[derive(Drop)]
 pub struct Pruned<'a, F> {
     walk: SquareWalk<'a>,

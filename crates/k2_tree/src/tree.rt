@@ -117,8 +117,8 @@ impl K2Tree {
         self.bits.ones() + 1 - self.bits.len() / FAN
     }
 
-    /// The cell of a leaf, which is one of this tree's. It climbs to the top by `select1`, which is
-    /// at most 41 reads for each level, and takes no memory.
+    /// The cell of a leaf, which is one of this tree's. It climbs to the top by one `select1` for
+    /// each level, and takes no memory.
     pub fn leaf_cell<L: Ledger>(&self, leaf: u32, steps: &mut Steps<L>) -> Cell
         requires { leaf < length self.now.cells }
         ensures value { slice_get self.now.cells leaf ≡ Some result }
@@ -129,8 +129,8 @@ impl K2Tree {
     }
 
     /// The number of a cell, and `None` exactly where the set does not have it, also outside the
-    /// grid. It goes down from the top by `rank1`, which is at most 11 reads for each level, and
-    /// takes no memory.
+    /// grid. It goes down from the top by one bit and one `rank1` for each level, and takes no
+    /// memory.
     pub fn leaf_of<L: Ledger>(&self, cell: Cell, steps: &mut Steps<L>) -> Option<u32>
         ensures value { MatchOption result (Contains self.now.cells cell → ⊥)
             (λ leaf. slice_get self.now.cells leaf ≡ Some cell) }
@@ -160,8 +160,8 @@ impl K2Tree {
     }
 
     /// The child of a square, by its digit: twice the bit of the row and that of the column. `None`
-    /// exactly where it holds no cell of the set. The square is one of this tree's and no cell, and
-    /// the digit is below 4.
+    /// exactly where it holds no cell of the set. Its cells lie within the square, which is one of
+    /// this tree's and no cell. The digit is below 4.
     pub fn child<L: Ledger>(
         &self,
         square: &Square,
@@ -201,8 +201,8 @@ impl K2Tree {
     /// The leaves for which `keep` is true on every square from the whole grid to the cell itself,
     /// in Morton order, each with its cell. A square that fails is skipped with all that is in it,
     /// so that nothing is lost where `keep` is false only on boxes in which nothing wanted lies. It
-    /// takes no memory, and its draws read at most 11 for each square with a cell on which `keep`
-    /// is true.
+    /// takes no memory, and its draws read at most one window and one rank for each square with a
+    /// cell on which `keep` is true.
     pub fn pruned<F: Keep>(&self, keep: F) -> Pruned<'_, F>
         ensures tree { pruned_tree result ≡ self.now }
         ensures left { pruned_left F.keeps result ≡ kept_leaves (F.keeps keep) self.now }
