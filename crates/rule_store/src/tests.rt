@@ -1,4 +1,5 @@
-ghost use Rattle.std.specs.Prelude.{◌≡◌, ◌<◌, OnTrue};
+ghost use Rattle.std.specs.Prelude.{◌≡◌, ◌<◌};
+ghost use Rattle.std.specs.Bool.{OnTrue};
 ghost use Rattle.std.specs.List.Sorted.{IsStrictlyIncreasing};
 
 use super::{Entry, RuleFault, RuleStore};
@@ -134,12 +135,12 @@ fn told(entry: Entry) -> Summed {
 }
 
 // What the entry of a symbol tells, if the symbol is in range.
-fn told_of(store: &RuleStore, symbol: u32) -> Option<Summed> {
+fn told_of(store: &RuleStore, symbol: usize) -> Option<Summed> {
     let (terminals, rules, _symbols) = store.sizes();
-    if symbol >= terminals + rules {
+    if symbol >= (terminals + rules) as usize {
         return None;
     }
-    Some(told(store.entry(symbol)))
+    Some(told(store.entry(symbol as u32)))
 }
 
 // The entries of a rule's parts, and of the stored symbol at a place, on a counter of its own.
@@ -187,7 +188,7 @@ fn entries_sum_up_expansions(rt: HostRuntime) -> Result<(), Fail> {
         let store = store_of(alloc, &alphabet, rules.as_slice(), &[], 20, 4194304)?;
         let expansions = expand(alloc, &alphabet, rules.as_slice())?;
         for (symbol, values) in expansions.iter().enumerate() {
-            let told = told_of(&store, symbol as u32);
+            let told = told_of(&store, symbol);
             assert_eq!(rt; told, Some(walk(values.as_slice())), "seed {seed}, symbol {symbol}");
         }
     }
