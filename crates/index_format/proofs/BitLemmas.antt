@@ -80,6 +80,11 @@ unfolding bytes_filled
 length-bytes_filled zero bits = refl
 length-bytes_filled (suc n) bits = ap suc (length-bytes_filled n (drop 8 bits))
 
+-- the bytes of bits are as many as these take
+pub length-bit_bytes : (bits : List Bool) → length (bit_bytes bits) ≡ byte_count (length bits)
+unfolding bit_bytes
+length-bit_bytes bits = length-bytes_filled (byte_count (length bits)) bits
+
 -- eight bits make a byte
 byte_below : (bits : List Bool) → number_of (take 8 bits) < 256
 byte_below bits = omega (arith, number_of-take 8 bits)

@@ -5,8 +5,9 @@ use Rattle.index_format.specs.Fields.{has_spare, bits_at}
 use Rattle.std.proofs.lemmas.Grind.{common_steps}
 use Rattle.index_format.proofs.BitLemmas.{IsPacked-bytes, take-bits_of-bytes, bits_at-ok}
 use Rattle.index_format.proofs.packed.bits_of.Goals as goal
+use Rattle.index_format.proofs.packed.bits_of.Goals.{In_ok-words_of}
 
-module _ (c : goal.In_ok-words_of) where
+module _ (c : In_ok-words_of) where
   count_is : c.div_ceil-len.result ≡ byte_count c.args.count
   count_is = grind (arith, common_steps)
 
