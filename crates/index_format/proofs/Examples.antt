@@ -6,7 +6,7 @@ use Rattle.track_types.specs.declared.flaw.Section.TheVariants.{Header, Presence
 use Rattle.track_types.specs.declared.parts.Parts.{Parts}
 use Rattle.packed_bits.specs.Bits.{number_of, ones_of}
 use Rattle.packed_bits.specs.Words.{low_bits}
-use Rattle.index_format.specs.Spelling.{bytes_of_parts, short_bytes, long_bytes, signed_bytes, rule_bytes, bits_in, bytes_filled, bit_bytes, period_bytes, size_bytes, place_bytes}
+use Rattle.index_format.specs.Spelling.{bytes_of_parts, short_bytes, long_bytes, signed_bytes, rule_bytes, bits_in, bytes_filled, bit_bytes, period_bytes, size_bytes, header_bytes}
 use Rattle.index_format.specs.Fields.{flaw_at, number_at, items_at, short_at, rising_at, rule_at, bits_at}
 use Rattle.index_format.specs.Reading.{after_magic, field_at, signed_at, sizes_at, header_at, tree_length_at, period_at,, parts_in}
 
@@ -54,7 +54,7 @@ is_long : (length (file 1) == 123) ≡ true
 is_long = refl
 
 is_written : bytes_of_parts whole ≡ file 1
-unfolding bytes_of_parts short_bytes long_bytes signed_bytes rule_bytes bytes_filled bit_bytes period_bytes size_bytes place_bytes number_of
+unfolding bytes_of_parts short_bytes long_bytes signed_bytes rule_bytes bytes_filled bit_bytes period_bytes size_bytes header_bytes number_of
 is_written = refl
 
 is_read : parts_in (file 1) ≡ Ok whole

@@ -12,7 +12,7 @@ use Rattle.packed_bits.specs.Bits.{ones_of}
 use Rattle.std.proofs.lemmas.List.{flat_map_more}
 use Rattle.track_types.specs.declared.flaw.Flaw.{Flaw}
 use Rattle.track_types.specs.declared.flaw.Section.{Section}
-use Rattle.index_format.specs.Spelling.{short_bytes, long_bytes, rule_bytes, bit_bytes, bits_in, byte_count}
+use Rattle.index_format.specs.Spelling.{short_bytes, long_bytes, rule_bytes, bit_bytes, bits_in, bytes_for}
 use Rattle.index_format.specs.Fields.{Taken, ◌>>=◌, flaw_at, number_at, items_at, short_at, rises, rising_at, rule_at, has_spare, bits_at}
 use Rattle.index_format.proofs.BitLemmas.{IsBytes, IsBytes-take, IsBytes-drop, bit_bytes-take, take-bits_in, spare-bit_bytes, length-bits_in, length-bit_bytes}
 
@@ -171,15 +171,15 @@ pub bits_at-takes : (section : Section) (period count : ℕ) (bytes : List ℕ) 
     → IfOk (bits_at section period count bytes) (λ bits. Takes bytes (bit_bytes bits.0) bits.1 × (length bits.0 ≡ count))
 unfolding bits_at
 bits_at-takes section period count bytes fits =
-    let front = take (byte_count count) bytes in
-    guard_ok (ltb (length bytes) (byte_count count)) (λ enough.
+    let front = take (bytes_for count) bytes in
+    guard_ok (ltb (length bytes) (bytes_for count)) (λ enough.
     guard_ok (has_spare count front) (λ full.
-    let long = length-take-le (byte_count count) bytes (ltb-false _ _ enough) in
+    let long = length-take-le (bytes_for count) bytes (ltb-false _ _ enough) in
     let spare = omega (arith, ltb-false _ _ full) in
-    let text = bit_bytes-take count front (IsBytes-take (byte_count count) bytes fits) long spare in
+    let text = bit_bytes-take count front (IsBytes-take (bytes_for count) bytes fits) long spare in
     (record {
-      parts = sym (rw text (take-append-drop (byte_count count) bytes));
-      fits = IsBytes-drop (byte_count count) bytes fits;
+      parts = sym (rw text (take-append-drop (bytes_for count) bytes));
+      fits = IsBytes-drop (bytes_for count) bytes fits;
     }, length-take-le count (bits_in front) (omega (arith, length-bits_in front, long)))))
 
 -- bits that are spelled so are read
@@ -187,11 +187,11 @@ pub bits_at-again : (section : Section) (period count : ℕ) (bits : List Bool) 
     → bits_at section period count (bit_bytes bits ++ rest) ≡ Ok (bits, rest)
 unfolding bits_at
 bits_at-again section period count bits rest count_is =
-    let long : length (bit_bytes bits) ≡ byte_count count = length-bit_bytes bits ∙ ap byte_count count_is in
-    let enough : ltb (length (bit_bytes bits ++ rest)) (byte_count count) ≡ false =
-        le-ltb (length (bit_bytes bits ++ rest)) (byte_count count) (omega (arith, length-append (bit_bytes bits) rest, long)) in
+    let long : length (bit_bytes bits) ≡ bytes_for count = length-bit_bytes bits ∙ ap bytes_for count_is in
+    let enough : ltb (length (bit_bytes bits ++ rest)) (bytes_for count) ≡ false =
+        le-ltb (length (bit_bytes bits ++ rest)) (bytes_for count) (omega (arith, length-append (bit_bytes bits) rest, long)) in
     let full : has_spare count (bit_bytes bits) ≡ false =
         ap (λ n. ltb 0 (ones_of (drop n (bits_in (bit_bytes bits))))) (sym count_is) ∙ ap (ltb 0) (spare-bit_bytes bits) in
     let same : take count (bits_in (bit_bytes bits)) ≡ bits =
         ap (λ n. take n (bits_in (bit_bytes bits))) (sym count_is) ∙ take-bits_in bits in
-    rw (enough, take_at (bit_bytes bits) rest (byte_count count) long, full, drop_at (bit_bytes bits) rest (byte_count count) long, same) refl
+    rw (enough, take_at (bit_bytes bits) rest (bytes_for count) long, full, drop_at (bit_bytes bits) rest (bytes_for count) long, same) refl
