@@ -13,7 +13,7 @@ use Rattle.packed_bits.proofs.NumberLemmas.{number_of-lt, number_of-append, numb
 use Rattle.packed_bits.proofs.WordLemmas.{length-low_bits, number_of-low_bits, bits_of-append, length-bits_of}
 use Rattle.track_types.specs.declared.flaw.Section.{Section}
 use Rattle.index_format.specs.Fields.{has_spare, bits_at}
-use Rattle.index_format.specs.Spelling.{bits_in, bytes_filled, byte_count, bit_bytes}
+use Rattle.index_format.specs.Spelling.{bits_in, bytes_filled, bytes_for, bit_bytes}
 
 -- each is below 256
 abbrev pub IsBytes : List ℕ → Type 0
@@ -80,6 +80,11 @@ unfolding bytes_filled
 length-bytes_filled zero bits = refl
 length-bytes_filled (suc n) bits = ap suc (length-bytes_filled n (drop 8 bits))
 
+-- the bytes of bits are as many as these take
+pub length-bit_bytes : (bits : List Bool) → length (bit_bytes bits) ≡ bytes_for (length bits)
+unfolding bit_bytes
+length-bit_bytes bits = length-bytes_filled (bytes_for (length bits)) bits
+
 -- eight bits make a byte
 byte_below : (bits : List Bool) → number_of (take 8 bits) < 256
 byte_below bits = omega (arith, number_of-take 8 bits)
@@ -99,10 +104,10 @@ number_of-bytes_filled (suc n) bits room =
 pub take-bits_in : (bits : List Bool) → take (length bits) (bits_in (bit_bytes bits)) ≡ bits
 unfolding bit_bytes
 take-bits_in bits =
-    let bytes = bytes_filled (byte_count (length bits)) bits in
-    let same = number_of-bytes_filled (byte_count (length bits)) bits (omega arith) in
-    let all : length (bits_in bytes) ≡ 8 * byte_count (length bits) =
-        length-bits_in bytes ∙ ap (λ n. 8 * n) (length-bytes_filled (byte_count (length bits)) bits) in
+    let bytes = bytes_filled (bytes_for (length bits)) bits in
+    let same = number_of-bytes_filled (bytes_for (length bits)) bits (omega arith) in
+    let all : length (bits_in bytes) ≡ 8 * bytes_for (length bits) =
+        length-bits_in bytes ∙ ap (λ n. 8 * n) (length-bytes_filled (bytes_for (length bits)) bits) in
     let long = length-take-le (length bits) (bits_in bytes) (omega arith) in
     let number = number_of-take (length bits) (bits_in bytes) ∙ ap (λ v. v % 2 ^ length bits) same
         ∙ mod-eq_of_lt (number_of-lt bits) in
@@ -112,20 +117,20 @@ take-bits_in bits =
 pub spare-bit_bytes : (bits : List Bool) → ones_of (drop (length bits) (bits_in (bit_bytes bits))) ≡ 0
 unfolding bit_bytes
 spare-bit_bytes bits =
-    let bytes = bytes_filled (byte_count (length bits)) bits in
-    let same = number_of-bytes_filled (byte_count (length bits)) bits (omega arith) in
+    let bytes = bytes_filled (bytes_for (length bits)) bits in
+    let same = number_of-bytes_filled (bytes_for (length bits)) bits (omega arith) in
     let beyond = number_of-drop (length bits) (bits_in bytes) ∙ ap (λ v. v / 2 ^ length bits) same in
     ones_of-zero (drop (length bits) (bits_in bytes)) (beyond ∙ div-eq_of_lt (number_of-lt bits))
 
 -- bytes whose spare bits are 0 are those of their bits
-pub bit_bytes-take : (count : ℕ) (bytes : List ℕ) → IsBytes bytes → length bytes ≡ byte_count count
+pub bit_bytes-take : (count : ℕ) (bytes : List ℕ) → IsBytes bytes → length bytes ≡ bytes_for count
     → ones_of (drop count (bits_in bytes)) ≡ 0 → bit_bytes (take count (bits_in bytes)) ≡ bytes
 unfolding bit_bytes
 bit_bytes-take count bytes fits long spare =
     let bits = take count (bits_in bytes) in
     let count_is : length bits ≡ count = length-take-le count (bits_in bytes) (omega (arith, length-bits_in bytes)) in
     let same = number_of-spare count (bits_in bytes) spare in
-    let bytes_is : byte_count (length bits) ≡ length bytes = rw count_is (sym long) in
+    let bytes_is : bytes_for (length bits) ≡ length bytes = rw count_is (sym long) in
     ap (λ n. bytes_filled n bits) bytes_is ∙ bytes_filled-bits_in bytes bits fits same
 
 -- eight bytes as a word spell what their bits do
@@ -194,7 +199,7 @@ any_one bits = elim (cases_lt 0 (ones_of bits)) [
 ]
 
 -- the bits past the last byte's used ones spell its quotient
-pub spare-last : (count : ℕ) (bytes : List ℕ) → IsBytes bytes → length bytes ≡ byte_count count → 0 < count % 8
+pub spare-last : (count : ℕ) (bytes : List ℕ) → IsBytes bytes → length bytes ≡ bytes_for count → 0 < count % 8
     → number_of (drop count (bits_in bytes)) ≡ get_or bytes (count / 8) 0 / 2 ^ (count % 8)
 spare-last count bytes fits long used =
     let k = count / 8 in
@@ -212,7 +217,7 @@ spare-last count bytes fits long used =
     ∙ number_of-drop (count % 8) (bits_in (last ∷ [])) ∙ ap (λ n. n / 2 ^ (count % 8)) whole
 
 -- bits that fill their bytes have no spare ones
-pub spare-full : (count : ℕ) (bytes : List ℕ) → length bytes ≡ byte_count count → count % 8 ≡ 0
+pub spare-full : (count : ℕ) (bytes : List ℕ) → length bytes ≡ bytes_for count → count % 8 ≡ 0
     → drop count (bits_in bytes) ≡ []
 spare-full count bytes long full = drop_all count (bits_in bytes) (omega (arith, length-bits_in bytes))
 
@@ -266,7 +271,7 @@ module _ {words rest bytes : List ℕ} (spelt : IsSpelt words rest bytes) where
       ∙ number_of-more_words words spelt.before rest word spelt.same spelt.long small word_is
       ∙ ap (λ list. number_of (bits_in list)) (sym spelt.split))
 
-module _ (words bytes : List ℕ) (count : ℕ) (long : length bytes ≡ byte_count count) (fewest : length words ≡ (length bytes + 7) / 8) (same : number_of (bits_of words) ≡ number_of (bits_in bytes)) where
+module _ (words bytes : List ℕ) (count : ℕ) (long : length bytes ≡ bytes_for count) (fewest : length words ≡ (length bytes + 7) / 8) (same : number_of (bits_of words) ≡ number_of (bits_in bytes)) where
   -- words that spell what bytes without spare bits do are packed
   pub IsPacked-bytes : ltb 0 (ones_of (drop count (bits_in bytes))) ≡ false → IsPacked words count
   IsPacked-bytes spare =
@@ -329,10 +334,10 @@ pub ones_of-take-le : (bits : List Bool) (n : ℕ) → ones_of (take n bits) ≤
 ones_of-take-le bits n = omega (arith, ones_of-le-length (take n bits), length-take n bits)
 
 -- what was read of bits whose bytes are there and have no spare ones
-pub bits_at-ok : (section : Section) (period count : ℕ) (bytes words : List ℕ) → byte_count count ≤ length bytes
-    → has_spare count (take (byte_count count) bytes) ≡ false
-    → take count (bits_of words) ≡ take count (bits_in (take (byte_count count) bytes))
-    → bits_at section period count bytes ≡ Ok (take count (bits_of words), drop (byte_count count) bytes)
+pub bits_at-ok : (section : Section) (period count : ℕ) (bytes words : List ℕ) → bytes_for count ≤ length bytes
+    → has_spare count (take (bytes_for count) bytes) ≡ false
+    → take count (bits_of words) ≡ take count (bits_in (take (bytes_for count) bytes))
+    → bits_at section period count bytes ≡ Ok (take count (bits_of words), drop (bytes_for count) bytes)
 unfolding bits_at
 bits_at-ok section period count bytes words enough full same =
-    rw (le-ltb (length bytes) (byte_count count) enough, full, same) refl
+    rw (le-ltb (length bytes) (bytes_for count) enough, full, same) refl

@@ -6,9 +6,9 @@ use Rattle.track_types.specs.declared.flaw.Section.TheVariants.{Header, Presence
 use Rattle.track_types.specs.declared.parts.Parts.{Parts}
 use Rattle.packed_bits.specs.Bits.{number_of, ones_of}
 use Rattle.packed_bits.specs.Words.{low_bits}
-use Rattle.index_format.specs.Spelling.{bytes_of_parts, short_bytes, long_bytes, signed_bytes, rule_bytes, bits_in, bytes_filled, bit_bytes, period_bytes, size_bytes, place_bytes}
+use Rattle.index_format.specs.Spelling.{bytes_of_parts, short_bytes, long_bytes, signed_bytes, rule_bytes, bits_in, bytes_filled, bit_bytes, period_bytes, size_bytes, header_bytes}
 use Rattle.index_format.specs.Fields.{flaw_at, number_at, items_at, short_at, rising_at, rule_at, bits_at}
-use Rattle.index_format.specs.Reading.{after_magic, field_at, signed_at, sizes_at, header_at, tree_length_at, period_at, ended, parts_in}
+use Rattle.index_format.specs.Reading.{after_magic, field_at, signed_at, sizes_at, header_at, tree_length_at, period_at,, parts_in}
 
 -- object 7 at three instants, in one period
 abbrev whole : Parts
@@ -54,15 +54,15 @@ is_long : (length (file 1) == 123) ≡ true
 is_long = refl
 
 is_written : bytes_of_parts whole ≡ file 1
-unfolding bytes_of_parts short_bytes long_bytes signed_bytes rule_bytes bytes_filled bit_bytes period_bytes size_bytes place_bytes number_of
+unfolding bytes_of_parts short_bytes long_bytes signed_bytes rule_bytes bytes_filled bit_bytes period_bytes size_bytes header_bytes number_of
 is_written = refl
 
 is_read : parts_in (file 1) ≡ Ok whole
-unfolding number_at items_at short_at rising_at rule_at bits_at after_magic field_at signed_at sizes_at header_at tree_length_at period_at ended parts_in bits_in low_bits ones_of
+unfolding number_at items_at short_at rising_at rule_at bits_at after_magic field_at signed_at sizes_at header_at tree_length_at period_at parts_in bits_in low_bits ones_of
 is_read = refl
 
 is_cut : parts_in (take 122 (file 1)) ≡ Err (flaw_at Log 0 1 Short)
-unfolding number_at items_at short_at rising_at rule_at bits_at after_magic field_at signed_at sizes_at header_at tree_length_at period_at ended parts_in bits_in low_bits ones_of
+unfolding number_at items_at short_at rising_at rule_at bits_at after_magic field_at signed_at sizes_at header_at tree_length_at period_at parts_in bits_in low_bits ones_of
 is_cut = refl
 
 is_empty : parts_in [] ≡ Err (flaw_at Header 0 0 Short)
@@ -70,11 +70,11 @@ unfolding after_magic header_at parts_in
 is_empty = refl
 
 is_longer : parts_in (file 1 ++ 0 ∷ []) ≡ Err (flaw_at End 0 0 Extra)
-unfolding number_at items_at short_at rising_at rule_at bits_at after_magic field_at signed_at sizes_at header_at tree_length_at period_at ended parts_in bits_in low_bits ones_of
+unfolding number_at items_at short_at rising_at rule_at bits_at after_magic field_at signed_at sizes_at header_at tree_length_at period_at parts_in bits_in low_bits ones_of
 is_longer = refl
 
 is_padded : parts_in (file 3) ≡ Err (flaw_at Presence 0 0 Pad)
-unfolding number_at items_at short_at rising_at rule_at bits_at after_magic field_at signed_at sizes_at header_at tree_length_at period_at ended parts_in bits_in low_bits ones_of
+unfolding number_at items_at short_at rising_at rule_at bits_at after_magic field_at signed_at sizes_at header_at tree_length_at period_at parts_in bits_in low_bits ones_of
 is_padded = refl
 
 is_other : parts_in (88 ∷ drop 1 (file 1)) ≡ Err (flaw_at Header 0 0 Magic)

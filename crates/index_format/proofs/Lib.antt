@@ -1,3 +1,4 @@
 mod ItemLemmas
 mod BitLemmas
+mod Laws
 mod Examples

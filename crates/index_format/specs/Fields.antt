@@ -7,7 +7,7 @@ use Rattle.track_types.specs.declared.flaw.Section.{Section}
 use Rattle.track_types.specs.declared.flaw.Kind.{Kind}
 use Rattle.track_types.specs.declared.flaw.Kind.TheVariants.{Short, Order, Pad}
 use Rattle.track_types.specs.declared.flaw.Section.TheVariants.{Rules}
-use Rattle.index_format.specs.Spelling.{bits_in, byte_count}
+use Rattle.index_format.specs.Spelling.{bits_in, bytes_for}
 
 -- what is taken from the front, and the bytes after it; or a flaw
 abbrev pub Taken : Type 0 → Type 0
@@ -64,7 +64,7 @@ has_spare count bytes = nat_lt 0 (ones_of (drop count (bits_in bytes)))
 -- a list of bits; the flaw of a byte that is missing, or of the last one
 unfoldable pub bits_at : Section → ℕ → ℕ → List ℕ → Taken (List Bool)
 bits_at section period count bytes =
-    if nat_lt (length bytes) (byte_count count) then Err (flaw_at section period (length bytes) Short)
-    else if has_spare count (take (byte_count count) bytes)
-    then Err (flaw_at section period (byte_count count - 1) Pad)
-    else Ok (take count (bits_in (take (byte_count count) bytes)), drop (byte_count count) bytes)
+    if nat_lt (length bytes) (bytes_for count) then Err (flaw_at section period (length bytes) Short)
+    else if has_spare count (take (bytes_for count) bytes)
+    then Err (flaw_at section period (bytes_for count - 1) Pad)
+    else Ok (take count (bits_in (take (bytes_for count) bytes)), drop (bytes_for count) bytes)

@@ -1,5 +1,5 @@
 -- The parts that the bytes of an index hold, or the first flaw.
-use Rattle.std.specs.Prelude.{bytes_eq, ◌≡◌, ℕ, ℤ, pos, neg_ℤ, ◌+ℤ◌, ◌-◌, ◌*◌, ◌^◌, Bool, ◌&&◌, List, [], ◌∷◌, ◌++◌, length, take, drop, Result, Ok, Err, nat_lt, nat_le, ◌==◌, if◌then◌else◌}
+use Rattle.std.specs.Prelude.{bytes_eq, ℕ, ℤ, pos, neg_ℤ, ◌+ℤ◌, ◌-◌, ◌*◌, ◌^◌, Bool, ◌&&◌, List, [], length, take, drop, Result, Ok, Err, nat_lt, nat_le, ◌==◌, if◌then◌else◌}
 use Rattle.std.specs.Int.{Width, w32, w64, div_ceil, cast_signed}
 use Rattle.std.specs.Int.Signed.{le_z}
 use Rattle.packed_bits.specs.Bits.{ones_of}
@@ -115,9 +115,8 @@ period_at objects seen bytes = do
   }, lengths.1)
 
 -- nothing follows
-unfoldable pub ended : {A : Type 0} → List ℕ → A → Result A Flaw
-ended [] value = Ok value
-ended (byte ∷ bytes) value = Err (flaw_at End 0 0 Extra)
+abbrev pub ended : {A : Type 0} → List ℕ → A → Result A Flaw
+ended bytes value = if length bytes == 0 then Ok value else Err (flaw_at End 0 0 Extra)
 
 -- all of the bytes
 unfoldable pub parts_in : List ℕ → Result Parts Flaw

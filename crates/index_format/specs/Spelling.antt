@@ -4,9 +4,24 @@ use Rattle.std.specs.List.{flat_map}
 use Rattle.std.specs.Int.{w32, w64, to_le_bytes, cast_unsigned}
 use Rattle.packed_bits.specs.Bits.{number_of}
 use Rattle.packed_bits.specs.Words.{low_bits}
-use Rattle.track_types.specs.declared.frame.Frame.{Frame}
+use Rattle.index_format.specs.declared.header.Header.{Header}
+use Rattle.index_format.specs.declared.header.Sizes.{Sizes}
 use Rattle.track_types.specs.declared.parts.Parts.{Parts}
 use Rattle.track_types.specs.declared.period_parts.PeriodParts.{PeriodParts}
+
+-- the numbers of four bytes in a header
+abbrev pub sizes_of : Header → Sizes
+sizes_of header = record {
+  period = header.frame.period; height = header.frame.height; objects = header.objects; span = header.frame.span;
+  alphabet = header.alphabet; rules = header.rules; symbols = header.symbols;
+}
+
+-- the header of parts: their frame, and how long those lists are that nothing else tells
+abbrev pub header_of : Parts → Header
+header_of parts = record {
+  frame = parts.frame; objects = length parts.objects; alphabet = length parts.alphabet;
+  rules = length parts.rules; symbols = length parts.symbols;
+}
 
 -- the eight bytes that an index begins with: GRACT001
 abbrev pub magic : List ℕ
@@ -22,7 +37,7 @@ long_bytes n = to_le_bytes w64 n
 
 -- a signed number as eight bytes, in two's complement
 unfoldable pub signed_bytes : ℤ → List ℕ
-signed_bytes z = to_le_bytes w64 (cast_unsigned w64 z)
+signed_bytes z = long_bytes (cast_unsigned w64 z)
 
 -- the two numbers of a rule
 unfoldable pub rule_bytes : ℕ × ℕ → List ℕ
@@ -38,12 +53,12 @@ bytes_filled zero bits = []
 bytes_filled (suc n) bits = number_of (take 8 bits) ∷ bytes_filled n (drop 8 bits)
 
 -- how many bytes that many bits take
-abbrev pub byte_count : ℕ → ℕ
-byte_count bits = (bits + 7) / 8
+abbrev pub bytes_for : ℕ → ℕ
+bytes_for bits = (bits + 7) / 8
 
 -- the bytes of a list of bits
 unfoldable pub bit_bytes : List Bool → List ℕ
-bit_bytes bits = bytes_filled (byte_count (length bits)) bits
+bit_bytes bits = bytes_filled (bytes_for (length bits)) bits
 
 -- what an index holds of a period
 unfoldable pub period_bytes : PeriodParts → List ℕ
@@ -52,23 +67,23 @@ period_bytes period =
     ++ short_bytes (length period.tree) ++ bit_bytes period.tree ++ bit_bytes period.lasts
     ++ flat_map short_bytes period.perm ++ flat_map short_bytes period.lengths
 
--- the header's numbers of four bytes: settings, and how long the lists are that no other number tells
-unfoldable pub size_bytes : Parts → List ℕ
-size_bytes parts =
-    short_bytes parts.frame.period ++ short_bytes parts.frame.height ++ short_bytes (length parts.objects)
-    ++ short_bytes parts.frame.span ++ short_bytes (length parts.alphabet) ++ short_bytes (length parts.rules)
-    ++ short_bytes (length parts.symbols)
+-- the header's numbers of four bytes
+unfoldable pub size_bytes : Sizes → List ℕ
+size_bytes sizes =
+    short_bytes sizes.period ++ short_bytes sizes.height ++ short_bytes sizes.objects ++ short_bytes sizes.span
+    ++ short_bytes sizes.alphabet ++ short_bytes sizes.rules ++ short_bytes sizes.symbols
 
--- the header's numbers of eight bytes
-unfoldable pub place_bytes : Frame → List ℕ
-place_bytes frame =
-    signed_bytes frame.first ++ signed_bytes frame.base.x ++ signed_bytes frame.base.y
-    ++ long_bytes frame.cell ++ long_bytes frame.tick
+-- the header: the eight bytes, the numbers of four bytes and those of eight
+unfoldable pub header_bytes : Header → List ℕ
+header_bytes header =
+    magic ++ size_bytes (sizes_of header)
+    ++ signed_bytes header.frame.first ++ signed_bytes header.frame.base.x ++ signed_bytes header.frame.base.y
+    ++ long_bytes header.frame.cell ++ long_bytes header.frame.tick
 
 -- an index file
 unfoldable pub bytes_of_parts : Parts → List ℕ
 bytes_of_parts parts =
-    magic ++ size_bytes parts ++ place_bytes parts.frame
+    header_bytes (header_of parts)
     ++ flat_map short_bytes parts.objects ++ flat_map long_bytes parts.alphabet
     ++ flat_map rule_bytes parts.rules ++ flat_map period_bytes parts.periods
     ++ flat_map short_bytes parts.symbols

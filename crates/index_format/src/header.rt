@@ -127,6 +127,7 @@ fn coordinate_of(bytes: &[u8], index: usize) -> Result<(i64, &[u8]), FormatFault
 fn sizes_of(bytes: &[u8]) -> Result<(Sizes, &[u8]), FormatFault>
     ensures exact { Gives (λ x. (x.0, x.1.now)) result (sizes_at bytes.now) }
     ensures within { IfOk result (λ x. 1 ≤ x.0.span) }
+    ensures some { IfOk result (λ x. 1 ≤ x.0.period) }
 {
     let (period, rest) = field_of(bytes, 1, 1, MAX_SPAN)?;
     let (height, rest) = field_of(rest, 2, 1, MAX_HEIGHT)?;
@@ -141,7 +142,8 @@ fn sizes_of(bytes: &[u8]) -> Result<(Sizes, &[u8]), FormatFault>
 /// The header at the front, and the bytes after it.
 #[tactic(auto, unfolding(crate::specs::Reading::header_at))]
 pub fn header_of(bytes: &[u8]) -> Result<(Header, &[u8]), FormatFault>
-    ensures { Gives (λ x. (x.0, x.1.now)) result (header_at bytes.now) }
+    ensures exact { Gives (λ x. (x.0, x.1.now)) result (header_at bytes.now) }
+    ensures within { IfOk result (λ x. 1 ≤ x.0.frame.period) }
 {
     let rest = magic_of(bytes)?;
     let (sizes, rest) = sizes_of(rest)?;

@@ -3,7 +3,7 @@ ghost use Rattle.packed_bits.specs.Bits.{number_of, ones_of};
 ghost use Rattle.packed_bits.specs.Words.{bits_of};
 ghost use Rattle.index_format.specs.Answers.{Gives};
 ghost use Rattle.index_format.specs.Fields.{has_spare, bits_at};
-ghost use Rattle.index_format.specs.Spelling.{bits_in, byte_count};
+ghost use Rattle.index_format.specs.Spelling.{bits_in, bytes_for};
 
 use crate::fault::FormatFault;
 use crate::fields::word_of;
@@ -46,7 +46,7 @@ pub fn ones_in(bits: &BitList) -> u32
 
 /// Whether a bit of the last byte past the first `count` bits is 1.
 fn has_spare(count: u32, bytes: &[u8]) -> bool
-    requires { length bytes.now ≡ byte_count count }
+    requires { length bytes.now ≡ bytes_for count }
     ensures exact { result ≡ has_spare count bytes.now }
     ensures some { result ≡ true → 1 ≤ length bytes.now }
 {

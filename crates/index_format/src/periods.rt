@@ -1,4 +1,4 @@
-ghost use Rattle.std.specs.Prelude.{◌≡◌, [], length};
+ghost use Rattle.std.specs.Prelude.{◌≡◌, List, [], length};
 ghost use Rattle.track_types.specs.declared.flaw.Section.TheVariants.{TreeLen};
 ghost use Rattle.track_types.specs.declared.period_parts.PeriodParts as declared;
 ghost use Rattle.index_format.specs.Answers.{Gives};

@@ -7,3 +7,4 @@ pub mod GrownLemmas
 pub mod MemberLemmas
 pub mod FindLemmas
 pub mod RuleLemmas
+pub mod FrontLemmas
