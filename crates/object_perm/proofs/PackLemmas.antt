@@ -1,33 +1,33 @@
 -- Shortcuts in groups: a group more, and what the groups say of a place.
-use Rattle.std.proofs.Common.{◌≡◌, ℕ, ◌+◌, ◌*◌, ◌/◌, ◌%◌, ◌^◌, ◌<◌, ◌≤◌, min, Option, None, Some, List, [], ◌∷◌, ◌++◌, length, get_or, take, drop, inl, inr, refl, ap, sym, ◌∙◌, arith, subst, length-append}
+use Rattle.std.proofs.Common.{◌≡◌, ℕ, ◌+◌, ◌*◌, ◌/◌, ◌%◌, ◌^◌, ◌<◌, ◌≤◌, min, Option, None, Some, List, [], ◌∷◌, ◌++◌, length, get_or, slice_get, take, drop, inl, inr, refl, ap, sym, ◌∙◌, arith, subst, length-append}
+use Rattle.std.proofs.lemmas.Option.{get_or_from_slice_get}
 use Rattle.std.specs.Int.{bit_at}
 use Rattle.std.specs.Int.RustNames.{count_ones}
 use Rattle.std.proofs.lemmas.Bool.{cases_eq, cases_lt, eq-eqb, ne_eqb}
 use Rattle.std.proofs.lemmas.List.{get_or_append_left, get_or-append-add, get_or_at, get_or_past, get_or_default, get_or-drop, drop-drop, drop_at, drop_min}
 use Rattle.std.proofs.lemmas.List.FromFn.{length-map-range_with_len, get_or-map-range_with_len}
-use Rattle.object_perm.specs.declared.group.Group.{Group}
-use Rattle.object_perm.specs.Marks.{marks_of, targets_of, empty_group, target_index, shortcut_in, shortcut_at, shortcuts_of, HasEach}
+use Rattle.object_perm.specs.Marks.{Group, marks_of, targets_of, empty_group, target_index, shortcut_in, shortcut_at, shortcuts_of, HasEach}
 use Rattle.object_perm.specs.Shortcuts.{HoldsShortcuts}
 use Rattle.object_perm.proofs.MarksLemmas.{mark_of, bit_at-marks_of, ones-marks_of, target-here}
 
 -- a place with a mark
-pub shortcut_in-marked : (group : Group) (targets : List ℕ) (bit : ℕ) → bit_at group.marks bit ≡ 1 →
+pub shortcut_in-marked : (group : Group) (targets : List ℕ) (bit : ℕ) → bit_at group.0 bit ≡ 1 →
     shortcut_in group targets bit ≡ Some (get_or targets (target_index group bit) 0)
 unfolding shortcut_in
-shortcut_in-marked group targets bit marked = rw (eq-eqb (bit_at group.marks bit) 1 marked) refl
+shortcut_in-marked group targets bit marked = rw (eq-eqb (bit_at group.0 bit) 1 marked) refl
 
 -- a place without one
-pub shortcut_in-unmarked : (group : Group) (targets : List ℕ) (bit : ℕ) → (bit_at group.marks bit ≡ 1 → ⊥) →
+pub shortcut_in-unmarked : (group : Group) (targets : List ℕ) (bit : ℕ) → (bit_at group.0 bit ≡ 1 → ⊥) →
     shortcut_in group targets bit ≡ None
 unfolding shortcut_in
-shortcut_in-unmarked group targets bit unmarked = rw (ne_eqb (bit_at group.marks bit) 1 unmarked) refl
+shortcut_in-unmarked group targets bit unmarked = rw (ne_eqb (bit_at group.0 bit) 1 unmarked) refl
 
 -- more targets change no group's shortcuts
 pub shortcut_in-more : (group : Group) (targets more : List ℕ) (bit : ℕ) →
-    (bit_at group.marks bit ≡ 1 → target_index group bit < length targets) →
+    (bit_at group.0 bit ≡ 1 → target_index group bit < length targets) →
     shortcut_in group (targets ++ more) bit ≡ shortcut_in group targets bit
 shortcut_in-more group targets more bit within =
-    elim (cases_eq (bit_at group.marks bit) 1) [
+    elim (cases_eq (bit_at group.0 bit) 1) [
       | inl marked ↦ shortcut_in-marked group (targets ++ more) bit marked
           ∙ ap Some (get_or_append_left targets more 0 (target_index group bit) (within marked))
           ∙ sym (shortcut_in-marked group targets bit marked)
@@ -37,13 +37,13 @@ shortcut_in-more group targets more bit within =
 
 -- a group that was packed from places, behind the targets that there were
 pub record IsGroupOf (group : Group) (targets : List ℕ) (places : List (Option ℕ)) : Type 0 where
-  pub marks : group.marks ≡ marks_of places
-  pub before : group.before ≡ length targets
+  pub marks : group.0 ≡ marks_of places
+  pub before : group.1 ≡ length targets
 
 -- the mark of a place of the group
 pub bit_at-group : (group : Group) (targets : List ℕ) (places : List (Option ℕ)) (bit : ℕ) →
     IsGroupOf group targets places →
-    bit_at group.marks bit ≡ mark_of (get_or places bit None)
+    bit_at group.0 bit ≡ mark_of (get_or places bit None)
 bit_at-group group targets places bit packed = ap (λ n. bit_at n bit) packed.marks ∙ bit_at-marks_of places bit
 
 -- where the target of a place of the group stands
@@ -51,14 +51,14 @@ pub target_index-group : (group : Group) (targets : List ℕ) (places : List (Op
     IsGroupOf group targets places →
     target_index group bit ≡ length targets + length (targets_of (take bit places))
 target_index-group group targets places bit packed =
-    let ones : count_ones (group.marks % 2 ^ bit) ≡ length (targets_of (take bit places)) =
+    let ones : count_ones (group.0 % 2 ^ bit) ≡ length (targets_of (take bit places)) =
     ap (λ n. count_ones (n % 2 ^ bit)) packed.marks ∙ ones-marks_of places bit in
     omega (arith, ones, packed.before)
 
 -- the target of a marked place of the group is there
 pub target_index-within : (group : Group) (targets : List ℕ) (places : List (Option ℕ)) (bit : ℕ) →
     IsGroupOf group targets places →
-    bit_at group.marks bit ≡ 1 → target_index group bit < length (targets ++ targets_of places)
+    bit_at group.0 bit ≡ 1 → target_index group bit < length (targets ++ targets_of places)
 target_index-within group targets places bit packed marked = go (get_or places bit None) refl
   where
     go : (here : Option ℕ) → get_or places bit None ≡ here →
@@ -159,7 +159,7 @@ each-more chunk groups group targets packed each number bit within small marked 
       | inl earlier ↦
           let here : get_or (groups ++ group ∷ []) number empty_group ≡ get_or groups number empty_group =
           get_or_append_left groups (group ∷ []) empty_group number earlier in
-          let was = ap (λ (g : Group). bit_at g.marks bit) (sym here) ∙ marked in
+          let was = ap (λ (g : Group). bit_at g.0 bit) (sym here) ∙ marked in
           let before = each number bit earlier small was in
           let same = ap (λ g. target_index g bit) here in
           omega (arith, before, same, length-append targets (targets_of chunk))
@@ -167,7 +167,7 @@ each-more chunk groups group targets packed each number bit within small marked 
           let last : number ≡ length groups = omega (arith, length-append groups (group ∷ [])) in
           let here : get_or (groups ++ group ∷ []) number empty_group ≡ group =
           get_or_at groups group [] empty_group number (sym last) in
-          let was = ap (λ (g : Group). bit_at g.marks bit) (sym here) ∙ marked in
+          let was = ap (λ (g : Group). bit_at g.0 bit) (sym here) ∙ marked in
           let P : Group → Type 0 = λ g. target_index g bit < length (targets ++ targets_of chunk) in
           subst P (sym here) (target_index-within group targets chunk bit packed was)
     ]
@@ -206,24 +206,22 @@ holds-all places groups targets covers held =
 
 -- the shortcut of a place, from the group that was read for it
 pub get_or-group : (groups : List Group) (targets : List ℕ) (place : ℕ) (group : Group) → place < 32 * length groups →
-    group ≡ get_or groups (place / 32) group → get_or
+    slice_get groups (place / 32) ≡ Some group → get_or
     (shortcuts_of groups targets) place None ≡ shortcut_in group targets (place % 32)
 unfolding shortcut_at
 get_or-group groups targets place group within read =
-    let below : place / 32 < length groups = omega arith in
     get_or-shortcuts_of groups targets place within
-    ∙ ap (λ g. shortcut_in g targets (place % 32)) (get_or_default groups (place / 32) empty_group group below
-    ∙ sym read)
+    ∙ ap (λ g. shortcut_in g targets (place % 32)) (get_or_from_slice_get groups (place / 32) group empty_group read)
 
 -- the target of a marked place stands where the group says
 pub index_within : (groups : List Group) (targets : List ℕ) (place : ℕ) (group : Group) → HasEach groups targets →
     place < 32 * length groups →
-    group ≡ get_or groups (place / 32) group → bit_at group.marks (place % 32) ≡ 1 →
+    slice_get groups (place / 32) ≡ Some group → bit_at group.0 (place % 32) ≡ 1 →
     target_index group (place % 32) < length targets
 index_within groups targets place group each within read marked =
     let below : place / 32 < length groups = omega arith in
     let same : get_or groups (place / 32) empty_group ≡ group =
-    get_or_default groups (place / 32) empty_group group below ∙ sym read in
+    get_or_from_slice_get groups (place / 32) group empty_group read in
     let P : Group → Type 0 = λ g. target_index g (place % 32) < length targets in
     subst P same (each (place / 32) (place % 32) below (omega arith)
-    (ap (λ (g : Group). bit_at g.marks (place % 32)) same ∙ marked))
+    (ap (λ (g : Group). bit_at g.0 (place % 32)) same ∙ marked))

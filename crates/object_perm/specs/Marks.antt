@@ -3,7 +3,6 @@ use Rattle.std.specs.Prelude.{◌≡◌, ℕ, ◌+◌, ◌*◌, ◌/◌, ◌%◌
 use Rattle.std.specs.List.{filter_map, range_with_len}
 use Rattle.std.specs.Int.{bit_at}
 use Rattle.std.specs.Int.RustNames.{count_ones}
-use Rattle.object_perm.specs.declared.group.Group.{Group}
 
 -- the number whose bits say which elements are there, the first one's lowest
 unfoldable pub marks_of : List (Option ℕ) → ℕ
@@ -14,17 +13,21 @@ marks_of (target ∷ rest) = (if is_some target then 1 else 0) + 2 * marks_of re
 abbrev pub targets_of : List (Option ℕ) → List ℕ
 targets_of places = filter_map (λ target. target) places
 
+-- a group: the marks of its places, and how many places of earlier groups have a shortcut
+abbrev pub Group : Type 0
+Group = ℕ × ℕ
+
 -- a group without a mark
 abbrev pub empty_group : Group
-empty_group = record { marks = 0; before = 0 }
+empty_group = (0, 0)
 
--- where the target of the group's place stands: behind those of earlier groups and of the places marked before it
+-- where the target of the group's place stands: after those of earlier groups and of the places marked before it
 abbrev pub target_index : Group → ℕ → ℕ
-target_index group bit = group.before + count_ones (group.marks % 2 ^ bit)
+target_index group bit = group.1 + count_ones (group.0 % 2 ^ bit)
 
 -- the shortcut of the group's place
 unfoldable pub shortcut_in : Group → List ℕ → ℕ → Option ℕ
-shortcut_in group targets bit = if bit_at group.marks bit == 1 then Some
+shortcut_in group targets bit = if bit_at group.0 bit == 1 then Some
     (slice_index targets (target_index group bit)) else None
 
 -- the shortcut of a place, from its group
@@ -38,7 +41,7 @@ shortcuts_of groups targets = map (shortcut_at groups targets) (range_with_len 0
 -- each mark has a target
 abbrev pub HasEach : List Group → List ℕ → Type 0
 HasEach groups targets = (number bit : ℕ) → number < length groups → bit < 32 →
-    bit_at (slice_index_or groups number empty_group).marks bit ≡ 1
+    bit_at (slice_index_or groups number empty_group).0 bit ≡ 1
     → target_index (slice_index_or groups number empty_group) bit < length targets
 
 -- each mark has a target, and there are fewer than 2^32

@@ -42,7 +42,7 @@ pub record IsIndexed (values : List ℕ) (shortcuts : List (Option ℕ)) : Type 
   pub short : length values < 2 ^ 32
   pub lead_back : LeadBack values shortcuts
 
--- a list that goes on without shortcuts behind those of another
+-- a list that goes on without shortcuts after those of another
 pub record HoldsShortcuts (places : List (Option ℕ)) (shortcuts : List (Option ℕ)) : Type 0 where
   pub covers : length places ≤ length shortcuts
   pub same : (place : ℕ) → slice_index_or shortcuts place None ≡ slice_index_or places place None

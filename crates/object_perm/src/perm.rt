@@ -1,4 +1,5 @@
 ghost use Rattle.std.specs.Prelude.{◌≡◌, ◌+◌, ◌^◌, ◌<◌, ◌≤◌, length, slice_index, IfErr, IfOk, OnOk};
+ghost use Rattle.object_perm.specs.Cost.{at_reads, inverse_reads};
 ghost use Rattle.object_perm.specs.Permutation.{PermutesPlaces, inverse_of};
 ghost use Rattle.object_perm.specs.Fault.{IsFaultOf};
 ghost use Rattle.object_perm.specs.Shortcuts.{IsNear, CostsWalk};
@@ -10,7 +11,7 @@ use crate::shortcuts::Shortcuts;
 use std::alloc::Global;
 use std::marker::Model;
 use std::sync::ledger::Ledger;
-use step_count::Steps;
+use step_count::{CountedList, Steps};
 use track_types::List32;
 
 /// A permutation of the places 0 to its length - 1, which are fewer than 2^32.
@@ -18,9 +19,9 @@ use track_types::List32;
 /// Shortcuts, the back pointers of Munro, Raman, Raman and Rao ("Succinct representations of
 /// permutations", 2003), let `inverse` find a place without walking its whole cycle: along each cycle
 /// longer than 16 every 16th element, counted from the cycle's least, leads back to the 16th before it.
-#[derive(Debug, Drop)]
+#[derive(Drop)]
 pub struct Perm {
-    values: List32,
+    values: CountedList<u32>,
     shortcuts: Shortcuts,
 }
 
@@ -52,7 +53,7 @@ impl Perm {
         let targets = find_shortcuts(alloc, list.as_slice())?;
         let shortcuts = Shortcuts::pack(alloc, targets.as_slice())?;
         Ok(Perm {
-            values: list,
+            values: CountedList::new(list.into_vec()),
             shortcuts,
         })
     }
@@ -62,7 +63,7 @@ impl Perm {
         ensures value { result ≡ length self.now }
         ensures permutes { PermutesPlaces self.now }
     {
-        self.values.as_slice().len() as u32
+        self.values.len() as u32
     }
 
     /// The value at the place `i`, in one read.
@@ -70,7 +71,7 @@ impl Perm {
         requires { i < length self.now }
         ensures value { result ≡ slice_index self.now i }
         ensures within { result < length self.now }
-        ensures cost { steps.new ≤ steps.old + 1 }
+        ensures cost { steps.new ≤ steps.old + at_reads }
     {
         self.value_at(i, steps)
     }
@@ -81,7 +82,7 @@ impl Perm {
         ensures value { slice_index self.now result ≡ v }
         ensures exact { result ≡ inverse_of self.now v }
         ensures within { result < length self.now }
-        ensures cost { steps.new ≤ steps.old + 33 }
+        ensures cost { steps.new ≤ steps.old + inverse_reads }
     {
         let mut place = v;
         loop {
@@ -120,7 +121,6 @@ impl Perm {
         ensures within { result < length self.now }
         ensures cost { steps.new ≡ steps.old + 1 }
     {
-        steps.tick();
-        self.values.as_slice()[i as usize]
+        self.values.at(i as usize, steps)
     }
 }

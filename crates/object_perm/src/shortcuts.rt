@@ -1,22 +1,22 @@
 ghost use Rattle.std.specs.Prelude.{◌≡◌, ℕ, ◌+◌, ◌^◌, ◌<◌, ◌≤◌, None, length, slice_index_or, IfOk, MatchOption};
 ghost use Rattle.object_perm.specs.Shortcuts.{HoldsShortcuts};
 
-use crate::group::{Group, PLACES};
+use crate::group::{Group, PLACES, count_before, is_marked, pack_group};
 use std::alloc::Global;
 use std::marker::Model;
 use std::sync::ledger::Ledger;
-use step_count::Steps;
+use step_count::{CountedList, Steps};
 use track_types::Memory;
 
 /// The shortcuts of a permutation: for each place the target, if it has one.
 ///
 /// The targets stand packed in the order of their places. A directory has a word for each 32 places:
-/// a mark at each place that has a target, and how many targets stand before. Contracts see the list
+/// a mark at each place that has a target, and how many targets stand before it. Contracts see the list
 /// of all places of the groups.
-#[derive(Debug, Drop)]
+#[derive(Drop)]
 pub struct Shortcuts {
-    groups: Vec<Group>,
-    targets: Vec<u32>,
+    groups: CountedList<Group>,
+    targets: CountedList<u32>,
 }
 
 impl Model for Shortcuts {
@@ -25,9 +25,9 @@ impl Model for Shortcuts {
 
     ghost Value = { List (Option ℕ) };
 
-    ghost view = { λ s. shortcuts_of s.groups.items s.targets.items };
+    ghost view = { λ s. shortcuts_of s.groups s.targets };
 
-    ghost invariant = { λ s. HasTargets s.groups.items s.targets.items };
+    ghost invariant = { λ s. HasTargets s.groups s.targets };
 }
 
 impl Shortcuts {
@@ -39,9 +39,12 @@ impl Shortcuts {
         let mut groups = Vec::new(alloc);
         let mut targets = Vec::new(alloc);
         for chunk in places.chunks(PLACES as usize) {
-            groups.push(Group::pack(chunk, &mut targets)?)?;
+            groups.push(pack_group(chunk, &mut targets)?)?;
         }
-        Ok(Shortcuts { groups, targets })
+        Ok(Shortcuts {
+            groups: CountedList::new(groups),
+            targets: CountedList::new(targets),
+        })
     }
 
     /// The target of the place's shortcut, if it has one: one read of a group, and where it has, one
@@ -51,13 +54,12 @@ impl Shortcuts {
         ensures value { result ≡ slice_index_or self.now place None }
         ensures cost { MatchOption result (steps.new ≡ steps.old + 1) (λ _. steps.new ≡ steps.old + 2) }
     {
-        steps.tick();
-        let group = self.groups[(place / PLACES) as usize];
+        let (marks, before) = self.groups.at((place / PLACES) as usize, steps);
         let bit = place % PLACES;
-        if !group.is_marked(bit) {
+        if !is_marked(marks, bit) {
             return None;
         }
-        steps.tick();
-        Some(self.targets[(group.before + group.count_before(bit)) as usize])
+        let target = before + count_before(marks, bit);
+        Some(self.targets.at(target as usize, steps))
     }
 }

@@ -1,8 +1,9 @@
-ghost use Rattle.std.specs.Prelude.{◌≡◌, ◌^◌, ◌<◌, length, slice_index};
+ghost use Rattle.std.specs.Prelude.{◌≡◌, ◌^◌, ◌<◌, length};
 
 use super::{Perm, PermFault};
 use std::alloc::Global;
 use std::marker::Brand;
+use std::process::Abort;
 use std::sync::ledger::{Blank, Ledger};
 use std::test::Fail;
 use step_count::Steps;
@@ -20,25 +21,39 @@ fn flaw_of(alloc: Global, values: &[u32]) -> Result<Option<u32>, PermFault>
     }
 }
 
-// The value at a place, read on a counter of its own.
-fn value_at<L: Ledger>(rt: &HostRuntime, perm: &Perm, place: u32, blank: Blank) -> u32
+// Reads each place, and finds each value's place, on a counter of its own.
+fn read_both_ways<L: Ledger>(
+    rt: &impl Abort,
+    host: &HostRuntime,
+    perm: &Perm,
+    values: &[u32],
+    blank: Blank,
+)
     requires name { blank.name ≡ L.name }
     requires parts { blank.parts ≡ L.parts }
     requires some { 0 < L.parts }
-    requires within { place < length perm.now }
 {
-    perm.at(place, &mut Steps::<L>::new(rt, blank))
+    let mut steps = Steps::<L>::new(host, blank);
+    assert_eq!(rt; perm.len() as usize, values.len());
+    for place in 0..perm.len() {
+        let value = values[place as usize];
+        assert_eq!(rt; perm.at(place, &mut steps), value, "the value at {place}");
+        assert!(rt; value < perm.len(), "{value} is too great");
+        assert_eq!(rt;
+            perm.inverse(value, &mut steps),
+            place,
+            "the place of {value}"
+        );
+    }
 }
 
-// The place of a value, searched on a counter of its own.
-fn place_of<L: Ledger>(rt: &HostRuntime, perm: &Perm, value: u32, blank: Blank) -> u32
-    requires name { blank.name ≡ L.name }
-    requires parts { blank.parts ≡ L.parts }
-    requires some { 0 < L.parts }
-    requires within { value < length perm.now }
-    ensures { result < length perm.now }
+// Takes a list as a permutation, and reads it both ways.
+fn taken(rt: &impl Abort, host: &HostRuntime, alloc: Global, values: &[u32]) -> Result<(), Fail>
+    requires { length values.now < 2 ^ 32 }
 {
-    perm.inverse(value, &mut Steps::<L>::new(rt, blank))
+    let perm = Perm::check(alloc, List32::new(values.to_vec(alloc)?))?;
+    read_both_ways::<Brand>(rt, host, &perm, values, Blank::new(1));
+    Ok(())
 }
 
 #[test]
@@ -65,36 +80,21 @@ fn a_flawed_list_is_refused_at_its_first_flaw(rt: HostRuntime) -> Result<(), Fai
 }
 
 #[test]
-fn three_places_are_read_both_ways(rt: HostRuntime) -> Result<(), Fail> {
-    let perm = Perm::check(rt.alloc(), List32::new([2, 0, 1].to_vec(rt.alloc())?))?;
-    assert_eq!(rt; perm.len(), 3);
-    assert_eq!(rt; value_at::<Brand>(&rt, &perm, 0, Blank::new(1)), 2);
-    assert_eq!(rt; place_of::<Brand>(&rt, &perm, 0, Blank::new(1)), 1);
-    assert_eq!(rt; place_of::<Brand>(&rt, &perm, 2, Blank::new(1)), 0);
-    Ok(())
+fn few_places_are_read_both_ways(rt: HostRuntime) -> Result<(), Fail> {
+    taken(&rt, &rt, rt.alloc(), &[])?;
+    taken(&rt, &rt, rt.alloc(), &[0])?;
+    taken(&rt, &rt, rt.alloc(), &[2, 0, 1])?;
+    taken(&rt, &rt, rt.alloc(), &[3, 1, 0, 2])
 }
 
 #[test]
-fn one_cycle_of_a_thousand_places_is_turned_round(rt: HostRuntime) -> Result<(), Fail> {
-    let values: Vec<u32> = (0..1000u32).map(|i| (i + 7) % 1000).collect(rt.alloc())?;
-    assert_eq!(rt; values.len(), 1000);
-    let perm = Perm::check(rt.alloc(), List32::new(values))?;
-    for value in 0..perm.len() {
-        assert_eq!(rt;
-            place_of::<Brand>(&rt, &perm, value, Blank::new(1)),
-            (value + 993) % 1000
-        );
-    }
-    Ok(())
-}
-
-#[test]
-fn five_hundred_cycles_of_two_places_are_turned_round(rt: HostRuntime) -> Result<(), Fail> {
-    let values: Vec<u32> = (0..1000u32).map(|i| i ^ 1).collect(rt.alloc())?;
-    assert_eq!(rt; values.len(), 1000);
-    let perm = Perm::check(rt.alloc(), List32::new(values))?;
-    for value in 0..perm.len() {
-        assert_eq!(rt; place_of::<Brand>(&rt, &perm, value, Blank::new(1)), value ^ 1);
-    }
-    Ok(())
+fn a_hundred_thousand_places_are_read_both_ways(rt: HostRuntime) -> Result<(), Fail> {
+    let one_cycle: Vec<u32> = (0..100_000u32)
+        .map(|i| (i + 7) % 100_000)
+        .collect(rt.alloc())?;
+    assert_eq!(rt; one_cycle.len(), 100_000);
+    taken(&rt, &rt, rt.alloc(), one_cycle.as_slice())?;
+    let pairs: Vec<u32> = (0..100_000u32).map(|i| i ^ 1).collect(rt.alloc())?;
+    assert_eq!(rt; pairs.len(), 100_000);
+    taken(&rt, &rt, rt.alloc(), pairs.as_slice())
 }

@@ -25,13 +25,13 @@ pub invariant_of-result : goal.invariant_of-result
 invariant_of-result c =
     let lead : LeadBack c.as_slice-2.result.now c.in_ok-targets.targets.items = c.in_ok-targets.ensures.back in
     let holds : HoldsShortcuts c.as_slice-3.result.now c.in_ok-shortcuts.shortcuts = c.in_ok-shortcuts.ensures in
-    record {
+    rw (c.new.ensures, c.into_vec.ensures) (record {
       permutes = permutes-from_none c.args.list
           (sym (ap first_flaw c.as_slice.ensures) ∙ sym c.in_ok-index.ensures ∙ c.in_default.is);
       short = c.requires;
       lead_back = lead-held c.as_slice-2.result.now c.args.list c.in_ok-targets.targets.items c.as_slice-3.result.now
           c.in_ok-shortcuts.shortcuts c.as_slice-2.ensures c.as_slice-3.ensures.value lead holds;
-    }
+    })
 
 pub pack-requires : goal.pack-requires
 pack-requires c =

@@ -14,17 +14,17 @@ loop-chunk-preserved c =
     let left = chunks_rest c.loop-chunk.chunk-iterator in
     let rest = chunks_rest c.next.new.self in
     let groups = c.loop-chunk.groups.items in
-    let group = c.in_ok-pack.field-0 in
+    let group = c.in_ok-pack_group.field-0 in
     let targets = c.loop-chunk.targets.items in
     let parts : left ≡ chunk ++ rest = steps.1.0 in
     let size : length chunk ≡ min 32 (length left) = steps.1.1 ∙ ap (λ n. min n (length left)) before.size in
     let packed : IsGroupOf group targets chunk = record {
-      marks = c.in_ok-pack.ensures.marks;
+      marks = c.in_ok-pack_group.ensures.marks;
       before =
-          c.in_ok-pack.ensures.before;
+          c.in_ok-pack_group.ensures.before;
     } in
     let groups_is : c.push.new.self.items ≡ groups ++ group ∷ [] = c.in_ok-push.ensures.items in
-    let targets_is : c.pack.new.targets.items ≡ targets ++ targets_of chunk = c.in_ok-pack.ensures.targets in
+    let targets_is : c.pack_group.new.targets.items ≡ targets ++ targets_of chunk = c.in_ok-pack_group.ensures.targets in
     let longer : length c.push.new.self.items ≡ length groups + 1 =
     omega (arith, ap length groups_is, length-append groups (group ∷ [])) in
     let next_size = steps.0 ∙ before.size in
@@ -58,4 +58,5 @@ returns c =
       c.in-None.ensures.steps.1.0,
       length-drop (32 * length c.loop-chunk.groups.items) c.args.places.now,
     ) in
-    holds-all c.args.places.now c.loop-chunk.groups.items c.loop-chunk.targets.items covers before.held
+    rw (c.new.ensures, c.new-2.ensures) (holds-all c.args.places.now c.loop-chunk.groups.items
+    c.loop-chunk.targets.items covers before.held)

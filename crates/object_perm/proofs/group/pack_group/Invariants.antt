@@ -1,6 +1,6 @@
 use Rattle.std.proofs.Common.{◌≡◌, ◌++◌, take}
 use Rattle.object_perm.specs.Marks.{marks_of, targets_of}
-use Rattle.object_perm.proofs.group.Group.pack.Given as goal
+use Rattle.object_perm.proofs.group.pack_group.Given as goal
 
 abbrev pub invariant-loop-bit : goal.invariant-loop-bit
 invariant-loop-bit l = record {

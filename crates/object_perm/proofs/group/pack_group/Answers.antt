@@ -2,8 +2,8 @@ use Rattle.std.proofs.Common.{◌≡◌, ◌<◌, ◌*◌, ◌%◌, ◌^◌, Som
 use Rattle.std.specs.Int.RustNames.{bit_or}
 use Rattle.object_perm.proofs.MarksLemmas.{marks_of-nil, marks_of-take_some, marks_of-take_none, targets_of-take, targets_of-take_none}
 use Rattle.object_perm.specs.Marks.{targets_of}
-use Rattle.object_perm.proofs.group.Group.pack.Goals as goal
-use Rattle.object_perm.proofs.group.Group.pack.Goals.{in-Some+in_ok-push, in_default}
+use Rattle.object_perm.proofs.group.pack_group.Goals as goal
+use Rattle.object_perm.proofs.group.pack_group.Goals.{in-Some+in_ok-push, in_default}
 
 pub loop-bit-init : goal.loop-bit-init
 loop-bit-init c = record { marks = sym marks_of-nil; targets = sym (append-nil c.args.targets.now.items) }
