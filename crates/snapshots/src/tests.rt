@@ -153,7 +153,9 @@ fn checked(
     ensures { IfOk result (λ made. made.1 ≡ made.0.objects) }
 {
     let parts = parts_of(alloc, spelt)?;
-    assert!(rt; have_shape(&parts), "as long as the presence bits say");
+    if !have_shape(&parts) {
+        panic!(rt; "the lists are not as long as the presence bits say");
+    }
     let objects = parts.present.len();
     let snapshot = if is_second {
         Snapshot::check(alloc, &TWO_PERIODS, 1, objects, 5, parts)?

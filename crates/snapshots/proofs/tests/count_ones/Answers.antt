@@ -13,7 +13,7 @@ overflow_add-ones c =
       c.loop-place.invariant,
       ones_of-le-length (take c.loop-place.place c.args.bits.now),
       length-take c.loop-place.place c.args.bits.now,
-      c.from.ensures,
+      c.from-ones.ensures,
       bool_byte-small c.get.result,
     )
 
@@ -21,4 +21,4 @@ pub loop-place-preserved : goal.loop-place-preserved
 loop-place-preserved c =
     let more = ones_of-take_more c.args.bits.now c.loop-place.place c.get.result
     (omega (arith, c.len-place-end.ensures)) c.get.ensures in
-    omega (arith, more, c.loop-place.invariant, c.from.ensures)
+    omega (arith, more, c.loop-place.invariant, c.from-ones.ensures)
