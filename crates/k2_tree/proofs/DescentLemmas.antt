@@ -54,68 +54,52 @@ begins height code bits are some small =
     let none : code / 4 ^ height ≡ 0 = div-eq_of_lt small in
     rw none (root_square height (codes_in height bits) are.codes (top_from_bits height bits are some))
 
--- a digit of a number, as its bits tell it
-digit_is : (code n digit : ℕ) → digit ≡ code / 2 ^ (2 * n) % 4 → digit ≡ code / 4 ^ n % 4
-digit_is code n digit is = is ∙ ap (λ p. code / p % 4) (two_bits n)
+-- on the way down, above the cells
+module _ (height code level square : ℕ) (bits : List Bool) (are : AreTreeBits height bits) (some : 0 < level)
+    (here : IsSquare height (codes_in height bits) level (code / 4 ^ level) square) where
+  abbrev codes : List ℕ
+  codes = codes_in height bits
 
--- the bit that the descent reads is in the tree
-pub reads_inside : (height code level square : ℕ) (bits : List Bool) → AreTreeBits height bits → 0 < level
-    → IsSquare height (codes_in height bits) level (code / 4 ^ level) square
-    → 4 * square + code / 2 ^ (2 * (level - 1)) % 4 < length bits
-reads_inside height code zero square bits are some here = absurd (omega arith)
-reads_inside height code (suc n) square bits are some here =
-    let place = child_place height (codes_in height bits) n (code / 4 ^ suc n) square
-    (code / 2 ^ (2 * (suc n - 1)) % 4) here (omega arith) in
-    omega (arith, place, ap length are.exact)
+  abbrev n : ℕ
+  n = level - 1
 
--- what the bit tells of the number's next prefix
-bit_tells : (height code n square digit : ℕ) (bits : List Bool) → AreTreeBits height bits
-    → IsSquare height (codes_in height bits) (suc n) (code / 4 ^ suc n) square → digit ≡ code / 4 ^ n % 4
-    → get_or bits (4 * square + digit) false
-    ≡ is_in (prefixes n (codes_in height bits)) (4 * (code / 4 ^ suc n) + digit)
-bit_tells height code n square digit bits are here is =
-    ap (λ xs. get_or xs (4 * square + digit) false) are.exact
-    ∙ child_bit height (codes_in height bits) n (code / 4 ^ suc n) square digit here (omega arith)
+  abbrev digit : ℕ
+  digit = code / 2 ^ (2 * n) % 4
 
--- where the bit is 0 the number is not there
-pub ends : (height code level square : ℕ) (bits : List Bool) → AreTreeBits height bits → 0 < level
-    → IsSquare height (codes_in height bits) level (code / 4 ^ level) square
-    → get_or bits (4 * square + code / 2 ^ (2 * (level - 1)) % 4) false ≡ false
-    → is_in (codes_in height bits) code ≡ false
-ends height code zero square bits are some here off = absurd (omega arith)
-ends height code (suc n) square bits are some here off =
-    let digit : ℕ = code / 2 ^ (2 * (suc n - 1)) % 4 in
-    let e : suc n - 1 ≡ n = omega arith in
-    let is : digit ≡ code / 4 ^ n % 4 = digit_is code n digit (ap (λ m. code / 2 ^ (2 * m) % 4) e) in
-    let prefix : 4 * (code / 4 ^ suc n) + digit ≡ code / 4 ^ n =
-    ap (λ d. 4 * (code / 4 ^ suc n) + d) is ∙ digit_more code n in
-    let gone : is_in (prefixes n (codes_in height bits)) (code / 4 ^ n) ≡ false =
-    ap (is_in (prefixes n (codes_in height bits))) (sym prefix)
-    ∙ sym (bit_tells height code n square digit bits are here is) ∙ off in
-    grind (arith, prefixes-of n (codes_in height bits) code, gone)
+  above : IsSquare height codes (suc n) (code / 4 ^ suc n) square
+  above = let e : level ≡ suc n = omega arith in subst (λ m. IsSquare height codes m (code / 4 ^ m) square) e here
 
--- where the bit is 1 the descent goes on at the child
-pub goes_on : (height code level square child : ℕ) (bits : List Bool) → AreTreeBits height bits → 0 < level
-    → IsSquare height (codes_in height bits) level (code / 4 ^ level) square
-    → get_or bits (4 * square + code / 2 ^ (2 * (level - 1)) % 4) false ≡ true
-    → child ≡ rank_of bits (4 * square + code / 2 ^ (2 * (level - 1)) % 4) + 1
-    → IsSquare height (codes_in height bits) (level - 1) (code / 4 ^ (level - 1)) child
-goes_on height code zero square child bits are some here on number = absurd (omega arith)
-goes_on height code (suc n) square child bits are some here on number =
-    let digit : ℕ = code / 2 ^ (2 * (suc n - 1)) % 4 in
-    let codes : List ℕ = codes_in height bits in
-    let e : suc n - 1 ≡ n = omega arith in
-    let is : digit ≡ code / 4 ^ n % 4 = digit_is code n digit (ap (λ m. code / 2 ^ (2 * m) % 4) e) in
-    let prefix : 4 * (code / 4 ^ suc n) + digit ≡ code / 4 ^ n =
-    ap (λ d. 4 * (code / 4 ^ suc n) + d) is ∙ digit_more code n in
-    let there : is_in (prefixes n codes) (4 * (code / 4 ^ suc n) + digit) ≡ true =
-    sym (bit_tells height code n square digit bits are here is) ∙ on in
-    let square' = child_square height codes n (code / 4 ^ suc n) square digit here (omega arith) are.codes there in
-    let same : rank_of (morton_bits height codes) (4 * square + digit) + 1 ≡ child =
-    ap (λ xs. rank_of xs (4 * square + digit) + 1) (sym are.exact) ∙ sym number in
-    let moved = subst (λ j. IsSquare height codes n (4 * (code / 4 ^ suc n) + digit) j) same square' in
-    let named = subst (λ p. IsSquare height codes n p child) prefix moved in
-    rw e named
+  -- with the next digit
+  prefix : 4 * (code / 4 ^ suc n) + digit ≡ code / 4 ^ n
+  prefix = ap (λ p. 4 * (code / 4 ^ suc n) + code / p % 4) (two_bits n) ∙ digit_more code n
+
+  -- what the bit tells of the number's next prefix
+  bit : get_or bits (4 * square + digit) false ≡ is_in (prefixes n codes) (code / 4 ^ n)
+  bit =
+      ap (λ xs. get_or xs (4 * square + digit) false) are.exact
+      ∙ child_bit height codes n (code / 4 ^ suc n) square digit above (omega arith)
+      ∙ ap (is_in (prefixes n codes)) prefix
+
+  -- the bit that the descent reads is in the tree
+  pub reads_inside : 4 * square + digit < length bits
+  reads_inside =
+      let place = child_place height codes n (code / 4 ^ suc n) square digit above (omega arith) in
+      omega (arith, place, ap length are.exact)
+
+  -- where the bit is 0 the number is not there
+  pub ends : get_or bits (4 * square + digit) false ≡ false → is_in codes code ≡ false
+  ends off = grind (arith, prefixes-of n codes code, sym bit ∙ off)
+
+  -- where the bit is 1 the descent goes on at the child
+  pub goes_on : (child : ℕ) → get_or bits (4 * square + digit) false ≡ true
+      → child ≡ rank_of bits (4 * square + digit) + 1 → IsSquare height codes n (code / 4 ^ n) child
+  goes_on child on number =
+      let there = ap (is_in (prefixes n codes)) prefix ∙ sym bit ∙ on in
+      let next = child_square height codes n (code / 4 ^ suc n) square digit above (omega arith) are.codes there in
+      let same : rank_of (morton_bits height codes) (4 * square + digit) + 1 ≡ child =
+      ap (λ xs. rank_of xs (4 * square + digit) + 1) (sym are.exact) ∙ sym number in
+      subst (λ p. IsSquare height codes n p child) prefix
+      (subst (λ j. IsSquare height codes n (4 * (code / 4 ^ suc n) + digit) j) same next)
 
 -- the inner squares have four bits each
 pub inner : (height : ℕ) (bits : List Bool) → AreTreeBits height bits

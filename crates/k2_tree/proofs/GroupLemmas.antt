@@ -45,9 +45,11 @@ group_flaw-here groups bits lacks = rw lacks refl
 pub group_flaw-none : (groups : ℕ) (bits : List Bool) → group_flaw (suc groups) bits ≡ None
     → (has_group bits ≡ true) × (group_flaw groups (drop 4 bits) ≡ None)
 group_flaw-none groups bits none = elim (cases_Bool (has_group bits)) [
-  | inl has ↦
-      (has, option_map-none (λ place. 4 + place) (group_flaw groups (drop 4 bits))
-      (sym (group_flaw-behind groups bits has) ∙ none))
+  | inl has ↦ (
+    has,
+    option_map-none (λ place. 4 + place) (group_flaw groups (drop 4 bits))
+        (sym (group_flaw-behind groups bits has) ∙ none),
+  )
   | inr lacks ↦ absurd (none-some 0 (sym none ∙ group_flaw-here groups bits lacks))
 ]
 

@@ -181,8 +181,12 @@ grown_new n c x xs up differ =
     λ z parent.
     grind (arith, prefixes-shorter n (x ∷ xs) z, ap (is_in old) parent ∙ (absent_last 0 q old rises).0) in
     let fresh : map f (4 * q ∷ (4 * q + 1) ∷ (4 * q + 2) ∷ (4 * q + 3) ∷ []) ≡ four =
-    (rw (none (4 * q) (omega arith), none (4 * q + 1) (omega arith), none (4 * q + 2) (omega arith),
-    none (4 * q + 3) (omega arith)) refl) in
+    (rw (
+      none (4 * q) (omega arith),
+      none (4 * q + 1) (omega arith),
+      none (4 * q + 2) (omega arith),
+      none (4 * q + 3) (omega arith),
+    ) refl) in
     sym (ap (λ ps. map f (longer ps)) new ∙ ap (map f) (longer-snoc old q)
     ∙ map-append f (longer old) (4 * q ∷ (4 * q + 1) ∷ (4 * q + 2) ∷ (4 * q + 3) ∷ [])
     ∙ ap (λ bs. map f (longer old) ++ bs) fresh)

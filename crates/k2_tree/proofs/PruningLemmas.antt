@@ -1,17 +1,16 @@
 -- What tests keep of a tree, level by level.
-use Rattle.std.proofs.Common.{◌≡◌, ℕ, zero, suc, ◌+◌, ◌*◌, ◌/◌, ◌^◌, ◌<◌, Bool, true, false, List, [], ◌∷◌}
-use Rattle.std.proofs.Common.{length, filter, sym, ap, ◌∙◌, arith, All}
+use Rattle.std.proofs.Common.{◌≡◌, ℕ, zero, suc, ◌+◌, ◌*◌, ◌/◌, ◌^◌, Bool, true, false, List, [], ◌∷◌}
+use Rattle.std.proofs.Common.{filter, sym, ap, ◌∙◌, arith, All}
 use Rattle.std.proofs.Math.Bool.{and-true}
 use Rattle.std.proofs.Math.Nat.{div-one}
 use Rattle.std.proofs.lemmas.List.Elements.{filter_agree, All-head, All-tail, All-nil, All-cons, All-weaker, All-filter}
-use Rattle.std.proofs.lemmas.List.{append-nil}
 use Rattle.std.proofs.lemmas.List.Sums.{sum_by-append}
 use Rattle.std.specs.Prelude.{if◌then◌else◌}
 use Rattle.std.specs.List.{flat_map, sum_by}
-use Rattle.k2_tree.specs.TreeBits.{is_in, prefixes, longer, Rises, AreCodes}
+use Rattle.k2_tree.specs.TreeBits.{is_in, prefixes, longer, Rises}
 use Rattle.k2_tree.specs.Squares.{Node, node, level_squares, squares_from}
 use Rattle.k2_tree.specs.Pruning.{passes, children, kept_below, weight_below}
-use Rattle.k2_tree.proofs.PrefixLemmas.{prefixes-from_longer, prefixes-zero, prefixes-top}
+use Rattle.k2_tree.proofs.PrefixLemmas.{prefixes-from_longer, prefixes-zero}
 use Rattle.k2_tree.proofs.PrefixLemmas.{fourth}
 use Rattle.k2_tree.proofs.SquareLemmas.{squares_from-zero}
 use Rattle.list_laws.proofs.FilterLemmas.{flat_map_if, filter_and}
@@ -114,15 +113,6 @@ kept_below-all test (suc n) codes up =
     ∙ ap (filter top) (kept_below-all test n codes up)
     ∙ sym (filter_and top (passes test n) codes)
 
--- what is kept below the topmost square are the numbers for which the test is true
-pub kept_below-top : (test : Node → Bool) (height : ℕ) (codes : List ℕ) → AreCodes height codes → 0 < length codes
-    → kept_below test codes height 0 ≡ filter (passes test height) codes
-kept_below-top test height [] are some = absurd (omega arith)
-kept_below-top test height (c ∷ cs) are some =
-    sym (append-nil (kept_below test (c ∷ cs) height 0))
-    ∙ ap (flat_map (kept_below test (c ∷ cs) height)) (sym (prefixes-top height c cs are.small))
-    ∙ kept_below-all test height (c ∷ cs) are.rising
-
 -- the weights below all squares of a level are those of the squares from there on
 pub weight_below-all : (weight : Node → ℕ) (n : ℕ) (codes : List ℕ) → Rises 0 codes
     → sum_by (weight_below weight codes n) (prefixes n codes) ≡ sum_by weight (squares_from n codes)
@@ -140,13 +130,3 @@ weight_below-all weight (suc n) codes up =
     ∙ ap (λ k. k + sum_by (λ p. sum_by below (children n codes p)) ps) (sym (sum_by-map weight (node (suc n)) ps))
     ∙ ap (λ k. sum_by weight (level_squares (suc n) codes) + k) later
     ∙ sym (sum_by-append weight (level_squares (suc n) codes) (squares_from n codes))
-
--- the weight below the topmost square is that of all squares
-pub weight_below-top : (weight : Node → ℕ) (height : ℕ) (codes : List ℕ) → AreCodes height codes → 0 < length codes
-    → weight_below weight codes height 0 ≡ sum_by weight (squares_from height codes)
-weight_below-top weight height [] are some = absurd (omega arith)
-weight_below-top weight height (c ∷ cs) are some =
-    let below : ℕ → ℕ = weight_below weight (c ∷ cs) height in
-    let one : below 0 ≡ sum_by below (0 ∷ []) = omega arith in
-    one ∙ ap (sum_by below) (sym (prefixes-top height c cs are.small))
-    ∙ weight_below-all weight height (c ∷ cs) are.rising

@@ -1,5 +1,5 @@
 -- What a stored tree's bits tell of its squares.
-use Rattle.std.proofs.Common.{◌≡◌, ℕ, zero, suc, ◌+◌, ◌-◌, ◌*◌, ◌<◌, ◌≤◌, Bool, true, false, List, length, get_or}
+use Rattle.std.proofs.Common.{◌≡◌, ℕ, suc, ◌+◌, ◌-◌, ◌*◌, ◌<◌, ◌≤◌, Bool, true, false, List, length, get_or}
 use Rattle.std.proofs.Common.{sym, ap, ◌∙◌, arith, subst, Some}
 use Rattle.std.specs.Prelude.{slice_get}
 use Rattle.bit_rank.specs.Bits.{rank_of}
@@ -41,64 +41,47 @@ square_of height base bits s n q stored same is square = record {
       (list-from_IsSquare height (codes_in height bits) n q (square_number s) square ∙ ap Some (sym is));
 }
 
--- the bits of a square's children are in the tree
-pub child_inside : (height : ℕ) (base : Cell) (bits : List Bool) (s : Square) (d : ℕ) → IsStored height base bits
-    → IsSquareOf (tree_of height base bits) s → 1 ≤ level_of s → d < 4 → 4 * square_number s + d < length bits
-child_inside height base bits s d stored of some small =
-    by_level (level_of s) (square_in height base bits s stored of) some
-  where
-    by_level : (n : ℕ) → IsSquare height (codes_in height bits) n (prefix_of s) (square_number s) → 1 ≤ n
-        → 4 * square_number s + d < length bits
-    by_level zero square some = absurd (omega arith)
-    by_level (suc n) square some =
-        let place = child_place height (codes_in height bits) n (prefix_of s) (square_number s) d square small in
-        omega (arith, place, ap length stored.tree.exact)
+-- a child of a square that is no cell, by its digit
+module _ (height : ℕ) (base : Cell) (bits : List Bool) (s : Square) (d : ℕ) (stored : IsStored height base bits)
+    (of : IsSquareOf (tree_of height base bits) s) (some : 1 ≤ level_of s) (small : d < 4) where
+  abbrev codes : List ℕ
+  codes = codes_in height bits
 
--- a child's bit tells whether it holds a cell
-pub child_told : (height : ℕ) (base : Cell) (bits : List Bool) (s : Square) (d : ℕ) → IsStored height base bits
-    → IsSquareOf (tree_of height base bits) s → 1 ≤ level_of s → d < 4
-    → holds_cell (tree_of height base bits) (child_at (node_of s) d) ≡ get_or bits (4 * square_number s + d) false
-child_told height base bits s d stored of some small =
-    by_level (level_of s) (square_in height base bits s stored of) some
-  where
-    by_level : (n : ℕ) → IsSquare height (codes_in height bits) n (prefix_of s) (square_number s) → 1 ≤ n
-        → is_in (prefixes (n - 1) (codes_of (tree_of height base bits))) (4 * prefix_of s + d)
-        ≡ get_or bits (4 * square_number s + d) false
-    by_level zero square some = absurd (omega arith)
-    by_level (suc n) square some =
-        let level : suc n - 1 ≡ n = omega arith in
-        ap (λ codes. is_in (prefixes (suc n - 1) codes) (4 * prefix_of s + d)) (same_codes height base bits stored)
-        ∙ ap (λ m. is_in (prefixes m (codes_in height bits)) (4 * prefix_of s + d)) level
-        ∙ sym (child_bit height (codes_in height bits) n (prefix_of s) (square_number s) d square small)
-        ∙ ap (λ bs. get_or bs (4 * square_number s + d) false) (sym stored.tree.exact)
+  abbrev place : ℕ
+  place = 4 * square_number s + d
 
--- a child that is there has the number behind the ones before its bit
-pub child_stands : (height : ℕ) (base : Cell) (bits : List Bool) (s : Square) (d : ℕ) → IsStored height base bits
-    → IsSquareOf (tree_of height base bits) s → 1 ≤ level_of s → d < 4
-    → get_or bits (4 * square_number s + d) false ≡ true
-    → slice_get (squares_of (tree_of height base bits)) (rank_of bits (4 * square_number s + d) + 1)
-    ≡ Some (child_at (node_of s) d)
-child_stands height base bits s d stored of some small on =
-    subst (λ codes. slice_get (squares_from height codes) (rank_of bits (4 * square_number s + d) + 1)
-    ≡ Some (child_at (node_of s) d))
-    (sym (same_codes height base bits stored)) (by_level (level_of s) (square_in height base bits s stored of) some)
-  where
-    by_level : (n : ℕ) → IsSquare height (codes_in height bits) n (prefix_of s) (square_number s) → 1 ≤ n
-        → slice_get (squares_from height (codes_in height bits)) (rank_of bits (4 * square_number s + d) + 1)
-        ≡ Some (node (n - 1) (4 * prefix_of s + d))
-    by_level zero square some = absurd (omega arith)
-    by_level (suc n) square some =
-        let codes : List ℕ = codes_in height bits in
-        let level : n ≡ suc n - 1 = omega arith in
-        let there : is_in (prefixes n codes) (4 * prefix_of s + d) ≡ true =
-        sym (child_bit height codes n (prefix_of s) (square_number s) d square small)
-        ∙ ap (λ bs. get_or bs (4 * square_number s + d) false) (sym stored.tree.exact) ∙ on in
-        let child =
-        child_square height codes n (prefix_of s) (square_number s) d square small stored.tree.codes there in
-        ap (λ bs. slice_get (squares_from height codes) (rank_of bs (4 * square_number s + d) + 1)) stored.tree.exact
-        ∙ list-from_IsSquare height codes n (4 * prefix_of s + d)
-        (rank_of (morton_bits height codes) (4 * square_number s + d) + 1) child
-        ∙ ap (λ m. Some (node m (4 * prefix_of s + d))) level
+  -- the square, one level above its children
+  above : IsSquare height codes (suc (level_of s - 1)) (prefix_of s) (square_number s)
+  above =
+      let level : level_of s ≡ suc (level_of s - 1) = omega arith in
+      subst (λ n. IsSquare height codes n (prefix_of s) (square_number s)) level (square_in height base bits s stored of)
+
+  bit : get_or bits place false ≡ is_in (prefixes (level_of s - 1) codes) (4 * prefix_of s + d)
+  bit =
+      ap (λ bs. get_or bs place false) stored.tree.exact
+      ∙ child_bit height codes (level_of s - 1) (prefix_of s) (square_number s) d above small
+
+  -- the bits of a square's children are in the tree
+  pub child_inside : place < length bits
+  child_inside =
+      let inside = child_place height codes (level_of s - 1) (prefix_of s) (square_number s) d above small in
+      omega (arith, inside, ap length stored.tree.exact)
+
+  -- a child's bit tells whether it holds a cell
+  pub child_told : holds_cell (tree_of height base bits) (child_at (node_of s) d) ≡ get_or bits place false
+  child_told =
+      ap (λ cs. is_in (prefixes (level_of s - 1) cs) (4 * prefix_of s + d)) (same_codes height base bits stored) ∙ sym bit
+
+  -- a child that is there has the number after the ones before its bit
+  pub child_stands : get_or bits place false ≡ true
+      → slice_get (squares_of (tree_of height base bits)) (rank_of bits place + 1) ≡ Some (child_at (node_of s) d)
+  child_stands on =
+      let child = child_square height codes (level_of s - 1) (prefix_of s) (square_number s) d above small
+      stored.tree.codes (sym bit ∙ on) in
+      ap (λ cs. slice_get (squares_from height cs) (rank_of bits place + 1)) (same_codes height base bits stored)
+      ∙ ap (λ bs. slice_get (squares_from height codes) (rank_of bs place + 1)) stored.tree.exact
+      ∙ list-from_IsSquare height codes (level_of s - 1) (4 * prefix_of s + d)
+      (rank_of (morton_bits height codes) place + 1) child
 
 -- a tree with bits has a topmost square
 pub whole_stands : (height : ℕ) (base : Cell) (bits : List Bool) (s : Square) → IsStored height base bits

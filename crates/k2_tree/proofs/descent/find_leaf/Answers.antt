@@ -27,8 +27,8 @@ loop-level-preserved g c =
     let now = c.loop-level in
     let told = c.in-Some.ensures.value in
     record {
-      here = goes_on c.args.height c.args.code now.level now.square c.in-Some.child c.args.bits.now c.requires.tree
-          (omega arith) now.invariant.here told.0 told.1;
+      here = goes_on c.args.height c.args.code now.level now.square c.args.bits.now c.requires.tree (omega arith)
+          now.invariant.here c.in-Some.child told.0 told.1;
       cost = omega (arith, now.invariant.cost, c.in-Some.ensures.cost);
     }
 
