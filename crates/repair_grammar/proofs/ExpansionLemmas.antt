@@ -49,6 +49,17 @@ all_below-replaced pair symbol [] below = below
 all_below-replaced pair symbol (block ∷ blocks) below =
     (below-replaced pair symbol block below.0, all_below-replaced pair symbol blocks below.1)
 
+-- a block more
+pub AreBelow-none : (limit : ℕ) → AreBelow limit []
+unfolding AreBelow
+AreBelow-none limit = tt
+
+pub AreBelow-push : (limit : ℕ) (blocks : List (List ℕ)) (block : List ℕ) → AreBelow limit blocks →
+    AllByRecursion (λ symbol. symbol < limit) block → AreBelow limit (blocks ++ block ∷ [])
+unfolding AreBelow
+AreBelow-push limit [] block below more = (more, tt)
+AreBelow-push limit (first ∷ blocks) block below more = (below.0, AreBelow-push limit blocks block below.1 more)
+
 -- the parts of a pair that stands in a block
 pair_below : (limit : ℕ) (block : List ℕ) (pair : ℕ × ℕ) → AllByRecursion (λ symbol. symbol < limit) block →
     Contains (pairs_in block) pair → (pair.0 < limit) × (pair.1 < limit)
