@@ -59,11 +59,20 @@ fn has(grammar: &Grammar, rules: &[(u32, u32)], blocks: &[Vec<u32>]) -> bool {
     let made = grammar.blocks.as_slice();
     grammar.rules.as_slice() == rules
         && made.len() == blocks.len()
-        && made.iter().zip(blocks).all(|(list, block)| list.as_slice() == block.as_slice())
+        && made
+            .iter()
+            .zip(blocks)
+            .all(|(list, block)| list.as_slice() == block.as_slice())
 }
 
 // One worked row.
-fn gives(alloc: Global, alphabet: u32, blocks: &[&[u32]], rules: &[(u32, u32)], after: &[&[u32]]) -> Result<bool, Memory>
+fn gives(
+    alloc: Global,
+    alphabet: u32,
+    blocks: &[&[u32]],
+    rules: &[(u32, u32)],
+    after: &[&[u32]],
+) -> Result<bool, Memory>
     requires { alphabet ≤ 2 ^ 25 }
 {
     let lists = lists_of(alloc, blocks)?;
@@ -93,7 +102,12 @@ fn passed(alloc: Global, block: &[u32], pair: (u32, u32), symbol: u32) -> Result
 }
 
 // All blocks after a pass.
-fn all_passed(alloc: Global, blocks: &[Vec<u32>], pair: (u32, u32), symbol: u32) -> Result<Vec<Vec<u32>>, Memory> {
+fn all_passed(
+    alloc: Global,
+    blocks: &[Vec<u32>],
+    pair: (u32, u32),
+    symbol: u32,
+) -> Result<Vec<Vec<u32>>, Memory> {
     let mut after = Vec::new(alloc);
     for block in blocks {
         after.push(passed(alloc, block.as_slice(), pair, symbol)?)?;
@@ -111,7 +125,11 @@ fn symbols_in(blocks: &[Vec<u32>]) -> usize {
 }
 
 // The pair of which a pass takes the most symbols away, of all pairs below a symbol in order, if two.
-fn best_pair(alloc: Global, blocks: &[Vec<u32>], symbol: u32) -> Result<Option<(u32, u32)>, Memory> {
+fn best_pair(
+    alloc: Global,
+    blocks: &[Vec<u32>],
+    symbol: u32,
+) -> Result<Option<(u32, u32)>, Memory> {
     let mut best = None;
     let mut most = 1;
     for left in 0..symbol {
@@ -128,7 +146,11 @@ fn best_pair(alloc: Global, blocks: &[Vec<u32>], symbol: u32) -> Result<Option<(
 }
 
 // The slow program: each round tries every pair by a pass of its own.
-fn slowly(alloc: Global, alphabet: u32, lists: &[Vec<u32>]) -> Result<(Vec<(u32, u32)>, Vec<Vec<u32>>), Memory> {
+fn slowly(
+    alloc: Global,
+    alphabet: u32,
+    lists: &[Vec<u32>],
+) -> Result<(Vec<(u32, u32)>, Vec<Vec<u32>>), Memory> {
     let mut rules = Vec::new(alloc);
     let mut blocks = Vec::new(alloc);
     for list in lists {
@@ -179,31 +201,67 @@ impl Random {
 #[test]
 fn worked_blocks_have_their_rules(rt: HostRuntime) -> Result<(), Fail> {
     let alloc = rt.alloc();
-    assert!(rt; gives(alloc, 1, &[&[0, 0, 0, 0, 0]], &[(0, 0)], &[&[1, 1, 0]])?, "a run of zeros");
     assert!(rt;
-        gives(alloc, 2, &[&[0, 1, 0, 1], &[0, 1]], &[(0, 1)], &[&[2, 2], &[2]])?,
+        gives(alloc, 1, &[&[0, 0, 0, 0, 0]], &[(0, 0)], &[&[1, 1, 0]])?,
+        "a run of zeros"
+    );
+    assert!(rt;
+        gives(
+            alloc,
+            2,
+            &[&[0, 1, 0, 1], &[0, 1]],
+            &[(0, 1)],
+            &[&[2, 2], &[2]]
+        )?,
         "two blocks"
     );
     assert!(rt;
-        gives(alloc, 3, &[&[0, 1, 2, 0, 1, 2, 0, 1, 2]], &[(0, 1), (3, 2)], &[&[4, 4, 4]])?,
+        gives(
+            alloc,
+            3,
+            &[&[0, 1, 2, 0, 1, 2, 0, 1, 2]],
+            &[(0, 1), (3, 2)],
+            &[&[4, 4, 4]]
+        )?,
         "a rule with a part that is a rule"
     );
     assert!(rt; gives(alloc, 1, &[], &[], &[])?, "no block");
-    assert!(rt; gives(alloc, 7, &[&[], &[3]], &[], &[&[], &[3]])?, "blocks without a pair");
+    assert!(rt;
+        gives(alloc, 7, &[&[], &[3]], &[], &[&[], &[3]])?,
+        "blocks without a pair"
+    );
     assert!(rt;
         gives(alloc, 2, &[&[0, 1], &[1, 0]], &[], &[&[0, 1], &[1, 0]])?,
         "no pair spans two blocks"
     );
     assert!(rt;
-        gives(alloc, 4, &[&[2, 3, 1, 0, 2, 3, 1, 0]], &[(1, 0), (2, 3), (5, 4)], &[&[6, 6]])?,
+        gives(
+            alloc,
+            4,
+            &[&[2, 3, 1, 0, 2, 3, 1, 0]],
+            &[(1, 0), (2, 3), (5, 4)],
+            &[&[6, 6]]
+        )?,
         "of pairs that count alike, the smaller left symbol"
     );
     assert!(rt;
-        gives(alloc, 3, &[&[0, 2, 0, 1, 0, 2, 0, 1]], &[(0, 1), (0, 2), (4, 3)], &[&[5, 5]])?,
+        gives(
+            alloc,
+            3,
+            &[&[0, 2, 0, 1, 0, 2, 0, 1]],
+            &[(0, 1), (0, 2), (4, 3)],
+            &[&[5, 5]]
+        )?,
         "of pairs with the same left symbol, the smaller right one"
     );
     assert!(rt;
-        gives(alloc, 2, &[&[0, 0, 0, 1, 0, 0, 0]], &[(0, 0), (2, 0)], &[&[3, 1, 3]])?,
+        gives(
+            alloc,
+            2,
+            &[&[0, 0, 0, 1, 0, 0, 0]],
+            &[(0, 0), (2, 0)],
+            &[&[3, 1, 3]]
+        )?,
         "a pass goes from left to right"
     );
     Ok(())
