@@ -1,6 +1,5 @@
 -- The definition on worked blocks.
-use Rattle.std.proofs.Common.{◌≡◌, ℕ, List, [], ◌∷◌, refl}
-use Rattle.repair_grammar.specs.declared.grammar.Grammar.{Grammar}
+use Rattle.std.proofs.Common.{◌≡◌, [], ◌∷◌, refl}
 use Rattle.repair_grammar.specs.RePair.{re_pair, rounds, after_round, first_key, is_first_of, key_order, keys_of, pairs_in, pair_count, replaced, met}
 
 -- a run of zeros: the pass counts 0 0 twice in five, so its last zero stays

@@ -1,16 +1,13 @@
 -- What symbols stand for after a pass, and after a rule more.
-use Rattle.std.proofs.Common.{◌≡◌, ◌⊎◌, ℕ, zero, suc, ◌+◌, ◌*◌, ◌<◌, ◌≤◌, Bool, true, false, List, [], ◌∷◌, ◌++◌, length, get_or, map, refl, sym, ◌∙◌, ap, arith, inl, inr, append_assoc}
-use Rattle.std.specs.List.{sum_by, flat_map, range_with_len, AllByRecursion, Contains}
+use Rattle.std.proofs.Common.{◌≡◌, ℕ, ◌+◌, ◌<◌, List, [], ◌∷◌, ◌++◌, length, get_or, map, refl, sym, ◌∙◌, ap, arith, inl, inr, append_assoc}
+use Rattle.std.specs.List.{flat_map, range_with_len, AllByRecursion, Contains}
 use Rattle.std.proofs.lemmas.Bool.{cases_Bool}
-use Rattle.std.proofs.Math.ListN.{get_or-append}
-use Rattle.std.proofs.Math.Seq.{get_or-append_seam}
-use Rattle.std.proofs.lemmas.List.{length-append, length-map, get_or-map}
 use Rattle.std.proofs.lemmas.List.FromFn.{length-map-range_with_len, get_or-map-range_with_len}
 use Rattle.std.proofs.lemmas.List.Elements.{Contains-append_cases}
 use Rattle.list_laws.specs.Grown.{grown}
 use Rattle.list_laws.proofs.GrownLemmas.{length-grown, grown-append, grown-keeps, grown-last}
 use Rattle.list_laws.proofs.MemberLemmas.{member_cases, no_member}
-use Rattle.repair_grammar.specs.RePair.{is_pair, met, replaced, pairs_in, AreBelow}
+use Rattle.repair_grammar.specs.RePair.{is_pair, replaced, pairs_in, AreBelow}
 use Rattle.repair_grammar.specs.GrammarOf.{expansions, expanded}
 use Rattle.repair_grammar.proofs.PassLemmas.{left_of_pair, right_of_pair}
 
@@ -48,6 +45,17 @@ unfolding AreBelow
 all_below-replaced pair symbol [] below = below
 all_below-replaced pair symbol (block ∷ blocks) below =
     (below-replaced pair symbol block below.0, all_below-replaced pair symbol blocks below.1)
+
+-- a block more
+pub AreBelow-none : (limit : ℕ) → AreBelow limit []
+unfolding AreBelow
+AreBelow-none limit = tt
+
+pub AreBelow-push : (limit : ℕ) (blocks : List (List ℕ)) (block : List ℕ) → AreBelow limit blocks →
+    AllByRecursion (λ symbol. symbol < limit) block → AreBelow limit (blocks ++ block ∷ [])
+unfolding AreBelow
+AreBelow-push limit [] block below more = (more, tt)
+AreBelow-push limit (first ∷ blocks) block below more = (below.0, AreBelow-push limit blocks block below.1 more)
 
 -- the parts of a pair that stands in a block
 pair_below : (limit : ℕ) (block : List ℕ) (pair : ℕ × ℕ) → AllByRecursion (λ symbol. symbol < limit) block →
@@ -113,10 +121,12 @@ module _ (alphabet : ℕ) (rules : List (ℕ × ℕ)) (pair : ℕ × ℕ) where
       ≡ map (expanded alphabet rules) blocks
   unfolding expanded AreBelow
   expanded-round [] below = refl
-  expanded-round (block ∷ blocks) below = rw (expanded-round blocks below.1,
-      flat_map-replaced (λ symbol. get_or (expansions alphabet rules) symbol [])
-      (λ symbol. get_or (expansions alphabet (rules ++ pair ∷ [])) symbol []) pair (alphabet + length rules)
-      (expansions-last alphabet rules pair) (λ symbol small. expansions-other alphabet rules (pair ∷ []) symbol small) block below.0) refl
+  expanded-round (block ∷ blocks) below = rw (
+    expanded-round blocks below.1,
+    flat_map-replaced (λ symbol. get_or (expansions alphabet rules) symbol [])
+        (λ symbol. get_or (expansions alphabet (rules ++ pair ∷ [])) symbol []) pair (alphabet + length rules)
+        (expansions-last alphabet rules pair) (λ symbol small. expansions-other alphabet rules (pair ∷ []) symbol small) block below.0,
+  ) refl
 
 -- to begin with, each block stands for itself
 expanded_itself : (alphabet : ℕ) (block : List ℕ) → AllByRecursion (λ symbol. symbol < alphabet) block →

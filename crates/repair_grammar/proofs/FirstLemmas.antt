@@ -1,8 +1,7 @@
 -- The first of the keys that a map has.
-use Rattle.std.proofs.Common.{◌≡◌, ◌⊎◌, rules, ℕ, suc, ◌+◌, ◌<◌, ◌≤◌, ◌==◌, ◌&&◌, nat_eq, Bool, true, false, List, [], ◌∷◌, Option, Some, None, unwrap_or, Ordering, IfSome, refl, sym, ◌∙◌, ap, arith, inl, inr}
+use Rattle.std.proofs.Common.{◌≡◌, ◌⊎◌, rules, ℕ, ◌<◌, ◌≤◌, ◌&&◌, nat_eq, true, false, List, [], ◌∷◌, Option, Some, None, unwrap_or, Ordering, IfSome, refl, sym, ◌∙◌, ap, arith, inl, inr}
 use Rattle.std.specs.HashMap.{HashMap, get}
 use Rattle.std.specs.List.{Contains, All}
-use Rattle.std.specs.Map.{lookup}
 use Rattle.std.specs.Ordering.{is_lt, is_gt, ordering_reverse}
 use Rattle.std.specs.declared.cmp.Ordering.TheVariants.{Less, Equal, Greater}
 use Rattle.std.proofs.lemmas.Bool.{cases_Bool, cases_lt, lt-ltb, le-ltb, and_parts, eqb-true, ne_eqb}
@@ -88,16 +87,22 @@ IsFound first entries (Some key) = IsFirstIn first entries key
 found_none : (first : Option Key) → IfSome first (λ key. 1 < key.count) → IsFound first [] first
 found_none None two = (refl, λ entry inside. no_member entry inside)
 found_none (Some key) two = record {
-  two = two; from = inl refl; that = upto_itself key; each = λ entry inside. no_member entry inside
+  two = two;
+  from = inl refl;
+  that = upto_itself key;
+  each = λ entry inside. no_member entry inside;
 }
 
 -- an entry that does not count two
 pass : (first : Option Key) (entry : (ℕ × ℕ) × ℕ) (entries : List ((ℕ × ℕ) × ℕ)) (result : Option Key) → entry.1 ≤ 1 →
     IsFound first entries result → IsFound first (entry ∷ entries) result
-pass first entry entries None one found = (found.0, λ other inside. elim (member_cases other entry entries inside) [
-  | inl same ↦ rw (sym same) one
-  | inr later ↦ found.1 other later
-])
+pass first entry entries None one found = (
+  found.0,
+  λ other inside. elim (member_cases other entry entries inside) [
+    | inl same ↦ rw (sym same) one
+    | inr later ↦ found.1 other later
+  ],
+)
 pass first entry entries (Some key) one found = record {
   two = found.two;
   from = elim found.from [ inl is ↦ inl is | inr later ↦ inr (later_member _ entry entries later) ];
@@ -121,9 +126,9 @@ take_in first entry entries kept (Some key) earlier found = record {
   two = found.two;
   from = elim found.from [
     | inl is ↦ let same : kept ≡ key = cc in elim earlier.from [
-        | inl first_is ↦ inl (first_is ∙ is)
-        | inr own ↦ inr (rw (sym (own ∙ same)) (first_member entry entries))
-      ]
+      | inl first_is ↦ inl (first_is ∙ is)
+      | inr own ↦ inr (rw (sym (own ∙ same)) (first_member entry entries))
+    ]
     | inr later ↦ inr (later_member _ entry entries later)
   ];
   that = upto_that first key kept earlier.that found.that;
@@ -209,20 +214,32 @@ module _ {S : Type 0} (counts : HashMap (ℕ × ℕ) ℕ S)
 -- of keys, one is after none
 least : (first : Key) (keys : List Key) →
     (key : Key) × Contains (first ∷ keys) key × ((other : Key) → Contains (first ∷ keys) other → IsUpTo key other)
-least first [] = (first, first_member first [], λ other inside. elim (member_cases other first [] inside) [
-  | inl same ↦ rw (sym same) (upto_itself first)
-  | inr later ↦ no_member other later
-])
+least first [] = (
+  first,
+  first_member first [],
+  λ other inside. elim (member_cases other first [] inside) [
+    | inl same ↦ rw (sym same) (upto_itself first)
+    | inr later ↦ no_member other later
+  ],
+)
 least first (second ∷ keys) = let best = least second keys in elim (cases_Bool (is_lt (key_order first best.0))) [
-  | inl less ↦ (first, first_member first (second ∷ keys), λ other inside. elim (member_cases other first (second ∷ keys) inside) [
+  | inl less ↦ (
+    first,
+    first_member first (second ∷ keys),
+    λ other inside. elim (member_cases other first (second ∷ keys) inside) [
       | inl same ↦ rw (sym same) (upto_itself first)
       | inr later ↦ upto key_order_total first best.0 other (less_upto (key_order first best.0) less) (best.2 other later)
-    ])
-  | inr not_less ↦ (best.0, later_member best.0 first (second ∷ keys) best.1, λ other inside.
-      elim (member_cases other first (second ∷ keys) inside) [
-        | inl same ↦ rw (sym same) (upto_from best.0 first not_less)
-        | inr later ↦ best.2 other later
-      ])
+    ],
+  )
+  | inr not_less ↦ (
+    best.0,
+    later_member best.0 first (second ∷ keys) best.1,
+    λ other inside.
+        elim (member_cases other first (second ∷ keys) inside) [
+          | inl same ↦ rw (sym same) (upto_from best.0 first not_less)
+          | inr later ↦ best.2 other later
+        ],
+  )
 ]
 
 -- so a key is taken where there is one

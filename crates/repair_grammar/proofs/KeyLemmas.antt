@@ -1,15 +1,15 @@
 -- The key that a round takes.
-use Rattle.std.proofs.Common.{◌≡◌, ◌⊎◌, ℕ, suc, ◌+◌, ◌<◌, ◌≤◌, Bool, true, false, not, nat_lt, List, [], ◌∷◌, map, filter, find, Option, Some, None, Ordering, refl, sym, ◌∙◌, ap, arith, inl, inr}
+use Rattle.std.proofs.Common.{◌≡◌, ℕ, ◌<◌, Bool, false, nat_lt, List, [], ◌∷◌, map, filter, Some, None, Ordering, refl, sym, ap, arith, inl, inr}
 use Rattle.std.specs.Cmp.{IsTotalOrder}
-use Rattle.std.specs.List.{Contains, list_any, flat_map, sum_by}
-use Rattle.std.specs.Ordering.{nat_cmp, is_lt, is_gt, ordering_reverse, ordering_then}
+use Rattle.std.specs.List.{Contains, flat_map, sum_by}
+use Rattle.std.specs.Ordering.{nat_cmp, is_lt, ordering_reverse, ordering_then}
 use Rattle.std.specs.declared.cmp.Ordering.TheVariants.{Less, Equal, Greater}
-use Rattle.std.proofs.lemmas.Bool.{cases_Bool, cases_lt, not-true, not_from_false, ltb-true, lt-ltb, le-ltb}
+use Rattle.std.proofs.lemmas.Bool.{cases_lt, not-true, not_from_false, ltb-true, lt-ltb, le-ltb}
 use Rattle.std.proofs.lemmas.Map.Lookups.{exact_pairs, exact_unsigned}
 use Rattle.std.proofs.lemmas.Cmp.{then_total, on_total, back_total, nat_cmp_total}
 use Rattle.std.proofs.lemmas.List.Elements.{Contains-append_left, Contains-append_right}
 use Rattle.std.proofs.lemmas.List.Sums.{sum_by-cons}
-use Rattle.list_laws.proofs.MemberLemmas.{Contains-map, Contains-filter, Contains-flat_map, find-only, filter-none, member_of_filter, member_of_map, member_of_find, list_any-none, none_from_list_any, first_member, later_member}
+use Rattle.list_laws.proofs.MemberLemmas.{Contains-map, Contains-filter, find-only, filter-none, member_of_filter, member_of_map, member_of_find, list_any-none, none_from_list_any}
 use Rattle.repair_grammar.specs.declared.key.Key.{Key}
 use Rattle.repair_grammar.specs.RePair.{met, pair_count, pairs_in, key_of, key_order, is_first_of, keys_of, first_key}
 use Rattle.repair_grammar.specs.Counts.{IsFirst, AllBelowTwo}

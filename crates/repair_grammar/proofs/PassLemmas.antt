@@ -1,5 +1,5 @@
 -- One pass from left to right: what it meets, and what it leaves.
-use Rattle.std.proofs.Common.{◌≡◌, ◌⊎◌, ℕ, zero, suc, ◌+◌, ◌*◌, ◌<◌, ◌≤◌, ◌==◌, Bool, true, false, cond, ◌&&◌, List, [], ◌∷◌, ◌++◌, length, get_or, take, drop, set, refl, sym, ◌∙◌, ap, arith, inl, inr, append_assoc, add-one}
+use Rattle.std.proofs.Common.{◌≡◌, ℕ, suc, ◌+◌, ◌*◌, ◌<◌, ◌≤◌, ◌==◌, Bool, true, false, cond, ◌&&◌, List, [], ◌∷◌, ◌++◌, length, get_or, take, drop, set, refl, sym, ◌∙◌, ap, arith, inl, inr, append_assoc, add-one}
 use Rattle.std.specs.List.{Contains}
 use Rattle.std.proofs.lemmas.Bool.{cases_Bool, and_parts, and_left, and_right, and_cases, both_ways, eqb-true, eqb-false, ne_eqb, false_from_ne_true}
 use Rattle.std.proofs.lemmas.List.{take_more_set, drop-set-lt, drop-drop}
@@ -97,12 +97,15 @@ counted_apart : (taken : Bool) (pair : ℕ × ℕ) (x y : ℕ) (rest : List ℕ)
     met_after taken pair (x ∷ y ∷ rest) ≡ cond (is_pair pair x y) 1 0 + met_after false pair (y ∷ rest)
 unfolding met_after met
 counted_apart taken pair x y rest apart = elim (cases_Bool (is_pair pair x y)) [
-  | inl is ↦ rw (and_right taken (is_pair pair x x) (apart_from pair x y apart is), is,
-    met-other pair y rest (passed_next pair x y apart is)) (omega arith)
+  | inl is ↦ rw (
+    and_right taken (is_pair pair x x) (apart_from pair x y apart is),
+    is,
+    met-other pair y rest (passed_next pair x y apart is),
+  ) (omega arith)
   | inr other ↦ elim (cases_Bool (taken && is_pair pair x x)) [
-      | inl alike ↦ rw (alike, other) (omega arith)
-      | inr unlike ↦ rw (unlike, other) (omega arith)
-    ]
+    | inl alike ↦ rw (alike, other) (omega arith)
+    | inr unlike ↦ rw (unlike, other) (omega arith)
+  ]
 ]
 
 -- so each pair counts that doesn't overlap the one before it
@@ -115,9 +118,9 @@ pub met_after-counted : (taken : Bool) (pair : ℕ × ℕ) (x y : ℕ) (rest : L
 met_after-counted taken pair x y rest free = elim (cases_Bool (x == y)) [
   | inr apart ↦ rw apart (counted_apart taken pair x y rest apart)
   | inl same ↦ elim (and_cases taken (x == y) free) [
-      | inl fresh ↦ rw same (counted_same taken pair x y rest same fresh)
-      | inr apart ↦ absurd (both_ways (x == y) apart same)
-    ]
+    | inl fresh ↦ rw same (counted_same taken pair x y rest same fresh)
+    | inr apart ↦ absurd (both_ways (x == y) apart same)
+  ]
 ]
 
 -- one symbol more of a walk through a block

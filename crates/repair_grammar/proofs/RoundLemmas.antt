@@ -1,5 +1,5 @@
 -- Rounds: each takes two symbols away, so that there are no more rounds than symbols.
-use Rattle.std.proofs.Common.{◌≡◌, ℕ, zero, suc, ◌+◌, ◌*◌, ◌<◌, ◌≤◌, List, [], ◌∷◌, ◌++◌, length, map, Option, Some, None, refl, sym, ◌∙◌, ap, arith}
+use Rattle.std.proofs.Common.{◌≡◌, ℕ, zero, suc, ◌+◌, ◌*◌, ◌≤◌, List, [], ◌∷◌, ◌++◌, length, map, Option, Some, None, refl, sym, ◌∙◌, arith}
 use Rattle.std.specs.List.{sum_by}
 use Rattle.std.proofs.lemmas.List.{length-append}
 use Rattle.std.proofs.lemmas.List.Sums.{sum_by-cons}
@@ -16,15 +16,25 @@ pub symbols-replaced : (pair : ℕ × ℕ) (symbol : ℕ) (blocks : List (List �
     sum_by length (map (replaced pair symbol) blocks) + sum_by (met pair) blocks ≡ sum_by length blocks
 symbols-replaced pair symbol [] = refl
 symbols-replaced pair symbol (block ∷ blocks) =
-    omega (arith, length-replaced pair symbol block, symbols-replaced pair symbol blocks, sum_by-cons length block blocks,
-    sum_by-cons (met pair) block blocks,
-    sum_by-cons length (replaced pair symbol block) (map (replaced pair symbol) blocks))
+    omega (
+      arith,
+      length-replaced pair symbol block,
+      symbols-replaced pair symbol blocks,
+      sum_by-cons length block blocks,
+      sum_by-cons (met pair) block blocks,
+      sum_by-cons length (replaced pair symbol block) (map (replaced pair symbol) blocks),
+    )
 
 -- a pair's count is at most half of the symbols
 pub counts-le : (pair : ℕ × ℕ) (blocks : List (List ℕ)) → 2 * sum_by (met pair) blocks ≤ sum_by length blocks
 counts-le pair [] = omega arith
-counts-le pair (block ∷ blocks) = omega (arith, met-le pair block, counts-le pair blocks,
-    sum_by-cons length block blocks, sum_by-cons (met pair) block blocks)
+counts-le pair (block ∷ blocks) = omega (
+  arith,
+  met-le pair block,
+  counts-le pair blocks,
+  sum_by-cons length block blocks,
+  sum_by-cons (met pair) block blocks,
+)
 
 -- a round takes two symbols away
 pub round_shorter : (alphabet : ℕ) (grammar : Grammar) (key : Key) → first_key (keys_of grammar.blocks) ≡ Some key →

@@ -1,6 +1,6 @@
 -- Each round keeps what holds of a grammar of blocks, and so do all rounds.
-use Rattle.std.proofs.Common.{◌≡◌, ◌⊎◌, ℕ, zero, suc, ◌+◌, ◌*◌, ◌<◌, ◌≤◌, ◌==◌, Bool, true, false, ◌||◌, List, [], ◌∷◌, ◌++◌, length, get_or, map, Option, Some, None, refl, sym, ◌∙◌, ap, arith, inl, inr, add-zero}
-use Rattle.std.specs.List.{sum_by, list_any, Contains, flat_map}
+use Rattle.std.proofs.Common.{◌≡◌, ◌⊎◌, ℕ, zero, suc, ◌+◌, ◌<◌, ◌==◌, Bool, true, false, ◌||◌, List, [], ◌∷◌, ◌++◌, length, get_or, map, Option, Some, None, refl, ◌∙◌, arith, inl, inr, add-zero}
+use Rattle.std.specs.List.{sum_by, list_any}
 use Rattle.std.proofs.lemmas.Bool.{cases_lt, or_cases, or_left, or_right, eq-eqb}
 use Rattle.std.proofs.lemmas.List.{length-append, length-map}
 use Rattle.std.proofs.lemmas.List.Folds.{list_any-append}
@@ -9,8 +9,8 @@ use Rattle.std.proofs.Math.Seq.{get_or-append_seam}
 use Rattle.repair_grammar.specs.declared.grammar.Grammar.{Grammar}
 use Rattle.repair_grammar.specs.declared.key.Key.{Key}
 use Rattle.repair_grammar.specs.RePair.{met, replaced, pair_count, keys_of, first_key, after_round, rounds, re_pair, AreBelow}
-use Rattle.repair_grammar.specs.GrammarOf.{IsGrammarOf, expanded, is_used}
-use Rattle.repair_grammar.proofs.PassLemmas.{length-replaced, replaced-none}
+use Rattle.repair_grammar.specs.GrammarOf.{IsGrammarOf, is_used}
+use Rattle.repair_grammar.proofs.PassLemmas.{length-replaced}
 use Rattle.repair_grammar.proofs.KeyLemmas.{IsTaken, taken_is}
 use Rattle.repair_grammar.proofs.RoundLemmas.{round_shorter, rounds-some, rounds-none}
 use Rattle.repair_grammar.proofs.ExpansionLemmas.{expanded-round, expanded-none, all_below-replaced, parts_below}
@@ -60,12 +60,12 @@ module _ (alphabet : ℕ) (rules : List (ℕ × ℕ)) (blocks : List (List ℕ))
       let blocks_use : Bool = list_any (has symbol) (map (replaced pair (alphabet + length rules)) blocks) in
       elim (or_cases (list_any (has symbol) blocks) (list_any (part_of symbol) rules) used) [
         | inl stands ↦ elim (any_has-replaced pair (alphabet + length rules) symbol blocks stands) [
-            | inl still ↦ or_left blocks_use _ still
-            | inr part ↦ or_right blocks_use _ (rw (list_any-append (part_of symbol) rules (pair ∷ []))
+          | inl still ↦ or_left blocks_use _ still
+          | inr part ↦ or_right blocks_use _ (rw (list_any-append (part_of symbol) rules (pair ∷ []))
               (or_right (list_any (part_of symbol) rules) _ (or_left (part_of symbol pair) false (is_part symbol pair part))))
-          ]
+        ]
         | inr rule ↦ or_right blocks_use _ (rw (list_any-append (part_of symbol) rules (pair ∷ []))
-          (or_left (list_any (part_of symbol) rules) _ rule))
+            (or_left (list_any (part_of symbol) rules) _ rule))
       ]
 
   -- the new one is used
@@ -91,12 +91,12 @@ round_sound alphabet blocks grammar key taken sound =
       parts = λ rule within. elim (cases_lt rule (length grammar.rules)) [
         | inl old ↦ rw (old_rule alphabet grammar.rules grammar.blocks pair rule old) (sound.parts rule old)
         | inr last ↦ let at : rule ≡ length grammar.rules = omega (arith, within, length-append grammar.rules (pair ∷ [])) in
-          rw (at, new_rule alphabet grammar.rules grammar.blocks pair) (parts_below symbol grammar.blocks pair sound.below known.stands)
+            rw (at, new_rule alphabet grammar.rules grammar.blocks pair) (parts_below symbol grammar.blocks pair sound.below known.stands)
       ];
       used = λ rule within. elim (cases_lt rule (length grammar.rules)) [
         | inl old ↦ still_used alphabet grammar.rules grammar.blocks pair (alphabet + rule) (sound.used rule old)
         | inr last ↦ let at : rule ≡ length grammar.rules = omega (arith, within, length-append grammar.rules (pair ∷ [])) in
-          rw at (new_used alphabet grammar.rules grammar.blocks pair (omega (arith, known.count, known.two)))
+            rw at (new_used alphabet grammar.rules grammar.blocks pair (omega (arith, known.count, known.two)))
       ];
       few = omega (arith, round_shorter alphabet grammar key taken, sound.few, length-append grammar.rules (pair ∷ []));
       same = rw length-map sound.same;

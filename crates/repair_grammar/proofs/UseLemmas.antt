@@ -1,8 +1,7 @@
 -- Which symbols are used after a pass: those that were, or are now parts, and the new one.
-use Rattle.std.proofs.Common.{◌≡◌, ◌⊎◌, ℕ, suc, ◌+◌, ◌<◌, ◌≤◌, ◌==◌, Bool, true, false, ◌||◌, List, [], ◌∷◌, ◌++◌, length, map, refl, sym, ◌∙◌, ap, arith, inl, inr}
+use Rattle.std.proofs.Common.{◌≡◌, ◌⊎◌, ℕ, ◌<◌, ◌==◌, Bool, true, List, [], ◌∷◌, map, refl, sym, ◌∙◌, arith, inl, inr}
 use Rattle.std.specs.List.{sum_by, list_any}
 use Rattle.std.proofs.lemmas.Bool.{cases_Bool, cases_lt, or_cases, or_left, or_right, eqb-true, eq-eqb}
-use Rattle.std.proofs.lemmas.List.Folds.{list_any-append}
 use Rattle.std.proofs.lemmas.List.Sums.{sum_by-cons}
 use Rattle.repair_grammar.specs.RePair.{is_pair, met, replaced}
 use Rattle.repair_grammar.proofs.PassLemmas.{left_of_pair, right_of_pair}
@@ -20,22 +19,22 @@ module _ (pair : ℕ × ℕ) (symbol : ℕ) where
   has-replaced other (x ∷ []) stands = inl stands
   has-replaced other (x ∷ y ∷ rest) stands = elim (cases_Bool (is_pair pair x y)) [
     | inl is ↦ elim (or_cases (x == other) (has other (y ∷ rest)) stands) [
-        | inl left ↦ inr (inl (sym (left_of_pair pair x y is) ∙ eqb-true x other left))
-        | inr later ↦ elim (or_cases (y == other) (has other rest) later) [
-            | inl right ↦ inr (inr (sym (right_of_pair pair x y is) ∙ eqb-true y other right))
-            | inr behind ↦ elim (has-replaced other rest behind) [
-                | inl still ↦ inl (rw is (or_right (symbol == other) (has other (replaced pair symbol rest)) still))
-                | inr part ↦ inr part
-              ]
-          ]
+      | inl left ↦ inr (inl (sym (left_of_pair pair x y is) ∙ eqb-true x other left))
+      | inr later ↦ elim (or_cases (y == other) (has other rest) later) [
+        | inl right ↦ inr (inr (sym (right_of_pair pair x y is) ∙ eqb-true y other right))
+        | inr behind ↦ elim (has-replaced other rest behind) [
+          | inl still ↦ inl (rw is (or_right (symbol == other) (has other (replaced pair symbol rest)) still))
+          | inr part ↦ inr part
+        ]
       ]
+    ]
     | inr apart ↦ elim (or_cases (x == other) (has other (y ∷ rest)) stands) [
-        | inl left ↦ inl (rw apart (or_left (x == other) (has other (replaced pair symbol (y ∷ rest))) left))
-        | inr later ↦ elim (has-replaced other (y ∷ rest) later) [
-            | inl still ↦ inl (rw apart (or_right (x == other) (has other (replaced pair symbol (y ∷ rest))) still))
-            | inr part ↦ inr part
-          ]
+      | inl left ↦ inl (rw apart (or_left (x == other) (has other (replaced pair symbol (y ∷ rest))) left))
+      | inr later ↦ elim (has-replaced other (y ∷ rest) later) [
+        | inl still ↦ inl (rw apart (or_right (x == other) (has other (replaced pair symbol (y ∷ rest))) still))
+        | inr part ↦ inr part
       ]
+    ]
   ]
 
   pub any_has-replaced : (other : ℕ) (blocks : List (List ℕ)) → list_any (has other) blocks ≡ true →
@@ -43,13 +42,13 @@ module _ (pair : ℕ × ℕ) (symbol : ℕ) where
   any_has-replaced other [] stands = absurd (cc)
   any_has-replaced other (block ∷ blocks) stands = elim (or_cases (has other block) (list_any (has other) blocks) stands) [
     | inl here ↦ elim (has-replaced other block here) [
-        | inl still ↦ inl (or_left (has other (replaced pair symbol block)) _ still)
-        | inr part ↦ inr part
-      ]
+      | inl still ↦ inl (or_left (has other (replaced pair symbol block)) _ still)
+      | inr part ↦ inr part
+    ]
     | inr later ↦ elim (any_has-replaced other blocks later) [
-        | inl still ↦ inl (or_right (has other (replaced pair symbol block)) _ still)
-        | inr part ↦ inr part
-      ]
+      | inl still ↦ inl (or_right (has other (replaced pair symbol block)) _ still)
+      | inr part ↦ inr part
+    ]
   ]
 
   -- the new symbol stands where the pair was met
@@ -60,7 +59,7 @@ module _ (pair : ℕ × ℕ) (symbol : ℕ) where
   has_new (x ∷ y ∷ rest) some = elim (cases_Bool (is_pair pair x y)) [
     | inl is ↦ rw is (or_left (symbol == symbol) (has symbol (replaced pair symbol rest)) (eq-eqb symbol symbol refl))
     | inr apart ↦ rw apart (or_right (x == symbol) (has symbol (replaced pair symbol (y ∷ rest)))
-      (has_new (y ∷ rest) (rw apart at some)))
+        (has_new (y ∷ rest) (rw apart at some)))
   ]
 
   pub any_has_new : (blocks : List (List ℕ)) → 0 < sum_by (met pair) blocks →
@@ -69,5 +68,5 @@ module _ (pair : ℕ × ℕ) (symbol : ℕ) where
   any_has_new (block ∷ blocks) some = elim (cases_lt 0 (met pair block)) [
     | inl here ↦ or_left (has symbol (replaced pair symbol block)) _ (has_new block here)
     | inr none ↦ or_right (has symbol (replaced pair symbol block)) _
-      (any_has_new blocks (omega (arith, sum_by-cons (met pair) block blocks)))
+        (any_has_new blocks (omega (arith, sum_by-cons (met pair) block blocks)))
   ]

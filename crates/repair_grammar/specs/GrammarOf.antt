@@ -1,7 +1,7 @@
 -- What holds of a grammar of blocks: its symbols stand for the blocks, and each rule is needed.
 use Rattle.std.specs.Prelude.{◌≡◌, ℕ, ◌+◌, ◌*◌, ◌<◌, ◌≤◌, Bool, true, ◌||◌, ◌==◌, List, [], ◌∷◌, ◌++◌, length, map, slice_index_or}
 use Rattle.std.specs.List.{list_any, sum_by, flat_map, range_with_len}
-use Rattle.list_laws.specs.Grown.{grown, known_of}
+use Rattle.list_laws.specs.Grown.{grown}
 use Rattle.repair_grammar.specs.declared.grammar.Grammar.{Grammar}
 use Rattle.repair_grammar.specs.RePair.{AreBelow}
 

@@ -66,7 +66,13 @@ pub fn first_pair(counts: &Counts) -> Option<(u32, u32)>
     let mut first = None;
     for (pair, count) in counts.iter() {
         if *count > 1 {
-            first = Some(earlier(first, Key { count: *count, pair: *pair }));
+            first = Some(earlier(
+                first,
+                Key {
+                    count: *count,
+                    pair: *pair,
+                },
+            ));
         }
     }
     match first {

@@ -16,6 +16,9 @@ impl Key {
     pub fn order(self, other: Key) -> Ordering
         ensures { result ≡ key_order self other }
     {
-        other.count.cmp(&self.count).then(self.pair.cmp(&other.pair))
+        other
+            .count
+            .cmp(&self.count)
+            .then(self.pair.cmp(&other.pair))
     }
 }

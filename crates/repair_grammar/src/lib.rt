@@ -12,5 +12,7 @@ mod grammar;
 mod key;
 mod recounting;
 mod replacing;
+#[cfg(test)]
+mod tests;
 
 pub use grammar::{Grammar, compress};

@@ -28,7 +28,10 @@ pub fn recounted(alloc: Global, alphabet: u32, blocks: &Lists32) -> Result<Gramm
         replace_all(&mut blocks, pair, symbol);
         recount(&mut counts, blocks.as_slice())?;
     }
-    Ok(Grammar { rules: PairList::new(rules), blocks: lists_from(alloc, blocks)? })
+    Ok(Grammar {
+        rules: PairList::new(rules),
+        blocks: lists_from(alloc, blocks)?,
+    })
 }
 
 // The blocks as vectors that can be written.

@@ -1,6 +1,6 @@
-use Rattle.std.proofs.Common.{arith, ℕ, ◌≡◌, Some, ◌∷◌, sym, ap, ◌∙◌}
+use Rattle.std.proofs.Common.{ℕ, ◌≡◌, Some, ◌∷◌, sym, ap, ◌∙◌}
 use Rattle.std.specs.Map.Iter.{deref_pair}
-use Rattle.std.proofs.lemmas.Map.Iter.{rest_more, rest_all}
+use Rattle.std.proofs.lemmas.Map.Iter.{rest_more}
 use Rattle.repair_grammar.specs.Counts.{first_in}
 use Rattle.repair_grammar.proofs.FirstLemmas.{first_in-more, first_in-less, first_in-nil, first_in-none, first_in-some}
 use Rattle.repair_grammar.proofs.counting.first_pair.Goals as goal

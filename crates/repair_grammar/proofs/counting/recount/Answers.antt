@@ -1,4 +1,4 @@
-use Rattle.std.proofs.Common.{◌≡◌, ◌≤◌, ◌+◌, take, arith, refl, sym, ◌∙◌, ap}
+use Rattle.std.proofs.Common.{◌+◌, take, arith, refl, sym, ◌∙◌, ap}
 use Rattle.repair_grammar.specs.RePair.{met, pair_count}
 use Rattle.repair_grammar.specs.Counts.{lists_of}
 use Rattle.repair_grammar.proofs.CountLemmas.{count_more, count_room}
@@ -9,9 +9,11 @@ unfolding pair_count
 loop-block-init c = λ pair. rw c.clear.ensures.empty refl
 
 pub count_block-requires : goal.count_block-requires
-count_block-requires c = record { room = λ pair.
-    let room = count_room pair c.args.blocks.now c.loop-block.block-index c.block-item.result c.loop-block-test.true c.block-item.is in
-    rw (c.loop-block.invariant pair, c.as_slice.ensures.value) (omega (arith, c.requires.few, room)) }
+count_block-requires c = record {
+  room = λ pair.
+      let room = count_room pair c.args.blocks.now c.loop-block.block-index c.block-item.result c.loop-block-test.true c.block-item.is in
+      rw (c.loop-block.invariant pair, c.as_slice.ensures.value) (omega (arith, c.requires.few, room));
+}
 
 pub loop-block-preserved : goal.loop-block-preserved
 loop-block-preserved c = λ pair. c.in_ok-count_block.ensures.ok pair

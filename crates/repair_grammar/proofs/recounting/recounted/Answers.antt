@@ -1,7 +1,6 @@
-use Rattle.std.proofs.Common.{◌≡◌, ℕ, ◌+◌, ◌*◌, ◌≤◌, ◌<◌, List, [], ◌∷◌, ◌++◌, length, map, arith, refl, sym, ◌∙◌, ap}
+use Rattle.std.proofs.Common.{◌≡◌, ℕ, ◌+◌, List, length, arith, sym, ◌∙◌, ap}
 use Rattle.std.specs.List.{sum_by}
-use Rattle.repair_grammar.specs.declared.grammar.Grammar.{Grammar}
-use Rattle.repair_grammar.specs.RePair.{pair_count, replaced, rounds}
+use Rattle.repair_grammar.specs.RePair.{pair_count}
 use Rattle.repair_grammar.specs.Counts.{count_in, lists_of, AllBelowTwo}
 use Rattle.repair_grammar.proofs.RoundLemmas.{IsNext, next_is, first_same, re_pair-is, rounds-end}
 use Rattle.repair_grammar.proofs.recounting.recounted.Goals as goal
@@ -26,8 +25,10 @@ next c =
 
 pub recount-requires-in-Some : goal.recount-requires-in-Some
 recount-requires-in-Some c = let step = next (goal.at.recount-requires-in-Some c).After-replace_all in
-    record { few = rw c.as_slice-in-Some.ensures.value
-    (omega (arith, step.fewer, c.loop-pair.invariant.few, c.requires.few)) }
+    record {
+      few = rw c.as_slice-in-Some.ensures.value
+          (omega (arith, step.fewer, c.loop-pair.invariant.few, c.requires.few));
+    }
 
 pub loop-pair-smaller : goal.loop-pair-smaller
 loop-pair-smaller c = let step = next (goal.at.loop-pair-smaller c).After-replace_all in omega (arith, step.fewer)
@@ -45,6 +46,8 @@ returns c =
     let blocks : List (List ℕ) = lists_of c.loop-pair.blocks.items in
     let small : AllBelowTwo (pair_count blocks) =
     λ pair. rw (sym (c.loop-pair.invariant.counts_are pair)) (c.in_default.ensures pair) in
-    record { ok = rw (c.new.ensures, c.in_ok-lists_from.ensures)
-        (sym (rounds-end (sum_by length blocks) c.args.alphabet (record { rules = c.loop-pair.rules.items; blocks = blocks }) small))
-        ∙ c.loop-pair.invariant.left }
+    record {
+      ok = rw (c.new.ensures, c.in_ok-lists_from.ensures)
+          (sym (rounds-end (sum_by length blocks) c.args.alphabet (record { rules = c.loop-pair.rules.items; blocks = blocks }) small))
+          ∙ c.loop-pair.invariant.left;
+    }

@@ -1,4 +1,4 @@
-use Rattle.std.proofs.Common.{◌≡◌, ◌<◌, ◌≤◌, ◌++◌, ◌+◌, ℕ, List, [], length, get_or, set, take, drop, arith, sym, ◌∙◌, ap}
+use Rattle.std.proofs.Common.{◌≡◌, ◌<◌, ◌++◌, ℕ, List, [], length, get_or, take, drop, arith, sym, ◌∙◌, ap}
 use Rattle.std.proofs.lemmas.List.{append-nil, drop_all}
 use Rattle.std.proofs.lemmas.Grind.{get_or_default_zero}
 use Rattle.repair_grammar.specs.RePair.{replaced}
@@ -18,17 +18,17 @@ loop-read-preserved c =
     c.stands_at.ensures ∙ ap (λ xs. stands_first c.args.pair (drop c.loop-read.read xs)) c.as_slice.ensures.value in
     elim c.if-stands_at.branch [
       | then-stands_at w ↦ record {
-          behind = omega (arith, w.read-is, c.loop-read.invariant.behind);
-          whole = rw (w.block-is, w.read-is) (step_met c.args.pair c.args.symbol items c.loop-read.written c.loop-read.read
-          c.loop-read.invariant.behind within (sym stands ∙ w.if-stands_at.true) ∙ c.loop-read.invariant.whole);
-        }
+        behind = omega (arith, w.read-is, c.loop-read.invariant.behind);
+        whole = rw (w.block-is, w.read-is) (step_met c.args.pair c.args.symbol items c.loop-read.written c.loop-read.read
+            c.loop-read.invariant.behind within (sym stands ∙ w.if-stands_at.true) ∙ c.loop-read.invariant.whole);
+      }
       | else-stands_at w ↦ record {
-          behind = omega (arith, w.read-is, c.loop-read.invariant.behind);
-          whole = rw (w.block-is, w.read-is) (step_passed c.args.pair c.args.symbol items c.loop-read.written c.loop-read.read
-          c.loop-read.invariant.behind within w.index.result.now
-          (read_at_zero items c.loop-read.read w.index.result.now within w.index.ensures) (sym stands ∙ w.if-stands_at.false)
-          ∙ c.loop-read.invariant.whole);
-        }
+        behind = omega (arith, w.read-is, c.loop-read.invariant.behind);
+        whole = rw (w.block-is, w.read-is) (step_passed c.args.pair c.args.symbol items c.loop-read.written c.loop-read.read
+            c.loop-read.invariant.behind within w.index.result.now
+            (read_at_zero items c.loop-read.read w.index.result.now within w.index.ensures) (sym stands ∙ w.if-stands_at.false)
+            ∙ c.loop-read.invariant.whole);
+      }
     ]
 
 pub returns : goal.returns

@@ -1,4 +1,4 @@
-use Rattle.std.proofs.Common.{◌≡◌, ℕ, ◌<◌, ◌≤◌, ◌-◌, List, length, take, drop, arith, sym, ◌∙◌, length-drop, rules}
+use Rattle.std.proofs.Common.{◌≡◌, ℕ, ◌-◌, List, length, take, drop, arith, sym, ◌∙◌, length-drop}
 use Rattle.std.proofs.lemmas.List.{take_all}
 use Rattle.repair_grammar.proofs.PassLemmas.{stands_first-short, stands_first-long}
 use Rattle.repair_grammar.proofs.replacing.stands_at.Goals as goal

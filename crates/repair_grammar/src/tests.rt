@@ -1,0 +1,307 @@
+ghost use Rattle.std.specs.Prelude.{◌≡◌, ◌^◌, ◌<◌, ◌≤◌, length, IfOk};
+ghost use Rattle.std.specs.List.{AllByRecursion, sum_by};
+ghost use Rattle.repair_grammar.specs.RePair.{AreBelow};
+
+use super::{Grammar, compress};
+use std::alloc::Global;
+use std::test::Fail;
+use track_types::{List32, Lists32, Memory};
+
+// The symbols of a list that are below the alphabet's size, which in these tests are all.
+fn block_of(alloc: Global, alphabet: u32, symbols: &[u32]) -> Result<List32, Memory>
+    ensures below { IfOk result (AllByRecursion (λ symbol. symbol < alphabet)) }
+    ensures few { IfOk result (λ block. length block ≤ length symbols.now) }
+{
+    let mut block = Vec::new(alloc);
+    for symbol in symbols {
+        if *symbol < alphabet {
+            block.push(*symbol)?;
+        }
+    }
+    Ok(List32::new(block))
+}
+
+// The lists as blocks, which in these tests are never too many.
+fn blocks_of(alloc: Global, alphabet: u32, lists: &[Vec<u32>]) -> Result<Lists32, Memory>
+    ensures below { IfOk result (AreBelow alphabet) }
+    ensures few { IfOk result (λ blocks. sum_by length blocks ≤ 2 ^ 25) }
+{
+    let mut blocks = Vec::new(alloc);
+    let mut room = 1 << 25;
+    for list in lists {
+        if list.len() > room {
+            return Err(Memory);
+        }
+        room -= list.len();
+        blocks.push(block_of(alloc, alphabet, list.as_slice())?)?;
+    }
+    Ok(Lists32::new(blocks))
+}
+
+// What `compress` makes of the lists.
+fn compressed(alloc: Global, alphabet: u32, lists: &[Vec<u32>]) -> Result<Grammar, Memory>
+    requires { alphabet ≤ 2 ^ 25 }
+{
+    compress(alloc, alphabet, &blocks_of(alloc, alphabet, lists)?)
+}
+
+// The slices as lists.
+fn lists_of(alloc: Global, slices: &[&[u32]]) -> Result<Vec<Vec<u32>>, Memory> {
+    let mut lists = Vec::new(alloc);
+    for slice in slices {
+        lists.push(slice.to_vec(alloc)?)?;
+    }
+    Ok(lists)
+}
+
+// Whether a grammar has these rules and blocks.
+fn has(grammar: &Grammar, rules: &[(u32, u32)], blocks: &[Vec<u32>]) -> bool {
+    let made = grammar.blocks.as_slice();
+    grammar.rules.as_slice() == rules
+        && made.len() == blocks.len()
+        && made
+            .iter()
+            .zip(blocks)
+            .all(|(list, block)| list.as_slice() == block.as_slice())
+}
+
+// One worked row.
+fn gives(
+    alloc: Global,
+    alphabet: u32,
+    blocks: &[&[u32]],
+    rules: &[(u32, u32)],
+    after: &[&[u32]],
+) -> Result<bool, Memory>
+    requires { alphabet ≤ 2 ^ 25 }
+{
+    let lists = lists_of(alloc, blocks)?;
+    let grammar = compressed(alloc, alphabet, lists.as_slice())?;
+    let after = lists_of(alloc, after)?;
+    Ok(has(&grammar, rules, after.as_slice()))
+}
+
+// The block after a pass that keeps the symbols on a stack. A pair that was just replaced is closed.
+fn passed(alloc: Global, block: &[u32], pair: (u32, u32), symbol: u32) -> Result<Vec<u32>, Memory> {
+    let mut stack = Vec::new(alloc);
+    let mut open = false;
+    for right in block {
+        let last = stack.pop();
+        if open && last == Some(pair.0) && *right == pair.1 {
+            stack.push(symbol)?;
+            open = false;
+        } else {
+            if let Some(left) = last {
+                stack.push(left)?;
+            }
+            stack.push(*right)?;
+            open = true;
+        }
+    }
+    Ok(stack)
+}
+
+// All blocks after a pass.
+fn all_passed(
+    alloc: Global,
+    blocks: &[Vec<u32>],
+    pair: (u32, u32),
+    symbol: u32,
+) -> Result<Vec<Vec<u32>>, Memory> {
+    let mut after = Vec::new(alloc);
+    for block in blocks {
+        after.push(passed(alloc, block.as_slice(), pair, symbol)?)?;
+    }
+    Ok(after)
+}
+
+// How many symbols the blocks have.
+fn symbols_in(blocks: &[Vec<u32>]) -> usize {
+    let mut symbols = 0usize;
+    for block in blocks {
+        symbols = symbols.saturating_add(block.len());
+    }
+    symbols
+}
+
+// The pair of which a pass takes the most symbols away, of all pairs below a symbol in order, if two.
+fn best_pair(
+    alloc: Global,
+    blocks: &[Vec<u32>],
+    symbol: u32,
+) -> Result<Option<(u32, u32)>, Memory> {
+    let mut best = None;
+    let mut most = 1;
+    for left in 0..symbol {
+        for right in 0..symbol {
+            let after = all_passed(alloc, blocks, (left, right), symbol)?;
+            let saved = symbols_in(blocks).saturating_sub(symbols_in(after.as_slice()));
+            if saved > most {
+                most = saved;
+                best = Some((left, right));
+            }
+        }
+    }
+    Ok(best)
+}
+
+// The slow program: each round tries every pair by a pass of its own.
+fn slowly(
+    alloc: Global,
+    alphabet: u32,
+    lists: &[Vec<u32>],
+) -> Result<(Vec<(u32, u32)>, Vec<Vec<u32>>), Memory> {
+    let mut rules = Vec::new(alloc);
+    let mut blocks = Vec::new(alloc);
+    for list in lists {
+        blocks.push(list.as_slice().to_vec(alloc)?)?;
+    }
+    for symbol in alphabet..u32::MAX {
+        let Some(pair) = best_pair(alloc, blocks.as_slice(), symbol)? else {
+            return Ok((rules, blocks));
+        };
+        rules.push(pair)?;
+        blocks = all_passed(alloc, blocks.as_slice(), pair, symbol)?;
+    }
+    Ok((rules, blocks))
+}
+
+// Numbers that look random: the linear congruential generator of the C standard's example.
+#[derive(Drop)]
+struct Random {
+    state: u64,
+}
+
+impl Random {
+    // The next number below a limit.
+    fn below(&mut self, limit: u32) -> u32
+        requires { 0 < limit }
+        ensures { result < limit }
+    {
+        self.state = self.state.wrapping_mul(1103515245).wrapping_add(12345) % (1 << 31);
+        ((self.state >> 8) % (limit as u64)) as u32
+    }
+
+    // A list of symbols, in which each stays for three places on average.
+    fn list(&mut self, alloc: Global, alphabet: u32, len: u32) -> Result<Vec<u32>, Memory>
+        requires { 0 < alphabet }
+    {
+        let mut list = Vec::new(alloc);
+        let mut symbol = 0;
+        for _ in 0..len {
+            if self.below(3) == 0 {
+                symbol = self.below(alphabet);
+            }
+            list.push(symbol)?;
+        }
+        Ok(list)
+    }
+}
+
+#[test]
+fn worked_blocks_have_their_rules(rt: HostRuntime) -> Result<(), Fail> {
+    let alloc = rt.alloc();
+    assert!(rt;
+        gives(alloc, 1, &[&[0, 0, 0, 0, 0]], &[(0, 0)], &[&[1, 1, 0]])?,
+        "a run of zeros"
+    );
+    assert!(rt;
+        gives(
+            alloc,
+            2,
+            &[&[0, 1, 0, 1], &[0, 1]],
+            &[(0, 1)],
+            &[&[2, 2], &[2]]
+        )?,
+        "two blocks"
+    );
+    assert!(rt;
+        gives(
+            alloc,
+            3,
+            &[&[0, 1, 2, 0, 1, 2, 0, 1, 2]],
+            &[(0, 1), (3, 2)],
+            &[&[4, 4, 4]]
+        )?,
+        "a rule with a part that is a rule"
+    );
+    assert!(rt; gives(alloc, 1, &[], &[], &[])?, "no block");
+    assert!(rt;
+        gives(alloc, 7, &[&[], &[3]], &[], &[&[], &[3]])?,
+        "blocks without a pair"
+    );
+    assert!(rt;
+        gives(alloc, 2, &[&[0, 1], &[1, 0]], &[], &[&[0, 1], &[1, 0]])?,
+        "no pair spans two blocks"
+    );
+    assert!(rt;
+        gives(
+            alloc,
+            4,
+            &[&[2, 3, 1, 0, 2, 3, 1, 0]],
+            &[(1, 0), (2, 3), (5, 4)],
+            &[&[6, 6]]
+        )?,
+        "of pairs that count alike, the smaller left symbol"
+    );
+    assert!(rt;
+        gives(
+            alloc,
+            3,
+            &[&[0, 2, 0, 1, 0, 2, 0, 1]],
+            &[(0, 1), (0, 2), (4, 3)],
+            &[&[5, 5]]
+        )?,
+        "of pairs with the same left symbol, the smaller right one"
+    );
+    assert!(rt;
+        gives(
+            alloc,
+            2,
+            &[&[0, 0, 0, 1, 0, 0, 0]],
+            &[(0, 0), (2, 0)],
+            &[&[3, 1, 3]]
+        )?,
+        "a pass goes from left to right"
+    );
+    Ok(())
+}
+
+#[test]
+fn random_blocks_are_those_of_the_slow_program(rt: HostRuntime) -> Result<(), Fail> {
+    let alloc = rt.alloc();
+    let mut random = Random { state: 1 };
+    for _ in 0..200u32 {
+        let alphabet = 1 + random.below(4);
+        let mut lists = Vec::new(alloc);
+        for _ in 0..random.below(4) {
+            let len = random.below(24);
+            lists.push(random.list(alloc, alphabet, len)?)?;
+        }
+        let grammar = compressed(alloc, alphabet, lists.as_slice())?;
+        let (rules, blocks) = slowly(alloc, alphabet, lists.as_slice())?;
+        assert!(rt; has(&grammar, rules.as_slice(), blocks.as_slice()));
+    }
+    Ok(())
+}
+
+#[test]
+fn four_thousand_symbols_have_as_many_rules_as_elsewhere(rt: HostRuntime) -> Result<(), Fail> {
+    let alloc = rt.alloc();
+    let mut random = Random { state: 1 };
+    let mut lists = Vec::new(alloc);
+    for _ in 0..16u32 {
+        lists.push(random.list(alloc, 6, 250)?)?;
+    }
+    let grammar = compressed(alloc, 6, lists.as_slice())?;
+    let rules = grammar.rules.as_slice();
+    assert_eq!(rt; rules.len(), 171);
+    assert_eq!(rt; rules.first().copied(), Some((5, 5)));
+    assert_eq!(rt; rules.last().copied(), Some((90, 17)));
+    let mut symbols = 0usize;
+    for block in grammar.blocks.as_slice() {
+        symbols = symbols.saturating_add(block.as_slice().len());
+    }
+    assert_eq!(rt; symbols, 855);
+    Ok(())
+}
