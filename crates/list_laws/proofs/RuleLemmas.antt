@@ -41,10 +41,11 @@ module _ {A : Type 0} (join : A → A → A) (none : A) where
       omega (arith, length-grown join none known (front ++ rule ∷ []), length-append front (rule ∷ [])) in
       let there : get_or (grown join none known rules) (length known + j) none ≡ get_or table (length known + j) none =
       ap (λ all. get_or (grown join none known all) (length known + j) none) whole
-      ∙ ap (λ t. get_or t (length known + j) none) (grown-append join none known (front ++ rule ∷ []) (drop (j + 1) rules))
+      ∙ ap (λ t. get_or t (length known + j) none)
+      (grown-append join none known (front ++ rule ∷ []) (drop (j + 1) rules))
       ∙ grown-keeps join none table (drop (j + 1) rules) (length known + j) own in
       let last : get_or table (length known + j) none
-          ≡ join (get_or (grown join none known front) rule.0 none) (get_or (grown join none known front) rule.1 none) =
+      ≡ join (get_or (grown join none known front) rule.0 none) (get_or (grown join none known front) rule.1 none) =
       ap (λ k. get_or table (length known + k) none) (sym short) ∙ grown-last join none known front rule in
       there ∙ last
       ∙ ap (λ x. join x (get_or (grown join none known front) rule.1 none))

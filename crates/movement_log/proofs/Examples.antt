@@ -12,7 +12,8 @@ row object instant x y = record { object = object; instant = instant; cell = rec
 
 -- one object, which moves to the right and then up to the right
 abbrev path : ChartView
-path = chart_with (row 7 (pos 0) (pos 10) (pos 10) ∷ row 7 (pos 1) (pos 11) (pos 10) ∷ row 7 (pos 2) (pos 12) (pos 11) ∷ [])
+path = chart_with (row 7 (pos 0) (pos 10) (pos 10) ∷ row 7 (pos 1) (pos 11) (pos 10) ∷ row 7 (pos 2) (pos 12)
+    (pos 11) ∷ [])
     1 1 4
 
 path_logs : logs_of path ≡ record {
@@ -33,7 +34,8 @@ absence_values = refl
 
 -- two objects over two periods, of which the second ends with the span
 abbrev two : ChartView
-two = chart_with (row 3 (pos 0) (pos 0) (pos 0) ∷ row 3 (pos 2) (pos 1) (pos 0) ∷ row 5 (pos 1) (pos 4) (pos 4) ∷ []) 1 1 2
+two = chart_with (row 3 (pos 0) (pos 0) (pos 0) ∷ row 3 (pos 2) (pos 1) (pos 0) ∷ row 5 (pos 1) (pos 4)
+    (pos 4) ∷ []) 1 1 2
 
 two_logs : logs_of two ≡ record {
   alphabet = 0 ∷ [];

@@ -18,7 +18,8 @@ pub struct Head {
 
 /// A list of block headers.
 ///
-/// It is made from a `Vec` and gives it back, and takes no memory. Contracts see the headers in order.
+/// It is made from a `Vec` and gives it back, and takes no memory. Contracts see the headers in
+/// order.
 #[derive(Debug, Drop)]
 pub struct HeadList {
     heads: Vec<Head>,

@@ -8,7 +8,7 @@ pub struct RawLogs {
     pub alphabet: List64,
     /// The header of each block.
     pub heads: HeadList,
-    /// The log of each block: one terminal for each later instant of its period, which is a place in
-    /// the alphabet.
+    /// The log of each block: one terminal for each later instant of its period, which is a place
+    /// in the alphabet.
     pub terminals: Lists32,
 }

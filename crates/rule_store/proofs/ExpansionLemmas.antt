@@ -63,8 +63,11 @@ module _ (view : RulesView) where
   -- there is a depth for each symbol
   pub length-depths : length (depths (length view.alphabet) view.rules) ≡ symbols_in view
   length-depths =
-      omega (arith, length-grown deeper 0 (map (λ terminal. 0) (range_with_len 0 (length view.alphabet))) view.rules,
-      length-map-range_with_len {X = ℕ} (λ terminal. 0) 0 (length view.alphabet))
+      omega (
+        arith,
+        length-grown deeper 0 (map (λ terminal. 0) (range_with_len 0 (length view.alphabet))) view.rules,
+        length-map-range_with_len {X = ℕ} (λ terminal. 0) 0 (length view.alphabet),
+      )
 
   -- a value for each terminal of the expansion
   pub length-values_of : (symbol : ℕ) → length (values_of view symbol) ≡ duration_of view symbol

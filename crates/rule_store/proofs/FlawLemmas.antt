@@ -43,12 +43,14 @@ pub rules_flaw-none : (view : RulesView) → NoFlaws view → rules_flaw view �
 rules_flaw-none view none = rw (none.codes, none.rules, none.symbols) refl
 
 -- a stored symbol is a terminal or a rule
-pub symbol-known : (many : ℕ) (symbols : List ℕ) (place : ℕ) → symbol_flaw many symbols ≡ None → place < length symbols →
+pub symbol-known : (many : ℕ) (symbols : List ℕ) (place : ℕ) → symbol_flaw many symbols ≡ None →
+    place < length symbols →
     slice_index symbols place < many
 unfolding symbol_flaw
 symbol-known many symbols place none within =
     leb-false many (slice_index symbols place)
-    (find_in_range-all (λ i. nat_le many (slice_index symbols i)) 0 (length symbols) none place (omega arith) (omega arith))
+    (find_in_range-all (λ i. nat_le many (slice_index symbols i)) 0 (length symbols) none place (omega arith)
+    (omega arith))
 
 -- the grid's reach is one less than a power of two
 pub reach_limit-is : (height : ℕ) → reach_limit height + 1 ≡ 2 ^ height
@@ -85,7 +87,8 @@ unfolding code_flaw
 value-short height alphabet place none within =
     let value = slice_index alphabet place in
     let short : is_long height value ≡ false =
-    find_in_range-all (λ i. is_long height (slice_index alphabet i)) 0 (length alphabet) none place (omega arith) (omega arith) in
+    find_in_range-all (λ i. is_long height (slice_index alphabet i)) 0 (length alphabet) none place (omega arith)
+    (omega arith) in
     elim (cases_lt (square (2 * reach_limit height + 1)) value) [
       | inl above ↦ let long = is_long-above height value above in absurd (cc)
       | inr below ↦ below
@@ -101,7 +104,8 @@ pub sound_rule : (view : RulesView) (j : ℕ) → is_rule_flawed view j ≡ fals
 unfolding is_rule_flawed
 sound_rule view j sound =
     let symbol = length view.alphabet + j in
-    let both = or_parts (not (are_below symbol (rule_at view.rules j))) (is_far view.height view.period (entry_of view symbol)) sound in
+    let both = or_parts (not (are_below symbol (rule_at view.rules j)))
+    (is_far view.height view.period (entry_of view symbol)) sound in
     let below = and_parts (nat_lt (rule_at view.rules j).0 symbol) (nat_lt (rule_at view.rules j).1 symbol)
     (not-false (are_below symbol (rule_at view.rules j)) both.0) in
     record { left = ltb-true _ _ below.0; right = ltb-true _ _ below.1; near = both.1 }
@@ -115,7 +119,8 @@ rule-sound view j none within =
 pub box_passes-false : (height : ℕ) (area : CellBox) → box_passes height (Some area) ≡ false →
     (ring_of area.x1 area.y1 ≤ reach_limit height) × (ring_of area.x2 area.y2 ≤ reach_limit height)
 box_passes-false height area near =
-    let both = or_parts (nat_lt (reach_limit height) (ring_of area.x1 area.y1)) (nat_lt (reach_limit height) (ring_of area.x2 area.y2)) near in
+    let both = or_parts (nat_lt (reach_limit height) (ring_of area.x1 area.y1))
+    (nat_lt (reach_limit height) (ring_of area.x2 area.y2)) near in
     (ltb-false _ _ both.0, ltb-false _ _ both.1)
 
 -- an entry that is not far
@@ -124,11 +129,13 @@ pub record IsNearEntry (height period : ℕ) (entry : Entry) : Type 0 where
   pub displacement : ring_of entry.dx entry.dy ≤ reach_limit height
   pub hull : box_passes height entry.hull ≡ false
 
-pub near_entry : (height period : ℕ) (entry : Entry) → is_far height period entry ≡ false → IsNearEntry height period entry
+pub near_entry : (height period : ℕ) (entry : Entry) → is_far height period entry ≡ false →
+    IsNearEntry height period entry
 near_entry height period entry near =
     let first = or_parts (nat_lt (period - 1) entry.duration)
-        (nat_lt (reach_limit height) (ring_of entry.dx entry.dy) || box_passes height entry.hull) near in
-    let second = or_parts (nat_lt (reach_limit height) (ring_of entry.dx entry.dy)) (box_passes height entry.hull) first.1 in
+    (nat_lt (reach_limit height) (ring_of entry.dx entry.dy) || box_passes height entry.hull) near in
+    let second = or_parts (nat_lt (reach_limit height) (ring_of entry.dx entry.dy))
+    (box_passes height entry.hull) first.1 in
     record { duration = ltb-false _ _ first.0; displacement = ltb-false _ _ second.0; hull = second.1 }
 
 -- a box that stays within the reach of a grid stays within that of each higher one

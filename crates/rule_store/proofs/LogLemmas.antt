@@ -37,7 +37,8 @@ stops_after-none rules instant cell = refl
 pub stops_after-cons : (rules : RulesView) (instant : ℤ) (cell : Cell) (symbol : ℕ) (log : List ℕ) →
     stops_after rules instant cell (symbol ∷ log)
     ≡ stops_from (instant +ℤ pos 1) (cells_along cell (values_of rules symbol))
-    ++ stops_after rules (instant +ℤ pos (duration_of rules symbol)) (moved cell (displacement_of (values_of rules symbol))) log
+    ++ stops_after rules (instant +ℤ pos (duration_of rules symbol))
+    (moved cell (displacement_of (values_of rules symbol))) log
 unfolding stops_after log_values
 stops_after-cons rules instant cell symbol log =
     let values = values_of rules symbol in
@@ -46,16 +47,18 @@ stops_after-cons rules instant cell symbol log =
     let long : length (cells_along cell values) ≡ duration_of rules symbol =
     length-cells_along cell values ∙ length-values_of rules symbol in
     let at : (instant +ℤ pos 1) +ℤ pos (length (cells_along cell values))
-        ≡ (instant +ℤ pos (duration_of rules symbol)) +ℤ pos 1 = omega (arith, ints, long) in
+    ≡ (instant +ℤ pos (duration_of rules symbol)) +ℤ pos 1 = omega (arith, ints, long) in
     ap (stops_from (instant +ℤ pos 1)) (cells_along-append cell values later)
     ∙ stops_from-append (instant +ℤ pos 1) (cells_along cell values) (cells_along next later)
-    ∙ ap (λ from. stops_from (instant +ℤ pos 1) (cells_along cell values) ++ stops_from from (cells_along next later)) at
+    ∙ ap (λ from. stops_from (instant +ℤ pos 1) (cells_along cell values) ++ stops_from from
+    (cells_along next later)) at
 
 -- a rule has the stops of its two parts
 pub stops_after-rule : (rules : RulesView) (instant : ℤ) (cell : Cell) (j left right : ℕ) (log : List ℕ) →
     j < length rules.rules → rule_at rules.rules j ≡ (left, right) → left < length rules.alphabet + j →
     right < length rules.alphabet + j →
-    stops_after rules instant cell ((length rules.alphabet + j) ∷ log) ≡ stops_after rules instant cell (left ∷ right ∷ log)
+    stops_after rules instant cell ((length rules.alphabet + j) ∷ log) ≡ stops_after rules instant cell
+    (left ∷ right ∷ log)
 unfolding stops_after log_values
 stops_after-rule rules instant cell j left right log within is left_below right_below =
     ap (λ values. stops_from (instant +ℤ pos 1) (cells_along cell values))

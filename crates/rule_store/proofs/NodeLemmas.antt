@@ -34,7 +34,8 @@ map_after-map_after xs ys (node ∷ nodes) =
 module _ (view : RulesView) where
   pub parsed-terminal : (symbol : ℕ) → symbol < length view.alphabet → parsed view symbol ≡ leaf symbol
   unfolding parsed
-  parsed-terminal symbol below = grown-at_terminal parsed_with unparsed leaf (length view.alphabet) view.rules symbol below
+  parsed-terminal symbol below =
+      grown-at_terminal parsed_with unparsed leaf (length view.alphabet) view.rules symbol below
 
   pub parsed-rule : (j left right : ℕ) → j < length view.rules → rule_at view.rules j ≡ (left, right) →
       left < length view.alphabet + j → right < length view.alphabet + j →
@@ -45,7 +46,8 @@ module _ (view : RulesView) where
       let many : length known ≡ length view.alphabet = length-map-range_with_len leaf 0 (length view.alphabet) in
       let place : length known + j ≡ length view.alphabet + j = omega (arith, many) in
       ap (λ k. get_or (grown parsed_with unparsed known view.rules) k unparsed) (sym place)
-      ∙ grown-at_rule parsed_with unparsed known view.rules j (left, right) within is (omega (arith, many)) (omega (arith, many))
+      ∙ grown-at_rule parsed_with unparsed known view.rules j (left, right) within is (omega (arith, many))
+      (omega (arith, many))
 
   -- the nodes of a rule and of a log after it are its own, and those of its two parts and the log
   pub nodes_in-rule : (j left right : ℕ) (log : List ℕ) → j < length view.rules → rule_at view.rules j ≡ (left, right) →
@@ -64,7 +66,8 @@ module _ (view : RulesView) where
       ∙ ap (λ rest. record { before = []; inside = both } ∷ rest)
       (append_assoc one.nodes (map (after one.terminals) other.nodes) (map (after both) later)
       ∙ ap (λ rest. one.nodes ++ rest)
-      (ap (λ rest. map (after one.terminals) other.nodes ++ rest) (sym (map_after-map_after one.terminals other.terminals later))
+      (ap (λ rest. map (after one.terminals) other.nodes ++ rest)
+      (sym (map_after-map_after one.terminals other.terminals later))
       ∙ sym (map-append (after one.terminals) other.nodes (map (after other.terminals) later))))
 
   -- a node after some terminals is opened as it is where these instants have passed
@@ -74,9 +77,9 @@ module _ (view : RulesView) where
   is_opened-after instant from to terminals node =
       let long = length-append terminals node.before in
       let first : instant +ℤ pos (length (terminals ++ node.before) + 1)
-          ≡ (instant +ℤ pos (length terminals)) +ℤ pos (length node.before + 1) = omega (arith, ints, long) in
+      ≡ (instant +ℤ pos (length terminals)) +ℤ pos (length node.before + 1) = omega (arith, ints, long) in
       let last : instant +ℤ pos (length (terminals ++ node.before) + length node.inside)
-          ≡ (instant +ℤ pos (length terminals)) +ℤ pos (length node.before + length node.inside) =
+      ≡ (instant +ℤ pos (length terminals)) +ℤ pos (length node.before + length node.inside) =
       omega (arith, ints, long) in
       ap (λ z. (le_z z to && le_z from (instant +ℤ pos (length (terminals ++ node.before) + length node.inside)))
       && has_box view node) first
@@ -109,7 +112,8 @@ module _ (view : RulesView) where
       record { none = refl; join = λ left right. refl } in
       sym (get_or-map terminals (grown parsed_with unparsed known view.rules) symbol unparsed)
       ∙ ap (λ table. get_or table symbol []) (map-grown terminals parsed_with unparsed ◌++◌ [] keeps known view.rules)
-      ∙ ap (λ table. get_or (grown ◌++◌ [] table view.rules) symbol []) (map-map terminals leaf (range_with_len 0 (length view.alphabet)))
+      ∙ ap (λ table. get_or (grown ◌++◌ [] table view.rules) symbol [])
+      (map-map terminals leaf (range_with_len 0 (length view.alphabet)))
 
   -- the node of a rule, in a block whose anchor is at some instant: its instants meet the window, and it has a box
   pub opens : ℤ → ℤ → ℤ → ℕ → Bool
@@ -126,8 +130,10 @@ module _ (view : RulesView) where
       let tree = parsed view symbol in
       let later = nodes_in view log in
       ap length (filter-append (is_opened view instant from to) tree.nodes (map (after tree.terminals) later))
-      ∙ length-append (filter (is_opened view instant from to) tree.nodes) (filter (is_opened view instant from to) (map (after tree.terminals) later))
-      ∙ ap (λ n. length (filter (is_opened view instant from to) tree.nodes) + n) (filter-after instant from to tree.terminals later)
+      ∙ length-append (filter (is_opened view instant from to) tree.nodes)
+      (filter (is_opened view instant from to) (map (after tree.terminals) later))
+      ∙ ap (λ n. length (filter (is_opened view instant from to) tree.nodes) + n)
+      (filter-after instant from to tree.terminals later)
       ∙ ap (λ terminals. length (filter (is_opened view instant from to) tree.nodes)
       + length (filter (is_opened view (instant +ℤ pos (length terminals)) from to) later)) (parsed-terminals symbol)
 
@@ -145,17 +151,20 @@ module _ (view : RulesView) where
   module _ (j left right : ℕ) (within : j < length view.rules) (is : rule_at view.rules j ≡ (left, right))
       (left_below : left < length view.alphabet + j) (right_below : right < length view.alphabet + j)
       (instant from to : ℤ) (log : List ℕ) where
-    own_node : (parsed view left).terminals ++ (parsed view right).terminals ≡ expansion_of view (length view.alphabet + j)
+    own_node :
+        (parsed view left).terminals ++ (parsed view right).terminals ≡ expansion_of view (length view.alphabet + j)
     own_node =
         ap (λ terminals. terminals ++ (parsed view right).terminals) (parsed-terminals left)
         ∙ ap (λ terminals. expansion_of view left ++ terminals) (parsed-terminals right)
         ∙ sym (expansion_of-rule view j left right within is left_below right_below)
 
     all_nodes : nodes_in view ((length view.alphabet + j) ∷ log)
-        ≡ record { before = []; inside = expansion_of view (length view.alphabet + j) } ∷ nodes_in view (left ∷ right ∷ log)
+        ≡ record { before = []; inside = expansion_of view (length view.alphabet + j) }
+        ∷ nodes_in view (left ∷ right ∷ log)
     all_nodes =
         nodes_in-rule j left right log within is left_below right_below
-        ∙ ap {B = List Node} (λ inside. record { before = []; inside = inside } ∷ nodes_in view (left ∷ right ∷ log)) own_node
+        ∙ ap {B = List Node} (λ inside. record { before = []; inside = inside } ∷ nodes_in view
+        (left ∷ right ∷ log)) own_node
 
     pub opened_count-opened : opens instant from to (length view.alphabet + j) ≡ true →
         opened_count view instant ((length view.alphabet + j) ∷ log) from to

@@ -14,8 +14,10 @@ use Rattle.rule_store.proofs.BoxLemmas.{box_round-is, same_box}
 use Rattle.rule_store.proofs.CellLemmas.{present-append}
 
 -- an entry is that of values, field by field
-pub same_entry : (entry : Entry) (symbol : ℕ) (values : List ℕ) → entry.symbol ≡ symbol → entry.duration ≡ length values →
-    entry.dx ≡ (displacement_of values).0 → entry.dy ≡ (displacement_of values).1 → entry.hull ≡ bounding_box_of values →
+pub same_entry : (entry : Entry) (symbol : ℕ) (values : List ℕ) → entry.symbol ≡ symbol → entry.duration
+    ≡ length values →
+    entry.dx ≡ (displacement_of values).0 → entry.dy ≡ (displacement_of values).1 → entry.hull
+    ≡ bounding_box_of values →
     entry ≡ entry_with symbol values
 same_entry entry symbol values same duration dx dy hull = rw (sym same, sym duration, sym dx, sym dy, sym hull) refl
 

@@ -60,7 +60,8 @@ zero_entry = record {
 
 -- the depths of the entries are those of the symbols
 same_depths : (view : RulesView) (entries : List PackedEntry) → length entries ≡ symbols_in view →
-    AreEntries view entries → map (λ (entry : PackedEntry). entry.depth) entries ≡ depths (length view.alphabet) view.rules
+    AreEntries view entries → map (λ (entry : PackedEntry). entry.depth) entries ≡ depths
+    (length view.alphabet) view.rules
 unfolding depth_of
 same_depths view entries many known =
     let depth : PackedEntry → ℕ = λ entry. entry.depth in
@@ -104,7 +105,8 @@ module _ (view : RulesView) (j : ℕ) (parts : ℕ × ℕ) (within : j < length 
     (right_below : parts.1 < length view.alphabet + j)
     (left right : PackedEntry) (left_is : IsEntryOf view parts.0 left) (right_is : IsEntryOf view parts.1 right) where
   pub entry_of-rule : (entry : Entry) (symbol : ℕ) → symbol ≡ length view.alphabet + j →
-      ((lefts rights : List ℕ) → IsPacked lefts left → IsPacked rights right → entry ≡ entry_with symbol (lefts ++ rights)) →
+      ((lefts rights : List ℕ) → IsPacked lefts left → IsPacked rights right →
+      entry ≡ entry_with symbol (lefts ++ rights)) →
       entry ≡ entry_of view (length view.alphabet + j)
   unfolding entry_of
   entry_of-rule entry symbol own joins =

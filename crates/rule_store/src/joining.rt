@@ -18,11 +18,28 @@ pub(crate) fn terminal_entry(symbol: u32, value: u64) -> Entry
     ensures { result ≡ entry_with symbol (value ∷ []) }
 {
     if value == 0 {
-        return Entry { symbol, duration: 1, dx: 0, dy: 0, hull: None };
+        return Entry {
+            symbol,
+            duration: 1,
+            dx: 0,
+            dy: 0,
+            hull: None,
+        };
     }
     let (dx, dy) = decode_move(value - 1);
-    let hull = CellBox { x1: dx, y1: dy, x2: dx, y2: dy };
-    Entry { symbol, duration: 1, dx, dy, hull: Some(hull) }
+    let hull = CellBox {
+        x1: dx,
+        y1: dy,
+        x2: dx,
+        y2: dy,
+    };
+    Entry {
+        symbol,
+        duration: 1,
+        dx,
+        dy,
+        hull: Some(hull),
+    }
 }
 
 /// The entry of a rule, from those of its parts.

@@ -1,8 +1,8 @@
 //! Grammar rules over movements: what each symbol stands for, summed up without expanding it.
 //!
 //! `RuleStore::check` takes exactly the alphabets, rules and symbols whose sums stay within a grid
-//! and a period. `RuleStore::entry` is the summary of a symbol's expansion (`specs/Entry.antt`), and
-//! rules and stored symbols are read by counted reads alone. The crate stands on `track_types`,
+//! and a period. `RuleStore::entry` is the summary of a symbol's expansion (`specs/Entry.antt`).
+//! Rules and stored symbols are read by counted reads alone. The crate stands on `track_types`,
 //! `spiral_code`, `step_count` and `list_laws`.
 #![tactic(auto)]
 

@@ -24,7 +24,12 @@ impl PackedBox {
         ensures { IsHull result hull }
     {
         let Some(hull) = hull else {
-            return PackedBox { x1: 1, y1: 0, x2: 0, y2: 0 };
+            return PackedBox {
+                x1: 1,
+                y1: 0,
+                x2: 0,
+                y2: 0,
+            };
         };
         PackedBox {
             x1: hull.x1 as i32,

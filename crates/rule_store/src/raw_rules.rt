@@ -1,4 +1,5 @@
-ghost use Rattle.std.specs.Prelude.{◌≡◌, ◌+◌, ◌^◌, ◌<◌, ◌≤◌, None, true, false, length, IfOk, MatchOption};
+ghost use Rattle.std.specs.Prelude.{◌≡◌, ◌+◌, ◌^◌, ◌<◌, ◌≤◌, None, true, false, length, IfOk};
+ghost use Rattle.std.specs.Prelude.{MatchOption};
 ghost use Rattle.spiral_code.specs.Spiral.{ring_of};
 
 use crate::entry::Entry;
@@ -24,7 +25,8 @@ pub(crate) struct RawRules<'a> {
 }
 
 impl RawRules<'_> {
-    ghost use Rattle.rule_store.specs.Flaws.{code_flaw, is_far, is_rule_flawed, reach_limit, rule_flaw, symbol_flaw};
+    ghost use Rattle.rule_store.specs.Flaws.{code_flaw, is_far, is_rule_flawed, reach_limit};
+    ghost use Rattle.rule_store.specs.Flaws.{rule_flaw, symbol_flaw};
     ghost use Rattle.rule_store.specs.View.{symbols_in};
     ghost use Rattle.rule_store.specs.Stored.{AreEntries, IsEntryOf, view_of};
 
@@ -67,7 +69,8 @@ impl RawRules<'_> {
     /// those of the rules.
     pub(crate) fn terminal_entries(&self, alloc: Global) -> Result<Vec<PackedEntry>, Memory>
         requires { code_flaw self.now.height self.now.alphabet.now ≡ None }
-        ensures many { IfOk result (λ entries. length entries.items ≡ length self.now.alphabet.now) }
+        ensures many { IfOk result (λ entries.
+            length entries.items ≡ length self.now.alphabet.now) }
         ensures ok { IfOk result (λ entries. AreEntries (view_of self.now) entries.items) }
     {
         let mut entries = Vec::with_capacity(alloc, self.alphabet.len() + self.rules.len())?;
@@ -78,15 +81,16 @@ impl RawRules<'_> {
         Ok(entries)
     }
 
-    /// Adds the entries of the rules to those of the terminals, each once it is known to stay within
-    /// its limits, or answers the first rule that does not.
+    /// Adds the entries of the rules to those of the terminals, each once it is known to stay
+    /// within its limits, or answers the first rule that does not.
     pub(crate) fn add_rules(&self, entries: &mut Vec<PackedEntry>) -> Result<Option<u32>, Memory>
         requires many { length entries.old.items ≡ length self.now.alphabet.now }
         requires entries { AreEntries (view_of self.now) entries.old.items }
         ensures flaw { IfOk result (λ flaw. flaw ≡ rule_flaw (view_of self.now)) }
         ensures many { IfOk result (λ flaw. flaw ≡ None
             → length entries.new.items ≡ symbols_in (view_of self.now)) }
-        ensures ok { IfOk result (λ flaw. flaw ≡ None → AreEntries (view_of self.now) entries.new.items) }
+        ensures ok { IfOk result (λ flaw. flaw ≡ None
+            → AreEntries (view_of self.now) entries.new.items) }
     {
         for rule in 0..self.rules.len() {
             let Some(entry) = self.rule_entry(rule, entries.as_slice()) else {
@@ -106,14 +110,12 @@ impl RawRules<'_> {
             return true;
         }
         match &entry.hull {
-            Some(hull) => {
-                ring_of(hull.x1, hull.y1) > limit || ring_of(hull.x2, hull.y2) > limit
-            }
+            Some(hull) => { ring_of(hull.x1, hull.y1) > limit || ring_of(hull.x2, hull.y2) > limit }
             None => false,
         }
     }
 
-    // The entry of a rule, from those of all symbols below its own, or none where the rule is flawed.
+    // The entry of a rule, from those of all symbols below its own; none where the rule is flawed.
     fn rule_entry(&self, rule: usize, entries: &[PackedEntry]) -> Option<PackedEntry>
         requires within { rule < length self.now.rules.now }
         requires many { length entries.now ≡ length self.now.alphabet.now + rule }

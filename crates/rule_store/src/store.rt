@@ -1,4 +1,5 @@
-ghost use Rattle.std.specs.Prelude.{◌≡◌, ◌+◌, ◌<◌, ◌≤◌, ◌^◌, None, Some, length, max, fold, slice_get, IfErr, IfOk, OnOk, IsTrue, nat_le};
+ghost use Rattle.std.specs.Prelude.{◌≡◌, ◌+◌, ◌<◌, ◌≤◌, ◌^◌, None, Some, length, max, fold, slice_get};
+ghost use Rattle.std.specs.Prelude.{nat_le, IfErr, IfOk, OnOk};
 ghost use Rattle.rule_store.specs.View.{rules_with, symbols_in, IsShaped};
 ghost use Rattle.rule_store.specs.Expansion.{depth_in, depth_of};
 ghost use Rattle.rule_store.specs.Entry.{entry_of};
@@ -66,7 +67,8 @@ impl RuleStore {
         period: u32,
     ) -> Result<RuleStore, RuleFault>
         requires { IsShaped (rules_with alphabet rules symbols height period) }
-        ensures ok { IfOk result (λ store. store ≡ rules_with alphabet rules symbols height period) }
+        ensures ok { IfOk result (λ store.
+            store ≡ rules_with alphabet rules symbols height period) }
         ensures exact { OnOk result
             (rules_flaw (rules_with alphabet rules symbols height period) ≡ None) }
         ensures flaw { IfErr result (λ fault.

@@ -59,14 +59,38 @@ fn fault_of(checked: Result<RuleStore, RuleFault>) -> Option<RuleFault> {
 fn flawed_rules_are_refused_at_the_first_flaw(rt: HostRuntime) -> Result<(), Fail> {
     let alloc = rt.alloc();
     let rule = Some(RuleFault::Rule { rule: 0 });
-    assert_eq!(rt; fault_of(store_of(alloc, &[1], &[(1, 0)], &[], 1, 9)), rule, "its own part");
-    assert_eq!(rt; fault_of(store_of(alloc, &[2], &[(0, 0)], &[], 1, 9)), rule, "too far");
-    assert_eq!(rt; fault_of(store_of(alloc, &[2], &[(0, 0)], &[], 2, 3)), None, "within both");
-    assert_eq!(rt; fault_of(store_of(alloc, &[2], &[(0, 0)], &[], 2, 2)), rule, "too long");
+    assert_eq!(rt;
+        fault_of(store_of(alloc, &[1], &[(1, 0)], &[], 1, 9)),
+        rule,
+        "its own part"
+    );
+    assert_eq!(rt;
+        fault_of(store_of(alloc, &[2], &[(0, 0)], &[], 1, 9)),
+        rule,
+        "too far"
+    );
+    assert_eq!(rt;
+        fault_of(store_of(alloc, &[2], &[(0, 0)], &[], 2, 3)),
+        None,
+        "within both"
+    );
+    assert_eq!(rt;
+        fault_of(store_of(alloc, &[2], &[(0, 0)], &[], 2, 2)),
+        rule,
+        "too long"
+    );
     let code = Some(RuleFault::Code { index: 0 });
-    assert_eq!(rt; fault_of(store_of(alloc, &[10], &[], &[], 1, 9)), code, "a movement of two cells");
+    assert_eq!(rt;
+        fault_of(store_of(alloc, &[10], &[], &[], 1, 9)),
+        code,
+        "a movement of two cells"
+    );
     let symbol = Some(RuleFault::Symbol { index: 1 });
-    assert_eq!(rt; fault_of(store_of(alloc, &[1], &[], &[0, 1], 1, 9)), symbol, "no rule");
+    assert_eq!(rt;
+        fault_of(store_of(alloc, &[1], &[], &[0, 1], 1, 9)),
+        symbol,
+        "no rule"
+    );
     Ok(())
 }
 
@@ -170,9 +194,13 @@ fn random_rules(alloc: Global, seed: u64) -> Result<Vec<(u32, u32)>, Memory> {
     let mut rules = Vec::new(alloc);
     let mut state = seed;
     for rule in 0..24u32 {
-        state = state.wrapping_mul(6364136223846793005).wrapping_add(1442695040888963407);
+        state = state
+            .wrapping_mul(6364136223846793005)
+            .wrapping_add(1442695040888963407);
         let left = (state >> 33) as u32 % (10 + rule);
-        state = state.wrapping_mul(6364136223846793005).wrapping_add(1442695040888963407);
+        state = state
+            .wrapping_mul(6364136223846793005)
+            .wrapping_add(1442695040888963407);
         let right = (state >> 33) as u32 % (10 + rule);
         rules.push((left, right))?;
     }
@@ -189,7 +217,11 @@ fn entries_sum_up_expansions(rt: HostRuntime) -> Result<(), Fail> {
         let expansions = expand(alloc, &alphabet, rules.as_slice())?;
         for (symbol, values) in expansions.iter().enumerate() {
             let told = told_of(&store, symbol);
-            assert_eq!(rt; told, Some(walk(values.as_slice())), "seed {seed}, symbol {symbol}");
+            assert_eq!(rt;
+                told,
+                Some(walk(values.as_slice())),
+                "seed {seed}, symbol {symbol}"
+            );
         }
     }
     Ok(())

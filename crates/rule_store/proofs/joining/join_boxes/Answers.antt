@@ -7,7 +7,8 @@ use Rattle.rule_store.proofs.joining.join_boxes.Goals as goal
 pub returns-in-Some-Some : goal.returns-in-Some-Some
 returns-in-Some-Some c = λ lefts rights left right.
     box_round-append lefts rights c.in-Some-Some.a c.in-Some-Some.b _ (sym c.in-Some-Some.is-0 ∙ left)
-    (sym c.in-Some-Some.is-1 ∙ right) (search (rules, ints, to_z-of_z, clamps)) (search (rules, ints, to_z-of_z)) (search (rules, ints, to_z-of_z))
+    (sym c.in-Some-Some.is-1 ∙ right) (search (rules, ints, to_z-of_z, clamps)) (search (rules, ints, to_z-of_z))
+    (search (rules, ints, to_z-of_z))
     (search (rules, ints, to_z-of_z))
 
 pub returns-in-Some-None : goal.returns-in-Some-None

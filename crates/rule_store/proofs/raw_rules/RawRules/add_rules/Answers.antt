@@ -11,8 +11,12 @@ returns-in_default-clause-flaw c =
 
 pub loop-rule-preserved : goal.loop-rule-preserved
 loop-rule-preserved c = record {
-  many = omega (arith, ap length c.in_ok-push.ensures.items, length-append c.loop-rule.entries.items (c.in-Some.entry ∷ []),
-      c.loop-rule.invariant.many);
+  many = omega (
+    arith,
+    ap length c.in_ok-push.ensures.items,
+    length-append c.loop-rule.entries.items (c.in-Some.entry ∷ []),
+    c.loop-rule.invariant.many,
+  );
   each = rw c.in_ok-push.ensures.items (entries-more (view_of c.args.self.now) c.loop-rule.entries.items c.in-Some.entry
       c.loop-rule.invariant.each (rw c.loop-rule.invariant.many c.in-Some.ensures.1));
   sound = below_more _ _ c.loop-rule.invariant.sound c.in-Some.ensures.0;

@@ -8,7 +8,8 @@ pub returns-then-value-side : goal.returns-then-value-side
 returns-then-value-side c =
     let height = c.args.self.now.height in
     let value = get_or c.args.self.now.alphabet.now c.loop-index.index 0 in
-    let above : square (2 * reach_limit height + 1) < value = rw (sym c.reach_limit.ensures.value) c.if-value-side.true in
+    let above : square (2 * reach_limit height + 1) < value = rw
+    (sym c.reach_limit.ensures.value) c.if-value-side.true in
     sym (code_flaw-at height c.args.self.now.alphabet.now c.loop-index.index c.loop-index-test.true
     c.loop-index.invariant (is_long-above height value above))
 
@@ -16,7 +17,8 @@ pub loop-index-preserved : goal.loop-index-preserved
 loop-index-preserved c =
     let height = c.args.self.now.height in
     let value = get_or c.args.self.now.alphabet.now c.loop-index.index 0 in
-    let below : value ≤ square (2 * reach_limit height + 1) = rw (sym c.reach_limit.ensures.value) c.if-value-side.false in
+    let below : value ≤ square (2 * reach_limit height + 1) = rw
+    (sym c.reach_limit.ensures.value) c.if-value-side.false in
     below_more _ _ c.loop-index.invariant (is_long-below height value below)
 
 pub returns : goal.returns

@@ -15,9 +15,11 @@ returns-then-left-entries c =
     let parts = rule_at view.rules c.args.rule in
     elim c.then-left-entries.branch [
       | then-left-entries-via-then-left-entries w ↦
-          flawed_rule-left view c.args.rule parts.0 parts.1 refl (omega (arith, w.if-left-entries.true, c.requires.many))
+          flawed_rule-left view c.args.rule parts.0 parts.1 refl
+          (omega (arith, w.if-left-entries.true, c.requires.many))
       | then-left-entries-via-else-left-entries+then-right-entries w ↦
-          flawed_rule-right view c.args.rule parts.0 parts.1 refl (omega (arith, w.if-right-entries.true, c.requires.many))
+          flawed_rule-right view c.args.rule parts.0 parts.1 refl
+          (omega (arith, w.if-right-entries.true, c.requires.many))
     ]
 
 pub returns-then-is_far : goal.returns-then-is_far
@@ -30,8 +32,10 @@ returns-then-is_far c =
     let right_below : parts.1 < length view.alphabet + rule = omega (arith, c.if-right-entries.false, many) in
     let left = c.index-entries-left.result in
     let right = c.index-entries-right.result in
-    let left_is : IsEntryOf view parts.0 left = rw c.index-entries-left.is (c.requires.entries.each parts.0 left (omega (arith, c.if-left-entries.false))) in
-    let right_is : IsEntryOf view parts.1 right = rw c.index-entries-right.is (c.requires.entries.each parts.1 right (omega (arith, c.if-right-entries.false))) in
+    let left_is : IsEntryOf view parts.0 left = rw c.index-entries-left.is
+    (c.requires.entries.each parts.0 left (omega (arith, c.if-left-entries.false))) in
+    let right_is : IsEntryOf view parts.1 right = rw c.index-entries-right.is
+    (c.requires.entries.each parts.1 right (omega (arith, c.if-right-entries.false))) in
     let entry_is : c.join-entry.result ≡ entry_of view (length view.alphabet + rule) =
     entry_of-rule view rule parts c.requires.within refl left_below right_below left right left_is right_is
     c.join-entry.result (length c.args.entries.now) many c.join-entry.ensures in
@@ -44,8 +48,11 @@ pack-requires-clause-near c =
     let height = c.args.self.now.height in
     let near : is_far height c.args.self.now.period c.join-entry.result ≡ false =
     sym c.is_far.ensures ∙ c.if-is_far.false in
-    omega (arith, (near_entry height c.args.self.now.period c.join-entry.result near).displacement,
-    reach_limit-high height c.args.self.now.height_fits)
+    omega (
+      arith,
+      (near_entry height c.args.self.now.period c.join-entry.result near).displacement,
+      reach_limit-high height c.args.self.now.height_fits,
+    )
 
 pub pack-requires-clause-within : goal.pack-requires-clause-within
 pack-requires-clause-within c =
@@ -65,13 +72,17 @@ returns c =
     let right_below : parts.1 < length view.alphabet + rule = omega (arith, c.if-right-entries.false, many) in
     let left = c.index-entries-left.result in
     let right = c.index-entries-right.result in
-    let left_is : IsEntryOf view parts.0 left = rw c.index-entries-left.is (c.requires.entries.each parts.0 left (omega (arith, c.if-left-entries.false))) in
-    let right_is : IsEntryOf view parts.1 right = rw c.index-entries-right.is (c.requires.entries.each parts.1 right (omega (arith, c.if-right-entries.false))) in
+    let left_is : IsEntryOf view parts.0 left = rw c.index-entries-left.is
+    (c.requires.entries.each parts.0 left (omega (arith, c.if-left-entries.false))) in
+    let right_is : IsEntryOf view parts.1 right = rw c.index-entries-right.is
+    (c.requires.entries.each parts.1 right (omega (arith, c.if-right-entries.false))) in
     let entry_is : c.join-entry.result ≡ entry_of view (length view.alphabet + rule) =
     entry_of-rule view rule parts c.requires.within refl left_below right_below left right left_is right_is
     c.join-entry.result (length c.args.entries.now) many c.join-entry.ensures in
     let near : is_far view.height view.period (entry_of view (length view.alphabet + rule)) ≡ false =
-    ap (is_far view.height view.period) (sym entry_is) ∙ sym c.is_far.ensures ∙ c.if-is_far.false in
-    (rule_flawed-by_entry view rule parts.0 parts.1 refl left_below right_below false near,
-    is_entry_of-rule view rule parts c.requires.within refl left_below right_below left right left_is right_is
-    c.join-entry.result c.pack.result entry_is c.pack.ensures.packed (omega (arith, c.pack.ensures.depth, c.max.ensures)))
+    ap (is_far view.height view.period) (sym entry_is) ∙ sym c.is_far.ensures ∙ c.if-is_far.false in (
+      rule_flawed-by_entry view rule parts.0 parts.1 refl left_below right_below false near,
+      is_entry_of-rule view rule parts c.requires.within refl left_below right_below left right left_is right_is
+          c.join-entry.result c.pack.result entry_is c.pack.ensures.packed
+          (omega (arith, c.pack.ensures.depth, c.max.ensures)),
+    )

@@ -43,15 +43,20 @@ loop-symbol-preserved c =
     let view = view_of c.args.self.now in
     let place = c.loop-symbol.symbol in
     let value = get_or c.args.self.now.alphabet.now place 0 in
-    let packed : IsPacked (value ∷ []) c.pack.result = c.pack.ensures.packed place (value ∷ []) c.terminal_entry-entry.ensures in
+    let packed : IsPacked (value ∷ []) c.pack.result = c.pack.ensures.packed place
+    (value ∷ []) c.terminal_entry-entry.ensures in
     let here : IsEntryOf view place c.pack.result = record {
       values = rw (values_of-terminal view place c.loop-symbol-test.true) packed;
       depth = c.pack.ensures.depth ∙ sym (depth_of-terminal view place c.loop-symbol-test.true);
       shallow = omega (arith, c.pack.ensures.depth);
     } in
     record {
-      many = omega (arith, ap length c.in_ok-push.ensures.items, length-append c.loop-symbol.entries.items (c.pack.result ∷ []),
-          c.loop-symbol.invariant.many);
+      many = omega (
+        arith,
+        ap length c.in_ok-push.ensures.items,
+        length-append c.loop-symbol.entries.items (c.pack.result ∷ []),
+        c.loop-symbol.invariant.many,
+      );
       each = rw c.in_ok-push.ensures.items (entries-more view c.loop-symbol.entries.items c.pack.result
           c.loop-symbol.invariant.each (rw c.loop-symbol.invariant.many here));
     }

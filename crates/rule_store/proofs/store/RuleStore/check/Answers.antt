@@ -12,11 +12,11 @@ pub invariant_of-result : goal.invariant_of-result
 invariant_of-result c =
     let judged : RulesView = rules_with c.as_slice.result.now c.as_slice-2.result.now c.as_slice-3.result.now c.args.height c.args.period in
     let given = same_view c.as_slice.result.now c.args.alphabet c.as_slice-2.result.now c.args.rules c.as_slice-3.result.now c.args.symbols
-        c.args.height c.args.period c.as_slice.ensures c.as_slice-2.ensures c.as_slice-3.ensures in
+    c.args.height c.args.period c.as_slice.ensures c.as_slice-2.ensures c.as_slice-3.ensures in
     let kept = same_view c.as_slice.result.now c.new.result c.as_slice-2.result.now c.new-2.result c.as_slice-3.result.now c.new-3.result
-        c.args.height c.args.period (c.as_slice.ensures ∙ sym c.into_vec.ensures ∙ sym c.new.ensures)
-        (c.as_slice-2.ensures ∙ sym c.into_vec-2.ensures ∙ sym c.new-2.ensures)
-        (c.as_slice-3.ensures ∙ sym c.into_vec-3.ensures ∙ sym c.new-3.ensures) in
+    c.args.height c.args.period (c.as_slice.ensures ∙ sym c.into_vec.ensures ∙ sym c.new.ensures)
+    (c.as_slice-2.ensures ∙ sym c.into_vec-2.ensures ∙ sym c.new-2.ensures)
+    (c.as_slice-3.ensures ∙ sym c.into_vec-3.ensures ∙ sym c.new-3.ensures) in
     let none : rule_flaw judged ≡ None = sym c.in_ok-rule.ensures.flaw ∙ c.in_default-2.is in
     let stored : IsStored judged c.add_rules.new.entries.items c.greatest_depth-depth.result = record {
       rules = record {

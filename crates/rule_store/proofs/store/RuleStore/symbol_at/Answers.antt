@@ -10,5 +10,7 @@ returns-clause-within g c =
     let view = c.args.self.now in
     let rules : AreRules view = rw c.self.view_is at c.self.invariant.rules in
     let read : get_or view.symbols c.args.place 0 ≡ c.at.result =
-    get_or_from_slice_get view.symbols c.args.place c.at.result 0 (rw (ap (λ v. v.symbols) c.self.view_is) at c.at.ensures.value) in
-    rw read at (symbol-known (symbols_in view) view.symbols c.args.place (no_flaws view rules.flawless).symbols c.requires)
+    get_or_from_slice_get view.symbols c.args.place c.at.result 0
+    (rw (ap (λ v. v.symbols) c.self.view_is) at c.at.ensures.value) in
+    rw read at (symbol-known (symbols_in view) view.symbols c.args.place
+    (no_flaws view rules.flawless).symbols c.requires)
