@@ -6,7 +6,8 @@ use Rattle.std.proofs.Math.Seq.{get_or-append_seam}
 use Rattle.list_laws.specs.Grown.{grown}
 
 -- a function that turns one way to join into another, and what is not known too
-pub record KeepsJoins {A B : Type 0} (f : A → B) (joinA : A → A → A) (noneA : A) (joinB : B → B → B) (noneB : B) : Type 0 where
+pub record KeepsJoins {A B : Type 0} (f : A → B) (joinA : A → A → A) (noneA : A) (joinB : B → B →
+    B) (noneB : B) : Type 0 where
   pub none : f noneA ≡ noneB
   pub join : (left right : A) → f (joinA left right) ≡ joinB (f left) (f right)
 

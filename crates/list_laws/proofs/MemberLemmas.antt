@@ -31,7 +31,8 @@ Contains-map f xs x inside = let below : inside.0 < length xs = inside.1 in
     (inside.0, rw length-map below, get_or-map f xs inside.0 x ∙ ap f inside.2)
 
 -- a filter keeps the members that pass
-pub Contains-filter : {X : Type 0} (p : X → Bool) (xs : List X) (x : X) → p x ≡ true → Contains xs x → Contains (filter p xs) x
+pub Contains-filter : {X : Type 0} (p : X → Bool) (xs : List X) (x : X) → p x ≡ true → Contains xs x →
+    Contains (filter p xs) x
 Contains-filter p [] x passes inside = no_member x inside
 Contains-filter p (y ∷ ys) x passes inside = elim (member_cases x y ys inside) [
   | inl same ↦ rw (same, passes) (first_member x (filter p ys))
@@ -42,7 +43,8 @@ Contains-filter p (y ∷ ys) x passes inside = elim (member_cases x y ys inside)
 ]
 
 -- the members of the lists that are joined
-pub Contains-flat_map : {X A : Type 0} (f : X → List A) (xs : List X) (x : X) (a : A) → Contains xs x → Contains (f x) a →
+pub Contains-flat_map : {X A : Type 0} (f : X → List A) (xs : List X) (x : X) (a : A) → Contains xs x →
+    Contains (f x) a →
     Contains (flat_map f xs) a
 Contains-flat_map f [] x a inside part = no_member x inside
 Contains-flat_map f (y ∷ ys) x a inside part = elim (member_cases x y ys inside) [
@@ -51,7 +53,8 @@ Contains-flat_map f (y ∷ ys) x a inside part = elim (member_cases x y ys insid
 ]
 
 -- what a filter, a map or a search gives came from the list
-pub member_of_filter : {X : Type 0} (p : X → Bool) (xs : List X) (x : X) → Contains (filter p xs) x → Contains xs x × (p x ≡ true)
+pub member_of_filter : {X : Type 0} (p : X → Bool) (xs : List X) (x : X) → Contains (filter p xs) x →
+    Contains xs x × (p x ≡ true)
 member_of_filter p [] x inside = no_member x inside
 member_of_filter p (y ∷ ys) x inside = elim (cases_Bool (p y)) [
   | inl meets ↦ elim (member_cases x y (filter p ys) (rw meets at inside)) [
@@ -61,7 +64,8 @@ member_of_filter p (y ∷ ys) x inside = elim (cases_Bool (p y)) [
   | inr fails ↦ let from = member_of_filter p ys x (rw fails at inside) in (later_member x y ys from.0, from.1)
 ]
 
-pub member_of_map : {X Y : Type 0} (f : X → Y) (xs : List X) (y : Y) → Contains (map f xs) y → (x : X) × Contains xs x × (f x ≡ y)
+pub member_of_map : {X Y : Type 0} (f : X → Y) (xs : List X) (y : Y) → Contains (map f xs) y →
+    (x : X) × Contains xs x × (f x ≡ y)
 member_of_map f [] y inside = no_member y inside
 member_of_map f (x ∷ xs) y inside = elim (member_cases y (f x) (map f xs) inside) [
   | inl same ↦ (x, first_member x xs, same)
@@ -71,7 +75,8 @@ member_of_map f (x ∷ xs) y inside = elim (member_cases y (f x) (map f xs) insi
 pub member_of_find : {X : Type 0} (p : X → Bool) (xs : List X) (x : X) → find p xs ≡ Some x → Contains xs x
 member_of_find p [] x found = absurd (cc)
 member_of_find p (y ∷ ys) x found = elim (cases_Bool (p y)) [
-  | inl meets ↦ let first : Some y ≡ Some x = rw meets at found in let same : y ≡ x = cc in rw (sym same) (first_member y ys)
+  | inl meets ↦ let first : Some y ≡ Some x = rw meets at found in let same : y ≡ x =
+      cc in rw (sym same) (first_member y ys)
   | inr fails ↦ later_member x y ys (member_of_find p ys x (rw fails at found))
 ]
 
@@ -94,12 +99,14 @@ find-only p (y ∷ ys) z inside passes only = elim (cases_Bool (p y)) [
 ]
 
 -- a test that no member passes
-pub list_any-none : {X : Type 0} (p : X → Bool) (xs : List X) → ((x : X) → Contains xs x → p x ≡ false) → list_any p xs ≡ false
+pub list_any-none : {X : Type 0} (p : X → Bool) (xs : List X) → ((x : X) → Contains xs x → p x ≡ false) →
+    list_any p xs ≡ false
 list_any-none p [] fails = refl
 list_any-none p (y ∷ ys) fails =
     rw (fails y (first_member y ys)) (list_any-none p ys (λ x among. fails x (later_member x y ys among)))
 
-pub none_from_list_any : {X : Type 0} (p : X → Bool) (xs : List X) (x : X) → list_any p xs ≡ false → Contains xs x → p x ≡ false
+pub none_from_list_any : {X : Type 0} (p : X → Bool) (xs : List X) (x : X) → list_any p xs ≡ false → Contains xs x →
+    p x ≡ false
 none_from_list_any p [] x none inside = no_member x inside
 none_from_list_any p (y ∷ ys) x none inside = elim (cases_Bool (p y)) [
   | inl meets ↦ absurd (let some : true ≡ false = rw meets at none in cc)

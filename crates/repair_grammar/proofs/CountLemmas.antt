@@ -28,9 +28,11 @@ raised old new pair other n was now = elim (cases_Bool (is_pair other pair.0 pai
 -- the list of one vector
 item_list : (blocks : List (Vec ℕ)) (i : ℕ) (item : Vec ℕ) → i < length blocks → item ≡ get_or blocks i item →
     get_or (lists_of blocks) i [] ≡ item.items
-item_list blocks i item within is = get_or-map (λ vec. vec.items) blocks i item [] within ∙ ap (λ vec. vec.items) (sym is)
+item_list blocks i item within is = get_or-map (λ vec. vec.items) blocks i item [] within
+    ∙ ap (λ vec. vec.items) (sym is)
 
-module _ (pair : ℕ × ℕ) (blocks : List (Vec ℕ)) (i : ℕ) (item : Vec ℕ) (within : i < length blocks) (is : item ≡ get_or blocks i item) where
+module _ (pair : ℕ × ℕ) (blocks : List (Vec ℕ)) (i : ℕ) (item : Vec ℕ) (within : i < length blocks) (is : item
+    ≡ get_or blocks i item) where
   pub count_more : pair_count (lists_of (take (i + 1) blocks)) pair
       ≡ pair_count (lists_of (take i blocks)) pair + met pair item.items
   unfolding pair_count
@@ -44,4 +46,7 @@ module _ (pair : ℕ × ℕ) (blocks : List (Vec ℕ)) (i : ℕ) (item : Vec ℕ
   unfolding pair_count
   count_room = let lists = lists_of blocks in
       rw (← (take-map (λ (vec : Vec ℕ). vec.items) i blocks), ← (item_list blocks i item within is))
-      (sum_by_more_le_part (met pair) length lists i [] (rw length-map within) (λ block. omega (arith, met-le pair block)))
+      (sum_by_more_le_part (met pair) length lists i [] (rw length-map within) (λ block. omega (
+        arith,
+        met-le pair block,
+      )))

@@ -20,12 +20,20 @@ module _ {A : Type 0} (old new : ℕ → List A) (pair : ℕ × ℕ) (symbol : �
   flat_map-replaced [] below = refl
   flat_map-replaced (x ∷ []) below = rw (same x below.0) refl
   flat_map-replaced (x ∷ y ∷ rest) below = elim (cases_Bool (is_pair pair x y)) [
-    | inl is ↦ rw (is, whole, left_of_pair pair x y is, right_of_pair pair x y is, flat_map-replaced rest below.1.1, append_assoc) refl
+    | inl is ↦ rw (
+      is,
+      whole,
+      left_of_pair pair x y is,
+      right_of_pair pair x y is,
+      flat_map-replaced rest below.1.1,
+      append_assoc,
+    ) refl
     | inr other ↦ rw (other, same x below.0, flat_map-replaced (y ∷ rest) below.1) refl
   ]
 
 -- the symbols after a pass
-pub below-more : (limit : ℕ) (block : List ℕ) → AllByRecursion (λ symbol. symbol < limit) block → AllByRecursion (λ symbol. symbol < limit + 1) block
+pub below-more : (limit : ℕ) (block : List ℕ) → AllByRecursion (λ symbol. symbol < limit) block →
+    AllByRecursion (λ symbol. symbol < limit + 1) block
 below-more limit [] below = below
 below-more limit (x ∷ rest) below = (omega (arith, below.0), below-more limit rest below.1)
 
@@ -82,7 +90,8 @@ parts_below limit (block ∷ blocks) pair below inside =
 abbrev terminals : ℕ → List (List ℕ)
 terminals alphabet = map (λ terminal. terminal ∷ []) (range_with_len 0 alphabet)
 
-pub length-expansions : (alphabet : ℕ) (rules : List (ℕ × ℕ)) → length (expansions alphabet rules) ≡ alphabet + length rules
+pub length-expansions : (alphabet : ℕ) (rules : List (ℕ × ℕ)) → length (expansions alphabet rules)
+    ≡ alphabet + length rules
 unfolding expansions
 length-expansions alphabet rules = length-grown (◌++◌) [] (terminals alphabet) rules
     ∙ ap (λ n. n + length rules) (length-map-range_with_len (λ terminal. terminal ∷ []) 0 alphabet)
@@ -92,7 +101,8 @@ pub expansions-terminal : (alphabet : ℕ) (rules : List (ℕ × ℕ)) (terminal
     get_or (expansions alphabet rules) terminal [] ≡ terminal ∷ []
 unfolding expansions
 expansions-terminal alphabet rules terminal below =
-    grown-keeps (◌++◌) [] (terminals alphabet) rules terminal (rw (length-map-range_with_len (λ t. t ∷ []) 0 alphabet) below)
+    grown-keeps (◌++◌) [] (terminals alphabet) rules terminal
+    (rw (length-map-range_with_len (λ t. t ∷ []) 0 alphabet) below)
     ∙ get_or-map-range_with_len (λ t. t ∷ []) 0 alphabet terminal terminal [] below (omega arith)
 
 -- a new rule's symbol stands for what its parts stand for, one after the other
@@ -107,12 +117,14 @@ expansions-last alphabet rules pair =
 grown_other : (alphabet : ℕ) (rules more : List (ℕ × ℕ)) (symbol : ℕ) → symbol < length (expansions alphabet rules) →
     get_or (expansions alphabet (rules ++ more)) symbol [] ≡ get_or (expansions alphabet rules) symbol []
 unfolding expansions
-grown_other alphabet rules more symbol below = ap (λ table. get_or table symbol []) (grown-append (◌++◌) [] (terminals alphabet) rules more)
+grown_other alphabet rules more symbol below =
+    ap (λ table. get_or table symbol []) (grown-append (◌++◌) [] (terminals alphabet) rules more)
     ∙ grown-keeps (◌++◌) [] (grown (◌++◌) [] (terminals alphabet) rules) more symbol below
 
 pub expansions-other : (alphabet : ℕ) (rules more : List (ℕ × ℕ)) (symbol : ℕ) → symbol < alphabet + length rules →
     get_or (expansions alphabet (rules ++ more)) symbol [] ≡ get_or (expansions alphabet rules) symbol []
-expansions-other alphabet rules more symbol below = grown_other alphabet rules more symbol (rw (length-expansions alphabet rules) below)
+expansions-other alphabet rules more symbol below =
+    grown_other alphabet rules more symbol (rw (length-expansions alphabet rules) below)
 
 -- a block stands for the same after a round
 module _ (alphabet : ℕ) (rules : List (ℕ × ℕ)) (pair : ℕ × ℕ) where
@@ -125,7 +137,8 @@ module _ (alphabet : ℕ) (rules : List (ℕ × ℕ)) (pair : ℕ × ℕ) where
     expanded-round blocks below.1,
     flat_map-replaced (λ symbol. get_or (expansions alphabet rules) symbol [])
         (λ symbol. get_or (expansions alphabet (rules ++ pair ∷ [])) symbol []) pair (alphabet + length rules)
-        (expansions-last alphabet rules pair) (λ symbol small. expansions-other alphabet rules (pair ∷ []) symbol small) block below.0,
+        (expansions-last alphabet rules pair)
+        (λ symbol small. expansions-other alphabet rules (pair ∷ []) symbol small) block below.0,
   ) refl
 
 -- to begin with, each block stands for itself

@@ -68,7 +68,12 @@ earlier-is : (first : Option Key) (key : Key) → IsEarlier first key (earlier_o
 earlier-is None key = record { from = inr refl; this = upto_itself key; that = search rules }
 earlier-is (Some other) key = elim (cases_Bool (is_lt (key_order key other))) [
   | inl less ↦ rw less (record { from = inr refl; this = upto_itself key; that = less_upto (key_order key other) less })
-  | inr not_less ↦ rw not_less (record { from = inl refl; this = upto_from other key not_less; that = upto_itself other })
+  | inr not_less ↦ rw not_less (record {
+    from = inl refl;
+    this = upto_from other key not_less;
+    that =
+        upto_itself other;
+  })
 ]
 
 -- the key is the first of the entries that count two, and of one that stood before them
@@ -152,7 +157,8 @@ first_in-found first [] two = unfold first_in in found_none first two
 first_in-found first (entry ∷ entries) two = elim (cases_lt 1 entry.1) [
   | inl above ↦ let kept = earlier_of first (key_at entry) in
       rw (first_in-more first entry entries above) (take_in first entry entries kept (first_in (Some kept) entries)
-      (earlier-is first (key_at entry)) (first_in-found (Some kept) entries (two_of_kept first (key_at entry) two above)))
+      (earlier-is first (key_at entry))
+      (first_in-found (Some kept) entries (two_of_kept first (key_at entry) two above)))
   | inr one ↦ rw (first_in-less first entry entries one)
       (pass first entry entries (first_in first entries) one (first_in-found first entries two))
 ]
@@ -181,7 +187,8 @@ not_before_first key other (Some count) two each = elim (cases_lt 1 count) [
 ]
 
 module _ {S : Type 0} (counts : HashMap (ℕ × ℕ) ℕ S)
-    (known : All (λ entry. get (λ x y. nat_eq x.0 y.0 && nat_eq x.1 y.1) counts entry.0 ≡ Some entry.1) counts.entries) where
+    (known : All (λ entry. get (λ x y. nat_eq x.0 y.0 && nat_eq x.1 y.1) counts entry.0
+    ≡ Some entry.1) counts.entries) where
   entry_of : (pair : ℕ × ℕ) (count : ℕ) → get (λ x y. nat_eq x.0 y.0 && nat_eq x.1 y.1) counts pair ≡ Some count →
       Contains counts.entries (pair, count)
   entry_of pair count is = Contains-from_lookup same_pair pair count counts.entries is
@@ -207,7 +214,8 @@ module _ {S : Type 0} (counts : HashMap (ℕ × ℕ) ℕ S)
       let count : count_in counts key.pair ≡ key.count = count_of_first key found in
       record {
         two = rw count found.two;
-        first = λ other. rw count (not_before_first key other (get (λ x y. nat_eq x.0 y.0 && nat_eq x.1 y.1) counts other)
+        first = λ other. rw count (not_before_first key other
+            (get (λ x y. nat_eq x.0 y.0 && nat_eq x.1 y.1) counts other)
             found.two (λ value is above. found.each (other, value) (entry_of other value is) above));
       }
 
@@ -228,7 +236,8 @@ least first (second ∷ keys) = let best = least second keys in elim (cases_Bool
     first_member first (second ∷ keys),
     λ other inside. elim (member_cases other first (second ∷ keys) inside) [
       | inl same ↦ rw (sym same) (upto_itself first)
-      | inr later ↦ upto key_order_total first best.0 other (less_upto (key_order first best.0) less) (best.2 other later)
+      | inr later ↦ upto key_order_total first best.0 other (less_upto (key_order first best.0) less)
+          (best.2 other later)
     ],
   )
   | inr not_less ↦ (
@@ -246,7 +255,8 @@ least first (second ∷ keys) = let best = least second keys in elim (cases_Bool
 no_first : (keys : List Key) → first_key keys ≡ None → (key : Key) → Contains keys key → ⊥
 no_first [] none key inside = no_member key inside
 no_first (first ∷ keys) none key inside = let best = least first keys in
-    let taken = first_key-only (first ∷ keys) best.0 best.1 (λ other among. not_before best.0 other (best.2 other among)) in
+    let taken = first_key-only (first ∷ keys) best.0 best.1 (λ other among. not_before best.0 other
+    (best.2 other among)) in
     absurd (let never : Some best.0 ≡ None = sym taken ∙ none in cc)
 
 -- and where none is, no pair counts two

@@ -19,7 +19,8 @@ use Rattle.repair_grammar.proofs.PassLemmas.{met_stands}
 pub key_order_total : IsTotalOrder key_order
 unfolding key_order
 key_order_total = then_total (back_total (on_total (λ (key : Key). key.count) nat_cmp_total))
-    (then_total (on_total (λ (key : Key). key.pair.0) nat_cmp_total) (on_total (λ (key : Key). key.pair.1) nat_cmp_total))
+    (then_total (on_total (λ (key : Key). key.pair.0) nat_cmp_total)
+    (on_total (λ (key : Key). key.pair.1) nat_cmp_total))
 
 -- keys that the order does not tell apart are one
 exact_keys : (a b : Key) → key_order a b ≡ Equal → a ≡ b
@@ -103,7 +104,8 @@ unfolding keys_of first_key
 taken_is blocks key taken =
     let pairs = flat_map pairs_in blocks in
     let test : Key → Bool = λ key. nat_lt 1 key.count in
-    let inside = member_of_filter test (map (key_of blocks) pairs) key (member_of_find (is_first_of (keys_of blocks)) (keys_of blocks) key taken) in
+    let inside = member_of_filter test (map (key_of blocks) pairs) key (member_of_find (is_first_of (keys_of blocks))
+    (keys_of blocks) key taken) in
     let from = member_of_map (key_of blocks) pairs key inside.0 in
     record {
       count = rw (sym from.2) refl;

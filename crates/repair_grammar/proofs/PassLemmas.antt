@@ -62,7 +62,8 @@ met-none pair = refl
 
 pub met_after-single : (taken : Bool) (pair : ℕ × ℕ) (x : ℕ) → met_after taken pair (x ∷ []) ≡ 0
 unfolding met_after met
-met_after-single taken pair x = elim (cases_Bool (taken && is_pair pair x x)) [ inl is ↦ rw is refl | inr other ↦ rw other refl ]
+met_after-single taken pair x =
+    elim (cases_Bool (taken && is_pair pair x x)) [ inl is ↦ rw is refl | inr other ↦ rw other refl ]
 
 -- with nothing taken, what is still met is what is met
 pub met_after-fresh : (pair : ℕ × ℕ) (block : List ℕ) → met_after false pair block ≡ met pair block
@@ -132,11 +133,13 @@ module _ (taken : Bool) (pair : ℕ × ℕ) (x : ℕ) (rest : List ℕ) (i : ℕ
 
   pub overlap_step : (taken && (x == get_or rest i 0)) ≡ true →
       met_after taken pair (x ∷ drop i rest) ≡ met_after false pair (get_or rest i 0 ∷ drop (i + 1) rest)
-  overlap_step overlaps = overlap_at (get_or rest i 0) (drop (i + 1) rest) (rw add-one (drop-cons rest i 0 within)) overlaps
+  overlap_step overlaps =
+      overlap_at (get_or rest i 0) (drop (i + 1) rest) (rw add-one (drop-cons rest i 0 within)) overlaps
 
   pub counted_step : (taken && (x == get_or rest i 0)) ≡ false →
       met_after taken pair (x ∷ drop i rest)
-      ≡ cond (is_pair pair x (get_or rest i 0)) 1 0 + met_after (x == get_or rest i 0) pair (get_or rest i 0 ∷ drop (i + 1) rest)
+      ≡ cond (is_pair pair x (get_or rest i 0)) 1 0 + met_after (x == get_or rest i 0) pair
+      (get_or rest i 0 ∷ drop (i + 1) rest)
   counted_step free = rw (drop-cons rest i 0 within, add-one)
       (met_after-counted taken pair x (get_or rest i 0) (drop (suc i) rest) free)
 
@@ -170,23 +173,27 @@ replaced-passed pair symbol x (y ∷ rest) passed = rw passed refl
 
 -- a symbol that is written before what is still to be read
 pub put_before : (f : List ℕ → List ℕ) (items : List ℕ) (written read x : ℕ) → written < read → written < length items →
-    take (written + 1) (set items written x) ++ f (drop read (set items written x)) ≡ take written items ++ x ∷ f (drop read items)
+    take (written + 1) (set items written x) ++ f (drop read (set items written x))
+    ≡ take written items ++ x ∷ f (drop read items)
 put_before f items written read x before below =
     rw (take_more_set items written x below, drop-set-lt read items written x before, append_assoc) refl
 
 -- the step of a pass that writes over what it has read
-module _ (pair : ℕ × ℕ) (symbol : ℕ) (items : List ℕ) (written read : ℕ) (behind : written ≤ read) (within : read < length items) where
+module _ (pair : ℕ × ℕ) (symbol : ℕ) (items : List ℕ) (written read : ℕ) (behind : written ≤ read)
+    (within : read < length items) where
   pub step_met : stands_first pair (drop read items) ≡ true →
       take (written + 1) (set items written symbol) ++ replaced pair symbol (drop (read + 2) (set items written symbol))
       ≡ take written items ++ replaced pair symbol (drop read items)
   step_met stands = put_before (replaced pair symbol) items written (read + 2) symbol (omega arith) (omega arith)
       ∙ sym (ap (λ rest. take written items ++ rest)
-      (replaced-met pair symbol (drop read items) stands ∙ ap (λ rest. symbol ∷ replaced pair symbol rest) (drop-drop 2 read items)))
+      (replaced-met pair symbol (drop read items) stands
+      ∙ ap (λ rest. symbol ∷ replaced pair symbol rest) (drop-drop 2 read items)))
 
   pub step_passed : (x : ℕ) → x ≡ get_or items read 0 → stands_first pair (drop read items) ≡ false →
       take (written + 1) (set items written x) ++ replaced pair symbol (drop (read + 1) (set items written x))
       ≡ take written items ++ replaced pair symbol (drop read items)
-  step_passed x is passed = let here : drop read items ≡ x ∷ drop (read + 1) items = rw (is, add-one) (drop-cons items read 0 within) in
+  step_passed x is passed = let here : drop read items ≡ x ∷ drop (read + 1) items =
+      rw (is, add-one) (drop-cons items read 0 within) in
       put_before (replaced pair symbol) items written (read + 1) x (omega arith) (omega arith)
       ∙ sym (ap (λ rest. take written items ++ rest) (ap (replaced pair symbol) here
       ∙ replaced-passed pair symbol x (drop (read + 1) items) (rw here at passed)))

@@ -62,9 +62,11 @@ no_round alphabet grammar few None is = is
 no_round alphabet grammar few (Some key) is = absurd (omega (arith, round_shorter alphabet grammar key is))
 
 -- as many rounds as symbols are enough, so that more leave the same
-enough_more : (few many alphabet : ℕ) (grammar : Grammar) (next : Option Key) → first_key (keys_of grammar.blocks) ≡ next →
+enough_more : (few many alphabet : ℕ) (grammar : Grammar) (next : Option Key) → first_key (keys_of grammar.blocks)
+    ≡ next →
     ((key : Key) → first_key (keys_of grammar.blocks) ≡ Some key →
-    rounds few alphabet (after_round alphabet grammar key.pair) ≡ rounds many alphabet (after_round alphabet grammar key.pair)) →
+    rounds few alphabet (after_round alphabet grammar key.pair)
+    ≡ rounds many alphabet (after_round alphabet grammar key.pair)) →
     rounds (suc few) alphabet grammar ≡ rounds (suc many) alphabet grammar
 enough_more few many alphabet grammar None is later =
     rounds-none (suc few) alphabet grammar is ∙ sym (rounds-none (suc many) alphabet grammar is)
@@ -82,7 +84,10 @@ rounds-enough (suc few) zero alphabet grammar low high =
 rounds-enough (suc few) (suc many) alphabet grammar low high =
     enough_more few many alphabet grammar (first_key (keys_of grammar.blocks)) refl (λ key taken.
     let fewer = round_shorter alphabet grammar key taken in
-    rounds-enough few many alphabet (after_round alphabet grammar key.pair) (omega (arith, fewer)) (omega (arith, fewer)))
+    rounds-enough few many alphabet (after_round alphabet grammar key.pair) (omega (arith, fewer)) (omega (
+      arith,
+      fewer,
+    )))
 
 -- after as many rounds as symbols, no key is left to be taken
 ended_by : (more alphabet : ℕ) (grammar : Grammar) (next : Option Key) → first_key (keys_of grammar.blocks) ≡ next →
@@ -99,7 +104,10 @@ rounds-ended zero alphabet grammar few =
     rw (rounds-none zero alphabet grammar none) none
 rounds-ended (suc more) alphabet grammar few =
     ended_by more alphabet grammar (first_key (keys_of grammar.blocks)) refl (λ key taken.
-    rounds-ended more alphabet (after_round alphabet grammar key.pair) (omega (arith, round_shorter alphabet grammar key taken)))
+    rounds-ended more alphabet (after_round alphabet grammar key.pair) (omega (
+      arith,
+      round_shorter alphabet grammar key taken,
+    )))
 
 -- a round, and the rounds that are left after it
 pub rounds-step : (alphabet : ℕ) (grammar : Grammar) (pair : ℕ × ℕ) → IsFirst (pair_count grammar.blocks) pair →
@@ -108,7 +116,8 @@ pub rounds-step : (alphabet : ℕ) (grammar : Grammar) (pair : ℕ × ℕ) → I
 rounds-step alphabet grammar pair first =
     let taken = key_taken grammar.blocks pair first in
     let fewer = round_shorter alphabet grammar (key_of grammar.blocks pair) taken in
-    rounds-enough (sum_by length grammar.blocks) (suc (sum_by length grammar.blocks)) alphabet grammar (omega arith) (omega arith)
+    rounds-enough (sum_by length grammar.blocks) (suc (sum_by length grammar.blocks)) alphabet grammar (omega arith)
+    (omega arith)
     ∙ rounds-some (sum_by length grammar.blocks) alphabet grammar (key_of grammar.blocks pair) taken
     ∙ rounds-enough (sum_by length grammar.blocks) (sum_by length (after_round alphabet grammar pair).blocks) alphabet
     (after_round alphabet grammar pair) (omega (arith, fewer)) (omega arith)
@@ -127,13 +136,15 @@ first_same count other_count same pair first = record {
 }
 
 -- what is kept after a round
-pub record IsNext (alphabet : ℕ) (rules : List (ℕ × ℕ)) (blocks : List (List ℕ)) (more_rules : List (ℕ × ℕ)) (next : List (List ℕ)) : Type 0 where
+pub record IsNext (alphabet : ℕ) (rules : List (ℕ × ℕ)) (blocks : List (List ℕ)) (more_rules : List (ℕ
+    × ℕ)) (next : List (List ℕ)) : Type 0 where
   pub rules_are : length more_rules ≡ length rules + 1
   pub fewer : 2 + sum_by length next ≤ sum_by length blocks
   pub left : rounds (sum_by length next) alphabet (record { rules = more_rules; blocks = next })
       ≡ rounds (sum_by length blocks) alphabet (record { rules = rules; blocks = blocks })
 
-pub next_is : (alphabet : ℕ) (rules : List (ℕ × ℕ)) (blocks : List (List ℕ)) (pair : ℕ × ℕ) → IsFirst (pair_count blocks) pair →
+pub next_is : (alphabet : ℕ) (rules : List (ℕ × ℕ)) (blocks : List (List ℕ)) (pair : ℕ × ℕ) →
+    IsFirst (pair_count blocks) pair →
     IsNext alphabet rules blocks (rules ++ pair ∷ []) (map (replaced pair (alphabet + length rules)) blocks)
 unfolding after_round
 next_is alphabet rules blocks pair first =

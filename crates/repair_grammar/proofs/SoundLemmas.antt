@@ -18,12 +18,14 @@ use Rattle.repair_grammar.proofs.UseLemmas.{has, any_has-replaced, any_has_new}
 
 -- what each round keeps, all rounds keep
 module _ (alphabet : ℕ) (P : Grammar → Type 0)
-    (keeps : (grammar : Grammar) (key : Key) → first_key (keys_of grammar.blocks) ≡ Some key → P grammar → P (after_round alphabet grammar key.pair)) where
+    (keeps : (grammar : Grammar) (key : Key) → first_key (keys_of grammar.blocks) ≡ Some key → P grammar →
+    P (after_round alphabet grammar key.pair)) where
   kept_by : (more : ℕ) (grammar : Grammar) → ((next : Grammar) → P next → P (rounds more alphabet next)) → P grammar →
       (next : Option Key) → first_key (keys_of grammar.blocks) ≡ next → P (rounds (suc more) alphabet grammar)
   kept_by more grammar later holds None is = rw (rounds-none (suc more) alphabet grammar is) holds
   kept_by more grammar later holds (Some key) is =
-      rw (rounds-some more alphabet grammar key is) (later (after_round alphabet grammar key.pair) (keeps grammar key is holds))
+      rw (rounds-some more alphabet grammar key is) (later (after_round alphabet grammar key.pair)
+      (keeps grammar key is holds))
 
   pub rounds-keep : (more : ℕ) (grammar : Grammar) → P grammar → P (rounds more alphabet grammar)
   rounds-keep zero grammar holds = unfold rounds in holds
@@ -62,7 +64,8 @@ module _ (alphabet : ℕ) (rules : List (ℕ × ℕ)) (blocks : List (List ℕ))
         | inl stands ↦ elim (any_has-replaced pair (alphabet + length rules) symbol blocks stands) [
           | inl still ↦ or_left blocks_use _ still
           | inr part ↦ or_right blocks_use _ (rw (list_any-append (part_of symbol) rules (pair ∷ []))
-              (or_right (list_any (part_of symbol) rules) _ (or_left (part_of symbol pair) false (is_part symbol pair part))))
+              (or_right (list_any (part_of symbol) rules) _ (or_left (part_of symbol pair) false
+              (is_part symbol pair part))))
         ]
         | inr rule ↦ or_right blocks_use _ (rw (list_any-append (part_of symbol) rules (pair ∷ []))
             (or_left (list_any (part_of symbol) rules) _ rule))
@@ -90,12 +93,15 @@ round_sound alphabet blocks grammar key taken sound =
       below = rw more_rules (all_below-replaced pair symbol grammar.blocks sound.below);
       parts = λ rule within. elim (cases_lt rule (length grammar.rules)) [
         | inl old ↦ rw (old_rule alphabet grammar.rules grammar.blocks pair rule old) (sound.parts rule old)
-        | inr last ↦ let at : rule ≡ length grammar.rules = omega (arith, within, length-append grammar.rules (pair ∷ [])) in
-            rw (at, new_rule alphabet grammar.rules grammar.blocks pair) (parts_below symbol grammar.blocks pair sound.below known.stands)
+        | inr last ↦ let at : rule ≡ length grammar.rules =
+            omega (arith, within, length-append grammar.rules (pair ∷ [])) in
+            rw (at, new_rule alphabet grammar.rules grammar.blocks pair)
+            (parts_below symbol grammar.blocks pair sound.below known.stands)
       ];
       used = λ rule within. elim (cases_lt rule (length grammar.rules)) [
         | inl old ↦ still_used alphabet grammar.rules grammar.blocks pair (alphabet + rule) (sound.used rule old)
-        | inr last ↦ let at : rule ≡ length grammar.rules = omega (arith, within, length-append grammar.rules (pair ∷ [])) in
+        | inr last ↦ let at : rule ≡ length grammar.rules =
+            omega (arith, within, length-append grammar.rules (pair ∷ [])) in
             rw at (new_used alphabet grammar.rules grammar.blocks pair (omega (arith, known.count, known.two)))
       ];
       few = omega (arith, round_shorter alphabet grammar key taken, sound.few, length-append grammar.rules (pair ∷ []));

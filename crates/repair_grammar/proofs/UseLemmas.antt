@@ -40,16 +40,17 @@ module _ (pair : ℕ × ℕ) (symbol : ℕ) where
   pub any_has-replaced : (other : ℕ) (blocks : List (List ℕ)) → list_any (has other) blocks ≡ true →
       (list_any (has other) (map (replaced pair symbol) blocks) ≡ true) ⊎ ((pair.0 ≡ other) ⊎ (pair.1 ≡ other))
   any_has-replaced other [] stands = absurd (cc)
-  any_has-replaced other (block ∷ blocks) stands = elim (or_cases (has other block) (list_any (has other) blocks) stands) [
-    | inl here ↦ elim (has-replaced other block here) [
-      | inl still ↦ inl (or_left (has other (replaced pair symbol block)) _ still)
-      | inr part ↦ inr part
-    ]
-    | inr later ↦ elim (any_has-replaced other blocks later) [
-      | inl still ↦ inl (or_right (has other (replaced pair symbol block)) _ still)
-      | inr part ↦ inr part
-    ]
-  ]
+  any_has-replaced other (block ∷ blocks) stands =
+      elim (or_cases (has other block) (list_any (has other) blocks) stands) [
+        | inl here ↦ elim (has-replaced other block here) [
+          | inl still ↦ inl (or_left (has other (replaced pair symbol block)) _ still)
+          | inr part ↦ inr part
+        ]
+        | inr later ↦ elim (any_has-replaced other blocks later) [
+          | inl still ↦ inl (or_right (has other (replaced pair symbol block)) _ still)
+          | inr part ↦ inr part
+        ]
+      ]
 
   -- the new symbol stands where the pair was met
   has_new : (block : List ℕ) → 0 < met pair block → has symbol (replaced pair symbol block) ≡ true

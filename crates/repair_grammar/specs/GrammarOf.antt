@@ -26,7 +26,8 @@ pub record IsGrammarOf (alphabet : ℕ) (blocks : List (List ℕ)) (grammar : Gr
   pub below : AreBelow (alphabet + length grammar.rules) grammar.blocks
   -- the parts of each rule are below its own symbol
   pub parts : (rule : ℕ) → rule < length grammar.rules →
-      ((slice_index_or grammar.rules rule (0, 0)).0 < alphabet + rule) × ((slice_index_or grammar.rules rule (0, 0)).1 < alphabet + rule)
+      ((slice_index_or grammar.rules rule (0, 0)).0 < alphabet + rule)
+      × ((slice_index_or grammar.rules rule (0, 0)).1 < alphabet + rule)
   -- each rule is used
   pub used : (rule : ℕ) → rule < length grammar.rules → is_used grammar (alphabet + rule) ≡ true
   -- each rule takes at least two symbols away, so there are at most half as many rules as symbols

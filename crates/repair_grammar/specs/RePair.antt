@@ -35,7 +35,8 @@ pairs_in block = []
 abbrev pub key_of : List (List ℕ) → ℕ × ℕ → Key
 key_of blocks pair = record { count = pair_count blocks pair; pair = pair }
 
--- the order in which rounds take keys: the greatest count first, then the smaller left symbol, then the smaller right one
+-- the order in which rounds take keys: the greatest count first, then the smaller left symbol, then the smaller right
+-- one
 unfoldable pub key_order : Key → Key → Ordering
 key_order a b = ordering_then (nat_cmp b.count a.count)
     (ordering_then (nat_cmp a.pair.0 b.pair.0) (nat_cmp a.pair.1 b.pair.1))

@@ -14,7 +14,8 @@ pub type Counts = HashMap<(u32, u32), u32>;
 /// Counts every pair afresh: for each, the replacements that a pass from left to right makes.
 pub fn recount(counts: &mut Counts, blocks: &[Vec<u32>]) -> Result<(), Memory>
     requires few { sum_by length (lists_of blocks.now) < 2 ^ 32 }
-    ensures ok { OnOk result ((pair : ℕ × ℕ) → count_in counts.new pair ≡ pair_count (lists_of blocks.now) pair) }
+    ensures ok { OnOk result ((pair : ℕ × ℕ) →
+        count_in counts.new pair ≡ pair_count (lists_of blocks.now) pair) }
 {
     counts.clear();
     for block in blocks {
@@ -26,7 +27,8 @@ pub fn recount(counts: &mut Counts, blocks: &[Vec<u32>]) -> Result<(), Memory>
 // Adds what the passes count in one block, all in one walk.
 fn count_block(counts: &mut Counts, block: &[u32]) -> Result<(), Memory>
     requires room { (pair : ℕ × ℕ) → count_in counts.old pair + length block.now < 2 ^ 32 }
-    ensures ok { OnOk result ((pair : ℕ × ℕ) → count_in counts.new pair ≡ count_in counts.old pair + met pair block.now) }
+    ensures ok { OnOk result ((pair : ℕ × ℕ) →
+        count_in counts.new pair ≡ count_in counts.old pair + met pair block.now) }
 {
     let Some((first, rest)) = block.split_first() else {
         return Ok(());
@@ -51,7 +53,8 @@ fn count_block(counts: &mut Counts, block: &[u32]) -> Result<(), Memory>
 fn count_pair(counts: &mut Counts, pair: (u32, u32)) -> Result<(), Memory>
     requires room { count_in counts.old pair + 1 < 2 ^ 32 }
     ensures ok { OnOk result ((other : ℕ × ℕ) →
-        count_in counts.new other ≡ count_in counts.old other + cond (is_pair other pair.0 pair.1) 1 0) }
+        count_in counts.new other
+        ≡ count_in counts.old other + cond (is_pair other pair.0 pair.1) 1 0) }
 {
     let count = counts.get(&pair).copied().unwrap_or(0);
     counts.insert(pair, count + 1)?;
@@ -61,7 +64,8 @@ fn count_pair(counts: &mut Counts, pair: (u32, u32)) -> Result<(), Memory>
 /// The pair that a round takes, if one counts two: the one that counts most, with the smaller left
 /// symbol, and then the smaller right one.
 pub fn first_pair(counts: &Counts) -> Option<(u32, u32)>
-    ensures { MatchOption result (AllBelowTwo (count_in counts.now)) (IsFirst (count_in counts.now)) }
+    ensures { MatchOption result (AllBelowTwo (count_in counts.now))
+        (IsFirst (count_in counts.now)) }
 {
     let mut first = None;
     for (pair, count) in counts.iter() {

@@ -9,7 +9,7 @@ use crate::recounting::recounted;
 use std::alloc::Global;
 use track_types::{Lists32, Memory, PairList};
 
-/// Rules, and the blocks of symbols that they shorten. With `alphabet` symbols to begin with, rule j
+/// Rules, and the blocks of symbols that they shorten. Of an alphabet of `alphabet` symbols, rule j
 /// stands for two symbols side by side and has the symbol `alphabet + j`.
 #[derive(Debug, Drop)]
 pub struct Grammar {

@@ -81,7 +81,7 @@ fn gives(
     Ok(has(&grammar, rules, after.as_slice()))
 }
 
-// The block after a pass that keeps the symbols on a stack. A pair that was just replaced is closed.
+// The block after a pass that keeps the symbols on a stack. A symbol just put there is closed.
 fn passed(alloc: Global, block: &[u32], pair: (u32, u32), symbol: u32) -> Result<Vec<u32>, Memory> {
     let mut stack = Vec::new(alloc);
     let mut open = false;
@@ -124,7 +124,7 @@ fn symbols_in(blocks: &[Vec<u32>]) -> usize {
     symbols
 }
 
-// The pair of which a pass takes the most symbols away, of all pairs below a symbol in order, if two.
+// The first of all pairs below a symbol, in order, whose passes take the most symbols away, if two.
 fn best_pair(
     alloc: Global,
     blocks: &[Vec<u32>],

@@ -31,7 +31,8 @@ count_pair-requires c = record {
 pub loop-right-preserved : goal.loop-right-preserved
 loop-right-preserved c = λ pair. elim c.if-overlaps.branch [
   | then-overlaps w ↦ rw (w.counts-is, w.taken-is, w.left-is)
-      (ap (λ n. count_in c.loop-right.counts pair + n) (sym (overlap_step c.loop-right.taken pair c.loop-right.left c.in-Some.rest.now
+      (ap (λ n. count_in c.loop-right.counts pair + n)
+      (sym (overlap_step c.loop-right.taken pair c.loop-right.left c.in-Some.rest.now
       c.loop-right.right-index c.loop-right-test.true w.if-overlaps.true)) ∙ c.loop-right.invariant pair)
   | else-overlaps+in_ok-count_pair w ↦ rw (w.counts-is, w.taken-is, w.left-is)
       (let x : ℕ = get_or c.in-Some.rest.now c.loop-right.right-index 0 in
@@ -48,6 +49,7 @@ returns c = record {
       let ends : drop c.loop-right.right-index c.in-Some.rest.now ≡ [] =
       drop_all c.loop-right.right-index c.in-Some.rest.now c.loop-right-test.false in
       sym (add-zero (count_in c.loop-right.counts pair)) ∙ sym (ap (λ n. count_in c.loop-right.counts pair + n)
-      (ap (λ rest. met_after c.loop-right.taken pair (c.loop-right.left ∷ rest)) ends ∙ met_after-single c.loop-right.taken pair c.loop-right.left))
+      (ap (λ rest. met_after c.loop-right.taken pair (c.loop-right.left ∷ rest)) ends
+      ∙ met_after-single c.loop-right.taken pair c.loop-right.left))
       ∙ c.loop-right.invariant pair;
 }

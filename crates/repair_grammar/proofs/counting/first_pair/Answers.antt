@@ -10,7 +10,8 @@ loop-pair-preserved-then-count-gt1 c =
     let entry : (ℕ × ℕ) × ℕ = (c.in-Some.pair.now, c.in-Some.count.now) in
     let rest : c.loop-pair.pair-iterator ≡ entry ∷ c.next.new.self = rest_more deref_pair c.loop-pair.pair-iterator
     c.next.new.self c.next.result (c.in-Some.pair, c.in-Some.count) c.in-Some.is c.next.ensures.steps in
-    ap (λ key. first_in (Some key) c.next.new.self) c.earlier.ensures ∙ sym (first_in-more c.loop-pair.first entry c.next.new.self c.if-count-gt1.true)
+    ap (λ key. first_in (Some key) c.next.new.self) c.earlier.ensures
+    ∙ sym (first_in-more c.loop-pair.first entry c.next.new.self c.if-count-gt1.true)
     ∙ ap (first_in c.loop-pair.first) (sym rest) ∙ c.loop-pair.invariant
 
 pub loop-pair-preserved : goal.loop-pair-preserved

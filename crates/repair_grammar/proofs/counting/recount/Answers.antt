@@ -11,12 +11,15 @@ loop-block-init c = λ pair. rw c.clear.ensures.empty refl
 pub count_block-requires : goal.count_block-requires
 count_block-requires c = record {
   room = λ pair.
-      let room = count_room pair c.args.blocks.now c.loop-block.block-index c.block-item.result c.loop-block-test.true c.block-item.is in
+      let room = count_room pair c.args.blocks.now c.loop-block.block-index c.block-item.result
+      c.loop-block-test.true c.block-item.is in
       rw (c.loop-block.invariant pair, c.as_slice.ensures.value) (omega (arith, c.requires.few, room));
 }
 
 pub loop-block-preserved : goal.loop-block-preserved
 loop-block-preserved c = λ pair. c.in_ok-count_block.ensures.ok pair
     ∙ ap (λ n. n + met pair c.as_slice.result.now) (c.loop-block.invariant pair)
-    ∙ ap (λ xs. pair_count (lists_of (take c.loop-block.block-index c.args.blocks.now)) pair + met pair xs) c.as_slice.ensures.value
-    ∙ sym (count_more pair c.args.blocks.now c.loop-block.block-index c.block-item.result c.loop-block-test.true c.block-item.is)
+    ∙ ap (λ xs. pair_count
+    (lists_of (take c.loop-block.block-index c.args.blocks.now)) pair + met pair xs) c.as_slice.ensures.value
+    ∙ sym (count_more pair c.args.blocks.now c.loop-block.block-index c.block-item.result c.loop-block-test.true
+    c.block-item.is)

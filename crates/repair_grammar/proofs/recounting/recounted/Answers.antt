@@ -8,7 +8,8 @@ use Rattle.repair_grammar.proofs.recounting.recounted.Goals.{After-replace_all}
 
 pub loop-pair-init : goal.loop-pair-init
 loop-pair-init c = record {
-  counts_are = λ pair. c.in_ok-recount.ensures.ok pair ∙ ap (λ blocks. pair_count (lists_of blocks) pair) c.as_slice.ensures.value;
+  counts_are = λ pair. c.in_ok-recount.ensures.ok pair
+      ∙ ap (λ blocks. pair_count (lists_of blocks) pair) c.as_slice.ensures.value;
   few = rw (c.new-rules.ensures.items, c.in_ok-blocks.ensures) (omega arith);
   left = rw (c.new-rules.ensures.items, c.in_ok-blocks.ensures) (sym (re_pair-is c.args.alphabet c.args.blocks.now));
 }
@@ -21,7 +22,8 @@ next c =
     let blocks : List (List ℕ) = lists_of c.loop-pair.blocks.items in
     let symbol : c.args.alphabet + c.len.result ≡ c.args.alphabet + length rules = omega (arith, c.len.ensures) in
     rw (c.in_ok-push.ensures.items, c.replace_all.ensures, symbol) (next_is c.args.alphabet rules blocks c.in-Some.pair
-    (first_same (count_in c.loop-pair.counts) (pair_count blocks) c.loop-pair.invariant.counts_are c.in-Some.pair c.in-Some.ensures))
+    (first_same (count_in c.loop-pair.counts)
+    (pair_count blocks) c.loop-pair.invariant.counts_are c.in-Some.pair c.in-Some.ensures))
 
 pub recount-requires-in-Some : goal.recount-requires-in-Some
 recount-requires-in-Some c = let step = next (goal.at.recount-requires-in-Some c).After-replace_all in
@@ -48,6 +50,10 @@ returns c =
     λ pair. rw (sym (c.loop-pair.invariant.counts_are pair)) (c.in_default.ensures pair) in
     record {
       ok = rw (c.new.ensures, c.in_ok-lists_from.ensures)
-          (sym (rounds-end (sum_by length blocks) c.args.alphabet (record { rules = c.loop-pair.rules.items; blocks = blocks }) small))
+          (sym (rounds-end (sum_by length blocks) c.args.alphabet (record {
+            rules = c.loop-pair.rules.items;
+            blocks =
+                blocks;
+          }) small))
           ∙ c.loop-pair.invariant.left;
     }

@@ -19,14 +19,21 @@ loop-read-preserved c =
     elim c.if-stands_at.branch [
       | then-stands_at w ↦ record {
         behind = omega (arith, w.read-is, c.loop-read.invariant.behind);
-        whole = rw (w.block-is, w.read-is) (step_met c.args.pair c.args.symbol items c.loop-read.written c.loop-read.read
+        whole = rw (
+          w.block-is,
+          w.read-is,
+        ) (step_met c.args.pair c.args.symbol items c.loop-read.written c.loop-read.read
             c.loop-read.invariant.behind within (sym stands ∙ w.if-stands_at.true) ∙ c.loop-read.invariant.whole);
       }
       | else-stands_at w ↦ record {
         behind = omega (arith, w.read-is, c.loop-read.invariant.behind);
-        whole = rw (w.block-is, w.read-is) (step_passed c.args.pair c.args.symbol items c.loop-read.written c.loop-read.read
+        whole = rw (
+          w.block-is,
+          w.read-is,
+        ) (step_passed c.args.pair c.args.symbol items c.loop-read.written c.loop-read.read
             c.loop-read.invariant.behind within w.index.result.now
-            (read_at_zero items c.loop-read.read w.index.result.now within w.index.ensures) (sym stands ∙ w.if-stands_at.false)
+            (read_at_zero items c.loop-read.read w.index.result.now within w.index.ensures) (sym stands
+            ∙ w.if-stands_at.false)
             ∙ c.loop-read.invariant.whole);
       }
     ]

@@ -11,7 +11,13 @@ length_of_map : {A : Type 0} (f : A → A) (xs : List A) → length (map f xs) �
 length_of_map f xs = rw length-map refl
 
 front_length : {A : Type 0} (f : A → A) (xs : List A) (k : ℕ) → length (map f (take k xs) ++ drop k xs) ≡ length xs
-front_length f xs k = omega (arith, length-append (map f (take k xs)) (drop k xs), length_of_map f (take k xs), length-take k xs, length-drop k xs)
+front_length f xs k = omega (
+  arith,
+  length-append (map f (take k xs)) (drop k xs),
+  length_of_map f (take k xs),
+  length-take k xs,
+  length-drop k xs,
+)
 
 pub loop-place-preserved : goal.loop-place-preserved
 loop-place-preserved c =

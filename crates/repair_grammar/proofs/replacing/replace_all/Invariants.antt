@@ -5,4 +5,5 @@ use Rattle.repair_grammar.proofs.replacing.replace_all.Given as goal
 
 abbrev pub invariant-loop-place : goal.invariant-loop-place
 invariant-loop-place l = lists_of l.blocks.items
-    ≡ map (replaced l.pair l.symbol) (take l.place (lists_of l.fn.blocks.items)) ++ drop l.place (lists_of l.fn.blocks.items)
+    ≡ map (replaced l.pair l.symbol) (take l.place (lists_of l.fn.blocks.items))
+    ++ drop l.place (lists_of l.fn.blocks.items)

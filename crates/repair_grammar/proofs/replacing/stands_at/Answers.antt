@@ -11,5 +11,6 @@ returns-in_default c = sym (stands_first-short c.args.pair (drop c.args.place c.
     (rw (to_the_end c.args.block.now c.args.place) at c.in_default.len_below))
 
 pub returns-in-len2-up : goal.returns-in-len2-up
-returns-in-len2-up c = (rw (to_the_end c.args.block.now c.args.place) at c.eq.ensures) ∙ sym (stands_first-long c.args.pair (drop c.args.place c.args.block.now)
+returns-in-len2-up c = (rw (to_the_end c.args.block.now c.args.place) at c.eq.ensures)
+    ∙ sym (stands_first-long c.args.pair (drop c.args.place c.args.block.now)
     (rw (to_the_end c.args.block.now c.args.place) at c.in-len2-up.len_at_least))
