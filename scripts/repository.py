@@ -87,7 +87,9 @@ def tables(text, header):
     """The rows, as lists of cells, of the tables of a page whose heading row begins with these cells."""
     rows, inside = [], False
     for line in text.splitlines():
-        cells = [cell.strip() for cell in line.strip().strip("|").split(" | ")] if line.startswith("|") else None
+        cells = None
+        if line.startswith("|"):
+            cells = [cell.strip() for cell in re.split(r"(?<=\s)\|(?=\s)", line.strip().strip("|"))]
         if cells is None:
             inside = False
         elif cells[: len(header)] == header:

@@ -3,7 +3,7 @@
 //! `gract` loads a CSV file, grids its rows, and says for each line of its source the reply that
 //! filtering the chart gives. Files, source and sink are handed in, so the call's contract can
 //! speak of all that came and was said. The crate stands on row_reader, gridding, host_ports,
-//! track_types and step_count.
+//! track_types, step_count, arrayvec and itoa.
 #![tactic(auto)]
 
 mod answering;

@@ -2,7 +2,8 @@
 //!
 //! A `K2Tree` is a set of cells in a square grid. Its cells are numbered in Morton order, and
 //! `leaf_of` and `leaf_cell` go from a cell to its number and back within a bounded number of
-//! reads. The crate stands on `track_types`, `bit_rank`, `packed_bits`, `step_count` and `arrayvec`.
+//! reads. The crate stands on `track_types`, `bit_rank`, `packed_bits`, `step_count`,
+//! `list_laws` and `arrayvec`.
 #![tactic(auto)]
 
 mod building;

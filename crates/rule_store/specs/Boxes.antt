@@ -15,9 +15,11 @@ least-greatest z zs =
     let high : z ≤ℤ greatest (z ∷ zs) = (fold-int_max_bounds z zs (fold int_max z zs) refl).0 in
     omega (arith, ints)
 
+-- the column of a cell
 abbrev pub column : Cell → ℤ
 column cell = cell.x
 
+-- the line of a cell
 abbrev pub line : Cell → ℤ
 line cell = cell.y
 
@@ -33,6 +35,7 @@ box_round (cell ∷ cells) = Some (record {
   high = least-greatest cell.y (map line cells);
 })
 
+-- the cell at (0, 0)
 abbrev pub origin : Cell
 origin = cell_at (pos 0) (pos 0)
 

@@ -24,6 +24,7 @@ deeper left right = 1 + max left right
 abbrev pub depths : ℕ → List (ℕ × ℕ) → List ℕ
 depths size rules = grown deeper 0 (map (λ terminal. 0) (range_with_len 0 size)) rules
 
+-- the depth of a symbol
 unfoldable pub depth_of : RulesView → ℕ → ℕ
 depth_of view symbol = known_of deeper 0 (depths (length view.alphabet) view.rules) symbol
 

@@ -34,10 +34,11 @@ is_far height period entry = nat_lt (period - 1) entry.duration
 abbrev pub rule_at : List (ℕ × ℕ) → ℕ → ℕ × ℕ
 rule_at rules j = slice_index_or rules j (0, 0)
 
--- the parts of a rule, by its symbol
+-- the left part of a rule, by its symbol
 abbrev pub left_of : RulesView → ℕ → ℕ
 left_of view symbol = (rule_at view.rules (symbol - length view.alphabet)).0
 
+-- the right part of a rule, by its symbol
 abbrev pub right_of : RulesView → ℕ → ℕ
 right_of view symbol = (rule_at view.rules (symbol - length view.alphabet)).1
 
@@ -50,14 +51,16 @@ unfoldable pub is_rule_flawed : RulesView → ℕ → Bool
 is_rule_flawed view j = let symbol = length view.alphabet + j in
     not (are_below symbol (rule_at view.rules j)) || is_far view.height view.period (entry_of view symbol)
 
--- the first value, the first rule and the first stored symbol that are flawed
+-- the first value that is flawed
 unfoldable pub code_flaw : ℕ → List ℕ → Option ℕ
 code_flaw height alphabet =
     find (λ i. is_long height (slice_index alphabet i)) (range_with_len 0 (length alphabet))
 
+-- the first rule that is flawed
 unfoldable pub rule_flaw : RulesView → Option ℕ
 rule_flaw view = find (is_rule_flawed view) (range_with_len 0 (length view.rules))
 
+-- the first stored symbol that is flawed
 unfoldable pub symbol_flaw : ℕ → List ℕ → Option ℕ
 symbol_flaw many symbols =
     find (λ i. nat_le many (slice_index symbols i)) (range_with_len 0 (length symbols))

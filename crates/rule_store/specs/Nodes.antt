@@ -33,6 +33,7 @@ parsed_with left right = record {
 abbrev pub leaf : ℕ → Parsed
 leaf terminal = record { terminals = terminal ∷ []; nodes = [] }
 
+-- what stands for a symbol that is not there
 abbrev pub unparsed : Parsed
 unparsed = record { terminals = []; nodes = [] }
 

@@ -3,7 +3,7 @@
 //! A `Snapshot` is checked from the parts of a period. `find` leads from an object to its block in
 //! a bounded number of reads, and `objects_in` gives the blocks whose anchors lie in squares that
 //! pass a test. The crate stands on `k2_tree`, `object_perm`, `bit_rank`, `track_types`,
-//! `packed_bits` and `step_count`.
+//! `packed_bits`, `step_count` and `list_laws`.
 #![tactic(auto)]
 
 mod anchored;

@@ -35,10 +35,11 @@ last_of rows = greatest (instants_of rows)
 abbrev pub span_of : List Row → ℕ
 span_of rows = width_of (instants_of rows)
 
--- the columns and the lines of the rows' cells
+-- the columns of the rows' cells
 abbrev pub columns_of : List Row → List ℤ
 columns_of rows = map (λ row. row.cell.x) rows
 
+-- the lines of the rows' cells
 abbrev pub lines_of : List Row → List ℤ
 lines_of rows = map (λ row. row.cell.y) rows
 
