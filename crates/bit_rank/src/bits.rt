@@ -22,8 +22,8 @@ use step_count::{CountedList, Steps};
 /// The bits stand in words of 64, lowest first. A directory has the number of ones before each
 /// superblock of 512 bits: the first level of Jacobson's directories ("Space-efficient static trees
 /// and graphs", 1989). In place of the second level the machine counts the ones of a word. For
-/// select it has a sample of each 512th one (Clark, "Compact pat trees", 1996), between two of which
-/// the counts are searched by halving.
+/// select it samples the superblock of the one after each 512 ones (Clark, "Compact pat trees",
+/// 1996), and searches the counts between two samples by halving.
 #[derive(Drop)]
 pub struct Bits {
     words: CountedList<u64>,
@@ -41,7 +41,8 @@ impl Model for Bits {
 
     ghost view = { λ b. take b.len (bits_of b.words) };
 
-    ghost invariant = { λ b. IsIndexed (take b.len (bits_of b.words)) b.words b.directory b.len b.ones };
+    ghost invariant = { λ b. IsIndexed (take b.len (bits_of b.words))
+        b.words b.directory b.len b.ones };
 }
 
 impl Bits {
