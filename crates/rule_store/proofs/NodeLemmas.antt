@@ -1,5 +1,5 @@
 -- Parse trees, and how many of their nodes a walk opens: symbol by symbol, and of a rule by its parts.
-use Rattle.std.proofs.Common.{◌≡◌, ℕ, zero, suc, ◌+◌, ◌<◌, ℤ, pos, ◌+ℤ◌, Bool, true, false, List, [], ◌∷◌, ◌++◌, length, map, get_or, refl, ap, sym, ◌∙◌, arith, inl, inr, zero-add}
+use Rattle.std.proofs.Common.{◌≡◌, ℕ, suc, ◌+◌, ◌<◌, ℤ, pos, ◌+ℤ◌, Bool, true, false, List, [], ◌∷◌, ◌++◌, length, map, get_or, refl, ap, sym, ◌∙◌, arith, inl, inr, zero-add}
 use Rattle.std.specs.Prelude.{◌&&◌, filter}
 use Rattle.std.specs.Int.Signed.{le_z}
 use Rattle.std.specs.List.{range_with_len}
@@ -18,7 +18,7 @@ use Rattle.rule_store.proofs.ExpansionLemmas.{expansion_of-rule}
 use Rattle.rule_store.specs.Expansion.{expansion_of}
 use Rattle.rule_store.specs.Entry.{duration_of}
 use Rattle.rule_store.specs.Flaws.{rule_at}
-use Rattle.rule_store.specs.Nodes.{Node, Parsed, after, has_box, is_opened, leaf, meets, nodes_in, opened_count, parsed, parsed_with, unparsed}
+use Rattle.rule_store.specs.Nodes.{Node, Parsed, after, has_box, is_opened, leaf, nodes_in, opened_count, parsed, parsed_with, unparsed}
 
 -- after two lists of terminals
 after-after : (xs ys : List ℕ) (node : Node) → after xs (after ys node) ≡ after (xs ++ ys) node
