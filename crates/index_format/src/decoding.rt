@@ -25,10 +25,16 @@ fn parts_of(alloc: Global, bytes: &[u8]) -> Result<Parts, FormatFault>
     if !rest.is_empty() {
         return Err(FormatFault::Flaw(Place::of(Section::End, 0).flaw(0, Kind::Extra)));
     }
-    Ok(Parts { frame: header.frame, objects, alphabet, rules, periods, symbols })
+    Ok(Parts {
+        frame: header.frame,
+        objects,
+        alphabet,
+        rules,
+        periods,
+        symbols,
+    })
 }
 
-pub fn decode(alloc: Global, bytes: &[u8]) -> Result<Parts, FormatFault>
-{
+pub fn decode(alloc: Global, bytes: &[u8]) -> Result<Parts, FormatFault> {
     parts_of(alloc, bytes)
 }

@@ -37,9 +37,9 @@ Contains-filter p [] x passes inside = no_member x inside
 Contains-filter p (y ∷ ys) x passes inside = elim (member_cases x y ys inside) [
   | inl same ↦ rw (same, passes) (first_member x (filter p ys))
   | inr later ↦ elim (cases_Bool (p y)) [
-      | inl meets ↦ rw meets (later_member x y (filter p ys) (Contains-filter p ys x passes later))
-      | inr fails ↦ rw fails (Contains-filter p ys x passes later)
-    ]
+    | inl meets ↦ rw meets (later_member x y (filter p ys) (Contains-filter p ys x passes later))
+    | inr fails ↦ rw fails (Contains-filter p ys x passes later)
+  ]
 ]
 
 -- the members of the lists that are joined
@@ -58,9 +58,9 @@ pub member_of_filter : {X : Type 0} (p : X → Bool) (xs : List X) (x : X) → C
 member_of_filter p [] x inside = no_member x inside
 member_of_filter p (y ∷ ys) x inside = elim (cases_Bool (p y)) [
   | inl meets ↦ elim (member_cases x y (filter p ys) (rw meets at inside)) [
-      | inl same ↦ (rw (sym same) (first_member y ys), rw (sym same) meets)
-      | inr later ↦ let from = member_of_filter p ys x later in (later_member x y ys from.0, from.1)
-    ]
+    | inl same ↦ (rw (sym same) (first_member y ys), rw (sym same) meets)
+    | inr later ↦ let from = member_of_filter p ys x later in (later_member x y ys from.0, from.1)
+  ]
   | inr fails ↦ let from = member_of_filter p ys x (rw fails at inside) in (later_member x y ys from.0, from.1)
 ]
 
@@ -93,9 +93,9 @@ find-only p [] z inside passes only = no_member z inside
 find-only p (y ∷ ys) z inside passes only = elim (cases_Bool (p y)) [
   | inl meets ↦ rw (meets, only y (first_member y ys) meets) refl
   | inr fails ↦ elim (member_cases z y ys inside) [
-      | inl same ↦ absurd (let not_met : p z ≡ false = rw same at fails in cc)
-      | inr later ↦ rw fails (find-only p ys z later passes (λ x among. only x (later_member x y ys among)))
-    ]
+    | inl same ↦ absurd (let not_met : p z ≡ false = rw same at fails in cc)
+    | inr later ↦ rw fails (find-only p ys z later passes (λ x among. only x (later_member x y ys among)))
+  ]
 ]
 
 -- a test that no member passes
@@ -111,7 +111,7 @@ none_from_list_any p [] x none inside = no_member x inside
 none_from_list_any p (y ∷ ys) x none inside = elim (cases_Bool (p y)) [
   | inl meets ↦ absurd (let some : true ≡ false = rw meets at none in cc)
   | inr fails ↦ elim (member_cases x y ys inside) [
-      | inl same ↦ rw (sym same) fails
-      | inr later ↦ none_from_list_any p ys x (rw fails at none) later
-    ]
+    | inl same ↦ rw (sym same) fails
+    | inr later ↦ none_from_list_any p ys x (rw fails at none) later
+  ]
 ]

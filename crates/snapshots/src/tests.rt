@@ -372,7 +372,11 @@ fn leaves_and_rects_give_blocks_by_object(rt: HostRuntime) -> Result<(), Fail> {
         (NEAR, [11, -19, 12, -18], [second, None].as_slice()),
         (NEAR, [10, -20, 13, -17], [first, second, None].as_slice()),
         (NEAR, [15, -15, 16, -14], [None].as_slice()),
-        (TURNED, [10, -20, 13, -17], [alone, left, right, None].as_slice()),
+        (
+            TURNED,
+            [10, -20, 13, -17],
+            [alone, left, right, None].as_slice(),
+        ),
         (TURNED, [12, -19, 12, -19], [alone, None].as_slice()),
         (TURNED, [13, -18, 13, -18], [left, right, None].as_slice()),
         (TURNED, [13, -19, 13, -19], [None].as_slice()),

@@ -40,13 +40,12 @@ pub use flaw::{Flaw, Kind, Section};
 pub use frame::Frame;
 pub use lazy::drawn_items::Drawn;
 pub use lazy::{Lazy, drawn};
-pub use limit::{LimitKind, MAX_EXTENT, MAX_HEIGHT};
-pub use lists::{List32, List64, Lists32, PairList, PeriodList};
 pub use limit::{
-    LimitKind, MAX_BLOCKS, MAX_CSV, MAX_EXTENT, MAX_HEIGHT, MAX_INDEX, MAX_OBJECTS, MAX_PERIOD,
-    MAX_PLACE, MAX_QUESTIONS, MAX_RESOLUTION, MAX_ROWS, MAX_SPAN, MAX_SYMBOLS,
+    LimitKind, LimitKind, MAX_BLOCKS, MAX_CSV, MAX_EXTENT, MAX_EXTENT, MAX_HEIGHT, MAX_HEIGHT,
+    MAX_INDEX, MAX_OBJECTS, MAX_PERIOD, MAX_PLACE, MAX_QUESTIONS, MAX_RESOLUTION, MAX_ROWS,
+    MAX_SPAN, MAX_SYMBOLS,
 };
-pub use lists::{List32, List64, Lists32, PairList};
+pub use lists::{List32, List32, List64, List64, Lists32, Lists32, PairList, PairList, PeriodList};
 pub use memory::Memory;
 pub use numeral::{Numeral, number};
 pub use packed_bits::BitList;
