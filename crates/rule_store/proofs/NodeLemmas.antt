@@ -116,7 +116,7 @@ module _ (view : RulesView) where
       (map-map terminals leaf (range_with_len 0 (length view.alphabet)))
 
   -- the node of a rule, in a block whose anchor is at some instant: its instants meet the window, and it has a box
-  pub opens : ℤ → ℤ → ℤ → ℕ → Bool
+  abbrev pub opens : ℤ → ℤ → ℤ → ℕ → Bool
   opens instant from to symbol =
       is_opened view instant from to (record { before = []; inside = expansion_of view symbol })
 
@@ -169,13 +169,13 @@ module _ (view : RulesView) where
     pub opened_count-opened : opens instant from to (length view.alphabet + j) ≡ true →
         opened_count view instant ((length view.alphabet + j) ∷ log) from to
         ≡ suc (opened_count view instant (left ∷ right ∷ log) from to)
-    unfolding opened_count opens
+    unfolding opened_count
     opened_count-opened opened =
         ap (λ nodes. length (filter (is_opened view instant from to) nodes)) all_nodes ∙ rw opened refl
 
     pub opened_count-shut : opens instant from to (length view.alphabet + j) ≡ false →
         opened_count view instant ((length view.alphabet + j) ∷ log) from to
         ≡ opened_count view instant (left ∷ right ∷ log) from to
-    unfolding opened_count opens
+    unfolding opened_count
     opened_count-shut shut =
         ap (λ nodes. length (filter (is_opened view instant from to) nodes)) all_nodes ∙ rw shut refl
