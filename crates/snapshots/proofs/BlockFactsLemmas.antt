@@ -22,8 +22,8 @@ use Rattle.track_types.specs.declared.cell_box.CellBox.{CellBox}
 use Rattle.k2_tree.specs.Morton.{IsInGrid}
 use Rattle.k2_tree.specs.Pruning.{kept_leaves, leaves_of, passes_at, IsKeptFor}
 use Rattle.k2_tree.proofs.KeptLemmas.{passes-wanted}
-use Rattle.snapshots.specs.View.{SnapshotView, all_blocks, block_of, is_at, leaf_at, objects_at, place_in, present_block}
-use Rattle.snapshots.specs.View.{rank_in, tree_in}
+use Rattle.snapshots.specs.View.{SnapshotView, all_blocks, block_of, is_at, leaf_at, objects_at, place_in}
+use Rattle.snapshots.specs.View.{present_block, rank_in, tree_in}
 use Rattle.snapshots.specs.Sound.{IsBlock, IsSnapshot}
 use Rattle.snapshots.specs.Objects.{objects_of, passing_blocks, wanted_blocks, WeighSame}
 use Rattle.snapshots.specs.declared.anchored.Anchored.{Anchored}
@@ -140,7 +140,8 @@ shared view passes weight index is within = elim (cases_Bool (slice_index_or vie
       let place : ℕ = leaf_at view (place_in view index) in
       let leaf = leaf_known view (place_in view index) is stands.0 in
       let value : ℕ = weight (present_block view index) in
-      let all = sum_by-weight_at passes place value 0 (tree_in view).cells view.frame.base (omega arith) (omega arith) in
+      let all = sum_by-weight_at passes place value 0 (tree_in view).cells view.frame.base (omega arith) (omega arith)
+      in
       let from_zero : place - 0 ≡ place = omega arith in
       let its = ap (λ p. if passes (slice_index_or (tree_in view).cells p view.frame.base) then value else 0) from_zero
       in

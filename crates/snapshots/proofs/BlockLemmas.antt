@@ -26,7 +26,8 @@ rank_within present index is within =
     omega (arith, rank_of-le-ones_of present (index + 1))
 
 -- a present object has a rank, which is a place in leaf order
-pub rank_in-within : (view : SnapshotView) (index : ℕ) → IsSnapshot view → slice_get view.parts.present index ≡ Some true
+pub rank_in-within : (view : SnapshotView) (index : ℕ) → IsSnapshot view
+    → slice_get view.parts.present index ≡ Some true
     → rank_in view index < length view.parts.perm
 rank_in-within view index is here =
     let inside = slice_get_within view.parts.present index true here in

@@ -67,7 +67,8 @@ module _ (view : SnapshotView) (tree : Tree) (blocks : Option (Box Blocks))
       (ap (λ bits. parts_with view.objects bits blocks) stands.same ∙ told)
 
   -- and is stored as it should be
-  pub IsStored-flawless : IsShaped view → flaw_of view ≡ None → starts_in blocks ≡ starts_of view.start view.parts.lengths
+  pub IsStored-flawless : IsShaped view → flaw_of view ≡ None
+      → starts_in blocks ≡ starts_of view.start view.parts.lengths
       → IsStored (view_of view.frame view.number view.objects view.start tree blocks) tree (starts_in blocks)
   IsStored-flawless shaped none begin = subst (λ v. IsStored v tree (starts_in blocks)) (sym view_of-parts) (record {
     is = record { shaped = shaped; sound = IsSound-flawless view shaped none };

@@ -26,9 +26,9 @@ pub struct Blocks {
 }
 
 impl Blocks {
-    /// Stores the blocks of these parts, whose logs begin at `start`, and nothing where no object is
-    /// present: most periods of an index may have no block. The start and all lengths add up to at
-    /// most 2^25.
+    /// Stores the blocks of these parts, whose logs begin at `start`, and nothing where no object
+    /// is present: most periods of an index may have no block. The start and all lengths add up to
+    /// at most 2^25.
     pub fn store(
         alloc: Global,
         present: BitList,

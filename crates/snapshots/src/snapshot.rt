@@ -118,8 +118,8 @@ impl Snapshot {
     /// object is told by its place among all objects, which is below their number.
     ///
     /// It goes from the object to its place among the present ones, by the inverse permutation to
-    /// its place in leaf order, and climbs the tree from its leaf to the cell, in at most `find_reads`
-    /// of the tree's height. It takes no memory.
+    /// its place in leaf order, and climbs the tree from its leaf to the cell, in at most
+    /// `find_reads` of the tree's height. It takes no memory.
     pub fn find<L: Ledger>(&self, index: u32, steps: &mut Steps<L>) -> Option<Anchored>
         requires { index < self.now.objects }
         ensures value { result ≡ block_of self.now index }
@@ -145,8 +145,8 @@ impl Snapshot {
         &self.tree
     }
 
-    /// The blocks whose anchors are in the cell of a leaf, by object. The leaf is one of the tree's,
-    /// and the cell is its own. It takes no memory, and its draws make at most `first_reads`, and
+    /// The blocks whose anchors are in the cell of a leaf, by object. The leaf is one of the
+    /// tree's, and the cell is its own. It takes no memory, and its draws make at most `first_reads`, and
     /// `block_reads` for each block.
     pub fn members(&self, leaf: u32, cell: Cell) -> Members<'_>
         requires { slice_get (tree_in self.now).cells leaf ≡ Some cell }
@@ -155,7 +155,8 @@ impl Snapshot {
         ensures order { IsStrictlyIncreasing (map (λ block. block.index) result.blocks) }
         ensures cell { All (λ block. block.cell ≡ cell) result.blocks }
         ensures blocks { All (IsBlock self.now) result.blocks }
-        ensures budget { result.reads ≡ first_reads + block_reads * length (blocks_in self.now leaf) }
+        ensures budget { result.reads
+            ≡ first_reads + block_reads * length (blocks_in self.now leaf) }
     {
         let _ = self.tree(); // says what holds of every snapshot
         Members::new(self, leaf, cell)
