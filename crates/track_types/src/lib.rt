@@ -1,6 +1,7 @@
 //! The plain values that all crates of gract speak of: cells, boxes and regions, rows, charts and
-//! their limits, lists and packed bits that contracts see as lists, the header of an index and what
-//! it holds of a period, flaws, walks that find their items one by one, and whole numbers in text.
+//! their limits, lists and packed bits that contracts see as lists, the parts of an index and their
+//! flaws, walks that find their items one by one, questions and whatever answers them, and whole
+//! numbers in text.
 //!
 //! `number` is exact: a word is no numeral, or one that is too large, or its value. A `Chart` keeps
 //! in its type all that holds of gridded rows. `Region::touches` is true exactly where a cell of the
@@ -8,7 +9,6 @@
 #![tactic(auto)]
 
 mod answerer;
-mod bit_list;
 mod bounds;
 mod cell;
 mod cell_box;
@@ -30,7 +30,6 @@ mod row;
 mod stop;
 
 pub use answerer::Answerer;
-pub use bit_list::BitList;
 pub use bounds::{NumberFault, number_within};
 pub use cell::Cell;
 pub use cell_box::CellBox;
@@ -41,11 +40,10 @@ pub use frame::Frame;
 pub use lazy::drawn_items::Drawn;
 pub use lazy::{Lazy, drawn};
 pub use limit::{
-    LimitKind, LimitKind, MAX_BLOCKS, MAX_CSV, MAX_EXTENT, MAX_EXTENT, MAX_HEIGHT, MAX_HEIGHT,
-    MAX_INDEX, MAX_OBJECTS, MAX_PERIOD, MAX_PLACE, MAX_QUESTIONS, MAX_RESOLUTION, MAX_ROWS,
-    MAX_SPAN, MAX_SYMBOLS,
+    LimitKind, MAX_BLOCKS, MAX_CSV, MAX_EXTENT, MAX_HEIGHT, MAX_INDEX, MAX_OBJECTS, MAX_PERIOD,
+    MAX_PLACE, MAX_QUESTIONS, MAX_RESOLUTION, MAX_ROWS, MAX_SPAN, MAX_SYMBOLS,
 };
-pub use lists::{List32, List32, List64, List64, Lists32, Lists32, PairList, PairList, PeriodList};
+pub use lists::{List32, List64, Lists32, PairList, PeriodList};
 pub use memory::Memory;
 pub use numeral::{Numeral, number};
 pub use packed_bits::BitList;
