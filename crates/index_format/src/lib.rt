@@ -3,6 +3,7 @@
 #![tactic(auto)]
 
 mod decoding;
+mod encoding;
 mod fault;
 mod fields;
 mod header;
@@ -11,6 +12,8 @@ mod lists;
 mod packed;
 mod periods;
 mod place;
+mod putting;
 
 pub use decoding::decode;
+pub use encoding::encode;
 pub use fault::FormatFault;
