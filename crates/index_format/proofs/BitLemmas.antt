@@ -404,3 +404,8 @@ bytes_filled-word bits i n few =
     let word = ap (take n) (to_le_bytes-window bits i) ∙ take-bytes_filled n 8 (drop (64 * i) bits) few in
     ap (λ tail. bytes_filled (8 * i) bits ++ tail) (word ∙ ap (λ k. bytes_filled n (drop k bits)) (sym place))
     ∙ sym (bytes_filled-more (8 * i) n bits)
+
+-- no bytes are none
+pub bytes_filled-none : (bits : List Bool) → bytes_filled 0 bits ≡ []
+unfolding bytes_filled
+bytes_filled-none bits = refl

@@ -3,9 +3,9 @@ ghost use Rattle.track_types.specs.Shape.{IsShaped};
 ghost use Rattle.index_format.specs.Spelling.{header_bytes, period_bytes, header_of, bytes_of_parts};
 
 use crate::header::{Header, MAGIC};
-use crate::putting::{put_bits, put_long, put_longs, put_rules, put_short, put_shorts};
+use crate::putting::{put_bits, put_longs, put_rules, put_short, put_shorts};
 use std::alloc::Global;
-use track_types::{Memory, Parts, PeriodParts};
+use track_types::{Frame, Memory, Parts, PeriodParts};
 
 /// The header of shaped parts.
 fn header_of(parts: &Parts) -> Header
@@ -26,15 +26,13 @@ fn header_of(parts: &Parts) -> Header
 fn put_header(out: &mut Vec<u8>, header: &Header) -> Result<(), Memory>
     ensures { OnOk result (out.new.items ≡ out.old.items ++ header_bytes header.now) }
 {
-    let frame = header.frame;
+    let Frame { first, span, period, height, base, cell, tick } = header.frame;
     out.extend_from_slice(&MAGIC)?;
-    let sizes = [frame.period, frame.height, header.objects, frame.span];
+    let sizes = [period, height, header.objects, span, header.alphabet, header.rules, header.symbols];
     put_shorts(out, &sizes)?;
-    put_shorts(out, &[header.alphabet, header.rules, header.symbols])?;
-    put_long(out, frame.first.cast_unsigned())?;
-    put_long(out, frame.base.x.cast_unsigned())?;
-    put_long(out, frame.base.y.cast_unsigned())?;
-    put_longs(out, &[frame.cell, frame.tick])
+    let (x, y) = (base.x.cast_unsigned(), base.y.cast_unsigned());
+    put_longs(out, &[first.cast_unsigned(), x, y, cell, tick])?;
+    Ok(())
 }
 
 /// Appends the sections of a period, whose tree has at most 2^31 bits.
