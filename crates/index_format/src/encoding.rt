@@ -1,11 +1,12 @@
-ghost use Rattle.std.specs.Prelude.{◌≡◌, ◌<◌, ◌≤◌, ◌^◌, ◌++◌, length, IfOk, OnOk};
+ghost use Rattle.std.specs.Prelude.{◌≡◌, ◌<◌, ◌≤◌, ◌^◌, ◌++◌, length, [], ◌∷◌, IfOk, OnOk};
+ghost use Rattle.std.specs.Int.{w64, cast_unsigned};
 ghost use Rattle.track_types.specs.Shape.{IsShaped};
 ghost use Rattle.index_format.specs.Spelling.{header_bytes, period_bytes, header_of, bytes_of_parts};
 
 use crate::header::{Header, MAGIC};
 use crate::putting::{put_bits, put_longs, put_rules, put_short, put_shorts};
 use std::alloc::Global;
-use track_types::{Frame, Memory, Parts, PeriodParts};
+use track_types::{Memory, Parts, PeriodParts};
 
 /// The header of shaped parts.
 fn header_of(parts: &Parts) -> Header
@@ -21,17 +22,21 @@ fn header_of(parts: &Parts) -> Header
     }
 }
 
+/// The header's numbers of eight bytes: the signed ones in two's complement.
+fn places_of(first: i64, x: i64, y: i64, cell: u64, tick: u64) -> [u64; 5]
+    ensures { result ≡ cast_unsigned w64 first ∷ cast_unsigned w64 x ∷ cast_unsigned w64 y ∷ cell ∷ tick ∷ [] }
+{
+    [first.cast_unsigned(), x.cast_unsigned(), y.cast_unsigned(), cell, tick]
+}
+
 /// Appends the header.
-#[tactic(auto, unfolding(crate::specs::Spelling::header_bytes, crate::specs::Spelling::size_bytes, crate::specs::Spelling::signed_bytes))]
 fn put_header(out: &mut Vec<u8>, header: &Header) -> Result<(), Memory>
     ensures { OnOk result (out.new.items ≡ out.old.items ++ header_bytes header.now) }
 {
-    let Frame { first, span, period, height, base, cell, tick } = header.frame;
+    let Header { frame, objects, alphabet, rules, symbols } = *header;
     out.extend_from_slice(&MAGIC)?;
-    let sizes = [period, height, header.objects, span, header.alphabet, header.rules, header.symbols];
-    put_shorts(out, &sizes)?;
-    let (x, y) = (base.x.cast_unsigned(), base.y.cast_unsigned());
-    put_longs(out, &[first.cast_unsigned(), x, y, cell, tick])?;
+    put_shorts(out, &[frame.period, frame.height, objects, frame.span, alphabet, rules, symbols])?;
+    put_longs(out, &places_of(frame.first, frame.base.x, frame.base.y, frame.cell, frame.tick))?;
     Ok(())
 }
 

@@ -1,4 +1,4 @@
-use Rattle.std.proofs.Common.{◌≡◌, ℕ, List, [], ◌∷◌, ◌++◌, refl, append_assoc, append-nil}
+use Rattle.std.proofs.Common.{◌≡◌, ℕ, List, [], ◌∷◌, ◌++◌, refl, append_assoc, append-nil, rules}
 use Rattle.std.specs.Int.{w64, cast_unsigned}
 use Rattle.std.specs.List.{flat_map}
 use Rattle.index_format.specs.declared.header.Header.{Header}
@@ -17,6 +17,8 @@ pieces out h = simp (append_assoc, append-nil) refl
 
 pub returns : goal.returns
 returns c =
-    rw (c.in_ok-put_longs.ensures, c.in_ok-put_shorts.ensures, c.in_ok-extend_from_slice.ensures.items,
-    c.cast_unsigned-x.ensures, c.cast_unsigned-y.ensures, c.cast_unsigned.ensures)
+    let places : c.places_of.result ≡ cast_unsigned w64 c.args.header.now.frame.first
+        ∷ cast_unsigned w64 c.args.header.now.frame.base.x ∷ cast_unsigned w64 c.args.header.now.frame.base.y
+        ∷ c.args.header.now.frame.cell ∷ c.args.header.now.frame.tick ∷ [] = search rules in
+    rw (c.in_ok-put_longs.ensures, places, c.in_ok-put_shorts.ensures, c.in_ok-extend_from_slice.ensures.items)
     (pieces c.args.out.now.items c.args.header.now)
