@@ -1,6 +1,6 @@
 use Rattle.std.proofs.Common.{◌≡◌, ◌++◌, take}
 use Rattle.std.specs.List.{flat_map}
-use Rattle.index_format.specs.Spelling.{header_of, header_bytes, short_bytes, long_bytes, rule_bytes, period_bytes}
+use Rattle.index_format.specs.Spelling.{period_bytes}
 use Rattle.index_format.proofs.encoding.encode.Given as goal
 
 abbrev pub invariant-loop-period : goal.invariant-loop-period
