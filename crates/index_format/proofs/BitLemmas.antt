@@ -108,10 +108,10 @@ take-bits_in bits =
     let bytes = bytes_filled (bytes_for (length bits)) bits in
     let same = number_of-bytes_filled (bytes_for (length bits)) bits (omega arith) in
     let all : length (bits_in bytes) ≡ 8 * bytes_for (length bits) =
-        length-bits_in bytes ∙ ap (λ n. 8 * n) (length-bytes_filled (bytes_for (length bits)) bits) in
+    length-bits_in bytes ∙ ap (λ n. 8 * n) (length-bytes_filled (bytes_for (length bits)) bits) in
     let long = length-take-le (length bits) (bits_in bytes) (omega arith) in
     let number = number_of-take (length bits) (bits_in bytes) ∙ ap (λ v. v % 2 ^ length bits) same
-        ∙ mod-eq_of_lt (number_of-lt bits) in
+    ∙ mod-eq_of_lt (number_of-lt bits) in
     same_from_number_of (take (length bits) (bits_in bytes)) bits long number
 
 -- and no bit after them is 1
@@ -172,7 +172,7 @@ pub number_of-more_words : (words before chunk : List ℕ) (word : ℕ)
 unfolding bits_of
 number_of-more_words words before chunk word same long small is =
     let alone : number_of (bits_of (word ∷ [])) ≡ word =
-        ap number_of (append-nil (low_bits 64 word)) ∙ number_of-low_bits 64 word ∙ mod-eq_of_lt small in
+    ap number_of (append-nil (low_bits 64 word)) ∙ number_of-low_bits 64 word ∙ mod-eq_of_lt small in
     let parts = ap number_of (bits_of-append words (word ∷ [])) ∙ number_of-append (bits_of words) (bits_of (word ∷ [])) in
     let width : length (bits_of words) ≡ 8 * length before = omega (arith, length-bits_of words, long) in
     parts ∙ ap (λ n. number_of (bits_of (word ∷ [])) * 2 ^ n + number_of (bits_of words)) width
@@ -184,7 +184,7 @@ drop-bits_in k bytes within =
     let whole = ap bits_in (take-append-drop k bytes) in
     let parts = bits_in-append (take k bytes) (drop k bytes) in
     let long : length (bits_in (take k bytes)) ≡ 8 * k =
-        length-bits_in (take k bytes) ∙ ap (λ n. 8 * n) (length-take-le k bytes within) in
+    length-bits_in (take k bytes) ∙ ap (λ n. 8 * n) (length-take-le k bytes within) in
     ap (drop (8 * k)) (sym whole ∙ parts) ∙ drop_at (bits_in (take k bytes)) (bits_in (drop k bytes)) (8 * k) long
 
 -- there is a 1 exactly where the bits do not spell 0
@@ -206,14 +206,14 @@ spare-last count bytes fits long used =
     let k = count / 8 in
     let last = get_or bytes k 0 in
     let rest : drop k bytes ≡ last ∷ [] =
-        drop_more bytes k 0 (omega arith) ∙ ap (λ tail. last ∷ tail) (drop_all (k + 1) bytes (omega arith)) in
+    drop_more bytes k 0 (omega arith) ∙ ap (λ tail. last ∷ tail) (drop_all (k + 1) bytes (omega arith)) in
     let inside : drop (8 * k) (bits_in bytes) ≡ bits_in (last ∷ []) =
-        drop-bits_in k bytes (omega arith) ∙ ap bits_in rest in
+    drop-bits_in k bytes (omega arith) ∙ ap bits_in rest in
     let whole : number_of (bits_in (last ∷ [])) ≡ last =
-        number_of-one_byte last (fits k) in
+    number_of-one_byte last (fits k) in
     let place : count ≡ 8 * k + count % 8 = omega arith in
     let twice : drop count (bits_in bytes) ≡ drop (count % 8) (drop (8 * k) (bits_in bytes)) =
-        ap (λ n. drop n (bits_in bytes)) place ∙ sym (drop-drop (count % 8) (8 * k) (bits_in bytes)) in
+    ap (λ n. drop n (bits_in bytes)) place ∙ sym (drop-drop (count % 8) (8 * k) (bits_in bytes)) in
     ap number_of twice ∙ ap (λ bits. number_of (drop (count % 8) bits)) inside
     ∙ number_of-drop (count % 8) (bits_in (last ∷ [])) ∙ ap (λ n. n / 2 ^ (count % 8)) whole
 
@@ -258,7 +258,7 @@ module _ {words rest bytes : List ℕ} (spelt : IsSpelt words rest bytes) where
       → (length words ≡ (length bytes + 7) / 8) × (number_of (bits_of words) ≡ number_of (bits_in bytes))
   IsSpelt-whole over =
       let whole : bytes ≡ spelt.before = spelt.split
-          ∙ ap (λ tail. spelt.before ++ tail) (nil_from_length rest over) ∙ append-nil spelt.before in
+      ∙ ap (λ tail. spelt.before ++ tail) (nil_from_length rest over) ∙ append-nil spelt.before in
       (rw whole (omega (arith, spelt.long)), spelt.same ∙ ap (λ list. number_of (bits_in list)) (sym whole))
 
   -- fewer than eight bytes are the last word
@@ -266,11 +266,12 @@ module _ {words rest bytes : List ℕ} (spelt : IsSpelt words rest bytes) where
       → word < 2 ^ 64 → new ≡ words ++ word ∷ []
       → (length new ≡ (length bytes + 7) / 8) × (number_of (bits_of new) ≡ number_of (bits_in bytes))
   IsSpelt-last new word some few word_is small new_is =
-      let long = ap length spelt.split ∙ length-append spelt.before rest in
-      (rw new_is (omega (arith, spelt.long, long, length-append words (word ∷ []))),
-      ap (λ list. number_of (bits_of list)) new_is
-      ∙ number_of-more_words words spelt.before rest word spelt.same spelt.long small word_is
-      ∙ ap (λ list. number_of (bits_in list)) (sym spelt.split))
+      let long = ap length spelt.split ∙ length-append spelt.before rest in (
+        rw new_is (omega (arith, spelt.long, long, length-append words (word ∷ []))),
+        ap (λ list. number_of (bits_of list)) new_is
+            ∙ number_of-more_words words spelt.before rest word spelt.same spelt.long small word_is
+            ∙ ap (λ list. number_of (bits_in list)) (sym spelt.split),
+      )
 
 module _ (words bytes : List ℕ) (count : ℕ) (long : length bytes ≡ bytes_for count) (fewest : length words ≡ (length bytes + 7) / 8) (same : number_of (bits_of words) ≡ number_of (bits_in bytes)) where
   -- words that spell what bytes without spare bits do are packed
@@ -278,7 +279,7 @@ module _ (words bytes : List ℕ) (count : ℕ) (long : length bytes ≡ bytes_f
   IsPacked-bytes spare =
       let none : ones_of (drop count (bits_in bytes)) ≡ 0 = omega (arith, ltb-false _ _ spare) in
       let nothing = number_of-drop count (bits_of words) ∙ ap (λ n. n / 2 ^ count) same
-          ∙ sym (number_of-drop count (bits_in bytes)) in
+      ∙ sym (number_of-drop count (bits_in bytes)) in
       let zero_above = nothing ∙ number_of-zero (drop count (bits_in bytes)) none in
       record { fewest = omega (arith, fewest, long); spare = ones_of-zero (drop count (bits_of words)) zero_above }
 
@@ -288,7 +289,7 @@ module _ (words bytes : List ℕ) (count : ℕ) (long : length bytes ≡ bytes_f
       let left = length-take-le count (bits_of words) (omega (arith, length-bits_of words, fewest, long)) in
       let right = length-take-le count (bits_in bytes) (omega (arith, length-bits_in bytes, long)) in
       let number = number_of-take count (bits_of words) ∙ ap (λ n. n % 2 ^ count) same
-          ∙ sym (number_of-take count (bits_in bytes)) in
+      ∙ sym (number_of-take count (bits_in bytes)) in
       same_from_number_of (take count (bits_of words)) (take count (bits_in bytes)) (left ∙ sym right) number
 
 module _ (bytes : List ℕ) (fits : IsBytes bytes) (i : ℕ) (within : i < length bytes) where
@@ -299,7 +300,7 @@ module _ (bytes : List ℕ) (fits : IsBytes bytes) (i : ℕ) (within : i < lengt
       let next : take 1 (drop i bytes) ≡ get_or bytes i 0 ∷ [] = ap (take 1) (drop_more bytes i 0 within) in
       let parts = take-add i 1 bytes ∙ ap (λ tail. take i bytes ++ tail) next in
       let alone : number_of (bits_in (get_or bytes i 0 ∷ [])) ≡ get_or bytes i 0 =
-          number_of-one_byte (get_or bytes i 0) (fits i) in
+      number_of-one_byte (get_or bytes i 0) (fits i) in
       ap (λ list. number_of (bits_in list)) parts ∙ number_of-more_bytes (take i bytes) (get_or bytes i 0 ∷ [])
       ∙ ap (λ n. n * 2 ^ (8 * length (take i bytes)) + number_of (bits_in (take i bytes))) alone
       ∙ ap (λ n. get_or bytes i 0 * 2 ^ (8 * n) + number_of (bits_in (take i bytes)))
@@ -310,7 +311,7 @@ module _ (bytes : List ℕ) (fits : IsBytes bytes) (i : ℕ) (within : i < lengt
   byte-fits few =
       let bits = bits_in (take (i + 1) bytes) in
       let long : length bits ≤ 64 =
-          omega (arith, length-bits_in (take (i + 1) bytes), length-take-le (i + 1) bytes (omega arith)) in
+      omega (arith, length-bits_in (take (i + 1) bytes), length-take-le (i + 1) bytes (omega arith)) in
       omega (arith, number_of-lt bits, pow-le-pow_right {n = 2} (omega arith) long)
 
   -- the sum that the code makes
@@ -380,9 +381,9 @@ number_of-first_bytes (suc n) bits =
     let rest = number_of-first_bytes n (drop 8 bits) in
     let width : 8 * suc n ≡ 8 * n + 8 = omega arith in
     let split : number_of bits % 2 ^ (8 * n + 8) ≡ (number_of bits / 2 ^ 8 % 2 ^ (8 * n)) * 2 ^ 8 + number_of bits % 2 ^ 8 =
-        mod-pow-add (number_of bits) (8 * n) 8 in
+    mod-pow-add (number_of bits) (8 * n) 8 in
     let high : number_of (bits_in (bytes_filled n (drop 8 bits))) ≡ number_of bits / 2 ^ 8 % 2 ^ (8 * n) =
-        rest ∙ ap (λ v. v % 2 ^ (8 * n)) (number_of-drop 8 bits) in
+    rest ∙ ap (λ v. v % 2 ^ (8 * n)) (number_of-drop 8 bits) in
     parts ∙ rw (high, number_of-take 8 bits) (sym (ap (λ k. number_of bits % 2 ^ k) width ∙ split))
 
 -- a word's bytes are those that its 64 bits fill

@@ -13,8 +13,13 @@ use Rattle.index_format.specs.Reading.{after_magic, field_at, signed_at, sizes_a
 abbrev whole : Parts
 whole = record {
   frame = record {
-    first = pos 0; span = 3; period = 4; height = 2;
-    base = record { x = pos 10; y = pos 10 }; cell = 1; tick = 1;
+    first = pos 0;
+    span = 3;
+    period = 4;
+    height = 2;
+    base = record { x = pos 10; y = pos 10 };
+    cell = 1;
+    tick = 1;
   };
   objects = 7 ∷ [];
   alphabet = 2 ∷ 3 ∷ [];

@@ -120,19 +120,29 @@ sizes_at-takes bytes fits =
     then_ok _ _ (field_at w32 6 (is_between 0 many) alphabet.1) (field_at-takes wide32 6 (is_between 0 many) alphabet.1 t5.0.fits) (λ rules t6.
     then_ok _ _ (field_at w32 7 (is_between 0 many) rules.1) (field_at-takes wide32 7 (is_between 0 many) rules.1 t6.0.fits) (λ symbols t7.
     let sizes : Sizes = record {
-      period = period.0; height = height.0; objects = objects.0; span = span.0;
-      alphabet = alphabet.0; rules = rules.0; symbols = symbols.0;
+      period = period.0;
+      height = height.0;
+      objects = objects.0;
+      span = span.0;
+      alphabet = alphabet.0;
+      rules = rules.0;
+      symbols = symbols.0;
     } in
     let blocks = objects.0 * div_ceil span.0 period.0 in
-    let both = and_parts (is_between 1 (limit_of limits.Span) span.0) (nat_le blocks (limit_of limits.Blocks)) t4.2 in
-    (Takes-text (size_bytes sizes) (simp append_assoc refl)
-    (Takes-then t1.0 (Takes-then t2.0 (Takes-then t3.0 (Takes-then t4.0 (Takes-then t5.0 (Takes-then t6.0 t7.0)))))),
-    record {
-      period = between 1 (2 ^ 22) period.0 t1.2; height = between 1 MAX_HEIGHT height.0 t2.2;
-      objects = between 1 (limit_of limits.Objects) objects.0 t3.2; span = between 1 (limit_of limits.Span) span.0 both.0;
-      blocks = grind (arith, nat_tests, both.1); alphabet = (between 0 many alphabet.0 t5.2).1;
-      rules = (between 0 many rules.0 t6.2).1; symbols = (between 0 many symbols.0 t7.2).1;
-    }))))))))
+    let both = and_parts (is_between 1 (limit_of limits.Span) span.0) (nat_le blocks (limit_of limits.Blocks)) t4.2 in (
+      Takes-text (size_bytes sizes) (simp append_assoc refl)
+          (Takes-then t1.0 (Takes-then t2.0 (Takes-then t3.0 (Takes-then t4.0 (Takes-then t5.0 (Takes-then t6.0 t7.0)))))),
+      record {
+        period = between 1 (2 ^ 22) period.0 t1.2;
+        height = between 1 MAX_HEIGHT height.0 t2.2;
+        objects = between 1 (limit_of limits.Objects) objects.0 t3.2;
+        span = between 1 (limit_of limits.Span) span.0 both.0;
+        blocks = grind (arith, nat_tests, both.1);
+        alphabet = (between 0 many alphabet.0 t5.2).1;
+        rules = (between 0 many rules.0 t6.2).1;
+        symbols = (between 0 many symbols.0 t7.2).1;
+      },
+    ))))))))
 
 -- sizes that are spelled so are read
 sizes_at-again : (sizes : Sizes) (rest : List ℕ) → AreSizes sizes → sizes_at (size_bytes sizes ++ rest) ≡ Ok (sizes, rest)
@@ -149,21 +159,22 @@ sizes_at-again sizes rest are =
     let blocks = sizes.objects * div_ceil sizes.span sizes.period in
     let few : nat_le blocks (limit_of limits.Blocks) ≡ true = grind (arith, nat_tests, are.blocks) in
     let span = and_from (is_between 1 (limit_of limits.Span) sizes.span) (nat_le blocks (limit_of limits.Blocks))
-        (is_between-true 1 (limit_of limits.Span) sizes.span are.span.0 are.span.1) few in
+    (is_between-true 1 (limit_of limits.Span) sizes.span are.span.0 are.span.1) few in
     ap sizes_at text ∙ rw (
-    field_at-again wide32 1 (is_between 1 (2 ^ 22)) sizes.period r2 (omega (arith, are.period.1))
-        (is_between-true 1 (2 ^ 22) sizes.period are.period.0 are.period.1),
-    field_at-again wide32 2 (is_between 1 MAX_HEIGHT) sizes.height r3 (omega (arith, are.height.1))
-        (is_between-true 1 MAX_HEIGHT sizes.height are.height.0 are.height.1),
-    field_at-again wide32 3 (is_between 1 (limit_of limits.Objects)) sizes.objects r4 (omega (arith, are.objects.1))
-        (is_between-true 1 (limit_of limits.Objects) sizes.objects are.objects.0 are.objects.1),
-    field_at-again wide32 4 (is_span sizes.objects sizes.period) sizes.span r5 (omega (arith, are.span.1)) span,
-    field_at-again wide32 5 (is_between 0 many) sizes.alphabet r6 (omega (arith, are.alphabet))
-        (is_between-true 0 many sizes.alphabet (omega arith) are.alphabet),
-    field_at-again wide32 6 (is_between 0 many) sizes.rules r7 (omega (arith, are.rules))
-        (is_between-true 0 many sizes.rules (omega arith) are.rules),
-    field_at-again wide32 7 (is_between 0 many) sizes.symbols rest (omega (arith, are.symbols))
-        (is_between-true 0 many sizes.symbols (omega arith) are.symbols)) refl
+      field_at-again wide32 1 (is_between 1 (2 ^ 22)) sizes.period r2 (omega (arith, are.period.1))
+          (is_between-true 1 (2 ^ 22) sizes.period are.period.0 are.period.1),
+      field_at-again wide32 2 (is_between 1 MAX_HEIGHT) sizes.height r3 (omega (arith, are.height.1))
+          (is_between-true 1 MAX_HEIGHT sizes.height are.height.0 are.height.1),
+      field_at-again wide32 3 (is_between 1 (limit_of limits.Objects)) sizes.objects r4 (omega (arith, are.objects.1))
+          (is_between-true 1 (limit_of limits.Objects) sizes.objects are.objects.0 are.objects.1),
+      field_at-again wide32 4 (is_span sizes.objects sizes.period) sizes.span r5 (omega (arith, are.span.1)) span,
+      field_at-again wide32 5 (is_between 0 many) sizes.alphabet r6 (omega (arith, are.alphabet))
+          (is_between-true 0 many sizes.alphabet (omega arith) are.alphabet),
+      field_at-again wide32 6 (is_between 0 many) sizes.rules r7 (omega (arith, are.rules))
+          (is_between-true 0 many sizes.rules (omega arith) are.rules),
+      field_at-again wide32 7 (is_between 0 many) sizes.symbols rest (omega (arith, are.symbols))
+          (is_between-true 0 many sizes.symbols (omega arith) are.symbols),
+    ) refl
 
 -- a header in its ranges
 pub record IsHeader (header : Header) : Type 0 where
@@ -200,27 +211,42 @@ header_at-takes bytes fits =
     then_ok _ _ (field_at w64 12 units cell.1) (field_at-takes wide64 12 units cell.1 t5.0.fits) (λ tick t6.
     let header : Header = record {
       frame = record {
-        first = first.0; span = sizes.0.span; period = sizes.0.period; height = sizes.0.height;
-        base = record { x = x.0; y = y.0 }; cell = cell.0; tick = tick.0;
+        first = first.0;
+        span = sizes.0.span;
+        period = sizes.0.period;
+        height = sizes.0.height;
+        base = record { x = x.0; y = y.0 };
+        cell = cell.0;
+        tick = tick.0;
       };
-      objects = sizes.0.objects; alphabet = sizes.0.alphabet; rules = sizes.0.rules; symbols = sizes.0.symbols;
+      objects = sizes.0.objects;
+      alphabet = sizes.0.alphabet;
+      rules = sizes.0.rules;
+      symbols = sizes.0.symbols;
     } in
     let begin = and_parts (le_z (neg_ℤ far) first.0) (le_z (first.0 +ℤ pos (sizes.0.span - 1)) far) t2.1 in
     let cells = between 1 (2 ^ 30) cell.0 t5.2 in
     let ticks = between 1 (2 ^ 30) tick.0 t6.2 in
-    let are = t1.1 in
-    (Takes-text (header_bytes header) (simp append_assoc refl)
-    (Takes-then t0 (Takes-then t1.0 (Takes-then t2.0 (Takes-then t3.0 (Takes-then t4.0 (Takes-then t5.0 t6.0)))))),
-    record {
-      frame = record {
-        periods = record { some = are.period.0; limit = are.period.1 };
-        some = are.height.0; limit = are.height.1; long = are.span.0; short = are.span.1;
-        begins = at_most (neg_ℤ far) first.0 begin.0; ends = at_most (first.0 +ℤ pos (sizes.0.span - 1)) far begin.1;
-        columns = near x.0 t3.1; lines = near y.0 t4.1;
-        cells = record { some = cells.0; limit = cells.1 }; ticks = record { some = ticks.0; limit = ticks.1 };
-      };
-      sizes = are;
-    }))))))))
+    let are = t1.1 in (
+      Takes-text (header_bytes header) (simp append_assoc refl)
+          (Takes-then t0 (Takes-then t1.0 (Takes-then t2.0 (Takes-then t3.0 (Takes-then t4.0 (Takes-then t5.0 t6.0)))))),
+      record {
+        frame = record {
+          periods = record { some = are.period.0; limit = are.period.1 };
+          some = are.height.0;
+          limit = are.height.1;
+          long = are.span.0;
+          short = are.span.1;
+          begins = at_most (neg_ℤ far) first.0 begin.0;
+          ends = at_most (first.0 +ℤ pos (sizes.0.span - 1)) far begin.1;
+          columns = near x.0 t3.1;
+          lines = near y.0 t4.1;
+          cells = record { some = cells.0; limit = cells.1 };
+          ticks = record { some = ticks.0; limit = ticks.1 };
+        };
+        sizes = are;
+      },
+    ))))))))
 
 -- a header in its ranges that is spelled so is read
 pub header_at-again : (header : Header) (rest : List ℕ) → IsHeader header → header_at (header_bytes header ++ rest) ≡ Ok (header, rest)
@@ -236,17 +262,19 @@ header_at-again header rest is =
     let r1 = size_bytes (sizes_of header) ++ r2 in
     let text : header_bytes header ++ rest ≡ magic ++ r1 = simp append_assoc refl in
     let begins = and_from (le_z (neg_ℤ far) frame.first) (le_z (frame.first +ℤ pos (frame.span - 1)) far)
-        (at_most-true (neg_ℤ far) frame.first is.frame.begins)
-        (at_most-true (frame.first +ℤ pos (frame.span - 1)) far is.frame.ends) in
+    (at_most-true (neg_ℤ far) frame.first is.frame.begins)
+    (at_most-true (frame.first +ℤ pos (frame.span - 1)) far is.frame.ends) in
     ap header_at text ∙ rw (
-    after_magic-again r1, sizes_at-again (sizes_of header) r2 is.sizes,
-    signed_at-again 8 (is_first frame.span) frame.first r3
-        (near_fits frame.first is.frame.begins (first_before frame.first (frame.span - 1) is.frame.ends)) begins,
-    signed_at-again 9 is_near frame.base.x r4 (near_fits frame.base.x is.frame.columns.low is.frame.columns.high)
-        (near-true frame.base.x is.frame.columns),
-    signed_at-again 10 is_near frame.base.y r5 (near_fits frame.base.y is.frame.lines.low is.frame.lines.high)
-        (near-true frame.base.y is.frame.lines),
-    field_at-again wide64 11 units frame.cell r6 (omega (arith, is.frame.cells.limit))
-        (is_between-true 1 (2 ^ 30) frame.cell is.frame.cells.some is.frame.cells.limit),
-    field_at-again wide64 12 units frame.tick rest (omega (arith, is.frame.ticks.limit))
-        (is_between-true 1 (2 ^ 30) frame.tick is.frame.ticks.some is.frame.ticks.limit)) refl
+      after_magic-again r1,
+      sizes_at-again (sizes_of header) r2 is.sizes,
+      signed_at-again 8 (is_first frame.span) frame.first r3
+          (near_fits frame.first is.frame.begins (first_before frame.first (frame.span - 1) is.frame.ends)) begins,
+      signed_at-again 9 is_near frame.base.x r4 (near_fits frame.base.x is.frame.columns.low is.frame.columns.high)
+          (near-true frame.base.x is.frame.columns),
+      signed_at-again 10 is_near frame.base.y r5 (near_fits frame.base.y is.frame.lines.low is.frame.lines.high)
+          (near-true frame.base.y is.frame.lines),
+      field_at-again wide64 11 units frame.cell r6 (omega (arith, is.frame.cells.limit))
+          (is_between-true 1 (2 ^ 30) frame.cell is.frame.cells.some is.frame.cells.limit),
+      field_at-again wide64 12 units frame.tick rest (omega (arith, is.frame.ticks.limit))
+          (is_between-true 1 (2 ^ 30) frame.tick is.frame.ticks.some is.frame.ticks.limit),
+    ) refl

@@ -28,7 +28,7 @@ module _ {A : Type 0} {next : List A → List ℕ → Taken A} {count i : ℕ} {
   items_at-more item after new within read appended =
       let left : count - i ≡ suc (count - (i + 1)) = omega arith in
       let one : items_at next (count - i) seen rest ≡ items_at next (count - (i + 1)) (seen ++ item ∷ []) after =
-          rw (left, read) refl in
+      rw (left, read) refl in
       record {
         long = rw appended (omega (arith, so_far.long, length-append seen (item ∷ [])));
         read = rw appended (sym one ∙ so_far.read);
@@ -70,7 +70,7 @@ module _ (seen : List ℕ) (n i : ℕ) (long : length seen ≡ i) where
   pub rises-above : (last : ℕ) → 0 < i → last ≡ get_or seen (i - 1) last → last < n → rises seen n ≡ true
   rises-above last some is above =
       let zero_default : last ≡ get_or seen (length seen - 1) 0 =
-          is ∙ get_or_default_zero seen (i - 1) last (omega arith) ∙ ap (λ k. get_or seen (k - 1) 0) (sym long) in
+      is ∙ get_or_default_zero seen (i - 1) last (omega arith) ∙ ap (λ k. get_or seen (k - 1) 0) (sym long) in
       let test = lt-ltb (get_or seen (length seen - 1) 0) n (omega arith) in
       let more : eqb (length seen) 0 ≡ false = grind (arith, nat_tests) in
       rw (more, test) refl
@@ -79,7 +79,7 @@ module _ (seen : List ℕ) (n i : ℕ) (long : length seen ≡ i) where
   pub rises-below : (last : ℕ) → 0 < i → last ≡ get_or seen (i - 1) last → n ≤ last → rises seen n ≡ false
   rises-below last some is below =
       let zero_default : last ≡ get_or seen (length seen - 1) 0 =
-          is ∙ get_or_default_zero seen (i - 1) last (omega arith) ∙ ap (λ k. get_or seen (k - 1) 0) (sym long) in
+      is ∙ get_or_default_zero seen (i - 1) last (omega arith) ∙ ap (λ k. get_or seen (k - 1) 0) (sym long) in
       let test = le-ltb (get_or seen (length seen - 1) 0) n (omega arith) in
       let more : eqb (length seen) 0 ≡ false = grind (arith, nat_tests) in
       rw (more, test) refl

@@ -88,11 +88,13 @@ module _ {w : Width} {limit : ℕ} {spell : ℕ → List ℕ} (wide : IsWide w l
   unfolding number_at
   number_at-takes bytes fits = guard_ok _ _ _ (ltb (length bytes) (byte_len w)) (λ enough.
       let long = length-take-le (byte_len w) bytes (ltb-false _ _ enough) in
-      let front = IsBytes-take (byte_len w) bytes fits in
-      (record {
-        parts = sym (rw (wide.back (take (byte_len w) bytes) long front) (take-append-drop (byte_len w) bytes));
-        fits = IsBytes-drop (byte_len w) bytes fits;
-      }, wide.below (take (byte_len w) bytes) front))
+      let front = IsBytes-take (byte_len w) bytes fits in (
+        record {
+          parts = sym (rw (wide.back (take (byte_len w) bytes) long front) (take-append-drop (byte_len w) bytes));
+          fits = IsBytes-drop (byte_len w) bytes fits;
+        },
+        wide.below (take (byte_len w) bytes) front,
+      ))
 
   -- a number that is spelled so is read
   pub number_at-again : (n : ℕ) (rest : List ℕ) → n < limit → number_at w missing (spell n ++ rest) ≡ Ok (n, rest)
@@ -100,7 +102,7 @@ module _ {w : Width} {limit : ℕ} {spell : ℕ → List ℕ} (wide : IsWide w l
   number_at-again n rest small =
       let long = wide.long n in
       let enough : ltb (length (spell n ++ rest)) (byte_len w) ≡ false =
-          le-ltb (length (spell n ++ rest)) (byte_len w) (omega (arith, length-append (spell n) rest, long)) in
+      le-ltb (length (spell n ++ rest)) (byte_len w) (omega (arith, length-append (spell n) rest, long)) in
       rw (enough, take_at (spell n) rest (byte_len w) long, drop_at (spell n) rest (byte_len w) long, wide.again n small) refl
 
 -- items whose lists have a property, which every front of such a list has too
@@ -133,8 +135,8 @@ module _ {A : Type 0} {next : List A → List ℕ → Taken A} {spell : A → Li
       IsRead-more item rest (Err flaw) parts more = tt
       IsRead-more item rest (Ok all) parts more =
           let one : flat_map spell (seen ++ item ∷ []) ++ rest ≡ flat_map spell seen ++ bytes =
-              ap (λ text. text ++ rest) (sym (flat_map_more spell [] seen item)) ∙ append_assoc (flat_map spell seen) (spell item) rest
-              ∙ ap (λ tail. flat_map spell seen ++ tail) (sym parts) in
+          ap (λ text. text ++ rest) (sym (flat_map_more spell [] seen item)) ∙ append_assoc (flat_map spell seen) (spell item) rest
+          ∙ ap (λ tail. flat_map spell seen ++ tail) (sym parts) in
           record {
             holds = more.holds;
             long = omega (arith, more.long, length-append seen (item ∷ []));
@@ -161,7 +163,7 @@ module _ {A : Type 0} {next : List A → List ℕ → Taken A} {spell : A → Li
       let grouped : (seen ++ x ∷ []) ++ xs ≡ seen ++ x ∷ xs = append_assoc seen (x ∷ []) xs in
       let one = listed.front (seen ++ x ∷ []) xs (rw grouped holds) in
       let text : flat_map spell (x ∷ xs) ++ rest ≡ spell x ++ (flat_map spell xs ++ rest) =
-          ap (λ text. text ++ rest) (flat_map-cons spell x xs) ∙ append_assoc (spell x) (flat_map spell xs) rest in
+      ap (λ text. text ++ rest) (flat_map-cons spell x xs) ∙ append_assoc (spell x) (flat_map spell xs) rest in
       let first = listed.again seen x (flat_map spell xs ++ rest) one in
       let others = items_at-rest xs (seen ++ x ∷ []) rest (rw grouped holds) in
       ap (items_at next (suc (length xs)) seen) text ∙ rw (first, others) (ap (λ all. Ok (all, rest)) grouped)
@@ -182,11 +184,13 @@ bits_at-takes section period count bytes fits =
     guard_ok _ _ _ (has_spare count front) (λ full.
     let long = length-take-le (bytes_for count) bytes (ltb-false _ _ enough) in
     let spare : ones_of (drop count (bits_in front)) ≡ 0 = omega (arith, ltb-false _ _ full) in
-    let text = bit_bytes-take count front (IsBytes-take (bytes_for count) bytes fits) long spare in
-    (record {
-      parts = sym (rw text (take-append-drop (bytes_for count) bytes));
-      fits = IsBytes-drop (bytes_for count) bytes fits;
-    }, length-take-le count (bits_in front) (omega (arith, length-bits_in front, long)))))
+    let text = bit_bytes-take count front (IsBytes-take (bytes_for count) bytes fits) long spare in (
+      record {
+        parts = sym (rw text (take-append-drop (bytes_for count) bytes));
+        fits = IsBytes-drop (bytes_for count) bytes fits;
+      },
+      length-take-le count (bits_in front) (omega (arith, length-bits_in front, long)),
+    )))
 
 -- bits that are spelled so are read
 pub bits_at-again : (section : Section) (period count : ℕ) (bits : List Bool) (rest : List ℕ) → length bits ≡ count
@@ -195,9 +199,9 @@ unfolding bits_at
 bits_at-again section period count bits rest count_is =
     let long : length (bit_bytes bits) ≡ bytes_for count = length-bit_bytes bits ∙ ap bytes_for count_is in
     let enough : ltb (length (bit_bytes bits ++ rest)) (bytes_for count) ≡ false =
-        le-ltb (length (bit_bytes bits ++ rest)) (bytes_for count) (omega (arith, length-append (bit_bytes bits) rest, long)) in
+    le-ltb (length (bit_bytes bits ++ rest)) (bytes_for count) (omega (arith, length-append (bit_bytes bits) rest, long)) in
     let full : has_spare count (bit_bytes bits) ≡ false =
-        ap (λ n. ltb 0 (ones_of (drop n (bits_in (bit_bytes bits))))) (sym count_is) ∙ ap (ltb 0) (spare-bit_bytes bits) in
+    ap (λ n. ltb 0 (ones_of (drop n (bits_in (bit_bytes bits))))) (sym count_is) ∙ ap (ltb 0) (spare-bit_bytes bits) in
     let same : take count (bits_in (bit_bytes bits)) ≡ bits =
-        ap (λ n. take n (bits_in (bit_bytes bits))) (sym count_is) ∙ take-bits_in bits in
+    ap (λ n. take n (bits_in (bit_bytes bits))) (sym count_is) ∙ take-bits_in bits in
     rw (enough, take_at (bit_bytes bits) rest (bytes_for count) long, full, drop_at (bit_bytes bits) rest (bytes_for count) long, same) refl

@@ -57,8 +57,10 @@ rising_listed {w} {limit} {spell} wide section = record {
   takes = λ seen bytes both fits.
       then_ok _ _ (number_at w (flaw_at section 0 (length seen) Short) bytes)
       (number_at-takes wide (flaw_at section 0 (length seen) Short) bytes fits) (λ n taken.
-      test_ok _ _ _ (rises seen n.0) (λ up. (taken.0,
-      (IsStrictlyIncreasing-snoc seen n.0 both.0 (rises-above seen n.0 up), All-snoc (λ n. n < limit) seen n.0 both.1 taken.1))));
+      test_ok _ _ _ (rises seen n.0) (λ up. (
+        taken.0,
+        (IsStrictlyIncreasing-snoc seen n.0 both.0 (rises-above seen n.0 up), All-snoc (λ n. n < limit) seen n.0 both.1 taken.1),
+      )));
   again = λ seen n rest both.
       let read = number_at-again wide (flaw_at section 0 (length seen) Short) n rest (All-last (λ n. n < limit) seen n both.1) in
       let up = above-rises seen n (IsStrictlyIncreasing-last seen n both.0) in

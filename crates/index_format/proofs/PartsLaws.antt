@@ -33,22 +33,39 @@ parts_in-takes bytes fits =
     then_ok _ _ (items_at (period_at h.objects) (periods_of h.frame) [] rules.1) (items_at-takes (periods_listed h.objects) (periods_of h.frame) rules.1 t3.0.fits) (λ periods t4.
     then_ok _ _ (items_at (short_at Log 0) h.symbols [] periods.1) (items_at-takes (shorts_listed Log 0) h.symbols periods.1 t4.0.fits) (λ symbols t5.
     let parts : Parts = record {
-      frame = h.frame; objects = objects.0; alphabet = alphabet.0; rules = rules.0; periods = periods.0; symbols = symbols.0;
+      frame = h.frame;
+      objects = objects.0;
+      alphabet = alphabet.0;
+      rules = rules.0;
+      periods = periods.0;
+      symbols = symbols.0;
     } in
     test_ok _ _ _ (eqb (length symbols.1) 0) (λ over.
     let are = t0.1.sizes in
     let head : header_of parts ≡ h = rw (t1.2, t2.2, t3.2, t5.2) refl in
     let taken = Takes-then t0.0 (Takes-then t1.0 (Takes-then t2.0 (Takes-then t3.0 (Takes-then t4.0 t5.0)))) in
     let whole = taken.parts ∙ ap (λ tail. (header_bytes h ++ (flat_map short_bytes objects.0 ++ (flat_map long_bytes alphabet.0
-        ++ (flat_map rule_bytes rules.0 ++ (flat_map period_bytes periods.0 ++ flat_map short_bytes symbols.0))))) ++ tail)
-        (nil_from_length symbols.1 (eqb-true _ _ over)) in
-    (record {
-      header = t0.1.frame;
-      some = rw t1.2 are.objects.0; few = rw t1.2 are.objects.1; blocks = rw t1.2 are.blocks;
-      objects = t1.1.0; short_objects = t1.1.1; alphabet = t2.1.0; long_alphabet = t2.1.1;
-      few_values = rw t2.2 are.alphabet; few_rules = rw t3.2 are.rules; short_rules = t3.1;
-      periods = t4.2; each = rw t1.2 t4.1; few_symbols = rw t5.2 are.symbols; short_symbols = t5.1;
-    }, whole ∙ rw head (simp (append_assoc, append-nil) refl)))))))))
+    ++ (flat_map rule_bytes rules.0 ++ (flat_map period_bytes periods.0 ++ flat_map short_bytes symbols.0))))) ++ tail)
+    (nil_from_length symbols.1 (eqb-true _ _ over)) in (
+      record {
+        header = t0.1.frame;
+        some = rw t1.2 are.objects.0;
+        few = rw t1.2 are.objects.1;
+        blocks = rw t1.2 are.blocks;
+        objects = t1.1.0;
+        short_objects = t1.1.1;
+        alphabet = t2.1.0;
+        long_alphabet = t2.1.1;
+        few_values = rw t2.2 are.alphabet;
+        few_rules = rw t3.2 are.rules;
+        short_rules = t3.1;
+        periods = t4.2;
+        each = rw t1.2 t4.1;
+        few_symbols = rw t5.2 are.symbols;
+        short_symbols = t5.1;
+      },
+      whole ∙ rw head (simp (append_assoc, append-nil) refl),
+    ))))))))
 
 -- shaped parts are read from their bytes
 pub parts_in-again : (parts : Parts) → IsShaped parts → parts_in (bytes_of_parts parts) ≡ Ok parts
@@ -64,18 +81,24 @@ parts_in-again parts shaped =
     let is : IsHeader (header_of parts) = record {
       frame = frame;
       sizes = record {
-        period = (frame.periods.some, frame.periods.limit); height = (frame.some, frame.limit);
-        objects = (shaped.some, shaped.few); span = (frame.long, frame.short); blocks = shaped.blocks;
-        alphabet = shaped.few_values; rules = shaped.few_rules; symbols = shaped.few_symbols;
+        period = (frame.periods.some, frame.periods.limit);
+        height = (frame.some, frame.limit);
+        objects = (shaped.some, shaped.few);
+        span = (frame.long, frame.short);
+        blocks = shaped.blocks;
+        alphabet = shaped.few_values;
+        rules = shaped.few_rules;
+        symbols = shaped.few_symbols;
       };
     } in
     ap parts_in text ∙ rw (
-    header_at-again (header_of parts) r1 is,
-    items_at-again (rising_listed wide32 Objects) parts.objects (length parts.objects) r2 refl (shaped.objects, shaped.short_objects),
-    items_at-again (rising_listed wide64 Alphabet) parts.alphabet (length parts.alphabet) r3 refl (shaped.alphabet, shaped.long_alphabet),
-    items_at-again rules_listed parts.rules (length parts.rules) r4 refl shaped.short_rules,
-    items_at-again (periods_listed (length parts.objects)) parts.periods (periods_of parts.frame) r5 shaped.periods shaped.each,
-    items_at-again (shorts_listed Log 0) parts.symbols (length parts.symbols) [] refl shaped.short_symbols) refl
+      header_at-again (header_of parts) r1 is,
+      items_at-again (rising_listed wide32 Objects) parts.objects (length parts.objects) r2 refl (shaped.objects, shaped.short_objects),
+      items_at-again (rising_listed wide64 Alphabet) parts.alphabet (length parts.alphabet) r3 refl (shaped.alphabet, shaped.long_alphabet),
+      items_at-again rules_listed parts.rules (length parts.rules) r4 refl shaped.short_rules,
+      items_at-again (periods_listed (length parts.objects)) parts.periods (periods_of parts.frame) r5 shaped.periods shaped.each,
+      items_at-again (shorts_listed Log 0) parts.symbols (length parts.symbols) [] refl shaped.short_symbols,
+    ) refl
 
 -- what was answered to bytes is as reading says
 pub given_takes : (bytes : List ℕ) (answer : Result Parts FormatFault) → IsBytes bytes → Gives (λ parts. parts) answer (parts_in bytes)

@@ -49,16 +49,29 @@ period_at-takes objects seen bytes fits =
     then_ok _ _ (items_at (short_at Perm b) n [] lasts.1) (items_at-takes (shorts_listed Perm b) n lasts.1 t5.0.fits) (λ perm t6.
     then_ok _ _ (items_at (short_at Lengths b) n [] perm.1) (items_at-takes (shorts_listed Lengths b) n perm.1 t6.0.fits) (λ lengths t7.
     let length_text : Takes offsets.1 (short_bytes (length tree.0)) long.1 =
-        rw t4.1 t3.0 in
+    rw t4.1 t3.0 in
     let period : PeriodParts = record {
-      present = present.0; offsets = offsets.0; tree = tree.0; lasts = lasts.0; perm = perm.0; lengths = lengths.0;
-    } in
-    (Takes-text (period_bytes period) (simp append_assoc refl)
-    (Takes-then t1.0 (Takes-then t2.0 (Takes-then length_text (Takes-then t4.0 (Takes-then t5.0 (Takes-then t6.0 t7.0)))))),
-    record {
-      presence = t1.1; offsets = t2.2; bits = omega (arith, t4.1, t3.1); lasts = t5.1; perm = t6.2; lengths = t7.2;
-      short_offsets = t2.1; short_perm = t6.1; short_lengths = t7.1;
-    }))))))))
+      present = present.0;
+      offsets = offsets.0;
+      tree = tree.0;
+      lasts = lasts.0;
+      perm = perm.0;
+      lengths = lengths.0;
+    } in (
+      Takes-text (period_bytes period) (simp append_assoc refl)
+          (Takes-then t1.0 (Takes-then t2.0 (Takes-then length_text (Takes-then t4.0 (Takes-then t5.0 (Takes-then t6.0 t7.0)))))),
+      record {
+        presence = t1.1;
+        offsets = t2.2;
+        bits = omega (arith, t4.1, t3.1);
+        lasts = t5.1;
+        perm = t6.2;
+        lengths = t7.2;
+        short_offsets = t2.1;
+        short_perm = t6.1;
+        short_lengths = t7.1;
+      },
+    ))))))))
 
 -- a shaped period that is spelled so is read
 pub period_at-again : (objects : ℕ) (seen : List PeriodParts) (period : PeriodParts) (rest : List ℕ) → IsShapedPeriod objects period
@@ -75,13 +88,14 @@ period_at-again objects seen period rest shaped =
     let r2 = flat_map short_bytes period.offsets ++ r3 in
     let text : period_bytes period ++ rest ≡ bit_bytes period.present ++ r2 = simp append_assoc refl in
     ap (period_at objects seen) text ∙ rw (
-    bits_at-again Presence b objects period.present r2 shaped.presence,
-    items_at-again (shorts_listed Offsets b) period.offsets n r3 shaped.offsets shaped.short_offsets,
-    tree_length_at-again b (length period.tree) r4 shaped.bits,
-    bits_at-again Tree b (length period.tree) period.tree r5 refl,
-    bits_at-again Lasts b n period.lasts r6 shaped.lasts,
-    items_at-again (shorts_listed Perm b) period.perm n r7 shaped.perm shaped.short_perm,
-    items_at-again (shorts_listed Lengths b) period.lengths n rest shaped.lengths shaped.short_lengths) refl
+      bits_at-again Presence b objects period.present r2 shaped.presence,
+      items_at-again (shorts_listed Offsets b) period.offsets n r3 shaped.offsets shaped.short_offsets,
+      tree_length_at-again b (length period.tree) r4 shaped.bits,
+      bits_at-again Tree b (length period.tree) period.tree r5 refl,
+      bits_at-again Lasts b n period.lasts r6 shaped.lasts,
+      items_at-again (shorts_listed Perm b) period.perm n r7 shaped.perm shaped.short_perm,
+      items_at-again (shorts_listed Lengths b) period.lengths n rest shaped.lengths shaped.short_lengths,
+    ) refl
 
 -- periods of so many objects
 pub periods_listed : (objects : ℕ) → IsListed (period_at objects) period_bytes (All (IsShapedPeriod objects))

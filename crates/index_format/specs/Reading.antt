@@ -71,10 +71,18 @@ sizes_at bytes = do
   alphabet ← field_at w32 5 (is_between 0 (limit_of limits.Symbols)) span.1
   rules ← field_at w32 6 (is_between 0 (limit_of limits.Symbols)) alphabet.1
   symbols ← field_at w32 7 (is_between 0 (limit_of limits.Symbols)) rules.1
-  Ok (record {
-    period = period.0; height = height.0; objects = objects.0; span = span.0;
-    alphabet = alphabet.0; rules = rules.0; symbols = symbols.0;
-  }, symbols.1)
+  Ok (
+    record {
+      period = period.0;
+      height = height.0;
+      objects = objects.0;
+      span = span.0;
+      alphabet = alphabet.0;
+      rules = rules.0;
+      symbols = symbols.0;
+    },
+    symbols.1,
+  )
 
 -- the header
 unfoldable pub header_at : List ℕ → Taken headers.Header
@@ -86,13 +94,24 @@ header_at bytes = do
   y ← signed_at 10 is_near x.1
   cell ← field_at w64 11 (is_between 1 (2 ^ 30)) y.1
   tick ← field_at w64 12 (is_between 1 (2 ^ 30)) cell.1
-  Ok (record {
-    frame = record {
-      first = first.0; span = sizes.0.span; period = sizes.0.period; height = sizes.0.height;
-      base = record { x = x.0; y = y.0 }; cell = cell.0; tick = tick.0;
-    };
-    objects = sizes.0.objects; alphabet = sizes.0.alphabet; rules = sizes.0.rules; symbols = sizes.0.symbols;
-  }, tick.1)
+  Ok (
+    record {
+      frame = record {
+        first = first.0;
+        span = sizes.0.span;
+        period = sizes.0.period;
+        height = sizes.0.height;
+        base = record { x = x.0; y = y.0 };
+        cell = cell.0;
+        tick = tick.0;
+      };
+      objects = sizes.0.objects;
+      alphabet = sizes.0.alphabet;
+      rules = sizes.0.rules;
+      symbols = sizes.0.symbols;
+    },
+    tick.1,
+  )
 
 -- how many bits the tree has
 unfoldable pub tree_length_at : ℕ → List ℕ → Taken ℕ
@@ -110,9 +129,17 @@ period_at objects seen bytes = do
   lasts ← bits_at Lasts (length seen) (ones_of present.0) tree.1
   perm ← items_at (short_at Perm (length seen)) (ones_of present.0) [] lasts.1
   lengths ← items_at (short_at Lengths (length seen)) (ones_of present.0) [] perm.1
-  Ok (record {
-    present = present.0; offsets = offsets.0; tree = tree.0; lasts = lasts.0; perm = perm.0; lengths = lengths.0;
-  }, lengths.1)
+  Ok (
+    record {
+      present = present.0;
+      offsets = offsets.0;
+      tree = tree.0;
+      lasts = lasts.0;
+      perm = perm.0;
+      lengths = lengths.0;
+    },
+    lengths.1,
+  )
 
 -- nothing follows
 abbrev pub ended : {A : Type 0} → List ℕ → A → Result A Flaw
@@ -128,6 +155,10 @@ parts_in bytes = do
   periods ← items_at (period_at header.0.objects) (periods_of header.0.frame) [] rules.1
   symbols ← items_at (short_at Log 0) header.0.symbols [] periods.1
   ended symbols.1 (record {
-    frame = header.0.frame; objects = objects.0; alphabet = alphabet.0; rules = rules.0;
-    periods = periods.0; symbols = symbols.0;
+    frame = header.0.frame;
+    objects = objects.0;
+    alphabet = alphabet.0;
+    rules = rules.0;
+    periods = periods.0;
+    symbols = symbols.0;
   })

@@ -12,15 +12,23 @@ use Rattle.track_types.specs.declared.period_parts.PeriodParts.{PeriodParts}
 -- the numbers of four bytes in a header
 abbrev pub sizes_of : Header → Sizes
 sizes_of header = record {
-  period = header.frame.period; height = header.frame.height; objects = header.objects; span = header.frame.span;
-  alphabet = header.alphabet; rules = header.rules; symbols = header.symbols;
+  period = header.frame.period;
+  height = header.frame.height;
+  objects = header.objects;
+  span = header.frame.span;
+  alphabet = header.alphabet;
+  rules = header.rules;
+  symbols = header.symbols;
 }
 
 -- the header of parts: their frame, and how long those lists are that nothing else tells
 abbrev pub header_of : Parts → Header
 header_of parts = record {
-  frame = parts.frame; objects = length parts.objects; alphabet = length parts.alphabet;
-  rules = length parts.rules; symbols = length parts.symbols;
+  frame = parts.frame;
+  objects = length parts.objects;
+  alphabet = length parts.alphabet;
+  rules = length parts.rules;
+  symbols = length parts.symbols;
 }
 
 -- the eight bytes that an index begins with: GRACT001

@@ -28,7 +28,14 @@ fn parts_of(alloc: Global, bytes: &[u8]) -> Result<Parts, FormatFault>
     if !rest.is_empty() {
         return Err(FormatFault::Flaw(Place::of(Section::End, 0).flaw(0, Kind::Extra)));
     }
-    Ok(Parts { frame: header.frame, objects, alphabet, rules, periods, symbols })
+    Ok(Parts {
+        frame: header.frame,
+        objects,
+        alphabet,
+        rules,
+        periods,
+        symbols,
+    })
 }
 
 /// The parts that the bytes of an index file hold: at most 2^30 bytes, all of which are read.

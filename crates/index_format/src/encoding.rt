@@ -26,17 +26,49 @@ fn header_of(parts: &Parts) -> Header
 fn places_of(first: i64, x: i64, y: i64, cell: u64, tick: u64) -> [u64; 5]
     ensures { result ≡ cast_unsigned w64 first ∷ cast_unsigned w64 x ∷ cast_unsigned w64 y ∷ cell ∷ tick ∷ [] }
 {
-    [first.cast_unsigned(), x.cast_unsigned(), y.cast_unsigned(), cell, tick]
+    [
+        first.cast_unsigned(),
+        x.cast_unsigned(),
+        y.cast_unsigned(),
+        cell,
+        tick,
+    ]
 }
 
 /// Appends the header.
 fn put_header(out: &mut Vec<u8>, header: &Header) -> Result<(), Memory>
     ensures { OnOk result (out.new.items ≡ out.old.items ++ header_bytes header.now) }
 {
-    let Header { frame, objects, alphabet, rules, symbols } = *header;
+    let Header {
+        frame,
+        objects,
+        alphabet,
+        rules,
+        symbols,
+    } = *header;
     out.extend_from_slice(&MAGIC)?;
-    put_shorts(out, &[frame.period, frame.height, objects, frame.span, alphabet, rules, symbols])?;
-    put_longs(out, &places_of(frame.first, frame.base.x, frame.base.y, frame.cell, frame.tick))?;
+    put_shorts(
+        out,
+        &[
+            frame.period,
+            frame.height,
+            objects,
+            frame.span,
+            alphabet,
+            rules,
+            symbols,
+        ],
+    )?;
+    put_longs(
+        out,
+        &places_of(
+            frame.first,
+            frame.base.x,
+            frame.base.y,
+            frame.cell,
+            frame.tick,
+        ),
+    )?;
     Ok(())
 }
 

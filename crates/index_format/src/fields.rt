@@ -25,7 +25,10 @@ pub fn short_of(bytes: &[u8], missing: Flaw) -> Result<(u32, &[u8]), FormatFault
         return Err(FormatFault::Flaw(missing));
     }
     let (front, rest) = bytes.split_at(4);
-    Ok((u32::from_le_bytes([front[0], front[1], front[2], front[3]]), rest))
+    Ok((
+        u32::from_le_bytes([front[0], front[1], front[2], front[3]]),
+        rest,
+    ))
 }
 
 /// The number of eight bytes at the front, and the bytes after it; `missing` where there are fewer.

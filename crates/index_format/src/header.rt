@@ -57,7 +57,12 @@ fn magic_of(bytes: &[u8]) -> Result<&[u8], FormatFault>
 
 /// A field of four bytes in its range.
 #[tactic(auto, unfolding(crate::specs::Reading::field_at))]
-fn field_of(bytes: &[u8], index: usize, least: u32, greatest: u32) -> Result<(u32, &[u8]), FormatFault>
+fn field_of(
+    bytes: &[u8],
+    index: usize,
+    least: u32,
+    greatest: u32,
+) -> Result<(u32, &[u8]), FormatFault>
     ensures exact { Gives (λ x. (x.0, x.1.now)) result (field_at w32 index (is_between least greatest) bytes.now) }
     ensures within { IfOk result (λ x. least ≤ x.0) }
 {
@@ -136,7 +141,18 @@ fn sizes_of(bytes: &[u8]) -> Result<(Sizes, &[u8]), FormatFault>
     let (alphabet, rest) = field_of(rest, 5, 0, MAX_SYMBOLS)?;
     let (rules, rest) = field_of(rest, 6, 0, MAX_SYMBOLS)?;
     let (symbols, rest) = field_of(rest, 7, 0, MAX_SYMBOLS)?;
-    Ok((Sizes { period, height, objects, span, alphabet, rules, symbols }, rest))
+    Ok((
+        Sizes {
+            period,
+            height,
+            objects,
+            span,
+            alphabet,
+            rules,
+            symbols,
+        },
+        rest,
+    ))
 }
 
 /// The header at the front, and the bytes after it.
@@ -147,12 +163,37 @@ pub fn header_of(bytes: &[u8]) -> Result<(Header, &[u8]), FormatFault>
 {
     let rest = magic_of(bytes)?;
     let (sizes, rest) = sizes_of(rest)?;
-    let Sizes { period, height, objects, span, alphabet, rules, symbols } = sizes;
+    let Sizes {
+        period,
+        height,
+        objects,
+        span,
+        alphabet,
+        rules,
+        symbols,
+    } = sizes;
     let (first, rest) = first_of(rest, span)?;
     let (x, rest) = coordinate_of(rest, 9)?;
     let (y, rest) = coordinate_of(rest, 10)?;
     let (cell, rest) = units_of(rest, 11)?;
     let (tick, rest) = units_of(rest, 12)?;
-    let frame = Frame { first, span, period, height, base: Cell { x, y }, cell, tick };
-    Ok((Header { frame, objects, alphabet, rules, symbols }, rest))
+    let frame = Frame {
+        first,
+        span,
+        period,
+        height,
+        base: Cell { x, y },
+        cell,
+        tick,
+    };
+    Ok((
+        Header {
+            frame,
+            objects,
+            alphabet,
+            rules,
+            symbols,
+        },
+        rest,
+    ))
 }

@@ -8,7 +8,7 @@ ghost use Rattle.index_format.specs.Spelling.{bits_in, bytes_for};
 use crate::fault::FormatFault;
 use crate::fields::word_of;
 use crate::place::Place;
-use std::alloc::{Global, AllocError};
+use std::alloc::{AllocError, Global};
 use track_types::{BitList, Kind};
 
 /// So many bits, and the bytes after the last one that they fill. Memory is taken only where the

@@ -46,7 +46,17 @@ fn period_of(
     let (lasts, rest) = bits_of(alloc, Place::of(Section::Lasts, period), count, rest)?;
     let (perm, rest) = shorts_of(alloc, Place::of(Section::Perm, period), count, rest)?;
     let (lengths, rest) = shorts_of(alloc, Place::of(Section::Lengths, period), count, rest)?;
-    Ok((PeriodParts { present, offsets, tree, lasts, perm, lengths }, rest))
+    Ok((
+        PeriodParts {
+            present,
+            offsets,
+            tree,
+            lasts,
+            perm,
+            lengths,
+        },
+        rest,
+    ))
 }
 
 /// So many periods, each of so many objects. Memory is taken only for those that the bytes hold: each

@@ -1,7 +1,6 @@
 use crate::{FormatFault, decode, encode};
-use std::alloc::AllocError;
-use std::alloc::Global;
-use std::test::{Fail, assert_eq, assert};
+use std::alloc::{AllocError, Global};
+use std::test::Fail;
 use track_types::{Flaw, Kind, Memory, Section};
 
 // The index of object 7 at (10, 10), (11, 10) and (12, 11), in periods of four instants.
@@ -47,20 +46,34 @@ fn damaged(alloc: Global, len: usize, place: usize, byte: u8) -> Result<Vec<u8>,
 }
 
 fn flaw(section: Section, index: u64, kind: Kind) -> Option<Flaw> {
-    Some(Flaw { section, period: 0, index, kind })
+    Some(Flaw {
+        section,
+        period: 0,
+        index,
+        kind,
+    })
 }
 
 #[test]
 fn the_whole_file_is_read_and_written_again(rt: HostRuntime) -> Result<(), Fail> {
     let alloc = rt.alloc();
     let parts = decode(alloc, &FILE).ok().ok_or("the file is an index")?;
-    assert_eq!(rt; (parts.frame.first, parts.frame.span, parts.frame.period), (0, 3, 4));
-    assert_eq!(rt; (parts.frame.height, parts.frame.base.x, parts.frame.base.y), (2, 10, 10));
+    assert_eq!(rt;
+        (parts.frame.first, parts.frame.span, parts.frame.period),
+        (0, 3, 4)
+    );
+    assert_eq!(rt;
+        (parts.frame.height, parts.frame.base.x, parts.frame.base.y),
+        (2, 10, 10)
+    );
     assert_eq!(rt; parts.objects.as_slice(), [7].as_slice());
     assert_eq!(rt; parts.alphabet.as_slice(), [2, 3].as_slice());
     assert_eq!(rt; parts.symbols.as_slice(), [0, 1].as_slice());
     for period in parts.periods.as_slice() {
-        assert_eq!(rt; (period.present.len(), period.tree.len(), period.lasts.len()), (1, 8, 1));
+        assert_eq!(rt;
+            (period.present.len(), period.tree.len(), period.lasts.len()),
+            (1, 8, 1)
+        );
         assert_eq!(rt; period.lengths.as_slice(), [2].as_slice());
     }
     let bytes = again(alloc, &FILE).ok().ok_or("the parts are written")?;
@@ -84,7 +97,10 @@ fn damage_is_named_by_its_place(rt: HostRuntime) -> Result<(), Fail> {
         (123, 200, 0, None),
     ];
     for &(len, place, byte, expected) in &cases {
-        assert_eq!(rt; flaw_of(alloc, &damaged(alloc, len, place, byte)?), expected);
+        assert_eq!(rt;
+            flaw_of(alloc, &damaged(alloc, len, place, byte)?),
+            expected
+        );
     }
     let mut longer = damaged(alloc, 123, 200, 0)?;
     longer.push(0).ok().ok_or("a byte more")?;
@@ -96,7 +112,25 @@ fn damage_is_named_by_its_place(rt: HostRuntime) -> Result<(), Fail> {
 fn four_billion_rows(alloc: Global) -> Result<Vec<u8>, AllocError> {
     let mut bytes = Vec::new(alloc);
     bytes.extend_from_slice(b"GRACT001")?;
-    for number in [1u32 << 22, 1, 1000, 1 << 22, 1, 21, 22_000, 0, 0, 0, 0, 0, 0, 1, 0, 1, 0] {
+    for number in [
+        1u32 << 22,
+        1,
+        1000,
+        1 << 22,
+        1,
+        21,
+        22_000,
+        0,
+        0,
+        0,
+        0,
+        0,
+        0,
+        1,
+        0,
+        1,
+        0,
+    ] {
         bytes.extend_from_slice(&number.to_le_bytes())?;
     }
     for object in 0..1000u32 {

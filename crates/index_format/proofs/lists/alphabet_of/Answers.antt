@@ -15,20 +15,20 @@ returns-in_err-value c =
     let p = err_from_is_err_and c.from_residual-in_err-value.result c.from_residual-in_err-value.ensures.1 in
     let is : c.flaw.result ≡ flaw_at Alphabet 0 c.loop-index.index Short = rw (c.flaw.ensures, c.of-place.ensures) refl in
     let read = rising_at-fault w64 Alphabet c.loop-index.index c.loop-index.values.items c.loop-index.rest.now c.flaw.result
-        c.loop-index.invariant.long is c.in_err-value.field-0.0 c.in_err-value.ensures in
+    c.loop-index.invariant.long is c.in_err-value.field-0.0 c.in_err-value.ensures in
     rw (p.1, p.2) (items_at-fault c.loop-index.invariant c.in_err-value.field-0.0 c.loop-index-test.true read)
 
 pub returns-then-value-index : goal.returns-then-value-index
 returns-then-value-index c =
     let is : c.flaw.result ≡ flaw_at Alphabet 0 c.loop-index.index Short = rw (c.flaw.ensures, c.of-place.ensures) refl in
     let falls = rises-below c.loop-index.values.items c.in_ok-value.value c.loop-index.index c.loop-index.invariant.long
-        c.index.result.now c.if-index-gt0.true c.index.ensures c.if-value-index.true in
+    c.index.result.now c.if-index-gt0.true c.index.ensures c.if-value-index.true in
     let read = rising_at-order w64 Alphabet c.loop-index.index c.loop-index.values.items c.loop-index.rest.now c.flaw.result
-        c.loop-index.invariant.long is c.in_ok-value.value c.in_ok-value.after.now c.in_ok-value.ensures falls in
+    c.loop-index.invariant.long is c.in_ok-value.value c.in_ok-value.after.now c.in_ok-value.ensures falls in
     let flaw : c.flaw-then-value-index.result ≡ flaw_at Alphabet 0 c.loop-index.index Order =
-        rw (c.flaw-then-value-index.ensures, c.of-place.ensures) refl in
+    rw (c.flaw-then-value-index.ensures, c.of-place.ensures) refl in
     rw flaw (items_at-fault c.loop-index.invariant (fault.Flaw (flaw_at Alphabet 0 c.loop-index.index Order))
-        c.loop-index-test.true read)
+    c.loop-index-test.true read)
 
 pub loop-index-preserved : goal.loop-index-preserved
 loop-index-preserved c =
@@ -42,10 +42,10 @@ loop-index-preserved c =
           w.if-index-gt0.false
     ] in
     let read = rising_at-ok w64 Alphabet c.loop-index.index c.loop-index.values.items c.loop-index.rest.now c.flaw.result
-        c.loop-index.invariant.long is c.in_ok-value.value c.in_ok-value.after.now c.in_ok-value.ensures above in
+    c.loop-index.invariant.long is c.in_ok-value.value c.in_ok-value.after.now c.in_ok-value.ensures above in
     let items : c.push.new.self.items ≡ c.loop-index.values.items ++ c.in_ok-value.value ∷ [] = grind (arith, common_steps) in
     items_at-more c.loop-index.invariant c.in_ok-value.value c.in_ok-value.after.now c.push.new.self.items
-        c.loop-index-test.true read items
+    c.loop-index-test.true read items
 
 pub returns : goal.returns
 returns c = rw c.new.ensures (items_at-done c.loop-index.invariant c.loop-index-test.false)

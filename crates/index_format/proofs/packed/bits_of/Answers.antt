@@ -25,15 +25,15 @@ module _ (c : In_ok-words_of) where
       ≡ Ok (take c.args.count (bits_of c.in_ok-words_of.field-0.items), c.split_at.result.1.now)
   read =
       let front : c.split_at.result.0.now ≡ take (bytes_for c.args.count) c.args.bytes.now =
-          c.split_at.ensures.front ∙ ap (λ n. take n c.args.bytes.now) count_is in
+      c.split_at.ensures.front ∙ ap (λ n. take n c.args.bytes.now) count_is in
       let back : c.split_at.result.1.now ≡ drop (bytes_for c.args.count) c.args.bytes.now =
-          c.split_at.ensures.back ∙ ap (λ n. drop n c.args.bytes.now) count_is in
+      c.split_at.ensures.back ∙ ap (λ n. drop n c.args.bytes.now) count_is in
       let same = take-bits_of-bytes c.in_ok-words_of.field-0.items c.split_at.result.0.now c.args.count long
-          c.in_ok-words_of.ensures.len c.in_ok-words_of.ensures.bits in
+      c.in_ok-words_of.ensures.len c.in_ok-words_of.ensures.bits in
       let enough : bytes_for c.args.count ≤ length c.args.bytes.now = omega (arith, c.if-bytes-len.false, count_is) in
       rw back (bits_at-ok c.args.place.section c.args.place.period c.args.count c.args.bytes.now
-          c.in_ok-words_of.field-0.items enough (ap (has_spare c.args.count) (sym front) ∙ full)
-          (same ∙ ap (λ bytes. take c.args.count (bits_in bytes)) front))
+      c.in_ok-words_of.field-0.items enough (ap (has_spare c.args.count) (sym front) ∙ full)
+      (same ∙ ap (λ bytes. take c.args.count (bits_in bytes)) front))
 
 pub new-requires : goal.new-requires
 new-requires c = packed c

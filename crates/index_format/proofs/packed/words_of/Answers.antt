@@ -13,8 +13,8 @@ loop-rest-init c =
 pub loop-rest-preserved : goal.loop-rest-preserved
 loop-rest-preserved c =
     IsSpelt-more c.loop-rest.invariant c.split_at.result.0.now c.split_at.result.1.now c.push.new.self.items
-        c.word_of.result c.loop-rest-test.true c.split_at.ensures.front c.split_at.ensures.back c.word_of.ensures
-        (omega (arith, c.word_of.type_inv)) c.in_ok-push.ensures.items
+    c.word_of.result c.loop-rest-test.true c.split_at.ensures.front c.split_at.ensures.back c.word_of.ensures
+    (omega (arith, c.word_of.type_inv)) c.in_ok-push.ensures.items
 
 pub returns-then-is_empty : goal.returns-then-is_empty
 returns-then-is_empty c =
@@ -26,6 +26,6 @@ pub returns : goal.returns
 returns c =
     let some : 0 < length c.loop-rest.rest.now = grind (arith, nat_tests, common_steps) in
     let last = IsSpelt-last c.loop-rest.invariant c.push-2.new.self.items c.last_word_of.result some
-        (omega (arith, c.loop-rest-test.false)) c.last_word_of.ensures (omega (arith, c.last_word_of.type_inv))
-        c.in_ok-push-2.ensures.items in
+    (omega (arith, c.loop-rest-test.false)) c.last_word_of.ensures (omega (arith, c.last_word_of.type_inv))
+    c.in_ok-push-2.ensures.items in
     record { len = last.0; bits = last.1 }
