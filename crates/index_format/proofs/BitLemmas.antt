@@ -1,7 +1,8 @@
 -- Bits in bytes: what the bytes spell, and that filling bytes with their bits gives them back.
 use Rattle.std.proofs.Common.{◌≡◌, ℕ, zero, suc, ◌+◌, ◌*◌, ◌/◌, ◌%◌, ◌^◌, ◌<◌, ◌≤◌, Bool, false, List, [], ◌∷◌, ◌++◌, length, take, drop, get_or, Ok, refl, sym, ap, ◌∙◌, inl, inr, append_assoc, arith, ltb, append-nil, drop-drop, take-add}
 use Rattle.std.proofs.Math.Nat.{mod-eq_of_lt, div-eq_of_lt, pow-le-pow_right}
-use Rattle.std.specs.Int.{w64, from_le_bytes}
+use Rattle.std.specs.Int.{w64, from_le_bytes, to_le_bytes}
+use Rattle.std.proofs.lemmas.Nat.{le_bytes_8, mod-pow-add}
 use Rattle.std.proofs.lemmas.List.{nil_from_length, length-append, length-drop, length-take, length-take-le, take-append-drop, get_or-drop, get_or-take, get_or_past, drop_at, drop_all, drop_more}
 use Rattle.std.proofs.lemmas.Bool.{cases_lt, ltb-false, le-ltb, lt-ltb}
 use Rattle.std.proofs.lemmas.Grind.{flat_map-append}
@@ -342,3 +343,70 @@ pub bits_at-ok : (section : Section) (period count : ℕ) (bytes words : List �
 unfolding bits_at
 bits_at-ok section period count bytes words enough full same =
     rw (le-ltb (length bytes) (bytes_for count) enough, full, same) refl
+
+-- the bytes that bits fill are bytes
+pub IsBytes-bytes_filled : (n : ℕ) (bits : List Bool) → IsBytes (bytes_filled n bits)
+unfolding bytes_filled
+IsBytes-bytes_filled zero bits i = omega arith
+IsBytes-bytes_filled (suc n) bits zero = byte_below bits
+IsBytes-bytes_filled (suc n) bits (suc i) = IsBytes-bytes_filled n (drop 8 bits) i
+
+-- more bytes are those of the bits that follow
+pub bytes_filled-more : (m n : ℕ) (bits : List Bool)
+    → bytes_filled (m + n) bits ≡ bytes_filled m bits ++ bytes_filled n (drop (8 * m) bits)
+unfolding bytes_filled
+bytes_filled-more zero n bits = let e : zero + n ≡ n = omega arith in rw e refl
+bytes_filled-more (suc m) n bits =
+    let next : suc m + n ≡ suc (m + n) = omega arith in
+    let place : 8 + 8 * m ≡ 8 * suc m = omega arith in
+    let rest = bytes_filled-more m n (drop 8 bits) in
+    let past = drop-drop (8 * m) 8 bits ∙ ap (λ k. drop k bits) place in
+    ap (λ k. bytes_filled k bits) next ∙ ap (λ tail. number_of (take 8 bits) ∷ tail)
+    (rest ∙ ap (λ list. bytes_filled m (drop 8 bits) ++ bytes_filled n list) past)
+
+-- the first of the bytes
+pub take-bytes_filled : (n m : ℕ) (bits : List Bool) → n ≤ m → take n (bytes_filled m bits) ≡ bytes_filled n bits
+unfolding bytes_filled
+take-bytes_filled zero m bits few = refl
+take-bytes_filled (suc n) zero bits few = absurd (omega arith)
+take-bytes_filled (suc n) (suc m) bits few =
+    ap (λ tail. number_of (take 8 bits) ∷ tail) (take-bytes_filled n m (drop 8 bits) (omega arith))
+
+-- what the first n bytes of bits spell
+pub number_of-first_bytes : (n : ℕ) (bits : List Bool) → number_of (bits_in (bytes_filled n bits)) ≡ number_of bits % 2 ^ (8 * n)
+unfolding bytes_filled
+number_of-first_bytes zero bits = number_of-no_bits ∙ omega arith
+number_of-first_bytes (suc n) bits =
+    let parts = number_of-bits_in (number_of (take 8 bits)) (bytes_filled n (drop 8 bits)) (byte_below bits) in
+    let rest = number_of-first_bytes n (drop 8 bits) in
+    let width : 8 * suc n ≡ 8 * n + 8 = omega arith in
+    let split : number_of bits % 2 ^ (8 * n + 8) ≡ (number_of bits / 2 ^ 8 % 2 ^ (8 * n)) * 2 ^ 8 + number_of bits % 2 ^ 8 =
+    mod-pow-add (number_of bits) (8 * n) 8 in
+    let high : number_of (bits_in (bytes_filled n (drop 8 bits))) ≡ number_of bits / 2 ^ 8 % 2 ^ (8 * n) =
+    rest ∙ ap (λ v. v % 2 ^ (8 * n)) (number_of-drop 8 bits) in
+    parts ∙ rw (high, number_of-take 8 bits) (sym (ap (λ k. number_of bits % 2 ^ k) width ∙ split))
+
+-- a word's bytes are those that its 64 bits fill
+pub to_le_bytes-window : (bits : List Bool) (i : ℕ) → to_le_bytes w64 (window_of bits (64 * i) 64) ≡ bytes_filled 8 (drop (64 * i) bits)
+unfolding window_of
+to_le_bytes-window bits i =
+    let xs = drop (64 * i) bits in
+    let bytes = bytes_filled 8 xs in
+    let long = length-bytes_filled 8 xs in
+    let fits = IsBytes-bytes_filled 8 xs in
+    let value = number_of-take 64 xs ∙ sym (number_of-first_bytes 8 xs) ∙ sym (from_le_bytes-bits_in bytes fits long) in
+    le_bytes_8 bytes (number_of (take 64 xs)) long fits value
+
+-- i words of the bits' bytes, and some bytes of the next
+pub bytes_filled-word : (bits : List Bool) (i n : ℕ) → n ≤ 8
+    → bytes_filled (8 * i) bits ++ take n (to_le_bytes w64 (window_of bits (64 * i) 64)) ≡ bytes_filled (8 * i + n) bits
+bytes_filled-word bits i n few =
+    let place : 8 * (8 * i) ≡ 64 * i = omega arith in
+    let word = ap (take n) (to_le_bytes-window bits i) ∙ take-bytes_filled n 8 (drop (64 * i) bits) few in
+    ap (λ tail. bytes_filled (8 * i) bits ++ tail) (word ∙ ap (λ k. bytes_filled n (drop k bits)) (sym place))
+    ∙ sym (bytes_filled-more (8 * i) n bits)
+
+-- no bytes are none
+pub bytes_filled-none : (bits : List Bool) → bytes_filled 0 bits ≡ []
+unfolding bytes_filled
+bytes_filled-none bits = refl

@@ -1,6 +1,5 @@
 -- The file of 123 bytes, and what is said of damaged ones.
-use Rattle.std.proofs.Common.{◌≡◌, ℕ, zero, suc, pos, Bool, true, false, List, [], ◌∷◌, ◌++◌, length, take, drop, ◌==◌, Result, Ok, Err, refl}
-use Rattle.track_types.specs.declared.flaw.Flaw.{Flaw}
+use Rattle.std.proofs.Common.{◌≡◌, ℕ, pos, true, false, List, [], ◌∷◌, ◌++◌, length, take, drop, ◌==◌, Ok, Err, refl}
 use Rattle.track_types.specs.declared.flaw.Kind.TheVariants.{Short, Magic, Extra, Pad}
 use Rattle.track_types.specs.declared.flaw.Section.TheVariants.{Header, Presence, Log, End}
 use Rattle.track_types.specs.declared.parts.Parts.{Parts}
@@ -8,14 +7,19 @@ use Rattle.packed_bits.specs.Bits.{number_of, ones_of}
 use Rattle.packed_bits.specs.Words.{low_bits}
 use Rattle.index_format.specs.Spelling.{bytes_of_parts, short_bytes, long_bytes, signed_bytes, rule_bytes, bits_in, bytes_filled, bit_bytes, period_bytes, size_bytes, header_bytes}
 use Rattle.index_format.specs.Fields.{flaw_at, number_at, items_at, short_at, rising_at, rule_at, bits_at}
-use Rattle.index_format.specs.Reading.{after_magic, field_at, signed_at, sizes_at, header_at, tree_length_at, period_at,, parts_in}
+use Rattle.index_format.specs.Reading.{after_magic, field_at, signed_at, sizes_at, header_at, tree_length_at, period_at, parts_in}
 
 -- object 7 at three instants, in one period
 abbrev whole : Parts
 whole = record {
   frame = record {
-    first = pos 0; span = 3; period = 4; height = 2;
-    base = record { x = pos 10; y = pos 10 }; cell = 1; tick = 1;
+    first = pos 0;
+    span = 3;
+    period = 4;
+    height = 2;
+    base = record { x = pos 10; y = pos 10 };
+    cell = 1;
+    tick = 1;
   };
   objects = 7 ∷ [];
   alphabet = 2 ∷ 3 ∷ [];

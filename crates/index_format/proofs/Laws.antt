@@ -1,19 +1,18 @@
 -- What is read is spelled so, and what is spelled so is read: for each field, list and section.
-use Rattle.std.proofs.Common.{◌≡◌, ℕ, ℤ, zero, suc, pos, ◌+◌, ◌-◌, ◌*◌, ◌^◌, ◌<◌, ◌≤◌, Bool, true, false, cond, ltb, List, [], ◌∷◌, ◌++◌, length, take, drop, All, Result, Ok, Err, refl, sym, ap, tt, ◌∙◌, append_assoc, append-nil, arith}
+use Rattle.std.proofs.Common.{◌≡◌, ℕ, zero, suc, ◌+◌, ◌^◌, ◌<◌, Bool, true, false, cond, ltb, List, [], ◌∷◌, ◌++◌, length, take, drop, Result, Ok, Err, refl, sym, ap, ◌∙◌, append_assoc, append-nil, arith}
 use Rattle.std.specs.Prelude.{IfOk}
 use Rattle.std.specs.List.{flat_map}
-use Rattle.std.specs.Int.{Width, w32, w64, byte_len, from_le_bytes, to_le_bytes}
+use Rattle.std.specs.Int.{Width, w32, w64, byte_len, from_le_bytes}
 use Rattle.std.proofs.lemmas.Bool.{ltb-false, le-ltb}
 use Rattle.std.proofs.lemmas.List.{take_at, drop_at, take-append-drop, length-append, length-take-le}
 use Rattle.std.proofs.lemmas.List.Concat.{flat_map-cons}
-use Rattle.std.proofs.lemmas.Grind.{flat_map-append}
 use Rattle.std.proofs.lemmas.Nat.{le_bytes_4, le_bytes_8, from_le_bytes-to_le_bytes_4, from_le_bytes-to_le_bytes_8}
 use Rattle.packed_bits.specs.Bits.{ones_of}
 use Rattle.std.proofs.lemmas.List.{flat_map_more}
 use Rattle.track_types.specs.declared.flaw.Flaw.{Flaw}
 use Rattle.track_types.specs.declared.flaw.Section.{Section}
-use Rattle.index_format.specs.Spelling.{short_bytes, long_bytes, rule_bytes, bit_bytes, bits_in, bytes_for}
-use Rattle.index_format.specs.Fields.{Taken, ◌>>=◌, flaw_at, number_at, items_at, short_at, rises, rising_at, rule_at, has_spare, bits_at}
+use Rattle.index_format.specs.Spelling.{short_bytes, long_bytes, bit_bytes, bits_in, bytes_for}
+use Rattle.index_format.specs.Fields.{Taken, ◌>>=◌, number_at, items_at, has_spare, bits_at}
 use Rattle.index_format.proofs.BitLemmas.{IsBytes, IsBytes-take, IsBytes-drop, bit_bytes-take, take-bits_in, spare-bit_bytes, length-bits_in, length-bit_bytes}
 
 -- what was taken is the text, and bytes are left
@@ -28,27 +27,34 @@ Takes-then {bytes} {one} {middle} {two} {rest} first second = record {
   fits = second.fits;
 }
 
+-- the text in other brackets
+pub Takes-text : {bytes text rest : List ℕ} (same : List ℕ) → same ≡ text → Takes bytes text rest → Takes bytes same rest
+Takes-text {bytes} {text} {rest} same is taken = record {
+  parts = taken.parts ∙ ap (λ text. text ++ rest) (sym is);
+  fits = taken.fits;
+}
+
 -- nothing was taken
 pub Takes-none : {bytes : List ℕ} → IsBytes bytes → Takes bytes [] bytes
 Takes-none fits = record { parts = refl; fits = fits }
 
 -- after a step that did not fail the next one is judged
-pub then_ok : {A B : Type 0} {P : A → Type 0} {Q : B → Type 0} {f : A → Result B Flaw} (read : Result A Flaw)
+pub then_ok : {A B : Type 0} {P : A → Type 0} (Q : B → Type 0) (f : A → Result B Flaw) (read : Result A Flaw)
     → IfOk read P → ((a : A) → P a → IfOk (f a) Q) → IfOk (read >>= f) Q
-then_ok (Ok a) held next = next a held
-then_ok (Err flaw) held next = tt
+then_ok Q f (Ok a) held next = next a held
+then_ok Q f (Err flaw) held next = tt
 
 -- a test that stands after a step
-pub test_ok : {A : Type 0} {Q : A → Type 0} (test : Bool) {a : A} {flaw : Flaw}
+pub test_ok : {A : Type 0} (Q : A → Type 0) (a : A) (flaw : Flaw) (test : Bool)
     → (test ≡ true → Q a) → IfOk (cond test (Ok a) (Err flaw)) Q
-test_ok true held = held refl
-test_ok false held = tt
+test_ok Q a flaw true held = held refl
+test_ok Q a flaw false held = tt
 
 -- a test that must not hold
-pub guard_ok : {A : Type 0} {Q : A → Type 0} (test : Bool) {read : Result A Flaw} {flaw : Flaw}
+pub guard_ok : {A : Type 0} (Q : A → Type 0) (read : Result A Flaw) (flaw : Flaw) (test : Bool)
     → (test ≡ false → IfOk read Q) → IfOk (cond test (Err flaw) read) Q
-guard_ok true held = tt
-guard_ok false held = held refl
+guard_ok Q read flaw true held = tt
+guard_ok Q read flaw false held = held refl
 
 -- numbers of a width: their bytes, and back
 pub record IsWide (w : Width) (limit : ℕ) (spell : ℕ → List ℕ) : Type 0 where
@@ -80,7 +86,7 @@ module _ {w : Width} {limit : ℕ} {spell : ℕ → List ℕ} (wide : IsWide w l
   pub number_at-takes : (bytes : List ℕ) → IsBytes bytes
       → IfOk (number_at w missing bytes) (λ n. Takes bytes (spell n.0) n.1 × (n.0 < limit))
   unfolding number_at
-  number_at-takes bytes fits = guard_ok (ltb (length bytes) (byte_len w)) (λ enough.
+  number_at-takes bytes fits = guard_ok _ _ _ (ltb (length bytes) (byte_len w)) (λ enough.
       let long = length-take-le (byte_len w) bytes (ltb-false _ _ enough) in
       let front = IsBytes-take (byte_len w) bytes fits in (
         record {
@@ -120,7 +126,7 @@ module _ {A : Type 0} {next : List A → List ℕ → Taken A} {spell : A → Li
   unfolding items_at
   items_at-read zero seen bytes holds fits = record { holds = holds; long = omega arith; text = refl; fits = fits }
   items_at-read (suc count) seen bytes holds fits =
-      then_ok (next seen bytes) (listed.takes seen bytes holds fits) (λ item taken.
+      then_ok _ _ (next seen bytes) (listed.takes seen bytes holds fits) (λ item taken.
       IsRead-more item.0 item.1 (items_at next count (seen ++ item.0 ∷ []) item.1) taken.0.parts
       (items_at-read count (seen ++ item.0 ∷ []) item.1 taken.1 taken.0.fits))
     where
@@ -174,10 +180,10 @@ pub bits_at-takes : (section : Section) (period count : ℕ) (bytes : List ℕ) 
 unfolding bits_at
 bits_at-takes section period count bytes fits =
     let front = take (bytes_for count) bytes in
-    guard_ok (ltb (length bytes) (bytes_for count)) (λ enough.
-    guard_ok (has_spare count front) (λ full.
+    guard_ok _ _ _ (ltb (length bytes) (bytes_for count)) (λ enough.
+    guard_ok _ _ _ (has_spare count front) (λ full.
     let long = length-take-le (bytes_for count) bytes (ltb-false _ _ enough) in
-    let spare = omega (arith, ltb-false _ _ full) in
+    let spare : ones_of (drop count (bits_in front)) ≡ 0 = omega (arith, ltb-false _ _ full) in
     let text = bit_bytes-take count front (IsBytes-take (bytes_for count) bytes fits) long spare in (
       record {
         parts = sym (rw text (take-append-drop (bytes_for count) bytes));

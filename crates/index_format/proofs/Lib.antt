@@ -1,4 +1,8 @@
 mod ItemLemmas
 mod BitLemmas
 mod Laws
+mod ListLaws
+mod PeriodLaws
+mod HeaderLaws
+mod PartsLaws
 mod Examples

@@ -30,3 +30,18 @@ impl<T: Drop> From<AllocFailed<T>> for FormatFault {
         FormatFault::Memory
     }
 }
+
+impl Display for FormatFault {
+    fn fmt<W: Write>(&self, f: &mut Formatter<W>) -> fmt::Result {
+        match self {
+            FormatFault::Flaw(flaw) => write!(
+                f,
+                "{:?} {:?} in period {} at place {}",
+                flaw.kind, flaw.section, flaw.period, flaw.index
+            ),
+            FormatFault::Memory => f.write_str("out of memory"),
+        }
+    }
+}
+
+impl Error for FormatFault {}

@@ -1,8 +1,12 @@
-//! The bytes of an index file: writing the parts of an index, and reading them with the first flaw
-//! named by its place.
+//! The bytes of an index file: `encode` writes the parts of an index, and `decode` reads them again
+//! or names the first flaw by its section, period, index and kind.
+//!
+//! Parts that are shaped have one spelling, and bytes are read exactly where they are the spelling of
+//! shaped parts. The crate stands on track_types, packed_bits and list_laws.
 #![tactic(auto)]
 
 mod decoding;
+mod encoding;
 mod fault;
 mod fields;
 mod header;
@@ -11,6 +15,10 @@ mod lists;
 mod packed;
 mod periods;
 mod place;
+mod putting;
+#[cfg(test)]
+mod tests;
 
 pub use decoding::decode;
+pub use encoding::encode;
 pub use fault::FormatFault;

@@ -1,0 +1,280 @@
+-- The header: what is read is spelled so and in its ranges, and what is in its ranges is read again.
+use Rattle.std.proofs.Common.{◌≡◌, ℕ, ℤ, pos, ◌-◌, ◌*◌, ◌^◌, ◌<◌, ◌≤◌, Bool, true, false, ltb, List, ◌++◌, length, take, drop, Ok, refl, sym, ap, T, FitsSigned, ◌∙◌, append_assoc, arith}
+use Rattle.std.specs.Prelude.{IfOk, nat_le, neg_ℤ, ◌≤ℤ◌, ◌+ℤ◌}
+use Rattle.std.specs.Int.{Width, w32, w64, cast_signed, cast_unsigned, div_ceil}
+use Rattle.std.specs.Int.Signed.{le_z, le_z_yes}
+use Rattle.std.specs.Str.{bytes_eq}
+use Rattle.std.proofs.lemmas.Bool.{le-ltb, and_parts, and_from}
+use Rattle.std.proofs.lemmas.Bool.Decides.{nat_tests}
+use Rattle.std.proofs.lemmas.Float.{T_from_true}
+use Rattle.std.proofs.lemmas.Int.{ints, of_z-to_z, to_z-of_z, fits_signed_from_abs}
+use Rattle.std.proofs.Math.Facts.{Fits-of_z}
+use Rattle.std.proofs.lemmas.List.{take-append-drop}
+use Rattle.std.proofs.lemmas.Slice.Eq.{bytes_eq-Decides}
+use Rattle.track_types.specs.Frame.{IsFrame}
+use Rattle.track_types.specs.Near.{IsNear}
+use Rattle.track_types.specs.Limits.{limit_of}
+use Rattle.track_types.specs.declared.limit.LimitKind.TheVariants as limits
+use Rattle.track_types.specs.declared.limit.TheConstants.{MAX_HEIGHT}
+use Rattle.track_types.specs.declared.flaw.Kind.TheVariants.{Short}
+use Rattle.index_format.specs.declared.header.Header.{Header}
+use Rattle.index_format.specs.declared.header.Sizes.{Sizes}
+use Rattle.index_format.specs.Spelling.{magic, short_bytes, long_bytes, signed_bytes, size_bytes, header_bytes, sizes_of}
+use Rattle.index_format.specs.Fields.{number_at}
+use Rattle.index_format.specs.Reading.{header_flaw, is_between, is_span, is_first, is_near, far, after_magic, field_at, signed_at, sizes_at, header_at}
+use Rattle.index_format.proofs.BitLemmas.{IsBytes, IsBytes-drop}
+use Rattle.index_format.proofs.Laws.{Takes, Takes-then, Takes-text, then_ok, test_ok, guard_ok, IsWide, wide32, wide64, number_at-takes, number_at-again}
+
+-- the tests of a range
+
+between : (least greatest n : ℕ) → is_between least greatest n ≡ true → (least ≤ n) × (n ≤ greatest)
+between least greatest n test =
+    let both = and_parts (nat_le least n) (nat_le n greatest) test in
+    (grind (arith, nat_tests, both.0), grind (arith, nat_tests, both.1))
+
+is_between-true : (least greatest n : ℕ) → least ≤ n → n ≤ greatest → is_between least greatest n ≡ true
+is_between-true least greatest n low high =
+    and_from (nat_le least n) (nat_le n greatest) (grind (arith, nat_tests, low)) (grind (arith, nat_tests, high))
+
+at_most : (a b : ℤ) → le_z a b ≡ true → a ≤ℤ b
+at_most a b test = le_z_yes (T_from_true (le_z a b) test)
+
+is_true : (b : Bool) → T b → b ≡ true
+is_true true holds = refl
+is_true false holds = absurd holds
+
+at_most-true : (a b : ℤ) → a ≤ℤ b → le_z a b ≡ true
+at_most-true a b low = is_true (le_z a b) low.le
+
+-- fields
+
+module _ {w : Width} {limit : ℕ} {spell : ℕ → List ℕ} (wide : IsWide w limit spell) (index : ℕ) (passes : ℕ → Bool) where
+  pub field_at-takes : (bytes : List ℕ) → IsBytes bytes
+      → IfOk (field_at w index passes bytes) (λ n. Takes bytes (spell n.0) n.1 × (n.0 < limit) × (passes n.0 ≡ true))
+  unfolding field_at
+  field_at-takes bytes fits =
+      then_ok _ _ (number_at w (header_flaw index Short) bytes) (number_at-takes wide (header_flaw index Short) bytes fits) (λ n taken.
+      test_ok _ _ _ (passes n.0) (λ good. (taken.0, taken.1, good)))
+
+  pub field_at-again : (n : ℕ) (rest : List ℕ) → n < limit → passes n ≡ true → field_at w index passes (spell n ++ rest) ≡ Ok (n, rest)
+  unfolding field_at
+  field_at-again n rest small good =
+      let read = number_at-again wide (header_flaw index Short) n rest small in
+      rw (read, good) refl
+
+module _ (index : ℕ) (passes : ℤ → Bool) where
+  signed_at-takes : (bytes : List ℕ) → IsBytes bytes
+      → IfOk (signed_at index passes bytes) (λ z. Takes bytes (signed_bytes z.0) z.1 × (passes z.0 ≡ true))
+  unfolding signed_at signed_bytes
+  signed_at-takes bytes fits =
+      then_ok _ _ (number_at w64 (header_flaw index Short) bytes) (number_at-takes wide64 (header_flaw index Short) bytes fits) (λ n taken.
+      test_ok _ _ _ (passes (cast_signed w64 n.0)) (λ good.
+      let back : cast_unsigned w64 (cast_signed w64 n.0) ≡ n.0 = of_z-to_z w64 n.0 taken.1 in
+      (rw back taken.0, good)))
+
+  signed_at-again : (z : ℤ) (rest : List ℕ) → FitsSigned w64 z → passes z ≡ true
+      → signed_at index passes (signed_bytes z ++ rest) ≡ Ok (z, rest)
+  unfolding signed_at signed_bytes
+  signed_at-again z rest fits good =
+      let bits = cast_unsigned w64 z in
+      let read = number_at-again wide64 (header_flaw index Short) bits rest (omega (arith, Fits-of_z {w = w64} {z = z} fits)) in
+      let back : cast_signed w64 bits ≡ z = to_z-of_z w64 z fits in
+      rw (read, back, good) refl
+
+-- the eight bytes at the front
+after_magic-takes : (bytes : List ℕ) → IsBytes bytes → IfOk (after_magic bytes) (Takes bytes magic)
+unfolding after_magic
+after_magic-takes bytes fits =
+    guard_ok _ _ _ (ltb (length bytes) 8) (λ enough.
+    test_ok _ _ _ (bytes_eq (take 8 bytes) magic) (λ same.
+    let front : take 8 bytes ≡ magic = (bytes_eq-Decides (take 8 bytes) magic).0 same in
+    record { parts = sym (take-append-drop 8 bytes) ∙ ap (λ text. text ++ drop 8 bytes) front; fits = IsBytes-drop 8 bytes fits }))
+
+after_magic-again : (rest : List ℕ) → after_magic (magic ++ rest) ≡ Ok rest
+unfolding after_magic
+after_magic-again rest =
+    let enough : ltb (length (magic ++ rest)) 8 ≡ false = le-ltb (length (magic ++ rest)) 8 (omega arith) in
+    rw enough refl
+
+-- the numbers of four bytes are in their ranges
+pub record AreSizes (sizes : Sizes) : Type 0 where
+  pub period : (1 ≤ sizes.period) × (sizes.period ≤ 2 ^ 22)
+  pub height : (1 ≤ sizes.height) × (sizes.height ≤ MAX_HEIGHT)
+  pub objects : (1 ≤ sizes.objects) × (sizes.objects ≤ limit_of limits.Objects)
+  pub span : (1 ≤ sizes.span) × (sizes.span ≤ limit_of limits.Span)
+  pub blocks : sizes.objects * div_ceil sizes.span sizes.period ≤ limit_of limits.Blocks
+  pub alphabet : sizes.alphabet ≤ limit_of limits.Symbols
+  pub rules : sizes.rules ≤ limit_of limits.Symbols
+  pub symbols : sizes.symbols ≤ limit_of limits.Symbols
+
+-- sizes that were read are spelled so
+sizes_at-takes : (bytes : List ℕ) → IsBytes bytes → IfOk (sizes_at bytes) (λ s. Takes bytes (size_bytes s.0) s.1 × AreSizes s.0)
+unfolding sizes_at size_bytes
+sizes_at-takes bytes fits =
+    let many = limit_of limits.Symbols in
+    then_ok _ _ (field_at w32 1 (is_between 1 (2 ^ 22)) bytes) (field_at-takes wide32 1 (is_between 1 (2 ^ 22)) bytes fits) (λ period t1.
+    then_ok _ _ (field_at w32 2 (is_between 1 MAX_HEIGHT) period.1) (field_at-takes wide32 2 (is_between 1 MAX_HEIGHT) period.1 t1.0.fits) (λ height t2.
+    then_ok _ _ (field_at w32 3 (is_between 1 (limit_of limits.Objects)) height.1) (field_at-takes wide32 3 (is_between 1 (limit_of limits.Objects)) height.1 t2.0.fits) (λ objects t3.
+    then_ok _ _ (field_at w32 4 (is_span objects.0 period.0) objects.1) (field_at-takes wide32 4 (is_span objects.0 period.0) objects.1 t3.0.fits) (λ span t4.
+    then_ok _ _ (field_at w32 5 (is_between 0 many) span.1) (field_at-takes wide32 5 (is_between 0 many) span.1 t4.0.fits) (λ alphabet t5.
+    then_ok _ _ (field_at w32 6 (is_between 0 many) alphabet.1) (field_at-takes wide32 6 (is_between 0 many) alphabet.1 t5.0.fits) (λ rules t6.
+    then_ok _ _ (field_at w32 7 (is_between 0 many) rules.1) (field_at-takes wide32 7 (is_between 0 many) rules.1 t6.0.fits) (λ symbols t7.
+    let sizes : Sizes = record {
+      period = period.0;
+      height = height.0;
+      objects = objects.0;
+      span = span.0;
+      alphabet = alphabet.0;
+      rules = rules.0;
+      symbols = symbols.0;
+    } in
+    let blocks = objects.0 * div_ceil span.0 period.0 in
+    let both = and_parts (is_between 1 (limit_of limits.Span) span.0) (nat_le blocks (limit_of limits.Blocks)) t4.2 in (
+      Takes-text (size_bytes sizes) (simp append_assoc refl)
+          (Takes-then t1.0 (Takes-then t2.0 (Takes-then t3.0 (Takes-then t4.0 (Takes-then t5.0 (Takes-then t6.0 t7.0)))))),
+      record {
+        period = between 1 (2 ^ 22) period.0 t1.2;
+        height = between 1 MAX_HEIGHT height.0 t2.2;
+        objects = between 1 (limit_of limits.Objects) objects.0 t3.2;
+        span = between 1 (limit_of limits.Span) span.0 both.0;
+        blocks = grind (arith, nat_tests, both.1);
+        alphabet = (between 0 many alphabet.0 t5.2).1;
+        rules = (between 0 many rules.0 t6.2).1;
+        symbols = (between 0 many symbols.0 t7.2).1;
+      },
+    ))))))))
+
+-- sizes that are spelled so are read
+sizes_at-again : (sizes : Sizes) (rest : List ℕ) → AreSizes sizes → sizes_at (size_bytes sizes ++ rest) ≡ Ok (sizes, rest)
+unfolding sizes_at size_bytes
+sizes_at-again sizes rest are =
+    let many = limit_of limits.Symbols in
+    let r7 = short_bytes sizes.symbols ++ rest in
+    let r6 = short_bytes sizes.rules ++ r7 in
+    let r5 = short_bytes sizes.alphabet ++ r6 in
+    let r4 = short_bytes sizes.span ++ r5 in
+    let r3 = short_bytes sizes.objects ++ r4 in
+    let r2 = short_bytes sizes.height ++ r3 in
+    let text : size_bytes sizes ++ rest ≡ short_bytes sizes.period ++ r2 = simp append_assoc refl in
+    let blocks = sizes.objects * div_ceil sizes.span sizes.period in
+    let few : nat_le blocks (limit_of limits.Blocks) ≡ true = grind (arith, nat_tests, are.blocks) in
+    let span = and_from (is_between 1 (limit_of limits.Span) sizes.span) (nat_le blocks (limit_of limits.Blocks))
+    (is_between-true 1 (limit_of limits.Span) sizes.span are.span.0 are.span.1) few in
+    ap sizes_at text ∙ rw (
+      field_at-again wide32 1 (is_between 1 (2 ^ 22)) sizes.period r2 (omega (arith, are.period.1))
+          (is_between-true 1 (2 ^ 22) sizes.period are.period.0 are.period.1),
+      field_at-again wide32 2 (is_between 1 MAX_HEIGHT) sizes.height r3 (omega (arith, are.height.1))
+          (is_between-true 1 MAX_HEIGHT sizes.height are.height.0 are.height.1),
+      field_at-again wide32 3 (is_between 1 (limit_of limits.Objects)) sizes.objects r4 (omega (arith, are.objects.1))
+          (is_between-true 1 (limit_of limits.Objects) sizes.objects are.objects.0 are.objects.1),
+      field_at-again wide32 4 (is_span sizes.objects sizes.period) sizes.span r5 (omega (arith, are.span.1)) span,
+      field_at-again wide32 5 (is_between 0 many) sizes.alphabet r6 (omega (arith, are.alphabet))
+          (is_between-true 0 many sizes.alphabet (omega arith) are.alphabet),
+      field_at-again wide32 6 (is_between 0 many) sizes.rules r7 (omega (arith, are.rules))
+          (is_between-true 0 many sizes.rules (omega arith) are.rules),
+      field_at-again wide32 7 (is_between 0 many) sizes.symbols rest (omega (arith, are.symbols))
+          (is_between-true 0 many sizes.symbols (omega arith) are.symbols),
+    ) refl
+
+-- a header in its ranges
+pub record IsHeader (header : Header) : Type 0 where
+  pub frame : IsFrame header.frame
+  pub sizes : AreSizes (sizes_of header)
+
+-- a number at most 2^40 from 0 fits in eight bytes
+near_fits : (z : ℤ) → neg_ℤ far ≤ℤ z → z ≤ℤ far → FitsSigned w64 z
+near_fits z low high = fits_signed_from_abs w64 z (omega (arith, ints, low, high))
+
+near : (z : ℤ) → is_near z ≡ true → IsNear z
+near z test =
+    let both = and_parts (le_z (neg_ℤ far) z) (le_z z far) test in
+    record { low = at_most (neg_ℤ far) z both.0; high = at_most z far both.1 }
+
+near-true : (z : ℤ) → IsNear z → is_near z ≡ true
+near-true z is = and_from (le_z (neg_ℤ far) z) (le_z z far) (at_most-true (neg_ℤ far) z is.low) (at_most-true z far is.high)
+
+-- the first instant is not after the last
+first_before : (first : ℤ) (more : ℕ) → (first +ℤ pos more) ≤ℤ far → first ≤ℤ far
+first_before first more ends = omega (arith, ints, ends)
+
+-- a header that was read is spelled so
+pub header_at-takes : (bytes : List ℕ) → IsBytes bytes → IfOk (header_at bytes) (λ h. Takes bytes (header_bytes h.0) h.1 × IsHeader h.0)
+unfolding header_at header_bytes
+header_at-takes bytes fits =
+    let units = is_between 1 (2 ^ 30) in
+    then_ok _ _ (after_magic bytes) (after_magic-takes bytes fits) (λ rest t0.
+    then_ok _ _ (sizes_at rest) (sizes_at-takes rest t0.fits) (λ sizes t1.
+    then_ok _ _ (signed_at 8 (is_first sizes.0.span) sizes.1) (signed_at-takes 8 (is_first sizes.0.span) sizes.1 t1.0.fits) (λ first t2.
+    then_ok _ _ (signed_at 9 is_near first.1) (signed_at-takes 9 is_near first.1 t2.0.fits) (λ x t3.
+    then_ok _ _ (signed_at 10 is_near x.1) (signed_at-takes 10 is_near x.1 t3.0.fits) (λ y t4.
+    then_ok _ _ (field_at w64 11 units y.1) (field_at-takes wide64 11 units y.1 t4.0.fits) (λ cell t5.
+    then_ok _ _ (field_at w64 12 units cell.1) (field_at-takes wide64 12 units cell.1 t5.0.fits) (λ tick t6.
+    let header : Header = record {
+      frame = record {
+        first = first.0;
+        span = sizes.0.span;
+        period = sizes.0.period;
+        height = sizes.0.height;
+        base = record { x = x.0; y = y.0 };
+        cell = cell.0;
+        tick = tick.0;
+      };
+      objects = sizes.0.objects;
+      alphabet = sizes.0.alphabet;
+      rules = sizes.0.rules;
+      symbols = sizes.0.symbols;
+    } in
+    let begin = and_parts (le_z (neg_ℤ far) first.0) (le_z (first.0 +ℤ pos (sizes.0.span - 1)) far) t2.1 in
+    let cells = between 1 (2 ^ 30) cell.0 t5.2 in
+    let ticks = between 1 (2 ^ 30) tick.0 t6.2 in
+    let are = t1.1 in (
+      Takes-text (header_bytes header) (simp append_assoc refl)
+          (Takes-then t0 (Takes-then t1.0 (Takes-then t2.0 (Takes-then t3.0 (Takes-then t4.0 (Takes-then t5.0 t6.0)))))),
+      record {
+        frame = record {
+          periods = record { some = are.period.0; limit = are.period.1 };
+          some = are.height.0;
+          limit = are.height.1;
+          long = are.span.0;
+          short = are.span.1;
+          begins = at_most (neg_ℤ far) first.0 begin.0;
+          ends = at_most (first.0 +ℤ pos (sizes.0.span - 1)) far begin.1;
+          columns = near x.0 t3.1;
+          lines = near y.0 t4.1;
+          cells = record { some = cells.0; limit = cells.1 };
+          ticks = record { some = ticks.0; limit = ticks.1 };
+        };
+        sizes = are;
+      },
+    ))))))))
+
+-- a header in its ranges that is spelled so is read
+pub header_at-again : (header : Header) (rest : List ℕ) → IsHeader header → header_at (header_bytes header ++ rest) ≡ Ok (header, rest)
+unfolding header_at header_bytes
+header_at-again header rest is =
+    let frame = header.frame in
+    let units = is_between 1 (2 ^ 30) in
+    let r6 = long_bytes frame.tick ++ rest in
+    let r5 = long_bytes frame.cell ++ r6 in
+    let r4 = signed_bytes frame.base.y ++ r5 in
+    let r3 = signed_bytes frame.base.x ++ r4 in
+    let r2 = signed_bytes frame.first ++ r3 in
+    let r1 = size_bytes (sizes_of header) ++ r2 in
+    let text : header_bytes header ++ rest ≡ magic ++ r1 = simp append_assoc refl in
+    let begins = and_from (le_z (neg_ℤ far) frame.first) (le_z (frame.first +ℤ pos (frame.span - 1)) far)
+    (at_most-true (neg_ℤ far) frame.first is.frame.begins)
+    (at_most-true (frame.first +ℤ pos (frame.span - 1)) far is.frame.ends) in
+    ap header_at text ∙ rw (
+      after_magic-again r1,
+      sizes_at-again (sizes_of header) r2 is.sizes,
+      signed_at-again 8 (is_first frame.span) frame.first r3
+          (near_fits frame.first is.frame.begins (first_before frame.first (frame.span - 1) is.frame.ends)) begins,
+      signed_at-again 9 is_near frame.base.x r4 (near_fits frame.base.x is.frame.columns.low is.frame.columns.high)
+          (near-true frame.base.x is.frame.columns),
+      signed_at-again 10 is_near frame.base.y r5 (near_fits frame.base.y is.frame.lines.low is.frame.lines.high)
+          (near-true frame.base.y is.frame.lines),
+      field_at-again wide64 11 units frame.cell r6 (omega (arith, is.frame.cells.limit))
+          (is_between-true 1 (2 ^ 30) frame.cell is.frame.cells.some is.frame.cells.limit),
+      field_at-again wide64 12 units frame.tick rest (omega (arith, is.frame.ticks.limit))
+          (is_between-true 1 (2 ^ 30) frame.tick is.frame.ticks.some is.frame.ticks.limit),
+    ) refl

@@ -1,0 +1,24 @@
+use Rattle.std.proofs.Common.{◌≡◌, ℕ, List, [], ◌∷◌, ◌++◌, refl, append_assoc, append-nil, rules}
+use Rattle.std.specs.Int.{w64, cast_unsigned}
+use Rattle.std.specs.List.{flat_map}
+use Rattle.index_format.specs.declared.header.Header.{Header}
+use Rattle.index_format.specs.Spelling.{magic, short_bytes, long_bytes, header_bytes, size_bytes, signed_bytes}
+use Rattle.index_format.proofs.encoding.put_header.Goals as goal
+
+-- the three pieces are the header
+pieces : (out : List ℕ) (h : Header)
+    → ((out ++ magic)
+    ++ flat_map short_bytes (h.frame.period ∷ h.frame.height ∷ h.objects ∷ h.frame.span ∷ h.alphabet ∷ h.rules ∷ h.symbols ∷ []))
+    ++ flat_map long_bytes (cast_unsigned w64 h.frame.first ∷ cast_unsigned w64 h.frame.base.x
+    ∷ cast_unsigned w64 h.frame.base.y ∷ h.frame.cell ∷ h.frame.tick ∷ [])
+    ≡ out ++ header_bytes h
+unfolding header_bytes size_bytes signed_bytes
+pieces out h = simp (append_assoc, append-nil) refl
+
+pub returns : goal.returns
+returns c =
+    let places : c.places_of.result ≡ cast_unsigned w64 c.args.header.now.frame.first
+    ∷ cast_unsigned w64 c.args.header.now.frame.base.x ∷ cast_unsigned w64 c.args.header.now.frame.base.y
+    ∷ c.args.header.now.frame.cell ∷ c.args.header.now.frame.tick ∷ [] = search rules in
+    rw (c.in_ok-put_longs.ensures, places, c.in_ok-put_shorts.ensures, c.in_ok-extend_from_slice.ensures.items)
+    (pieces c.args.out.now.items c.args.header.now)

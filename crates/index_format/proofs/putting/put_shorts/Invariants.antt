@@ -1,0 +1,7 @@
+use Rattle.std.proofs.Common.{◌≡◌, ◌++◌, take}
+use Rattle.std.specs.List.{flat_map}
+use Rattle.index_format.specs.Spelling.{short_bytes}
+use Rattle.index_format.proofs.putting.put_shorts.Given as goal
+
+abbrev pub invariant-loop-number : goal.invariant-loop-number
+invariant-loop-number l = l.out.items ≡ l.initial.out.items ++ flat_map short_bytes (take l.number-index l.numbers)

@@ -1,0 +1,249 @@
+#!/usr/bin/env python3
+"""Prints all rows of an index file as `object,instant,x,y` in cells, or refuses it, as docs/FORMAT.md says.
+
+    read_index.py FILE             prints the rows
+    read_index.py --check FILE     prints nothing where the file is an index
+
+A refusal is printed on standard error as `SECTION period PERIOD place INDEX: KIND`, with status 1.
+"""
+
+import math
+import sys
+
+
+class Flaw(Exception):
+    def __init__(self, section, period, index, kind):
+        super().__init__(f"{section} period {period} place {index}: {kind}")
+
+
+class Reader:
+    """The bytes that are left, from the front."""
+
+    def __init__(self, data):
+        self.data, self.at = data, 0
+
+    def number(self, size, section, period, index, signed=False):
+        if len(self.data) - self.at < size:
+            raise Flaw(section, period, index, "short")
+        self.at += size
+        return int.from_bytes(self.data[self.at - size:self.at], "little", signed=signed)
+
+    def field(self, size, index, least, greatest, signed=False):
+        value = self.number(size, "header", 0, index, signed)
+        if not least <= value <= greatest:
+            raise Flaw("header", 0, index, "field")
+        return value
+
+    def numbers(self, count, section, period=0, size=4, rising=False):
+        values = []
+        for index in range(count):
+            value = self.number(size, section, period, index)
+            if rising and values and value <= values[-1]:
+                raise Flaw(section, period, index, "order")
+            values.append(value)
+        return values
+
+    def rules(self, count):
+        rules = []
+        for index in range(count):
+            if len(self.data) - self.at < 8:
+                raise Flaw("rules", 0, index, "short")
+            rules.append((self.number(4, "rules", 0, index), self.number(4, "rules", 0, index)))
+        return rules
+
+    def bits(self, count, section, period):
+        size = (count + 7) // 8
+        data = bytes(self.number(1, section, period, index) for index in range(size))
+        if count % 8 and data[-1] >> count % 8:
+            raise Flaw(section, period, size - 1, "pad")
+        return [data[p // 8] >> p % 8 & 1 for p in range(count)]
+
+
+class Index:
+    """The parts of a file, as they are parsed."""
+
+    def __init__(self, data):
+        r = Reader(data)
+        if len(data) < 8:
+            raise Flaw("header", 0, 0, "short")
+        if data[:8] != b"GRACT001":
+            raise Flaw("header", 0, 0, "magic")
+        r.at = 8
+        self.period = r.field(4, 1, 1, 2**22)
+        self.height = r.field(4, 2, 1, 20)
+        objects = r.field(4, 3, 1, 2**16)
+        self.span = r.field(4, 4, 1, 2**22)
+        self.count = -(-self.span // self.period)
+        if objects * self.count > 2**24:
+            raise Flaw("header", 0, 4, "field")
+        alphabet, rules, symbols = (r.field(4, index, 0, 2**25) for index in (5, 6, 7))
+        self.first = r.field(8, 8, -2**40, 2**40 - (self.span - 1), signed=True)
+        self.base = tuple(r.field(8, index, -2**40, 2**40, signed=True) for index in (9, 10))
+        self.cell, self.tick = (r.field(8, index, 1, 2**30) for index in (11, 12))
+        self.objects = r.numbers(objects, "objects", rising=True)
+        self.alphabet = r.numbers(alphabet, "alphabet", size=8, rising=True)
+        self.rules = r.rules(rules)
+        self.periods = [self.read_period(r, b) for b in range(self.count)]
+        self.symbols = r.numbers(symbols, "log")
+        if r.at < len(data):
+            raise Flaw("end", 0, 0, "extra")
+        self.check()
+
+    def read_period(self, r, b):
+        present = r.bits(len(self.objects), "presence", b)
+        n = sum(present)
+        offsets = r.numbers(n, "offsets", b)
+        size = r.number(4, "treelen", b, 0)
+        if size > 2**31:
+            raise Flaw("treelen", b, 0, "field")
+        tree, lasts = r.bits(size, "tree", b), r.bits(n, "lasts", b)
+        perm, lengths = r.numbers(n, "perm", b), r.numbers(n, "lengths", b)
+        here = [o for o, there in zip(self.objects, present) if there]
+        return {"objects": here, "offsets": offsets, "tree": tree, "lasts": lasts, "perm": perm, "lengths": lengths}
+
+    def instants(self, b):
+        return min(self.period, self.span - b * self.period)
+
+    # Steps 1 to 4, once all bytes are read.
+
+    def check(self):
+        self.check_rules()
+        if sum(sum(p["lengths"]) for p in self.periods) != len(self.symbols):
+            raise Flaw("lengths", self.count - 1, 0, "total")
+        for b, p in enumerate(self.periods):
+            self.check_period(b, p)
+        start = 0
+        for b, p in enumerate(self.periods):
+            for place, length in enumerate(p["lengths"]):
+                self.check_block(b, p, place, start, length)
+                start += length
+
+    def check_rules(self):
+        far = 2**self.height - 1
+        self.summaries = []          # duration, displacement, bounding box of the cells that are entered, if any
+        for index, value in enumerate(self.alphabet):
+            move = move_of(value - 1) if value else (0, 0)
+            if max(abs(move[0]), abs(move[1])) > far:
+                raise Flaw("alphabet", 0, index, "code")
+            self.summaries.append((1, move, move + move if value else None))
+        for index, (left, right) in enumerate(self.rules):
+            symbol = len(self.alphabet) + index
+            if left >= symbol or right >= symbol:
+                raise Flaw("rules", 0, index, "rule")
+            joined = join(self.summaries[left], self.summaries[right])
+            duration, move, box = joined
+            if duration > self.period - 1 or max(map(abs, move + (box or ()))) > far:
+                raise Flaw("rules", 0, index, "rule")
+            self.summaries.append(joined)
+        for index, symbol in enumerate(self.symbols):
+            if symbol >= len(self.summaries):
+                raise Flaw("log", 0, index, "symbol")
+
+    def check_period(self, b, p):
+        for index, offset in enumerate(p["offsets"]):
+            if offset >= self.instants(b):
+                raise Flaw("offsets", b, index, "offset")
+        cells, n = self.cells_of(b, p["tree"]), len(p["objects"])
+        if sum(p["lasts"]) != len(cells) or (n and not p["lasts"][-1]):
+            raise Flaw("lasts", b, n, "cells")
+        seen = set()
+        for index, place in enumerate(p["perm"]):
+            if place >= n or place in seen:
+                raise Flaw("perm", b, index, "perm")
+            seen.add(place)
+        p["anchors"], leaf = [None] * n, 0
+        for index, place in enumerate(p["perm"]):
+            if index and not p["lasts"][index - 1] and place <= p["perm"][index - 1]:
+                raise Flaw("perm", b, index, "cellorder")
+            p["anchors"][place] = cells[leaf]
+            leaf += p["lasts"][index]
+
+    def cells_of(self, b, bits):
+        """The cells of a tree, from the base, in Morton order."""
+        if not bits:
+            return []
+        squares, at = [(0, 0)], 0
+        for _level in range(self.height):
+            children = []
+            for x, y in squares:
+                group = bits[at:at + 4]
+                if len(group) < 4 or not any(group):
+                    raise Flaw("tree", b, at, "tree")
+                children += [(2 * x + digit % 2, 2 * y + digit // 2) for digit in range(4) if group[digit]]
+                at += 4
+            squares = children
+        if at < len(bits):
+            raise Flaw("tree", b, at, "tree")
+        return squares
+
+    def check_block(self, b, p, place, start, length):
+        (x, y), side, duration = p["anchors"][place], 2**self.height, 0
+        for index in range(start, start + length):
+            instants, (dx, dy), box = self.summaries[self.symbols[index]]
+            if box and not (0 <= x + box[0] and 0 <= y + box[1] and x + box[2] < side and y + box[3] < side):
+                raise Flaw("log", b, index, "offgrid")
+            x, y, duration = x + dx, y + dy, duration + instants
+        if duration != self.instants(b) - 1 - p["offsets"][place]:
+            raise Flaw("lengths", b, place, "duration")
+
+    # Rows.
+
+    def rows(self):
+        start = 0
+        for b, p in enumerate(self.periods):
+            for place, length in enumerate(p["lengths"]):
+                yield from self.rows_of(b, p, place, self.symbols[start:start + length])
+                start += length
+
+    def rows_of(self, b, p, place, symbols):
+        x, y = (p["anchors"][place][axis] + self.base[axis] for axis in (0, 1))
+        instant = self.first + b * self.period + p["offsets"][place]
+        yield p["objects"][place], instant, x, y
+        stack = symbols[::-1]
+        while stack:
+            symbol = stack.pop()
+            if symbol >= len(self.alphabet):
+                stack += self.rules[symbol - len(self.alphabet)][::-1]
+                continue
+            instant += 1
+            value = self.alphabet[symbol]
+            if value:
+                dx, dy = move_of(value - 1)
+                x, y = x + dx, y + dy
+                yield p["objects"][place], instant, x, y
+
+
+def move_of(code):
+    """The movement of a spiral code."""
+    r = (math.isqrt(code) + 1) // 2
+    if r == 0:
+        return 0, 0
+    side, i = divmod(code - (2 * r - 1)**2, 2 * r)
+    return ((r, -r + 1 + i), (r - 1 - i, r), (-r, r - 1 - i), (-r + 1 + i, -r))[side]
+
+
+def join(left, right):
+    """The summary of what comes after each other."""
+    (n, (dx, dy), box), (m, (ex, ey), moved) = left, right
+    if moved:
+        moved = (moved[0] + dx, moved[1] + dy, moved[2] + dx, moved[3] + dy)
+        box = moved if not box else (*map(min, box[:2], moved[:2]), *map(max, box[2:], moved[2:]))
+    return n + m, (dx + ex, dy + ey), box
+
+
+def main(words):
+    check, path = words[:-1] == ["--check"], words[-1]
+    try:
+        with open(path, "rb") as file:
+            index = Index(file.read())
+    except Flaw as flaw:
+        print(flaw, file=sys.stderr)
+        return 1
+    if not check:
+        for row in sorted(index.rows()):
+            print(*row, sep=",")
+    return 0
+
+
+if __name__ == "__main__":
+    sys.exit(main(sys.argv[1:]) if len(sys.argv) > 1 else __doc__)
