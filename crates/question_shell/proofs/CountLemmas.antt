@@ -1,6 +1,6 @@
 -- A path has few stops: no two are at one instant.
-use Rattle.std.proofs.Common.{◌≡◌, ℕ, zero, suc, ◌+◌, ◌^◌, ◌≤◌, Bool, true, false, ◌&&◌, List, [], ◌∷◌, length, filter, map, refl, ap}
-use Rattle.std.proofs.Common.{sym, ◌∙◌, arith, ℤ, pos, ◌+ℤ◌, ◌≤ℤ◌, ◌<ℤ◌, ◌==◌, subst, to_z, of_z, w64, inl, inr}
+use Rattle.std.proofs.Common.{◌≡◌, ℕ, zero, suc, ◌^◌, ◌≤◌, true, ◌&&◌, List, [], ◌∷◌, length, filter, refl}
+use Rattle.std.proofs.Common.{sym, arith, ℤ, pos, ◌+ℤ◌, ◌≤ℤ◌, ◌<ℤ◌, ◌==◌, subst, to_z, of_z, w64, inl, inr}
 use Rattle.std.specs.List.{AllByRecursion}
 use Rattle.std.specs.Ordering.{int_cmp, nat_cmp, ordering_then}
 use Rattle.std.specs.declared.cmp.Ordering.TheVariants.{Less}
@@ -43,8 +43,10 @@ from_next : (row : Row) (rows : List Row) (from to : ℤ) → from ≤ℤ row.in
     ≡ filter (is_row_between row.object (row.instant +ℤ pos 1) to) rows
 from_next row [] from to after less = refl
 from_next row (other ∷ rows) from to after (first, rest) =
-    rw (same_test row.object other.object from to row.instant other.instant after first,
-    from_next row rows from to after rest) refl
+    rw (
+      same_test row.object other.object from to row.instant other.instant after first,
+      from_next row rows from to after rest,
+    ) refl
 
 -- as many as there are instants
 few : (object : ℕ) (rows : List Row) (from to : ℤ) (n : ℕ) → IsAscending rows → to <ℤ (from +ℤ pos n) →

@@ -10,9 +10,9 @@ use Rattle.std.proofs.lemmas.List.{length-take, take-append-le}
 use Rattle.std.proofs.lemmas.List.Folds.{list_any-append}
 use Rattle.question_shell.specs.Lines.{words_of, is_gap, has_byte}
 use Rattle.question_shell.specs.LineKept.{is_in_word}
-use Rattle.question_shell.specs.Grammar.{is_long, question_in, question_of}
+use Rattle.question_shell.specs.Grammar.{question_in, question_of}
 use Rattle.question_shell.specs.declared.bad.Bad.TheVariants.{Long}
-use Rattle.question_shell.proofs.LineLemmas.{Pieces, begin_first, separated, words_in, words_of-is}
+use Rattle.question_shell.proofs.LineLemmas.{Pieces, begin_first, separated, words_of-is}
 
 take-nil : (k : ℕ) → take k (let none : List ℕ = [] in none) ≡ []
 take-nil zero = refl

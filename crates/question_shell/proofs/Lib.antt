@@ -5,3 +5,4 @@ pub mod SaysLemmas
 pub mod TurnLemmas
 pub mod CountLemmas
 pub mod SessionLemmas
+pub mod RunLemmas

@@ -51,8 +51,12 @@ slice_split-separated is_end (byte ∷ text) =
 -- there are as many ended pieces as ends
 length-ended : (is_end : ℕ → Bool) (text : List ℕ) → length (separated is_end text).ended ≡ count_by is_end text
 length-ended is_end text =
-    omega (arith, length-slice_split is_end text, ap length (slice_split-separated is_end text),
-    length-append (separated is_end text).ended ((separated is_end text).left ∷ []))
+    omega (
+      arith,
+      length-slice_split is_end text,
+      ap length (slice_split-separated is_end text),
+      length-append (separated is_end text).ended ((separated is_end text).left ∷ []),
+    )
 
 pub whole_lines-is : (text : List ℕ) → whole_lines text ≡ (separated is_line_feed text).ended
 unfolding whole_lines

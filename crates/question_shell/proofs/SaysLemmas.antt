@@ -1,8 +1,8 @@
 -- Saying one text after another, while some is held back.
-use Rattle.std.proofs.Common.{◌≡◌, ℕ, List, [], ◌∷◌, ◌++◌, refl, sym, ap, ◌∙◌, append_assoc, append-nil, Option, Some, None}
+use Rattle.std.proofs.Common.{◌≡◌, ℕ, List, [], ◌++◌, refl, sym, ap, ◌∙◌, append_assoc, append-nil, Option, Some, None}
 use Rattle.std.proofs.Common.{length, take, drop, subst, Result, Ok, Err, OnOk, OnErr}
 use Rattle.std.proofs.lemmas.List.{take-append-drop}
-use Rattle.std.specs.Io.KnownBytes.{Appends, Consumes, Keeps}
+use Rattle.std.specs.Io.KnownBytes.{Appends}
 use Rattle.std.specs.List.{flat_map}
 use Rattle.question_shell.specs.Reply.{listed, ok_line}
 use Rattle.question_shell.specs.Says.{Cuts, Says, Voice, voice}
@@ -96,19 +96,18 @@ on_err_always (Err fault) fact = fact
 -- what a call said, in other words and after another text
 module _ {T E : Type 0} (before between : Voice) (first line text : List ℕ) (whole : first ++ line ≡ text)
     (says : Says before between first)
-    where
+  where
+    pub on_ok-says : (result : Result T E) (now : Voice) → OnOk result (Says between now line) →
+        OnOk result (Says before now text)
+    on_ok-says (Ok value) now more =
+        subst (λ (all : List ℕ). Says before now all) whole (says-append before between now first line says more)
+    on_ok-says (Err fault) now more = tt
 
-  pub on_ok-says : (result : Result T E) (now : Voice) → OnOk result (Says between now line) →
-      OnOk result (Says before now text)
-  on_ok-says (Ok value) now more =
-      subst (λ (all : List ℕ). Says before now all) whole (says-append before between now first line says more)
-  on_ok-says (Err fault) now more = tt
-
-  pub on_err-cuts : (result : Result T E) (now : Option (List ℕ)) → OnErr result (Cuts between now line) →
-      OnErr result (Cuts before now text)
-  on_err-cuts (Ok value) now cut = tt
-  on_err-cuts (Err fault) now cut =
-      subst (λ (all : List ℕ). Cuts before now all) whole (cuts-append before between now first line says cut)
+    pub on_err-cuts : (result : Result T E) (now : Option (List ℕ)) → OnErr result (Cuts between now line) →
+        OnErr result (Cuts before now text)
+    on_err-cuts (Ok value) now cut = tt
+    on_err-cuts (Err fault) now cut =
+        subst (λ (all : List ℕ). Cuts before now all) whole (cuts-append before between now first line says cut)
 
 -- the lines of a reply and their count
 pub listed-is : {A : Type 0} (line : A → List ℕ) (items : List A) →

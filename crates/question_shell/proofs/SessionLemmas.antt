@@ -1,23 +1,23 @@
 -- Bytes that come, and the lines that they are.
 use Rattle.std.proofs.Common.{◌≡◌, ℕ, ◌+◌, ◌<◌, ◌≤◌, ◌^◌, ◌-◌, false, List, [], ◌∷◌, ◌++◌, length, refl, sym, ap, ◌∙◌, subst, append_assoc}
-use Rattle.std.proofs.Common.{append-nil, length-append, arith, ◌⊎◌, Option, Some, None, Result, Ok, Err, take, drop, true}
+use Rattle.std.proofs.Common.{append-nil, length-append, arith, ◌⊎◌, Option, Some, None, Result, Ok, Err, take, drop}
 use Rattle.std.proofs.Common.{get_or, min, take_all, take-take, inl, inr}
 use mathlib.Core.Bool.{false≢true}
 use Rattle.std.proofs.lemmas.Bool.{cases_lt}
 use Rattle.std.proofs.lemmas.List.{take_more, take-append-drop, take-append-le, length-take}
 use Rattle.std.proofs.Math.Seq.{take-append-add}
-use Rattle.std.specs.Io.KnownBytes.{Consumes, Keeps, IsAtEnd}
+use Rattle.std.specs.Io.KnownBytes.{Consumes, Keeps}
 use Rattle.host_ports.specs.Faults.{Rose}
 use Rattle.question_shell.specs.Desk.{DeskView}
 use Rattle.question_shell.specs.Grammar.{question_of}
 use Rattle.question_shell.specs.LineKept.{LineKept, kept_of}
 use Rattle.question_shell.specs.Lines.{if_any, is_line_feed, lines_of, unended_line, whole_lines}
-use Rattle.question_shell.specs.Says.{Cuts, Says, Voice, voice}
-use Rattle.question_shell.specs.Session.{Answers, Came, Meaning, Run, replies_by, run_of, takes_memory}
-use Rattle.question_shell.specs.Turns.{AnswerTold, BytesTold, Heard, LinesTold, Moment, RestTold, Takes, TakesFront, Turns, TurnsBefore, TurnsFront, moment}
+use Rattle.question_shell.specs.Says.{Cuts, voice}
+use Rattle.question_shell.specs.Session.{Answers, Came, Meaning, Run, replies_by, run_of}
+use Rattle.question_shell.specs.Turns.{AnswerTold, BytesTold, Heard, LinesTold, Moment, RestTold, Turns, TurnsBefore, TurnsFront, moment}
 use Rattle.question_shell.specs.declared.turn_fault.TurnFault.{TurnFault}
 use Rattle.question_shell.specs.declared.turn_fault.TurnFault.TheVariants as fault
-use Rattle.question_shell.proofs.LineLemmas.{Pieces, separated, separated-append, separated-byte, separated-end, unended_line-is, whole_lines-is}
+use Rattle.question_shell.proofs.LineLemmas.{Pieces, separated-append, separated-byte, separated-end, unended_line-is, whole_lines-is}
 use Rattle.question_shell.proofs.SaysLemmas.{Appends-says}
 use Rattle.question_shell.proofs.TurnLemmas.{before-cut, before-more, before-say, front-append, front-more, front-one, stops-here, turns-append, turns-cut, turns-nothing, turns-one, turns-say}
 
@@ -34,8 +34,12 @@ Consumes-append (Some said) (Some more) (Some all) first second one two =
 pub whole_lines-append : (front back : List ℕ) →
     whole_lines (front ++ back) ≡ whole_lines front ++ whole_lines (unended_line front ++ back)
 whole_lines-append front back =
-    rw (whole_lines-is (front ++ back), whole_lines-is front, whole_lines-is (unended_line front ++ back),
-    unended_line-is front)
+    rw (
+      whole_lines-is (front ++ back),
+      whole_lines-is front,
+      whole_lines-is (unended_line front ++ back),
+      unended_line-is front,
+    )
     (ap (λ (pieces : Pieces). pieces.ended) (separated-append is_line_feed front back))
 
 -- a line feed ends the line that was coming
@@ -68,7 +72,6 @@ unfolding whole_lines unended_line
 heard-nothing meaning here line kept = record { turns = turns-nothing meaning here; kept = kept }
 
 module _ (meaning : Meaning) (start : Moment) where
-
   -- a byte that is no line feed
   pub heard-byte : (now : Moment) (came : List ℕ) (byte : ℕ) (line new : LineKept) → is_line_feed byte ≡ false →
       new ≡ kept_of (unended_line came ++ byte ∷ []) → Heard meaning start now came line →
@@ -141,11 +144,11 @@ module _ (meaning : Meaning) (start : Moment) where
   -- what is told of lines, after what was held back was said too
   pub rest-lines : (between : Moment) (now : Option (List ℕ)) (lines : List (List ℕ)) (answered result : Result Unit TurnFault) →
       LinesTold meaning start between lines answered → RestTold between.voice now answered result →
-      LinesTold meaning start (record between { voice = voice now []; }) lines result
+      LinesTold meaning start (record between { voice = voice now [] }) lines result
   rest-lines between now lines (Ok done) (Ok still) told rest =
-      turns-say meaning start between (record between { voice = voice now []; }) lines told rest refl (omega arith)
+      turns-say meaning start between (record between { voice = voice now [] }) lines told rest refl (omega arith)
   rest-lines between now lines (Ok done) (Err fault.Say) told rest =
-      turns-cut meaning start between (record between { voice = voice now []; }) lines told rest (omega arith)
+      turns-cut meaning start between (record between { voice = voice now [] }) lines told rest (omega arith)
   rest-lines between now lines (Ok done) (Err fault.Memory) told rest = absurd rest
   rest-lines between now lines (Err fault.Say) (Ok still) told rest = absurd rest
   rest-lines between now lines (Err fault.Say) (Err fault.Say) told rest =
@@ -153,14 +156,14 @@ module _ (meaning : Meaning) (start : Moment) where
   rest-lines between now lines (Err fault.Say) (Err fault.Memory) told rest = absurd rest
   rest-lines between now lines (Err fault.Memory) (Ok still) told rest = absurd rest
   rest-lines between now lines (Err fault.Memory) (Err fault.Say) told rest =
-      before-cut meaning start between (record between { voice = voice now []; }) lines told rest (omega arith)
+      before-cut meaning start between (record between { voice = voice now [] }) lines told rest (omega arith)
   rest-lines between now lines (Err fault.Memory) (Err fault.Memory) told rest =
-      before-say meaning start between (record between { voice = voice now []; }) lines told rest refl (omega arith)
+      before-say meaning start between (record between { voice = voice now [] }) lines told rest refl (omega arith)
 
   pub rest-bytes : (between : Moment) (now : Option (List ℕ)) (came : List ℕ) (line : LineKept)
       (answered result : Result Unit TurnFault) → BytesTold meaning start between came line answered →
       RestTold between.voice now answered result →
-      BytesTold meaning start (record between { voice = voice now []; }) came line result
+      BytesTold meaning start (record between { voice = voice now [] }) came line result
   rest-bytes between now came line (Ok done) (Ok still) told rest = record {
     turns = rest-lines between now (whole_lines came) (Ok done) (Ok still) told.turns rest;
     kept = told.kept;

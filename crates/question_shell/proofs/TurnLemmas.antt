@@ -1,15 +1,14 @@
 -- Answering one line after another.
 use Rattle.std.proofs.Common.{◌≡◌, ℕ, ◌+◌, ◌≤◌, List, [], ◌∷◌, ◌++◌, refl, sym, ap, ◌∙◌, append_assoc, append-nil, Option, arith, subst}
-use Rattle.std.proofs.Common.{Result, true}
+use Rattle.std.proofs.Common.{true}
 use Rattle.track_types.specs.Chart.{ChartView}
 use Rattle.track_types.specs.declared.facts.Facts.{Facts}
 use Rattle.track_types.specs.declared.question.Question.{Question}
 use Rattle.track_types.specs.declared.stop.Stop.{Stop}
 use Rattle.question_shell.specs.Grammar.{question_of}
 use Rattle.question_shell.specs.Replies.{costs_of, desk_after, replies_of, turn_of}
-use Rattle.question_shell.specs.Reply.{Turn, asked_cost}
-use Rattle.question_shell.specs.Says.{Cuts, Says, Voice, voice}
-use Rattle.question_shell.specs.Session.{Meaning, StopsAt, costs_by, desk_by, replies_by, takes_memory}
+use Rattle.question_shell.specs.Says.{Cuts, Says}
+use Rattle.question_shell.specs.Session.{Meaning, costs_by, desk_by, replies_by, takes_memory}
 use Rattle.question_shell.specs.Turns.{Moment, Takes, TakesFront, Turns, TurnsBefore, TurnsFront, turn_by}
 use Rattle.question_shell.proofs.SaysLemmas.{cuts-append, cuts-more, says-append, says-nothing}
 
@@ -45,7 +44,6 @@ costs_of-append cost chart facts desk (line ∷ first) second =
     omega (arith, costs_of-append cost chart facts (turn_of chart facts desk line).desk first second)
 
 module _ (meaning : Meaning) (before : Moment) where
-
   -- no line
   pub turns-nothing : Turns meaning before before []
   unfolding replies_of desk_after costs_of
@@ -74,38 +72,47 @@ module _ (meaning : Meaning) (before : Moment) where
       }
 
   module _ (between now : Moment) (first second : List (List ℕ)) (turns : Turns meaning before between first) where
-
     -- lines after others
     pub turns-append : Turns meaning between now second → Turns meaning before now (first ++ second)
     turns-append more =
         let next = subst (λ (desk : List (Option (List Stop))). Says between.voice now.voice (replies_by meaning desk second))
-            turns.desk more.said in
+        turns.desk more.said in
         let said = says-append before.voice between.voice now.voice _ _ turns.said next in
         let desk = more.desk ∙ (ap (λ desk. desk_by meaning desk second) turns.desk
-            ∙ sym (desk_after-append meaning.chart meaning.facts before.desk first second)) in
+        ∙ sym (desk_after-append meaning.chart meaning.facts before.desk first second)) in
         let costs : costs_by meaning between.desk second
-            ≡ costs_by meaning (desk_by meaning before.desk first) second =
-            ap (λ desk. costs_by meaning desk second) turns.desk in
+        ≡ costs_by meaning (desk_by meaning before.desk first) second =
+        ap (λ desk. costs_by meaning desk second) turns.desk in
         record {
           said = rw (replies_of-append meaning.chart meaning.facts before.desk first second) said;
           desk = desk;
-          reads = omega (arith, turns.reads, more.reads, costs,
-              costs_of-append meaning.cost meaning.chart meaning.facts before.desk first second);
+          reads = omega (
+            arith,
+            turns.reads,
+            more.reads,
+            costs,
+            costs_of-append meaning.cost meaning.chart meaning.facts before.desk first second,
+          );
         }
 
     -- a front of the replies to lines after others
     pub front-append : TurnsFront meaning between now second → TurnsFront meaning before now (first ++ second)
     front-append more =
         let next = subst (λ (desk : List (Option (List Stop))). Cuts between.voice now.voice.said (replies_by meaning desk second))
-            turns.desk more.said in
+        turns.desk more.said in
         let said = cuts-append before.voice between.voice now.voice.said _ _ turns.said next in
         let costs : costs_by meaning between.desk second
-            ≡ costs_by meaning (desk_by meaning before.desk first) second =
-            ap (λ desk. costs_by meaning desk second) turns.desk in
+        ≡ costs_by meaning (desk_by meaning before.desk first) second =
+        ap (λ desk. costs_by meaning desk second) turns.desk in
         record {
           said = rw (replies_of-append meaning.chart meaning.facts before.desk first second) said;
-          reads = omega (arith, turns.reads, more.reads, costs,
-              costs_of-append meaning.cost meaning.chart meaning.facts before.desk first second);
+          reads = omega (
+            arith,
+            turns.reads,
+            more.reads,
+            costs,
+            costs_of-append meaning.cost meaning.chart meaning.facts before.desk first second,
+          );
         }
 
   -- the front of the replies to some lines is one of the replies to more
@@ -114,8 +121,11 @@ module _ (meaning : Meaning) (before : Moment) where
   front-more now lines more front = record {
     said = rw (replies_of-append meaning.chart meaning.facts before.desk lines more)
         (cuts-more before.voice now.voice.said _ _ front.said);
-    reads = omega (arith, front.reads,
-        costs_of-append meaning.cost meaning.chart meaning.facts before.desk lines more);
+    reads = omega (
+      arith,
+      front.reads,
+      costs_of-append meaning.cost meaning.chart meaning.facts before.desk lines more,
+    );
   }
 
   -- a line that takes memory is among more lines too

@@ -1,4 +1,4 @@
-use Rattle.std.proofs.Common.{◌≡◌, ◌∙◌, ap, sym, refl, arith, Ok, Some, None, subst}
+use Rattle.std.proofs.Common.{◌≡◌, ◌∙◌, ap, refl, arith, Ok, Some, None}
 use Rattle.track_types.specs.Near.{IsAsked}
 use Rattle.track_types.specs.declared.question.Question.TheVariants as question
 use Rattle.question_shell.specs.Says.{voice}

@@ -11,8 +11,8 @@ returns-in_err-read_number-clause-err c =
     let after = words_of c.in-Some.after.now in
     let cut : left ≡ c.in-Some.word.now ∷ after = search rules in
     let fault : first_fault c.args.wanted.now 2 words ≡ Some c.in_err-read_number.field-0.0 =
-        fault-here c.args.wanted.now words left after c.in-Some.word.now c.loop-index.index c.loop-index.numbers.items
-        c.loop-index.invariant cut c.loop-index-test.true c.in_err-read_number.field-0.0 c.in_err-read_number.ensures.err in
+    fault-here c.args.wanted.now words left after c.in-Some.word.now c.loop-index.index c.loop-index.numbers.items
+    c.loop-index.invariant cut c.loop-index-test.true c.in_err-read_number.field-0.0 c.in_err-read_number.ensures.err in
     search rules
 
 pub loop-index-preserved : goal.loop-index-preserved

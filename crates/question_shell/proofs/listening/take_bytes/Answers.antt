@@ -1,4 +1,4 @@
-use Rattle.std.proofs.Common.{◌++◌, ◌+◌, ◌∷◌, [], ◌≤◌, Err, List, ℕ, take, drop, get_or, subst, arith, append_assoc, ap, sym, ◌∙◌, take_all}
+use Rattle.std.proofs.Common.{◌++◌, ◌+◌, ◌∷◌, [], Err, List, ℕ, take, drop, get_or, subst, arith, append_assoc, ap, sym, ◌∙◌, take_all}
 use Rattle.std.proofs.lemmas.List.{take_more}
 use Rattle.std.proofs.lemmas.Result.{err_from_is_err_and}
 use Rattle.question_shell.specs.Session.{meaning_of}
@@ -10,7 +10,7 @@ pub returns-in_err-take_byte-clause-told : goal.returns-in_err-take_byte-clause-
 returns-in_err-take_byte-clause-told g c start came desk heard =
     let exit = err_from_is_err_and c.from_residual.result c.from_residual.ensures.1 in
     let meaning = meaning_of (g.A.Answerer.chart c.args.answerer) (g.A.Answerer.facts c.args.answerer)
-        (g.A.Answerer.cost c.args.answerer) in
+    (g.A.Answerer.cost c.args.answerer) in
     let piece = c.args.bytes.now in
     let i = c.loop-byte.byte-index in
     let refused = c.in_err-take_byte.field-0.0 in
@@ -36,7 +36,7 @@ loop-byte-preserved g c = record {
   faults = omega (arith, c.loop-byte.invariant.faults, c.take_byte.ensures.faults);
   heard = λ start came desk heard.
       let meaning = meaning_of (g.A.Answerer.chart c.args.answerer) (g.A.Answerer.facts c.args.answerer)
-          (g.A.Answerer.cost c.args.answerer) in
+      (g.A.Answerer.cost c.args.answerer) in
       let piece = c.args.bytes.now in
       let i = c.loop-byte.byte-index in
       let now = moment (g.K.Sink.said c.take_byte.new.sink) c.take_byte.new.talk.text desk c.take_byte.new.steps in
@@ -50,7 +50,7 @@ loop-byte-preserved g c = record {
 pub returns-clause-told : goal.returns-clause-told
 returns-clause-told g c start came desk heard =
     let meaning = meaning_of (g.A.Answerer.chart c.args.answerer) (g.A.Answerer.facts c.args.answerer)
-        (g.A.Answerer.cost c.args.answerer) in
+    (g.A.Answerer.cost c.args.answerer) in
     let piece = c.args.bytes.now in
     let now = moment (g.K.Sink.said c.loop-byte.sink) c.loop-byte.talk.text desk c.loop-byte.steps in
     let P : List ℕ → Type 0 = λ input. Heard meaning start now (came ++ input) c.loop-byte.talk.line in

@@ -1,7 +1,7 @@
 use Rattle.std.proofs.Common.{◌≡◌, ◌∷◌, [], ◌++◌, ◌∙◌, ap, sym, append-nil, Option, Some, None, option_to_list, List, ℕ, refl}
 use Rattle.track_types.specs.declared.cell.Cell.{Cell}
 use Rattle.question_shell.specs.Reply.{cell_line, listed, ok_line}
-use Rattle.question_shell.specs.Says.{Cuts, voice}
+use Rattle.question_shell.specs.Says.{voice}
 use Rattle.question_shell.proofs.SaysLemmas.{cuts-more, listed-is, on_err_always, on_err-cuts, on_ok-says, says-nothing}
 use Rattle.question_shell.proofs.saying.say_cell.Goals as goal
 

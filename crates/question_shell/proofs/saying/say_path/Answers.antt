@@ -1,4 +1,4 @@
-use Rattle.std.proofs.Common.{◌≡◌, ◌∷◌, [], ◌++◌, ◌∙◌, ap, sym, List, ℕ, length}
+use Rattle.std.proofs.Common.{◌≡◌, ◌++◌, ◌∙◌, ap, sym, length}
 use Rattle.std.specs.List.{flat_map}
 use Rattle.question_shell.specs.Reply.{listed, ok_line, stop_line}
 use Rattle.question_shell.specs.Says.{voice}
@@ -20,8 +20,8 @@ returns-clause-ok g c =
     let stops = g.W.Lazy.left c.args.walk.now in
     let front = flat_map stop_line stops in
     let whole : front ++ c.ok_line.result.bytes ≡ listed stop_line stops =
-        ap (λ text. front ++ text) (c.ok_line.ensures ∙ ap ok_line c.in_ok-count.ensures.count)
-        ∙ sym (listed-is stop_line stops) in
+    ap (λ text. front ++ text) (c.ok_line.ensures ∙ ap ok_line c.in_ok-count.ensures.count)
+    ∙ sym (listed-is stop_line stops) in
     on_ok-says start between front c.ok_line.result.bytes (listed stop_line stops) whole c.in_ok-count.ensures.ok
     c.put.result (voice (g.K.Sink.said c.put.new.sink) c.put.new.self) c.put.ensures.ok
 
@@ -32,7 +32,7 @@ returns-clause-err g c =
     let stops = g.W.Lazy.left c.args.walk.now in
     let front = flat_map stop_line stops in
     let whole : front ++ c.ok_line.result.bytes ≡ listed stop_line stops =
-        ap (λ text. front ++ text) (c.ok_line.ensures ∙ ap ok_line c.in_ok-count.ensures.count)
-        ∙ sym (listed-is stop_line stops) in
+    ap (λ text. front ++ text) (c.ok_line.ensures ∙ ap ok_line c.in_ok-count.ensures.count)
+    ∙ sym (listed-is stop_line stops) in
     on_err-cuts start between front c.ok_line.result.bytes (listed stop_line stops) whole c.in_ok-count.ensures.ok
     c.put.result (g.K.Sink.said c.put.new.sink) c.put.ensures.err

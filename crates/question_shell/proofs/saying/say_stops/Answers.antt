@@ -1,4 +1,4 @@
-use Rattle.std.proofs.Common.{◌≡◌, ◌∷◌, ◌++◌, ◌∙◌, ap, sym, refl, subst, append_assoc, length, arith, List, ℕ, []}
+use Rattle.std.proofs.Common.{◌≡◌, ◌++◌, ◌∙◌, ap, sym, refl, subst, append_assoc, length, arith, List, ℕ, []}
 use Rattle.std.specs.List.{flat_map}
 use Rattle.question_shell.specs.Reply.{stop_line}
 use Rattle.question_shell.specs.Says.{Cuts, Says, voice}
@@ -24,10 +24,10 @@ returns-in_err-put-clause-err g c = on_err_always c.from_residual.result (
     let line = stop_line c.in-Some.stop in
     let rest = flat_map stop_line (g.W.Lazy.left c.draw.new.self) in
     let whole : flat_map stop_line (g.W.Lazy.left c.args.walk.now) ≡ (read.done ++ line) ++ rest =
-        read.whole ∙ (ap (λ stops. read.done ++ flat_map stop_line stops) c.in-Some.ensures.found
-        ∙ sym (append_assoc read.done line rest)) in
+    read.whole ∙ (ap (λ stops. read.done ++ flat_map stop_line stops) c.in-Some.ensures.found
+    ∙ sym (append_assoc read.done line rest)) in
     let cut : Cuts between now line =
-        subst (λ (text : List ℕ). Cuts between now text) c.stop_line.ensures c.in_err-put.ensures.err in
+    subst (λ (text : List ℕ). Cuts between now text) c.stop_line.ensures c.in_err-put.ensures.err in
     rw whole (cuts-more start now (read.done ++ line) rest (cuts-append start between now read.done line read.says cut)))
 
 pub loop-stop-preserved : goal.loop-stop-preserved
@@ -39,7 +39,7 @@ loop-stop-preserved g c =
     let line = stop_line c.in-Some.stop in
     let rest = flat_map stop_line (g.W.Lazy.left c.draw.new.self) in
     let says : Says between now line =
-        subst (λ (text : List ℕ). Says between now text) c.stop_line.ensures c.in_ok-put.ensures.ok in
+    subst (λ (text : List ℕ). Says between now text) c.stop_line.ensures c.in_ok-put.ensures.ok in
     record {
       done = read.done ++ line;
       count = omega (arith, read.count, ap length c.in-Some.ensures.found);
