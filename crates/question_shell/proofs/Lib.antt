@@ -6,3 +6,4 @@ pub mod TurnLemmas
 pub mod CountLemmas
 pub mod SessionLemmas
 pub mod RunLemmas
+mod Examples
