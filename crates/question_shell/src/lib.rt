@@ -17,6 +17,8 @@ mod reply;
 mod saying;
 mod shell;
 mod shell_fault;
+#[cfg(test)]
+mod tests;
 mod turn_fault;
 mod words;
 
