@@ -194,7 +194,10 @@ fn long_lines_and_long_replies_are_said(rt: HostRuntime) -> Result<(), Fail> {
     let mut lines = Vec::new(alloc);
     let mut said = Vec::new(alloc);
     // A line of 1,024 bytes is read, and one of 1,025 is bad.
-    for (length, reply) in [(1024, b"12 -11\nok 1\n".as_slice()), (1025, b"bad long\n".as_slice())] {
+    for (length, reply) in [
+        (1024, b"12 -11\nok 1\n".as_slice()),
+        (1025, b"bad long\n".as_slice()),
+    ] {
         lines.extend_from_slice(b"position 7 ")?;
         for _ in 12..length {
             lines.push(b' ')?;
@@ -214,7 +217,11 @@ fn long_lines_and_long_replies_are_said(rt: HostRuntime) -> Result<(), Fail> {
     for piece in [1, 7, 4096] {
         let mut outside = make_outside(alloc, lines.as_slice(), piece)?;
         assert_eq!(rt; answer(&rt, &mut outside)?, Ok(()));
-        assert_eq!(rt; outside.sink.as_slice(), said.as_slice(), "pieces of {piece}");
+        assert_eq!(rt;
+            outside.sink.as_slice(),
+            said.as_slice(),
+            "pieces of {piece}"
+        );
     }
     Ok(())
 }
