@@ -22,7 +22,8 @@ between-facts object from to row meets =
     (grind (arith, ints, nat_tests), grind (arith, ints, nat_tests), grind (arith, ints, nat_tests))
 
 -- the instant of a later row of one object is greater
-later : (object other : ℕ) (a b : ℤ) → ordering_then (nat_cmp object other) (int_cmp a b) ≡ Less → object ≡ other → a <ℤ b
+later : (object other : ℕ) (a b : ℤ) →
+    ordering_then (nat_cmp object other) (int_cmp a b) ≡ Less → object ≡ other → a <ℤ b
 later object other a b less same = grind (arith, ints, nat_tests)
 
 -- a later row is one from an instant on where it is one from the next on

@@ -84,7 +84,8 @@ chart = record {
 }
 
 replies_to_lines : (facts : Facts) →
-    replies_of chart facts [] (lines_of (codes "position 7 0\n\nposition 7 1\nwhere\npath 7 0 2\npath 8 0 2\nposition x 1"))
+    replies_of chart facts []
+    (lines_of (codes "position 7 0\n\nposition 7 1\nwhere\npath 7 0 2\npath 8 0 2\nposition x 1"))
     ≡ codes "10 -10\nok 1\nok 0\nbad word\n0 10 -10\n2 12 11\nok 2\nok 0\nbad number 2\n"
 unfolding chart digits replies_of listed whole_lines unended_line
 replies_to_lines facts = refl

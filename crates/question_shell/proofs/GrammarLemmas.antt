@@ -4,7 +4,8 @@ use Rattle.std.proofs.Common.{ℤ, pos, Some, None, drop-cons, inl, inr, add-one
 use Rattle.std.proofs.lemmas.Bool.{cases_lt}
 use Rattle.std.proofs.lemmas.List.{get_or_at, get_or_append_left}
 use Rattle.track_types.specs.Numeral.{numeral_of}
-use Rattle.question_shell.specs.Grammar.{IsInRange, first_fault, fault_or, number_at, numbers_of, numeral_fault, no_word, value_of}
+use Rattle.question_shell.specs.Grammar.{IsInRange, first_fault, fault_or, number_at, numbers_of, numeral_fault}
+use Rattle.question_shell.specs.Grammar.{no_word, value_of}
 use Rattle.question_shell.specs.declared.bad.Bad.{Bad}
 use Rattle.question_shell.specs.declared.form.NumberWord.{NumberWord}
 
@@ -36,13 +37,16 @@ module _ (wanted : List NumberWord) (words left after : List (List ℕ)) (word :
       count = omega (arith, reading.count, ap length cut);
       few = omega (arith, reading.few, length-append numbers (number ∷ []));
       fault = let e : k + 2 + 1 ≡ k + 1 + 2 = omega arith in fault-next ∙ rw (none, ← e, add-one k) refl;
-      value = reading.value ∙ rw (cut, is, append_assoc numbers (value_of (numeral_of word) ∷ []) (numbers_of after)) refl;
+      value = reading.value
+          ∙ rw (cut, is, append_assoc numbers (value_of (numeral_of word) ∷ []) (numbers_of after)) refl;
       each = next;
     }
       where
         next : (j : ℕ) → j < k + 1 → IsInRange (get_or wanted j no_word) (number_at (numbers ++ number ∷ []) j)
         next j less = elim (cases_lt j k) [
-          | inl before ↦ rw (get_or_append_left numbers (number ∷ []) (pos 0) j (omega (arith, reading.few))) (reading.each j before)
+          | inl before ↦
+              rw (get_or_append_left numbers (number ∷ []) (pos 0) j (omega (arith, reading.few)))
+              (reading.each j before)
           | inr at ↦
               let here : k ≡ j = omega arith in
               let few : length numbers ≡ j = omega (arith, reading.few) in

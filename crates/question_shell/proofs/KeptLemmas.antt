@@ -1,6 +1,7 @@
 -- What is kept of a line, byte after byte, and what it tells of the line.
 use Rattle.std.proofs.Common.{◌≡◌, ℕ, zero, suc, ◌<◌, ◌≤◌, Bool, true, false, not, ◌||◌, if◌then◌else◌, List, [], ◌∷◌}
-use Rattle.std.proofs.Common.{◌++◌, length, take, filter, refl, sym, ap, ◌∙◌, arith, inl, inr, take_all, Result, Ok, None}
+use Rattle.std.proofs.Common.{◌++◌, length, take, filter, refl, sym, ap, ◌∙◌, arith, inl, inr, take_all, Result}
+use Rattle.std.proofs.Common.{Ok, None}
 use Rattle.std.proofs.Common.{Err, IsOk, OnOk, OnErr, ◌↔◌}
 use Rattle.std.specs.List.{list_any}
 use Rattle.std.proofs.lemmas.Bool.{cases_lt, lt-ltb}

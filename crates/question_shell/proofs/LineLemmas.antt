@@ -1,6 +1,7 @@
 -- Separating a text byte by byte, and cutting words off a line.
 use Rattle.std.proofs.Common.{◌≡◌, ℕ, Bool, true, false, not, if◌then◌else◌, List, [], ◌∷◌, ◌++◌, refl, sym, ◌∙◌, ap}
-use Rattle.std.proofs.Common.{append-nil, zero, suc, take, drop, subst, filter, length, length-append, nat_eq, cond, arith}
+use Rattle.std.proofs.Common.{append-nil, zero, suc, take, drop, subst, filter, length, length-append, nat_eq}
+use Rattle.std.proofs.Common.{cond, arith}
 use Rattle.std.specs.List.{list_all}
 use Rattle.std.proofs.lemmas.List.{take-append-drop}
 use mathlib.Core.Bool.{false≢true}

@@ -1,5 +1,6 @@
 -- From what is told of lines to what a run promises.
-use Rattle.std.proofs.Common.{◌≡◌, ℕ, ◌+◌, ◌≤◌, ◌^◌, List, [], ◌++◌, length, sym, ap, ◌∙◌, subst, arith, Err, take, drop}
+use Rattle.std.proofs.Common.{◌≡◌, ℕ, ◌+◌, ◌≤◌, ◌^◌, List, [], ◌++◌, length, sym, ap, ◌∙◌, subst, arith, Err}
+use Rattle.std.proofs.Common.{take, drop}
 use Rattle.std.proofs.lemmas.List.{take-append-drop}
 use Rattle.question_shell.specs.LineKept.{LineKept}
 use Rattle.question_shell.specs.Lines.{whole_lines}
@@ -14,7 +15,8 @@ abbrev pub moment_of : Run → Moment
 moment_of here = moment here.said [] here.desk here.steps
 
 -- what was refused at the bytes up to the longest input is refused at all that came
-pub refused-first : (meaning : Meaning) (start now : Moment) (first all : List ℕ) (line : LineKept) (refused : TurnFault) →
+pub refused-first : (meaning : Meaning) (start now : Moment) (first all : List ℕ) (line : LineKept)
+    (refused : TurnFault) →
     take (2 ^ 32) all ≡ first → BytesTold meaning start now first line (Err refused) →
     LinesTold meaning start now (whole_lines all) (Err refused)
 refused-first meaning start now first all line refused is_first told =

@@ -1,5 +1,6 @@
 -- Bytes that come, and the lines that they are.
-use Rattle.std.proofs.Common.{◌≡◌, ℕ, ◌+◌, ◌<◌, ◌≤◌, ◌^◌, ◌-◌, false, List, [], ◌∷◌, ◌++◌, length, refl, sym, ap, ◌∙◌, subst, append_assoc}
+use Rattle.std.proofs.Common.{◌≡◌, ℕ, ◌+◌, ◌<◌, ◌≤◌, ◌^◌, ◌-◌, false, List, [], ◌∷◌, ◌++◌, length, refl, sym}
+use Rattle.std.proofs.Common.{ap, ◌∙◌, subst, append_assoc}
 use Rattle.std.proofs.Common.{append-nil, length-append, arith, ◌⊎◌, Option, Some, None, Result, Ok, Err, take, drop}
 use Rattle.std.proofs.Common.{get_or, min, take_all, take-take, inl, inr}
 use mathlib.Core.Bool.{false≢true}
@@ -14,12 +15,16 @@ use Rattle.question_shell.specs.LineKept.{LineKept, kept_of}
 use Rattle.question_shell.specs.Lines.{if_any, is_line_feed, lines_of, unended_line, whole_lines}
 use Rattle.question_shell.specs.Says.{Cuts, voice}
 use Rattle.question_shell.specs.Session.{Answers, Came, Meaning, Run, replies_by, run_of}
-use Rattle.question_shell.specs.Turns.{AnswerTold, BytesTold, Heard, LinesTold, Moment, RestTold, Turns, TurnsBefore, TurnsFront, moment}
+use Rattle.question_shell.specs.Turns.{AnswerTold, BytesTold, Heard, LinesTold, Moment, RestTold, Turns}
+use Rattle.question_shell.specs.Turns.{TurnsBefore, TurnsFront, moment}
 use Rattle.question_shell.specs.declared.turn_fault.TurnFault.{TurnFault}
 use Rattle.question_shell.specs.declared.turn_fault.TurnFault.TheVariants as fault
-use Rattle.question_shell.proofs.LineLemmas.{Pieces, separated-append, separated-byte, separated-end, unended_line-is, whole_lines-is}
+use Rattle.question_shell.proofs.LineLemmas.{Pieces, separated-append, separated-byte, separated-end}
+use Rattle.question_shell.proofs.LineLemmas.{unended_line-is, whole_lines-is}
 use Rattle.question_shell.proofs.SaysLemmas.{Appends-says}
-use Rattle.question_shell.proofs.TurnLemmas.{before-cut, before-more, before-say, front-append, front-more, front-one, stops-here, turns-append, turns-cut, turns-nothing, turns-one, turns-say}
+use Rattle.question_shell.proofs.TurnLemmas.{before-cut, before-more, before-say, front-append, front-more}
+use Rattle.question_shell.proofs.TurnLemmas.{front-one, stops-here, turns-append, turns-cut, turns-nothing}
+use Rattle.question_shell.proofs.TurnLemmas.{turns-one, turns-say}
 
 -- bytes taken after others
 pub Consumes-append : (before between now : Option (List ℕ)) (first second : List ℕ) →
@@ -127,7 +132,8 @@ module _ (meaning : Meaning) (start : Moment) where
           LinesTold meaning start now (whole_lines came ++ if_any last) result
       by_line [] (Ok done) told =
           rw (append-nil (whole_lines came))
-          (turns-say meaning start between now (whole_lines came) heard.turns told.said told.desk (omega (arith, told.reads)))
+          (turns-say meaning start between now (whole_lines came) heard.turns told.said told.desk
+          (omega (arith, told.reads)))
       by_line [] (Err fault.Say) told =
           rw (append-nil (whole_lines came))
           (turns-cut meaning start between now (whole_lines came) heard.turns told.said (omega (arith, told.reads)))
@@ -142,7 +148,8 @@ module _ (meaning : Meaning) (start : Moment) where
           rw told.1 (stops-here meaning start between (whole_lines came) (byte ∷ last) heard.turns told.0)
 
   -- what is told of lines, after what was held back was said too
-  pub rest-lines : (between : Moment) (now : Option (List ℕ)) (lines : List (List ℕ)) (answered result : Result Unit TurnFault) →
+  pub rest-lines : (between : Moment) (now : Option (List ℕ)) (lines : List (List ℕ))
+      (answered result : Result Unit TurnFault) →
       LinesTold meaning start between lines answered → RestTold between.voice now answered result →
       LinesTold meaning start (record between { voice = voice now [] }) lines result
   rest-lines between now lines (Ok done) (Ok still) told rest =
@@ -152,7 +159,8 @@ module _ (meaning : Meaning) (start : Moment) where
   rest-lines between now lines (Ok done) (Err fault.Memory) told rest = absurd rest
   rest-lines between now lines (Err fault.Say) (Ok still) told rest = absurd rest
   rest-lines between now lines (Err fault.Say) (Err fault.Say) told rest =
-      record { said = subst (λ (said : Option (List ℕ)). Cuts start.voice said (replies_by meaning start.desk lines)) (sym rest) told.said; reads = told.reads }
+      let P : Option (List ℕ) → Type 0 = λ said. Cuts start.voice said (replies_by meaning start.desk lines) in
+      record { said = subst P (sym rest) told.said; reads = told.reads }
   rest-lines between now lines (Err fault.Say) (Err fault.Memory) told rest = absurd rest
   rest-lines between now lines (Err fault.Memory) (Ok still) told rest = absurd rest
   rest-lines between now lines (Err fault.Memory) (Err fault.Say) told rest =
@@ -183,7 +191,8 @@ module _ (meaning : Meaning) (start : Moment) where
 
   -- what was refused at some bytes is refused at more
   pub told-more : (now : Moment) (came more : List ℕ) (line other : LineKept) (refused : TurnFault) →
-      BytesTold meaning start now came line (Err refused) → BytesTold meaning start now (came ++ more) other (Err refused)
+      BytesTold meaning start now came line (Err refused) →
+      BytesTold meaning start now (came ++ more) other (Err refused)
   told-more now came more line other fault.Say told = front-bytes now came more told
   told-more now came more line other fault.Memory told = before-bytes now came more told
 

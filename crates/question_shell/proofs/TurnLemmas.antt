@@ -1,5 +1,6 @@
 -- Answering one line after another.
-use Rattle.std.proofs.Common.{◌≡◌, ℕ, ◌+◌, ◌≤◌, List, [], ◌∷◌, ◌++◌, refl, sym, ap, ◌∙◌, append_assoc, append-nil, Option, arith, subst}
+use Rattle.std.proofs.Common.{◌≡◌, ℕ, ◌+◌, ◌≤◌, List, [], ◌∷◌, ◌++◌, refl, sym, ap, ◌∙◌, append_assoc}
+use Rattle.std.proofs.Common.{append-nil, Option, arith, subst}
 use Rattle.std.proofs.Common.{true}
 use Rattle.track_types.specs.Chart.{ChartView}
 use Rattle.track_types.specs.declared.facts.Facts.{Facts}
@@ -75,7 +76,8 @@ module _ (meaning : Meaning) (before : Moment) where
     -- lines after others
     pub turns-append : Turns meaning between now second → Turns meaning before now (first ++ second)
     turns-append more =
-        let next = subst (λ (desk : List (Option (List Stop))). Says between.voice now.voice (replies_by meaning desk second))
+        let next = subst (λ (desk : List (Option (List Stop))).
+            Says between.voice now.voice (replies_by meaning desk second))
         turns.desk more.said in
         let said = says-append before.voice between.voice now.voice _ _ turns.said next in
         let desk = more.desk ∙ (ap (λ desk. desk_by meaning desk second) turns.desk
@@ -98,7 +100,8 @@ module _ (meaning : Meaning) (before : Moment) where
     -- a front of the replies to lines after others
     pub front-append : TurnsFront meaning between now second → TurnsFront meaning before now (first ++ second)
     front-append more =
-        let next = subst (λ (desk : List (Option (List Stop))). Cuts between.voice now.voice.said (replies_by meaning desk second))
+        let next = subst (λ (desk : List (Option (List Stop))).
+            Cuts between.voice now.voice.said (replies_by meaning desk second))
         turns.desk more.said in
         let said = cuts-append before.voice between.voice now.voice.said _ _ turns.said next in
         let costs : costs_by meaning between.desk second
@@ -163,7 +166,8 @@ module _ (meaning : Meaning) (before : Moment) where
       let P : List ℕ → Type 0 = λ text. Cuts before.voice now.voice.said text in
       let text = replies_by meaning before.desk lines in
       record {
-        said = subst P (append-nil text) (cuts-append before.voice between.voice now.voice.said text [] turns.said cuts);
+        said = subst P (append-nil text)
+            (cuts-append before.voice between.voice now.voice.said text [] turns.said cuts);
         reads = omega (arith, turns.reads, due);
       }
 

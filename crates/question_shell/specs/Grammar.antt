@@ -1,6 +1,7 @@
 -- What a line asks.
 use Rattle.std.specs.Prelude.{ℕ, ◌+◌, ◌-◌, ◌^◌, ◌==◌, nat_lt, Bool, if◌then◌else◌, List, [], ◌∷◌, length, map, codes}
-use Rattle.std.specs.Prelude.{ℤ, pos, neg_ℤ, Option, Some, None, Result, Ok, Err, slice_index_or, unsigned_abs, ◌≡◌, ◌<◌, ◌≤ℤ◌, ⊤}
+use Rattle.std.specs.Prelude.{ℤ, pos, neg_ℤ, Option, Some, None, Result, Ok, Err, slice_index_or, unsigned_abs}
+use Rattle.std.specs.Prelude.{◌≡◌, ◌<◌, ◌≤ℤ◌, ⊤}
 use Rattle.std.specs.Str.{bytes_eq}
 use Rattle.track_types.specs.Near.{IsAsked}
 use Rattle.track_types.specs.Numeral.{numeral_of}

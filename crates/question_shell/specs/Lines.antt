@@ -1,5 +1,6 @@
 -- Bytes separated into lines, and a line into words.
-use Rattle.std.specs.Prelude.{◌≡◌, ℕ, ◌==◌, ◌||◌, ⊤, Bool, true, false, List, [], ◌∷◌, ◌++◌, filter, take, slice_index_or}
+use Rattle.std.specs.Prelude.{◌≡◌, ℕ, ◌==◌, ◌||◌, ⊤, Bool, true, false, List, [], ◌∷◌, ◌++◌, filter, take}
+use Rattle.std.specs.Prelude.{slice_index_or}
 use Rattle.std.specs.List.{count_by, slice_split}
 
 -- the byte that ends a line

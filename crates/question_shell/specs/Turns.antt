@@ -60,8 +60,8 @@ pub record Heard (meaning : Meaning) (before now : Moment) (came : List ℕ) (li
   pub turns : Turns meaning before now (whole_lines came)
   pub kept : line ≡ kept_of (unended_line came)
 
--- What is told of an answer to what a line asks: it was given, a front of it was said, or memory was refused and nothing
--- changed.
+-- What is told of an answer to what a line asks: it was given, a front of it was said, or memory was refused and
+-- nothing changed.
 abbrev pub AnswerTold : Meaning → Moment → Moment → Result (Option Question) Bad → Result Unit TurnFault → Type 0
 AnswerTold meaning before now asked (Ok done) = Takes meaning before now asked
 AnswerTold meaning before now asked (Err fault.Say) = TakesFront meaning before now asked
@@ -85,7 +85,8 @@ LinesTold meaning before now lines (Ok done) = Turns meaning before now lines
 LinesTold meaning before now lines (Err fault.Say) = TurnsFront meaning before now lines
 LinesTold meaning before now lines (Err fault.Memory) = TurnsBefore meaning before now lines
 
--- What is told of the rest of the text after an answer: it was said, or a front of it; after the sink failed, nothing more.
+-- What is told of the rest of the text after an answer: it was said, or a front of it; after the sink failed, nothing
+-- more.
 abbrev pub RestTold : Voice → Option (List ℕ) → Result Unit TurnFault → Result Unit TurnFault → Type 0
 RestTold before now (Ok done) (Ok still) = Says before (voice now []) []
 RestTold before now (Ok done) (Err fault.Say) = Cuts before now []

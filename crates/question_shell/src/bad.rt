@@ -1,8 +1,8 @@
 use std::error::Error;
 use std::fmt::{self, Display, Formatter, Write};
 
-/// What is wrong with a question line: the first cause in the order of these variants, and of number
-/// words the first bad one from the left.
+/// What is wrong with a question line: the first cause in the order of these variants, and of
+/// number words the first bad one from the left.
 #[derive(Clone, Copy, Debug, PartialEq, Eq)]
 pub enum Bad {
     /// The line has a word, and more than 1,024 bytes.

@@ -1,6 +1,7 @@
 ghost use Rattle.std.specs.Prelude.{◌≡◌, ◌==◌, ◌≤◌, IfOk, IfErr, IfSome, Some, None, length};
 ghost use Rattle.question_shell.specs.Grammar.{AreAsked, AreInRange, IsInRange, asked_by};
-ghost use Rattle.question_shell.specs.Grammar.{first_fault, form_question, number_words, numbers_of};
+ghost use Rattle.question_shell.specs.Grammar.{first_fault, form_question, number_words};
+ghost use Rattle.question_shell.specs.Grammar.{numbers_of};
 ghost use Rattle.question_shell.specs.Grammar.{numeral_fault, question_of, value_of};
 ghost use Rattle.question_shell.specs.Lines.{words_of};
 ghost use Rattle.track_types.specs.Numeral.{numeral_of};
@@ -88,7 +89,8 @@ fn read_number(wanted: NumberWord, word: &[u8], place: u32) -> Result<i64, Bad>
     ensures none { IfOk result (λ _. numeral_fault wanted place (numeral_of word.now) ≡ None) }
     ensures value { IfOk result (λ number. number ≡ value_of (numeral_of word.now)) }
     ensures range { IfOk result (IsInRange wanted) }
-    ensures err { IfErr result (λ bad. numeral_fault wanted place (numeral_of word.now) ≡ Some bad) }
+    ensures err { IfErr result (λ bad.
+        numeral_fault wanted place (numeral_of word.now) ≡ Some bad) }
 {
     match number(word) {
         Numeral::Value(value) => {

@@ -36,7 +36,8 @@ impl HeldText {
     // Holds a line back; what was held before is said first where there is no room.
     pub(crate) fn put<K: Sink>(&mut self, line: &ReplyLine, sink: &mut K) -> Result<(), Cut>
         ensures ok { OnOk result (
-            Says (voice (K.said sink.old) self.old) (voice (K.said sink.new) self.new) line.now.bytes) }
+            Says (voice (K.said sink.old) self.old) (voice (K.said sink.new) self.new)
+            line.now.bytes) }
         ensures err { OnErr result (
             Cuts (voice (K.said sink.old) self.old) (K.said sink.new) line.now.bytes) }
         ensures cause { OnErr result (Rose (K.faults sink.old) (K.faults sink.new)) }

@@ -1,8 +1,8 @@
 //! Question lines in, replies out: the shell around whatever answers questions.
 //!
-//! `run` answers the lines of a source one after another and says exactly the replies that filtering
-//! the answerer's chart gives, through a buffer of fixed size. The crate stands on track_types,
-//! host_ports and step_count.
+//! `run` answers the lines of a source one after another and says exactly the replies that
+//! filtering the answerer's chart gives, through a buffer of fixed size. The crate stands on
+//! track_types, host_ports and step_count.
 #![tactic(auto)]
 
 mod answering;

@@ -9,8 +9,8 @@ use std::test::Fail;
 use step_count::Steps;
 use track_types::{Answerer, Cell, Facts, Lazy, Memory, Stop};
 
-/// A buoy, object 7, that was seen once: at instant 2 in the cell (12, -11). For a walk of object 8 it
-/// has no memory.
+/// A buoy, object 7, that was seen once: at instant 2 in the cell (12, -11). For a walk of object 8
+/// it has no memory.
 #[derive(Clone, Copy)]
 struct Buoy;
 
@@ -44,7 +44,11 @@ impl Answerer for Buoy {
     ghost use Rattle.std.specs.Prelude.{pos, negsuc, ◌∷◌, []};
 
     ghost chart = { λ _. record {
-      rows = record { object = 7; instant = pos 2; cell = record { x = pos 12; y = negsuc 10 } } ∷ [];
+      rows = record {
+        object = 7;
+        instant = pos 2;
+        cell = record { x = pos 12; y = negsuc 10 };
+      } ∷ [];
       first = pos 2;
       last = pos 2;
       period = 1;

@@ -21,7 +21,8 @@ returns-in-Ok-Some-Position-clause-told g c =
     let arm = c.in-Ok-Some-Position in
     let some : arm.field-0 ≡ Some arm.field-0-0 = rw arm.is at arm.field-0-is in
     let inner : arm.field-0-0 ≡ question.Position arm.object arm.instant = rw (arm.is, some) at arm.field-0-0-is in
-    let asked : c.args.asked ≡ Ok (Some (question.Position arm.object arm.instant)) = arm.is ∙ ap Ok (some ∙ ap Some inner) in
+    let asked : c.args.asked ≡ Ok (Some (question.Position arm.object arm.instant)) =
+        arm.is ∙ ap Ok (some ∙ ap Some inner) in
     let near : IsAsked arm.instant = rw asked at c.requires in
     rw asked (simp (asked_kept arm.instant near) at c.answer_position.ensures.told)
 
@@ -30,6 +31,7 @@ returns-in-Ok-Some-Path-clause-told g c =
     let arm = c.in-Ok-Some-Path in
     let some : arm.field-0 ≡ Some arm.field-0-0 = rw arm.is at arm.field-0-is in
     let inner : arm.field-0-0 ≡ question.Path arm.object arm.from arm.to = rw (arm.is, some) at arm.field-0-0-is in
-    let asked : c.args.asked ≡ Ok (Some (question.Path arm.object arm.from arm.to)) = arm.is ∙ ap Ok (some ∙ ap Some inner) in
+    let asked : c.args.asked ≡ Ok (Some (question.Path arm.object arm.from arm.to)) =
+        arm.is ∙ ap Ok (some ∙ ap Some inner) in
     let near : IsAsked arm.from × IsAsked arm.to = rw asked at c.requires in
     rw asked (simp (asked_kept arm.from near.0, asked_kept arm.to near.1) at c.answer_path.ensures.told)

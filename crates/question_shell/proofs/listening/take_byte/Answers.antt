@@ -25,4 +25,5 @@ returns-clause-told g c start came desk heard =
     let told = subst (λ (asked : Result (Option Question) Bad). AnswerTold meaning here now asked c.answer.result)
     (c.question-asked.ensures.value (unended_line came) heard.kept) (c.answer.ensures.told desk) in
     rw c.if-byte-ne10.false
-    (told-feed meaning start here now came c.args.talk.now.line c.clear.new.self c.answer.result told c.clear.ensures heard)
+    (told-feed meaning start here now came c.args.talk.now.line c.clear.new.self c.answer.result told
+    c.clear.ensures heard)

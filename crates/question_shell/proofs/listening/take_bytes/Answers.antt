@@ -1,4 +1,5 @@
-use Rattle.std.proofs.Common.{◌++◌, ◌+◌, ◌∷◌, [], Err, List, ℕ, take, drop, get_or, subst, arith, append_assoc, ap, sym, ◌∙◌, take_all}
+use Rattle.std.proofs.Common.{◌++◌, ◌+◌, ◌∷◌, [], Err, List, ℕ, take, drop, get_or, subst, arith, append_assoc}
+use Rattle.std.proofs.Common.{ap, sym, ◌∙◌, take_all}
 use Rattle.std.proofs.lemmas.List.{take_more}
 use Rattle.std.proofs.lemmas.Result.{err_from_is_err_and}
 use Rattle.question_shell.specs.Session.{meaning_of}
@@ -25,7 +26,8 @@ returns-in_err-take_byte-clause-told g c start came desk heard =
 pub returns-in_err-take_byte-clause-cause : goal.returns-in_err-take_byte-clause-cause
 returns-in_err-take_byte-clause-cause g c failed =
     let exit = err_from_is_err_and c.from_residual.result c.from_residual.ensures.1 in
-    rose-later (g.K.Sink.faults c.args.sink.now) (g.K.Sink.faults c.loop-byte.sink) (g.K.Sink.faults c.take_byte.new.sink)
+    rose-later (g.K.Sink.faults c.args.sink.now) (g.K.Sink.faults c.loop-byte.sink)
+    (g.K.Sink.faults c.take_byte.new.sink)
     c.loop-byte.invariant.faults (c.in_err-take_byte.ensures.cause (ap Err (sym exit.2) ∙ (sym exit.1 ∙ failed)))
 
 pub returns-in_err-take_byte-clause-faults : goal.returns-in_err-take_byte-clause-faults

@@ -1,4 +1,5 @@
-use Rattle.std.proofs.Common.{◌≡◌, ◌∷◌, [], ◌++◌, ◌∙◌, ap, sym, append-nil, Option, Some, None, option_to_list, List, ℕ, refl}
+use Rattle.std.proofs.Common.{◌≡◌, ◌∷◌, [], ◌++◌, ◌∙◌, ap, sym, append-nil, Option, Some, None, option_to_list}
+use Rattle.std.proofs.Common.{List, ℕ, refl}
 use Rattle.track_types.specs.declared.cell.Cell.{Cell}
 use Rattle.question_shell.specs.Reply.{cell_line, listed, ok_line}
 use Rattle.question_shell.specs.Says.{voice}

@@ -28,7 +28,8 @@ returns-in_err-put-clause-err g c = on_err_always c.from_residual.result (
     ∙ sym (append_assoc read.done line rest)) in
     let cut : Cuts between now line =
     subst (λ (text : List ℕ). Cuts between now text) c.stop_line.ensures c.in_err-put.ensures.err in
-    rw whole (cuts-more start now (read.done ++ line) rest (cuts-append start between now read.done line read.says cut)))
+    rw whole (cuts-more start now (read.done ++ line) rest
+    (cuts-append start between now read.done line read.says cut)))
 
 pub loop-stop-preserved : goal.loop-stop-preserved
 loop-stop-preserved g c =

@@ -1,4 +1,5 @@
-use Rattle.std.proofs.Common.{◌≡◌, ◌+◌, ◌<◌, ◌≤◌, ◌^◌, [], ◌++◌, length, length-append, take, drop, refl, ap, arith, rules, inl, inr}
+use Rattle.std.proofs.Common.{◌≡◌, ◌+◌, ◌<◌, ◌≤◌, ◌^◌, [], ◌++◌, length, length-append, take, drop, refl, ap}
+use Rattle.std.proofs.Common.{arith, rules, inl, inr}
 use Rattle.question_shell.specs.Lines.{lines_of, whole_lines}
 use Rattle.question_shell.specs.Session.{meaning_of, run_of}
 use Rattle.question_shell.specs.Turns.{moment}
@@ -206,8 +207,8 @@ returns-in-Err-Say-take_piece-clause-say g c is_say =
     let fits : c.pieces.taken + c.in-Ok.count ≤ 2 ^ 32 + 1 = search rules in
     let within : length (bytes ++ piece) ≤ 2 ^ 32 + 1 =
     omega (arith, fits, read.count, length-append bytes piece, c.in-Ok.ensures.within.1) in
-    answers-front meaning before now (bytes ++ piece) came within (whole_lines (bytes ++ piece)) (inl refl) arm.field-0 told
-    arm.field-0-is
+    answers-front meaning before now (bytes ++ piece) came within (whole_lines (bytes ++ piece)) (inl refl) arm.field-0
+    told arm.field-0-is
 
 pub returns-in-Err-Memory-take_piece-clause-memory : goal.returns-in-Err-Memory-take_piece-clause-memory
 returns-in-Err-Memory-take_piece-clause-memory g c is_memory =
@@ -239,5 +240,5 @@ returns-in-Err-Memory-take_piece-clause-memory g c is_memory =
     let fits : c.pieces.taken + c.in-Ok.count ≤ 2 ^ 32 + 1 = search rules in
     let within : length (bytes ++ piece) ≤ 2 ^ 32 + 1 =
     omega (arith, fits, read.count, length-append bytes piece, c.in-Ok.ensures.within.1) in
-    answers-before meaning before now (bytes ++ piece) came within (whole_lines (bytes ++ piece)) (inl refl) arm.field-0 told
-    arm.field-0-is
+    answers-before meaning before now (bytes ++ piece) came within (whole_lines (bytes ++ piece)) (inl refl) arm.field-0
+    told arm.field-0-is
