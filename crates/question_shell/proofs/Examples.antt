@@ -1,10 +1,9 @@
 -- The definitions, run on inputs that were worked out by hand.
-use Rattle.std.proofs.Common.{◌≡◌, ℕ, pos, negsuc, List, [], ◌∷◌, codes, refl, Ok, Err, Some, None, replicate, ◌++◌}
+use Rattle.std.proofs.Common.{◌≡◌, pos, negsuc, [], ◌∷◌, codes, refl, Ok, Err, Some, None, replicate, ◌++◌}
 use Rattle.std.specs.Fmt.{digits}
 use Rattle.track_types.specs.Chart.{ChartView}
 use Rattle.track_types.specs.declared.facts.Facts.{Facts}
 use Rattle.track_types.specs.declared.question.Question.TheVariants as question
-use Rattle.track_types.specs.declared.row.Row.{Row}
 use Rattle.question_shell.specs.Grammar.{question_of}
 use Rattle.question_shell.specs.Lines.{lines_of, unended_line, whole_lines, words_of}
 use Rattle.question_shell.specs.Replies.{costs_of, replies_of}

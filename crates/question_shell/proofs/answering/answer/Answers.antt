@@ -1,6 +1,7 @@
 use Rattle.std.proofs.Common.{◌≡◌, ◌∙◌, ap, refl, arith, Ok, Some, None}
 use Rattle.track_types.specs.Near.{IsAsked}
 use Rattle.track_types.specs.declared.question.Question.TheVariants as question
+use Rattle.question_shell.specs.Desk.{held_of}
 use Rattle.question_shell.specs.Says.{voice}
 use Rattle.question_shell.proofs.CountLemmas.{asked_kept}
 use Rattle.question_shell.proofs.SaysLemmas.{says-nothing}
@@ -12,7 +13,7 @@ returns-in-Ok-None-clause-told g c desk =
     let asked : c.args.asked ≡ Ok None = c.in-Ok-None.is ∙ ap Ok inner in
     rw asked (record {
       said = says-nothing (voice (g.K.Sink.said c.args.sink.now) c.args.text.now);
-      desk = refl;
+      desk = refl {a = held_of desk};
       reads = omega arith;
     })
 
