@@ -77,7 +77,7 @@ module _ (meaning : Meaning) (before : Moment) where
     pub turns-append : Turns meaning between now second → Turns meaning before now (first ++ second)
     turns-append more =
         let next = subst (λ (desk : List (Option (List Stop))).
-            Says between.voice now.voice (replies_by meaning desk second))
+        Says between.voice now.voice (replies_by meaning desk second))
         turns.desk more.said in
         let said = says-append before.voice between.voice now.voice _ _ turns.said next in
         let desk = more.desk ∙ (ap (λ desk. desk_by meaning desk second) turns.desk
@@ -101,7 +101,7 @@ module _ (meaning : Meaning) (before : Moment) where
     pub front-append : TurnsFront meaning between now second → TurnsFront meaning before now (first ++ second)
     front-append more =
         let next = subst (λ (desk : List (Option (List Stop))).
-            Cuts between.voice now.voice.said (replies_by meaning desk second))
+        Cuts between.voice now.voice.said (replies_by meaning desk second))
         turns.desk more.said in
         let said = cuts-append before.voice between.voice now.voice.said _ _ turns.said next in
         let costs : costs_by meaning between.desk second

@@ -23,7 +23,7 @@ returns-in-Ok-Some-Position-clause-told g c =
     let some : arm.field-0 ≡ Some arm.field-0-0 = rw arm.is at arm.field-0-is in
     let inner : arm.field-0-0 ≡ question.Position arm.object arm.instant = rw (arm.is, some) at arm.field-0-0-is in
     let asked : c.args.asked ≡ Ok (Some (question.Position arm.object arm.instant)) =
-        arm.is ∙ ap Ok (some ∙ ap Some inner) in
+    arm.is ∙ ap Ok (some ∙ ap Some inner) in
     let near : IsAsked arm.instant = rw asked at c.requires in
     rw asked (simp (asked_kept arm.instant near) at c.answer_position.ensures.told)
 
@@ -33,6 +33,6 @@ returns-in-Ok-Some-Path-clause-told g c =
     let some : arm.field-0 ≡ Some arm.field-0-0 = rw arm.is at arm.field-0-is in
     let inner : arm.field-0-0 ≡ question.Path arm.object arm.from arm.to = rw (arm.is, some) at arm.field-0-0-is in
     let asked : c.args.asked ≡ Ok (Some (question.Path arm.object arm.from arm.to)) =
-        arm.is ∙ ap Ok (some ∙ ap Some inner) in
+    arm.is ∙ ap Ok (some ∙ ap Some inner) in
     let near : IsAsked arm.from × IsAsked arm.to = rw asked at c.requires in
     rw asked (simp (asked_kept arm.from near.0, asked_kept arm.to near.1) at c.answer_path.ensures.told)
