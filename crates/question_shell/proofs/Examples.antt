@@ -1,0 +1,96 @@
+-- The definitions, run on inputs that were worked out by hand.
+use Rattle.std.proofs.Common.{◌≡◌, pos, negsuc, [], ◌∷◌, codes, refl, Ok, Err, Some, None, replicate, ◌++◌}
+use Rattle.std.specs.Fmt.{digits}
+use Rattle.track_types.specs.Chart.{ChartView}
+use Rattle.track_types.specs.declared.facts.Facts.{Facts}
+use Rattle.track_types.specs.declared.question.Question.TheVariants as question
+use Rattle.question_shell.specs.Grammar.{question_of}
+use Rattle.question_shell.specs.Lines.{lines_of, unended_line, whole_lines, words_of}
+use Rattle.question_shell.specs.Replies.{costs_of, replies_of}
+use Rattle.question_shell.specs.Reply.{listed}
+use Rattle.question_shell.specs.declared.bad.Bad.TheVariants as bad
+
+-- lines: an empty one counts, a last one counts where it has a byte
+three_lines : lines_of (codes "a\n\nb") ≡ codes "a" ∷ [] ∷ codes "b" ∷ []
+unfolding whole_lines unended_line
+three_lines = refl
+
+two_lines : lines_of (codes "a\n\n") ≡ codes "a" ∷ [] ∷ []
+unfolding whole_lines unended_line
+two_lines = refl
+
+no_line : lines_of [] ≡ []
+unfolding whole_lines unended_line
+no_line = refl
+
+coming_line : unended_line (codes "a\nbc") ≡ codes "bc"
+unfolding unended_line
+coming_line = refl
+
+-- words are separated by spaces, tabs and carriage returns
+three_words : words_of (codes "  position\t7 2\r") ≡ codes "position" ∷ codes "7" ∷ codes "2" ∷ []
+three_words = refl
+
+-- questions
+position_question : question_of (codes "position 7 -2") ≡ Ok (Some (question.Position 7 (negsuc 1)))
+position_question = refl
+
+path_question : question_of (codes "path +7 0 \t 12\r") ≡ Ok (Some (question.Path 7 (pos 0) (pos 12)))
+path_question = refl
+
+blank_line : question_of (codes " \t\r") ≡ Ok None
+blank_line = refl
+
+other_word : question_of (codes "Position 7 2") ≡ Err bad.Word
+other_word = refl
+
+word_missing : question_of (codes "path 7 x") ≡ Err bad.Count
+word_missing = refl
+
+word_too_many : question_of (codes "position 7 2 1") ≡ Err bad.Count
+word_too_many = refl
+
+no_number : question_of (codes "path 7 x 4294967296000") ≡ Err (bad.Number 3)
+no_number = refl
+
+object_below : question_of (codes "position -1 x") ≡ Err (bad.Range 2)
+object_below = refl
+
+greatest_instant : question_of (codes "position 4294967295 2199023255552")
+    ≡ Ok (Some (question.Position 4294967295 (pos 2199023255552)))
+greatest_instant = refl
+
+instant_above : question_of (codes "position 0 2199023255553") ≡ Err (bad.Range 3)
+instant_above = refl
+
+-- a line of 1,025 bytes is too long where it has a word
+long_line : question_of (replicate 1024 32 ++ 120 ∷ []) ≡ Err bad.Long
+long_line = refl
+
+long_blank : question_of (replicate 1100 32) ≡ Ok None
+long_blank = refl
+
+-- replies over two rows of object 7
+chart : ChartView
+chart = record {
+  rows = record { object = 7; instant = pos 0; cell = record { x = pos 10; y = negsuc 9 } }
+      ∷ record { object = 7; instant = pos 2; cell = record { x = pos 12; y = pos 11 } } ∷ [];
+  first = pos 0;
+  last = pos 2;
+  period = 4;
+  cell = 1;
+  tick = 1;
+}
+
+replies_to_lines : (facts : Facts) →
+    replies_of chart facts []
+    (lines_of (codes "position 7 0\n\nposition 7 1\nwhere\npath 7 0 2\npath 8 0 2\nposition x 1"))
+    ≡ codes "10 -10\nok 1\nok 0\nbad word\n0 10 -10\n2 12 11\nok 2\nok 0\nbad number 2\n"
+unfolding chart digits replies_of listed whole_lines unended_line
+replies_to_lines facts = refl
+
+-- a bad and a blank line cost nothing
+costs_of_lines : (facts : Facts) →
+    costs_of (λ asked. 5) chart facts [] (lines_of (codes "position 7 0\n\nwhere\npath 7 0 2\n")) ≡ 10
+unfolding costs_of whole_lines unended_line
+costs_of_lines facts = refl

@@ -1,0 +1,9 @@
+pub mod LineLemmas
+pub mod KeptLemmas
+pub mod GrammarLemmas
+pub mod SaysLemmas
+pub mod TurnLemmas
+pub mod CountLemmas
+pub mod SessionLemmas
+pub mod RunLemmas
+mod Examples

@@ -1,0 +1,116 @@
+-- Saying one text after another, while some is held back.
+use Rattle.std.proofs.Common.{◌≡◌, ℕ, List, [], ◌++◌, refl, sym, ap, ◌∙◌, append_assoc, append-nil, Option, Some, None}
+use Rattle.std.proofs.Common.{length, take, drop, subst, Result, Ok, Err, OnOk, OnErr}
+use Rattle.std.proofs.lemmas.List.{take-append-drop}
+use Rattle.std.specs.Io.KnownBytes.{Appends}
+use Rattle.std.specs.List.{flat_map}
+use Rattle.question_shell.specs.Reply.{listed, ok_line}
+use Rattle.question_shell.specs.Says.{Cuts, Says, Voice, voice}
+
+-- a text said after another
+pub Appends-append : (before between now : Option (List ℕ)) (first second : List ℕ) →
+    Appends before between first → Appends between now second → Appends before now (first ++ second)
+Appends-append None between now first second one two = tt
+Appends-append (Some said) None now first second one two = absurd one
+Appends-append (Some said) (Some more) None first second one two = absurd two
+Appends-append (Some said) (Some more) (Some all) first second one two =
+    two ∙ (ap (λ text. text ++ second) one ∙ append_assoc said first second)
+
+-- nothing said
+pub Appends-nothing : (said : Option (List ℕ)) → Appends said said []
+Appends-nothing None = tt
+Appends-nothing (Some text) = sym (append-nil text)
+
+-- no text
+pub says-nothing : (here : Voice) → Says here here []
+says-nothing here = record { sent = []; split = append-nil here.held; said = Appends-nothing here.said }
+
+-- a text after another
+pub says-append : (before between now : Voice) (first second : List ℕ) →
+    Says before between first → Says between now second → Says before now (first ++ second)
+says-append before between now first second one two = record {
+  sent = one.sent ++ two.sent;
+  split = sym (append_assoc before.held first second)
+      ∙ (ap (λ text. text ++ second) one.split
+      ∙ (append_assoc one.sent between.held second
+      ∙ (ap (λ text. one.sent ++ text) two.split
+      ∙ sym (append_assoc one.sent two.sent now.held))));
+  said = Appends-append before.said between.said now.said one.sent two.sent one.said two.said;
+}
+
+-- a text after another is cut
+pub cuts-append : (before between : Voice) (now : Option (List ℕ)) (first second : List ℕ) →
+    Says before between first → Cuts between now second → Cuts before now (first ++ second)
+cuts-append before between now first second one two = record {
+  unsaid = two.unsaid;
+  says = says-append before between (voice now two.unsaid) first second one two.says;
+}
+
+-- what is cut of a text is cut of a longer one
+pub cuts-more : (before : Voice) (now : Option (List ℕ)) (text more : List ℕ) →
+    Cuts before now text → Cuts before now (text ++ more)
+cuts-more before now text more cut = record {
+  unsaid = cut.unsaid ++ more;
+  says = record {
+    sent = cut.says.sent;
+    split = sym (append_assoc before.held text more)
+        ∙ (ap (λ all. all ++ more) cut.says.split ∙ append_assoc cut.says.sent cut.unsaid more);
+    said = cut.says.said;
+  };
+}
+
+-- a text is held back
+pub says-held : (said : Option (List ℕ)) (held text : List ℕ) → Says (voice said held) (voice said (held ++ text)) text
+says-held said held text = record { sent = []; split = refl; said = Appends-nothing said }
+
+-- all that was held back is said
+pub says-all : (said now : Option (List ℕ)) (held : List ℕ) → Appends said now held →
+    Says (voice said held) (voice now []) []
+says-all said now held appended = record { sent = held; split = refl; said = appended }
+
+-- a front of it is said
+pub cuts-front : (said now : Option (List ℕ)) (held : List ℕ) (k : ℕ) → Appends said now (take k held) →
+    Cuts (voice said held) now []
+cuts-front said now held k appended = record {
+  unsaid = drop k held;
+  says = record {
+    sent = take k held;
+    split = append-nil held ∙ sym (take-append-drop k held);
+    said = appended;
+  };
+}
+
+-- where nothing was held back and nothing is, the text was said
+pub Appends-says : (said now : Option (List ℕ)) (text : List ℕ) → Says (voice said []) (voice now []) text →
+    Appends said now text
+Appends-says said now text says =
+    let same : says.sent ≡ text = sym (append-nil says.sent) ∙ sym says.split in
+    let P : List ℕ → Type 0 = λ all. Appends said now all in
+    subst P same says.said
+
+-- a fact holds of an error where it holds at all
+pub on_err_always : {T E P : Type 0} (result : Result T E) → P → OnErr result P
+on_err_always (Ok value) fact = tt
+on_err_always (Err fault) fact = fact
+
+-- what a call said, in other words and after another text
+module _ {T E : Type 0} (before between : Voice) (first line text : List ℕ) (whole : first ++ line ≡ text)
+    (says : Says before between first)
+  where
+    pub on_ok-says : (result : Result T E) (now : Voice) → OnOk result (Says between now line) →
+        OnOk result (Says before now text)
+    on_ok-says (Ok value) now more =
+        subst (λ (all : List ℕ). Says before now all) whole (says-append before between now first line says more)
+    on_ok-says (Err fault) now more = tt
+
+    pub on_err-cuts : (result : Result T E) (now : Option (List ℕ)) → OnErr result (Cuts between now line) →
+        OnErr result (Cuts before now text)
+    on_err-cuts (Ok value) now cut = tt
+    on_err-cuts (Err fault) now cut =
+        subst (λ (all : List ℕ). Cuts before now all) whole (cuts-append before between now first line says cut)
+
+-- the lines of a reply and their count
+pub listed-is : {A : Type 0} (line : A → List ℕ) (items : List A) →
+    listed line items ≡ flat_map line items ++ ok_line (length items)
+unfolding listed
+listed-is line items = refl

@@ -1,0 +1,27 @@
+use Rattle.std.proofs.Common.{Err, ◌≡◌, Result, Option, subst}
+use Rattle.track_types.specs.declared.question.Question.{Question}
+use Rattle.question_shell.specs.Lines.{lines_of, unended_line}
+use Rattle.question_shell.specs.Session.{meaning_of}
+use Rattle.question_shell.specs.Turns.{AnswerTold, moment}
+use Rattle.question_shell.specs.declared.bad.Bad.{Bad}
+use Rattle.question_shell.specs.declared.turn_fault.TurnFault.TheVariants as fault
+use Rattle.question_shell.proofs.SessionLemmas.{rest-lines, rose-after, told-end}
+use Rattle.question_shell.proofs.listening.take_end.Goals as goal
+
+pub returns-clause-told : goal.returns-clause-told
+returns-clause-told g c start came desk heard =
+    let meaning = meaning_of (g.A.Answerer.chart c.args.answerer) (g.A.Answerer.facts c.args.answerer)
+    (g.A.Answerer.cost c.args.answerer) in
+    let said = c.answer-answered in
+    let here = moment (g.K.Sink.said c.args.sink.now) c.args.talk.now.text desk c.args.steps.now in
+    let between = moment (g.K.Sink.said said.new.sink) said.new.text desk said.new.steps in
+    let told = subst (λ (asked : Result (Option Question) Bad). AnswerTold meaning here between asked said.result)
+    (c.question-asked.ensures.value (unended_line came) heard.kept) (said.ensures.told desk) in
+    rest-lines meaning start between (g.K.Sink.said c.say_rest.new.sink) (lines_of came) said.result c.say_rest.result
+    (told-end meaning start here between came c.args.talk.now.line said.result told heard) c.say_rest.ensures.told
+
+pub returns-clause-cause : goal.returns-clause-cause
+returns-clause-cause g c failed =
+    let said = c.answer-answered in
+    rose-after (g.K.Sink.faults c.args.sink.now) (g.K.Sink.faults said.new.sink) (g.K.Sink.faults c.say_rest.new.sink)
+    (said.result ≡ Err fault.Say) said.ensures.faults said.ensures.cause (c.say_rest.ensures.cause failed)

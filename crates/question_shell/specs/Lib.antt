@@ -1,0 +1,9 @@
+pub mod Lines
+pub mod Grammar
+pub mod Desk
+pub mod Reply
+pub mod Replies
+pub mod Session
+pub mod Says
+pub mod LineKept
+pub mod Turns

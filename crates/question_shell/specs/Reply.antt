@@ -1,0 +1,81 @@
+-- What is said for each line.
+use Rattle.std.specs.Prelude.{ℕ, List, [], ◌∷◌, ◌++◌, length, codes, Option, Some, None, Result, Ok, Err}
+use Rattle.std.specs.Prelude.{option_to_list}
+use Rattle.std.specs.List.{flat_map}
+use Rattle.std.specs.Fmt.{decimal, signed_decimal}
+use Rattle.track_types.specs.ByFilter.{cell_at, path_of}
+use Rattle.track_types.specs.Chart.{ChartView}
+use Rattle.track_types.specs.declared.cell.Cell.{Cell}
+use Rattle.track_types.specs.declared.facts.Facts.{Facts}
+use Rattle.track_types.specs.declared.question.Question.{Question}
+use Rattle.track_types.specs.declared.question.Question.TheVariants as question
+use Rattle.track_types.specs.declared.stop.Stop.{Stop}
+use Rattle.question_shell.specs.declared.bad.Bad.{Bad}
+use Rattle.question_shell.specs.declared.bad.Bad.TheVariants as bad
+
+-- a text with its line feed
+abbrev pub said_line : List ℕ → List ℕ
+said_line text = text ++ 10 ∷ []
+
+-- X Y
+abbrev pub cell_line : Cell → List ℕ
+cell_line cell = said_line (signed_decimal cell.x ++ codes " " ++ signed_decimal cell.y)
+
+-- T X Y
+abbrev pub stop_line : Stop → List ℕ
+stop_line stop = signed_decimal stop.instant ++ codes " " ++ cell_line stop.cell
+
+-- ok N, where N is how many lines come before in the reply
+abbrev pub ok_line : ℕ → List ℕ
+ok_line count = said_line (codes "ok " ++ decimal count)
+
+-- a line for each item, and how many there were
+unfoldable pub listed : {A : Type 0} → (A → List ℕ) → List A → List ℕ
+listed line items = flat_map line items ++ ok_line (length items)
+
+-- the cause that a bad line has
+abbrev pub cause_of : Bad → List ℕ
+cause_of bad.Long = codes "long"
+cause_of bad.Word = codes "word"
+cause_of bad.Count = codes "count"
+cause_of (bad.Number place) = codes "number " ++ decimal place
+cause_of (bad.Range place) = codes "range " ++ decimal place
+
+-- what is said for a bad line
+abbrev pub bad_line : Bad → List ℕ
+bad_line bad = said_line (codes "bad " ++ cause_of bad)
+
+-- What one line brings: what is said for it, and the walks that the desk holds after it.
+pub record Turn : Type 0 where
+  pub text : List ℕ
+  pub desk : List (Option (List Stop))
+
+-- only a text: the desk is as it was
+abbrev pub only_text : List (Option (List Stop)) → List ℕ → Turn
+only_text desk text = record { text = text; desk = desk }
+
+-- what a question brings; one that has no words yet is said to be of a bad word
+abbrev pub question_turn : ChartView → Facts → List (Option (List Stop)) → Question → Turn
+question_turn chart facts desk (question.Position object instant) =
+    only_text desk (listed cell_line (option_to_list (cell_at chart.rows object instant)))
+question_turn chart facts desk (question.Path object from to) =
+    only_text desk (listed stop_line (path_of chart.rows object from to))
+question_turn chart facts desk (question.Slice instant region) = only_text desk (bad_line bad.Word)
+question_turn chart facts desk (question.Interval from to region) = only_text desk (bad_line bad.Word)
+question_turn chart facts desk (question.Nearest count instant cell) = only_text desk (bad_line bad.Word)
+question_turn chart facts desk question.Info = only_text desk (bad_line bad.Word)
+question_turn chart facts desk (question.Hold slot object from to) = only_text desk (bad_line bad.Word)
+question_turn chart facts desk (question.More slot count) = only_text desk (bad_line bad.Word)
+question_turn chart facts desk (question.Free slot) = only_text desk (bad_line bad.Word)
+
+-- what is brought by what a line asks: nothing for a blank line
+abbrev pub asked_turn : ChartView → Facts → List (Option (List Stop)) → Result (Option Question) Bad → Turn
+asked_turn chart facts desk (Ok None) = only_text desk []
+asked_turn chart facts desk (Ok (Some asked)) = question_turn chart facts desk asked
+asked_turn chart facts desk (Err bad) = only_text desk (bad_line bad)
+
+-- what a line's question may cost in reads: nothing for a blank or bad line
+abbrev pub asked_cost : (Question → ℕ) → Result (Option Question) Bad → ℕ
+asked_cost cost (Ok None) = 0
+asked_cost cost (Ok (Some asked)) = cost asked
+asked_cost cost (Err bad) = 0

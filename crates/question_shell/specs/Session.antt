@@ -1,0 +1,135 @@
+-- What came from a source, what was said for it, and what was read.
+use Rattle.std.specs.Prelude.{◌≡◌, ℕ, ◌+◌, ◌^◌, ◌≤◌, Bool, true, false, List, ◌∷◌, ◌++◌, ◌⊎◌, length, take}
+use Rattle.std.specs.Prelude.{Option, Some, None}
+use Rattle.std.specs.Prelude.{Result, Ok, Err}
+use Rattle.std.specs.Io.KnownBytes.{Appends, Consumes, IsAtEnd}
+use Rattle.track_types.specs.Chart.{ChartView}
+use Rattle.track_types.specs.declared.facts.Facts.{Facts}
+use Rattle.track_types.specs.declared.question.Question.{Question}
+use Rattle.track_types.specs.declared.question.Question.TheVariants as question
+use Rattle.track_types.specs.declared.stop.Stop.{Stop}
+use Rattle.question_shell.specs.Desk.{DeskView, budget_of, held_of}
+use Rattle.question_shell.specs.Grammar.{question_of}
+use Rattle.question_shell.specs.Lines.{lines_of, whole_lines}
+use Rattle.question_shell.specs.Replies.{costs_of, desk_after, replies_of}
+use Rattle.question_shell.specs.declared.bad.Bad.{Bad}
+
+-- What an answerer means: a chart, its facts, and what each question may cost in reads.
+pub record Meaning : Type 0 where
+  pub chart : ChartView
+  pub facts : Facts
+  pub cost : Question → ℕ
+
+-- the three, put together
+abbrev pub meaning_of : ChartView → Facts → (Question → ℕ) → Meaning
+meaning_of chart facts cost = record { chart = chart; facts = facts; cost = cost }
+
+-- the replies to lines, where the desk holds these walks
+abbrev pub replies_by : Meaning → List (Option (List Stop)) → List (List ℕ) → List ℕ
+replies_by meaning desk lines = replies_of meaning.chart meaning.facts desk lines
+
+-- the desk after lines
+abbrev pub desk_by : Meaning → List (Option (List Stop)) → List (List ℕ) → List (Option (List Stop))
+desk_by meaning desk lines = desk_after meaning.chart meaning.facts desk lines
+
+-- what lines may cost in reads
+abbrev pub costs_by : Meaning → List (Option (List Stop)) → List (List ℕ) → ℕ
+costs_by meaning desk lines = costs_of meaning.cost meaning.chart meaning.facts desk lines
+
+-- What is known at a moment: the bytes still to come, how many came, what was said, the desk, and the reads.
+pub record Run : Type 0 where
+  pub rest : Option (List ℕ)
+  pub taken : ℕ
+  pub said : Option (List ℕ)
+  pub desk : DeskView
+  pub steps : ℕ
+
+-- what is known, put together
+abbrev pub run_of : Option (List ℕ) → ℕ → Option (List ℕ) → DeskView → ℕ → Run
+run_of rest taken said desk steps =
+    record { rest = rest; taken = taken; said = said; desk = desk; steps = steps }
+
+-- These bytes came in between: they were next where the source tells what is to come, and are counted.
+pub record Came (before now : Run) (bytes : List ℕ) : Type 0 where
+  pub consumed : Consumes before.rest now.rest bytes
+  pub counted : now.taken ≡ before.taken + length bytes
+
+-- These lines were answered in between: exactly their replies were said, the desk is the one after them, and what was
+-- read, with what the desk may still read, is at most what they cost, with what the desk could read before.
+pub record Answers (meaning : Meaning) (before now : Run) (lines : List (List ℕ)) : Type 0 where
+  pub said : Appends before.said now.said (replies_by meaning (held_of before.desk) lines)
+  pub desk : held_of now.desk ≡ desk_by meaning (held_of before.desk) lines
+  pub reads : now.steps + budget_of now.desk
+      ≤ before.steps + budget_of before.desk + costs_by meaning (held_of before.desk) lines
+
+-- The source was read to its end, and all lines were answered.
+pub record AnswersAll (meaning : Meaning) (before now : Run) : Type 0 where
+  pub bytes : List ℕ
+  pub came : Came before now bytes
+  pub at_end : IsAtEnd now.rest
+  pub within : length bytes ≤ 2 ^ 32
+  pub answers : Answers meaning before now (lines_of bytes)
+
+-- The whole lines among the bytes that came were answered.
+pub record AnswersWhole (meaning : Meaning) (before now : Run) : Type 0 where
+  pub bytes : List ℕ
+  pub came : Came before now bytes
+  pub within : length bytes ≤ 2 ^ 32
+  pub answers : Answers meaning before now (whole_lines bytes)
+
+-- One byte more came than question input may have, and the whole lines before it were answered.
+pub record AnswersFirst (meaning : Meaning) (before now : Run) : Type 0 where
+  pub bytes : List ℕ
+  pub came : Came before now bytes
+  pub past : length bytes ≡ 2 ^ 32 + 1
+  pub answers : Answers meaning before now (whole_lines (take (2 ^ 32) bytes))
+
+-- whether answering this takes memory
+abbrev pub takes_memory : Result (Option Question) Bad → Bool
+takes_memory (Ok None) = false
+takes_memory (Ok (Some (question.Position object instant))) = false
+takes_memory (Ok (Some (question.Path object from to))) = true
+takes_memory (Ok (Some (question.Slice instant region))) = false
+takes_memory (Ok (Some (question.Interval from to region))) = false
+takes_memory (Ok (Some (question.Nearest count instant cell))) = false
+takes_memory (Ok (Some question.Info)) = false
+takes_memory (Ok (Some (question.Hold slot object from to))) = false
+takes_memory (Ok (Some (question.More slot count))) = false
+takes_memory (Ok (Some (question.Free slot))) = false
+takes_memory (Err bad) = false
+
+-- One of the lines takes memory, and the lines before it are these.
+pub record StopsAt (lines before : List (List ℕ)) : Type 0 where
+  pub line : List ℕ
+  pub behind : List (List ℕ)
+  pub split : lines ≡ before ++ line ∷ behind
+  pub takes : takes_memory (question_of line) ≡ true
+
+-- The lines that may be answered: the whole ones, and all of them where the source was read to its end.
+abbrev pub AreTaken : Option (List ℕ) → List ℕ → List (List ℕ) → Type 0
+AreTaken rest bytes lines = (lines ≡ whole_lines bytes) ⊎ (IsAtEnd rest × (lines ≡ lines_of bytes))
+
+-- The lines before one that takes memory were answered, and no other.
+pub record AnswersBefore (meaning : Meaning) (before now : Run) : Type 0 where
+  pub bytes : List ℕ
+  pub came : Came before now bytes
+  pub within : length bytes ≤ 2 ^ 32 + 1
+  pub all : List (List ℕ)
+  pub taken : AreTaken now.rest bytes all
+  pub lines : List (List ℕ)
+  pub stops : StopsAt all lines
+  pub answers : Answers meaning before now lines
+
+-- What was said is a front of the replies to lines that may be answered, and no more was read than these lines cost and
+-- the desk could read.
+pub record AnswersFront (meaning : Meaning) (before now : Run) : Type 0 where
+  pub bytes : List ℕ
+  pub came : Came before now bytes
+  pub within : length bytes ≤ 2 ^ 32 + 1
+  pub lines : List (List ℕ)
+  pub taken : AreTaken now.rest bytes lines
+  pub text : List ℕ
+  pub unsaid : List ℕ
+  pub front : replies_by meaning (held_of before.desk) lines ≡ text ++ unsaid
+  pub said : Appends before.said now.said text
+  pub reads : now.steps ≤ before.steps + budget_of before.desk + costs_by meaning (held_of before.desk) lines

@@ -1,0 +1,99 @@
+-- What one line after another brings, while text is held back.
+use Rattle.std.specs.Prelude.{◌≡◌, ℕ, ◌+◌, ◌≤◌, List, [], Option, Result, Ok, Err, true}
+use Rattle.track_types.specs.declared.question.Question.{Question}
+use Rattle.track_types.specs.declared.stop.Stop.{Stop}
+use Rattle.question_shell.specs.Desk.{DeskView, budget_of, held_of}
+use Rattle.question_shell.specs.LineKept.{LineKept, kept_of}
+use Rattle.question_shell.specs.Lines.{unended_line, whole_lines}
+use Rattle.question_shell.specs.Reply.{Turn, asked_cost, asked_turn, bad_line}
+use Rattle.question_shell.specs.Says.{Cuts, Says, Voice, voice}
+use Rattle.question_shell.specs.Session.{Meaning, StopsAt, costs_by, desk_by, replies_by, takes_memory}
+use Rattle.question_shell.specs.declared.bad.Bad.{Bad}
+use Rattle.question_shell.specs.declared.turn_fault.TurnFault.{TurnFault}
+use Rattle.question_shell.specs.declared.turn_fault.TurnFault.TheVariants as fault
+
+-- What was said and is held back, the walks on the desk, and the reads, with what the desk may still read.
+pub record Moment : Type 0 where
+  pub voice : Voice
+  pub desk : List (Option (List Stop))
+  pub due : ℕ
+
+-- what is known, put together
+abbrev pub moment : Option (List ℕ) → List ℕ → DeskView → ℕ → Moment
+moment said held desk steps =
+    record { voice = voice said held; desk = held_of desk; due = steps + budget_of desk }
+
+-- what is brought by what a line asks
+abbrev pub turn_by : Meaning → Moment → Result (Option Question) Bad → Turn
+turn_by meaning before asked = asked_turn meaning.chart meaning.facts before.desk asked
+
+-- What a line asks was answered.
+pub record Takes (meaning : Meaning) (before now : Moment) (asked : Result (Option Question) Bad) : Type 0 where
+  pub said : Says before.voice now.voice (turn_by meaning before asked).text
+  pub desk : now.desk ≡ (turn_by meaning before asked).desk
+  pub reads : now.due ≤ before.due + asked_cost meaning.cost asked
+
+-- A front of the answer was said.
+pub record TakesFront (meaning : Meaning) (before now : Moment) (asked : Result (Option Question) Bad) : Type 0 where
+  pub said : Cuts before.voice now.voice.said (turn_by meaning before asked).text
+  pub reads : now.due ≤ before.due + asked_cost meaning.cost asked
+
+-- Lines were answered.
+pub record Turns (meaning : Meaning) (before now : Moment) (lines : List (List ℕ)) : Type 0 where
+  pub said : Says before.voice now.voice (replies_by meaning before.desk lines)
+  pub desk : now.desk ≡ desk_by meaning before.desk lines
+  pub reads : now.due ≤ before.due + costs_by meaning before.desk lines
+
+-- A front of the replies to lines was said.
+pub record TurnsFront (meaning : Meaning) (before now : Moment) (lines : List (List ℕ)) : Type 0 where
+  pub said : Cuts before.voice now.voice.said (replies_by meaning before.desk lines)
+  pub reads : now.due ≤ before.due + costs_by meaning before.desk lines
+
+-- The lines before one that takes memory were answered.
+pub record TurnsBefore (meaning : Meaning) (before now : Moment) (all : List (List ℕ)) : Type 0 where
+  pub lines : List (List ℕ)
+  pub stops : StopsAt all lines
+  pub turns : Turns meaning before now lines
+
+-- The whole lines of the bytes that came were answered, and the line that is coming is kept.
+pub record Heard (meaning : Meaning) (before now : Moment) (came : List ℕ) (line : LineKept) : Type 0 where
+  pub turns : Turns meaning before now (whole_lines came)
+  pub kept : line ≡ kept_of (unended_line came)
+
+-- What is told of an answer to what a line asks: it was given, a front of it was said, or memory was refused and
+-- nothing changed.
+abbrev pub AnswerTold : Meaning → Moment → Moment → Result (Option Question) Bad → Result Unit TurnFault → Type 0
+AnswerTold meaning before now asked (Ok done) = Takes meaning before now asked
+AnswerTold meaning before now asked (Err fault.Say) = TakesFront meaning before now asked
+AnswerTold meaning before now asked (Err fault.Memory) = (takes_memory asked ≡ true) × (now ≡ before)
+
+-- What is told of the reply to a bad line: it was said, or a front of it.
+abbrev pub BadTold : Voice → Voice → Bad → Result Unit TurnFault → Type 0
+BadTold before now bad (Ok done) = Says before now (bad_line bad)
+BadTold before now bad (Err fault.Say) = Cuts before now.said (bad_line bad)
+BadTold before now bad (Err fault.Memory) = ⊥
+
+-- What is told of bytes that came: they were heard, a front of the replies was said, or memory was refused.
+abbrev pub BytesTold : Meaning → Moment → Moment → List ℕ → LineKept → Result Unit TurnFault → Type 0
+BytesTold meaning before now came line (Ok done) = Heard meaning before now came line
+BytesTold meaning before now came line (Err fault.Say) = TurnsFront meaning before now (whole_lines came)
+BytesTold meaning before now came line (Err fault.Memory) = TurnsBefore meaning before now (whole_lines came)
+
+-- What is told of these lines: all were answered, a front of the replies was said, or memory was refused.
+abbrev pub LinesTold : Meaning → Moment → Moment → List (List ℕ) → Result Unit TurnFault → Type 0
+LinesTold meaning before now lines (Ok done) = Turns meaning before now lines
+LinesTold meaning before now lines (Err fault.Say) = TurnsFront meaning before now lines
+LinesTold meaning before now lines (Err fault.Memory) = TurnsBefore meaning before now lines
+
+-- What is told of the rest of the text after an answer: it was said, or a front of it; after the sink failed, nothing
+-- more.
+abbrev pub RestTold : Voice → Option (List ℕ) → Result Unit TurnFault → Result Unit TurnFault → Type 0
+RestTold before now (Ok done) (Ok still) = Says before (voice now []) []
+RestTold before now (Ok done) (Err fault.Say) = Cuts before now []
+RestTold before now (Ok done) (Err fault.Memory) = ⊥
+RestTold before now (Err fault.Say) (Ok still) = ⊥
+RestTold before now (Err fault.Say) (Err fault.Say) = now ≡ before.said
+RestTold before now (Err fault.Say) (Err fault.Memory) = ⊥
+RestTold before now (Err fault.Memory) (Ok still) = ⊥
+RestTold before now (Err fault.Memory) (Err fault.Say) = Cuts before now []
+RestTold before now (Err fault.Memory) (Err fault.Memory) = Says before (voice now []) []

@@ -1,0 +1,117 @@
+ghost use Rattle.std.specs.Prelude.{◌≡◌, ◌≤◌, IfOk, IfSome, Some, Ok, Err};
+ghost use Rattle.host_ports.specs.Faults.{Rose};
+ghost use Rattle.track_types.specs.Near.{IsAsked};
+ghost use Rattle.track_types.specs.declared.question.Question.TheVariants as question;
+ghost use Rattle.question_shell.specs.Desk.{DeskView};
+ghost use Rattle.question_shell.specs.Grammar.{AreAsked};
+ghost use Rattle.question_shell.specs.Says.{voice};
+ghost use Rattle.question_shell.specs.Session.{meaning_of};
+ghost use Rattle.question_shell.specs.Turns.{AnswerTold, BadTold, moment};
+ghost use Rattle.question_shell.specs.declared.turn_fault.TurnFault.TheVariants as fault;
+
+use crate::bad::Bad;
+use crate::held_text::HeldText;
+use crate::reply::bad_line;
+use crate::saying::{say_cell, say_path};
+use crate::turn_fault::TurnFault;
+use host_ports::Sink;
+use std::alloc::Global;
+use std::sync::ledger::Ledger;
+use step_count::Steps;
+use track_types::{Answerer, Question};
+
+// Answers what a line asks. Only a walk takes memory, and it is made before anything is said.
+pub(crate) fn answer<A: Answerer, K: Sink, L: Ledger>(
+    alloc: Global,
+    answerer: A,
+    asked: Result<Option<Question>, Bad>,
+    text: &mut HeldText,
+    sink: &mut K,
+    steps: &mut Steps<L>,
+) -> Result<(), TurnFault>
+    requires { IfOk asked (λ asked. IfSome asked AreAsked) }
+    ensures told { (desk : DeskView) →
+        AnswerTold (meaning_of (A.chart answerer) (A.facts answerer) (A.cost answerer))
+        (moment (K.said sink.old) text.old desk steps.old)
+        (moment (K.said sink.new) text.new desk steps.new) asked result }
+    ensures cause { result ≡ Err fault.Say → Rose (K.faults sink.old) (K.faults sink.new) }
+    ensures faults { K.faults sink.old ≤ K.faults sink.new }
+{
+    match asked {
+        Ok(None) => Ok(()),
+        Ok(Some(Question::Position { object, instant })) => {
+            answer_position(answerer, object, instant, text, sink, steps)
+        }
+        Ok(Some(Question::Path { object, from, to })) => {
+            answer_path(alloc, answerer, object, (from, to), text, sink, steps)
+        }
+        Ok(Some(_)) => answer_bad(Bad::Word, text, sink),
+        Err(bad) => answer_bad(bad, text, sink),
+    }
+}
+
+fn answer_bad<K: Sink>(bad: Bad, text: &mut HeldText, sink: &mut K) -> Result<(), TurnFault>
+    ensures told { BadTold (voice (K.said sink.old) text.old)
+        (voice (K.said sink.new) text.new) bad result }
+    ensures cause { result ≡ Err fault.Say → Rose (K.faults sink.old) (K.faults sink.new) }
+    ensures faults { K.faults sink.old ≤ K.faults sink.new }
+{
+    let Ok(()) = text.put(&bad_line(bad), sink) else {
+        return Err(TurnFault::Say);
+    };
+    Ok(())
+}
+
+fn answer_position<A: Answerer, K: Sink, L: Ledger>(
+    answerer: A,
+    object: u32,
+    instant: i64,
+    text: &mut HeldText,
+    sink: &mut K,
+    steps: &mut Steps<L>,
+) -> Result<(), TurnFault>
+    requires { IsAsked instant }
+    ensures told { (desk : DeskView) →
+        AnswerTold (meaning_of (A.chart answerer) (A.facts answerer) (A.cost answerer))
+        (moment (K.said sink.old) text.old desk steps.old)
+        (moment (K.said sink.new) text.new desk steps.new)
+        (Ok (Some (question.Position object instant))) result }
+    ensures cause { result ≡ Err fault.Say → Rose (K.faults sink.old) (K.faults sink.new) }
+    ensures faults { K.faults sink.old ≤ K.faults sink.new }
+{
+    let cell = answerer.position(object, instant, steps);
+    let Ok(()) = say_cell(cell, text, sink) else {
+        return Err(TurnFault::Say);
+    };
+    Ok(())
+}
+
+fn answer_path<A: Answerer, K: Sink, L: Ledger>(
+    alloc: Global,
+    answerer: A,
+    object: u32,
+    window: (i64, i64),
+    text: &mut HeldText,
+    sink: &mut K,
+    steps: &mut Steps<L>,
+) -> Result<(), TurnFault>
+    requires from { IsAsked window.0 }
+    requires to { IsAsked window.1 }
+    ensures told { (desk : DeskView) →
+        AnswerTold (meaning_of (A.chart answerer) (A.facts answerer) (A.cost answerer))
+        (moment (K.said sink.old) text.old desk steps.old)
+        (moment (K.said sink.new) text.new desk steps.new)
+        (Ok (Some (question.Path object window.0 window.1))) result }
+    ensures cause { result ≡ Err fault.Say → Rose (K.faults sink.old) (K.faults sink.new) }
+    ensures faults { K.faults sink.old ≤ K.faults sink.new }
+{
+    // The rows of what has facts ascend, so that a count of stops fits.
+    let _ = answerer.facts();
+    let Ok(mut walk) = answerer.walk(alloc, object, window.0, window.1) else {
+        return Err(TurnFault::Memory);
+    };
+    let Ok(()) = say_path(&mut walk, text, sink, steps) else {
+        return Err(TurnFault::Say);
+    };
+    Ok(())
+}

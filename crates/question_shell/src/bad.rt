@@ -1,0 +1,32 @@
+use std::error::Error;
+use std::fmt::{self, Display, Formatter, Write};
+
+/// What is wrong with a question line: the first cause in the order of these variants, and of
+/// number words the first bad one from the left.
+#[derive(Clone, Copy, Debug, PartialEq, Eq)]
+pub enum Bad {
+    /// The line has a word, and more than 1,024 bytes.
+    Long,
+    /// The first word names no question.
+    Word,
+    /// The question has another number of words.
+    Count,
+    /// The word at this place of the line, counted from 1, is no numeral.
+    Number(u32),
+    /// The word at this place is a numeral out of its range.
+    Range(u32),
+}
+
+impl Display for Bad {
+    fn fmt<W: Write>(&self, f: &mut Formatter<W>) -> fmt::Result {
+        match self {
+            Bad::Long => write!(f, "the line is too long"),
+            Bad::Word => write!(f, "the first word names no question"),
+            Bad::Count => write!(f, "the question has another number of words"),
+            Bad::Number(place) => write!(f, "word {place} is no whole number"),
+            Bad::Range(place) => write!(f, "word {place} is out of its range"),
+        }
+    }
+}
+
+impl Error for Bad {}

@@ -1,0 +1,29 @@
+//! Question lines in, replies out: the shell around whatever answers questions.
+//!
+//! `run` answers the lines of a source one after another and says exactly the replies that
+//! filtering the answerer's chart gives, through a buffer of fixed size. The crate stands on
+//! track_types, host_ports and step_count.
+#![tactic(auto)]
+
+mod answering;
+mod bad;
+mod desk;
+mod form;
+mod grammar;
+mod held_text;
+mod line_buffer;
+mod listening;
+mod reply;
+mod saying;
+mod shell;
+mod shell_fault;
+#[cfg(test)]
+mod tests;
+mod turn_fault;
+mod words;
+
+pub use bad::Bad;
+pub use desk::Desk;
+pub use grammar::read_question;
+pub use shell::run;
+pub use shell_fault::ShellFault;

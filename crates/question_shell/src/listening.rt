@@ -1,0 +1,165 @@
+ghost use Rattle.std.specs.Prelude.{◌≡◌, ℕ, ◌≤◌, [], ◌∷◌, ◌++◌, List, Err, OnOk, ◌⊎◌};
+ghost use Rattle.host_ports.specs.Faults.{Rose};
+ghost use Rattle.question_shell.specs.Desk.{DeskView};
+ghost use Rattle.question_shell.specs.LineKept.{kept_of};
+ghost use Rattle.question_shell.specs.Lines.{lines_of};
+ghost use Rattle.question_shell.specs.Says.{voice};
+ghost use Rattle.question_shell.specs.Session.{meaning_of};
+ghost use Rattle.question_shell.specs.Turns.{BytesTold, Heard, LinesTold, Moment, RestTold};
+ghost use Rattle.question_shell.specs.Turns.{moment};
+ghost use Rattle.question_shell.specs.declared.turn_fault.TurnFault.TheVariants as fault;
+
+use crate::answering::answer;
+use crate::held_text::HeldText;
+use crate::line_buffer::LineBuffer;
+use crate::turn_fault::TurnFault;
+use host_ports::Sink;
+use std::alloc::Global;
+use std::sync::ledger::Ledger;
+use step_count::Steps;
+use track_types::Answerer;
+
+/// The line that is coming, and the text of replies that is held back.
+#[derive(Drop)]
+pub(crate) struct Talk {
+    line: LineBuffer,
+    text: HeldText,
+}
+
+impl Talk {
+    pub(crate) fn new() -> Self
+        ensures line { result.line ≡ kept_of [] }
+        ensures text { result.text ≡ [] }
+    {
+        Talk {
+            line: LineBuffer::new(),
+            text: HeldText::new(),
+        }
+    }
+}
+
+// Answers a piece more of question input, and says all that was held back.
+pub(crate) fn take_piece<A: Answerer, K: Sink, L: Ledger>(
+    alloc: Global,
+    answerer: A,
+    talk: &mut Talk,
+    piece: &[u8],
+    sink: &mut K,
+    steps: &mut Steps<L>,
+) -> Result<(), TurnFault>
+    ensures told { (start : Moment) (came : List ℕ) (desk : DeskView) →
+        let meaning = meaning_of (A.chart answerer) (A.facts answerer) (A.cost answerer) in
+        let now = moment (K.said sink.new) [] desk steps.new in
+        Heard meaning start (moment (K.said sink.old) talk.old.text desk steps.old)
+        came talk.old.line →
+        BytesTold meaning start now (came ++ piece.now) talk.new.line result }
+    ensures said { OnOk result (talk.new.text ≡ []) }
+    ensures cause { result ≡ Err fault.Say → Rose (K.faults sink.old) (K.faults sink.new) }
+    ensures faults { K.faults sink.old ≤ K.faults sink.new }
+{
+    let answered = take_bytes(alloc, answerer, talk, piece, sink, steps);
+    say_rest(answered, &mut talk.text, sink)
+}
+
+// Answers bytes more of question input.
+fn take_bytes<A: Answerer, K: Sink, L: Ledger>(
+    alloc: Global,
+    answerer: A,
+    talk: &mut Talk,
+    bytes: &[u8],
+    sink: &mut K,
+    steps: &mut Steps<L>,
+) -> Result<(), TurnFault>
+    ensures told { (start : Moment) (came : List ℕ) (desk : DeskView) →
+        let meaning = meaning_of (A.chart answerer) (A.facts answerer) (A.cost answerer) in
+        let now = moment (K.said sink.new) talk.new.text desk steps.new in
+        Heard meaning start (moment (K.said sink.old) talk.old.text desk steps.old)
+        came talk.old.line →
+        BytesTold meaning start now (came ++ bytes.now) talk.new.line result }
+    ensures cause { result ≡ Err fault.Say → Rose (K.faults sink.old) (K.faults sink.new) }
+    ensures faults { K.faults sink.old ≤ K.faults sink.new }
+{
+    for byte in bytes {
+        take_byte(alloc, answerer, talk, *byte, sink, steps)?;
+    }
+    Ok(())
+}
+
+// Answers one byte more of question input: a line is answered as its line feed comes.
+fn take_byte<A: Answerer, K: Sink, L: Ledger>(
+    alloc: Global,
+    answerer: A,
+    talk: &mut Talk,
+    byte: u8,
+    sink: &mut K,
+    steps: &mut Steps<L>,
+) -> Result<(), TurnFault>
+    ensures told { (start : Moment) (came : List ℕ) (desk : DeskView) →
+        let meaning = meaning_of (A.chart answerer) (A.facts answerer) (A.cost answerer) in
+        let now = moment (K.said sink.new) talk.new.text desk steps.new in
+        Heard meaning start (moment (K.said sink.old) talk.old.text desk steps.old)
+        came talk.old.line →
+        BytesTold meaning start now (came ++ byte ∷ []) talk.new.line result }
+    ensures cause { result ≡ Err fault.Say → Rose (K.faults sink.old) (K.faults sink.new) }
+    ensures faults { K.faults sink.old ≤ K.faults sink.new }
+{
+    if byte != b'\n' {
+        talk.line.push(byte);
+        return Ok(());
+    }
+    let asked = talk.line.question();
+    talk.line.clear();
+    answer(alloc, answerer, asked, &mut talk.text, sink, steps)
+}
+
+// Answers a last line that no line feed ends, and says all that was held back.
+pub(crate) fn take_end<A: Answerer, K: Sink, L: Ledger>(
+    alloc: Global,
+    answerer: A,
+    talk: &mut Talk,
+    sink: &mut K,
+    steps: &mut Steps<L>,
+) -> Result<(), TurnFault>
+    ensures told { (start : Moment) (came : List ℕ) (desk : DeskView) →
+        let meaning = meaning_of (A.chart answerer) (A.facts answerer) (A.cost answerer) in
+        let now = moment (K.said sink.new) [] desk steps.new in
+        Heard meaning start (moment (K.said sink.old) talk.old.text desk steps.old)
+        came talk.old.line →
+        LinesTold meaning start now (lines_of came) result }
+    ensures cause { result ≡ Err fault.Say → Rose (K.faults sink.old) (K.faults sink.new) }
+    ensures faults { K.faults sink.old ≤ K.faults sink.new }
+{
+    let asked = talk.line.question();
+    let answered = answer(alloc, answerer, asked, &mut talk.text, sink, steps);
+    say_rest(answered, &mut talk.text, sink)
+}
+
+// Says what is held back after an answer, unless the sink failed, and passes on how that went.
+fn say_rest<K: Sink>(
+    answered: Result<(), TurnFault>,
+    text: &mut HeldText,
+    sink: &mut K,
+) -> Result<(), TurnFault>
+    ensures told { RestTold (voice (K.said sink.old) text.old) (K.said sink.new) answered result }
+    ensures said { OnOk result (text.new ≡ []) }
+    ensures cause { result ≡ Err fault.Say →
+        ((answered ≡ Err fault.Say) × (K.faults sink.new ≡ K.faults sink.old))
+        ⊎ Rose (K.faults sink.old) (K.faults sink.new) }
+    ensures faults { K.faults sink.old ≤ K.faults sink.new }
+{
+    match answered {
+        Err(TurnFault::Say) => Err(TurnFault::Say),
+        Ok(()) => {
+            let Ok(()) = text.say(sink) else {
+                return Err(TurnFault::Say);
+            };
+            Ok(())
+        }
+        Err(TurnFault::Memory) => {
+            let Ok(()) = text.say(sink) else {
+                return Err(TurnFault::Say);
+            };
+            Err(TurnFault::Memory)
+        }
+    }
+}

@@ -1,0 +1,80 @@
+ghost use Rattle.std.specs.Prelude.{◌≡◌, ◌≤◌, ◌++◌, length};
+ghost use Rattle.std.specs.Fmt.{decimal};
+ghost use Rattle.question_shell.specs.Reply.{bad_line, cell_line, ok_line, said_line, stop_line};
+
+use crate::bad::Bad;
+use arrayvec::ArrayString;
+use itoa::Buffer;
+use track_types::{Cell, Stop};
+
+/// A line of a reply, with its line feed.
+pub(crate) type ReplyLine = ArrayString<64>;
+
+// X Y
+pub(crate) fn cell_line(cell: Cell) -> ReplyLine
+    ensures value { result.bytes ≡ cell_line cell }
+    ensures short { length result.bytes ≤ 42 }
+{
+    let mut line = ArrayString::new();
+    let mut digits = Buffer::new();
+    line.push_str(digits.format(cell.x));
+    line.push_str(" ");
+    line.push_str(digits.format(cell.y));
+    line.push_str("\n");
+    line
+}
+
+// T X Y
+pub(crate) fn stop_line(stop: Stop) -> ReplyLine
+    ensures { result.bytes ≡ stop_line stop }
+{
+    let mut line = ArrayString::new();
+    line.push_str(Buffer::new().format(stop.instant));
+    line.push_str(" ");
+    line.push_str(cell_line(stop.cell).as_str());
+    line
+}
+
+// ok N
+pub(crate) fn ok_line(count: u64) -> ReplyLine
+    ensures { result.bytes ≡ ok_line count }
+{
+    let mut line = ArrayString::new();
+    line.push_str("ok ");
+    line.push_str(Buffer::new().format(count));
+    line.push_str("\n");
+    line
+}
+
+// bad CAUSE
+pub(crate) fn bad_line(bad: Bad) -> ReplyLine
+    ensures { result.bytes ≡ bad_line bad }
+{
+    match bad {
+        Bad::Long => plain_line("bad long\n"),
+        Bad::Word => plain_line("bad word\n"),
+        Bad::Count => plain_line("bad count\n"),
+        Bad::Number(place) => placed_line("bad number ", place),
+        Bad::Range(place) => placed_line("bad range ", place),
+    }
+}
+
+fn plain_line(text: &str) -> ReplyLine
+    requires { length text.now ≤ 20 }
+    ensures { result.bytes ≡ text.now }
+{
+    let mut line = ArrayString::new();
+    line.push_str(text);
+    line
+}
+
+fn placed_line(text: &str, place: u32) -> ReplyLine
+    requires { length text.now ≤ 20 }
+    ensures { result.bytes ≡ said_line (text.now ++ decimal place) }
+{
+    let mut line = ArrayString::new();
+    line.push_str(text);
+    line.push_str(Buffer::new().format(place));
+    line.push_str("\n");
+    line
+}

@@ -1,0 +1,77 @@
+ghost use Rattle.std.specs.Prelude.{◌≡◌, ◌+◌, ◌^◌, ◌≤◌, IfOk, OnOk, OnErr, length, option_to_list};
+ghost use Rattle.std.specs.List.{flat_map};
+ghost use Rattle.host_ports.specs.Faults.{Rose};
+ghost use Rattle.question_shell.specs.Reply.{cell_line, listed, stop_line};
+ghost use Rattle.question_shell.specs.Says.{Cuts, Says, voice};
+
+use crate::held_text::HeldText;
+use crate::reply::{cell_line, ok_line, stop_line};
+use host_ports::{Cut, Sink};
+use std::sync::ledger::Ledger;
+use step_count::Steps;
+use track_types::{Cell, Lazy, Stop};
+
+// Says the reply to a question for a position.
+pub(crate) fn say_cell<K: Sink>(
+    cell: Option<Cell>,
+    text: &mut HeldText,
+    sink: &mut K,
+) -> Result<(), Cut>
+    ensures ok { OnOk result (Says (voice (K.said sink.old) text.old)
+        (voice (K.said sink.new) text.new) (listed cell_line (option_to_list cell))) }
+    ensures err { OnErr result (Cuts (voice (K.said sink.old) text.old)
+        (K.said sink.new) (listed cell_line (option_to_list cell))) }
+    ensures cause { OnErr result (Rose (K.faults sink.old) (K.faults sink.new)) }
+    ensures faults { K.faults sink.old ≤ K.faults sink.new }
+{
+    let Some(cell) = cell else {
+        return text.put(&ok_line(0), sink);
+    };
+    text.put(&cell_line(cell), sink)?;
+    text.put(&ok_line(1), sink)
+}
+
+// Says the reply to a question for a path: a line for each stop that is left of the walk.
+pub(crate) fn say_path<W: Lazy<Item = Stop>, K: Sink, L: Ledger>(
+    walk: &mut W,
+    text: &mut HeldText,
+    sink: &mut K,
+    steps: &mut Steps<L>,
+) -> Result<(), Cut>
+    requires { length (W.left walk.old) ≤ 2 ^ 43 }
+    ensures ok { OnOk result (Says (voice (K.said sink.old) text.old)
+        (voice (K.said sink.new) text.new) (listed stop_line (W.left walk.old))) }
+    ensures err { OnErr result (Cuts (voice (K.said sink.old) text.old)
+        (K.said sink.new) (listed stop_line (W.left walk.old))) }
+    ensures cost { steps.new ≤ steps.old + W.budget walk.old }
+    ensures cause { OnErr result (Rose (K.faults sink.old) (K.faults sink.new)) }
+    ensures faults { K.faults sink.old ≤ K.faults sink.new }
+{
+    let count = say_stops(walk, text, sink, steps)?;
+    text.put(&ok_line(count), sink)
+}
+
+// Says the stops that are left of a walk, and answers how many there were.
+fn say_stops<W: Lazy<Item = Stop>, K: Sink, L: Ledger>(
+    walk: &mut W,
+    text: &mut HeldText,
+    sink: &mut K,
+    steps: &mut Steps<L>,
+) -> Result<u64, Cut>
+    requires { length (W.left walk.old) ≤ 2 ^ 43 }
+    ensures count { IfOk result (λ count. count ≡ length (W.left walk.old)) }
+    ensures ok { OnOk result (Says (voice (K.said sink.old) text.old)
+        (voice (K.said sink.new) text.new) (flat_map stop_line (W.left walk.old))) }
+    ensures err { OnErr result (Cuts (voice (K.said sink.old) text.old)
+        (K.said sink.new) (flat_map stop_line (W.left walk.old))) }
+    ensures cost { steps.new ≤ steps.old + W.budget walk.old }
+    ensures cause { OnErr result (Rose (K.faults sink.old) (K.faults sink.new)) }
+    ensures faults { K.faults sink.old ≤ K.faults sink.new }
+{
+    let mut count = 0u64;
+    while let Some(stop) = walk.draw(steps) {
+        text.put(&stop_line(stop), sink)?;
+        count += 1;
+    }
+    Ok(count)
+}

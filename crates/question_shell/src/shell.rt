@@ -1,0 +1,94 @@
+ghost use Rattle.std.specs.Prelude.{◌≡◌, ℕ, ◌+◌, ◌^◌, ◌≤◌, Err, OnOk};
+ghost use Rattle.host_ports.specs.Faults.{Rose};
+ghost use Rattle.question_shell.specs.Session.{AnswersAll, AnswersBefore, AnswersFirst};
+ghost use Rattle.question_shell.specs.Session.{AnswersFront, AnswersWhole, meaning_of, run_of};
+ghost use Rattle.question_shell.specs.declared.shell_fault.ShellFault.TheVariants as fault;
+
+use crate::desk::Desk;
+use crate::listening::{Talk, take_end, take_piece};
+use crate::shell_fault::ShellFault;
+use crate::turn_fault::TurnFault;
+use host_ports::{Sink, Source};
+use std::alloc::Global;
+use std::sync::ledger::Ledger;
+use step_count::Steps;
+use track_types::Answerer;
+
+/// How many bytes question input may have, 2^32.
+const LONGEST_INPUT: usize = 0x1_0000_0000;
+
+/// How many bytes are listened to at a time.
+const PIECE: usize = 4096;
+
+/// Answers the question lines of a source until its end, and says the replies.
+///
+/// Every whole line that came is answered before more is listened to. At most 2^32 bytes are
+/// answered, and one byte more is listened to, in pieces of at most 4,096. Memory is taken for a
+/// `path` line alone.
+///
+/// `Listen` comes only where the source failed, and then the whole lines that came were answered.
+/// `Say` comes only where the sink failed, and then a front of the replies was said. `Limit` comes
+/// where more than 2^32 bytes came, and then the whole lines among the first 2^32 were answered.
+/// After `Memory` exactly the lines before a `path` line were answered.
+pub fn run<A: Answerer, S: Source, K: Sink, L: Ledger>(
+    alloc: Global,
+    answerer: A,
+    desk: &mut Desk<A::Walk>,
+    source: &mut S,
+    sink: &mut K,
+    steps: &mut Steps<L>,
+) -> Result<(), ShellFault>
+    ensures ok { OnOk result (
+        AnswersAll (meaning_of (A.chart answerer) (A.facts answerer) (A.cost answerer))
+        (run_of (S.rest source.old) (S.taken source.old) (K.said sink.old) desk.old steps.old)
+        (run_of (S.rest source.new) (S.taken source.new) (K.said sink.new) desk.new steps.new)) }
+    ensures listen { result ≡ Err fault.Listen →
+        AnswersWhole (meaning_of (A.chart answerer) (A.facts answerer) (A.cost answerer))
+        (run_of (S.rest source.old) (S.taken source.old) (K.said sink.old) desk.old steps.old)
+        (run_of (S.rest source.new) (S.taken source.new) (K.said sink.new) desk.new steps.new) }
+    ensures say { result ≡ Err fault.Say →
+        AnswersFront (meaning_of (A.chart answerer) (A.facts answerer) (A.cost answerer))
+        (run_of (S.rest source.old) (S.taken source.old) (K.said sink.old) desk.old steps.old)
+        (run_of (S.rest source.new) (S.taken source.new) (K.said sink.new) desk.new steps.new) }
+    ensures limit { (value : ℕ) → result ≡ Err (fault.Limit value) →
+        (value ≡ 2 ^ 32 + 1) ×
+        AnswersFirst (meaning_of (A.chart answerer) (A.facts answerer) (A.cost answerer))
+        (run_of (S.rest source.old) (S.taken source.old) (K.said sink.old) desk.old steps.old)
+        (run_of (S.rest source.new) (S.taken source.new) (K.said sink.new) desk.new steps.new) }
+    ensures memory { result ≡ Err fault.Memory →
+        AnswersBefore (meaning_of (A.chart answerer) (A.facts answerer) (A.cost answerer))
+        (run_of (S.rest source.old) (S.taken source.old) (K.said sink.old) desk.old steps.old)
+        (run_of (S.rest source.new) (S.taken source.new) (K.said sink.new) desk.new steps.new) }
+    ensures listen_cause { result ≡ Err fault.Listen →
+        Rose (S.faults source.old) (S.faults source.new) }
+    ensures say_cause { result ≡ Err fault.Say → Rose (K.faults sink.old) (K.faults sink.new) }
+    ensures listen_faults { S.faults source.old ≤ S.faults source.new }
+    ensures say_faults { K.faults sink.old ≤ K.faults sink.new }
+{
+    let mut talk = Talk::new();
+    let mut buffer = [0; PIECE];
+    let mut taken = 0;
+    'pieces: while taken <= LONGEST_INPUT {
+        let room = PIECE.min(LONGEST_INPUT + 1 - taken);
+        let Ok(count) = source.listen(&mut buffer[..room]) else {
+            return Err(ShellFault::Listen);
+        };
+        if count == 0 {
+            return match take_end(alloc, answerer, &mut talk, sink, steps) {
+                Ok(()) => Ok(()),
+                Err(TurnFault::Say) => Err(ShellFault::Say),
+                Err(TurnFault::Memory) => Err(ShellFault::Memory),
+            };
+        }
+        // The byte past the longest input is taken and not answered.
+        let counted = count.min(LONGEST_INPUT - taken);
+        match take_piece(alloc, answerer, &mut talk, &buffer[..counted], sink, steps) {
+            Ok(()) => taken += count,
+            Err(TurnFault::Say) => return Err(ShellFault::Say),
+            Err(TurnFault::Memory) => return Err(ShellFault::Memory),
+        }
+    }
+    Err(ShellFault::Limit {
+        value: taken as u64,
+    })
+}

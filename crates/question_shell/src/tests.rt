@@ -1,0 +1,256 @@
+ghost use Rattle.std.specs.Prelude.{◌≡◌, ◌<◌};
+
+use super::{Desk, ShellFault, run};
+use host_ports::{MemSink, MemSource};
+use std::alloc::{AllocError, Global};
+use std::marker::Brand;
+use std::sync::ledger::{Blank, Ledger};
+use std::test::Fail;
+use step_count::Steps;
+use track_types::{Answerer, Cell, Facts, Lazy, Memory, Stop};
+
+/// A buoy, object 7, that was seen once: at instant 2 in the cell (12, -11). For a walk of object 8
+/// it has no memory.
+#[derive(Clone, Copy)]
+struct Buoy;
+
+/// The one stop, or none.
+#[derive(Drop)]
+struct Seen {
+    stop: Option<Stop>,
+}
+
+const CELL: Cell = Cell { x: 12, y: -11 };
+
+impl Lazy for Seen {
+    type Item = Stop;
+
+    ghost use Rattle.std.specs.Prelude.{length, option_to_list};
+
+    ghost left = { λ s. option_to_list s.stop };
+
+    ghost budget = { λ s. length (option_to_list s.stop) };
+
+    fn draw<L: Ledger>(&mut self, steps: &mut Steps<L>) -> Option<Stop> {
+        let stop = self.stop.take()?;
+        steps.tick();
+        Some(stop)
+    }
+}
+
+impl Answerer for Buoy {
+    type Walk = Seen;
+
+    ghost use Rattle.std.specs.Prelude.{pos, negsuc, ◌∷◌, []};
+
+    ghost chart = { λ _. record {
+      rows = record {
+        object = 7;
+        instant = pos 2;
+        cell = record { x = pos 12; y = negsuc 10 };
+      } ∷ [];
+      first = pos 2;
+      last = pos 2;
+      period = 1;
+      cell = 1;
+      tick = 1;
+    } };
+
+    ghost facts = { λ _. record {
+      objects = 1;
+      first = pos 2;
+      last = pos 2;
+      period = 1;
+      cell = 1;
+      tick = 1;
+      height = 0;
+      alphabet = 0;
+      rules = 0;
+      entries = 0;
+      depth = 0;
+    } };
+
+    ghost cost = { λ _ _. 1 };
+
+    fn facts(self) -> Facts {
+        Facts {
+            objects: 1,
+            first: 2,
+            last: 2,
+            period: 1,
+            cell: 1,
+            tick: 1,
+            height: 0,
+            alphabet: 0,
+            rules: 0,
+            entries: 0,
+            depth: 0,
+        }
+    }
+
+    fn position<L: Ledger>(self, object: u32, instant: i64, steps: &mut Steps<L>) -> Option<Cell> {
+        steps.tick();
+        if object == 7 && instant == 2 {
+            Some(CELL)
+        } else {
+            None
+        }
+    }
+
+    fn walk(self, _alloc: Global, object: u32, from: i64, to: i64) -> Result<Seen, Memory> {
+        if object == 8 {
+            return Err(Memory);
+        }
+        if object == 7 && from <= 2 && 2 <= to {
+            Ok(Seen {
+                stop: Some(Stop {
+                    instant: 2,
+                    cell: CELL,
+                }),
+            })
+        } else {
+            Ok(Seen { stop: None })
+        }
+    }
+}
+
+/// Question input and a place for replies.
+#[derive(Drop)]
+struct Outside {
+    source: MemSource,
+    sink: MemSink,
+}
+
+fn make_outside(alloc: Global, lines: &[u8], piece: usize) -> Result<Outside, Memory> {
+    Ok(Outside {
+        source: MemSource::new(
+            Vec::from_slice(alloc, lines)?,
+            piece.max(1),
+            Vec::new(alloc),
+        ),
+        sink: MemSink::new(alloc, 8192, Vec::new(alloc))?,
+    })
+}
+
+fn call<L: Ledger>(
+    rt: &HostRuntime,
+    outside: &mut Outside,
+    blank: Blank,
+) -> Result<Result<(), ShellFault>, Memory>
+    requires name { blank.name ≡ L.name }
+    requires parts { blank.parts ≡ L.parts }
+    requires some { 0 < L.parts }
+{
+    let mut desk = Desk::new(rt.alloc())?;
+    let mut steps = Steps::<L>::new(rt, blank);
+    Ok(run(
+        rt.alloc(),
+        Buoy,
+        &mut desk,
+        &mut outside.source,
+        &mut outside.sink,
+        &mut steps,
+    ))
+}
+
+fn answer(rt: &HostRuntime, outside: &mut Outside) -> Result<Result<(), ShellFault>, Memory> {
+    call::<Brand>(rt, outside, Blank::new(1))
+}
+
+#[test]
+fn each_line_has_its_reply(rt: HostRuntime) -> Result<(), Fail> {
+    let cases: [(&[u8], &[u8]); 9] = [
+        (b"position 7 2\n", b"12 -11\nok 1\n"),
+        (b"position 7 1\nposition 9 2", b"ok 0\nok 0\n"),
+        (b"path 7 2 2\n", b"2 12 -11\nok 1\n"),
+        (b"path 7 -9 9\npath 7 3 9\n", b"2 12 -11\nok 1\nok 0\n"),
+        (b"\n \t\r\n\tpath  +7 \r 002 2 \r\n", b"2 12 -11\nok 1\n"),
+        (
+            b"Position 7 2\nslice 2 rect 0 0 1 1\n",
+            b"bad word\nbad word\n",
+        ),
+        (
+            b"position 7\npath 7 2\nposition 7 2 1\n",
+            b"bad count\nbad count\nbad count\n",
+        ),
+        (
+            b"position a 2\npath 7 2 --1\npath 7 2x 2x\n",
+            b"bad number 2\nbad number 4\nbad number 3\n",
+        ),
+        (
+            b"position -1 x\nposition 4294967296 2\npath 7 0 2199023255553\n",
+            b"bad range 2\nbad range 2\nbad range 4\n",
+        ),
+    ];
+    for (lines, said) in cases {
+        for piece in [1, 2, 3, 4096] {
+            let mut outside = make_outside(rt.alloc(), lines, piece)?;
+            assert_eq!(rt; answer(&rt, &mut outside)?, Ok(()));
+            assert_eq!(rt; outside.sink.as_slice(), said, "pieces of {piece}");
+        }
+    }
+    Ok(())
+}
+
+#[test]
+fn long_lines_and_long_replies_are_said(rt: HostRuntime) -> Result<(), Fail> {
+    let alloc = rt.alloc();
+    let mut lines = Vec::new(alloc);
+    let mut said = Vec::new(alloc);
+    // A line of 1,024 bytes is read, and one of 1,025 is bad.
+    for (length, reply) in [
+        (1024, b"12 -11\nok 1\n".as_slice()),
+        (1025, b"bad long\n".as_slice()),
+    ] {
+        lines.extend_from_slice(b"position 7 ")?;
+        for _ in 12..length {
+            lines.push(b' ')?;
+        }
+        lines.extend_from_slice(b"2\n")?;
+        said.extend_from_slice(reply)?;
+    }
+    // A line of blanks is blank, however long it is.
+    for _ in 0..1100 {
+        lines.push(b' ')?;
+    }
+    // The replies to these lines are longer than the text that is held back.
+    for _ in 0..350 {
+        lines.extend_from_slice(b"\npath 7 0 4")?;
+        said.extend_from_slice(b"2 12 -11\nok 1\n")?;
+    }
+    for piece in [1, 7, 4096] {
+        let mut outside = make_outside(alloc, lines.as_slice(), piece)?;
+        assert_eq!(rt; answer(&rt, &mut outside)?, Ok(()));
+        assert_eq!(rt;
+            outside.sink.as_slice(),
+            said.as_slice(),
+            "pieces of {piece}"
+        );
+    }
+    Ok(())
+}
+
+#[test]
+fn a_refusal_says_what_came_before(rt: HostRuntime) -> Result<(), Fail> {
+    let alloc = rt.alloc();
+    let lines = b"position 7 2\nposition 7 1\nposition 7 2";
+    let mut outside = make_outside(alloc, lines, 4096)?;
+    outside.source = MemSource::new(Vec::from_slice(alloc, lines)?, 4096, vec![in alloc; 2]?);
+    assert_eq!(rt; answer(&rt, &mut outside)?, Err(ShellFault::Listen));
+    assert_eq!(rt; outside.sink.as_slice(), b"12 -11\nok 1\nok 0\n".as_slice());
+
+    outside = make_outside(alloc, lines, 4096)?;
+    outside.sink = MemSink::new(alloc, 8, Vec::new(alloc))?;
+    assert_eq!(rt; answer(&rt, &mut outside)?, Err(ShellFault::Say));
+    assert_eq!(rt; outside.sink.as_slice(), b"12 -11\no".as_slice());
+
+    // Nothing is said where nothing is to be said, so that this sink does not fail.
+    outside = make_outside(alloc, b"\n \n", 4096)?;
+    outside.sink = MemSink::new(alloc, 8, vec![in alloc; 1]?)?;
+    assert_eq!(rt; answer(&rt, &mut outside)?, Ok(()));
+
+    outside = make_outside(alloc, b"position 7 2\npath 8 0 4\nposition 7 2\n", 4096)?;
+    assert_eq!(rt; answer(&rt, &mut outside)?, Err(ShellFault::Memory));
+    assert_eq!(rt; outside.sink.as_slice(), b"12 -11\nok 1\n".as_slice());
+    Ok(())
+}
