@@ -236,23 +236,37 @@ fn a_failing_device_ends_the_call(rt: HostRuntime) -> Result<(), Fail> {
     Ok(())
 }
 
-#[test]
-fn a_file_is_loaded_to_its_end_and_no_further(rt: HostRuntime) -> Result<(), Fail> {
-    let alloc = rt.alloc();
-    // Two pieces and more.
-    let mut csv = Vec::from_slice(alloc, b"7,0,10,10\n")?;
+// A file of two pieces and more, of which the last row alone is that of object 7.
+fn long_file(alloc: Global) -> Result<Vec<u8>, AllocError> {
+    let mut csv = Vec::new(alloc);
     for _ in 0..4_000u32 {
         csv.extend_from_slice(b"8,0,10,10\n")?;
     }
     csv.extend_from_slice(b"7,2,12,11\n")?;
-    let mut outside = make_outside(alloc, csv.as_slice(), b"position 7 2\n", 4096)?;
+    Ok(csv)
+}
+
+// Files of which the call after the end of `t.csv` would fail: it is begun by call 1, read by call 2,
+// and at its end at call 3.
+fn files_that_end(alloc: Global) -> Result<MemFiles, Memory> {
+    let mut files = MemFiles::new(alloc, 0, vec![in alloc; 4]?)?;
+    files.put("t.csv", PATH)?;
+    Ok(files)
+}
+
+#[test]
+fn a_file_is_loaded_to_its_end(rt: HostRuntime) -> Result<(), Fail> {
+    let csv = long_file(rt.alloc())?;
+    let mut outside = make_outside(rt.alloc(), csv.as_slice(), b"position 7 2\n", 4096)?;
     assert_eq!(rt; run(&rt, "once t.csv 1 1 4", &mut outside)?, Outcome::Done);
     assert_eq!(rt; outside.sink.as_slice(), b"12 11\nok 1\n".as_slice());
+    Ok(())
+}
 
-    // The file is begun by call 1, read by call 2, and at its end at call 3.
-    let mut outside = make_outside(alloc, PATH, b"position 7 2\n", 4096)?;
-    outside.files = MemFiles::new(alloc, 0, vec![in alloc; 4]?)?;
-    outside.files.put("t.csv", PATH)?;
+#[test]
+fn a_file_is_read_no_further_than_its_end(rt: HostRuntime) -> Result<(), Fail> {
+    let mut outside = make_outside(rt.alloc(), PATH, b"position 7 2\n", 4096)?;
+    outside.files = files_that_end(rt.alloc())?;
     assert_eq!(rt; run(&rt, "once t.csv 1 1 4", &mut outside)?, Outcome::Done);
     assert_eq!(rt; outside.sink.as_slice(), b"12 11\nok 1\n".as_slice());
     Ok(())

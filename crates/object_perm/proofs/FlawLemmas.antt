@@ -1,48 +1,24 @@
 -- The first flaw of a list, and the lists that have none.
-use Rattle.std.proofs.Common.{◌≡◌, ℕ, zero, suc, ◌+◌, ◌<◌, ◌≤◌, Bool, true, false, eqb, leb, List, length, get_or, take, None, Some, inl, inr, refl, ap, sym, ◌∙◌, arith}
-use Rattle.std.specs.List.{find, range_with_len}
+use Rattle.std.proofs.Common.{◌≡◌, ℕ, ◌<◌, true, false, eqb, leb, List, length, get_or, take, None, Some, inl, inr, sym, ◌∙◌, arith}
 use Rattle.std.proofs.lemmas.Bool.{cases_order, cases_Bool, leb-false, lt-leb, or_parts, or_from, eq-eqb, eqb-true}
 use Rattle.std.proofs.lemmas.List.{length-take, length-take-le, get_or-take, get_or_default}
 use Rattle.std.proofs.lemmas.List.Folds.{list_any_at, Any-from_list_any}
+use Rattle.list_laws.proofs.FindLemmas.{find_in_range-first, find_in_range-none, find_in_range-all}
 use Rattle.object_perm.specs.Permutation.{PermutesPlaces, stood_before, is_flawed, first_flaw}
-
--- a number of a range that passes a test, where none before it does
-pub find-first : (test : ℕ → Bool) (from n place : ℕ) → from ≤ place → place < from + n →
-    ((j : ℕ) → from ≤ j → j < place → test j ≡ false) → test place ≡ true →
-    find test (range_with_len from n) ≡ Some place
-find-first test from zero place low high before here = absurd (omega arith)
-find-first test from (suc n) place low high before here = elim (cases_order from place) [
-  | inl same ↦ let passes : test from ≡ true = ap test same ∙ here in rw passes (ap Some same)
-  | inr other ↦ elim other [
-    | inl later ↦
-        let fails : test from ≡ false = before from (omega arith) later in
-        rw fails (find-first test (from + 1) n place (omega arith) (omega arith)
-        (λ j above below. before j (omega arith) below) here)
-    | inr earlier ↦ absurd (omega arith)
-  ]
-]
-
--- no number of a range passes a test
-pub find-none : (test : ℕ → Bool) (from n : ℕ) → ((j : ℕ) → from ≤ j → j < from + n → test j ≡ false) →
-    find test (range_with_len from n) ≡ None
-find-none test from zero fail = refl
-find-none test from (suc n) fail =
-    let fails : test from ≡ false = fail from (omega arith) (omega arith) in
-    rw fails (find-none test (from + 1) n (λ j above below. fail j (omega arith) (omega arith)))
 
 -- the first flawed place
 pub first_flaw-at : (values : List ℕ) (place : ℕ) → place < length values →
     ((before : ℕ) → before < place → is_flawed values before ≡ false) → is_flawed values place ≡ true →
     first_flaw values ≡ Some place
 first_flaw-at values place within sound flawed =
-    find-first (is_flawed values) 0 (length values) place (omega arith) (omega arith)
+    find_in_range-first (is_flawed values) 0 (length values) place (omega arith) (omega arith)
     (λ j above below. sound j below) flawed
 
 -- no place is flawed
 pub first_flaw-none : (values : List ℕ) → ((place : ℕ) → place < length values → is_flawed values place ≡ false) →
     first_flaw values ≡ None
 first_flaw-none values sound =
-    find-none (is_flawed values) 0 (length values) (λ j above below. sound j (omega arith))
+    find_in_range-none (is_flawed values) 0 (length values) (λ j above below. sound j (omega arith))
 
 -- a value that stands at an earlier place stood before
 stood-earlier : (values : List ℕ) (i j : ℕ) → i < j → j < length values → get_or values i 0 ≡ get_or values j 0 →
@@ -52,25 +28,11 @@ stood-earlier values i j earlier within same =
     let there : get_or (take j values) i 0 ≡ get_or values i 0 = get_or-take j values i 0 earlier in
     list_any_at (λ value. eqb value (get_or values j 0)) (take j values) i 0 long (eq-eqb _ _ (there ∙ same))
 
--- where none was found, no number of the range passes
-pub find-all : (test : ℕ → Bool) (from n : ℕ) → find test (range_with_len from n) ≡ None → (j : ℕ) → from ≤ j →
-    j < from + n → test j ≡ false
-find-all test from zero none j low high = absurd (omega arith)
-find-all test from (suc n) none j low high = elim (cases_Bool (test from)) [
-  | inl passes ↦ let found : find test (range_with_len from (suc n)) ≡ Some from = rw passes refl in cc
-  | inr fails ↦
-      let later : find test (range_with_len (from + 1) n) ≡ None = rw fails at none in
-      elim (cases_order j from) [
-        | inl same ↦ ap test same ∙ fails
-        | inr other ↦ find-all test (from + 1) n later j (omega arith) (omega arith)
-      ]
-]
-
 -- a list without a first flaw is a permutation
 pub permutes-from_none : (values : List ℕ) → first_flaw values ≡ None → PermutesPlaces values
 permutes-from_none values none =
     let sound : (place : ℕ) → place < length values → is_flawed values place ≡ false =
-    λ place within. find-all (is_flawed values) 0 (length values) none place (omega arith) (omega arith) in
+    λ place within. find_in_range-all (is_flawed values) 0 (length values) none place (omega arith) (omega arith) in
     let once : (i j : ℕ) → i < j → j < length values → get_or values i 0 ≡ get_or values j 0 → ⊥ =
     λ i j earlier within same.
     let stood = stood-earlier values i j earlier within same in

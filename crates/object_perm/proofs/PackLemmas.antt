@@ -4,7 +4,7 @@ use Rattle.std.proofs.lemmas.Option.{get_or_from_slice_get}
 use Rattle.std.specs.Int.{bit_at}
 use Rattle.std.specs.Int.RustNames.{count_ones}
 use Rattle.std.proofs.lemmas.Bool.{cases_eq, cases_lt, eq-eqb, ne_eqb}
-use Rattle.std.proofs.lemmas.List.{get_or_append_left, get_or-append-add, get_or_at, get_or_past, get_or_default, get_or-drop, drop-drop, drop_at, drop_min}
+use Rattle.std.proofs.lemmas.List.{get_or_append_left, get_or-append-add, get_or_at, get_or_past, get_or-drop, drop-drop, drop_at, drop_min}
 use Rattle.std.proofs.lemmas.List.FromFn.{length-map-range_with_len, get_or-map-range_with_len}
 use Rattle.object_perm.specs.Marks.{Group, marks_of, targets_of, empty_group, target_index, shortcut_in, shortcut_at, shortcuts_of, HasEach}
 use Rattle.object_perm.specs.Shortcuts.{HoldsShortcuts}

@@ -6,14 +6,14 @@ use Rattle.std.proofs.lemmas.Bool.{cases_lt, le-leb, lt-leb, and_from, and_left,
 use Rattle.std.proofs.lemmas.Bool.{not_from_false}
 use Rattle.std.proofs.lemmas.Option.{get_or_from_slice_get}
 use Rattle.snapshots.specs.Flaws.{offset_flaw, is_disordered, order_flaw}
-use Rattle.object_perm.proofs.FlawLemmas.{find-first, find-none}
+use Rattle.list_laws.proofs.FindLemmas.{find_in_range-first, find_in_range-none}
 
 -- an offset that is not below the instants, behind others that are
 pub offset_flaw-at : (instants : ℕ) (offsets : List ℕ) (place : ℕ) → place < length offsets
     → ((j : ℕ) → j < place → leb instants (get_or offsets j 0) ≡ false) → instants ≤ get_or offsets place 0
     → offset_flaw instants offsets ≡ Some place
 offset_flaw-at instants offsets place within before here =
-    find-first (λ i. leb instants (get_or offsets i 0)) 0 (length offsets) place (omega arith) (omega arith)
+    find_in_range-first (λ i. leb instants (get_or offsets i 0)) 0 (length offsets) place (omega arith) (omega arith)
     (λ j above below. before j below) (le-leb instants (get_or offsets place 0) here)
 
 -- all offsets are below the instants
@@ -21,7 +21,7 @@ pub offset_flaw-none : (instants : ℕ) (offsets : List ℕ)
     → ((j : ℕ) → j < length offsets → leb instants (get_or offsets j 0) ≡ false)
     → offset_flaw instants offsets ≡ None
 offset_flaw-none instants offsets below =
-    find-none (λ i. leb instants (get_or offsets i 0)) 0 (length offsets) (λ j above within. below j (omega arith))
+    find_in_range-none (λ i. leb instants (get_or offsets i 0)) 0 (length offsets) (λ j above within. below j (omega arith))
 
 -- an object that is not greater than the one before it in its cell
 pub disordered : (lasts : List Bool) (perm : List ℕ) (place : ℕ) (bit : Bool) → slice_get lasts (place - 1) ≡ Some bit
@@ -61,10 +61,10 @@ pub order_flaw-at : (lasts : List Bool) (perm : List ℕ) (place : ℕ) → 1 �
     → ((j : ℕ) → 1 ≤ j → j < place → is_disordered lasts perm j ≡ false) → is_disordered lasts perm place ≡ true
     → order_flaw lasts perm ≡ Some place
 order_flaw-at lasts perm place some within before here =
-    find-first (is_disordered lasts perm) 1 (length perm - 1) place some (omega arith) before here
+    find_in_range-first (is_disordered lasts perm) 1 (length perm - 1) place some (omega arith) before here
 
 -- all places are in order
 pub order_flaw-none : (lasts : List Bool) (perm : List ℕ)
     → ((j : ℕ) → 1 ≤ j → j < length perm → is_disordered lasts perm j ≡ false) → order_flaw lasts perm ≡ None
 order_flaw-none lasts perm ordered =
-    find-none (is_disordered lasts perm) 1 (length perm - 1) (λ j above within. ordered j above (omega arith))
+    find_in_range-none (is_disordered lasts perm) 1 (length perm - 1) (λ j above within. ordered j above (omega arith))

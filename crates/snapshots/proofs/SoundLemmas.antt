@@ -10,7 +10,8 @@ use Rattle.std.proofs.lemmas.List.Elements.{All-from_get_or, All-get_or}
 use Rattle.std.proofs.lemmas.Option.{get_or_from_slice_get}
 use Rattle.bit_rank.specs.Bits.{rank_of}
 use Rattle.bit_rank.proofs.RankLemmas.{rank_of-le, rank_of-step}
-use Rattle.object_perm.proofs.FlawLemmas.{find-all, find-none, first_flaw-permutes, permutes-from_none}
+use Rattle.list_laws.proofs.FindLemmas.{find_in_range-all, find_in_range-none}
+use Rattle.object_perm.proofs.FlawLemmas.{first_flaw-permutes, permutes-from_none}
 use Rattle.track_types.specs.Frame.{instants_in}
 use Rattle.track_types.specs.declared.cell.Cell.{Cell}
 use Rattle.k2_tree.specs.Morton.{IsGrid}
@@ -33,7 +34,7 @@ next_greater lasts perm place none long within same =
     let other : get_or lasts place false ≡ false = by_bit (get_or lasts place false) refl in
     let before : place + 1 - 1 ≡ place = omega arith in
     let fails =
-    find-all (is_disordered lasts perm) 1 (length perm - 1) none (place + 1) (omega arith) (omega arith) in
+    find_in_range-all (is_disordered lasts perm) 1 (length perm - 1) none (place + 1) (omega arith) (omega arith) in
     let fails' : (not (get_or lasts place false) && leb (get_or perm (place + 1) 0) (get_or perm place 0)) ≡ false =
     rw before at fails in
     leb-false (get_or perm (place + 1) 0) (get_or perm place 0) (second (get_or lasts place false) _ other fails')
@@ -99,7 +100,7 @@ IsSound-flawless view shaped none =
     let cells = cells_from view.parts.lasts (length (tree_in view).cells) flawless.cells in
     record {
       offsets = All-from_get_or (λ x. x < instants_in view.frame view.number) view.parts.offsets 0 (λ i within.
-          leb-false _ _ (find-all _ 0 (length view.parts.offsets) flawless.offsets i (omega arith) (omega arith)));
+          leb-false _ _ (find_in_range-all _ 0 (length view.parts.offsets) flawless.offsets i (omega arith) (omega arith)));
       tree = stands view.frame.height view.frame.base view.parts.tree (IsGrid-shaped view shaped) shaped.bits
           flawless.tree;
       cells = cells.0;
@@ -112,7 +113,7 @@ IsSound-flawless view shaped none =
 -- the tests of sound parts, from the last to the first
 module _ (view : SnapshotView) (shaped : IsShaped view) (sound : IsSound view) where
   no_late : offset_flaw (instants_in view.frame view.number) view.parts.offsets ≡ None
-  no_late = find-none _ 0 (length view.parts.offsets) (λ i low within.
+  no_late = find_in_range-none _ 0 (length view.parts.offsets) (λ i low within.
       lt-leb (instants_in view.frame view.number) (get_or view.parts.offsets i 0)
       (All-get_or (λ x. x < instants_in view.frame view.number) view.parts.offsets i 0 (omega arith) sound.offsets))
 
@@ -139,7 +140,7 @@ module _ (view : SnapshotView) (shaped : IsShaped view) (sound : IsSound view) w
 
   no_disorder : order_flaw view.parts.lasts view.parts.perm ≡ None
   no_disorder =
-      find-none (is_disordered view.parts.lasts view.parts.perm) 1 (length view.parts.perm - 1)
+      find_in_range-none (is_disordered view.parts.lasts view.parts.perm) 1 (length view.parts.perm - 1)
       (λ place low high. ordered place low (omega arith))
     where
       ordered : (place : ℕ) → 1 ≤ place → place < length view.parts.perm
