@@ -6,5 +6,7 @@
 #![tactic(auto)]
 
 mod region_test;
+#[cfg(test)]
+mod tests;
 
 pub use region_test::{Contains, MayTouch, RegionTest};
