@@ -58,8 +58,8 @@ impl RegionTest {
         (self.contains)(cell)
     }
 
-    /// Whether any cell of the box is in the region. Its bounds are at most 2^42 away from 0. It takes
-    /// no memory.
+    /// Whether any cell of the box is in the region. Its bounds are at most 2^42 away from 0. It
+    /// takes no memory.
     pub fn may(&self, area: &CellBox) -> bool
         requires near { IsBoxWithin area.now }
         ensures value { result ≡ intersects_region self.now.region area.now }
