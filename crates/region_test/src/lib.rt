@@ -1,0 +1,12 @@
+//! A region beside two closures that answer it: one for cells, one for boxes of cells.
+//!
+//! Searches are handed a `RegionTest` and ask its closures. What these answer is kept in the type,
+//! so `holds` is "the region contains the cell" and `may` is "the region touches the box" wherever
+//! a `RegionTest` is. The crate stands on track_types.
+#![tactic(auto)]
+
+mod region_test;
+#[cfg(test)]
+mod tests;
+
+pub use region_test::{Contains, MayTouch, RegionTest};
