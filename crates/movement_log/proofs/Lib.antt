@@ -1,1 +1,4 @@
 mod Examples
+pub mod AlphabetLemmas
+pub mod RowLemmas
+pub mod LogLemmas

@@ -6,8 +6,11 @@
 //! `list_laws`.
 #![tactic(auto)]
 
+mod alphabet;
+mod blocks;
 mod cutting;
 mod head;
+mod logs;
 mod raw_logs;
 
 pub use cutting::cut;
