@@ -5,13 +5,14 @@ use Rattle.std.specs.Int.{int_max, int_min}
 use Rattle.std.specs.List.{range_with_len}
 use Rattle.std.proofs.lemmas.Bool.Decides.{nat_tests}
 use Rattle.std.proofs.lemmas.Int.{fold-int_max_bounds, fold-int_min_bounds, ints}
-use Rattle.std.proofs.lemmas.List.{get_or-map, length-append, length-map, length-replicate, map-append, take_all}
+use Rattle.std.proofs.Math.ListN.{get_or-map}
+use Rattle.std.proofs.lemmas.List.{length-append, length-map, length-replicate, map-append, take_all}
 use Rattle.std.proofs.lemmas.List.FromFn.{length-map-range_with_len, map-range_with_len_more}
 use Rattle.spiral_code.specs.Spiral.{ring_of}
 use Rattle.track_types.specs.Quantities.{columns_of, extent_of, greatest, least, lines_of, width_of}
 use Rattle.track_types.specs.Row.{IsAscending}
 use Rattle.track_types.specs.declared.row.Row.{Row}
-use Rattle.movement_log.specs.Blocks.{is_in_log, row_at}
+use Rattle.movement_log.specs.Blocks.{is_in_log, no_row, row_at}
 use Rattle.movement_log.specs.Values.{move_value, value_at}
 use Rattle.movement_log.proofs.RowLemmas.{instant_rises, value_at-absent, value_at-present}
 
@@ -86,6 +87,11 @@ module _ (rows : List Row) (up : IsAscending rows) (anchor : Row) (len last : �
       value_at-absent rows up anchor.object (anchor.instant +ℤ pos k) last so_far.within so_far.same (omega (arith, ints))
       (λ within alike. let there = further within alike in let less = high within alike in omega (arith, ints, there.1))
 
+  pub offset-some : last + 1 < length rows → is_in_log len anchor (row_at rows (last + 1)) ≡ true → 0 < offset
+  offset-some within is =
+      let there = further within (in_log_parts len anchor (row_at rows (last + 1)) is).0 in
+      omega (arith, there.0)
+
   -- the next row: an absence for each instant between, and its movement
   pub log_next : last + 1 < length rows → is_in_log len anchor (row_at rows (last + 1)) ≡ true →
       (log' : List ℕ) → log' ≡ take (offset - 1) log ++ replicate (offset - 1 - length log) 0 →
@@ -98,7 +104,7 @@ module _ (rows : List Row) (up : IsAscending rows) (anchor : Row) (len last : �
       let past : length log < offset = there.0 in
       let gap : ℕ = offset - 1 - length log in
       let to : length log + gap ≡ offset - 1 = omega arith in
-      let whole : take (offset - 1) log ≡ log = take_all log (offset - 1) (omega arith) in
+      let whole : take (offset - 1) log ≡ log = take_all (offset - 1) log (omega arith) in
       let front : log' ≡ map (value_after rows anchor) (range_with_len 1 (offset - 1)) =
           filled ∙ ap (λ xs. xs ++ replicate gap 0) whole
           ∙ log_zeros (value_after rows anchor) log (length log) gap so_far.values
@@ -129,22 +135,35 @@ module _ (rows : List Row) (up : IsAscending rows) (anchor : Row) (len last : �
   log_last past =
       let short = so_far.short in
       let to : length log + (len - length log) ≡ len = omega arith in
-      ap (λ xs. xs ++ replicate (len - length log) 0) (take_all log len short)
+      ap (λ xs. xs ++ replicate (len - length log) 0) (take_all len log short)
       ∙ log_zeros (value_after rows anchor) log (length log) (len - length log) so_far.values
       (λ k low high. absent k low
       (λ within alike. let far = not_in_log len anchor (row_at rows (last + 1)) (past within) alike in omega arith))
       ∙ ap (λ n. map (value_after rows anchor) (range_with_len 1 n)) to
 
--- two of some numbers are less apart than these are wide
-module _ (f : Row → ℤ) (rows : List Row) where
-  bounded : (k : ℕ) → k < length rows → (least (map f rows) ≤ℤ f (row_at rows k)) × (f (row_at rows k) ≤ℤ greatest (map f rows))
-  bounded k within = ?
+-- a number that is made of each row is between the least and the greatest of these
+bounded : (f : Row → ℤ) (rows : List Row) (k : ℕ) → k < length rows →
+    (least (map f rows) ≤ℤ f (row_at rows k)) × (f (row_at rows k) ≤ℤ greatest (map f rows))
+bounded f [] k within = absurd (omega arith)
+bounded f (row ∷ rest) zero within = (
+  (fold-int_min_bounds (f row) (map f rest) (fold int_min (f row) (map f rest)) refl).0,
+  (fold-int_max_bounds (f row) (map f rest) (fold int_max (f row) (map f rest)) refl).0,
+)
+bounded f (row ∷ rest) (suc k) within =
+    let low = (fold-int_min_bounds (f row) (map f rest) (fold int_min (f row) (map f rest)) refl).1 in
+    let high = (fold-int_max_bounds (f row) (map f rest) (fold int_max (f row) (map f rest)) refl).1 in
+    let below : k < length rest = omega arith in
+    let there : k < length (map f rest) = rw length-map below in
+    let at : get_or (map f rest) k (f no_row) ≡ f (row_at rest k) = get_or-map f rest k no_row in
+    (rw at at (low k (f no_row) there), rw at at (high k (f no_row) there))
 
+-- two of them are less apart than these are wide
+module _ (f : Row → ℤ) (rows : List Row) where
   pub apart-width : (j k : ℕ) → j < length rows → k < length rows →
       unsigned_abs (f (row_at rows k) -ℤ f (row_at rows j)) < width_of (map f rows)
   apart-width j k low high =
-      let one = bounded j low in
-      let two = bounded k high in
+      let one = bounded f rows j low in
+      let two = bounded f rows k high in
       grind (arith, ints)
 
 -- so a movement between two rows of a chart has a code

@@ -7,7 +7,7 @@ ghost use Rattle.spiral_code.specs.Spiral.{ring_of};
 use crate::blocks::{Block, log_length};
 use spiral_code::encode_move;
 use std::alloc::{AllocError, Global};
-use track_types::{Cell, Chart, List64, Row};
+use track_types::{Chart, List64, Row};
 
 /// The log of each block, as values: 0 for an absence, and a movement's code and one.
 pub(crate) fn logs_of(
@@ -39,7 +39,7 @@ fn log_of(alloc: Global, chart: &Chart, at: usize) -> Result<Vec<u64>, AllocErro
         let row = &rows[last + 1];
         // The object is absent at each instant between its rows.
         log.resize(instants_between(anchor, row) - 1, 0)?;
-        log.push(move_value(rows[last].cell, row.cell))?;
+        log.push(move_value(&rows[last], row))?;
         last += 1;
     }
     log.resize(len, 0)?;
@@ -60,10 +60,10 @@ fn instants_between(anchor: &Row, row: &Row) -> usize
     row.instant.abs_diff(anchor.instant) as usize
 }
 
-// The value of a movement: its code and one.
-fn move_value(from: Cell, to: Cell) -> u64
-    requires { ring_of (to.x -ℤ from.x) (to.y -ℤ from.y) < 2 ^ 24 }
-    ensures { result ≡ move_value from to }
+// The value of a row: the movement from the cell of the row before, as its code and one.
+fn move_value(before: &Row, row: &Row) -> u64
+    requires { ring_of (row.now.cell.x -ℤ before.now.cell.x) (row.now.cell.y -ℤ before.now.cell.y) < 2 ^ 24 }
+    ensures { result ≡ move_value before.now.cell row.now.cell }
 {
-    encode_move(to.x - from.x, to.y - from.y) + 1
+    encode_move(row.cell.x - before.cell.x, row.cell.y - before.cell.y) + 1
 }

@@ -1,5 +1,27 @@
-use Rattle.std.proofs.Common.{arith}
+use Rattle.std.proofs.Common.{◌<◌, ◌^◌, rules, to_z, of_z, FitsSigned, w64, arith}
+use Rattle.std.specs.Prelude.{ℤ, ◌-ℤ◌, unsigned_abs}
+use Rattle.std.proofs.lemmas.Int.{ints, to_z-of_z}
 use Rattle.movement_log.proofs.logs.move_value.Goals as goal
 
+small_fits : (z : ℤ) → unsigned_abs z < 2 ^ 24 → FitsSigned w64 z
+small_fits z small = record { sfits = omega (arith, ints) }
+
 pub returns : goal.returns
-returns c = omega (arith, c.encode_move.ensures.exact)
+returns c =
+    let from = c.args.before.now.cell in
+    let to = c.args.row.now.cell in
+    let fits_x : FitsSigned w64 to.x = search rules in
+    let fits_y : FitsSigned w64 to.y = search rules in
+    let fits_x' : FitsSigned w64 from.x = search rules in
+    let fits_y' : FitsSigned w64 from.y = search rules in
+    let fits_dx = small_fits (to.x -ℤ from.x) (omega arith) in
+    let fits_dy = small_fits (to.y -ℤ from.y) (omega arith) in
+    let code = rw (
+      to_z-of_z w64 to.x fits_x,
+      to_z-of_z w64 to.y fits_y,
+      to_z-of_z w64 from.x fits_x',
+      to_z-of_z w64 from.y fits_y',
+      to_z-of_z w64 (to.x -ℤ from.x) fits_dx,
+      to_z-of_z w64 (to.y -ℤ from.y) fits_dy,
+    ) at c.encode_move.ensures.exact in
+    omega (arith, code)
