@@ -2,3 +2,4 @@ mod Examples
 pub mod AlphabetLemmas
 pub mod RowLemmas
 pub mod LogLemmas
+pub mod ObjectLemmas

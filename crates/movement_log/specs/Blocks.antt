@@ -1,7 +1,8 @@
 -- Blocks on the way: a header beside the place of its anchor among the rows.
 use Rattle.std.specs.Prelude.{◌≡◌, ℕ, ◌<◌, pos, ◌-ℤ◌, unsigned_abs, Bool, ◌&&◌, ◌==◌, nat_le, All, List, length, map, slice_index_or}
+use Rattle.std.specs.List.{position_or_len}
 use Rattle.track_types.specs.Chart.{ChartView}
-use Rattle.track_types.specs.Quantities.{anchors_of, first_of, log_length, span_of}
+use Rattle.track_types.specs.Quantities.{anchors_of, first_of, log_length, objects_of, span_of}
 use Rattle.track_types.specs.declared.row.Row.{Row}
 use Rattle.movement_log.specs.Logs.{head_of}
 use Rattle.movement_log.specs.declared.blocks.Block.{Block}
@@ -17,6 +18,10 @@ row_at rows at = slice_index_or rows at no_row
 -- the anchor of a block
 abbrev pub anchor_in : List Row → Block → Row
 anchor_in rows block = row_at rows block.at
+
+-- the place of the object of a row among all objects
+abbrev pub object_place : List Row → ℕ → ℕ
+object_place rows at = position_or_len (λ object. object == (row_at rows at).object) (objects_of rows)
 
 -- the anchors of all blocks, by object, then period
 abbrev pub anchors_by_object : ChartView → List Row

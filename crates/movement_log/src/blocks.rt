@@ -1,12 +1,14 @@
-ghost use Rattle.std.specs.Prelude.{◌≡◌, ◌%◌, ◌<◌, IfOk};
-ghost use Rattle.movement_log.specs.Blocks.{AreBlocks, anchors_by_object, log_length_of};
+ghost use Rattle.std.specs.Prelude.{◌≡◌, ◌-◌, ◌%◌, ◌<◌, ◌≤◌, IfOk, length};
+ghost use Rattle.movement_log.specs.Blocks.{AreBlocks, anchors_by_object, log_length_of, object_place, row_at};
 ghost use Rattle.movement_log.specs.Logs.{block_anchors};
 ghost use Rattle.track_types.specs.Chart.{IsChart};
-ghost use Rattle.track_types.specs.Quantities.{elapsed, first_of, is_same_block, period_of, span_of};
+ghost use Rattle.track_types.specs.Limits.{limit_of};
+ghost use Rattle.track_types.specs.Quantities.{elapsed, first_of, is_anchor, is_same_block, object_count, period_of, span_of};
+ghost use Rattle.track_types.specs.Row.{IsAscending};
 
 use crate::head::Head;
 use std::alloc::{AllocError, Global};
-use track_types::{Chart, Row};
+use track_types::{Chart, LimitKind, Row};
 
 /// A block: its header, and its anchor's place among the chart's rows.
 #[derive(Clone, Copy)]
@@ -34,15 +36,37 @@ fn blocks_by_object(alloc: Global, chart: &Chart) -> Result<Vec<Block>, AllocErr
     let mut blocks = Vec::new(alloc);
     let mut index = 0;
     for at in 0..rows.len() {
-        if at > 0 && rows[at - 1].object != rows[at].object {
-            index += 1;
-        }
-        if at == 0 || !is_same_block(chart, &rows[at - 1], &rows[at]) {
+        index = object_index(rows, at, index);
+        if is_anchor(chart, at) {
             let head = head_of(chart, &rows[at], index);
             blocks.push(Block { head, at })?;
         }
     }
     Ok(blocks)
+}
+
+// The place of a row's object among all objects, where `before` is that of the row before.
+fn object_index(rows: &[Row], at: usize, before: u32) -> u32
+    requires within { at < length rows.now }
+    requires ascending { IsAscending rows.now }
+    requires few { object_count rows.now ≤ limit_of LimitKind.Objects }
+    requires before { before ≡ object_place rows.now (at - 1) }
+    ensures { result ≡ object_place rows.now at }
+{
+    if at > 0 && rows[at - 1].object != rows[at].object {
+        before + 1
+    } else {
+        before
+    }
+}
+
+// Whether a row is its block's anchor: the row before it, if there is one, is of another block.
+fn is_anchor(chart: &Chart, at: usize) -> bool
+    requires { at < length chart.now.rows }
+    ensures { result ≡ is_anchor (first_of chart.now.rows) chart.now.period chart.now.rows (row_at chart.now.rows at) }
+{
+    let rows = chart.rows();
+    at == 0 || !is_same_block(chart, &rows[at - 1], &rows[at])
 }
 
 // The header of an anchor's block.
