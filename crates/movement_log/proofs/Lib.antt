@@ -3,3 +3,4 @@ pub mod AlphabetLemmas
 pub mod RowLemmas
 pub mod LogLemmas
 pub mod ObjectLemmas
+pub mod AnchorLemmas

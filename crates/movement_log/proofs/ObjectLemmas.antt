@@ -1,5 +1,5 @@
 -- The place of a row's object among all objects: the rows of each object stand together.
-use Rattle.std.proofs.Common.{◌≡◌, ℕ, zero, suc, ◌+◌, ◌<◌, ◌≤◌, true, false, List, [], ◌∷◌, length, map, arith, refl, sym, ◌∙◌, ap, inl, inr, eq-eqb, ne_eqb}
+use Rattle.std.proofs.Common.{◌≡◌, ◌≢◌, ℕ, zero, suc, ◌+◌, ◌-◌, ◌<◌, ◌≤◌, true, false, List, [], ◌∷◌, length, map, arith, refl, sym, ◌∙◌, ap, inl, inr, eq-eqb, ne_eqb}
 use Rattle.std.specs.Prelude.{◌==◌}
 use Rattle.std.specs.List.{list_any, position_or_len}
 use Rattle.std.proofs.lemmas.Bool.{cases_lt}
@@ -102,6 +102,15 @@ object_place-new (row ∷ next ∷ rest) up (suc i) below new =
           ap (position_or_len (λ o. o == two)) objects ∙ tail
           ∙ ap suc (sym (ap (position_or_len (λ o. o == one)) objects))
     ]
+
+pub object_place-next : (rows : List Row) → IsAscending rows → (at : ℕ) → at < length rows → 0 < at →
+    (row_at rows (at - 1)).object ≢ (row_at rows at).object → object_place rows at ≡ object_place rows (at - 1) + 1
+object_place-next rows up zero within some differ = absurd (omega arith)
+object_place-next rows up (suc i) within some differ =
+    let back : suc i - 1 ≡ i = omega arith in
+    let apart : (row_at rows i).object ≢ (row_at rows (suc i)).object = rw back at differ in
+    let up_to = object_rises rows up i (suc i) (omega arith) within in
+    rw back (object_place-new rows up i within (omega arith) ∙ omega arith)
 
 pub object_place-le : (rows : List Row) (i : ℕ) → object_place rows i ≤ object_count rows
 object_place-le rows i = prefix_len-le-length _ (objects_of rows)

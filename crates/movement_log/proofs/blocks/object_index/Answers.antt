@@ -1,5 +1,15 @@
-use Rattle.std.proofs.Common.{◌≡◌, suc, ◌+◌, ◌<◌, arith, add-one, ap, sym, ◌∙◌}
+use Rattle.std.proofs.Common.{◌≡◌, suc, ◌+◌, ◌-◌, ◌<◌, ℕ, arith, ap, sym, ◌∙◌}
 use Rattle.movement_log.specs.Blocks.{object_place, row_at}
-use Rattle.movement_log.proofs.ObjectLemmas.{object_place-first, object_place-le, object_place-new, object_place-same}
-use Rattle.movement_log.proofs.RowLemmas.{object_rises}
+use Rattle.movement_log.proofs.ObjectLemmas.{object_place-le, object_place-next}
 use Rattle.movement_log.proofs.blocks.object_index.Goals as goal
+
+pub overflow_add-result : goal.overflow_add-result
+overflow_add-result c =
+    let rows = c.args.rows.now in
+    let next = object_place-next rows c.requires.ascending c.args.at c.requires.within c.if-at-gt0.true c.if-rows-at.true in
+    record { fits = omega (arith, object_place-le rows c.args.at, c.requires.few, c.requires.before, next) }
+
+pub returns-then-rows-at : goal.returns-then-rows-at
+returns-then-rows-at c =
+    let next = object_place-next c.args.rows.now c.requires.ascending c.args.at c.requires.within c.if-at-gt0.true c.if-rows-at.true in
+    omega (arith, c.requires.before, next)
