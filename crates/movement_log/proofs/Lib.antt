@@ -4,3 +4,4 @@ pub mod RowLemmas
 pub mod LogLemmas
 pub mod ObjectLemmas
 pub mod AnchorLemmas
+pub mod BlockLemmas

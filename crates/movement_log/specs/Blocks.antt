@@ -19,9 +19,13 @@ row_at rows at = slice_index_or rows at no_row
 abbrev pub anchor_in : List Row → Block → Row
 anchor_in rows block = row_at rows block.at
 
--- the place of the object of a row among all objects
+-- the place of an object among the objects of rows
+abbrev pub place_of_object : List Row → ℕ → ℕ
+place_of_object rows object = position_or_len (λ other. other == object) (objects_of rows)
+
+-- the place of the object of a row
 abbrev pub object_place : List Row → ℕ → ℕ
-object_place rows at = position_or_len (λ object. object == (row_at rows at).object) (objects_of rows)
+object_place rows at = place_of_object rows (row_at rows at).object
 
 -- the anchors of all blocks, by object, then period
 abbrev pub anchors_by_object : ChartView → List Row

@@ -1,6 +1,6 @@
-ghost use Rattle.std.specs.Prelude.{◌≡◌, ◌-◌, ◌%◌, ◌<◌, ◌≤◌, IfOk, length};
-ghost use Rattle.movement_log.specs.Blocks.{AreBlocks, anchors_by_object, log_length_of, object_place, row_at};
-ghost use Rattle.movement_log.specs.Logs.{block_anchors};
+ghost use Rattle.std.specs.Prelude.{◌≡◌, ◌-◌, ◌<◌, ◌≤◌, IfOk, length};
+ghost use Rattle.movement_log.specs.Blocks.{AreBlocks, anchors_by_object, log_length_of, object_place, place_of_object, row_at};
+ghost use Rattle.movement_log.specs.Logs.{block_anchors, head_of};
 ghost use Rattle.track_types.specs.Chart.{IsChart};
 ghost use Rattle.track_types.specs.Limits.{limit_of};
 ghost use Rattle.track_types.specs.Quantities.{elapsed, first_of, is_anchor, is_same_block, object_count, period_of, span_of};
@@ -72,10 +72,8 @@ fn is_anchor(chart: &Chart, at: usize) -> bool
 // The header of an anchor's block.
 fn head_of(chart: &Chart, anchor: &Row, index: u32) -> Head
     requires inside { elapsed (first_of chart.now.rows) anchor.now < span_of chart.now.rows }
-    ensures period { result.period ≡ period_of (first_of chart.now.rows) chart.now.period anchor.now }
-    ensures index { result.index ≡ index }
-    ensures offset { result.offset ≡ elapsed (first_of chart.now.rows) anchor.now % chart.now.period }
-    ensures cell { result.cell ≡ anchor.now.cell }
+    requires index { index ≡ place_of_object chart.now.rows anchor.now.object }
+    ensures { result ≡ head_of chart.now anchor.now }
 {
     let elapsed = anchor.instant.abs_diff(chart.first()) as u32;
     Head {
