@@ -1,4 +1,4 @@
-ghost use Rattle.std.specs.Prelude.{◌≡◌, ◌-◌, ◌<◌, ◌≤◌, IfOk, length};
+ghost use Rattle.std.specs.Prelude.{◌≡◌, ◌-◌, ◌<◌, ◌≤◌, IfOk, OnOk, length, sum_by};
 ghost use Rattle.movement_log.specs.Blocks.{AreBlocks, anchors_by_object, log_length_of, object_place, place_of_object, row_at};
 ghost use Rattle.movement_log.specs.Logs.{block_anchors, head_of};
 ghost use Rattle.track_types.specs.Chart.{IsChart};
@@ -20,6 +20,7 @@ pub(crate) struct Block {
 /// The blocks of a chart, by period, then object.
 pub(crate) fn blocks_of(alloc: Global, chart: &Chart) -> Result<Vec<Block>, AllocError>
     ensures ok { IfOk result (λ blocks. AreBlocks chart.now (block_anchors chart.now) blocks.items) }
+    ensures few { OnOk result (sum_by (log_length_of chart.now) (block_anchors chart.now) ≤ limit_of LimitKind.Symbols) }
 {
     let mut blocks = blocks_by_object(alloc, chart)?;
     // A stable sort: the blocks of a period stay in the order of their objects.
@@ -30,7 +31,7 @@ pub(crate) fn blocks_of(alloc: Global, chart: &Chart) -> Result<Vec<Block>, Allo
 // The blocks by object, then period.
 fn blocks_by_object(alloc: Global, chart: &Chart) -> Result<Vec<Block>, AllocError>
     ensures ok { IfOk result (λ blocks. AreBlocks chart.now (anchors_by_object chart.now) blocks.items) }
-    ensures chart { IsChart chart.now }
+    ensures chart { OnOk result (IsChart chart.now) }
 {
     let rows = chart.rows();
     let mut blocks = Vec::new(alloc);

@@ -21,7 +21,7 @@ head_of-head-requires c =
     let rows = c.args.chart.now.rows in
     let within = rw c.rows-rows.ensures.value at c.loop-at-test.true in
     record {
-      index = c.object_index-index.ensures ∙ ap (λ all. place_of_object rows (row_at all c.loop-at.at).object) c.rows-rows.ensures.value;
+      index = c.object_index-index.ensures ∙ ap (λ all. place_of_object all (row_at c.rows-rows.result.now c.loop-at.at).object) c.rows-rows.ensures.value;
       inside = rw c.rows-rows.ensures.value (elapsed-span rows c.loop-at.at no_row within);
     }
 
