@@ -7,3 +7,4 @@ pub mod AnchorLemmas
 pub mod BlockLemmas
 pub mod KeyLemmas
 pub mod PeriodLemmas
+pub mod CutLemmas

@@ -1,4 +1,4 @@
-use Rattle.std.proofs.Common.{◌<◌, get_or, length, arith, sym, Ok, Err}
+use Rattle.std.proofs.Common.{◌<◌, get_or, length, arith, inl, inr, sym, Ok, Err}
 use Rattle.std.proofs.lemmas.Bool.{cases_lt}
 use Rattle.std.proofs.lemmas.List.Sorted.{searched}
 use Rattle.movement_log.proofs.AlphabetLemmas.{rises_or_is, terminal_at, terminal_none}
@@ -16,6 +16,6 @@ returns-in-Err c =
     let place = c.in-Err.field-0 in
     let found = searched alphabet c.args.value (Err place) c.in-Err.ensures.position (rises_or_is alphabet c.requires.ascending) in
     sym (terminal_none alphabet c.args.value (λ k below same. elim (cases_lt k place) [
-      | inl less ↦ let under = found.1.0 k less in omega arith
-      | inr not ↦ let over = found.1.1 k not below in omega arith
+      | inl less ↦ let under = found.1 k less in omega arith
+      | inr not ↦ let over = found.2 k not below in omega arith
     ]))
