@@ -1,6 +1,6 @@
 -- An alphabet: the place of a value in it, and that sorted values, each kept once, are the alphabet.
-use Rattle.std.proofs.Common.{◌≡◌, ◌≢◌, ℕ, zero, suc, ◌+◌, ◌<◌, ◌≤◌, true, List, [], ◌∷◌, length, get_or, arith, refl, sym, ◌∙◌, ap, add-one, eq-eqb, ne_eqb, inl, inr, eqb, zero-add, subst}
-use Rattle.std.specs.Prelude.{fold, filter, max, ◌==◌}
+use Rattle.std.proofs.Common.{◌≡◌, ◌≢◌, ℕ, zero, suc, ◌+◌, ◌<◌, ◌≤◌, true, List, [], ◌∷◌, length, get_or, arith, ◌∙◌, ap, add-one, eq-eqb, ne_eqb, inl, inr, eqb, zero-add, subst}
+use Rattle.std.specs.Prelude.{fold, max, ◌==◌}
 use Rattle.std.specs.List.{Contains, dedup, list_any, range_with_len}
 use Rattle.std.specs.List.Sorted.{IsPermutation, IsSorted, IsStrictlyIncreasing}
 use Rattle.std.specs.Ordering.{nat_cmp}
@@ -67,12 +67,11 @@ fold-max-above a (x ∷ xs) (suc k) below = fold-max-above (max a x) xs k (omega
 
 -- what is sorted, each number once, is the alphabet
 module _ (values sorted : List ℕ) (moved : IsPermutation values sorted) (up : IsSorted nat_cmp sorted) where
-
   into : (n : ℕ) → Contains (dedup eqb sorted) n → Contains (ascending_of values) n
   unfolding ascending_of
   into n inside =
       let member : Contains values n =
-          Contains-permutation sorted values n (IsPermutation-sym values sorted moved) (Contains-from_dedup eqb sorted n inside) in
+      Contains-permutation sorted values n (IsPermutation-sym values sorted moved) (Contains-from_dedup eqb sorted n inside) in
       let k : ℕ = member.0 in
       let within : k < length values = member.1 in
       let at : get_or values k n ≡ n = member.2 in

@@ -1,6 +1,6 @@
 -- Anchors of rows in order: a row is its block's anchor where the row before it is of another block.
-use Rattle.std.proofs.Common.{◌≡◌, ℕ, ℤ, zero, suc, ◌+◌, ◌-◌, ◌*◌, ◌/◌, ◌≤◌, ◌<◌, Bool, true, false, List, [], ◌∷◌, eq-eqb, get_or, length, refl, sym, ◌∙◌, ap, arith, inl, inr}
-use Rattle.std.specs.Prelude.{◌==◌, ◌&&◌, not, ◌<ℤ◌, ◌≤ℤ◌, ◌-ℤ◌, unsigned_abs}
+use Rattle.std.proofs.Common.{◌≡◌, ℕ, ℤ, suc, ◌+◌, ◌*◌, ◌/◌, ◌≤◌, ◌<◌, Bool, true, false, List, [], ◌∷◌, eq-eqb, get_or, length, refl, sym, ap, arith, inl, inr}
+use Rattle.std.specs.Prelude.{◌==◌, ◌&&◌, not, ◌<ℤ◌, ◌≤ℤ◌}
 use Rattle.std.specs.Int.Signed.{lt_z}
 use Rattle.std.specs.List.{list_any}
 use Rattle.std.proofs.Math.Nat.{mul-le-mul_left}
@@ -68,13 +68,13 @@ module _ (first : ℤ) (period : ℕ) where
     is_anchor-first some =
         let row = row_at rows 0 in
         let none : list_any (is_before row) rows ≡ false =
-            none_passes (is_before row) no_row rows
-            (λ k within. not_before row (row_at rows k) (λ same. elim (cases_lt 0 k) [
-              | inl later ↦
-                  let objects = (same_parts (row_at rows k) row same).0 in
-                  let more = instant_rises rows up 0 k later within (sym objects) in omega (arith, ints)
-              | inr not ↦ let is : 0 ≡ k = omega arith in let at = ap (λ i. (row_at rows i).instant) is in omega (arith, ints)
-            ])) in
+        none_passes (is_before row) no_row rows
+        (λ k within. not_before row (row_at rows k) (λ same. elim (cases_lt 0 k) [
+          | inl later ↦
+              let objects = (same_parts (row_at rows k) row same).0 in
+              let more = instant_rises rows up 0 k later within (sym objects) in omega (arith, ints)
+          | inr not ↦ let is : 0 ≡ k = omega arith in let at = ap (λ i. (row_at rows i).instant) is in omega (arith, ints)
+        ])) in
         ap not none
 
     pub is_anchor-next : (i : ℕ) → i + 1 < length rows → 0 < period →
@@ -89,12 +89,12 @@ module _ (first : ℤ) (period : ℕ) where
               let objects = (same_parts before row same).0 in
               let less = instant_rises rows up i (i + 1) (omega arith) below objects in
               let any : list_any (is_before row) rows ≡ true =
-                  list_any_at (is_before row) rows i no_row (omega arith) (before_from row before same less) in
+              list_any_at (is_before row) rows i no_row (omega arith) (before_from row before same less) in
               rw same (ap not any)
           | inr differ ↦
               let none : list_any (is_before row) rows ≡ false =
-                  none_passes (is_before row) no_row rows
-                  (λ k within. not_before row (row_at rows k) (λ same. late i below some begins differ k within same)) in
+              none_passes (is_before row) no_row rows
+              (λ k within. not_before row (row_at rows k) (λ same. late i below some begins differ k within same)) in
               rw differ (ap not none)
         ]
       where

@@ -1,5 +1,5 @@
 -- What blocks, their values and the alphabet of these make together.
-use Rattle.std.proofs.Common.{◌≡◌, ℕ, suc, ◌≤◌, List, [], ◌∷◌, length, map, refl, sym, subst, ◌∙◌, ap, arith}
+use Rattle.std.proofs.Common.{◌≡◌, ℕ, suc, List, [], ◌∷◌, length, map, refl, sym, ◌∙◌, ap, arith}
 use Rattle.std.specs.Prelude.{All, sum_by}
 use Rattle.std.specs.List.{flat_map}
 use Rattle.std.proofs.lemmas.List.FromFn.{length-map-range_with_len}
@@ -7,7 +7,7 @@ use Rattle.list_laws.proofs.FlatLemmas.{sum_by-map}
 use Rattle.list_laws.proofs.SumLemmas.{sum_by-agree}
 use Rattle.track_types.specs.Chart.{ChartView}
 use Rattle.track_types.specs.declared.row.Row.{Row}
-use Rattle.movement_log.specs.Blocks.{AreBlocks, IsBlockIn, anchor_in, log_length_of}
+use Rattle.movement_log.specs.Blocks.{AreBlocks, anchor_in, log_length_of}
 use Rattle.movement_log.specs.Logs.{alphabet_of, ascending_of, block_anchors, head_of, logged_values, logs_of, terminal_of, values_after}
 use Rattle.movement_log.specs.declared.blocks.Block.{Block}
 use Rattle.movement_log.specs.declared.head.Head.{Head}
@@ -67,7 +67,7 @@ module _ (chart : ChartView) where
       let values : logs ≡ logged_values chart = is_values ∙ values_are blocks are in
       let used : alphabet ≡ alphabet_of chart = is_alphabet ∙ ap (λ all. ascending_of (flat_map (λ values. values) all)) values in
       let placed : terminals ≡ map (λ log. map (terminal_of (alphabet_of chart)) log) (logged_values chart) =
-          is_terminals ∙ ap (λ letters. map (λ log. map (terminal_of letters) log) logs) used
-          ∙ ap (map (λ log. map (terminal_of (alphabet_of chart)) log)) values in
+      is_terminals ∙ ap (λ letters. map (λ log. map (terminal_of letters) log) logs) used
+      ∙ ap (map (λ log. map (terminal_of (alphabet_of chart)) log)) values in
       ap (λ a. logs_with a heads terminals) used ∙ ap (λ h. logs_with (alphabet_of chart) h terminals) (is_heads ∙ heads_are blocks are)
       ∙ ap (logs_with (alphabet_of chart) (map (head_of chart) (block_anchors chart))) placed

@@ -1,15 +1,15 @@
 -- The values of a log, from one row to the next.
-use Rattle.std.proofs.Common.{◌≡◌, ℕ, zero, suc, ◌+◌, ◌-◌, ◌^◌, ◌<◌, ◌≤◌, Bool, true, false, List, [], ◌∷◌, ◌++◌, length, map, take, replicate, get_or, add-one, arith, refl, sym, subst, ◌∙◌, ap, inl, inr}
-use Rattle.std.specs.Prelude.{ℤ, pos, ◌+ℤ◌, ◌-ℤ◌, ◌<ℤ◌, ◌≤ℤ◌, unsigned_abs, fold, All}
+use Rattle.std.proofs.Common.{◌≡◌, ℕ, zero, suc, ◌+◌, ◌-◌, ◌^◌, ◌<◌, ◌≤◌, true, false, List, [], ◌∷◌, ◌++◌, length, map, take, replicate, get_or, arith, refl, sym, ◌∙◌, ap}
+use Rattle.std.specs.Prelude.{ℤ, pos, ◌+ℤ◌, ◌-ℤ◌, ◌≤ℤ◌, unsigned_abs, fold}
 use Rattle.std.specs.Int.{int_max, int_min}
 use Rattle.std.specs.List.{range_with_len}
 use Rattle.std.proofs.lemmas.Bool.Decides.{nat_tests}
 use Rattle.std.proofs.lemmas.Int.{fold-int_max_bounds, fold-int_min_bounds, ints}
 use Rattle.std.proofs.Math.ListN.{get_or-map}
-use Rattle.std.proofs.lemmas.List.{length-append, length-map, length-replicate, map-append, take_all}
+use Rattle.std.proofs.lemmas.List.{length-map, map-append, take_all}
 use Rattle.std.proofs.lemmas.List.FromFn.{length-map-range_with_len, map-range_with_len_more}
 use Rattle.spiral_code.specs.Spiral.{ring_of}
-use Rattle.track_types.specs.Quantities.{columns_of, extent_of, greatest, least, lines_of, width_of}
+use Rattle.track_types.specs.Quantities.{extent_of, greatest, least, width_of}
 use Rattle.track_types.specs.Row.{IsAscending}
 use Rattle.track_types.specs.declared.row.Row.{Row}
 use Rattle.movement_log.specs.Blocks.{is_in_log, no_row, row_at}
@@ -38,8 +38,11 @@ module _ (value : ℕ → ℕ) where
   log_zeros : (log : List ℕ) (n gap : ℕ) → log ≡ map value (range_with_len 1 n) →
       ((k : ℕ) → n < k → k ≤ n + gap → value k ≡ 0) → log ++ replicate gap 0 ≡ map value (range_with_len 1 (n + gap))
   log_zeros log n gap is none =
-      rw (range-parts 1 n gap, map-append value (range_with_len 1 n) (range_with_len (1 + n) gap),
-          zeros (1 + n) gap (λ k low high. none k (omega arith) (omega arith)))
+      rw (
+        range-parts 1 n gap,
+        map-append value (range_with_len 1 n) (range_with_len (1 + n) gap),
+        zeros (1 + n) gap (λ k low high. none k (omega arith) (omega arith)),
+      )
       (ap (λ front. front ++ replicate gap 0) is)
 
 -- the value of an anchor's object so many instants after the anchor
@@ -106,21 +109,21 @@ module _ (rows : List Row) (up : IsAscending rows) (anchor : Row) (len last : �
       let to : length log + gap ≡ offset - 1 = omega arith in
       let whole : take (offset - 1) log ≡ log = take_all (offset - 1) log (omega arith) in
       let front : log' ≡ map (value_after rows anchor) (range_with_len 1 (offset - 1)) =
-          filled ∙ ap (λ xs. xs ++ replicate gap 0) whole
-          ∙ log_zeros (value_after rows anchor) log (length log) gap so_far.values
-          (λ k low high. absent k low (λ _ _. omega arith))
-          ∙ ap (λ n. map (value_after rows anchor) (range_with_len 1 n)) to in
+      filled ∙ ap (λ xs. xs ++ replicate gap 0) whole
+      ∙ log_zeros (value_after rows anchor) log (length log) gap so_far.values
+      (λ k low high. absent k low (λ _ _. omega arith))
+      ∙ ap (λ n. map (value_after rows anchor) (range_with_len 1 n)) to in
       let value : value_after rows anchor offset ≡ move_value (row_at rows last).cell (row_at rows (last + 1)).cell =
-          rw (sym there.1, sym alike) (value_at-present rows up last within (so_far.same ∙ sym alike)) in
+      rw (sym there.1, sym alike) (value_at-present rows up last within (so_far.same ∙ sym alike)) in
       let one : offset - 1 + 1 ≡ offset = omega arith in
       let all : log' ++ move_value (row_at rows last).cell (row_at rows (last + 1)).cell ∷ []
-          ≡ map (value_after rows anchor) (range_with_len 1 offset) =
-          ap (λ xs. xs ++ move_value (row_at rows last).cell (row_at rows (last + 1)).cell ∷ []) front
-          ∙ ap (λ v. map (value_after rows anchor) (range_with_len 1 (offset - 1)) ++ v ∷ []) (sym value)
-          ∙ sym (map-range_with_len_more (value_after rows anchor) 1 (offset - 1) offset (omega arith))
-          ∙ ap (λ n. map (value_after rows anchor) (range_with_len 1 n)) one in
+      ≡ map (value_after rows anchor) (range_with_len 1 offset) =
+      ap (λ xs. xs ++ move_value (row_at rows last).cell (row_at rows (last + 1)).cell ∷ []) front
+      ∙ ap (λ v. map (value_after rows anchor) (range_with_len 1 (offset - 1)) ++ v ∷ []) (sym value)
+      ∙ sym (map-range_with_len_more (value_after rows anchor) 1 (offset - 1) offset (omega arith))
+      ∙ ap (λ n. map (value_after rows anchor) (range_with_len 1 n)) one in
       let long : length (log' ++ move_value (row_at rows last).cell (row_at rows (last + 1)).cell ∷ []) ≡ offset =
-          ap length all ∙ length-map-range_with_len (value_after rows anchor) 1 offset in
+      ap length all ∙ length-map-range_with_len (value_after rows anchor) 1 offset in
       record {
         within = within;
         same = alike;

@@ -1,5 +1,5 @@
 -- The place of a row's object among all objects: the rows of each object stand together.
-use Rattle.std.proofs.Common.{◌≡◌, ◌≢◌, ℕ, zero, suc, ◌+◌, ◌-◌, ◌<◌, ◌≤◌, true, false, List, [], ◌∷◌, length, map, arith, refl, sym, ◌∙◌, ap, inl, inr, eq-eqb, ne_eqb}
+use Rattle.std.proofs.Common.{◌≡◌, ◌≢◌, ℕ, zero, suc, ◌+◌, ◌-◌, ◌<◌, ◌≤◌, false, List, [], ◌∷◌, length, map, arith, refl, sym, ◌∙◌, ap, inl, inr, eq-eqb, ne_eqb}
 use Rattle.std.specs.Prelude.{◌==◌}
 use Rattle.std.specs.List.{list_any, position_or_len}
 use Rattle.std.proofs.lemmas.Bool.{cases_lt}
@@ -17,7 +17,7 @@ none_below : (object : ℕ) (rows : List Row) → ((k : ℕ) → k < length rows
 none_below object [] above = refl
 none_below object (row ∷ rest) above =
     let differs : (object == row.object) ≡ false =
-        ne_eqb object row.object (λ e. let more = above 0 (omega arith) in omega arith) in
+    ne_eqb object row.object (λ e. let more = above 0 (omega arith) in omega arith) in
     rw (differs, none_below object rest (λ k below. above (suc k) (omega arith))) refl
 
 -- a row of a new object, before the others

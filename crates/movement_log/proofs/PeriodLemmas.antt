@@ -1,22 +1,20 @@
 -- Blocks by period: all anchors, each once, and no more terminals than a chart may have.
-use Rattle.std.proofs.Common.{◌≡◌, ℕ, ◌+◌, ◌*◌, ◌/◌, ◌%◌, ◌≤◌, ◌<◌, List, get_or, length, map, refl, sym, subst, ◌∙◌, ap, arith}
-use Rattle.std.specs.Prelude.{All, min, sum_by}
+use Rattle.std.proofs.Common.{◌≡◌, ℕ, ◌/◌, ◌<◌, List, get_or, map, refl, sym, ◌∙◌, ap, arith}
+use Rattle.std.specs.Prelude.{All, sum_by}
 use Rattle.std.specs.Int.{div_ceil}
 use Rattle.std.specs.List.Sorted.{IsNonDecreasingBy, IsPermutation, IsStableByKey}
 use Rattle.std.specs.Ordering.{nat_cmp}
 use Rattle.std.proofs.Math.Nat.{div-lt_iff_lt-mul}
 use Rattle.std.proofs.lemmas.Grind.{div_ceil_times}
-use Rattle.std.proofs.lemmas.List.{get_or_default}
 use Rattle.std.proofs.lemmas.List.Elements.{All-filter}
 use Rattle.std.proofs.lemmas.List.Sorted.{All-permutation}
 use Rattle.track_types.proofs.QuantityLemmas.{elapsed-span}
-use Rattle.track_types.specs.Chart.{ChartView, IsChart}
-use Rattle.track_types.specs.Quantities.{anchors_of, elapsed, first_of, is_anchor, period_count, period_of, span_of, symbol_count}
+use Rattle.track_types.specs.Chart.{ChartView}
+use Rattle.track_types.specs.Quantities.{anchors_of, elapsed, first_of, is_anchor, period_count, period_of, span_of}
 use Rattle.track_types.specs.declared.row.Row.{Row}
-use Rattle.movement_log.specs.Blocks.{AreBlocks, IsBlockIn, anchor_in, anchors_by_object, log_length_of, no_row, row_at}
+use Rattle.movement_log.specs.Blocks.{AreBlocks, IsBlockIn, anchor_in, anchors_by_object, no_row}
 use Rattle.movement_log.specs.Logs.{block_anchors}
 use Rattle.movement_log.specs.declared.blocks.Block.{Block}
-use Rattle.movement_log.specs.declared.head.Head.{Head}
 use Rattle.movement_log.proofs.KeyLemmas.{by_key, by_key-sorted, by_key-stable, map-by_key, sum_by-by_key}
 
 -- a number below another is in a period of those that this takes
@@ -53,19 +51,19 @@ module _ (chart : ChartView) (some : 0 < chart.period) where
       let n : ℕ = period_count chart.rows chart.period in
       let each : All (IsBlockIn chart) ys = All-permutation (IsBlockIn chart) xs ys moved blocks.each in
       let below : All (λ block. block_period block < n) ys = λ k d within.
-          let block = get_or ys k d in
-          let is : IsBlockIn chart block = each k d within in
-          let period : block_period block ≡ row_period (anchor_in chart.rows block) = ap (λ head. head.period) is.head in
-          rw period (rows_below block.at no_row is.within) in
+      let block = get_or ys k d in
+      let is : IsBlockIn chart block = each k d within in
+      let period : block_period block ≡ row_period (anchor_in chart.rows block) = ap (λ head. head.period) is.head in
+      rw period (rows_below block.at no_row is.within) in
       let any_of : ℕ → Block = λ k. record { head = record { period = k; index = 0; offset = 0; cell = no_row.cell }; at = 0 } in
       let keys : by_key block_period 0 n xs ≡ ys =
-          by_key-stable block_period any_of (λ k. refl) n xs ys stable ∙ by_key-sorted block_period n ys up below in
+      by_key-stable block_period any_of (λ k. refl) n xs ys stable ∙ by_key-sorted block_period n ys up below in
       let alike : All (λ block. block_period block ≡ row_period (anchor_in chart.rows block)) xs = λ k d within.
-          ap (λ head. head.period) (blocks.each k d within).head in
+      ap (λ head. head.period) (blocks.each k d within).head in
       record {
         anchors =
-          ap (map (anchor_in chart.rows)) (sym keys)
-          ∙ map-by_key (anchor_in chart.rows) block_period row_period 0 n xs alike
-          ∙ ap (by_key row_period 0 n) blocks.anchors;
+            ap (map (anchor_in chart.rows)) (sym keys)
+            ∙ map-by_key (anchor_in chart.rows) block_period row_period 0 n xs alike
+            ∙ ap (by_key row_period 0 n) blocks.anchors;
         each = each;
       }

@@ -1,15 +1,12 @@
 -- Rows in order, by their places: what an object's cell and value are at an instant near one of its rows.
-use Rattle.std.proofs.Common.{◌≡◌, ◌≢◌, ℕ, zero, suc, ◌+◌, ◌-◌, ◌<◌, ◌≤◌, Bool, true, false, List, [], ◌∷◌, length, get_or, Some, None, Option, arith, refl, sym, ◌∙◌, ap, inl, inr, eq-eqb}
-use Rattle.std.specs.Prelude.{ℤ, ◌<ℤ◌, ◌≤ℤ◌, ◌&&◌, ◌==◌, find, reverse, option_map}
-use Rattle.std.specs.Int.Signed.{lt_z}
-use Rattle.std.specs.Ordering.{int_eq}
+use Rattle.std.proofs.Common.{◌≡◌, ◌≢◌, ℕ, zero, suc, ◌+◌, ◌-◌, ◌<◌, ◌≤◌, Bool, true, false, List, [], ◌∷◌, length, get_or, Some, None, arith, refl, sym, ◌∙◌, ap, inl, inr}
+use Rattle.std.specs.Prelude.{ℤ, ◌<ℤ◌, ◌≤ℤ◌, find, reverse}
 use Rattle.std.specs.declared.cmp.Ordering.TheVariants.{Less}
 use Rattle.std.proofs.lemmas.Bool.{cases_lt}
 use Rattle.std.proofs.lemmas.Bool.Decides.{nat_tests}
 use Rattle.std.proofs.lemmas.Int.{ints}
 use Rattle.std.proofs.lemmas.List.{get_or-reverse, length-reverse}
 use Rattle.std.proofs.lemmas.Map.Keys.{Less-from_sorted}
-use Rattle.track_types.specs.ByFilter.{cell_at}
 use Rattle.track_types.specs.Row.{IsAscending, is_row_of, row_order}
 use Rattle.track_types.specs.declared.row.Row.{Row}
 use Rattle.movement_log.specs.Blocks.{no_row, row_at}
@@ -36,7 +33,7 @@ module _ {X : Type 0} (p : X → Bool) (d : X) where
       let back : ℕ = length xs - 1 - i in
       let again : length xs - 1 - back ≡ i = omega arith in
       let there : get_or (reverse xs) back d ≡ get_or xs i d =
-          get_or-reverse xs back d (omega arith) ∙ ap (λ k. get_or xs k d) again in
+      get_or-reverse xs back d (omega arith) ∙ ap (λ k. get_or xs k d) again in
       find_first_at (reverse xs) back (omega (arith, length-reverse xs)) (ap p there ∙ passes)
       (λ k before. ap p (get_or-reverse xs k d (omega arith)) ∙ fails (length xs - 1 - k) (omega arith) (omega arith))
       ∙ ap Some there
@@ -105,8 +102,8 @@ module _ (rows : List Row) (up : IsAscending rows) where
   unfolding value_at
   value_at-absent object instant i below same before after =
       let none : find (is_row_of object instant) rows ≡ None =
-          find_none_at (is_row_of object instant) no_row rows
-          (λ k within. not_row_of object instant (row_at rows k) (apart_at object instant i below same before after k within)) in
+      find_none_at (is_row_of object instant) no_row rows
+      (λ k within. not_row_of object instant (row_at rows k) (apart_at object instant i below same before after k within)) in
       rw none refl
 
   -- a row's value is the movement from the row before, where that is of the same object
@@ -118,15 +115,15 @@ module _ (rows : List Row) (up : IsAscending rows) where
       let row : Row = row_at rows (i + 1) in
       let less = instant_rises i (i + 1) (omega arith) below same in
       let found : find (is_row_of row.object row.instant) rows ≡ Some row =
-          find_first_at (is_row_of row.object row.instant) no_row rows (i + 1) below (row_of row.object row.instant row refl refl)
-          (λ k before. not_row_of row.object row.instant (row_at rows k)
-          (λ alike at. let more = instant_rises k (i + 1) before below alike in omega (arith, ints))) in
+      find_first_at (is_row_of row.object row.instant) no_row rows (i + 1) below (row_of row.object row.instant row refl refl)
+      (λ k before. not_row_of row.object row.instant (row_at rows k)
+      (λ alike at. let more = instant_rises k (i + 1) before below alike in omega (arith, ints))) in
       let last : last_before rows row.object row.instant ≡ Some (row_at rows i) =
-          find_last_at (is_earlier row.object row.instant) no_row rows i (omega arith)
-          (earlier row.object row.instant (row_at rows i) same less)
-          (λ k later within. not_earlier row.object row.instant (row_at rows k)
-          (λ alike. elim (cases_lt (i + 1) k) [
-            | inl further ↦ let more = instant_rises (i + 1) k further within (sym alike) in omega (arith, ints)
-            | inr not ↦ let this : i + 1 ≡ k = omega arith in let there = ap (λ j. (row_at rows j).instant) this in omega (arith, ints)
-          ])) in
+      find_last_at (is_earlier row.object row.instant) no_row rows i (omega arith)
+      (earlier row.object row.instant (row_at rows i) same less)
+      (λ k later within. not_earlier row.object row.instant (row_at rows k)
+      (λ alike. elim (cases_lt (i + 1) k) [
+        | inl further ↦ let more = instant_rises (i + 1) k further within (sym alike) in omega (arith, ints)
+        | inr not ↦ let this : i + 1 ≡ k = omega arith in let there = ap (λ j. (row_at rows j).instant) this in omega (arith, ints)
+      ])) in
       rw (found, last) refl

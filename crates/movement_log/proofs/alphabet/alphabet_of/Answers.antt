@@ -1,6 +1,5 @@
 use Rattle.std.proofs.Common.{◌≡◌, arith, length, ◌∙◌, sym, ap, eqb, subst}
 use Rattle.std.specs.Prelude.{sum_by}
-use Rattle.std.specs.List.{dedup, flat_map}
 use Rattle.std.specs.List.Sorted.{IsStrictlyIncreasing}
 use Rattle.std.proofs.lemmas.List.Filters.{dedup_is}
 use Rattle.std.proofs.lemmas.List.Concat.{length-flat_map}
@@ -19,7 +18,7 @@ returns-clause-ok c =
 pub returns-clause-few : goal.returns-clause-few
 returns-clause-few c =
     let joined : length c.in_ok-alphabet.alphabet.items ≡ sum_by length c.args.logs.now =
-        ap length c.in_ok-alphabet.ensures ∙ length-flat_map (λ values. values) c.args.logs.now in
+    ap length c.in_ok-alphabet.ensures ∙ length-flat_map (λ values. values) c.args.logs.now in
     let sorted = length_permutation c.in_ok-alphabet.alphabet.items c.sort_unstable.new.self.items c.sort_unstable.ensures.permutation in
     omega (arith, c.dedup.ensures.bound)
 

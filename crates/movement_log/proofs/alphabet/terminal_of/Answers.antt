@@ -1,4 +1,4 @@
-use Rattle.std.proofs.Common.{◌<◌, get_or, length, arith, inl, inr, sym, Ok, Err}
+use Rattle.std.proofs.Common.{arith, inl, inr, sym, Ok, Err}
 use Rattle.std.proofs.lemmas.Bool.{cases_lt}
 use Rattle.std.proofs.lemmas.List.Sorted.{searched}
 use Rattle.movement_log.proofs.AlphabetLemmas.{rises_or_is, terminal_at, terminal_none}

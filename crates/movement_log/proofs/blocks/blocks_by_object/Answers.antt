@@ -1,6 +1,5 @@
-use Rattle.std.proofs.Common.{◌≡◌, ◌+◌, ◌-◌, ◌++◌, [], ◌∷◌, arith, sym, subst, ◌∙◌, ap}
+use Rattle.std.proofs.Common.{◌≡◌, ◌+◌, ◌-◌, arith, sym, subst, ◌∙◌, ap}
 use Rattle.track_types.proofs.QuantityLemmas.{elapsed-span}
-use Rattle.track_types.specs.Quantities.{first_of}
 use Rattle.movement_log.specs.Blocks.{no_row, object_place, place_of_object, row_at}
 use Rattle.movement_log.specs.Logs.{head_of}
 use Rattle.movement_log.proofs.BlockLemmas.{AreFirst, first_all, first_kept, first_more, first_none}
@@ -33,14 +32,14 @@ loop-at-preserved c =
     let within = rw c.rows-rows.ensures.value at c.loop-at-test.true in
     let back : at + 1 - 1 ≡ at = omega arith in
     let index : c.object_index-index.result ≡ object_place rows at =
-        c.object_index-index.ensures ∙ ap (λ all. object_place all at) c.rows-rows.ensures.value in
+    c.object_index-index.ensures ∙ ap (λ all. object_place all at) c.rows-rows.ensures.value in
     record {
       index = index ∙ ap (object_place rows) (sym back);
       blocks = elim c.if-is_anchor.branch [
         | then-is_anchor+in_ok-push w ↦
             let is = sym c.is_anchor.ensures ∙ w.if-is_anchor.true in
             let head : w.head_of-head.result ≡ head_of chart (row_at rows at) =
-                w.head_of-head.ensures ∙ ap (λ all. head_of chart (row_at all at)) c.rows-rows.ensures.value in
+            w.head_of-head.ensures ∙ ap (λ all. head_of chart (row_at all at)) c.rows-rows.ensures.value in
             let more = first_more chart at within c.loop-at.blocks.items c.loop-at.invariant.blocks w.head_of-head.result head is in
             subst (AreFirst chart (at + 1)) (sym (ap (λ blocks. blocks.items) w.blocks-is ∙ w.in_ok-push.ensures.items)) more
         | else-is_anchor w ↦

@@ -1,4 +1,4 @@
-use Rattle.std.proofs.Common.{◌≡◌, rules, arith}
+use Rattle.std.proofs.Common.{rules, arith}
 use Rattle.std.proofs.lemmas.List.Sorted.{IsNonDecreasingBy-from_sort_by_key, answers_always}
 use Rattle.movement_log.specs.Blocks.{log_length_of}
 use Rattle.movement_log.proofs.PeriodLemmas.{block_period, sorted_blocks, sum_by-block_anchors}

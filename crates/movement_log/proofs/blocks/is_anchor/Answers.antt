@@ -24,7 +24,7 @@ returns-else-at-eq0 c =
     let next : c.args.at - 1 + 1 ≡ c.args.at = omega (arith, c.if-at-eq0.false) in
     let below : c.args.at - 1 + 1 < length rows = omega (arith, c.requires, next) in
     let anchor = is_anchor-next first period rows chart.ascending (c.args.at - 1) below chart.period.some
-        (λ k within. first_of-below rows k no_row within) in
+    (λ k within. first_of-below rows k no_row within) in
     let here = ap (λ i. is_anchor first period rows (row_at rows i)) (sym next) in
     let there = ap (λ i. not (is_same_block first period (row_at rows (c.args.at - 1)) (row_at rows i))) next in
     let read = rw c.rows-rows.ensures.value at c.is_same_block.ensures in

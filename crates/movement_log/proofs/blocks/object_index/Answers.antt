@@ -1,5 +1,4 @@
-use Rattle.std.proofs.Common.{◌≡◌, suc, ◌+◌, ◌-◌, ◌<◌, ℕ, arith, ap, sym, ◌∙◌}
-use Rattle.movement_log.specs.Blocks.{object_place, row_at}
+use Rattle.std.proofs.Common.{arith}
 use Rattle.movement_log.proofs.ObjectLemmas.{object_place-le, object_place-next}
 use Rattle.movement_log.proofs.blocks.object_index.Goals as goal
 

@@ -1,10 +1,9 @@
-use Rattle.std.proofs.Common.{◌≡◌, ◌+◌, ◌<◌, ◌++◌, [], ◌∷◌, length, map, arith, refl, sym, subst, ◌∙◌, ap, true, false, rules}
+use Rattle.std.proofs.Common.{◌≡◌, ◌+◌, ◌<◌, ◌++◌, [], ◌∷◌, length, map, arith, sym, subst, ◌∙◌, ap, false}
 use Rattle.std.specs.List.{range_with_len}
 use Rattle.track_types.proofs.QuantityLemmas.{elapsed-span}
 use Rattle.track_types.specs.Row.{IsAscending}
 use Rattle.movement_log.specs.Blocks.{is_in_log, log_length_of, no_row, row_at}
-use Rattle.movement_log.specs.Logs.{values_after}
-use Rattle.movement_log.proofs.LogLemmas.{IsLog, log_first, log_last, log_next, offset-some, ring_of-extent, value_after}
+use Rattle.movement_log.proofs.LogLemmas.{IsLog, log_last, log_next, offset-some, ring_of-extent, value_after}
 use Rattle.movement_log.proofs.logs.log_of.Goals as goal
 use Rattle.movement_log.proofs.logs.log_of.Goals.{then-loop-last-test+else-is_in_log, else-loop-last-test}
 
@@ -44,10 +43,10 @@ returns c =
     let anchor = row_at rows c.args.at in
     let up : IsAscending rows = subst IsAscending (sym c.rows-rows.ensures.value) c.rows-rows.ensures.chart.ascending in
     let past : c.loop-last.last + 1 < length rows → is_in_log c.log_length-len.result anchor (row_at rows (c.loop-last.last + 1)) ≡ false =
-        λ within. elim c.loop-last-test.branch [
-          | then-loop-last-test+else-is_in_log w ↦ sym w.is_in_log.ensures ∙ w.if-is_in_log.false
-          | else-loop-last-test w ↦ absurd (omega (arith, w.loop-last-test.false))
-        ] in
+    λ within. elim c.loop-last-test.branch [
+      | then-loop-last-test+else-is_in_log w ↦ sym w.is_in_log.ensures ∙ w.if-is_in_log.false
+      | else-loop-last-test w ↦ absurd (omega (arith, w.loop-last-test.false))
+    ] in
     let last = log_last rows up anchor c.log_length-len.result c.loop-last.last c.loop-last.log.items c.loop-last.invariant past in
     let size : c.loop-last.log.len ≡ length c.loop-last.log.items = omega arith in
     let filled = rw size at c.in_ok-resize-2.ensures.items in

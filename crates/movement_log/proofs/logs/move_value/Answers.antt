@@ -1,6 +1,6 @@
-use Rattle.std.proofs.Common.{◌<◌, ◌^◌, rules, to_z, of_z, FitsSigned, w64, arith}
+use Rattle.std.proofs.Common.{◌<◌, ◌^◌, rules, FitsSigned, w64, arith}
 use Rattle.std.specs.Prelude.{ℤ, pos, negsuc, ◌-ℤ◌, unsigned_abs}
-use Rattle.std.proofs.lemmas.Int.{ints, to_z-of_z}
+use Rattle.std.proofs.lemmas.Int.{to_z-of_z}
 use Rattle.movement_log.proofs.logs.move_value.Goals as goal
 
 small_fits : (z : ℤ) → unsigned_abs z < 2 ^ 24 → FitsSigned w64 z
