@@ -1,5 +1,5 @@
 -- The definitions, run on two small charts.
-use Rattle.std.proofs.Common.{◌≡◌, ℕ, ℤ, pos, neg_ℤ, List, [], ◌∷◌, refl}
+use Rattle.std.proofs.Common.{◌≡◌, ℕ, ℤ, pos, neg_ℤ, [], ◌∷◌, refl}
 use Rattle.track_types.specs.Chart.{ChartView, chart_with}
 use Rattle.track_types.specs.Quantities.{anchors_of, distinct}
 use Rattle.track_types.specs.declared.row.Row.{Row}

@@ -1,5 +1,5 @@
 -- The blocks of a chart: their headers, their logs, and the alphabet that these use.
-use Rattle.std.specs.Prelude.{ℕ, suc, ◌+◌, ◌%◌, max, ℤ, pos, ◌+ℤ◌, Bool, ◌==◌, List, filter, fold, map}
+use Rattle.std.specs.Prelude.{ℕ, suc, ◌%◌, max, pos, ◌+ℤ◌, ◌==◌, List, filter, fold, map}
 use Rattle.std.specs.List.{flat_map, list_any, position_or_len, range_with_len}
 use Rattle.track_types.specs.Chart.{ChartView}
 use Rattle.track_types.specs.Quantities.{anchors_of, elapsed, first_of, log_length, objects_of, period_count, period_of, span_of}

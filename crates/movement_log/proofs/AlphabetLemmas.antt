@@ -1,0 +1,105 @@
+-- An alphabet: the place of a value in it, and that sorted values, each kept once, are the alphabet.
+use Rattle.std.proofs.Common.{◌≡◌, ◌≢◌, ℕ, zero, suc, ◌+◌, ◌<◌, ◌≤◌, true, List, [], ◌∷◌, length, get_or, arith, ◌∙◌, ap, add-one, eq-eqb, ne_eqb, inl, inr, eqb, zero-add, subst}
+use Rattle.std.specs.Prelude.{fold, max, ◌==◌}
+use Rattle.std.specs.List.{Contains, dedup, list_any, range_with_len}
+use Rattle.std.specs.List.Sorted.{IsPermutation, IsSorted, IsStrictlyIncreasing}
+use Rattle.std.specs.Ordering.{nat_cmp}
+use Rattle.std.proofs.lemmas.Bool.Decides.{nat_tests}
+use Rattle.std.proofs.lemmas.Bool.{cases_lt}
+use Rattle.std.proofs.lemmas.Cmp.{nat_cmp_total}
+use Rattle.std.proofs.lemmas.List.{get_or_default}
+use Rattle.std.proofs.lemmas.List.Folds.{Any-from_list_any, list_any_at}
+use Rattle.std.proofs.lemmas.List.FromFn.{get_or-range_with_len, length-range_with_len}
+use Rattle.std.proofs.lemmas.List.Kept.{Contains-dedup_nat, Contains-from_dedup, IsStrictlySortedBy-filter}
+use Rattle.std.proofs.lemmas.List.Sums.{position_or_len_is}
+use Rattle.std.proofs.lemmas.List.Sorted.{Contains-permutation, IsPermutation-sym}
+use Rattle.std.proofs.lemmas.Map.Keys.{IsStrictlyIncreasing-dedup, sorted_from_strictly_increasing}
+use Rattle.list_laws.proofs.MemberLemmas.{Contains-filter, member_of_filter}
+use Rattle.track_types.proofs.AscendingLemmas.{same_from_members}
+use Rattle.movement_log.specs.Logs.{ascending_of, terminal_of}
+
+-- numbers that rise from each to the next rise from each to any later one
+rises : (xs : List ℕ) → IsStrictlyIncreasing xs → (i j : ℕ) → i < j → j < length xs → get_or xs i 0 < get_or xs j 0
+rises xs up i zero below within = absurd (omega arith)
+rises xs up i (suc j) below within =
+    let next : get_or xs j 0 < get_or xs (suc j) 0 = rw (← add-one j) (up j (omega arith)) in
+    elim (cases_lt i j) [
+      | inl less ↦ let before = rises xs up i j less (omega arith) in omega arith
+      | inr not ↦ let is : i ≡ j = omega arith in let at = ap (λ k. get_or xs k 0) is in omega arith
+    ]
+
+pub rises_or_is : (xs : List ℕ) → IsStrictlyIncreasing xs → (i j : ℕ) → i ≤ j → j < length xs → get_or xs i 0 ≤ get_or xs j 0
+rises_or_is xs up i j below within =
+    elim (cases_lt i j) [
+      | inl less ↦ let before = rises xs up i j less within in omega arith
+      | inr not ↦ let is : i ≡ j = omega arith in let at = ap (λ k. get_or xs k 0) is in omega arith
+    ]
+
+-- a value's terminal is its place, and the alphabet's length where it has none
+pub terminal_at : (alphabet : List ℕ) (value place : ℕ) → IsStrictlyIncreasing alphabet → place < length alphabet →
+    get_or alphabet place 0 ≡ value → terminal_of alphabet value ≡ place
+terminal_at alphabet value place up within is =
+    position_or_len_is (λ other. other == value) alphabet place 0 (omega arith)
+    (λ k below. let less = rises alphabet up k place below within in ne_eqb (get_or alphabet k 0) value (λ e. omega arith))
+    (λ _. eq-eqb (get_or alphabet place 0) value is)
+
+pub terminal_none : (alphabet : List ℕ) (value : ℕ) → ((k : ℕ) → k < length alphabet → get_or alphabet k 0 ≢ value) →
+    terminal_of alphabet value ≡ length alphabet
+terminal_none alphabet value differ =
+    position_or_len_is (λ other. other == value) alphabet (length alphabet) 0 (omega arith)
+    (λ k below. ne_eqb (get_or alphabet k 0) value (differ k below)) (λ less. absurd (omega arith))
+
+-- numbers from one on rise
+range-rises : (a n : ℕ) → IsStrictlyIncreasing (range_with_len a n)
+range-rises a n k below =
+    let within : k + 1 < n = omega (arith, length-range_with_len a n) in
+    omega (arith, get_or-range_with_len a n k 0 (omega arith), get_or-range_with_len a n (k + 1) 0 within)
+
+-- a number of a list is at most the greatest of them
+fold-max-from : (a : ℕ) (xs : List ℕ) → a ≤ fold max a xs
+fold-max-from a [] = omega arith
+fold-max-from a (x ∷ xs) = let more = fold-max-from (max a x) xs in omega arith
+
+fold-max-above : (a : ℕ) (xs : List ℕ) (k : ℕ) → k < length xs → get_or xs k 0 ≤ fold max a xs
+fold-max-above a [] k below = absurd (omega arith)
+fold-max-above a (x ∷ xs) zero below = let more = fold-max-from (max a x) xs in omega arith
+fold-max-above a (x ∷ xs) (suc k) below = fold-max-above (max a x) xs k (omega arith)
+
+-- what is sorted, each number once, is the alphabet
+module _ (values sorted : List ℕ) (moved : IsPermutation values sorted) (up : IsSorted nat_cmp sorted) where
+  into : (n : ℕ) → Contains (dedup eqb sorted) n → Contains (ascending_of values) n
+  unfolding ascending_of
+  into n inside =
+      let member : Contains values n =
+      Contains-permutation sorted values n (IsPermutation-sym values sorted moved) (Contains-from_dedup eqb sorted n inside) in
+      let k : ℕ = member.0 in
+      let within : k < length values = member.1 in
+      let at : get_or values k n ≡ n = member.2 in
+      let here : (get_or values k n == n) ≡ true = eq-eqb (get_or values k n) n at in
+      let least = fold-max-above 0 values k within in
+      let same : get_or values k n ≡ get_or values k 0 = get_or_default values k n 0 within in
+      Contains-filter (λ m. list_any (λ x. x == m) values) (range_with_len 0 (suc (fold max 0 values))) n
+      (list_any_at (λ x. x == n) values k n within here)
+      (n, omega (arith, length-range_with_len 0 (suc (fold max 0 values))), get_or-range_with_len 0 (suc (fold max 0 values)) n n (omega arith) ∙ zero-add n)
+
+  back : (n : ℕ) → Contains (ascending_of values) n → Contains (dedup eqb sorted) n
+  unfolding ascending_of
+  back n inside =
+      let passes = (member_of_filter (λ m. list_any (λ x. x == m) values) (range_with_len 0 (suc (fold max 0 values))) n inside).1 in
+      let any = Any-from_list_any (λ x. x == n) values passes in
+      let k : ℕ = any.0 in
+      let x : ℕ = any.1 in
+      let within : k < length values = any.2 in
+      let at : get_or values k x ≡ x = any.3 in
+      let test : (x == n) ≡ true = any.4 in
+      let is : x ≡ n = grind (arith, nat_tests) in
+      Contains-dedup_nat sorted n (Contains-permutation values sorted n moved (subst (Contains values) is (k, within, at)))
+
+  pub ascending_of-dedup : dedup eqb sorted ≡ ascending_of values
+  unfolding ascending_of
+  ascending_of-dedup =
+      same_from_members nat_cmp_total (dedup eqb sorted) (ascending_of values)
+      (sorted_from_strictly_increasing (dedup eqb sorted) (IsStrictlyIncreasing-dedup sorted up))
+      (IsStrictlySortedBy-filter nat_cmp (λ n. list_any (λ x. x == n) values) (range_with_len 0 (suc (fold max 0 values)))
+      (sorted_from_strictly_increasing (range_with_len 0 (suc (fold max 0 values))) (range-rises 0 (suc (fold max 0 values)))))
+      into back

@@ -1,0 +1,129 @@
+-- Anchors of rows in order: a row is its block's anchor where the row before it is of another block.
+use Rattle.std.proofs.Common.{◌≡◌, ℕ, ℤ, suc, ◌+◌, ◌*◌, ◌/◌, ◌≤◌, ◌<◌, Bool, true, false, List, [], ◌∷◌, eq-eqb, get_or, length, refl, sym, ap, arith, inl, inr}
+use Rattle.std.specs.Prelude.{◌==◌, ◌&&◌, not, ◌<ℤ◌, ◌≤ℤ◌}
+use Rattle.std.specs.Int.Signed.{lt_z}
+use Rattle.std.specs.List.{list_any}
+use Rattle.std.proofs.Math.Nat.{mul-le-mul_left}
+use Rattle.std.proofs.lemmas.Bool.Decides.{nat_tests}
+use Rattle.std.proofs.lemmas.Bool.{and_parts, cases_Bool, cases_lt}
+use Rattle.std.proofs.lemmas.Int.{ints}
+use Rattle.std.proofs.lemmas.List.Folds.{list_any_at}
+use Rattle.track_types.specs.Quantities.{elapsed, is_anchor, is_same_block, period_of}
+use Rattle.track_types.specs.Row.{IsAscending}
+use Rattle.track_types.specs.declared.row.Row.{Row}
+use Rattle.movement_log.specs.Blocks.{no_row, row_at}
+use Rattle.movement_log.proofs.RowLemmas.{instant_rises, object_rises}
+
+-- a test that no place passes
+none_passes : {X : Type 0} (p : X → Bool) (d : X) (xs : List X) → ((k : ℕ) → k < length xs → p (get_or xs k d) ≡ false) →
+    list_any p xs ≡ false
+none_passes p d [] fails = refl
+none_passes p d (x ∷ xs) fails =
+    rw (fails 0 (omega arith), none_passes p d xs (λ k below. fails (suc k) (omega arith))) refl
+
+-- later instants have no smaller periods
+div_mono : (m n d : ℕ) → 0 < d → m ≤ n → m / d ≤ n / d
+div_mono m n d some below =
+    elim (cases_lt (n / d) (m / d)) [
+      | inl less ↦ let up : d * (n / d + 1) ≤ d * (m / d) = mul-le-mul_left d (let next : n / d + 1 ≤ m / d = omega arith in next) in absurd (omega arith)
+      | inr is ↦ is
+    ]
+
+module _ (first : ℤ) (period : ℕ) where
+  same_parts : (a b : Row) → is_same_block first period a b ≡ true →
+      (a.object ≡ b.object) × (period_of first period a ≡ period_of first period b)
+  same_parts a b same =
+      let parts = and_parts (a.object == b.object) (period_of first period a == period_of first period b) same in
+      (grind (arith, nat_tests, parts.0), grind (arith, nat_tests, parts.1))
+
+  same_from_parts : (a b : Row) → a.object ≡ b.object → period_of first period a ≡ period_of first period b →
+      is_same_block first period a b ≡ true
+  same_from_parts a b objects periods =
+      rw (eq-eqb a.object b.object objects, eq-eqb (period_of first period a) (period_of first period b) periods) refl
+
+  period_mono : (a b : Row) → 0 < period → first ≤ℤ a.instant → a.instant ≤ℤ b.instant →
+      period_of first period a ≤ period_of first period b
+  period_mono a b some begins later =
+      div_mono (elapsed first a) (elapsed first b) period some (grind (arith, ints))
+
+  -- whether another row of a row's block is earlier
+  abbrev pub is_before : Row → Row → Bool
+  is_before row other = is_same_block first period other row && lt_z other.instant row.instant
+
+  before_from : (row other : Row) → is_same_block first period other row ≡ true → other.instant <ℤ row.instant →
+      is_before row other ≡ true
+  before_from row other same less = let test : lt_z other.instant row.instant ≡ true = grind (arith, ints) in rw (same, test) refl
+
+  not_before : (row other : Row) → (is_same_block first period other row ≡ true → row.instant ≤ℤ other.instant) →
+      is_before row other ≡ false
+  not_before row other late = elim (cases_Bool (is_same_block first period other row)) [
+    | inl same ↦
+        let after : row.instant ≤ℤ other.instant = late same in
+        let test : lt_z other.instant row.instant ≡ false = grind (arith, ints) in rw (same, test) refl
+    | inr differ ↦ rw differ refl
+  ]
+
+  module _ (rows : List Row) (up : IsAscending rows) where
+    pub is_anchor-first : 0 < length rows → is_anchor first period rows (row_at rows 0) ≡ true
+    is_anchor-first some =
+        let row = row_at rows 0 in
+        let none : list_any (is_before row) rows ≡ false =
+        none_passes (is_before row) no_row rows
+        (λ k within. not_before row (row_at rows k) (λ same. elim (cases_lt 0 k) [
+          | inl later ↦
+              let objects = (same_parts (row_at rows k) row same).0 in
+              let more = instant_rises rows up 0 k later within (sym objects) in omega (arith, ints)
+          | inr not ↦ let is : 0 ≡ k = omega arith in let at = ap (λ i. (row_at rows i).instant) is in omega (arith, ints)
+        ])) in
+        ap not none
+
+    pub is_anchor-next : (i : ℕ) → i + 1 < length rows → 0 < period →
+        ((k : ℕ) → k < length rows → first ≤ℤ (row_at rows k).instant) →
+        is_anchor first period rows (row_at rows (i + 1))
+        ≡ not (is_same_block first period (row_at rows i) (row_at rows (i + 1)))
+    is_anchor-next i below some begins =
+        let before = row_at rows i in
+        let row = row_at rows (i + 1) in
+        elim (cases_Bool (is_same_block first period before row)) [
+          | inl same ↦
+              let objects = (same_parts before row same).0 in
+              let less = instant_rises rows up i (i + 1) (omega arith) below objects in
+              let any : list_any (is_before row) rows ≡ true =
+              list_any_at (is_before row) rows i no_row (omega arith) (before_from row before same less) in
+              rw same (ap not any)
+          | inr differ ↦
+              let none : list_any (is_before row) rows ≡ false =
+              none_passes (is_before row) no_row rows
+              (λ k within. not_before row (row_at rows k) (λ same. late i below some begins differ k within same)) in
+              rw differ (ap not none)
+        ]
+      where
+        -- where the row before is of another block, no row of the block is earlier
+        late : (i : ℕ) → i + 1 < length rows → 0 < period →
+            ((k : ℕ) → k < length rows → first ≤ℤ (row_at rows k).instant) →
+            is_same_block first period (row_at rows i) (row_at rows (i + 1)) ≡ false → (k : ℕ) → k < length rows →
+            is_same_block first period (row_at rows k) (row_at rows (i + 1)) ≡ true →
+            (row_at rows (i + 1)).instant ≤ℤ (row_at rows k).instant
+        late i below some begins differ k within same =
+            let parts = same_parts (row_at rows k) (row_at rows (i + 1)) same in
+            let objects : (row_at rows k).object ≡ (row_at rows (i + 1)).object = parts.0 in
+            let periods : period_of first period (row_at rows k) ≡ period_of first period (row_at rows (i + 1)) = parts.1 in
+            elim (cases_lt (i + 1) k) [
+              | inl later ↦ let more = instant_rises rows up (i + 1) k later within (sym objects) in omega (arith, ints)
+              | inr not ↦ elim (cases_lt k (i + 1)) [
+                | inr least ↦ let is : k ≡ i + 1 = omega arith in let at = ap (λ j. (row_at rows j).instant) is in omega (arith, ints)
+                | inl less ↦
+                    let low = object_rises rows up k i (omega arith) (omega arith) in
+                    let high = object_rises rows up i (i + 1) (omega arith) below in
+                    let alike : (row_at rows i).object ≡ (row_at rows (i + 1)).object = omega arith in
+                    let above : (row_at rows i).instant <ℤ (row_at rows (i + 1)).instant = instant_rises rows up i (i + 1) (omega arith) below alike in
+                    let from : (row_at rows k).instant ≤ℤ (row_at rows i).instant = elim (cases_lt k i) [
+                      | inl before ↦ let more = instant_rises rows up k i before (omega arith) (omega arith) in omega (arith, ints)
+                      | inr same_place ↦ let is : k ≡ i = omega arith in let at = ap (λ j. (row_at rows j).instant) is in omega (arith, ints)
+                    ] in
+                    let up_to = period_mono (row_at rows k) (row_at rows i) some (begins k within) from in
+                    let on = period_mono (row_at rows i) (row_at rows (i + 1)) some (begins i (omega arith)) (omega (arith, ints)) in
+                    let met = same_from_parts (row_at rows i) (row_at rows (i + 1)) alike (omega arith) in
+                    absurd (cc)
+              ]
+            ]

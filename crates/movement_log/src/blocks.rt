@@ -1,0 +1,112 @@
+ghost use Rattle.std.specs.Prelude.{◌≡◌, ◌-◌, ◌<◌, ◌≤◌, IfOk, OnOk, length, sum_by};
+ghost use Rattle.movement_log.specs.Blocks.{AreBlocks, anchors_by_object, log_length_of, object_place, place_of_object, row_at};
+ghost use Rattle.movement_log.specs.Logs.{block_anchors, head_of};
+ghost use Rattle.track_types.specs.Chart.{IsChart};
+ghost use Rattle.track_types.specs.Limits.{limit_of};
+ghost use Rattle.track_types.specs.Quantities.{elapsed, first_of, is_anchor, is_same_block, object_count, period_of, span_of};
+ghost use Rattle.track_types.specs.Row.{IsAscending};
+
+use crate::head::Head;
+use std::alloc::{AllocError, Global};
+use track_types::{Chart, LimitKind, Row};
+
+/// A block: its header, and its anchor's place among the chart's rows.
+#[derive(Clone, Copy)]
+pub(crate) struct Block {
+    pub(crate) head: Head,
+    pub(crate) at: usize,
+}
+
+/// The blocks of a chart, by period, then object.
+pub(crate) fn blocks_of(alloc: Global, chart: &Chart) -> Result<Vec<Block>, AllocError>
+    ensures ok { IfOk result (λ blocks. AreBlocks chart.now (block_anchors chart.now) blocks.items) }
+    ensures few { OnOk result (sum_by (log_length_of chart.now) (block_anchors chart.now) ≤ limit_of LimitKind.Symbols) }
+{
+    let mut blocks = blocks_by_object(alloc, chart)?;
+    // A stable sort: the blocks of a period stay in the order of their objects.
+    blocks.sort_by_key(|block| block.head.period)?;
+    Ok(blocks)
+}
+
+// The blocks by object, then period.
+fn blocks_by_object(alloc: Global, chart: &Chart) -> Result<Vec<Block>, AllocError>
+    ensures ok { IfOk result (λ blocks. AreBlocks chart.now (anchors_by_object chart.now) blocks.items) }
+    ensures chart { OnOk result (IsChart chart.now) }
+{
+    let rows = chart.rows();
+    let mut blocks = Vec::new(alloc);
+    let mut index = 0;
+    for at in 0..rows.len() {
+        index = object_index(rows, at, index);
+        if is_anchor(chart, at) {
+            let head = head_of(chart, &rows[at], index);
+            blocks.push(Block { head, at })?;
+        }
+    }
+    Ok(blocks)
+}
+
+// The place of a row's object among all objects, where `before` is that of the row before.
+fn object_index(rows: &[Row], at: usize, before: u32) -> u32
+    requires within { at < length rows.now }
+    requires ascending { IsAscending rows.now }
+    requires few { object_count rows.now ≤ limit_of LimitKind.Objects }
+    requires before { before ≡ object_place rows.now (at - 1) }
+    ensures { result ≡ object_place rows.now at }
+{
+    if at > 0 && rows[at - 1].object != rows[at].object {
+        before + 1
+    } else {
+        before
+    }
+}
+
+// Whether a row is its block's anchor: the row before it, if there is one, is of another block.
+fn is_anchor(chart: &Chart, at: usize) -> bool
+    requires { at < length chart.now.rows }
+    ensures { result ≡ is_anchor (first_of chart.now.rows) chart.now.period chart.now.rows (row_at chart.now.rows at) }
+{
+    let rows = chart.rows();
+    at == 0 || !is_same_block(chart, &rows[at - 1], &rows[at])
+}
+
+// The header of an anchor's block.
+fn head_of(chart: &Chart, anchor: &Row, index: u32) -> Head
+    requires inside { elapsed (first_of chart.now.rows) anchor.now < span_of chart.now.rows }
+    requires index { index ≡ place_of_object chart.now.rows anchor.now.object }
+    ensures { result ≡ head_of chart.now anchor.now }
+{
+    let elapsed = anchor.instant.abs_diff(chart.first()) as u32;
+    Head {
+        period: elapsed / chart.period(),
+        index,
+        offset: elapsed % chart.period(),
+        cell: anchor.cell,
+    }
+}
+
+fn is_same_block(chart: &Chart, a: &Row, b: &Row) -> bool
+    ensures { result ≡ is_same_block (first_of chart.now.rows) chart.now.period a.now b.now }
+{
+    a.object == b.object && period_of(chart, a) == period_of(chart, b)
+}
+
+// The period of a row, from 0.
+fn period_of(chart: &Chart, row: &Row) -> u64
+    ensures { result ≡ period_of (first_of chart.now.rows) chart.now.period row.now }
+{
+    row.instant.abs_diff(chart.first()) / u64::from(chart.period())
+}
+
+/// How many terminals a block's log has: one for each later instant of its period, of which the
+/// last one ends where the chart does.
+pub(crate) fn log_length(chart: &Chart, anchor: &Row) -> usize
+    requires inside { elapsed (first_of chart.now.rows) anchor.now < span_of chart.now.rows }
+    ensures { result ≡ log_length_of chart.now anchor.now }
+{
+    let elapsed = anchor.instant.abs_diff(chart.first());
+    let span = chart.last().abs_diff(chart.first()) + 1;
+    let period = u64::from(chart.period());
+    let period_end = (elapsed / period + 1) * period;
+    (period_end.min(span) - (elapsed + 1)) as usize
+}
