@@ -3,10 +3,9 @@ use Rattle.std.proofs.Common.{◌≡◌, ℕ, zero, suc, ℤ, pos, ◌+ℤ◌, L
 use Rattle.std.proofs.lemmas.Int.{ints}
 use Rattle.std.proofs.lemmas.Grind.{flat_map-append}
 use Rattle.std.specs.Option.{option_to_list}
-use Rattle.std.specs.Prelude.{Option}
 use Rattle.spiral_code.specs.Spiral.{move_of}
 use Rattle.track_types.specs.declared.cell.Cell.{Cell}
-use Rattle.rule_store.specs.Cells.{cell_at, cells_along, displacement_of, moved, movement_of, present_in}
+use Rattle.rule_store.specs.Cells.{cell_at, cells_along, displacement_of, moved, present_in}
 use Rattle.rule_store.specs.Boxes.{origin}
 
 -- cells of the same column and line are the same

@@ -1,5 +1,5 @@
 -- The definitions, run on worked values.
-use Rattle.std.proofs.Common.{◌≡◌, ℕ, pos, neg_ℤ, List, [], ◌∷◌, Some, None, refl}
+use Rattle.std.proofs.Common.{◌≡◌, [], ◌∷◌, refl}
 use Rattle.rule_store.specs.View.{RulesView, rules_with}
 use Rattle.rule_store.specs.Expansion.{expansion_of, depth_of, depth_in}
 use Rattle.list_laws.specs.Grown.{grown}

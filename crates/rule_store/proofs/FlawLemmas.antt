@@ -1,10 +1,9 @@
 -- What follows from no flaw: short movements, sound rules and known symbols.
-use Rattle.std.proofs.Common.{◌≡◌, ℕ, zero, suc, ◌+◌, ◌-◌, ◌*◌, ◌^◌, ◌<◌, ◌≤◌, true, false, List, length, Option, Some, None, refl, ap, sym, ◌∙◌, arith, inl, inr}
-use Rattle.std.specs.Prelude.{Bool, slice_index, not, ◌&&◌, ◌||◌, nat_lt, nat_le}
+use Rattle.std.proofs.Common.{◌≡◌, ℕ, zero, suc, ◌+◌, ◌-◌, ◌*◌, ◌^◌, ◌<◌, ◌≤◌, true, false, List, length, Option, Some, None, refl, arith, inl, inr}
+use Rattle.std.specs.Prelude.{Bool, slice_index, not, ◌||◌, nat_lt, nat_le}
 use Rattle.std.specs.Option.{option_map, option_or}
-use Rattle.std.specs.List.{range_with_len}
 use Rattle.std.proofs.Math.Nat.{one-le-pow, pow-le-pow_right}
-use Rattle.std.proofs.lemmas.Bool.{and_from, and_left, and_parts, and_right, cases_Bool, cases_lt, le-leb, leb-false, or_from, or_left, or_right, lt-ltb, le-ltb, ltb-false, ltb-true, not-false, or_parts}
+use Rattle.std.proofs.lemmas.Bool.{and_parts, and_right, cases_Bool, cases_lt, le-leb, leb-false, lt-ltb, le-ltb, ltb-false, ltb-true, not-false, or_parts}
 use Rattle.spiral_code.specs.Spiral.{move_of, ring_of, square}
 use Rattle.spiral_code.proofs.SpiralLemmas.{move_of-below}
 use Rattle.track_types.specs.declared.cell_box.CellBox.{CellBox}

@@ -1,5 +1,5 @@
 -- Parse trees, and how many of their nodes a walk opens: symbol by symbol, and of a rule by its parts.
-use Rattle.std.proofs.Common.{◌≡◌, ℕ, zero, suc, ◌+◌, ◌<◌, ℤ, pos, ◌+ℤ◌, Bool, true, false, List, [], ◌∷◌, ◌++◌, length, map, get_or, refl, ap, sym, ◌∙◌, arith, inl, inr, zero-add}
+use Rattle.std.proofs.Common.{◌≡◌, ℕ, suc, ◌+◌, ◌<◌, ℤ, pos, ◌+ℤ◌, Bool, true, false, List, [], ◌∷◌, ◌++◌, length, map, get_or, refl, ap, sym, ◌∙◌, arith, inl, inr, zero-add}
 use Rattle.std.specs.Prelude.{◌&&◌, filter}
 use Rattle.std.specs.Int.Signed.{le_z}
 use Rattle.std.specs.List.{range_with_len}
@@ -18,7 +18,7 @@ use Rattle.rule_store.proofs.ExpansionLemmas.{expansion_of-rule}
 use Rattle.rule_store.specs.Expansion.{expansion_of}
 use Rattle.rule_store.specs.Entry.{duration_of}
 use Rattle.rule_store.specs.Flaws.{rule_at}
-use Rattle.rule_store.specs.Nodes.{Node, Parsed, after, has_box, is_opened, leaf, meets, nodes_in, opened_count, parsed, parsed_with, unparsed}
+use Rattle.rule_store.specs.Nodes.{Node, Parsed, after, has_box, is_opened, leaf, nodes_in, opened_count, parsed, parsed_with, unparsed}
 
 -- after two lists of terminals
 after-after : (xs ys : List ℕ) (node : Node) → after xs (after ys node) ≡ after (xs ++ ys) node
@@ -116,7 +116,7 @@ module _ (view : RulesView) where
       (map-map terminals leaf (range_with_len 0 (length view.alphabet)))
 
   -- the node of a rule, in a block whose anchor is at some instant: its instants meet the window, and it has a box
-  pub opens : ℤ → ℤ → ℤ → ℕ → Bool
+  abbrev pub opens : ℤ → ℤ → ℤ → ℕ → Bool
   opens instant from to symbol =
       is_opened view instant from to (record { before = []; inside = expansion_of view symbol })
 
@@ -169,13 +169,13 @@ module _ (view : RulesView) where
     pub opened_count-opened : opens instant from to (length view.alphabet + j) ≡ true →
         opened_count view instant ((length view.alphabet + j) ∷ log) from to
         ≡ suc (opened_count view instant (left ∷ right ∷ log) from to)
-    unfolding opened_count opens
+    unfolding opened_count
     opened_count-opened opened =
         ap (λ nodes. length (filter (is_opened view instant from to) nodes)) all_nodes ∙ rw opened refl
 
     pub opened_count-shut : opens instant from to (length view.alphabet + j) ≡ false →
         opened_count view instant ((length view.alphabet + j) ∷ log) from to
         ≡ opened_count view instant (left ∷ right ∷ log) from to
-    unfolding opened_count opens
+    unfolding opened_count
     opened_count-shut shut =
         ap (λ nodes. length (filter (is_opened view instant from to) nodes)) all_nodes ∙ rw shut refl

@@ -1,5 +1,5 @@
 -- The first flaw of an alphabet, rules and symbols that cannot be those of an index.
-use Rattle.std.specs.Prelude.{◌≡◌, ℕ, ◌+◌, ◌-◌, ◌^◌, max, unsigned_abs, Bool, false, not, ◌&&◌, ◌||◌, nat_le, nat_lt, List, length, find, slice_index, slice_index_or, Option, Some, None, ⊤}
+use Rattle.std.specs.Prelude.{◌≡◌, ℕ, ◌+◌, ◌-◌, ◌^◌, Bool, false, not, ◌&&◌, ◌||◌, nat_le, nat_lt, List, length, find, slice_index, slice_index_or, Option, Some, None, ⊤}
 use Rattle.std.specs.Option.{option_map, option_or}
 use Rattle.std.specs.List.{range_with_len}
 use Rattle.spiral_code.specs.Spiral.{ring_of}

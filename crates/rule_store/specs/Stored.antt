@@ -1,5 +1,5 @@
 -- What a rule store keeps of each symbol, packed into 32 bytes, and what its entries are to its rules.
-use Rattle.std.specs.Prelude.{◌≡◌, ℕ, ◌+◌, ◌^◌, ◌<◌, ◌≤◌, ◌≤ℤ◌, ◌<ℤ◌, List, length, get_or, Option, Some, None}
+use Rattle.std.specs.Prelude.{◌≡◌, ℕ, ◌^◌, ◌<◌, ◌≤◌, ◌<ℤ◌, List, length, get_or, Option, Some, None}
 use Rattle.track_types.specs.declared.cell_box.CellBox.{CellBox}
 use Rattle.rule_store.specs.View.{RulesView, rules_with, symbols_in}
 use Rattle.rule_store.specs.Expansion.{depth_in, depth_of, values_of}

@@ -1,4 +1,4 @@
-use Rattle.std.proofs.Common.{◌≡◌, [], ◌∙◌, sym, rules, arith}
+use Rattle.std.proofs.Common.{◌≡◌, [], ◌∙◌, sym, rules}
 use Rattle.std.proofs.lemmas.Int.{clamps, ints, to_z-of_z}
 use Rattle.std.proofs.lemmas.List.{append-nil}
 use Rattle.rule_store.proofs.BoxLemmas.{box_round-append, box_round-none}

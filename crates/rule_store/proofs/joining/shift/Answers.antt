@@ -1,4 +1,4 @@
-use Rattle.std.proofs.Common.{◌≡◌, ◌∙◌, sym, arith}
+use Rattle.std.proofs.Common.{◌∙◌, sym, arith}
 use Rattle.std.proofs.lemmas.Int.{ints}
 use Rattle.track_types.specs.Near.{IsBoxWithin}
 use Rattle.rule_store.proofs.BoxLemmas.{box_round-moved, box_round-moved_none}

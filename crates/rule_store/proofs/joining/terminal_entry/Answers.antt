@@ -1,6 +1,5 @@
-use Rattle.std.proofs.Common.{◌≡◌, ◌<◌, ◌-◌, [], ◌∷◌, ◌∙◌, sym, refl, arith}
+use Rattle.std.proofs.Common.{◌<◌, [], ◌∷◌, refl, arith}
 use Rattle.std.proofs.lemmas.Int.{ints}
-use Rattle.spiral_code.specs.Spiral.{move_of}
 use Rattle.rule_store.proofs.PackLemmas.{bounding_box_of-move, displacement_of-move, entry_with-absence, is_move_of, same_entry}
 use Rattle.rule_store.proofs.joining.terminal_entry.Goals as goal
 

@@ -1,7 +1,6 @@
-use Rattle.std.proofs.Common.{◌≡◌, ◌∙◌, false, Some, sym, arith}
+use Rattle.std.proofs.Common.{◌≡◌, false, Some, arith}
 use Rattle.std.proofs.lemmas.Int.{ints}
 use Rattle.rule_store.specs.Flaws.{box_passes}
-use Rattle.rule_store.specs.Stored.{IsHull}
 use Rattle.rule_store.proofs.FlawLemmas.{box_passes-false}
 use Rattle.rule_store.proofs.packed_box.PackedBox.pack.Goals as goal
 

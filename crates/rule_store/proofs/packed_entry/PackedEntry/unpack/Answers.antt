@@ -1,4 +1,4 @@
-use Rattle.std.proofs.Common.{refl, arith, sym, ◌∙◌}
+use Rattle.std.proofs.Common.{refl, arith}
 use Rattle.std.proofs.lemmas.Int.{ints}
 use Rattle.rule_store.specs.Boxes.{bounding_box_of}
 use Rattle.rule_store.proofs.PackLemmas.{same_entry, same_hull}

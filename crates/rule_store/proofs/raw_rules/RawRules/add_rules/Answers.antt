@@ -1,6 +1,6 @@
-use Rattle.std.proofs.Common.{◌≡◌, ◌+◌, ◌<◌, ◌++◌, ◌∷◌, [], below_more, length, arith, sym, ◌∙◌, ap, subst}
+use Rattle.std.proofs.Common.{◌∷◌, [], below_more, length, arith, sym, ap}
 use Rattle.std.proofs.lemmas.List.{length-append}
-use Rattle.rule_store.specs.Stored.{AreEntries, IsEntryOf, view_of}
+use Rattle.rule_store.specs.Stored.{view_of}
 use Rattle.rule_store.proofs.FlawLemmas.{rule_flaw-at, rule_flaw-none}
 use Rattle.rule_store.proofs.StoredLemmas.{entries-more}
 use Rattle.rule_store.proofs.raw_rules.RawRules.add_rules.Goals as goal

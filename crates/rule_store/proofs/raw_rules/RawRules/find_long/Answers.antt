@@ -1,4 +1,4 @@
-use Rattle.std.proofs.Common.{◌≡◌, ◌+◌, ◌*◌, ◌<◌, ◌≤◌, arith, below_more, get_or, sym}
+use Rattle.std.proofs.Common.{◌+◌, ◌*◌, ◌<◌, ◌≤◌, arith, below_more, get_or, sym}
 use Rattle.spiral_code.specs.Spiral.{square}
 use Rattle.rule_store.specs.Flaws.{reach_limit}
 use Rattle.rule_store.proofs.FlawLemmas.{code_flaw-at, code_flaw-none, is_long-above, is_long-below}

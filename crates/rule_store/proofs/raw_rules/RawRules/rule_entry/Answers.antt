@@ -1,9 +1,7 @@
-use Rattle.std.proofs.Common.{◌≡◌, ◌+◌, ◌<◌, ◌≤◌, ◌++◌, length, get_or, true, false, arith, sym, ◌∙◌, ap, refl}
-use Rattle.rule_store.specs.Entry.{entry_of, entry_with}
-use Rattle.rule_store.specs.Expansion.{values_of}
-use Rattle.rule_store.specs.Flaws.{box_passes, is_far, rule_at}
+use Rattle.std.proofs.Common.{◌≡◌, ◌+◌, ◌<◌, length, true, false, arith, sym, ◌∙◌, ap, refl}
+use Rattle.rule_store.specs.Entry.{entry_of}
+use Rattle.rule_store.specs.Flaws.{is_far, rule_at}
 use Rattle.rule_store.specs.Stored.{IsEntryOf, view_of}
-use Rattle.rule_store.proofs.ExpansionLemmas.{depth_of-rule, values_of-rule}
 use Rattle.rule_store.proofs.FlawLemmas.{box_passes-higher, flawed_rule-left, flawed_rule-right, near_entry, reach_limit-high, rule_flawed-by_entry}
 use Rattle.rule_store.proofs.StoredLemmas.{entry_of-rule, is_entry_of-rule}
 use Rattle.rule_store.proofs.raw_rules.RawRules.rule_entry.Goals as goal

@@ -1,9 +1,7 @@
-use Rattle.std.proofs.Common.{◌≡◌, ◌+◌, ◌-◌, ◌*◌, ◌^◌, ◌<◌, ◌≤◌, ◌++◌, ◌∷◌, [], ℕ, length, get_or, false, arith, sym, ◌∙◌, ap, mul-le-mul}
+use Rattle.std.proofs.Common.{◌+◌, ◌-◌, ◌*◌, ◌^◌, ◌<◌, ◌≤◌, ◌∷◌, [], length, get_or, arith, sym, ◌∙◌, ap, mul-le-mul}
 use Rattle.std.proofs.lemmas.List.{length-append}
 use Rattle.spiral_code.specs.Spiral.{ring_of, square}
-use Rattle.rule_store.specs.Entry.{entry_with}
-use Rattle.rule_store.specs.Expansion.{values_of}
-use Rattle.rule_store.specs.Flaws.{box_passes, is_long, reach_limit}
+use Rattle.rule_store.specs.Flaws.{reach_limit}
 use Rattle.rule_store.specs.Stored.{IsEntryOf, IsPacked, view_of}
 use Rattle.rule_store.proofs.ExpansionLemmas.{depth_of-terminal, values_of-terminal}
 use Rattle.rule_store.proofs.FlawLemmas.{box_passes-higher, is_long-below, reach_limit-high, value-short}

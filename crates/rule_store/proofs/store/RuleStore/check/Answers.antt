@@ -1,7 +1,7 @@
-use Rattle.std.proofs.Common.{◌≡◌, None, ap, max, arith, subst, sym, ◌∙◌}
+use Rattle.std.proofs.Common.{◌≡◌, None, ap, max, subst, sym, ◌∙◌}
 use Rattle.std.specs.Prelude.{fold}
 use Rattle.rule_store.specs.declared.packed_entry.PackedEntry.{PackedEntry}
-use Rattle.rule_store.specs.Flaws.{AreRules, rule_flaw}
+use Rattle.rule_store.specs.Flaws.{rule_flaw}
 use Rattle.rule_store.specs.Stored.{IsStored}
 use Rattle.rule_store.specs.View.{IsShaped, RulesView, rules_with}
 use Rattle.rule_store.proofs.FlawLemmas.{rules_flaw-none}

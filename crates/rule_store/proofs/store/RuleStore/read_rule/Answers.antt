@@ -1,4 +1,4 @@
-use Rattle.std.proofs.Common.{◌≡◌, ◌-◌, Some, ap, length, ◌∙◌}
+use Rattle.std.proofs.Common.{◌≡◌, ◌-◌, ap, length, ◌∙◌}
 use Rattle.rule_store.specs.Flaws.{AreRules}
 use Rattle.rule_store.proofs.StoredLemmas.{read_rule}
 use Rattle.rule_store.proofs.store.RuleStore.read_rule.Goals as goal

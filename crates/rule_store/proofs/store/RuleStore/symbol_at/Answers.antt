@@ -1,4 +1,4 @@
-use Rattle.std.proofs.Common.{◌≡◌, ◌<◌, ap, get_or, sym}
+use Rattle.std.proofs.Common.{◌≡◌, ap, get_or}
 use Rattle.std.proofs.lemmas.Option.{get_or_from_slice_get}
 use Rattle.rule_store.specs.Flaws.{AreRules}
 use Rattle.rule_store.specs.View.{symbols_in}
