@@ -1,11 +1,12 @@
 -- What is left of a walk over the stops of a block.
-use Rattle.std.specs.Prelude.{ℕ, ◌+◌, ℤ, List, [], ◌∷◌, ◌++◌, Option}
+use Rattle.std.specs.Prelude.{◌≡◌, ℕ, ◌+◌, ◌*◌, ◌≤◌, ℤ, List, [], ◌∷◌, ◌++◌, length, Option, None}
 use Rattle.std.specs.Option.{option_to_list}
 use Rattle.track_types.specs.declared.stop.Stop.{Stop}
 use Rattle.rule_store.specs.View.{RulesView}
 use Rattle.rule_store.specs.Log.{block_stops, in_window, stops_after}
 use Rattle.rule_store.specs.Nodes.{block_budget, opened_count}
 use Rattle.log_cursor.specs.Pending.{PendingView}
+use Rattle.log_cursor.specs.Start.{IsWayOf}
 use Rattle.log_cursor.specs.declared.start.Start.{Start}
 
 -- the rules, the stops that are left, and how many reads are still to be made for them at most
@@ -41,3 +42,17 @@ walk_of pending anchor start from to = record {
   stops = option_to_list anchor ++ stops_left pending.rules from to start pending.symbols;
   reads = pending.unread + opened_left pending.rules from to start pending.symbols;
 }
+
+-- What a walk that has not begun a block's next stop has done: its anchor is gone, and what it passed over or opened left
+-- the same stops, for reads from its budget.
+pub record IsWalking (first : WalkView) (before : ℕ) (pending : PendingView) (anchor : Option Stop) (at : Start)
+    (from to : ℤ) (steps : ℕ) : Type 0 where
+  pub none : anchor ≡ None
+  pub way : IsWayOf pending.rules at pending.symbols
+  pub same : pending.rules ≡ first.rules
+  pub stops : first.stops ≡ stops_left pending.rules from to at pending.symbols
+  pub reads : steps + (pending.unread + opened_left pending.rules from to at pending.symbols) ≤ before + first.reads
+
+-- how often a walk still turns at most: a symbol that is opened gives way to two
+abbrev pub turns_of : PendingView → Start → ℤ → ℤ → ℕ
+turns_of pending at from to = 2 * opened_left pending.rules from to at pending.symbols + length pending.symbols

@@ -1,5 +1,5 @@
-ghost use Rattle.std.specs.Prelude.{◌≡◌, ◌++◌, ◌+◌, ◌≤◌, [], IfNone, IfOk, option_to_list};
-ghost use Rattle.rule_store.specs.Log.{log_of};
+ghost use Rattle.std.specs.Prelude.{◌≡◌, ◌++◌, ◌+◌, ◌≤◌, [], ◌∷◌, IfNone, IfOk, option_to_list};
+ghost use Rattle.rule_store.specs.Log.{in_window, log_of, stop_at};
 ghost use Rattle.log_cursor.specs.Start.{IsPlaced};
 ghost use Rattle.log_cursor.specs.Walk.{at_rest, begun};
 
@@ -70,13 +70,7 @@ impl<'a> BlockWalk<'a> {
         ensures { self.new ≡ begun view.entry.rules.now (log_of view.entry) start from to }
     {
         self.pending.begin(view);
-        self.anchor = None;
-        if from <= start.instant && start.instant <= to {
-            self.anchor = Some(Stop {
-                instant: start.instant,
-                cell: start.cell,
-            });
-        }
+        self.anchor = stop_within(start, from, to);
         self.at = start;
         self.from = from;
         self.to = to;
@@ -118,4 +112,18 @@ impl<'a> Lazy for BlockWalk<'a> {
         }
         None
     }
+}
+
+// The stop at an anchor, if its instant is in a window.
+fn stop_within(start: Start, from: i64, to: i64) -> Option<Stop>
+    ensures { option_to_list result
+        ≡ in_window from to (stop_at start.instant start.cell ∷ []) }
+{
+    if start.instant < from || to < start.instant {
+        return None;
+    }
+    Some(Stop {
+        instant: start.instant,
+        cell: start.cell,
+    })
 }
