@@ -5,10 +5,11 @@ use Rattle.std.proofs.lemmas.List.{append_assoc}
 use Rattle.track_types.specs.declared.cell.Cell.{Cell}
 use Rattle.rule_store.specs.View.{RulesView, symbols_in}
 use Rattle.rule_store.specs.Expansion.{depth_in, depth_of, depths, values_of}
-use Rattle.rule_store.specs.Flaws.{left_of, right_of}
+use Rattle.rule_store.specs.Flaws.{AreRules, left_of, right_of}
 use Rattle.rule_store.specs.Log.{log_values, stops_after}
 use Rattle.rule_store.specs.Nodes.{opened_count}
 use Rattle.rule_store.proofs.ExpansionLemmas.{depth_of-rule, length-depths, values_of-rule}
+use Rattle.rule_store.proofs.FlawLemmas.{no_flaws, rule-sound}
 use Rattle.rule_store.proofs.LogLemmas.{stops_after-rule}
 use Rattle.rule_store.proofs.NodeLemmas.{opened_count-opened, opens}
 
@@ -26,6 +27,13 @@ fold_max-each (other ∷ numbers) n (suc place) = fold_max-each numbers (max n o
 pub depth_of-deepest : (rules : RulesView) (symbol : ℕ) → depth_of rules symbol ≤ depth_in rules
 unfolding depth_of depth_in
 depth_of-deepest rules symbol = fold_max-each (depths (length rules.alphabet) rules.rules) 0 symbol
+
+-- the parts of a rule are below it
+pub parts-below : (rules : RulesView) (symbol : ℕ) → AreRules rules → length rules.alphabet ≤ symbol →
+    symbol < symbols_in rules → (left_of rules symbol < symbol) × (right_of rules symbol < symbol)
+parts-below rules symbol sound rule known =
+    let own = rule-sound rules (symbol - length rules.alphabet) (no_flaws rules sound.flawless).rules (omega arith) in
+    (omega (arith, own.left), omega (arith, own.right))
 
 module _ (rules : RulesView) (symbol : ℕ) (rule : length rules.alphabet ≤ symbol) (known : symbol < symbols_in rules)
     (left_below : left_of rules symbol < symbol) (right_below : right_of rules symbol < symbol) where

@@ -47,7 +47,7 @@ pub reverse-push : (stack : List ℕ) (symbol : ℕ) (rest : List ℕ) →
 reverse-push stack symbol rest = ap (λ symbols. symbols ++ rest) (reverse-append stack (symbol ∷ []))
 
 -- the entry of a symbol is its own
-own_symbol : (rules : RulesView) (symbol : ℕ) (entry : Entry) → entry ≡ entry_of rules symbol → entry.symbol ≡ symbol
+pub own_symbol : (rules : RulesView) (symbol : ℕ) (entry : Entry) → entry ≡ entry_of rules symbol → entry.symbol ≡ symbol
 unfolding entry_of
 own_symbol rules symbol entry is = ap (λ (e : Entry). e.symbol) is
 
@@ -138,7 +138,7 @@ nothing = None
 
 pub no_part : (stack : List ℕ) → (IsSome nothing ↔ (0 < length stack)) → stack ≡ []
 no_part [] found = refl
-no_part (symbol ∷ stack) found = absurd (found.1 (omega arith))
+no_part (symbol ∷ stack) found = let some : IsSome nothing = found.1 (omega arith) in absurd (cc)
 
 pub no_part_left : (stack rest : List ℕ) → stack ≡ [] → rest ≡ take (length stack - 1) stack → rest ≡ []
 no_part_left stack rest none left = left ∙ ap (λ s. take (length s - 1) s) none
