@@ -1,6 +1,7 @@
 -- One turn of a walk over a window: a symbol is passed over, is opened, or has the next stop.
 use Rattle.std.proofs.Common.{◌≡◌, ℕ, suc, ◌+◌, ◌*◌, ◌<◌, ◌≤◌, ℤ, pos, ◌+ℤ◌, ◌≤ℤ◌, ◌<ℤ◌, Bool, true, false, List, [], ◌∷◌, ◌++◌, length, filter, Option, Some, None, refl, ap, sym, subst, ◌∙◌, arith, inl, inr}
 use Rattle.std.specs.Option.{is_some, option_to_list}
+use Rattle.track_types.specs.declared.cell_box.CellBox.{CellBox}
 use Rattle.std.specs.Int.Signed.{le_z}
 use Rattle.std.specs.Prelude.{slice_index}
 use Rattle.std.proofs.lemmas.List.{length-map}
@@ -45,17 +46,17 @@ window-one from to instant cell between = rw between refl
 -- a walk that was begun
 pub walk_of-begun : (pending : PendingView) (anchor : Option Stop) (start : Start) (from to : ℤ) (rules : RulesView)
     (log : List ℕ) → pending.rules ≡ rules → pending.symbols ≡ log → pending.unread ≡ length log →
-    option_to_list anchor ≡ in_window from to (stop_at start.instant start.cell ∷ []) →
-    walk_of pending anchor start from to ≡ begun rules log start from to
+    option_to_list anchor ≡ in_window from to (stop_at start.instant start.cell ∷ []) → (a b : ℤ) → a ≡ from →
+    b ≡ to → walk_of pending anchor start a b ≡ begun rules log start from to
 unfolding in_window block_stops block_budget
-walk_of-begun pending anchor start from to rules log rules_are symbols unread first =
+walk_of-begun pending anchor start from to rules log rules_are symbols unread first a b low high =
     let stop = stop_at start.instant start.cell in
     let test : Stop → Bool = λ stop. is_between from to stop.instant in
     let stops : option_to_list anchor ++ stops_left rules from to start log
     ≡ filter test (stop ∷ stops_after rules start.instant start.cell log) =
     ap (λ stops. stops ++ stops_left rules from to start log) first
     ∙ sym (filter-append test (stop ∷ []) (stops_after rules start.instant start.cell log)) in
-    rw (rules_are, symbols, unread)
+    rw (low, high, rules_are, symbols, unread)
     (ap (λ stops. record {
       rules = rules;
       stops = stops;
@@ -72,6 +73,19 @@ walk_of-none pending start from to rules rules_are symbols unread =
     ap (filter test) (stops_after-none rules start.instant start.cell) in
     rw (rules_are, symbols, unread, opened_count-none rules start.instant from to)
     (ap (λ stops. record { rules = rules; stops = stops; reads = 0 }) stops)
+
+-- no symbols have no stops
+pub stops_left-end : (rules : RulesView) (from to : ℤ) (start : Start) (symbols : List ℕ) → symbols ≡ [] →
+    stops_left rules from to start symbols ≡ []
+unfolding in_window
+stops_left-end rules from to start symbols end =
+    ap (λ s. stops_left rules from to start s) end
+    ∙ ap (filter (λ stop. is_between from to stop.instant)) (stops_after-none rules start.instant start.cell)
+
+-- what a test for a box says
+pub none_unless : (hull : Option CellBox) → is_some hull ≡ false → hull ≡ None
+none_unless None none = refl
+none_unless (Some area) none = absurd (cc)
 
 le_z-from : (a b : ℤ) → a ≤ℤ b → le_z a b ≡ true
 le_z-from a b below = grind (arith, ints)

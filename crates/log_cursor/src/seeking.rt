@@ -35,12 +35,14 @@ pub fn seek<L: Ledger>(
     if instant <= start.instant {
         return if instant == start.instant { Some(start.cell) } else { None };
     }
+    let rules = view.rules();
+    let _ = rules.sizes(); // tells what holds of all rules, which bounds the instants
     let mut at = start;
     for i in 0..view.len() {
         let entry = view.entry(i, steps);
         let next = at.after(&entry);
         if instant <= next.instant {
-            return cell_within(view.rules(), entry, at, instant, steps);
+            return cell_within(rules, entry, at, instant, steps);
         }
         at = next;
     }
