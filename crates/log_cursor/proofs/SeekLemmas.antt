@@ -131,6 +131,7 @@ module _ (rules : RulesView) (instant : ℤ) (start : Start) (symbol : ℕ) wher
     where
       own : List Stop
       own = stops_from (start.instant +ℤ pos 1) (cells_along start.cell (values_of rules symbol))
+
       kept : (symbols : List ℕ) → filter (is_stop_at instant) (stops_after rules start.instant start.cell
           (symbol ∷ symbols)) ≡ filter (is_stop_at instant) own
       kept symbols =

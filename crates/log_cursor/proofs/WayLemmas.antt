@@ -191,7 +191,7 @@ least-each f z (cell ∷ cells) =
     let here : int_min z (f cell) ≤ℤ f cell = grind (arith, ints) in (
       omega (arith, ints, rest.0, low),
       All-cons (λ c. fold int_min (int_min z (f cell)) (map f cells) ≤ℤ f c) cell cells
-      (omega (arith, ints, rest.0, here)) rest.1,
+          (omega (arith, ints, rest.0, here)) rest.1,
     )
 
 greatest-each : (f : Cell → ℤ) (z : ℤ) (cells : List Cell) →
@@ -203,7 +203,7 @@ greatest-each f z (cell ∷ cells) =
     let here : f cell ≤ℤ int_max z (f cell) = grind (arith, ints) in (
       omega (arith, ints, rest.0, high),
       All-cons (λ c. f c ≤ℤ fold int_max (int_max z (f cell)) (map f cells)) cell cells
-      (omega (arith, ints, rest.0, here)) rest.1,
+          (omega (arith, ints, rest.0, here)) rest.1,
     )
 
 none-round : (first : Cell) (rest : List Cell) → None ≡ box_round (first ∷ rest) → ⊥

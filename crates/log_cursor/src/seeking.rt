@@ -33,7 +33,11 @@ pub fn seek<L: Ledger>(
         + seek_reads (length (log_of view.entry)) (depth_in view.entry.rules.now) }
 {
     if instant <= start.instant {
-        return if instant == start.instant { Some(start.cell) } else { None };
+        return if instant == start.instant {
+            Some(start.cell)
+        } else {
+            None
+        };
     }
     let rules = view.rules();
     let _ = rules.sizes(); // tells what holds of all rules, which bounds the instants
