@@ -8,6 +8,8 @@
 mod pending;
 mod seeking;
 mod start;
+#[cfg(test)]
+mod tests;
 mod walk;
 
 pub use seeking::seek;
