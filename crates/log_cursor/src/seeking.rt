@@ -85,5 +85,5 @@ fn cell_within<L: Ledger>(
             inner = right;
         }
     }
-    None
+    None // absent at each of its instants
 }

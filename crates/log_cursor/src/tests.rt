@@ -4,7 +4,7 @@ ghost use Rattle.std.specs.List.Sorted.{IsStrictlyIncreasing};
 ghost use Rattle.track_types.specs.Near.{IsAsked};
 ghost use Rattle.rule_store.specs.Cells.{moved};
 ghost use Rattle.rule_store.specs.Log.{log_of};
-ghost use Rattle.log_cursor.specs.Start.{IsHullAsked, IsPlaced};
+ghost use Rattle.log_cursor.specs.Start.{IsBoxAsked, IsHullAsked, IsPlaced};
 
 use super::{BlockWalk, Start, seek};
 use rule_store::{Entry, LogView, RuleFault, RuleStore};
@@ -77,12 +77,9 @@ fn is_asked(z: i64, by: i64) -> bool
 }
 
 // Whether a box is near where it is placed.
-fn is_hull_near(cell: Cell, hull: Option<CellBox>) -> bool
-    ensures { OnTrue result (IsHullAsked cell hull) }
+fn is_box_near(cell: Cell, hull: &CellBox) -> bool
+    ensures { OnTrue result (IsBoxAsked cell hull.now) }
 {
-    let Some(hull) = hull else {
-        return true;
-    };
     if !is_asked(cell.x, hull.x1) {
         return false;
     }
@@ -92,7 +89,20 @@ fn is_hull_near(cell: Cell, hull: Option<CellBox>) -> bool
     if !is_asked(cell.x, hull.x2) {
         return false;
     }
-    is_asked(cell.y, hull.y2)
+    if !is_asked(cell.y, hull.y2) {
+        return false;
+    }
+    true
+}
+
+// So it is, if there is one.
+fn is_hull_near(cell: Cell, hull: Option<CellBox>) -> bool
+    ensures { OnTrue result (IsHullAsked cell hull) }
+{
+    match hull {
+        Some(hull) => is_box_near(cell, &hull),
+        None => true,
+    }
 }
 
 // Where an entry leads, if there is such a cell.
@@ -294,48 +304,76 @@ const ANCHOR: Start = Start {
     cell: Cell { x: 500, y: -40 },
 };
 
+// A block over random rules, and what its log says when it is written out.
+#[derive(Drop)]
+struct Sample {
+    store: RuleStore,
+    cells: Vec<Option<Cell>>,
+}
+
+fn sample_of(alloc: Global, seed: u64) -> Result<Sample, RuleFault> {
+    let (rules, log) = random_rules(alloc, seed)?;
+    let store = store_of(alloc, &ALPHABET, rules.as_slice(), log.as_slice())?;
+    let values = expand(alloc, rules.as_slice(), log.as_slice())?;
+    let cells = walk_on(alloc, ANCHOR.cell, values.as_slice())?;
+    Ok(Sample { store, cells })
+}
+
+// The cells with none before them and none after them.
+fn padded(alloc: Global, cells: &[Option<Cell>]) -> Result<Vec<Option<Cell>>, Memory> {
+    let mut all = Vec::new(alloc);
+    all.push(None)?;
+    all.extend_from_slice(cells)?;
+    all.push(None)?;
+    Ok(all)
+}
+
 #[test]
 fn sought_cells_are_those_of_the_expanded_log(rt: HostRuntime) -> Result<(), Fail> {
-    let alloc = rt.alloc();
     for seed in 0..60u64 {
-        let (rules, log) = random_rules(alloc, seed)?;
-        let store = store_of(alloc, &ALPHABET, rules.as_slice(), log.as_slice())?;
-        let values = expand(alloc, rules.as_slice(), log.as_slice())?;
-        let walked = walk_on(alloc, ANCHOR.cell, values.as_slice())?;
-        let mut expected = Vec::new(alloc);
-        expected.push(None)?;
-        expected.extend_from_slice(walked.as_slice())?;
-        expected.push(None)?;
+        let sample = sample_of(rt.alloc(), seed)?;
+        let expected = padded(rt.alloc(), sample.cells.as_slice())?;
         let many = expected.len() as u32;
-        let sought = cells_sought::<Brand>(&rt, &store, 12, ANCHOR, -8, many, Blank::new(1))?;
+        let sought = cells_sought::<Brand>(
+            &rt,
+            &sample.store,
+            12,
+            ANCHOR,
+            -8,
+            many,
+            Blank::new(1),
+        )?;
         assert_eq!(rt; sought, expected, "seed {seed}");
     }
     Ok(())
 }
 
+const WINDOWS: [(i64, i64); 8] = [
+    (-100, 1000000),
+    (-7, -7),
+    (-6, 0),
+    (0, 3),
+    (5, 40),
+    (9, 8),
+    (30, 1000000),
+    (-100, -8),
+];
+
+// The stops of cells in each window.
+fn stops_in_windows(alloc: Global, cells: &[Option<Cell>]) -> Result<Vec<Vec<Stop>>, Memory> {
+    let mut all = Vec::new(alloc);
+    for (from, to) in WINDOWS.iter() {
+        all.push(stops_of(alloc, -7, cells, *from, *to)?)?;
+    }
+    Ok(all)
+}
+
 #[test]
 fn walks_have_the_stops_of_their_windows(rt: HostRuntime) -> Result<(), Fail> {
-    let alloc = rt.alloc();
-    let windows = [
-        (-100, 1000000),
-        (-7, -7),
-        (-6, 0),
-        (0, 3),
-        (5, 40),
-        (9, 8),
-        (30, 1000000),
-        (-100, -8),
-    ];
     for seed in 0..60u64 {
-        let (rules, log) = random_rules(alloc, seed)?;
-        let store = store_of(alloc, &ALPHABET, rules.as_slice(), log.as_slice())?;
-        let values = expand(alloc, rules.as_slice(), log.as_slice())?;
-        let walked = walk_on(alloc, ANCHOR.cell, values.as_slice())?;
-        let mut expected = Vec::new(alloc);
-        for (from, to) in windows.iter() {
-            expected.push(stops_of(alloc, -7, walked.as_slice(), *from, *to)?)?;
-        }
-        let drawn = stops_drawn::<Brand>(&rt, &store, 12, ANCHOR, &windows, Blank::new(1))?;
+        let sample = sample_of(rt.alloc(), seed)?;
+        let expected = stops_in_windows(rt.alloc(), sample.cells.as_slice())?;
+        let drawn = stops_drawn::<Brand>(&rt, &sample.store, 12, ANCHOR, &WINDOWS, Blank::new(1))?;
         assert_eq!(rt; drawn, expected, "seed {seed}");
     }
     Ok(())
@@ -370,31 +408,27 @@ fn deep_cell(after: i64) -> Option<Cell> {
     Some(Cell { x: 500, y: -40 })
 }
 
+// The cells at a thousand instants from one on.
+fn deep_cells(alloc: Global, from: i64) -> Result<Vec<Option<Cell>>, Memory> {
+    let mut cells = Vec::new(alloc);
+    for k in 0..1000i64 {
+        cells.push(deep_cell(from.wrapping_add(k).wrapping_add(7)))?;
+    }
+    Ok(cells)
+}
+
 #[test]
 fn deep_rules_are_opened_on_the_way(rt: HostRuntime) -> Result<(), Fail> {
-    let alloc = rt.alloc();
-    let rules = deep_rules(alloc)?;
-    let store = store_of(alloc, &ALPHABET, rules.as_slice(), &[29, 49, 29, 2])?;
-    for near in [0, 2, 524288, 1048576, 1500000, 2097152, 2097155, 3145728i64] {
-        let mut expected = Vec::new(alloc);
-        let mut stops = Vec::new(alloc);
-        let from = near.wrapping_sub(507);
-        for k in 0..1000i64 {
-            let instant = from.wrapping_add(k);
-            let cell = deep_cell(instant.wrapping_add(7));
-            expected.push(cell)?;
-            if let Some(cell) = cell {
-                stops.push(Stop { instant, cell })?;
-            }
-        }
+    let rules = deep_rules(rt.alloc())?;
+    let store = store_of(rt.alloc(), &ALPHABET, rules.as_slice(), &[29, 49, 29, 2])?;
+    for from in [-507, 523781, 1048069, 1499493, 2096645, 2096648, 3145221i64] {
+        let expected = deep_cells(rt.alloc(), from)?;
         let sought = cells_sought::<Brand>(&rt, &store, 4, ANCHOR, from, 1000, Blank::new(1))?;
-        assert_eq!(rt; sought, expected, "near {near}");
-        let window = [(from, from.wrapping_add(999))];
-        let drawn = stops_drawn::<Brand>(&rt, &store, 4, ANCHOR, &window, Blank::new(1))?;
-        assert_eq!(rt; drawn.len(), 1);
-        for found in drawn.iter() {
-            assert_eq!(rt; found, &stops, "near {near}");
-        }
+        assert_eq!(rt; sought, expected, "cells from {from}");
+        let to = from.wrapping_add(999);
+        let stops = stops_of(rt.alloc(), from, expected.as_slice(), from, to)?;
+        let drawn = stops_drawn::<Brand>(&rt, &store, 4, ANCHOR, &[(from, to)], Blank::new(1))?;
+        assert_eq!(rt; drawn.as_slice(), [stops].as_slice(), "stops from {from}");
     }
     Ok(())
 }
