@@ -1,0 +1,36 @@
+-- The definitions, run on a worked block.
+use Rattle.std.proofs.Common.{◌≡◌, ℕ, ℤ, pos, List, [], ◌∷◌, Some, None, refl}
+use Rattle.rule_store.specs.View.{RulesView, rules_with}
+use Rattle.rule_store.specs.Expansion.{expansion_of, values_of}
+use Rattle.rule_store.specs.Cells.{cell_at, cells_along}
+use Rattle.rule_store.specs.Log.{block_stops, in_window, log_values, stop_at, stops_after, stops_from}
+use Rattle.rule_store.specs.Boxes.{bounding_box_of, box_round}
+use Rattle.rule_store.specs.Nodes.{block_budget, nodes_in, opened_count, parsed}
+use Rattle.list_laws.specs.Grown.{grown}
+use Rattle.spiral_code.specs.Spiral.{move_of}
+use Rattle.log_cursor.specs.Seek.{cell_among}
+use Rattle.log_cursor.specs.Start.{start_at}
+use Rattle.log_cursor.specs.Walk.{begun}
+
+-- an absence, and a movement to the right; rule 2 is the movement and the absence, and rule 3 is rule 2 twice
+abbrev four : RulesView
+four = rules_with (0 ∷ 2 ∷ []) ((1, 0) ∷ (2, 2) ∷ []) (3 ∷ 1 ∷ []) 4 9
+
+-- the anchor is at instant 10 in the cell (5, 5), and the block has an instant for each of its five terminals
+abbrev log : List ℕ
+log = 3 ∷ 1 ∷ []
+
+moves_on : cell_among (block_stops four (pos 10) (cell_at (pos 5) (pos 5)) log) (pos 13) ≡ Some (cell_at (pos 7) (pos 5))
+unfolding cell_among block_stops stops_after log_values values_of expansion_of grown cells_along stops_from move_of
+moves_on = refl
+
+is_absent : cell_among (block_stops four (pos 10) (cell_at (pos 5) (pos 5)) log) (pos 14) ≡ None
+unfolding cell_among block_stops stops_after log_values values_of expansion_of grown cells_along stops_from move_of
+is_absent = refl
+
+-- rule 3 and its second part meet the window
+windowed : begun four log (start_at (pos 10) (cell_at (pos 5) (pos 5))) (pos 13) (pos 14)
+    ≡ record { rules = four; stops = stop_at (pos 13) (cell_at (pos 7) (pos 5)) ∷ []; reads = 4 }
+unfolding in_window block_stops stops_after log_values values_of expansion_of grown cells_along stops_from move_of
+    block_budget opened_count nodes_in parsed bounding_box_of box_round
+windowed = refl

@@ -1,0 +1,287 @@
+-- Ways: values that are walked without leaving the numbers, in two parts, of a rule, and of a block that is placed.
+use Rattle.std.proofs.Common.{◌≡◌, ℕ, zero, suc, ◌+◌, ◌-◌, ◌*◌, ◌^◌, drop, ◌<◌, ◌≤◌, ℤ, pos, ◌+ℤ◌, ◌≤ℤ◌, List, [], ◌∷◌, ◌++◌, length, Some, None, map, refl, ap, sym, subst, ◌∙◌, arith, All, inl, inr}
+use Rattle.std.specs.Prelude.{Option, fold, get_or}
+use Rattle.std.specs.Int.{int_max, int_min}
+use Rattle.std.specs.List.{range_with_len}
+use Rattle.std.proofs.lemmas.Int.{ints}
+use Rattle.std.proofs.lemmas.Bool.{cases_lt}
+use Rattle.std.proofs.lemmas.Grind.{flat_map-append}
+use Rattle.std.proofs.lemmas.List.{append-nil, get_or_past, length-append, length-drop, length-take}
+use Rattle.std.proofs.lemmas.List.FromFn.{length-map-range_with_len}
+use Rattle.std.proofs.lemmas.List.Elements.{All-append, All-cons, All-head, All-map, All-nil, All-tail}
+use Rattle.std.specs.Option.{option_to_list}
+use Rattle.spiral_code.specs.Spiral.{move_of}
+use Rattle.list_laws.specs.Grown.{grown}
+use Rattle.list_laws.proofs.FrontLemmas.{All-front}
+use Rattle.list_laws.proofs.GrownLemmas.{length-grown}
+use Rattle.track_types.specs.Near.{IsAsked}
+use Rattle.track_types.specs.declared.cell.Cell.{Cell}
+use Rattle.track_types.specs.declared.cell_box.CellBox.{CellBox}
+use Rattle.rule_store.specs.View.{RulesView, symbols_in}
+use Rattle.rule_store.specs.Expansion.{expansion_of, values_of}
+use Rattle.rule_store.specs.Cells.{cell_at, cells_along, displacement_of, moved, present_in}
+use Rattle.rule_store.specs.Boxes.{bounding_box_of, box_round, column, line, origin}
+use Rattle.rule_store.specs.Entry.{duration_of, entry_of}
+use Rattle.rule_store.specs.Flaws.{AreRules, left_of, right_of}
+use Rattle.rule_store.specs.Log.{log_of, log_values}
+use Rattle.rule_store.specs.declared.entry.Entry.{Entry}
+use Rattle.rule_store.specs.declared.log_view.LogView.{LogView}
+use Rattle.rule_store.proofs.BoxLemmas.{box_round-bounds}
+use Rattle.rule_store.proofs.CellLemmas.{cells_along-append, moved-moved, moved-none, present-moved, same_cell}
+use Rattle.rule_store.proofs.ExpansionLemmas.{length-values_of}
+use Rattle.rule_store.proofs.FlawLemmas.{near_entry, no_flaws, rule-sound}
+use Rattle.log_cursor.specs.Start.{AreHullsAsked, IsBoxAsked, IsCellAsked, IsHullAsked, IsPlaced, IsStart, IsWay, IsWayOf, start_after, start_at, start_past}
+use Rattle.log_cursor.specs.declared.start.Start.{Start}
+use Rattle.log_cursor.proofs.RuleLemmas.{log_values-parts}
+use Rattle.log_cursor.proofs.StopLemmas.{duration_of-terminal}
+
+-- places of the same instant, column and line are the same
+pub same_start : (i j x u y v : ℤ) → i ≡ j → x ≡ u → y ≡ v → start_at i (cell_at x y) ≡ start_at j (cell_at u v)
+same_start i j x u y v instants columns lines =
+    ap (λ z. start_at z (cell_at x y)) instants ∙ ap (start_at j) (same_cell x y u v columns lines)
+
+-- what holds of each element holds of each of the back
+All-back : {X : Type 0} (P : X → Type 0) (xs ys : List X) → All P (xs ++ ys) → All P ys
+All-back P [] ys each = each
+All-back P (x ∷ xs) ys each = All-back P xs ys (All-tail P x (xs ++ ys) each)
+
+-- values lead from a near cell along near cells to a near one
+end-near : (cell : Cell) (values : List ℕ) → IsCellAsked cell →
+    All IsCellAsked (present_in (cells_along cell values)) → IsCellAsked (moved cell (displacement_of values))
+unfolding cells_along displacement_of
+end-near cell [] near cells = subst IsCellAsked (sym (moved-none cell)) near
+end-near cell (zero ∷ values) near cells =
+    subst IsCellAsked (same_cell _ _ _ _ (omega (arith, ints)) (omega (arith, ints)))
+    (end-near cell values near cells)
+end-near cell (suc code ∷ values) near cells =
+    let next = moved cell (move_of code) in
+    let later = present_in (cells_along next values) in
+    subst IsCellAsked (moved-moved cell (move_of code) (displacement_of values))
+    (end-near next values (All-head IsCellAsked next later cells) (All-tail IsCellAsked next later cells))
+
+module _ (start : Start) (xs ys : List ℕ) (way : IsWay start (xs ++ ys)) where
+  long : length (xs ++ ys) ≡ length xs + length ys
+  long = length-append xs ys
+
+  cells_are : present_in (cells_along start.cell (xs ++ ys))
+      ≡ present_in (cells_along start.cell xs)
+      ++ present_in (cells_along (moved start.cell (displacement_of xs)) ys)
+  cells_are =
+      ap present_in (cells_along-append start.cell xs ys)
+      ∙ flat_map-append option_to_list (cells_along start.cell xs)
+      (cells_along (moved start.cell (displacement_of xs)) ys)
+
+  -- the way over the first values
+  pub IsWay-front : IsWay start xs
+  IsWay-front = record {
+    start_is = way.start_is;
+    last = omega (arith, ints, long, way.last);
+    cells = All-front IsCellAsked (present_in (cells_along start.cell xs)) _
+        (subst (All IsCellAsked) cells_are way.cells);
+  }
+
+  -- and that over the others, from where they lead
+  pub IsWay-back : IsWay (start_past start xs) ys
+  IsWay-back = record {
+    start_is = record {
+      instant = record {
+        low = omega (arith, ints, way.start_is.instant.low);
+        high = omega (arith, ints, long, way.last);
+      };
+      cell = end-near start.cell xs way.start_is.cell IsWay-front.cells;
+    };
+    last = omega (arith, ints, long, way.last);
+    cells = All-back IsCellAsked (present_in (cells_along start.cell xs)) _
+        (subst (All IsCellAsked) cells_are way.cells);
+  }
+
+-- a rule's way is that of its two parts, and of the symbols after it
+pub IsWayOf-parts : (rules : RulesView) (symbol : ℕ) (log : List ℕ) → length rules.alphabet ≤ symbol →
+    symbol < symbols_in rules → left_of rules symbol < symbol → right_of rules symbol < symbol → (start : Start) →
+    IsWayOf rules start (symbol ∷ log) → IsWayOf rules start (left_of rules symbol ∷ right_of rules symbol ∷ log)
+IsWayOf-parts rules symbol log rule known left_below right_below start way =
+    subst (IsWay start) (log_values-parts rules symbol rule known left_below right_below log) way
+
+-- the way of the first symbol, and that of the symbols after it
+module _ (rules : RulesView) (symbol : ℕ) (log : List ℕ) (start : Start) (way : IsWayOf rules start (symbol ∷ log)) where
+  pub IsWayOf-first : IsWayOf rules start (symbol ∷ [])
+  unfolding log_values
+  IsWayOf-first =
+      subst (IsWay start) (sym (append-nil (values_of rules symbol)))
+      (IsWay-front start (values_of rules symbol) (log_values rules log) way)
+
+  pub IsWayOf-rest : IsWayOf rules (start_past start (values_of rules symbol)) log
+  unfolding log_values
+  IsWayOf-rest = IsWay-back start (values_of rules symbol) (log_values rules log) way
+
+  pub IsWayOf-next : IsStart (start_past start (values_of rules symbol))
+  IsWayOf-next = IsWayOf-rest.start_is
+
+-- a way over nothing
+pub IsWayOf-none : (rules : RulesView) (start : Start) → IsStart start → IsWayOf rules start []
+unfolding log_values cells_along
+IsWayOf-none rules start is =
+    record { start_is = is; last = omega (arith, ints, is.instant.high); cells = All-nil IsCellAsked }
+
+-- where an entry leads
+pub start_after-is : (rules : RulesView) (start : Start) (entry : Entry) (symbol : ℕ) → entry ≡ entry_of rules symbol →
+    start_after start entry ≡ start_past start (values_of rules symbol)
+unfolding entry_of
+start_after-is rules start entry symbol is = ap (start_after start) is
+
+pub hull_is : (rules : RulesView) (entry : Entry) (symbol : ℕ) → entry ≡ entry_of rules symbol →
+    entry.hull ≡ bounding_box_of (values_of rules symbol)
+unfolding entry_of
+hull_is rules entry symbol is = ap (λ (e : Entry). e.hull) is
+
+pub duration_is : (rules : RulesView) (entry : Entry) (symbol : ℕ) → entry ≡ entry_of rules symbol →
+    entry.duration ≡ duration_of rules symbol
+unfolding entry_of
+duration_is rules entry symbol is = ap (λ (e : Entry). e.duration) is ∙ length-values_of rules symbol
+
+-- a symbol that is not there lasts no instant
+duration_of-past : (rules : RulesView) (symbol : ℕ) → symbols_in rules ≤ symbol → duration_of rules symbol ≡ 0
+unfolding duration_of expansion_of
+duration_of-past rules symbol above =
+    let known = map (λ (terminal : ℕ). terminal ∷ []) (range_with_len 0 (length rules.alphabet)) in
+    let made = length-grown ◌++◌ [] known rules.rules in
+    let first = length-map-range_with_len (λ (terminal : ℕ). terminal ∷ []) 0 (length rules.alphabet) in
+    let past : length (grown ◌++◌ [] known rules.rules) ≤ symbol = omega (arith, made, first) in
+    ap length (get_or_past (grown ◌++◌ [] known rules.rules) symbol [] past)
+
+-- no symbol lasts longer than a period
+duration_of-limit : (rules : RulesView) → AreRules rules → (symbol : ℕ) → duration_of rules symbol ≤ 2 ^ 22
+unfolding entry_of
+duration_of-limit rules sound symbol = elim (cases_lt symbol (length rules.alphabet)) [
+  | inl terminal ↦ omega (arith, duration_of-terminal rules symbol terminal)
+  | inr rule ↦ elim (cases_lt symbol (symbols_in rules)) [
+    | inl known ↦
+        let j = symbol - length rules.alphabet in
+        let place : length rules.alphabet + j ≡ symbol = omega arith in
+        let near = rule-sound rules j (no_flaws rules sound.flawless).rules (omega arith) in
+        let short = near_entry rules.height rules.period (entry_of rules (length rules.alphabet + j)) near.near in
+        let last : length (values_of rules (length rules.alphabet + j)) ≤ rules.period - 1 = short.duration in
+        let same : length (values_of rules (length rules.alphabet + j)) ≡ duration_of rules symbol =
+        ap (λ s. length (values_of rules s)) place ∙ length-values_of rules symbol in
+        omega (arith, last, same, sound.shaped.period_fits.limit)
+    | inr unknown ↦ omega (arith, duration_of-past rules symbol unknown)
+  ]
+]
+
+length-log_values : (rules : RulesView) → AreRules rules → (log : List ℕ) →
+    length (log_values rules log) ≤ 2 ^ 22 * length log
+unfolding log_values
+length-log_values rules sound [] = omega arith
+length-log_values rules sound (symbol ∷ log) =
+    omega (
+      arith,
+      length-append (values_of rules symbol) (log_values rules log),
+      length-values_of rules symbol,
+      duration_of-limit rules sound symbol,
+      length-log_values rules sound log,
+    )
+
+-- the least and the greatest of a coordinate of cells, which begin at some number
+least-each : (f : Cell → ℤ) (z : ℤ) (cells : List Cell) →
+    (fold int_min z (map f cells) ≤ℤ z) × All (λ cell. fold int_min z (map f cells) ≤ℤ f cell) cells
+least-each f z [] = (omega (arith, ints), All-nil (λ cell. z ≤ℤ f cell))
+least-each f z (cell ∷ cells) =
+    let rest = least-each f (int_min z (f cell)) cells in
+    let low : int_min z (f cell) ≤ℤ z = grind (arith, ints) in
+    let here : int_min z (f cell) ≤ℤ f cell = grind (arith, ints) in (
+      omega (arith, ints, rest.0, low),
+      All-cons (λ c. fold int_min (int_min z (f cell)) (map f cells) ≤ℤ f c) cell cells
+          (omega (arith, ints, rest.0, here)) rest.1,
+    )
+
+greatest-each : (f : Cell → ℤ) (z : ℤ) (cells : List Cell) →
+    (z ≤ℤ fold int_max z (map f cells)) × All (λ cell. f cell ≤ℤ fold int_max z (map f cells)) cells
+greatest-each f z [] = (omega (arith, ints), All-nil (λ cell. f cell ≤ℤ z))
+greatest-each f z (cell ∷ cells) =
+    let rest = greatest-each f (int_max z (f cell)) cells in
+    let high : z ≤ℤ int_max z (f cell) = grind (arith, ints) in
+    let here : f cell ≤ℤ int_max z (f cell) = grind (arith, ints) in (
+      omega (arith, ints, rest.0, high),
+      All-cons (λ c. f c ≤ℤ fold int_max (int_max z (f cell)) (map f cells)) cell cells
+          (omega (arith, ints, rest.0, here)) rest.1,
+    )
+
+none-round : (first : Cell) (rest : List Cell) → None ≡ box_round (first ∷ rest) → ⊥
+unfolding box_round
+none-round first rest is = absurd (cc)
+
+-- cells lie in the box round them: where the box is moved to a near place, they are near
+cells-near : (cell : Cell) (cells : List Cell) (hull : Option CellBox) → hull ≡ box_round cells →
+    IsHullAsked cell hull → All IsCellAsked (map (λ c. moved c (cell.x, cell.y)) cells)
+cells-near cell [] hull is near = All-nil IsCellAsked
+cells-near cell (first ∷ rest) None is near = absurd (none-round first rest is)
+cells-near cell (first ∷ rest) (Some area) is near =
+    let bounds = box_round-bounds area first rest is in
+    let x1 = least-each column first.x rest in
+    let y1 = least-each line first.y rest in
+    let x2 = greatest-each column first.x rest in
+    let y2 = greatest-each line first.y rest in
+    All-map IsCellAsked (λ c. moved c (cell.x, cell.y)) (first ∷ rest)
+    (All-cons (λ c. IsCellAsked (moved c (cell.x, cell.y))) first rest
+    (in_bounds first (omega (arith, ints, bounds.x1, x1.0)) (omega (arith, ints, bounds.y1, y1.0))
+    (omega (arith, ints, bounds.x2, x2.0)) (omega (arith, ints, bounds.y2, y2.0)))
+    (λ k d within. in_bounds (get_or rest k d) (omega (arith, ints, bounds.x1, x1.1 k d within))
+    (omega (arith, ints, bounds.y1, y1.1 k d within)) (omega (arith, ints, bounds.x2, x2.1 k d within))
+    (omega (arith, ints, bounds.y2, y2.1 k d within))))
+  where
+    in_bounds : (c : Cell) → area.x1 ≤ℤ c.x → area.y1 ≤ℤ c.y → c.x ≤ℤ area.x2 → c.y ≤ℤ area.y2 →
+        IsCellAsked (moved c (cell.x, cell.y))
+    in_bounds c x1 y1 x2 y2 = record {
+      x = record { low = omega (arith, ints, near.x1.low); high = omega (arith, ints, near.x2.high) };
+      y = record { low = omega (arith, ints, near.y1.low); high = omega (arith, ints, near.y2.high) };
+    }
+
+values-near : (cell : Cell) (values : List ℕ) → IsHullAsked cell (bounding_box_of values) →
+    All IsCellAsked (present_in (cells_along cell values))
+unfolding bounding_box_of
+values-near cell values near =
+    let by : ℤ × ℤ = (cell.x, cell.y) in
+    let here : moved origin by ≡ cell = same_cell _ _ cell.x cell.y (omega (arith, ints)) (omega (arith, ints)) in
+    subst (λ start. All IsCellAsked (present_in (cells_along start values))) here
+    (subst (All IsCellAsked) (sym (present-moved by origin values))
+    (cells-near cell (present_in (cells_along origin values)) _ refl near))
+
+log-near : (rules : RulesView) (cell : Cell) (log : List ℕ) → AreHullsAsked rules cell log →
+    All IsCellAsked (present_in (cells_along cell (log_values rules log)))
+unfolding AreHullsAsked log_values cells_along
+log-near rules cell [] near = All-nil IsCellAsked
+log-near rules cell (symbol ∷ log) near =
+    let values = values_of rules symbol in
+    let next = moved cell (displacement_of values) in
+    let later = log_values rules log in
+    subst (All IsCellAsked) (sym (ap present_in (cells_along-append cell values later)
+    ∙ flat_map-append option_to_list (cells_along cell values) (cells_along next later)))
+    (All-append IsCellAsked (present_in (cells_along cell values)) (present_in (cells_along next later))
+    (values-near cell values near.0) (log-near rules next log near.1))
+
+-- the way of a block that is placed
+pub IsWayOf-placed : (rules : RulesView) (start : Start) (log : List ℕ) → AreRules rules → length log ≤ 2 ^ 25 →
+    IsPlaced rules start log → IsWayOf rules start log
+IsWayOf-placed rules start log sound short placed =
+    let long = length-log_values rules sound log in
+    record {
+      start_is = record {
+        instant = record {
+          low = omega (arith, ints, placed.instant.low);
+          high = omega (arith, ints, placed.instant.high);
+        };
+        cell = placed.cell;
+      };
+      last = omega (arith, ints, long, placed.instant.high);
+      cells = log-near rules start.cell log placed.hulls;
+    }
+
+-- a log is no longer than all stored symbols may be
+pub length-log_of : (view : LogView) → AreRules view.rules.now → length (log_of view) ≤ 2 ^ 25
+length-log_of view sound =
+    omega (
+      arith,
+      length-drop view.from view.rules.now.symbols,
+      length-take (view.from + view.len - view.from) (drop view.from view.rules.now.symbols),
+      sound.shaped.symbols_fit,
+    )

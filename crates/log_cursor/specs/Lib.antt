@@ -1,0 +1,5 @@
+pub mod Start
+pub mod Seek
+pub mod Pending
+pub mod Walk
+pub mod Cost

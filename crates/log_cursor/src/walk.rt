@@ -1,0 +1,129 @@
+ghost use Rattle.std.specs.Prelude.{◌≡◌, ◌++◌, ◌+◌, ◌≤◌, [], ◌∷◌, IfNone, IfOk, option_to_list};
+ghost use Rattle.rule_store.specs.Log.{in_window, log_of, stop_at};
+ghost use Rattle.log_cursor.specs.Start.{IsPlaced};
+ghost use Rattle.log_cursor.specs.Walk.{at_rest, begun};
+
+use crate::pending::Pending;
+use crate::start::Start;
+use rule_store::{Entry, LogView, RuleStore};
+use std::alloc::Global;
+use std::marker::Model;
+use std::sync::ledger::Ledger;
+use step_count::Steps;
+use track_types::{Cell, Lazy, Memory, Stop};
+
+/// A walk over the stops of a block whose instants are in a window, in their order. One walk serves
+/// one block after the other, of the same rules.
+///
+/// It passes over each symbol whose instants miss the window, or at all of which the object is absent.
+/// It keeps the parts of rules that are still to come, for which `new` takes all the memory. Contracts
+/// see the rules, the stops that are left, and a bound on the reads that are still to be made for them.
+#[derive(Drop)]
+pub struct BlockWalk<'a> {
+    pending: Pending<'a>,
+    // The anchor, while it is still to come.
+    anchor: Option<Stop>,
+    at: Start,
+    from: i64,
+    to: i64,
+}
+
+impl<'a> Model for BlockWalk<'a> {
+    ghost use Rattle.log_cursor.specs.Start.{IsWayOf};
+    ghost use Rattle.log_cursor.specs.Walk.{WalkView, walk_of};
+
+    ghost Value = { WalkView };
+
+    ghost view = { λ w. walk_of w.pending w.anchor w.at w.from w.to };
+
+    ghost invariant = { λ w. IsWayOf w.pending.rules w.at w.pending.symbols };
+}
+
+impl<'a> BlockWalk<'a> {
+    /// A walk over blocks of these rules, with nothing left. It takes memory for the parts of the
+    /// deepest rule, 4 bytes for each, and only where the grammar is deep.
+    pub fn new(alloc: Global, rules: &'a RuleStore) -> Result<BlockWalk<'a>, Memory>
+        ensures ok { IfOk result (λ walk. walk ≡ at_rest rules.now) }
+    {
+        let pending = Pending::new(alloc, rules)?;
+        let at = Start {
+            instant: 0,
+            cell: Cell { x: 0, y: 0 },
+        };
+        Ok(BlockWalk {
+            pending,
+            anchor: None,
+            at,
+            from: 0,
+            to: 0,
+        })
+    }
+
+    /// Begins the walk over the stops of a block from one instant to another, both counted. What was
+    /// left of the block before is gone.
+    ///
+    /// The log is one of the walk's rules. The instant and the cell of the anchor, and each symbol's
+    /// box where it is placed, are at most 2^41 away from 0. It takes no memory.
+    pub fn begin(&mut self, view: LogView<'a>, start: Start, from: i64, to: i64)
+        requires rules { view.rules.now ≡ self.old.rules }
+        requires placed { IsPlaced view.rules.now start (log_of view) }
+        ensures { self.new ≡ begun view.entry.rules.now (log_of view.entry) start from to }
+    {
+        self.pending.begin(view);
+        self.anchor = stop_within(start, from, to);
+        self.at = start;
+        self.from = from;
+        self.to = to;
+    }
+}
+
+impl<'a> Lazy for BlockWalk<'a> {
+    type Item = Stop;
+
+    ghost left = { λ w. w.stops };
+
+    ghost budget = { λ w. w.reads };
+
+    fn draw<L: Ledger>(&mut self, steps: &mut Steps<L>) -> Option<Stop>
+        ensures found { self.old.stops ≡ option_to_list result ++ self.new.stops }
+        ensures none { IfNone result (self.old.stops ≡ []) }
+        ensures cost { steps.new + self.new.reads ≤ steps.old + self.old.reads }
+        ensures rules { self.new.rules ≡ self.old.rules }
+    {
+        if let Some(anchor) = self.anchor.take() {
+            return Some(anchor);
+        }
+        while self.at.instant < self.to {
+            let entry = self.pending.next(steps)?;
+            let next = self.at.after(&entry);
+            if next.instant < self.from || entry.hull.is_none() {
+                self.at = next;
+                continue;
+            }
+            if self.pending.is_rule(entry.symbol) {
+                self.pending.open(entry.symbol, steps);
+                continue;
+            }
+            self.at = next;
+            return Some(Stop {
+                instant: next.instant,
+                cell: next.cell,
+            });
+        }
+        None
+    }
+}
+
+// The stop at an anchor, if its instant is in a window.
+fn stop_within(start: Start, from: i64, to: i64) -> Option<Stop>
+    ensures { option_to_list result
+        ≡ in_window from to (stop_at start.instant start.cell ∷ []) }
+{
+    if start.instant < from || to < start.instant {
+        return None;
+    }
+    Some(Stop {
+        instant: start.instant,
+        cell: start.cell,
+    })
+}
