@@ -2,7 +2,7 @@
 //!
 //! Both answer what a plain look at the expanded log answers (`specs/Seek.antt`, `specs/Walk.antt`),
 //! and open only the rules on their way. The crate stands on `track_types`, `rule_store`,
-//! `step_count` and `smallvec`.
+//! `spiral_code`, `step_count`, `list_laws` and `smallvec`.
 #![tactic(auto)]
 
 mod pending;

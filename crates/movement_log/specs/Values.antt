@@ -28,5 +28,6 @@ abbrev pub value_with : Option Row → Option Cell → ℕ
 value_with before None = 0
 value_with before (Some cell) = present_value before cell
 
+-- the value of an object at an instant, among rows
 unfoldable pub value_at : List Row → ℕ → ℤ → ℕ
 value_at rows object instant = value_with (last_before rows object instant) (cell_at rows object instant)

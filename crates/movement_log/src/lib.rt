@@ -2,8 +2,8 @@
 //! follows it, instant by instant.
 //!
 //! `cut` gives the block headers, the logs and the alphabet of movements that the logs use, as
-//! `specs/Logs.antt` says of the chart's rows. The crate stands on `track_types`, `spiral_code` and
-//! `list_laws`, and its tests on `gridding`.
+//! `specs/Logs.antt` says of the chart's rows. The crate stands on `track_types`, `spiral_code`,
+//! `list_laws` and `gridding`. (Its tests make their charts by the last of these.)
 #![tactic(auto)]
 
 mod alphabet;
