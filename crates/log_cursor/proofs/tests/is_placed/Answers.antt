@@ -1,12 +1,8 @@
-use Rattle.std.proofs.Common.{◌<◌, ◌≤◌, ◌+ℤ◌, ℤ, pos, length, arith}
+use Rattle.std.proofs.Common.{◌<◌, ◌≤◌, length, arith}
 use Rattle.std.proofs.lemmas.Int.{ints}
-use Rattle.track_types.specs.Near.{IsAsked}
 use Rattle.rule_store.specs.Log.{log_of}
 use Rattle.log_cursor.proofs.HullLemmas.{AreHullsAsked-end, AreHullsAsked-step}
 use Rattle.log_cursor.proofs.tests.is_placed.Goals as goal
-
-alone : (z : ℤ) → IsAsked (z +ℤ pos 0) → IsAsked z
-alone z near = record { low = omega (arith, ints, near.low); high = omega (arith, ints, near.high) }
 
 pub loop-i-preserved : goal.loop-i-preserved
 loop-i-preserved g c = λ rest.
@@ -18,11 +14,14 @@ loop-i-preserved g c = λ rest.
 pub returns : goal.returns
 returns g c =
     let end : length (log_of c.args.view) ≤ c.loop-i.i = omega (arith, c.len-i-end.ensures, c.loop-i-test.false) in
+    let instant = c.if-not-is_asked.ensures in
+    let x = c.if-not-is_asked-2.ensures in
+    let y = c.if-not-is_asked-3.ensures in
     record {
-      instant = alone c.args.start.instant c.if-not-is_asked.ensures;
+      instant = record { low = omega (arith, ints, instant.low); high = omega (arith, ints, instant.high) };
       cell = record {
-        x = alone c.args.start.cell.x c.if-not-is_asked-2.ensures;
-        y = alone c.args.start.cell.y c.if-not-is_asked-3.ensures;
+        x = record { low = omega (arith, ints, x.low); high = omega (arith, ints, x.high) };
+        y = record { low = omega (arith, ints, y.low); high = omega (arith, ints, y.high) };
       };
       hulls = c.loop-i.invariant
           (AreHullsAsked-end c.args.view.rules.now c.loop-i.cell (log_of c.args.view) c.loop-i.i end);
