@@ -304,6 +304,26 @@ const ANCHOR: Start = Start {
     cell: Cell { x: 500, y: -40 },
 };
 
+// The same on a counter of its own.
+fn cells_of_block(
+    rt: &HostRuntime,
+    store: &RuleStore,
+    len: u32,
+    first: i64,
+    many: u32,
+) -> Result<Vec<Option<Cell>>, Memory> {
+    cells_sought::<Brand>(rt, store, len, ANCHOR, first, many, Blank::new(1))
+}
+
+fn stops_of_block(
+    rt: &HostRuntime,
+    store: &RuleStore,
+    len: u32,
+    windows: &[(i64, i64)],
+) -> Result<Vec<Vec<Stop>>, Memory> {
+    stops_drawn::<Brand>(rt, store, len, ANCHOR, windows, Blank::new(1))
+}
+
 // A block over random rules, and what its log says when it is written out.
 #[derive(Drop)]
 struct Sample {
@@ -333,16 +353,8 @@ fn sought_cells_are_those_of_the_expanded_log(rt: HostRuntime) -> Result<(), Fai
     for seed in 0..60u64 {
         let sample = sample_of(rt.alloc(), seed)?;
         let expected = padded(rt.alloc(), sample.cells.as_slice())?;
-        let many = expected.len() as u32;
-        let sought = cells_sought::<Brand>(
-            &rt,
-            &sample.store,
-            12,
-            ANCHOR,
-            -8,
-            many,
-            Blank::new(1),
-        )?;
+        let many = u32::try_from(expected.len()).unwrap_or(0);
+        let sought = cells_of_block(&rt, &sample.store, 12, -8, many)?;
         assert_eq!(rt; sought, expected, "seed {seed}");
     }
     Ok(())
@@ -359,6 +371,10 @@ const WINDOWS: [(i64, i64); 8] = [
     (-100, -8),
 ];
 
+fn windows(alloc: Global) -> Result<Vec<(i64, i64)>, Memory> {
+    Ok(WINDOWS.to_vec(alloc)?)
+}
+
 // The stops of cells in each window.
 fn stops_in_windows(alloc: Global, cells: &[Option<Cell>]) -> Result<Vec<Vec<Stop>>, Memory> {
     let mut all = Vec::new(alloc);
@@ -373,7 +389,8 @@ fn walks_have_the_stops_of_their_windows(rt: HostRuntime) -> Result<(), Fail> {
     for seed in 0..60u64 {
         let sample = sample_of(rt.alloc(), seed)?;
         let expected = stops_in_windows(rt.alloc(), sample.cells.as_slice())?;
-        let drawn = stops_drawn::<Brand>(&rt, &sample.store, 12, ANCHOR, &WINDOWS, Blank::new(1))?;
+        let asked = windows(rt.alloc())?;
+        let drawn = stops_of_block(&rt, &sample.store, 12, asked.as_slice())?;
         assert_eq!(rt; drawn, expected, "seed {seed}");
     }
     Ok(())
@@ -423,11 +440,11 @@ fn deep_rules_are_opened_on_the_way(rt: HostRuntime) -> Result<(), Fail> {
     let store = store_of(rt.alloc(), &ALPHABET, rules.as_slice(), &[29, 49, 29, 2])?;
     for from in [-507, 523781, 1048069, 1499493, 2096645, 2096648, 3145221i64] {
         let expected = deep_cells(rt.alloc(), from)?;
-        let sought = cells_sought::<Brand>(&rt, &store, 4, ANCHOR, from, 1000, Blank::new(1))?;
+        let sought = cells_of_block(&rt, &store, 4, from, 1000)?;
         assert_eq!(rt; sought, expected, "cells from {from}");
         let to = from.wrapping_add(999);
         let stops = stops_of(rt.alloc(), from, expected.as_slice(), from, to)?;
-        let drawn = stops_drawn::<Brand>(&rt, &store, 4, ANCHOR, &[(from, to)], Blank::new(1))?;
+        let drawn = stops_of_block(&rt, &store, 4, &[(from, to)])?;
         assert_eq!(rt; drawn.as_slice(), [stops].as_slice(), "stops from {from}");
     }
     Ok(())
