@@ -11,7 +11,6 @@ pub mod Lazy
 pub mod Bounds
 pub mod FaultText
 pub mod FlawText
-pub mod BitList
 pub mod Frame
 pub mod Table
 pub mod Shape

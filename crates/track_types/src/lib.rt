@@ -8,7 +8,6 @@
 #![tactic(auto)]
 
 mod answerer;
-mod bit_list;
 mod bounds;
 mod cell;
 mod cell_box;
@@ -30,7 +29,6 @@ mod row;
 mod stop;
 
 pub use answerer::Answerer;
-pub use bit_list::BitList;
 pub use bounds::{NumberFault, number_within};
 pub use cell::Cell;
 pub use cell_box::CellBox;
@@ -40,13 +38,11 @@ pub use flaw::{Flaw, Kind, Section};
 pub use frame::Frame;
 pub use lazy::drawn_items::Drawn;
 pub use lazy::{Lazy, drawn};
-pub use limit::{LimitKind, MAX_EXTENT, MAX_HEIGHT};
-pub use lists::{List32, List64, Lists32, PairList, PeriodList};
 pub use limit::{
     LimitKind, MAX_BLOCKS, MAX_CSV, MAX_EXTENT, MAX_HEIGHT, MAX_INDEX, MAX_OBJECTS, MAX_PERIOD,
     MAX_PLACE, MAX_QUESTIONS, MAX_RESOLUTION, MAX_ROWS, MAX_SPAN, MAX_SYMBOLS,
 };
-pub use lists::{List32, List64, Lists32, PairList};
+pub use lists::{List32, List64, Lists32, PairList, PeriodList};
 pub use memory::Memory;
 pub use numeral::{Numeral, number};
 pub use packed_bits::BitList;
