@@ -16,3 +16,4 @@ mod PlacesLemmas
 mod ObjectsLemmas
 mod ChosenLemmas
 mod Examples
+pub mod GetterLemmas

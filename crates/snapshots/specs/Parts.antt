@@ -1,11 +1,11 @@
 -- What the parts of an index mean: its rules, its snapshots, the log of each block, and the chart.
-use Rattle.std.specs.Prelude.{ℕ, ◌+◌, ◌-◌, ◌*◌, ◌/◌, ◌==◌, ◌&&◌, ℤ, pos, ◌+ℤ◌, ◌-ℤ◌, unsigned_abs, Bool}
-use Rattle.std.specs.Prelude.{if◌then◌else◌, List, [], ◌∷◌, length, map, take, find, sum, slice_index, slice_index_or}
+use Rattle.std.specs.Prelude.{ℕ, ◌+◌, ◌-◌, ◌*◌, ◌/◌, ◌==◌, ℤ, pos, ◌+ℤ◌, ◌-ℤ◌, unsigned_abs, Bool}
+use Rattle.std.specs.Prelude.{if◌then◌else◌, List, [], length, map, take, find, sum, slice_index, slice_index_or}
 use Rattle.std.specs.Prelude.{Option, None, Some}
-use Rattle.std.specs.Int.Signed.{le_z}
 use Rattle.std.specs.List.{flat_map, range_with_len, slice_range, sum_by}
 use Rattle.track_types.specs.Chart.{ChartView}
-use Rattle.track_types.specs.Frame.{instants_in, periods_of}
+use Rattle.track_types.specs.Frame.{periods_of}
+use Rattle.track_types.specs.Region.{is_between}
 use Rattle.track_types.specs.declared.frame.Frame.{Frame}
 use Rattle.track_types.specs.declared.parts.Parts.{Parts}
 use Rattle.track_types.specs.declared.period_parts.PeriodParts.{PeriodParts}
@@ -101,7 +101,7 @@ index_in objects object = find (λ i. slice_index objects i == object) (range_wi
 
 -- the instant is one of the index's
 abbrev pub is_covered : Frame → ℤ → Bool
-is_covered frame instant = le_z frame.first instant && le_z instant (last_in frame)
+is_covered frame instant = is_between frame.first (last_in frame) instant
 
 -- the period of an instant, if it is one of the index's
 abbrev pub period_in : Frame → ℤ → Option ℕ

@@ -122,7 +122,8 @@ impl Stores {
         if instant < self.frame.first || instant > last {
             return None;
         }
-        Some((instant - self.frame.first) as u32 / self.frame.period)
+        let elapsed = (instant - self.frame.first).unsigned_abs();
+        Some((elapsed / u64::from(self.frame.period)) as u32)
     }
 
     /// The snapshot of a period, which is one of the header's.
