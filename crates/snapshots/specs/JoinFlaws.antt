@@ -1,5 +1,5 @@
 -- The first flaw of logs that leave the grid, or do not last to the end of their period.
-use Rattle.std.specs.Prelude.{◌≡◌, ℕ, ◌+◌, ◌-◌, ◌==◌, ◌^◌, ◌&&◌, not, ℤ, pos, ◌+ℤ◌, Bool, false, if◌then◌else◌}
+use Rattle.std.specs.Prelude.{◌≡◌, ℕ, ◌+◌, ◌-◌, ◌==◌, ◌^◌, ◌&&◌, not, ℤ, pos, neg_ℤ, ◌+ℤ◌, ◌≤ℤ◌, Bool, false, if◌then◌else◌}
 use Rattle.std.specs.Prelude.{List, [], ◌∷◌, length, take, find, slice_index, Option, None, Some}
 use Rattle.std.specs.Int.Signed.{le_z, lt_z}
 use Rattle.std.specs.List.{range_with_len, sum_by}
@@ -40,11 +40,23 @@ abbrev pub is_along : ℕ → ℤ → ℤ → ℤ → ℤ → Bool
 is_along height least amount first last =
     le_z least (amount +ℤ first) && lt_z (amount +ℤ last) (least +ℤ pos (2 ^ height))
 
+-- a number that a log may reach, whatever its symbols
+pub record IsReached (z : ℤ) : Type 0 where
+  pub low : neg_ℤ (pos (2 ^ 60)) ≤ℤ z
+  pub high : z ≤ℤ pos (2 ^ 60)
+
+-- the columns of a box, moved to a cell, are in the grid
+abbrev pub has_columns : Frame → Cell → CellBox → Bool
+has_columns frame cell hull = is_along frame.height frame.base.x cell.x hull.x1 hull.x2
+
+-- its lines are
+abbrev pub has_lines : Frame → Cell → CellBox → Bool
+has_lines frame cell hull = is_along frame.height frame.base.y cell.y hull.y1 hull.y2
+
 -- a box, moved to a cell, passes the grid
 abbrev pub passes_grid : Frame → Cell → Option CellBox → Bool
 passes_grid frame cell None = false
-passes_grid frame cell (Some hull) = not (is_along frame.height frame.base.x cell.x hull.x1 hull.x2
-    && is_along frame.height frame.base.y cell.y hull.y1 hull.y2)
+passes_grid frame cell (Some hull) = not (has_columns frame cell hull && has_lines frame cell hull)
 
 -- the placed box of a log's symbol passes the grid
 unfoldable pub is_off_grid : Frame → RulesView → Cell → List ℕ → ℕ → Bool

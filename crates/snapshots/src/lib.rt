@@ -8,8 +8,11 @@
 
 mod anchored;
 mod blocks;
+mod by_object;
 mod checking;
+mod everywhere;
 mod fault;
+mod logs;
 mod members;
 mod next;
 mod objects_in;

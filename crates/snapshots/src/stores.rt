@@ -9,6 +9,7 @@ ghost use Rattle.snapshots.specs.SoundParts.{IsSound, IsValid};
 ghost use Rattle.snapshots.specs.Stores.{join_of, AreOf};
 
 use crate::fault::SnapFault;
+use crate::logs::judge_snapshot;
 use crate::snapshot::Snapshot;
 use rule_store::RuleStore;
 use std::alloc::Global;
@@ -70,7 +71,16 @@ impl Stores {
             IsFaultFor (logs_flaw (join_of frame objects rules snaps.items)) fault) }
         ensures cost { steps.new ≤ steps.old + open_cost (join_of frame objects rules snaps.items) }
     {
-        Err(SnapFault::Memory)
+        for snapshot in &snaps {
+            judge_snapshot(alloc, &rules, snapshot, steps)?;
+        }
+        let _ = rules.sizes(); // says that the rules are sound
+        Ok(Stores {
+            frame,
+            objects,
+            rules,
+            snaps,
+        })
     }
 
     /// The header.
