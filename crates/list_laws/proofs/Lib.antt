@@ -8,3 +8,4 @@ pub mod MemberLemmas
 pub mod FindLemmas
 pub mod RuleLemmas
 pub mod FrontLemmas
+pub mod FirstLemmas

@@ -1,3 +1,4 @@
 -- In reading order.
 pub mod Ordered
 pub mod Grown
+pub mod First

@@ -1,5 +1,6 @@
 -- The summary of a symbol, taken over the values that it stands for.
-use Rattle.std.specs.Prelude.{ℕ, List, length}
+use Rattle.std.specs.Prelude.{ℕ, ◌^◌, ◌≤◌, ◌≤ℤ◌, pos, neg_ℤ, List, length, IfSome}
+use Rattle.track_types.specs.Near.{IsBoxWithin}
 use Rattle.rule_store.specs.View.{RulesView}
 use Rattle.rule_store.specs.Expansion.{expansion_of, values_of}
 use Rattle.rule_store.specs.Cells.{displacement_of}
@@ -23,3 +24,12 @@ entry_with symbol values = record {
 -- the entry of a symbol
 unfoldable pub entry_of : RulesView → ℕ → Entry
 entry_of view symbol = entry_with symbol (values_of view symbol)
+
+-- how far an entry reaches at most, whatever its rules: its displacement and its duration fit 32 bits
+pub record IsEntryWithin (entry : Entry) : Type 0 where
+  pub left : neg_ℤ (pos (2 ^ 31)) ≤ℤ entry.dx
+  pub right : entry.dx ≤ℤ pos (2 ^ 31)
+  pub below : neg_ℤ (pos (2 ^ 31)) ≤ℤ entry.dy
+  pub above : entry.dy ≤ℤ pos (2 ^ 31)
+  pub short : entry.duration ≤ 2 ^ 22
+  pub hull : IfSome entry.hull IsBoxWithin

@@ -16,7 +16,7 @@ pub struct LogView<'a> {
 }
 
 impl<'a> LogView<'a> {
-    ghost use Rattle.rule_store.specs.Entry.{entry_of};
+    ghost use Rattle.rule_store.specs.Entry.{entry_of, IsEntryWithin};
     ghost use Rattle.rule_store.specs.View.{symbols_in};
     ghost use Rattle.rule_store.specs.Log.{log_of};
     ghost use Rattle.rule_store.specs.Cost.{entry_reads};
@@ -50,6 +50,7 @@ impl<'a> LogView<'a> {
         requires { i < length (log_of self.now) }
         ensures value { result ≡ entry_of self.now.rules.now (slice_index (log_of self.now) i) }
         ensures within { slice_index (log_of self.now) i < symbols_in self.now.rules.now }
+        ensures reach { IsEntryWithin result }
         ensures cost { steps.new ≡ steps.old + entry_reads }
     {
         let rules = self.rules;

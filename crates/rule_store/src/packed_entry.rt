@@ -19,7 +19,7 @@ pub(crate) struct PackedEntry {
 }
 
 impl PackedEntry {
-    ghost use Rattle.rule_store.specs.Entry.{entry_with};
+    ghost use Rattle.rule_store.specs.Entry.{entry_with, IsEntryWithin};
     ghost use Rattle.rule_store.specs.Flaws.{box_passes};
     ghost use Rattle.rule_store.specs.Stored.{IsPacked};
 
@@ -54,7 +54,9 @@ impl PackedEntry {
 
     /// The entry, as that of a symbol.
     pub(crate) fn unpack(self, symbol: u32) -> Entry
-        ensures { (values : List ℕ) → IsPacked values self → result ≡ entry_with symbol values }
+        ensures value { (values : List ℕ) → IsPacked values self
+            → result ≡ entry_with symbol values }
+        ensures within { IsEntryWithin result }
     {
         let (dx, dy) = self.displacement();
         Entry {

@@ -2,7 +2,7 @@ ghost use Rattle.std.specs.Prelude.{◌≡◌, ◌+◌, ◌<◌, ◌≤◌, ◌^
 ghost use Rattle.std.specs.Prelude.{nat_le, IfErr, IfOk, OnOk};
 ghost use Rattle.rule_store.specs.View.{rules_with, symbols_in, IsShaped};
 ghost use Rattle.rule_store.specs.Expansion.{depth_in, depth_of};
-ghost use Rattle.rule_store.specs.Entry.{entry_of};
+ghost use Rattle.rule_store.specs.Entry.{entry_of, IsEntryWithin};
 ghost use Rattle.rule_store.specs.Flaws.{rules_flaw, AreRules, IsFaultFor, left_of, right_of};
 ghost use Rattle.rule_store.specs.Stored.{IsEntryOf, IsReadRule};
 ghost use Rattle.rule_store.specs.Cost.{parts_reads};
@@ -108,6 +108,7 @@ impl RuleStore {
     pub fn entry(&self, symbol: u32) -> Entry
         requires { symbol < symbols_in self.now }
         ensures value { result ≡ entry_of self.now symbol }
+        ensures within { IsEntryWithin result }
         ensures rules { AreRules self.now }
     {
         self.packed(symbol).unpack(symbol)

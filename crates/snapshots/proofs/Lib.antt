@@ -15,4 +15,10 @@ mod PlaceLemmas
 mod PlacesLemmas
 mod ObjectsLemmas
 mod ChosenLemmas
+mod LogsLemmas
+mod ByObjectLemmas
+mod JudgingLemmas
+mod JoinLemmas
+pub mod SoundPartsLemmas
 mod Examples
+pub mod GetterLemmas

@@ -6,3 +6,8 @@ pub mod Sound
 pub mod Stored
 pub mod Members
 pub mod Objects
+pub mod Parts
+pub mod JoinFlaws
+pub mod SoundParts
+pub mod IndexCost
+pub mod Stores

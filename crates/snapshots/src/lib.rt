@@ -2,18 +2,22 @@
 //!
 //! A `Snapshot` is checked from the parts of a period. `find` leads from an object to its block in
 //! a bounded number of reads, and `objects_in` gives the blocks whose anchors lie in squares that
-//! pass a test. The crate stands on `k2_tree`, `object_perm`, `bit_rank`, `track_types`,
-//! `packed_bits`, `step_count` and `list_laws`.
+//! pass a test. The crate stands on `rule_store`, `k2_tree`, `object_perm`,
+//! `bit_rank`, `track_types`, `packed_bits`, `step_count` and `list_laws`.
 #![tactic(auto)]
 
 mod anchored;
 mod blocks;
+mod by_object;
 mod checking;
+mod everywhere;
 mod fault;
+mod logs;
 mod members;
 mod next;
 mod objects_in;
 mod snapshot;
+mod stores;
 #[cfg(test)]
 mod tests;
 
@@ -22,3 +26,4 @@ pub use fault::SnapFault;
 pub use members::Members;
 pub use objects_in::ObjectsIn;
 pub use snapshot::Snapshot;
+pub use stores::Stores;

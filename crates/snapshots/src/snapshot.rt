@@ -137,6 +137,29 @@ impl Snapshot {
         Some(self.block(index, rank, cell))
     }
 
+    /// The header.
+    pub(crate) fn frame(&self) -> &Frame
+        ensures value { result.now ≡ self.now.frame }
+        ensures snapshot { IsSnapshot self.now }
+    {
+        &self.frame
+    }
+
+    /// The period's number.
+    pub(crate) fn number(&self) -> u32
+        ensures value { result ≡ self.now.number }
+    {
+        self.number
+    }
+
+    /// How many objects there are.
+    pub(crate) fn objects(&self) -> u32
+        ensures value { result ≡ self.now.objects }
+        ensures snapshot { IsSnapshot self.now }
+    {
+        self.objects
+    }
+
     /// The tree of the cells in which the anchors are. It reads nothing that is counted.
     pub fn tree(&self) -> &K2Tree
         ensures value { result.now ≡ tree_in self.now }

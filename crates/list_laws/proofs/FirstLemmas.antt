@@ -1,0 +1,73 @@
+-- What is first of what members give, each of which may give nothing.
+use Rattle.std.proofs.Common.{◌≡◌, ◌⊎◌, ℕ, zero, suc, ◌+◌, ◌<◌, ◌≤◌, List, [], ◌∷◌, Option, None, Some, All, inl, inr, refl, ap, sym, ◌∙◌, arith}
+use Rattle.std.specs.List.{filter_map, range_with_len}
+use Rattle.std.specs.Option.{option_map, option_or}
+use Rattle.std.proofs.lemmas.Bool.{cases_order}
+use Rattle.std.proofs.lemmas.List.Elements.{All-nil, All-cons}
+use Rattle.list_laws.specs.First.{first_of}
+
+module _ {Y : Type 0} (give : ℕ → Option Y) where
+  -- nothing comes where no number of a range gives anything
+  pub first_of_range-none : (from n : ℕ) → ((j : ℕ) → from ≤ j → j < from + n → give j ≡ None)
+      → first_of give (range_with_len from n) ≡ None
+  unfolding first_of
+  first_of_range-none from zero none = refl
+  first_of_range-none from (suc n) none =
+      let here : give from ≡ None = none from (omega arith) (omega arith) in
+      rw here (first_of_range-none (from + 1) n (λ j low high. none j (omega arith) (omega arith)))
+
+  -- where numbers before one give nothing, what it gives is first
+  pub first_of_range-at : (from n place : ℕ) (y : Y) → from ≤ place → place < from + n
+      → ((j : ℕ) → from ≤ j → j < place → give j ≡ None) → give place ≡ Some y
+      → first_of give (range_with_len from n) ≡ Some y
+  unfolding first_of
+  first_of_range-at from zero place y low high before gives = absurd (omega arith)
+  first_of_range-at from (suc n) place y low high before gives = elim (cases_order from place) [
+    | inl same ↦ let here : give from ≡ Some y = ap give same ∙ gives in rw here refl
+    | inr other ↦ elim other [
+      | inl later ↦
+          let here : give from ≡ None = before from (omega arith) later in
+          rw here (first_of_range-at (from + 1) n place y (omega arith) (omega arith)
+          (λ j above below. before j (omega arith) below) gives)
+      | inr earlier ↦ absurd (omega arith)
+    ]
+  ]
+
+-- a choice of two is none only where both are
+pub or-none : {Y : Type 0} (a b : Option Y) → option_or a b ≡ None → (a ≡ None) × (b ≡ None)
+or-none None b none = (refl, none)
+or-none (Some y) b none = absurd (cc)
+
+-- what is made of a value is none only where there is no value
+pub map-none : {X Y : Type 0} (f : X → Y) (a : Option X) → option_map f a ≡ None → a ≡ None
+map-none f None none = refl
+map-none f (Some x) none = absurd (cc)
+
+-- where nothing is first, no member gives anything
+pub All-first_of : {X Y : Type 0} (give : X → Option Y) (xs : List X) → first_of give xs ≡ None
+    → All (λ x. give x ≡ None) xs
+unfolding first_of
+All-first_of give [] none = All-nil (λ x. give x ≡ None)
+All-first_of give (x ∷ xs) none =
+    let both = or-none (give x) (first_of give xs) none in
+    All-cons (λ y. give y ≡ None) x xs both.0 (All-first_of give xs both.1)
+
+-- what is made of a member, if something is
+abbrev pub made_first : {X Y : Type 0} → (X → Option Y) → Option X → Option Y
+made_first give None = None
+made_first give (Some x) = give x
+
+-- a value is there or not
+made_cases : {X : Type 0} (x : Option X) → (x ≡ None) ⊎ ((y : X) × (x ≡ Some y))
+made_cases None = inl refl
+made_cases (Some y) = inr (y, refl)
+
+-- what is first of what is made of some members
+pub first_of-filter_map : {X Y Z : Type 0} (give : Y → Option Z) (make : X → Option Y) (xs : List X)
+    → first_of give (filter_map make xs) ≡ first_of (λ x. made_first give (make x)) xs
+unfolding first_of
+first_of-filter_map give make [] = refl
+first_of-filter_map give make (x ∷ xs) = elim (made_cases (make x)) [
+  | inl none ↦ rw none (first_of-filter_map give make xs)
+  | inr some ↦ rw some.1 (ap (option_or (give some.0)) (first_of-filter_map give make xs))
+]

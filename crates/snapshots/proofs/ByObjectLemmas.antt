@@ -1,0 +1,182 @@
+-- The blocks of a period, put where their objects stand.
+use Rattle.std.proofs.Common.{◌≡◌, ◌≢◌, ◌⊎◌, ℕ, zero, suc, ◌+◌, ◌*◌, ◌<◌, ◌≤◌, Bool, true, false, eqb, List, [], ◌∷◌, length, get_or, set, map, filter, All, Option, None, Some, inl, inr, refl, ap, sym, ◌∙◌, arith, subst}
+use Rattle.std.specs.Prelude.{if◌then◌else◌, replicate, slice_index_or}
+use Rattle.std.specs.List.{filter_map, range_with_len, sum_by}
+use Rattle.std.proofs.lemmas.Bool.{cases_Bool}
+use Rattle.std.proofs.lemmas.Bool.Decides.{nat_tests}
+use Rattle.std.proofs.lemmas.List.{same_lists, get_or-set_same, get_or-set_other, get_or-replicate, get_or_default, length-set, length-replicate}
+use Rattle.std.proofs.lemmas.List.Sums.{sum_by-cons}
+use Rattle.std.proofs.lemmas.List.Elements.{All-tail}
+use Rattle.std.proofs.lemmas.Option.{none-some, same_Some, slice_get_within}
+use Rattle.std.proofs.lemmas.List.FromFn.{get_or-map-range_with_len, length-map-range_with_len}
+use Rattle.list_laws.proofs.SumLemmas.{made_weight, sum_by-filter_map}
+use Rattle.track_types.specs.declared.cell.Cell.{Cell}
+use Rattle.track_types.specs.declared.cell_box.CellBox.{CellBox}
+use Rattle.k2_tree.specs.Pruning.{square_count, IsKeptFor}
+use Rattle.snapshots.specs.IndexCost.{blocks_reads, everywhere}
+use Rattle.snapshots.specs.Cost.{block_reads, square_reads}
+use Rattle.snapshots.specs.Objects.{wanted_blocks, WeighSame}
+use Rattle.snapshots.specs.Sound.{IsBlock, IsSnapshot}
+use Rattle.snapshots.specs.View.{SnapshotView, all_blocks, block_of, present_block, tree_in}
+use Rattle.snapshots.specs.declared.anchored.Anchored.{Anchored}
+
+-- a block counts if it is an object's
+abbrev pub counts : ℕ → Anchored → ℕ
+counts index block = if eqb block.index index then 1 else 0
+
+-- the block at an object's place is the object's, or it is still to come
+abbrev pub IsSettled : SnapshotView → List Anchored → List (Option Anchored) → ℕ → Type 0
+IsSettled view left table index = (get_or table index None ≡ block_of view index)
+    ⊎ ((get_or table index None ≡ None) × (0 < sum_by (counts index) left))
+
+-- what is known of a table to which the blocks that are left are still to be put
+pub record IsScattering (view : SnapshotView) (left : List Anchored) (table : List (Option Anchored)) : Type 0 where
+  pub long : length table ≡ view.objects
+  pub settled : (index : ℕ) → index < view.objects → IsSettled view left table index
+  pub blocks : All (IsBlock view) left
+
+-- a test that all pass keeps all
+filter-all : {X : Type 0} (xs : List X) → filter (λ _. true) xs ≡ xs
+filter-all [] = refl
+filter-all (x ∷ xs) = ap (λ ys. x ∷ ys) (filter-all xs)
+
+-- where nothing is left out, the same blocks are drawn as there are
+pub WeighSame-all : (view : SnapshotView) (left : List Anchored)
+    → ((wanted : Cell → Bool) → IsKeptFor everywhere wanted
+    → WeighSame (wanted_blocks wanted left) (wanted_blocks wanted (all_blocks view)))
+    → WeighSame left (all_blocks view)
+WeighSame-all view left same =
+    let all = same (λ _. true) (λ area cell near inside wanted. refl) in
+    subst (λ xs. WeighSame xs (all_blocks view)) (filter-all left)
+    (subst (WeighSame (wanted_blocks (λ _. true) left)) (filter-all (all_blocks view)) all)
+
+-- there are as many of them
+pub length-weighed : (xs ys : List Anchored) → WeighSame xs ys → length xs ≡ length ys
+unfolding WeighSame
+length-weighed xs ys same = sym (ones xs) ∙ same (λ _. 1) ∙ ones ys
+  where
+    ones : (zs : List Anchored) → sum_by (λ _. 1) zs ≡ length zs
+    ones [] = refl
+    ones (z ∷ zs) = omega (arith, ones zs, sum_by-cons (λ _. 1) z zs)
+
+-- a number of a range counts in a sum over it
+sum_by-range-some : (f : ℕ → ℕ) (from n place : ℕ) → from ≤ place → place < from + n
+    → f place ≤ sum_by f (range_with_len from n)
+sum_by-range-some f from zero place low high = absurd (omega arith)
+sum_by-range-some f from (suc n) place low high = elim (cases_Bool (eqb from place)) [
+  | inl here ↦
+      let same : from ≡ place = grind (arith, nat_tests) in
+      omega (arith, sum_by-cons f from (range_with_len (from + 1) n), ap f same)
+  | inr other ↦
+      let apart : from < place = grind (arith, nat_tests) in
+      let rest = sum_by-range-some f (from + 1) n place (omega arith) (omega arith) in
+      omega (arith, sum_by-cons f from (range_with_len (from + 1) n), rest)
+]
+
+-- a block of the period counts once at least
+present-counts : (view : SnapshotView) (index : ℕ) (block : Anchored) → index < view.objects
+    → block_of view index ≡ Some block → block.index ≡ index → 0 < sum_by (counts index) (all_blocks view)
+unfolding all_blocks
+present-counts view index block within has its =
+    let made : ℕ → ℕ = λ i. made_weight (counts index) (block_of view i) in
+    let here : made index ≡ 1 =
+    ap (made_weight (counts index)) has ∙ ap (λ i. if eqb i index then 1 else 0) its
+    ∙ (let yes : eqb index index ≡ true = grind (arith, nat_tests) in rw yes refl) in
+    let some = sum_by-range-some made 0 view.objects index (omega arith) (omega arith) in
+    let all = sum_by-filter_map (counts index) (block_of view) (range_with_len 0 view.objects) in
+    omega (arith, here, some, all)
+
+-- an object has a block or none
+pub has_block : (view : SnapshotView) (index : ℕ)
+    → (block_of view index ≡ None) ⊎ ((block : Anchored) × (block_of view index ≡ Some block))
+has_block view index = by_cases (block_of view index)
+  where
+    by_cases : (b : Option Anchored) → (b ≡ None) ⊎ ((block : Anchored) × (b ≡ Some block))
+    by_cases None = inl refl
+    by_cases (Some block) = inr (block, refl)
+
+-- the block of an object is its own
+pub index-from_block_of : (view : SnapshotView) (index : ℕ) (block : Anchored) → block_of view index ≡ Some block
+    → block.index ≡ index
+index-from_block_of view index block has = elim (cases_Bool (slice_index_or view.parts.present index false)) [
+  | inl on ↦
+      let same : Some (present_block view index) ≡ Some block = rw on at has in
+      sym (ap (λ (b : Anchored). b.index) (same_Some (present_block view index) block same))
+  | inr off ↦
+      let none : None ≡ Some block = rw off at has in
+      absurd (none-some block none)
+]
+
+-- before the first block: the table has none
+pub scattering-none : (view : SnapshotView) (left : List Anchored) → WeighSame left (all_blocks view)
+    → All (IsBlock view) left → IsScattering view left (replicate view.objects None)
+unfolding WeighSame
+scattering-none view left same all = record {
+  long = length-replicate view.objects None;
+  settled = λ index within.
+      let empty = get_or-replicate view.objects index None None within in
+      elim (has_block view index) [
+        | inl none ↦ inl (empty ∙ sym none)
+        | inr some ↦
+            let its = index-from_block_of view index some.0 some.1 in
+            let counted = present-counts view index some.0 within some.1 its in
+            inr (empty, omega (arith, counted, same (counts index)))
+      ];
+  blocks = all;
+}
+
+-- a block is put to its object's place
+pub scattering-more : (view : SnapshotView) (block : Anchored) (left : List Anchored) (table : List (Option Anchored))
+    → IsScattering view (block ∷ left) table → block.index < length table
+    → IsScattering view left (set table block.index (Some block))
+scattering-more view block left table is within = record {
+  long = length-set table block.index (Some block) ∙ is.long;
+  settled = λ index inside. elim (cases_Bool (eqb block.index index)) [
+    | inl here ↦
+        let same : block.index ≡ index = grind (arith, nat_tests) in
+        let its = is.blocks 0 block (omega arith) in
+        inl (subst (λ i. get_or (set table block.index (Some block)) i None ≡ block_of view i) same
+        (get_or-set_same table block.index (Some block) None within ∙ sym its.its))
+    | inr other ↦
+        let apart : index ≢ block.index = λ same. (let yes : eqb block.index index ≡ true = grind (arith, nat_tests) in cc) in
+        let kept = get_or-set_other table block.index index (Some block) None apart in
+        let light : counts index block ≡ 0 = rw other refl in
+        elim (is.settled index inside) [
+          | inl settled ↦ inl (kept ∙ settled)
+          | inr waits ↦ inr (kept ∙ waits.0, omega (arith, waits.1, light, sum_by-cons (counts index) block left))
+        ]
+  ];
+  blocks = All-tail (IsBlock view) block left is.blocks;
+}
+
+-- the place of a block is in the table
+pub index-within : (view : SnapshotView) (block : Anchored) (left : List Anchored) (table : List (Option Anchored))
+    → IsSnapshot view → IsScattering view (block ∷ left) table → block.index < length table
+index-within view block left table is scattering =
+    let its = scattering.blocks 0 block (omega arith) in
+    let within = slice_get_within view.parts.present block.index true its.present in
+    omega (arith, within, is.shaped.presence, scattering.long)
+
+-- after the last block the table has the block of each object
+pub scattered : (view : SnapshotView) (table : List (Option Anchored)) → IsScattering view [] table
+    → table ≡ map (block_of view) (range_with_len 0 view.objects)
+scattered view table is =
+    same_lists table (map (block_of view) (range_with_len 0 view.objects))
+    (is.long ∙ sym (length-map-range_with_len (block_of view) 0 view.objects))
+    (λ index d within.
+    let inside : index < view.objects = omega (arith, is.long) in
+    elim (is.settled index inside) [
+      | inl settled ↦
+          get_or_default table index d None within ∙ settled
+          ∙ sym (get_or-map-range_with_len (block_of view) 0 view.objects index index d inside (omega arith))
+      | inr waits ↦ absurd (omega (arith, waits.1))
+    ])
+
+-- the reads of a walk over all blocks
+pub blocks_reads-within : (view : SnapshotView) (left : List Anchored) (budget : ℕ) → WeighSame left (all_blocks view)
+    → budget ≤ square_reads * square_count everywhere (tree_in view) + block_reads * length left
+    → budget ≤ blocks_reads view
+unfolding blocks_reads
+blocks_reads-within view left budget same within =
+    subst (λ n. budget ≤ square_reads * square_count everywhere (tree_in view) + block_reads * n)
+    (length-weighed left (all_blocks view) same) within

@@ -1,0 +1,96 @@
+-- What the getters of an index's stores find: an object's place, and an instant's period.
+use Rattle.std.proofs.Common.{◌≡◌, ℕ, ◌+◌, ◌-◌, ◌/◌, ◌<◌, ◌≤◌, ℤ, pos, ◌≤ℤ◌, ◌<ℤ◌, ◌-ℤ◌, ◌+ℤ◌, true, false, eqb, List, length, get_or, None, Some, Result, Ok, Err, MatchResult, zero, suc, Bool, inl, inr, refl, ap, sym, ◌∙◌, arith}
+use Rattle.std.specs.Prelude.{unsigned_abs}
+use Rattle.std.specs.Ordering.{nat_cmp}
+use Rattle.std.specs.List.Sorted.{IsBinarySearchResult}
+use Rattle.std.specs.List.Sorted.{IsStrictlyIncreasing}
+use Rattle.std.proofs.lemmas.Bool.{cases_lt}
+use Rattle.std.proofs.lemmas.Bool.Decides.{nat_tests}
+use Rattle.std.proofs.lemmas.Int.{ints}
+use Rattle.std.proofs.lemmas.List.FromFn.{get_or-map-range_with_len}
+use Rattle.std.proofs.lemmas.List.Sorted.{searched}
+use Rattle.list_laws.proofs.FindLemmas.{find_in_range-first, find_in_range-none}
+use Rattle.track_types.specs.Region.{is_between}
+use Rattle.track_types.specs.Frame.{periods_of}
+use Rattle.track_types.specs.declared.frame.Frame.{Frame}
+use Rattle.track_types.specs.declared.parts.Parts.{Parts}
+use Rattle.track_types.proofs.RegionLemmas.{is_between-from}
+use Rattle.snapshots.specs.Parts.{index_in, last_in, period_in, snapshot_in}
+use Rattle.snapshots.specs.Stores.{snapshots_in}
+use Rattle.snapshots.specs.View.{SnapshotView}
+
+-- of ascending numbers each is less than a later one
+increasing-less : (xs : List ℕ) → IsStrictlyIncreasing xs → (i gap : ℕ) → i + suc gap < length xs
+    → get_or xs i 0 < get_or xs (i + suc gap) 0
+increasing-less xs rising i zero within = rising i within
+increasing-less xs rising i (suc gap) within =
+    let before = increasing-less xs rising i gap (omega arith) in
+    let next = rising (i + suc gap) (omega arith) in
+    let same : i + suc gap + 1 ≡ i + suc (suc gap) = omega arith in
+    omega (arith, before, next, ap (λ k. get_or xs k 0) same)
+
+increasing-below : (xs : List ℕ) → IsStrictlyIncreasing xs → (i j : ℕ) → i < j → j < length xs
+    → get_or xs i 0 < get_or xs j 0
+increasing-below xs rising i j less within =
+    let same : i + suc (j - i - 1) ≡ j = omega arith in
+    let below = increasing-less xs rising i (j - i - 1) (omega (arith, same)) in
+    omega (arith, below, ap (λ k. get_or xs k 0) same)
+
+increasing-at_most : (xs : List ℕ) → IsStrictlyIncreasing xs → (i j : ℕ) → i ≤ j → j < length xs
+    → get_or xs i 0 ≤ get_or xs j 0
+increasing-at_most xs rising i j most within = elim (cases_lt i j) [
+  | inl less ↦ let below = increasing-below xs rising i j less within in omega arith
+  | inr same ↦ let is : i ≡ j = omega arith in omega (arith, ap (λ k. get_or xs k 0) is)
+]
+
+-- two numbers that differ
+apart : (a b : ℕ) → a < b → eqb a b ≡ false
+apart a b less = grind (arith, nat_tests)
+
+apart-greater : (a b : ℕ) → b < a → eqb a b ≡ false
+apart-greater a b less = grind (arith, nat_tests)
+
+-- a binary search finds the place of an object, or that there is none
+pub index_in-searched : (objects : List ℕ) (object : ℕ) (r : Result ℕ ℕ) → IsStrictlyIncreasing objects
+    → IsBinarySearchResult (λ y. nat_cmp y object) objects r
+    → MatchResult r (λ i. Some i ≡ index_in objects object) (λ i. None ≡ index_in objects object)
+index_in-searched objects object (Ok i) rising answer =
+    let stands = searched objects object (Ok i) answer (increasing-at_most objects rising) in
+    sym (find_in_range-first (λ j. eqb (get_or objects j 0) object) 0 (length objects) i (omega arith)
+    (omega (arith, stands.0))
+    (λ j low below.
+    let less = increasing-below objects rising j i below stands.0 in
+    apart (get_or objects j 0) object (omega (arith, less, stands.1)))
+    (grind (arith, nat_tests, stands.1)))
+index_in-searched objects object (Err i) rising answer =
+    let stands = searched objects object (Err i) answer (increasing-at_most objects rising) in
+    sym (find_in_range-none (λ j. eqb (get_or objects j 0) object) 0 (length objects)
+    (λ j low within. elim (cases_lt j i) [
+      | inl before ↦ apart (get_or objects j 0) object (stands.1 j before)
+      | inr after ↦ apart-greater (get_or objects j 0) object (stands.2 j after (omega arith))
+    ]))
+
+-- an instant of the index is in a period
+pub period_in-inside : (frame : Frame) (instant : ℤ) → frame.first ≤ℤ instant → instant ≤ℤ last_in frame
+    → Some (unsigned_abs (instant -ℤ frame.first) / frame.period) ≡ period_in frame instant
+period_in-inside frame instant low high =
+    let inside = is_between-from frame.first (last_in frame) instant low high in
+    rw inside refl
+
+-- one before it or after it is in none
+pub period_in-before : (frame : Frame) (instant : ℤ) → instant <ℤ frame.first → None ≡ period_in frame instant
+period_in-before frame instant early =
+    let outside : is_between frame.first (last_in frame) instant ≡ false = grind (arith, ints) in
+    rw outside refl
+
+pub period_in-after : (frame : Frame) (instant : ℤ) → last_in frame <ℤ instant → None ≡ period_in frame instant
+period_in-after frame instant late =
+    let outside : is_between frame.first (last_in frame) instant ≡ false = grind (arith, ints) in
+    rw outside refl
+
+-- the snapshot at a place
+pub snapshot-at : (parts : Parts) (snaps : List SnapshotView) (number : ℕ) (d : SnapshotView)
+    → snaps ≡ snapshots_in parts → number < periods_of parts.frame → get_or snaps number d ≡ snapshot_in parts number
+snapshot-at parts snaps number d are within =
+    ap (λ (xs : List SnapshotView). get_or xs number d) are
+    ∙ get_or-map-range_with_len (snapshot_in parts) 0 (periods_of parts.frame) number number d within (omega arith)

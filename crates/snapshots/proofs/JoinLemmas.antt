@@ -1,0 +1,159 @@
+-- The snapshots of an index, judged one after the other by period.
+use Rattle.std.proofs.Common.{◌≡◌, ℕ, zero, suc, ◌+◌, ◌<◌, ◌≤◌, List, length, get_or, map, take, None, Some, inl, inr, refl, ap, sym, ◌∙◌, arith, subst}
+use Rattle.std.specs.Prelude.{sum}
+use Rattle.std.specs.List.{range_with_len, sum_by}
+use Rattle.std.proofs.lemmas.Bool.{cases_lt}
+use Rattle.std.proofs.lemmas.List.{map-id, take_all}
+use Rattle.std.proofs.lemmas.List.Sums.{sum_by-cons, sum_by_more, sum_by_more_le}
+use Rattle.std.proofs.lemmas.List.FromFn.{length-map-range_with_len, sum_by-map-range_with_len_more}
+use Rattle.list_laws.proofs.FirstLemmas.{first_of_range-at, first_of_range-none}
+use Rattle.track_types.specs.Frame.{periods_of}
+use Rattle.track_types.specs.declared.parts.Parts.{Parts}
+use Rattle.rule_store.specs.View.{RulesView}
+use Rattle.snapshots.specs.Flaws.{IsFaultFor}
+use Rattle.snapshots.specs.IndexCost.{blocks_reads, open_cost}
+use Rattle.snapshots.specs.JoinFlaws.{blocks_flaw, join_flaw, logs_flaw}
+use Rattle.snapshots.specs.Parts.{no_period, rules_in, snapshot_in, start_in, symbols_of}
+use Rattle.snapshots.specs.Sound.{IsSnapshot}
+use Rattle.snapshots.specs.Stores.{AreOf}
+use Rattle.snapshots.proofs.GetterLemmas.{snapshot-at}
+use Rattle.snapshots.specs.View.{SnapshotView}
+use Rattle.snapshots.specs.declared.fault.SnapFault.{SnapFault}
+use Rattle.snapshots.specs.declared.fault.SnapFault.TheVariants as fault
+
+-- what is known once the snapshots of some periods were judged: they are sound, and none of their blocks has a flaw
+pub record IsJoining (parts : Parts) (count before steps : ℕ) : Type 0 where
+  pub snapshots : (number : ℕ) → number < count → IsSnapshot (snapshot_in parts number)
+  pub none : (number : ℕ) → number < count → join_flaw parts number ≡ None
+  pub reads : steps ≤ before + (start_in parts count
+      + sum_by (λ number. blocks_reads (snapshot_in parts number)) (range_with_len 0 count))
+
+-- before the first period
+pub joining-none : (parts : Parts) (steps : ℕ) → IsJoining parts 0 steps steps
+joining-none parts steps = record {
+  snapshots = λ number below. absurd (omega arith);
+  none = λ number below. absurd (omega arith);
+  reads = omega arith;
+}
+
+module _ (parts : Parts) (rules : RulesView) (snaps : List SnapshotView) (of : AreOf parts rules snaps) where
+  -- the snapshot that is read
+  pub snapshot-read : (number : ℕ) (d : SnapshotView) → number < length snaps
+      → get_or snaps number d ≡ snapshot_in parts number
+  snapshot-read number d within =
+      let long = ap length of.snaps_are ∙ length-map-range_with_len (snapshot_in parts) 0 (periods_of parts.frame) in
+      snapshot-at parts snaps number d of.snaps_are (omega (arith, long))
+
+  -- there are as many as periods
+  pub length-snaps : length snaps ≡ periods_of parts.frame
+  length-snaps = ap length of.snaps_are ∙ length-map-range_with_len (snapshot_in parts) 0 (periods_of parts.frame)
+
+  -- the logs of a period stand after those of the earlier ones
+  pub start_in-more : (number : ℕ) → number < periods_of parts.frame
+      → start_in parts (number + 1) ≡ start_in parts number + sum (snapshot_in parts number).parts.lengths
+  unfolding start_in
+  start_in-more number within =
+      sum_by_more symbols_of parts.periods number no_period (omega (arith, of.shaped.periods))
+
+  -- and at the end of the symbols at most
+  pub start_in-within : (number : ℕ) → number < periods_of parts.frame
+      → start_in parts number + sum (snapshot_in parts number).parts.lengths ≤ length parts.symbols
+  unfolding start_in
+  start_in-within number within =
+      let all = sum_by_more_le symbols_of parts.periods number no_period (omega (arith, of.shaped.periods)) in
+      let total : sum_by symbols_of (take (periods_of parts.frame) parts.periods) ≡ length parts.symbols = of.total in
+      let whole : take (periods_of parts.frame) parts.periods ≡ parts.periods =
+      take_all (periods_of parts.frame) parts.periods (omega (arith, of.shaped.periods)) in
+      omega (arith, all, total, ap (sum_by symbols_of) whole)
+
+  -- one period more
+  pub joining-more : (number before steps after : ℕ) → IsJoining parts number before steps
+      → number < periods_of parts.frame → IsSnapshot (snapshot_in parts number) → join_flaw parts number ≡ None
+      → after ≤ steps + (blocks_reads (snapshot_in parts number) + sum (snapshot_in parts number).parts.lengths)
+      → IsJoining parts (number + 1) before after
+  joining-more number before steps after is within snapshot none reads = record {
+    snapshots = λ k below. elim (cases_lt k number) [
+      | inl less ↦ is.snapshots k less
+      | inr most ↦
+          let same : number ≡ k = omega arith in subst (λ n. IsSnapshot (snapshot_in parts n)) same snapshot
+    ];
+    none = λ k below. elim (cases_lt k number) [
+      | inl less ↦ is.none k less
+      | inr most ↦ let same : k ≡ number = omega arith in ap (join_flaw parts) same ∙ none
+    ];
+    reads =
+        let more = sum_by-range-more (λ n. blocks_reads (snapshot_in parts n)) number in
+        omega (arith, is.reads, reads, start_in-more number within, more);
+  }
+    where
+      sum_by-range-more : (f : ℕ → ℕ) (n : ℕ)
+          → sum_by f (range_with_len 0 (n + 1)) ≡ sum_by f (range_with_len 0 n) + f n
+      sum_by-range-more f n =
+          ap (sum_by f) (sym (map-id (range_with_len 0 (n + 1))))
+          ∙ sum_by-map-range_with_len_more f (λ k. k) 0 n n (omega arith)
+          ∙ ap (λ xs. sum_by f xs + f n) (map-id (range_with_len 0 n))
+
+  -- the flaw of a period, after periods that have none, is the first
+  pub logs_flaw-at : (number before steps : ℕ) (found : SnapFault) → IsJoining parts number before steps
+      → number < periods_of parts.frame → IsFaultFor (join_flaw parts number) found → IsFaultFor (logs_flaw parts) found
+  unfolding logs_flaw
+  logs_flaw-at number before steps fault.Memory is within fault = fault
+  logs_flaw-at number before steps (fault.Flaw flaw) is within fault =
+      first_of_range-at (join_flaw parts) 0 (periods_of parts.frame) number flaw (omega arith) (omega arith)
+      (λ j low below. is.none j below) fault
+
+  -- all periods were judged
+  module _ (before steps : ℕ) (is : IsJoining parts (periods_of parts.frame) before steps) where
+    pub logs_flaw-none : logs_flaw parts ≡ None
+    unfolding logs_flaw
+    logs_flaw-none =
+        first_of_range-none (join_flaw parts) 0 (periods_of parts.frame) (λ j low high. is.none j (omega arith))
+
+    pub reads-within : steps ≤ before + open_cost parts
+    unfolding open_cost
+    reads-within = omega (arith, is.reads, of.total)
+
+-- the first terms of a sum over numbers, and the next one, are within the whole sum
+from-zero : (from : ℕ) → from + 0 ≡ from
+from-zero from = omega arith
+
+from-suc : (from n : ℕ) → from + suc n ≡ from + 1 + n
+from-suc from n = omega arith
+
+sum_by-range-part : (f : ℕ → ℕ) (from n m : ℕ) → n < m
+    → sum_by f (range_with_len from n) + f (from + n) ≤ sum_by f (range_with_len from m)
+sum_by-range-part f from n zero less = absurd (omega arith)
+sum_by-range-part f from zero (suc m) less =
+    omega (arith, sum_by-cons f from (range_with_len (from + 1) m), ap f (from-zero from))
+sum_by-range-part f from (suc n) (suc m) less =
+    omega (arith, sum_by-cons f from (range_with_len (from + 1) n), sum_by-cons f from (range_with_len (from + 1) m),
+    sum_by-range-part f (from + 1) n m (omega arith), ap f (from-suc from n))
+
+-- the reads so far are within the cost of opening
+pub reads-so_far : (parts : Parts) (rules : RulesView) (snaps : List SnapshotView) → AreOf parts rules snaps
+    → (number before steps after : ℕ) → IsJoining parts number before steps → number < periods_of parts.frame
+    → after ≤ steps + (blocks_reads (snapshot_in parts number) + sum (snapshot_in parts number).parts.lengths)
+    → after ≤ before + open_cost parts
+unfolding open_cost
+reads-so_far parts rules snaps of number before steps after is within reads =
+    let here = start_in-within parts rules snaps of number within in
+    let some = sum_by-range-part (λ n. blocks_reads (snapshot_in parts n)) 0 number (periods_of parts.frame)
+    (omega arith) in
+    let same : 0 + number ≡ number = omega arith in
+    let one = ap (λ n. blocks_reads (snapshot_in parts n)) same in
+    omega (arith, is.reads, reads, here, some, one)
+
+-- the snapshot that is read of the list
+pub read-item : (parts : Parts) (rules : RulesView) (snaps items : List SnapshotView) (number : ℕ)
+    (item : SnapshotView) → AreOf parts rules snaps → items ≡ snaps → number < length items
+    → item ≡ get_or items number item → item ≡ snapshot_in parts number
+read-item parts rules snaps items number item of same within read =
+    read ∙ ap (λ (xs : List SnapshotView). get_or xs number item) same
+    ∙ snapshot-read parts rules snaps of number item (omega (arith, ap length same))
+
+-- the flaw of its blocks is that of the period
+pub blocks_flaw-item : (parts : Parts) (rules : RulesView) (snaps : List SnapshotView) (number : ℕ)
+    (item : SnapshotView) → AreOf parts rules snaps → item ≡ snapshot_in parts number
+    → blocks_flaw rules item ≡ join_flaw parts number
+blocks_flaw-item parts rules snaps number item of same =
+    ap (λ r. blocks_flaw r item) of.rules_are ∙ ap (blocks_flaw (rules_in parts)) same

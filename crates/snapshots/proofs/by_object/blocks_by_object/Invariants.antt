@@ -1,0 +1,19 @@
+use Rattle.std.proofs.Common.{ℕ, ◌+◌, ◌≤◌, Bool, length}
+use Rattle.track_types.specs.declared.cell_box.CellBox.{CellBox}
+use Rattle.snapshots.specs.declared.everywhere.Everywhere.{Everywhere}
+use Rattle.snapshots.specs.IndexCost.{blocks_reads, everywhere}
+use Rattle.snapshots.specs.Objects.{objects_budget, objects_left}
+use Rattle.snapshots.proofs.ByObjectLemmas.{IsScattering}
+use Rattle.snapshots.proofs.by_object.blocks_by_object.Given as goal
+
+abbrev pub keeps : Everywhere → CellBox → Bool
+keeps _ = everywhere
+
+abbrev pub invariant-loop-block : goal.invariant-loop-block
+invariant-loop-block g l = record {
+  table : IsScattering l.fn.snapshot (objects_left keeps l.walk) l.blocks.items;
+  reads : l.steps + objects_budget keeps l.walk ≤ l.fn.steps + blocks_reads l.fn.snapshot;
+}
+
+abbrev pub decreases-loop-block : goal.decreases-loop-block
+decreases-loop-block g l = length (objects_left keeps l.walk)

@@ -1,0 +1,43 @@
+-- What the stores of an index hold: its parts.
+use Rattle.std.specs.Prelude.{◌≡◌, ℕ, List, length, map}
+use Rattle.track_types.specs.Frame.{periods_of}
+use Rattle.track_types.specs.Shape.{IsShaped}
+use Rattle.track_types.specs.declared.frame.Frame.{Frame}
+use Rattle.track_types.specs.declared.parts.Parts.{Parts}
+use Rattle.track_types.specs.declared.period_parts.PeriodParts.{PeriodParts}
+use Rattle.rule_store.specs.View.{RulesView}
+use Rattle.snapshots.specs.View.{SnapshotView}
+use Rattle.snapshots.specs.Parts.{numbers_in, rules_in, snapshot_in, start_in}
+use Rattle.snapshots.specs.SoundParts.{IsValid}
+
+-- the parts of a snapshot
+abbrev pub parts_of : SnapshotView → PeriodParts
+parts_of view = view.parts
+
+-- the parts that a header, objects, rules and snapshots make up
+abbrev pub join_of : Frame → List ℕ → RulesView → List SnapshotView → Parts
+join_of frame objects rules snaps = record {
+  frame = frame;
+  objects = objects;
+  alphabet = rules.alphabet;
+  rules = rules.rules;
+  periods = map parts_of snaps;
+  symbols = rules.symbols;
+}
+
+-- the snapshots of all periods
+abbrev pub snapshots_in : Parts → List SnapshotView
+snapshots_in parts = map (snapshot_in parts) (numbers_in parts.frame)
+
+-- rules and snapshots are those of the parts, and the logs stand one after the other to the end of the symbols
+pub record AreOf (parts : Parts) (rules : RulesView) (snaps : List SnapshotView) : Type 0 where
+  pub shaped : IsShaped parts
+  pub rules_are : rules ≡ rules_in parts
+  pub snaps_are : snaps ≡ snapshots_in parts
+  pub total : start_in parts (periods_of parts.frame) ≡ length parts.symbols
+
+-- what holds of all stores: the parts are valid, and rules and snapshots are theirs
+pub record AreStores (parts : Parts) (rules : RulesView) (snaps : List SnapshotView) : Type 0 where
+  pub valid : IsValid parts
+  pub rules_are : rules ≡ rules_in parts
+  pub snaps_are : snaps ≡ snapshots_in parts

@@ -1,0 +1,183 @@
+ghost use Rattle.std.specs.Prelude.{◌≡◌, ◌+◌, ◌<◌, ◌≤◌, ◌^◌, None, Some, length, IfErr, IfOk, OnOk};
+ghost use Rattle.std.specs.Prelude.{sum, pos, ◌≤ℤ◌, IfSome};
+ghost use Rattle.track_types.specs.Frame.{instants_in, periods_of, IsFrame};
+ghost use Rattle.track_types.specs.Near.{IsBoxWithin, IsCellWithin};
+ghost use Rattle.snapshots.specs.Flaws.{IsFaultFor};
+ghost use Rattle.snapshots.specs.Parts.{log_at};
+ghost use Rattle.snapshots.specs.Sound.{IsSnapshot};
+ghost use Rattle.snapshots.specs.IndexCost.{blocks_reads};
+ghost use Rattle.snapshots.specs.JoinFlaws.{blocks_flaw, has_columns, has_lines, lasting, log_flaw};
+ghost use Rattle.snapshots.specs.JoinFlaws.{off_grid_at, passes_grid, IsReached};
+
+use crate::anchored::Anchored;
+use crate::by_object::blocks_by_object;
+use crate::checking::{flaw, instants_in};
+use crate::fault::SnapFault;
+use crate::snapshot::Snapshot;
+use rule_store::RuleStore;
+use std::alloc::Global;
+use std::sync::ledger::Ledger;
+use step_count::Steps;
+use track_types::{Cell, CellBox, Frame, Kind, Section};
+
+/// What the symbols of a log that stays in the grid tell of its block.
+#[derive(Clone, Copy)]
+pub struct LogSummary {
+    /// How many instants they stand for.
+    pub duration: u64,
+}
+
+/// Judges the logs of all blocks of a snapshot, by object, and answers the first flaw. It reads each
+/// symbol of these logs once, and what leads to the blocks.
+pub fn judge_snapshot<L: Ledger>(
+    alloc: Global,
+    rules: &RuleStore,
+    snapshot: &Snapshot,
+    steps: &mut Steps<L>,
+) -> Result<(), SnapFault>
+    requires symbols { snapshot.now.start + sum snapshot.now.parts.lengths
+        ≤ length rules.now.symbols }
+    ensures exact { OnOk result (blocks_flaw rules.now snapshot.now ≡ None) }
+    ensures snapshot { OnOk result (IsSnapshot snapshot.now) }
+    ensures flaw { IfErr result (λ fault. IsFaultFor (blocks_flaw rules.now snapshot.now) fault) }
+    ensures cost { steps.new
+        ≤ steps.old + (blocks_reads snapshot.now + sum snapshot.now.parts.lengths) }
+{
+    let blocks = blocks_by_object(alloc, snapshot, steps)?;
+    let (frame, number) = (snapshot.frame(), snapshot.number());
+    let mut rank = 0;
+    for slot in &blocks {
+        if let Some(block) = slot {
+            judge_log(rules, frame, number, rank, block, steps)?;
+            rank += 1;
+        }
+    }
+    Ok(())
+}
+
+// Judges the log of a block, which has this place among those of the period with this number: a placed
+// box that passes the grid comes before a wrong duration.
+fn judge_log<L: Ledger>(
+    rules: &RuleStore,
+    frame: &Frame,
+    number: u32,
+    rank: u32,
+    block: &Anchored,
+    steps: &mut Steps<L>,
+) -> Result<(), SnapFault>
+    requires header { IsFrame frame.now }
+    requires period { number < periods_of frame.now }
+    requires offset { block.now.offset < instants_in frame.now number }
+    requires cell { IsCellWithin block.now.cell }
+    requires log { block.now.from + block.now.len ≤ length rules.now.symbols }
+    requires long { block.now.from + block.now.len ≤ 2 ^ 25 }
+    ensures exact { OnOk result (log_flaw frame.now rules.now number rank block.now ≡ None) }
+    ensures flaw { IfErr result (λ fault.
+        IsFaultFor (log_flaw frame.now rules.now number rank block.now) fault) }
+    ensures cost { steps.new ≤ steps.old + block.now.len }
+{
+    match read_log(rules, frame, block, steps) {
+        Err(place) => Err(flaw(number, Section::Log, Kind::OffGrid, block.from + place)),
+        Ok(summary) => {
+            let lasting = instants_in(frame, number) - 1 - block.offset;
+            if summary.duration == u64::from(lasting) {
+                Ok(())
+            } else {
+                Err(flaw(number, Section::Lengths, Kind::Duration, rank))
+            }
+        }
+    }
+}
+
+// Reads the symbols of a block's log once, from the cell of its anchor on: what they tell, or the place
+// of the first one whose placed box passes the grid.
+fn read_log<L: Ledger>(
+    rules: &RuleStore,
+    frame: &Frame,
+    block: &Anchored,
+    steps: &mut Steps<L>,
+) -> Result<LogSummary, u32>
+    requires header { IsFrame frame.now }
+    requires cell { IsCellWithin block.now.cell }
+    requires log { block.now.from + block.now.len ≤ length rules.now.symbols }
+    requires long { block.now.from + block.now.len ≤ 2 ^ 25 }
+    ensures inside { OnOk result
+        (off_grid_at frame.now rules.now block.now.cell (log_at rules.now block.now) ≡ None) }
+    ensures ok { IfOk result (λ summary.
+        summary.duration ≡ lasting rules.now (log_at rules.now block.now)) }
+    ensures err { IfErr result (λ place.
+        off_grid_at frame.now rules.now block.now.cell (log_at rules.now block.now) ≡ Some place) }
+    ensures within { IfErr result (λ place. place < block.now.len) }
+    ensures cost { steps.new ≤ steps.old + block.now.len }
+{
+    let log = rules.block(block.from, block.len);
+    let mut cell = block.cell;
+    let mut duration = 0;
+    for place in 0..block.len {
+        let entry = log.entry(place, steps);
+        if passes_grid(frame, cell, &entry.hull) {
+            return Err(place);
+        }
+        cell = Cell {
+            x: cell.x + entry.dx,
+            y: cell.y + entry.dy,
+        };
+        duration += u64::from(entry.duration);
+    }
+    Ok(LogSummary { duration })
+}
+
+// Whether a box, moved to a cell, passes the grid. Where there is no box, nothing does.
+fn passes_grid(frame: &Frame, cell: Cell, hull: &Option<CellBox>) -> bool
+    requires header { IsFrame frame.now }
+    requires column { IsReached cell.x }
+    requires line { IsReached cell.y }
+    requires hull { IfSome hull.now IsBoxWithin }
+    ensures { result ≡ passes_grid frame.now cell hull.now }
+{
+    match hull {
+        Some(hull) => !(has_columns(frame, cell, hull) && has_lines(frame, cell, hull)),
+        None => false,
+    }
+}
+
+// Whether the columns of a box, moved to a cell, are in the grid.
+fn has_columns(frame: &Frame, cell: Cell, hull: &CellBox) -> bool
+    requires header { IsFrame frame.now }
+    requires column { IsReached cell.x }
+    requires hull { IsBoxWithin hull.now }
+    ensures { result ≡ has_columns frame.now cell hull.now }
+{
+    if cell.x + hull.x1 < frame.base.x {
+        return false;
+    }
+    if cell.x + hull.x2 >= frame.base.x + side_of(frame) {
+        return false;
+    }
+    true
+}
+
+// Whether its lines are.
+fn has_lines(frame: &Frame, cell: Cell, hull: &CellBox) -> bool
+    requires header { IsFrame frame.now }
+    requires line { IsReached cell.y }
+    requires hull { IsBoxWithin hull.now }
+    ensures { result ≡ has_lines frame.now cell hull.now }
+{
+    if cell.y + hull.y1 < frame.base.y {
+        return false;
+    }
+    if cell.y + hull.y2 >= frame.base.y + side_of(frame) {
+        return false;
+    }
+    true
+}
+
+// How many cells a side of the grid has.
+fn side_of(frame: &Frame) -> i64
+    requires { IsFrame frame.now }
+    ensures value { result ≡ pos (2 ^ frame.now.height) }
+    ensures within { result ≤ℤ pos (2 ^ 20) }
+{
+    i64::from(1u32 << frame.height)
+}

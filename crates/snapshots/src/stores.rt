@@ -1,0 +1,146 @@
+ghost use Rattle.std.specs.Prelude.{◌≡◌, ◌+◌, ◌<◌, ◌≤◌, None, length, slice_get, IfErr, IfOk, OnOk, Some};
+ghost use Rattle.track_types.specs.Frame.{periods_of};
+ghost use Rattle.track_types.specs.Shape.{IsShaped};
+ghost use Rattle.snapshots.specs.Flaws.{IsFaultFor};
+ghost use Rattle.snapshots.specs.IndexCost.{open_cost};
+ghost use Rattle.snapshots.specs.JoinFlaws.{logs_flaw};
+ghost use Rattle.snapshots.specs.Parts.{index_in, period_in, rules_in, snapshot_in};
+ghost use Rattle.snapshots.specs.SoundParts.{IsSound, IsValid};
+ghost use Rattle.snapshots.specs.Stores.{join_of, AreOf};
+
+use crate::fault::SnapFault;
+use crate::logs::judge_snapshot;
+use crate::snapshot::Snapshot;
+use rule_store::RuleStore;
+use std::alloc::Global;
+use std::marker::Model;
+use std::sync::ledger::Ledger;
+use step_count::Steps;
+use track_types::{Frame, List32};
+
+/// All that an index keeps: its header, its objects, its rules with the symbols of all logs, and a
+/// snapshot of each period.
+///
+/// Contracts see the parts of the index that these make up. They are valid (`IsValid`).
+#[derive(Drop)]
+pub struct Stores {
+    frame: Frame,
+    objects: List32,
+    rules: RuleStore,
+    snaps: Vec<Snapshot>,
+}
+
+impl Model for Stores {
+    ghost use Rattle.track_types.specs.declared.parts.Parts.{Parts};
+    ghost use Rattle.snapshots.specs.Stores.{join_of, AreStores};
+
+    ghost Value = { Parts };
+
+    ghost view = { λ s. join_of s.frame s.objects s.rules s.snaps.items };
+
+    ghost invariant = { λ s. AreStores (join_of s.frame s.objects s.rules s.snaps.items)
+        s.rules s.snaps.items };
+}
+
+impl Stores {
+    /// Joins what the parts of an index were checked to be, once the log of each block is judged, by
+    /// period, then object.
+    ///
+    /// The first symbol of a log whose placed box passes the grid is `OffGrid`, at its place among
+    /// all symbols; a box is placed by moving it to the cell in which the object was last present.
+    /// After it comes a log that does not last to the end of its period: `Duration`, at the place of
+    /// the block among those of its period. The flaw is the first one in this order.
+    ///
+    /// The objects ascend, the height and the period of the rules are those of the header, the
+    /// snapshots are those of its periods in order, and their logs stand one after the other to the
+    /// end of the symbols. It reads each stored symbol once, and what leads to the blocks of each
+    /// snapshot. Memory is taken for the blocks of a period while the call runs.
+    pub fn join<L: Ledger>(
+        alloc: Global,
+        frame: Frame,
+        objects: List32,
+        rules: RuleStore,
+        snaps: Vec<Snapshot>,
+        steps: &mut Steps<L>,
+    ) -> Result<Stores, SnapFault>
+        requires { AreOf (join_of frame objects rules snaps.items) rules snaps.items }
+        ensures ok { IfOk result (λ stores. stores ≡ join_of frame objects rules snaps.items) }
+        ensures exact { OnOk result (logs_flaw (join_of frame objects rules snaps.items) ≡ None) }
+        ensures sound { OnOk result (IsSound (join_of frame objects rules snaps.items)) }
+        ensures flaw { IfErr result (λ fault.
+            IsFaultFor (logs_flaw (join_of frame objects rules snaps.items)) fault) }
+        ensures cost { steps.new ≤ steps.old + open_cost (join_of frame objects rules snaps.items) }
+    {
+        for snapshot in &snaps {
+            judge_snapshot(alloc, &rules, snapshot, steps)?;
+        }
+        let _ = rules.sizes(); // says that the rules are sound
+        Ok(Stores {
+            frame,
+            objects,
+            rules,
+            snaps,
+        })
+    }
+
+    /// The header.
+    pub fn frame(&self) -> &Frame
+        ensures value { result.now ≡ self.now.frame }
+        ensures shaped { IsShaped self.now }
+        ensures sound { IsSound self.now }
+    {
+        &self.frame
+    }
+
+    /// The rules, with the symbols of all logs.
+    pub fn rules(&self) -> &RuleStore
+        ensures value { result.now ≡ rules_in self.now }
+    {
+        &self.rules
+    }
+
+    /// How many objects are listed: 1 to 2^16.
+    pub fn objects(&self) -> u32
+        ensures value { result ≡ length self.now.objects }
+    {
+        self.objects.as_slice().len() as u32
+    }
+
+    /// The object at a place, which is in range. Objects ascend.
+    pub fn object_at(&self, index: u32) -> u32
+        requires { index < length self.now.objects }
+        ensures value { slice_get self.now.objects index ≡ Some result }
+    {
+        self.objects.as_slice()[index as usize]
+    }
+
+    /// The place of an object, and none exactly where it is no object of the index.
+    pub fn index_of(&self, object: u32) -> Option<u32>
+        ensures value { result ≡ index_in self.now.objects object }
+    {
+        match self.objects.as_slice().binary_search(&object) {
+            Ok(index) => Some(index as u32),
+            Err(_place) => None,
+        }
+    }
+
+    /// The period of an instant, and none exactly where the instant is outside the header's span.
+    pub fn period_of(&self, instant: i64) -> Option<u32>
+        ensures value { result ≡ period_in self.now.frame instant }
+    {
+        let last = self.frame.first + i64::from(self.frame.span - 1);
+        if instant < self.frame.first || instant > last {
+            return None;
+        }
+        let elapsed = (instant - self.frame.first).unsigned_abs();
+        Some((elapsed / u64::from(self.frame.period)) as u32)
+    }
+
+    /// The snapshot of a period, which is one of the header's.
+    pub fn snapshot(&self, period: u32) -> &Snapshot
+        requires { period < periods_of self.now.frame }
+        ensures value { result.now ≡ snapshot_in self.now period }
+    {
+        &self.snaps[period as usize]
+    }
+}
