@@ -126,8 +126,13 @@ sum_by-range-part f from n zero less = absurd (omega arith)
 sum_by-range-part f from zero (suc m) less =
     omega (arith, sum_by-cons f from (range_with_len (from + 1) m), ap f (from-zero from))
 sum_by-range-part f from (suc n) (suc m) less =
-    omega (arith, sum_by-cons f from (range_with_len (from + 1) n), sum_by-cons f from (range_with_len (from + 1) m),
-    sum_by-range-part f (from + 1) n m (omega arith), ap f (from-suc from n))
+    omega (
+      arith,
+      sum_by-cons f from (range_with_len (from + 1) n),
+      sum_by-cons f from (range_with_len (from + 1) m),
+      sum_by-range-part f (from + 1) n m (omega arith),
+      ap f (from-suc from n),
+    )
 
 -- the reads so far are within the cost of opening
 pub reads-so_far : (parts : Parts) (rules : RulesView) (snaps : List SnapshotView) → AreOf parts rules snaps

@@ -2,8 +2,8 @@
 //!
 //! A `Snapshot` is checked from the parts of a period. `find` leads from an object to its block in
 //! a bounded number of reads, and `objects_in` gives the blocks whose anchors lie in squares that
-//! pass a test. The crate stands on `rule_store`, `k2_tree`, `object_perm`,
-//! `bit_rank`, `track_types`, `packed_bits`, `step_count` and `list_laws`.
+//! pass a test. The crate stands on `k2_tree`, `object_perm`, `bit_rank`, `rule_store`,
+//! `track_types`, `packed_bits`, `spiral_code`, `step_count` and `list_laws`.
 #![tactic(auto)]
 
 mod anchored;

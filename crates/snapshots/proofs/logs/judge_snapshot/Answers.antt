@@ -98,8 +98,15 @@ overflow_add-rank g c =
     let view = c.args.snapshot.now in
     let is = c.frame-frame.ensures.snapshot in
     let few : view.objects ≤ 2 ^ 16 = is.shaped.few in
-    omega (arith, (takes g at).within, is.shaped.perm, is.shaped.presence, c.loop-slot.invariant.rank, few,
-    ones_of-le-length view.parts.present)
+    omega (
+      arith,
+      (takes g at).within,
+      is.shaped.perm,
+      is.shaped.presence,
+      c.loop-slot.invariant.rank,
+      few,
+      ones_of-le-length view.parts.present,
+    )
 
 pub returns-clause-exact : goal.returns-clause-exact
 returns-clause-exact g c =

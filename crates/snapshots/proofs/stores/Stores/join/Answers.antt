@@ -26,8 +26,10 @@ judge_snapshot-requires g c =
     c.snapshot-item.is in
     let within : number < periods_of parts.frame =
     omega (arith, here, ap length same, length-snaps parts c.args.rules c.args.snaps.items c.requires) in
-    record { symbols = subst (λ (view : SnapshotView). view.start + sum view.parts.lengths ≤ length parts.symbols) (sym item)
-      (start_in-within parts c.args.rules c.args.snaps.items c.requires number within) }
+    record {
+      symbols = subst (λ (view : SnapshotView). view.start + sum view.parts.lengths ≤ length parts.symbols) (sym item)
+          (start_in-within parts c.args.rules c.args.snaps.items c.requires number within);
+    }
 
 pub returns-in_err-judge_snapshot-clause-flaw : goal.returns-in_err-judge_snapshot-clause-flaw
 returns-in_err-judge_snapshot-clause-flaw g c =

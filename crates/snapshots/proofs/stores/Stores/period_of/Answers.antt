@@ -32,5 +32,7 @@ returns c =
     let seen = ap (λ (p : Parts). period_in p.frame c.args.instant) c.self.view_is in
     let elapsed : c.unsigned_abs-elapsed.result ≡ unsigned_abs (c.args.instant -ℤ c.self.inside.frame.first) =
     omega (arith, ints) in
-    record { value = rw (elapsed, c.from-2.ensures)
-      (period_in-inside c.self.inside.frame c.args.instant (omega (arith, ints)) (omega (arith, ints)) ∙ seen) }
+    record {
+      value = rw (elapsed, c.from-2.ensures)
+          (period_in-inside c.self.inside.frame c.args.instant (omega (arith, ints)) (omega (arith, ints)) ∙ seen);
+    }

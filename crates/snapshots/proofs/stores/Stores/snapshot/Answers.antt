@@ -11,6 +11,8 @@ returns c =
     let is = c.self.inside in
     let parts : Parts = join_of is.frame is.objects is.rules is.snaps.items in
     let within = subst (λ (p : Parts). c.args.period < periods_of p.frame) (sym c.self.view_is) c.requires in
-    record { value = c.index.ensures
-      ∙ snapshot-at parts is.snaps.items c.args.period c.index.result.now c.self.invariant.snaps_are within
-      ∙ ap (λ (p : Parts). snapshot_in p c.args.period) c.self.view_is }
+    record {
+      value = c.index.ensures
+          ∙ snapshot-at parts is.snaps.items c.args.period c.index.result.now c.self.invariant.snaps_are within
+          ∙ ap (λ (p : Parts). snapshot_in p c.args.period) c.self.view_is;
+    }
