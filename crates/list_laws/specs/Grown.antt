@@ -1,5 +1,6 @@
 -- Tables that grow by rules: what each symbol of a grammar stands for, by any way to join two parts.
-use Rattle.std.specs.Prelude.{ℕ, List, [], ◌∷◌, ◌++◌, slice_index_or}
+use Rattle.std.specs.Prelude.{ℕ, List, [], ◌∷◌, ◌++◌, map, slice_index_or}
+use Rattle.std.specs.List.{range_with_len}
 
 module _ {A : Type 0} (join : A → A → A) (none : A) where
   -- what the table has for a symbol, and `none` past its end
@@ -11,3 +12,8 @@ module _ {A : Type 0} (join : A → A → A) (none : A) where
   grown known [] = known
   grown known (rule ∷ rules) =
       grown (known ++ join (known_of known rule.0) (known_of known rule.1) ∷ []) rules
+
+-- what each symbol of a grammar stands for: a terminal for itself, a rule's symbol for what its two parts stand for, one
+-- after the other
+abbrev pub expansions : ℕ → List (ℕ × ℕ) → List (List ℕ)
+expansions size rules = grown (◌++◌) [] (map (λ terminal. terminal ∷ []) (range_with_len 0 size)) rules

@@ -1,13 +1,9 @@
 -- What holds of a grammar of blocks: its symbols stand for the blocks, and each rule is needed.
-use Rattle.std.specs.Prelude.{◌≡◌, ℕ, ◌+◌, ◌*◌, ◌<◌, ◌≤◌, Bool, true, ◌||◌, ◌==◌, List, [], ◌∷◌, ◌++◌, length, map, slice_index_or}
-use Rattle.std.specs.List.{list_any, sum_by, flat_map, range_with_len}
-use Rattle.list_laws.specs.Grown.{grown}
+use Rattle.std.specs.Prelude.{◌≡◌, ℕ, ◌+◌, ◌*◌, ◌<◌, ◌≤◌, Bool, true, ◌||◌, ◌==◌, List, [], length, map, slice_index_or}
+use Rattle.std.specs.List.{list_any, sum_by, flat_map}
+use Rattle.list_laws.specs.Grown.{expansions}
 use Rattle.repair_grammar.specs.declared.grammar.Grammar.{Grammar}
 use Rattle.repair_grammar.specs.RePair.{AreBelow}
-
--- what each symbol stands for: a terminal for itself, a rule's symbol for what its two parts stand for
-unfoldable pub expansions : ℕ → List (ℕ × ℕ) → List (List ℕ)
-expansions alphabet rules = grown (◌++◌) [] (map (λ terminal. terminal ∷ []) (range_with_len 0 alphabet)) rules
 
 -- what the symbols of a block stand for, one after another
 unfoldable pub expanded : ℕ → List (ℕ × ℕ) → List ℕ → List ℕ

@@ -1,12 +1,8 @@
 -- What a symbol stands for: the terminals that replacing each rule by its two parts leaves.
-use Rattle.std.specs.Prelude.{ℕ, ◌+◌, max, List, [], ◌∷◌, ◌++◌, length, map, fold, slice_index}
+use Rattle.std.specs.Prelude.{ℕ, ◌+◌, max, List, [], ◌++◌, length, map, fold, slice_index}
 use Rattle.std.specs.List.{range_with_len}
-use Rattle.list_laws.specs.Grown.{grown, known_of}
+use Rattle.list_laws.specs.Grown.{expansions, grown, known_of}
 use Rattle.rule_store.specs.View.{RulesView}
-
--- the expansion of each symbol: of a terminal itself, of a rule those of its two parts joined
-abbrev pub expansions : ℕ → List (ℕ × ℕ) → List (List ℕ)
-expansions size rules = grown ◌++◌ [] (map (λ terminal. terminal ∷ []) (range_with_len 0 size)) rules
 
 -- the terminals that a symbol stands for
 unfoldable pub expansion_of : RulesView → ℕ → List ℕ
