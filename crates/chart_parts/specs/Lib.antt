@@ -1,0 +1,4 @@
+-- In reading order.
+pub mod Header
+pub mod LeafOrder
+pub mod PartsOf
