@@ -1,6 +1,4 @@
 use std::time::Instant;
-fn next(state: u64) -> u64 { let a = state ^ (state << 13); let b = a ^ (a >> 7); b ^ (b << 17) }
-fn step(bits: u64) -> i64 { match bits % 16 { 0 => -2, 1..=3 => -1, 12..=14 => 1, 15 => 2, _ => 0 } }
 #[derive(Clone, Copy)]
 struct Row { object: u32, instant: i64, x: i64, y: i64 }
 #[derive(Clone, Copy)]
@@ -40,17 +38,19 @@ fn cut(rows: &[Row], first: i64, last: i64, period: u32) -> (Vec<u64>, Vec<Head>
     (alphabet, blocks.iter().map(|b| b.0).collect(), terminals)
 }
 fn main() {
-    let mut rows = Vec::new(); let mut state = 88_172_645_463_325_252u64;
-    for object in 0..1000u32 {
-        let (mut x, mut y) = (0i64, 0i64);
-        for instant in 0..1111i64 {
-            state = next(state); x += step(state >> 20); y += step(state >> 30);
-            if (state >> 40) % 10 > 0 { rows.push(Row { object, instant, x, y }) }
-        }
-    }
+    let text = std::io::read_to_string(std::io::stdin()).unwrap();
+    let mut raws: Vec<(u32, i64, i64, i64)> = text.lines().filter_map(|line| {
+        let mut words = line.split(',').map(|word| word.parse::<i64>());
+        let (o, t, x, y) = (words.next()?.ok()?, words.next()?.ok()?, words.next()?.ok()?, words.next()?.ok()?);
+        Some((o as u32, t.div_euclid(60), x.div_euclid(100), y.div_euclid(100)))
+    }).collect();
+    raws.reverse();
+    raws.sort_by_key(|r| (r.0, r.1));
+    raws.dedup_by_key(|r| (r.0, r.1));
+    let rows: Vec<Row> = raws.iter().map(|r| Row { object: r.0, instant: r.1, x: r.2, y: r.3 }).collect();
     let first = rows.iter().map(|r| r.instant).min().unwrap(); let last = rows.iter().map(|r| r.instant).max().unwrap();
     let start = Instant::now();
-    let (alphabet, heads, terminals) = cut(&rows, first, last, 60);
+    let (alphabet, heads, terminals) = cut(&rows, first, last, 120);
     let took = start.elapsed().as_micros();
     let mut all = 0u64;
     for v in &alphabet { all = all.rotate_left(1) ^ v }
