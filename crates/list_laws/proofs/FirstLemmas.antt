@@ -1,9 +1,9 @@
 -- What is first of what members give, each of which may give nothing.
-use Rattle.std.proofs.Common.{◌≡◌, ◌⊎◌, ℕ, zero, suc, ◌+◌, ◌<◌, ◌≤◌, List, [], ◌∷◌, Option, None, Some, All, inl, inr, refl, ap, sym, ◌∙◌, arith}
+use Rattle.std.proofs.Common.{◌≡◌, ◌⊎◌, ℕ, zero, suc, ◌+◌, ◌<◌, ◌≤◌, List, [], ◌∷◌, map, Option, None, Some, All, inl, inr, refl, ap, ◌∙◌, arith}
 use Rattle.std.specs.List.{filter_map, range_with_len}
 use Rattle.std.specs.Option.{option_map, option_or}
 use Rattle.std.proofs.lemmas.Bool.{cases_order}
-use Rattle.std.proofs.lemmas.List.Elements.{All-nil, All-cons}
+use Rattle.std.proofs.lemmas.List.Elements.{All-nil, All-cons, All-head, All-tail}
 use Rattle.list_laws.specs.First.{first_of}
 
 module _ {Y : Type 0} (give : ℕ → Option Y) where
@@ -52,6 +52,26 @@ All-first_of give (x ∷ xs) none =
     let both = or-none (give x) (first_of give xs) none in
     All-cons (λ y. give y ≡ None) x xs both.0 (All-first_of give xs both.1)
 
+-- where nothing is first, no number of a range gives anything
+pub first_of_range-all : {Y : Type 0} (give : ℕ → Option Y) (from n : ℕ) → first_of give (range_with_len from n) ≡ None
+    → (j : ℕ) → from ≤ j → j < from + n → give j ≡ None
+unfolding first_of
+first_of_range-all give from zero none j low high = absurd (omega arith)
+first_of_range-all give from (suc n) none j low high =
+    let both = or-none (give from) (first_of give (range_with_len (from + 1) n)) none in
+    elim (cases_order j from) [
+      | inl same ↦ ap give same ∙ both.0
+      | inr other ↦ first_of_range-all give (from + 1) n both.1 j (omega arith) (omega arith)
+    ]
+
+-- where no member gives anything, nothing is first
+pub first_of-none : {X Y : Type 0} (give : X → Option Y) (xs : List X) → All (λ x. give x ≡ None) xs
+    → first_of give xs ≡ None
+unfolding first_of
+first_of-none give [] none = refl
+first_of-none give (x ∷ xs) none =
+    rw (All-head (λ y. give y ≡ None) x xs none) (first_of-none give xs (All-tail (λ y. give y ≡ None) x xs none))
+
 -- what is made of a member, if something is
 abbrev pub made_first : {X Y : Type 0} → (X → Option Y) → Option X → Option Y
 made_first give None = None
@@ -71,3 +91,10 @@ first_of-filter_map give make (x ∷ xs) = elim (made_cases (make x)) [
   | inl none ↦ rw none (first_of-filter_map give make xs)
   | inr some ↦ rw some.1 (ap (option_or (give some.0)) (first_of-filter_map give make xs))
 ]
+
+-- what is first of what mapped members give
+pub first_of-map : {X Y Z : Type 0} (give : Y → Option Z) (f : X → Y) (xs : List X)
+    → first_of give (map f xs) ≡ first_of (λ x. give (f x)) xs
+unfolding first_of
+first_of-map give f [] = refl
+first_of-map give f (x ∷ xs) = ap (option_or (give (f x))) (first_of-map give f xs)

@@ -1,10 +1,10 @@
 -- Members of lists that are mapped, filtered, joined and searched.
-use Rattle.std.proofs.Common.{◌≡◌, ◌⊎◌, ℕ, zero, suc, ◌<◌, Bool, true, false, List, [], ◌∷◌, ◌++◌, length, get_or, map, filter, find, Some, None, refl, sym, ◌∙◌, ap, arith, inl, inr, subst}
+use Rattle.std.proofs.Common.{◌≡◌, ◌⊎◌, ℕ, zero, suc, ◌<◌, Bool, true, false, List, [], ◌∷◌, length, get_or, map, filter, find, None, Some, refl, sym, ◌∙◌, ap, arith, inl, inr}
 use Rattle.std.specs.List.{Contains, flat_map, list_any}
 use Rattle.std.proofs.Math.ListN.{get_or-map}
 use Rattle.std.proofs.lemmas.Bool.{cases_Bool}
 use Rattle.std.proofs.lemmas.List.{length-map}
-use Rattle.std.proofs.lemmas.List.Elements.{Contains-append_left, Contains-append_right}
+use Rattle.std.proofs.lemmas.List.Elements.{Contains-append_cases, Contains-append_left, Contains-append_right}
 
 -- the first element is a member, and so is each later one
 pub first_member : {X : Type 0} (x : X) (xs : List X) → Contains (x ∷ xs) x
@@ -114,4 +114,32 @@ none_from_list_any p (y ∷ ys) x none inside = elim (cases_Bool (p y)) [
     | inl same ↦ rw (sym same) fails
     | inr later ↦ none_from_list_any p ys x (rw fails at none) later
   ]
+]
+
+-- a search finds a member that passes, or no member passes
+pub find_cases : {X : Type 0} (p : X → Bool) (xs : List X) →
+    (((x : X) → Contains xs x → p x ≡ false) × (find p xs ≡ None))
+    ⊎ ((x : X) × Contains xs x × (p x ≡ true) × (find p xs ≡ Some x))
+find_cases p [] = inl ((λ x inside. no_member x inside), refl)
+find_cases p (y ∷ ys) = elim (cases_Bool (p y)) [
+  | inl meets ↦ inr (y, first_member y ys, meets, (rw meets refl))
+  | inr fails ↦ elim (find_cases p ys) [
+    | inl none ↦ inl (
+      (λ x inside. elim (member_cases x y ys inside) [
+        | inl same ↦ rw (sym same) fails
+        | inr later ↦ none.0 x later
+      ]),
+      (rw fails none.1),
+    )
+    | inr found ↦ inr (found.0, later_member found.0 y ys found.1, found.2, (rw fails found.3))
+  ]
+]
+
+-- what is in lists laid end to end is in one of them
+pub member_of_flat_map : {X A : Type 0} (f : X → List A) (xs : List X) (a : A) → Contains (flat_map f xs) a →
+    (x : X) × Contains xs x × Contains (f x) a
+member_of_flat_map f [] a inside = no_member a inside
+member_of_flat_map f (x ∷ xs) a inside = elim (Contains-append_cases (f x) (flat_map f xs) a inside) [
+  | inl here ↦ (x, first_member x xs, here)
+  | inr later ↦ let from = member_of_flat_map f xs a later in (from.0, later_member from.0 x xs from.1, from.2)
 ]
