@@ -1,20 +1,23 @@
 -- An alphabet: the place of a value in it, and that sorted values, each kept once, are the alphabet.
 use Rattle.std.proofs.Common.{◌≡◌, ◌≢◌, ℕ, zero, suc, ◌+◌, ◌<◌, ◌≤◌, true, List, [], ◌∷◌, length, get_or, arith, ◌∙◌, ap, add-one, eq-eqb, ne_eqb, inl, inr, eqb, zero-add, subst}
 use Rattle.std.specs.Prelude.{fold, max, ◌==◌}
-use Rattle.std.specs.List.{Contains, dedup, list_any, range_with_len}
+use Rattle.std.specs.List.{Contains, dedup, dedup_from, list_any, range_with_len}
 use Rattle.std.specs.List.Sorted.{IsPermutation, IsSorted, IsStrictlyIncreasing}
 use Rattle.std.specs.Ordering.{nat_cmp}
 use Rattle.std.proofs.lemmas.Bool.Decides.{nat_tests}
-use Rattle.std.proofs.lemmas.Bool.{cases_lt}
+use Rattle.std.proofs.lemmas.Bool.{cases_lt, eqb-true}
 use Rattle.std.proofs.lemmas.Cmp.{nat_cmp_total}
 use Rattle.std.proofs.lemmas.List.{get_or_default}
 use Rattle.std.proofs.lemmas.List.Folds.{Any-from_list_any, list_any_at}
 use Rattle.std.proofs.lemmas.List.FromFn.{get_or-range_with_len, length-range_with_len}
-use Rattle.std.proofs.lemmas.List.Kept.{Contains-dedup_nat, Contains-from_dedup, IsStrictlySortedBy-filter}
-use Rattle.std.proofs.lemmas.List.Sums.{position_or_len_is}
-use Rattle.std.proofs.lemmas.List.Sorted.{Contains-permutation, IsPermutation-sym}
+use Rattle.std.proofs.lemmas.List.Kept.{Contains-dedup_nat, Contains-from_dedup}
+use Rattle.std.proofs.lemmas.List.Kept.{IsStrictlyIncreasing-filter, IsStrictlySortedBy-filter}
+use Rattle.std.proofs.lemmas.List.Sums.{fails_before_first, passes_at_first, position_or_len_is}
+use Rattle.std.proofs.lemmas.List.Sorted.{Contains-permutation, IsPermutation-sym, length_permutation}
 use Rattle.std.proofs.lemmas.Map.Keys.{IsStrictlyIncreasing-dedup, sorted_from_strictly_increasing}
+use Rattle.list_laws.specs.Ordered.{ordered}
 use Rattle.list_laws.proofs.MemberLemmas.{Contains-filter, member_of_filter}
+use Rattle.list_laws.proofs.OrderedLemmas.{IsPermutation-ordered, IsSortedBy-ordered}
 use Rattle.track_types.proofs.AscendingLemmas.{same_from_members}
 use Rattle.movement_log.specs.Logs.{ascending_of, terminal_of}
 
@@ -65,35 +68,66 @@ fold-max-above a [] k below = absurd (omega arith)
 fold-max-above a (x ∷ xs) zero below = let more = fold-max-from (max a x) xs in omega arith
 fold-max-above a (x ∷ xs) (suc k) below = fold-max-above (max a x) xs k (omega arith)
 
+-- the values that stand in a list are those of its alphabet, which ascends
+pub Contains-ascending_of : (values : List ℕ) (n : ℕ) → Contains values n → Contains (ascending_of values) n
+unfolding ascending_of
+Contains-ascending_of values n member =
+    let k : ℕ = member.0 in
+    let within : k < length values = member.1 in
+    let at : get_or values k n ≡ n = member.2 in
+    let here : (get_or values k n == n) ≡ true = eq-eqb (get_or values k n) n at in
+    let least = fold-max-above 0 values k within in
+    let same : get_or values k n ≡ get_or values k 0 = get_or_default values k n 0 within in
+    let many : ℕ = suc (fold max 0 values) in
+    Contains-filter (λ m. list_any (λ x. x == m) values) (range_with_len 0 many) n
+    (list_any_at (λ x. x == n) values k n within here)
+    (n, omega (arith, length-range_with_len 0 many), get_or-range_with_len 0 many n n (omega arith) ∙ zero-add n)
+
+pub member_of_ascending_of : (values : List ℕ) (n : ℕ) → Contains (ascending_of values) n → Contains values n
+unfolding ascending_of
+member_of_ascending_of values n inside =
+    let passes =
+    (member_of_filter (λ m. list_any (λ x. x == m) values) (range_with_len 0 (suc (fold max 0 values))) n inside).1 in
+    let any = Any-from_list_any (λ x. x == n) values passes in
+    let k : ℕ = any.0 in
+    let x : ℕ = any.1 in
+    let within : k < length values = any.2 in
+    let at : get_or values k x ≡ x = any.3 in
+    let test : (x == n) ≡ true = any.4 in
+    let is : x ≡ n = grind (arith, nat_tests) in
+    subst (Contains values) is (k, within, at)
+
+pub IsStrictlyIncreasing-ascending_of : (values : List ℕ) → IsStrictlyIncreasing (ascending_of values)
+unfolding ascending_of
+IsStrictlyIncreasing-ascending_of values =
+    IsStrictlyIncreasing-filter (λ n. list_any (λ x. x == n) values) (range_with_len 0 (suc (fold max 0 values)))
+    (range-rises 0 (suc (fold max 0 values)))
+
+-- a terminal of a value that is in the alphabet is below its length, and stands for the value
+pub terminal_of-member : (alphabet : List ℕ) (value : ℕ) → Contains alphabet value →
+    (terminal_of alphabet value < length alphabet) × (get_or alphabet (terminal_of alphabet value) 0 ≡ value)
+terminal_of-member alphabet value member =
+    let k : ℕ = member.0 in
+    let within : k < length alphabet = member.1 in
+    let at : get_or alphabet k value ≡ value = member.2 in
+    let here : (get_or alphabet k value == value) ≡ true = eq-eqb (get_or alphabet k value) value at in
+    elim (cases_lt (terminal_of alphabet value) (length alphabet)) [
+      | inl less ↦ (less, eqb-true _ value (passes_at_first (λ other. other == value) alphabet 0 less))
+      | inr not ↦
+          let fails = fails_before_first (λ other. other == value) alphabet k value (omega arith) in
+          absurd (cc)
+    ]
+
 -- what is sorted, each number once, is the alphabet
 module _ (values sorted : List ℕ) (moved : IsPermutation values sorted) (up : IsSorted nat_cmp sorted) where
   into : (n : ℕ) → Contains (dedup eqb sorted) n → Contains (ascending_of values) n
-  unfolding ascending_of
   into n inside =
-      let member : Contains values n =
-      Contains-permutation sorted values n (IsPermutation-sym values sorted moved) (Contains-from_dedup eqb sorted n inside) in
-      let k : ℕ = member.0 in
-      let within : k < length values = member.1 in
-      let at : get_or values k n ≡ n = member.2 in
-      let here : (get_or values k n == n) ≡ true = eq-eqb (get_or values k n) n at in
-      let least = fold-max-above 0 values k within in
-      let same : get_or values k n ≡ get_or values k 0 = get_or_default values k n 0 within in
-      Contains-filter (λ m. list_any (λ x. x == m) values) (range_with_len 0 (suc (fold max 0 values))) n
-      (list_any_at (λ x. x == n) values k n within here)
-      (n, omega (arith, length-range_with_len 0 (suc (fold max 0 values))), get_or-range_with_len 0 (suc (fold max 0 values)) n n (omega arith) ∙ zero-add n)
+      Contains-ascending_of values n
+      (Contains-permutation sorted values n (IsPermutation-sym values sorted moved) (Contains-from_dedup eqb sorted n inside))
 
   back : (n : ℕ) → Contains (ascending_of values) n → Contains (dedup eqb sorted) n
-  unfolding ascending_of
   back n inside =
-      let passes = (member_of_filter (λ m. list_any (λ x. x == m) values) (range_with_len 0 (suc (fold max 0 values))) n inside).1 in
-      let any = Any-from_list_any (λ x. x == n) values passes in
-      let k : ℕ = any.0 in
-      let x : ℕ = any.1 in
-      let within : k < length values = any.2 in
-      let at : get_or values k x ≡ x = any.3 in
-      let test : (x == n) ≡ true = any.4 in
-      let is : x ≡ n = grind (arith, nat_tests) in
-      Contains-dedup_nat sorted n (Contains-permutation values sorted n moved (subst (Contains values) is (k, within, at)))
+      Contains-dedup_nat sorted n (Contains-permutation values sorted n moved (member_of_ascending_of values n inside))
 
   pub ascending_of-dedup : dedup eqb sorted ≡ ascending_of values
   unfolding ascending_of
@@ -103,3 +137,19 @@ module _ (values sorted : List ℕ) (moved : IsPermutation values sorted) (up : 
       (IsStrictlySortedBy-filter nat_cmp (λ n. list_any (λ x. x == n) values) (range_with_len 0 (suc (fold max 0 values)))
       (sorted_from_strictly_increasing (range_with_len 0 (suc (fold max 0 values))) (range-rises 0 (suc (fold max 0 values)))))
       into back
+
+-- an alphabet is no longer than the list
+length-dedup_from : (x : ℕ) (xs : List ℕ) → length (dedup_from eqb x xs) ≤ suc (length xs)
+length-dedup_from x [] = omega arith
+length-dedup_from x (y ∷ xs) = grind (arith, nat_tests, length-dedup_from x xs, length-dedup_from y xs)
+
+length-dedup : (xs : List ℕ) → length (dedup eqb xs) ≤ length xs
+length-dedup [] = omega arith
+length-dedup (x ∷ xs) = length-dedup_from x xs
+
+pub length-ascending_of : (values : List ℕ) → length (ascending_of values) ≤ length values
+length-ascending_of values =
+    let sorted : List ℕ = ordered nat_cmp values in
+    let moved : IsPermutation values sorted = IsPermutation-ordered nat_cmp values in
+    let is = ascending_of-dedup values sorted moved (IsSortedBy-ordered nat_cmp nat_cmp_total values) in
+    omega (arith, ap length is, length-dedup sorted, length_permutation values sorted moved)

@@ -30,18 +30,18 @@ div_mono m n d some below =
     ]
 
 module _ (first : ℤ) (period : ℕ) where
-  same_parts : (a b : Row) → is_same_block first period a b ≡ true →
+  pub same_parts : (a b : Row) → is_same_block first period a b ≡ true →
       (a.object ≡ b.object) × (period_of first period a ≡ period_of first period b)
   same_parts a b same =
       let parts = and_parts (a.object == b.object) (period_of first period a == period_of first period b) same in
       (grind (arith, nat_tests, parts.0), grind (arith, nat_tests, parts.1))
 
-  same_from_parts : (a b : Row) → a.object ≡ b.object → period_of first period a ≡ period_of first period b →
+  pub same_from_parts : (a b : Row) → a.object ≡ b.object → period_of first period a ≡ period_of first period b →
       is_same_block first period a b ≡ true
   same_from_parts a b objects periods =
       rw (eq-eqb a.object b.object objects, eq-eqb (period_of first period a) (period_of first period b) periods) refl
 
-  period_mono : (a b : Row) → 0 < period → first ≤ℤ a.instant → a.instant ≤ℤ b.instant →
+  pub period_mono : (a b : Row) → 0 < period → first ≤ℤ a.instant → a.instant ≤ℤ b.instant →
       period_of first period a ≤ period_of first period b
   period_mono a b some begins later =
       div_mono (elapsed first a) (elapsed first b) period some (grind (arith, ints))
@@ -50,11 +50,11 @@ module _ (first : ℤ) (period : ℕ) where
   abbrev pub is_before : Row → Row → Bool
   is_before row other = is_same_block first period other row && lt_z other.instant row.instant
 
-  before_from : (row other : Row) → is_same_block first period other row ≡ true → other.instant <ℤ row.instant →
+  pub before_from : (row other : Row) → is_same_block first period other row ≡ true → other.instant <ℤ row.instant →
       is_before row other ≡ true
   before_from row other same less = let test : lt_z other.instant row.instant ≡ true = grind (arith, ints) in rw (same, test) refl
 
-  not_before : (row other : Row) → (is_same_block first period other row ≡ true → row.instant ≤ℤ other.instant) →
+  pub not_before : (row other : Row) → (is_same_block first period other row ≡ true → row.instant ≤ℤ other.instant) →
       is_before row other ≡ false
   not_before row other late = elim (cases_Bool (is_same_block first period other row)) [
     | inl same ↦

@@ -6,5 +6,6 @@ pub mod ObjectLemmas
 pub mod AnchorLemmas
 pub mod BlockLemmas
 pub mod KeyLemmas
+pub mod KeyOrderLemmas
 pub mod PeriodLemmas
 pub mod CutLemmas

@@ -145,7 +145,7 @@ module _ (rows : List Row) (up : IsAscending rows) (anchor : Row) (len last : �
       ∙ ap (λ n. map (value_after rows anchor) (range_with_len 1 n)) to
 
 -- a number that is made of each row is between the least and the greatest of these
-bounded : (f : Row → ℤ) (rows : List Row) (k : ℕ) → k < length rows →
+pub bounded : (f : Row → ℤ) (rows : List Row) (k : ℕ) → k < length rows →
     (least (map f rows) ≤ℤ f (row_at rows k)) × (f (row_at rows k) ≤ℤ greatest (map f rows))
 bounded f [] k within = absurd (omega arith)
 bounded f (row ∷ rest) zero within = (

@@ -30,7 +30,7 @@ module _ (chart : ChartView) (some : 0 < chart.period) where
   abbrev pub block_period : Block → ℕ
   block_period block = block.head.period
 
-  rows_below : All (λ row. row_period row < period_count chart.rows chart.period) chart.rows
+  pub rows_below : All (λ row. row_period row < period_count chart.rows chart.period) chart.rows
   rows_below k d within =
       period_below (elapsed (first_of chart.rows) (get_or chart.rows k d)) (span_of chart.rows) chart.period some
       (elapsed-span chart.rows k d within)

@@ -42,7 +42,7 @@ module _ {X : Type 0} (p : X → Bool) (d : X) where
 object_le : (a b : Row) → row_order a b ≡ Less → a.object ≤ b.object
 object_le a b below = grind (arith, nat_tests)
 
-instant_lt : (a b : Row) → row_order a b ≡ Less → a.object ≡ b.object → a.instant <ℤ b.instant
+pub instant_lt : (a b : Row) → row_order a b ≡ Less → a.object ≡ b.object → a.instant <ℤ b.instant
 instant_lt a b below same = grind (arith, nat_tests, ints)
 
 -- a row of another object or instant is not the one that is sought
