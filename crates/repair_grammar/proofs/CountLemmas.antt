@@ -26,7 +26,7 @@ raised old new pair other n was now = elim (cases_Bool (is_pair other pair.0 pai
 ]
 
 -- the list of one vector
-item_list : (blocks : List (Vec ℕ)) (i : ℕ) (item : Vec ℕ) → i < length blocks → item ≡ get_or blocks i item →
+pub item_list : (blocks : List (Vec ℕ)) (i : ℕ) (item : Vec ℕ) → i < length blocks → item ≡ get_or blocks i item →
     get_or (lists_of blocks) i [] ≡ item.items
 item_list blocks i item within is = get_or-map (λ vec. vec.items) blocks i item [] within
     ∙ ap (λ vec. vec.items) (sym is)

@@ -34,7 +34,7 @@ first_in-less first entry entries one = rw (le-ltb 1 entry.1 one) refl
 abbrev pub IsUpTo : Key → Key → Type 0
 IsUpTo a b = is_gt (key_order a b) ≡ false
 
-upto_itself : (a : Key) → IsUpTo a a
+pub upto_itself : (a : Key) → IsUpTo a a
 upto_itself a = ap is_gt (tied_itself key_order_total a)
 
 turned : (r : Ordering) → is_gt (ordering_reverse r) ≡ is_lt r
@@ -47,7 +47,7 @@ turned_back Less = refl
 turned_back Equal = refl
 turned_back Greater = refl
 
-less_upto : (r : Ordering) → is_lt r ≡ true → is_gt r ≡ false
+pub less_upto : (r : Ordering) → is_lt r ≡ true → is_gt r ≡ false
 less_upto Less is = refl
 less_upto Equal is = refl
 less_upto Greater is = absurd (cc)
@@ -55,7 +55,7 @@ less_upto Greater is = absurd (cc)
 upto_from : (a b : Key) → is_lt (key_order b a) ≡ false → IsUpTo a b
 upto_from a b not_less = ap is_gt (key_order_total.antisymm a b) ∙ turned (key_order b a) ∙ not_less
 
-not_before : (a b : Key) → IsUpTo a b → is_lt (key_order b a) ≡ false
+pub not_before : (a b : Key) → IsUpTo a b → is_lt (key_order b a) ≡ false
 not_before a b up = ap is_lt (key_order_total.antisymm b a) ∙ turned_back (key_order a b) ∙ up
 
 -- the earlier of two keys is one of them, and after neither

@@ -1,5 +1,5 @@
 -- The key that a round takes.
-use Rattle.std.proofs.Common.{◌≡◌, ℕ, ◌<◌, Bool, false, nat_lt, List, [], ◌∷◌, map, filter, Some, None, Ordering, refl, sym, ap, arith, inl, inr}
+use Rattle.std.proofs.Common.{◌≡◌, ℕ, ◌<◌, Bool, false, nat_lt, List, [], ◌∷◌, map, filter, Some, None, Ordering, refl, sym, ◌∙◌, ap, arith, inl, inr}
 use Rattle.std.specs.Cmp.{IsTotalOrder}
 use Rattle.std.specs.List.{Contains, flat_map, sum_by}
 use Rattle.std.specs.Ordering.{nat_cmp, is_lt, ordering_reverse, ordering_then}
@@ -11,7 +11,7 @@ use Rattle.std.proofs.lemmas.List.Elements.{Contains-append_left, Contains-appen
 use Rattle.std.proofs.lemmas.List.Sums.{sum_by-cons}
 use Rattle.list_laws.proofs.MemberLemmas.{Contains-map, Contains-filter, find-only, filter-none, member_of_filter, member_of_map, member_of_find, list_any-none, none_from_list_any}
 use Rattle.repair_grammar.specs.declared.key.Key.{Key}
-use Rattle.repair_grammar.specs.RePair.{met, pair_count, pairs_in, key_of, key_order, is_first_of, keys_of, first_key}
+use Rattle.repair_grammar.specs.RePair.{met, pair_count, pairs_in, key_of, key_cmp, key_order, is_first_of, keys_of, first_key}
 use Rattle.repair_grammar.specs.Counts.{IsFirst, AllBelowTwo}
 use Rattle.repair_grammar.proofs.PassLemmas.{met_stands}
 
@@ -23,12 +23,20 @@ key_order_total = then_total (back_total (on_total (λ (key : Key). key.count) n
     (on_total (λ (key : Key). key.pair.1) nat_cmp_total))
 
 -- keys that the order does not tell apart are one
-exact_keys : (a b : Key) → key_order a b ≡ Equal → a ≡ b
+pub exact_keys : (a b : Key) → key_order a b ≡ Equal → a ≡ b
 unfolding key_order
 exact_keys a b tied = ap (λ (p : ℕ × (ℕ × ℕ)). let key : Key = record { count = p.0; pair = p.1 } in key)
     (exact_pairs (λ m n. nat_cmp n m) (λ (p q : ℕ × ℕ). ordering_then (nat_cmp p.0 q.0) (nat_cmp p.1 q.1))
     (λ m n same. sym (exact_unsigned n m same)) (exact_pairs nat_cmp nat_cmp exact_unsigned exact_unsigned)
     (a.count, a.pair) (b.count, b.pair) tied)
+
+-- the order by which keys compare is that of rounds
+pub key_cmp-is : (a b : Key) → key_cmp a b ≡ key_order a b
+unfolding key_order
+key_cmp-is a b = refl
+
+pub exact_own : (a b : Key) → key_cmp a b ≡ Equal → a ≡ b
+exact_own a b tied = exact_keys a b (sym (key_cmp-is a b) ∙ tied)
 
 neither_before : (r s : Ordering) → r ≡ ordering_reverse s → is_lt r ≡ false → is_lt s ≡ false → r ≡ Equal
 neither_before Less s back not_less not_greater = absurd (cc)

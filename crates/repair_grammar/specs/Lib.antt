@@ -2,3 +2,4 @@
 pub mod RePair
 pub mod GrammarOf
 pub mod Counts
+pub mod Kept

@@ -1,7 +1,7 @@
 -- Re-Pair by rounds. Each round counts every pair afresh, takes the one that counts most, and replaces it.
 use Rattle.std.specs.Prelude.{ℕ, zero, suc, ◌+◌, ◌<◌, Bool, ◌&&◌, ◌==◌, nat_lt, not, if◌then◌else◌, Option, None, Some, List, [], ◌∷◌, ◌++◌, length, map, filter, find}
 use Rattle.std.specs.List.{list_any, sum_by, flat_map, AllByRecursion}
-use Rattle.std.specs.Ordering.{ordering_then, nat_cmp, is_lt}
+use Rattle.std.specs.Ordering.{ordering_then, nat_cmp, is_lt, on, flip_args, then_cmp}
 use Rattle.std.specs.declared.cmp.Ordering.{Ordering}
 use Rattle.repair_grammar.specs.declared.grammar.Grammar.{Grammar}
 use Rattle.repair_grammar.specs.declared.key.Key.{Key}
@@ -40,6 +40,11 @@ key_of blocks pair = record { count = pair_count blocks pair; pair = pair }
 unfoldable pub key_order : Key → Key → Ordering
 key_order a b = ordering_then (nat_cmp b.count a.count)
     (ordering_then (nat_cmp a.pair.0 b.pair.0) (nat_cmp a.pair.1 b.pair.1))
+
+-- the same order by std's words, as an impl of `Ord` states it
+abbrev pub key_cmp : Key → Key → Ordering
+key_cmp = then_cmp (flip_args (on (λ k. k.count) nat_cmp))
+    (then_cmp (on (λ k. k.pair.0) nat_cmp) (on (λ k. k.pair.1) nat_cmp))
 
 -- whether no key is taken before this one
 unfoldable pub is_first_of : List Key → Key → Bool

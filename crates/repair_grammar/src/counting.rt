@@ -1,4 +1,4 @@
-ghost use Rattle.std.specs.Prelude.{◌≡◌, ℕ, ◌+◌, ◌^◌, ◌<◌, length, OnOk, MatchOption, cond};
+ghost use Rattle.std.specs.Prelude.{◌≡◌, ℕ, ◌+◌, ◌^◌, ◌<◌, length, IfOk, OnOk, MatchOption, cond};
 ghost use Rattle.std.specs.List.{sum_by};
 ghost use Rattle.repair_grammar.specs.RePair.{is_pair, met, pair_count};
 ghost use Rattle.repair_grammar.specs.Counts.{count_in, earlier_of, lists_of, IsFirst, AllBelowTwo};
@@ -49,16 +49,17 @@ fn count_block(counts: &mut Counts, block: &[u32]) -> Result<(), Memory>
     Ok(())
 }
 
-// Counts a pair once more.
-fn count_pair(counts: &mut Counts, pair: (u32, u32)) -> Result<(), Memory>
+/// Counts a pair once more, and gives its count.
+pub fn count_pair(counts: &mut Counts, pair: (u32, u32)) -> Result<u32, Memory>
     requires room { count_in counts.old pair + 1 < 2 ^ 32 }
+    ensures value { IfOk result (λ count. count ≡ count_in counts.new pair) }
     ensures ok { OnOk result ((other : ℕ × ℕ) →
         count_in counts.new other
         ≡ count_in counts.old other + cond (is_pair other pair.0 pair.1) 1 0) }
 {
-    let count = counts.get(&pair).copied().unwrap_or(0);
-    counts.insert(pair, count + 1)?;
-    Ok(())
+    let count = counts.get(&pair).copied().unwrap_or(0) + 1;
+    counts.insert(pair, count)?;
+    Ok(count)
 }
 
 /// The pair that a round takes, if one counts two: the one that counts most, with the smaller left

@@ -5,7 +5,7 @@ ghost use Rattle.track_types.specs.declared.limit.LimitKind.TheVariants.{Symbols
 ghost use Rattle.repair_grammar.specs.GrammarOf.{IsGrammarOf};
 ghost use Rattle.repair_grammar.specs.RePair.{AreBelow, pair_count, re_pair};
 
-use crate::recounting::recounted;
+use crate::rounds::by_changes;
 use std::alloc::Global;
 use track_types::{Lists32, Memory, PairList};
 
@@ -33,5 +33,5 @@ pub fn compress(alloc: Global, alphabet: u32, blocks: &Lists32) -> Result<Gramma
     ensures sound { IfOk result (IsGrammarOf alphabet blocks.now) }
     ensures done { IfOk result (λ grammar. (pair : ℕ × ℕ) → pair_count grammar.blocks pair < 2) }
 {
-    recounted(alloc, alphabet, blocks)
+    by_changes(alloc, alphabet, blocks)
 }

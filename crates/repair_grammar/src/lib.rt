@@ -7,12 +7,16 @@
 //! `list_laws`.
 #![tactic(auto)]
 
+mod changes;
 mod counting;
 mod grammar;
 mod key;
 mod recounting;
 mod replacing;
+mod rounds;
+mod tally;
 #[cfg(test)]
 mod tests;
+mod walking;
 
 pub use grammar::{Grammar, compress};

@@ -34,8 +34,8 @@ pub fn recounted(alloc: Global, alphabet: u32, blocks: &Lists32) -> Result<Gramm
     })
 }
 
-// The blocks as vectors that can be written.
-fn copies(alloc: Global, blocks: &Lists32) -> Result<Vec<Vec<u32>>, Memory>
+/// The blocks as vectors that can be written.
+pub fn copies(alloc: Global, blocks: &Lists32) -> Result<Vec<Vec<u32>>, Memory>
     ensures { IfOk result (λ copies. lists_of copies.items ≡ blocks.now) }
 {
     let mut copies = Vec::new(alloc);
@@ -45,8 +45,8 @@ fn copies(alloc: Global, blocks: &Lists32) -> Result<Vec<Vec<u32>>, Memory>
     Ok(copies)
 }
 
-// The vectors as lists, without a copy of any symbol.
-fn lists_from(alloc: Global, blocks: Vec<Vec<u32>>) -> Result<Lists32, Memory>
+/// The vectors as lists, without a copy of any symbol.
+pub fn lists_from(alloc: Global, blocks: Vec<Vec<u32>>) -> Result<Lists32, Memory>
     ensures { IfOk result (λ lists. lists ≡ lists_of blocks.items) }
 {
     let mut lists = Vec::new(alloc);

@@ -11,10 +11,11 @@ pub fn replace_all(blocks: &mut Vec<Vec<u32>>, pair: (u32, u32), symbol: u32)
     }
 }
 
-// The pass through one block. What is written never passes what is still to be read.
-fn replace(block: &mut Vec<u32>, pair: (u32, u32), symbol: u32)
+/// The pass through one block.
+pub fn replace(block: &mut Vec<u32>, pair: (u32, u32), symbol: u32)
     ensures { block.new.items ≡ replaced pair symbol block.old.items }
 {
+    // What is written never passes what is still to be read.
     let mut read = 0;
     let mut written = 0;
     while read < block.len() {
@@ -30,8 +31,8 @@ fn replace(block: &mut Vec<u32>, pair: (u32, u32), symbol: u32)
     block.truncate(written);
 }
 
-// Whether the pair stands at the place.
-fn stands_at(block: &[u32], place: usize, pair: (u32, u32)) -> bool
+/// Whether the pair stands at the place.
+pub fn stands_at(block: &[u32], place: usize, pair: (u32, u32)) -> bool
     requires within { place < length block.now }
     ensures { result ≡ stands_first pair (drop place block.now) }
 {

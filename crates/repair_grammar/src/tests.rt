@@ -2,6 +2,7 @@ ghost use Rattle.std.specs.Prelude.{◌≡◌, ◌^◌, ◌<◌, ◌≤◌, leng
 ghost use Rattle.std.specs.List.{AllByRecursion, sum_by};
 ghost use Rattle.repair_grammar.specs.RePair.{AreBelow};
 
+use super::recounting::recounted;
 use super::{Grammar, compress};
 use std::alloc::Global;
 use std::test::Fail;
@@ -43,6 +44,26 @@ fn compressed(alloc: Global, alphabet: u32, lists: &[Vec<u32>]) -> Result<Gramma
     requires { alphabet ≤ 2 ^ 25 }
 {
     compress(alloc, alphabet, &blocks_of(alloc, alphabet, lists)?)
+}
+
+// What counting every pair afresh in each round makes of them.
+fn compressed_afresh(alloc: Global, alphabet: u32, lists: &[Vec<u32>]) -> Result<Grammar, Memory>
+    requires { alphabet ≤ 2 ^ 25 }
+{
+    recounted(alloc, alphabet, &blocks_of(alloc, alphabet, lists)?)
+}
+
+// Whether two grammars have the same rules and blocks.
+fn are_same(one: &Grammar, other: &Grammar) -> bool {
+    let blocks = other.blocks.as_slice();
+    one.rules.as_slice() == other.rules.as_slice()
+        && one.blocks.as_slice().len() == blocks.len()
+        && one
+            .blocks
+            .as_slice()
+            .iter()
+            .zip(blocks)
+            .all(|(list, block)| list.as_slice() == block.as_slice())
 }
 
 // The slices as lists.
@@ -267,20 +288,39 @@ fn worked_blocks_have_their_rules(rt: HostRuntime) -> Result<(), Fail> {
     Ok(())
 }
 
+// Random lists of at most so many symbols each.
+fn lists_at_random(
+    alloc: Global,
+    random: &mut Random,
+    alphabet: u32,
+    len: u32,
+) -> Result<Vec<Vec<u32>>, Memory>
+    requires { (0 < alphabet) × (0 < len) }
+{
+    let mut lists = Vec::new(alloc);
+    for _ in 0..random.below(4) {
+        let len = random.below(len);
+        lists.push(random.list(alloc, alphabet, len)?)?;
+    }
+    Ok(lists)
+}
+
 #[test]
-fn random_blocks_are_those_of_the_slow_program(rt: HostRuntime) -> Result<(), Fail> {
+fn random_blocks_are_those_of_two_slow_programs(rt: HostRuntime) -> Result<(), Fail> {
     let alloc = rt.alloc();
     let mut random = Random { state: 1 };
-    for _ in 0..200u32 {
+    for round in 0..260u32 {
+        // Short lists for the program that tries every pair, then long ones with runs and ties.
+        let len = if round < 200 { 24 } else { 400 };
         let alphabet = 1 + random.below(4);
-        let mut lists = Vec::new(alloc);
-        for _ in 0..random.below(4) {
-            let len = random.below(24);
-            lists.push(random.list(alloc, alphabet, len)?)?;
-        }
+        let lists = lists_at_random(alloc, &mut random, alphabet, len)?;
         let grammar = compressed(alloc, alphabet, lists.as_slice())?;
-        let (rules, blocks) = slowly(alloc, alphabet, lists.as_slice())?;
-        assert!(rt; has(&grammar, rules.as_slice(), blocks.as_slice()));
+        let afresh = compressed_afresh(alloc, alphabet, lists.as_slice())?;
+        assert!(rt; are_same(&grammar, &afresh));
+        if round < 200 {
+            let (rules, blocks) = slowly(alloc, alphabet, lists.as_slice())?;
+            assert!(rt; has(&grammar, rules.as_slice(), blocks.as_slice()));
+        }
     }
     Ok(())
 }
