@@ -1,4 +1,4 @@
--- Laws for callers: cells and numbers, ascending numbers and their prefixes, squares, areas, walks, flaws.
+-- Laws for callers: cells and numbers, ascending numbers and their prefixes, squares, areas, walks, flaws, and how many bits.
 pub mod MortonLemmas
 pub mod CellLemmas
 pub mod LeafLemmas
@@ -13,6 +13,7 @@ pub mod FewLemmas
 pub mod StrongerLemmas
 pub mod FlawlessLemmas
 pub mod FlawedLemmas
+pub mod BuiltLemmas
 -- Digits of numbers, and boxes.
 mod DigitLemmas
 mod HeightLemmas
@@ -25,7 +26,6 @@ mod ClimbLemmas
 -- Building.
 mod LevelLemmas
 mod BuildingLemmas
-mod BuiltLemmas
 -- Checking.
 mod GroupLemmas
 mod PickedLemmas

@@ -246,7 +246,8 @@ values-near cell values near =
     (subst (All IsCellAsked) (sym (present-moved by origin values))
     (cells-near cell (present_in (cells_along origin values)) _ refl near))
 
-log-near : (rules : RulesView) (cell : Cell) (log : List ℕ) → AreHullsAsked rules cell log →
+-- where the boxes of a log are near, so are the cells along it
+pub log-near : (rules : RulesView) (cell : Cell) (log : List ℕ) → AreHullsAsked rules cell log →
     All IsCellAsked (present_in (cells_along cell (log_values rules log)))
 unfolding AreHullsAsked log_values cells_along
 log-near rules cell [] near = All-nil IsCellAsked

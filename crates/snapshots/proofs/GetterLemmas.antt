@@ -29,7 +29,8 @@ increasing-less xs rising i (suc gap) within =
     let same : i + suc gap + 1 ≡ i + suc (suc gap) = omega arith in
     omega (arith, before, next, ap (λ k. get_or xs k 0) same)
 
-increasing-below : (xs : List ℕ) → IsStrictlyIncreasing xs → (i j : ℕ) → i < j → j < length xs
+-- of ascending numbers the later one is the greater
+pub increasing-below : (xs : List ℕ) → IsStrictlyIncreasing xs → (i j : ℕ) → i < j → j < length xs
     → get_or xs i 0 < get_or xs j 0
 increasing-below xs rising i j less within =
     let same : i + suc (j - i - 1) ≡ j = omega arith in

@@ -15,10 +15,11 @@ mod PlaceLemmas
 mod PlacesLemmas
 mod ObjectsLemmas
 mod ChosenLemmas
-mod LogsLemmas
+pub mod LogsLemmas
 mod ByObjectLemmas
 mod JudgingLemmas
-mod JoinLemmas
+pub mod JoinLemmas
 pub mod SoundPartsLemmas
+pub mod NoFlawLemmas
 mod Examples
 pub mod GetterLemmas
