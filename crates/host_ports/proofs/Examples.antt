@@ -2,7 +2,8 @@
 use Rattle.std.proofs.Common.{◌≡◌, ◌-◌, ◌^◌, [], ◌∷◌, Some, None, true, false, refl, codes}
 use Rattle.host_ports.specs.FileMap.{FileMap, held}
 use Rattle.host_ports.specs.NumberedCalls.{raised, no_calls, fails_next, counted}
-use Rattle.host_ports.specs.MemFiles.{MemFilesView, new_files, after_begin, after_pull}
+use Rattle.host_ports.specs.FilesState.{IsPlain}
+use Rattle.host_ports.specs.MemFiles.{MemFilesView, new_files, after_begin, after_pull, after_save, is_refused, given_by}
 use Rattle.host_ports.specs.MemSource.{MemSourceView, new_source, after_listen}
 use Rattle.host_ports.specs.MemSink.{MemSinkView, new_sink, is_cut, sent_count, after_say}
 
@@ -93,3 +94,29 @@ pulled = refl
 not_held : (after_begin files (codes "c")).calls ≡ record { made = 1; fails = 2 ∷ []; faults = 0 }
 unfolding files two
 not_held = refl
+
+-- a save is the first of its name and takes room, and one that is longer than the room left is a fault
+saved : after_save (new_files 5 []) (codes "a") (codes "new") ≡ record (new_files 1 []) {
+  files = (codes "a", codes "new") ∷ [];
+  calls = record { made = 1; fails = []; faults = 0 };
+  saves = 1;
+}
+saved = refl
+
+too_long : after_save (new_files 5 []) (codes "a") (codes "newer") ≡ record (new_files 5 []) {
+  calls = record { made = 1; fails = []; faults = 0 };
+  saves = 1;
+  save_faults = 1;
+}
+too_long = refl
+
+-- the sixteenth save is let through, the seventeenth is not
+sixteenth : is_refused (record (new_files 1 []) { saves = 15 }) (codes "a") [] ≡ false
+sixteenth = refl
+
+seventeenth : is_refused (record (new_files 1 []) { saves = 16 }) (codes "a") [] ≡ true
+seventeenth = refl
+
+-- files are plain where nothing is laid
+plain : IsPlain (given_by None)
+plain bytes within = refl

@@ -1,4 +1,4 @@
 mod Copies
 mod Examples
-mod HeldFiles
+mod FileStores
 mod KnownBytes

@@ -1,7 +1,7 @@
 -- What is known of a device behind std's reading and writing.
-use Rattle.std.specs.Prelude.{ℕ, ◌+◌, List, Option, Result, is_err}
+use Rattle.std.specs.Prelude.{ℕ, ◌+◌, List, [], Option, Some, Bool, Result, is_err}
 use Rattle.host_ports.specs.Faults.{read_count}
-use Rattle.host_ports.specs.NumberedCalls.{raised_if}
+use Rattle.host_ports.specs.NumberedCalls.{raised, raised_if}
 
 -- how many bytes came from a device, and how often it failed
 pub record Counts : Type 0 where
@@ -24,6 +24,24 @@ after_read counts outcome =
 pub record ReaderView : Type 0 where
   pub left : Option (List ℕ)
   pub counts : Counts
+
+-- the bytes that are left of the file that was begun, where they are told, what came of it and the faults of
+-- loading, the calls of each kind, and the faults of saving
+pub record DiskView : Type 0 where
+  pub left : Option (List ℕ)
+  pub counts : Counts
+  pub begins : ℕ
+  pub saves : ℕ
+  pub save_faults : ℕ
+
+-- files of which none was begun and none saved
+abbrev pub new_disk : DiskView
+new_disk = record { left = Some []; counts = no_counts; begins = 0; saves = 0; save_faults = 0 }
+
+-- one save more, and one fault more if it failed
+abbrev pub after_disk_save : DiskView → Bool → DiskView
+after_disk_save files is_fault =
+    record files { saves = raised files.saves; save_faults = raised_if is_fault files.save_faults }
 
 -- the bytes that a writer holds, where it tells them, and how often it failed
 pub record WriterView : Type 0 where

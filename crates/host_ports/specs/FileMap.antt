@@ -1,5 +1,5 @@
 -- Files by name, as far as they are told.
-use Rattle.std.specs.Prelude.{◌≡◌, ℕ, List, [], Option, Some, None, ⊤}
+use Rattle.std.specs.Prelude.{◌≡◌, ◌≢◌, ℕ, List, [], Option, Some, None, ⊤}
 use Rattle.std.specs.Io.KnownBytes.{IsAtEnd}
 use Rattle.std.specs.Map.{lookup}
 use Rattle.std.specs.Str.{bytes_eq}
@@ -26,3 +26,15 @@ IsMissing (Some files) name = held files name ≡ None
 abbrev pub LeavesNothing : Option (List ℕ) → Option (List ℕ) → Type 0
 LeavesNothing None after = IsAtEnd after
 LeavesNothing (Some bytes) after = after ≡ Some []
+
+-- where the files are told, that name holds the bytes
+abbrev pub IsSaved : Option FileMap → List ℕ → List ℕ → Type 0
+IsSaved None name bytes = ⊤
+IsSaved (Some files) name bytes = held files name ≡ Some bytes
+
+-- every name but that one holds what it held, and files that were told are told still
+abbrev pub KeepsOthers : Option FileMap → Option FileMap → List ℕ → Type 0
+KeepsOthers None after name = ⊤
+KeepsOthers (Some before) after name =
+    (files : FileMap) × (after ≡ Some files)
+    × ((other : List ℕ) → other ≢ name → held files other ≡ held before other)

@@ -1,7 +1,8 @@
 pub mod Faults
 pub mod FileMap
+pub mod FilesState
 pub mod NumberedCalls
-pub mod HeldFile
+pub mod FileStore
 pub mod MemFiles
 pub mod MemSource
 pub mod MemSink

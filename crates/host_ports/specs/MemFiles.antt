@@ -1,20 +1,40 @@
 -- What files in memory do.
-use Rattle.std.specs.Prelude.{◌≡◌, ◌≢◌, ℕ, ◌+◌, min, if◌then◌else◌, List, [], length, drop, Some, unwrap_or}
-use Rattle.host_ports.specs.NumberedCalls.{Calls, no_calls, fails_next, counted}
+use Rattle.std.specs.Prelude.{ℕ, ◌+◌, ◌-◌, min, nat_lt, Bool, ◌||◌, if◌then◌else◌, List, [], ◌∷◌, length, drop, Option, Some, None, unwrap_or}
+use Rattle.host_ports.specs.NumberedCalls.{Calls, no_calls, fails_next, counted, numbered, raised, raised_if}
 use Rattle.host_ports.specs.FileMap.{FileMap, held}
 
--- the files by name, what is still to come of the one that was begun, how many of its bytes came, the calls,
--- and how many bytes are reserved
+-- the files by name, what is still to come of the one that was begun, how many of its bytes came, the calls and
+-- the faults of loading, how many bytes are left for saves, the calls of each kind and the faults of saving, and
+-- what the next pass gives in place of its bytes
 pub record MemFilesView : Type 0 where
   pub files : FileMap
   pub rest : List ℕ
   pub taken : ℕ
   pub calls : Calls
   pub room : ℕ
+  pub begins : ℕ
+  pub saves : ℕ
+  pub save_faults : ℕ
+  pub laid : Option (List ℕ)
 
 -- no files, and nothing begun
 abbrev pub new_files : ℕ → List ℕ → MemFilesView
-new_files room fails = record { files = []; rest = []; taken = 0; calls = no_calls fails; room = room }
+new_files room fails =
+    record {
+      files = [];
+      rest = [];
+      taken = 0;
+      calls = no_calls fails;
+      room = room;
+      begins = 0;
+      saves = 0;
+      save_faults = 0;
+      laid = None;
+    }
+
+-- the files after one was put, which is the first of its name
+abbrev pub after_put : MemFilesView → List ℕ → List ℕ → MemFilesView
+after_put files name bytes = record files { files = (name, bytes) ∷ files.files }
 
 -- the files after one of that name was begun: all its bytes are still to come, or none after a failure
 abbrev pub after_begin : MemFilesView → List ℕ → MemFilesView
@@ -23,6 +43,7 @@ after_begin files name =
       rest = if fails_next files.calls then [] else unwrap_or (held files.files name) [];
       taken = 0;
       calls = counted files.calls (fails_next files.calls);
+      begins = raised files.begins;
     }
 
 -- how many bytes the next call gives to a buffer with that much room
@@ -39,8 +60,24 @@ after_pull files room =
       calls = counted files.calls (fails_next files.calls);
     }
 
--- that name holds the bytes, every other name what it held, and nothing else changed
-pub record PutsOnly (old new : MemFilesView) (name bytes : List ℕ) : Type 0 where
-  pub put : held new.files name ≡ Some bytes
-  pub others : (other : List ℕ) → other ≢ name → held new.files other ≡ held old.files other
-  pub kept : new ≡ record old { files = new.files }
+-- whether the next save fails: by its number, as the seventeenth or a later one, or for want of room
+abbrev pub is_refused : MemFilesView → List ℕ → List ℕ → Bool
+is_refused files name bytes =
+    fails_next files.calls || nat_lt 15 files.saves || nat_lt files.room (length name + length bytes)
+
+-- the files after a save, which takes room and is the first of its name, or is a fault
+abbrev pub after_save : MemFilesView → List ℕ → List ℕ → MemFilesView
+after_save files name bytes =
+    let refused = is_refused files name bytes in
+    record files {
+      files = if refused then files.files else ((name, bytes) ∷ files.files);
+      calls = numbered files.calls;
+      room = if refused then files.room else (files.room - (length name + length bytes));
+      saves = raised files.saves;
+      save_faults = raised_if refused files.save_faults;
+    }
+
+-- what a pass gives: the bytes that were laid, or else those that it is handed
+abbrev pub given_by : Option (List ℕ) → List ℕ → List ℕ
+given_by None bytes = bytes
+given_by (Some laid) bytes = laid

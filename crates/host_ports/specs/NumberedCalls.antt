@@ -24,6 +24,10 @@ no_calls fails = record { made = 0; fails = fails; faults = 0 }
 abbrev pub fails_next : Calls → Bool
 fails_next calls = list_any (λ number. number == raised calls.made) calls.fails
 
+-- one call more
+abbrev pub numbered : Calls → Calls
+numbered calls = record calls { made = raised calls.made }
+
 -- one call more, and one fault more if that call was one
 abbrev pub counted : Calls → Bool → Calls
 counted calls is_fault = record calls { made = raised calls.made; faults = raised_if is_fault calls.faults }

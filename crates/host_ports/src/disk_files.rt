@@ -1,46 +1,56 @@
-ghost use Rattle.std.specs.Prelude.{◌≡◌, ◌<◌, ◌≤◌, Some, None, [], OnOk, OnErr, is_err, length};
+ghost use Rattle.std.specs.Prelude.{◌≡◌, ◌<◌, ◌≤◌, ◌^◌, Some, None, [], OnOk, OnErr, is_err, length};
 ghost use Rattle.std.specs.Io.{ReadsAtMost};
 ghost use Rattle.std.specs.Io.KnownBytes.{IsAtEnd, ReadConsumes};
-ghost use Rattle.host_ports.specs.Device.{no_counts, after_read};
-ghost use Rattle.host_ports.specs.NumberedCalls.{raised_if};
+ghost use Rattle.host_ports.specs.Device.{new_disk, after_read, after_disk_save};
+ghost use Rattle.host_ports.specs.NumberedCalls.{raised, raised_if};
 
 use crate::meter::Meter;
+use crate::replacing::replace_file;
 use crate::retrying::read_piece;
 use crate::{Failed, Files};
 use std::marker::Model;
 use std::{fs, rt};
 
-/// The files of a runtime. It tells none of them.
+/// The files of a runtime. It tells none of them, and is always plain: a `pass` gives what it is handed.
 #[derive(Drop)]
 pub struct DiskFiles<'a, R: rt::Files> {
     rt: &'a R,
     begun: Option<R::File>,
     meter: Meter,
+    begins: u64,
+    saves: u64,
+    save_faults: u64,
 }
 
 impl<'a, R: rt::Files> Model for DiskFiles<'a, R> {
     ghost use Rattle.std.specs.Prelude.{Some, []};
     ghost use Rattle.std.specs.Option.{option_map_or};
-    ghost use Rattle.host_ports.specs.Device.{ReaderView};
+    ghost use Rattle.host_ports.specs.Device.{DiskView};
 
-    ghost Value = { ReaderView };
+    ghost Value = { DiskView };
 
     // Nothing is left of no file.
     ghost view = { λ f. record {
       left = option_map_or (λ file. R.File.remaining file) f.begun (Some []);
       counts = f.meter;
+      begins = f.begins;
+      saves = f.saves;
+      save_faults = f.save_faults;
     } };
 }
 
 impl<'a, R: rt::Files> DiskFiles<'a, R> {
     /// The files of that runtime, of which none was begun.
     pub fn new(rt: &'a R) -> Self
-        ensures { result ≡ record { left = Some []; counts = no_counts } }
+        ensures { result ≡ new_disk }
     {
         DiskFiles {
             rt,
             begun: None,
             meter: Meter::new(),
+            begins: 0,
+            saves: 0,
+            save_faults: 0,
         }
     }
 }
@@ -54,6 +64,14 @@ impl<'a, R: rt::Files> Files for DiskFiles<'a, R> {
 
     ghost load_faults = { λ f. f.counts.faults };
 
+    ghost save_faults = { λ f. f.save_faults };
+
+    ghost saves = { λ f. f.saves };
+
+    ghost begins = { λ f. f.begins };
+
+    ghost given = { λ _ bytes. bytes };
+
     /// Opens the file of that name. A missing file is a fault too.
     fn begin(&mut self, name: &str) -> Result<(), Failed>
         ensures err { OnErr result (IsAtEnd self.new.left) }
@@ -61,7 +79,11 @@ impl<'a, R: rt::Files> Files for DiskFiles<'a, R> {
         ensures counted { let before = self.old.counts.faults in
             self.new.counts.faults ≡ raised_if (is_err result) before }
         ensures faults { self.old.counts.faults ≤ self.new.counts.faults }
+        ensures begins { self.new.begins ≡ raised self.old.begins }
+        ensures saves { self.new.saves ≡ self.old.saves }
+        ensures save_faults { self.new.save_faults ≡ self.old.save_faults }
     {
+        self.begins = self.begins.saturating_add(1);
         self.begun = None;
         self.meter.forget_taken();
         let Ok(file) = fs::open(self.rt, name) else {
@@ -79,6 +101,9 @@ impl<'a, R: rt::Files> Files for DiskFiles<'a, R> {
         ensures read { OnOk result (ReadConsumes self.old.left self.new.left result buf.new) }
         ensures counts { self.new.counts ≡ after_read self.old.counts result }
         ensures faults { self.old.counts.faults ≤ self.new.counts.faults }
+        ensures begins { self.new.begins ≡ self.old.begins }
+        ensures saves { self.new.saves ≡ self.old.saves }
+        ensures save_faults { self.new.save_faults ≡ self.old.save_faults }
     {
         match &mut self.begun {
             Some(file) => self.meter.count_read(read_piece(file, buf)),
@@ -86,7 +111,29 @@ impl<'a, R: rt::Files> Files for DiskFiles<'a, R> {
         }
     }
 
+    /// Writes a new file beside the one of that name, waits until the device has it, and renames it. Any
+    /// error is a fault.
+    fn save(&mut self, name: &str, bytes: &[u8]) -> Result<(), Failed>
+        ensures after { self.new ≡ after_disk_save self.old (is_err result) }
+        ensures faults { self.old.save_faults ≤ self.new.save_faults }
+    {
+        let outcome = replace_file(self.rt, name, bytes);
+        self.saves = self.saves.saturating_add(1);
+        if outcome.is_err() {
+            self.save_faults = self.save_faults.saturating_add(1);
+        }
+        outcome
+    }
+
     fn taken(&self) -> u64 {
         self.meter.taken()
+    }
+
+    fn pass(&mut self, bytes: Vec<u8>) -> Vec<u8>
+        requires { length bytes.items ≤ 2 ^ 30 }
+        ensures given { result.items ≡ bytes.items }
+        ensures after { self.new ≡ self.old }
+    {
+        bytes
     }
 }

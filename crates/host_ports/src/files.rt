@@ -1,15 +1,17 @@
-ghost use Rattle.std.specs.Prelude.{◌≡◌, ℕ, ◌+◌, ◌<◌, ◌≤◌, ◌⊎◌, List, Option, length, OnOk, OnErr};
+ghost use Rattle.std.specs.Prelude.{◌≡◌, ℕ, ◌+◌, ◌<◌, ◌≤◌, ◌^◌, ◌⊎◌, List, Option, length, OnOk, OnErr};
 ghost use Rattle.std.specs.Io.{ReadsAtMost};
 ghost use Rattle.std.specs.Io.KnownBytes.{ReadConsumes};
 ghost use Rattle.host_ports.specs.Faults.{Rose, read_count};
-ghost use Rattle.host_ports.specs.FileMap.{FileMap, IsMissing, IsOpened, LeavesNothing};
+ghost use Rattle.host_ports.specs.FileMap.{FileMap, IsMissing, IsOpened, IsSaved, KeepsOthers, LeavesNothing};
+ghost use Rattle.host_ports.specs.FilesState.{state_of};
+ghost use Rattle.host_ports.specs.NumberedCalls.{raised};
 
 use crate::Failed;
 
-/// Files that are read by name, one at a time, from front to end.
+/// Files that are read by name, one at a time, from front to end, and saved by name at once.
 ///
-/// What the files hold is known only where an implementation tells it. Counts of faults never fall
-/// and stop at 2^64 - 1.
+/// What the files hold is known only where an implementation tells it. Counts of faults never fall,
+/// and all counts stop at 2^64 - 1. A call that does not fail leaves the counts of faults as they were.
 pub trait Files {
     /// The files by name, where they are told.
     ghost map: { Self → Option FileMap };
@@ -23,24 +25,39 @@ pub trait Files {
     /// How often loading a file failed.
     ghost load_faults: { Self → ℕ };
 
+    /// How often saving a file failed.
+    ghost save_faults: { Self → ℕ };
+
+    /// How many calls of `save` were made.
+    ghost saves: { Self → ℕ };
+
+    /// How many calls of `begin` were made.
+    ghost begins: { Self → ℕ };
+
+    /// What the next `pass` gives for at most 2^30 bytes.
+    ghost given: { Self → List ℕ → List ℕ };
+
     /// Begins the file of that name, from its first byte.
     ///
     /// It fails where the device does, or where there is no such file, and then nothing is left to come.
-    /// A call that does not fail leaves the count of faults as it was.
     fn begin(&mut self, name: &str) -> Result<(), Failed>
         ensures opened { OnOk result (IsOpened (map self.old) name.now (rest self.new)) }
         ensures cause { OnErr result
             (Rose (load_faults self.old) (load_faults self.new) ⊎ IsMissing (map self.old) name.now) }
         ensures err { OnErr result (LeavesNothing (rest self.old) (rest self.new)) }
         ensures fresh { taken self.new ≡ 0 }
+        ensures begins { begins self.new ≡ raised (begins self.old) }
         ensures map { map self.new ≡ map self.old }
         ensures untouched { OnOk result (load_faults self.new ≡ load_faults self.old) }
-        ensures faults { load_faults self.old ≤ load_faults self.new };
+        ensures faults { load_faults self.old ≤ load_faults self.new }
+        ensures saves { saves self.new ≡ saves self.old }
+        ensures save_faults { save_faults self.new ≡ save_faults self.old }
+        ensures given { given self.new ≡ given self.old };
 
     /// Takes the next bytes of the begun file into the front of the buffer, and answers how many: 0
     /// exactly at the file's end.
     ///
-    /// It fails where the device does, and then nothing was taken; else the count of faults stays.
+    /// It fails where the device does, and then nothing was taken.
     fn pull(&mut self, buf: &mut [u8]) -> Result<usize, Failed>
         requires { 0 < length buf.old }
         ensures within { ReadsAtMost result buf.new }
@@ -49,9 +66,41 @@ pub trait Files {
         ensures cause { OnErr result (Rose (load_faults self.old) (load_faults self.new)) }
         ensures map { map self.new ≡ map self.old }
         ensures untouched { OnOk result (load_faults self.new ≡ load_faults self.old) }
-        ensures faults { load_faults self.old ≤ load_faults self.new };
+        ensures faults { load_faults self.old ≤ load_faults self.new }
+        ensures begins { begins self.new ≡ begins self.old }
+        ensures saves { saves self.new ≡ saves self.old }
+        ensures save_faults { save_faults self.new ≡ save_faults self.old }
+        ensures given { given self.new ≡ given self.old };
+
+    /// Saves bytes under a name, in place of what it held.
+    ///
+    /// It fails where the device does, and then that name may hold anything. Every other name holds
+    /// what it held, and the file that was begun stays as it was.
+    fn save(&mut self, name: &str, bytes: &[u8]) -> Result<(), Failed>
+        ensures ok { OnOk result (IsSaved (map self.new) name.now bytes.now) }
+        ensures others { KeepsOthers (map self.old) (map self.new) name.now }
+        ensures cause { OnErr result (Rose (save_faults self.old) (save_faults self.new)) }
+        ensures saves { saves self.new ≡ raised (saves self.old) }
+        ensures untouched { OnOk result (save_faults self.new ≡ save_faults self.old) }
+        ensures faults { save_faults self.old ≤ save_faults self.new }
+        ensures rest { rest self.new ≡ rest self.old }
+        ensures taken { taken self.new ≡ taken self.old }
+        ensures load_faults { load_faults self.new ≡ load_faults self.old }
+        ensures begins { begins self.new ≡ begins self.old }
+        ensures given { given self.new ≡ given self.old };
 
     /// How many bytes of the begun file came.
     fn taken(&self) -> u64
         ensures { result ≡ taken self.now };
+
+    /// Passes at most 2^30 bytes through, by which written bytes come back to be read: it answers at most
+    /// 2^30 bytes, which the files determine before the call. It takes no memory and does not fail.
+    fn pass(&mut self, bytes: Vec<u8>) -> Vec<u8>
+        requires { length bytes.items ≤ 2 ^ 30 }
+        ensures given { result.items ≡ given self.old bytes.items }
+        ensures within { length result.items ≤ 2 ^ 30 }
+        ensures kept { state_of (map self.new) (rest self.new) (taken self.new) (load_faults self.new)
+            (save_faults self.new) (saves self.new) (begins self.new)
+            ≡ state_of (map self.old) (rest self.old) (taken self.old) (load_faults self.old)
+            (save_faults self.old) (saves self.old) (begins self.old) };
 }

@@ -9,8 +9,8 @@
 mod copying;
 mod disk_files;
 mod fault;
+mod file_store;
 mod files;
-mod held_file;
 mod input_source;
 mod memory_files;
 mod memory_sink;
@@ -18,6 +18,7 @@ mod memory_source;
 mod meter;
 mod numbered_calls;
 mod output_sink;
+mod replacing;
 mod retrying;
 mod sink;
 mod source;

@@ -1,59 +1,80 @@
-ghost use Rattle.std.specs.Prelude.{◌≡◌, ◌↔◌, ◌⊎◌, ◌<◌, ◌≤◌, Some, None, IsTrue, IsErr, OnOk, OnErr, IfOk, length, take, drop, ◌++◌};
+ghost use Rattle.std.specs.Prelude.{◌≡◌, ◌↔◌, ◌⊎◌, ◌<◌, ◌≤◌, ◌^◌, Some, None, IsTrue, IsErr, OnOk, OnErr, IfOk, length, take, drop, ◌++◌};
 ghost use Rattle.std.specs.Io.KnownBytes.{ReadConsumes};
 ghost use Rattle.host_ports.specs.NumberedCalls.{fails_next};
 ghost use Rattle.host_ports.specs.FileMap.{held};
-ghost use Rattle.host_ports.specs.MemFiles.{new_files, after_begin, next_pull, after_pull, PutsOnly};
+ghost use Rattle.host_ports.specs.MemFiles.{new_files, after_put, after_begin, next_pull, after_pull, is_refused, after_save, given_by};
 
 use crate::copying::copy_front;
-use crate::held_file::{Begun, HeldFile, bytes_to_come, newest_place};
+use crate::file_store::{Begun, FileStore};
 use crate::numbered_calls::NumberedCalls;
 use crate::{Failed, Files};
 use std::alloc::Global;
 use std::marker::Model;
 use track_types::Memory;
 
+/// For how many saves places are reserved.
+const MOST_SAVES: usize = 16;
+
 /// Files in memory, which fail at the calls that they are told.
 #[derive(Drop)]
 pub struct MemFiles {
-    alloc: Global,
-    files: Vec<HeldFile>,
+    store: FileStore,
     begun: Option<Begun>,
     calls: NumberedCalls,
-    reserve: Vec<u8>,
+    room: usize,
+    begins: u64,
+    saves: u64,
+    save_faults: u64,
+    laid: Option<Vec<u8>>,
 }
 
 impl Model for MemFiles {
-    ghost use Rattle.std.specs.Prelude.{vec_capacity};
+    ghost use Rattle.std.specs.Prelude.{◌≤◌, ◌+◌, ◌^◌, length};
+    ghost use Rattle.std.specs.Option.{option_map, IfSome};
     ghost use Rattle.host_ports.specs.MemFiles.{MemFilesView};
-    ghost use Rattle.host_ports.specs.HeldFile.{file_map, bytes_left, taken_count, IsBegun};
+    ghost use Rattle.host_ports.specs.FileStore.{bytes_left, taken_count, IsBegun};
 
     ghost Value = { MemFilesView };
 
     ghost view = { λ f. record {
-      files = file_map f.files.items;
-      rest = bytes_left f.files.items f.begun;
+      files = f.store.files;
+      rest = bytes_left f.store.stored f.begun;
       taken = taken_count f.begun;
       calls = f.calls;
-      room = vec_capacity f.reserve;
+      room = f.room;
+      begins = f.begins;
+      saves = f.saves;
+      save_faults = f.save_faults;
+      laid = option_map (λ bytes. bytes.items) f.laid;
     } };
 
-    ghost invariant = { λ f. IsBegun f.files.items f.begun };
+    // Room and places for the saves are reserved, so that saving takes no memory.
+    ghost invariant = { λ f. IsBegun f.store.stored f.begun
+        × (f.room ≤ f.store.room)
+        × (16 ≤ f.saves + f.store.places)
+        × IfSome f.laid (λ bytes. length bytes.items ≤ 2 ^ 30) };
 }
 
 impl MemFiles {
-    /// No files. It reserves `room` bytes now, for what will be saved.
+    /// No files. It reserves `room` bytes for the names and the bytes of all saves, and places for 16
+    /// saves.
     ///
-    /// The calls of `begin` and `pull` are numbered together from 1, and those whose numbers are in
-    /// `fails` fail and are counted as faults.
+    /// The calls of `begin`, `pull` and `save` are numbered together from 1, and those whose numbers
+    /// are in `fails` fail and are counted as faults.
     pub fn new(alloc: Global, room: usize, fails: Vec<u64>) -> Result<Self, Memory>
         ensures { IfOk result (λ files. files ≡ new_files room fails.items) }
     {
+        let mut store = FileStore::new(alloc);
+        store.reserve(room, MOST_SAVES)?;
         Ok(MemFiles {
-            alloc,
-            files: Vec::new(alloc),
+            store,
             begun: None,
             calls: NumberedCalls::new(fails),
-            reserve: Vec::with_capacity(alloc, room)?,
+            room,
+            begins: 0,
+            saves: 0,
+            save_faults: 0,
+            laid: None,
         })
     }
 
@@ -62,15 +83,23 @@ impl MemFiles {
     /// A file that was begun stays as it was, so what a name held before is kept until the files
     /// are dropped.
     pub fn put(&mut self, name: &str, bytes: &[u8]) -> Result<(), Memory>
-        ensures ok { OnOk result (PutsOnly self.old self.new name.now bytes.now) }
+        ensures ok { OnOk result (self.new ≡ after_put self.old name.now bytes.now) }
         ensures err { OnErr result (self.new ≡ self.old) }
     {
-        let file = HeldFile {
-            name: String::from_str(self.alloc, name)?,
-            bytes: Vec::from_slice(self.alloc, bytes)?,
+        let Some(room) = self.room.checked_add(name.len() + bytes.len()) else {
+            return Err(Memory);
         };
-        self.files.push(file)?;
+        self.store.reserve(room, MOST_SAVES + 1)?;
+        self.store.push(name, bytes);
         Ok(())
+    }
+
+    /// Lays at most 2^30 bytes, which the next `pass` gives in place of what it is handed.
+    pub fn lay(&mut self, bytes: Vec<u8>)
+        requires { length bytes.items ≤ 2 ^ 30 }
+        ensures { self.new ≡ record self.old { laid = Some bytes.items } }
+    {
+        self.laid = Some(bytes);
     }
 }
 
@@ -83,6 +112,14 @@ impl Files for MemFiles {
 
     ghost load_faults = { λ f. f.calls.faults };
 
+    ghost save_faults = { λ f. f.save_faults };
+
+    ghost saves = { λ f. f.saves };
+
+    ghost begins = { λ f. f.begins };
+
+    ghost given = { λ f. given_by f.laid };
+
     /// Begins the file of that name. A name that is not held is no fault of the device.
     fn begin(&mut self, name: &str) -> Result<(), Failed>
         ensures fails { IsErr result ↔
@@ -90,10 +127,11 @@ impl Files for MemFiles {
         ensures after { self.new ≡ after_begin self.old name.now }
         ensures faults { self.old.calls.faults ≤ self.new.calls.faults }
     {
+        self.begins = self.begins.saturating_add(1);
         self.begun = None;
         self.calls.make()?;
-        let place = newest_place(&self.files, name).ok_or(Failed)?;
-        self.begun = Some(Begun { place, taken: 0 });
+        let file = self.store.newest(name).ok_or(Failed)?;
+        self.begun = Some(Begun { file, taken: 0 });
         Ok(())
     }
 
@@ -109,14 +147,46 @@ impl Files for MemFiles {
         ensures faults { self.old.calls.faults ≤ self.new.calls.faults }
     {
         self.calls.make()?;
-        let count = copy_front(bytes_to_come(&self.files, self.begun), buf);
+        let count = copy_front(self.store.bytes_to_come(self.begun), buf);
         if let Some(begun) = &mut self.begun {
             begun.taken += count;
         }
         Ok(count)
     }
 
+    /// Saves in the room that is left. It fails by its number, for want of room, and from the
+    /// seventeenth call on, and each failure is counted. It takes no memory.
+    fn save(&mut self, name: &str, bytes: &[u8]) -> Result<(), Failed>
+        ensures fails { IsErr result ↔ IsTrue (is_refused self.old name.now bytes.now) }
+        ensures after { self.new ≡ after_save self.old name.now bytes.now }
+        ensures faults { self.old.save_faults ≤ self.new.save_faults }
+    {
+        let is_late = self.saves >= MOST_SAVES as u64;
+        self.saves = self.saves.saturating_add(1);
+        let length = name.len() + bytes.len();
+        if self.calls.number() || is_late || self.room < length {
+            self.save_faults = self.save_faults.saturating_add(1);
+            return Err(Failed);
+        }
+        self.room -= length;
+        self.store.push(name, bytes);
+        Ok(())
+    }
+
     fn taken(&self) -> u64 {
         self.begun.map_or(0, |begun| begun.taken as u64)
+    }
+
+    /// Gives the bytes that were laid, once, and else those that it is handed.
+    fn pass(&mut self, bytes: Vec<u8>) -> Vec<u8>
+        requires { length bytes.items ≤ 2 ^ 30 }
+        ensures given { result.items ≡ given_by self.old.laid bytes.items }
+        ensures within { length result.items ≤ 2 ^ 30 }
+        ensures after { self.new ≡ record self.old { laid = None } }
+    {
+        match self.laid.take() {
+            Some(laid) => laid,
+            None => bytes,
+        }
     }
 }

@@ -1,5 +1,5 @@
 ghost use Rattle.std.specs.Prelude.{◌≡◌, ◌↔◌, ◌≤◌, IsTrue, IsErr};
-ghost use Rattle.host_ports.specs.NumberedCalls.{no_calls, fails_next, counted, raised};
+ghost use Rattle.host_ports.specs.NumberedCalls.{no_calls, fails_next, counted, numbered, raised};
 
 use crate::Failed;
 use std::marker::Model;
@@ -37,12 +37,20 @@ impl NumberedCalls {
         ensures fails { IsErr result ↔ IsTrue (fails_next self.old) }
         ensures faults { self.old.faults ≤ self.new.faults }
     {
-        self.made = self.made.saturating_add(1);
-        if self.fails.as_slice().contains(&self.made) {
+        if self.number() {
             self.count_fault();
             return Err(Failed);
         }
         Ok(())
+    }
+
+    /// Numbers the next call, and answers whether that number is among those that fail.
+    pub(crate) fn number(&mut self) -> bool
+        ensures after { self.new ≡ numbered self.old }
+        ensures exact { result ≡ fails_next self.old }
+    {
+        self.made = self.made.saturating_add(1);
+        self.fails.as_slice().contains(&self.made)
     }
 
     pub(crate) fn count_fault(&mut self)

@@ -2,9 +2,11 @@ use super::{
     CalmSource, Cut, DiskFiles, Failed, Files, InputSource, MemFiles, MemSink, MemSource, NullSink,
     OutputSink, Sink, Source,
 };
+use std::alloc::Global;
 use std::io::{Error, ErrorKind, Read, Write};
 use std::test::Fail;
 use std::{fs, io};
+use track_types::Memory;
 
 /// What a device does at one call.
 #[derive(Clone, Copy)]
@@ -61,12 +63,17 @@ fn next_step(steps: &mut &[Step]) -> io::Result<usize> {
     }
 }
 
-#[test]
-fn files_in_memory_fail_at_their_numbers(rt: HostRuntime) -> Result<(), Fail> {
-    let mut files = MemFiles::new(rt.alloc(), 16, vec![in rt.alloc(); 2, 4]?)?;
+fn make_files(alloc: Global, room: usize, fails: &[u64]) -> Result<MemFiles, Memory> {
+    let mut files = MemFiles::new(alloc, room, Vec::from_slice(alloc, fails)?)?;
     for (name, bytes) in [("a", b"first."), ("b", b"other."), ("a", b"second")] {
         files.put(name, bytes)?;
     }
+    Ok(files)
+}
+
+#[test]
+fn files_in_memory_do_as_they_are_told(rt: HostRuntime) -> Result<(), Fail> {
+    let mut files = make_files(rt.alloc(), 0, &[2, 4])?;
     let mut buf = [b'-'; 4];
     assert_eq!(rt; files.begin("a"), Ok(()));
     for (want, held) in [
@@ -79,19 +86,36 @@ fn files_in_memory_fail_at_their_numbers(rt: HostRuntime) -> Result<(), Fail> {
         assert_eq!(rt; (files.pull(&mut buf), buf), (want, *held));
     }
     assert_eq!(rt; files.taken(), 6);
+    assert_eq!(rt; files.begin("c"), Err(Failed));
+    assert_eq!(rt; (files.pull(&mut buf), files.taken()), (Ok(0), 0));
     Ok(())
 }
 
 #[test]
-fn a_begun_file_stands_until_the_next(rt: HostRuntime) -> Result<(), Fail> {
-    let mut files = MemFiles::new(rt.alloc(), 0, Vec::new(rt.alloc()))?;
+fn files_in_memory_are_saved_and_passed(rt: HostRuntime) -> Result<(), Fail> {
+    let mut files = make_files(rt.alloc(), 40, &[2])?;
     let mut buf = [b'-'; 4];
-    files.put("a", b"old")?;
     assert_eq!(rt; files.begin("a"), Ok(()));
-    files.put("a", b"later")?;
-    assert_eq!(rt; (files.pull(&mut buf), buf), (Ok(3), *b"old-"));
-    assert_eq!(rt; files.begin("c"), Err(Failed));
-    assert_eq!(rt; (files.pull(&mut buf), files.taken()), (Ok(0), 0));
+    for (bytes, want) in [
+        (b"by number".as_slice(), Err(Failed)),
+        (b"new", Ok(())),
+        (b"longer than all of the room that is left", Err(Failed)),
+    ] {
+        assert_eq!(rt; files.save("a", bytes), want);
+    }
+    // The file that was begun stands.
+    assert_eq!(rt; (files.pull(&mut buf), buf), (Ok(4), *b"seco"));
+    for nth in 4..=17 {
+        let want = if nth > 16 { Err(Failed) } else { Ok(()) };
+        assert_eq!(rt; files.save("b", b"2"), want);
+    }
+    assert_eq!(rt; files.begin("a"), Ok(()));
+    assert_eq!(rt; (files.pull(&mut buf), buf), (Ok(3), *b"newo"));
+    files.lay(Vec::from_slice(rt.alloc(), b"laid")?);
+    for want in [b"laid", b"here"] {
+        let bytes = Vec::from_slice(rt.alloc(), b"here")?;
+        assert_eq!(rt; files.pass(bytes).as_slice(), want.as_slice());
+    }
     Ok(())
 }
 
@@ -194,11 +218,12 @@ fn an_output_says_what_its_writer_takes(rt: HostRuntime) -> Result<(), Fail> {
 }
 
 #[test]
-fn files_on_disk_are_read_and_missed(rt: HostRuntime) -> Result<(), Fail> {
+fn files_on_disk_are_saved_read_and_missed(rt: HostRuntime) -> Result<(), Fail> {
     let name = format!(in rt.alloc(); "host_ports-{}", std::process::id(rt.process()))?;
     let path = std::env::temp_dir(&rt)?.join(rt.alloc(), name.as_str())?;
-    fs::write(&rt, path.as_str(), "0123456789")?;
+    fs::write(&rt, path.as_str(), "old")?;
     let mut files = DiskFiles::new(&rt);
+    assert_eq!(rt; files.save(path.as_str(), b"0123456789"), Ok(()));
     let mut buf = [0u8; 6];
     assert_eq!(rt; files.begin(path.as_str()), Ok(()));
     assert_eq!(rt; (files.pull(&mut buf), buf), (Ok(6), *b"012345"));

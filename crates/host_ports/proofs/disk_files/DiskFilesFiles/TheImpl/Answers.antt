@@ -8,3 +8,9 @@ begin-tells g c = grind (arith, common_steps)
 
 pub pull-tells : goal.pull-tells
 pull-tells g c = grind (arith, common_steps)
+
+pub save-tells : goal.save-tells
+save-tells g c = grind (arith, common_steps)
+
+pub pass-tells : goal.pass-tells
+pass-tells g c = grind (arith, common_steps)
