@@ -1,8 +1,9 @@
 mod ItemLemmas
-mod BitLemmas
+pub mod BitLemmas
 mod Laws
 mod ListLaws
 mod PeriodLaws
 mod HeaderLaws
-mod PartsLaws
+pub mod PartsLaws
+pub mod LengthLaws
 mod Examples

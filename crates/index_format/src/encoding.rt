@@ -4,6 +4,7 @@ ghost use Rattle.track_types.specs.Shape.{IsShaped};
 ghost use Rattle.index_format.specs.Spelling.{header_bytes, period_bytes, header_of, bytes_of_parts};
 
 use crate::header::{Header, MAGIC};
+use crate::lengths::parts_len;
 use crate::putting::{put_bits, put_longs, put_rules, put_short, put_shorts};
 use std::alloc::Global;
 use track_types::{Memory, Parts, PeriodParts};
@@ -86,12 +87,13 @@ fn put_period(out: &mut Vec<u8>, period: &PeriodParts) -> Result<(), Memory>
     put_shorts(out, period.lengths.as_slice())
 }
 
-/// The bytes of an index file that holds these parts, in one pass over them.
+/// The bytes of an index file that holds these parts, in one pass over them after one over the
+/// periods that tells how many bytes there are. Memory is taken once, for as many.
 pub fn encode(alloc: Global, parts: &Parts) -> Result<Vec<u8>, Memory>
     requires { IsShaped parts.now }
     ensures ok { IfOk result (λ bytes. bytes.items ≡ bytes_of_parts parts.now) }
 {
-    let mut out = Vec::new(alloc);
+    let mut out = Vec::with_capacity(alloc, parts_len(parts))?;
     put_header(&mut out, &header_of(parts))?;
     put_shorts(&mut out, parts.objects.as_slice())?;
     put_longs(&mut out, parts.alphabet.as_slice())?;

@@ -10,6 +10,7 @@ mod encoding;
 mod fault;
 mod fields;
 mod header;
+mod lengths;
 mod limits;
 mod lists;
 mod packed;

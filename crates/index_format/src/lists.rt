@@ -59,7 +59,7 @@ pub fn alphabet_of(alloc: Global, count: u32, bytes: &[u8]) -> Result<(List64, &
     let mut rest = bytes;
     for index in 0..count as usize {
         let (value, after) = long_of(rest, place.flaw(index, Kind::Short))?;
-        if index > 0 && value <= values[index - 1] {
+        if index > 0 && values[index - 1] >= value {
             return Err(FormatFault::Flaw(place.flaw(index, Kind::Order)));
         }
         values.push(value)?;

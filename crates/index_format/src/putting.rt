@@ -2,6 +2,7 @@ ghost use Rattle.std.specs.Prelude.{◌≡◌, ◌++◌, OnOk};
 ghost use Rattle.std.specs.List.{flat_map};
 ghost use Rattle.index_format.specs.Spelling.{short_bytes, long_bytes, rule_bytes, bit_bytes};
 
+use crate::lengths::bits_len;
 use track_types::{BitList, Memory};
 
 /// Appends the number as four bytes, lowest first.
@@ -58,7 +59,7 @@ pub fn put_rules(out: &mut Vec<u8>, rules: &[(u32, u32)]) -> Result<(), Memory>
 pub fn put_bits(out: &mut Vec<u8>, bits: &BitList) -> Result<(), Memory>
     ensures { OnOk result (out.new.items ≡ out.old.items ++ bit_bytes bits.now) }
 {
-    let len = bits.len().div_ceil(8) as usize;
+    let len = bits_len(bits);
     for i in 0..bits.len().div_ceil(64) {
         let word = bits.word(i).to_le_bytes();
         let left = len - 8 * i as usize;

@@ -23,6 +23,6 @@ returns c =
         c.as_slice.ensures,
         c.in_ok-put_header.ensures,
         c.header_of.ensures,
-        c.new-out.ensures.items,
+        c.in_ok-out.ensures.items,
       ) (simp append_assoc refl);
     }

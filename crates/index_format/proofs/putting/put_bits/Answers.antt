@@ -18,18 +18,17 @@ loop-i-preserved c =
     let out = c.args.out.now.items in
     let n = c.min.result in
     let now : min (8 * i) (bytes_for (length bits)) ≡ 8 * i =
-    omega (arith, c.loop-i-test.true, c.div_ceil-i-end.ensures, c.len-2.ensures) in
+    omega (arith, c.loop-i-test.true, c.div_ceil-i-end.ensures, c.len.ensures) in
     let few : n ≤ 8 = omega (arith, c.min.ensures) in
     let next : 8 * i + n ≡ min (8 * (i + 1)) (bytes_for (length bits)) =
     omega (
       arith,
       now,
       c.min.ensures,
-      c.div_ceil-len.ensures,
-      c.len.ensures,
+      c.bits_len-len.ensures.exact,
       c.loop-i-test.true,
       c.div_ceil-i-end.ensures,
-      c.len-2.ensures,
+      c.len.ensures,
     ) in
     let word = c.to_le_bytes-word.ensures ∙ ap (to_le_bytes w64) c.word.ensures in
     let piece = ap (take n) word in
@@ -44,5 +43,5 @@ pub returns : goal.returns
 unfolding bit_bytes
 returns c =
     let last : min (8 * c.loop-i.i) (bytes_for (length c.args.bits.now)) ≡ bytes_for (length c.args.bits.now) =
-    omega (arith, c.loop-i-test.false, c.div_ceil-i-end.ensures, c.len.ensures) in
+    omega (arith, c.loop-i-test.false, c.div_ceil-i-end.ensures, c.bits_len-len.ensures.exact) in
     c.loop-i.invariant ∙ ap (λ n. c.args.out.now.items ++ bytes_filled n c.args.bits.now) last

@@ -1,0 +1,65 @@
+-- How many bytes the parts of an index take.
+use Rattle.std.proofs.Common.{◌≡◌, ℕ, ◌+◌, ◌*◌, List, length, refl, arith}
+use Rattle.std.specs.List.{flat_map}
+use Rattle.std.proofs.lemmas.List.{length-append}
+use Rattle.list_laws.proofs.LengthLemmas.{length-flat_map-alike}
+use Rattle.track_types.specs.declared.parts.Parts.{Parts}
+use Rattle.track_types.specs.declared.period_parts.PeriodParts.{PeriodParts}
+use Rattle.index_format.specs.declared.header.Header.{Header}
+use Rattle.index_format.specs.Spelling.{bytes_for, bytes_of_parts, header_bytes, long_bytes}
+use Rattle.index_format.specs.Spelling.{period_bytes, rule_bytes, short_bytes, signed_bytes, size_bytes}
+use Rattle.index_format.proofs.BitLemmas.{length-bit_bytes}
+use Rattle.index_format.proofs.Laws.{wide32, wide64}
+
+-- numbers of four bytes
+pub length-shorts : (numbers : List ℕ) → length (flat_map short_bytes numbers) ≡ 4 * length numbers
+length-shorts numbers = length-flat_map-alike short_bytes 4 wide32.long numbers
+
+-- numbers of eight bytes
+pub length-longs : (numbers : List ℕ) → length (flat_map long_bytes numbers) ≡ 8 * length numbers
+length-longs numbers = length-flat_map-alike long_bytes 8 wide64.long numbers
+
+-- rules
+pub length-rules : (rules : List (ℕ × ℕ)) → length (flat_map rule_bytes rules) ≡ 8 * length rules
+unfolding rule_bytes
+length-rules rules =
+    length-flat_map-alike rule_bytes 8
+    (λ rule.
+    omega (arith, length-append (short_bytes rule.0) (short_bytes rule.1), wide32.long rule.0, wide32.long rule.1))
+    rules
+
+-- a header has 76 bytes
+pub length-header_bytes : (header : Header) → length (header_bytes header) ≡ 76
+unfolding header_bytes size_bytes signed_bytes short_bytes long_bytes
+length-header_bytes header = refl
+
+-- how many bytes a period takes
+abbrev pub period_length : PeriodParts → ℕ
+period_length period =
+    bytes_for (length period.present) + 4 * length period.offsets
+    + 4 + bytes_for (length period.tree) + bytes_for (length period.lasts)
+    + 4 * length period.perm + 4 * length period.lengths
+
+-- these are as many
+pub length-period_bytes : (period : PeriodParts) → length (period_bytes period) ≡ period_length period
+unfolding period_bytes
+length-period_bytes period = simp (
+  length-append,
+  length-bit_bytes,
+  length-shorts,
+  wide32.long,
+) (omega arith)
+
+-- how many bytes the parts take
+pub length-bytes_of_parts : (parts : Parts)
+    → length (bytes_of_parts parts)
+    ≡ 76 + 4 * length parts.objects + 8 * length parts.alphabet + 8 * length parts.rules
+    + length (flat_map period_bytes parts.periods) + 4 * length parts.symbols
+unfolding bytes_of_parts
+length-bytes_of_parts parts = simp (
+  length-append,
+  length-header_bytes,
+  length-shorts,
+  length-longs,
+  length-rules,
+) (omega arith)

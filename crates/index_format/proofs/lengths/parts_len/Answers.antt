@@ -1,0 +1,20 @@
+use Rattle.std.proofs.Common.{◌≡◌, length, take, sym, ap, arith}
+use Rattle.std.proofs.lemmas.List.{take_all}
+use Rattle.index_format.proofs.LengthLaws.{length-bytes_of_parts}
+use Rattle.index_format.proofs.lengths.parts_len.Goals as goal
+
+pub returns : goal.returns
+returns c =
+    let whole : take c.loop-period.period-index c.args.parts.now.periods ≡ c.args.parts.now.periods =
+    take_all c.loop-period.period-index c.args.parts.now.periods
+    (rw (sym c.as_slice-period-items.ensures) c.loop-period-test.false) in
+    let sum = rw whole at c.loop-period.invariant.exact in
+    omega (
+      arith,
+      length-bytes_of_parts c.args.parts.now,
+      sum,
+      ap length c.as_slice.ensures,
+      ap length c.as_slice-2.ensures,
+      ap length c.as_slice-3.ensures,
+      ap length c.as_slice-4.ensures,
+    )
