@@ -1,5 +1,5 @@
 -- Words of the laws below: an object's block in a period, by its anchor among the chart's rows.
-use Rattle.std.specs.Prelude.{◌≡◌, ℕ, ◌==◌, ◌+◌, pos, ◌+ℤ◌, List, [], ◌∷◌, find, Option, Some, None}
+use Rattle.std.specs.Prelude.{ℕ, ◌==◌, pos, ◌+ℤ◌, List, [], ◌∷◌, find, Option, Some, None}
 use Rattle.track_types.specs.Chart.{ChartView}
 use Rattle.track_types.specs.declared.row.Row.{Row}
 use Rattle.track_types.specs.declared.stop.Stop.{Stop}

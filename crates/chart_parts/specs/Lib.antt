@@ -2,3 +2,4 @@
 pub mod Header
 pub mod LeafOrder
 pub mod PartsOf
+pub mod PeriodWith

@@ -1,10 +1,19 @@
 //! The parts that a chart is written as: header, objects, alphabet, rules, periods and logs.
 //!
-//! `parts_of` gives exactly the parts of `specs/PartsOf.antt`, which are those of an index, and whose
-//! chart is the one that they were made from. The crate stands on `movement_log`, `repair_grammar`,
-//! `k2_tree` and `snapshots`, whose words say what parts mean.
+//! `parts_of` gives exactly the parts of `specs/PartsOf.antt`. They are those of an index, and hold the
+//! very chart that they were made from. The crate stands on `track_types`, `gridding`, `spiral_code`,
+//! `packed_bits`, `k2_tree`, `bit_rank`, `object_perm`, `rule_store`, `snapshots`, `movement_log`,
+//! `repair_grammar`, `index_format`, `step_count` and `list_laws`. (Its tests make their charts by
+//! `gridding`.)
 #![tactic(auto)]
 
+mod header;
+mod leaves;
+mod objects;
+mod periods;
+mod presence;
+#[cfg(test)]
+mod tests;
 mod writing;
 
 pub use writing::parts_of;

@@ -1,18 +1,90 @@
-ghost use Rattle.std.specs.Prelude.{◌≡◌, IfOk};
+ghost use Rattle.std.specs.Prelude.{◌≡◌, ◌<◌, ◌^◌, length, IfOk};
+ghost use Rattle.std.specs.List.{flat_map};
+ghost use Rattle.track_types.specs.Chart.{IsChart};
 ghost use Rattle.snapshots.specs.Parts.{chart_in};
 ghost use Rattle.snapshots.specs.SoundParts.{IsValid};
 ghost use Rattle.chart_parts.specs.PartsOf.{parts_of};
+ghost use Rattle.chart_parts.specs.PeriodWith.{blocks_of};
+ghost use Rattle.index_format.specs.Spelling.{bytes_of_parts};
 
-use std::alloc::Global;
-use track_types::{Chart, Memory, Parts};
+use crate::header::frame_of;
+use crate::objects::objects_of;
+use crate::periods::periods_of;
+use movement_log::{HeadList, RawLogs, cut};
+use repair_grammar::{Grammar, compress};
+use std::alloc::{AllocError, Global};
+use track_types::{Chart, List32, List64, Lists32, Memory, PairList, Parts, PeriodList};
 
-/// The parts that a chart is written as.
+/// The parts that a chart is written as: header, objects, alphabet, Re-Pair's rules over the logs of all
+/// blocks, the parts of each period, and the logs that the rules leave.
+///
+/// They are those of an index, hold the very chart that they were made from, and take fewer than 2^30
+/// bytes in a file. Beside what `compress` takes, it takes memory for the parts and for the raw logs,
+/// which are let go once there are rules. It takes time for the rows, the terminals and one sort of
+/// each period's anchors; a period without a block costs what its presence bits take.
 pub fn parts_of(alloc: Global, chart: &Chart) -> Result<Parts, Memory>
     ensures ok { IfOk result (λ parts. parts ≡ parts_of chart.now) }
     ensures valid { IfOk result (λ parts. IsValid parts) }
     ensures reads_back { IfOk result (λ parts. chart_in parts ≡ chart.now) }
+    ensures short { IfOk result (λ parts. length (bytes_of_parts parts) < 2 ^ 30) }
 {
-    let _ = alloc;
-    let _ = chart.rows();
-    Err(Memory)
+    let frame = frame_of(chart);
+    let objects = objects_of(alloc, chart.rows())?;
+    let Blocks {
+        alphabet,
+        heads,
+        rules,
+        logs,
+    } = blocks_of(alloc, chart)?;
+    let count = objects.len() as u32;
+    let periods = periods_of(alloc, frame, count, heads.as_slice(), logs.as_slice())?;
+    let symbols = joined(alloc, logs.as_slice())?;
+    Ok(Parts {
+        frame,
+        objects: List32::new(objects),
+        alphabet,
+        rules,
+        periods: PeriodList::new(periods),
+        symbols: List32::new(symbols),
+    })
+}
+
+// The blocks of a chart, whose logs are shortened by rules.
+#[derive(Drop)]
+pub(crate) struct Blocks {
+    pub(crate) alphabet: List64,
+    pub(crate) heads: HeadList,
+    pub(crate) rules: PairList,
+    pub(crate) logs: Lists32,
+}
+
+// The blocks of a chart. The terminals are let go when the rules are made.
+fn blocks_of(alloc: Global, chart: &Chart) -> Result<Blocks, Memory>
+    requires { IsChart chart.now }
+    ensures ok { IfOk result (λ blocks. blocks ≡ blocks_of chart.now) }
+{
+    let RawLogs {
+        alphabet,
+        heads,
+        terminals,
+    } = cut(alloc, chart)?;
+    let size = alphabet.as_slice().len() as u32;
+    let Grammar { rules, blocks } = compress(alloc, size, &terminals)?;
+    Ok(Blocks {
+        alphabet,
+        heads,
+        rules,
+        logs: blocks,
+    })
+}
+
+// The symbols of all logs, one log after the other.
+fn joined(alloc: Global, logs: &[List32]) -> Result<Vec<u32>, AllocError>
+    ensures { IfOk result (λ symbols. symbols.items ≡ flat_map (λ log. log) logs.now) }
+{
+    let mut symbols = Vec::new(alloc);
+    for log in logs {
+        symbols.extend_from_slice(log.as_slice())?;
+    }
+    Ok(symbols)
 }

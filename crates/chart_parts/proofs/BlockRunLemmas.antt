@@ -1,0 +1,138 @@
+-- Blocks by period, one period after the other.
+use Rattle.std.proofs.Common.{◌≡◌, ℕ, ◌+◌, ◌-◌, ◌^◌, ◌<◌, ◌≤◌, List, [], ◌∷◌, drop, length, map, refl, sym, take, ◌∙◌, ap, arith}
+use Rattle.std.specs.Prelude.{All, ◌==◌}
+use Rattle.std.specs.List.{zip}
+use Rattle.std.proofs.lemmas.List.{drop-drop, drop-map, length-drop, length-map, take-map, take_all}
+use Rattle.std.proofs.lemmas.List.Elements.{All-filter, All-map}
+use Rattle.std.proofs.lemmas.Slice.Zip.{firsts-zip, seconds-zip}
+use Rattle.track_types.specs.Frame.{periods_of}
+use Rattle.track_types.specs.declared.frame.Frame.{Frame}
+use Rattle.k2_tree.specs.Morton.{IsInGrid}
+use Rattle.movement_log.specs.declared.head.Head.{Head}
+use Rattle.chart_parts.specs.PeriodWith.{AreBlocksOf, ArePlaced, Climbs, IsBlockOf, blocks_in, run_of}
+use Rattle.chart_parts.proofs.RunLemmas.{Climbs-behind_run, filter-behind_run, filter-run, run}
+
+-- the period of a block
+abbrev pub period_in : Head × List ℕ → ℕ
+period_in block = block.0.period
+
+-- the first blocks are those of earlier periods
+pub record IsBehind (blocks : List (Head × List ℕ)) (number start : ℕ) : Type 0 where
+  pub by_period : Climbs number (map period_in (drop start blocks))
+  pub behind : (k : ℕ) → number ≤ k → blocks_in k blocks ≡ blocks_in k (drop start blocks)
+
+module _ (blocks : List (Head × List ℕ)) where
+  -- none is of an earlier period than the first
+  pub behind_none : Climbs 0 (map period_in blocks) → IsBehind blocks 0 0
+  behind_none up = record { by_period = up; behind = λ k low. refl }
+
+  module _ (number start : ℕ) (so_far : IsBehind blocks number start) where
+    -- the blocks of a period are next
+    pub blocks_in-run : take (run period_in number (drop start blocks)) (drop start blocks) ≡ blocks_in number blocks
+    blocks_in-run =
+        sym (filter-run period_in number (drop start blocks) so_far.by_period)
+        ∙ sym (so_far.behind number (omega arith))
+
+    -- and behind them are those of later periods
+    pub behind_more : IsBehind blocks (number + 1) (start + run period_in number (drop start blocks))
+    behind_more =
+        let count = run period_in number (drop start blocks) in
+        let all : drop count (drop start blocks) ≡ drop (start + count) blocks = drop-drop count start blocks in
+        record {
+          by_period = rw (sym all) (Climbs-behind_run period_in number (drop start blocks) so_far.by_period);
+          behind = λ k above. so_far.behind k (omega arith)
+              ∙ filter-behind_run period_in number k (drop start blocks) (omega arith)
+              ∙ ap (blocks_in k) all;
+        }
+
+run_of-firsts : (number : ℕ) (blocks : List (Head × List ℕ)) →
+    run_of number (map (λ block. block.0) blocks) ≡ run period_in number blocks
+run_of-firsts number [] = refl
+run_of-firsts number (block ∷ blocks) = rw (run_of-firsts number blocks) refl
+
+module _ (heads : List Head) (logs : List (List ℕ)) (same : length logs ≡ length heads) where
+  firsts : map (λ (block : Head × List ℕ). block.0) (zip heads logs) ≡ heads
+  firsts = firsts-zip heads logs same
+
+  seconds : map (λ (block : Head × List ℕ). block.1) (zip heads logs) ≡ logs
+  seconds = seconds-zip heads logs same
+
+  -- as many headers are next as blocks
+  pub run_of-zip : (number start : ℕ) →
+      run_of number (drop start heads) ≡ run period_in number (drop start (zip heads logs))
+  run_of-zip number start =
+      ap (λ all. run_of number (drop start all)) (sym firsts)
+      ∙ ap (run_of number) (drop-map (λ block. block.0) start (zip heads logs))
+      ∙ run_of-firsts number (drop start (zip heads logs))
+
+  module _ (number start : ℕ) (so_far : IsBehind (zip heads logs) number start) where
+    -- the headers of a period are next
+    pub heads-run : take (run_of number (drop start heads)) (drop start heads)
+        ≡ map (λ block. block.0) (blocks_in number (zip heads logs))
+    heads-run =
+        ap (λ all. take (run_of number (drop start heads)) (drop start all)) (sym firsts)
+        ∙ ap (take (run_of number (drop start heads))) (drop-map (λ block. block.0) start (zip heads logs))
+        ∙ take-map (λ block. block.0) (run_of number (drop start heads)) (drop start (zip heads logs))
+        ∙ ap (λ n. map (λ block. block.0) (take n (drop start (zip heads logs)))) (run_of-zip number start)
+        ∙ ap (map (λ block. block.0)) (blocks_in-run (zip heads logs) number start so_far)
+
+    -- and so are their logs
+    pub logs-run : take (run_of number (drop start heads)) (drop start logs)
+        ≡ map (λ block. block.1) (blocks_in number (zip heads logs))
+    logs-run =
+        ap (λ all. take (run_of number (drop start heads)) (drop start all)) (sym seconds)
+        ∙ ap (take (run_of number (drop start heads))) (drop-map (λ block. block.1) start (zip heads logs))
+        ∙ take-map (λ block. block.1) (run_of number (drop start heads)) (drop start (zip heads logs))
+        ∙ ap (λ n. map (λ block. block.1) (take n (drop start (zip heads logs)))) (run_of-zip number start)
+        ∙ ap (map (λ block. block.1)) (blocks_in-run (zip heads logs) number start so_far)
+
+module _ (heads : List Head) (logs : List (List ℕ)) (same : length logs ≡ length heads) (number start : ℕ)
+    (so_far : IsBehind (zip heads logs) number start) (count : ℕ)
+    (counted : count ≡ run_of number (take (length heads - start) (drop start heads))) where
+  is : count ≡ run_of number (drop start heads)
+  is = counted ∙ ap (run_of number)
+      (take_all (length heads - start) (drop start heads) (omega (arith, length-drop start heads)))
+
+  back : start + count - start ≡ count
+  back = omega arith
+
+  -- the part of the headers that is a period's
+  pub heads-next : take (start + count - start) (drop start heads)
+      ≡ map (λ block. block.0) (blocks_in number (zip heads logs))
+  heads-next = rw (back, is) (heads-run heads logs same number start so_far)
+
+  -- the part of the logs that is a period's
+  pub logs-next : take (start + count - start) (drop start logs)
+      ≡ map (λ block. block.1) (blocks_in number (zip heads logs))
+  logs-next = rw (back, is) (logs-run heads logs same number start so_far)
+
+  pub behind_next : IsBehind (zip heads logs) (number + 1) (start + count)
+  behind_next = rw (is, run_of-zip heads logs same number start) (behind_more (zip heads logs) number start so_far)
+
+module _ (frame : Frame) (objects : ℕ) (blocks : List (Head × List ℕ)) (are : AreBlocksOf frame objects blocks)
+    (number : ℕ) where
+  each_in : All (IsBlockOf frame objects) (blocks_in number blocks)
+  each_in = All-filter (λ block. block.0.period == number) (IsBlockOf frame objects) blocks are.each
+
+  -- the headers of a period
+  pub placed_in : number < periods_of frame → ArePlaced frame (map (λ block. block.0) (blocks_in number blocks))
+  placed_in below = record {
+    grid = are.grid;
+    few = omega (arith, are.few number below, length-map (blocks_in number blocks) (λ block. block.0));
+    inside = All-map (λ head. IsInGrid frame.height frame.base head.cell) (λ block. block.0)
+        (blocks_in number blocks) (λ k d within. (each_in k d within).inside);
+  }
+
+  pub indexes_in : All (λ head. head.index < objects) (map (λ block. block.0) (blocks_in number blocks))
+  indexes_in = All-map (λ head. head.index < objects) (λ block. block.0) (blocks_in number blocks)
+      (λ k d within. (each_in k d within).index)
+
+  pub short_in : All (λ log. length log < 2 ^ 32) (map (λ block. block.1) (blocks_in number blocks))
+  short_in = All-map (λ log. length log < 2 ^ 32) (λ block. block.1) (blocks_in number blocks)
+      (λ k d within. (each_in k d within).short)
+
+  pub as_many_in : length (map (λ block. block.1) (blocks_in number blocks))
+      ≡ length (map (λ block. block.0) (blocks_in number blocks))
+  as_many_in =
+      length-map (blocks_in number blocks) (λ block. block.1)
+      ∙ sym (length-map (blocks_in number blocks) (λ block. block.0))

@@ -1,0 +1,92 @@
+-- The parts of a chart take few bytes, so that an index of them may be opened.
+use Rattle.std.proofs.Common.{◌≡◌, ℕ, ◌*◌, ◌^◌, ◌<◌, ◌≤◌, List, length, ap, arith}
+use Rattle.std.specs.List.{flat_map}
+use Rattle.std.proofs.Math.Nat.{mul-le-mul_right}
+use Rattle.std.proofs.lemmas.List.Concat.{length-flat_map}
+use Rattle.std.proofs.lemmas.List.FromFn.{length-map-range_with_len}
+use Rattle.packed_bits.proofs.OnesLemmas.{ones_of-le-length}
+use Rattle.list_laws.proofs.LengthLemmas.{length-flat_map-within}
+use Rattle.track_types.specs.Chart.{ChartView, IsChart}
+use Rattle.track_types.specs.Frame.{periods_of}
+use Rattle.track_types.specs.Limits.{limit_of}
+use Rattle.track_types.specs.Quantities.{objects_of}
+use Rattle.track_types.specs.Shape.{IsShapedPeriod}
+use Rattle.track_types.specs.declared.limit.LimitKind.TheVariants.{Blocks}
+use Rattle.track_types.specs.declared.period_parts.PeriodParts.{PeriodParts}
+use Rattle.k2_tree.proofs.BuiltLemmas.{length-morton_bits}
+use Rattle.index_format.specs.Spelling.{bytes_of_parts, period_bytes}
+use Rattle.index_format.proofs.LengthLaws.{length-bytes_of_parts, length-period_bytes}
+use Rattle.chart_parts.specs.Header.{frame_of}
+use Rattle.chart_parts.specs.LeafOrder.{distinct_codes}
+use Rattle.chart_parts.specs.PartsOf.{anchor_codes, grammar_of, parts_of, period_of_chart}
+use Rattle.chart_parts.proofs.GrammarLemmas.{IsGrammarOf-chart, few_terminals}
+use Rattle.chart_parts.proofs.HeaderLawLemmas.{IsFrame-frame_of, blocks-frame_of}
+use Rattle.chart_parts.proofs.ObjectLemmas.{objects_of-some}
+use Rattle.chart_parts.proofs.PeriodShapeLemmas.{All-periods, IsShapedPeriod-own, few_distinct}
+use Rattle.chart_parts.proofs.ShapeLemmas.{few_values}
+
+-- a period with few bits in its tree takes at most 29 bytes for each object
+period-short : (objects : ℕ) (period : PeriodParts) → IsShapedPeriod objects period → 1 ≤ objects →
+    length period.tree ≤ 80 * objects → length (period_bytes period) ≤ 29 * objects
+period-short objects period shaped some few =
+    let present = shaped.presence in
+    let ones = ones_of-le-length period.present in
+    omega (
+      arith,
+      length-period_bytes period,
+      shaped.offsets,
+      shaped.lasts,
+      shaped.perm,
+      shaped.lengths,
+    )
+
+module _ (chart : ChartView) (is : IsChart chart) where
+  abbrev objects : ℕ
+  objects = length (objects_of chart.rows)
+
+  -- a tree has at most 80 bits for each object
+  few_bits : (number : ℕ) → number < periods_of (frame_of chart) →
+      length (period_of_chart chart number).tree ≤ 80 * objects
+  unfolding period_of_chart
+  few_bits number below =
+      let codes : List ℕ = distinct_codes (anchor_codes chart number) in
+      let height : ℕ = (frame_of chart).height in
+      let low : height * (4 * length codes) ≤ 20 * (4 * length codes) =
+      mul-le-mul_right (4 * length codes) (IsFrame-frame_of chart is).limit in
+      omega (arith, length-morton_bits height codes, few_distinct chart is number below)
+
+  -- there is a period for each number
+  length-periods : length (parts_of chart).periods ≡ periods_of (frame_of chart)
+  unfolding parts_of
+  length-periods = length-map-range_with_len (period_of_chart chart) 0 (periods_of (frame_of chart))
+
+  -- the periods take at most 29 bytes for each block that there may be
+  periods-short : length (flat_map period_bytes (parts_of chart).periods) ≤ 29 * limit_of Blocks
+  periods-short =
+      let count : ℕ = periods_of (frame_of chart) in
+      let all : length (flat_map period_bytes (parts_of chart).periods) ≤ 29 * objects * length (parts_of chart).periods =
+      length-flat_map-within period_bytes (29 * objects) (parts_of chart).periods
+      (All-periods chart (λ period. length (period_bytes period) ≤ 29 * objects)
+      (λ number below.
+      period-short objects (period_of_chart chart number) (IsShapedPeriod-own chart is number below)
+      (objects_of-some chart.rows is.some) (few_bits number below))) in
+      let blocks : 29 * (objects * count) ≤ 29 * limit_of Blocks = omega (arith, blocks-frame_of chart is) in
+      let same : 29 * objects * count ≡ 29 * (objects * count) = grind arith in
+      let counted : 29 * objects * length (parts_of chart).periods ≡ 29 * objects * count =
+      ap (λ n. 29 * objects * n) length-periods in
+      omega (arith, all, blocks, same, counted)
+
+  -- the parts of a chart take fewer bytes than an index may have
+  pub bytes-short : length (bytes_of_parts (parts_of chart)) < 2 ^ 30
+  unfolding parts_of
+  bytes-short =
+      omega (
+        arith,
+        length-bytes_of_parts (parts_of chart),
+        is.objects,
+        few_values chart is,
+        periods-short,
+        length-flat_map (λ (log : List ℕ). log) (grammar_of chart).blocks,
+        (IsGrammarOf-chart chart).few,
+        few_terminals chart is,
+      )

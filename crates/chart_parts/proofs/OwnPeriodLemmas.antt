@@ -1,0 +1,124 @@
+-- The parts of a chart's periods, from the headers and logs of its blocks.
+use Rattle.std.proofs.Common.{◌≡◌, ℕ, zero, suc, ◌+◌, ◌<◌, ◌≤◌, List, [], ◌∷◌, filter, length, map, refl, sym, ◌∙◌, ap, arith}
+use Rattle.std.specs.Prelude.{All, ◌==◌}
+use Rattle.std.specs.List.{range_with_len, zip}
+use Rattle.std.specs.List.Sorted.{IsNonDecreasingBy}
+use Rattle.std.proofs.lemmas.List.{length-map}
+use Rattle.std.proofs.lemmas.Simd.{map-map}
+use Rattle.std.proofs.lemmas.Slice.Zip.{firsts-zip}
+use Rattle.list_laws.proofs.MapLemmas.{filter-map}
+use Rattle.track_types.specs.Chart.{ChartView, IsChart}
+use Rattle.track_types.specs.Quantities.{anchors_of, first_of, object_count, period_count, period_of}
+use Rattle.track_types.specs.declared.row.Row.{Row}
+use Rattle.k2_tree.specs.Morton.{morton_of}
+use Rattle.movement_log.specs.Logs.{anchors_in, block_anchors, head_of, logs_of}
+use Rattle.movement_log.specs.declared.head.Head.{Head}
+use Rattle.movement_log.proofs.KeyLemmas.{of_key}
+use Rattle.movement_log.proofs.KeyOrderLemmas.{filter-by_key}
+use Rattle.snapshots.specs.Parts.{numbers_in}
+use Rattle.chart_parts.specs.Header.{frame_of}
+use Rattle.chart_parts.specs.PartsOf.{anchor_codes, grammar_of, logged_anchors, logs_in, period_of_chart}
+use Rattle.chart_parts.specs.PeriodWith.{Climbs, blocks_in, period_of_blocks}
+use Rattle.chart_parts.proofs.GrammarLemmas.{IsGrammarOf-chart, length-terminals}
+use Rattle.chart_parts.proofs.OwnPresenceLemmas.{presence_of-heads}
+
+-- what is made of the first parts beside the second ones
+zip-map : {X Y Z : Type 0} (f : X → Y) (xs : List X) (zs : List Z) →
+    zip (map f xs) zs ≡ map (λ pair. (f pair.0, pair.1)) (zip xs zs)
+zip-map f [] zs = refl
+zip-map f (x ∷ xs) [] = refl
+zip-map f (x ∷ xs) (z ∷ zs) = ap (λ all. (f x, z) ∷ all) (zip-map f xs zs)
+
+-- what is made of numbers from one on, where it is the same of each
+map-range_agree : {Y : Type 0} (f g : ℕ → Y) (a n : ℕ) → ((i : ℕ) → a ≤ i → i < a + n → f i ≡ g i) →
+    map f (range_with_len a n) ≡ map g (range_with_len a n)
+map-range_agree f g a zero same = refl
+map-range_agree f g a (suc n) same =
+    ap (λ y. y ∷ map f (range_with_len (a + 1) n)) (same a (omega arith) (omega arith))
+    ∙ ap (λ ys. g a ∷ ys) (map-range_agree f g (a + 1) n (λ i low high. same i (omega arith) (omega arith)))
+
+-- numbers that do not fall climb from one that is below them all
+pub Climbs-rising : {X : Type 0} (key : X → ℕ) (n : ℕ) (xs : List X) → All (λ x. n ≤ key x) xs →
+    IsNonDecreasingBy key xs → Climbs n (map key xs)
+Climbs-rising key n [] low up = tt
+Climbs-rising key n (x ∷ xs) low up = (
+  low 0 x (omega arith),
+  Climbs-rising key (key x) xs (λ k d within. up 0 (suc k) d (omega arith) (omega arith))
+      (λ i j d before within. up (suc i) (suc j) d (omega arith) (omega arith)),
+)
+
+module _ (chart : ChartView) where
+  abbrev pub row_period : Row → ℕ
+  row_period row = period_of (first_of chart.rows) chart.period row
+
+  abbrev count : ℕ
+  count = period_count chart.rows chart.period
+
+  -- an anchor's header beside its log
+  abbrev pub headed : Row × List ℕ → Head × List ℕ
+  headed block = (head_of chart block.0, block.1)
+
+  -- the headers beside the logs
+  abbrev pub own_blocks : List (Head × List ℕ)
+  own_blocks = zip (logs_of chart).heads (grammar_of chart).blocks
+
+  pub own_blocks-headed : own_blocks ≡ map headed (logged_anchors chart)
+  unfolding logs_of logged_anchors
+  own_blocks-headed = zip-map (head_of chart) (block_anchors chart) (grammar_of chart).blocks
+
+  length-logs : length (grammar_of chart).blocks ≡ length (block_anchors chart)
+  length-logs = (IsGrammarOf-chart chart).same ∙ length-terminals chart
+
+  -- there are as many logs as headers
+  pub as_many-logs : length (grammar_of chart).blocks ≡ length (logs_of chart).heads
+  unfolding logs_of
+  as_many-logs = length-logs ∙ sym (length-map (block_anchors chart) (head_of chart))
+
+  pub firsts-anchors : map (λ (block : Row × List ℕ). block.0) (logged_anchors chart) ≡ block_anchors chart
+  unfolding logged_anchors
+  firsts-anchors = firsts-zip (block_anchors chart) (grammar_of chart).blocks length-logs
+
+  module _ (number : ℕ) where
+    abbrev logged : List (Row × List ℕ)
+    logged = filter (λ block. row_period block.0 == number) (logged_anchors chart)
+
+    in_period : blocks_in number own_blocks ≡ map headed logged
+    in_period = ap (blocks_in number) own_blocks-headed
+        ∙ filter-map (λ block. block.0.period == number) headed (logged_anchors chart)
+
+    -- the logs of a period
+    pub logs-own : map (λ block. block.1) (blocks_in number own_blocks) ≡ logs_in chart number
+    unfolding logs_in
+    logs-own = ap (map (λ block. block.1)) in_period ∙ map-map (λ (block : Head × List ℕ). block.1) headed logged
+
+    -- the headers of a period
+    pub heads-own : number < count →
+        map (λ block. block.0) (blocks_in number own_blocks) ≡ map (head_of chart) (anchors_in chart number)
+    unfolding block_anchors
+    heads-own below =
+        ap (map (λ block. block.0)) in_period
+        ∙ map-map (λ (block : Head × List ℕ). block.0) headed logged
+        ∙ sym (map-map (head_of chart) (λ (block : Row × List ℕ). block.0) logged)
+        ∙ ap (map (head_of chart))
+        (sym (filter-map (of_key row_period number) (λ (block : Row × List ℕ). block.0) (logged_anchors chart))
+        ∙ ap (filter (of_key row_period number)) firsts-anchors
+        ∙ filter-by_key row_period number 0 count (anchors_of (first_of chart.rows) chart.period chart.rows)
+        (omega arith) (omega arith))
+
+    -- the parts of a period
+    pub period_of_blocks-own : IsChart chart → number < count →
+        period_of_blocks (frame_of chart) (object_count chart.rows) own_blocks number ≡ period_of_chart chart number
+    unfolding period_of_blocks period_of_chart anchor_codes
+    period_of_blocks-own is below =
+        let anchors : List Row = anchors_in chart number in
+        let codes = map-map (λ (head : Head). morton_of (frame_of chart).height (frame_of chart).base head.cell)
+        (head_of chart) anchors in
+        let offsets = map-map (λ (head : Head). head.offset) (head_of chart) anchors in
+        rw (heads-own below, logs-own, presence_of-heads chart is number, codes, offsets) refl
+
+  -- the parts of all periods
+  pub periods_are : IsChart chart →
+      map (period_of_blocks (frame_of chart) (object_count chart.rows) own_blocks) (numbers_in (frame_of chart))
+      ≡ map (period_of_chart chart) (numbers_in (frame_of chart))
+  unfolding frame_of
+  periods_are is = map-range_agree _ _ 0 count (λ number low high. period_of_blocks-own number is (omega arith))

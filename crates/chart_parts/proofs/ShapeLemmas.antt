@@ -1,0 +1,86 @@
+-- The alphabet, the rules and the symbols of a chart's parts have the form of an index.
+use Rattle.std.proofs.Common.{ℕ, zero, suc, ◌+◌, ◌*◌, ◌^◌, ◌<◌, ◌≤◌, List, length, arith}
+use Rattle.std.specs.List.{Contains, flat_map}
+use Rattle.std.specs.List.Sorted.{IsStrictlyIncreasing}
+use Rattle.std.proofs.lemmas.List.Concat.{length-flat_map}
+use Rattle.std.proofs.lemmas.List.Elements.{All-contains_itself, All-from_get_or, All-weaker}
+use Rattle.spiral_code.proofs.SpiralLemmas.{move_of-below}
+use Rattle.track_types.specs.Chart.{ChartView, IsChart}
+use Rattle.track_types.specs.Limits.{limit_of}
+use Rattle.track_types.specs.Shape.{AreLong, AreShort, AreShortPairs}
+use Rattle.track_types.specs.declared.limit.LimitKind.TheVariants.{Symbols}
+use Rattle.rule_store.specs.Cells.{movement_of}
+use Rattle.rule_store.proofs.FlawLemmas.{reach_limit-high}
+use Rattle.movement_log.specs.Logs.{alphabet_of, logged_values, logs_of}
+use Rattle.movement_log.proofs.AlphabetLemmas.{IsStrictlyIncreasing-ascending_of}
+use Rattle.snapshots.specs.SoundParts.{IsInReach}
+use Rattle.chart_parts.specs.Header.{frame_of}
+use Rattle.chart_parts.specs.PartsOf.{grammar_of, parts_of}
+use Rattle.chart_parts.proofs.GrammarLemmas.{length-alphabet_of, few_terminals, IsGrammarOf-chart}
+use Rattle.chart_parts.proofs.HeaderLawLemmas.{IsFrame-frame_of}
+use Rattle.chart_parts.proofs.RuleLemmas.{IsInReach-alphabet, symbols_below}
+
+-- a movement reaches at most 2 ^ 20 - 1 cells in the greatest grid, so that its value fits 64 bits
+value-long : (height value : ℕ) → height ≤ 20 → IsInReach height (movement_of value).0 (movement_of value).1 →
+    value < 2 ^ 64
+value-long height zero high reach = omega arith
+value-long height (suc code) high reach =
+    let near = reach_limit-high height high in
+    let below : code < 2097151 * 2097151 = (move_of-below code 1048575).1 (omega arith) in
+    omega arith
+
+module _ (chart : ChartView) where
+  -- the alphabet ascends
+  pub IsStrictlyIncreasing-alphabet : IsStrictlyIncreasing (parts_of chart).alphabet
+  unfolding parts_of logs_of alphabet_of
+  IsStrictlyIncreasing-alphabet =
+      IsStrictlyIncreasing-ascending_of (flat_map (λ values. values) (logged_values chart))
+
+  module _ (is : IsChart chart) where
+    -- its values fit 64 bits
+    pub AreLong-alphabet : AreLong (parts_of chart).alphabet
+    unfolding parts_of logs_of
+    AreLong-alphabet =
+        let high : (frame_of chart).height ≤ 20 = (IsFrame-frame_of chart is).limit in
+        All-weaker (Contains (alphabet_of chart)) (λ value. value < 2 ^ 64)
+        (λ value inside. value-long (frame_of chart).height value high (IsInReach-alphabet chart is value inside))
+        (alphabet_of chart) (All-contains_itself (alphabet_of chart))
+
+    -- it has no more values than there may be symbols
+    pub few_values : length (parts_of chart).alphabet ≤ limit_of Symbols
+    unfolding parts_of logs_of
+    few_values = length-alphabet_of chart is
+
+    -- there are no more rules than there may be symbols
+    pub few_rules : length (parts_of chart).rules ≤ limit_of Symbols
+    unfolding parts_of
+    few_rules = omega (arith, (IsGrammarOf-chart chart).few, few_terminals chart is)
+
+    -- the parts of rules fit 32 bits
+    pub AreShortPairs-rules : AreShortPairs (parts_of chart).rules
+    unfolding parts_of logs_of
+    AreShortPairs-rules =
+        All-from_get_or (λ pair. (pair.0 < 2 ^ 32) × (pair.1 < 2 ^ 32)) (grammar_of chart).rules (0, 0)
+        (λ rule within.
+        let below = (IsGrammarOf-chart chart).parts rule within in
+        (omega (arith, below.0, few_values, few_rules), omega (arith, below.1, few_values, few_rules)))
+
+    -- the logs have no more symbols than there may be
+    pub few_symbols : length (parts_of chart).symbols ≤ limit_of Symbols
+    unfolding parts_of
+    few_symbols =
+        omega (
+          arith,
+          length-flat_map (λ (log : List ℕ). log) (grammar_of chart).blocks,
+          (IsGrammarOf-chart chart).few,
+          few_terminals chart is,
+        )
+
+    -- these fit 32 bits
+    pub AreShort-symbols : AreShort (parts_of chart).symbols
+    unfolding parts_of logs_of
+    AreShort-symbols =
+        All-weaker (λ symbol. symbol < length (alphabet_of chart) + length (grammar_of chart).rules)
+        (λ symbol. symbol < 2 ^ 32) (λ symbol below. omega (arith, few_values, few_rules))
+        (flat_map (λ log. log) (grammar_of chart).blocks)
+        (symbols_below chart is)

@@ -1,0 +1,168 @@
+-- The period of a chart's parts is a sound snapshot.
+use Rattle.std.proofs.Common.{All, ◌≡◌, ℕ, ◌+◌, ◌-◌, ◌*◌, ◌/◌, ◌%◌, ◌^◌, ◌<◌, List, length, map, get_or}
+use Rattle.std.proofs.Common.{refl, sym, ap, ◌∙◌, arith, subst}
+use Rattle.std.specs.Prelude.{min, slice_index}
+use Rattle.std.specs.List.{Contains}
+use Rattle.std.proofs.Math.Nat.{div-add-mod}
+use Rattle.std.proofs.lemmas.Int.{ints}
+use Rattle.std.proofs.lemmas.List.{length-map}
+use Rattle.std.proofs.lemmas.List.Elements.{All-contains, All-contains_itself, All-map, All-weaker}
+use Rattle.track_types.specs.Chart.{ChartView, IsChart}
+use Rattle.track_types.specs.Frame.{IsFrame, instants_in, periods_of}
+use Rattle.track_types.specs.Quantities.{elapsed, first_of, span_of}
+use Rattle.track_types.specs.declared.cell.Cell.{Cell}
+use Rattle.track_types.specs.declared.frame.Frame.{Frame}
+use Rattle.track_types.proofs.QuantityLemmas.{elapsed-span}
+use Rattle.k2_tree.specs.Flaws.{StandsFor}
+use Rattle.k2_tree.specs.Morton.{IsGrid, IsInGrid, cell_of, morton_of}
+use Rattle.k2_tree.specs.Tree.{Tree, codes_of, tree_bits, tree_of, tree_with}
+use Rattle.k2_tree.specs.TreeBits.{AreCodes, fan, morton_bits}
+use Rattle.k2_tree.proofs.CellLemmas.{codes_back, tree_of-StandsFor}
+use Rattle.k2_tree.proofs.MortonLemmas.{cell_of-inside, morton_of-lt}
+use Rattle.snapshots.specs.View.{SnapshotView, view_with}
+use Rattle.snapshots.specs.Sound.{IsSound}
+use Rattle.snapshots.specs.Parts.{snapshot_in, start_in}
+use Rattle.movement_log.specs.Logs.{anchors_in}
+use Rattle.chart_parts.specs.Header.{frame_of}
+use Rattle.chart_parts.specs.LeafOrder.{distinct_codes, leaf_codes, leaf_order}
+use Rattle.chart_parts.specs.PartsOf.{anchor_codes, parts_of, period_of_chart}
+use Rattle.chart_parts.proofs.HeaderLawLemmas.{IsFrame-frame_of}
+use Rattle.chart_parts.proofs.LeafEndLemmas.{All-distinct_codes, Rises-distinct_codes, distinct_codes-at_rank}
+use Rattle.chart_parts.proofs.LeafEndLemmas.{ends_of-last, ones_of-leaf_ends}
+use Rattle.chart_parts.proofs.LeafOrderLemmas.{PermutesPlaces-leaf_order, leaf_order-before, length-leaf_order}
+use Rattle.chart_parts.proofs.LogSliceLemmas.{period_at-parts_of}
+use Rattle.chart_parts.proofs.PeriodAnchorLemmas.{IsAnchorIn-member}
+
+-- the grid of a header
+IsGrid-frame : (frame : Frame) → IsFrame frame → IsGrid frame.height frame.base
+IsGrid-frame frame is = record {
+  some = is.some;
+  limit = is.limit;
+  left = omega (arith, ints, is.columns.low);
+  right = omega (arith, ints, is.columns.high);
+  below = omega (arith, ints, is.lines.low);
+  above = omega (arith, ints, is.lines.high);
+}
+
+-- how many instants come before one in its period
+offset_below : (before period span number : ℕ) → 0 < period → before / period ≡ number → before < span →
+    before % period < min period (span - number * period)
+offset_below before period span number some is within =
+    let parts : period * (before / period) + before % period ≡ before = div-add-mod before period in
+    let times : period * number + before % period ≡ before = rw is at parts in
+    omega arith
+
+module _ (height : ℕ) (base : Cell) (codes : List ℕ) (grid : IsGrid height base) (are : AreCodes height codes) where
+  abbrev own_tree : Tree
+  own_tree = tree_with height base (map (cell_of height base) codes)
+
+  own_codes : codes_of own_tree ≡ codes
+  own_codes = codes_back height base codes are.small
+
+  stands_for : StandsFor height base (morton_bits height codes) own_tree
+  unfolding tree_bits
+  stands_for = record {
+    high = refl;
+    from = refl;
+    is_tree = record {
+      grid = grid;
+      inside =
+          All-map (IsInGrid height base) (cell_of height base) codes
+          (λ k d within. cell_of-inside height base (get_or codes k d));
+      codes = subst (AreCodes height) (sym own_codes) are;
+    };
+    same = ap (morton_bits height) own_codes;
+  }
+
+  -- the bits of numbers are those of a tree of their cells
+  pub tree_of-morton_bits : tree_of height base (morton_bits height codes) ≡ own_tree
+  tree_of-morton_bits = tree_of-StandsFor height base (morton_bits height codes) own_tree stands_for
+
+  pub StandsFor-morton_bits :
+      StandsFor height base (morton_bits height codes) (tree_of height base (morton_bits height codes))
+  StandsFor-morton_bits = subst (StandsFor height base (morton_bits height codes)) (sym tree_of-morton_bits) stands_for
+
+-- each anchor of a period has a number
+pub length-anchor_codes : (chart : ChartView) (number : ℕ) →
+    length (anchor_codes chart number) ≡ length (anchors_in chart number)
+unfolding anchor_codes
+length-anchor_codes chart number = length-map (anchors_in chart number) _
+
+module _ (chart : ChartView) (is : IsChart chart) (number : ℕ) where
+  abbrev frame : Frame
+  frame = frame_of chart
+
+  abbrev codes : List ℕ
+  codes = anchor_codes chart number
+
+  -- the snapshot of a period of the chart
+  abbrev pub own_view : SnapshotView
+  own_view = view_with (frame_of chart) number (length (parts_of chart).objects) (start_in (parts_of chart) number)
+      (period_of_chart chart number)
+
+  -- it is that of the chart's parts
+  pub snapshot_in-parts_of : number < periods_of (frame_of chart) → snapshot_in (parts_of chart) number ≡ own_view
+  unfolding parts_of
+  snapshot_in-parts_of below =
+      ap (view_with (frame_of chart) number (length (parts_of chart).objects) (start_in (parts_of chart) number))
+      (period_at-parts_of chart number below)
+
+  -- the numbers of a period's anchors
+  pub AreCodes-distinct_codes : AreCodes frame.height (distinct_codes codes)
+  unfolding anchor_codes
+  AreCodes-distinct_codes = record {
+    rising = Rises-distinct_codes codes;
+    small =
+        All-distinct_codes codes (λ code. code < fan ^ frame.height)
+        (All-map (λ code. code < fan ^ frame.height) (λ anchor. morton_of frame.height frame.base anchor.cell)
+        (anchors_in chart number)
+        (λ k d within. morton_of-lt frame.height frame.base (get_or (anchors_in chart number) k d).cell));
+  }
+
+  -- the tree of a period has the cells of these numbers
+  pub tree_in-own : tree_of frame.height frame.base (morton_bits frame.height (distinct_codes codes))
+      ≡ tree_with frame.height frame.base (map (cell_of frame.height frame.base) (distinct_codes codes))
+  tree_in-own =
+      tree_of-morton_bits frame.height frame.base (distinct_codes codes)
+      (IsGrid-frame frame (IsFrame-frame_of chart is)) AreCodes-distinct_codes
+
+  offsets-own : All (λ offset. offset < instants_in frame number)
+      (map (λ anchor. elapsed (first_of chart.rows) anchor % chart.period) (anchors_in chart number))
+  unfolding frame_of
+  offsets-own =
+      All-map (λ offset. offset < instants_in frame number)
+      (λ anchor. elapsed (first_of chart.rows) anchor % chart.period) (anchors_in chart number)
+      (All-weaker (Contains (anchors_in chart number))
+      (λ anchor. elapsed (first_of chart.rows) anchor % chart.period < instants_in frame number)
+      (λ anchor inside.
+      let its = IsAnchorIn-member chart is number anchor inside in
+      let within = All-contains (λ row. elapsed (first_of chart.rows) row < span_of chart.rows) chart.rows anchor
+      (elapsed-span chart.rows) its.among in
+      offset_below (elapsed (first_of chart.rows) anchor) chart.period (span_of chart.rows) number is.period.some
+      its.period within)
+      (anchors_in chart number) (All-contains_itself (anchors_in chart number)))
+
+  pub IsSound-own : IsSound own_view
+  unfolding period_of_chart
+  IsSound-own = record {
+    offsets = offsets-own;
+    tree =
+        StandsFor-morton_bits frame.height frame.base (distinct_codes codes)
+        (IsGrid-frame frame (IsFrame-frame_of chart is)) AreCodes-distinct_codes;
+    cells =
+        ones_of-leaf_ends codes ∙ sym (length-map (distinct_codes codes) (cell_of frame.height frame.base))
+        ∙ ap (λ (tree : Tree). length tree.cells) (sym tree_in-own);
+    last = ends_of-last (leaf_codes codes);
+    permutes = PermutesPlaces-leaf_order codes;
+    order = λ p q less within same.
+        let inside : q < length codes = omega (arith, length-leaf_order codes) in
+        let alike : slice_index codes (slice_index (leaf_order codes) p)
+        ≡ slice_index codes (slice_index (leaf_order codes) q) =
+        sym (distinct_codes-at_rank codes p (omega arith)) ∙ ap (slice_index (distinct_codes codes)) same
+        ∙ distinct_codes-at_rank codes q inside in
+        (leaf_order-before codes p q less inside).tied alike;
+  }
+
+  -- each period of a chart's parts is sound
+  pub IsSound-period : number < periods_of (frame_of chart) → IsSound (snapshot_in (parts_of chart) number)
+  IsSound-period below = subst IsSound (sym (snapshot_in-parts_of below)) IsSound-own

@@ -1,0 +1,112 @@
+-- The parts of a period, by the headers and the logs of its blocks.
+use Rattle.std.specs.Prelude.{◌≡◌, ℕ, ◌+◌, ◌^◌, ◌<◌, ◌≤◌, ◌==◌, Bool, not, ◌||◌, All, List, [], ◌∷◌, length, map, filter, pos, slice_index, slice_index_or}
+use Rattle.std.specs.List.{list_any, prefix_len, range_with_len}
+use Rattle.track_types.specs.Chart.{ChartView}
+use Rattle.track_types.specs.Frame.{periods_of}
+use Rattle.track_types.specs.declared.frame.Frame.{Frame}
+use Rattle.track_types.specs.declared.cell.Cell.{Cell}
+use Rattle.track_types.specs.declared.period_parts.PeriodParts.{PeriodParts}
+use Rattle.k2_tree.specs.Morton.{IsGrid, IsInGrid, morton_of}
+use Rattle.k2_tree.specs.TreeBits.{morton_bits}
+use Rattle.movement_log.specs.Logs.{logs_of}
+use Rattle.movement_log.specs.declared.head.Head.{Head}
+use Rattle.chart_parts.specs.LeafOrder.{distinct_codes, ends_of, leaf_codes, leaf_order}
+use Rattle.chart_parts.specs.PartsOf.{grammar_of}
+use Rattle.chart_parts.specs.declared.leaves.Leaf.{Leaf}
+use Rattle.chart_parts.specs.declared.writing.Blocks.{Blocks}
+
+-- the blocks of a chart: their alphabet, their headers, and the rules and logs of the grammar
+abbrev pub blocks_of : ChartView → Blocks
+blocks_of chart = record {
+  alphabet = (logs_of chart).alphabet;
+  heads = (logs_of chart).heads;
+  rules = (grammar_of chart).rules;
+  logs = (grammar_of chart).blocks;
+}
+
+-- the Morton numbers of the cells of headers
+abbrev pub codes_of_heads : Frame → List Head → List ℕ
+codes_of_heads frame heads = map (λ head. morton_of frame.height frame.base head.cell) heads
+
+-- for each of so many objects, whether one of the headers is its
+abbrev pub presence_of : ℕ → List Head → List Bool
+presence_of objects heads = map (λ index. list_any (λ head. head.index == index) heads) (range_with_len 0 objects)
+
+-- the parts of a period whose blocks have these headers and logs
+abbrev pub period_with : Frame → ℕ → List Head → List (List ℕ) → PeriodParts
+period_with frame objects heads logs = record {
+  present = presence_of objects heads;
+  offsets = map (λ head. head.offset) heads;
+  tree = morton_bits frame.height (distinct_codes (codes_of_heads frame heads));
+  lasts = ends_of (leaf_codes (codes_of_heads frame heads));
+  perm = leaf_order (codes_of_heads frame heads);
+  lengths = map length logs;
+}
+
+-- the parts of a period without a block
+abbrev pub without_blocks : List Bool → PeriodParts
+without_blocks present =
+    record { present = present; offsets = []; tree = []; lasts = []; perm = []; lengths = [] }
+
+-- those of the blocks that are of a period
+abbrev pub blocks_in : ℕ → List (Head × List ℕ) → List (Head × List ℕ)
+blocks_in number blocks = filter (λ block. block.0.period == number) blocks
+
+-- the parts of a period, from the headers and the logs of all blocks
+unfoldable pub period_of_blocks : Frame → ℕ → List (Head × List ℕ) → ℕ → PeriodParts
+period_of_blocks frame objects blocks number = period_with frame objects
+    (map (λ block. block.0) (blocks_in number blocks)) (map (λ block. block.1) (blocks_in number blocks))
+
+-- how many headers of a period there are before one of another
+abbrev pub run_of : ℕ → List Head → ℕ
+run_of number heads = prefix_len (λ head. head.period == number) heads
+
+-- headers of a period's blocks, with cells in the header's grid
+pub record ArePlaced (frame : Frame) (heads : List Head) : Type 0 where
+  pub grid : IsGrid frame.height frame.base
+  pub few : length heads ≤ 2 ^ 16
+  pub inside : All (λ head. IsInGrid frame.height frame.base head.cell) heads
+
+-- the numbers are at least n, and none is below the one before
+abbrev pub Climbs : ℕ → List ℕ → Type 0
+Climbs n [] = Unit {0}
+Climbs n (x ∷ xs) = (n ≤ x) × Climbs x xs
+
+-- a block is of one of so many objects, with a cell in the header's grid and a log that is not long
+pub record IsBlockOf (frame : Frame) (objects : ℕ) (block : Head × List ℕ) : Type 0 where
+  pub index : block.0.index < objects
+  pub inside : IsInGrid frame.height frame.base block.0.cell
+  pub short : length block.1 < 2 ^ 32
+
+-- the blocks come by period, and there are few in each
+pub record AreBlocksOf (frame : Frame) (objects : ℕ) (blocks : List (Head × List ℕ)) : Type 0 where
+  pub grid : IsGrid frame.height frame.base
+  pub by_period : Climbs 0 (map (λ block. block.0.period) blocks)
+  pub few : (number : ℕ) → number < periods_of frame → length (blocks_in number blocks) ≤ 2 ^ 16
+  pub each : All (IsBlockOf frame objects) blocks
+
+-- what a place past the end reads
+abbrev pub no_head : Head
+no_head = record { period = 0; index = 0; offset = 0; cell = record { x = pos 0; y = pos 0 } }
+
+-- the cell of a header at a place
+abbrev pub cell_of_head : List Head → ℕ → Cell
+cell_of_head heads place = (slice_index_or heads place no_head).cell
+
+-- the leaf of the block at a place
+abbrev pub leaf_at : Frame → List Head → ℕ → Leaf
+leaf_at frame heads place = record {
+  code = morton_of frame.height frame.base (cell_of_head heads place);
+  cell = cell_of_head heads place;
+  place = place;
+}
+
+-- a leaf's number is that of its cell, which is in the header's grid
+pub record IsLeafIn (frame : Frame) (leaf : Leaf) : Type 0 where
+  pub code : leaf.code ≡ morton_of frame.height frame.base leaf.cell
+  pub inside : IsInGrid frame.height frame.base leaf.cell
+
+-- whether no next number is the one at a place
+abbrev pub is_end : List ℕ → ℕ → Bool
+is_end codes place =
+    (place + 1 == length codes) || not (slice_index codes place == slice_index codes (place + 1))

@@ -1,0 +1,110 @@
+ghost use Rattle.std.specs.Prelude.{◌≡◌, ◌^◌, ◌<◌, ◌≤◌, All, IfOk, length, map};
+ghost use Rattle.std.specs.List.{zip};
+ghost use Rattle.chart_parts.specs.PeriodWith.{AreBlocksOf, ArePlaced, period_of_blocks, period_with, run_of, without_blocks};
+ghost use Rattle.snapshots.specs.Parts.{numbers_in};
+
+use crate::leaves::{ends_of, leaves_of, places_of, tree_of};
+use crate::presence::presence_of;
+use movement_log::Head;
+use std::alloc::{AllocError, Global};
+use track_types::{BitList, Frame, List32, Memory, PeriodParts};
+
+/// The parts of each period, from the headers and the logs of all blocks, which come by period, then
+/// object.
+pub(crate) fn periods_of(
+    alloc: Global,
+    frame: Frame,
+    objects: u32,
+    heads: &[Head],
+    logs: &[List32],
+) -> Result<Vec<PeriodParts>, Memory>
+    requires period { 0 < frame.period }
+    requires same { length logs.now ≡ length heads.now }
+    requires blocks { AreBlocksOf frame objects (zip heads.now logs.now) }
+    ensures { IfOk result (λ periods. periods.items
+        ≡ map (period_of_blocks frame objects (zip heads.now logs.now)) (numbers_in frame)) }
+{
+    let count = frame.span.div_ceil(frame.period);
+    let mut periods = Vec::with_capacity(alloc, count as usize)?;
+    let mut start = 0;
+    for number in 0..count {
+        let end = start + run_of(&heads[start..], number);
+        periods.push(period_with(alloc, frame, objects, &heads[start..end], &logs[start..end])?)?;
+        start = end;
+    }
+    Ok(periods)
+}
+
+// How many headers of a period there are before one of another.
+fn run_of(heads: &[Head], number: u32) -> usize
+    ensures exact { result ≡ run_of number heads.now }
+    ensures within { result ≤ length heads.now }
+{
+    let mut run = 0;
+    while run < heads.len() && heads[run].period == number {
+        run += 1;
+    }
+    run
+}
+
+// The parts of a period whose blocks have these headers and logs.
+fn period_with(
+    alloc: Global,
+    frame: Frame,
+    objects: u32,
+    heads: &[Head],
+    logs: &[List32],
+) -> Result<PeriodParts, Memory>
+    requires placed { ArePlaced frame heads.now }
+    requires objects { All (λ head. head.index < objects) heads.now }
+    requires short { All (λ log. length log < 2 ^ 32) logs.now }
+    requires same { length logs.now ≡ length heads.now }
+    ensures { IfOk result (λ period. period ≡ period_with frame objects heads.now logs.now) }
+{
+    let present = presence_of(alloc, objects, heads)?;
+    if heads.is_empty() {
+        return without_blocks(alloc, present);
+    }
+    let leaves = leaves_of(alloc, frame, heads)?;
+    Ok(PeriodParts {
+        present,
+        offsets: List32::new(offsets_of(alloc, heads)?),
+        lasts: ends_of(alloc, leaves.as_slice())?,
+        perm: List32::new(places_of(alloc, leaves.as_slice())?),
+        lengths: List32::new(lengths_of(alloc, logs)?),
+        tree: tree_of(alloc, frame, leaves)?,
+    })
+}
+
+// The parts of a period without a block, which take no memory beside the presence bits.
+fn without_blocks(alloc: Global, present: BitList) -> Result<PeriodParts, Memory>
+    ensures { IfOk result (λ period. period ≡ without_blocks present) }
+{
+    Ok(PeriodParts {
+        present,
+        offsets: List32::new(Vec::new(alloc)),
+        tree: BitList::pack(alloc, &[])?,
+        lasts: BitList::pack(alloc, &[])?,
+        perm: List32::new(Vec::new(alloc)),
+        lengths: List32::new(Vec::new(alloc)),
+    })
+}
+
+// How many instants of the period come before each anchor.
+fn offsets_of(alloc: Global, heads: &[Head]) -> Result<Vec<u32>, AllocError>
+    ensures { IfOk result (λ offsets. offsets.items ≡ map (λ head. head.offset) heads.now) }
+{
+    heads.iter().map(|head| head.offset).collect(alloc)
+}
+
+// How many symbols each log has.
+fn lengths_of(alloc: Global, logs: &[List32]) -> Result<Vec<u32>, AllocError>
+    requires { All (λ log. length log < 2 ^ 32) logs.now }
+    ensures { IfOk result (λ lengths. lengths.items ≡ map length logs.now) }
+{
+    let mut lengths = Vec::with_capacity(alloc, logs.len())?;
+    for log in logs {
+        lengths.push(log.as_slice().len() as u32)?;
+    }
+    Ok(lengths)
+}

@@ -1,0 +1,189 @@
+ghost use Rattle.std.specs.Prelude.{◌≡◌, ◌≤◌, All, IfOk, length};
+ghost use Rattle.track_types.specs.Limits.{IsPeriod};
+ghost use Rattle.track_types.specs.Near.{IsRawInRange};
+
+use super::parts_of;
+use gridding::{GridFault, grid};
+use std::alloc::{AllocError, Global};
+use std::test::Fail;
+use track_types::{BitList, Cell, Chart, Frame, List32, Parts, PeriodParts, RawRow};
+
+// An object, an instant, and a cell's column and line.
+type Place = (u32, i32, i32, i32);
+
+fn raw(place: Place) -> RawRow
+    ensures { IsRawInRange result }
+{
+    let (object, time, x, y) = place;
+    RawRow {
+        object,
+        time: i64::from(time),
+        x: i64::from(x),
+        y: i64::from(y),
+    }
+}
+
+fn raws(alloc: Global, places: &[Place]) -> Result<Vec<RawRow>, AllocError>
+    ensures near { IfOk result (λ raws. All IsRawInRange raws.items) }
+    ensures few { IfOk result (λ raws. length raws.items ≡ length places.now) }
+{
+    let mut raws = Vec::new(alloc);
+    for &place in places {
+        let raw = raw(place);
+        raws.push(raw)?;
+    }
+    Ok(raws)
+}
+
+// The chart of these rows, of which there are at most 1,000.
+fn chart_of(alloc: Global, places: &[Place], period: u32) -> Result<Chart, GridFault>
+    requires { IsPeriod period }
+{
+    if places.len() > 1000 {
+        return Err(GridFault::Memory);
+    }
+    let raws = raws(alloc, places)?;
+    grid(alloc, raws.as_slice(), 1, 1, period)
+}
+
+// What a period's parts are expected to be; bits as digits 0 and 1.
+#[derive(Drop)]
+struct Expected<'a> {
+    present: &'a [u32],
+    offsets: &'a [u32],
+    tree: &'a [u32],
+    lasts: &'a [u32],
+    perm: &'a [u32],
+    lengths: &'a [u32],
+}
+
+fn has_bits(list: &BitList, digits: &[u32]) -> bool {
+    if list.len() as usize != digits.len() {
+        return false;
+    }
+    for place in 0..list.len() {
+        let digit = u32::from(list.get(place));
+        if digits.get(place as usize) != Some(&digit) {
+            return false;
+        }
+    }
+    true
+}
+
+fn has_numbers(list: &List32, numbers: &[u32]) -> bool {
+    list.as_slice() == numbers
+}
+
+fn is_period(parts: &PeriodParts, expected: &Expected) -> bool {
+    has_bits(&parts.present, expected.present)
+        && has_numbers(&parts.offsets, expected.offsets)
+        && has_bits(&parts.tree, expected.tree)
+        && has_bits(&parts.lasts, expected.lasts)
+        && has_numbers(&parts.perm, expected.perm)
+        && has_numbers(&parts.lengths, expected.lengths)
+}
+
+fn are_periods(parts: &Parts, expected: &[Expected]) -> bool {
+    let periods = parts.periods.as_slice();
+    if periods.len() != expected.len() {
+        return false;
+    }
+    for (period, expected) in periods.iter().zip(expected.iter()) {
+        if !is_period(period, expected) {
+            return false;
+        }
+    }
+    true
+}
+
+// The header of a chart of cells and instants of one unit, from instant 0 on.
+fn frame(span: u32, period: u32, height: u32, x: i64, y: i64) -> Frame {
+    Frame {
+        first: 0,
+        span,
+        period,
+        height,
+        base: Cell { x, y },
+        cell: 1,
+        tick: 1,
+    }
+}
+
+const NONE: [u32; 0] = [];
+
+fn is_path(parts: &Parts) -> bool {
+    let whole = Expected {
+        present: &[1],
+        offsets: &[0],
+        tree: &[1, 0, 0, 0, 1, 0, 0, 0],
+        lasts: &[1],
+        perm: &[0],
+        lengths: &[2],
+    };
+    parts.frame == frame(3, 4, 2, 10, 10)
+        && has_numbers(&parts.objects, &[7])
+        && parts.alphabet.as_slice() == [2, 3].as_slice()
+        && parts.rules.as_slice().is_empty()
+        && has_numbers(&parts.symbols, &[0, 1])
+        && are_periods(parts, &[whole])
+}
+
+// Three objects, of which two share a cell, then none, then one that is absent, then another.
+fn is_sparse(parts: &Parts) -> bool {
+    let shared = Expected {
+        present: &[1, 1, 1],
+        offsets: &[0, 0, 1],
+        tree: &[1, 1, 0, 0, 1, 0, 0, 0, 0, 0, 1, 0],
+        lasts: &[0, 1, 1],
+        perm: &[1, 2, 0],
+        lengths: &[1, 1, 0],
+    };
+    let empty = Expected {
+        present: &[0, 0, 0],
+        offsets: &NONE,
+        tree: &NONE,
+        lasts: &NONE,
+        perm: &NONE,
+        lengths: &NONE,
+    };
+    let second = Expected {
+        present: &[0, 1, 0],
+        offsets: &[0],
+        tree: &[1, 0, 0, 0, 1, 0, 0, 0],
+        lasts: &[1],
+        perm: &[0],
+        lengths: &[1],
+    };
+    let third = Expected {
+        present: &[0, 0, 1],
+        offsets: &[0],
+        tree: &[1, 0, 0, 0, 0, 0, 0, 1],
+        lasts: &[1],
+        perm: &[0],
+        lengths: &[0],
+    };
+    parts.frame == frame(7, 2, 2, -2, -1)
+        && has_numbers(&parts.objects, &[3, 5, 9])
+        && parts.alphabet.as_slice() == [0].as_slice()
+        && parts.rules.as_slice().is_empty()
+        && has_numbers(&parts.symbols, &[0, 0, 0])
+        && are_periods(parts, &[shared, empty, second, third])
+}
+
+#[test]
+fn a_path_and_a_sparse_chart_are_written(rt: HostRuntime) -> Result<(), Fail> {
+    let alloc = rt.alloc();
+    let path = [(7, 0, 10, 10), (7, 1, 11, 10), (7, 2, 12, 11)];
+    let parts = parts_of(alloc, &chart_of(alloc, &path, 4)?)?;
+    assert!(rt; is_path(&parts));
+    let sparse = [
+        (3, 0, 0, 0),
+        (5, 0, -2, -1),
+        (5, 4, -2, -1),
+        (9, 1, -2, -1),
+        (9, 6, -1, 0),
+    ];
+    let parts = parts_of(alloc, &chart_of(alloc, &sparse, 2)?)?;
+    assert!(rt; is_sparse(&parts));
+    Ok(())
+}
