@@ -1,3 +1,7 @@
 -- In reading order.
 pub mod Facts
 pub mod Cost
+pub mod CheckFlaws
+pub mod Opening
+pub mod Met
+pub mod Path

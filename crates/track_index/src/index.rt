@@ -1,4 +1,5 @@
 ghost use Rattle.std.specs.Prelude.{◌≡◌};
+ghost use Rattle.snapshots.specs.SoundParts.{IsValid};
 
 use snapshots::Stores;
 use std::marker::Model;
@@ -22,8 +23,10 @@ impl Model for Index {
 impl Index {
     /// The stores of the index.
     pub fn stores(&self) -> &Stores
-        ensures { result.now ≡ self.now }
+        ensures value { result.now ≡ self.now }
+        ensures valid { IsValid self.now }
     {
+        let _ = self.stores.frame(); // says that the parts are valid
         &self.stores
     }
 

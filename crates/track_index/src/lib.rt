@@ -2,9 +2,18 @@
 //!
 //! An `Index` keeps the stores of its parts and no rows. `IndexRef` answers questions as filtering
 //! the rows of the parts' chart does, within the reads that `specs/Cost.antt` counts. The crate
-//! stands on chart_parts, snapshots, log_cursor and index_format.
+//! stands on `track_types`, `spiral_code`, `packed_bits`, `k2_tree`, `bit_rank`, `object_perm`,
+//! `rule_store`, `log_cursor`, `snapshots`, `movement_log`, `repair_grammar`, `chart_parts`,
+//! `index_format`, `step_count` and `list_laws`.
 #![tactic(auto)]
 
+mod answering;
 mod index;
+mod opening;
+mod path_walk;
+mod periods;
+mod placing;
 
 pub use index::{Index, IndexRef};
+pub use opening::open;
+pub use path_walk::PathWalk;

@@ -1,0 +1,36 @@
+-- Bytes have no flaw if and only if they are those of an index file.
+use Rattle.std.proofs.Common.{◌≡◌, ℕ, List, None, Result, Ok, Err, ap, ◌∙◌}
+use Rattle.std.specs.Prelude.{IfOk}
+use Rattle.track_types.specs.Shape.{IsShaped}
+use Rattle.track_types.specs.declared.flaw.Flaw.{Flaw}
+use Rattle.track_types.specs.declared.parts.Parts.{Parts}
+use Rattle.index_format.specs.Reading.{parts_in}
+use Rattle.index_format.specs.Spelling.{bytes_of_parts}
+use Rattle.index_format.proofs.BitLemmas.{IsBytes}
+use Rattle.index_format.proofs.PartsLaws.{parts_in-again, parts_in-takes}
+use Rattle.track_index.specs.Opening.{first_flaw, flaw_behind, IsFile}
+use Rattle.track_index.proofs.CheckLemmas.{check_flaw-sound, IsSound-unflawed}
+use Rattle.track_index.proofs.OpeningLemmas.{first_flaw-read}
+
+-- the bytes of an index file have no flaw
+pub first_flaw-file : (bytes : List ℕ) (parts : Parts) → IsFile bytes parts → first_flaw bytes ≡ None
+first_flaw-file bytes parts file =
+    let read = ap parts_in file.spelled ∙ parts_in-again parts file.valid.shaped in
+    first_flaw-read bytes parts read ∙ check_flaw-sound parts file.valid.shaped file.valid.sound
+
+-- bytes without a flaw are those of an index file
+pub IsFile-unflawed : (bytes : List ℕ) → IsBytes bytes → first_flaw bytes ≡ None
+    → (parts : Parts) × IsFile bytes parts
+unfolding flaw_behind
+IsFile-unflawed bytes fits none = by_read (parts_in bytes) (parts_in-takes bytes fits) none
+  where
+    by_read : (read : Result Parts Flaw) → IfOk read (λ parts. IsShaped parts × (bytes ≡ bytes_of_parts parts))
+        → flaw_behind read ≡ None → (parts : Parts) × IsFile bytes parts
+    by_read (Ok parts) taken none = (
+      parts,
+      record {
+        valid = record { shaped = taken.0; sound = IsSound-unflawed parts taken.0 none };
+        spelled = taken.1;
+      },
+    )
+    by_read (Err flaw) taken none = absurd (cc)

@@ -1,0 +1,287 @@
+-- The definitions, run on the parts of small charts, and on damaged ones.
+use Rattle.std.proofs.Common.{◌≡◌, ℕ, zero, suc, Bool, true, false, pos, neg_ℤ, List, [], ◌∷◌, None, Some, refl}
+use Rattle.bit_rank.specs.Bits.{rank_of}
+use Rattle.k2_tree.specs.Flaws.{group_flaw, level_flaw, tree_flaw}
+use Rattle.k2_tree.specs.Morton.{cell_of, column_of, row_of}
+use Rattle.k2_tree.specs.Squares.{squares_above, squares_from}
+use Rattle.k2_tree.specs.Tree.{codes_below, codes_in, picked}
+use Rattle.k2_tree.specs.TreeBits.{longer, prefixes}
+use Rattle.list_laws.specs.First.{first_of}
+use Rattle.list_laws.specs.Grown.{grown}
+use Rattle.packed_bits.specs.Bits.{ones_of}
+use Rattle.spiral_code.specs.Spiral.{move_of, ring_moves, ring_of_code, side_moves}
+use Rattle.track_types.specs.declared.flaw.Kind.TheVariants as kind
+use Rattle.track_types.specs.declared.flaw.Section.TheVariants as section
+use Rattle.track_types.specs.declared.frame.Frame.{Frame}
+use Rattle.track_types.specs.declared.parts.Parts.{Parts}
+use Rattle.track_types.specs.declared.period_parts.PeriodParts.{PeriodParts}
+use Rattle.rule_store.specs.Boxes.{bounding_box_of, box_round}
+use Rattle.rule_store.specs.Cells.{cells_along, displacement_of}
+use Rattle.rule_store.specs.Entry.{duration_of, entry_of}
+use Rattle.rule_store.specs.Expansion.{depth_in, expansion_of, values_of}
+use Rattle.rule_store.specs.Flaws.{code_flaw, is_rule_flawed, rule_flaw, symbol_flaw}
+use Rattle.rule_store.specs.Nodes.{block_budget, nodes_in, opened_count, parsed}
+use Rattle.snapshots.specs.View.{all_blocks}
+use Rattle.snapshots.specs.Flaws.{flaw_in}
+use Rattle.snapshots.specs.IndexCost.{blocks_reads, open_cost, path_cost, position_cost}
+use Rattle.snapshots.specs.JoinFlaws.{blocks_flaw, cell_after, is_off_grid, lasting, log_flaw, logs_flaw, off_grid_at}
+use Rattle.snapshots.specs.Parts.{start_in}
+use Rattle.track_index.specs.CheckFlaws.{check_flaw, grammar_flaw, lengths_flaw, snapshots_flaw}
+
+-- a header of three instants, whose grid has side 4 and begins at (10, 10)
+abbrev frame : Frame
+frame = record {
+  first = pos 0;
+  span = 3;
+  period = 4;
+  height = 2;
+  base = record { x = pos 10; y = pos 10 };
+  cell = 1;
+  tick = 1;
+}
+
+-- one object's block at (10, 10), with so many symbols
+abbrev block : ℕ → List Bool → ℕ → PeriodParts
+block offset tree len = record {
+  present = true ∷ [];
+  offsets = offset ∷ [];
+  tree = tree;
+  lasts = true ∷ [];
+  perm = 0 ∷ [];
+  lengths = len ∷ [];
+}
+
+-- the bits of the cell at the least corner of a grid, level by level
+abbrev corner : ℕ → List Bool
+corner zero = []
+corner (suc levels) = true ∷ false ∷ false ∷ false ∷ corner levels
+
+abbrev with : Frame → List ℕ → List (ℕ × ℕ) → List PeriodParts → List ℕ → Parts
+with frame alphabet rules periods symbols = record {
+  frame = frame;
+  objects = 7 ∷ [];
+  alphabet = alphabet;
+  rules = rules;
+  periods = periods;
+  symbols = symbols;
+}
+
+-- one object that moves to the right, and then up to the right
+abbrev path : Parts
+path = with frame (2 ∷ 3 ∷ []) [] (block 0 (corner 2) 2 ∷ []) (0 ∷ 1 ∷ [])
+
+parts_of_a_path_have_no_flaw : check_flaw path ≡ None
+unfolding check_flaw grammar_flaw lengths_flaw snapshots_flaw first_of logs_flaw blocks_flaw all_blocks log_flaw
+    off_grid_at is_off_grid cell_after lasting start_in code_flaw rule_flaw symbol_flaw is_rule_flawed entry_of values_of
+    expansion_of grown displacement_of bounding_box_of box_round cells_along duration_of move_of ring_moves ring_of_code
+    side_moves row_of column_of cell_of picked codes_below codes_in longer rank_of ones_of group_flaw level_flaw tree_flaw
+parts_of_a_path_have_no_flaw = refl
+
+-- a code of ring 5 in a grid of side 4
+a_long_movement_is_flawed : check_flaw (with frame (2 ∷ 100 ∷ []) [] (block 0 (corner 2) 2 ∷ []) (0 ∷ 1 ∷ []))
+    ≡ Some (flaw_in 0 section.Alphabet kind.Code 1)
+unfolding check_flaw grammar_flaw lengths_flaw snapshots_flaw first_of logs_flaw blocks_flaw all_blocks log_flaw
+    off_grid_at is_off_grid cell_after lasting start_in code_flaw rule_flaw symbol_flaw is_rule_flawed entry_of values_of
+    expansion_of grown displacement_of bounding_box_of box_round cells_along duration_of move_of ring_moves ring_of_code
+    side_moves row_of column_of cell_of picked codes_below codes_in longer rank_of ones_of group_flaw level_flaw tree_flaw
+a_long_movement_is_flawed = refl
+
+a_rule_of_itself_is_flawed : check_flaw (with frame (2 ∷ 3 ∷ []) ((2, 0) ∷ []) (block 0 (corner 2) 2 ∷ []) (0 ∷ 1 ∷ []))
+    ≡ Some (flaw_in 0 section.Rules kind.Rule 0)
+unfolding check_flaw grammar_flaw lengths_flaw snapshots_flaw first_of logs_flaw blocks_flaw all_blocks log_flaw
+    off_grid_at is_off_grid cell_after lasting start_in code_flaw rule_flaw symbol_flaw is_rule_flawed entry_of values_of
+    expansion_of grown displacement_of bounding_box_of box_round cells_along duration_of move_of ring_moves ring_of_code
+    side_moves row_of column_of cell_of picked codes_below codes_in longer rank_of ones_of group_flaw level_flaw tree_flaw
+a_rule_of_itself_is_flawed = refl
+
+an_unknown_symbol_is_flawed : check_flaw (with frame (2 ∷ 3 ∷ []) [] (block 0 (corner 2) 2 ∷ []) (0 ∷ 2 ∷ []))
+    ≡ Some (flaw_in 0 section.Log kind.Symbol 1)
+unfolding check_flaw grammar_flaw lengths_flaw snapshots_flaw first_of logs_flaw blocks_flaw all_blocks log_flaw
+    off_grid_at is_off_grid cell_after lasting start_in code_flaw rule_flaw symbol_flaw is_rule_flawed entry_of values_of
+    expansion_of grown displacement_of bounding_box_of box_round cells_along duration_of move_of ring_moves ring_of_code
+    side_moves row_of column_of cell_of picked codes_below codes_in longer rank_of ones_of group_flaw level_flaw tree_flaw
+an_unknown_symbol_is_flawed = refl
+
+-- the anchor is late too
+a_length_too_small_is_flawed : check_flaw (with frame (2 ∷ 3 ∷ []) [] (block 4 (corner 2) 1 ∷ []) (0 ∷ 1 ∷ []))
+    ≡ Some (flaw_in 0 section.Lengths kind.Total 0)
+unfolding check_flaw grammar_flaw lengths_flaw snapshots_flaw first_of logs_flaw blocks_flaw all_blocks log_flaw
+    off_grid_at is_off_grid cell_after lasting start_in code_flaw rule_flaw symbol_flaw is_rule_flawed entry_of values_of
+    expansion_of grown displacement_of bounding_box_of box_round cells_along duration_of move_of ring_moves ring_of_code
+    side_moves row_of column_of cell_of picked codes_below codes_in longer rank_of ones_of group_flaw level_flaw tree_flaw
+a_length_too_small_is_flawed = refl
+
+-- the third instant is the last
+a_late_anchor_is_flawed : check_flaw (with frame (2 ∷ 3 ∷ []) [] (block 3 (corner 2) 2 ∷ []) (0 ∷ 1 ∷ []))
+    ≡ Some (flaw_in 0 section.Offsets kind.Offset 0)
+unfolding check_flaw grammar_flaw lengths_flaw snapshots_flaw first_of logs_flaw blocks_flaw all_blocks log_flaw
+    off_grid_at is_off_grid cell_after lasting start_in code_flaw rule_flaw symbol_flaw is_rule_flawed entry_of values_of
+    expansion_of grown displacement_of bounding_box_of box_round cells_along duration_of move_of ring_moves ring_of_code
+    side_moves row_of column_of cell_of picked codes_below codes_in longer rank_of ones_of group_flaw level_flaw tree_flaw
+a_late_anchor_is_flawed = refl
+
+-- the fourth of these movements leaves the grid, and only two would last to the end
+leaving_the_grid_comes_before_the_duration : check_flaw (with frame (2 ∷ 3 ∷ []) [] (block 0 (corner 2) 4 ∷ []) (1 ∷ 1 ∷ 1 ∷ 1 ∷ []))
+    ≡ Some (flaw_in 0 section.Log kind.OffGrid 3)
+unfolding check_flaw grammar_flaw lengths_flaw snapshots_flaw first_of logs_flaw blocks_flaw all_blocks log_flaw
+    off_grid_at is_off_grid cell_after lasting start_in code_flaw rule_flaw symbol_flaw is_rule_flawed entry_of values_of
+    expansion_of grown displacement_of bounding_box_of box_round cells_along duration_of move_of ring_moves ring_of_code
+    side_moves row_of column_of cell_of picked codes_below codes_in longer rank_of ones_of group_flaw level_flaw tree_flaw
+leaving_the_grid_comes_before_the_duration = refl
+
+a_short_log_is_flawed : check_flaw (with frame (2 ∷ 3 ∷ []) [] (block 0 (corner 2) 1 ∷ []) (0 ∷ []))
+    ≡ Some (flaw_in 0 section.Lengths kind.Duration 0)
+unfolding check_flaw grammar_flaw lengths_flaw snapshots_flaw first_of logs_flaw blocks_flaw all_blocks log_flaw
+    off_grid_at is_off_grid cell_after lasting start_in code_flaw rule_flaw symbol_flaw is_rule_flawed entry_of values_of
+    expansion_of grown displacement_of bounding_box_of box_round cells_along duration_of move_of ring_moves ring_of_code
+    side_moves row_of column_of cell_of picked codes_below codes_in longer rank_of ones_of group_flaw level_flaw tree_flaw
+a_short_log_is_flawed = refl
+
+-- two periods of two instants
+abbrev halves : Frame
+halves = record {
+  first = pos 0;
+  span = 4;
+  period = 2;
+  height = 2;
+  base = record { x = pos 10; y = pos 10 };
+  cell = 1;
+  tick = 1;
+}
+
+-- the second period's anchor is late, and the first one's bits tell no tree
+earlier_periods_come_first : check_flaw (with halves (2 ∷ 3 ∷ []) [] (block 0 (corner 1) 1 ∷ block 2 (corner 2) 1 ∷ []) (0 ∷ 1 ∷ []))
+    ≡ Some (flaw_in 0 section.Tree kind.Tree 4)
+unfolding check_flaw grammar_flaw lengths_flaw snapshots_flaw first_of logs_flaw blocks_flaw all_blocks log_flaw
+    off_grid_at is_off_grid cell_after lasting start_in code_flaw rule_flaw symbol_flaw is_rule_flawed entry_of values_of
+    expansion_of grown displacement_of bounding_box_of box_round cells_along duration_of move_of ring_moves ring_of_code
+    side_moves row_of column_of cell_of picked codes_below codes_in longer rank_of ones_of group_flaw level_flaw tree_flaw
+earlier_periods_come_first = refl
+
+-- the first period's log is too long, and the second one's anchor is late
+periods_come_before_logs : check_flaw (with halves (2 ∷ 3 ∷ []) [] (block 0 (corner 2) 2 ∷ block 2 (corner 2) 0 ∷ []) (0 ∷ 1 ∷ []))
+    ≡ Some (flaw_in 1 section.Offsets kind.Offset 0)
+unfolding check_flaw grammar_flaw lengths_flaw snapshots_flaw first_of logs_flaw blocks_flaw all_blocks log_flaw
+    off_grid_at is_off_grid cell_after lasting start_in code_flaw rule_flaw symbol_flaw is_rule_flawed entry_of values_of
+    expansion_of grown displacement_of bounding_box_of box_round cells_along duration_of move_of ring_moves ring_of_code
+    side_moves row_of column_of cell_of picked codes_below codes_in longer rank_of ones_of group_flaw level_flaw tree_flaw
+periods_come_before_logs = refl
+
+-- one symbol is missing, which is told in the last period
+the_total_is_told_in_the_last_period : check_flaw (with halves (2 ∷ 3 ∷ []) [] (block 0 (corner 2) 1 ∷ block 0 (corner 2) 0 ∷ []) (0 ∷ 1 ∷ []))
+    ≡ Some (flaw_in 1 section.Lengths kind.Total 0)
+unfolding check_flaw grammar_flaw lengths_flaw snapshots_flaw first_of logs_flaw blocks_flaw all_blocks log_flaw
+    off_grid_at is_off_grid cell_after lasting start_in code_flaw rule_flaw symbol_flaw is_rule_flawed entry_of values_of
+    expansion_of grown displacement_of bounding_box_of box_round cells_along duration_of move_of ring_moves ring_of_code
+    side_moves row_of column_of cell_of picked codes_below codes_in longer rank_of ones_of group_flaw level_flaw tree_flaw
+the_total_is_told_in_the_last_period = refl
+
+opening_a_path_reads_201 : open_cost path ≡ 201
+unfolding open_cost blocks_reads all_blocks squares_above squares_from prefixes picked codes_below codes_in longer
+    row_of column_of cell_of rank_of ones_of start_in
+opening_a_path_reads_201 = refl
+
+a_position_reads_136 : position_cost path 7 (pos 2) ≡ 136
+unfolding position_cost path_cost depth_in grown all_blocks picked codes_below codes_in longer row_of column_of cell_of
+    rank_of ones_of start_in block_budget nodes_in opened_count parsed values_of expansion_of bounding_box_of box_round
+    cells_along move_of ring_moves ring_of_code side_moves
+a_position_reads_136 = refl
+
+a_position_of_no_object_reads_nothing : position_cost path 8 (pos 2) ≡ 0
+unfolding position_cost path_cost depth_in grown all_blocks picked codes_below codes_in longer row_of column_of cell_of
+    rank_of ones_of start_in block_budget nodes_in opened_count parsed values_of expansion_of bounding_box_of box_round
+    cells_along move_of ring_moves ring_of_code side_moves
+a_position_of_no_object_reads_nothing = refl
+
+a_position_after_the_last_instant_reads_nothing : position_cost path 7 (pos 3) ≡ 0
+unfolding position_cost path_cost depth_in grown all_blocks picked codes_below codes_in longer row_of column_of cell_of
+    rank_of ones_of start_in block_budget nodes_in opened_count parsed values_of expansion_of bounding_box_of box_round
+    cells_along move_of ring_moves ring_of_code side_moves
+a_position_after_the_last_instant_reads_nothing = refl
+
+a_path_reads_136 : path_cost path 7 (pos 0) (pos 9) ≡ 136
+unfolding position_cost path_cost depth_in grown all_blocks picked codes_below codes_in longer row_of column_of cell_of
+    rank_of ones_of start_in block_budget nodes_in opened_count parsed values_of expansion_of bounding_box_of box_round
+    cells_along move_of ring_moves ring_of_code side_moves
+a_path_reads_136 = refl
+
+-- one object that is absent at the second instant, in a grid of side 2 that begins at (-1, 5)
+abbrev absent : Parts
+absent = record {
+  frame = record {
+    first = pos 0;
+    span = 3;
+    period = 4;
+    height = 1;
+    base = record { x = neg_ℤ (pos 1); y = pos 5 };
+    cell = 1;
+    tick = 1;
+  };
+  objects = 9 ∷ [];
+  alphabet = 0 ∷ 4 ∷ [];
+  rules = [];
+  periods = block 0 (corner 1) 2 ∷ [];
+  symbols = 0 ∷ 1 ∷ [];
+}
+
+an_absence_has_no_flaw : check_flaw absent ≡ None
+unfolding check_flaw grammar_flaw lengths_flaw snapshots_flaw first_of logs_flaw blocks_flaw all_blocks log_flaw
+    off_grid_at is_off_grid cell_after lasting start_in code_flaw rule_flaw symbol_flaw is_rule_flawed entry_of values_of
+    expansion_of grown displacement_of bounding_box_of box_round cells_along duration_of move_of ring_moves ring_of_code
+    side_moves row_of column_of cell_of picked codes_below codes_in longer rank_of ones_of group_flaw level_flaw tree_flaw
+an_absence_has_no_flaw = refl
+
+opening_it_reads_149 : open_cost absent ≡ 149
+unfolding open_cost blocks_reads all_blocks squares_above squares_from prefixes picked codes_below codes_in longer
+    row_of column_of cell_of rank_of ones_of start_in
+opening_it_reads_149 = refl
+
+its_path_reads_95 : path_cost absent 9 (pos 0) (pos 2) ≡ 95
+unfolding position_cost path_cost depth_in grown all_blocks picked codes_below codes_in longer row_of column_of cell_of
+    rank_of ones_of start_in block_budget nodes_in opened_count parsed values_of expansion_of bounding_box_of box_round
+    cells_along move_of ring_moves ring_of_code side_moves
+its_path_reads_95 = refl
+
+-- one object that moves to the right four times, by one rule that stands twice
+abbrev repeated : Parts
+repeated = record {
+  frame = record {
+    first = pos 0;
+    span = 5;
+    period = 8;
+    height = 3;
+    base = record { x = pos 0; y = pos 0 };
+    cell = 1;
+    tick = 1;
+  };
+  objects = 1 ∷ [];
+  alphabet = 2 ∷ [];
+  rules = (0, 0) ∷ [];
+  periods = block 0 (corner 3) 2 ∷ [];
+  symbols = 1 ∷ 1 ∷ [];
+}
+
+a_rule_has_no_flaw : check_flaw repeated ≡ None
+unfolding check_flaw grammar_flaw lengths_flaw snapshots_flaw first_of logs_flaw blocks_flaw all_blocks log_flaw
+    off_grid_at is_off_grid cell_after lasting start_in code_flaw rule_flaw symbol_flaw is_rule_flawed entry_of values_of
+    expansion_of grown displacement_of bounding_box_of box_round cells_along duration_of move_of ring_moves ring_of_code
+    side_moves row_of column_of cell_of picked codes_below codes_in longer rank_of ones_of group_flaw level_flaw tree_flaw
+a_rule_has_no_flaw = refl
+
+opening_it_reads_253 : open_cost repeated ≡ 253
+unfolding open_cost blocks_reads all_blocks squares_above squares_from prefixes picked codes_below codes_in longer
+    row_of column_of cell_of rank_of ones_of start_in
+opening_it_reads_253 = refl
+
+its_position_reads_178 : position_cost repeated 1 (pos 3) ≡ 178
+unfolding position_cost path_cost depth_in grown all_blocks picked codes_below codes_in longer row_of column_of cell_of
+    rank_of ones_of start_in block_budget nodes_in opened_count parsed values_of expansion_of bounding_box_of box_round
+    cells_along move_of ring_moves ring_of_code side_moves
+its_position_reads_178 = refl
+
+-- one rule meets the window
+its_path_reads_179 : path_cost repeated 1 (pos 2) (pos 3) ≡ 179
+unfolding position_cost path_cost depth_in grown all_blocks picked codes_below codes_in longer row_of column_of cell_of
+    rank_of ones_of start_in block_budget nodes_in opened_count parsed values_of expansion_of bounding_box_of box_round
+    cells_along move_of ring_moves ring_of_code side_moves
+its_path_reads_179 = refl

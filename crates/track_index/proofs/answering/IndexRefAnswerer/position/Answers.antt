@@ -1,0 +1,81 @@
+use Rattle.std.proofs.Common.{◌≡◌, ◌≤◌, ◌+◌, ℕ, ℤ, Option, None, Some, w64}
+use Rattle.std.proofs.Common.{to_z, of_z, refl, arith, ap, sym, subst, ◌∙◌}
+use Rattle.std.proofs.lemmas.Int.{ints}
+use Rattle.track_types.specs.declared.parts.Parts.{Parts}
+use Rattle.log_cursor.specs.Seek.{cell_among}
+use Rattle.snapshots.specs.IndexCost.{position_cost, position_cost_in}
+use Rattle.snapshots.specs.Parts.{index_in, period_in, stops_in}
+use Rattle.snapshots.specs.SoundParts.{IsValid}
+use Rattle.track_index.specs.Cost.{cost_of}
+use Rattle.track_index.proofs.ChartLemmas.{cell_at-known, cell_at-outside, cell_at-unknown, index_in-some}
+use Rattle.track_index.proofs.MetLemmas.{period_in-some}
+use Rattle.track_index.proofs.answering.IndexRefAnswerer.position.Goals as goal
+
+-- what the stores say of the period is said of the index
+when-is : (stores parts : Parts) (z instant : ℤ) (period : Option ℕ) → stores ≡ parts → z ≡ instant
+    → period ≡ period_in stores.frame z → period ≡ period_in parts.frame instant
+when-is stores parts z instant period same is found =
+    found ∙ ap (period_in stores.frame) is ∙ ap (λ (p : Parts). period_in p.frame instant) same
+
+pub returns-in_err-place-clause-value : goal.returns-in_err-place-clause-value
+returns-in_err-place-clause-value g c =
+    let none = c.in_err-place.ensures.value
+    ∙ ap (λ (p : Parts). index_in p.objects c.args.object) c.stores-stores.ensures.value in
+    c.from_residual.ensures ∙ sym (cell_at-unknown c.args.self.index.now c.stores-stores.ensures.valid c.args.object
+    (sym none) c.args.instant)
+
+pub returns-in_err-period-clause-value : goal.returns-in_err-period-clause-value
+returns-in_err-period-clause-value g c =
+    let known = c.in_ok-place.ensures.value
+    ∙ ap (λ (p : Parts). index_in p.objects c.args.object) c.stores-stores.ensures.value in
+    let same : to_z w64 (of_z w64 c.args.instant) ≡ c.args.instant = omega (arith, ints) in
+    let none = when-is c.stores-stores.result.now c.args.self.index.now _ c.args.instant None
+    c.stores-stores.ensures.value same c.in_err-period.ensures.value in
+    c.from_residual-in_err-period.ensures
+    ∙ sym (cell_at-outside c.args.self.index.now c.stores-stores.ensures.valid c.args.object c.in_ok-place.place
+    (sym known) c.args.instant (sym none))
+
+pub cell_in-requires-clause-place : goal.cell_in-requires-clause-place
+cell_in-requires-clause-place g c =
+    (index_in-some c.stores-stores.result.now.objects c.args.object c.in_ok-place.place
+    (sym c.in_ok-place.ensures.value)).0
+
+pub cell_in-requires-clause-period : goal.cell_in-requires-clause-period
+cell_in-requires-clause-period g c =
+    let valid = subst IsValid (sym c.stores-stores.ensures.value) c.stores-stores.ensures.valid in
+    let same : to_z w64 (of_z w64 c.args.instant) ≡ c.args.instant = omega (arith, ints) in
+    let when = when-is c.stores-stores.result.now c.stores-stores.result.now _ c.args.instant _ refl same
+    c.in_ok-period.ensures.value in
+    (period_in-some c.stores-stores.result.now.frame valid.shaped.header c.args.instant c.in_ok-period.period
+    (sym when)).0
+
+pub returns-clause-value : goal.returns-clause-value
+returns-clause-value g c =
+    let parts : Parts = c.args.self.index.now in
+    let known = c.in_ok-place.ensures.value
+    ∙ ap (λ (p : Parts). index_in p.objects c.args.object) c.stores-stores.ensures.value in
+    let same : to_z w64 (of_z w64 c.args.instant) ≡ c.args.instant = omega (arith, ints) in
+    let when = when-is c.stores-stores.result.now parts _ c.args.instant (Some c.in_ok-period.period)
+    c.stores-stores.ensures.value same c.in_ok-period.ensures.value in
+    c.cell_in.ensures.value
+    ∙ ap (λ z. cell_among (stops_in c.stores-stores.result.now c.in_ok-place.place c.in_ok-period.period) z) same
+    ∙ ap (λ p. cell_among (stops_in p c.in_ok-place.place c.in_ok-period.period) c.args.instant)
+    c.stores-stores.ensures.value
+    ∙ sym (cell_at-known parts c.stores-stores.ensures.valid c.args.object c.in_ok-place.place (sym known)
+    c.args.instant c.in_ok-period.period (sym when))
+
+pub returns-clause-cost : goal.returns-clause-cost
+unfolding cost_of position_cost
+returns-clause-cost g c =
+    let parts : Parts = c.args.self.index.now in
+    let known = c.in_ok-place.ensures.value
+    ∙ ap (λ (p : Parts). index_in p.objects c.args.object) c.stores-stores.ensures.value in
+    let same : to_z w64 (of_z w64 c.args.instant) ≡ c.args.instant = omega (arith, ints) in
+    let when = when-is c.stores-stores.result.now parts _ c.args.instant (Some c.in_ok-period.period)
+    c.stores-stores.ensures.value same c.in_ok-period.ensures.value in
+    let cost : c.cell_in.new.steps ≤ c.args.steps.now
+    + position_cost_in parts (Some c.in_ok-place.place) (Some c.in_ok-period.period) =
+    subst (λ p. c.cell_in.new.steps ≤ c.args.steps.now
+    + position_cost_in p (Some c.in_ok-place.place) (Some c.in_ok-period.period)) c.stores-stores.ensures.value
+    c.cell_in.ensures.cost in
+    rw (← known, ← when) cost

@@ -1,0 +1,67 @@
+use Rattle.std.proofs.Common.{◌≡◌, ◌≤◌, w64, to_z, of_z, arith, ap, sym, ◌∙◌}
+use Rattle.std.proofs.lemmas.Int.{ints}
+use Rattle.std.proofs.lemmas.Result.{IfOk-weaker}
+use Rattle.track_types.specs.ByFilter.{path_of}
+use Rattle.track_types.specs.declared.parts.Parts.{Parts}
+use Rattle.log_cursor.specs.Walk.{WalkView}
+use Rattle.snapshots.specs.IndexCost.{path_cost}
+use Rattle.snapshots.specs.Parts.{chart_in, index_in}
+use Rattle.track_index.specs.Cost.{cost_of}
+use Rattle.track_index.proofs.ChartLemmas.{index_in-some, path_of-unknown}
+use Rattle.track_index.proofs.PathLemmas.{cost_between-none, cost_between-path, stops_between-path, stops_between-none}
+use Rattle.track_index.proofs.answering.IndexRefAnswerer.walk.Goals as goal
+
+pub returns-in_default-clause-left : goal.returns-in_default-clause-left
+returns-in_default-clause-left c =
+    let parts : Parts = c.args.self.index.now in
+    let unknown = c.in_default.ensures.value
+    ∙ ap (λ (p : Parts). index_in p.objects c.args.object) c.stores-stores.ensures.value in
+    let next = c.none.ensures.next in
+    let behind = c.none.ensures.behind in
+    let nothing = stops_between-none parts 0 (to_z w64 (of_z w64 c.args.from)) (to_z w64 (of_z w64 c.args.to))
+    c.none.result.next c.none.result.behind (omega (arith, next, behind)) in
+    let path = path_of-unknown parts c.stores-stores.ensures.valid c.args.object (sym unknown) c.args.from c.args.to in
+    IfOk-weaker c.new.result _
+    (λ (w : WalkView). w.stops ≡ path_of (chart_in parts).rows c.args.object c.args.from c.args.to)
+    (λ walk left. left ∙ nothing ∙ sym path) c.new.ensures.left
+
+pub returns-in_default-clause-budget : goal.returns-in_default-clause-budget
+unfolding cost_of
+returns-in_default-clause-budget c =
+    let parts : Parts = c.args.self.index.now in
+    let next = c.none.ensures.next in
+    let behind = c.none.ensures.behind in
+    let nothing = cost_between-none parts 0 (to_z w64 (of_z w64 c.args.from)) (to_z w64 (of_z w64 c.args.to))
+    c.none.result.next c.none.result.behind (omega (arith, next, behind)) in
+    IfOk-weaker c.new.result _ (λ (w : WalkView). w.reads ≤ path_cost parts c.args.object c.args.from c.args.to)
+    (λ walk budget. omega (arith, budget, nothing)) c.new.ensures.budget
+
+pub new-requires-2-clause-object : goal.new-requires-2-clause-object
+new-requires-2-clause-object c =
+    let known = c.in-Some.ensures.value
+    ∙ ap (λ (p : Parts). index_in p.objects c.args.object) c.stores-stores.ensures.value in
+    (index_in-some c.args.self.index.now.objects c.args.object c.in-Some.place (sym known)).0
+
+pub returns-clause-left : goal.returns-clause-left
+returns-clause-left c =
+    let parts : Parts = c.args.self.index.now in
+    let low : to_z w64 (of_z w64 c.args.from) ≡ c.args.from = omega (arith, ints) in
+    let high : to_z w64 (of_z w64 c.args.to) ≡ c.args.to = omega (arith, ints) in
+    let path = stops_between-path parts c.stores-stores.result.now c.stores-stores.ensures.value c.args.object c.in-Some.place
+    _ _ c.args.from c.args.to low high c.met-periods.result.next c.met-periods.result.behind c.in-Some.ensures.value
+    c.met-periods.ensures c.stores-stores.ensures.valid in
+    IfOk-weaker c.new-2.result _
+    (λ (w : WalkView). w.stops ≡ path_of (chart_in parts).rows c.args.object c.args.from c.args.to)
+    (λ walk left. left ∙ path) c.new-2.ensures.left
+
+pub returns-clause-budget : goal.returns-clause-budget
+unfolding cost_of
+returns-clause-budget c =
+    let parts : Parts = c.args.self.index.now in
+    let low : to_z w64 (of_z w64 c.args.from) ≡ c.args.from = omega (arith, ints) in
+    let high : to_z w64 (of_z w64 c.args.to) ≡ c.args.to = omega (arith, ints) in
+    let cost = cost_between-path parts c.stores-stores.result.now c.stores-stores.ensures.value c.args.object c.in-Some.place
+    _ _ c.args.from c.args.to low high c.met-periods.result.next c.met-periods.result.behind c.in-Some.ensures.value
+    c.met-periods.ensures in
+    IfOk-weaker c.new-2.result _ (λ (w : WalkView). w.reads ≤ path_cost parts c.args.object c.args.from c.args.to)
+    (λ walk budget. omega (arith, budget, cost)) c.new-2.ensures.budget

@@ -1,0 +1,104 @@
+ghost use Rattle.std.specs.Prelude.{◌≡◌, ◌++◌, ◌+◌, ◌≤◌, ◌<◌};
+ghost use Rattle.std.specs.Prelude.{[], length, IfNone, IfOk, option_to_list};
+ghost use Rattle.track_types.specs.Frame.{periods_of};
+ghost use Rattle.track_index.specs.Path.{cost_between, stops_between};
+
+use crate::index::Index;
+use crate::periods::Periods;
+use crate::placing::Placed;
+use log_cursor::BlockWalk;
+use std::alloc::Global;
+use std::marker::Model;
+use std::sync::ledger::Ledger;
+use step_count::Steps;
+use track_types::{Lazy, Memory, Stop};
+
+/// A walk over the stops of an object in a window, period by period.
+///
+/// It looks for the object's block in the periods that the window meets, and in no other. Contracts
+/// see the stops that are left, and a bound on the reads that are still to be made for them.
+#[derive(Drop)]
+pub struct PathWalk<'a> {
+    index: &'a Index,
+    // The place of the object among all objects.
+    object: u32,
+    // Those that are still to be looked into.
+    periods: Periods,
+    from: i64,
+    to: i64,
+    block: BlockWalk<'a>,
+}
+
+impl<'a> Model for PathWalk<'a> {
+    ghost use Rattle.log_cursor.specs.Walk.{WalkView};
+    ghost use Rattle.track_index.specs.Path.{path_walk_of, IsPathWalk};
+
+    ghost Value = { WalkView };
+
+    ghost view = { λ w. path_walk_of w.index.now w.object w.from w.to
+        w.periods.next w.periods.behind w.block };
+
+    ghost invariant = { λ w. IsPathWalk w.index.now w.object w.periods.behind w.block };
+}
+
+impl<'a> PathWalk<'a> {
+    // A walk over the stops of the object at a place, in some periods, from one instant to another,
+    // both counted. It takes the memory of a `BlockWalk`, and makes no read.
+    pub(crate) fn new(
+        alloc: Global,
+        index: &'a Index,
+        object: u32,
+        periods: Periods,
+        from: i64,
+        to: i64,
+    ) -> Result<PathWalk<'a>, Memory>
+        requires object { object < length index.now.objects }
+        requires periods { periods.behind ≤ periods_of index.now.frame }
+        ensures left { IfOk result (λ walk. walk.stops
+            ≡ stops_between index.now object from to periods.next periods.behind) }
+        ensures budget { IfOk result (λ walk. walk.reads
+            ≡ cost_between index.now object from to periods.next periods.behind) }
+    {
+        let block = BlockWalk::new(alloc, index.stores().rules())?;
+        Ok(PathWalk {
+            index,
+            object,
+            periods,
+            from,
+            to,
+            block,
+        })
+    }
+}
+
+impl<'a> Lazy for PathWalk<'a> {
+    type Item = Stop;
+
+    ghost left = { λ w. w.stops };
+
+    ghost budget = { λ w. w.reads };
+
+    fn draw<L: Ledger>(&mut self, steps: &mut Steps<L>) -> Option<Stop>
+        ensures found { self.old.stops ≡ option_to_list result ++ self.new.stops }
+        ensures none { IfNone result (self.old.stops ≡ []) }
+        ensures cost { steps.new + self.new.reads ≤ steps.old + self.old.reads }
+    {
+        let index = self.index;
+        let stores = index.stores();
+        loop {
+            if let Some(stop) = self.block.draw(steps) {
+                return Some(stop);
+            }
+            if self.periods.next >= self.periods.behind {
+                return None;
+            }
+            let period = self.periods.next;
+            self.periods.next += 1;
+            if let Some(block) = stores.snapshot(period).find(self.object, steps) {
+                let placed = Placed::new(stores, period, &block);
+                self.block
+                    .begin(placed.log, placed.start, self.from, self.to);
+            }
+        }
+    }
+}
