@@ -1,10 +1,13 @@
 -- Number words, one after another.
 use Rattle.std.proofs.Common.{◌≡◌, ℕ, suc, ◌+◌, ◌<◌, List, [], ◌∷◌, ◌++◌, length, drop, get_or, refl, ap, ◌∙◌, arith}
-use Rattle.std.proofs.Common.{ℤ, pos, Some, None, drop-cons, inl, inr, add-one, length-append, append_assoc}
+use Rattle.std.proofs.Common.{ℤ, pos, Some, None, Ok, drop-cons, inl, inr, add-one, length-append, append_assoc}
 use Rattle.std.proofs.lemmas.Bool.{cases_lt}
 use Rattle.std.proofs.lemmas.List.{get_or_at, get_or_append_left}
+use Rattle.track_types.specs.Bounds.{number_within, value_within}
 use Rattle.track_types.specs.Numeral.{numeral_of}
-use Rattle.question_shell.specs.Grammar.{IsInRange, first_fault, fault_or, number_at, numbers_of, numeral_fault}
+use Rattle.track_types.specs.declared.numeral.Numeral.{Numeral}
+use Rattle.track_types.specs.declared.numeral.Numeral.TheVariants.{Value, Large, Not}
+use Rattle.question_shell.specs.Grammar.{IsInRange, first_fault, fault_or, number_at, numbers_of, word_fault}
 use Rattle.question_shell.specs.Grammar.{no_word, value_of}
 use Rattle.question_shell.specs.declared.bad.Bad.{Bad}
 use Rattle.question_shell.specs.declared.form.NumberWord.{NumberWord}
@@ -17,20 +20,31 @@ pub record AreReading (wanted : List NumberWord) (words left : List (List ℕ)) 
   pub value : numbers_of words ≡ numbers ++ numbers_of left
   pub each : (j : ℕ) → j < k → IsInRange (get_or wanted j no_word) (number_at numbers j)
 
+-- a word that is a number within its bounds is a numeral with that value
+pub value_of-within : (wanted : NumberWord) (word : List ℕ) (number : ℤ) →
+    number_within wanted.least wanted.greatest word ≡ Ok number → number ≡ value_of (numeral_of word)
+value_of-within wanted word number within = by_numeral (numeral_of word) within
+  where
+    by_numeral : (numeral : Numeral) → value_within wanted.least wanted.greatest numeral ≡ Ok number →
+        number ≡ value_of numeral
+    by_numeral (Value value) within = grind (arith, within)
+    by_numeral Large within = cc
+    by_numeral Not within = cc
+
 -- the next word
 module _ (wanted : List NumberWord) (words left after : List (List ℕ)) (word : List ℕ) (k : ℕ) (numbers : List ℤ)
     (reading : AreReading wanted words left k numbers) (cut : left ≡ word ∷ after) (below : k < length wanted)
   where
     pub fault-next : first_fault wanted 2 words
-        ≡ fault_or (numeral_fault (get_or wanted k no_word) (k + 2) (numeral_of word))
+        ≡ fault_or (word_fault (get_or wanted k no_word) (k + 2) word)
         (first_fault (drop (suc k) wanted) (k + 2 + 1) after)
     fault-next = reading.fault ∙ (rw (cut, drop-cons wanted k no_word below) refl)
 
-    pub fault-here : (fault : Bad) → numeral_fault (get_or wanted k no_word) (k + 2) (numeral_of word) ≡ Some fault →
+    pub fault-here : (fault : Bad) → word_fault (get_or wanted k no_word) (k + 2) word ≡ Some fault →
         first_fault wanted 2 words ≡ Some fault
     fault-here fault is = fault-next ∙ rw is refl
 
-    pub reading-next : (number : ℤ) → numeral_fault (get_or wanted k no_word) (k + 2) (numeral_of word) ≡ None →
+    pub reading-next : (number : ℤ) → word_fault (get_or wanted k no_word) (k + 2) word ≡ None →
         number ≡ value_of (numeral_of word) → IsInRange (get_or wanted k no_word) number →
         AreReading wanted words after (k + 1) (numbers ++ number ∷ [])
     reading-next number none is range = record {

@@ -1,5 +1,5 @@
 -- Bytes that come, and the lines that they are.
-use Rattle.std.proofs.Common.{◌≡◌, ℕ, ◌+◌, ◌<◌, ◌≤◌, ◌^◌, ◌-◌, false, List, [], ◌∷◌, ◌++◌, length, refl, sym}
+use Rattle.std.proofs.Common.{◌≡◌, ℕ, ◌+◌, ◌<◌, ◌≤◌, ◌-◌, false, List, [], ◌∷◌, ◌++◌, length, refl, sym}
 use Rattle.std.proofs.Common.{ap, ◌∙◌, subst, append_assoc}
 use Rattle.std.proofs.Common.{append-nil, length-append, arith, ◌⊎◌, Option, Some, None, Result, Ok, Err, take, drop}
 use Rattle.std.proofs.Common.{get_or, min, take_all, take-take, inl, inr}
@@ -9,6 +9,8 @@ use Rattle.std.proofs.lemmas.List.{take_more, take-append-drop, take-append-le, 
 use Rattle.std.proofs.Math.Seq.{take-append-add}
 use Rattle.std.specs.Io.KnownBytes.{Consumes, Keeps}
 use Rattle.host_ports.specs.Faults.{Rose}
+use Rattle.track_types.specs.Limits.{limit_of}
+use Rattle.track_types.specs.declared.limit.LimitKind.TheVariants.{Questions}
 use Rattle.question_shell.specs.Desk.{DeskView}
 use Rattle.question_shell.specs.Grammar.{question_of}
 use Rattle.question_shell.specs.LineKept.{LineKept, kept_of}
@@ -19,7 +21,8 @@ use Rattle.question_shell.specs.Turns.{AnswerTold, BytesTold, Heard, LinesTold, 
 use Rattle.question_shell.specs.Turns.{TurnsBefore, TurnsFront, moment}
 use Rattle.question_shell.specs.declared.turn_fault.TurnFault.{TurnFault}
 use Rattle.question_shell.specs.declared.turn_fault.TurnFault.TheVariants as fault
-use Rattle.question_shell.proofs.LineLemmas.{Pieces, separated-append, separated-byte, separated-end}
+use Rattle.question_shell.proofs.LineLemmas.{Pieces, piece-left, separated, separated-append, separated-byte}
+use Rattle.question_shell.proofs.LineLemmas.{separated-end, separated-unended}
 use Rattle.question_shell.proofs.LineLemmas.{unended_line-is, whole_lines-is}
 use Rattle.question_shell.proofs.SaysLemmas.{Appends-says}
 use Rattle.question_shell.proofs.TurnLemmas.{before-cut, before-more, before-say, front-append, front-more}
@@ -46,6 +49,19 @@ whole_lines-append front back =
       unended_line-is front,
     )
     (ap (λ (pieces : Pieces). pieces.ended) (separated-append is_line_feed front back))
+
+-- what follows the last line feed has no whole line
+pub whole_lines-unended : (came : List ℕ) → whole_lines (unended_line came) ≡ []
+whole_lines-unended came =
+    rw (whole_lines-is (unended_line came), unended_line-is came)
+    (ap (λ (pieces : Pieces). pieces.ended)
+    (separated-unended is_line_feed (separated is_line_feed came).left (piece-left is_line_feed came)))
+
+pub unended_line-unended : (came : List ℕ) → unended_line (unended_line came) ≡ unended_line came
+unended_line-unended came =
+    rw (unended_line-is (unended_line came), unended_line-is came)
+    (ap (λ (pieces : Pieces). pieces.left)
+    (separated-unended is_line_feed (separated is_line_feed came).left (piece-left is_line_feed came)))
 
 -- a line feed ends the line that was coming
 pub whole_lines-feed : (came : List ℕ) → whole_lines (came ++ 10 ∷ []) ≡ whole_lines came ++ unended_line came ∷ []
@@ -75,6 +91,14 @@ pub heard-nothing : (meaning : Meaning) (here : Moment) (line : LineKept) → li
     Heard meaning here here [] line
 unfolding whole_lines unended_line
 heard-nothing meaning here line kept = record { turns = turns-nothing meaning here; kept = kept }
+
+-- the line that is coming is heard from here on
+pub heard-again : (meaning : Meaning) (start here : Moment) (came : List ℕ) (line : LineKept) →
+    Heard meaning start here came line → Heard meaning here here (unended_line came) line
+heard-again meaning start here came line heard = record {
+  turns = rw (whole_lines-unended came) (turns-nothing meaning here);
+  kept = heard.kept ∙ ap kept_of (sym (unended_line-unended came));
+}
 
 module _ (meaning : Meaning) (start : Moment) where
   -- a byte that is no line feed
@@ -256,11 +280,12 @@ came-kept before between now bytes came kept counted = record {
     consumes_kept (Some xs) (Some ys) (Some zs) consumed kept = consumed ∙ ap (λ rest. bytes ++ rest) (sym kept)
 
 -- as long as the input is not too long, all of it is heard
-pub heard-all : (meaning : Meaning) (start now : Moment) (bytes : List ℕ) (line : LineKept) → length bytes ≤ 2 ^ 32 →
-    Heard meaning start now (take (2 ^ 32) bytes) line → Heard meaning start now bytes line
+pub heard-all : (meaning : Meaning) (start now : Moment) (bytes : List ℕ) (line : LineKept) →
+    length bytes ≤ limit_of Questions →
+    Heard meaning start now (take (limit_of Questions) bytes) line → Heard meaning start now bytes line
 heard-all meaning start now bytes line within heard =
     let P : List ℕ → Type 0 = λ input. Heard meaning start now input line in
-    subst P (take_all (2 ^ 32) bytes within) heard
+    subst P (take_all (limit_of Questions) bytes within) heard
 
 -- a piece around one of its bytes
 pub around_byte : (came piece : List ℕ) (i : ℕ) → i < length piece →
@@ -282,12 +307,13 @@ take_least n m xs least is_least = elim (cases_lt m n) [
 ]
 
 -- of a piece that came, what is heard: all up to the longest input
-pub piece_heard : (bytes buffer behind : List ℕ) (count counted : ℕ) → length bytes ≤ 2 ^ 32 → count ≤ length buffer →
-    counted ≡ min count (2 ^ 32 - length bytes) →
-    take (2 ^ 32) (bytes ++ take count buffer) ≡ bytes ++ take counted (buffer ++ behind)
+pub piece_heard : (bytes buffer behind : List ℕ) (count counted : ℕ) → length bytes ≤ limit_of Questions →
+    count ≤ length buffer →
+    counted ≡ min count (limit_of Questions - length bytes) →
+    take (limit_of Questions) (bytes ++ take count buffer) ≡ bytes ++ take counted (buffer ++ behind)
 piece_heard bytes buffer behind count counted short within least =
-    let rest = 2 ^ 32 - length bytes in
-    let whole : length bytes + rest ≡ 2 ^ 32 = omega arith in
+    let rest = limit_of Questions - length bytes in
+    let whole : length bytes + rest ≡ limit_of Questions = omega arith in
     let P : ℕ → Type 0 = λ n. take n (bytes ++ take count buffer) ≡ bytes ++ take rest (take count buffer) in
     let front = subst P whole (take-append-add bytes (take count buffer) rest) in
     let fits : counted ≤ length buffer = omega arith in

@@ -3,9 +3,11 @@ use Rattle.std.specs.Prelude.{ℕ, ◌+◌, ◌-◌, ◌^◌, ◌==◌, nat_lt, 
 use Rattle.std.specs.Prelude.{ℤ, pos, neg_ℤ, Option, Some, None, Result, Ok, Err, slice_index_or, unsigned_abs}
 use Rattle.std.specs.Prelude.{◌≡◌, ◌<◌, ◌≤ℤ◌, ⊤}
 use Rattle.std.specs.Str.{bytes_eq}
+use Rattle.track_types.specs.Bounds.{number_within}
 use Rattle.track_types.specs.Near.{IsAsked}
 use Rattle.track_types.specs.Numeral.{numeral_of}
-use Rattle.track_types.specs.Region.{is_between}
+use Rattle.track_types.specs.declared.bounds.NumberFault.{NumberFault}
+use Rattle.track_types.specs.declared.bounds.NumberFault.TheVariants.{NotNumber, Range}
 use Rattle.track_types.specs.declared.numeral.Numeral.{Numeral}
 use Rattle.track_types.specs.declared.numeral.Numeral.TheVariants.{Value, Large, Not}
 use Rattle.track_types.specs.declared.question.Question.{Question}
@@ -61,12 +63,15 @@ pub record AreInRange (wanted : List NumberWord) (numbers : List ℤ) : Type 0 w
   pub as_many : length numbers ≡ length wanted
   pub each : (k : ℕ) → k < length wanted → IsInRange (slice_index_or wanted k no_word) (number_at numbers k)
 
--- what is wrong with a numeral at a place, if anything
-abbrev pub numeral_fault : NumberWord → ℕ → Numeral → Option Bad
-numeral_fault wanted place (Value value) =
-    if is_between wanted.least wanted.greatest value then None else Some (bad.Range place)
-numeral_fault wanted place Large = Some (bad.Range place)
-numeral_fault wanted place Not = Some (bad.Number place)
+-- what a number's fault makes of its line, where the number stands at that place
+abbrev pub number_fault : ℕ → Result ℤ NumberFault → Option Bad
+number_fault place (Ok number) = None
+number_fault place (Err NotNumber) = Some (bad.Number place)
+number_fault place (Err Range) = Some (bad.Range place)
+
+-- what is wrong with a word at a place, if anything
+abbrev pub word_fault : NumberWord → ℕ → List ℕ → Option Bad
+word_fault wanted place word = number_fault place (number_within wanted.least wanted.greatest word)
 
 -- the first of two faults
 abbrev pub fault_or : Option Bad → Option Bad → Option Bad
@@ -78,7 +83,7 @@ abbrev pub first_fault : List NumberWord → ℕ → List (List ℕ) → Option 
 first_fault [] place words = None
 first_fault (wanted ∷ more) place [] = None
 first_fault (wanted ∷ more) place (word ∷ words) =
-    fault_or (numeral_fault wanted place (numeral_of word)) (first_fault more (place + 1) words)
+    fault_or (word_fault wanted place word) (first_fault more (place + 1) words)
 
 -- the value of a numeral, 0 where it has none
 abbrev pub value_of : Numeral → ℤ

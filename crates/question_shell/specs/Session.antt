@@ -1,10 +1,12 @@
 -- What came from a source, what was said for it, and what was read.
-use Rattle.std.specs.Prelude.{◌≡◌, ℕ, ◌+◌, ◌^◌, ◌≤◌, Bool, true, false, List, ◌∷◌, ◌++◌, ◌⊎◌, length, take}
+use Rattle.std.specs.Prelude.{◌≡◌, ℕ, ◌+◌, ◌≤◌, Bool, true, false, List, ◌∷◌, ◌++◌, ◌⊎◌, length, take}
 use Rattle.std.specs.Prelude.{Option, Some, None}
 use Rattle.std.specs.Prelude.{Result, Ok, Err}
 use Rattle.std.specs.Io.KnownBytes.{Appends, Consumes, IsAtEnd}
 use Rattle.track_types.specs.Chart.{ChartView}
+use Rattle.track_types.specs.Limits.{limit_of}
 use Rattle.track_types.specs.declared.facts.Facts.{Facts}
+use Rattle.track_types.specs.declared.limit.LimitKind.TheVariants.{Questions}
 use Rattle.track_types.specs.declared.question.Question.{Question}
 use Rattle.track_types.specs.declared.question.Question.TheVariants as question
 use Rattle.track_types.specs.declared.stop.Stop.{Stop}
@@ -67,22 +69,22 @@ pub record AnswersAll (meaning : Meaning) (before now : Run) : Type 0 where
   pub bytes : List ℕ
   pub came : Came before now bytes
   pub at_end : IsAtEnd now.rest
-  pub within : length bytes ≤ 2 ^ 32
+  pub within : length bytes ≤ limit_of Questions
   pub answers : Answers meaning before now (lines_of bytes)
 
 -- The whole lines among the bytes that came were answered.
 pub record AnswersWhole (meaning : Meaning) (before now : Run) : Type 0 where
   pub bytes : List ℕ
   pub came : Came before now bytes
-  pub within : length bytes ≤ 2 ^ 32
+  pub within : length bytes ≤ limit_of Questions
   pub answers : Answers meaning before now (whole_lines bytes)
 
 -- One byte more came than question input may have, and the whole lines before it were answered.
 pub record AnswersFirst (meaning : Meaning) (before now : Run) : Type 0 where
   pub bytes : List ℕ
   pub came : Came before now bytes
-  pub past : length bytes ≡ 2 ^ 32 + 1
-  pub answers : Answers meaning before now (whole_lines (take (2 ^ 32) bytes))
+  pub past : length bytes ≡ limit_of Questions + 1
+  pub answers : Answers meaning before now (whole_lines (take (limit_of Questions) bytes))
 
 -- whether answering this takes memory
 abbrev pub takes_memory : Result (Option Question) Bad → Bool
@@ -113,23 +115,36 @@ AreTaken rest bytes lines = (lines ≡ whole_lines bytes) ⊎ (IsAtEnd rest × (
 pub record AnswersBefore (meaning : Meaning) (before now : Run) : Type 0 where
   pub bytes : List ℕ
   pub came : Came before now bytes
-  pub within : length bytes ≤ 2 ^ 32 + 1
+  pub within : length bytes ≤ limit_of Questions + 1
   pub all : List (List ℕ)
   pub taken : AreTaken now.rest bytes all
   pub lines : List (List ℕ)
   pub stops : StopsAt all lines
   pub answers : Answers meaning before now lines
 
--- What was said is a front of the replies to lines that may be answered, and no more was read than these lines cost and
--- the desk could read.
+-- All that came before a last piece of at most 4,096 bytes was answered when that piece came: the replies to its whole
+-- lines were said, and then some text more.
+pub record AnswersToPiece (meaning : Meaning) (before now : Run) (bytes : List ℕ) : Type 0 where
+  pub heard : List ℕ
+  pub piece : List ℕ
+  pub split : bytes ≡ heard ++ piece
+  pub short : length piece ≤ 4096
+  pub spoken : Option (List ℕ)
+  pub answered : Appends before.said spoken (replies_by meaning (held_of before.desk) (whole_lines heard))
+  pub rest : List ℕ
+  pub said : Appends spoken now.said rest
+
+-- What was said is a front of the replies to lines that may be answered, nothing came after the piece that was being
+-- answered, and no more was read than these lines cost and the desk could read.
 pub record AnswersFront (meaning : Meaning) (before now : Run) : Type 0 where
   pub bytes : List ℕ
   pub came : Came before now bytes
-  pub within : length bytes ≤ 2 ^ 32 + 1
+  pub within : length bytes ≤ limit_of Questions + 1
   pub lines : List (List ℕ)
   pub taken : AreTaken now.rest bytes lines
   pub text : List ℕ
   pub unsaid : List ℕ
   pub front : replies_by meaning (held_of before.desk) lines ≡ text ++ unsaid
   pub said : Appends before.said now.said text
+  pub last : AnswersToPiece meaning before now bytes
   pub reads : now.steps ≤ before.steps + budget_of before.desk + costs_by meaning (held_of before.desk) lines

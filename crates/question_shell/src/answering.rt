@@ -1,4 +1,4 @@
-ghost use Rattle.std.specs.Prelude.{◌≡◌, ◌≤◌, IfOk, IfSome, Some, Ok, Err};
+ghost use Rattle.std.specs.Prelude.{◌≡◌, ◌≢◌, ◌≤◌, IfOk, IfSome, Some, Ok, Err};
 ghost use Rattle.host_ports.specs.Faults.{Rose};
 ghost use Rattle.track_types.specs.Near.{IsAsked};
 ghost use Rattle.track_types.specs.declared.question.Question.TheVariants as question;
@@ -35,6 +35,7 @@ pub(crate) fn answer<A: Answerer, K: Sink, L: Ledger>(
         (moment (K.said sink.old) text.old desk steps.old)
         (moment (K.said sink.new) text.new desk steps.new) asked result }
     ensures cause { result ≡ Err fault.Say → Rose (K.faults sink.old) (K.faults sink.new) }
+    ensures untouched { result ≢ Err fault.Say → K.faults sink.new ≡ K.faults sink.old }
     ensures faults { K.faults sink.old ≤ K.faults sink.new }
 {
     match asked {
@@ -54,6 +55,7 @@ fn answer_bad<K: Sink>(bad: Bad, text: &mut HeldText, sink: &mut K) -> Result<()
     ensures told { BadTold (voice (K.said sink.old) text.old)
         (voice (K.said sink.new) text.new) bad result }
     ensures cause { result ≡ Err fault.Say → Rose (K.faults sink.old) (K.faults sink.new) }
+    ensures untouched { result ≢ Err fault.Say → K.faults sink.new ≡ K.faults sink.old }
     ensures faults { K.faults sink.old ≤ K.faults sink.new }
 {
     let Ok(()) = text.put(&bad_line(bad), sink) else {
@@ -77,6 +79,7 @@ fn answer_position<A: Answerer, K: Sink, L: Ledger>(
         (moment (K.said sink.new) text.new desk steps.new)
         (Ok (Some (question.Position object instant))) result }
     ensures cause { result ≡ Err fault.Say → Rose (K.faults sink.old) (K.faults sink.new) }
+    ensures untouched { result ≢ Err fault.Say → K.faults sink.new ≡ K.faults sink.old }
     ensures faults { K.faults sink.old ≤ K.faults sink.new }
 {
     let cell = answerer.position(object, instant, steps);
@@ -103,6 +106,7 @@ fn answer_path<A: Answerer, K: Sink, L: Ledger>(
         (moment (K.said sink.new) text.new desk steps.new)
         (Ok (Some (question.Path object window.0 window.1))) result }
     ensures cause { result ≡ Err fault.Say → Rose (K.faults sink.old) (K.faults sink.new) }
+    ensures untouched { result ≢ Err fault.Say → K.faults sink.new ≡ K.faults sink.old }
     ensures faults { K.faults sink.old ≤ K.faults sink.new }
 {
     // The rows of what has facts ascend, so that a count of stops fits.

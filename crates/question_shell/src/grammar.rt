@@ -2,7 +2,7 @@ ghost use Rattle.std.specs.Prelude.{◌≡◌, ◌==◌, ◌≤◌, IfOk, IfErr,
 ghost use Rattle.question_shell.specs.Grammar.{AreAsked, AreInRange, IsInRange, asked_by};
 ghost use Rattle.question_shell.specs.Grammar.{first_fault, form_question, number_words};
 ghost use Rattle.question_shell.specs.Grammar.{numbers_of};
-ghost use Rattle.question_shell.specs.Grammar.{numeral_fault, question_of, value_of};
+ghost use Rattle.question_shell.specs.Grammar.{question_of, value_of, word_fault};
 ghost use Rattle.question_shell.specs.Lines.{words_of};
 ghost use Rattle.track_types.specs.Numeral.{numeral_of};
 
@@ -10,7 +10,7 @@ use crate::bad::Bad;
 use crate::form::{Form, MOST_NUMBERS, NumberWord};
 use crate::words::next_word;
 use arrayvec::ArrayVec;
-use track_types::{Numeral, Question, number};
+use track_types::{NumberFault, Question, number_within};
 
 /// How many bytes a question line may have, without its line feed.
 pub(crate) const LONGEST_LINE: usize = 1024;
@@ -86,22 +86,15 @@ fn read_numbers(wanted: &[NumberWord], line: &[u8]) -> Result<Numbers, Bad>
 
 // Reads the number word at a place of a line.
 fn read_number(wanted: NumberWord, word: &[u8], place: u32) -> Result<i64, Bad>
-    ensures none { IfOk result (λ _. numeral_fault wanted place (numeral_of word.now) ≡ None) }
+    ensures none { IfOk result (λ _. word_fault wanted place word.now ≡ None) }
     ensures value { IfOk result (λ number. number ≡ value_of (numeral_of word.now)) }
     ensures range { IfOk result (IsInRange wanted) }
-    ensures err { IfErr result (λ bad.
-        numeral_fault wanted place (numeral_of word.now) ≡ Some bad) }
+    ensures err { IfErr result (λ bad. word_fault wanted place word.now ≡ Some bad) }
 {
-    match number(word) {
-        Numeral::Value(value) => {
-            if wanted.least <= value && value <= wanted.greatest {
-                Ok(value)
-            } else {
-                Err(Bad::Range(place))
-            }
-        }
-        Numeral::Large => Err(Bad::Range(place)),
-        Numeral::Not => Err(Bad::Number(place)),
+    match number_within(word, wanted.least, wanted.greatest) {
+        Ok(number) => Ok(number),
+        Err(NumberFault::NotNumber) => Err(Bad::Number(place)),
+        Err(NumberFault::Range) => Err(Bad::Range(place)),
     }
 }
 

@@ -41,6 +41,7 @@ impl HeldText {
         ensures err { OnErr result (
             Cuts (voice (K.said sink.old) self.old) (K.said sink.new) line.now.bytes) }
         ensures cause { OnErr result (Rose (K.faults sink.old) (K.faults sink.new)) }
+        ensures untouched { OnOk result (K.faults sink.new ≡ K.faults sink.old) }
         ensures faults { K.faults sink.old ≤ K.faults sink.new }
     {
         if self.bytes.remaining_capacity() < line.len() {
@@ -60,6 +61,7 @@ impl HeldText {
         ensures err { OnErr result (
             Cuts (voice (K.said sink.old) self.old) (K.said sink.new) []) }
         ensures cause { OnErr result (Rose (K.faults sink.old) (K.faults sink.new)) }
+        ensures untouched { OnOk result (K.faults sink.new ≡ K.faults sink.old) }
         ensures faults { K.faults sink.old ≤ K.faults sink.new }
     {
         if self.bytes.is_empty() {

@@ -1,4 +1,4 @@
-ghost use Rattle.std.specs.Prelude.{◌≡◌, ℕ, ◌≤◌, [], ◌∷◌, ◌++◌, List, Err, OnOk, ◌⊎◌};
+ghost use Rattle.std.specs.Prelude.{◌≡◌, ◌≢◌, ℕ, ◌≤◌, [], ◌∷◌, ◌++◌, List, Err, OnOk, ◌⊎◌};
 ghost use Rattle.host_ports.specs.Faults.{Rose};
 ghost use Rattle.question_shell.specs.Desk.{DeskView};
 ghost use Rattle.question_shell.specs.LineKept.{kept_of};
@@ -55,6 +55,7 @@ pub(crate) fn take_piece<A: Answerer, K: Sink, L: Ledger>(
         BytesTold meaning start now (came ++ piece.now) talk.new.line result }
     ensures said { OnOk result (talk.new.text ≡ []) }
     ensures cause { result ≡ Err fault.Say → Rose (K.faults sink.old) (K.faults sink.new) }
+    ensures untouched { result ≢ Err fault.Say → K.faults sink.new ≡ K.faults sink.old }
     ensures faults { K.faults sink.old ≤ K.faults sink.new }
 {
     let answered = take_bytes(alloc, answerer, talk, piece, sink, steps);
@@ -77,6 +78,7 @@ fn take_bytes<A: Answerer, K: Sink, L: Ledger>(
         came talk.old.line →
         BytesTold meaning start now (came ++ bytes.now) talk.new.line result }
     ensures cause { result ≡ Err fault.Say → Rose (K.faults sink.old) (K.faults sink.new) }
+    ensures untouched { result ≢ Err fault.Say → K.faults sink.new ≡ K.faults sink.old }
     ensures faults { K.faults sink.old ≤ K.faults sink.new }
 {
     for byte in bytes {
@@ -101,6 +103,7 @@ fn take_byte<A: Answerer, K: Sink, L: Ledger>(
         came talk.old.line →
         BytesTold meaning start now (came ++ byte ∷ []) talk.new.line result }
     ensures cause { result ≡ Err fault.Say → Rose (K.faults sink.old) (K.faults sink.new) }
+    ensures untouched { result ≢ Err fault.Say → K.faults sink.new ≡ K.faults sink.old }
     ensures faults { K.faults sink.old ≤ K.faults sink.new }
 {
     if byte != b'\n' {
@@ -127,6 +130,7 @@ pub(crate) fn take_end<A: Answerer, K: Sink, L: Ledger>(
         came talk.old.line →
         LinesTold meaning start now (lines_of came) result }
     ensures cause { result ≡ Err fault.Say → Rose (K.faults sink.old) (K.faults sink.new) }
+    ensures untouched { result ≢ Err fault.Say → K.faults sink.new ≡ K.faults sink.old }
     ensures faults { K.faults sink.old ≤ K.faults sink.new }
 {
     let asked = talk.line.question();
@@ -145,6 +149,7 @@ fn say_rest<K: Sink>(
     ensures cause { result ≡ Err fault.Say →
         ((answered ≡ Err fault.Say) × (K.faults sink.new ≡ K.faults sink.old))
         ⊎ Rose (K.faults sink.old) (K.faults sink.new) }
+    ensures untouched { result ≢ Err fault.Say → K.faults sink.new ≡ K.faults sink.old }
     ensures faults { K.faults sink.old ≤ K.faults sink.new }
 {
     match answered {

@@ -22,6 +22,7 @@ pub(crate) fn say_cell<K: Sink>(
     ensures err { OnErr result (Cuts (voice (K.said sink.old) text.old)
         (K.said sink.new) (listed cell_line (option_to_list cell))) }
     ensures cause { OnErr result (Rose (K.faults sink.old) (K.faults sink.new)) }
+    ensures untouched { OnOk result (K.faults sink.new ≡ K.faults sink.old) }
     ensures faults { K.faults sink.old ≤ K.faults sink.new }
 {
     let Some(cell) = cell else {
@@ -45,6 +46,7 @@ pub(crate) fn say_path<W: Lazy<Item = Stop>, K: Sink, L: Ledger>(
         (K.said sink.new) (listed stop_line (W.left walk.old))) }
     ensures cost { steps.new ≤ steps.old + W.budget walk.old }
     ensures cause { OnErr result (Rose (K.faults sink.old) (K.faults sink.new)) }
+    ensures untouched { OnOk result (K.faults sink.new ≡ K.faults sink.old) }
     ensures faults { K.faults sink.old ≤ K.faults sink.new }
 {
     let count = say_stops(walk, text, sink, steps)?;
@@ -66,6 +68,7 @@ fn say_stops<W: Lazy<Item = Stop>, K: Sink, L: Ledger>(
         (K.said sink.new) (flat_map stop_line (W.left walk.old))) }
     ensures cost { steps.new ≤ steps.old + W.budget walk.old }
     ensures cause { OnErr result (Rose (K.faults sink.old) (K.faults sink.new)) }
+    ensures untouched { OnOk result (K.faults sink.new ≡ K.faults sink.old) }
     ensures faults { K.faults sink.old ≤ K.faults sink.new }
 {
     let mut count = 0u64;

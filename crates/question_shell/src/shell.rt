@@ -1,5 +1,6 @@
-ghost use Rattle.std.specs.Prelude.{◌≡◌, ℕ, ◌+◌, ◌^◌, ◌≤◌, Err, OnOk};
+ghost use Rattle.std.specs.Prelude.{◌≡◌, ◌≢◌, ℕ, ◌+◌, ◌≤◌, Err, OnOk};
 ghost use Rattle.host_ports.specs.Faults.{Rose};
+ghost use Rattle.track_types.specs.Limits.{limit_of};
 ghost use Rattle.question_shell.specs.Session.{AnswersAll, AnswersBefore, AnswersFirst};
 ghost use Rattle.question_shell.specs.Session.{AnswersFront, AnswersWhole, meaning_of, run_of};
 ghost use Rattle.question_shell.specs.declared.shell_fault.ShellFault.TheVariants as fault;
@@ -12,10 +13,10 @@ use host_ports::{Sink, Source};
 use std::alloc::Global;
 use std::sync::ledger::Ledger;
 use step_count::Steps;
-use track_types::Answerer;
+use track_types::{Answerer, LimitKind, MAX_QUESTIONS};
 
-/// How many bytes question input may have, 2^32.
-const LONGEST_INPUT: usize = 0x1_0000_0000;
+/// How many bytes question input may have.
+const LONGEST_INPUT: usize = MAX_QUESTIONS as usize;
 
 /// How many bytes are listened to at a time.
 const PIECE: usize = 4096;
@@ -27,9 +28,10 @@ const PIECE: usize = 4096;
 /// `path` line alone.
 ///
 /// `Listen` comes only where the source failed, and then the whole lines that came were answered.
-/// `Say` comes only where the sink failed, and then a front of the replies was said. `Limit` comes
-/// where more than 2^32 bytes came, and then the whole lines among the first 2^32 were answered.
-/// After `Memory` exactly the lines before a `path` line were answered.
+/// `Say` comes only where the sink failed, and then a front of the replies was said and nothing
+/// more was listened to. `Limit` comes where more than 2^32 bytes came, and then the whole lines
+/// among the first 2^32 were answered. After `Memory` exactly the lines before a `path` line were
+/// answered. The count of faults of a device that the answer does not name is what it was.
 pub fn run<A: Answerer, S: Source, K: Sink, L: Ledger>(
     alloc: Global,
     answerer: A,
@@ -51,7 +53,7 @@ pub fn run<A: Answerer, S: Source, K: Sink, L: Ledger>(
         (run_of (S.rest source.old) (S.taken source.old) (K.said sink.old) desk.old steps.old)
         (run_of (S.rest source.new) (S.taken source.new) (K.said sink.new) desk.new steps.new) }
     ensures limit { (value : ℕ) → result ≡ Err (fault.Limit value) →
-        (value ≡ 2 ^ 32 + 1) ×
+        (value ≡ limit_of LimitKind.Questions + 1) ×
         AnswersFirst (meaning_of (A.chart answerer) (A.facts answerer) (A.cost answerer))
         (run_of (S.rest source.old) (S.taken source.old) (K.said sink.old) desk.old steps.old)
         (run_of (S.rest source.new) (S.taken source.new) (K.said sink.new) desk.new steps.new) }
@@ -62,6 +64,10 @@ pub fn run<A: Answerer, S: Source, K: Sink, L: Ledger>(
     ensures listen_cause { result ≡ Err fault.Listen →
         Rose (S.faults source.old) (S.faults source.new) }
     ensures say_cause { result ≡ Err fault.Say → Rose (K.faults sink.old) (K.faults sink.new) }
+    ensures listen_untouched { result ≢ Err fault.Listen →
+        S.faults source.new ≡ S.faults source.old }
+    ensures say_untouched { result ≢ Err fault.Say → K.faults sink.new ≡ K.faults sink.old }
+    ensures within { S.taken source.new ≤ S.taken source.old + (limit_of LimitKind.Questions + 1) }
     ensures listen_faults { S.faults source.old ≤ S.faults source.new }
     ensures say_faults { K.faults sink.old ≤ K.faults sink.new }
 {

@@ -1,7 +1,9 @@
 ghost use Rattle.std.specs.Prelude.{◌≡◌, ◌<◌};
 
 use super::{Desk, ShellFault, run};
-use host_ports::{MemSink, MemSource};
+use crate::held_text::HeldText;
+use crate::saying::say_path;
+use host_ports::{CalmSource, Cut, MemSink, MemSource, NullSink, Sink, Source};
 use std::alloc::{AllocError, Global};
 use std::marker::Brand;
 use std::sync::ledger::{Blank, Ledger};
@@ -114,6 +116,35 @@ impl Answerer for Buoy {
     }
 }
 
+/// A walk with so many stops left, all alike.
+#[derive(Drop)]
+struct Alike {
+    left: u32,
+}
+
+impl Lazy for Alike {
+    type Item = Stop;
+
+    ghost use Rattle.std.specs.Prelude.{pos, negsuc, replicate};
+
+    ghost left = { λ s. replicate s.left
+        (record { instant = pos 2; cell = record { x = pos 12; y = negsuc 10 } }) };
+
+    ghost budget = { λ s. s.left };
+
+    fn draw<L: Ledger>(&mut self, steps: &mut Steps<L>) -> Option<Stop> {
+        if self.left == 0 {
+            return None;
+        }
+        self.left -= 1;
+        steps.tick();
+        Some(Stop {
+            instant: 2,
+            cell: CELL,
+        })
+    }
+}
+
 /// Question input and a place for replies.
 #[derive(Drop)]
 struct Outside {
@@ -132,9 +163,10 @@ fn make_outside(alloc: Global, lines: &[u8], piece: usize) -> Result<Outside, Me
     })
 }
 
-fn call<L: Ledger>(
+fn call<S: Source, K: Sink, L: Ledger>(
     rt: &HostRuntime,
-    outside: &mut Outside,
+    source: &mut S,
+    sink: &mut K,
     blank: Blank,
 ) -> Result<Result<(), ShellFault>, Memory>
     requires name { blank.name ≡ L.name }
@@ -143,18 +175,11 @@ fn call<L: Ledger>(
 {
     let mut desk = Desk::new(rt.alloc())?;
     let mut steps = Steps::<L>::new(rt, blank);
-    Ok(run(
-        rt.alloc(),
-        Buoy,
-        &mut desk,
-        &mut outside.source,
-        &mut outside.sink,
-        &mut steps,
-    ))
+    Ok(run(rt.alloc(), Buoy, &mut desk, source, sink, &mut steps))
 }
 
 fn answer(rt: &HostRuntime, outside: &mut Outside) -> Result<Result<(), ShellFault>, Memory> {
-    call::<Brand>(rt, outside, Blank::new(1))
+    call::<MemSource, MemSink, Brand>(rt, &mut outside.source, &mut outside.sink, Blank::new(1))
 }
 
 #[test]
@@ -227,6 +252,50 @@ fn long_lines_and_long_replies_are_said(rt: HostRuntime) -> Result<(), Fail> {
             "pieces of {piece}"
         );
     }
+    Ok(())
+}
+
+fn answer_calm(rt: &HostRuntime, lines: &[u8]) -> Result<Result<(), ShellFault>, Memory> {
+    let mut source = CalmSource::new(Vec::from_slice(rt.alloc(), lines)?);
+    call::<CalmSource, NullSink, Brand>(rt, &mut source, &mut NullSink, Blank::new(1))
+}
+
+fn say_alike<L: Ledger>(rt: &HostRuntime, sink: &mut MemSink, blank: Blank) -> Result<(), Cut>
+    requires name { blank.name ≡ L.name }
+    requires parts { blank.parts ≡ L.parts }
+    requires some { 0 < L.parts }
+{
+    let mut steps = Steps::<L>::new(rt, blank);
+    let mut text = HeldText::new();
+    say_path(&mut Alike { left: 600 }, &mut text, sink, &mut steps)?;
+    text.say(sink)
+}
+
+fn said_of_alike(rt: &HostRuntime, sink: &mut MemSink) -> Result<(), Cut> {
+    say_alike::<Brand>(rt, sink, Blank::new(1))
+}
+
+#[test]
+fn a_reply_longer_than_the_buffer_is_said(rt: HostRuntime) -> Result<(), Fail> {
+    let alloc = rt.alloc();
+    let mut said = Vec::new(alloc);
+    for _ in 0..600 {
+        said.extend_from_slice(b"2 12 -11\n")?;
+    }
+    said.extend_from_slice(b"ok 600\n")?;
+    let mut sink = MemSink::new(alloc, 8192, Vec::new(alloc))?;
+    assert_eq!(rt; said_of_alike(&rt, &mut sink), Ok(()));
+    assert_eq!(rt; sink.as_slice(), said.as_slice());
+    Ok(())
+}
+
+#[test]
+fn devices_that_never_fail_have_no_fault(rt: HostRuntime) -> Result<(), Fail> {
+    assert_eq!(rt;
+        answer_calm(&rt, b"position 7 2\n\npath 7 0 4\nwhere")?,
+        Ok(())
+    );
+    assert_eq!(rt; answer_calm(&rt, b"path 8 0 4\n")?, Err(ShellFault::Memory));
     Ok(())
 }
 

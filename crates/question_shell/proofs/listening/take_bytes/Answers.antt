@@ -28,14 +28,21 @@ returns-in_err-take_byte-clause-cause g c failed =
     let exit = err_from_is_err_and c.from_residual.result c.from_residual.ensures.1 in
     rose-later (g.K.Sink.faults c.args.sink.now) (g.K.Sink.faults c.loop-byte.sink)
     (g.K.Sink.faults c.take_byte.new.sink)
-    c.loop-byte.invariant.faults (c.in_err-take_byte.ensures.cause (ap Err (sym exit.2) ∙ (sym exit.1 ∙ failed)))
+    (omega (arith, c.loop-byte.invariant.faults))
+    (c.in_err-take_byte.ensures.cause (ap Err (sym exit.2) ∙ (sym exit.1 ∙ failed)))
 
 pub returns-in_err-take_byte-clause-faults : goal.returns-in_err-take_byte-clause-faults
 returns-in_err-take_byte-clause-faults g c = omega (arith, c.loop-byte.invariant.faults, c.take_byte.ensures.faults)
 
+pub returns-in_err-take_byte-clause-untouched : goal.returns-in_err-take_byte-clause-untouched
+returns-in_err-take_byte-clause-untouched g c differs =
+    let exit = err_from_is_err_and c.from_residual.result c.from_residual.ensures.1 in
+    c.in_err-take_byte.ensures.untouched (λ same. differs (exit.1 ∙ ap Err exit.2 ∙ same))
+    ∙ c.loop-byte.invariant.faults
+
 pub loop-byte-preserved : goal.loop-byte-preserved
 loop-byte-preserved g c = record {
-  faults = omega (arith, c.loop-byte.invariant.faults, c.take_byte.ensures.faults);
+  faults = c.in_ok-take_byte.ensures.untouched (λ same. absurd (cc)) ∙ c.loop-byte.invariant.faults;
   heard = λ start came desk heard.
       let meaning = meaning_of (g.A.Answerer.chart c.args.answerer) (g.A.Answerer.facts c.args.answerer)
       (g.A.Answerer.cost c.args.answerer) in

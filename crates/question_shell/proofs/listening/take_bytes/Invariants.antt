@@ -1,4 +1,4 @@
-use Rattle.std.proofs.Common.{◌≤◌, ◌++◌, ℕ, List, take}
+use Rattle.std.proofs.Common.{◌≡◌, ◌++◌, ℕ, List, take}
 use Rattle.question_shell.specs.Desk.{DeskView}
 use Rattle.question_shell.specs.Session.{meaning_of}
 use Rattle.question_shell.specs.Turns.{Heard, Moment, moment}
@@ -6,7 +6,7 @@ use Rattle.question_shell.proofs.listening.take_bytes.Given as goal
 
 abbrev pub invariant-loop-byte : goal.invariant-loop-byte
 invariant-loop-byte g l = record {
-  faults : g.K.Sink.faults l.fn.sink ≤ g.K.Sink.faults l.sink;
+  faults : g.K.Sink.faults l.sink ≡ g.K.Sink.faults l.fn.sink;
   heard : (start : Moment) (came : List ℕ) (desk : DeskView) →
       let meaning = meaning_of (g.A.Answerer.chart l.answerer) (g.A.Answerer.facts l.answerer)
       (g.A.Answerer.cost l.answerer) in

@@ -12,7 +12,7 @@ loop-stop-init g c = record {
   whole = refl;
   says = says-nothing (voice (g.K.Sink.said c.args.sink.now) c.args.text.now);
   cost = omega arith;
-  faults = omega arith;
+  faults = refl;
 }
 
 pub returns-in_err-put-clause-err : goal.returns-in_err-put-clause-err
@@ -48,5 +48,5 @@ loop-stop-preserved g c =
           ∙ sym (append_assoc read.done line rest));
       says = says-append start between now read.done line read.says says;
       cost = omega (arith, read.cost, c.in-Some.ensures.cost);
-      faults = omega (arith, read.faults, c.in_ok-put.ensures.faults);
+      faults = c.in_ok-put.ensures.untouched ∙ read.faults;
     }

@@ -14,7 +14,7 @@ invariant-loop-stop g l =
       whole : flat_map stop_line all ≡ done ++ flat_map stop_line left;
       says : Says (voice (g.K.Sink.said l.fn.sink) l.fn.text) (voice (g.K.Sink.said l.sink) l.text) done;
       cost : l.steps + g.W.Lazy.budget l.walk ≤ l.fn.steps + g.W.Lazy.budget l.fn.walk;
-      faults : g.K.Sink.faults l.fn.sink ≤ g.K.Sink.faults l.sink;
+      faults : g.K.Sink.faults l.sink ≡ g.K.Sink.faults l.fn.sink;
     }
 
 abbrev pub decreases-loop-stop : goal.decreases-loop-stop
