@@ -1,110 +1,75 @@
--- What the outcomes of loading say, and the words that have a form.
-use Rattle.std.proofs.Common.{◌≡◌, ℕ, ◌<◌, Bool, true, false, ◌⊎◌, inl, inr, List, [], ◌∷◌, length, get_or, Option}
-use Rattle.std.proofs.Common.{Some, None, if◌then◌else◌, codes, refl, arith, Bor}
+-- How a call ends once its file was accepted.
+use Rattle.std.proofs.Common.{◌≡◌, ℕ, ◌+◌, ◌≤◌, true, false, List, Result, Ok, Err, inr, refl, sym, ap, ◌∙◌, subst}
 use mathlib.Core.Bool.{false≢true}
-use Rattle.std.specs.Str.{bytes_eq}
+use Rattle.host_ports.specs.FileMap.{IsMissing}
+use Rattle.track_types.specs.Limits.{limit_of}
 use Rattle.track_types.specs.declared.limit.LimitKind.TheVariants as limit
-use Rattle.track_types.specs.declared.row.Row.{Row}
-use Rattle.gract_top.specs.Outcome.{Answered}
-use Rattle.gract_top.specs.Refusal.{IsDecided, is_loading, is_refusal, is_unasked}
-use Rattle.gract_top.specs.Request.{csv_name, first_bad, once_of, once_words, refused_or, request_of, settings_in}
-use Rattle.gract_top.specs.Request.{settings_of, texts}
-use Rattle.gract_top.specs.Session.{Talk}
+use Rattle.track_types.specs.Chart.{ChartView}
+use Rattle.track_types.specs.declared.parts.Parts.{Parts}
+use Rattle.question_shell.specs.Session.{Meaning, meaning_of}
+use Rattle.chart_parts.specs.PartsOf.{parts_of}
+use Rattle.snapshots.specs.Parts.{chart_in}
+use Rattle.track_index.specs.Cost.{cost_of}
+use Rattle.track_index.specs.Facts.{facts_of}
+use Rattle.gract_top.specs.Outcome.{Answers, AnswersFile, Disk, Ends, Talk, index_meaning}
+use Rattle.gract_top.specs.Refusal.{is_refusal, is_unasked}
 use Rattle.gract_top.specs.declared.outcome.Outcome.{Outcome}
 use Rattle.gract_top.specs.declared.outcome.Outcome.TheVariants as outcome
-use Rattle.gract_top.specs.declared.request.Request.TheVariants as request
 use Rattle.gract_top.specs.declared.request.Settings.{Settings}
-use Rattle.gract_top.proofs.RequestLemmas.{form_of}
 
--- what comes while loading comes before a question
-pub is_unasked-loading : (o : Outcome) → is_loading o ≡ true → is_unasked o ≡ true
-is_unasked-loading outcome.Done loading = loading
-is_unasked-loading (outcome.Words place) loading = refl
-is_unasked-loading outcome.LoadFailed loading = refl
-is_unasked-loading (outcome.Limit kind value) loading = loading
-is_unasked-loading (outcome.Row nth field fault) loading = refl
-is_unasked-loading outcome.Empty loading = refl
-is_unasked-loading outcome.ListenFailed loading = loading
-is_unasked-loading outcome.SayFailed loading = loading
-is_unasked-loading outcome.Memory loading = refl
+-- memory was wanted after the file was accepted
+pub ends-memory : {T : Type 0} (loaded : Result T Outcome) (value : T) (csv : List ℕ) (settings : Settings)
+    (disk : Disk) (untouched : Type 0) (before now : Talk) →
+    loaded ≡ Ok value → (IsMissing disk.map csv → loaded ≡ Err outcome.LoadFailed) →
+    disk.taken ≤ limit_of limit.Csv + 1 → AnswersFile outcome.Memory csv settings disk untouched before now →
+    Ends outcome.Memory csv settings disk untouched before now
+ends-memory loaded value csv settings disk untouched before now is missing taken answers = record {
+  load_failed = λ is. absurd (cc);
+  missing = λ none. let failed = missing none in absurd (cc);
+  taken = taken;
+  refused = λ is. absurd (false≢true is);
+  csv_taken = λ value is. absurd (cc);
+  unasked = λ is. absurd (false≢true is);
+  asked = λ is. absurd (false≢true is);
+  memory = λ is. inr answers;
+}
 
--- and answers nothing
-pub answered_loading : (o : Outcome) → is_loading o ≡ true → (rows : List Row) (now : Talk) → Answered o rows now now
-answered_loading outcome.Done loading rows now = absurd (false≢true loading)
-answered_loading (outcome.Words place) loading rows now = refl
-answered_loading outcome.LoadFailed loading rows now = refl
-answered_loading (outcome.Limit limit.Csv value) loading rows now = refl
-answered_loading (outcome.Limit limit.Rows value) loading rows now = refl
-answered_loading (outcome.Limit limit.Objects value) loading rows now = refl
-answered_loading (outcome.Limit limit.Span value) loading rows now = refl
-answered_loading (outcome.Limit limit.Extent value) loading rows now = refl
-answered_loading (outcome.Limit limit.Blocks value) loading rows now = refl
-answered_loading (outcome.Limit limit.Symbols value) loading rows now = refl
-answered_loading (outcome.Limit limit.Index value) loading rows now = refl
-answered_loading (outcome.Limit limit.Questions value) loading rows now = absurd (false≢true loading)
-answered_loading (outcome.Row nth field fault) loading rows now = refl
-answered_loading outcome.Empty loading rows now = refl
-answered_loading outcome.ListenFailed loading rows now = absurd (false≢true loading)
-answered_loading outcome.SayFailed loading rows now = absurd (false≢true loading)
-answered_loading outcome.Memory loading rows now = refl
+-- what the file's bytes decide comes before a question
+is_unasked-refusal : (result : Outcome) → is_refusal result ≡ true → is_unasked result ≡ true
+is_unasked-refusal outcome.Done refusal = refusal
+is_unasked-refusal (outcome.Words place) refusal = refl
+is_unasked-refusal outcome.LoadFailed refusal = refl
+is_unasked-refusal (outcome.Limit kind value) refusal = refusal
+is_unasked-refusal (outcome.Row nth field fault) refusal = refl
+is_unasked-refusal outcome.Empty refusal = refl
+is_unasked-refusal outcome.ListenFailed refusal = refusal
+is_unasked-refusal outcome.SayFailed refusal = refusal
+is_unasked-refusal outcome.Memory refusal = refusal
 
--- it is the file's refusal, but for a fault of the files and want of memory
-pub decided_loading : (o : Outcome) (refusal : Option Outcome) → is_loading o ≡ true →
-    (is_refusal o ≡ true → refusal ≡ Some o) →
-    (o ≡ outcome.LoadFailed) ⊎ (o ≡ outcome.Memory) ⊎ IsDecided refusal o
-decided_loading outcome.Done refusal loading refused = absurd (false≢true loading)
-decided_loading (outcome.Words place) refusal loading refused = absurd (false≢true loading)
-decided_loading outcome.LoadFailed refusal loading refused = inl refl
-decided_loading (outcome.Limit limit.Questions value) refusal loading refused = absurd (false≢true loading)
-decided_loading (outcome.Limit limit.Csv value) refusal loading refused = inr (inr (rw (refused refl) refl))
-decided_loading (outcome.Limit limit.Rows value) refusal loading refused = inr (inr (rw (refused refl) refl))
-decided_loading (outcome.Limit limit.Objects value) refusal loading refused = inr (inr (rw (refused refl) refl))
-decided_loading (outcome.Limit limit.Span value) refusal loading refused = inr (inr (rw (refused refl) refl))
-decided_loading (outcome.Limit limit.Extent value) refusal loading refused = inr (inr (rw (refused refl) refl))
-decided_loading (outcome.Limit limit.Blocks value) refusal loading refused = inr (inr (rw (refused refl) refl))
-decided_loading (outcome.Limit limit.Symbols value) refusal loading refused = inr (inr (rw (refused refl) refl))
-decided_loading (outcome.Limit limit.Index value) refusal loading refused = inr (inr (rw (refused refl) refl))
-decided_loading (outcome.Row nth field fault) refusal loading refused = inr (inr (rw (refused refl) refl))
-decided_loading outcome.Empty refusal loading refused = inr (inr (rw (refused refl) refl))
-decided_loading outcome.ListenFailed refusal loading refused = absurd (false≢true loading)
-decided_loading outcome.SayFailed refusal loading refused = absurd (false≢true loading)
-decided_loading outcome.Memory refusal loading refused = inr (inl refl)
+-- the lines were answered after the file was accepted
+pub ends-answers : {T : Type 0} (loaded : Result T Outcome) (value : T) (result : Outcome) (csv : List ℕ)
+    (settings : Settings) (disk : Disk) (untouched : Type 0) (before now : Talk) →
+    loaded ≡ Ok value → (IsMissing disk.map csv → loaded ≡ Err outcome.LoadFailed) →
+    disk.taken ≤ limit_of limit.Csv + 1 → is_unasked result ≡ false →
+    AnswersFile result csv settings disk untouched before now → Ends result csv settings disk untouched before now
+ends-answers loaded value result csv settings disk untouched before now is missing taken heard answers = record {
+  load_failed = λ failed. absurd (false≢true (sym heard ∙ ap is_unasked failed));
+  missing = λ none. let failed = missing none in absurd (cc);
+  taken = taken;
+  refused = λ refusal. absurd (false≢true (sym heard ∙ is_unasked-refusal result refusal));
+  csv_taken = λ value long. absurd (false≢true (sym heard ∙ ap is_unasked long));
+  unasked = λ unheard. absurd (false≢true (sym heard ∙ unheard));
+  asked = λ asked. answers;
+  memory = λ wanted. inr answers;
+}
 
--- words of a form name the CSV file second
-pub csv_name-texts : (words : List (Bor (List ℕ))) (other : Bor (List ℕ)) → 1 < length words →
-    csv_name (texts words) ≡ (get_or words 1 other).now
-csv_name-texts [] other long = absurd (omega arith)
-csv_name-texts (name ∷ []) other long = absurd (omega arith)
-csv_name-texts (name ∷ csv ∷ rest) other long = refl
-
--- words of a form are more than one
-pub words_of_form : (words : List (Bor (List ℕ))) (settings : Settings) →
-    request.Once settings ≡ request_of (texts words) → 1 < length words
-words_of_form [] settings once = absurd (cc)
-words_of_form (name ∷ words) settings once = by_name (bytes_eq name.now (codes "once")) once
-  where
-    behind : (bad : Option ℕ) → first_bad once_words (texts words) 2 ≡ bad →
-        request.Once settings ≡ refused_or bad (settings_of (texts words)) → 1 < length (name ∷ words)
-    behind None none same = let form = form_of once_words words 2 none in omega (arith, form.as_many)
-    behind (Some place) some same = absurd (cc)
-
-    by_name : (test : Bool) → request.Once settings ≡ (if test then once_of (texts words) else request.Refused 1) →
-        1 < length (name ∷ words)
-    by_name true same = behind (first_bad once_words (texts words) 2) refl same
-    by_name false same = absurd (cc)
-
--- their numbers are those of the words
-pub settings_of_form : (words : List (List ℕ)) (settings : Settings) → request.Once settings ≡ request_of words →
-    settings ≡ settings_in words
-settings_of_form [] settings once = absurd (cc)
-settings_of_form (name ∷ words) settings once = by_name (bytes_eq name (codes "once")) once
-  where
-    behind : (bad : Option ℕ) → request.Once settings ≡ refused_or bad (settings_of words) →
-        settings ≡ settings_of words
-    behind None same = cc
-    behind (Some place) same = absurd (cc)
-
-    by_name : (test : Bool) → request.Once settings ≡ (if test then once_of words else request.Refused 1) →
-        settings ≡ settings_of words
-    by_name true same = behind (first_bad once_words words 2) same
-    by_name false same = absurd (cc)
+-- what the index of a chart means
+pub answers-index : (result : Outcome) (untouched : Type 0) (index : Parts) (chart : ChartView) (before now : Talk) →
+    index ≡ parts_of chart → chart_in index ≡ chart →
+    Answers result untouched (meaning_of (chart_in index) (facts_of index) (cost_of index)) before now →
+    Answers result untouched (index_meaning chart) before now
+answers-index result untouched index chart before now is reads_back answers =
+    let P : Meaning → Type 0 = λ meaning. Answers result untouched meaning before now in
+    let same : meaning_of (chart_in index) (facts_of index) (cost_of index) ≡ index_meaning chart =
+    rw (reads_back, is) refl in
+    subst P same answers

@@ -1,10 +1,5 @@
-pub mod Lines
-pub mod Question
-pub mod Reply
 pub mod Request
-pub mod LineKept
 pub mod Loading
-pub mod Session
 pub mod Refusal
 pub mod Outcome
 pub mod OutcomeText

@@ -1,13 +1,20 @@
--- What is known of a file that was loaded.
-use Rattle.std.specs.Prelude.{◌≡◌, ℕ, ◌<◌, ⊤, List, length, Option, Some, None}
+-- What came of a file that was loaded.
+use Rattle.std.specs.Prelude.{◌≡◌, ℕ, ◌+◌, ⊤, List, length, take, Option, Some, None}
 use Rattle.host_ports.specs.FileMap.{FileMap, held}
 
--- where the files are told, the one of that name has these bytes
-abbrev pub HoldsAs : Option FileMap → List ℕ → List ℕ → Type 0
-HoldsAs None name bytes = ⊤
-HoldsAs (Some files) name bytes = held files name ≡ Some bytes
+-- where the files are told, these are the first bytes of the one of that name: all of it, or one more than the limit
+abbrev pub HoldsFront : Option FileMap → List ℕ → ℕ → List ℕ → Type 0
+HoldsFront None name limit bytes = ⊤
+HoldsFront (Some files) name limit bytes =
+    (whole : List ℕ) × (held files name ≡ Some whole) × (bytes ≡ take (limit + 1) whole)
 
--- where the files are told, the one of that name has more bytes than the limit
-abbrev pub HoldsLonger : Option FileMap → List ℕ → ℕ → Type 0
-HoldsLonger None name limit = ⊤
-HoldsLonger (Some files) name limit = (bytes : List ℕ) × (held files name ≡ Some bytes) × (limit < length bytes)
+-- These bytes of a file came: they are counted, and those of the file where it is told.
+pub record FileCame (map : Option FileMap) (taken : ℕ) (name : List ℕ) (limit : ℕ) (bytes : List ℕ) : Type 0 where
+  pub counted : taken ≡ length bytes
+  pub held : HoldsFront map name limit bytes
+
+-- One byte more came than a file may have.
+pub record TooLong (map : Option FileMap) (taken : ℕ) (name : List ℕ) (limit : ℕ) : Type 0 where
+  pub bytes : List ℕ
+  pub came : FileCame map taken name limit bytes
+  pub past : length bytes ≡ limit + 1

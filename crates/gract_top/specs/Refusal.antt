@@ -1,7 +1,8 @@
 -- What the CSV file decides before a question is read.
-use Rattle.std.specs.Prelude.{◌≡◌, ℕ, ◌+◌, Bool, true, false, nat_lt, if◌then◌else◌, List, [], ◌∷◌, length, Option}
-use Rattle.std.specs.Prelude.{Some, None}
-use Rattle.host_ports.specs.FileMap.{FileMap, held}
+use Rattle.std.specs.Prelude.{◌≡◌, ℕ, ◌+◌, ◌≤◌, All, Bool, true, false, nat_lt, if◌then◌else◌, List, [], ◌∷◌, length}
+use Rattle.std.specs.Prelude.{Option, Some, None}
+use Rattle.host_ports.specs.FileMap.{FileMap}
+use Rattle.track_types.specs.Chart.{ChartView}
 use Rattle.track_types.specs.Limits.{limit_of}
 use Rattle.track_types.specs.declared.limit.LimitKind.{LimitKind}
 use Rattle.track_types.specs.declared.limit.LimitKind.TheVariants as limit
@@ -9,15 +10,12 @@ use Rattle.track_types.specs.declared.raw_row.RawRow.{RawRow}
 use Rattle.row_reader.specs.Rows.{csv_fault, raws_of}
 use Rattle.row_reader.specs.declared.fault.RowsFault.{RowsFault}
 use Rattle.row_reader.specs.declared.fault.RowsFault.TheVariants as rows
+use Rattle.gridding.specs.ChartOf.{chart_of}
 use Rattle.gridding.specs.GridLimit.{grid_limit}
+use Rattle.gract_top.specs.Loading.{FileCame}
 use Rattle.gract_top.specs.declared.request.Settings.{Settings}
 use Rattle.gract_top.specs.declared.outcome.Outcome.{Outcome}
 use Rattle.gract_top.specs.declared.outcome.Outcome.TheVariants as outcome
-
--- the files are told, and the one of that name has these bytes
-abbrev pub IsHeld : Option FileMap → List ℕ → List ℕ → Type 0
-IsHeld None name bytes = ⊥
-IsHeld (Some files) name bytes = held files name ≡ Some bytes
 
 -- the refusal of rows for a quantity of their chart
 abbrev pub grid_refusal : Option (LimitKind × ℕ) → Option Outcome
@@ -41,6 +39,29 @@ file_refusal bytes settings =
     then Some (outcome.Limit limit.Csv (limit_of limit.Csv + 1))
     else rows_refusal (csv_fault bytes) (raws_of bytes) settings
 
+-- The bytes that came of the CSV file are refused for this.
+pub record IsRefused (map : Option FileMap) (taken : ℕ) (csv : List ℕ) (settings : Settings) (cause : Outcome) :
+    Type 0 where
+  pub bytes : List ℕ
+  pub came : FileCame map taken csv (limit_of limit.Csv) bytes
+  pub refusal : file_refusal bytes settings ≡ Some cause
+
+-- The bytes that came of the CSV file are its rows.
+pub record HasRows (map : Option FileMap) (taken : ℕ) (csv : List ℕ) (raws : List RawRow) : Type 0 where
+  pub bytes : List ℕ
+  pub came : FileCame map taken csv (limit_of limit.Csv) bytes
+  pub short : length bytes ≤ limit_of limit.Csv
+  pub accepted : csv_fault bytes ≡ None
+  pub rows : raws ≡ raws_of bytes
+
+-- The bytes that came of the CSV file are accepted, and have this chart.
+pub record IsAccepted (map : Option FileMap) (taken : ℕ) (csv : List ℕ) (settings : Settings) (chart : ChartView) :
+    Type 0 where
+  pub bytes : List ℕ
+  pub came : FileCame map taken csv (limit_of limit.Csv) bytes
+  pub accepted : file_refusal bytes settings ≡ None
+  pub gridded : chart ≡ chart_of (raws_of bytes) settings.cell settings.tick settings.period
+
 -- an outcome that the bytes of the CSV file decide
 abbrev pub is_refusal : Outcome → Bool
 is_refusal (outcome.Row nth field fault) = true
@@ -49,18 +70,16 @@ is_refusal (outcome.Limit limit.Questions value) = false
 is_refusal (outcome.Limit kind value) = true
 is_refusal other = false
 
--- an outcome that comes while the CSV file is loaded
-abbrev pub is_loading : Outcome → Bool
-is_loading outcome.LoadFailed = true
-is_loading outcome.Memory = true
-is_loading other = is_refusal other
-
--- an outcome that comes before a question is read
+-- an outcome that comes before a question is listened to
 abbrev pub is_unasked : Outcome → Bool
 is_unasked (outcome.Words place) = true
-is_unasked other = is_loading other
+is_unasked outcome.LoadFailed = true
+is_unasked other = is_refusal other
 
--- where the bytes are refused, the outcome is that refusal; else it comes after the first question
-abbrev pub IsDecided : Option Outcome → Outcome → Type 0
-IsDecided (Some refusal) outcome = outcome ≡ refusal
-IsDecided None outcome = is_unasked outcome ≡ false
+-- an outcome that comes after one was
+abbrev pub is_asked : Outcome → Bool
+is_asked outcome.Done = true
+is_asked outcome.ListenFailed = true
+is_asked outcome.SayFailed = true
+is_asked (outcome.Limit limit.Questions value) = true
+is_asked other = false

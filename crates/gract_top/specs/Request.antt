@@ -1,10 +1,10 @@
 -- What the command words ask for.
-use Rattle.std.specs.Prelude.{◌≡◌, ⊤, ℕ, ◌+◌, pos, Bool, true, false, if◌then◌else◌, List, [], ◌∷◌, codes, Option, Some, is_ok}
+use Rattle.std.specs.Prelude.{⊤, ℕ, ◌+◌, pos, Bool, if◌then◌else◌, List, [], ◌∷◌, codes, Option, Some, is_ok}
 use Rattle.std.specs.Prelude.{None, map, slice_index_or}
 use denote.Ref.{Bor}
 use Rattle.std.specs.Int.RustNames.{unsigned_abs}
 use Rattle.std.specs.Str.{bytes_eq}
-use Rattle.gract_top.specs.Lines.{has_byte}
+use Rattle.question_shell.specs.Lines.{has_byte}
 use Rattle.track_types.specs.Limits.{IsPeriod, IsResolution}
 use Rattle.track_types.specs.Bounds.{number_within}
 use Rattle.track_types.specs.declared.limit.TheConstants.{MAX_PERIOD, MAX_RESOLUTION}
@@ -44,43 +44,26 @@ settings_of words = record {
   period = natural_value (slice_index_or words 3 []);
 }
 
--- a request that is refused where a word is bad
-abbrev pub refused_or : Option ℕ → Settings → Request
-refused_or (Some place) settings = Refused place
-refused_or None settings = Once settings
-
--- what the words behind `once` ask for
-abbrev pub once_of : List (List ℕ) → Request
-once_of words = refused_or (first_bad once_words words 2) (settings_of words)
-
--- What the words ask for: one of the forms with its values, or the place of the first bad word, counted from 1.
-abbrev pub request_of : List (List ℕ) → Request
-request_of [] = Refused 1
-request_of (name ∷ words) = if bytes_eq name (codes "once") then once_of words else Refused 1
-
--- the numbers of the words, in words that have a form
-abbrev pub settings_in : List (List ℕ) → Settings
-settings_in [] = settings_of []
-settings_in (name ∷ words) = settings_of words
-
--- the name of the CSV file, in words that have a form
-abbrev pub csv_name : List (List ℕ) → List ℕ
-csv_name words = slice_index_or words 1 []
-
 -- the texts that words are
 abbrev pub texts : List (Bor (List ℕ)) → List (List ℕ)
 texts words = map (λ word. word.now) words
 
--- whether a request is not refused
-abbrev pub is_accepted : Request → Bool
-is_accepted (Once settings) = true
-is_accepted (Refused place) = false
+-- a request of the first of the words, that is refused where a word is bad
+abbrev pub refused_or : Option ℕ → List (Bor (List ℕ)) → Request
+refused_or (Some place) words = Refused place
+refused_or None [] = Refused 2
+refused_or None (csv ∷ words) = Once csv (settings_of (texts (csv ∷ words)))
 
--- the words have a form
-abbrev pub IsForm : List (List ℕ) → Type 0
-IsForm words = is_accepted (request_of words) ≡ true
+-- what the words behind `once` ask for
+abbrev pub once_of : List (Bor (List ℕ)) → Request
+once_of words = refused_or (first_bad once_words (texts words) 2) words
+
+-- What the words ask for: one of the forms with its values, or the place of the first bad word, counted from 1.
+abbrev pub request_of : List (Bor (List ℕ)) → Request
+request_of [] = Refused 1
+request_of (name ∷ words) = if bytes_eq name.now (codes "once") then once_of words else Refused 1
 
 -- the numbers of a request are in their ranges
 abbrev pub AreInRange : Request → Type 0
-AreInRange (Once settings) = IsResolution settings.cell × IsResolution settings.tick × IsPeriod settings.period
+AreInRange (Once csv settings) = IsResolution settings.cell × IsResolution settings.tick × IsPeriod settings.period
 AreInRange (Refused place) = ⊤

@@ -1,12 +1,11 @@
-ghost use Rattle.std.specs.Prelude.{◌≡◌, ℕ, ◌+◌, ◌^◌, ◌≤◌, ◌⊎◌, true, List, length, Err, Some};
-ghost use Rattle.std.specs.Prelude.{None, All, IfOk, IfErr, vec_len};
+ghost use Rattle.std.specs.Prelude.{◌≡◌, ◌≢◌, ℕ, ◌+◌, ◌≤◌, ◌⊎◌, true, false, Err, All};
+ghost use Rattle.std.specs.Prelude.{IfOk, IfErr, vec_len};
 ghost use Rattle.host_ports.specs.Faults.{Rose};
 ghost use Rattle.host_ports.specs.FileMap.{IsMissing};
 ghost use Rattle.track_types.specs.Limits.{IsPeriod, IsResolution, limit_of};
 ghost use Rattle.track_types.specs.Near.{IsRawInRange};
-ghost use Rattle.row_reader.specs.Rows.{csv_fault, raws_of};
-ghost use Rattle.gridding.specs.ChartOf.{chart_of};
-ghost use Rattle.gract_top.specs.Refusal.{IsHeld, is_loading, is_refusal, file_refusal};
+ghost use Rattle.gract_top.specs.Loading.{TooLong};
+ghost use Rattle.gract_top.specs.Refusal.{HasRows, IsAccepted, IsRefused, is_asked, is_refusal};
 ghost use Rattle.gract_top.specs.declared.request.Settings.{Settings};
 
 use crate::loading::{LoadFault, load};
@@ -28,18 +27,21 @@ pub(crate) fn load_chart<F: Files>(
     requires cell { IsResolution settings.cell }
     requires tick { IsResolution settings.tick }
     requires period { IsPeriod settings.period }
-    ensures chart { IfOk result (λ chart. (bytes : List ℕ) →
-        IsHeld (F.map files.old) csv.now bytes → (file_refusal bytes settings ≡ None)
-        × (chart ≡ chart_of (raws_of bytes) settings.cell settings.tick settings.period)) }
-    ensures loading { IfErr result (λ outcome. is_loading outcome ≡ true) }
+    ensures chart { IfOk result (λ chart.
+        IsAccepted (F.map files.old) (F.taken files.new) csv.now settings chart) }
+    ensures unasked { IfErr result (λ outcome. is_asked outcome ≡ false) }
+    ensures words { IfErr result (λ outcome. (place : ℕ) → outcome ≢ Outcome.Words place) }
     ensures load_failed { result ≡ Err Outcome.LoadFailed →
         Rose (F.load_faults files.old) (F.load_faults files.new)
         ⊎ IsMissing (F.map files.old) csv.now }
     ensures missing { IsMissing (F.map files.old) csv.now → result ≡ Err Outcome.LoadFailed }
-    ensures refused { IfErr result (λ outcome. is_refusal outcome ≡ true → (bytes : List ℕ) →
-        IsHeld (F.map files.old) csv.now bytes → file_refusal bytes settings ≡ Some outcome) }
-    ensures taken { (value : ℕ) → result ≡ Err (Outcome.Limit LimitKind.Csv value) →
-        (value ≡ limit_of LimitKind.Csv + 1) × (F.taken files.new ≡ limit_of LimitKind.Csv + 1) }
+    ensures untouched { result ≢ Err Outcome.LoadFailed →
+        F.load_faults files.new ≡ F.load_faults files.old }
+    ensures refused { IfErr result (λ outcome. is_refusal outcome ≡ true →
+        IsRefused (F.map files.old) (F.taken files.new) csv.now settings outcome) }
+    ensures csv_taken { (value : ℕ) → result ≡ Err (Outcome.Limit LimitKind.Csv value) →
+        (value ≡ limit_of LimitKind.Csv + 1) × (F.taken files.new ≡ value) }
+    ensures taken { F.taken files.new ≤ limit_of LimitKind.Csv + 1 }
     ensures map { F.map files.new ≡ F.map files.old }
     ensures faults { F.load_faults files.old ≤ F.load_faults files.new }
 {
@@ -57,20 +59,23 @@ pub(crate) fn load_chart<F: Files>(
 
 // The raw rows of the CSV file of that name.
 fn load_rows<F: Files>(alloc: Global, csv: &str, files: &mut F) -> Result<Vec<RawRow>, Outcome>
-    ensures rows { IfOk result (λ rows. (bytes : List ℕ) → IsHeld (F.map files.old) csv.now bytes →
-        (length bytes ≤ limit_of LimitKind.Csv) × (csv_fault bytes ≡ None) × (rows.items ≡ raws_of bytes)) }
+    ensures rows { IfOk result (λ rows.
+        HasRows (F.map files.old) (F.taken files.new) csv.now rows.items) }
     ensures few { IfOk result (λ rows. vec_len rows ≤ limit_of LimitKind.Rows) }
     ensures ranges { IfOk result (λ rows. All IsRawInRange rows.items) }
-    ensures loading { IfErr result (λ outcome. is_loading outcome ≡ true) }
+    ensures unasked { IfErr result (λ outcome. is_asked outcome ≡ false) }
+    ensures words { IfErr result (λ outcome. (place : ℕ) → outcome ≢ Outcome.Words place) }
     ensures load_failed { result ≡ Err Outcome.LoadFailed →
         Rose (F.load_faults files.old) (F.load_faults files.new)
         ⊎ IsMissing (F.map files.old) csv.now }
     ensures missing { IsMissing (F.map files.old) csv.now → result ≡ Err Outcome.LoadFailed }
-    ensures refused { IfErr result (λ outcome. is_refusal outcome ≡ true → (bytes : List ℕ) →
-        IsHeld (F.map files.old) csv.now bytes → (settings : Settings) →
-        file_refusal bytes settings ≡ Some outcome) }
-    ensures taken { (value : ℕ) → result ≡ Err (Outcome.Limit LimitKind.Csv value) →
-        (value ≡ limit_of LimitKind.Csv + 1) × (F.taken files.new ≡ limit_of LimitKind.Csv + 1) }
+    ensures untouched { result ≢ Err Outcome.LoadFailed →
+        F.load_faults files.new ≡ F.load_faults files.old }
+    ensures refused { IfErr result (λ outcome. is_refusal outcome ≡ true → (settings : Settings) →
+        IsRefused (F.map files.old) (F.taken files.new) csv.now settings outcome) }
+    ensures csv_taken { (value : ℕ) → result ≡ Err (Outcome.Limit LimitKind.Csv value) →
+        (value ≡ limit_of LimitKind.Csv + 1) × (F.taken files.new ≡ value) }
+    ensures taken { F.taken files.new ≤ limit_of LimitKind.Csv + 1 }
     ensures map { F.map files.new ≡ F.map files.old }
     ensures faults { F.load_faults files.old ≤ F.load_faults files.new }
 {

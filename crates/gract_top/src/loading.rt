@@ -1,7 +1,7 @@
-ghost use Rattle.std.specs.Prelude.{◌≡◌, ℕ, ◌+◌, ◌^◌, ◌<◌, ◌≤◌, ◌⊎◌, length, vec_len, IfOk, Err};
+ghost use Rattle.std.specs.Prelude.{◌≡◌, ◌≢◌, ◌+◌, ◌^◌, ◌<◌, ◌≤◌, ◌⊎◌, vec_len, IfOk, Err};
 ghost use Rattle.host_ports.specs.Faults.{Rose};
 ghost use Rattle.host_ports.specs.FileMap.{IsMissing};
-ghost use Rattle.gract_top.specs.Loading.{HoldsAs, HoldsLonger};
+ghost use Rattle.gract_top.specs.Loading.{FileCame, TooLong};
 
 use host_ports::Files;
 use std::alloc::Global;
@@ -29,13 +29,17 @@ pub(crate) fn load<F: Files>(
 ) -> Result<Vec<u8>, LoadFault>
     requires { limit < 2 ^ 40 }
     ensures within { IfOk result (λ bytes. vec_len bytes ≤ limit) }
-    ensures held { IfOk result (λ bytes. HoldsAs (F.map files.old) name.now bytes.items) }
+    ensures came { IfOk result (λ bytes.
+        FileCame (F.map files.old) (F.taken files.new) name.now limit bytes.items) }
     ensures failed { result ≡ Err LoadFault.Failed →
         Rose (F.load_faults files.old) (F.load_faults files.new)
         ⊎ IsMissing (F.map files.old) name.now }
     ensures missing { IsMissing (F.map files.old) name.now → result ≡ Err LoadFault.Failed }
-    ensures taken { result ≡ Err LoadFault.TooLong → F.taken files.new ≡ limit + 1 }
-    ensures long { result ≡ Err LoadFault.TooLong → HoldsLonger (F.map files.old) name.now limit }
+    ensures long { result ≡ Err LoadFault.TooLong →
+        TooLong (F.map files.old) (F.taken files.new) name.now limit }
+    ensures taken { F.taken files.new ≤ limit + 1 }
+    ensures untouched { result ≢ Err LoadFault.Failed →
+        F.load_faults files.new ≡ F.load_faults files.old }
     ensures map { F.map files.new ≡ F.map files.old }
     ensures faults { F.load_faults files.old ≤ F.load_faults files.new }
 {

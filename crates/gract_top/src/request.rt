@@ -15,9 +15,9 @@ pub enum WordKind {
 
 /// What the command words ask for.
 #[derive(Clone, Copy, Debug, PartialEq, Eq)]
-pub enum Request {
-    /// To answer the source's lines from the CSV file that the second word names.
-    Once(Settings),
+pub enum Request<'a> {
+    /// To answer the source's lines from the CSV file of that name.
+    Once { csv: &'a str, settings: Settings },
     /// Nothing: the first bad word stands at this place, counted from 1.
     Refused { place: u32 },
 }
@@ -57,8 +57,8 @@ const ONCE: [WordKind; 4] = [
 ];
 
 // Reads the command words.
-pub(crate) fn read_request(words: &[&str]) -> Request
-    ensures value { result ≡ request_of (texts words.now) }
+pub(crate) fn read_request<'a>(words: &[&'a str]) -> Request<'a>
+    ensures value { result ≡ request_of words.now }
     ensures ranges { AreInRange result }
 {
     match words {
@@ -73,18 +73,22 @@ pub(crate) fn read_request(words: &[&str]) -> Request
     }
 }
 
-fn read_once(words: &[&str]) -> Request
-    ensures value { result ≡ once_of (texts words.now) }
+fn read_once<'a>(words: &[&'a str]) -> Request<'a>
+    ensures value { result ≡ once_of words.now }
     ensures ranges { AreInRange result }
 {
     if let Some(place) = first_bad_place(&ONCE, words, 2) {
         return Request::Refused { place };
     }
-    Request::Once(Settings {
+    let settings = Settings {
         cell: natural(words[1], RESOLUTION),
         tick: natural(words[2], RESOLUTION),
         period: natural(words[3], PERIOD) as u32,
-    })
+    };
+    Request::Once {
+        csv: words[0],
+        settings,
+    }
 }
 
 // The place of the first word that does not fit, is missing or is one too many; the first word

@@ -27,11 +27,11 @@ fn make_outside(alloc: Global, csv: &[u8], lines: &[u8], piece: usize) -> Result
             piece.max(1),
             Vec::new(alloc),
         ),
-        sink: MemSink::new(alloc, 4096, Vec::new(alloc))?,
+        sink: MemSink::new(alloc, 16384, Vec::new(alloc))?,
     })
 }
 
-// The words of a command, parted at spaces.
+// The words of a command, separated at spaces.
 fn words(alloc: Global, command: &str) -> Result<Vec<String>, AllocError> {
     command
         .split(' ')
@@ -72,224 +72,188 @@ fn run(rt: &HostRuntime, command: &str, outside: &mut Outside) -> Result<Outcome
 
 const PATH: &[u8] = b"7,0,10,10\n7,1,11,10\n7,2,12,10\n7,2,12,11\n";
 
-#[test]
-fn the_last_row_of_an_instant_answers(rt: HostRuntime) -> Result<(), Fail> {
-    let cases: [(&[u8], &[u8], &[u8]); 6] = [
-        (PATH, b"position 7 2\n", b"12 11\nok 1\n"),
-        (PATH, b"position 8 2\nposition 7 3\n", b"ok 0\nok 0\n"),
-        (
-            b"9,0,-1,5\n9,2,-1,6\n",
-            b"position 9 1\nposition 9 2",
-            b"ok 0\n-1 6\nok 1\n",
-        ),
-        (PATH, b"\n \t\r\nPosition 7 2\n", b"bad word\n"),
-        (
-            PATH,
-            b"position 7\nposition 7 2 1\nposition a 2\nposition -1 2\nposition 7 2199023255553\n",
-            b"bad word\nbad word\nbad word\nbad word\nbad word\n",
-        ),
-        (PATH, b"\tposition  +7 \r 002 \r\n", b"12 11\nok 1\n"),
-    ];
-    for (csv, lines, said) in cases {
-        let mut outside = make_outside(rt.alloc(), csv, lines, 4096)?;
-        let outcome = run(&rt, "once t.csv 1 1 4", &mut outside)?;
-        assert_eq!(rt; outcome, Outcome::Done);
-        assert_eq!(rt; outside.sink.as_slice(), said);
+const SHIP: &[u8] = b"object,instant,x,y\r\n265547250,1467327600,312455,6401239\r\n\
+\"265547250\", 1467327662,312561,6401250\r\n";
+
+const EASTWARD: &[u8] = b"1,0,0,0\n1,1,1,0\n1,2,2,0\n1,3,3,0\n1,4,4,0\n";
+
+// The rows of an object that stands still for 600 instants, and what is said of its path.
+fn long_track(alloc: Global) -> Result<(Vec<u8>, Vec<u8>), AllocError> {
+    let mut csv = Vec::new(alloc);
+    let mut said = Vec::new(alloc);
+    for instant in 100..700u32 {
+        csv.extend_from_slice(format!(in alloc; "7,{instant},-5,12\n")?.as_bytes())?;
+        said.extend_from_slice(format!(in alloc; "{instant} -5 12\n")?.as_bytes())?;
     }
-    Ok(())
+    said.extend_from_slice(b"ok 600\n")?;
+    Ok((csv, said))
 }
 
-#[test]
-fn pieces_of_any_length_say_the_same(rt: HostRuntime) -> Result<(), Fail> {
-    let mut lines = Vec::from_slice(rt.alloc(), b"position 7 0\n\nposition 7 2\r\n")?;
-    // A line of 1,024 bytes is read, and one of 1,025 is bad.
-    for (length, word) in [(1024, b'1'), (1025, b'1')] {
-        lines.extend_from_slice(b"position 7 ")?;
-        for _ in 12..length {
-            lines.push(b' ')?;
-        }
-        lines.push(word)?;
-        lines.push(b'\n')?;
-    }
-    // A line of blanks is blank, however long it is.
-    for _ in 0..1100 {
+// A line of 1,025 bytes that has words, and a last line without a line feed.
+fn long_line(alloc: Global) -> Result<Vec<u8>, AllocError> {
+    let mut lines = Vec::from_slice(alloc, b"position 7")?;
+    for _ in 10..1024 {
         lines.push(b' ')?;
     }
-    lines.extend_from_slice(b"\nposition 7 1")?;
-    for piece in [1, 2, 3, 4096] {
-        let mut outside = make_outside(rt.alloc(), PATH, lines.as_slice(), piece)?;
-        let outcome = run(&rt, "once t.csv 1 1 4", &mut outside)?;
-        assert_eq!(rt; outcome, Outcome::Done);
-        assert_eq!(rt;
-            outside.sink.as_slice(),
-            b"10 10\nok 1\n12 11\nok 1\n11 10\nok 1\nbad word\n11 10\nok 1\n".as_slice(),
-            "pieces of {piece}"
-        );
+    lines.extend_from_slice(b"2\nposition 7 2")?;
+    Ok(lines)
+}
+
+#[test]
+fn lines_have_their_replies(rt: HostRuntime) -> Result<(), Fail> {
+    let alloc = rt.alloc();
+    let (track, stops) = long_track(alloc)?;
+    let long = long_line(alloc)?;
+    let cases: [(&[u8], &str, &[u8], &[u8]); 9] = [
+        (
+            PATH,
+            "once t.csv 1 1 4",
+            b"position 7 2\npath 7 0 9\nposition 8 2\nposition 7 3\n",
+            b"12 11\nok 1\n0 10 10\n1 11 10\n2 12 11\nok 3\nok 0\nok 0\n",
+        ),
+        (
+            PATH,
+            "once t.csv 1 1 1",
+            b"path 7 1 2\npath 7 3 0\npath 8 0 9\n",
+            b"1 11 10\n2 12 11\nok 2\nok 0\nok 0\n",
+        ),
+        (
+            b"9,0,-1,5\n9,2,-1,6\n",
+            "once t.csv 1 1 4",
+            b"position 9 1\nposition 9 2\n",
+            b"ok 0\n-1 6\nok 1\n",
+        ),
+        (
+            b"1,-1,-1,-10\n",
+            "once t.csv 10 60 4",
+            b"position 1 -1\npath 1 -5 5\n",
+            b"-1 -1\nok 1\n-1 -1 -1\nok 1\n",
+        ),
+        (
+            EASTWARD,
+            "once t.csv 1 1 8",
+            b"position 1 3\n",
+            b"3 0\nok 1\n",
+        ),
+        (
+            SHIP,
+            "once t.csv 100 60 120",
+            b"path 265547250 24455460 24455462\n",
+            b"24455460 3124 64012\n24455461 3125 64012\nok 2\n",
+        ),
+        (
+            PATH,
+            "once t.csv 1 1 4",
+            b"Position 7 2\nposition a 0\n \t\r\n\nposition -1 0\nposition 7\n",
+            b"bad word\nbad number 2\nbad range 2\nbad count\n",
+        ),
+        (PATH, "once t.csv 1 1 4", &long, b"bad long\n12 11\nok 1\n"),
+        (&track, "once t.csv 1 1 100", b"path 7 0 1000\n", &stops),
+    ];
+    for (csv, command, lines, said) in cases {
+        for piece in [5, 4096] {
+            let mut outside = make_outside(alloc, csv, lines, piece)?;
+            assert_eq!(rt; run(&rt, command, &mut outside)?, Outcome::Done);
+            assert_eq!(rt; outside.sink.as_slice(), said);
+        }
     }
     Ok(())
 }
 
 #[test]
-fn rows_are_gridded_towards_minus_infinity(rt: HostRuntime) -> Result<(), Fail> {
-    let csv = b"object,instant,x,y\r\n1,-1,-1,-10\r\n\"2\", 61,312561,6401250\r\n2,60,0,0\r\n";
-    let lines = b"position 1 -1\nposition 1 0\nposition 2 1\n";
-    let mut outside = make_outside(rt.alloc(), csv, lines, 4096)?;
-    let outcome = run(&rt, "once t.csv 10 60 4", &mut outside)?;
-    assert_eq!(rt; outcome, Outcome::Done);
-    assert_eq!(rt;
-        outside.sink.as_slice(),
-        b"-1 -1\nok 1\nok 0\n0 0\nok 1\n".as_slice()
-    );
-    Ok(())
-}
-
-#[test]
-fn a_file_is_refused_for_its_cause(rt: HostRuntime) -> Result<(), Fail> {
+fn a_call_is_refused_for_its_cause(rt: HostRuntime) -> Result<(), Fail> {
     let row = |nth, field, fault| Outcome::Row { nth, field, fault };
     let limit = |kind, value| Outcome::Limit { kind, value };
-    let cases: [(&[u8], Outcome); 8] = [
-        (b"", Outcome::Empty),
-        (b"object,instant,x,y\n", Outcome::Empty),
-        (b"object,instant,x,y\n7,0,1\n", row(2, 3, RowFault::Count)),
-        (b"7,0,x,1\n", row(1, 3, RowFault::NotNumber)),
-        (b"-1,0,y,0\n", row(1, 1, RowFault::Range)),
-        (b"7,0,1099511627777,0\n", row(1, 3, RowFault::Range)),
+    let words = |place| Outcome::Words { place };
+    let cases: [(&[u8], &str, Outcome); 18] = [
+        (b"", "once t.csv 1 1 1", Outcome::Empty),
+        (b"object,instant,x,y\n", "once t.csv 1 1 1", Outcome::Empty),
+        (
+            b"object,instant,x,y\n7,0,1\n",
+            "once t.csv 1 1 1",
+            row(2, 3, RowFault::Count),
+        ),
+        (
+            b"7,0,x,1\n",
+            "once t.csv 1 1 1",
+            row(1, 3, RowFault::NotNumber),
+        ),
+        (
+            b"-1,0,y,0\n",
+            "once t.csv 1 1 1",
+            row(1, 1, RowFault::Range),
+        ),
+        (
+            b"7,0,1099511627777,0\n",
+            "once t.csv 1 1 1",
+            row(1, 3, RowFault::Range),
+        ),
         (
             b"1,0,0,0\n1,1,1048576,0\n",
+            "once t.csv 1 1 1",
             limit(LimitKind::Extent, 1_048_577),
         ),
         (
             b"1,0,0,0\n2,0,0,0\n3,0,0,0\n4,0,0,0\n5,0,0,0\n1,4194303,0,0\n",
+            "once t.csv 1 1 1",
             limit(LimitKind::Blocks, 20_971_520),
         ),
+        (PATH, "once none.csv +1 01 4194304", Outcome::LoadFailed),
+        (PATH, "", words(1)),
+        (PATH, "fetch", words(1)),
+        (PATH, "once", words(2)),
+        (PATH, "once t.csv 0 1 4", words(3)),
+        (PATH, "once t.csv 1073741825 1 4", words(3)),
+        (PATH, "once t.csv 1 x 4", words(4)),
+        (PATH, "once t.csv 1 1", words(5)),
+        (PATH, "once t.csv 1 1 4194305", words(5)),
+        (PATH, "once t.csv 1 1 4 x", words(6)),
     ];
-    for (csv, expected) in cases {
+    for (csv, command, expected) in cases {
         let mut outside = make_outside(rt.alloc(), csv, b"position 7 0\n", 4096)?;
-        assert_eq!(rt; run(&rt, "once t.csv 1 1 1", &mut outside)?, expected);
+        assert_eq!(rt; run(&rt, command, &mut outside)?, expected);
         assert_eq!(rt; outside.sink.as_slice(), b"".as_slice());
     }
     Ok(())
 }
 
-#[test]
-fn the_first_bad_word_is_named(rt: HostRuntime) -> Result<(), Fail> {
-    let cases = [
-        ("", 1),
-        ("fetch", 1),
-        ("once", 2),
-        ("once t.csv 0 1 4", 3),
-        ("once t.csv 1073741825 1 4", 3),
-        ("once t.csv 1 x 4", 4),
-        ("once t.csv 1 1", 5),
-        ("once t.csv 1 1 4194305", 5),
-        ("once t.csv 1 1 4 x", 6),
-    ];
-    for (command, place) in cases {
-        let mut outside = make_outside(rt.alloc(), PATH, b"position 7 0\n", 4096)?;
-        assert_eq!(rt; run(&rt, command, &mut outside)?, Outcome::Words { place });
-        assert_eq!(rt; outside.sink.as_slice(), b"".as_slice());
+// A source and files that fail at their second call, and a sink with room for 8 bytes.
+fn make_failing(alloc: Global, fails: [bool; 3]) -> Result<Outside, Memory> {
+    let lines = b"path 7 0 0\nposition 7 1\nposition 7 2";
+    let mut outside = make_outside(alloc, PATH, lines, 4096)?;
+    if fails[0] {
+        outside.source = MemSource::new(Vec::from_slice(alloc, lines)?, 4096, vec![in alloc; 2]?);
     }
-    let mut outside = make_outside(rt.alloc(), PATH, b"", 4096)?;
-    assert_eq!(rt;
-        run(&rt, "once none.csv +1 01 4194304", &mut outside)?,
-        Outcome::LoadFailed
-    );
-    Ok(())
+    if fails[1] {
+        outside.sink = MemSink::new(alloc, 8, Vec::new(alloc))?;
+    }
+    if fails[2] {
+        outside.files = MemFiles::new(alloc, 0, vec![in alloc; 2]?)?;
+        outside.files.put("t.csv", PATH)?;
+    }
+    Ok(outside)
 }
 
 #[test]
 fn a_failing_device_ends_the_call(rt: HostRuntime) -> Result<(), Fail> {
-    let alloc = rt.alloc();
-    let mut outside = make_outside(alloc, PATH, b"", 4096)?;
-    outside.source = MemSource::new(
-        Vec::from_slice(alloc, b"position 7 0\nposition 7 1\nposition 7 2")?,
-        4096,
-        vec![in alloc; 2]?,
-    );
-    assert_eq!(rt;
-        run(&rt, "once t.csv 1 1 4", &mut outside)?,
-        Outcome::ListenFailed
-    );
-    assert_eq!(rt;
-        outside.sink.as_slice(),
-        b"10 10\nok 1\n11 10\nok 1\n".as_slice()
-    );
-
-    outside.source = MemSource::new(
-        Vec::from_slice(alloc, b"position 7 2\n")?,
-        4096,
-        Vec::new(alloc),
-    );
-    outside.sink = MemSink::new(alloc, 8, Vec::new(alloc))?;
-    assert_eq!(rt;
-        run(&rt, "once t.csv 1 1 4", &mut outside)?,
-        Outcome::SayFailed
-    );
-    assert_eq!(rt; outside.sink.as_slice(), b"12 11\nok".as_slice());
-
-    outside.files = MemFiles::new(alloc, 0, vec![in alloc; 2]?)?;
-    outside.files.put("t.csv", PATH)?;
-    assert_eq!(rt;
-        run(&rt, "once t.csv 1 1 4", &mut outside)?,
-        Outcome::LoadFailed
-    );
-    Ok(())
-}
-
-// A file of two pieces and more, of which the last row alone is that of object 7.
-fn long_file(alloc: Global) -> Result<Vec<u8>, AllocError> {
-    let mut csv = Vec::new(alloc);
-    for _ in 0..4_000u32 {
-        csv.extend_from_slice(b"8,0,10,10\n")?;
+    let cases: [([bool; 3], Outcome, &[u8]); 4] = [
+        (
+            [false, false, false],
+            Outcome::Done,
+            b"0 10 10\nok 1\n11 10\nok 1\n12 11\nok 1\n",
+        ),
+        (
+            [true, false, false],
+            Outcome::ListenFailed,
+            b"0 10 10\nok 1\n11 10\nok 1\n",
+        ),
+        ([false, true, false], Outcome::SayFailed, b"0 10 10\n"),
+        ([true, true, true], Outcome::LoadFailed, b""),
+    ];
+    for (fails, outcome, said) in cases {
+        let mut outside = make_failing(rt.alloc(), fails)?;
+        assert_eq!(rt; run(&rt, "once t.csv 1 1 4", &mut outside)?, outcome);
+        assert_eq!(rt; outside.sink.as_slice(), said);
     }
-    csv.extend_from_slice(b"7,2,12,11\n")?;
-    Ok(csv)
-}
-
-// Files of which the call after the end of `t.csv` would fail: it is begun by call 1, read by call 2,
-// and at its end at call 3.
-fn files_that_end(alloc: Global) -> Result<MemFiles, Memory> {
-    let mut files = MemFiles::new(alloc, 0, vec![in alloc; 4]?)?;
-    files.put("t.csv", PATH)?;
-    Ok(files)
-}
-
-#[test]
-fn a_file_is_loaded_to_its_end(rt: HostRuntime) -> Result<(), Fail> {
-    let csv = long_file(rt.alloc())?;
-    let mut outside = make_outside(rt.alloc(), csv.as_slice(), b"position 7 2\n", 4096)?;
-    assert_eq!(rt; run(&rt, "once t.csv 1 1 4", &mut outside)?, Outcome::Done);
-    assert_eq!(rt; outside.sink.as_slice(), b"12 11\nok 1\n".as_slice());
-    Ok(())
-}
-
-#[test]
-fn a_file_is_read_no_further_than_its_end(rt: HostRuntime) -> Result<(), Fail> {
-    let mut outside = make_outside(rt.alloc(), PATH, b"position 7 2\n", 4096)?;
-    outside.files = files_that_end(rt.alloc())?;
-    assert_eq!(rt; run(&rt, "once t.csv 1 1 4", &mut outside)?, Outcome::Done);
-    assert_eq!(rt; outside.sink.as_slice(), b"12 11\nok 1\n".as_slice());
-    Ok(())
-}
-
-#[test]
-fn an_outcome_has_its_line_and_status(rt: HostRuntime) -> Result<(), Fail> {
-    let limit = Outcome::Limit {
-        kind: LimitKind::Extent,
-        value: 1_048_577,
-    };
-    assert_eq!(rt;
-        limit.text().as_str(),
-        "gract: limit extent passed at 1048577"
-    );
-    assert_eq!(rt; limit.status(), 4);
-    let row = Outcome::Row {
-        nth: 2,
-        field: 3,
-        fault: RowFault::Count,
-    };
-    assert_eq!(rt; row.text().as_str(), "gract: record 2 has 3 fields");
-    assert_eq!(rt; row.status(), 3);
-    assert_eq!(rt; Outcome::Done.text().as_str(), "");
     Ok(())
 }

@@ -8,7 +8,7 @@ invariant-pieces g l = record {
   taken : g.F.Files.taken l.files ≡ vec_len l.bytes;
   within : vec_len l.bytes ≤ l.limit + 1;
   map : g.F.Files.map l.files ≡ g.F.Files.map l.fn.files;
-  faults : g.F.Files.load_faults l.fn.files ≤ g.F.Files.load_faults l.files;
+  faults : g.F.Files.load_faults l.files ≡ g.F.Files.load_faults l.fn.files;
   opened : IsOpened (g.F.Files.map l.fn.files) l.name (prepend_known l.bytes.items (g.F.Files.rest l.files));
 }
 

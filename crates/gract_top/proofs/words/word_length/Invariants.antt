@@ -1,7 +1,0 @@
-use Rattle.std.proofs.Common.{◌≡◌, true, not, take}
-use Rattle.std.specs.List.{list_all}
-use Rattle.gract_top.specs.Lines.{is_gap}
-use Rattle.gract_top.proofs.words.word_length.Given as goal
-
-abbrev pub invariant-loop-length : goal.invariant-loop-length
-invariant-loop-length l = list_all (λ byte. not (is_gap byte)) (take l.length l.line) ≡ true
