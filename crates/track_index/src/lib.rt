@@ -2,9 +2,10 @@
 //!
 //! An `Index` keeps the stores of its parts and no rows. `IndexRef` answers questions as filtering
 //! the rows of the parts' chart does, within the reads that `specs/Cost.antt` counts. The crate
-//! stands on `track_types`, `spiral_code`, `packed_bits`, `k2_tree`, `bit_rank`, `object_perm`,
-//! `rule_store`, `log_cursor`, `snapshots`, `movement_log`, `repair_grammar`, `chart_parts`,
-//! `index_format`, `step_count` and `list_laws`.
+//! stands on `track_types`, `gridding`, `spiral_code`, `packed_bits`, `k2_tree`, `bit_rank`,
+//! `object_perm`, `rule_store`, `log_cursor`, `snapshots`, `movement_log`, `repair_grammar`,
+//! `chart_parts`, `index_format`, `step_count` and `list_laws`. (Its tests make their charts by
+//! `gridding`.)
 #![tactic(auto)]
 
 mod answering;
@@ -13,6 +14,8 @@ mod opening;
 mod path_walk;
 mod periods;
 mod placing;
+#[cfg(test)]
+mod tests;
 
 pub use index::{Index, IndexRef};
 pub use opening::open;

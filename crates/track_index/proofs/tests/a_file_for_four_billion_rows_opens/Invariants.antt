@@ -1,0 +1,4 @@
+use Rattle.track_index.proofs.tests.a_file_for_four_billion_rows_opens.Given as goal
+
+abbrev pub ghosts-asked : goal.ghosts-asked
+ghosts-asked g a = record { name = a.blank.name; parts = a.blank.parts }

@@ -1,0 +1,4 @@
+use Rattle.track_index.proofs.tests.flaw_of.Given as goal
+
+abbrev pub ghosts-asked : goal.ghosts-asked
+ghosts-asked a = record { name = a.blank.name; parts = a.blank.parts }
