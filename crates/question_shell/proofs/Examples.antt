@@ -38,6 +38,12 @@ position_question = refl
 path_question : question_of (codes "path +7 0 \t 12\r") ≡ Ok (Some (question.Path 7 (pos 0) (pos 12)))
 path_question = refl
 
+info_question : question_of (codes "\tinfo ") ≡ Ok (Some question.Info)
+info_question = refl
+
+info_word_too_many : question_of (codes "info x") ≡ Err bad.Count
+info_word_too_many = refl
+
 blank_line : question_of (codes " \t\r") ≡ Ok None
 blank_line = refl
 
@@ -89,8 +95,29 @@ replies_to_lines : (facts : Facts) →
 unfolding chart digits replies_of listed whole_lines unended_line
 replies_to_lines facts = refl
 
--- a bad and a blank line cost nothing
+-- the eleven facts of two objects over four instants
+facts_of_two : Facts
+facts_of_two = record {
+  objects = 2;
+  first = pos 0;
+  last = pos 3;
+  period = 4;
+  cell = 1;
+  tick = 1;
+  height = 2;
+  alphabet = 2;
+  rules = 0;
+  entries = 3;
+  depth = 0;
+}
+
+reply_to_info : replies_of chart facts_of_two [] (lines_of (codes "info"))
+    ≡ codes "objects 2\nfirst 0\nlast 3\nperiod 4\ncell 1\ntick 1\nheight 2\nalphabet 2\nrules 0\nlog 3\ndepth 0\nok 11\n"
+unfolding facts_of_two digits replies_of listed whole_lines unended_line
+reply_to_info = refl
+
+-- a bad and a blank line cost nothing, and `info` neither
 costs_of_lines : (facts : Facts) →
-    costs_of (λ asked. 5) chart facts [] (lines_of (codes "position 7 0\n\nwhere\npath 7 0 2\n")) ≡ 10
+    costs_of (λ asked. 5) chart facts [] (lines_of (codes "position 7 0\n\nwhere\ninfo\npath 7 0 2\n")) ≡ 10
 unfolding costs_of whole_lines unended_line
 costs_of_lines facts = refl

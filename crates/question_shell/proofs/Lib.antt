@@ -2,6 +2,7 @@ pub mod LineLemmas
 pub mod KeptLemmas
 pub mod GrammarLemmas
 pub mod SaysLemmas
+pub mod ListingLemmas
 pub mod TurnLemmas
 pub mod CountLemmas
 pub mod SessionLemmas

@@ -16,7 +16,7 @@ use Rattle.question_shell.specs.Lines.{words_of}
 use Rattle.question_shell.specs.declared.bad.Bad.{Bad}
 use Rattle.question_shell.specs.declared.bad.Bad.TheVariants as bad
 use Rattle.question_shell.specs.declared.form.Form.{Form}
-use Rattle.question_shell.specs.declared.form.Form.TheVariants.{Position, Path}
+use Rattle.question_shell.specs.declared.form.Form.TheVariants.{Position, Path, Info}
 use Rattle.question_shell.specs.declared.form.NumberWord.{NumberWord}
 
 -- an object's number
@@ -36,12 +36,14 @@ abbrev pub form_of : List ℕ → Option Form
 form_of word =
     if bytes_eq word (codes "position") then Some Position
     else if bytes_eq word (codes "path") then Some Path
+    else if bytes_eq word (codes "info") then Some Info
     else None
 
 -- the number words that follow it
 abbrev pub number_words : Form → List NumberWord
 number_words Position = object_word ∷ instant_word ∷ []
 number_words Path = object_word ∷ instant_word ∷ instant_word ∷ []
+number_words Info = []
 
 -- a number word by its place among those, 0 where there is none
 abbrev pub number_at : List ℤ → ℕ → ℤ
@@ -52,6 +54,7 @@ abbrev pub asked_by : Form → List ℤ → Question
 asked_by Position numbers = question.Position (unsigned_abs (number_at numbers 0)) (number_at numbers 1)
 asked_by Path numbers =
     question.Path (unsigned_abs (number_at numbers 0)) (number_at numbers 1) (number_at numbers 2)
+asked_by Info numbers = question.Info
 
 -- a number is in the range of a number word
 pub record IsInRange (wanted : NumberWord) (number : ℤ) : Type 0 where

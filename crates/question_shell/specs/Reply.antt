@@ -1,5 +1,5 @@
 -- What is said for each line.
-use Rattle.std.specs.Prelude.{ℕ, List, [], ◌∷◌, ◌++◌, length, codes, Option, Some, None, Result, Ok, Err}
+use Rattle.std.specs.Prelude.{ℕ, ℤ, pos, List, [], ◌∷◌, ◌++◌, length, codes, Option, Some, None, Result, Ok, Err}
 use Rattle.std.specs.Prelude.{option_to_list}
 use Rattle.std.specs.List.{flat_map}
 use Rattle.std.specs.Fmt.{decimal, signed_decimal}
@@ -24,6 +24,26 @@ cell_line cell = said_line (signed_decimal cell.x ++ codes " " ++ signed_decimal
 -- T X Y
 abbrev pub stop_line : Stop → List ℕ
 stop_line stop = signed_decimal stop.instant ++ codes " " ++ cell_line stop.cell
+
+-- what `info` tells of each fact: its name and its number
+abbrev pub named_facts : Facts → List (List ℕ × ℤ)
+named_facts facts =
+    (codes "objects", pos facts.objects)
+    ∷ (codes "first", facts.first)
+    ∷ (codes "last", facts.last)
+    ∷ (codes "period", pos facts.period)
+    ∷ (codes "cell", pos facts.cell)
+    ∷ (codes "tick", pos facts.tick)
+    ∷ (codes "height", pos facts.height)
+    ∷ (codes "alphabet", pos facts.alphabet)
+    ∷ (codes "rules", pos facts.rules)
+    ∷ (codes "log", pos facts.entries)
+    ∷ (codes "depth", pos facts.depth)
+    ∷ []
+
+-- NAME N
+abbrev pub fact_line : List ℕ × ℤ → List ℕ
+fact_line fact = said_line (fact.0 ++ codes " " ++ signed_decimal fact.1)
 
 -- ok N, where N is how many lines come before in the reply
 abbrev pub ok_line : ℕ → List ℕ
@@ -63,7 +83,7 @@ question_turn chart facts desk (question.Path object from to) =
 question_turn chart facts desk (question.Slice instant region) = only_text desk (bad_line bad.Word)
 question_turn chart facts desk (question.Interval from to region) = only_text desk (bad_line bad.Word)
 question_turn chart facts desk (question.Nearest count instant cell) = only_text desk (bad_line bad.Word)
-question_turn chart facts desk question.Info = only_text desk (bad_line bad.Word)
+question_turn chart facts desk question.Info = only_text desk (listed fact_line (named_facts facts))
 question_turn chart facts desk (question.Hold slot object from to) = only_text desk (bad_line bad.Word)
 question_turn chart facts desk (question.More slot count) = only_text desk (bad_line bad.Word)
 question_turn chart facts desk (question.Free slot) = only_text desk (bad_line bad.Word)
@@ -74,8 +94,9 @@ asked_turn chart facts desk (Ok None) = only_text desk []
 asked_turn chart facts desk (Ok (Some asked)) = question_turn chart facts desk asked
 asked_turn chart facts desk (Err bad) = only_text desk (bad_line bad)
 
--- what a line's question may cost in reads: nothing for a blank or bad line
+-- what a line's question may cost in reads: nothing for a blank or bad line, or for `info`
 abbrev pub asked_cost : (Question → ℕ) → Result (Option Question) Bad → ℕ
 asked_cost cost (Ok None) = 0
+asked_cost cost (Ok (Some question.Info)) = 0
 asked_cost cost (Ok (Some asked)) = cost asked
 asked_cost cost (Err bad) = 0

@@ -1,4 +1,4 @@
-ghost use Rattle.std.specs.Prelude.{◌≡◌, ◌≢◌, ◌≤◌, IfOk, IfSome, Some, Ok, Err};
+ghost use Rattle.std.specs.Prelude.{◌≡◌, ◌≢◌, ℕ, ◌≤◌, IfOk, IfSome, Some, Ok, Err};
 ghost use Rattle.host_ports.specs.Faults.{Rose};
 ghost use Rattle.track_types.specs.Near.{IsAsked};
 ghost use Rattle.track_types.specs.declared.question.Question.TheVariants as question;
@@ -12,7 +12,7 @@ ghost use Rattle.question_shell.specs.declared.turn_fault.TurnFault.TheVariants 
 use crate::bad::Bad;
 use crate::held_text::HeldText;
 use crate::reply::bad_line;
-use crate::saying::{say_cell, say_path};
+use crate::saying::{say_cell, say_facts, say_path};
 use crate::turn_fault::TurnFault;
 use host_ports::Sink;
 use std::alloc::Global;
@@ -46,6 +46,7 @@ pub(crate) fn answer<A: Answerer, K: Sink, L: Ledger>(
         Ok(Some(Question::Path { object, from, to })) => {
             answer_path(alloc, answerer, object, (from, to), text, sink, steps)
         }
+        Ok(Some(Question::Info)) => answer_info(answerer, text, sink),
         Ok(Some(_)) => answer_bad(Bad::Word, text, sink),
         Err(bad) => answer_bad(bad, text, sink),
     }
@@ -59,6 +60,25 @@ fn answer_bad<K: Sink>(bad: Bad, text: &mut HeldText, sink: &mut K) -> Result<()
     ensures faults { K.faults sink.old ≤ K.faults sink.new }
 {
     let Ok(()) = text.put(&bad_line(bad), sink) else {
+        return Err(TurnFault::Say);
+    };
+    Ok(())
+}
+
+fn answer_info<A: Answerer, K: Sink>(
+    answerer: A,
+    text: &mut HeldText,
+    sink: &mut K,
+) -> Result<(), TurnFault>
+    ensures told { (desk : DeskView) → (steps : ℕ) →
+        AnswerTold (meaning_of (A.chart answerer) (A.facts answerer) (A.cost answerer))
+        (moment (K.said sink.old) text.old desk steps)
+        (moment (K.said sink.new) text.new desk steps) (Ok (Some question.Info)) result }
+    ensures cause { result ≡ Err fault.Say → Rose (K.faults sink.old) (K.faults sink.new) }
+    ensures untouched { result ≢ Err fault.Say → K.faults sink.new ≡ K.faults sink.old }
+    ensures faults { K.faults sink.old ≤ K.faults sink.new }
+{
+    let Ok(()) = say_facts(answerer.facts(), text, sink) else {
         return Err(TurnFault::Say);
     };
     Ok(())

@@ -15,6 +15,8 @@ pub enum Form {
     Position,
     /// `path O T1 T2`
     Path,
+    /// `info`
+    Info,
 }
 
 /// An object's number, O.
@@ -45,6 +47,8 @@ impl Form {
             Some(Form::Position)
         } else if word == b"path".as_slice() {
             Some(Form::Path)
+        } else if word == b"info".as_slice() {
+            Some(Form::Info)
         } else {
             None
         }
@@ -58,6 +62,7 @@ impl Form {
         match self {
             Form::Position => &POSITION,
             Form::Path => &PATH,
+            Form::Info => &[],
         }
     }
 }

@@ -104,16 +104,16 @@ fn question(form: Form, numbers: &[i64]) -> Question
     ensures value { result ≡ asked_by form numbers.now }
     ensures asked { AreAsked result }
 {
-    let object = numbers[0].unsigned_abs() as u32;
     match form {
         Form::Position => Question::Position {
-            object,
+            object: numbers[0].unsigned_abs() as u32,
             instant: numbers[1],
         },
         Form::Path => Question::Path {
-            object,
+            object: numbers[0].unsigned_abs() as u32,
             from: numbers[1],
             to: numbers[2],
         },
+        Form::Info => Question::Info,
     }
 }

@@ -13,6 +13,7 @@ mod grammar;
 mod held_text;
 mod line_buffer;
 mod listening;
+mod named_fact;
 mod reply;
 mod saying;
 mod shell;

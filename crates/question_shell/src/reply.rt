@@ -1,8 +1,11 @@
 ghost use Rattle.std.specs.Prelude.{◌≡◌, ◌≤◌, ◌++◌, length};
 ghost use Rattle.std.specs.Fmt.{decimal};
-ghost use Rattle.question_shell.specs.Reply.{bad_line, cell_line, ok_line, said_line, stop_line};
+ghost use Rattle.question_shell.specs.Reply.{bad_line, cell_line, fact_line, ok_line};
+ghost use Rattle.question_shell.specs.Reply.{said_line, stop_line};
+ghost use Rattle.question_shell.specs.Says.{told_of};
 
 use crate::bad::Bad;
+use crate::named_fact::NamedFact;
 use arrayvec::ArrayString;
 use itoa::Buffer;
 use track_types::{Cell, Stop};
@@ -32,6 +35,19 @@ pub(crate) fn stop_line(stop: Stop) -> ReplyLine
     line.push_str(Buffer::new().format(stop.instant));
     line.push_str(" ");
     line.push_str(cell_line(stop.cell).as_str());
+    line
+}
+
+// NAME N
+pub(crate) fn fact_line(fact: &NamedFact) -> ReplyLine
+    requires { length fact.now.0.now ≤ 8 }
+    ensures { result.bytes ≡ fact_line (told_of fact.now) }
+{
+    let mut line = ArrayString::new();
+    line.push_str(fact.0);
+    line.push_str(" ");
+    line.push_str(Buffer::new().format(fact.1));
+    line.push_str("\n");
     line
 }
 

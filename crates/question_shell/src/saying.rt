@@ -1,15 +1,17 @@
 ghost use Rattle.std.specs.Prelude.{◌≡◌, ◌+◌, ◌^◌, ◌≤◌, IfOk, OnOk, OnErr, length, option_to_list};
 ghost use Rattle.std.specs.List.{flat_map};
 ghost use Rattle.host_ports.specs.Faults.{Rose};
-ghost use Rattle.question_shell.specs.Reply.{cell_line, listed, stop_line};
+ghost use Rattle.question_shell.specs.Reply.{cell_line, fact_line, listed};
+ghost use Rattle.question_shell.specs.Reply.{named_facts, stop_line};
 ghost use Rattle.question_shell.specs.Says.{Cuts, Says, voice};
 
 use crate::held_text::HeldText;
-use crate::reply::{cell_line, ok_line, stop_line};
+use crate::named_fact::named_facts;
+use crate::reply::{cell_line, fact_line, ok_line, stop_line};
 use host_ports::{Cut, Sink};
 use std::sync::ledger::Ledger;
 use step_count::Steps;
-use track_types::{Cell, Lazy, Stop};
+use track_types::{Cell, Facts, Lazy, Stop};
 
 // Says the reply to a question for a position.
 pub(crate) fn say_cell<K: Sink>(
@@ -51,6 +53,23 @@ pub(crate) fn say_path<W: Lazy<Item = Stop>, K: Sink, L: Ledger>(
 {
     let count = say_stops(walk, text, sink, steps)?;
     text.put(&ok_line(count), sink)
+}
+
+// Says the reply to `info`: a line for each fact.
+pub(crate) fn say_facts<K: Sink>(facts: Facts, text: &mut HeldText, sink: &mut K) -> Result<(), Cut>
+    ensures ok { OnOk result (Says (voice (K.said sink.old) text.old)
+        (voice (K.said sink.new) text.new) (listed fact_line (named_facts facts))) }
+    ensures err { OnErr result (Cuts (voice (K.said sink.old) text.old)
+        (K.said sink.new) (listed fact_line (named_facts facts))) }
+    ensures cause { OnErr result (Rose (K.faults sink.old) (K.faults sink.new)) }
+    ensures untouched { OnOk result (K.faults sink.new ≡ K.faults sink.old) }
+    ensures faults { K.faults sink.old ≤ K.faults sink.new }
+{
+    let facts = named_facts(facts);
+    for fact in facts.iter() {
+        text.put(&fact_line(fact), sink)?;
+    }
+    text.put(&ok_line(facts.len() as u64), sink)
 }
 
 // Says the stops that are left of a walk, and answers how many there were.

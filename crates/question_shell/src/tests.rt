@@ -12,7 +12,7 @@ use step_count::Steps;
 use track_types::{Answerer, Cell, Facts, Lazy, Memory, Stop};
 
 /// A buoy, object 7, that was seen once: at instant 2 in the cell (12, -11). For a walk of object 8
-/// it has no memory.
+/// it has no memory. Its facts are those of a chart with two objects.
 #[derive(Clone, Copy)]
 struct Buoy;
 
@@ -59,16 +59,16 @@ impl Answerer for Buoy {
     } };
 
     ghost facts = { λ _. record {
-      objects = 1;
-      first = pos 2;
-      last = pos 2;
-      period = 1;
+      objects = 2;
+      first = pos 0;
+      last = pos 3;
+      period = 4;
       cell = 1;
       tick = 1;
-      height = 0;
-      alphabet = 0;
+      height = 2;
+      alphabet = 2;
       rules = 0;
-      entries = 0;
+      entries = 3;
       depth = 0;
     } };
 
@@ -76,16 +76,16 @@ impl Answerer for Buoy {
 
     fn facts(self) -> Facts {
         Facts {
-            objects: 1,
-            first: 2,
-            last: 2,
-            period: 1,
+            objects: 2,
+            first: 0,
+            last: 3,
+            period: 4,
             cell: 1,
             tick: 1,
-            height: 0,
-            alphabet: 0,
+            height: 2,
+            alphabet: 2,
             rules: 0,
-            entries: 0,
+            entries: 3,
             depth: 0,
         }
     }
@@ -184,19 +184,23 @@ fn answer(rt: &HostRuntime, outside: &mut Outside) -> Result<Result<(), ShellFau
 
 #[test]
 fn each_line_has_its_reply(rt: HostRuntime) -> Result<(), Fail> {
-    let cases: [(&[u8], &[u8]); 9] = [
+    let cases: [(&[u8], &[u8]); 10] = [
         (b"position 7 2\n", b"12 -11\nok 1\n"),
         (b"position 7 1\nposition 9 2", b"ok 0\nok 0\n"),
         (b"path 7 2 2\n", b"2 12 -11\nok 1\n"),
         (b"path 7 -9 9\npath 7 3 9\n", b"2 12 -11\nok 1\nok 0\n"),
         (b"\n \t\r\n\tpath  +7 \r 002 2 \r\n", b"2 12 -11\nok 1\n"),
         (
+            b" info\r\n",
+            b"objects 2\nfirst 0\nlast 3\nperiod 4\ncell 1\ntick 1\nheight 2\nalphabet 2\nrules 0\nlog 3\ndepth 0\nok 11\n",
+        ),
+        (
             b"Position 7 2\nslice 2 rect 0 0 1 1\n",
             b"bad word\nbad word\n",
         ),
         (
-            b"position 7\npath 7 2\nposition 7 2 1\n",
-            b"bad count\nbad count\nbad count\n",
+            b"position 7\npath 7 2\nposition 7 2 1\ninfo x\n",
+            b"bad count\nbad count\nbad count\nbad count\n",
         ),
         (
             b"position a 2\npath 7 2 --1\npath 7 2x 2x\n",

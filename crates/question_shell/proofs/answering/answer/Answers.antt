@@ -36,3 +36,11 @@ returns-in-Ok-Some-Path-clause-told g c =
     arm.is ∙ ap Ok (some ∙ ap Some inner) in
     let near : IsAsked arm.from × IsAsked arm.to = rw asked at c.requires in
     rw asked (simp (asked_kept arm.from near.0, asked_kept arm.to near.1) at c.answer_path.ensures.told)
+
+pub returns-in-Ok-Some-Info-clause-told : goal.returns-in-Ok-Some-Info-clause-told
+returns-in-Ok-Some-Info-clause-told g c desk =
+    let arm = c.in-Ok-Some-Info in
+    let some : arm.field-0 ≡ Some arm.field-0-0 = rw arm.is at arm.field-0-is in
+    let inner : arm.field-0-0 ≡ question.Info = rw (arm.is, some) at arm.field-0-0-is in
+    let asked : c.args.asked ≡ Ok (Some question.Info) = arm.is ∙ ap Ok (some ∙ ap Some inner) in
+    rw asked (c.answer_info.ensures.told desk _)
