@@ -191,6 +191,7 @@ struct Anchored {
 
 struct Snapshot {
     height: u32,
+    base: (i64, i64),
     tree: Bits,
     present: Bits,
     lasts: Bits,
@@ -220,7 +221,7 @@ impl Snapshot {
             weight *= FAN as u64;
             square = (place / FAN) as u32;
         }
-        (even_bits(code), even_bits(code >> 1))
+        (self.base.0 + even_bits(code), self.base.1 + even_bits(code >> 1))
     }
 
     fn block(&self, index: u32, rank: u32, cell: (i64, i64)) -> Anchored {
@@ -263,23 +264,32 @@ impl Snapshot {
     }
 }
 
-fn made(count: u32, height: u32) -> (Snapshot, u32) {
-    let mut state = 88_172_645_463_325_252u64;
-    let mut pool = Vec::new();
-    for _ in 0..count * 3 / 4 {
-        state = next(state);
-        pool.push(state >> (64 - 2 * height));
-    }
-    let mut keys = Vec::new();
-    for rank in 0..count {
-        state = next(state);
-        keys.push(pool[(state >> 32) as usize % pool.len()] << 20 | u64::from(rank));
-    }
+// The bits of y and x by turns, the highest first.
+fn morton(x: i64, y: i64) -> u64 {
+    (0..32).rev().fold(0, |code, bit| code << 2 | ((y >> bit & 1) as u64) << 1 | (x >> bit & 1) as u64)
+}
+
+// The snapshot of the first period of four instants, whose logs are empty but for the first object's.
+fn made(text: &str) -> (Snapshot, u32) {
+    let rows: Vec<Vec<i64>> = text
+        .lines()
+        .map(|line| line.split(',').map(|word| word.parse().unwrap()).collect())
+        .collect();
+    let (left, below) = (rows.iter().map(|r| r[2]).min().unwrap(), rows.iter().map(|r| r[3]).min().unwrap());
+    let (right, above) = (rows.iter().map(|r| r[2]).max().unwrap(), rows.iter().map(|r| r[3]).max().unwrap());
+    let extent = (right - left).max(above - below) + 1;
+    let height = (1..21).find(|h| extent <= 1 << h).unwrap();
+    let present: Vec<bool> = rows.iter().map(|r| r[1] < 4).collect();
+    let here: Vec<&Vec<i64>> = rows.iter().filter(|r| r[1] < 4).collect();
+    let count = here.len();
+    let mut keys: Vec<u64> = here
+        .iter()
+        .enumerate()
+        .map(|(rank, r)| morton(r[2] - left, r[3] - below) << 20 | rank as u64)
+        .collect();
     keys.sort();
     let codes: Vec<u64> = keys.iter().map(|key| key >> 20).collect();
-    let lasts: Vec<bool> = (0..codes.len())
-        .map(|i| codes.get(i + 1) != Some(&codes[i]))
-        .collect();
+    let lasts: Vec<bool> = (0..count).map(|i| codes.get(i + 1) != Some(&codes[i])).collect();
     let mut tree = Vec::new();
     for level in (0..height).rev() {
         let mut before = u64::MAX;
@@ -293,14 +303,7 @@ fn made(count: u32, height: u32) -> (Snapshot, u32) {
             tree[group + (prefix % 4) as usize] = true;
         }
     }
-    let mut present = Vec::new();
-    let mut left = count;
-    while left > 0 {
-        let is_here = present.len() % 8 != 7;
-        present.push(is_here);
-        left -= u32::from(is_here);
-    }
-    let lengths: Vec<u32> = (0..count).map(|rank| rank % 5).collect();
+    let lengths: Vec<u32> = here.iter().map(|r| if r[1] == 0 { 3 } else { 0 }).collect();
     let starts = lengths
         .iter()
         .scan(0, |sum, len| {
@@ -312,11 +315,12 @@ fn made(count: u32, height: u32) -> (Snapshot, u32) {
     let objects = present.len() as u32;
     let snapshot = Snapshot {
         height,
+        base: (left, below),
         tree: Bits::new(&tree),
         present: Bits::new(&present),
         lasts: Bits::new(&lasts),
         perm: Perm::new(keys.iter().map(|key| (key & 0xf_ffff) as u32).collect()),
-        offsets: (0..count).map(|rank| rank % 4).collect(),
+        offsets: here.iter().map(|r| r[1] as u32).collect(),
         lengths,
         starts,
     };
@@ -328,8 +332,9 @@ fn folded(all: i64, block: Anchored) -> i64 {
     all.wrapping_mul(31) ^ more ^ i64::from(block.from) ^ i64::from(block.len)
 }
 
-fn measure(count: u32, height: u32) {
-    let (snapshot, objects) = made(count, height);
+fn main() {
+    let text = std::io::read_to_string(std::io::stdin()).unwrap();
+    let (snapshot, objects) = made(&text);
     let snapshot = black_box(snapshot);
     let start = Instant::now();
     let mut state = 1u64;
@@ -341,19 +346,26 @@ fn measure(count: u32, height: u32) {
             None => !all,
         };
     }
-    println!("{count} find {all} {} us", start.elapsed().as_micros());
-    let cells: Vec<_> = (0..snapshot.leaves()).map(|leaf| snapshot.leaf_cell(leaf)).collect();
+    println!("{objects} find {all} {} us", start.elapsed().as_micros());
     let start = Instant::now();
     let mut all = 0i64;
     for _ in 0..100 {
-        for (leaf, cell) in cells.iter().enumerate() {
-            snapshot.members(leaf as u32, *cell, |block| all = folded(all, block));
+        let mut sum = 0i64;
+        for leaf in 0..snapshot.leaves() {
+            let cell = snapshot.leaf_cell(leaf);
+            snapshot.members(leaf, cell, |block| sum = folded(sum, block));
         }
+        all ^= sum;
     }
-    println!("{count} members {all} {} us", start.elapsed().as_micros());
-}
-
-fn main() {
-    measure(840, 12);
-    measure(4000, 13);
+    println!("{objects} leaf_cell and members {all} {} us", start.elapsed().as_micros());
+    let start = Instant::now();
+    for _ in 0..100 {
+        let mut sum = 0i64;
+        for leaf in 0..snapshot.leaves() {
+            let cell = snapshot.leaf_cell(leaf);
+            sum = sum.wrapping_mul(31) ^ cell.0 ^ cell.1;
+        }
+        all ^= sum;
+    }
+    println!("{objects} leaf_cell {all} {} us", start.elapsed().as_micros());
 }
