@@ -1,3 +1,4 @@
 pub mod RequestLemmas
 pub mod OutcomeLemmas
+pub mod EndsLemmas
 mod Examples

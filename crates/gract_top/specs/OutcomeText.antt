@@ -1,6 +1,7 @@
 -- The status and the line that a program ends with.
 use Rattle.std.specs.Prelude.{ℕ, List, [], ◌++◌, codes, decimal}
 use Rattle.track_types.specs.FaultText.{limit_name}
+use Rattle.track_types.specs.FlawText.{flaw_text}
 use Rattle.track_types.specs.declared.raw_row.RowFault.{RowFault}
 use Rattle.track_types.specs.declared.raw_row.RowFault.TheVariants as fault
 use Rattle.gract_top.specs.declared.outcome.Outcome.{Outcome}
@@ -14,6 +15,8 @@ status_of outcome.LoadFailed = 6
 status_of (outcome.Limit kind value) = 4
 status_of (outcome.Row nth field fault) = 3
 status_of outcome.Empty = 3
+status_of (outcome.Flaw flaw) = 5
+status_of outcome.SaveFailed = 6
 status_of outcome.ListenFailed = 6
 status_of outcome.SayFailed = 6
 status_of outcome.Memory = 7
@@ -39,6 +42,8 @@ text_of (outcome.Limit kind value) = codes "gract: limit " ++ limit_name kind ++
 text_of (outcome.Row nth field fault) =
     codes "gract: record " ++ decimal nth ++ before_field fault ++ decimal field ++ behind_field fault
 text_of outcome.Empty = codes "gract: no rows"
+text_of (outcome.Flaw flaw) = codes "gract: " ++ flaw_text flaw
+text_of outcome.SaveFailed = codes "gract: the index could not be saved"
 text_of outcome.ListenFailed = codes "gract: the questions could not be read"
 text_of outcome.SayFailed = codes "gract: the answers could not be written"
 text_of outcome.Memory = codes "gract: no memory"

@@ -62,7 +62,25 @@ pub record IsAccepted (map : Option FileMap) (taken : ℕ) (csv : List ℕ) (set
   pub accepted : file_refusal bytes settings ≡ None
   pub gridded : chart ≡ chart_of (raws_of bytes) settings.cell settings.tick settings.period
 
--- an outcome that the bytes of the CSV file decide
+-- the refusal of an index file for its length; its flaws are found when it is opened
+abbrev pub index_refusal : List ℕ → Option Outcome
+index_refusal bytes =
+    if nat_lt (limit_of limit.Index) (length bytes)
+    then Some (outcome.Limit limit.Index (limit_of limit.Index + 1))
+    else None
+
+-- The bytes that came of the index file are refused for this.
+pub record IsIndexRefused (map : Option FileMap) (taken : ℕ) (index : List ℕ) (cause : Outcome) : Type 0 where
+  pub bytes : List ℕ
+  pub came : FileCame map taken index (limit_of limit.Index) bytes
+  pub refusal : index_refusal bytes ≡ Some cause
+
+-- The bytes that came of the index file are all of it, and may be opened.
+pub record IsIndexLoaded (map : Option FileMap) (taken : ℕ) (index bytes : List ℕ) : Type 0 where
+  pub came : FileCame map taken index (limit_of limit.Index) bytes
+  pub short : length bytes ≤ limit_of limit.Index
+
+-- an outcome that the bytes of the loaded file decide before anything is made of them
 abbrev pub is_refusal : Outcome → Bool
 is_refusal (outcome.Row nth field fault) = true
 is_refusal outcome.Empty = true
@@ -70,16 +88,18 @@ is_refusal (outcome.Limit limit.Questions value) = false
 is_refusal (outcome.Limit kind value) = true
 is_refusal other = false
 
--- an outcome that comes before a question is listened to
-abbrev pub is_unasked : Outcome → Bool
-is_unasked (outcome.Words place) = true
-is_unasked outcome.LoadFailed = true
-is_unasked other = is_refusal other
+-- an outcome that comes before there is a chart or bytes to open
+abbrev pub is_early : Outcome → Bool
+is_early (outcome.Words place) = true
+is_early outcome.LoadFailed = true
+is_early other = is_refusal other
 
--- an outcome that comes after one was
-abbrev pub is_asked : Outcome → Bool
-is_asked outcome.Done = true
-is_asked outcome.ListenFailed = true
-is_asked outcome.SayFailed = true
-is_asked (outcome.Limit limit.Questions value) = true
-is_asked other = false
+-- an outcome that comes after that; out of memory a call may be at any time
+abbrev pub is_late : Outcome → Bool
+is_late outcome.Done = true
+is_late (outcome.Flaw flaw) = true
+is_late outcome.SaveFailed = true
+is_late outcome.ListenFailed = true
+is_late outcome.SayFailed = true
+is_late (outcome.Limit limit.Questions value) = true
+is_late other = false

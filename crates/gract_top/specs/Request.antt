@@ -1,6 +1,6 @@
 -- What the command words ask for.
 use Rattle.std.specs.Prelude.{⊤, ℕ, ◌+◌, pos, Bool, if◌then◌else◌, List, [], ◌∷◌, codes, Option, Some, is_ok}
-use Rattle.std.specs.Prelude.{None, map, slice_index_or}
+use Rattle.std.specs.Prelude.{None, map}
 use denote.Ref.{Bor}
 use Rattle.std.specs.Int.RustNames.{unsigned_abs}
 use Rattle.std.specs.Str.{bytes_eq}
@@ -12,7 +12,7 @@ use Rattle.row_reader.specs.Row.{value_of}
 use Rattle.gract_top.specs.declared.request.WordKind.{WordKind}
 use Rattle.gract_top.specs.declared.request.WordKind.TheVariants.{File, Number}
 use Rattle.gract_top.specs.declared.request.Request.{Request}
-use Rattle.gract_top.specs.declared.request.Request.TheVariants.{Once, Refused}
+use Rattle.gract_top.specs.declared.request.Request.TheVariants.{Ask, Build, Once, Refused}
 use Rattle.gract_top.specs.declared.request.Settings.{Settings}
 
 -- a file word is any text that is not empty, a number word a numeral in its range
@@ -28,42 +28,81 @@ first_bad (kind ∷ kinds) [] place = Some place
 first_bad (kind ∷ kinds) (word ∷ words) place =
     if fits_word kind word then first_bad kinds words (place + 1) else Some place
 
+-- the words for settings: CELL TICK PERIOD
+abbrev pub settings_words : List WordKind
+settings_words = Number (pos 1) (pos MAX_RESOLUTION) ∷ Number (pos 1) (pos MAX_RESOLUTION) ∷ Number (pos 1) (pos MAX_PERIOD) ∷ []
+
 -- the words behind `once`: CSV CELL TICK PERIOD
 abbrev pub once_words : List WordKind
-once_words = File ∷ Number (pos 1) (pos MAX_RESOLUTION) ∷ Number (pos 1) (pos MAX_RESOLUTION) ∷ Number (pos 1) (pos MAX_PERIOD) ∷ []
+once_words = File ∷ settings_words
+
+-- the words behind `build`: CSV INDEX CELL TICK PERIOD
+abbrev pub build_words : List WordKind
+build_words = File ∷ File ∷ settings_words
+
+-- the words behind `ask`: INDEX
+abbrev pub ask_words : List WordKind
+ask_words = File ∷ []
 
 -- the value of a number word that fits
 abbrev pub natural_value : List ℕ → ℕ
 natural_value word = unsigned_abs (value_of word)
 
--- the numbers of the words behind `once`
-abbrev pub settings_of : List (List ℕ) → Settings
-settings_of words = record {
-  cell = natural_value (slice_index_or words 1 []);
-  tick = natural_value (slice_index_or words 2 []);
-  period = natural_value (slice_index_or words 3 []);
-}
+-- the settings of three number words
+abbrev pub settings_of : List ℕ → List ℕ → List ℕ → Settings
+settings_of cell tick period =
+    record { cell = natural_value cell; tick = natural_value tick; period = natural_value period }
 
 -- the texts that words are
 abbrev pub texts : List (Bor (List ℕ)) → List (List ℕ)
 texts words = map (λ word. word.now) words
 
--- a request of the first of the words, that is refused where a word is bad
-abbrev pub refused_or : Option ℕ → List (Bor (List ℕ)) → Request
-refused_or (Some place) words = Refused place
-refused_or None [] = Refused 2
-refused_or None (csv ∷ words) = Once csv (settings_of (texts (csv ∷ words)))
+-- what words behind `once` ask for, unless the word at some place is bad
+abbrev pub once_or : Option ℕ → List (Bor (List ℕ)) → Request
+once_or (Some place) words = Refused place
+once_or None (csv ∷ cell ∷ tick ∷ period ∷ []) = Once csv (settings_of cell.now tick.now period.now)
+once_or None other = Refused 2
+
+-- what words behind `build` ask for, unless the word at some place is bad
+abbrev pub build_or : Option ℕ → List (Bor (List ℕ)) → Request
+build_or (Some place) words = Refused place
+build_or None (csv ∷ index ∷ cell ∷ tick ∷ period ∷ []) = Build csv index (settings_of cell.now tick.now period.now)
+build_or None other = Refused 2
+
+-- what words behind `ask` ask for, unless the word at some place is bad
+abbrev pub ask_or : Option ℕ → List (Bor (List ℕ)) → Request
+ask_or (Some place) words = Refused place
+ask_or None (index ∷ []) = Ask index
+ask_or None other = Refused 2
 
 -- what the words behind `once` ask for
 abbrev pub once_of : List (Bor (List ℕ)) → Request
-once_of words = refused_or (first_bad once_words (texts words) 2) words
+once_of words = once_or (first_bad once_words (texts words) 2) words
+
+-- what the words behind `build` ask for
+abbrev pub build_of : List (Bor (List ℕ)) → Request
+build_of words = build_or (first_bad build_words (texts words) 2) words
+
+-- what the words behind `ask` ask for
+abbrev pub ask_of : List (Bor (List ℕ)) → Request
+ask_of words = ask_or (first_bad ask_words (texts words) 2) words
 
 -- What the words ask for: one of the forms with its values, or the place of the first bad word, counted from 1.
 abbrev pub request_of : List (Bor (List ℕ)) → Request
 request_of [] = Refused 1
-request_of (name ∷ words) = if bytes_eq name.now (codes "once") then once_of words else Refused 1
+request_of (name ∷ words) =
+    if bytes_eq name.now (codes "once") then once_of words
+    else if bytes_eq name.now (codes "build") then build_of words
+    else if bytes_eq name.now (codes "ask") then ask_of words
+    else Refused 1
+
+-- numbers are in the ranges of settings
+abbrev pub AreSettings : Settings → Type 0
+AreSettings settings = IsResolution settings.cell × IsResolution settings.tick × IsPeriod settings.period
 
 -- the numbers of a request are in their ranges
 abbrev pub AreInRange : Request → Type 0
-AreInRange (Once csv settings) = IsResolution settings.cell × IsResolution settings.tick × IsPeriod settings.period
+AreInRange (Once csv settings) = AreSettings settings
+AreInRange (Build csv index settings) = AreSettings settings
+AreInRange (Ask index) = ⊤
 AreInRange (Refused place) = ⊤

@@ -1,17 +1,56 @@
-ghost use Rattle.std.specs.Prelude.{◌≡◌, ◌≢◌, ℕ, ◌+◌, ◌≤◌, false};
+ghost use Rattle.std.specs.Prelude.{◌≡◌, ◌≢◌, ℕ, ◌+◌, ◌≤◌, ◌^◌, false, length};
 ghost use Rattle.host_ports.specs.Faults.{Rose};
 ghost use Rattle.track_types.specs.Limits.{limit_of};
 ghost use Rattle.question_shell.specs.Session.{meaning_of};
-ghost use Rattle.gract_top.specs.Outcome.{Answers, talk};
-ghost use Rattle.gract_top.specs.Refusal.{is_unasked};
+ghost use Rattle.track_index.specs.Opening.{IsFile};
+ghost use Rattle.track_types.specs.declared.parts.Parts.{Parts};
+ghost use Rattle.gract_top.specs.Outcome.{Answers, EndsOpened, EndsOver, talk};
+ghost use Rattle.gract_top.specs.Refusal.{is_early};
 
 use crate::outcome::Outcome;
 use host_ports::{Sink, Source};
+use index_format::FormatFault;
 use question_shell::{Desk, ShellFault, run};
 use std::alloc::Global;
 use std::sync::ledger::Ledger;
 use step_count::Steps;
+use track_index::open;
 use track_types::{Answerer, LimitKind};
+
+// Opens the bytes of an index file, and answers the source's lines from the index.
+pub(crate) fn answer_bytes<S: Source, K: Sink, L: Ledger>(
+    alloc: Global,
+    bytes: Vec<u8>,
+    source: &mut S,
+    sink: &mut K,
+    steps: &mut Steps<L>,
+) -> Outcome
+    requires { length bytes.items ≤ 2 ^ 30 }
+    ensures late { is_early result ≡ false }
+    ensures words { (place : ℕ) → result ≢ Outcome.Words place }
+    ensures ended { EndsOpened result bytes.items ((source.new ≡ source.old) × (sink.new ≡ sink.old))
+        (talk (S.rest source.old) (S.taken source.old) (K.said sink.old) steps.old)
+        (talk (S.rest source.new) (S.taken source.new) (K.said sink.new) steps.new) }
+    ensures decides { (parts : Parts) → IsFile bytes.items parts →
+        EndsOver result bytes.items parts ((source.new ≡ source.old) × (sink.new ≡ sink.old))
+        (talk (S.rest source.old) (S.taken source.old) (K.said sink.old) steps.old)
+        (talk (S.rest source.new) (S.taken source.new) (K.said sink.new) steps.new) }
+    ensures listen_cause { result ≡ Outcome.ListenFailed →
+        Rose (S.faults source.old) (S.faults source.new) }
+    ensures say_cause { result ≡ Outcome.SayFailed → Rose (K.faults sink.old) (K.faults sink.new) }
+    ensures listen_untouched { result ≢ Outcome.ListenFailed →
+        S.faults source.new ≡ S.faults source.old }
+    ensures say_untouched { result ≢ Outcome.SayFailed → K.faults sink.new ≡ K.faults sink.old }
+    ensures within { S.taken source.new ≤ S.taken source.old + (limit_of LimitKind.Questions + 1) }
+{
+    let index = match open(alloc, &bytes, steps) {
+        Ok(index) => index,
+        Err(FormatFault::Flaw(flaw)) => return Outcome::Flaw(flaw),
+        Err(FormatFault::Memory) => return Outcome::Memory,
+    };
+    drop(bytes);
+    answer_with(alloc, index.view(), source, sink, steps)
+}
 
 // Answers the source's lines from an empty desk, over whatever answers questions.
 pub(crate) fn answer_with<A: Answerer, S: Source, K: Sink, L: Ledger>(
@@ -21,7 +60,7 @@ pub(crate) fn answer_with<A: Answerer, S: Source, K: Sink, L: Ledger>(
     sink: &mut K,
     steps: &mut Steps<L>,
 ) -> Outcome
-    ensures asked { is_unasked result ≡ false }
+    ensures late { is_early result ≡ false }
     ensures words { (place : ℕ) → result ≢ Outcome.Words place }
     ensures answers { Answers result ((source.new ≡ source.old) × (sink.new ≡ sink.old))
         (meaning_of (A.chart answerer) (A.facts answerer) (A.cost answerer))

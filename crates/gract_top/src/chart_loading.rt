@@ -4,8 +4,9 @@ ghost use Rattle.host_ports.specs.Faults.{Rose};
 ghost use Rattle.host_ports.specs.FileMap.{IsMissing};
 ghost use Rattle.track_types.specs.Limits.{IsPeriod, IsResolution, limit_of};
 ghost use Rattle.track_types.specs.Near.{IsRawInRange};
+ghost use Rattle.host_ports.specs.NumberedCalls.{raised};
 ghost use Rattle.gract_top.specs.Loading.{TooLong};
-ghost use Rattle.gract_top.specs.Refusal.{HasRows, IsAccepted, IsRefused, is_asked, is_refusal};
+ghost use Rattle.gract_top.specs.Refusal.{HasRows, IsAccepted, IsRefused, is_late, is_refusal};
 ghost use Rattle.gract_top.specs.declared.request.Settings.{Settings};
 
 use crate::loading::{LoadFault, load};
@@ -29,7 +30,7 @@ pub(crate) fn load_chart<F: Files>(
     requires period { IsPeriod settings.period }
     ensures chart { IfOk result (λ chart.
         IsAccepted (F.map files.old) (F.taken files.new) csv.now settings chart) }
-    ensures unasked { IfErr result (λ outcome. is_asked outcome ≡ false) }
+    ensures early { IfErr result (λ outcome. is_late outcome ≡ false) }
     ensures words { IfErr result (λ outcome. (place : ℕ) → outcome ≢ Outcome.Words place) }
     ensures load_failed { result ≡ Err Outcome.LoadFailed →
         Rose (F.load_faults files.old) (F.load_faults files.new)
@@ -42,7 +43,11 @@ pub(crate) fn load_chart<F: Files>(
     ensures csv_taken { (value : ℕ) → result ≡ Err (Outcome.Limit LimitKind.Csv value) →
         (value ≡ limit_of LimitKind.Csv + 1) × (F.taken files.new ≡ value) }
     ensures taken { F.taken files.new ≤ limit_of LimitKind.Csv + 1 }
+    ensures begins { F.begins files.new ≡ raised (F.begins files.old) }
     ensures map { F.map files.new ≡ F.map files.old }
+    ensures saves { F.saves files.new ≡ F.saves files.old }
+    ensures save_faults { F.save_faults files.new ≡ F.save_faults files.old }
+    ensures given { F.given files.new ≡ F.given files.old }
     ensures faults { F.load_faults files.old ≤ F.load_faults files.new }
 {
     let rows = match load_rows(alloc, csv, files) {
@@ -63,7 +68,7 @@ fn load_rows<F: Files>(alloc: Global, csv: &str, files: &mut F) -> Result<Vec<Ra
         HasRows (F.map files.old) (F.taken files.new) csv.now rows.items) }
     ensures few { IfOk result (λ rows. vec_len rows ≤ limit_of LimitKind.Rows) }
     ensures ranges { IfOk result (λ rows. All IsRawInRange rows.items) }
-    ensures unasked { IfErr result (λ outcome. is_asked outcome ≡ false) }
+    ensures early { IfErr result (λ outcome. is_late outcome ≡ false) }
     ensures words { IfErr result (λ outcome. (place : ℕ) → outcome ≢ Outcome.Words place) }
     ensures load_failed { result ≡ Err Outcome.LoadFailed →
         Rose (F.load_faults files.old) (F.load_faults files.new)
@@ -76,7 +81,11 @@ fn load_rows<F: Files>(alloc: Global, csv: &str, files: &mut F) -> Result<Vec<Ra
     ensures csv_taken { (value : ℕ) → result ≡ Err (Outcome.Limit LimitKind.Csv value) →
         (value ≡ limit_of LimitKind.Csv + 1) × (F.taken files.new ≡ value) }
     ensures taken { F.taken files.new ≤ limit_of LimitKind.Csv + 1 }
+    ensures begins { F.begins files.new ≡ raised (F.begins files.old) }
     ensures map { F.map files.new ≡ F.map files.old }
+    ensures saves { F.saves files.new ≡ F.saves files.old }
+    ensures save_faults { F.save_faults files.new ≡ F.save_faults files.old }
+    ensures given { F.given files.new ≡ F.given files.old }
     ensures faults { F.load_faults files.old ≤ F.load_faults files.new }
 {
     let bytes = match load(alloc, files, csv, MAX_CSV as usize) {

@@ -1,14 +1,18 @@
 //! The whole program as one call: command words in, an outcome out.
 //!
-//! `gract` loads a CSV file, grids its rows, builds the index of their chart, and says for each
-//! line of its source the reply that filtering the chart gives. Files, source and sink are handed
-//! in, so the call's contract can speak of all that came and was said. The crate stands on row_reader,
-//! gridding, chart_parts, snapshots, track_index, question_shell, host_ports, track_types,
-//! step_count, arrayvec and itoa.
+//! `gract` loads a CSV file, grids its rows and writes the index of their chart, or loads an index
+//! file; it saves the index, or opens it and says for each line of its source the reply that
+//! filtering the chart gives. Files, source and sink are handed in, so the call's contract can speak
+//! of all that came, was saved and was said. The crate stands on row_reader, gridding, chart_parts,
+//! snapshots, index_format, track_index, question_shell, host_ports, track_types, step_count,
+//! arrayvec and itoa.
 #![tactic(auto)]
 
 mod answering;
+mod asking;
+mod building;
 mod chart_loading;
+mod chart_writing;
 mod commands;
 mod loading;
 mod outcome;

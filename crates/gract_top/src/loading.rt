@@ -1,6 +1,7 @@
 ghost use Rattle.std.specs.Prelude.{◌≡◌, ◌≢◌, ◌+◌, ◌^◌, ◌<◌, ◌≤◌, ◌⊎◌, vec_len, IfOk, Err};
 ghost use Rattle.host_ports.specs.Faults.{Rose};
 ghost use Rattle.host_ports.specs.FileMap.{IsMissing};
+ghost use Rattle.host_ports.specs.NumberedCalls.{raised};
 ghost use Rattle.gract_top.specs.Loading.{FileCame, TooLong};
 
 use host_ports::Files;
@@ -40,7 +41,11 @@ pub(crate) fn load<F: Files>(
     ensures taken { F.taken files.new ≤ limit + 1 }
     ensures untouched { result ≢ Err LoadFault.Failed →
         F.load_faults files.new ≡ F.load_faults files.old }
+    ensures begins { F.begins files.new ≡ raised (F.begins files.old) }
     ensures map { F.map files.new ≡ F.map files.old }
+    ensures saves { F.saves files.new ≡ F.saves files.old }
+    ensures save_faults { F.save_faults files.new ≡ F.save_faults files.old }
+    ensures given { F.given files.new ≡ F.given files.old }
     ensures faults { F.load_faults files.old ≤ F.load_faults files.new }
 {
     if files.begin(name).is_err() {

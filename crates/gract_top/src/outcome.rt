@@ -1,4 +1,4 @@
-use track_types::{LimitKind, RowFault};
+use track_types::{Flaw, LimitKind, RowFault};
 
 /// How a call of the program ended.
 #[derive(Clone, Copy, Debug, PartialEq, Eq)]
@@ -24,6 +24,10 @@ pub enum Outcome {
     },
     /// The CSV file has no data row.
     Empty,
+    /// The bytes that were opened are not those of an index file; this is their first flaw.
+    Flaw(Flaw),
+    /// The index could not be saved, and its name may hold anything.
+    SaveFailed,
     /// The questions could not be read.
     ListenFailed,
     /// The answers could not be written.

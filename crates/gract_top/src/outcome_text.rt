@@ -1,11 +1,12 @@
 ghost use Rattle.std.specs.Prelude.{◌≡◌, ◌+◌, ◌≤◌, ◌++◌, length};
 ghost use Rattle.gract_top.specs.OutcomeText.{before_field, behind_field, status_of};
 ghost use Rattle.gract_top.specs.OutcomeText.{text_of};
+ghost use Rattle.track_types.specs.FlawText.{kind_name, section_name};
 
 use crate::outcome::Outcome;
 use arrayvec::ArrayString;
 use itoa::Buffer;
-use track_types::{LimitKind, RowFault};
+use track_types::{Flaw, Kind, LimitKind, RowFault, Section};
 
 /// The line that a program ends with.
 type Text = ArrayString<160>;
@@ -20,7 +21,11 @@ impl Outcome {
             Outcome::Words { .. } => 2,
             Outcome::Row { .. } | Outcome::Empty => 3,
             Outcome::Limit { .. } => 4,
-            Outcome::LoadFailed | Outcome::ListenFailed | Outcome::SayFailed => 6,
+            Outcome::Flaw(_) => 5,
+            Outcome::LoadFailed
+            | Outcome::SaveFailed
+            | Outcome::ListenFailed
+            | Outcome::SayFailed => 6,
             Outcome::Memory => 7,
         }
     }
@@ -37,6 +42,8 @@ impl Outcome {
             Outcome::Limit { kind, value } => limit_text(kind, value),
             Outcome::Row { nth, field, fault } => record_text(nth, field, fault),
             Outcome::Empty => plain_text("gract: no rows"),
+            Outcome::Flaw(flaw) => flaw_line(flaw),
+            Outcome::SaveFailed => plain_text("gract: the index could not be saved"),
             Outcome::ListenFailed => plain_text("gract: the questions could not be read"),
             Outcome::SayFailed => plain_text("gract: the answers could not be written"),
             Outcome::Memory => plain_text("gract: no memory"),
@@ -84,6 +91,35 @@ fn record_text(nth: u64, field: u32, fault: RowFault) -> ArrayString<160>
     text.push_str(digits.format(field));
     text.push_str(words_behind(fault));
     text
+}
+
+fn flaw_line(flaw: Flaw) -> ArrayString<160>
+    ensures { result.bytes ≡ text_of (Outcome.Flaw flaw) }
+{
+    let mut digits = Buffer::new();
+    let mut text = plain_text("gract: index ");
+    text.push_str(section_word(flaw.section));
+    text.push_str(" period ");
+    text.push_str(digits.format(flaw.period));
+    text.push_str(" place ");
+    text.push_str(digits.format(flaw.index));
+    text.push_str(": ");
+    text.push_str(kind_word(flaw.kind));
+    text
+}
+
+fn section_word(section: Section) -> &'static str
+    ensures value { result.now ≡ section_name section }
+    ensures short { length result.now ≤ 8 }
+{
+    section.name()
+}
+
+fn kind_word(kind: Kind) -> &'static str
+    ensures value { result.now ≡ kind_name kind }
+    ensures short { length result.now ≤ 9 }
+{
+    kind.name()
 }
 
 fn words_before(fault: RowFault) -> &'static str

@@ -1,6 +1,7 @@
-ghost use Rattle.std.specs.Prelude.{◌≡◌, ◌+◌, ◌^◌, ◌≤◌, ◌≤ℤ◌, pos, true, length};
-ghost use Rattle.gract_top.specs.Request.{AreInRange, first_bad, fits_word, natural_value, once_of};
-ghost use Rattle.gract_top.specs.Request.{request_of, texts};
+ghost use Rattle.std.specs.Prelude.{◌≡◌, ◌+◌, ◌^◌, ◌≤◌, ◌≤ℤ◌, pos, true, length, [], ◌∷◌, None};
+ghost use Rattle.gract_top.specs.Request.{AreInRange, AreSettings, ask_of, build_of, first_bad};
+ghost use Rattle.gract_top.specs.Request.{fits_word, natural_value, once_of, request_of};
+ghost use Rattle.gract_top.specs.Request.{settings_of, settings_words, texts};
 
 use track_types::{MAX_PERIOD, MAX_RESOLUTION, number_within};
 
@@ -17,9 +18,24 @@ pub enum WordKind {
 #[derive(Clone, Copy, Debug, PartialEq, Eq)]
 pub enum Request<'a> {
     /// To answer the source's lines from the CSV file of that name.
-    Once { csv: &'a str, settings: Settings },
+    Once {
+        csv: &'a str,
+        settings: Settings,
+    },
+    /// To save the index of the CSV file of that name under another, which may be the same.
+    Build {
+        csv: &'a str,
+        index: &'a str,
+        settings: Settings,
+    },
+    /// To answer the source's lines from the index file of that name.
+    Ask {
+        index: &'a str,
+    },
     /// Nothing: the first bad word stands at this place, counted from 1.
-    Refused { place: u32 },
+    Refused {
+        place: u32,
+    },
 }
 
 /// How rows are gridded, and how the axis of time is cut into periods.
@@ -39,22 +55,37 @@ const RESOLUTION: i64 = MAX_RESOLUTION as i64;
 /// The greatest PERIOD.
 const PERIOD: i64 = MAX_PERIOD as i64;
 
+/// A word for CELL or TICK.
+const RESOLUTION_WORD: WordKind = WordKind::Number {
+    least: 1,
+    greatest: RESOLUTION,
+};
+
+/// A word for PERIOD.
+const PERIOD_WORD: WordKind = WordKind::Number {
+    least: 1,
+    greatest: PERIOD,
+};
+
 /// The words behind `once`: CSV CELL TICK PERIOD.
 const ONCE: [WordKind; 4] = [
     WordKind::File,
-    WordKind::Number {
-        least: 1,
-        greatest: RESOLUTION,
-    },
-    WordKind::Number {
-        least: 1,
-        greatest: RESOLUTION,
-    },
-    WordKind::Number {
-        least: 1,
-        greatest: PERIOD,
-    },
+    RESOLUTION_WORD,
+    RESOLUTION_WORD,
+    PERIOD_WORD,
 ];
+
+/// The words behind `build`: CSV INDEX CELL TICK PERIOD.
+const BUILD: [WordKind; 5] = [
+    WordKind::File,
+    WordKind::File,
+    RESOLUTION_WORD,
+    RESOLUTION_WORD,
+    PERIOD_WORD,
+];
+
+/// The words behind `ask`: INDEX.
+const ASK: [WordKind; 1] = [WordKind::File];
 
 // Reads the command words.
 pub(crate) fn read_request<'a>(words: &[&'a str]) -> Request<'a>
@@ -66,6 +97,10 @@ pub(crate) fn read_request<'a>(words: &[&'a str]) -> Request<'a>
         [name, rest @ ..] => {
             if *name == "once" {
                 read_once(rest)
+            } else if *name == "build" {
+                read_build(rest)
+            } else if *name == "ask" {
+                read_ask(rest)
             } else {
                 Request::Refused { place: 1 }
             }
@@ -80,14 +115,55 @@ fn read_once<'a>(words: &[&'a str]) -> Request<'a>
     if let Some(place) = first_bad_place(&ONCE, words, 2) {
         return Request::Refused { place };
     }
-    let settings = Settings {
-        cell: natural(words[1], RESOLUTION),
-        tick: natural(words[2], RESOLUTION),
-        period: natural(words[3], PERIOD) as u32,
-    };
-    Request::Once {
-        csv: words[0],
-        settings,
+    match words {
+        [csv, cell, tick, period] => Request::Once {
+            csv: *csv,
+            settings: settings_of(cell, tick, period),
+        },
+        _ => Request::Refused { place: 2 }, // no other number of words has the form
+    }
+}
+
+fn read_build<'a>(words: &[&'a str]) -> Request<'a>
+    ensures value { result ≡ build_of words.now }
+    ensures ranges { AreInRange result }
+{
+    if let Some(place) = first_bad_place(&BUILD, words, 2) {
+        return Request::Refused { place };
+    }
+    match words {
+        [csv, index, cell, tick, period] => Request::Build {
+            csv: *csv,
+            index: *index,
+            settings: settings_of(cell, tick, period),
+        },
+        _ => Request::Refused { place: 2 }, // no other number of words has the form
+    }
+}
+
+fn read_ask<'a>(words: &[&'a str]) -> Request<'a>
+    ensures value { result ≡ ask_of words.now }
+    ensures ranges { AreInRange result }
+{
+    if let Some(place) = first_bad_place(&ASK, words, 2) {
+        return Request::Refused { place };
+    }
+    match words {
+        [index] => Request::Ask { index: *index },
+        _ => Request::Refused { place: 2 }, // no other number of words has the form
+    }
+}
+
+// The settings of three number words that fit.
+fn settings_of(cell: &str, tick: &str, period: &str) -> Settings
+    requires fit { first_bad settings_words (cell.now ∷ tick.now ∷ period.now ∷ []) 0 ≡ None }
+    ensures value { result ≡ settings_of cell.now tick.now period.now }
+    ensures ranges { AreSettings result }
+{
+    Settings {
+        cell: natural(cell, RESOLUTION),
+        tick: natural(tick, RESOLUTION),
+        period: natural(period, PERIOD) as u32,
     }
 }
 

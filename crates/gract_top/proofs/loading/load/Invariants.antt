@@ -1,6 +1,7 @@
 use Rattle.std.proofs.Common.{◌≡◌, ◌+◌, ◌-◌, ◌≤◌, vec_len}
 use Rattle.std.specs.Io.KnownBytes.{prepend_known}
 use Rattle.host_ports.specs.FileMap.{IsOpened}
+use Rattle.host_ports.specs.NumberedCalls.{raised}
 use Rattle.gract_top.proofs.loading.load.Given as goal
 
 abbrev pub invariant-pieces : goal.invariant-pieces
@@ -9,6 +10,10 @@ invariant-pieces g l = record {
   within : vec_len l.bytes ≤ l.limit + 1;
   map : g.F.Files.map l.files ≡ g.F.Files.map l.fn.files;
   faults : g.F.Files.load_faults l.files ≡ g.F.Files.load_faults l.fn.files;
+  begins : g.F.Files.begins l.files ≡ raised (g.F.Files.begins l.fn.files);
+  saves : g.F.Files.saves l.files ≡ g.F.Files.saves l.fn.files;
+  save_faults : g.F.Files.save_faults l.files ≡ g.F.Files.save_faults l.fn.files;
+  given : g.F.Files.given l.files ≡ g.F.Files.given l.fn.files;
   opened : IsOpened (g.F.Files.map l.fn.files) l.name (prepend_known l.bytes.items (g.F.Files.rest l.files));
 }
 

@@ -1,0 +1,161 @@
+ghost use Rattle.std.specs.Prelude.{◌≡◌, ◌≢◌, ℕ, ◌+◌, ◌≤◌, ◌^◌, ◌⊎◌, false, true, length, Err, IfOk, IfErr};
+ghost use Rattle.host_ports.specs.Faults.{Rose};
+ghost use Rattle.host_ports.specs.FileMap.{IsMissing};
+ghost use Rattle.host_ports.specs.FilesState.{state_of};
+ghost use Rattle.host_ports.specs.NumberedCalls.{raised};
+ghost use Rattle.track_types.specs.Limits.{limit_of};
+ghost use Rattle.gract_top.specs.Outcome.{talk};
+ghost use Rattle.gract_top.specs.Ends.{EndsAsk, EndsOnce, moment};
+ghost use Rattle.gract_top.specs.Refusal.{IsIndexLoaded, IsIndexRefused, is_late, is_refusal};
+ghost use Rattle.gract_top.specs.Request.{AreSettings};
+
+use crate::answering::answer_bytes;
+use crate::chart_loading::load_chart;
+use crate::chart_writing::index_bytes;
+use crate::loading::{LoadFault, load};
+use crate::outcome::Outcome;
+use crate::request::Settings;
+use host_ports::{Files, Sink, Source};
+use std::alloc::Global;
+use std::sync::ledger::Ledger;
+use step_count::Steps;
+use track_types::{LimitKind, MAX_INDEX};
+
+// Answers the source's lines from the index of the CSV file of that name. What is opened is what the
+// files give for the bytes of that index.
+pub(crate) fn once<F: Files, S: Source, K: Sink, L: Ledger>(
+    alloc: Global,
+    csv: &str,
+    settings: Settings,
+    files: &mut F,
+    source: &mut S,
+    sink: &mut K,
+    steps: &mut Steps<L>,
+) -> Outcome
+    requires { AreSettings settings }
+    ensures ends { EndsOnce result csv.now settings ((source.new ≡ source.old) × (sink.new ≡ sink.old))
+        (moment (state_of (F.map files.old) (F.rest files.old) (F.taken files.old)
+        (F.load_faults files.old) (F.save_faults files.old) (F.saves files.old) (F.begins files.old))
+        (F.given files.old)
+        (talk (S.rest source.old) (S.taken source.old) (K.said sink.old) steps.old))
+        (moment (state_of (F.map files.new) (F.rest files.new) (F.taken files.new)
+        (F.load_faults files.new) (F.save_faults files.new) (F.saves files.new) (F.begins files.new))
+        (F.given files.new)
+        (talk (S.rest source.new) (S.taken source.new) (K.said sink.new) steps.new)) }
+    ensures words { (place : ℕ) → result ≢ Outcome.Words place }
+    ensures unsaved { result ≢ Outcome.SaveFailed }
+    ensures load_untouched { result ≢ Outcome.LoadFailed →
+        F.load_faults files.new ≡ F.load_faults files.old }
+    ensures save_untouched { F.save_faults files.new ≡ F.save_faults files.old }
+    ensures listen_cause { result ≡ Outcome.ListenFailed →
+        Rose (S.faults source.old) (S.faults source.new) }
+    ensures listen_untouched { result ≢ Outcome.ListenFailed →
+        S.faults source.new ≡ S.faults source.old }
+    ensures say_cause { result ≡ Outcome.SayFailed → Rose (K.faults sink.old) (K.faults sink.new) }
+    ensures say_untouched { result ≢ Outcome.SayFailed → K.faults sink.new ≡ K.faults sink.old }
+    ensures within { S.taken source.new ≤ S.taken source.old + (limit_of LimitKind.Questions + 1) }
+{
+    let chart = match load_chart(alloc, csv, settings, files) {
+        Ok(chart) => chart,
+        Err(outcome) => return outcome,
+    };
+    let Ok(bytes) = index_bytes(alloc, chart) else {
+        return Outcome::Memory;
+    };
+    let bytes = pass_on(files, bytes);
+    answer_bytes(alloc, bytes, source, sink, steps)
+}
+
+// Answers the source's lines from the index file of that name.
+pub(crate) fn ask<F: Files, S: Source, K: Sink, L: Ledger>(
+    alloc: Global,
+    index: &str,
+    files: &mut F,
+    source: &mut S,
+    sink: &mut K,
+    steps: &mut Steps<L>,
+) -> Outcome
+    ensures ends { EndsAsk result index.now ((source.new ≡ source.old) × (sink.new ≡ sink.old))
+        (moment (state_of (F.map files.old) (F.rest files.old) (F.taken files.old)
+        (F.load_faults files.old) (F.save_faults files.old) (F.saves files.old) (F.begins files.old))
+        (F.given files.old)
+        (talk (S.rest source.old) (S.taken source.old) (K.said sink.old) steps.old))
+        (moment (state_of (F.map files.new) (F.rest files.new) (F.taken files.new)
+        (F.load_faults files.new) (F.save_faults files.new) (F.saves files.new) (F.begins files.new))
+        (F.given files.new)
+        (talk (S.rest source.new) (S.taken source.new) (K.said sink.new) steps.new)) }
+    ensures words { (place : ℕ) → result ≢ Outcome.Words place }
+    ensures unsaved { result ≢ Outcome.SaveFailed }
+    ensures load_untouched { result ≢ Outcome.LoadFailed →
+        F.load_faults files.new ≡ F.load_faults files.old }
+    ensures save_untouched { F.save_faults files.new ≡ F.save_faults files.old }
+    ensures listen_cause { result ≡ Outcome.ListenFailed →
+        Rose (S.faults source.old) (S.faults source.new) }
+    ensures listen_untouched { result ≢ Outcome.ListenFailed →
+        S.faults source.new ≡ S.faults source.old }
+    ensures say_cause { result ≡ Outcome.SayFailed → Rose (K.faults sink.old) (K.faults sink.new) }
+    ensures say_untouched { result ≢ Outcome.SayFailed → K.faults sink.new ≡ K.faults sink.old }
+    ensures within { S.taken source.new ≤ S.taken source.old + (limit_of LimitKind.Questions + 1) }
+{
+    let bytes = match load_index(alloc, index, files) {
+        Ok(bytes) => bytes,
+        Err(outcome) => return outcome,
+    };
+    answer_bytes(alloc, bytes, source, sink, steps)
+}
+
+// The bytes of the index file of that name, or the outcome that loading it decides.
+fn load_index<F: Files>(alloc: Global, index: &str, files: &mut F) -> Result<Vec<u8>, Outcome>
+    ensures loaded { IfOk result (λ bytes.
+        IsIndexLoaded (F.map files.old) (F.taken files.new) index.now bytes.items) }
+    ensures early { IfErr result (λ outcome. is_late outcome ≡ false) }
+    ensures words { IfErr result (λ outcome. (place : ℕ) → outcome ≢ Outcome.Words place) }
+    ensures load_failed { result ≡ Err Outcome.LoadFailed →
+        Rose (F.load_faults files.old) (F.load_faults files.new)
+        ⊎ IsMissing (F.map files.old) index.now }
+    ensures missing { IsMissing (F.map files.old) index.now → result ≡ Err Outcome.LoadFailed }
+    ensures untouched { result ≢ Err Outcome.LoadFailed →
+        F.load_faults files.new ≡ F.load_faults files.old }
+    ensures refused { IfErr result (λ outcome. is_refusal outcome ≡ true →
+        IsIndexRefused (F.map files.old) (F.taken files.new) index.now outcome) }
+    ensures too_long { (value : ℕ) → result ≡ Err (Outcome.Limit LimitKind.Index value) →
+        (value ≡ limit_of LimitKind.Index + 1) × (F.taken files.new ≡ value) }
+    ensures taken { F.taken files.new ≤ limit_of LimitKind.Index + 1 }
+    ensures begins { F.begins files.new ≡ raised (F.begins files.old) }
+    ensures map { F.map files.new ≡ F.map files.old }
+    ensures saves { F.saves files.new ≡ F.saves files.old }
+    ensures save_faults { F.save_faults files.new ≡ F.save_faults files.old }
+    ensures given { F.given files.new ≡ F.given files.old }
+    ensures faults { F.load_faults files.old ≤ F.load_faults files.new }
+{
+    match load(alloc, files, index, MAX_INDEX as usize) {
+        Ok(bytes) => Ok(bytes),
+        Err(LoadFault::Failed) => Err(Outcome::LoadFailed),
+        Err(LoadFault::TooLong) => Err(index_too_long()),
+        Err(LoadFault::Memory) => Err(Outcome::Memory),
+    }
+}
+
+fn index_too_long() -> Outcome
+    ensures { result ≡ Outcome.Limit LimitKind.Index (limit_of LimitKind.Index + 1) }
+{
+    Outcome::Limit {
+        kind: LimitKind::Index,
+        value: MAX_INDEX + 1,
+    }
+}
+
+// What the files give for these bytes. Nothing else of them changes.
+fn pass_on<F: Files>(files: &mut F, bytes: Vec<u8>) -> Vec<u8>
+    requires { length bytes.items ≤ 2 ^ 30 }
+    ensures given { result.items ≡ F.given files.old bytes.items }
+    ensures short { length result.items ≤ 2 ^ 30 }
+    ensures map { F.map files.new ≡ F.map files.old }
+    ensures taken { F.taken files.new ≡ F.taken files.old }
+    ensures load_faults { F.load_faults files.new ≡ F.load_faults files.old }
+    ensures save_faults { F.save_faults files.new ≡ F.save_faults files.old }
+    ensures saves { F.saves files.new ≡ F.saves files.old }
+    ensures begins { F.begins files.new ≡ F.begins files.old }
+{
+    files.pass(bytes)
+}
