@@ -7,7 +7,7 @@ use std::marker::Brand;
 use std::sync::ledger::{Blank, Ledger};
 use std::test::Fail;
 use step_count::Steps;
-use track_types::{Flaw, Kind, LimitKind, Memory, RowFault, Section};
+use track_types::{LimitKind, Memory, RowFault};
 
 /// What is handed to a call, by default a file of no row, no question and devices that do not fail.
 #[derive(Drop)]
@@ -17,9 +17,8 @@ struct Outside {
     sink: MemSink,
 }
 
-// The room is that of one file of 123 bytes under a name of up to seven.
 fn make_outside(alloc: Global, csv: &[u8], lines: &[u8], piece: usize) -> Result<Outside, Memory> {
-    let mut files = MemFiles::new(alloc, 130, Vec::new(alloc))?;
+    let mut files = MemFiles::new(alloc, 0, Vec::new(alloc))?;
     files.put("t.csv", csv)?;
     Ok(Outside {
         files,
@@ -158,15 +157,6 @@ fn lines_have_their_replies(rt: HostRuntime) -> Result<(), Fail> {
             assert_eq!(rt; outside.sink.as_slice(), said);
         }
     }
-    let mut outside = make_outside(alloc, PATH, b"position 7 2\ninfo x\n", 4096)?;
-    let built = run(&rt, "build t.csv t.idx 1 1 4", &mut outside)?;
-    assert_eq!(rt; built, Outcome::Done);
-    assert_eq!(rt; outside.sink.as_slice(), b"".as_slice());
-    assert_eq!(rt; run(&rt, "ask t.idx", &mut outside)?, Outcome::Done);
-    assert_eq!(rt;
-        outside.sink.as_slice(),
-        b"12 11\nok 1\nbad count\n".as_slice()
-    );
     Ok(())
 }
 
@@ -175,15 +165,7 @@ fn a_call_is_refused_for_its_cause(rt: HostRuntime) -> Result<(), Fail> {
     let row = |nth, field, fault| Outcome::Row { nth, field, fault };
     let limit = |kind, value| Outcome::Limit { kind, value };
     let words = |place| Outcome::Words { place };
-    let flaw = |kind| {
-        Outcome::Flaw(Flaw {
-            section: Section::Header,
-            period: 0,
-            index: 0,
-            kind,
-        })
-    };
-    let cases: [(&[u8], &str, Outcome); 26] = [
+    let cases: [(&[u8], &str, Outcome); 18] = [
         (b"", "once t.csv 1 1 1", Outcome::Empty),
         (b"object,instant,x,y\n", "once t.csv 1 1 1", Outcome::Empty),
         (
@@ -226,18 +208,6 @@ fn a_call_is_refused_for_its_cause(rt: HostRuntime) -> Result<(), Fail> {
         (PATH, "once t.csv 1 1", words(5)),
         (PATH, "once t.csv 1 1 4194305", words(5)),
         (PATH, "once t.csv 1 1 4 x", words(6)),
-        (PATH, "build", words(2)),
-        (PATH, "build t.csv t.idx 1 1", words(6)),
-        (
-            b"7,0,1\n",
-            "build t.csv t.idx 1 1 4",
-            row(1, 3, RowFault::Count),
-        ),
-        (PATH, "build t.csv another.idx 1 1 4", Outcome::SaveFailed),
-        (PATH, "ask t.csv x", words(3)),
-        (PATH, "ask none.idx", Outcome::LoadFailed),
-        (b"GRACT00", "ask t.csv", flaw(Kind::Short)),
-        (PATH, "ask t.csv", flaw(Kind::Magic)),
     ];
     for (csv, command, expected) in cases {
         let mut outside = make_outside(rt.alloc(), csv, b"position 7 0\n", 4096)?;
