@@ -3,6 +3,7 @@ pub mod FlatLemmas
 pub mod LengthLemmas
 pub mod SumLemmas
 pub mod OrderedLemmas
+pub mod LeastLemmas
 mod Examples
 pub mod GrownLemmas
 pub mod MemberLemmas
@@ -15,3 +16,4 @@ pub mod KeyedLemmas
 pub mod PieceLemmas
 pub mod RangeLemmas
 pub mod DedupLemmas
+pub mod OptionLemmas
