@@ -1,6 +1,6 @@
 -- The ones of bits: how many before a place, and where.
-use Rattle.std.proofs.Common.{◌≡◌, ℕ, zero, suc, ◌+◌, ◌-◌, ◌<◌, ◌≤◌, Bool, true, false, cond, Some, List, [], ◌∷◌, ◌++◌, length, take, get_or, refl, sym, ap, ◌∙◌, inl, inr, arith, length-take, le-leb, None}
-use Rattle.std.proofs.lemmas.List.{take_all, take-take, take-append-le}
+use Rattle.std.proofs.Common.{◌≡◌, ℕ, zero, suc, ◌+◌, ◌-◌, ◌<◌, ◌≤◌, Bool, true, false, cond, Some, List, [], ◌∷◌, ◌++◌, length, map, filter, take, get_or, refl, sym, ap, ◌∙◌, inl, inr, arith, length-take, le-leb, None}
+use Rattle.std.proofs.lemmas.List.{take_all, take-take, take-append-le, take-map}
 use Rattle.std.proofs.lemmas.List.Sums.{sum_by-take-le, sum_by_more}
 use Rattle.std.proofs.lemmas.Bool.{cases_lt, lt-leb}
 use Rattle.std.proofs.lemmas.Option.{slice_get-get_or}
@@ -57,6 +57,16 @@ rank_of-append xs ys p = ap ones_of (take-append-add xs ys p) ∙ ones_of-append
 pub rank_of-append_left : (xs ys : List Bool) (p : ℕ) → p ≤ length xs → rank_of (xs ++ ys) p ≡ rank_of xs p
 unfolding rank_of
 rank_of-append_left xs ys p within = ap ones_of (take-append-le p xs ys within)
+
+-- a test's bits have as many ones as elements that pass
+pub ones_of-map : {X : Type 0} (p : X → Bool) (xs : List X) → ones_of (map p xs) ≡ length (filter p xs)
+ones_of-map p [] = ones_of-nil
+ones_of-map p (x ∷ xs) = grind (arith, ones_of-cons (p x) (map p xs), ones_of-map p xs)
+
+-- and before a place as many as elements before it
+pub rank_of-map : {X : Type 0} (p : X → Bool) (xs : List X) (i : ℕ) → rank_of (map p xs) i ≡ length (filter p (take i xs))
+unfolding rank_of
+rank_of-map p xs i = ap ones_of (take-map p i xs) ∙ ones_of-map p (take i xs)
 
 -- one place further
 pub rank_of-step : (bits : List Bool) (p : ℕ) → p < length bits

@@ -1,20 +1,20 @@
 -- The presence bits of a period: a one for each object that has an anchor in it, whose rank is the anchor's place.
 use Rattle.std.proofs.Common.{◌≡◌, ℕ, ◌<◌, Bool, true, false, List, [], ◌∷◌, length, filter}
 use Rattle.std.proofs.Common.{get_or, map, take, Some, None}
-use Rattle.std.proofs.Common.{sym, ap, ◌∙◌, arith, inl, inr, subst}
+use Rattle.std.proofs.Common.{sym, ap, ◌∙◌, arith, subst}
 use Rattle.std.specs.Prelude.{◌==◌, slice_index}
 use Rattle.std.specs.List.{Contains}
 use Rattle.std.specs.Ordering.{nat_cmp}
-use Rattle.std.proofs.lemmas.Bool.{cases_Bool, eq-eqb, eqb-true}
+use Rattle.std.proofs.lemmas.Bool.{eq-eqb, eqb-true}
 use Rattle.std.proofs.lemmas.Cmp.{nat_cmp_total}
-use Rattle.std.proofs.lemmas.List.{get_or-map, length-map, take-map}
+use Rattle.std.proofs.lemmas.List.{get_or-map, length-map}
 use Rattle.std.proofs.lemmas.List.Elements.{Contains-get_or}
 use Rattle.std.proofs.lemmas.List.Folds.{Any-from_list_any, list_any_at}
 use Rattle.std.proofs.lemmas.List.Kept.{IsStrictlySortedBy-filter}
 use Rattle.std.proofs.lemmas.Map.Keys.{sorted_from_strictly_increasing}
 use Rattle.packed_bits.specs.Bits.{ones_of}
 use Rattle.bit_rank.specs.Bits.{rank_of}
-use Rattle.bit_rank.proofs.RankLemmas.{ones_of-cons, ones_of-nil}
+use Rattle.bit_rank.proofs.RankLemmas.{ones_of-map, rank_of-map}
 use Rattle.list_laws.proofs.MemberLemmas.{Contains-filter, Contains-map}
 use Rattle.list_laws.proofs.MemberLemmas.{member_of_filter, member_of_map, none_from_list_any}
 use Rattle.list_laws.proofs.PieceLemmas.{get_or-filter}
@@ -28,22 +28,6 @@ use Rattle.chart_parts.specs.PartsOf.{is_present}
 use Rattle.chart_parts.proofs.BlockWords.{anchor_of}
 use Rattle.chart_parts.proofs.ObjectLemmas.{Contains-distinct, objects_of-sorted}
 use Rattle.chart_parts.proofs.PeriodAnchorLemmas.{anchor_of-member, IsAnchorIn-member, IsStrictlyIncreasing-anchors}
-
-module _ {X : Type 0} (p : X → Bool) where
-  -- a test's bits have as many ones as elements that pass
-  pub ones_of-map : (xs : List X) → ones_of (map p xs) ≡ length (filter p xs)
-  ones_of-map [] = ones_of-nil
-  ones_of-map (x ∷ xs) =
-      let step = ones_of-cons (p x) (map p xs) in
-      elim (cases_Bool (p x)) [
-        | inl kept ↦ rw kept (rw kept at step ∙ omega (arith, ones_of-map xs))
-        | inr gone ↦ rw gone (rw gone at step ∙ omega (arith, ones_of-map xs))
-      ]
-
-  -- and before a place as many as elements before it
-  pub rank_of-map : (xs : List X) (i : ℕ) → rank_of (map p xs) i ≡ length (filter p (take i xs))
-  unfolding rank_of
-  rank_of-map xs i = ap ones_of (take-map p i xs) ∙ ones_of-map (take i xs)
 
 module _ (chart : ChartView) (is : IsChart chart) (number : ℕ) where
   abbrev object_in : Row → ℕ

@@ -1,117 +1,204 @@
--- The squares of a cell's Morton number have areas near 0 that hold the cell.
-use Rattle.std.proofs.Common.{◌≡◌, ℕ, zero, suc, ◌+◌, ◌-◌, ◌*◌, ◌/◌, ◌^◌, ◌<◌, ◌≤◌, ℤ, pos, neg_ℤ, ◌+ℤ◌, ◌-ℤ◌}
-use Rattle.std.proofs.Common.{◌≤ℤ◌, true, refl, sym, ap, ◌∙◌, arith, lit<}
-use Rattle.std.proofs.Math.Nat.{div-div-eq-div-mul, div-mul-le_self, div-one, lt-div-mul-add, pow-le-pow_right}
-use Rattle.std.proofs.lemmas.Nat.{pow_pos}
+-- Where squares are: the boxes of their cells, near 0, and what lies in them.
+use Rattle.std.proofs.Common.{◌≡◌, ℕ, zero, suc, ◌+◌, ◌-◌, ◌*◌, ◌/◌, ◌%◌, ◌^◌, ◌<◌, ◌≤◌, ℤ, pos, neg_ℤ, ◌+ℤ◌, ◌-ℤ◌}
+use Rattle.std.proofs.Common.{◌≤ℤ◌, true, sym, ap, ◌∙◌, arith, lit<, subst, w64, to_z, of_z}
+use Rattle.std.proofs.Props.{props}
+use Rattle.std.proofs.Math.Nat.{div-lt_iff_lt-mul, div-mul-le_self, lt-div-mul-add}
+use Rattle.std.proofs.Math.Nat.{mul-le-mul_left, mul-le-mul_right, pow-le-pow_right, pow-suc}
+use Rattle.std.proofs.lemmas.Nat.{pow-add, pow_pos}
 use Rattle.std.proofs.lemmas.Bool.{and_from}
-use Rattle.std.proofs.lemmas.Int.{ints}
+use Rattle.std.proofs.lemmas.Int.{ints, to_z-of_z}
 use Rattle.std.specs.Int.RustNames.{unsigned_abs}
 use Rattle.track_types.specs.Near.{IsBoxWithin, IsWithin}
 use Rattle.track_types.specs.Region.{is_between, in_box}
 use Rattle.track_types.specs.declared.cell.Cell.{Cell}
+use Rattle.track_types.specs.declared.cell_box.CellBox.{CellBox}
 use Rattle.track_types.specs.declared.limit.TheConstants.{MAX_HEIGHT}
 use Rattle.track_types.proofs.RegionLemmas.{is_between-from}
 use Rattle.k2_tree.specs.Morton.{interleaved, morton_of, row_of, column_of, IsGrid, IsInGrid}
 use Rattle.k2_tree.specs.Squares.{node}
-use Rattle.k2_tree.specs.Areas.{area_at}
-use Rattle.k2_tree.proofs.PrefixLemmas.{fourth}
-use Rattle.k2_tree.proofs.MortonLemmas.{column_of-more, half_more, row_of-half, row_of-more}
+use Rattle.k2_tree.specs.Areas.{area_at, IsBoxInside}
+use Rattle.k2_tree.proofs.MortonLemmas.{ends_back, interleaved-more, interleaved-prefix}
 
--- a digit less halves the column
-column_of-fourth : (k code : ℕ) → column_of k (code / 4) ≡ column_of (suc k) code / 2
-unfolding column_of
-column_of-fourth k code = omega arith
+abbrev box : (x1 y1 x2 y2 : ℤ) → x1 ≤ℤ x2 → y1 ≤ℤ y2 → CellBox
+box x1 y1 x2 y2 wide high = record { x1 = x1; y1 = y1; x2 = x2; y2 = y2; wide = wide; high = high }
 
--- n digits less halve it n times
-column_of-prefix : (k n code : ℕ) → column_of k (code / 4 ^ n) ≡ column_of (k + n) code / 2 ^ n
-column_of-prefix k zero code =
-    let e : k + 0 ≡ k = omega arith in rw (div-one code, e, div-one (column_of k code)) refl
-column_of-prefix k (suc n) code =
-    let e : suc k + n ≡ k + suc n = omega arith in
-    ap (column_of k) (sym (fourth code n)) ∙ column_of-fourth k (code / 4 ^ n)
-    ∙ ap (λ c. c / 2) (column_of-prefix (suc k) n code) ∙ half_more (column_of (suc k + n) code) n
-    ∙ ap (λ m. column_of m code / 2 ^ suc n) e
+same_bounds : (x1 y1 x2 y2 : ℤ) (w v : x1 ≤ℤ x2) (h g : y1 ≤ℤ y2) → box x1 y1 x2 y2 w h ≡ box x1 y1 x2 y2 v g
+same_bounds x1 y1 x2 y2 w v h g =
+    let wide : IsProp (x1 ≤ℤ x2) = hlevel props in
+    let high : IsProp (y1 ≤ℤ y2) = hlevel props in
+    ap (λ p. box x1 y1 x2 y2 p h) (wide w v) ∙ ap (λ p. box x1 y1 x2 y2 v p) (high h g)
 
-row_of-prefix : (k n code : ℕ) → row_of k (code / 4 ^ n) ≡ row_of (k + n) code / 2 ^ n
-row_of-prefix k n code =
-    let e : code / 4 ^ n / 2 ≡ code / 2 / 4 ^ n =
-    div-div-eq-div-mul code (4 ^ n) 2 ∙ ap (λ p. code / p) (omega arith) ∙ sym (div-div-eq-div-mul code 2 (4 ^ n)) in
-    row_of-half k (code / 4 ^ n) ∙ ap (column_of k) e ∙ column_of-prefix k n (code / 2)
-    ∙ ap (λ r. r / 2 ^ n) (sym (row_of-half (k + n) code))
+-- boxes with the same bounds are the same
+pub same_box : (a b : CellBox) → a.x1 ≡ b.x1 → a.y1 ≡ b.y1 → a.x2 ≡ b.x2 → a.y2 ≡ b.y2 → a ≡ b
+same_box a b x1 y1 x2 y2 = by_bounds b.x1 b.y1 b.x2 b.y2 x1 y1 x2 y2 b.wide b.high
+  where
+    by_bounds : (p q r s : ℤ) → a.x1 ≡ p → a.y1 ≡ q → a.x2 ≡ r → a.y2 ≡ s → (v : p ≤ℤ r) (g : q ≤ℤ s)
+        → a ≡ box p q r s v g
+    by_bounds p q r s e f k m =
+        subst (λ p. (v : p ≤ℤ r) (g : q ≤ℤ s) → a ≡ box p q r s v g) e
+        (subst (λ q. (v : a.x1 ≤ℤ r) (g : q ≤ℤ s) → a ≡ box a.x1 q r s v g) f
+        (subst (λ r. (v : a.x1 ≤ℤ r) (g : a.y1 ≤ℤ s) → a ≡ box a.x1 a.y1 r s v g) k
+        (subst (λ s. (v : a.x1 ≤ℤ a.x2) (g : a.y1 ≤ℤ s) → a ≡ box a.x1 a.y1 a.x2 s v g) m
+        (λ v g. same_bounds a.x1 a.y1 a.x2 a.y2 a.wide v a.high g))))
 
--- the column of a square that holds the cell
-column_of-morton_of : (height n m : ℕ) (base cell : Cell) → IsInGrid height base cell → height ≤ m
-    → column_of m (morton_of height base cell / 4 ^ n) ≡ unsigned_abs (cell.x -ℤ base.x) / 2 ^ n
-unfolding morton_of
-column_of-morton_of height n m base cell inside few =
-    let x : ℕ = unsigned_abs (cell.x -ℤ base.x) in
-    let y : ℕ = unsigned_abs (cell.y -ℤ base.y) in
-    column_of-prefix m n (interleaved height y x)
-    ∙ ap (λ c. c / 2 ^ n) (column_of-more height (m + n) y x (omega arith) inside.right)
+-- numbers near 0 fit a word
+pub word_kept : (z : ℤ) → IsWithin z → to_z w64 (of_z w64 z) ≡ z
+word_kept z within = to_z-of_z w64 z (omega (arith, ints, within.low, within.high))
 
--- the row of a square that holds the cell
-row_of-morton_of : (height n m : ℕ) (base cell : Cell) → IsInGrid height base cell → height ≤ m
-    → row_of m (morton_of height base cell / 4 ^ n) ≡ unsigned_abs (cell.y -ℤ base.y) / 2 ^ n
-unfolding morton_of
-row_of-morton_of height n m base cell inside few =
-    let x : ℕ = unsigned_abs (cell.x -ℤ base.x) in
-    let y : ℕ = unsigned_abs (cell.y -ℤ base.y) in
-    row_of-prefix m n (interleaved height y x)
-    ∙ ap (λ c. c / 2 ^ n) (row_of-more height (m + n) y x (omega arith) inside.above)
+-- a base's coordinate is near 0
+pub base_within : (z : ℤ) → neg_ℤ (pos (2 ^ 41)) ≤ℤ z → z ≤ℤ pos (2 ^ 41) → IsWithin z
+base_within z low high = record { low = omega (arith, ints); high = omega (arith, ints) }
 
--- a number is between the ends of its stretch, of those as long that are laid from the base on
-is_between-stretch : (base z : ℤ) (far count : ℕ) → base ≤ℤ z → 0 < far → count ≡ unsigned_abs (z -ℤ base) / far
-    → is_between (base +ℤ pos (count * far)) (base +ℤ pos (count * far) +ℤ pos (far - 1)) z ≡ true
-is_between-stretch base z far count low some is =
+-- a coordinate that lies so far from the base's, as words and as the square's prefix tells it
+pub moved_is : (f : ℤ → ℕ → ℤ) {base result : ℤ} {before told : ℕ} → IsWithin base → IsWithin result → told ≡ before
+    → result ≡ f (to_z w64 (of_z w64 base)) before → to_z w64 (of_z w64 result) ≡ f base told
+moved_is f {base} {result} {before} {told} near within same is =
+    word_kept result within ∙ is ∙ ap (λ z. f z before) (word_kept base near) ∙ ap (f base) (sym same)
+
+-- as many squares as stand before one fit the greatest grid
+pub before-lt : (before level height : ℕ) → (before + 1) * 2 ^ level ≤ 2 ^ height → before < 2 ^ height
+before-lt before level height inside =
+    let some = pow_pos level in
+    let most : (before + 1) * 1 ≤ (before + 1) * 2 ^ level = mul-le-mul_left (before + 1) (omega arith) in
+    omega (arith, most)
+
+-- where a square has a level below it, half of the greatest grid stands before it at most
+before-half : (n before level : ℕ) → 1 ≤ level → (before + 1) * 2 ^ level ≤ 2 ^ suc n → before < 2 ^ n
+before-half n before zero some inside = absurd (omega arith)
+before-half n before (suc level) some inside =
+    let low : 2 * 1 ≤ 2 ^ suc level = omega (arith, pow_pos level, pow-suc 2 level) in
+    let most : (before + 1) * (2 * 1) ≤ (before + 1) * 2 ^ suc level = mul-le-mul_left (before + 1) low in
+    omega (arith, most, pow-suc 2 n)
+
+-- the prefix of a child has a digit more
+pub interleaved-child : (n row column digit level : ℕ) → digit < 4 → 1 ≤ level
+    → (column + 1) * 2 ^ level ≤ 2 ^ suc n → (row + 1) * 2 ^ level ≤ 2 ^ suc n
+    → interleaved (suc n) (2 * row + digit / 2) (2 * column + digit % 2) ≡ 4 * interleaved (suc n) row column + digit
+unfolding interleaved
+interleaved-child n row column digit level small some right upper =
+    let low : row < 2 ^ n = before-half n row level some upper in
+    let left : column < 2 ^ n = before-half n column level some right in
+    spread n ∙ ap (λ code. 4 * code + digit) (sym (interleaved-more n row column low left))
+  where
+    spread : (n : ℕ)
+        → interleaved (suc n) (2 * row + digit / 2) (2 * column + digit % 2) ≡ 4 * interleaved n row column + digit
+    spread n =
+        let a : (2 * row + digit / 2) / 2 ≡ row = omega arith in
+        let b : (2 * column + digit % 2) / 2 ≡ column = omega arith in
+        let c : (2 * row + digit / 2) % 2 ≡ digit / 2 = omega arith in
+        let d : (2 * column + digit % 2) % 2 ≡ digit % 2 = omega arith in
+        rw (a, b, c, d) (omega arith)
+
+-- half of a stretch lies in it
+half_inside : (base : ℤ) (count half level : ℕ) → 1 ≤ level → half < 2
+    → ((base +ℤ pos (count * 2 ^ level)) ≤ℤ (base +ℤ pos ((2 * count + half) * 2 ^ (level - 1))))
+    × ((base +ℤ pos ((2 * count + half) * 2 ^ (level - 1)) +ℤ pos (2 ^ (level - 1) - 1))
+    ≤ℤ (base +ℤ pos (count * 2 ^ level) +ℤ pos (2 ^ level - 1)))
+half_inside base count half zero some small = absurd (omega arith)
+half_inside base count half (suc n) some small =
+    let i : suc n - 1 ≡ n = omega arith in
+    let power : 2 ^ suc n ≡ 2 * 2 ^ n = omega (arith, pow-suc 2 n) in
+    let whole : count * (2 * 2 ^ n) ≡ 2 * (count * 2 ^ n) = grind arith in
+    let parts : (2 * count + half) * 2 ^ n ≡ 2 * (count * 2 ^ n) + half * 2 ^ n = grind arith in
+    let most : half * 2 ^ n ≤ 1 * 2 ^ n = mul-le-mul_right (2 ^ n) (omega arith) in
+    rw (i, power, whole, parts) (omega (arith, ints), omega (arith, ints, pow_pos n))
+
+-- and ends no later
+half_end : (count half level limit : ℕ) → 1 ≤ level → half < 2 → (count + 1) * 2 ^ level ≤ limit
+    → (2 * count + half + 1) * 2 ^ (level - 1) ≤ limit
+half_end count half zero limit some small most = absurd (omega arith)
+half_end count half (suc n) limit some small most =
+    let i : suc n - 1 ≡ n = omega arith in
+    let power : 2 ^ suc n ≡ 2 * 2 ^ n = omega (arith, pow-suc 2 n) in
+    let whole : (count + 1) * (2 * 2 ^ n) ≡ (2 * count + 2) * 2 ^ n = grind arith in
+    let less : (2 * count + half + 1) * 2 ^ n ≤ (2 * count + 2) * 2 ^ n = mul-le-mul_right (2 ^ n) (omega arith) in
+    rw i (omega (arith, ap (λ p. (count + 1) * p) power))
+
+-- so does a quarter of a square
+pub child_inside_square : (base : Cell) (row column digit level : ℕ) → 1 ≤ level → digit < 4
+    → (column + 1) * 2 ^ level ≤ 2 ^ MAX_HEIGHT → (row + 1) * 2 ^ level ≤ 2 ^ MAX_HEIGHT
+    → IsBoxInside
+    (area_at base (node (level - 1) (interleaved MAX_HEIGHT (2 * row + digit / 2) (2 * column + digit % 2))))
+    (area_at base (node level (interleaved MAX_HEIGHT row column)))
+child_inside_square base row column digit level some small right upper =
+    let m : ℕ = MAX_HEIGHT in
+    let x : ℕ = 2 * column + digit % 2 in
+    let y : ℕ = 2 * row + digit / 2 in
+    let right' = half_end column (digit % 2) level (2 ^ m) some (omega arith) right in
+    let upper' = half_end row (digit / 2) level (2 ^ m) some (omega arith) upper in
+    let old = ends_back m m row column (omega arith) (before-lt row level m upper) (before-lt column level m right) in
+    let new = ends_back m m y x (omega arith) (before-lt y (level - 1) m upper') (before-lt x (level - 1) m right') in
+    let across = half_inside base.x column (digit % 2) level some (omega arith) in
+    let along = half_inside base.y row (digit / 2) level some (omega arith) in
+    record {
+      left = (rw (old.1, new.1) across.0);
+      right = (rw (old.1, new.1) across.1);
+      below = (rw (old.0, new.0) along.0);
+      above = (rw (old.0, new.0) along.1);
+    }
+
+-- a stretch of numbers, one of those as long that are laid from a base on: it holds a number, and its ends are near 0
+record IsStretch (base : ℤ) (count far : ℕ) (z : ℤ) : Type 0 where
+  pub holds : is_between (base +ℤ pos (count * far)) (base +ℤ pos (count * far) +ℤ pos (far - 1)) z ≡ true
+  pub first : IsWithin (base +ℤ pos (count * far))
+  pub last : IsWithin (base +ℤ pos (count * far) +ℤ pos (far - 1))
+
+stretch : (base z : ℤ) (count far : ℕ) → neg_ℤ (pos (2 ^ 41)) ≤ℤ base → base ≤ℤ pos (2 ^ 41) → base ≤ℤ z
+    → unsigned_abs (z -ℤ base) < 2 ^ MAX_HEIGHT → 0 < far → far ≤ 2 ^ MAX_HEIGHT
+    → count ≡ unsigned_abs (z -ℤ base) / far → IsStretch base count far z
+stretch base z count far left right low small some most is =
     let x : ℕ = unsigned_abs (z -ℤ base) in
     let laid : count * far ≡ x / far * far = ap (λ c. c * far) is in
     let from : count * far ≤ x = omega (arith, div-mul-le_self x far) in
     let to : x < count * far + far = omega (arith, lt-div-mul-add {a = x} {b = far} some) in
-    is_between-from (base +ℤ pos (count * far)) (base +ℤ pos (count * far) +ℤ pos (far - 1)) z
-    (omega (arith, ints)) (omega (arith, ints))
+    let limit : count * far < 2 ^ MAX_HEIGHT = omega arith in
+    record {
+      holds = is_between-from (base +ℤ pos (count * far)) (base +ℤ pos (count * far) +ℤ pos (far - 1)) z
+          (omega (arith, ints)) (omega (arith, ints));
+      first = record { low = omega (arith, ints); high = omega (arith, ints) };
+      last = record { low = omega (arith, ints); high = omega (arith, ints) };
+    }
 
--- a cell of the grid is in the area of each square that holds its Morton number
-pub in_area : (height n : ℕ) (base cell : Cell) → IsInGrid height base cell → height ≤ MAX_HEIGHT
-    → in_box (area_at base (node n (morton_of height base cell / 4 ^ n))) cell ≡ true
-in_area height n base cell inside few =
-    let prefix : ℕ = morton_of height base cell / 4 ^ n in
-    let across = column_of-morton_of height n MAX_HEIGHT base cell inside few in
-    let along = row_of-morton_of height n MAX_HEIGHT base cell inside few in
-    and_from _ _
-    (is_between-stretch base.x cell.x (2 ^ n) (column_of MAX_HEIGHT prefix) inside.left (pow_pos n) across)
-    (is_between-stretch base.y cell.y (2 ^ n) (row_of MAX_HEIGHT prefix) inside.below (pow_pos n) along)
+-- the square of a level that holds a cell of the grid
+module _ {height : ℕ} {base cell : Cell} (grid : IsGrid height base) (inside : IsInGrid height base cell) (n : ℕ)
+    (low : n ≤ height) where
+  abbrev prefix : ℕ
+  prefix = morton_of height base cell / 4 ^ n
 
--- a stretch of a grid is near 0 from its first number to its last
-are_within-stretch : (base : ℤ) (start far : ℕ) → neg_ℤ (pos (2 ^ 41)) ≤ℤ base → base ≤ℤ pos (2 ^ 41)
-    → start < 2 ^ MAX_HEIGHT → far ≤ 2 ^ MAX_HEIGHT
-    → IsWithin (base +ℤ pos start) × IsWithin (base +ℤ pos start +ℤ pos (far - 1))
-are_within-stretch base start far low high before most = (
-  record { low = omega (arith, ints); high = omega (arith, ints) },
-  record { low = omega (arith, ints); high = omega (arith, ints) },
-)
+  abbrev x : ℕ
+  x = unsigned_abs (cell.x -ℤ base.x)
 
--- the stretch that holds a number begins before it
-start-lt : (height far count x : ℕ) → height ≤ MAX_HEIGHT → x < 2 ^ height → count ≡ x / far
-    → count * far < 2 ^ MAX_HEIGHT
-start-lt height far count x few small is =
-    let most : 2 ^ height ≤ 2 ^ MAX_HEIGHT = pow-le-pow_right {n = 2} (lit< tt) few in
-    let laid : count * far ≡ x / far * far = ap (λ c. c * far) is in
-    omega (arith, div-mul-le_self x far)
+  abbrev y : ℕ
+  y = unsigned_abs (cell.y -ℤ base.y)
 
--- the area of each square of the grid that holds the cell is near 0
-pub area_within : (height n : ℕ) (base cell : Cell) → IsGrid height base → IsInGrid height base cell → n ≤ height
-    → IsBoxWithin (area_at base (node n (morton_of height base cell / 4 ^ n)))
-area_within height n base cell grid inside low =
-    let prefix : ℕ = morton_of height base cell / 4 ^ n in
-    let column : ℕ = column_of MAX_HEIGHT prefix in
-    let row : ℕ = row_of MAX_HEIGHT prefix in
-    let few : height ≤ MAX_HEIGHT = grid.limit in
-    let level : n ≤ MAX_HEIGHT = omega arith in
-    let far : 2 ^ n ≤ 2 ^ MAX_HEIGHT = pow-le-pow_right {n = 2} (lit< tt) level in
-    let across = column_of-morton_of height n MAX_HEIGHT base cell inside few in
-    let along = row_of-morton_of height n MAX_HEIGHT base cell inside few in
-    let x = are_within-stretch base.x (column * 2 ^ n) (2 ^ n) grid.left grid.right
-    (start-lt height (2 ^ n) column (unsigned_abs (cell.x -ℤ base.x)) few inside.right across) far in
-    let y = are_within-stretch base.y (row * 2 ^ n) (2 ^ n) grid.below grid.above
-    (start-lt height (2 ^ n) row (unsigned_abs (cell.y -ℤ base.y)) few inside.above along) far in
-    record { x1 = x.0; y1 = y.0; x2 = x.1; y2 = y.1 }
+  -- its row and its column
+  ends : (row_of MAX_HEIGHT prefix ≡ y / 2 ^ n) × (column_of MAX_HEIGHT prefix ≡ x / 2 ^ n)
+  unfolding morton_of
+  ends =
+      let k : ℕ = height - n in
+      let e : height ≡ n + k = omega (arith, low) in
+      let power : 2 ^ height ≡ 2 ^ n * 2 ^ k = ap (λ h. 2 ^ h) e ∙ pow-add 2 n k in
+      let few : k ≤ MAX_HEIGHT = omega (arith, grid.limit) in
+      let above = (div-lt_iff_lt-mul {k = 2 ^ n} {x = y} {y = 2 ^ k} (pow_pos n)).1 (omega (arith, inside.above, power)) in
+      let right = (div-lt_iff_lt-mul {k = 2 ^ n} {x = x} {y = 2 ^ k} (pow_pos n)).1 (omega (arith, inside.right, power)) in
+      rw (ap (λ h. interleaved h y x / 4 ^ n) e ∙ interleaved-prefix n k y x)
+      (ends_back k MAX_HEIGHT (y / 2 ^ n) (x / 2 ^ n) few above right)
+
+  stretches : IsStretch base.x (column_of MAX_HEIGHT prefix) (2 ^ n) cell.x
+      × IsStretch base.y (row_of MAX_HEIGHT prefix) (2 ^ n) cell.y
+  stretches =
+      let wide : 2 ^ height ≤ 2 ^ MAX_HEIGHT = pow-le-pow_right {n = 2} (lit< tt) grid.limit in
+      let far : 2 ^ n ≤ 2 ^ height = pow-le-pow_right {n = 2} (lit< tt) low in (
+        stretch base.x cell.x (column_of MAX_HEIGHT prefix) (2 ^ n) grid.left grid.right inside.left
+            (omega (arith, inside.right)) (pow_pos n) (omega arith) ends.1,
+        stretch base.y cell.y (row_of MAX_HEIGHT prefix) (2 ^ n) grid.below grid.above inside.below
+            (omega (arith, inside.above)) (pow_pos n) (omega arith) ends.0,
+      )
+
+  -- it holds the cell, and is near 0
+  pub in_area : in_box (area_at base (node n prefix)) cell ≡ true
+  in_area = and_from _ _ stretches.0.holds stretches.1.holds
+
+  pub area_within : IsBoxWithin (area_at base (node n prefix))
+  area_within =
+      record { x1 = stretches.0.first; y1 = stretches.1.first; x2 = stretches.0.last; y2 = stretches.1.last }

@@ -1,5 +1,5 @@
 -- A tree that was built stands for the cells that it was built from.
-use Rattle.std.proofs.Common.{◌≡◌, ℕ, zero, suc, ◌*◌, ◌/◌, ◌^◌, ◌<◌, ◌≤◌, Bool, List, [], ◌∷◌, length, map, take}
+use Rattle.std.proofs.Common.{◌≡◌, ℕ, zero, suc, ◌*◌, ◌/◌, ◌^◌, ◌<◌, ◌≤◌, Bool, List, [], ◌∷◌, length, map}
 use Rattle.std.proofs.Common.{sym, ap, ◌∙◌, inl, inr, arith, subst, All, length-append, get_or}
 use Rattle.std.proofs.Math.Nat.{mul-le-mul_left}
 use Rattle.std.proofs.lemmas.List.{length-map}
@@ -13,8 +13,8 @@ use Rattle.k2_tree.specs.Tree.{codes_in, tree_bits, tree_of, tree_with, AreTreeB
 use Rattle.k2_tree.proofs.MortonLemmas.{morton_of-lt}
 use Rattle.k2_tree.proofs.RisingLemmas.{rises}
 use Rattle.k2_tree.proofs.PrefixLemmas.{by_test, once_from}
-use Rattle.k2_tree.proofs.TreeLemmas.{length-level_bits}
-use Rattle.k2_tree.proofs.DecodingLemmas.{AreTreeBits-morton_bits, codes_in-morton_bits}
+use Rattle.k2_tree.proofs.NavigationLemmas.{length-level_bits}
+use Rattle.k2_tree.proofs.DescentLemmas.{AreTreeBits-morton_bits, codes_in-morton_bits}
 use Rattle.k2_tree.proofs.CellLemmas.{cells_back, codes_back}
 
 length-once_from : (k : ℕ) (xs : List ℕ) → length (once_from k xs) ≤ suc (length xs)
@@ -82,9 +82,8 @@ built height base cells bits grid few inside up is =
     )
 
 -- a stored tree's bits are those that are stored
-pub given_back : (height : ℕ) (base : Cell) (bits : List Bool) → IsStored height base bits
+pub given_back : {height : ℕ} {base : Cell} {bits : List Bool} → IsStored height base bits
     → bits ≡ tree_bits (tree_of height base bits)
 unfolding tree_bits
-given_back height base bits stored =
-    stored.tree.exact
-    ∙ ap (morton_bits height) (sym (codes_back height base (codes_in height bits) stored.tree.codes.small))
+given_back {height} {base} {bits} stored =
+    rw (codes_back height base (codes_in height bits) stored.tree.codes.small) stored.tree.exact

@@ -1,15 +1,16 @@
 -- The bits of Morton numbers have no flaw, so flawed bits are those of none.
 use Rattle.std.proofs.Common.{◌≡◌, ℕ, zero, suc, ◌+◌, ◌*◌, ◌/◌, ◌%◌, ◌==◌, ◌||◌, Bool, true, false, List, []}
 use Rattle.std.proofs.Common.{◌∷◌, ◌++◌, length, map, take, drop, refl, sym, ap, ◌∙◌, inl, inr, arith, None, Some}
-use Rattle.std.proofs.lemmas.Bool.{false≢true, le-leb, or_right}
+use Rattle.std.proofs.lemmas.Bool.{le-leb, or_right}
 use Rattle.std.proofs.lemmas.Option.{none-some}
 use Rattle.std.proofs.lemmas.List.{take_at, drop_at}
 use Rattle.std.specs.Option.{option_map}
+use Rattle.std.specs.List.{list_any}
 use Rattle.k2_tree.specs.TreeBits.{is_in, prefixes, longer, level_bits, morton_bits, Rises, AreCodes}
 use Rattle.k2_tree.specs.Flaws.{group_flaw, level_flaw, tree_flaw, AreNoTree}
 use Rattle.k2_tree.proofs.RisingLemmas.{is_in-first}
 use Rattle.k2_tree.proofs.PrefixLemmas.{by_test, is_in-parents, prefixes-top}
-use Rattle.k2_tree.proofs.TreeLemmas.{length-level_bits, ones_of-level_bits}
+use Rattle.k2_tree.proofs.NavigationLemmas.{length-level_bits, ones_of-level_bits}
 use Rattle.k2_tree.proofs.DescentLemmas.{morton_bits-none}
 
 -- whether a child of the square with this prefix is there
@@ -26,22 +27,17 @@ any_child-of codes x is =
     grind (arith, digit 0, digit 1, digit 2, digit 3)
 
 -- a parent has a child
-child_from_parents : (codes : List ℕ) (p : ℕ) → is_in (map (λ x. x / 4) codes) p ≡ true
-    → (x : ℕ) × (is_in codes x ≡ true) × (x / 4 ≡ p)
-child_from_parents [] p is = absurd (false≢true is)
-child_from_parents (x ∷ xs) p is = elim (by_test (x / 4) p) [
-  | inl same ↦ (x, is_in-first x xs, same.0)
-  | inr differ ↦
-      let later = child_from_parents xs p (rw differ.1 at is) in
-      (later.0, or_right (x == later.0) (is_in xs later.0) later.1, later.2)
+any_child-parents : (codes : List ℕ) (p : ℕ) → list_any (λ x. x / 4 == p) codes ≡ true → any_child codes p ≡ true
+any_child-parents [] p is = is
+any_child-parents (x ∷ xs) p is = elim (by_test (x / 4) p) [
+  | inl same ↦ ap (any_child (x ∷ xs)) (sym same.0) ∙ any_child-of (x ∷ xs) x (is_in-first x xs)
+  | inr differ ↦ grind (arith, any_child-parents xs p (rw differ.1 at is))
 ]
 
 -- each square of a level has a child in the next
 any_child-prefixes : (n : ℕ) (codes : List ℕ) (p : ℕ) → is_in (prefixes (suc n) codes) p ≡ true
     → any_child (prefixes n codes) p ≡ true
-any_child-prefixes n codes p is =
-    let child = child_from_parents (prefixes n codes) p (sym (is_in-parents n codes p) ∙ is) in
-    ap (any_child (prefixes n codes)) (sym child.2) ∙ any_child-of (prefixes n codes) child.0 child.1
+any_child-prefixes n codes p is = any_child-parents (prefixes n codes) p (sym (is_in-parents n codes p) ∙ is)
 
 -- where each square has a child, no group is flawed
 group_flaw-children : (above below : List ℕ) (rest : List Bool)

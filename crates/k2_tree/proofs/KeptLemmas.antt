@@ -1,19 +1,23 @@
--- What a test of boxes keeps of a tree's leaves, and that it loses nothing wanted.
-use Rattle.std.proofs.Common.{◌≡◌, ℕ, zero, suc, ◌+◌, ◌/◌, ◌^◌, ◌≤◌, Bool, true, List, [], ◌∷◌, filter, refl}
-use Rattle.std.proofs.Common.{arith, All}
-use Rattle.std.specs.Prelude.{if◌then◌else◌}
+-- What tests of boxes keep of a tree: nothing wanted is lost, and a stronger test keeps fewer squares and leaves.
+use Rattle.std.proofs.Common.{◌≡◌, ℕ, zero, suc, ◌+◌, ◌/◌, ◌^◌, ◌≤◌, ◌==◌, Bool, true, List, [], ◌∷◌, length, filter}
+use Rattle.std.proofs.Common.{map, refl, sym, subst, arith, All}
+use Rattle.std.specs.List.{enumerate_from}
 use Rattle.std.proofs.lemmas.Bool.{and_from, and_parts}
-use Rattle.std.proofs.lemmas.List.Elements.{All-nil, All-cons, All-head, All-tail, All-weaker}
+use Rattle.std.proofs.lemmas.List.Elements.{All-append, All-nil, All-cons, All-head, All-map, All-tail, All-weaker}
+use Rattle.std.proofs.lemmas.List.Filters.{All-dedup}
+use Rattle.list_laws.proofs.FilterLemmas.{filter_implied, length-filter-le}
+use Rattle.track_types.specs.Near.{IsBoxWithin}
 use Rattle.track_types.specs.declared.cell.Cell.{Cell}
 use Rattle.track_types.specs.declared.cell_box.CellBox.{CellBox}
-use Rattle.std.specs.List.{enumerate_from, sum_by}
 use Rattle.k2_tree.specs.Morton.{morton_of, IsInGrid}
-use Rattle.k2_tree.specs.Squares.{Node, node}
+use Rattle.k2_tree.specs.TreeBits.{fan, prefixes}
+use Rattle.k2_tree.specs.Squares.{Node, node, level_squares, squares_from}
 use Rattle.k2_tree.specs.Areas.{area_at}
-use Rattle.k2_tree.specs.Tree.{Tree, IsTree}
-use Rattle.k2_tree.specs.Pruning.{kept_leaves, leaves_of, on_areas, passes, passes_at, IsKeptFor}
+use Rattle.k2_tree.specs.Tree.{Tree, codes_of, IsTree}
+use Rattle.k2_tree.specs.TreeSquares.{squares_of}
+use Rattle.k2_tree.specs.Pruning.{kept_leaves, leaves_of, on_areas, passes, passes_at, square_count, IsKeptFor, IsWeaker}
 use Rattle.k2_tree.proofs.AreaLemmas.{area_within, in_area}
-use Rattle.list_laws.proofs.FilterLemmas.{filter_implied, sum_by-filter}
+use Rattle.k2_tree.proofs.SquareLemmas.{squares_from-zero}
 
 -- a test that is true on each square from a level down passes
 pub passes-from_each : (test : Node → Bool) (n code : ℕ)
@@ -41,12 +45,6 @@ All-enumerate_from P k (cell ∷ cells) each =
     All-cons (λ (leaf : ℕ × Cell). P leaf.1) (k, cell) (enumerate_from (k + 1) cells) (All-head P cell cells each)
     (All-enumerate_from P (k + 1) cells (All-tail P cell cells each))
 
--- a sum over the kept leaves is one over all leaves whose cells pass
-pub kept_leaves-sum : (keep : CellBox → Bool) (tree : Tree) (weight : ℕ × Cell → ℕ)
-    → sum_by weight (kept_leaves keep tree)
-    ≡ sum_by (λ leaf. if passes_at keep tree leaf.1 then weight leaf else 0) (leaves_of tree)
-kept_leaves-sum keep tree weight = sum_by-filter weight (λ leaf. passes_at keep tree leaf.1) (leaves_of tree)
-
 -- a test of boxes is true on each square of a wanted cell
 pub passes-wanted : (keep : CellBox → Bool) (wanted : Cell → Bool) (tree : Tree) → IsTree tree
     → IsKeptFor keep wanted → (cell : Cell) → IsInGrid tree.height tree.base cell → wanted cell ≡ true
@@ -55,8 +53,7 @@ unfolding passes_at
 passes-wanted keep wanted tree is only cell inside want =
     passes-from_each (on_areas keep tree) tree.height (morton_of tree.height tree.base cell)
     (λ m low. only (area_at tree.base (node m (morton_of tree.height tree.base cell / 4 ^ m))) cell
-    (area_within tree.height m tree.base cell is.grid inside low)
-    (in_area tree.height m tree.base cell inside is.grid.limit) want)
+    (area_within is.grid inside m low) (in_area is.grid inside m low) want)
 
 -- of the leaves that a test keeps the wanted ones are all that the tree has
 pub kept_leaves-wanted : (keep : CellBox → Bool) (wanted : Cell → Bool) (tree : Tree) → IsTree tree
@@ -67,3 +64,60 @@ kept_leaves-wanted keep wanted tree is only =
     filter_implied (λ leaf. wanted leaf.1) (λ leaf. passes_at keep tree leaf.1) (leaves_of tree)
     (All-enumerate_from P 0 tree.cells
     (All-weaker (IsInGrid tree.height tree.base) P (passes-wanted keep wanted tree is only) tree.cells is.inside))
+
+-- what holds of each number's square of a level holds of the level's squares
+All-level : (P : Node → Type 0) (n : ℕ) (codes : List ℕ) → All (λ code. P (node n (code / fan ^ n))) codes
+    → All P (level_squares n codes)
+unfolding prefixes
+All-level P n codes each =
+    All-map P (node n) (prefixes n codes) (All-dedup (λ a b. a == b) (λ prefix. P (node n prefix))
+    (map (λ code. code / fan ^ n) codes) (All-map (λ prefix. P (node n prefix)) (λ code. code / fan ^ n) codes each))
+
+-- what holds of the square of each level in which each cell lies holds of all squares
+pub All-squares_from : (P : Node → Type 0) (n : ℕ) (codes : List ℕ)
+    → ((level : ℕ) → level ≤ n → All (λ code. P (node level (code / fan ^ level))) codes)
+    → All P (squares_from n codes)
+unfolding squares_from
+All-squares_from P zero codes each =
+    subst (All P) (sym (squares_from-zero codes)) (All-level P 0 codes (each 0 (omega arith)))
+All-squares_from P (suc n) codes each =
+    All-append P (level_squares (suc n) codes) (squares_from n codes)
+    (All-level P (suc n) codes (each (suc n) (omega arith)))
+    (All-squares_from P n codes (λ level low. each level (omega arith)))
+
+module _ (tree : Tree) (is : IsTree tree) where
+  -- the area of each square of a tree is near 0
+  pub areas_within : All (λ square. IsBoxWithin (area_at tree.base square)) (squares_of tree)
+  areas_within =
+      All-squares_from (λ square. IsBoxWithin (area_at tree.base square)) tree.height (codes_of tree)
+      (λ level low. All-map (λ code. IsBoxWithin (area_at tree.base (node level (code / fan ^ level))))
+      (morton_of tree.height tree.base) tree.cells
+      (All-weaker (IsInGrid tree.height tree.base)
+      (λ cell. IsBoxWithin (area_at tree.base (node level (morton_of tree.height tree.base cell / fan ^ level))))
+      (λ cell inside. area_within is.grid inside level low) tree.cells is.inside))
+
+  module _ (weak strong : CellBox → Bool) (only : IsWeaker weak strong) where
+    -- fewer squares pass the stronger test
+    pub square_count-le : square_count strong tree ≤ square_count weak tree
+    square_count-le =
+        length-filter-le (on_areas strong tree) (on_areas weak tree) (squares_of tree)
+        (All-weaker (λ square. IsBoxWithin (area_at tree.base square))
+        (λ square. on_areas strong tree square ≡ true → on_areas weak tree square ≡ true)
+        (λ square. only (area_at tree.base square)) (squares_of tree) areas_within)
+
+    -- what passes the stronger test at a cell passes the weaker
+    passes_at-weaker : (cell : Cell) → IsInGrid tree.height tree.base cell → passes_at strong tree cell ≡ true
+        → passes_at weak tree cell ≡ true
+    unfolding passes_at
+    passes_at-weaker cell inside =
+        passes-weaker (on_areas strong tree) (on_areas weak tree) tree.height (morton_of tree.height tree.base cell)
+        (λ m low. only (area_at tree.base (node m (morton_of tree.height tree.base cell / fan ^ m)))
+        (area_within is.grid inside m low))
+
+    -- fewer leaves pass it
+    pub kept_leaves-le : length (kept_leaves strong tree) ≤ length (kept_leaves weak tree)
+    kept_leaves-le =
+        let P : Cell → Type 0 = λ cell. passes_at strong tree cell ≡ true → passes_at weak tree cell ≡ true in
+        length-filter-le (λ leaf. passes_at strong tree leaf.1) (λ leaf. passes_at weak tree leaf.1) (leaves_of tree)
+        (All-enumerate_from P 0 tree.cells
+        (All-weaker (IsInGrid tree.height tree.base) P passes_at-weaker tree.cells is.inside))

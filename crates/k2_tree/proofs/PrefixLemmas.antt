@@ -4,18 +4,16 @@ use Rattle.std.proofs.Common.{Bool, true, false, List, [], ◌∷◌, map, filte
 use Rattle.std.proofs.Common.{refl, sym, ap, ◌∙◌, inl, inr, arith, lit<, subst}
 use Rattle.std.proofs.lemmas.Bool.{cases_Bool}
 use Rattle.std.proofs.lemmas.Bool.Decides.{nat_tests}
-use Rattle.std.proofs.lemmas.Bool.{cases_lt}
-use Rattle.std.proofs.Math.Nat.{div-div-eq-div-mul, div-one, pow-suc, div-eq_of_lt, div-mul-le_self, le-div_iff_mul-le}
-use Rattle.std.specs.List.{dedup, dedup_from}
+use Rattle.std.proofs.lemmas.Nat.{le-div}
+use Rattle.std.proofs.Math.Nat.{div-one, pow-suc, div-eq_of_lt, div-mul-le_self}
+use Rattle.std.specs.List.{dedup_from, list_any}
 use Rattle.k2_tree.specs.TreeBits.{is_in, prefixes, longer, Rises}
+use Rattle.k2_tree.proofs.MortonLemmas.{div-pow_suc}
 use Rattle.k2_tree.proofs.RisingLemmas.{Climbs, Rises-weaker, other_test, same_from_rising}
 
 -- each number once
 abbrev pub once_from : ℕ → List ℕ → List ℕ
 once_from = dedup_from (λ a b. a == b)
-
-abbrev pub once : List ℕ → List ℕ
-once = dedup (λ a b. a == b)
 
 -- by the test's answer
 pub by_test : (x k : ℕ) → ((x ≡ k) × ((x == k) ≡ true)) ⊎ ((x ≡ k → ⊥) × ((x == k) ≡ false))
@@ -28,30 +26,16 @@ by_test x k = elim (cases_Bool (x == k)) [
 once_from-rises : (k : ℕ) (xs : List ℕ) → Climbs k xs → Rises k (once_from k xs)
 once_from-rises k [] up = (omega arith, tt)
 once_from-rises k (x ∷ xs) up = elim (by_test x k) [
-  | inl same ↦
-      let up' : Climbs k xs = subst (λ z. Climbs z xs) same.0 up.1 in
-      rw same.1 (once_from-rises k xs up')
+  | inl same ↦ let up' : Climbs k xs = subst (λ z. Climbs z xs) same.0 up.1 in rw same.1 (once_from-rises k xs up')
   | inr differ ↦
       let low : k ≤ x = up.0 in
-      let apart : k < x = lt_from k x low differ.0 in
+      let apart : k < x = omega (arith, differ.0) in
       rw differ.1 (omega arith, Rises-weaker (suc k) x (once_from x xs) (omega arith) (once_from-rises x xs up.1))
 ]
-  where
-    lt_from : (k x : ℕ) → k ≤ x → (x ≡ k → ⊥) → k < x
-    lt_from k x low differ = elim (cases_lt k x) [ inl less ↦ less | inr more ↦ absurd (differ (omega arith)) ]
-
--- the list has the same members when each stands once
-is_in-once_from : (k : ℕ) (xs : List ℕ) (c : ℕ) → is_in (once_from k xs) c ≡ is_in (k ∷ xs) c
-is_in-once_from k [] c = refl
-is_in-once_from k (x ∷ xs) c = grind (arith, nat_tests, is_in-once_from k xs c, is_in-once_from x xs c)
-
-pub is_in-once : (xs : List ℕ) (c : ℕ) → is_in (once xs) c ≡ is_in xs c
-is_in-once [] c = refl
-is_in-once (x ∷ xs) c = is_in-once_from x xs c
 
 -- division keeps the order
 pub div-le : (k a b : ℕ) → 0 < k → a ≤ b → a / k ≤ b / k
-div-le k a b some le = (le-div_iff_mul-le {k = k} {x = a / k} {y = b} some).1 (omega (arith, le, div-mul-le_self a k))
+div-le k a b some le = le-div (a / k) b k some (omega (arith, le, div-mul-le_self a k))
 
 -- powers of the fan are not 0
 pub fan_pos : (n : ℕ) → 0 < 4 ^ n
@@ -75,50 +59,44 @@ pub prefixes-rise : (n : ℕ) (codes : List ℕ) → Rises 0 codes → Rises 0 (
 unfolding prefixes
 prefixes-rise n [] up = tt
 prefixes-rise n (c ∷ cs) up =
-    let all = climbs-divided 0 (4 ^ n) (c ∷ cs) (fan_pos n) up in
     Rises-weaker 0 (c / 4 ^ n) (once_from (c / 4 ^ n) (map (λ x. x / 4 ^ n) cs)) (omega arith)
-    (once_from-rises (c / 4 ^ n) (map (λ x. x / 4 ^ n) cs) all.1)
+    (once_from-rises (c / 4 ^ n) (map (λ x. x / 4 ^ n) cs) (climbs-divided 0 (4 ^ n) (c ∷ cs) (fan_pos n) up).1)
 
--- a member's image is a member of the images
-pub is_in-map : (f : ℕ → ℕ) (xs : List ℕ) (c : ℕ) → is_in xs c ≡ true → is_in (map f xs) (f c) ≡ true
-is_in-map f [] c is = is
-is_in-map f (x ∷ xs) c is = grind (arith, nat_tests, is_in-map f xs c)
+-- what a test finds among the prefixes it finds of the numbers
+pub any-prefixes : (p : ℕ → Bool) (n : ℕ) (codes : List ℕ)
+    → list_any p (prefixes n codes) ≡ list_any (λ code. p (code / 4 ^ n)) codes
+unfolding prefixes
+any-prefixes p n [] = refl
+any-prefixes p n (c ∷ cs) = once (c / 4 ^ n) cs
+  where
+    once : (k : ℕ) (xs : List ℕ)
+        → list_any p (once_from k (map (λ x. x / 4 ^ n) xs)) ≡ (p k || list_any (λ x. p (x / 4 ^ n)) xs)
+    once k [] = refl
+    once k (x ∷ xs) = grind (arith, nat_tests, once k xs, once (x / 4 ^ n) xs)
+
+-- a member's image is among the images
+any-image : (f : ℕ → ℕ) (xs : List ℕ) (c : ℕ) → is_in xs c ≡ true → list_any (λ x. f x == f c) xs ≡ true
+any-image f [] c is = is
+any-image f (x ∷ xs) c is = grind (arith, nat_tests, any-image f xs c)
 
 -- a number's prefix occurs
 pub prefixes-of : (n : ℕ) (codes : List ℕ) (c : ℕ) → is_in codes c ≡ true → is_in (prefixes n codes) (c / 4 ^ n) ≡ true
-unfolding prefixes
-prefixes-of n codes c is =
-    is_in-once (map (λ x. x / 4 ^ n) codes) (c / 4 ^ n) ∙ is_in-map (λ x. x / 4 ^ n) codes c is
-
--- a digit less
-pub fourth : (code n : ℕ) → code / 4 ^ n / 4 ≡ code / 4 ^ suc n
-fourth code n = div-div-eq-div-mul code (4 ^ n) 4 ∙ ap (λ p. code / p) (sym (pow-suc 4 n))
-
--- images of the list in which each number stands once
-is_in-map-once_from : (f : ℕ → ℕ) (k : ℕ) (xs : List ℕ) (c : ℕ)
-    → is_in (map f (once_from k xs)) c ≡ is_in (map f (k ∷ xs)) c
-is_in-map-once_from f k [] c = refl
-is_in-map-once_from f k (x ∷ xs) c =
-    grind (arith, nat_tests, is_in-map-once_from f k xs c, is_in-map-once_from f x xs c)
+prefixes-of n codes c is = any-prefixes (λ o. o == c / 4 ^ n) n codes ∙ any-image (λ x. x / 4 ^ n) codes c is
 
 -- the prefixes one digit shorter are the parents of these
 pub is_in-parents : (n : ℕ) (codes : List ℕ) (c : ℕ)
-    → is_in (prefixes (suc n) codes) c ≡ is_in (map (λ x. x / 4) (prefixes n codes)) c
-unfolding prefixes
-is_in-parents n [] c = refl
-is_in-parents n (x ∷ xs) c =
-    is_in-once (map (λ x. x / 4 ^ suc n) (x ∷ xs)) c ∙ divided (x ∷ xs)
-    ∙ sym (is_in-map-once_from (λ x. x / 4) (x / 4 ^ n) (map (λ x. x / 4 ^ n) xs) c)
+    → is_in (prefixes (suc n) codes) c ≡ list_any (λ x. x / 4 == c) (prefixes n codes)
+is_in-parents n codes c =
+    any-prefixes (λ o. o == c) (suc n) codes ∙ same codes ∙ sym (any-prefixes (λ x. x / 4 == c) n codes)
   where
-    divided : (xs : List ℕ)
-        → is_in (map (λ x. x / 4 ^ suc n) xs) c ≡ is_in (map (λ x. x / 4) (map (λ x. x / 4 ^ n) xs)) c
-    divided [] = refl
-    divided (x ∷ xs) = rw (fourth x n) (ap (λ b. (x / 4 ^ suc n == c) || b) (divided xs))
+    same : (xs : List ℕ) → list_any (λ x. x / 4 ^ suc n == c) xs ≡ list_any (λ x. x / 4 ^ n / 4 == c) xs
+    same [] = refl
+    same (x ∷ xs) = rw (div-pow_suc 4 x n) (ap (λ b. (x / 4 ^ suc n == c) || b) (same xs))
 
 -- where a prefix occurs, the one without its last digit does
 pub prefixes-shorter : (n : ℕ) (codes : List ℕ) (c : ℕ)
     → is_in (prefixes n codes) c ≡ true → is_in (prefixes (suc n) codes) (c / 4) ≡ true
-prefixes-shorter n codes c is = is_in-parents n codes (c / 4) ∙ is_in-map (λ x. x / 4) (prefixes n codes) c is
+prefixes-shorter n codes c is = is_in-parents n codes (c / 4) ∙ any-image (λ x. x / 4) (prefixes n codes) c is
 
 -- the prefixes that leave no digit away are the numbers
 pub prefixes-zero : (codes : List ℕ) → Rises 0 codes → prefixes 0 codes ≡ codes
@@ -173,8 +151,7 @@ unfolding longer
 longer-rises n [] up = tt
 longer-rises n (x ∷ xs) up =
     let low : n ≤ x = up.0 in
-    let rest = longer-rises (suc x) xs up.1 in
-    let later = Rises-weaker (suc (4 * x + 3)) (4 * suc x) (longer xs) (omega arith) rest in
+    let later = Rises-weaker (suc (4 * x + 3)) (4 * suc x) (longer xs) (omega arith) (longer-rises (suc x) xs up.1) in
     (omega arith, (omega arith, (omega arith, (omega arith, later))))
 
 -- a prefix without its last digit tells whether it is a longer one

@@ -1,32 +1,33 @@
--- What tests keep of a tree, level by level.
-use Rattle.std.proofs.Common.{◌≡◌, ℕ, zero, suc, ◌+◌, ◌*◌, ◌/◌, ◌^◌, Bool, true, false, List, [], ◌∷◌}
-use Rattle.std.proofs.Common.{filter, sym, ap, ◌∙◌, arith, All}
+-- What tests keep of a tree, level by level, and the leaves that these numbers are.
+use Rattle.std.proofs.Common.{◌≡◌, ℕ, zero, suc, ◌+◌, ◌*◌, ◌/◌, ◌^◌, ◌<◌, Bool, true, false, List, [], ◌∷◌}
+use Rattle.std.proofs.Common.{length, map, filter, get_or, refl, inl, inr, sym, ap, ◌∙◌, arith, All}
 use Rattle.std.proofs.Math.Bool.{and-true}
 use Rattle.std.proofs.Math.Nat.{div-one}
-use Rattle.std.proofs.lemmas.List.Elements.{filter_agree, All-head, All-tail, All-nil, All-cons, All-weaker, All-filter}
+use Rattle.std.proofs.lemmas.List.Elements.{filter_agree, All-head, All-tail, All-nil, All-cons, All-filter, All-from_recursion, All-weaker}
 use Rattle.std.proofs.lemmas.List.Sums.{sum_by-append}
 use Rattle.std.specs.Prelude.{if◌then◌else◌}
-use Rattle.std.specs.List.{flat_map, sum_by}
-use Rattle.k2_tree.specs.TreeBits.{is_in, prefixes, longer, Rises}
+use Rattle.std.specs.List.{enumerate_from, flat_map, sum_by}
+use Rattle.std.proofs.lemmas.Bool.{cases_Bool}
+use Rattle.track_types.specs.declared.cell.Cell.{Cell}
+use Rattle.k2_tree.specs.Morton.{morton_of, cell_of}
+use Rattle.k2_tree.specs.TreeBits.{is_in, prefixes, longer, Rises, AreCodes}
 use Rattle.k2_tree.specs.Squares.{Node, node, level_squares, squares_from}
-use Rattle.k2_tree.specs.Pruning.{passes, children, kept_below, weight_below}
+use Rattle.k2_tree.specs.Pruning.{passes, children, kept_below, leaf_with, place_among, weight_below}
+use Rattle.k2_tree.proofs.MortonLemmas.{div-pow_suc, morton_of-cell_of}
+use Rattle.k2_tree.proofs.RisingLemmas.{place_among-at}
 use Rattle.k2_tree.proofs.PrefixLemmas.{prefixes-from_longer, prefixes-zero}
-use Rattle.k2_tree.proofs.PrefixLemmas.{fourth}
 use Rattle.k2_tree.proofs.SquareLemmas.{squares_from-zero}
 use Rattle.list_laws.proofs.FilterLemmas.{flat_map_if, filter_and}
-use Rattle.list_laws.proofs.FlatLemmas.{filter-flat_map, flat_map-flat_map, flat_map_agree, All-flat_map, sum_by-flat_map, sum_by-map, sum_by_plus}
-
--- what a test keeps of the longer prefixes, prefix by prefix
-filter-longer : (p : ℕ → Bool) (xs : List ℕ) → filter p (longer xs) ≡ flat_map (λ x. filter p (longer (x ∷ []))) xs
-unfolding longer
-filter-longer p xs = filter-flat_map p (λ x. longer (x ∷ [])) xs
+use Rattle.list_laws.proofs.FlatLemmas.{filter-flat_map, flat_map-flat_map, flat_map_agree, All-flat_map}
+use Rattle.list_laws.proofs.FlatLemmas.{sum_by-flat_map, sum_by-map, sum_by_plus}
 
 -- the children of all squares of a level are the squares of the next
 pub children-flat : (n : ℕ) (codes : List ℕ) → Rises 0 codes
     → flat_map (children n codes) (prefixes (suc n) codes) ≡ prefixes n codes
-unfolding children
+unfolding children longer
 children-flat n codes up =
-    sym (filter-longer (is_in (prefixes n codes)) (prefixes (suc n) codes)) ∙ prefixes-from_longer n codes up
+    sym (filter-flat_map (is_in (prefixes n codes)) (λ x. longer (x ∷ [])) (prefixes (suc n) codes))
+    ∙ prefixes-from_longer n codes up
 
 -- a child has its square's prefix
 children-prefix : (n : ℕ) (codes : List ℕ) (r : ℕ) → All (λ q. q / 4 ≡ r) (children n codes r)
@@ -34,17 +35,15 @@ unfolding children longer
 children-prefix n codes r =
     let P : ℕ → Type 0 = λ q. q / 4 ≡ r in
     All-filter (is_in (prefixes n codes)) P (4 * r ∷ (4 * r + 1) ∷ (4 * r + 2) ∷ (4 * r + 3) ∷ [])
-    (All-cons P (4 * r) ((4 * r + 1) ∷ (4 * r + 2) ∷ (4 * r + 3) ∷ []) (omega arith)
-    (All-cons P (4 * r + 1) ((4 * r + 2) ∷ (4 * r + 3) ∷ []) (omega arith)
-    (All-cons P (4 * r + 2) ((4 * r + 3) ∷ []) (omega arith)
-    (All-cons P (4 * r + 3) [] (omega arith) (All-nil P)))))
+    (All-from_recursion P (4 * r ∷ (4 * r + 1) ∷ (4 * r + 2) ∷ (4 * r + 3) ∷ [])
+    (omega arith, (omega arith, (omega arith, (omega arith, tt)))))
 
 -- what has the prefix of a child has that of the square
 all_longer-prefix : (n q r : ℕ) (xs : List ℕ) → q / 4 ≡ r
     → All (λ c. c / 4 ^ n ≡ q) xs → All (λ c. c / 4 ^ suc n ≡ r) xs
 all_longer-prefix n q r xs is each =
     All-weaker (λ c. c / 4 ^ n ≡ q) (λ c. c / 4 ^ suc n ≡ r)
-    (λ c e. sym (fourth c n) ∙ ap (λ z. z / 4) e ∙ is) xs each
+    (λ c e. sym (div-pow_suc 4 c n) ∙ ap (λ z. z / 4) e ∙ is) xs each
 
 -- the numbers below the children of a square have its prefix where each has its child's
 flat_map-prefix : (n : ℕ) (codes : List ℕ) (r : ℕ) (below : ℕ → List ℕ)
@@ -79,15 +78,6 @@ filter-prefix p n r (x ∷ xs) each =
     let P : ℕ → Type 0 = λ c. c / 4 ^ n ≡ r in
     grind (arith, All-head P x xs each, filter-prefix p n r xs (All-tail P x xs each))
 
--- a test on a square keeps all or none of what is kept below its children
-kept_below-step : (test : Node → Bool) (codes : List ℕ) (n r : ℕ)
-    → filter (λ c. test (node (suc n) (c / 4 ^ suc n))) (flat_map (kept_below test codes n) (children n codes r))
-    ≡ kept_below test codes (suc n) r
-unfolding kept_below
-kept_below-step test codes n r =
-    filter-prefix (λ p. test (node (suc n) p)) (suc n) r (flat_map (kept_below test codes n) (children n codes r))
-    (flat_map-prefix n codes r (kept_below test codes n) (kept_below-prefix test codes n))
-
 -- at level 0 the own square alone is tested
 passes-zero : (test : Node → Bool) (code : ℕ) → passes test 0 code ≡ test (node 0 code)
 unfolding passes
@@ -105,7 +95,8 @@ kept_below-all test (suc n) codes up =
     let below : ℕ → List ℕ = kept_below test codes n in
     let each : ℕ → List ℕ = λ r. flat_map below (children n codes r) in
     let kept : (r : ℕ) → kept_below test codes (suc n) r ≡ filter top (each r) =
-    λ r. sym (kept_below-step test codes n r) in
+    λ r. sym (filter-prefix (λ p. test (node (suc n) p)) (suc n) r (each r)
+    (flat_map-prefix n codes r below (kept_below-prefix test codes n))) in
     flat_map_agree (kept_below test codes (suc n)) (λ r. filter top (each r)) kept (prefixes (suc n) codes)
     ∙ sym (filter-flat_map top each (prefixes (suc n) codes))
     ∙ ap (filter top) (sym (flat_map-flat_map below (children n codes) (prefixes (suc n) codes)))
@@ -130,3 +121,27 @@ weight_below-all weight (suc n) codes up =
     ∙ ap (λ k. k + sum_by (λ p. sum_by below (children n codes p)) ps) (sym (sum_by-map weight (node (suc n)) ps))
     ∙ ap (λ k. sum_by weight (level_squares (suc n) codes) + k) later
     ∙ sym (sum_by-append weight (level_squares (suc n) codes) (squares_from n codes))
+
+-- the cells of numbers that stand from a place on, and what a test keeps of them
+enumerate_from-cells : (height : ℕ) (base : Cell) (p : ℕ → Bool) (place : ℕ → ℕ) (k : ℕ) (codes : List ℕ)
+    → All (λ code. code < 4 ^ height) codes → ((i : ℕ) → i < length codes → place (get_or codes i 0) ≡ k + i)
+    → map (λ code. (place code, cell_of height base code)) (filter p codes)
+    ≡ filter (λ leaf. p (morton_of height base leaf.1)) (enumerate_from k (map (cell_of height base) codes))
+enumerate_from-cells height base p place k [] small stands = refl
+enumerate_from-cells height base p place k (c ∷ cs) small stands =
+    let back = morton_of-cell_of height base c (small 0 c (omega arith)) in
+    let here : place c ≡ k = stands 0 (omega arith) ∙ omega arith in
+    let rest = enumerate_from-cells height base p place (k + 1) cs (λ i d h. small (suc i) d (omega arith))
+    (λ i h. stands (suc i) (omega arith) ∙ omega arith) in
+    elim (cases_Bool (p c)) [
+      | inl kept ↦ rw (back, kept, here) (ap (λ xs. (k, cell_of height base c) ∷ xs) rest)
+      | inr gone ↦ rw (back, gone) rest
+    ]
+
+-- the leaves of the numbers that pass a test are the cells with their numbers whose numbers pass it
+pub leaves-enumerated : (height : ℕ) (base : Cell) (p : ℕ → Bool) (codes : List ℕ) → AreCodes height codes
+    → map (leaf_with height base codes) (filter p codes)
+    ≡ filter (λ leaf. p (morton_of height base leaf.1)) (enumerate_from 0 (map (cell_of height base) codes))
+leaves-enumerated height base p codes are =
+    enumerate_from-cells height base p (place_among codes) 0 codes are.small
+    (λ i h. place_among-at 0 i codes are.rising h ∙ omega arith)

@@ -5,6 +5,7 @@ use Rattle.std.proofs.lemmas.Bool.Decides.{nat_tests}
 use Rattle.std.proofs.lemmas.Bool.{false≢true}
 use Rattle.std.specs.List.Sorted.{IsStrictlyIncreasing}
 use Rattle.k2_tree.specs.TreeBits.{is_in, Rises}
+use Rattle.k2_tree.specs.Pruning.{place_among}
 
 -- the numbers are at least n and none is below the one before
 abbrev pub Climbs : ℕ → List ℕ → Type 0
@@ -28,19 +29,7 @@ pub rises : (xs : List ℕ) → IsStrictlyIncreasing xs → Rises 0 xs
 rises [] up = tt
 rises (x ∷ xs) up = Rises-from_increasing 0 x xs (omega arith) up
 
--- and numbers that rise ascend
-pub IsStrictlyIncreasing-from_rises : (n : ℕ) (xs : List ℕ) → Rises n xs → IsStrictlyIncreasing xs
-IsStrictlyIncreasing-from_rises n [] up k within = absurd (omega arith)
-IsStrictlyIncreasing-from_rises n (x ∷ []) up k within = absurd (omega arith)
-IsStrictlyIncreasing-from_rises n (x ∷ y ∷ ys) up zero within = up.1.0
-IsStrictlyIncreasing-from_rises n (x ∷ y ∷ ys) up (suc k) within =
-    let e : suc k + 1 ≡ suc (k + 1) = omega arith in
-    rw e (IsStrictlyIncreasing-from_rises (suc x) (y ∷ ys) up.1 k (omega arith))
-
--- what is compared with itself is equal
-pub same_test : (x : ℕ) → (x == x) ≡ true
-same_test x = grind (arith, nat_tests)
-
+-- numbers that differ fail the test
 pub other_test : (x y : ℕ) → (x ≡ y → ⊥) → (x == y) ≡ false
 other_test x y differ = grind (arith, nat_tests)
 
@@ -52,17 +41,11 @@ is_in-below n (x ∷ xs) c r less =
 
 -- the first number is there
 pub is_in-first : (x : ℕ) (xs : List ℕ) → is_in (x ∷ xs) x ≡ true
-is_in-first x xs = rw (same_test x) refl
+is_in-first x xs = grind (arith, nat_tests)
 
 -- another number is there where it is among the others
 pub is_in-other : (x : ℕ) (xs : List ℕ) (c : ℕ) → (x ≡ c → ⊥) → is_in (x ∷ xs) c ≡ is_in xs c
 is_in-other x xs c differ = rw (other_test x c differ) refl
-
--- after one common first number
-tails : (x : ℕ) (xs ys : List ℕ) → Rises (suc x) xs → Rises (suc x) ys
-    → ((c : ℕ) → is_in (x ∷ xs) c ≡ is_in (x ∷ ys) c) → (c : ℕ) → is_in xs c ≡ is_in ys c
-tails x xs ys rx ry same c =
-    grind (arith, nat_tests, same c, is_in-below (suc x) xs c rx, is_in-below (suc x) ys c ry)
 
 -- ascending lists with the same members are one list
 pub same_from_rising : (n : ℕ) (xs ys : List ℕ) → Rises n xs → Rises n ys
@@ -72,22 +55,44 @@ same_from_rising n [] (y ∷ ys) rx ry same = absurd (false≢true (same y ∙ i
 same_from_rising n (x ∷ xs) [] rx ry same = absurd (false≢true (sym (same x) ∙ is_in-first x xs))
 same_from_rising n (x ∷ xs) (y ∷ ys) rx ry same =
     let e : y ≡ x =
-    grind (
-      arith,
-      same x,
-      same y,
-      is_in-first x xs,
-      is_in-first y ys,
-      is_in-below y (y ∷ ys) x (omega arith, ry.1),
-      is_in-below x (x ∷ xs) y (omega arith, rx.1),
-    ) in
+    grind (arith, nat_tests, same x, same y, is_in-below (suc y) ys x ry.1, is_in-below (suc x) xs y rx.1) in
     let ry' : Rises (suc x) ys = Rises-weaker (suc x) (suc y) ys (omega arith) ry.1 in
-    let same' : (c : ℕ) → is_in (x ∷ xs) c ≡ is_in (x ∷ ys) c = λ c. same c ∙ ap (λ z. is_in (z ∷ ys) c) e in
-    ap (λ zs. x ∷ zs) (same_from_rising (suc x) xs ys rx.1 ry' (tails x xs ys rx.1 ry' same'))
-    ∙ ap (λ z. z ∷ ys) (sym e)
+    let tails : (c : ℕ) → is_in xs c ≡ is_in ys c =
+    λ c. grind (arith, nat_tests, same c, e, is_in-below (suc x) xs c rx.1, is_in-below (suc x) ys c ry') in
+    ap (λ zs. x ∷ zs) (same_from_rising (suc x) xs ys rx.1 ry' tails) ∙ ap (λ z. z ∷ ys) (sym e)
 
 -- a number that stands at a place is there
 pub by_place : (xs : List ℕ) (k c : ℕ) → k < length xs → get_or xs k 0 ≡ c → is_in xs c ≡ true
 by_place [] k c within stands = absurd (omega arith)
 by_place (x ∷ xs) zero c within stands = grind (arith, nat_tests)
 by_place (x ∷ xs) (suc k) c within stands = grind (arith, by_place xs k c (omega arith) stands)
+
+-- what stands at a place of a rising list is at least its least
+pub Rises-place : (n i : ℕ) (xs : List ℕ) → Rises n xs → i < length xs → n ≤ get_or xs i 0
+Rises-place n i [] up within = absurd (omega arith)
+Rises-place n zero (x ∷ xs) up within = up.0
+Rises-place n (suc i) (x ∷ xs) up within =
+    let later = Rises-place (suc x) i xs up.1 (omega arith) in
+    let low : n ≤ x = up.0 in omega arith
+
+-- below all there is none
+place_among-low : (n c : ℕ) (codes : List ℕ) → Rises n codes → c ≤ n → place_among codes c ≡ 0
+place_among-low n c [] up low = refl
+place_among-low n c (x ∷ xs) up low =
+    let first : n ≤ x = up.0 in grind (arith, nat_tests, place_among-low (suc x) c xs up.1 (omega arith))
+
+-- the place of an ascending number is where it stands
+pub place_among-at : (n i : ℕ) (codes : List ℕ) → Rises n codes → i < length codes
+    → place_among codes (get_or codes i 0) ≡ i
+place_among-at n i [] up within = absurd (omega arith)
+place_among-at n zero (x ∷ xs) up within =
+    grind (arith, nat_tests, place_among-low (suc x) x xs up.1 (omega arith))
+place_among-at n (suc i) (x ∷ xs) up within =
+    let high = Rises-place (suc x) i xs up.1 (omega arith) in
+    grind (arith, nat_tests, high, place_among-at (suc x) i xs up.1 (omega arith))
+
+-- in a rising list each number has one place
+pub same_place : (i j : ℕ) (xs : List ℕ) → Rises 0 xs → i < length xs → j < length xs → get_or xs i 0 ≡ get_or xs j 0
+    → i ≡ j
+same_place i j xs up a b same =
+    sym (place_among-at 0 i xs up a) ∙ ap (place_among xs) same ∙ place_among-at 0 j xs up b

@@ -1,79 +1,188 @@
--- A walk at its beginning, and the leaves to which it leads.
-use Rattle.std.proofs.Common.{◌≡◌, ℕ, ◌^◌, ◌<◌, List, [], ◌∷◌, length, map, get_or, Option, None, Some, IfNone, IfSome}
-use Rattle.std.proofs.Common.{sym, ap, ◌∙◌, arith, subst, refl}
+-- Walks over the squares of a tree: children that are still to be visited, open squares, the beginning, and leaves.
+use Rattle.std.proofs.Common.{◌≡◌, ℕ, suc, ◌+◌, ◌-◌, ◌^◌, ◌<◌, ◌≤◌, true, List, [], ◌∷◌, ◌++◌, length, map}
+use Rattle.std.proofs.Common.{get_or, Option, None, Some, IfNone, IfSome, refl, sym, ap, ◌∙◌, arith, subst, bit_and, Bool, false, ◌&&◌, ◌||◌}
+use Rattle.std.proofs.Common.{append_assoc, append-nil, length-append}
 use Rattle.std.specs.Prelude.{slice_get}
-use Rattle.std.proofs.lemmas.List.{length-map, get_or-map}
-use Rattle.std.proofs.lemmas.Option.{slice_get_within, get_or_from_slice_get}
+use Rattle.std.specs.Int.Count.{count_trailing_zeros}
+use Rattle.std.specs.List.{range_with_len}
+use Rattle.std.specs.Option.{is_none, option_map}
+use Rattle.std.specs.Cmp.Lexicographic.{pointwise, same_text}
+use Rattle.std.specs.Prelude.{nat_eq}
+use Rattle.std.proofs.Math.Dec.{eqb, ltb}
+use Rattle.std.proofs.lemmas.Bool.{and_parts, false≢true, ltb-true}
+use Rattle.std.proofs.lemmas.Bool.Decides.{nat_tests}
+use Rattle.std.proofs.lemmas.List.Sums.{AllPass-from_list_all}
+use Rattle.std.proofs.lemmas.List.FromFn.{get_or-range_with_len}
+use Rattle.std.proofs.lemmas.Option.{slice_get-map, slice_get_within, get_or_from_slice_get}
 use Rattle.track_types.specs.declared.cell.Cell.{Cell}
-use Rattle.k2_tree.specs.Morton.{cell_of, morton_of}
-use Rattle.k2_tree.specs.TreeBits.{prefixes}
+use Rattle.track_types.specs.declared.limit.TheConstants.{MAX_HEIGHT}
+use Rattle.k2_tree.specs.Digits.{digits_of}
+use Rattle.k2_tree.specs.Morton.{morton_of}
 use Rattle.k2_tree.specs.Squares.{Node, node, IsSquare}
-use Rattle.k2_tree.specs.Areas.{area_at}
 use Rattle.k2_tree.specs.Tree.{Tree, codes_of, IsTree}
-use Rattle.k2_tree.specs.TreeSquares.{corner_of, level_of, node_of, prefix_of, square_number, IsSquareOf}
+use Rattle.k2_tree.specs.TreeSquares.{corner_of, level_of, node_of, prefix_of, square_number, squares_of, IsSquareOf}
+use Rattle.k2_tree.specs.Pending.{nodes_of, IsNextOf, StandsAt}
 use Rattle.k2_tree.specs.Pruning.{leaf_of, place_among}
-use Rattle.k2_tree.specs.SquareWalk.{IsWalk, found_nodes, top_nodes}
+use Rattle.k2_tree.specs.SquareWalk.{AreOpen, IsOpen, IsTaken, IsWalk, found_nodes, open_nodes, top_nodes}
 use Rattle.k2_tree.specs.declared.square.Square.{Square}
+use Rattle.k2_tree.specs.declared.pending.Pending.{Pending}
 use Rattle.k2_tree.proofs.MortonLemmas.{morton_of-cell_of}
-use Rattle.k2_tree.proofs.PrefixLemmas.{prefixes-none, prefixes-zero}
+use Rattle.k2_tree.proofs.RisingLemmas.{place_among-at}
+use Rattle.k2_tree.proofs.PrefixLemmas.{prefixes-none}
 use Rattle.k2_tree.proofs.NavigationLemmas.{one_top}
-use Rattle.k2_tree.proofs.SquareLemmas.{IsSquare-from_list}
-use Rattle.k2_tree.proofs.LeafLemmas.{place_among-at}
-use Rattle.k2_tree.proofs.CellSquareLemmas.{cell_from_area}
+use Rattle.k2_tree.proofs.SquareLemmas.{bottom, IsSquare-from_list}
+use Rattle.k2_tree.proofs.StoredLemmas.{corner_is}
+
+-- the lowest bit that is set is the first digit, and without it the others are left
+pub record IsLowest (bits : ℕ) : Type 0 where
+  pub small : count_trailing_zeros 32 bits < 4
+  pub first : digits_of bits ≡ count_trailing_zeros 32 bits ∷ digits_of (bit_and bits (bits - 1))
+  pub four : bit_and bits (bits - 1) < 16
+
+-- whether they are
+abbrev is_lowest : ℕ → Bool
+is_lowest bits =
+    ltb (count_trailing_zeros 32 bits) 4 && (pointwise nat_eq (digits_of bits)
+    (count_trailing_zeros 32 bits ∷ digits_of (bit_and bits (bits - 1))) && ltb (bit_and bits (bits - 1)) 16)
+
+pub lowest : (bits : ℕ) → bits < 16 → (bits ≡ 0 → ⊥) → IsLowest bits
+unfolding digits_of count_trailing_zeros
+lowest bits four some =
+    let test : ℕ → Bool = λ n. eqb n 0 || is_lowest n in
+    let same : get_or (range_with_len 0 16) bits 0 ≡ bits = get_or-range_with_len 0 16 bits 0 four ∙ omega arith in
+    let all = AllPass-from_list_all test (range_with_len 0 16) refl bits 0 four in
+    let other : eqb bits 0 ≡ false = grind (arith, nat_tests) in
+    let parts = and_parts _ _ (rw other at (ap test (sym same) ∙ all)) in
+    let rest = and_parts _ _ parts.1 in
+    record { small = ltb-true _ _ parts.0; first = same_text _ _ (sym rest.0); four = ltb-true _ _ rest.1 }
+
+-- no bit, no digit
+pub digits_of-zero : digits_of 0 ≡ []
+unfolding digits_of
+digits_of-zero = refl
+
+-- the square opened last comes first
+pub open_nodes-append : (front : List Pending) (last : Pending)
+    → open_nodes (front ++ last ∷ []) ≡ nodes_of last ++ open_nodes front
+unfolding open_nodes
+open_nodes-append [] last = sym (append-nil (nodes_of last))
+open_nodes-append (first ∷ front) last =
+    ap (λ nodes. nodes ++ nodes_of first) (open_nodes-append front last)
+    ∙ append_assoc (nodes_of last) (open_nodes front) (nodes_of first)
+
+pub open_nodes-nil : open_nodes [] ≡ []
+unfolding open_nodes
+open_nodes-nil = refl
+
+module _ (squares : List Node) (base : Cell) where
+  -- each level has at most one open square, and the cells none
+  length-open : (level : ℕ) (stack : List Pending) → AreOpen squares base level stack → length stack ≤ level
+  length-open level [] are = omega arith
+  length-open level (first ∷ later) are =
+      omega (arith, first.inner, are.0.high, length-open (level - 1) later are.1)
+
+  -- what holds of the square opened last, and of those before it
+  pub AreOpen-parted : (level : ℕ) (front : List Pending) (last : Pending)
+      → AreOpen squares base level (front ++ last ∷ [])
+      → AreOpen squares base level front × IsOpen squares base (level - length front) last
+  AreOpen-parted level [] last are = (tt, subst (λ l. IsOpen squares base l last) (omega arith) are.0)
+  AreOpen-parted level (first ∷ front) last are =
+      let rest = AreOpen-parted (level - 1) front last are.1 in
+      let depth : level - 1 - length front ≡ level - suc (length front) = omega arith in
+      ((are.0, rest.0), subst (λ l. IsOpen squares base l last) depth rest.1)
+
+  -- one square more is open
+  AreOpen-append : (level : ℕ) (front : List Pending) (last : Pending)
+      → AreOpen squares base level front → IsOpen squares base (level - length front) last
+      → AreOpen squares base level (front ++ last ∷ [])
+  AreOpen-append level [] last are is = (subst (λ l. IsOpen squares base l last) (omega arith) is, tt)
+  AreOpen-append level (first ∷ front) last are is =
+      let depth : level - suc (length front) ≡ level - 1 - length front = omega arith in
+      (are.0, AreOpen-append (level - 1) front last are.1 (subst (λ l. IsOpen squares base l last) depth is))
+
+  -- a child that was taken from the square opened last
+  pub taken : (level : ℕ) (front : List Pending) {old new : Pending} {child : Square}
+      → AreOpen squares base level (front ++ old ∷ [])
+      → IsNextOf old child new → new.square ≡ old.square → IsTaken squares base level child (front ++ new ∷ [])
+  taken level front {old} {new} {child} are next square =
+      let both = AreOpen-parted level front old are in
+      let last : IsOpen squares base (level - length front) old = both.1 in
+      let all : StandsAt squares old.number (node_of child ∷ nodes_of new) =
+      subst (StandsAt squares old.number) next.nodes last.stands in
+      let number : suc old.number ≡ new.number = omega (arith, next.later) in
+      record {
+        same = next.base ∙ last.same;
+        stands = ap (slice_get squares) next.number ∙ all.0;
+        depth = omega (arith, length-append front (new ∷ []), last.high, old.inner, next.level);
+        rest = AreOpen-append level front new both.0 (record {
+          high = ap (λ (s : Square). level_of s) square ∙ last.high;
+          same = ap (λ (s : Square). s.base) square ∙ last.same;
+          stands = subst (λ j. StandsAt squares j (nodes_of new)) number all.1;
+        });
+      }
+
+-- no more squares are open than there are levels above the cells
+pub length-walk : {tree : Tree} {whole : Option Square} {stack : List Pending} → IsWalk tree whole stack
+    → length stack ≤ MAX_HEIGHT
+length-walk {tree} {whole} {stack} walk =
+    omega (arith, length-open (squares_of tree) tree.base tree.height stack walk.later, walk.low)
+
+-- a square of the tree is opened
+pub opened : {tree : Tree} (whole : Option Square) (stack : List Pending) (pending : Pending) {square : Square}
+    → IsWalk tree whole stack → is_none whole ≡ true → IsSquareOf tree square
+    → level_of square + length stack ≡ tree.height → pending.square ≡ square
+    → StandsAt (squares_of tree) pending.number (nodes_of pending) → IsWalk tree whole (stack ++ pending ∷ [])
+opened (Some whole) stack pending walk begun of depth same stands = absurd (false≢true begun)
+opened {tree} None stack pending walk begun of depth same stands = record {
+  low = walk.low;
+  first = tt;
+  later = AreOpen-append (squares_of tree) tree.base tree.height stack pending walk.later (record {
+    high = ap (λ (s : Square). level_of s) same ∙ omega arith;
+    same = ap (λ (s : Square). s.base) same ∙ of.base;
+    stands = stands;
+  });
+}
+
+-- its children come first
+pub opened_nodes : (whole : Option Square) (stack : List Pending) (pending : Pending) → is_none whole ≡ true
+    → found_nodes whole ++ open_nodes (stack ++ pending ∷ [])
+    ≡ nodes_of pending ++ (found_nodes whole ++ open_nodes stack)
+opened_nodes (Some whole) stack pending begun = absurd (false≢true begun)
+opened_nodes None stack pending begun = open_nodes-append stack pending
 
 -- nothing is open at the beginning
-pub begins_whole : (tree : Tree) (whole : Option Square) → IsTree tree → IfSome whole (λ s. IsSquareOf tree s)
+pub begins_whole : {tree : Tree} (whole : Option Square) → IsTree tree → IfSome whole (λ s. IsSquareOf tree s)
     → IfSome whole (λ s. node_of s ≡ node tree.height 0) → IsWalk tree whole []
-begins_whole tree None is of top = record { low = is.grid.limit; first = tt; later = tt }
-begins_whole tree (Some square) is of top =
+begins_whole None is of top = record { low = is.grid.limit; first = tt; later = tt }
+begins_whole (Some square) is of top =
     record { low = is.grid.limit; first = (refl, ap (λ (n : Node). n.level) top, of); later = tt }
 
 -- the whole grid is visited first, where it holds a cell
-pub whole_nodes : (tree : Tree) (whole : Option Square) → IsTree tree → IfNone whole (tree.cells ≡ [])
+pub whole_nodes : {tree : Tree} (whole : Option Square) → IsTree tree → IfNone whole (tree.cells ≡ [])
     → IfSome whole (λ s. IsSquareOf tree s) → IfSome whole (λ s. node_of s ≡ node tree.height 0)
     → found_nodes whole ≡ top_nodes tree
-whole_nodes tree None is none of top =
-    let gone : codes_of tree ≡ [] = ap (map (morton_of tree.height tree.base)) none in
-    ap (map (node tree.height)) (sym (ap (prefixes tree.height) gone ∙ prefixes-none tree.height))
-whole_nodes tree (Some square) is none of top =
-    let stands = of.stands ∙ ap Some top in
-    let here = IsSquare-from_list tree.height (codes_of tree) tree.height 0 (square_number square) stands in
-    ap (λ n. n ∷ []) top
-    ∙ ap (map (node tree.height))
-    (sym (one_top tree.height (codes_of tree) is.codes tree.height (omega (arith, here.within))))
+whole_nodes {tree} None is none of top = rw (none, prefixes-none tree.height) refl
+whole_nodes {tree} (Some square) is none of top =
+    let here : IsSquare tree.height (codes_of tree) tree.height 0 (square_number square) =
+    IsSquare-from_list (of.stands ∙ ap Some top) in
+    let one = one_top tree.height (codes_of tree) is.codes tree.height (omega (arith, here.within)) in
+    ap (λ n. n ∷ []) top ∙ ap (map (node tree.height)) (sym one)
 
 -- the leaf of a square that is a cell
-pub leaf_is : (tree : Tree) (s : Square) (leaf : ℕ) → IsTree tree → IsSquareOf tree s → level_of s ≡ 0
+pub leaf_is : {tree : Tree} {s : Square} {leaf : ℕ} → IsTree tree → IsSquareOf tree s → level_of s ≡ 0
     → slice_get tree.cells leaf ≡ Some (corner_of s) → (leaf, corner_of s) ≡ leaf_of tree (prefix_of s)
-leaf_is tree s leaf is of bottom found =
+leaf_is {tree} {s} {leaf} is of end found =
     let codes : List ℕ = codes_of tree in
-    let square : IsSquare tree.height codes 0 (prefix_of s) (square_number s) =
-    subst (λ n. IsSquare tree.height codes n (prefix_of s) (square_number s)) bottom
-    (IsSquare-from_list tree.height codes (level_of s) (prefix_of s) (square_number s) of.stands) in
-    let all : prefixes 0 codes ≡ codes = prefixes-zero codes is.codes.rising in
-    let within : square.place < length codes = omega (arith, square.within, ap length all) in
-    let here : get_or codes square.place 0 ≡ prefix_of s =
-    ap (λ xs. get_or xs square.place 0) (sym all) ∙ square.stands in
-    let small : prefix_of s < 4 ^ tree.height =
-    subst (λ c. c < 4 ^ tree.height) here (is.codes.small square.place 0 within) in
-    let corner : corner_of s ≡ cell_of tree.height tree.base (prefix_of s) =
-    ap (λ n. corner_at s.base (node n (prefix_of s))) bottom
-    ∙ ap (λ b. corner_at b (node 0 (prefix_of s))) of.base
-    ∙ cell_from_area tree.height tree.base (prefix_of s) is.grid.limit small in
-    let inside : leaf < length tree.cells = slice_get_within tree.cells leaf (corner_of s) found in
-    let number : get_or codes leaf 0 ≡ prefix_of s =
-    get_or-map (morton_of tree.height tree.base) tree.cells leaf (corner_of s) 0 inside
-    ∙ ap (morton_of tree.height tree.base)
-    (get_or_from_slice_get tree.cells leaf (corner_of s) (corner_of s) found ∙ corner)
-    ∙ morton_of-cell_of tree.height tree.base (prefix_of s) small in
-    let long : leaf < length codes = omega (arith, length-map tree.cells (morton_of tree.height tree.base)) in
-    let place : place_among codes (prefix_of s) ≡ leaf =
-    ap (place_among codes) (sym number) ∙ place_among-at 0 leaf codes is.codes.rising long in
-    both leaf (place_among codes (prefix_of s)) (corner_of s) (cell_of tree.height tree.base (prefix_of s))
-    (sym place) corner
-  where
-    both : (i j : ℕ) (a b : Cell) → i ≡ j → a ≡ b → ◌≡◌ {A = ℕ × Cell} (i, a) (j, b)
-    both i j a b number cell = ap (λ k. (k, a)) number ∙ ap (λ c. (j, c)) cell
-
-    corner_at : Cell → Node → Cell
-    corner_at base square = record { x = (area_at base square).x1; y = (area_at base square).y1 }
+    let q : ℕ = prefix_of s in
+    let square = bottom is.codes.rising
+    (subst (λ n. IsSquare tree.height codes n q (square_number s)) end (IsSquare-from_list of.stands)) in
+    let small : q < 4 ^ tree.height = rw square.2 at (is.codes.small square.0 0 square.1) in
+    let corner = corner_is tree.height s end of.base is.grid.limit small in
+    let number : slice_get codes leaf ≡ Some q =
+    slice_get-map (morton_of tree.height tree.base) tree.cells leaf
+    ∙ ap (option_map (morton_of tree.height tree.base)) (found ∙ ap Some corner)
+    ∙ ap Some (morton_of-cell_of tree.height tree.base q small) in
+    let place : place_among codes q ≡ leaf =
+    ap (place_among codes) (sym (get_or_from_slice_get codes leaf q 0 number))
+    ∙ place_among-at 0 leaf codes is.codes.rising (slice_get_within codes leaf q number) in
+    rw (← corner, place) refl

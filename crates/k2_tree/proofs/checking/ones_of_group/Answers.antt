@@ -2,8 +2,7 @@ use Rattle.std.proofs.Common.{◌≡◌, ◌-◌, take, drop, arith, sym, ap, �
 use Rattle.packed_bits.specs.Bits.{ones_of}
 use Rattle.packed_bits.proofs.OnesLemmas.{ones_of-nil, ones_of-le-length}
 use Rattle.packed_bits.proofs.PackingLemmas.{byte_is, bit-small}
-use Rattle.k2_tree.proofs.GroupLemmas.{group_ones-whole}
-use Rattle.k2_tree.proofs.CheckingLemmas.{group_step}
+use Rattle.k2_tree.proofs.CheckingLemmas.{group_ones-whole, group_step}
 use Rattle.k2_tree.proofs.checking.ones_of_group.Goals as goal
 
 pub loop-i-init : goal.loop-i-init

@@ -1,40 +1,32 @@
-use Rattle.std.proofs.Common.{◌+◌, ◌/◌, arith, sym, subst}
-use Rattle.k2_tree.proofs.ClimbLemmas.{starts, has_one, climbs, arrives_at_top, IsClimb, IsHigher}
+use Rattle.std.proofs.Common.{◌+◌, arith}
+use Rattle.k2_tree.proofs.DescentLemmas.{starts, has_one, climbs, arrives_at_top, IsHigher}
 use Rattle.k2_tree.proofs.climb.code_of_leaf.Goals as goal
 use Rattle.k2_tree.proofs.climb.code_of_leaf.Goals.{After-from}
 use Rattle.k2_tree.proofs.climb.code_of_leaf.Given.{Over}
 
 pub overflow_add-square : goal.overflow_add-square
-overflow_add-square g c =
-    omega (arith, c.len.ensures, (starts c.args.height c.args.bits.now c.args.leaf c.requires.tree c.requires.within).0)
+overflow_add-square g c = omega (arith, c.len.ensures, (starts c.requires.tree c.requires.within).0)
 
 pub loop-init : goal.loop-init
 loop-init g c = record {
-  climb = subst (λ n. IsClimb c.args.height c.args.bits.now c.args.leaf 0 (n / 4 + c.args.leaf) 0 1) (sym c.len.ensures)
-      (starts c.args.height c.args.bits.now c.args.leaf c.requires.tree c.requires.within).1;
+  climb = rw c.len.ensures (starts c.requires.tree c.requires.within).1;
   cost = omega arith;
 }
 
 pub select1-place-requires-clause-from_one : goal.select1-place-requires-clause-from_one
 select1-place-requires-clause-from_one g c =
-    let now = c.loop in
-    (has_one c.args.height c.args.bits.now c.args.leaf now.counter now.square now.code now.weight c.requires.tree
-    now.invariant.climb (omega arith)).0
+    (has_one c.requires.tree c.requires.within c.loop.invariant.climb (omega arith)).0
 
 pub select1-place-requires-clause-enough : goal.select1-place-requires-clause-enough
 select1-place-requires-clause-enough g c =
-    let now = c.loop in
-    (has_one c.args.height c.args.bits.now c.args.leaf now.counter now.square now.code now.weight c.requires.tree
-    now.invariant.climb (omega arith)).1
+    (has_one c.requires.tree c.requires.within c.loop.invariant.climb (omega arith)).1
 
 -- one level up
 up : (g : Over) (c : After-from g) → IsHigher c.args.height c.args.bits.now c.args.leaf (c.loop.counter + 1)
     c.select1-place.result c.loop.code c.from.result c.loop.weight
 up g c =
-    let now = c.loop in
-    climbs c.args.height c.args.bits.now c.args.leaf now.counter now.square now.code now.weight
-    c.select1-place.result c.from.result c.requires.tree c.requires.low c.requires.within now.invariant.climb
-    c.loop-test.true c.select1-place.ensures.place c.from.ensures
+    climbs c.requires.tree c.requires.within c.loop.invariant.climb c.requires.low c.loop-test.true
+    c.select1-place.ensures.place c.from.ensures
 
 pub overflow_mul-code : goal.overflow_mul-code
 overflow_mul-code g c = omega (arith, (up g (goal.at.overflow_mul-code g c).After-from).small)
@@ -53,6 +45,4 @@ loop-preserved g c = record {
 
 pub returns-clause-value : goal.returns-clause-value
 returns-clause-value g c =
-    let now = c.loop in
-    arrives_at_top c.args.height c.args.bits.now c.args.leaf now.counter now.square now.code now.weight
-    c.requires.tree c.requires.within (omega arith) now.invariant.climb
+    arrives_at_top c.requires.tree c.requires.within c.loop.invariant.climb (omega arith)

@@ -1,6 +1,6 @@
 use Rattle.std.proofs.Common.{◌+◌, ◌≤◌}
 use Rattle.k2_tree.specs.Cost.{climb_reads}
-use Rattle.k2_tree.proofs.ClimbLemmas.{IsClimb}
+use Rattle.k2_tree.proofs.DescentLemmas.{IsClimb}
 use Rattle.k2_tree.proofs.climb.code_of_leaf.Given as goal
 
 abbrev pub invariant-loop : goal.invariant-loop

@@ -1,9 +1,11 @@
-use Rattle.std.proofs.Common.{◌/◌, ◌^◌, arith, ◌∙◌}
-use Rattle.k2_tree.proofs.DigitLemmas.{column_of-down, column_of-small, column_of-whole, column_of-begin}
+use Rattle.std.proofs.Common.{◌≡◌, ◌-◌, refl, arith, ◌∙◌}
+use Rattle.k2_tree.specs.Morton.{column_of}
+use Rattle.k2_tree.proofs.MortonLemmas.{column_of-down, column_of-small, column_of-whole}
 use Rattle.k2_tree.proofs.morton_code.column_at.Goals as goal
 
 pub loop-level-init : goal.loop-level-init
-loop-level-init c = column_of-begin c.args.height (c.args.code / 4 ^ c.args.height)
+unfolding column_of
+loop-level-init c = let none : c.args.height - c.args.height ≡ 0 = omega arith in rw none refl
 
 pub overflow_mul-column : goal.overflow_mul-column
 overflow_mul-column c =
@@ -22,7 +24,8 @@ loop-level-preserved c =
 
 pub returns-clause-value : goal.returns-clause-value
 returns-clause-value c =
-    c.loop-level.invariant ∙ column_of-whole c.args.height c.loop-level.level c.args.code (omega arith)
+    let end : c.loop-level.level ≡ 0 = omega arith in
+    (rw end at c.loop-level.invariant) ∙ column_of-whole c.args.height c.args.code
 
 pub returns-clause-small : goal.returns-clause-small
 returns-clause-small c =

@@ -3,7 +3,7 @@ use Rattle.std.proofs.lemmas.Bool.{false≢true}
 use Rattle.k2_tree.specs.TreeSquares.{node_of}
 use Rattle.k2_tree.specs.declared.pending.Pending.{Pending}
 use Rattle.k2_tree.specs.SquareWalk.{AreOpen, IsTaken, open_nodes}
-use Rattle.k2_tree.proofs.StackLemmas.{open_nodes-append, open_nodes-nil, AreOpen-parted, taken}
+use Rattle.k2_tree.proofs.WalkLemmas.{open_nodes-append, open_nodes-nil, AreOpen-parted, taken}
 use Rattle.k2_tree.proofs.square_walk.next_child.Goals as goal
 
 nothing : (stack : List Pending) → (0 < length stack → ⊥) → stack ≡ []
@@ -26,8 +26,7 @@ returns-in-Some-next-clause-taken c = λ squares base level are.
     let before =
     subst (AreOpen squares base level) c.in-Some.ensures.items (c.loop-pending.invariant.are squares base level are) in
     subst (IsTaken squares base level c.in-Some-next.child) (sym c.push.ensures.items)
-    (taken squares base level c.pop.new.self.items c.in-Some.pending c.next.new.self c.in-Some-next.child before
-    facts.found facts.square)
+    (taken squares base level c.pop.new.self.items before facts.found facts.square)
 
 pub loop-pending-preserved : goal.loop-pending-preserved
 loop-pending-preserved c =

@@ -2,7 +2,7 @@ use Rattle.std.proofs.Common.{◌-◌, ◌∷◌, refl, length, map, arith, ap, 
 use Rattle.k2_tree.specs.Squares.{Node}
 use Rattle.k2_tree.specs.TreeSquares.{child_at, node_of}
 use Rattle.k2_tree.specs.Digits.{digits_of}
-use Rattle.k2_tree.proofs.PendingLemmas.{digits_of-zero, lowest}
+use Rattle.k2_tree.proofs.WalkLemmas.{digits_of-zero, lowest}
 use Rattle.k2_tree.proofs.pending.Pending.next.Goals as goal
 
 pub returns-then-self-eq0-clause-none : goal.returns-then-self-eq0-clause-none

@@ -1,5 +1,5 @@
 use Rattle.std.proofs.Common.{length, ap, arith}
-use Rattle.k2_tree.proofs.PendingLemmas.{digits_of-zero}
+use Rattle.k2_tree.proofs.WalkLemmas.{digits_of-zero}
 use Rattle.k2_tree.proofs.pending.PendingDefault.default.Goals as goal
 
 pub new-requires-clause-room : goal.new-requires-clause-room

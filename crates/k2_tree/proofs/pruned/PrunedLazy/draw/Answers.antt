@@ -1,75 +1,68 @@
-use Rattle.std.proofs.Common.{◌≡◌, ◌∷◌, refl, sym, ap, ◌∙◌, arith, subst}
+use Rattle.std.proofs.Common.{◌≡◌, ℕ, ◌+◌, ◌≤◌, Bool, refl, sym, ◌∙◌, arith}
 use Rattle.std.proofs.lemmas.Bool.{false≢true}
-use Rattle.k2_tree.specs.Pruned.{walk_left}
-use Rattle.k2_tree.specs.Tree.{Tree}
-use Rattle.k2_tree.specs.Pruning.{leaf_of, IsLeafOf}
-use Rattle.k2_tree.specs.TreeSquares.{level_of, node_of, prefix_of}
-use Rattle.k2_tree.proofs.PrunedLemmas.{given_way, skipped, test_told, yielded, IsGivenWay, IsVisited}
+use Rattle.track_types.specs.declared.cell_box.CellBox.{CellBox}
+use Rattle.k2_tree.specs.Cost.{child_reads}
+use Rattle.k2_tree.specs.SquareWalk.{WalkView}
+use Rattle.k2_tree.specs.TreeSquares.{level_of, node_of}
+use Rattle.k2_tree.proofs.PrunedLemmas.{given_way, skipped, yielded, IsFurther, IsVisited}
 use Rattle.k2_tree.proofs.pruned.PrunedLazy.draw.Goals as goal
 use Rattle.k2_tree.proofs.pruned.PrunedLazy.draw.Given.{Over}
 use Rattle.k2_tree.proofs.pruned.PrunedLazy.draw.Goals.{After-passes, After-open}
+use Rattle.k2_tree.proofs.pruned.PrunedLazy.draw.Invariants.{IsDrawing}
 
 -- the square that is visited, and what the test says of it
 visited : (g : Over) (c : After-passes g)
     → IsVisited (g.F.Keep.keeps c.args.self.now.keep) c.loop-square.self.walk c.next_square.new.self
     (node_of c.in-Some.square) c.passes.result
 visited g c = record {
-  before = record { tree = c.in-Some.ensures.tree; pending = c.in-Some.ensures.pending };
-  told = test_told g.F.Keep.keeps c.loop-square.self.keep c.args.self.now.keep c.passes.result c.in-Some.square
-      c.loop-square.self.walk.tree c.loop-square.invariant.0 c.passes.ensures c.in-Some.ensures.of.base;
+  tree = c.in-Some.ensures.tree;
+  pending = c.in-Some.ensures.pending;
+  told = rw (← c.loop-square.invariant.0, ← c.in-Some.ensures.of.base) (sym c.passes.ensures);
 }
 
 -- one that passes, and is no cell, gives way to its children
 gives_way : (g : Over) (c : After-open g)
     → IsVisited (g.F.Keep.keeps c.args.self.now.keep) c.loop-square.self.walk c.next_square.new.self
     (node_of c.in-Some.square) c.passes.result
-    → IsGivenWay (g.F.Keep.keeps c.args.self.now.keep) c.loop-square.self.walk c.open.new.self
-gives_way g c visited =
+    → IsFurther (g.F.Keep.keeps c.args.self.now.keep) child_reads c.loop-square.self.walk c.open.new.self
+gives_way g c visit =
     let above : level_of c.in-Some.square ≡ 0 → ⊥ = λ e. false≢true (c.if-is_leaf.ensures.1 e) in
-    given_way (g.F.Keep.keeps c.args.self.now.keep) c.loop-square.self.walk c.next_square.new.self c.open.new.self
-    (node_of c.in-Some.square) visited.before
-    (record { tree = sym c.open.ensures.tree; pending = c.open.ensures.pending }) (omega arith)
-    (visited.told ∙ c.if-not-passes.false)
+    given_way visit (omega arith) c.if-not-passes.false c.open.ensures.tree c.open.ensures.pending
+
+-- and so the walk goes on
+goes_on : {keep : CellBox → Bool} {first now new : WalkView} {begun steps steps' reads : ℕ}
+    → IsDrawing keep first now begun steps → new.tree ≡ now.tree → IsFurther keep reads now new → steps' ≤ steps + reads
+    → IsDrawing keep first new begun steps'
+goes_on drawing tree further paid = record {
+  same = tree ∙ drawing.same;
+  left = further.left ∙ drawing.left;
+  cost = omega (arith, further.budget, drawing.cost, paid);
+}
 
 pub loop-square-smaller-then-not-passes : goal.loop-square-smaller-then-not-passes
 loop-square-smaller-then-not-passes g c =
-    let visit = visited g (goal.at.loop-square-smaller-then-not-passes g c).After-passes in
-    (skipped (g.F.Keep.keeps c.args.self.now.keep) c.loop-square.self.walk c.next_square.new.self
-    (node_of c.in-Some.square) visit.before (visit.told ∙ c.if-not-passes.true)).fewer
+    let at = goal.at.loop-square-smaller-then-not-passes g c in
+    (skipped (visited g at.After-passes) c.if-not-passes.true).fewer
 
 pub loop-square-preserved-then-not-passes : goal.loop-square-preserved-then-not-passes
 loop-square-preserved-then-not-passes g c =
-    let visit = visited g (goal.at.loop-square-preserved-then-not-passes g c).After-passes in
-    let step = skipped (g.F.Keep.keeps c.args.self.now.keep) c.loop-square.self.walk c.next_square.new.self
-    (node_of c.in-Some.square) visit.before (visit.told ∙ c.if-not-passes.true) in
-    let drawing = c.loop-square.invariant.1 in (
-      c.loop-square.invariant.0,
-      record {
-        same = c.in-Some.ensures.tree ∙ drawing.same;
-        left = step.left ∙ drawing.left;
-        cost = omega (arith, step.budget, drawing.cost);
-      },
-    )
+    let at = goal.at.loop-square-preserved-then-not-passes g c in
+    let step = skipped (visited g at.After-passes) c.if-not-passes.true in
+    (c.loop-square.invariant.0, goes_on c.loop-square.invariant.1 c.in-Some.ensures.tree step (omega arith))
 
 pub returns-then-is_leaf-clause-found : goal.returns-then-is_leaf-clause-found
 returns-then-is_leaf-clause-found g c =
-    let keeps = g.F.Keep.keeps c.args.self.now.keep in
     let mid = c.next_square.new.self in
     let visit = visited g (goal.at.returns-then-is_leaf-clause-found g c).After-passes in
-    let step = yielded keeps c.loop-square.self.walk mid (node_of c.in-Some.square) visit.before
-    (c.if-is_leaf.ensures.0 refl) (visit.told ∙ c.if-not-passes.false) in
-    sym c.loop-square.invariant.1.left ∙ step.left
-    ∙ ap (λ (t : Tree). leaf_of t (prefix_of c.in-Some.square) ∷ walk_left keeps mid) (sym c.in-Some.ensures.tree)
-    ∙ ap (λ leaf. leaf ∷ walk_left keeps mid) (sym c.leaf.ensures.value)
-    ∙ ap (λ k. c.leaf.result ∷ walk_left (g.F.Keep.keeps k) mid) (sym c.loop-square.invariant.0)
+    sym c.loop-square.invariant.1.left ∙ yielded visit (c.if-is_leaf.ensures.0 refl) c.if-not-passes.false
+    ∙ (rw (← c.in-Some.ensures.tree, ← c.leaf.ensures.value, ← c.loop-square.invariant.0) refl)
 
 pub returns-then-is_leaf-clause-tree : goal.returns-then-is_leaf-clause-tree
 returns-then-is_leaf-clause-tree g c = c.in-Some.ensures.tree ∙ c.loop-square.invariant.1.same
 
 pub returns-then-is_leaf-clause-leaf : goal.returns-then-is_leaf-clause-leaf
 returns-then-is_leaf-clause-leaf g c =
-    subst (λ (t : Tree). IsLeafOf t c.leaf.result) (c.in-Some.ensures.tree ∙ c.loop-square.invariant.1.same)
-    c.leaf.ensures.found
+    rw (c.in-Some.ensures.tree ∙ c.loop-square.invariant.1.same) at c.leaf.ensures.found
 
 pub returns-clause-tree : goal.returns-clause-tree
 returns-clause-tree g c = c.next_square.ensures.tree ∙ c.loop-square.invariant.1.same
@@ -81,12 +74,7 @@ loop-square-smaller g c =
 pub loop-square-preserved : goal.loop-square-preserved
 loop-square-preserved g c =
     let at = goal.at.loop-square-preserved g c in
-    let step = gives_way g at.After-open (visited g at.After-passes) in
-    let drawing = c.loop-square.invariant.1 in (
+    let step = gives_way g at.After-open (visited g at.After-passes) in (
       c.loop-square.invariant.0,
-      record {
-        same = c.open.ensures.tree ∙ c.in-Some.ensures.tree ∙ drawing.same;
-        left = step.left ∙ drawing.left;
-        cost = omega (arith, step.budget, drawing.cost, c.open.ensures.cost);
-      },
+      goes_on c.loop-square.invariant.1 (c.open.ensures.tree ∙ c.in-Some.ensures.tree) step c.open.ensures.cost,
     )

@@ -1,11 +1,8 @@
-use Rattle.std.proofs.Common.{◌≡◌, subst, sym}
+use Rattle.std.proofs.Common.{ℕ, ◌*◌, ◌-◌, ◌^◌, ℤ, pos, ◌+ℤ◌, arith, subst, sym}
 use Rattle.track_types.specs.Near.{IsWithin}
 use Rattle.track_types.specs.declared.limit.TheConstants.{MAX_HEIGHT}
-use Rattle.k2_tree.specs.Morton.{column_of, row_of}
-use Rattle.k2_tree.specs.TreeSquares.{prefix_of}
-use Rattle.k2_tree.proofs.BoxLemmas.{same_box}
-use Rattle.k2_tree.proofs.MortonLemmas.{column_of-interleaved, row_of-interleaved}
-use Rattle.k2_tree.proofs.SideLemmas.{base_within, before-lt, first_is, last_is, word_kept}
+use Rattle.k2_tree.proofs.AreaLemmas.{base_within, before-lt, moved_is, same_box, word_kept}
+use Rattle.k2_tree.proofs.MortonLemmas.{ends_back}
 use Rattle.k2_tree.proofs.square.Square.area.Goals as goal
 
 pub returns-clause-value : goal.returns-clause-value
@@ -13,21 +10,16 @@ returns-clause-value c =
     let s = c.args.self.now in
     let x : IsWithin s.base.x = base_within s.base.x s.west s.east in
     let y : IsWithin s.base.y = base_within s.base.y s.south s.north in
-    let column : column_of MAX_HEIGHT (prefix_of s) ≡ s.column =
-    column_of-interleaved MAX_HEIGHT s.row s.column (before-lt s.column s.level MAX_HEIGHT s.right) in
-    let row : row_of MAX_HEIGHT (prefix_of s) ≡ s.row =
-    row_of-interleaved MAX_HEIGHT s.row s.column (before-lt s.row s.level MAX_HEIGHT s.upper) in
-    let columns = column_of MAX_HEIGHT (prefix_of s) in
-    let rows = row_of MAX_HEIGHT (prefix_of s) in
-    let west = c.first.ensures in
-    let south = c.first-2.ensures in
-    let east = c.last.ensures in
-    let north = c.last-2.ensures in
+    let m : ℕ = MAX_HEIGHT in
+    let ends = ends_back m m s.row s.column (omega arith) (before-lt s.row s.level m s.upper)
+    (before-lt s.column s.level m s.right) in
+    let first : ℤ → ℕ → ℤ = λ z k. z +ℤ pos (k * 2 ^ s.level) in
+    let last : ℤ → ℕ → ℤ = λ z k. (z +ℤ pos (k * 2 ^ s.level)) +ℤ pos (2 ^ s.level - 1) in
     same_box _ _
-    (first_is s.base.x c.first.result s.column columns s.level x west.within column west.value)
-    (first_is s.base.y c.first-2.result s.row rows s.level y south.within row south.value)
-    (last_is s.base.x c.last.result s.column columns s.level x east.within column east.value)
-    (last_is s.base.y c.last-2.result s.row rows s.level y north.within row north.value)
+    (moved_is first x c.first.ensures.within ends.1 c.first.ensures.value)
+    (moved_is first y c.first-2.ensures.within ends.0 c.first-2.ensures.value)
+    (moved_is last x c.last.ensures.within ends.1 c.last.ensures.value)
+    (moved_is last y c.last-2.ensures.within ends.0 c.last-2.ensures.value)
 
 pub returns-clause-within : goal.returns-clause-within
 returns-clause-within c = record {

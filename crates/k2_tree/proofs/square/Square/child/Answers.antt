@@ -1,8 +1,7 @@
 use Rattle.std.proofs.Common.{ap, ◌-◌}
 use Rattle.track_types.specs.declared.limit.TheConstants.{MAX_HEIGHT}
 use Rattle.k2_tree.specs.Squares.{node}
-use Rattle.k2_tree.proofs.ChildLemmas.{interleaved-child}
-use Rattle.k2_tree.proofs.InsideLemmas.{child_inside_square}
+use Rattle.k2_tree.proofs.AreaLemmas.{child_inside_square, interleaved-child}
 use Rattle.k2_tree.proofs.square.Square.child.Goals as goal
 
 pub returns-clause-node : goal.returns-clause-node

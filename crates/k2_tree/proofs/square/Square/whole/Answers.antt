@@ -1,8 +1,7 @@
-use Rattle.std.proofs.Common.{ap, lit<, arith, ◌≤◌, ◌^◌}
+use Rattle.std.proofs.Common.{refl, lit<, arith, ◌≤◌, ◌^◌}
 use Rattle.std.proofs.Math.Nat.{pow-le-pow_right}
 use Rattle.track_types.specs.declared.limit.TheConstants.{MAX_HEIGHT}
-use Rattle.k2_tree.specs.Squares.{node}
-use Rattle.k2_tree.proofs.HeightLemmas.{interleaved-zero}
+use Rattle.k2_tree.specs.Morton.{interleaved}
 use Rattle.k2_tree.proofs.square.Square.whole.Goals as goal
 
 pub invariant_of-result : goal.invariant_of-result
@@ -19,4 +18,5 @@ invariant_of-result c =
     }
 
 pub returns-clause-node : goal.returns-clause-node
-returns-clause-node c = ap (node c.args.height) (interleaved-zero MAX_HEIGHT)
+unfolding interleaved
+returns-clause-node c = refl

@@ -1,5 +1,5 @@
 use Rattle.std.proofs.Common.{arith}
-use Rattle.k2_tree.proofs.DescentLemmas.{two_bits}
+use Rattle.k2_tree.proofs.MortonLemmas.{two_bits}
 use Rattle.k2_tree.proofs.tests.random.random_codes.Goals as goal
 
 pub returns-clause-small : goal.returns-clause-small

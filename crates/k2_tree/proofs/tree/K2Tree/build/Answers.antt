@@ -1,4 +1,4 @@
-use Rattle.std.proofs.Common.{◌≡◌, length, map, arith, sym, ap, ◌∙◌, subst}
+use Rattle.std.proofs.Common.{length, map, arith, sym, ap, ◌∙◌, subst}
 use Rattle.std.proofs.lemmas.List.{length-map}
 use Rattle.k2_tree.specs.Morton.{morton_of}
 use Rattle.k2_tree.specs.TreeBits.{morton_bits, Rises}

@@ -1,15 +1,13 @@
-use Rattle.std.proofs.Common.{◌≡◌, ◌+◌, ◌*◌, ◌<◌, ◌≤◌, length, map, arith, ap, sym, ◌∙◌, subst}
+use Rattle.std.proofs.Common.{◌≡◌, ◌+◌, ◌*◌, ◌<◌, ◌≤◌, length, map, arith, ap, ◌∙◌}
 use Rattle.packed_bits.specs.Bits.{window_of}
 use Rattle.packed_bits.proofs.NumberLemmas.{window_of-lt}
 use Rattle.bit_rank.specs.Bits.{rank_of}
 use Rattle.bit_rank.proofs.RankLemmas.{rank_of-le-place}
-use Rattle.k2_tree.specs.Tree.{Tree, tree_of}
-use Rattle.k2_tree.specs.TreeSquares.{child_at, node_of, square_number, squares_of, IsSquareOf}
+use Rattle.k2_tree.specs.Tree.{tree_of}
+use Rattle.k2_tree.specs.TreeSquares.{child_at, node_of, square_number, IsSquareOf}
 use Rattle.k2_tree.specs.Digits.{digits_of}
-use Rattle.k2_tree.specs.Pending.{nodes_of, StandsAt}
-use Rattle.k2_tree.specs.Pruning.{child_nodes}
-use Rattle.k2_tree.proofs.StoredLemmas.{child_inside}
-use Rattle.k2_tree.proofs.ChildrenLemmas.{group_nodes, group_stands, length-digits_of}
+use Rattle.k2_tree.specs.Pending.{nodes_of}
+use Rattle.k2_tree.proofs.StoredLemmas.{child_inside, group_nodes, group_stands, length-digits_of}
 use Rattle.k2_tree.proofs.tree.K2Tree.children_of.Goals as goal
 use Rattle.k2_tree.proofs.tree.K2Tree.children_of.Given.{Over}
 use Rattle.k2_tree.proofs.tree.K2Tree.children_of.Goals.{After-number-place, After-rank1-number, After-new}
@@ -17,15 +15,12 @@ use Rattle.k2_tree.proofs.tree.K2Tree.children_of.Goals.{After-number-place, Aft
 -- the square is one of the tree that the bits tell
 of : (g : Over) (c : After-number-place g)
     → IsSquareOf (tree_of c.self.inside.height c.self.inside.base c.self.inside.bits) c.args.square
-of g c = subst (λ (t : Tree). IsSquareOf t c.args.square) (sym c.self.view_is) c.requires.of
+of g c = rw c.self.view_is c.requires.of
 
 -- its four bits are in the tree, which has few
 inside : (g : Over) (c : After-number-place g) → 4 * c.number-place.result + 3 < length c.self.inside.bits
 inside g c =
-    let tree = c.self.inside in
-    let last = child_inside tree.height tree.base tree.bits c.args.square 3 c.self.invariant (of g c) c.requires.inner
-    (omega arith) in
-    omega (arith, last, c.number-place.ensures)
+    omega (arith, child_inside c.self.invariant (of g c) c.requires.inner 3 (omega arith), c.number-place.ensures)
 
 pub overflow_mul-place : goal.overflow_mul-place
 overflow_mul-place g c =
@@ -55,13 +50,8 @@ new-requires-clause-four g c =
 pub new-requires-clause-room : goal.new-requires-clause-room
 new-requires-clause-room g c =
     let at = goal.at.new-requires-clause-room g c in
-    omega (
-      arith,
-      inside g at.After-number-place,
-      first_number g at.After-rank1-number,
-      c.self.invariant.tree.few,
-      length-digits_of,
-    )
+    let first = first_number g at.After-rank1-number in
+    omega (arith, inside g at.After-number-place, first, c.self.invariant.tree.few, length-digits_of)
 
 -- the children that the four bits tell
 nodes : (g : Over) (c : After-new g) → nodes_of c.new.result
@@ -76,22 +66,14 @@ nodes g c =
 pub returns-clause-nodes : goal.returns-clause-nodes
 returns-clause-nodes g c =
     let at = goal.at.returns-clause-nodes g c in
-    let s = c.args.square in
-    let tree = c.self.inside in
-    nodes g at.After-new
-    ∙ group_nodes tree.height tree.base tree.bits s c.self.invariant (of g at.After-number-place) c.requires.inner
-    ∙ ap (λ (t : Tree). child_nodes t (node_of s)) c.self.view_is
+    rw (← c.self.view_is)
+    (nodes g at.After-new ∙ group_nodes c.self.invariant (of g at.After-number-place) c.requires.inner)
 
 pub returns-clause-stands : goal.returns-clause-stands
 returns-clause-stands g c =
     let at = goal.at.returns-clause-stands g c in
-    let s = c.args.square in
-    let tree = c.self.inside in
-    let bits = tree.bits in
-    let number : c.new.result.number ≡ rank_of bits (4 * square_number s) + 1 =
+    let number : c.new.result.number ≡ rank_of c.self.inside.bits (4 * square_number c.args.square) + 1 =
     c.new.ensures.number ∙ ap (λ r. r + 1) c.rank1-number.ensures.value
-    ∙ ap (λ j. rank_of bits (4 * j) + 1) c.number-place.ensures in
-    let stands =
-    group_stands tree.height tree.base bits s c.self.invariant (of g at.After-number-place) c.requires.inner in
-    subst (λ (t : Tree). StandsAt (squares_of t) c.new.result.number (nodes_of c.new.result)) c.self.view_is
-    (rw (number, nodes g at.After-new) stands)
+    ∙ ap (λ j. rank_of c.self.inside.bits (4 * j) + 1) c.number-place.ensures in
+    rw (← c.self.view_is, number, nodes g at.After-new)
+    (group_stands c.self.invariant (of g at.After-number-place) c.requires.inner)

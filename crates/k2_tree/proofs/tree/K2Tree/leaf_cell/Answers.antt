@@ -1,5 +1,4 @@
-use Rattle.std.proofs.Common.{◌≡◌, Some, length, arith, ap, sym, ◌∙◌, subst}
-use Rattle.std.specs.Prelude.{slice_get}
+use Rattle.std.proofs.Common.{Some, length, arith, ap, sym, ◌∙◌}
 use Rattle.std.specs.Option.{option_map}
 use Rattle.std.proofs.lemmas.List.{length-map}
 use Rattle.std.proofs.lemmas.Option.{slice_get-map}
@@ -16,7 +15,5 @@ code_of_leaf-code-requires-clause-within g c =
 pub returns-clause-value : goal.returns-clause-value
 returns-clause-value g c =
     let tree = c.self.inside in
-    subst (λ (t : Tree). slice_get t.cells c.args.leaf ≡ Some c.cell_at.result) c.self.view_is
-    (slice_get-map (cell_of tree.height tree.base) (codes_in tree.height tree.bits) c.args.leaf
-    ∙ ap (option_map (cell_of tree.height tree.base)) c.code_of_leaf-code.ensures.value
-    ∙ ap Some (sym c.cell_at.ensures))
+    rw (← c.self.view_is) (slice_get-map (cell_of tree.height tree.base) (codes_in tree.height tree.bits) c.args.leaf
+    ∙ ap (option_map (cell_of tree.height tree.base)) c.code_of_leaf-code.ensures.value ∙ ap Some (sym c.cell_at.ensures))

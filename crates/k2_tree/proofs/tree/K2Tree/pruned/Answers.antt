@@ -1,10 +1,11 @@
 use Rattle.std.proofs.Common.{◌≡◌, ap, ◌∙◌}
 use Rattle.std.specs.List.{sum_by}
+use Rattle.list_laws.proofs.FilterLemmas.{sum_by-filter}
 use Rattle.k2_tree.specs.Pruned.{walk_budget, walk_left}
-use Rattle.k2_tree.specs.Pruning.{kept_leaves, wanted_of}
+use Rattle.k2_tree.specs.Pruning.{kept_leaves, leaves_of, passes_at, wanted_of}
 use Rattle.k2_tree.specs.SquareWalk.{WalkView}
-use Rattle.k2_tree.proofs.KeptLemmas.{kept_leaves-sum, kept_leaves-wanted}
-use Rattle.k2_tree.proofs.PrunedTreeLemmas.{budget_whole, left_whole}
+use Rattle.k2_tree.proofs.KeptLemmas.{kept_leaves-wanted}
+use Rattle.k2_tree.proofs.PrunedLemmas.{budget_whole, left_whole}
 use Rattle.k2_tree.proofs.tree.K2Tree.pruned.Goals as goal
 use Rattle.k2_tree.proofs.tree.K2Tree.pruned.Given.{Over}
 use Rattle.k2_tree.proofs.tree.K2Tree.pruned.Goals.{After-new-2}
@@ -21,7 +22,7 @@ left g c =
     let keeps = g.F.Keep.keeps in
     ap (λ k. walk_left (keeps k) c.new-2.result.walk) c.new-2.ensures.keep
     ∙ ap (λ (w : WalkView). walk_left (keeps c.args.keep) w) c.new-2.ensures.walk
-    ∙ left_whole (keeps c.args.keep) c.args.self.now c.new.result facts.is_tree facts.tree facts.pending
+    ∙ left_whole (keeps c.args.keep) c.new.result facts.is_tree facts.tree facts.pending
 
 pub returns-clause-left : goal.returns-clause-left
 returns-clause-left g c = left g (goal.at.returns-clause-left g c).After-new-2
@@ -29,14 +30,15 @@ returns-clause-left g c = left g (goal.at.returns-clause-left g c).After-new-2
 pub returns-clause-weights : goal.returns-clause-weights
 returns-clause-weights g c = λ weight.
     ap (sum_by weight) (left g (goal.at.returns-clause-weights g c).After-new-2)
-    ∙ kept_leaves-sum (g.F.Keep.keeps c.args.keep) c.args.self.now weight
+    ∙ sum_by-filter weight (λ leaf. passes_at (g.F.Keep.keeps c.args.keep) c.args.self.now leaf.1)
+    (leaves_of c.args.self.now)
 
 pub returns-clause-budget : goal.returns-clause-budget
 returns-clause-budget g c =
     let facts = c.new.ensures in
     ap (λ k. walk_budget (g.F.Keep.keeps k) c.new-2.result.walk) c.new-2.ensures.keep
     ∙ ap (λ (w : WalkView). walk_budget (g.F.Keep.keeps c.args.keep) w) c.new-2.ensures.walk
-    ∙ budget_whole (g.F.Keep.keeps c.args.keep) c.args.self.now c.new.result facts.is_tree facts.tree facts.pending
+    ∙ budget_whole (g.F.Keep.keeps c.args.keep) c.new.result facts.is_tree facts.tree facts.pending
 
 pub returns-clause-wanted : goal.returns-clause-wanted
 returns-clause-wanted g c = λ wanted kept.
