@@ -1,9 +1,13 @@
 -- The definitions, run on rows that were worked out by hand.
-use Rattle.std.proofs.Common.{◌≡◌, ℕ, ℤ, pos, negsuc, List, [], ◌∷◌, Some, None, refl}
-use Rattle.track_types.specs.ByFilter.{cell_at}
+use Rattle.std.proofs.Common.{◌≡◌, ℕ, ℤ, pos, negsuc, List, [], ◌∷◌, ◌++◌, map, Some, None, refl}
+use Rattle.track_types.specs.ByFilter.{cell_at, hits_of, nearest_among, nears_at, nears_of, sightings_of}
+use Rattle.list_laws.specs.Ordered.{ordered, placed}
 use Rattle.track_types.specs.Frame.{periods_of, instants_in}
 use Rattle.track_types.specs.declared.frame.Frame.{Frame}
 use Rattle.track_types.specs.Quantities.{anchors_of, block_count, distinct, extent_of, first_of, last_of, object_count, objects_of, period_count, span_of, symbol_count}
+use Rattle.track_types.specs.declared.cell.Cell.{Cell}
+use Rattle.track_types.specs.declared.region.Region.{Region}
+use Rattle.track_types.specs.declared.region.Region.TheVariants.{Disc, Rect}
 use Rattle.track_types.specs.declared.row.Row.{Row}
 
 row : ℕ → ℤ → ℤ → ℤ → Row
@@ -72,3 +76,52 @@ five = record {
 
 five_periods : periods_of five ∷ instants_in five 0 ∷ instants_in five 1 ∷ instants_in five 2 ∷ [] ≡ 3 ∷ 2 ∷ 2 ∷ 1 ∷ []
 five_periods = refl
+
+-- two objects are equally far from (0, 0), and a third is farther
+tied : List Row
+unfolding row
+tied = row 3 (pos 0) (negsuc 1) (pos 0) ∷ row 5 (pos 0) (pos 2) (pos 0) ∷ row 9 (pos 0) (pos 0) (pos 3) ∷ []
+
+centre : Cell
+centre = record { x = pos 0; y = pos 0 }
+
+tied_nears : map (λ near. near.object) (nears_of tied 1 (pos 0) centre) ≡ 3 ∷ []
+unfolding tied row centre ordered placed nears_of nearest_among nears_at
+tied_nears = refl
+
+all_nears : map (λ near. near.dist2) (nears_of tied 5 (pos 0) centre) ≡ 4 ∷ 4 ∷ 9 ∷ []
+unfolding tied row centre ordered placed nears_of nearest_among nears_at
+all_nears = refl
+
+no_nears : nears_of tied 0 (pos 0) centre ≡ []
+unfolding tied row centre ordered placed nears_of nearest_among nears_at
+no_nears = refl
+
+tied_sightings : map (λ found. found.object) (sightings_of tied (pos 0) (Disc (pos 0) (pos 0) 2)) ≡ 3 ∷ 5 ∷ []
+unfolding tied row sightings_of
+tied_sightings = refl
+
+no_sightings : sightings_of tied (pos 0) (Rect (pos 3) (pos 0) (negsuc 2) (pos 0)) ≡ []
+unfolding tied row sightings_of
+no_sightings = refl
+
+-- an object that comes into a square, leaves it, and comes back
+back : List Row
+unfolding row
+back = row 4 (pos 0) (pos 0) (pos 0) ∷ row 4 (pos 1) (pos 5) (pos 5) ∷ row 4 (pos 2) (pos 0) (pos 0)
+    ∷ row 4 (pos 4) (pos 5) (pos 6) ∷ row 4 (pos 5) (pos 5) (pos 5) ∷ []
+
+square : Region
+square = Rect (pos 5) (pos 5) (pos 6) (pos 6)
+
+first_hit : map (λ hit. hit.instant) (hits_of back (pos 0) (pos 5) square) ≡ pos 1 ∷ []
+unfolding back row square hits_of
+first_hit = refl
+
+later_hit : map (λ hit. hit.instant) (hits_of back (pos 2) (pos 5) square) ≡ pos 4 ∷ []
+unfolding back row square hits_of
+later_hit = refl
+
+no_hits : hits_of back (pos 2) (pos 3) square ++ hits_of back (pos 5) (pos 0) square ≡ []
+unfolding back row square hits_of
+no_hits = refl

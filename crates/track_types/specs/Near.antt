@@ -44,3 +44,8 @@ pub record IsBoxWithin (area : CellBox) : Type 0 where
 pub record IsAsked (z : ℤ) : Type 0 where
   pub low : neg_ℤ (pos (2 ^ 41)) ≤ℤ z
   pub high : z ≤ℤ pos (2 ^ 41)
+
+-- a cell's coordinates may be asked for
+pub record IsCellAsked (cell : Cell) : Type 0 where
+  pub x : IsAsked cell.x
+  pub y : IsAsked cell.y

@@ -2,7 +2,7 @@
 use Rattle.std.specs.Prelude.{ℕ, ◌+◌, ◌*◌, ◌^◌, ◌≤◌, ℤ, ◌-ℤ◌, unsigned_abs, Bool, ◌&&◌, nat_le, IsTrue}
 use Rattle.std.specs.Int.{int_max, int_min}
 use Rattle.std.specs.Int.Signed.{le_z}
-use Rattle.track_types.specs.Near.{IsWithin}
+use Rattle.track_types.specs.Near.{IsAsked, IsWithin}
 use Rattle.track_types.specs.declared.cell.Cell.{Cell}
 use Rattle.track_types.specs.declared.cell_box.CellBox.{CellBox}
 use Rattle.track_types.specs.declared.region.Region.{Region}
@@ -12,6 +12,11 @@ use Rattle.track_types.specs.declared.region.Region.TheVariants.{Rect, Disc}
 abbrev pub IsRegionWithin : Region → Type 0
 IsRegionWithin (Rect x1 y1 x2 y2) = IsWithin x1 × IsWithin y1 × IsWithin x2 × IsWithin y2
 IsRegionWithin (Disc x y r) = IsWithin x × IsWithin y × (r ≤ 2 ^ 42)
+
+-- a region that may be asked for: its coordinates are at most 2^41 away from 0, and its radius is at most 2^42
+abbrev pub IsRegionAsked : Region → Type 0
+IsRegionAsked (Rect x1 y1 x2 y2) = IsAsked x1 × IsAsked y1 × IsAsked x2 × IsAsked y2
+IsRegionAsked (Disc x y r) = IsAsked x × IsAsked y × (r ≤ 2 ^ 42)
 
 -- the square of how far two numbers are apart
 abbrev pub squared_gap : ℤ → ℤ → ℕ

@@ -1,7 +1,8 @@
 ghost use Rattle.std.specs.Prelude.{◌≡◌, ℕ, ◌+◌, ◌≤◌, IfOk};
-ghost use Rattle.track_types.specs.ByFilter.{cell_at, path_of};
+ghost use Rattle.track_types.specs.ByFilter.{cell_at, hits_of, nears_of, path_of, sightings_of};
 ghost use Rattle.track_types.specs.Chart.{ChartView};
-ghost use Rattle.track_types.specs.Near.{IsAsked};
+ghost use Rattle.track_types.specs.Near.{IsAsked, IsCellAsked};
+ghost use Rattle.track_types.specs.Region.{IsRegionAsked};
 ghost use Rattle.track_types.specs.Table.{IsTable};
 ghost use Rattle.track_types.specs.declared.facts.Facts.{Facts as FactsView};
 ghost use Rattle.track_types.specs.declared.question.Question.{Question as Asked};
@@ -9,8 +10,12 @@ ghost use Rattle.track_types.specs.declared.question.Question.TheVariants as ask
 
 use crate::cell::Cell;
 use crate::facts::Facts;
+use crate::hit::Hit;
 use crate::lazy::Lazy;
 use crate::memory::Memory;
+use crate::near::Near;
+use crate::region::Region;
+use crate::sighting::Sighting;
 use crate::stop::Stop;
 use std::alloc::Global;
 use std::sync::ledger::Ledger;
@@ -21,7 +26,8 @@ use step_count::Steps;
 /// Its meaning is a chart, its facts, and for each question a cost. Each answer is the one that
 /// filtering the chart's rows gives, and it makes at most as many reads as its question costs. An
 /// unknown object, an instant outside the chart and an empty window have `None` or the empty list.
-/// Instants that are asked for are at most 2^41 away from 0.
+/// Instants and coordinates that are asked for are at most 2^41 away from 0, and a radius is at most
+/// 2^42.
 pub trait Answerer: Copy {
     type Walk: Lazy<Item = Stop> + Drop;
 
@@ -51,4 +57,51 @@ pub trait Answerer: Copy {
             Self.Walk.left walk ≡ path_of (chart self).rows object from to) }
         ensures budget { IfOk result (λ walk.
             Self.Walk.budget walk ≤ cost self (asked.Path object from to)) };
+
+    /// The rows of an instant in a region, by object.
+    fn slice<L: Ledger>(
+        self,
+        alloc: Global,
+        instant: i64,
+        region: &Region,
+        steps: &mut Steps<L>,
+    ) -> Result<Vec<Sighting>, Memory>
+        requires instant { IsAsked instant }
+        requires region { IsRegionAsked region.now }
+        ensures ok { IfOk result (λ found.
+            found.items ≡ sightings_of (chart self).rows instant region.now) }
+        ensures cost { steps.new ≤ steps.old + cost self (asked.Slice instant region.now) };
+
+    /// For each object that has a row from one instant to another, both counted, in a region, the
+    /// first such row, by object.
+    fn interval<L: Ledger>(
+        self,
+        alloc: Global,
+        from: i64,
+        to: i64,
+        region: &Region,
+        steps: &mut Steps<L>,
+    ) -> Result<Vec<Hit>, Memory>
+        requires from { IsAsked from }
+        requires to { IsAsked to }
+        requires region { IsRegionAsked region.now }
+        ensures ok { IfOk result (λ found.
+            found.items ≡ hits_of (chart self).rows from to region.now) }
+        ensures cost { steps.new ≤ steps.old + cost self (asked.Interval from to region.now) };
+
+    /// The rows of an instant that are nearest to a cell, by squared distance, then by object: those
+    /// before which fewer than `count` others come.
+    fn nearest<L: Ledger>(
+        self,
+        alloc: Global,
+        count: u32,
+        instant: i64,
+        cell: Cell,
+        steps: &mut Steps<L>,
+    ) -> Result<Vec<Near>, Memory>
+        requires instant { IsAsked instant }
+        requires cell { IsCellAsked cell }
+        ensures ok { IfOk result (λ found.
+            found.items ≡ nears_of (chart self).rows count instant cell) }
+        ensures cost { steps.new ≤ steps.old + cost self (asked.Nearest count instant cell) };
 }

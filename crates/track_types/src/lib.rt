@@ -5,7 +5,8 @@
 //!
 //! `number` is exact: a word is no numeral, or one that is too large, or its value. A `Chart` keeps
 //! in its type all that holds of gridded rows. `Region::touches` is true exactly where a cell of the
-//! box is in the region. The crate stands on packed_bits and step_count.
+//! box is in the region. The crate stands on packed_bits, step_count and
+//! list_laws.
 #![tactic(auto)]
 
 mod answerer;
@@ -16,10 +17,12 @@ mod chart;
 mod facts;
 mod flaw;
 mod frame;
+mod hit;
 mod lazy;
 mod limit;
 mod lists;
 mod memory;
+mod near;
 mod numeral;
 mod parts;
 mod period_parts;
@@ -27,6 +30,7 @@ mod question;
 mod raw_row;
 mod region;
 mod row;
+mod sighting;
 mod stop;
 
 pub use answerer::Answerer;
@@ -37,6 +41,7 @@ pub use chart::Chart;
 pub use facts::Facts;
 pub use flaw::{Flaw, Kind, Section};
 pub use frame::Frame;
+pub use hit::Hit;
 pub use lazy::drawn_items::Drawn;
 pub use lazy::{Lazy, drawn};
 pub use limit::{
@@ -45,6 +50,7 @@ pub use limit::{
 };
 pub use lists::{List32, List64, Lists32, PairList, PeriodList};
 pub use memory::Memory;
+pub use near::Near;
 pub use numeral::{Numeral, number};
 pub use packed_bits::BitList;
 pub use parts::Parts;
@@ -53,4 +59,5 @@ pub use question::Question;
 pub use raw_row::{RawRow, RowFault};
 pub use region::{Region, dist2};
 pub use row::Row;
+pub use sighting::Sighting;
 pub use stop::Stop;
