@@ -5,8 +5,8 @@ ghost use Rattle.host_ports.specs.Device.{new_disk, after_read, after_disk_save}
 ghost use Rattle.host_ports.specs.NumberedCalls.{raised, raised_if};
 
 use crate::meter::Meter;
-use crate::replacing::replace_file;
 use crate::retrying::read_piece;
+use crate::saving::save_file;
 use crate::{Failed, Files};
 use std::marker::Model;
 use std::{fs, rt};
@@ -111,13 +111,14 @@ impl<'a, R: rt::Files> Files for DiskFiles<'a, R> {
         }
     }
 
-    /// Writes a new file beside the one of that name, waits until the device has it, and renames it. Any
-    /// error is a fault.
+    /// Writes a new file beside the one of that name, waits until the device has it, and renames it. The
+    /// new file has the permissions of the old one. A link, a device or a pipe stays, and what it leads
+    /// to is written. A file that may not be written is a fault, as is any error.
     fn save(&mut self, name: &str, bytes: &[u8]) -> Result<(), Failed>
         ensures after { self.new ≡ after_disk_save self.old (is_err result) }
         ensures faults { self.old.save_faults ≤ self.new.save_faults }
     {
-        let outcome = replace_file(self.rt, name, bytes);
+        let outcome = save_file(self.rt, name, bytes);
         self.saves = self.saves.saturating_add(1);
         if outcome.is_err() {
             self.save_faults = self.save_faults.saturating_add(1);

@@ -11,6 +11,7 @@ mod disk_files;
 mod fault;
 mod file_store;
 mod files;
+mod filling;
 mod input_source;
 mod memory_files;
 mod memory_sink;
@@ -20,6 +21,7 @@ mod numbered_calls;
 mod output_sink;
 mod replacing;
 mod retrying;
+mod saving;
 mod sink;
 mod source;
 #[cfg(test)]

@@ -3,7 +3,9 @@ use super::{
     OutputSink, Sink, Source,
 };
 use std::alloc::Global;
+use std::fs::Permissions;
 use std::io::{Error, ErrorKind, Read, Write};
+use std::os::unix::fs::{PermissionsExt, symlink};
 use std::test::Fail;
 use std::{fs, io};
 use track_types::Memory;
@@ -221,9 +223,24 @@ fn an_output_says_what_its_writer_takes(rt: HostRuntime) -> Result<(), Fail> {
 fn files_on_disk_are_saved_read_and_missed(rt: HostRuntime) -> Result<(), Fail> {
     let name = format!(in rt.alloc(); "host_ports-{}", std::process::id(rt.process()))?;
     let path = std::env::temp_dir(&rt)?.join(rt.alloc(), name.as_str())?;
-    fs::write(&rt, path.as_str(), "old")?;
+    let link = path.with_extension(rt.alloc(), "link")?;
+    fs::write(&rt, path.as_str(), "old and longer")?;
+    fs::set_permissions(&rt, path.as_str(), Permissions::from_mode(0o600))?;
+    symlink(&rt, path.as_str(), link.as_str())?;
     let mut files = DiskFiles::new(&rt);
-    assert_eq!(rt; files.save(path.as_str(), b"0123456789"), Ok(()));
+    for (place, bytes) in [
+        (path.as_str(), b"all of these".as_slice()),
+        (link.as_str(), b"0123456789"),
+    ] {
+        assert_eq!(rt; files.save(place, bytes), Ok(()));
+        assert_eq!(rt;
+            fs::symlink_metadata(&rt, link.as_str())?.is_symlink(),
+            true
+        );
+        let mode = fs::metadata(&rt, path.as_str())?.permissions().mode();
+        assert_eq!(rt; mode & 0o777, 0o600);
+    }
+    fs::remove_file(&rt, link.as_str())?;
     let mut buf = [0u8; 6];
     assert_eq!(rt; files.begin(path.as_str()), Ok(()));
     assert_eq!(rt; (files.pull(&mut buf), buf), (Ok(6), *b"012345"));
