@@ -81,24 +81,70 @@ fn compress(alphabet: u32, blocks: &[Vec<u32>]) -> (Vec<Pair>, Vec<Vec<u32>>) {
     (rules, blocks)
 }
 fn next(state: u64) -> u64 { let a = state ^ (state << 13); let b = a ^ (a >> 7); b ^ (b << 17) }
+#[derive(Clone, Copy)]
+struct Row { object: u32, instant: i64, x: i64, y: i64 }
+fn spiral_code(dx: i64, dy: i64) -> u64 {
+    if dx == 0 && dy == 0 { return 0 }
+    let r = dx.unsigned_abs().max(dy.unsigned_abs()); let e = r as i64;
+    let (side, along) = if dx == e && dy > -e { (0, dy) } else if dy == e { (1, -dx) } else if dx == -e { (2, -dy) } else { (3, dx) };
+    (2 * r - 1) * (2 * r - 1) + side * 2 * r + (along + e - 1) as u64
+}
+fn rows(text: &str) -> Vec<Row> {
+    let mut rows: Vec<Row> = text.lines().filter_map(|line| {
+        let mut words = line.split(',').map(|word| word.parse::<i64>());
+        let (object, t, x, y) = (words.next()?.ok()?, words.next()?.ok()?, words.next()?.ok()?, words.next()?.ok()?);
+        Some(Row { object: object as u32, instant: t.div_euclid(60), x: x.div_euclid(100), y: y.div_euclid(100) })
+    }).collect();
+    rows.reverse();
+    rows.sort_by_key(|r| (r.object, r.instant));
+    rows.dedup_by_key(|r| (r.object, r.instant));
+    rows
+}
+// The logs of all blocks in periods of 120 instants, by period, then object, and the size of their alphabet.
+fn logs(rows: &[Row]) -> (u32, Vec<Vec<u32>>) {
+    let first = rows.iter().map(|r| r.instant).min().unwrap(); let last = rows.iter().map(|r| r.instant).max().unwrap();
+    let period = |row: &Row| (row.instant - first) / 120;
+    let mut blocks: Vec<(i64, Vec<u64>)> = rows.chunk_by(|a, b| a.object == b.object && period(a) == period(b)).map(|block| {
+        let end = (first + 120 * (period(&block[0]) + 1)).min(last + 1);
+        let mut log = vec![0; (end - block[0].instant - 1) as usize];
+        for pair in block.windows(2) {
+            log[(pair[1].instant - block[0].instant - 1) as usize] = spiral_code(pair[1].x - pair[0].x, pair[1].y - pair[0].y) + 1
+        }
+        (period(&block[0]), log)
+    }).collect();
+    blocks.sort_by_key(|block| block.0);
+    let mut alphabet: Vec<u64> = blocks.iter().flat_map(|block| block.1.iter().copied()).collect();
+    alphabet.sort_unstable(); alphabet.dedup();
+    let place = |value: &u64| alphabet.binary_search(value).unwrap() as u32;
+    (alphabet.len() as u32, blocks.iter().map(|block| block.1.iter().map(place).collect()).collect())
+}
+fn fleet(many: u32) -> Vec<Vec<u32>> {
+    let mut state = 88_172_645_463_325_252u64;
+    (0..many).map(|_| {
+        state = next(state); let mut way = state % 200;
+        (0..119).map(|_| {
+            state = next(state);
+            if (state >> 20) % 16 == 0 { way = (state >> 30) % 200 }
+            let noise = (state >> 40) % 8;
+            (if noise < 5 { way } else { (way + noise) % 200 }) as u32
+        }).collect()
+    }).collect()
+}
+fn measure(alphabet: u32, lists: &[Vec<u32>]) {
+    let start = Instant::now();
+    let (rules, blocks) = compress(alphabet, lists);
+    let took = start.elapsed().as_millis();
+    let mut all = 0u64;
+    for (left, right) in &rules { all = all.rotate_left(1) ^ *left as u64 ^ (*right as u64).rotate_left(32) }
+    for block in &blocks { for symbol in block { all = all.rotate_left(1) ^ *symbol as u64 } }
+    println!("{} blocks, {} rules, sum {all}: {took} ms", lists.len(), rules.len());
+}
 fn main() {
-    for many in [2_100u32, 8_400] {
-        let mut state = 88_172_645_463_325_252u64;
-        let lists: Vec<Vec<u32>> = (0..many).map(|_| {
-            state = next(state); let mut way = state % 200;
-            (0..119).map(|_| {
-                state = next(state);
-                if (state >> 20) % 16 == 0 { way = (state >> 30) % 200 }
-                let noise = (state >> 40) % 8;
-                (if noise < 5 { way } else { (way + noise) % 200 }) as u32
-            }).collect()
-        }).collect();
-        let start = Instant::now();
-        let (rules, blocks) = compress(200, &lists);
-        let took = start.elapsed().as_millis();
-        let mut all = 0u64;
-        for (left, right) in &rules { all = all.rotate_left(1) ^ *left as u64 ^ (*right as u64).rotate_left(32) }
-        for block in &blocks { for symbol in block { all = all.rotate_left(1) ^ *symbol as u64 } }
-        println!("{many} blocks, {} rules, sum {all}: {took} ms", rules.len());
+    let text = std::io::read_to_string(std::io::stdin()).unwrap();
+    if text.is_empty() {
+        for many in [2_100, 8_400] { measure(200, &fleet(many)) }
+        return
     }
+    let (alphabet, lists) = logs(&rows(&text));
+    measure(alphabet, &lists)
 }

@@ -305,6 +305,86 @@ fn lists_at_random(
     Ok(lists)
 }
 
+// The draws of Knuth's linear congruential generator (MMIX): of each state its upper 31 bits.
+fn draws(alloc: Global, seed: u64, many: u32) -> Result<Vec<u64>, Memory> {
+    let mut draws = Vec::new(alloc);
+    let mut state = seed;
+    for _ in 0..many {
+        state = state
+            .wrapping_mul(6_364_136_223_846_793_005)
+            .wrapping_add(1_442_695_040_888_963_407);
+        draws.push(state >> 33)?;
+    }
+    Ok(draws)
+}
+
+// A coordinate from 0 to 1023 after a step back (0), none (1) or forward (2), and the step made.
+fn stepped(place: u64, step: u64) -> (u64, u64) {
+    if place == 0 && step == 0 || place == 1023 && step == 2 {
+        return (place, 1);
+    }
+    (place.wrapping_add(step).wrapping_sub(1), step)
+}
+
+// What a step upwards, then one to the right, is in a log: the movement's spiral code and one.
+const MOVEMENTS: [u32; 9] = [7, 8, 9, 6, 1, 2, 5, 4, 3];
+
+// What one of 64 objects does at each instant after the first, where each makes a draw: a sixteenth
+// of the draws is an absence (0), the others are movements in a square of 1,024 cells.
+fn walked(alloc: Global, draws: &[u64], object: u64) -> Result<Vec<u32>, Memory> {
+    let mut x = object.wrapping_mul(37) % 1024;
+    let mut y = object.wrapping_mul(101) % 1024;
+    let mut values = Vec::new(alloc);
+    for instant in 0..63u64 {
+        let place = instant.wrapping_mul(64).wrapping_add(object);
+        let draw = draws.get(place as usize).copied().unwrap_or(0);
+        let mut value = 0;
+        if draw % 16 > 0 {
+            let (right, dx) = stepped(x, draw / 16 % 3);
+            let (up, dy) = stepped(y, draw / 48 % 3);
+            x = right;
+            y = up;
+            let movement = dy.wrapping_mul(3).wrapping_add(dx) as usize;
+            value = MOVEMENTS.get(movement).copied().unwrap_or(0);
+        }
+        values.push(value)?;
+    }
+    Ok(values)
+}
+
+// The log of a period of 16 instants: what comes after the first of them that is no absence.
+fn log_of(alloc: Global, values: &[u32], period: usize) -> Result<Vec<u32>, Memory> {
+    let mut log = Vec::new(alloc);
+    let mut open = period == 0; // all stand somewhere at the first instant of all
+    for instant in 0..16usize {
+        let place = period.wrapping_mul(16).wrapping_add(instant);
+        if place > 0 {
+            let value = values.get(place.wrapping_sub(1)).copied().unwrap_or(0);
+            if open {
+                log.push(value)?;
+            }
+            open = open || value > 0;
+        }
+    }
+    Ok(log)
+}
+
+// The logs of 64 objects over 64 instants, by period, then object.
+fn logs(alloc: Global, seed: u64) -> Result<Vec<Vec<u32>>, Memory> {
+    let draws = draws(alloc, seed, 63 * 64)?;
+    let mut walks = Vec::new(alloc);
+    for object in 0..64u64 {
+        walks.push(walked(alloc, draws.as_slice(), object)?)?;
+    }
+    let mut logs = Vec::new(alloc);
+    for place in 0..256usize {
+        if let Some(walk) = walks.get(place % 64) {
+            logs.push(log_of(alloc, walk.as_slice(), place / 64)?)?;
+        }
+    }
+    Ok(logs)
+}
+
 #[test]
 fn random_blocks_are_those_of_two_slow_programs(rt: HostRuntime) -> Result<(), Fail> {
     let alloc = rt.alloc();
@@ -325,6 +405,25 @@ fn random_blocks_are_those_of_two_slow_programs(rt: HostRuntime) -> Result<(), F
     Ok(())
 }
 
+// Whether a grammar has so many rules, these for its first and its last, and so many symbols left.
+fn has_as_many(
+    grammar: &Grammar,
+    many: usize,
+    first: (u32, u32),
+    last: (u32, u32),
+    left: usize,
+) -> bool {
+    let rules = grammar.rules.as_slice();
+    let mut symbols = 0usize;
+    for block in grammar.blocks.as_slice() {
+        symbols = symbols.saturating_add(block.as_slice().len());
+    }
+    rules.len() == many
+        && rules.first().copied() == Some(first)
+        && rules.last().copied() == Some(last)
+        && symbols == left
+}
+
 #[test]
 fn four_thousand_symbols_have_as_many_rules_as_elsewhere(rt: HostRuntime) -> Result<(), Fail> {
     let alloc = rt.alloc();
@@ -334,14 +433,20 @@ fn four_thousand_symbols_have_as_many_rules_as_elsewhere(rt: HostRuntime) -> Res
         lists.push(random.list(alloc, 6, 250)?)?;
     }
     let grammar = compressed(alloc, 6, lists.as_slice())?;
-    let rules = grammar.rules.as_slice();
-    assert_eq!(rt; rules.len(), 171);
-    assert_eq!(rt; rules.first().copied(), Some((5, 5)));
-    assert_eq!(rt; rules.last().copied(), Some((90, 17)));
-    let mut symbols = 0usize;
-    for block in grammar.blocks.as_slice() {
-        symbols = symbols.saturating_add(block.as_slice().len());
-    }
-    assert_eq!(rt; symbols, 855);
+    assert!(rt;
+        has_as_many(&grammar, 171, (5, 5), (90, 17), 855),
+        "blocks at random"
+    );
+    let lists = logs(alloc, 9)?;
+    let grammar = compressed(alloc, 10, lists.as_slice())?;
+    assert!(rt;
+        has_as_many(&grammar, 282, (2, 4), (212, 67), 1721),
+        "logs of 64 objects"
+    );
+    let afresh = compressed_afresh(alloc, 10, lists.as_slice())?;
+    assert!(rt;
+        are_same(&grammar, &afresh),
+        "logs of 64 objects, counted afresh"
+    );
     Ok(())
 }
