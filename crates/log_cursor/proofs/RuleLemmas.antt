@@ -4,14 +4,14 @@ use Rattle.std.specs.Prelude.{fold}
 use Rattle.std.proofs.lemmas.List.{append_assoc}
 use Rattle.track_types.specs.declared.cell.Cell.{Cell}
 use Rattle.rule_store.specs.View.{RulesView, symbols_in}
-use Rattle.rule_store.specs.Expansion.{depth_in, depth_of, depths, values_of}
+use Rattle.rule_store.specs.Expansion.{depth_in, depth_of, depths, expansion_of, values_of}
 use Rattle.rule_store.specs.Flaws.{AreRules, left_of, right_of}
 use Rattle.rule_store.specs.Log.{log_values, stops_after}
-use Rattle.rule_store.specs.Nodes.{opened_count}
-use Rattle.rule_store.proofs.ExpansionLemmas.{depth_of-rule, length-depths, values_of-rule}
+use Rattle.rule_store.specs.Nodes.{Node, nodes_in, opened_count, parsed}
+use Rattle.rule_store.proofs.ExpansionLemmas.{depth_of-rule, expansion_of-rule, length-depths, values_of-rule}
 use Rattle.rule_store.proofs.FlawLemmas.{no_flaws, rule-sound}
 use Rattle.rule_store.proofs.LogLemmas.{stops_after-rule}
-use Rattle.rule_store.proofs.NodeLemmas.{opened_count-opened, opens}
+use Rattle.rule_store.proofs.NodeLemmas.{nodes_in-rule, opened_count-opened, opens, parsed-terminals}
 
 -- a number among some, and where they begin, is at most the greatest
 fold_max-start : (numbers : List ℕ) (n : ℕ) → n ≤ fold max n numbers
@@ -87,6 +87,24 @@ module _ (rules : RulesView) (symbol : ℕ) (rule : length rules.alphabet ≤ sy
         ap (λ s. stops_after rules instant cell (s ∷ log)) (sym place)
         ∙ stops_after-rule rules instant cell number (left_of rules symbol) (right_of rules symbol) log within refl
         left_low right_low
+
+    -- its own node, and those of its parts
+    pub nodes_in-parts :
+        nodes_in rules (symbol ∷ log)
+        ≡ record { before = []; inside = expansion_of rules symbol }
+        ∷ nodes_in rules (left_of rules symbol ∷ right_of rules symbol ∷ log)
+    unfolding number
+    nodes_in-parts =
+        let left = left_of rules symbol in
+        let right = right_of rules symbol in
+        let inside : (parsed rules left).terminals ++ (parsed rules right).terminals ≡ expansion_of rules symbol =
+        ap (λ terminals. terminals ++ (parsed rules right).terminals) (parsed-terminals rules left)
+        ∙ ap (λ terminals. expansion_of rules left ++ terminals) (parsed-terminals rules right)
+        ∙ sym (expansion_of-rule rules number left right within refl left_low right_low)
+        ∙ ap (expansion_of rules) place in
+        ap (λ s. nodes_in rules (s ∷ log)) (sym place)
+        ∙ nodes_in-rule rules number left right log within refl left_low right_low
+        ∙ ap {B = List Node} (λ i. record { before = []; inside = i } ∷ nodes_in rules (left ∷ right ∷ log)) inside
 
     -- where a walk opens it, it counts one and its parts
     pub opened_count-parts : (instant from to : ℤ) → opens rules instant from to symbol ≡ true →

@@ -87,7 +87,7 @@ pub none_unless : (hull : Option CellBox) → is_some hull ≡ false → hull �
 none_unless None none = refl
 none_unless (Some area) none = absurd (cc)
 
-le_z-from : (a b : ℤ) → a ≤ℤ b → le_z a b ≡ true
+pub le_z-from : (a b : ℤ) → a ≤ℤ b → le_z a b ≡ true
 le_z-from a b below = grind (arith, ints)
 
 module _ (rules : RulesView) (from to : ℤ) (start : Start) where

@@ -14,7 +14,7 @@ use Rattle.spiral_code.specs.Spiral.{move_of}
 use Rattle.list_laws.specs.Grown.{grown}
 use Rattle.list_laws.proofs.FrontLemmas.{All-front}
 use Rattle.list_laws.proofs.GrownLemmas.{length-grown}
-use Rattle.track_types.specs.Near.{IsAsked}
+use Rattle.track_types.specs.Near.{IsAsked, IsCellAsked}
 use Rattle.track_types.specs.declared.cell.Cell.{Cell}
 use Rattle.track_types.specs.declared.cell_box.CellBox.{CellBox}
 use Rattle.rule_store.specs.View.{RulesView, symbols_in}
@@ -30,7 +30,7 @@ use Rattle.rule_store.proofs.BoxLemmas.{box_round-bounds}
 use Rattle.rule_store.proofs.CellLemmas.{cells_along-append, moved-moved, moved-none, present-moved, same_cell}
 use Rattle.rule_store.proofs.ExpansionLemmas.{length-values_of}
 use Rattle.rule_store.proofs.FlawLemmas.{near_entry, no_flaws, rule-sound}
-use Rattle.log_cursor.specs.Start.{AreHullsAsked, IsBoxAsked, IsCellAsked, IsHullAsked, IsPlaced, IsStart, IsWay, IsWayOf, start_after, start_at, start_past}
+use Rattle.log_cursor.specs.Start.{AreHullsAsked, IsBoxAsked, IsHullAsked, IsPlaced, IsStart, IsWay, IsWayOf, start_after, start_at, start_past}
 use Rattle.log_cursor.specs.declared.start.Start.{Start}
 use Rattle.log_cursor.proofs.RuleLemmas.{log_values-parts}
 use Rattle.log_cursor.proofs.StopLemmas.{duration_of-terminal}
@@ -210,30 +210,48 @@ none-round : (first : Cell) (rest : List Cell) → None ≡ box_round (first ∷
 unfolding box_round
 none-round first rest is = absurd (cc)
 
--- cells lie in the box round them: where the box is moved to a near place, they are near
-cells-near : (cell : Cell) (cells : List Cell) (hull : Option CellBox) → hull ≡ box_round cells →
-    IsHullAsked cell hull → All IsCellAsked (map (λ c. moved c (cell.x, cell.y)) cells)
-cells-near cell [] hull is near = All-nil IsCellAsked
-cells-near cell (first ∷ rest) None is near = absurd (none-round first rest is)
-cells-near cell (first ∷ rest) (Some area) is near =
+-- a cell lies within the bounds of a box
+pub record IsBounded (area : CellBox) (cell : Cell) : Type 0 where
+  pub left : area.x1 ≤ℤ cell.x
+  pub below : area.y1 ≤ℤ cell.y
+  pub right : cell.x ≤ℤ area.x2
+  pub above : cell.y ≤ℤ area.y2
+
+-- so do the cells round which it is the least
+pub box_round-bounded : (area : CellBox) (cells : List Cell) → Some area ≡ box_round cells → All (IsBounded area) cells
+box_round-bounded area [] is = All-nil (IsBounded area)
+box_round-bounded area (first ∷ rest) is =
     let bounds = box_round-bounds area first rest is in
     let x1 = least-each column first.x rest in
     let y1 = least-each line first.y rest in
     let x2 = greatest-each column first.x rest in
     let y2 = greatest-each line first.y rest in
+    All-cons (IsBounded area) first rest (record {
+      left = omega (arith, ints, bounds.x1, x1.0);
+      below = omega (arith, ints, bounds.y1, y1.0);
+      right = omega (arith, ints, bounds.x2, x2.0);
+      above = omega (arith, ints, bounds.y2, y2.0);
+    })
+    (λ k d within. record {
+      left = omega (arith, ints, bounds.x1, x1.1 k d within);
+      below = omega (arith, ints, bounds.y1, y1.1 k d within);
+      right = omega (arith, ints, bounds.x2, x2.1 k d within);
+      above = omega (arith, ints, bounds.y2, y2.1 k d within);
+    })
+
+-- where the box round cells is moved to a near place, they are near
+cells-near : (cell : Cell) (cells : List Cell) (hull : Option CellBox) → hull ≡ box_round cells →
+    IsHullAsked cell hull → All IsCellAsked (map (λ c. moved c (cell.x, cell.y)) cells)
+cells-near cell [] hull is near = All-nil IsCellAsked
+cells-near cell (first ∷ rest) None is near = absurd (none-round first rest is)
+cells-near cell (first ∷ rest) (Some area) is near =
     All-map IsCellAsked (λ c. moved c (cell.x, cell.y)) (first ∷ rest)
-    (All-cons (λ c. IsCellAsked (moved c (cell.x, cell.y))) first rest
-    (in_bounds first (omega (arith, ints, bounds.x1, x1.0)) (omega (arith, ints, bounds.y1, y1.0))
-    (omega (arith, ints, bounds.x2, x2.0)) (omega (arith, ints, bounds.y2, y2.0)))
-    (λ k d within. in_bounds (get_or rest k d) (omega (arith, ints, bounds.x1, x1.1 k d within))
-    (omega (arith, ints, bounds.y1, y1.1 k d within)) (omega (arith, ints, bounds.x2, x2.1 k d within))
-    (omega (arith, ints, bounds.y2, y2.1 k d within))))
+    (λ k d within. in_bounds (get_or (first ∷ rest) k d) (box_round-bounded area (first ∷ rest) is k d within))
   where
-    in_bounds : (c : Cell) → area.x1 ≤ℤ c.x → area.y1 ≤ℤ c.y → c.x ≤ℤ area.x2 → c.y ≤ℤ area.y2 →
-        IsCellAsked (moved c (cell.x, cell.y))
-    in_bounds c x1 y1 x2 y2 = record {
-      x = record { low = omega (arith, ints, near.x1.low); high = omega (arith, ints, near.x2.high) };
-      y = record { low = omega (arith, ints, near.y1.low); high = omega (arith, ints, near.y2.high) };
+    in_bounds : (c : Cell) → IsBounded area c → IsCellAsked (moved c (cell.x, cell.y))
+    in_bounds c inside = record {
+      x = record { low = omega (arith, ints, near.x1.low, inside.left); high = omega (arith, ints, near.x2.high, inside.right) };
+      y = record { low = omega (arith, ints, near.y1.low, inside.below); high = omega (arith, ints, near.y2.high, inside.above) };
     }
 
 values-near : (cell : Cell) (values : List ℕ) → IsHullAsked cell (bounding_box_of values) →

@@ -1,6 +1,6 @@
 -- Where a part of a block begins, and which blocks may be walked.
 use Rattle.std.specs.Prelude.{◌≡◌, ℕ, ◌^◌, ℤ, pos, neg_ℤ, ◌+ℤ◌, ◌≤ℤ◌, List, [], ◌∷◌, length, All, Option, Some, None, ⊤}
-use Rattle.track_types.specs.Near.{IsAsked}
+use Rattle.track_types.specs.Near.{IsAsked, IsCellAsked}
 use Rattle.track_types.specs.declared.cell.Cell.{Cell}
 use Rattle.track_types.specs.declared.cell_box.CellBox.{CellBox}
 use Rattle.rule_store.specs.View.{RulesView}
@@ -23,11 +23,6 @@ start_after start entry =
 -- where values lead from a start
 abbrev pub start_past : Start → List ℕ → Start
 start_past start values = start_at (start.instant +ℤ pos (length values)) (moved start.cell (displacement_of values))
-
--- a cell is at most 2^41 away from 0 in each axis
-pub record IsCellAsked (cell : Cell) : Type 0 where
-  pub x : IsAsked cell.x
-  pub y : IsAsked cell.y
 
 -- a box, moved to the cell where its symbol begins, is at most 2^41 away from 0
 pub record IsBoxAsked (cell : Cell) (hull : CellBox) : Type 0 where

@@ -1,17 +1,20 @@
-//! Cursors over compressed logs: the cell at an instant, and the stops of a window.
+//! Cursors over compressed logs: the cell at an instant, the stops of a window, and the first of them
+//! in a region.
 //!
-//! Both answer what a plain look at the expanded log answers (`specs/Seek.antt`, `specs/Walk.antt`),
-//! and open only the rules on their way. The crate stands on `track_types`, `rule_store`,
+//! They answer what a plain look at the expanded log answers (`specs/Seek.antt`, `specs/Walk.antt`,
+//! `specs/Touching.antt`), and open only the rules on their way. The crate stands on `track_types`, `rule_store`, `region_test`,
 //! `spiral_code`, `step_count`, `list_laws` and `smallvec`.
 #![tactic(auto)]
 
 mod pending;
+mod searching;
 mod seeking;
 mod start;
 #[cfg(test)]
 mod tests;
 mod walk;
 
+pub use searching::first_hit;
 pub use seeking::seek;
 pub use start::Start;
 pub use walk::BlockWalk;

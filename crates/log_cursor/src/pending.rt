@@ -48,7 +48,7 @@ impl<'a> Pending<'a> {
     {
         let mut stack = SmallVec::new(alloc);
         stack.reserve(rules.depth() as usize + 1)?;
-        let (_, _, _) = rules.sizes();
+        let (_, _, _) = rules.sizes(); // says that the rules are sound
         Ok(Pending {
             view: rules.block(0, 0),
             next: 0,

@@ -6,6 +6,8 @@ ghost use Rattle.rule_store.specs.Cells.{moved};
 ghost use Rattle.rule_store.specs.Log.{log_of};
 ghost use Rattle.log_cursor.specs.Start.{IsBoxAsked, IsHullAsked, IsPlaced};
 
+mod hits;
+
 use super::{BlockWalk, Start, seek};
 use rule_store::{Entry, LogView, RuleFault, RuleStore};
 use std::alloc::Global;
@@ -385,13 +387,20 @@ fn stops_in_windows(alloc: Global, cells: &[Option<Cell>]) -> Result<Vec<Vec<Sto
 }
 
 #[test]
-fn walks_have_the_stops_of_their_windows(rt: HostRuntime) -> Result<(), Fail> {
+fn walks_and_searches_have_the_stops_of_their_windows(rt: HostRuntime) -> Result<(), Fail> {
     for seed in 0..60u64 {
         let sample = sample_of(rt.alloc(), seed)?;
         let expected = stops_in_windows(rt.alloc(), sample.cells.as_slice())?;
         let asked = windows(rt.alloc())?;
         let drawn = stops_of_block(&rt, &sample.store, 12, asked.as_slice())?;
         assert_eq!(rt; drawn, expected, "seed {seed}");
+        let agree = hits::regions_that_agree(
+            &rt,
+            &sample.store,
+            asked.as_slice(),
+            drawn.as_slice(),
+        )?;
+        assert_eq!(rt; agree, 4, "first hits of seed {seed}");
     }
     Ok(())
 }

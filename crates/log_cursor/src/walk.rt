@@ -114,8 +114,8 @@ impl<'a> Lazy for BlockWalk<'a> {
     }
 }
 
-// The stop at an anchor, if its instant is in a window.
-fn stop_within(start: Start, from: i64, to: i64) -> Option<Stop>
+/// The stop at an anchor, if its instant is in a window.
+pub(crate) fn stop_within(start: Start, from: i64, to: i64) -> Option<Stop>
     ensures { option_to_list result
         ≡ in_window from to (stop_at start.instant start.cell ∷ []) }
 {

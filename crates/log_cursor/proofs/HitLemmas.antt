@@ -1,0 +1,219 @@
+-- Boxes where their symbols are placed, and the hits of a region that such a box tells of or rules out.
+use Rattle.std.proofs.Common.{◌≡◌, ℕ, zero, suc, ◌<◌, ℤ, pos, ◌+ℤ◌, ◌≤ℤ◌, ◌<ℤ◌, Bool, true, false, List, [], ◌∷◌, ◌++◌, length, filter, map, Option, Some, None, refl, ap, sym, subst, ◌∙◌, arith, All, inl, inr}
+use Rattle.std.specs.Option.{is_some, option_map, option_or}
+use Rattle.std.specs.Prelude.{find, get_or, slice_index}
+use Rattle.std.specs.Int.{int_max, int_min}
+use Rattle.std.specs.Prelude.{fold}
+use Rattle.std.proofs.lemmas.Bool.{and_parts, cases_Bool}
+use Rattle.std.proofs.lemmas.Int.{clamps, ints}
+use Rattle.std.proofs.lemmas.List.Elements.{All-head, All-nil, All-tail, filter-append}
+use Rattle.std.proofs.lemmas.List.Folds.{find-append}
+use Rattle.spiral_code.specs.Spiral.{move_of}
+use Rattle.track_types.specs.Near.{IsAsked, IsCellAsked}
+use Rattle.track_types.specs.Region.{in_box, in_region, intersects_region, is_between}
+use Rattle.track_types.specs.declared.cell.Cell.{Cell}
+use Rattle.track_types.specs.declared.cell_box.CellBox.{CellBox}
+use Rattle.track_types.specs.declared.region.Region.{Region}
+use Rattle.track_types.specs.declared.stop.Stop.{Stop}
+use Rattle.track_types.proofs.RegionLemmas.{both, intersects_region-exact, is_between-bounds, is_between-from}
+use Rattle.rule_store.specs.View.{RulesView}
+use Rattle.rule_store.specs.Expansion.{values_of}
+use Rattle.rule_store.specs.Cells.{cells_along, displacement_of, moved, present_in}
+use Rattle.rule_store.specs.Boxes.{bounding_box_of, box_round, column, line, origin}
+use Rattle.rule_store.specs.Log.{in_window, stop_at, stops_after, stops_from}
+use Rattle.rule_store.proofs.BoxLemmas.{box_round-bounds, box_round-moved, box_round-moved_none, box_round-none}
+use Rattle.rule_store.proofs.CellLemmas.{present-moved, same_cell}
+use Rattle.rule_store.proofs.ExpansionLemmas.{length-values_of, values_of-terminal}
+use Rattle.rule_store.proofs.LogLemmas.{stops_after-cons}
+use Rattle.log_cursor.specs.Placing.{placed_box}
+use Rattle.log_cursor.specs.Start.{IsHullAsked, start_past}
+use Rattle.log_cursor.specs.Touching.{first_among, hit_left, touches_at}
+use Rattle.log_cursor.specs.Walk.{stops_left}
+use Rattle.log_cursor.specs.declared.start.Start.{Start}
+use Rattle.log_cursor.proofs.WalkLemmas.{stops_left-terminal}
+use Rattle.log_cursor.proofs.WayLemmas.{IsBounded, box_round-bounded}
+
+-- the box of values, placed at a cell, is the least round the cells along them from there
+placed-round : (cell : Cell) (values : List ℕ) (hull : Option CellBox) → hull ≡ bounding_box_of values →
+    option_map (placed_box cell) hull ≡ box_round (present_in (cells_along cell values))
+unfolding bounding_box_of
+placed-round cell values hull is =
+    let by : ℤ × ℤ = (cell.x, cell.y) in
+    let here : moved origin by ≡ cell = same_cell _ _ cell.x cell.y (omega (arith, ints)) (omega (arith, ints)) in
+    at_origin hull is ∙ ap box_round (sym (present-moved by origin values))
+    ∙ ap (λ start. box_round (present_in (cells_along start values))) here
+  where
+    at_origin : (hull : Option CellBox) → hull ≡ box_round (present_in (cells_along origin values)) →
+        option_map (placed_box cell) hull
+        ≡ box_round (map (λ c. moved c (cell.x, cell.y)) (present_in (cells_along origin values)))
+    at_origin None is = box_round-moved_none (present_in (cells_along origin values)) (cell.x, cell.y) is
+    at_origin (Some area) is =
+        box_round-moved (present_in (cells_along origin values)) (cell.x, cell.y) area (placed_box cell area) is
+        (omega (arith, ints)) (omega (arith, ints)) (omega (arith, ints)) (omega (arith, ints))
+
+-- one of several numbers that may be asked for
+module _ (pick : ℤ → ℤ → ℤ) (picks : (a b : ℤ) → IsAsked a → IsAsked b → IsAsked (pick a b)) where
+  picked-asked : (f : Cell → ℤ) (z : ℤ) (cells : List Cell) → IsAsked z → All (λ cell. IsAsked (f cell)) cells →
+      IsAsked (fold pick z (map f cells))
+  picked-asked f z [] start each = start
+  picked-asked f z (cell ∷ cells) start each =
+      picked-asked f (pick z (f cell)) cells (picks z (f cell) start (All-head (λ c. IsAsked (f c)) cell cells each))
+      (All-tail (λ c. IsAsked (f c)) cell cells each)
+
+min-asked : (a b : ℤ) → IsAsked a → IsAsked b → IsAsked (int_min a b)
+min-asked a b one other = record {
+  low = omega (arith, ints, clamps, one.low, other.low);
+  high = omega (arith, ints, clamps, one.high, other.high);
+}
+
+max-asked : (a b : ℤ) → IsAsked a → IsAsked b → IsAsked (int_max a b)
+max-asked a b one other = record {
+  low = omega (arith, ints, clamps, one.low, other.low);
+  high = omega (arith, ints, clamps, one.high, other.high);
+}
+
+-- the bounds of the least box round cells that may be asked for
+box_round-asked : (area : CellBox) (cells : List Cell) → Some area ≡ box_round cells → All IsCellAsked cells →
+    (IsAsked area.x1 × IsAsked area.y1) × (IsAsked area.x2 × IsAsked area.y2)
+unfolding box_round
+box_round-asked area [] is near = absurd (cc)
+box_round-asked area (first ∷ rest) is near =
+    let bounds = box_round-bounds area first rest is in
+    let here = All-head IsCellAsked first rest near in
+    let later = All-tail IsCellAsked first rest near in
+    let columns : All (λ cell. IsAsked (column cell)) rest = λ k d within. (later k d within).x in
+    let lines : All (λ cell. IsAsked (line cell)) rest = λ k d within. (later k d within).y in (
+      (
+        subst IsAsked (sym bounds.x1) (picked-asked int_min min-asked column first.x rest here.x columns),
+        subst IsAsked (sym bounds.y1) (picked-asked int_min min-asked line first.y rest here.y lines),
+      ),
+      (
+        subst IsAsked (sym bounds.x2) (picked-asked int_max max-asked column first.x rest here.x columns),
+        subst IsAsked (sym bounds.y2) (picked-asked int_max max-asked line first.y rest here.y lines),
+      ),
+    )
+
+-- where the cells along values are near, so is their placed box
+pub IsHullAsked-along : (cell : Cell) (values : List ℕ) (hull : Option CellBox) → hull ≡ bounding_box_of values →
+    All IsCellAsked (present_in (cells_along cell values)) → IsHullAsked cell hull
+IsHullAsked-along cell values None is near = tt
+IsHullAsked-along cell values (Some hull) is near =
+    let bounds = box_round-asked (placed_box cell hull) (present_in (cells_along cell values))
+    (placed-round cell values (Some hull) is) near in
+    record { x1 = bounds.0.0; y1 = bounds.0.1; x2 = bounds.1.0; y2 = bounds.1.1 }
+
+module _ (region : Region) where
+  -- a cell within the bounds of a box that has no cell of the region is not in the region
+  outside : (area : CellBox) → intersects_region region area ≡ false → (cell : Cell) → IsBounded area cell →
+      in_region region cell ≡ false
+  outside area apart cell inside = elim (cases_Bool (in_region region cell)) [
+    | inl held ↦
+        let in_area : in_box area cell ≡ true =
+        both _ _ (is_between-from area.x1 area.x2 cell.x inside.left inside.right)
+        (is_between-from area.y1 area.y2 cell.y inside.below inside.above) in
+        let touched : intersects_region region area ≡ true =
+        (intersects_region-exact region area).1 (cell, in_area, held) in
+        absurd (cc)
+    | inr other ↦ other
+  ]
+
+  -- values whose placed box has no cell of the region lead to no cell of it
+  outside-along : (cell : Cell) (values : List ℕ) (hull : Option CellBox) → hull ≡ bounding_box_of values →
+      touches_at region cell hull ≡ false →
+      All (λ c. in_region region c ≡ false) (present_in (cells_along cell values))
+  outside-along cell values None is apart =
+      subst (All (λ c. in_region region c ≡ false))
+      (sym (box_round-none (present_in (cells_along cell values)) (placed-round cell values None is)))
+      (All-nil (λ c. in_region region c ≡ false))
+  outside-along cell values (Some hull) is apart =
+      let cells = present_in (cells_along cell values) in
+      λ k d within. outside (placed_box cell hull) apart (get_or cells k d)
+      (box_round-bounded (placed_box cell hull) cells (placed-round cell values (Some hull) is) k d within)
+
+  -- no stop at such cells is a hit
+  no_hit : (test : Stop → Bool) (instant : ℤ) (cells : List (Option Cell)) →
+      All (λ c. in_region region c ≡ false) (present_in cells) →
+      first_among region (filter test (stops_from instant cells)) ≡ None
+  unfolding stops_from
+  no_hit test instant [] fails = refl
+  no_hit test instant (None ∷ cells) fails = no_hit test (instant +ℤ pos 1) cells fails
+  no_hit test instant (Some here ∷ cells) fails =
+      let first = All-head (λ c. in_region region c ≡ false) here (present_in cells) fails in
+      let rest = no_hit test (instant +ℤ pos 1) cells
+      (All-tail (λ c. in_region region c ≡ false) here (present_in cells) fails) in
+      elim (cases_Bool (test (stop_at instant here))) [
+        | inl kept ↦ rw (kept, first) rest
+        | inr gone ↦ rw gone rest
+      ]
+
+  -- a box that has a cell of the region is one
+  pub touches_at-some : (cell : Cell) (hull : Option CellBox) → touches_at region cell hull ≡ true → is_some hull ≡ true
+  touches_at-some cell None touches = absurd (cc)
+  touches_at-some cell (Some area) touches = refl
+
+  -- the box of one movement is the cell to which it leads
+  held-box : (cell : Cell) (code : ℕ) (hull : Option CellBox) → hull ≡ bounding_box_of (suc code ∷ []) →
+      touches_at region cell hull ≡ true → in_region region (moved cell (displacement_of (suc code ∷ []))) ≡ true
+  unfolding bounding_box_of cells_along displacement_of
+  held-box cell code None is touches = absurd (cc)
+  held-box cell code (Some area) is touches =
+      let bounds = box_round-bounds area (moved origin (move_of code)) [] is in
+      let placed = placed_box cell area in
+      let found = (intersects_region-exact region placed).0 touches in
+      let parts = and_parts (is_between placed.x1 placed.x2 found.0.x) (is_between placed.y1 placed.y2 found.0.y)
+      found.1 in
+      let across = is_between-bounds placed.x1 placed.x2 found.0.x parts.0 in
+      let along = is_between-bounds placed.y1 placed.y2 found.0.y parts.1 in
+      let same : found.0 ≡ moved cell (displacement_of (suc code ∷ [])) =
+      same_cell found.0.x found.0.y _ _ (omega (arith, ints, bounds.x1, bounds.x2, across.0, across.1))
+      (omega (arith, ints, bounds.y1, bounds.y2, along.0, along.1)) in
+      subst (λ c. in_region region c ≡ true) same found.2
+
+  held-move : (cell : Cell) (value : ℕ) → touches_at region cell (bounding_box_of (value ∷ [])) ≡ true →
+      in_region region (moved cell (displacement_of (value ∷ []))) ≡ true
+  unfolding bounding_box_of box_round cells_along
+  held-move cell zero touches = absurd (cc)
+  held-move cell (suc code) touches = held-box cell code (bounding_box_of (suc code ∷ [])) refl touches
+
+  module _ (rules : RulesView) (from to : ℤ) (start : Start) (symbol : ℕ) (log : List ℕ) where
+    -- where the symbol leads
+    abbrev past : Start
+    past = start_past start (values_of rules symbol)
+
+    -- a symbol whose placed box has no cell of the region
+    pub hit_left-apart : touches_at region start.cell (bounding_box_of (values_of rules symbol)) ≡ false →
+        hit_left rules from to region start (symbol ∷ log) ≡ hit_left rules from to region past log
+    unfolding in_window
+    hit_left-apart apart =
+        let test : Stop → Bool = λ stop. is_between from to stop.instant in
+        let held : Stop → Bool = λ stop. in_region region stop.cell in
+        let own = stops_from (start.instant +ℤ pos 1) (cells_along start.cell (values_of rules symbol)) in
+        let later = stops_after rules (start.instant +ℤ pos (length (values_of rules symbol))) past.cell log in
+        let none = no_hit test (start.instant +ℤ pos 1) (cells_along start.cell (values_of rules symbol))
+        (outside-along start.cell (values_of rules symbol) _ refl apart) in
+        ap (λ stops. find held (filter test stops)) (stops_after-cons rules start.instant start.cell symbol log)
+        ∙ ap (λ n. find held (filter test (own ++ stops_after rules (start.instant +ℤ pos n) past.cell log)))
+        (sym (length-values_of rules symbol))
+        ∙ ap (find held) (filter-append test own later)
+        ∙ find-append held (filter test own) (filter test later)
+        ∙ ap (λ found. option_or found (find held (filter test later))) none
+
+    -- a terminal in the window, whose placed box has a cell of the region
+    pub hit_left-terminal : symbol < length rules.alphabet →
+        touches_at region start.cell (bounding_box_of (values_of rules symbol)) ≡ true → start.instant <ℤ to →
+        from ≤ℤ past.instant →
+        hit_left rules from to region start (symbol ∷ log) ≡ Some (stop_at past.instant past.cell)
+    hit_left-terminal terminal touches open_end reached =
+        let one = values_of-terminal rules symbol terminal in
+        let held : in_region region past.cell ≡ true =
+        subst (λ values. in_region region (moved start.cell (displacement_of values)) ≡ true) (sym one)
+        (held-move start.cell (slice_index rules.alphabet symbol)
+        (subst (λ values. touches_at region start.cell (bounding_box_of values) ≡ true) one touches)) in
+        let some = touches_at-some start.cell (bounding_box_of (values_of rules symbol)) touches in
+        ap (first_among region) (stops_left-terminal rules from to start symbol log terminal some open_end reached)
+        ∙ first_held held
+      where
+        first_held : in_region region past.cell ≡ true →
+            first_among region (stop_at past.instant past.cell ∷ stops_left rules from to past log)
+            ≡ Some (stop_at past.instant past.cell)
+        first_held held = rw held refl

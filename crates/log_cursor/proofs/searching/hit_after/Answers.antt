@@ -1,0 +1,137 @@
+use Rattle.std.proofs.Common.{◌≡◌, ◌+◌, ◌<◌, ◌≤◌, ◌≤ℤ◌, ◌<ℤ◌, ℤ, true, false, to_z, of_z, w64, length, Some, subst, sym, ap, ◌∙◌, arith}
+use Rattle.std.proofs.lemmas.Bool.{leb-false, leb-true}
+use Rattle.std.proofs.lemmas.Int.{ints}
+use Rattle.rule_store.specs.Log.{stop_at}
+use Rattle.log_cursor.specs.Start.{start_after}
+use Rattle.log_cursor.specs.Touching.{IsSearching, hit_left, touching_left, turns_left}
+use Rattle.log_cursor.specs.declared.start.Start.{Start}
+use Rattle.log_cursor.proofs.SearchLemmas.{hit_left-end, hit_left-over, hit_left-same, touching_left-same, turn-apart, turn-before, turn-fewer, turn-found, turn-near, turn-opened, turn-opened-fewer, turn-start}
+use Rattle.log_cursor.proofs.searching.hit_after.Goals as goal
+use Rattle.log_cursor.proofs.searching.hit_after.Goals.{then-next-from-via-then-next-from, then-next-from-via-else-next-from+then-not-touches}
+
+pub returns-in_err-entry-clause-value : goal.returns-in_err-entry-clause-value
+returns-in_err-entry-clause-value g c =
+    let first = c.args.pending in
+    let now = c.loop-at.pending in
+    let region = c.args.test.now.region in
+    let from : to_z w64 (of_z w64 c.args.from) ≡ c.args.from = omega (arith, ints) in
+    let to : to_z w64 (of_z w64 c.args.to) ≡ c.args.to = omega (arith, ints) in
+    rw c.from_residual.ensures
+    (sym (hit_left-same first.rules c.args.from c.args.to _ _ region c.args.start first.symbols from to
+    ∙ c.loop-at.invariant.same
+    ∙ hit_left-end now.rules _ _ region c.loop-at.at now.symbols c.in_err-entry.ensures.none))
+
+pub after-next-requires : goal.after-next-requires
+after-next-requires g c =
+    turn-start _ _ c.loop-at.pending c.next.new.self _ _ _ _ _ c.next.new.steps c.in_ok-entry.entry c.loop-at.invariant
+    c.in_ok-entry.ensures.found c.next.ensures.rules c.next.ensures.cost
+
+pub touches-requires : goal.touches-requires
+touches-requires g c =
+    turn-near _ _ c.loop-at.pending c.next.new.self _ _ _ _ _ c.next.new.steps c.in_ok-entry.entry c.loop-at.invariant
+    c.in_ok-entry.ensures.found c.next.ensures.rules c.next.ensures.cost
+
+pub loop-at-smaller-then-next-from : goal.loop-at-smaller-then-next-from
+loop-at-smaller-then-next-from g c =
+    let old = c.loop-at.pending in
+    let now = c.next.new.self in
+    let region = c.args.test.now.region in
+    let from = to_z w64 (of_z w64 c.args.from) in
+    let to = to_z w64 (of_z w64 c.args.to) in
+    subst (λ (next : Start). turns_left now.rules from to region next now.symbols
+    < turns_left old.rules from to region c.loop-at.at old.symbols) (sym c.after-next.ensures)
+    (turn-fewer _ _ old now _ _ _ _ _ c.next.new.steps c.in_ok-entry.entry c.loop-at.invariant
+    c.in_ok-entry.ensures.found c.next.ensures.rules c.next.ensures.cost)
+
+pub loop-at-preserved-then-next-from : goal.loop-at-preserved-then-next-from
+loop-at-preserved-then-next-from g c =
+    let first = c.args.pending in
+    let old = c.loop-at.pending in
+    let now = c.next.new.self in
+    let entry = c.in_ok-entry.entry in
+    let region = c.args.test.now.region in
+    let from = to_z w64 (of_z w64 c.args.from) in
+    let to = to_z w64 (of_z w64 c.args.to) in
+    let next_is = ap (λ (s : Start). s.instant) c.after-next.ensures in
+    subst (λ (next : Start). IsSearching (hit_left first.rules from to region c.args.start first.symbols)
+    (c.args.steps.now + (first.unread + touching_left first.rules from to region c.args.start first.symbols))
+    now.rules now.symbols now.unread next from to region c.next.new.steps) (sym c.after-next.ensures)
+    (elim c.then-next-from.branch [
+      | then-next-from-via-then-next-from w ↦
+          let ended : (start_after c.loop-at.at entry).instant <ℤ from =
+          omega (arith, ints, next_is, w.if-next-from.true) in
+          turn-before _ _ old now _ _ _ _ _ c.next.new.steps entry c.loop-at.invariant c.in_ok-entry.ensures.found
+          c.next.ensures.rules c.next.ensures.cost ended
+      | then-next-from-via-else-next-from+then-not-touches w ↦
+          turn-apart _ _ old now _ _ _ _ _ c.next.new.steps entry c.loop-at.invariant c.in_ok-entry.ensures.found
+          c.next.ensures.rules c.next.ensures.cost (sym w.touches.ensures ∙ w.if-not-touches.true)
+    ])
+
+pub returns-then-not-is_rule-clause-value : goal.returns-then-not-is_rule-clause-value
+returns-then-not-is_rule-clause-value g c =
+    let first = c.args.pending in
+    let now = c.next.new.self in
+    let region = c.args.test.now.region in
+    let from : to_z w64 (of_z w64 c.args.from) ≡ c.args.from = omega (arith, ints) in
+    let to : to_z w64 (of_z w64 c.args.to) ≡ c.args.to = omega (arith, ints) in
+    let here = c.after-next.result in
+    let kept : to_z w64 (of_z w64 here.instant) ≡ here.instant = omega (arith, ints) in
+    let next_is = ap (λ (s : Start). s.instant) c.after-next.ensures in
+    let open_end : c.loop-at.at.instant <ℤ to_z w64 (of_z w64 c.args.to) = omega (arith, ints, c.loop-at-test.true) in
+    let reached : to_z w64 (of_z w64 c.args.from) ≤ℤ (start_after c.loop-at.at c.in_ok-entry.entry).instant =
+    omega (arith, ints, next_is, c.if-next-from.false) in
+    let terminal : c.in_ok-entry.entry.symbol < length now.rules.alphabet =
+    leb-false _ _ (sym c.is_rule.ensures ∙ c.if-not-is_rule.true) in
+    ap (λ z. Some (stop_at z here.cell)) kept
+    ∙ ap (λ (next : Start). Some (stop_at next.instant next.cell)) c.after-next.ensures
+    ∙ sym (hit_left-same first.rules c.args.from c.args.to _ _ region c.args.start first.symbols from to
+    ∙ turn-found _ _ c.loop-at.pending now _ _ _ _ _ c.next.new.steps c.in_ok-entry.entry c.loop-at.invariant
+    c.in_ok-entry.ensures.found c.next.ensures.rules c.next.ensures.cost
+    (sym c.touches.ensures ∙ c.if-not-touches.false) open_end reached terminal)
+
+pub returns-then-not-is_rule-clause-cost : goal.returns-then-not-is_rule-clause-cost
+returns-then-not-is_rule-clause-cost g c =
+    let first = c.args.pending in
+    let region = c.args.test.now.region in
+    let from : to_z w64 (of_z w64 c.args.from) ≡ c.args.from = omega (arith, ints) in
+    let to : to_z w64 (of_z w64 c.args.to) ≡ c.args.to = omega (arith, ints) in
+    let same = touching_left-same first.rules c.args.from c.args.to _ _ region c.args.start first.symbols from to in
+    omega (arith, c.loop-at.invariant.reads, c.next.ensures.cost, same)
+
+pub loop-at-smaller : goal.loop-at-smaller
+loop-at-smaller g c =
+    let next_is = ap (λ (s : Start). s.instant) c.after-next.ensures in
+    let open_end : c.loop-at.at.instant <ℤ to_z w64 (of_z w64 c.args.to) = omega (arith, ints, c.loop-at-test.true) in
+    let reached : to_z w64 (of_z w64 c.args.from) ≤ℤ (start_after c.loop-at.at c.in_ok-entry.entry).instant =
+    omega (arith, ints, next_is, c.if-next-from.false) in
+    let rule : length c.next.new.self.rules.alphabet ≤ c.in_ok-entry.entry.symbol =
+    leb-true _ _ (sym c.is_rule.ensures ∙ c.if-not-is_rule.false) in
+    turn-opened-fewer _ _ c.loop-at.pending c.next.new.self _ _ _ _ _ c.next.new.steps c.in_ok-entry.entry
+    c.loop-at.invariant c.in_ok-entry.ensures.found c.next.ensures.rules c.next.ensures.cost
+    (sym c.touches.ensures ∙ c.if-not-touches.false) open_end reached c.next.ensures.sound rule c.open.new.self
+    c.open.new.steps c.open.ensures.rules c.open.ensures.symbols c.open.ensures.unread c.open.ensures.cost
+
+pub loop-at-preserved : goal.loop-at-preserved
+loop-at-preserved g c =
+    let next_is = ap (λ (s : Start). s.instant) c.after-next.ensures in
+    let open_end : c.loop-at.at.instant <ℤ to_z w64 (of_z w64 c.args.to) = omega (arith, ints, c.loop-at-test.true) in
+    let reached : to_z w64 (of_z w64 c.args.from) ≤ℤ (start_after c.loop-at.at c.in_ok-entry.entry).instant =
+    omega (arith, ints, next_is, c.if-next-from.false) in
+    let rule : length c.next.new.self.rules.alphabet ≤ c.in_ok-entry.entry.symbol =
+    leb-true _ _ (sym c.is_rule.ensures ∙ c.if-not-is_rule.false) in
+    turn-opened _ _ c.loop-at.pending c.next.new.self _ _ _ _ _ c.next.new.steps c.in_ok-entry.entry
+    c.loop-at.invariant c.in_ok-entry.ensures.found c.next.ensures.rules c.next.ensures.cost
+    (sym c.touches.ensures ∙ c.if-not-touches.false) open_end reached c.next.ensures.sound rule c.open.new.self
+    c.open.new.steps c.open.ensures.rules c.open.ensures.symbols c.open.ensures.unread c.open.ensures.cost
+
+pub returns-clause-value : goal.returns-clause-value
+returns-clause-value g c =
+    let first = c.args.pending in
+    let now = c.loop-at.pending in
+    let region = c.args.test.now.region in
+    let from : to_z w64 (of_z w64 c.args.from) ≡ c.args.from = omega (arith, ints) in
+    let to : to_z w64 (of_z w64 c.args.to) ≡ c.args.to = omega (arith, ints) in
+    let over : to_z w64 (of_z w64 c.args.to) ≤ℤ c.loop-at.at.instant = omega (arith, ints, c.loop-at-test.false) in
+    sym (hit_left-same first.rules c.args.from c.args.to _ _ region c.args.start first.symbols from to
+    ∙ c.loop-at.invariant.same
+    ∙ hit_left-over now.rules _ _ region c.loop-at.at now.symbols over)

@@ -1,0 +1,71 @@
+-- What a search for the first stop in a region finds, and how many rules it opens.
+use Rattle.std.specs.Prelude.{◌≡◌, ℕ, ◌+◌, ◌*◌, ◌≤◌, ℤ, ◌+ℤ◌, Bool, false, ◌&&◌, List, length, map, filter, find, slice_index, Option, Some, None}
+use Rattle.track_types.specs.Region.{in_region, intersects_region}
+use Rattle.track_types.specs.declared.cell.Cell.{Cell}
+use Rattle.track_types.specs.declared.cell_box.CellBox.{CellBox}
+use Rattle.track_types.specs.declared.region.Region.{Region}
+use Rattle.track_types.specs.declared.stop.Stop.{Stop}
+use Rattle.rule_store.specs.View.{RulesView}
+use Rattle.rule_store.specs.Boxes.{bounding_box_of}
+use Rattle.rule_store.specs.Cells.{displacement_of, moved}
+use Rattle.rule_store.specs.Log.{block_stops, in_window}
+use Rattle.rule_store.specs.Nodes.{Node, meets, nodes_in}
+use Rattle.log_cursor.specs.Placing.{placed_box}
+use Rattle.log_cursor.specs.Start.{IsWayOf}
+use Rattle.log_cursor.specs.Walk.{stops_left}
+use Rattle.log_cursor.specs.declared.start.Start.{Start}
+
+-- the first of some stops in a region
+abbrev pub first_among : Region → List Stop → Option Stop
+first_among region stops = find (λ stop. in_region region stop.cell) stops
+
+-- the first stop of a block in a window and a region
+unfoldable pub first_hit_of : RulesView → List ℕ → Start → ℤ → ℤ → Region → Option Stop
+first_hit_of rules log start from to region =
+    first_among region (in_window from to (block_stops rules start.instant start.cell log))
+
+-- the region has a cell of a box that is placed at a cell, if there is a box
+abbrev pub touches_at : Region → Cell → Option CellBox → Bool
+touches_at region cell None = false
+touches_at region cell (Some hull) = intersects_region region (placed_box cell hull)
+
+-- the values of terminals
+abbrev pub terminal_values : RulesView → List ℕ → List ℕ
+terminal_values rules terminals = map (slice_index rules.alphabet) terminals
+
+-- the placed box of a rule's node has a cell of the region, in a block with its anchor in this cell
+abbrev pub is_touched : RulesView → Cell → Region → Node → Bool
+is_touched rules cell region node =
+    touches_at region (moved cell (displacement_of (terminal_values rules node.before)))
+    (bounding_box_of (terminal_values rules node.inside))
+
+-- the node's instants meet the window besides
+abbrev pub is_touching : RulesView → Start → ℤ → ℤ → Region → Node → Bool
+is_touching rules start from to region node =
+    meets start.instant from to node && is_touched rules start.cell region node
+
+-- how many rule nodes of a log's parse trees have instants in the window and a cell of the region in their placed box
+unfoldable pub touching_count : RulesView → Start → List ℕ → ℤ → ℤ → Region → ℕ
+touching_count rules start log from to region =
+    length (filter (is_touching rules start from to region) (nodes_in rules log))
+
+-- the first stop of symbols in a window and a region
+abbrev pub hit_left : RulesView → ℤ → ℤ → Region → Start → List ℕ → Option Stop
+hit_left rules from to region start symbols = first_among region (stops_left rules from to start symbols)
+
+-- how many rules of symbols a search opens
+abbrev pub touching_left : RulesView → ℤ → ℤ → Region → Start → List ℕ → ℕ
+touching_left rules from to region start symbols = touching_count rules start symbols from to region
+
+-- What a search that has found nothing has done: what it passed over or opened left the same first hit to the symbols
+-- from a place on, for reads from its budget.
+pub record IsSearching (found : Option Stop) (budget : ℕ) (rules : RulesView) (symbols : List ℕ) (unread : ℕ) (at : Start)
+    (from to : ℤ) (region : Region) (steps : ℕ) : Type 0 where
+  pub way : IsWayOf rules at symbols
+  pub same : found ≡ hit_left rules from to region at symbols
+  pub reads : steps + (unread + touching_left rules from to region at symbols) ≤ budget
+
+-- how often a search still turns at most: a symbol that is opened gives way to two
+abbrev pub turns_left : RulesView → ℤ → ℤ → Region → Start → List ℕ → ℕ
+turns_left rules from to region start symbols =
+    2 * touching_left rules from to region start symbols + length symbols

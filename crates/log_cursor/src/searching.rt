@@ -1,0 +1,127 @@
+ghost use Rattle.std.specs.Prelude.{◌≡◌, ◌+◌, ◌≤◌, [], ◌∷◌, length, IfOk};
+ghost use Rattle.track_types.specs.Near.{IsBoxWithin, IsCellAsked};
+ghost use Rattle.rule_store.specs.Log.{in_window, log_of, stop_at};
+ghost use Rattle.log_cursor.specs.Start.{IsBoxAsked, IsHullAsked, IsPlaced, IsWayOf};
+ghost use Rattle.log_cursor.specs.Placing.{placed_box};
+ghost use Rattle.log_cursor.specs.Touching.{
+  first_among,
+  first_hit_of,
+  hit_left,
+  touches_at,
+  touching_count,
+  touching_left,
+};
+
+use crate::pending::Pending;
+use crate::start::Start;
+use crate::walk::stop_within;
+use region_test::RegionTest;
+use rule_store::LogView;
+use std::alloc::Global;
+use std::sync::ledger::Ledger;
+use step_count::Steps;
+use track_types::{Cell, CellBox, Memory, Stop};
+
+/// The first stop of a block in a window, whose ends count, and in a region, the anchor included.
+/// `None` exactly where there is none.
+///
+/// The instant and the cell of the anchor, and each symbol's box where it is placed, are at most 2^41
+/// away from 0. A symbol whose instants miss the window, or whose placed box has no cell of the
+/// region, is passed over unopened. It makes at most as many reads as the log has symbols and its
+/// parse trees have rule nodes that are not passed over. Memory is taken for the parts of opened
+/// rules where the grammar is deep.
+pub fn first_hit<L: Ledger>(
+    alloc: Global,
+    view: LogView<'_>,
+    start: Start,
+    from: i64,
+    to: i64,
+    test: &RegionTest,
+    steps: &mut Steps<L>,
+) -> Result<Option<Stop>, Memory>
+    requires { IsPlaced view.rules.now start (log_of view) }
+    ensures value { IfOk result (λ found. found
+        ≡ first_hit_of view.entry.rules.now (log_of view.entry) start from to test.now.region) }
+    ensures cost { steps.new ≤ steps.old + (length (log_of view.entry)
+        + touching_count view.entry.rules.now start (log_of view.entry) from to test.now.region) }
+{
+    let anchor = anchor_hit(start, from, to, test);
+    if anchor.is_some() || to <= start.instant {
+        return Ok(anchor);
+    }
+    let mut pending = Pending::new(alloc, view.rules())?;
+    pending.begin(view);
+    Ok(hit_after(pending, start, from, to, test, steps))
+}
+
+// The anchor of a block, if it is in a window and in a region.
+fn anchor_hit(start: Start, from: i64, to: i64, test: &RegionTest) -> Option<Stop>
+    requires { IsCellAsked start.cell }
+    ensures { result ≡ first_among test.now.region
+        (in_window from to (stop_at start.instant start.cell ∷ [])) }
+{
+    let anchor = stop_within(start, from, to)?;
+    if !test.holds(start.cell) {
+        return None;
+    }
+    Some(anchor)
+}
+
+// The first hit of symbols that begin after a start.
+fn hit_after<L: Ledger>(
+    mut pending: Pending<'_>,
+    start: Start,
+    from: i64,
+    to: i64,
+    test: &RegionTest,
+    steps: &mut Steps<L>,
+) -> Option<Stop>
+    requires { IsWayOf pending.rules start pending.symbols }
+    ensures value { result ≡ hit_left pending.entry.rules from to test.now.region start
+        pending.entry.symbols }
+    ensures cost { steps.new ≤ steps.old + (pending.entry.unread + touching_left
+        pending.entry.rules from to test.now.region start pending.entry.symbols) }
+{
+    let mut at = start;
+    while at.instant < to {
+        let entry = pending.next(steps)?;
+        let next = at.after(&entry);
+        if next.instant < from || !touches(at.cell, entry.hull, test) {
+            at = next;
+            continue;
+        }
+        if !pending.is_rule(entry.symbol) {
+            return Some(Stop {
+                instant: next.instant,
+                cell: next.cell,
+            });
+        }
+        pending.open(entry.symbol, steps);
+    }
+    None
+}
+
+// Whether a symbol's box, moved to the cell where the symbol begins, has a cell of a region.
+fn touches(cell: Cell, hull: Option<CellBox>, test: &RegionTest) -> bool
+    requires { IsHullAsked cell hull }
+    ensures { result ≡ touches_at test.now.region cell hull }
+{
+    match hull {
+        Some(hull) => test.may(&placed(cell, hull)),
+        None => false,
+    }
+}
+
+// A box that is moved from (0, 0) to a cell.
+fn placed(cell: Cell, hull: CellBox) -> CellBox
+    requires { IsBoxAsked cell hull }
+    ensures value { result ≡ placed_box cell hull }
+    ensures within { IsBoxWithin result }
+{
+    CellBox {
+        x1: cell.x + hull.x1,
+        y1: cell.y + hull.y1,
+        x2: cell.x + hull.x2,
+        y2: cell.y + hull.y2,
+    }
+}
