@@ -355,7 +355,7 @@ fn main() {
             let cell = snapshot.leaf_cell(leaf);
             snapshot.members(leaf, cell, |block| sum = folded(sum, block));
         }
-        all ^= sum;
+        all = all.wrapping_mul(31) ^ sum;
     }
     println!("{objects} leaf_cell and members {all} {} us", start.elapsed().as_micros());
     let start = Instant::now();
@@ -365,7 +365,7 @@ fn main() {
             let cell = snapshot.leaf_cell(leaf);
             sum = sum.wrapping_mul(31) ^ cell.0 ^ cell.1;
         }
-        all ^= sum;
+        all = all.wrapping_mul(31) ^ sum;
     }
     println!("{objects} leaf_cell {all} {} us", start.elapsed().as_micros());
 }

@@ -1,7 +1,7 @@
 -- The blocks of a period, put where their objects stand.
 use Rattle.std.proofs.Common.{◌≡◌, ◌≢◌, ◌⊎◌, ℕ, zero, suc, ◌+◌, ◌*◌, ◌<◌, ◌≤◌, Bool, true, false, eqb, List, [], ◌∷◌, length, get_or, set, map, filter, All, Option, None, Some, inl, inr, refl, ap, sym, ◌∙◌, arith, subst}
 use Rattle.std.specs.Prelude.{if◌then◌else◌, replicate, slice_index_or}
-use Rattle.std.specs.List.{filter_map, range_with_len, sum_by}
+use Rattle.std.specs.List.{range_with_len, sum_by}
 use Rattle.std.proofs.lemmas.Bool.{cases_Bool}
 use Rattle.std.proofs.lemmas.Bool.Decides.{nat_tests}
 use Rattle.std.proofs.lemmas.List.{same_lists, get_or-set_same, get_or-set_other, get_or-replicate, get_or_default, length-set, length-replicate}
@@ -11,7 +11,6 @@ use Rattle.std.proofs.lemmas.Option.{none-some, same_Some, slice_get_within}
 use Rattle.std.proofs.lemmas.List.FromFn.{get_or-map-range_with_len, length-map-range_with_len}
 use Rattle.list_laws.proofs.SumLemmas.{made_weight, sum_by-filter_map}
 use Rattle.track_types.specs.declared.cell.Cell.{Cell}
-use Rattle.track_types.specs.declared.cell_box.CellBox.{CellBox}
 use Rattle.k2_tree.specs.Pruning.{square_count, IsKeptFor}
 use Rattle.snapshots.specs.IndexCost.{blocks_reads, everywhere}
 use Rattle.snapshots.specs.Cost.{block_reads, square_reads}

@@ -1,5 +1,5 @@
 -- The definitions, run on periods of two objects.
-use Rattle.std.proofs.Common.{◌≡◌, ℕ, Bool, true, false, pos, List, [], ◌∷◌, length, take, refl, None, Some}
+use Rattle.std.proofs.Common.{◌≡◌, ℕ, Bool, true, false, pos, List, [], ◌∷◌, length, map, take, refl, None, Some}
 use Rattle.track_types.specs.declared.flaw.Section.TheVariants.{Offsets, Tree, Lasts, Perm}
 use Rattle.track_types.specs.declared.flaw.Kind.TheVariants.{Offset, Cells, CellOrder}
 use Rattle.track_types.specs.declared.flaw.Kind.TheVariants as kind
@@ -9,7 +9,19 @@ use Rattle.k2_tree.specs.TreeBits.{longer}
 use Rattle.k2_tree.specs.Flaws.{group_flaw, level_flaw, tree_flaw}
 use Rattle.packed_bits.specs.Bits.{ones_of}
 use Rattle.bit_rank.specs.Bits.{rank_of, select_of}
-use Rattle.snapshots.specs.View.{SnapshotView, block_at, block_of, blocks_in}
+use Rattle.spiral_code.specs.Spiral.{move_of}
+use Rattle.list_laws.specs.Grown.{grown}
+use Rattle.track_types.specs.declared.parts.Parts.{Parts}
+use Rattle.track_types.specs.declared.period_parts.PeriodParts.{PeriodParts}
+use Rattle.rule_store.specs.Boxes.{bounding_box_of, box_round}
+use Rattle.rule_store.specs.Cells.{cell_at, cells_along, displacement_of}
+use Rattle.rule_store.specs.Entry.{duration_of, entry_of}
+use Rattle.rule_store.specs.Expansion.{expansion_of, values_of}
+use Rattle.rule_store.specs.Log.{block_stops, log_values, stop_at, stops_after, stops_from}
+use Rattle.snapshots.specs.JoinFlaws.{cell_after, lasting}
+use Rattle.snapshots.specs.Parts.{numbers_in, start_in, stops_in}
+use Rattle.snapshots.specs.Speed.{blocks_speed, log_speed, speed_of}
+use Rattle.snapshots.specs.View.{SnapshotView, all_blocks, block_at, block_of, blocks_in}
 use Rattle.snapshots.specs.Flaws.{bits_flaw, flaw_of, flaw_in}
 use Rattle.snapshots.specs.declared.anchored.Anchored.{Anchored}
 
@@ -116,3 +128,55 @@ objects_without_cells_are_flawed : flaw_of (with (I ∷ I ∷ []) (0 ∷ 1 ∷ [
     ≡ Some (flaw_in 0 Lasts Cells 2)
 unfolding row_of column_of cell_of picked codes_below codes_in longer rank_of ones_of group_flaw level_flaw tree_flaw
 objects_without_cells_are_flawed = refl
+
+-- a period of one object, whose log has one symbol
+abbrev alone : List Bool → PeriodParts
+alone tree = record {
+  present = I ∷ [];
+  offsets = 0 ∷ [];
+  tree = tree;
+  lasts = I ∷ [];
+  perm = 0 ∷ [];
+  lengths = 1 ∷ [];
+}
+
+-- the bits of (0, 0) and of (5, 6) in a grid of side 8
+abbrev at_origin : List Bool
+at_origin = I ∷ O ∷ O ∷ O ∷ I ∷ O ∷ O ∷ O ∷ I ∷ O ∷ O ∷ O ∷ []
+
+abbrev at_end : List Bool
+at_end = O ∷ O ∷ O ∷ I ∷ O ∷ O ∷ I ∷ O ∷ O ∷ I ∷ O ∷ O ∷ []
+
+-- the object 4 is at (0, 0), (5, 5), (0, 0), absent, at (5, 6) and at (5, 5), in periods of two instants; the alphabet has
+-- the absence, and the movements by (0, -1) and by (5, 5)
+abbrev wanderer : Parts
+wanderer = record {
+  frame = record {
+    first = pos 0;
+    span = 6;
+    period = 2;
+    height = 3;
+    base = record { x = pos 0; y = pos 0 };
+    cell = 1;
+    tick = 1;
+  };
+  objects = 4 ∷ [];
+  alphabet = 0 ∷ 8 ∷ 91 ∷ [];
+  rules = [];
+  periods = alone at_origin ∷ alone at_origin ∷ alone at_end ∷ [];
+  symbols = 2 ∷ 0 ∷ 1 ∷ [];
+}
+
+its_blocks_stop_where_it_is : map (stops_in wanderer 0) (numbers_in wanderer.frame)
+    ≡ (stop_at (pos 0) (cell_at (pos 0) (pos 0)) ∷ stop_at (pos 1) (cell_at (pos 5) (pos 5)) ∷ [])
+    ∷ (stop_at (pos 2) (cell_at (pos 0) (pos 0)) ∷ [])
+    ∷ (stop_at (pos 4) (cell_at (pos 5) (pos 6)) ∷ stop_at (pos 5) (cell_at (pos 5) (pos 5)) ∷ []) ∷ []
+unfolding row_of column_of cell_of picked codes_below codes_in longer rank_of select_of ones_of start_in stops_in
+    block_stops stops_after stops_from log_values values_of expansion_of grown cells_along move_of
+its_blocks_stop_where_it_is = refl
+
+each_period_has_its_speed : map (speed_of wanderer) (numbers_in wanderer.frame) ≡ 5 ∷ 0 ∷ 1 ∷ []
+unfolding row_of column_of cell_of picked codes_below codes_in longer rank_of select_of ones_of start_in all_blocks
+    blocks_speed log_speed cell_after lasting entry_of bounding_box_of box_round displacement_of
+    values_of expansion_of grown cells_along move_of duration_of
+each_period_has_its_speed = refl

@@ -1,5 +1,5 @@
 -- What the getters of an index's stores find: an object's place, and an instant's period.
-use Rattle.std.proofs.Common.{◌≡◌, ℕ, ◌+◌, ◌-◌, ◌/◌, ◌<◌, ◌≤◌, ℤ, pos, ◌≤ℤ◌, ◌<ℤ◌, ◌-ℤ◌, ◌+ℤ◌, true, false, eqb, List, length, get_or, None, Some, Result, Ok, Err, MatchResult, zero, suc, Bool, inl, inr, refl, ap, sym, ◌∙◌, arith}
+use Rattle.std.proofs.Common.{◌≡◌, ℕ, ◌+◌, ◌-◌, ◌/◌, ◌<◌, ◌≤◌, ℤ, ◌≤ℤ◌, ◌<ℤ◌, ◌-ℤ◌, false, eqb, List, length, get_or, map, None, Some, Result, Ok, Err, MatchResult, zero, suc, inl, inr, refl, ap, sym, ◌∙◌, arith}
 use Rattle.std.specs.Prelude.{unsigned_abs}
 use Rattle.std.specs.Ordering.{nat_cmp}
 use Rattle.std.specs.List.Sorted.{IsBinarySearchResult}
@@ -15,7 +15,8 @@ use Rattle.track_types.specs.Frame.{periods_of}
 use Rattle.track_types.specs.declared.frame.Frame.{Frame}
 use Rattle.track_types.specs.declared.parts.Parts.{Parts}
 use Rattle.track_types.proofs.RegionLemmas.{is_between-from}
-use Rattle.snapshots.specs.Parts.{index_in, last_in, period_in, snapshot_in}
+use Rattle.snapshots.specs.Parts.{index_in, last_in, numbers_in, period_in, snapshot_in}
+use Rattle.snapshots.specs.Speed.{speed_of}
 use Rattle.snapshots.specs.Stores.{snapshots_in}
 use Rattle.snapshots.specs.View.{SnapshotView}
 
@@ -95,3 +96,11 @@ pub snapshot-at : (parts : Parts) (snaps : List SnapshotView) (number : ℕ) (d 
 snapshot-at parts snaps number d are within =
     ap (λ (xs : List SnapshotView). get_or xs number d) are
     ∙ get_or-map-range_with_len (snapshot_in parts) 0 (periods_of parts.frame) number number d within (omega arith)
+
+-- the speed at a place
+pub speed-at : (parts : Parts) (speeds : List ℕ) (number d : ℕ)
+    → speeds ≡ map (speed_of parts) (numbers_in parts.frame) → number < periods_of parts.frame
+    → get_or speeds number d ≡ speed_of parts number
+speed-at parts speeds number d are within =
+    ap (λ xs. get_or xs number d) are
+    ∙ get_or-map-range_with_len (speed_of parts) 0 (periods_of parts.frame) number number d within (omega arith)

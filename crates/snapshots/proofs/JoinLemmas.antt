@@ -1,11 +1,12 @@
 -- The snapshots of an index, judged one after the other by period.
-use Rattle.std.proofs.Common.{◌≡◌, ℕ, zero, suc, ◌+◌, ◌<◌, ◌≤◌, List, length, get_or, map, take, None, Some, inl, inr, refl, ap, sym, ◌∙◌, arith, subst}
+use Rattle.std.proofs.Common.{◌≡◌, ℕ, zero, suc, ◌+◌, ◌<◌, ◌≤◌, List, [], ◌∷◌, ◌++◌, length, get_or, map, take, None, inl, inr, ap, sym, ◌∙◌, arith, subst}
 use Rattle.std.specs.Prelude.{sum}
 use Rattle.std.specs.List.{range_with_len, sum_by}
 use Rattle.std.proofs.lemmas.Bool.{cases_lt}
 use Rattle.std.proofs.lemmas.List.{map-id, take_all}
 use Rattle.std.proofs.lemmas.List.Sums.{sum_by-cons, sum_by_more, sum_by_more_le}
-use Rattle.std.proofs.lemmas.List.FromFn.{length-map-range_with_len, sum_by-map-range_with_len_more}
+use Rattle.std.proofs.lemmas.List.FromFn.{length-map-range_with_len, map-range_with_len_more}
+use Rattle.std.proofs.lemmas.List.FromFn.{sum_by-map-range_with_len_more}
 use Rattle.list_laws.proofs.FirstLemmas.{first_of_range-at, first_of_range-none}
 use Rattle.track_types.specs.Frame.{periods_of}
 use Rattle.track_types.specs.declared.parts.Parts.{Parts}
@@ -15,6 +16,7 @@ use Rattle.snapshots.specs.IndexCost.{blocks_reads, open_cost}
 use Rattle.snapshots.specs.JoinFlaws.{blocks_flaw, join_flaw, logs_flaw}
 use Rattle.snapshots.specs.Parts.{no_period, rules_in, snapshot_in, start_in, symbols_of}
 use Rattle.snapshots.specs.Sound.{IsSnapshot}
+use Rattle.snapshots.specs.Speed.{blocks_speed, speed_of}
 use Rattle.snapshots.specs.Stores.{AreOf}
 use Rattle.snapshots.proofs.GetterLemmas.{snapshot-at}
 use Rattle.snapshots.specs.View.{SnapshotView}
@@ -162,3 +164,14 @@ pub blocks_flaw-item : (parts : Parts) (rules : RulesView) (snaps : List Snapsho
     → blocks_flaw rules item ≡ join_flaw parts number
 blocks_flaw-item parts rules snaps number item of same =
     ap (λ r. blocks_flaw r item) of.rules_are ∙ ap (blocks_flaw (rules_in parts)) same
+
+-- and the speed of its blocks is one more of the periods' speeds
+pub speeds-more : (parts : Parts) (rules : RulesView) (snaps : List SnapshotView) (number : ℕ)
+    (item : SnapshotView) (speeds : List ℕ) (speed : ℕ) → AreOf parts rules snaps → item ≡ snapshot_in parts number
+    → speeds ≡ map (speed_of parts) (range_with_len 0 number) → speed ≡ blocks_speed rules item
+    → speeds ++ speed ∷ [] ≡ map (speed_of parts) (range_with_len 0 (number + 1))
+speeds-more parts rules snaps number item speeds speed of same so_far found =
+    let here : speed ≡ speed_of parts number =
+    found ∙ ap (λ r. blocks_speed r item) of.rules_are ∙ ap (blocks_speed (rules_in parts)) same in
+    ap (λ xs. xs ++ speed ∷ []) so_far ∙ ap (λ n. map (speed_of parts) (range_with_len 0 number) ++ n ∷ []) here
+    ∙ sym (map-range_with_len_more (speed_of parts) 0 number number (omega arith))

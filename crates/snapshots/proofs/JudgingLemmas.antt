@@ -1,5 +1,5 @@
 -- The blocks of a period, judged one after the other by object.
-use Rattle.std.proofs.Common.{◌≡◌, ℕ, ◌+◌, ◌-◌, ◌^◌, ◌<◌, ◌≤◌, cond, true, false, List, length, get_or, map, take, None, Some, Option, inl, inr, refl, ap, sym, ◌∙◌, arith, subst}
+use Rattle.std.proofs.Common.{◌≡◌, ℕ, ◌+◌, ◌^◌, ◌<◌, ◌≤◌, cond, true, false, List, length, get_or, map, take, None, Some, Option, inl, inr, refl, ap, sym, ◌∙◌, arith, subst}
 use Rattle.std.specs.Prelude.{sum, slice_get, slice_index_or}
 use Rattle.std.specs.List.{range_with_len}
 use Rattle.std.proofs.lemmas.Bool.{cases_Bool, cases_lt}
@@ -21,7 +21,7 @@ use Rattle.track_types.specs.declared.flaw.Flaw.{Flaw}
 use Rattle.rule_store.specs.View.{RulesView}
 use Rattle.snapshots.specs.Flaws.{IsFaultFor}
 use Rattle.snapshots.specs.JoinFlaws.{block_flaw, blocks_flaw}
-use Rattle.snapshots.specs.Sound.{IsBlock, IsSnapshot}
+use Rattle.snapshots.specs.Sound.{IsSnapshot}
 use Rattle.snapshots.specs.View.{SnapshotView, all_blocks, block_of, present_block, rank_in}
 use Rattle.snapshots.specs.declared.anchored.Anchored.{Anchored}
 use Rattle.snapshots.specs.declared.fault.SnapFault.{SnapFault}

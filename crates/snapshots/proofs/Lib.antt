@@ -16,10 +16,12 @@ mod PlacesLemmas
 mod ObjectsLemmas
 mod ChosenLemmas
 pub mod LogsLemmas
+mod SpeedLemmas
 mod ByObjectLemmas
 mod JudgingLemmas
 pub mod JoinLemmas
 pub mod SoundPartsLemmas
+pub mod ReachLemmas
 pub mod NoFlawLemmas
 mod Examples
 pub mod GetterLemmas

@@ -1,5 +1,5 @@
 -- The symbols of a log, read one after the other.
-use Rattle.std.proofs.Common.{◌≡◌, ℕ, zero, suc, ◌+◌, ◌-◌, ◌*◌, ◌^◌, ◌<◌, ◌≤◌, ℤ, pos, neg_ℤ, ◌+ℤ◌, ◌≤ℤ◌, ◌<ℤ◌, eqb, Bool, true, false, List, [], ◌∷◌, ◌++◌, length, get_or, take, drop, None, Some, inl, inr, refl, ap, subst, sym, ◌∙◌, arith}
+use Rattle.std.proofs.Common.{◌≡◌, ℕ, ◌+◌, ◌-◌, ◌*◌, ◌^◌, ◌<◌, ◌≤◌, ℤ, pos, neg_ℤ, ◌+ℤ◌, ◌≤ℤ◌, ◌<ℤ◌, eqb, Bool, true, false, List, [], ◌∷◌, ◌++◌, length, take, drop, None, Some, inl, inr, refl, ap, sym, ◌∙◌, arith}
 use Rattle.std.specs.Prelude.{slice_index}
 use Rattle.std.proofs.lemmas.Bool.{cases_lt, eq-eqb, ne_eqb}
 use Rattle.std.proofs.lemmas.Int.{ints}
@@ -8,7 +8,6 @@ use Rattle.std.proofs.lemmas.List.Sums.{sum_by_push}
 use Rattle.list_laws.proofs.FindLemmas.{find_in_range-first, find_in_range-none}
 use Rattle.track_types.specs.Near.{IsCellWithin}
 use Rattle.track_types.specs.declared.cell.Cell.{Cell}
-use Rattle.track_types.specs.declared.cell_box.CellBox.{CellBox}
 use Rattle.track_types.specs.declared.frame.Frame.{Frame}
 use Rattle.rule_store.specs.View.{RulesView}
 use Rattle.rule_store.specs.Cells.{cell_at, displacement_of, moved}
@@ -23,7 +22,7 @@ use Rattle.track_types.specs.declared.flaw.Section.TheVariants.{Lengths, Log}
 use Rattle.snapshots.specs.Flaws.{flaw_in}
 use Rattle.snapshots.specs.Parts.{log_at}
 use Rattle.snapshots.specs.JoinFlaws.{cell_after, cell_before, instants_after, is_along, is_off_grid, lasting, log_flaw}
-use Rattle.snapshots.specs.JoinFlaws.{off_grid_at, passes_grid, IsReached}
+use Rattle.snapshots.specs.JoinFlaws.{off_grid_at, passes_grid, IsReachable}
 use Rattle.snapshots.specs.declared.anchored.Anchored.{Anchored}
 
 module _ (rules : RulesView) where
@@ -95,10 +94,10 @@ reading-none frame rules start log within = record {
 module _ (frame : Frame) (rules : RulesView) (start : Cell) (log : List ℕ) (place : ℕ) (cell : Cell) (duration : ℕ)
     (is : IsReading frame rules start log place cell duration) (within : place < length log) where
   -- where a walk may be, sums with boxes fit
-  pub reached-column : length log ≤ 2 ^ 25 → IsReached cell.x
+  pub reached-column : length log ≤ 2 ^ 25 → IsReachable cell.x
   reached-column long = record { low = omega (arith, ints, is.left); high = omega (arith, ints, is.right) }
 
-  pub reached-line : length log ≤ 2 ^ 25 → IsReached cell.y
+  pub reached-line : length log ≤ 2 ^ 25 → IsReachable cell.y
   reached-line long = record { low = omega (arith, ints, is.below); high = omega (arith, ints, is.above) }
 
   module _ (entry : Entry) (its : entry ≡ entry_of rules (slice_index log place)) where

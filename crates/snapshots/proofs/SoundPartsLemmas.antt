@@ -1,8 +1,6 @@
 -- What follows from no flaw: sound rules, sound logs, and sound parts.
-use Rattle.std.proofs.Common.{◌≡◌, ℕ, ◌+◌, ◌^◌, ◌<◌, ◌≤◌, ℤ, pos, ◌+ℤ◌, ◌≤ℤ◌, ◌<ℤ◌, Bool, true, false, eqb, List, length, All, Option, None, Some, IfSome, inl, inr, refl, ap, sym, subst, ◌∙◌, arith}
+use Rattle.std.proofs.Common.{◌≡◌, ℕ, ◌+◌, ◌^◌, ℤ, pos, ◌+ℤ◌, ◌≤ℤ◌, ◌<ℤ◌, true, false, eqb, List, length, map, Option, None, Some, IfSome, inl, inr, subst, arith}
 use Rattle.std.specs.Prelude.{slice_index, ◌&&◌}
-use Rattle.std.specs.Int.Signed.{le_z, lt_z}
-use Rattle.std.specs.Option.{option_map}
 use Rattle.std.proofs.lemmas.Bool.{and_parts, cases_Bool, eqb-true, ltb-false, not-false}
 use Rattle.std.proofs.lemmas.Int.{ints}
 use Rattle.std.proofs.lemmas.List.Elements.{All-weaker}
@@ -12,7 +10,6 @@ use Rattle.spiral_code.specs.Spiral.{ring_of}
 use Rattle.track_types.specs.Frame.{periods_of}
 use Rattle.track_types.specs.declared.cell.Cell.{Cell}
 use Rattle.track_types.specs.declared.cell_box.CellBox.{CellBox}
-use Rattle.track_types.specs.declared.flaw.Flaw.{Flaw}
 use Rattle.track_types.specs.declared.flaw.Kind.TheVariants as kind
 use Rattle.track_types.specs.declared.flaw.Section.TheVariants.{Log}
 use Rattle.track_types.specs.declared.frame.Frame.{Frame}
@@ -25,8 +22,9 @@ use Rattle.rule_store.proofs.FlawLemmas.{box_passes-false, near_entry, no_flaws,
 use Rattle.snapshots.specs.Flaws.{flaw_in}
 use Rattle.snapshots.specs.JoinFlaws.{block_flaw, blocks_flaw, cell_before, duration_flaw, has_columns, has_lines}
 use Rattle.snapshots.specs.JoinFlaws.{instants_after, is_along, is_off_grid, lasting, log_flaw, off_grid_at, passes_grid}
-use Rattle.snapshots.specs.Parts.{log_at, rules_in, snapshot_in}
-use Rattle.snapshots.specs.SoundParts.{AreSoundLogs, AreSoundRules, IsBoxInReach, IsPlaced, IsSound, IsSoundLog, IsValid}
+use Rattle.snapshots.specs.Parts.{log_at, numbers_in, rules_in, snapshot_in}
+use Rattle.snapshots.specs.SoundParts.{AreSoundLogs, AreSoundRules, IsBoxInReach, IsPlaced, IsSound, IsSoundLog}
+use Rattle.snapshots.specs.Speed.{speed_of}
 use Rattle.snapshots.specs.Stores.{AreOf, AreStores}
 use Rattle.snapshots.specs.View.{SnapshotView, all_blocks, rank_in}
 use Rattle.snapshots.specs.declared.anchored.Anchored.{Anchored}
@@ -123,11 +121,13 @@ IsSound-joined parts rules snaps before steps of are is = record {
   logs = λ number within. AreSoundLogs-flawless (rules_in parts) (snapshot_in parts number) (is.none number within);
 }
 
-pub AreStores-joined : (parts : Parts) (rules : RulesView) (snaps : List SnapshotView) (before steps : ℕ)
-    → AreOf parts rules snaps → AreRules rules → IsJoining parts (periods_of parts.frame) before steps
-    → AreStores parts rules snaps
-AreStores-joined parts rules snaps before steps of are is = record {
+pub AreStores-joined : (parts : Parts) (rules : RulesView) (snaps : List SnapshotView) (speeds : List ℕ)
+    (before steps : ℕ) → AreOf parts rules snaps → AreRules rules
+    → IsJoining parts (periods_of parts.frame) before steps → speeds ≡ map (speed_of parts) (numbers_in parts.frame)
+    → AreStores parts rules snaps speeds
+AreStores-joined parts rules snaps speeds before steps of are is found = record {
   valid = record { shaped = of.shaped; sound = IsSound-joined parts rules snaps before steps of are is };
   rules_are = of.rules_are;
   snaps_are = of.snaps_are;
+  speeds_are = found;
 }

@@ -1,8 +1,7 @@
 -- How many reads it takes at most to open an index, and to answer what asks for one object.
-use Rattle.std.specs.Prelude.{ℕ, ◌+◌, ◌-◌, ◌*◌, ℤ, pos, ◌+ℤ◌, Bool, true, ◌&&◌, length, filter, Option, None, Some}
+use Rattle.std.specs.Prelude.{ℕ, ◌+◌, ◌*◌, ℤ, Bool, true, ◌&&◌, length, filter, Option, None, Some}
 use Rattle.std.specs.Int.Signed.{le_z}
 use Rattle.std.specs.List.{sum_by}
-use Rattle.track_types.specs.Frame.{instants_in}
 use Rattle.track_types.specs.declared.cell_box.CellBox.{CellBox}
 use Rattle.track_types.specs.declared.frame.Frame.{Frame}
 use Rattle.track_types.specs.declared.parts.Parts.{Parts}
@@ -11,7 +10,7 @@ use Rattle.rule_store.specs.Expansion.{depth_in}
 use Rattle.rule_store.specs.Nodes.{block_budget}
 use Rattle.snapshots.specs.View.{SnapshotView, all_blocks, block_of, tree_in}
 use Rattle.snapshots.specs.Cost.{block_reads, find_reads, square_reads}
-use Rattle.snapshots.specs.Parts.{anchored_at, index_in, log_in, numbers_in, period_in, rules_in, snapshot_in}
+use Rattle.snapshots.specs.Parts.{anchored_at, end_in, first_in, index_in, log_in, numbers_in, period_in, rules_in, snapshot_in}
 use Rattle.snapshots.specs.declared.anchored.Anchored.{Anchored}
 
 -- each box is kept
@@ -46,8 +45,7 @@ position_cost parts object instant =
 
 -- an instant of the period is in the window
 abbrev pub is_met : Frame → ℤ → ℤ → ℕ → Bool
-is_met frame from to number = le_z (frame.first +ℤ pos (number * frame.period)) to
-    && le_z from (frame.first +ℤ pos (number * frame.period + (instants_in frame number - 1)))
+is_met frame from to number = le_z from to && (le_z (first_in frame number) to && le_z from (end_in frame number))
 
 -- the reads of a walk over a block in a window: each symbol of its log, and the opened rules
 abbrev pub walk_cost : Parts → ℤ → ℤ → ℕ → Option Anchored → ℕ

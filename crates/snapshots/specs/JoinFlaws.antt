@@ -1,5 +1,5 @@
 -- The first flaw of logs that leave the grid, or do not last to the end of their period.
-use Rattle.std.specs.Prelude.{◌≡◌, ℕ, ◌+◌, ◌-◌, ◌==◌, ◌^◌, ◌&&◌, not, ℤ, pos, neg_ℤ, ◌+ℤ◌, ◌≤ℤ◌, Bool, false, if◌then◌else◌}
+use Rattle.std.specs.Prelude.{ℕ, ◌+◌, ◌-◌, ◌==◌, ◌^◌, ◌&&◌, not, ℤ, pos, neg_ℤ, ◌+ℤ◌, ◌≤ℤ◌, Bool, false, if◌then◌else◌}
 use Rattle.std.specs.Prelude.{List, [], ◌∷◌, length, take, find, slice_index, Option, None, Some}
 use Rattle.std.specs.Int.Signed.{le_z, lt_z}
 use Rattle.std.specs.List.{range_with_len, sum_by}
@@ -41,7 +41,7 @@ is_along height least amount first last =
     le_z least (amount +ℤ first) && lt_z (amount +ℤ last) (least +ℤ pos (2 ^ height))
 
 -- a number that a log may reach, whatever its symbols
-pub record IsReached (z : ℤ) : Type 0 where
+pub record IsReachable (z : ℤ) : Type 0 where
   pub low : neg_ℤ (pos (2 ^ 60)) ≤ℤ z
   pub high : z ≤ℤ pos (2 ^ 60)
 

@@ -8,6 +8,7 @@ pub mod Members
 pub mod Objects
 pub mod Parts
 pub mod JoinFlaws
+pub mod Speed
 pub mod SoundParts
 pub mod IndexCost
 pub mod Stores

@@ -4,7 +4,7 @@ use Rattle.std.specs.Prelude.{if◌then◌else◌, List, [], length, map, take, 
 use Rattle.std.specs.Prelude.{Option, None, Some}
 use Rattle.std.specs.List.{flat_map, range_with_len, slice_range, sum_by}
 use Rattle.track_types.specs.Chart.{ChartView}
-use Rattle.track_types.specs.Frame.{periods_of}
+use Rattle.track_types.specs.Frame.{instants_in, periods_of}
 use Rattle.track_types.specs.Region.{is_between}
 use Rattle.track_types.specs.declared.frame.Frame.{Frame}
 use Rattle.track_types.specs.declared.parts.Parts.{Parts}
@@ -53,9 +53,17 @@ log_at rules block = slice_range rules.symbols block.from (block.from + block.le
 abbrev pub log_in : Parts → Anchored → List ℕ
 log_in parts block = log_at (rules_in parts) block
 
+-- the first instant of a period
+abbrev pub first_in : Frame → ℕ → ℤ
+first_in frame number = frame.first +ℤ pos (number * frame.period)
+
+-- the last instant of a period
+abbrev pub end_in : Frame → ℕ → ℤ
+end_in frame number = frame.first +ℤ pos (number * frame.period + (instants_in frame number - 1))
+
 -- the instant of a block's anchor, in a period
 abbrev pub anchored_at : Frame → ℕ → Anchored → ℤ
-anchored_at frame number block = (frame.first +ℤ pos (number * frame.period)) +ℤ pos block.offset
+anchored_at frame number block = first_in frame number +ℤ pos block.offset
 
 -- the stops of a block in a period: its anchor, and those of its log
 abbrev pub stops_of : Parts → ℕ → Anchored → List Stop

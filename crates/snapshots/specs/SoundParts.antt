@@ -1,7 +1,7 @@
 -- When the parts of an index are sound, in words of their own: what is left of the format's rules where the parts
 -- have the form of an index.
-use Rattle.std.specs.Prelude.{◌≡◌, ℕ, ◌+◌, ◌-◌, ◌^◌, ◌<◌, ◌≤◌, ◌≤ℤ◌, ◌<ℤ◌, pos, ◌+ℤ◌, List, All, length, slice_index}
-use Rattle.std.specs.Prelude.{ℤ, Option, IfSome}
+use Rattle.std.specs.Prelude.{◌≡◌, ℕ, ◌+◌, ◌-◌, ◌^◌, ◌<◌, ◌≤◌, ◌≤ℤ◌, ◌<ℤ◌, pos, ◌+ℤ◌, All, length, slice_index}
+use Rattle.std.specs.Prelude.{ℤ, IfSome}
 use Rattle.spiral_code.specs.Spiral.{ring_of}
 use Rattle.track_types.specs.Frame.{periods_of}
 use Rattle.track_types.specs.Shape.{IsShaped}

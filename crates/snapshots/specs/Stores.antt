@@ -9,6 +9,7 @@ use Rattle.rule_store.specs.View.{RulesView}
 use Rattle.snapshots.specs.View.{SnapshotView}
 use Rattle.snapshots.specs.Parts.{numbers_in, rules_in, snapshot_in, start_in}
 use Rattle.snapshots.specs.SoundParts.{IsValid}
+use Rattle.snapshots.specs.Speed.{speed_of}
 
 -- the parts of a snapshot
 abbrev pub parts_of : SnapshotView → PeriodParts
@@ -36,8 +37,9 @@ pub record AreOf (parts : Parts) (rules : RulesView) (snaps : List SnapshotView)
   pub snaps_are : snaps ≡ snapshots_in parts
   pub total : start_in parts (periods_of parts.frame) ≡ length parts.symbols
 
--- what holds of all stores: the parts are valid, and rules and snapshots are theirs
-pub record AreStores (parts : Parts) (rules : RulesView) (snaps : List SnapshotView) : Type 0 where
+-- what holds of all stores: the parts are valid, and rules, snapshots and speeds are theirs
+pub record AreStores (parts : Parts) (rules : RulesView) (snaps : List SnapshotView) (speeds : List ℕ) : Type 0 where
   pub valid : IsValid parts
   pub rules_are : rules ≡ rules_in parts
   pub snaps_are : snaps ≡ snapshots_in parts
+  pub speeds_are : speeds ≡ map (speed_of parts) (numbers_in parts.frame)

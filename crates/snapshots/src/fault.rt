@@ -1,6 +1,7 @@
 ghost use Rattle.std.specs.Prelude.{◌≡◌};
 ghost use Rattle.snapshots.specs.declared.fault.SnapFault.TheVariants.{Memory};
 
+use std::alloc::AllocError;
 use std::error::Error;
 use std::fmt::{self, Display, Formatter, Write};
 use track_types::Flaw;
@@ -33,6 +34,14 @@ impl From<track_types::Memory> for SnapFault {
     ghost from_gives = { λ _ fault. fault ≡ Memory };
 
     fn from(_memory: track_types::Memory) -> Self {
+        SnapFault::Memory
+    }
+}
+
+impl From<AllocError> for SnapFault {
+    ghost from_gives = { λ _ fault. fault ≡ Memory };
+
+    fn from(_error: AllocError) -> Self {
         SnapFault::Memory
     }
 }

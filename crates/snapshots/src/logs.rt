@@ -1,13 +1,14 @@
 ghost use Rattle.std.specs.Prelude.{◌≡◌, ◌+◌, ◌<◌, ◌≤◌, ◌^◌, None, Some, length, IfErr, IfOk, OnOk};
-ghost use Rattle.std.specs.Prelude.{sum, pos, ◌≤ℤ◌, IfSome};
+ghost use Rattle.std.specs.Prelude.{max, sum, pos, ◌+ℤ◌, ◌≤ℤ◌, IfSome};
 ghost use Rattle.track_types.specs.Frame.{instants_in, periods_of, IsFrame};
-ghost use Rattle.track_types.specs.Near.{IsBoxWithin, IsCellWithin};
+ghost use Rattle.track_types.specs.Near.{IsBoxWithin, IsCellWithin, IsWithin};
 ghost use Rattle.snapshots.specs.Flaws.{IsFaultFor};
 ghost use Rattle.snapshots.specs.Parts.{log_at};
 ghost use Rattle.snapshots.specs.Sound.{IsSnapshot};
 ghost use Rattle.snapshots.specs.IndexCost.{blocks_reads};
 ghost use Rattle.snapshots.specs.JoinFlaws.{blocks_flaw, has_columns, has_lines, lasting, log_flaw};
-ghost use Rattle.snapshots.specs.JoinFlaws.{off_grid_at, passes_grid, IsReached};
+ghost use Rattle.snapshots.specs.JoinFlaws.{off_grid_at, passes_grid, IsReachable};
+ghost use Rattle.snapshots.specs.Speed.{block_speed, blocks_speed, far_of, gap, hull_speed};
 
 use crate::anchored::Anchored;
 use crate::by_object::blocks_by_object;
@@ -25,20 +26,24 @@ use track_types::{Cell, CellBox, Frame, Kind, Section};
 pub struct LogSummary {
     /// How many instants they stand for.
     pub duration: u64,
+    /// How many cells an instant its object gets away from its anchor at most.
+    pub speed: u64,
 }
 
-/// Judges the logs of all blocks of a snapshot, by object, and answers the first flaw. It reads each
-/// symbol of these logs once, and what leads to the blocks.
+/// Judges the logs of all blocks of a snapshot, by object, and answers the first flaw, or the greatest
+/// speed of a block, in cells an instant. It reads each symbol of these logs once, and what leads to
+/// the blocks.
 pub fn judge_snapshot<L: Ledger>(
     alloc: Global,
     rules: &RuleStore,
     snapshot: &Snapshot,
     steps: &mut Steps<L>,
-) -> Result<(), SnapFault>
+) -> Result<u64, SnapFault>
     requires symbols { snapshot.now.start + sum snapshot.now.parts.lengths
         ≤ length rules.now.symbols }
     ensures exact { OnOk result (blocks_flaw rules.now snapshot.now ≡ None) }
     ensures snapshot { OnOk result (IsSnapshot snapshot.now) }
+    ensures speed { IfOk result (λ speed. speed ≡ blocks_speed rules.now snapshot.now) }
     ensures flaw { IfErr result (λ fault. IsFaultFor (blocks_flaw rules.now snapshot.now) fault) }
     ensures cost { steps.new
         ≤ steps.old + (blocks_reads snapshot.now + sum snapshot.now.parts.lengths) }
@@ -46,17 +51,19 @@ pub fn judge_snapshot<L: Ledger>(
     let blocks = blocks_by_object(alloc, snapshot, steps)?;
     let (frame, number) = (snapshot.frame(), snapshot.number());
     let mut rank = 0;
+    let mut speed = 0u64;
     for slot in &blocks {
         if let Some(block) = slot {
-            judge_log(rules, frame, number, rank, block, steps)?;
+            let log_speed = judge_log(rules, frame, number, rank, block, steps)?;
+            speed = speed.max(log_speed);
             rank += 1;
         }
     }
-    Ok(())
+    Ok(speed)
 }
 
-// Judges the log of a block, which has this place among those of the period with this number: a placed
-// box that passes the grid comes before a wrong duration.
+// Judges the log of a block, which has this place among those of the period with this number: its speed,
+// or its first flaw, where a placed box that passes the grid comes before a wrong duration.
 fn judge_log<L: Ledger>(
     rules: &RuleStore,
     frame: &Frame,
@@ -64,7 +71,7 @@ fn judge_log<L: Ledger>(
     rank: u32,
     block: &Anchored,
     steps: &mut Steps<L>,
-) -> Result<(), SnapFault>
+) -> Result<u64, SnapFault>
     requires header { IsFrame frame.now }
     requires period { number < periods_of frame.now }
     requires offset { block.now.offset < instants_in frame.now number }
@@ -74,6 +81,7 @@ fn judge_log<L: Ledger>(
     ensures exact { OnOk result (log_flaw frame.now rules.now number rank block.now ≡ None) }
     ensures flaw { IfErr result (λ fault.
         IsFaultFor (log_flaw frame.now rules.now number rank block.now) fault) }
+    ensures speed { IfOk result (λ speed. speed ≡ block_speed rules.now block.now) }
     ensures cost { steps.new ≤ steps.old + block.now.len }
 {
     match read_log(rules, frame, block, steps) {
@@ -81,7 +89,7 @@ fn judge_log<L: Ledger>(
         Ok(summary) => {
             let lasting = instants_in(frame, number) - 1 - block.offset;
             if summary.duration == u64::from(lasting) {
-                Ok(())
+                Ok(summary.speed)
             } else {
                 Err(flaw(number, Section::Lengths, Kind::Duration, rank))
             }
@@ -105,6 +113,7 @@ fn read_log<L: Ledger>(
         (off_grid_at frame.now rules.now block.now.cell (log_at rules.now block.now) ≡ None) }
     ensures ok { IfOk result (λ summary.
         summary.duration ≡ lasting rules.now (log_at rules.now block.now)) }
+    ensures speed { IfOk result (λ summary. summary.speed ≡ block_speed rules.now block.now) }
     ensures err { IfErr result (λ place.
         off_grid_at frame.now rules.now block.now.cell (log_at rules.now block.now) ≡ Some place) }
     ensures within { IfErr result (λ place. place < block.now.len) }
@@ -113,25 +122,71 @@ fn read_log<L: Ledger>(
     let log = rules.block(block.from, block.len);
     let mut cell = block.cell;
     let mut duration = 0;
+    let mut speed = 0u64;
     for place in 0..block.len {
         let entry = log.entry(place, steps);
         if passes_grid(frame, cell, &entry.hull) {
             return Err(place);
         }
+        speed = speed.max(hull_speed(block.cell, cell, duration, &entry.hull));
         cell = Cell {
             x: cell.x + entry.dx,
             y: cell.y + entry.dy,
         };
         duration += u64::from(entry.duration);
     }
-    Ok(LogSummary { duration })
+    Ok(LogSummary { duration, speed })
+}
+
+// The speed at which an object gets from a cell to the farthest cell of a box, which is moved to another
+// cell, where it does so no sooner than so many instants and one more are over. Where there is no box,
+// it is 0.
+fn hull_speed(from: Cell, cell: Cell, before: u64, hull: &Option<CellBox>) -> u64
+    requires from { IsCellWithin from }
+    requires column { IsReachable cell.x }
+    requires line { IsReachable cell.y }
+    requires before { before < 2 ^ 60 }
+    requires hull { IfSome hull.now IsBoxWithin }
+    ensures { result ≡ hull_speed from cell before hull.now }
+{
+    match hull {
+        Some(hull) => far_of(from, cell, hull).div_ceil(before + 1),
+        None => 0,
+    }
+}
+
+// How far a cell is from the farthest cell of a box, which is moved to another cell: by columns or by
+// lines, whichever is more.
+fn far_of(from: Cell, cell: Cell, hull: &CellBox) -> u64
+    requires from { IsCellWithin from }
+    requires column { IsReachable cell.x }
+    requires line { IsReachable cell.y }
+    requires hull { IsBoxWithin hull.now }
+    ensures { result ≡ far_of from cell hull.now }
+{
+    let columns = far_along(from.x, cell.x, hull.x1, hull.x2);
+    let lines = far_along(from.y, cell.y, hull.y1, hull.y2);
+    columns.max(lines)
+}
+
+// How far a number is from the farther one of two, which are moved by an amount.
+fn far_along(from: i64, amount: i64, first: i64, last: i64) -> u64
+    requires from { IsWithin from }
+    requires amount { IsReachable amount }
+    requires first { IsWithin first }
+    requires last { IsWithin last }
+    ensures { result ≡ max (gap (amount +ℤ first) from) (gap (amount +ℤ last) from) }
+{
+    let before = (amount + first - from).unsigned_abs();
+    let behind = (amount + last - from).unsigned_abs();
+    before.max(behind)
 }
 
 // Whether a box, moved to a cell, passes the grid. Where there is no box, nothing does.
 fn passes_grid(frame: &Frame, cell: Cell, hull: &Option<CellBox>) -> bool
     requires header { IsFrame frame.now }
-    requires column { IsReached cell.x }
-    requires line { IsReached cell.y }
+    requires column { IsReachable cell.x }
+    requires line { IsReachable cell.y }
     requires hull { IfSome hull.now IsBoxWithin }
     ensures { result ≡ passes_grid frame.now cell hull.now }
 {
@@ -144,7 +199,7 @@ fn passes_grid(frame: &Frame, cell: Cell, hull: &Option<CellBox>) -> bool
 // Whether the columns of a box, moved to a cell, are in the grid.
 fn has_columns(frame: &Frame, cell: Cell, hull: &CellBox) -> bool
     requires header { IsFrame frame.now }
-    requires column { IsReached cell.x }
+    requires column { IsReachable cell.x }
     requires hull { IsBoxWithin hull.now }
     ensures { result ≡ has_columns frame.now cell hull.now }
 {
@@ -160,7 +215,7 @@ fn has_columns(frame: &Frame, cell: Cell, hull: &CellBox) -> bool
 // Whether its lines are.
 fn has_lines(frame: &Frame, cell: Cell, hull: &CellBox) -> bool
     requires header { IsFrame frame.now }
-    requires line { IsReached cell.y }
+    requires line { IsReachable cell.y }
     requires hull { IsBoxWithin hull.now }
     ensures { result ≡ has_lines frame.now cell hull.now }
 {

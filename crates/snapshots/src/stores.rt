@@ -6,6 +6,7 @@ ghost use Rattle.snapshots.specs.IndexCost.{open_cost};
 ghost use Rattle.snapshots.specs.JoinFlaws.{logs_flaw};
 ghost use Rattle.snapshots.specs.Parts.{index_in, period_in, rules_in, snapshot_in};
 ghost use Rattle.snapshots.specs.SoundParts.{IsSound, IsValid};
+ghost use Rattle.snapshots.specs.Speed.{speed_of, IsWithinReach};
 ghost use Rattle.snapshots.specs.Stores.{join_of, AreOf};
 
 use crate::fault::SnapFault;
@@ -19,7 +20,7 @@ use step_count::Steps;
 use track_types::{Frame, List32};
 
 /// All that an index keeps: its header, its objects, its rules with the symbols of all logs, and a
-/// snapshot of each period.
+/// snapshot and the speed of each period.
 ///
 /// Contracts see the parts of the index that these make up. They are valid (`IsValid`).
 #[derive(Drop)]
@@ -28,6 +29,8 @@ pub struct Stores {
     objects: List32,
     rules: RuleStore,
     snaps: Vec<Snapshot>,
+    // For each period, in cells an instant.
+    speeds: Vec<u64>,
 }
 
 impl Model for Stores {
@@ -39,7 +42,7 @@ impl Model for Stores {
     ghost view = { λ s. join_of s.frame s.objects s.rules s.snaps.items };
 
     ghost invariant = { λ s. AreStores (join_of s.frame s.objects s.rules s.snaps.items)
-        s.rules s.snaps.items };
+        s.rules s.snaps.items s.speeds.items };
 }
 
 impl Stores {
@@ -54,7 +57,8 @@ impl Stores {
     /// The objects ascend, the height and the period of the rules are those of the header, the
     /// snapshots are those of its periods in order, and their logs stand one after the other to the
     /// end of the symbols. It reads each stored symbol once, and what leads to the blocks of each
-    /// snapshot. Memory is taken for the blocks of a period while the call runs.
+    /// snapshot. In the same pass it finds the speed of each period. Memory is taken for the speeds, and
+    /// for the blocks of a period while the call runs.
     pub fn join<L: Ledger>(
         alloc: Global,
         frame: Frame,
@@ -67,12 +71,14 @@ impl Stores {
         ensures ok { IfOk result (λ stores. stores ≡ join_of frame objects rules snaps.items) }
         ensures exact { OnOk result (logs_flaw (join_of frame objects rules snaps.items) ≡ None) }
         ensures sound { OnOk result (IsSound (join_of frame objects rules snaps.items)) }
+        ensures within { OnOk result (IsWithinReach (join_of frame objects rules snaps.items)) }
         ensures flaw { IfErr result (λ fault.
             IsFaultFor (logs_flaw (join_of frame objects rules snaps.items)) fault) }
         ensures cost { steps.new ≤ steps.old + open_cost (join_of frame objects rules snaps.items) }
     {
+        let mut speeds = Vec::with_capacity(alloc, snaps.len())?;
         for snapshot in &snaps {
-            judge_snapshot(alloc, &rules, snapshot, steps)?;
+            speeds.push_reserved(judge_snapshot(alloc, &rules, snapshot, steps)?);
         }
         let _ = rules.sizes(); // says that the rules are sound
         Ok(Stores {
@@ -80,6 +86,7 @@ impl Stores {
             objects,
             rules,
             snaps,
+            speeds,
         })
     }
 
@@ -142,5 +149,19 @@ impl Stores {
         ensures value { result.now ≡ snapshot_in self.now period }
     {
         &self.snaps[period as usize]
+    }
+
+    /// The speed of a period, which is one of the header's, in cells an instant: at so many instants
+    /// after the period's first, each object that has a block in the period is at most so many times
+    /// the speed away from its anchor, by columns and by lines alike.
+    ///
+    /// It is the greatest over the symbols of all logs of the period: how far the symbol's placed box
+    /// gets from the anchor, divided by how many instants after the anchor the symbol begins, rounded up.
+    /// It is 0 where no object leaves its anchor.
+    pub fn speed(&self, period: u32) -> u64
+        requires { period < periods_of self.now.frame }
+        ensures value { result ≡ speed_of self.now period }
+    {
+        self.speeds[period as usize]
     }
 }

@@ -1,4 +1,4 @@
-use Rattle.std.proofs.Common.{ℕ, ◌+◌, ◌≤◌, Bool, length}
+use Rattle.std.proofs.Common.{◌+◌, ◌≤◌, Bool, length}
 use Rattle.track_types.specs.declared.cell_box.CellBox.{CellBox}
 use Rattle.snapshots.specs.declared.everywhere.Everywhere.{Everywhere}
 use Rattle.snapshots.specs.IndexCost.{blocks_reads, everywhere}

@@ -1,4 +1,4 @@
-use Rattle.std.proofs.Common.{◌^◌, pos, arith}
+use Rattle.std.proofs.Common.{arith}
 use Rattle.std.proofs.lemmas.Int.{ints}
 use Rattle.snapshots.proofs.LogsLemmas.{along-after, along-before, along-inside}
 use Rattle.snapshots.proofs.logs.has_lines.Goals as goal

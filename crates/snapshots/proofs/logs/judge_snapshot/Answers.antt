@@ -1,4 +1,4 @@
-use Rattle.std.proofs.Common.{◌≡◌, ◌<◌, ◌≤◌, ◌+◌, ◌^◌, length, None, Some, arith, ap, refl, subst, sym, take, ◌∙◌}
+use Rattle.std.proofs.Common.{◌≡◌, ◌<◌, ◌≤◌, ◌+◌, ◌^◌, None, Some, arith, ap, refl, subst, sym, take, ◌∙◌}
 use Rattle.std.specs.Prelude.{sum}
 use Rattle.packed_bits.proofs.OnesLemmas.{ones_of-le-length}
 use Rattle.std.proofs.lemmas.Result.{err_from_is_err_and}
@@ -10,9 +10,10 @@ use Rattle.snapshots.specs.View.{block_of, rank_in}
 use Rattle.snapshots.proofs.BlockFactsLemmas.{IsBlock-from_block_of}
 use Rattle.snapshots.proofs.JudgingLemmas.{blocks_flaw-at, blocks_flaw-none, cell-within, has-at, long-as, none-more}
 use Rattle.snapshots.proofs.JudgingLemmas.{passed_over, rank_in-zero, taken, IsTaken}
+use Rattle.snapshots.proofs.SpeedLemmas.{blocks_speed-all, blocks_speed-block, blocks_speed-none}
 use Rattle.snapshots.proofs.logs.judge_snapshot.Given.{Over}
 use Rattle.snapshots.proofs.logs.judge_snapshot.Goals as goal
-use Rattle.snapshots.proofs.logs.judge_snapshot.Goals.{in-Some+in_ok-judge_log, in_default, In-Some}
+use Rattle.snapshots.proofs.logs.judge_snapshot.Goals.{in-Some+in_ok-log_speed, in_default, In-Some}
 
 -- the place is one of the objects'
 within : (g : Over) (c : In-Some g) → c.loop-slot.slot-index < c.args.snapshot.now.objects
@@ -40,6 +41,7 @@ pub loop-slot-init : goal.loop-slot-init
 loop-slot-init g c = record {
   none = λ j below. absurd (omega arith);
   rank = rank_in-zero c.args.snapshot.now;
+  fastest = refl;
   reads = omega (arith, c.blocks_by_object.ensures.cost);
 }
 
@@ -72,20 +74,20 @@ same_flaw g c =
     c.loop-slot.invariant.rank ∙ ap (rank_in c.args.snapshot.now) (sym (takes g c).index_is) in
     rw (c.frame-frame.ensures.value, c.number-number.ensures.value, rank) refl
 
-pub returns-in_err-judge_log-clause-flaw : goal.returns-in_err-judge_log-clause-flaw
-returns-in_err-judge_log-clause-flaw g c =
-    let at = (goal.at.returns-in_err-judge_log-clause-flaw g c).In-Some in
-    let found = c.in_err-judge_log.field-0.0 in
+pub returns-in_err-log_speed-clause-flaw : goal.returns-in_err-log_speed-clause-flaw
+returns-in_err-log_speed-clause-flaw g c =
+    let at = (goal.at.returns-in_err-log_speed-clause-flaw g c).In-Some in
+    let found = c.in_err-log_speed.field-0.0 in
     let known = blocks_flaw-at c.args.rules.now c.args.snapshot.now c.loop-slot.slot-index c.in-Some.block found
     (within g at) c.loop-slot.invariant.none (has g at)
-    (subst (λ first. IsFaultFor first found) (same_flaw g at) c.in_err-judge_log.ensures.flaw) in
-    let given = err_from_is_err_and c.from_residual-in_err-judge_log.result
-    c.from_residual-in_err-judge_log.ensures.1 in
+    (subst (λ first. IsFaultFor first found) (same_flaw g at) c.in_err-log_speed.ensures.flaw) in
+    let given = err_from_is_err_and c.from_residual-in_err-log_speed.result
+    c.from_residual-in_err-log_speed.ensures.1 in
     rw (given.1, given.2) known
 
-pub returns-in_err-judge_log-clause-cost : goal.returns-in_err-judge_log-clause-cost
-returns-in_err-judge_log-clause-cost g c =
-    let takes = takes g (goal.at.returns-in_err-judge_log-clause-cost g c).In-Some in
+pub returns-in_err-log_speed-clause-cost : goal.returns-in_err-log_speed-clause-cost
+returns-in_err-log_speed-clause-cost g c =
+    let takes = takes g (goal.at.returns-in_err-log_speed-clause-cost g c).In-Some in
     let log : c.in-Some.block.len + sum (take c.loop-slot.rank c.args.snapshot.now.parts.lengths)
     ≤ sum c.args.snapshot.now.parts.lengths =
     subst (λ r. c.in-Some.block.len + sum (take r c.args.snapshot.now.parts.lengths)
@@ -115,6 +117,14 @@ returns-clause-exact g c =
     blocks_flaw-none c.args.rules.now c.args.snapshot.now
     (λ j below. c.loop-slot.invariant.none j (omega (arith, long, c.loop-slot-test.false)))
 
+pub returns-clause-speed : goal.returns-clause-speed
+returns-clause-speed g c =
+    let long = long-as c.args.snapshot.now c.deref-slot-items.result.now c.in_ok-blocks.blocks.items
+    c.deref-slot-items.ensures.value c.in_ok-blocks.ensures.ok in
+    c.loop-slot.invariant.fastest
+    ∙ blocks_speed-all c.args.rules.now c.args.snapshot.now c.loop-slot.slot-index
+    (omega (arith, long, c.loop-slot-test.false))
+
 pub loop-slot-preserved : goal.loop-slot-preserved
 loop-slot-preserved g c =
     let view = c.args.snapshot.now in
@@ -127,7 +137,7 @@ loop-slot-preserved g c =
     let below : index < view.objects =
     omega (arith, c.loop-slot-test.true, long-as view items blocks same c.in_ok-blocks.ensures.ok) in
     elim c.match-slot.branch [
-      | in-Some+in_ok-judge_log w ↦
+      | in-Some+in_ok-log_speed w ↦
           let block = w.in-Some.block in
           let has = has-at view items blocks index (Some block) same c.in_ok-blocks.ensures.ok below w.in-Some.is in
           let takes = taken view is index block has in
@@ -142,8 +152,11 @@ loop-slot-preserved g c =
           let new = ap (λ r. sum (take r view.parts.lengths)) next in
           record {
             none = none-more c.args.rules.now view index before.none
-                (ap (made_first (block_flaw c.args.rules.now view)) has ∙ sym flaw ∙ w.in_ok-judge_log.ensures.exact);
+                (ap (made_first (block_flaw c.args.rules.now view)) has ∙ sym flaw ∙ w.in_ok-log_speed.ensures.exact);
             rank = next ∙ sym takes.next;
+            fastest = blocks_speed-block c.args.rules.now view index block c.loop-slot.speed
+                w.in_ok-log_speed.log_speed c.match-slot.speed has (w.speed-is ∙ w.max-speed.ensures) before.fastest
+                w.in_ok-log_speed.ensures.speed;
             reads = omega (arith, w.steps-is, w.judge_log.ensures.cost, before.reads, log, old, new);
           }
       | in_default w ↦
@@ -154,6 +167,7 @@ loop-slot-preserved g c =
             none = none-more c.args.rules.now view index before.none
                 (ap (made_first (block_flaw c.args.rules.now view)) none);
             rank = rank ∙ before.rank ∙ sym (passed_over view is index none below);
+            fastest = w.speed-is ∙ blocks_speed-none c.args.rules.now view index c.loop-slot.speed none before.fastest;
             reads = omega (arith, w.steps-is, before.reads, kept);
           }
     ]

@@ -1,4 +1,4 @@
-use Rattle.std.proofs.Common.{Ok, Err, List, ℕ, ap, subst, sym, ◌∙◌}
+use Rattle.std.proofs.Common.{Ok, Err, ap, subst, sym, ◌∙◌}
 use Rattle.std.specs.List.Sorted.{IsStrictlyIncreasing}
 use Rattle.track_types.specs.declared.parts.Parts.{Parts}
 use Rattle.snapshots.specs.Parts.{index_in}

@@ -1,5 +1,6 @@
-use Rattle.std.proofs.Common.{◌≡◌, ◌+◌, ◌<◌, ◌≤◌, length, arith, ap, subst, sym, ◌∙◌}
+use Rattle.std.proofs.Common.{◌≡◌, ◌+◌, ◌<◌, ◌≤◌, length, map, arith, ap, subst, sym, ◌∙◌}
 use Rattle.std.specs.Prelude.{sum}
+use Rattle.std.specs.List.{range_with_len}
 use Rattle.std.proofs.lemmas.Result.{err_from_is_err_and}
 use Rattle.track_types.specs.Frame.{periods_of}
 use Rattle.track_types.specs.declared.parts.Parts.{Parts}
@@ -7,12 +8,14 @@ use Rattle.snapshots.specs.Flaws.{IsFaultFor}
 use Rattle.snapshots.specs.IndexCost.{blocks_reads}
 use Rattle.snapshots.specs.Parts.{snapshot_in}
 use Rattle.snapshots.specs.Sound.{IsSnapshot}
+use Rattle.snapshots.specs.Speed.{speed_of}
 use Rattle.snapshots.specs.Stores.{join_of}
 use Rattle.snapshots.specs.View.{SnapshotView}
 use Rattle.snapshots.proofs.JoinLemmas.{blocks_flaw-item, joining-more, length-snaps, logs_flaw-at, logs_flaw-none}
-use Rattle.snapshots.proofs.JoinLemmas.{read-item, reads-so_far}
+use Rattle.snapshots.proofs.JoinLemmas.{read-item, reads-so_far, speeds-more}
 use Rattle.snapshots.proofs.JoinLemmas.{reads-within, start_in-within, IsJoining}
 use Rattle.snapshots.proofs.SoundPartsLemmas.{AreStores-joined, IsSound-joined}
+use Rattle.snapshots.proofs.ReachLemmas.{within-reach}
 use Rattle.snapshots.proofs.stores.Stores.join.Goals as goal
 
 pub judge_snapshot-requires : goal.judge_snapshot-requires
@@ -44,11 +47,11 @@ returns-in_err-judge_snapshot-clause-flaw g c =
     omega (arith, here, ap length same, length-snaps parts c.args.rules c.args.snaps.items c.requires) in
     let found = c.in_err-judge_snapshot.field-0.0 in
     let known = logs_flaw-at parts c.args.rules c.args.snaps.items c.requires number c.args.steps.now c.loop-snapshot.steps
-    found c.loop-snapshot.invariant within
+    found c.loop-snapshot.invariant.joining within
     (subst (λ first. IsFaultFor first found)
     (blocks_flaw-item parts c.args.rules c.args.snaps.items number c.snapshot-item.result c.requires item)
     c.in_err-judge_snapshot.ensures.flaw) in
-    let given = err_from_is_err_and c.from_residual.result c.from_residual.ensures.1 in
+    let given = err_from_is_err_and c.from_residual-in_err-judge_snapshot.result c.from_residual-in_err-judge_snapshot.ensures.1 in
     rw (given.1, given.2) known
 
 pub returns-in_err-judge_snapshot-clause-cost : goal.returns-in_err-judge_snapshot-clause-cost
@@ -67,7 +70,17 @@ returns-in_err-judge_snapshot-clause-cost g c =
     subst (λ view. c.judge_snapshot.new.steps ≤ c.loop-snapshot.steps
     + (blocks_reads view + sum view.parts.lengths)) item c.judge_snapshot.ensures.cost in
     reads-so_far parts c.args.rules c.args.snaps.items c.requires number c.args.steps.now c.loop-snapshot.steps
-    c.judge_snapshot.new.steps c.loop-snapshot.invariant within reads
+    c.judge_snapshot.new.steps c.loop-snapshot.invariant.joining within reads
+
+pub push_reserved-requires : goal.push_reserved-requires
+push_reserved-requires g c =
+    omega (
+      arith,
+      c.loop-snapshot.invariant.filled,
+      c.loop-snapshot.invariant.room,
+      c.loop-snapshot-test.true,
+      ap length c.deref-snapshot-items.ensures.value,
+    )
 
 pub loop-snapshot-preserved : goal.loop-snapshot-preserved
 loop-snapshot-preserved g c =
@@ -84,11 +97,20 @@ loop-snapshot-preserved g c =
     + (blocks_reads (snapshot_in parts number) + sum (snapshot_in parts number).parts.lengths) =
     subst (λ view. c.judge_snapshot.new.steps ≤ c.loop-snapshot.steps
     + (blocks_reads view + sum view.parts.lengths)) item c.judge_snapshot.ensures.cost in
-    joining-more parts c.args.rules c.args.snaps.items c.requires number c.args.steps.now c.loop-snapshot.steps
-    c.judge_snapshot.new.steps c.loop-snapshot.invariant within
-    (subst IsSnapshot item c.in_ok-judge_snapshot.ensures.snapshot)
-    (sym (blocks_flaw-item parts c.args.rules c.args.snaps.items number c.snapshot-item.result c.requires item)
-    ∙ c.in_ok-judge_snapshot.ensures.exact) reads
+    record {
+      joining = joining-more parts c.args.rules c.args.snaps.items c.requires number c.args.steps.now
+          c.loop-snapshot.steps c.judge_snapshot.new.steps c.loop-snapshot.invariant.joining within
+          (subst IsSnapshot item c.in_ok-judge_snapshot.ensures.snapshot)
+          (sym (blocks_flaw-item parts c.args.rules c.args.snaps.items number c.snapshot-item.result c.requires item)
+          ∙ c.in_ok-judge_snapshot.ensures.exact)
+          reads;
+      speeds = c.push_reserved.ensures.items
+          ∙ speeds-more parts c.args.rules c.args.snaps.items number c.snapshot-item.result c.loop-snapshot.speeds.items
+          c.in_ok-judge_snapshot.field-0 c.requires item c.loop-snapshot.invariant.speeds
+          c.in_ok-judge_snapshot.ensures.speed;
+      filled = omega (arith, c.push_reserved.ensures.len, c.loop-snapshot.invariant.filled);
+      room = c.push_reserved.ensures.capacity ∙ c.loop-snapshot.invariant.room;
+    }
 
 pub invariant_of-result : goal.invariant_of-result
 invariant_of-result g c =
@@ -100,9 +122,10 @@ invariant_of-result g c =
       ap length c.deref-snapshot-items.ensures.value,
       length-snaps parts c.args.rules c.args.snaps.items c.requires,
     ) in
-    let is = subst (λ n. IsJoining parts n c.args.steps.now c.loop-snapshot.steps) last c.loop-snapshot.invariant in
-    AreStores-joined parts c.args.rules c.args.snaps.items c.args.steps.now c.loop-snapshot.steps c.requires
-    c.sizes.ensures.sound is
+    let is = subst (λ n. IsJoining parts n c.args.steps.now c.loop-snapshot.steps) last c.loop-snapshot.invariant.joining in
+    AreStores-joined parts c.args.rules c.args.snaps.items c.loop-snapshot.speeds.items c.args.steps.now
+    c.loop-snapshot.steps c.requires c.sizes.ensures.sound is
+    (c.loop-snapshot.invariant.speeds ∙ ap (λ n. map (speed_of parts) (range_with_len 0 n)) last)
 
 pub returns-clause-exact : goal.returns-clause-exact
 returns-clause-exact g c =
@@ -114,7 +137,7 @@ returns-clause-exact g c =
       ap length c.deref-snapshot-items.ensures.value,
       length-snaps parts c.args.rules c.args.snaps.items c.requires,
     ) in
-    let is = subst (λ n. IsJoining parts n c.args.steps.now c.loop-snapshot.steps) last c.loop-snapshot.invariant in
+    let is = subst (λ n. IsJoining parts n c.args.steps.now c.loop-snapshot.steps) last c.loop-snapshot.invariant.joining in
     logs_flaw-none parts c.args.rules c.args.snaps.items c.requires c.args.steps.now c.loop-snapshot.steps is
 
 pub returns-clause-sound : goal.returns-clause-sound
@@ -127,9 +150,26 @@ returns-clause-sound g c =
       ap length c.deref-snapshot-items.ensures.value,
       length-snaps parts c.args.rules c.args.snaps.items c.requires,
     ) in
-    let is = subst (λ n. IsJoining parts n c.args.steps.now c.loop-snapshot.steps) last c.loop-snapshot.invariant in
+    let is = subst (λ n. IsJoining parts n c.args.steps.now c.loop-snapshot.steps) last c.loop-snapshot.invariant.joining in
     IsSound-joined parts c.args.rules c.args.snaps.items c.args.steps.now c.loop-snapshot.steps c.requires
     c.sizes.ensures.sound is
+
+pub returns-clause-within : goal.returns-clause-within
+returns-clause-within g c =
+    let parts : Parts = join_of c.args.frame c.args.objects c.args.rules c.args.snaps.items in
+    let last : c.loop-snapshot.snapshot-index ≡ periods_of parts.frame =
+    omega (
+      arith,
+      c.loop-snapshot-test.false,
+      ap length c.deref-snapshot-items.ensures.value,
+      length-snaps parts c.args.rules c.args.snaps.items c.requires,
+    ) in
+    let is = subst (λ n. IsJoining parts n c.args.steps.now c.loop-snapshot.steps) last c.loop-snapshot.invariant.joining in
+    within-reach parts (record {
+      shaped = c.requires.shaped;
+      sound = IsSound-joined parts c.args.rules c.args.snaps.items c.args.steps.now c.loop-snapshot.steps c.requires
+          c.sizes.ensures.sound is;
+    })
 
 pub returns-clause-cost : goal.returns-clause-cost
 returns-clause-cost g c =
@@ -141,5 +181,5 @@ returns-clause-cost g c =
       ap length c.deref-snapshot-items.ensures.value,
       length-snaps parts c.args.rules c.args.snaps.items c.requires,
     ) in
-    let is = subst (λ n. IsJoining parts n c.args.steps.now c.loop-snapshot.steps) last c.loop-snapshot.invariant in
+    let is = subst (λ n. IsJoining parts n c.args.steps.now c.loop-snapshot.steps) last c.loop-snapshot.invariant.joining in
     reads-within parts c.args.rules c.args.snaps.items c.requires c.args.steps.now c.loop-snapshot.steps is

@@ -1,4 +1,4 @@
-use Rattle.std.proofs.Common.{◌≡◌, ◌≤◌, ◌/◌, ◌-ℤ◌, ap, arith, ◌∙◌}
+use Rattle.std.proofs.Common.{◌≡◌, ◌-ℤ◌, ap, arith, ◌∙◌}
 use Rattle.std.specs.Prelude.{unsigned_abs}
 use Rattle.std.proofs.Math.Nat.{div-le_self}
 use Rattle.std.proofs.lemmas.Int.{ints}

@@ -1,0 +1,78 @@
+-- How fast objects move away from their anchors, and how far they get.
+use Rattle.std.specs.Prelude.{ℕ, ◌+◌, ◌*◌, ◌<◌, ◌≤◌, max, ℤ, ◌+ℤ◌, ◌-ℤ◌, unsigned_abs, All, List, length}
+use Rattle.std.specs.Prelude.{map, fold, take, slice_index, Option, Some, None}
+use Rattle.std.specs.Int.{div_ceil}
+use Rattle.std.specs.List.{range_with_len}
+use Rattle.track_types.specs.Frame.{periods_of}
+use Rattle.track_types.specs.Widening.{widened}
+use Rattle.track_types.specs.declared.cell.Cell.{Cell}
+use Rattle.track_types.specs.declared.cell_box.CellBox.{CellBox}
+use Rattle.track_types.specs.declared.parts.Parts.{Parts}
+use Rattle.track_types.specs.declared.stop.Stop.{Stop}
+use Rattle.k2_tree.specs.Morton.{IsInGrid}
+use Rattle.rule_store.specs.View.{RulesView}
+use Rattle.rule_store.specs.Entry.{entry_of}
+use Rattle.snapshots.specs.View.{SnapshotView, all_blocks}
+use Rattle.snapshots.specs.JoinFlaws.{cell_before, lasting}
+use Rattle.snapshots.specs.Parts.{first_in, log_at, rules_in, snapshot_in, stops_of}
+use Rattle.snapshots.specs.declared.anchored.Anchored.{Anchored}
+
+-- how far two numbers are apart
+abbrev pub gap : ℤ → ℤ → ℕ
+gap a b = unsigned_abs (a -ℤ b)
+
+-- how far a cell is from the farthest cell of a box, by the greater of columns and lines (the Chebyshev distance); the box
+-- is moved to another cell
+abbrev pub far_of : Cell → Cell → CellBox → ℕ
+far_of from cell hull = max
+    (max (gap (cell.x +ℤ hull.x1) from.x) (gap (cell.x +ℤ hull.x2) from.x))
+    (max (gap (cell.y +ℤ hull.y1) from.y) (gap (cell.y +ℤ hull.y2) from.y))
+
+-- the speed at which an object gets from a cell to its farthest cell in a box in so many instants and one more
+abbrev pub hull_speed : Cell → Cell → ℕ → Option CellBox → ℕ
+hull_speed from cell before None = 0
+hull_speed from cell before (Some hull) = div_ceil (far_of from cell hull) (before + 1)
+
+-- that of a log's symbol, from the log's first cell on
+abbrev pub symbol_speed : RulesView → Cell → List ℕ → ℕ → ℕ
+symbol_speed rules from log place = hull_speed from (cell_before rules from log place)
+    (lasting rules (take place log)) (entry_of rules (slice_index log place)).hull
+
+-- the greatest of a log's symbols
+unfoldable pub log_speed : RulesView → Cell → List ℕ → ℕ
+log_speed rules from log = fold max 0 (map (symbol_speed rules from log) (range_with_len 0 (length log)))
+
+-- the speed of a block
+abbrev pub block_speed : RulesView → Anchored → ℕ
+block_speed rules block = log_speed rules block.cell (log_at rules block)
+
+-- the greatest speed of a snapshot's blocks
+unfoldable pub blocks_speed : RulesView → SnapshotView → ℕ
+blocks_speed rules view = fold max 0 (map (block_speed rules) (all_blocks view))
+
+-- the speed of a period
+abbrev pub speed_of : Parts → ℕ → ℕ
+speed_of parts number = blocks_speed (rules_in parts) (snapshot_in parts number)
+
+-- how far an object gets from its anchor's cell by an instant of a period, in each axis
+abbrev pub width_at : Parts → ℕ → ℤ → ℕ
+width_at parts number instant = speed_of parts number * gap instant (first_in parts.frame number)
+
+-- the reach of a box at an instant: all cells in which an object with its anchor in the box may be
+abbrev pub reach_of : Parts → ℕ → ℤ → CellBox → CellBox
+reach_of parts number instant area = widened (width_at parts number instant) area
+
+-- a stop is as near to its block's anchor as the speed tells, and in the grid
+pub record IsReached (parts : Parts) (number : ℕ) (block : Anchored) (stop : Stop) : Type 0 where
+  pub column : gap stop.cell.x block.cell.x ≤ width_at parts number stop.instant
+  pub line : gap stop.cell.y block.cell.y ≤ width_at parts number stop.instant
+  pub inside : IsInGrid parts.frame.height parts.frame.base stop.cell
+
+-- so are all stops of a period's blocks
+abbrev pub AreReached : Parts → ℕ → Type 0
+AreReached parts number =
+    All (λ block. All (IsReached parts number block) (stops_of parts number block)) (all_blocks (snapshot_in parts number))
+
+-- Within reach: so are all stops of an index.
+abbrev pub IsWithinReach : Parts → Type 0
+IsWithinReach parts = (number : ℕ) → number < periods_of parts.frame → AreReached parts number
