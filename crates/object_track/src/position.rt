@@ -1,0 +1,33 @@
+ghost use Rattle.std.specs.Prelude.{◌≡◌, ◌<◌, ◌≤◌, ◌+◌, length, Some};
+ghost use Rattle.track_types.specs.Frame.{periods_of};
+ghost use Rattle.log_cursor.specs.Seek.{cell_among};
+ghost use Rattle.snapshots.specs.IndexCost.{position_cost_in};
+ghost use Rattle.snapshots.specs.Parts.{stops_in};
+
+use crate::placing::Placed;
+use log_cursor::seek;
+use snapshots::Stores;
+use std::sync::ledger::Ledger;
+use step_count::Steps;
+use track_types::Cell;
+
+/// The cell of the object at a place among all objects, at an instant, by its block of a period, which
+/// is one of the header's. `None` exactly where the period has no stop of it at the instant. It takes
+/// no memory.
+pub fn cell_in<L: Ledger>(
+    stores: &Stores,
+    place: u32,
+    period: u32,
+    instant: i64,
+    steps: &mut Steps<L>,
+) -> Option<Cell>
+    requires place { place < length stores.now.objects }
+    requires period { period < periods_of stores.now.frame }
+    ensures value { result ≡ cell_among (stops_in stores.now place period) instant }
+    ensures cost { steps.new
+        ≤ steps.old + position_cost_in stores.now (Some place) (Some period) }
+{
+    let block = stores.snapshot(period).find(place, steps)?;
+    let placed = Placed::new(stores, period, &block);
+    seek(placed.log, placed.start, instant, steps)
+}
