@@ -1,0 +1,229 @@
+-- Which boxes are within reach, where they are cut to the grid: each that is, is within reach uncut, and each that holds the
+-- anchor of a block which is seen.
+use Rattle.std.proofs.Common.{◌≡◌, ℕ, ◌-◌, ◌^◌, ◌<◌, ◌≤◌, ℤ, pos, ◌+ℤ◌, ◌-ℤ◌, ◌≤ℤ◌, true}
+use Rattle.std.proofs.Common.{false, inl, inr, ap, ◌∙◌, arith}
+use Rattle.std.specs.Prelude.{min, unsigned_abs}
+use Rattle.std.specs.Int.{int_max, int_min}
+use Rattle.std.specs.Int.Signed.{le_z}
+use Rattle.std.proofs.lemmas.Bool.{and_from, and_parts, cases_Bool}
+use Rattle.std.proofs.lemmas.Int.{clamps, ints}
+use Rattle.track_types.specs.Near.{IsAsked, IsCellAsked}
+use Rattle.track_types.specs.Region.{in_box, in_region, intersects_region, is_between, overlaps}
+use Rattle.track_types.specs.Widening.{widened}
+use Rattle.track_types.specs.declared.cell.Cell.{Cell}
+use Rattle.track_types.specs.declared.cell_box.CellBox.{CellBox}
+use Rattle.track_types.specs.declared.frame.Frame.{Frame}
+use Rattle.track_types.specs.declared.parts.Parts.{Parts}
+use Rattle.track_types.specs.declared.region.Region.{Region}
+use Rattle.track_types.proofs.RegionLemmas.{intersects_region-exact, is_between-bounds, is_between-from}
+use Rattle.k2_tree.specs.Areas.{IsBoxInside}
+use Rattle.k2_tree.specs.Morton.{IsInGrid}
+use Rattle.k2_tree.specs.Pruning.{IsKeptFor, IsWeaker}
+use Rattle.snapshots.specs.Speed.{gap, width_at}
+use Rattle.slice_search.specs.Cost.{cell_box, is_within_reach}
+use Rattle.slice_search.specs.Reach.{cut, cut_box, grid_of, may_reach, may_reach_in, meets, short_width}
+
+-- the test for at most, and what it says
+le_z-bound : (a b : ℤ) → le_z a b ≡ true → a ≤ℤ b
+le_z-bound a b holds = grind (arith, ints)
+
+le_z-from : (a b : ℤ) → a ≤ℤ b → le_z a b ≡ true
+le_z-from a b below = grind (arith, ints)
+
+-- a number between cut bounds is between both pairs of bounds, where these overlap
+is_between-uncut : (low high first last z : ℤ) → low ≤ℤ high → overlaps low high first last ≡ true
+    → is_between (cut low high first) (cut low high last) z ≡ true
+    → (is_between low high z ≡ true) × (is_between first last z ≡ true)
+is_between-uncut low high first last z wide common inside =
+    let bounds = is_between-bounds (cut low high first) (cut low high last) z inside in
+    let above : cut low high first ≤ℤ z = bounds.0 in
+    let below : z ≤ℤ cut low high last = bounds.1 in
+    let both : int_max low first ≤ℤ int_min high last = le_z-bound _ _ common in (
+      is_between-from low high z (omega (arith, ints, clamps)) (omega (arith, ints, clamps)),
+      is_between-from first last z (omega (arith, ints, clamps)) (omega (arith, ints, clamps)),
+    )
+
+-- and what is between both pairs is between the cut bounds, and the pairs overlap
+is_between-cut : (low high first last z : ℤ) → is_between low high z ≡ true → is_between first last z ≡ true
+    → (overlaps low high first last ≡ true) × (is_between (cut low high first) (cut low high last) z ≡ true)
+is_between-cut low high first last z held inside =
+    let outer = is_between-bounds low high z held in
+    let bounds = is_between-bounds first last z inside in
+    let left : low ≤ℤ z = outer.0 in
+    let right : z ≤ℤ high = outer.1 in
+    let above : first ≤ℤ z = bounds.0 in
+    let below : z ≤ℤ last = bounds.1 in
+    let both : int_max low first ≤ℤ int_min high last = omega (arith, ints, clamps) in (
+      le_z-from _ _ both,
+      is_between-from (cut low high first) (cut low high last) z (omega (arith, ints, clamps))
+          (omega (arith, ints, clamps)),
+    )
+
+-- a cell is in a grid and in a box
+abbrev pub InBoth : CellBox → CellBox → Cell → Type 0
+InBoth grid area cell = (in_box grid cell ≡ true) × (in_box area cell ≡ true)
+
+-- the cells of a cut box
+in_box-uncut : (grid area : CellBox) (cell : Cell) → meets grid area ≡ true → in_box (cut_box grid area) cell ≡ true
+    → InBoth grid area cell
+in_box-uncut grid area cell common inside =
+    let axes = and_parts (overlaps grid.x1 grid.x2 area.x1 area.x2) (overlaps grid.y1 grid.y2 area.y1 area.y2) common in
+    let box = and_parts (is_between (cut grid.x1 grid.x2 area.x1) (cut grid.x1 grid.x2 area.x2) cell.x)
+    (is_between (cut grid.y1 grid.y2 area.y1) (cut grid.y1 grid.y2 area.y2) cell.y) inside in
+    let across = is_between-uncut grid.x1 grid.x2 area.x1 area.x2 cell.x grid.wide axes.0 box.0 in
+    let along = is_between-uncut grid.y1 grid.y2 area.y1 area.y2 cell.y grid.high axes.1 box.1 in
+    (and_from _ _ across.0 along.0, and_from _ _ across.1 along.1)
+
+in_box-cut : (grid area : CellBox) (cell : Cell) → InBoth grid area cell
+    → (meets grid area ≡ true) × (in_box (cut_box grid area) cell ≡ true)
+in_box-cut grid area cell both =
+    let held = and_parts (is_between grid.x1 grid.x2 cell.x) (is_between grid.y1 grid.y2 cell.y) both.0 in
+    let box = and_parts (is_between area.x1 area.x2 cell.x) (is_between area.y1 area.y2 cell.y) both.1 in
+    let across = is_between-cut grid.x1 grid.x2 area.x1 area.x2 cell.x held.0 box.0 in
+    let along = is_between-cut grid.y1 grid.y2 area.y1 area.y2 cell.y held.1 box.1 in
+    (and_from _ _ across.0 along.0, and_from _ _ across.1 along.1)
+
+-- what is between bounds is between bounds that are moved outwards as far or farther, from ones as far out or farther
+is_between-wider : (low high first last z : ℤ) (n m : ℕ) → n ≤ m → low ≤ℤ first → last ≤ℤ high
+    → is_between (first -ℤ pos n) (last +ℤ pos n) z ≡ true → is_between (low -ℤ pos m) (high +ℤ pos m) z ≡ true
+is_between-wider low high first last z n m more left right inside =
+    let bounds = is_between-bounds (first -ℤ pos n) (last +ℤ pos n) z inside in
+    let above : (first -ℤ pos n) ≤ℤ z = bounds.0 in
+    let below : z ≤ℤ (last +ℤ pos n) = bounds.1 in
+    is_between-from (low -ℤ pos m) (high +ℤ pos m) z (omega (arith, ints)) (omega (arith, ints))
+
+in_box-wider : (inner outer : CellBox) (n m : ℕ) (cell : Cell) → IsBoxInside inner outer → n ≤ m
+    → in_box (widened n inner) cell ≡ true → in_box (widened m outer) cell ≡ true
+in_box-wider inner outer n m cell within more inside =
+    let box = and_parts (is_between (inner.x1 -ℤ pos n) (inner.x2 +ℤ pos n) cell.x)
+    (is_between (inner.y1 -ℤ pos n) (inner.y2 +ℤ pos n) cell.y) inside in
+    and_from _ _
+    (is_between-wider outer.x1 outer.x2 inner.x1 inner.x2 cell.x n m more within.left within.right box.0)
+    (is_between-wider outer.y1 outer.y2 inner.y1 inner.y2 cell.y n m more within.below within.above box.1)
+
+-- the box of a cell is inside of each box that holds it
+cell_box-inside : (area : CellBox) (at : Cell) → in_box area at ≡ true → IsBoxInside (cell_box at) area
+cell_box-inside area at held =
+    let box = and_parts (is_between area.x1 area.x2 at.x) (is_between area.y1 area.y2 at.y) held in
+    let across = is_between-bounds area.x1 area.x2 at.x box.0 in
+    let along = is_between-bounds area.y1 area.y2 at.y box.1 in
+    let right : at.x ≤ℤ area.x2 = across.1 in
+    let above : at.y ≤ℤ area.y2 = along.1 in
+    let x2 : (at.x +ℤ pos 0) ≤ℤ area.x2 = omega (arith, ints) in
+    let y2 : (at.y +ℤ pos 0) ≤ℤ area.y2 = omega (arith, ints) in
+    record { left = across.0; right = x2; below = along.0; above = y2 }
+
+-- a cell of an index's grid is in its box
+is_between-grid : (base z : ℤ) (side : ℕ) → base ≤ℤ z → unsigned_abs (z -ℤ base) < side
+    → is_between base (base +ℤ pos (side - 1)) z ≡ true
+is_between-grid base z side above below =
+    is_between-from base (base +ℤ pos (side - 1)) z above (omega (arith, ints))
+
+pub in_box-grid : (frame : Frame) (cell : Cell) → IsInGrid frame.height frame.base cell
+    → in_box (grid_of frame) cell ≡ true
+in_box-grid frame cell inside =
+    and_from _ _ (is_between-grid frame.base.x cell.x (2 ^ frame.height) inside.left inside.right)
+    (is_between-grid frame.base.y cell.y (2 ^ frame.height) inside.below inside.above)
+
+-- a number near another is between the bounds around it
+is_between-around : (at z : ℤ) (n : ℕ) → IsAsked at → IsAsked z → gap z at ≤ n
+    → is_between (at -ℤ pos (min n (2 ^ 42))) (at +ℤ pos 0 +ℤ pos (min n (2 ^ 42))) z ≡ true
+is_between-around at z n near also close =
+    let low = near.low in
+    let high = near.high in
+    let least = also.low in
+    let most = also.high in
+    is_between-from (at -ℤ pos (min n (2 ^ 42))) (at +ℤ pos 0 +ℤ pos (min n (2 ^ 42))) z
+    (omega (arith, ints, clamps)) (omega (arith, ints, clamps))
+
+-- a cell of the grid and of the region is at most so far from a box
+record IsReachedFrom (region : Region) (grid : CellBox) (n : ℕ) (area : CellBox) : Type 0 where
+  pub cell : Cell
+  pub grid_has : in_box grid cell ≡ true
+  pub near : in_box (widened n area) cell ≡ true
+  pub held : in_region region cell ≡ true
+
+module _ (region : Region) (grid : CellBox) where
+  -- the test decides
+  may_reach-cell : (n : ℕ) (area : CellBox) → may_reach region grid n area ≡ true → IsReachedFrom region grid n area
+  unfolding may_reach
+  may_reach-cell n area kept =
+      let box : CellBox = widened n area in
+      let tests = and_parts (meets grid box) (intersects_region region (cut_box grid box)) kept in
+      let met = (intersects_region-exact region (cut_box grid box)).0 tests.1 in
+      let cell : Cell = met.0 in
+      let both = in_box-uncut grid box cell tests.0 met.1 in
+      record { cell = cell; grid_has = both.0; near = both.1; held = met.2 }
+
+  may_reach-from : (n : ℕ) (area : CellBox) → IsReachedFrom region grid n area → may_reach region grid n area ≡ true
+  unfolding may_reach
+  may_reach-from n area is =
+      let both = in_box-cut grid (widened n area) is.cell (is.grid_has, is.near) in
+      and_from _ _ both.0
+      ((intersects_region-exact region (cut_box grid (widened n area))).1 (is.cell, both.1, is.held))
+
+  -- where the region is within reach of a cut box, it is within reach of the box itself
+  may_reach-uncut : (n m : ℕ) (area : CellBox) → n ≤ m → may_reach region grid n area ≡ true
+      → intersects_region region (widened m area) ≡ true
+  may_reach-uncut n m area more kept =
+      let is = may_reach-cell n area kept in
+      let itself : IsBoxInside area area = record {
+        left = omega (arith, ints);
+        right = omega (arith, ints);
+        below = omega (arith, ints);
+        above = omega (arith, ints);
+      } in
+      (intersects_region-exact region (widened m area)).1
+      (is.cell, in_box-wider area area n m is.cell itself more is.near, is.held)
+
+  -- a box is within reach where a cell of it is
+  pub IsKeptFor-may_reach : (n : ℕ)
+      → IsKeptFor (may_reach region grid n) (λ cell. may_reach region grid n (cell_box cell))
+  IsKeptFor-may_reach n = λ area at near held wanted.
+      let is = may_reach-cell n (cell_box at) wanted in
+      may_reach-from n area (record {
+        cell = is.cell;
+        grid_has = is.grid_has;
+        near = in_box-wider (cell_box at) area n n is.cell (cell_box-inside area at held) (omega arith) is.near;
+        held = is.held;
+      })
+
+  -- an anchor is within reach where a cell of the region in the grid is near it
+  pub may_reach-near : (n : ℕ) (at cell : Cell) → IsCellAsked at → IsCellAsked cell → in_box grid cell ≡ true
+      → gap cell.x at.x ≤ n → gap cell.y at.y ≤ n → in_region region cell ≡ true
+      → may_reach region grid (min n (2 ^ 42)) (cell_box at) ≡ true
+  may_reach-near n at cell near also inside across along held =
+      may_reach-from (min n (2 ^ 42)) (cell_box at) (record {
+        cell = cell;
+        grid_has = inside;
+        near = and_from _ _ (is_between-around at.x cell.x n near.x also.x across)
+            (is_between-around at.y cell.y n near.y also.y along);
+        held = held;
+      })
+
+  -- a region beside the grid keeps no box
+  pub may_reach-beside : (n : ℕ) (area : CellBox) → intersects_region region grid ≡ false
+      → may_reach region grid n area ≡ false
+  may_reach-beside n area beside = elim (cases_Bool (may_reach region grid n area)) [
+    | inl kept ↦
+        let is = may_reach-cell n area kept in
+        let met = (intersects_region-exact region grid).1 (is.cell, is.grid_has, is.held) in
+        absurd (cc)
+    | inr gone ↦ gone
+  ]
+
+module _ (parts : Parts) (number : ℕ) (instant : ℤ) (region : Region) where
+  -- what the search keeps is within reach
+  pub IsWeaker-may_reach : IsWeaker (is_within_reach parts number instant region)
+      (may_reach_in parts number instant region)
+  IsWeaker-may_reach = λ area near kept.
+      may_reach-uncut region (grid_of parts.frame) (short_width parts number instant) (width_at parts number instant) area
+      (omega arith) kept
+
+  -- so too where the test has a region, a grid and a width that are equal to these
+  pub may_reach-same : (asked : Region) (grid : CellBox) (width : ℕ) → asked ≡ region → grid ≡ grid_of parts.frame
+      → width ≡ short_width parts number instant
+      → may_reach asked grid width ≡ may_reach_in parts number instant region
+  may_reach-same asked grid width of all wide =
+      ap (λ r. may_reach r grid width) of ∙ ap (λ g. may_reach region g width) all
+      ∙ ap (may_reach region (grid_of parts.frame)) wide

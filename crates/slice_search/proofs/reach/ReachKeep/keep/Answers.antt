@@ -1,0 +1,35 @@
+use Rattle.std.proofs.Common.{◌≡◌, Bool, true, false, refl, ap, sym, ◌∙◌}
+use Rattle.std.specs.Prelude.{◌&&◌}
+use Rattle.track_types.specs.Region.{intersects_region}
+use Rattle.track_types.specs.Widening.{widened}
+use Rattle.track_types.specs.declared.cell_box.CellBox.{CellBox}
+use Rattle.slice_search.specs.Reach.{cut_box, may_reach, meets}
+use Rattle.slice_search.proofs.reach.ReachKeep.keep.Goals as goal
+
+-- what both tests say, from the first
+both-hold : (a b result : Bool) → a ≡ true → result ≡ b → result ≡ (a && b)
+both-hold a b result first second = rw first second
+
+one-fails : (a b result : Bool) → result ≡ a → result ≡ false → result ≡ (a && b)
+one-fails a b result is fails =
+    let first : a ≡ false = sym is ∙ fails in
+    rw (first, fails) refl
+
+pub returns-then-meets : goal.returns-then-meets
+unfolding may_reach
+returns-then-meets g c =
+    let self = c.args.self.now in
+    let box : CellBox = widened self.width c.args.area.now in
+    let first : meets self.grid box ≡ true =
+    sym (c.meets.ensures ∙ ap (meets self.grid) c.wider-wide.ensures) ∙ c.if-meets.true in
+    both-hold (meets self.grid box) (intersects_region self.test.now.region (cut_box self.grid box)) _ first
+    (c.may.ensures.value ∙ ap (intersects_region self.test.now.region)
+    (c.cut.ensures.value ∙ ap (cut_box self.grid) c.wider-wide.ensures))
+
+pub returns-else-meets : goal.returns-else-meets
+unfolding may_reach
+returns-else-meets g c =
+    let self = c.args.self.now in
+    let box : CellBox = widened self.width c.args.area.now in
+    one-fails (meets self.grid box) (intersects_region self.test.now.region (cut_box self.grid box)) _
+    (c.meets.ensures ∙ ap (meets self.grid) c.wider-wide.ensures) c.if-meets.false

@@ -1,0 +1,71 @@
+use Rattle.std.proofs.Common.{◌≡◌, ◌+◌, ◌<◌, ◌≤◌, None, Some, w64, to_z, of_z, ap, sym, subst, ◌∙◌, arith, rules}
+use Rattle.std.proofs.lemmas.Int.{ints}
+use Rattle.std.proofs.lemmas.List.Sorted.{IsNonDecreasingBy-from_sort_by_key}
+use Rattle.track_types.specs.Frame.{periods_of}
+use Rattle.snapshots.specs.Parts.{period_in}
+use Rattle.snapshots.specs.SoundParts.{IsValid}
+use Rattle.snapshots.proofs.ReachLemmas.{within-reach}
+use Rattle.object_track.proofs.MetLemmas.{period_in-some}
+use Rattle.slice_search.specs.Cost.{period_search_cost, slice_cost}
+use Rattle.slice_search.specs.Sightings.{AreSightings}
+use Rattle.slice_search.proofs.SliceLemmas.{object_of, sightings_of-outside, slice_cost-some, slice-sorted}
+use Rattle.slice_search.proofs.search.slice.Given.{Over}
+use Rattle.slice_search.proofs.search.slice.Goals as goal
+use Rattle.slice_search.proofs.search.slice.Goals.{After-sightings, In-Some}
+
+-- the period of the instant
+when : (g : Over) (c : In-Some g) → period_in c.args.stores.now.frame c.args.instant ≡ Some c.in-Some.period
+when g c = sym (c.in-Some.ensures.value ∙ ap (period_in c.args.stores.now.frame) (omega (arith, ints)))
+
+-- it is one of the index's
+within : (g : Over) (c : In-Some g) → c.in-Some.period < periods_of c.args.stores.now.frame
+within g c =
+    (period_in-some c.args.stores.now.frame c.frame.ensures.shaped.header c.args.instant c.in-Some.period (when g c)).0
+
+pub invariant_of-sought : goal.invariant_of-sought
+invariant_of-sought g c = record { known = within g (goal.at.invariant_of-sought g c).In-Some }
+
+-- the reads of the search in the period
+reads : (g : Over) (c : After-sightings g)
+    → c.sightings.new.steps ≤ c.args.steps.now + slice_cost c.args.stores.now c.args.instant c.args.test.now.region
+reads g c =
+    let parts = c.args.stores.now in
+    let region = c.args.test.now.region in
+    let same : to_z w64 (of_z w64 c.args.instant) ≡ c.args.instant = omega (arith, ints) in
+    let is : period_in parts.frame c.args.instant ≡ Some c.in-Some.period =
+    sym (c.in-Some.ensures.value ∙ ap (period_in parts.frame) same) in
+    let most : c.sightings.new.steps
+    ≤ c.args.steps.now + period_search_cost parts c.in-Some.period c.args.instant c.args.instant region c.args.instant =
+    subst (λ z. c.sightings.new.steps ≤ c.args.steps.now + period_search_cost parts c.in-Some.period z z region z) same
+    c.sightings.ensures.cost in
+    omega (arith, most, slice_cost-some parts c.args.instant region c.in-Some.period is)
+
+pub returns-in_err-found-clause-cost : goal.returns-in_err-found-clause-cost
+returns-in_err-found-clause-cost g c = reads g (goal.at.returns-in_err-found-clause-cost g c).After-sightings
+
+pub returns-clause-cost : goal.returns-clause-cost
+returns-clause-cost g c = reads g (goal.at.returns-clause-cost g c).After-sightings
+
+pub returns-in_default-clause-ok : goal.returns-in_default-clause-ok
+returns-in_default-clause-ok g c =
+    let parts = c.args.stores.now in
+    let valid : IsValid parts = record { shaped = c.frame.ensures.shaped; sound = c.frame.ensures.sound } in
+    let same : to_z w64 (of_z w64 c.args.instant) ≡ c.args.instant = omega (arith, ints) in
+    let none : None ≡ c.period_of.result = search rules in
+    c.new.ensures.items ∙ sightings_of-outside parts valid c.args.instant c.args.test.now.region
+    (sym (none ∙ c.period_of.ensures.value ∙ ap (period_in parts.frame) same))
+
+pub returns-clause-ok : goal.returns-clause-ok
+returns-clause-ok g c =
+    let parts = c.args.stores.now in
+    let region = c.args.test.now.region in
+    let valid : IsValid parts = record { shaped = c.frame.ensures.shaped; sound = c.frame.ensures.sound } in
+    let at = (goal.at.returns-clause-ok g c).In-Some in
+    let same : to_z w64 (of_z w64 c.args.instant) ≡ c.args.instant = omega (arith, ints) in
+    let are : AreSightings parts c.in-Some.period c.args.instant region c.in_ok-found.found.items =
+    subst (λ z. AreSightings parts c.in-Some.period z region c.in_ok-found.found.items) same
+    c.in_ok-found.ensures.ok in
+    slice-sorted parts valid c.args.instant c.in-Some.period (within g at) region (within-reach parts valid)
+    c.in_ok-found.found.items c.sort_unstable_by_key.new.self.items (when g at) are
+    c.sort_unstable_by_key.ensures.permutation
+    (IsNonDecreasingBy-from_sort_by_key object_of _ c.sort_unstable_by_key.ensures.sorted (λ a r q k. search rules))

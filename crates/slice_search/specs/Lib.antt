@@ -1,0 +1,4 @@
+-- In reading order.
+pub mod Cost
+pub mod Reach
+pub mod Sightings

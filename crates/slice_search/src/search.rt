@@ -1,0 +1,47 @@
+ghost use Rattle.std.specs.Prelude.{◌≡◌, ◌+◌, ◌≤◌, IfOk};
+ghost use Rattle.track_types.specs.ByFilter.{sightings_of};
+ghost use Rattle.track_types.specs.Near.{IsAsked};
+ghost use Rattle.track_types.specs.Region.{IsRegionAsked};
+ghost use Rattle.snapshots.specs.Parts.{chart_in};
+ghost use Rattle.slice_search.specs.Cost.{slice_cost};
+
+use crate::sought::Sought;
+use region_test::RegionTest;
+use snapshots::Stores;
+use std::alloc::Global;
+use std::sync::ledger::Ledger;
+use step_count::Steps;
+use track_types::{Memory, Sighting};
+
+/// The objects that are in the test's region at an instant, by object, each with its cell.
+///
+/// An instant outside the index has none. The instant and the region's coordinates are at most 2^41
+/// away from 0, and its radius is at most 2^42. `Memory` is the only refusal; nothing is allocated for a
+/// square or a block that is passed over.
+pub fn slice<L: Ledger>(
+    alloc: Global,
+    stores: &Stores,
+    instant: i64,
+    test: &RegionTest,
+    steps: &mut Steps<L>,
+) -> Result<Vec<Sighting>, Memory>
+    requires instant { IsAsked instant }
+    requires region { IsRegionAsked test.now.region }
+    ensures ok { IfOk result (λ found.
+        found.items ≡ sightings_of (chart_in stores.now).rows instant test.now.region) }
+    ensures cost { steps.new ≤ steps.old + slice_cost stores.now instant test.now.region }
+{
+    let _ = stores.frame(); // says what holds of every index
+    let Some(period) = stores.period_of(instant) else {
+        return Ok(Vec::new(alloc));
+    };
+    let sought = Sought {
+        stores,
+        period,
+        instant,
+        test,
+    };
+    let mut found = sought.sightings(alloc, steps)?;
+    found.sort_unstable_by_key(|sighting| sighting.object);
+    Ok(found)
+}
