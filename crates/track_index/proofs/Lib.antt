@@ -4,13 +4,6 @@ pub mod DecidingLemmas
 -- The steps of a check.
 mod PeriodLemmas
 mod OpeningLemmas
-mod Examples
--- Laws for searches: what a look at all rows of a chart finds, and that the chart is a table.
-pub mod ChartLemmas
-pub mod TableLemmas
--- The periods, the blocks in them and their stops.
-pub mod MetLemmas
-pub mod BlockLemmas
-pub mod StopsLemmas
 mod PathLemmas
-mod PositionLemmas
+mod RegionLemmas
+mod Examples

@@ -3,5 +3,4 @@ pub mod Facts
 pub mod Cost
 pub mod CheckFlaws
 pub mod Opening
-pub mod Met
 pub mod Path

@@ -1,25 +1,12 @@
--- What is left of the walk of a path: that of the block which was begun, and the periods behind it.
-use Rattle.std.specs.Prelude.{◌≡◌, ℕ, ◌+◌, ◌-◌, ◌<◌, ◌≤◌, ℤ, List, ◌++◌, length}
-use Rattle.std.specs.List.{flat_map, range_with_len, sum_by}
+-- What is left of the walk of a path: that of the block which was begun, and the periods after it.
+use Rattle.std.specs.Prelude.{◌≡◌, ℕ, ◌+◌, ◌<◌, ◌≤◌, ℤ, ◌++◌, length}
 use Rattle.track_types.specs.Frame.{periods_of}
 use Rattle.track_types.specs.declared.parts.Parts.{Parts}
-use Rattle.track_types.specs.declared.stop.Stop.{Stop}
-use Rattle.rule_store.specs.Log.{in_window}
 use Rattle.log_cursor.specs.Walk.{WalkView}
-use Rattle.snapshots.specs.IndexCost.{period_cost}
-use Rattle.snapshots.specs.Parts.{rules_in, stops_in}
+use Rattle.snapshots.specs.Parts.{rules_in}
+use Rattle.object_track.specs.Between.{cost_between, stops_between}
 
--- the stops of an object in a window, in the periods from one to before another
-unfoldable pub stops_between : Parts → ℕ → ℤ → ℤ → ℕ → ℕ → List Stop
-stops_between parts index from to next behind =
-    flat_map (λ number. in_window from to (stops_in parts index number)) (range_with_len next (behind - next))
-
--- the reads that these periods cost
-unfoldable pub cost_between : Parts → ℕ → ℤ → ℤ → ℕ → ℕ → ℕ
-cost_between parts index from to next behind =
-    sum_by (period_cost parts index from to) (range_with_len next (behind - next))
-
--- the view of such a walk
+-- the view of a walk over the stops of an object in a window, in the periods from one to before another
 abbrev pub path_walk_of : Parts → ℕ → ℤ → ℤ → ℕ → ℕ → WalkView → WalkView
 path_walk_of parts index from to next behind block = record {
   rules = block.rules;

@@ -1,19 +1,14 @@
-ghost use Rattle.std.specs.Prelude.{◌≡◌, ◌<◌, ◌≤◌, ◌+◌, length, Some};
-ghost use Rattle.track_types.specs.Frame.{periods_of};
-ghost use Rattle.log_cursor.specs.Seek.{cell_among};
-ghost use Rattle.snapshots.specs.IndexCost.{position_cost_in};
-ghost use Rattle.snapshots.specs.Parts.{stops_in};
+ghost use Rattle.std.specs.Prelude.{◌≡◌};
 
 use crate::index::IndexRef;
 use crate::path_walk::PathWalk;
-use crate::periods::{Periods, last_of};
-use crate::placing::Placed;
-use log_cursor::seek;
-use snapshots::Stores;
+use crate::searching::{interval_of, slice_of};
+use nearest_search::nearest;
+use object_track::{Periods, cell_in, last_of};
 use std::alloc::Global;
 use std::sync::ledger::Ledger;
 use step_count::Steps;
-use track_types::{Answerer, Cell, Facts, Memory, Stop};
+use track_types::{Answerer, Cell, Facts, Hit, Memory, Near, Region, Sighting, Stop};
 
 impl<'a> Answerer for IndexRef<'a> {
     ghost use Rattle.snapshots.specs.Parts.{chart_in};
@@ -63,23 +58,36 @@ impl<'a> Answerer for IndexRef<'a> {
         let periods = Periods::met(stores, from, to);
         PathWalk::new(alloc, self.index, place, periods, from, to)
     }
-}
 
-// The cell of the object at a place, at an instant, by its block of a period.
-fn cell_in<L: Ledger>(
-    stores: &Stores,
-    place: u32,
-    period: u32,
-    instant: i64,
-    steps: &mut Steps<L>,
-) -> Option<Cell>
-    requires place { place < length stores.now.objects }
-    requires period { period < periods_of stores.now.frame }
-    ensures value { result ≡ cell_among (stops_in stores.now place period) instant }
-    ensures cost { steps.new
-        ≤ steps.old + position_cost_in stores.now (Some place) (Some period) }
-{
-    let block = stores.snapshot(period).find(place, steps)?;
-    let placed = Placed::new(stores, period, &block);
-    seek(placed.log, placed.start, instant, steps)
+    fn slice<L: Ledger>(
+        self,
+        alloc: Global,
+        instant: i64,
+        region: &Region,
+        steps: &mut Steps<L>,
+    ) -> Result<Vec<Sighting>, Memory> {
+        slice_of(alloc, self.index.stores(), instant, region, steps)
+    }
+
+    fn interval<L: Ledger>(
+        self,
+        alloc: Global,
+        from: i64,
+        to: i64,
+        region: &Region,
+        steps: &mut Steps<L>,
+    ) -> Result<Vec<Hit>, Memory> {
+        interval_of(alloc, self.index.stores(), (from, to), region, steps)
+    }
+
+    fn nearest<L: Ledger>(
+        self,
+        alloc: Global,
+        count: u32,
+        instant: i64,
+        cell: Cell,
+        steps: &mut Steps<L>,
+    ) -> Result<Vec<Near>, Memory> {
+        nearest(alloc, self.index.stores(), count, instant, cell, steps)
+    }
 }

@@ -3,7 +3,8 @@
 //! An `Index` keeps the stores of its parts and no rows. `IndexRef` answers questions as filtering
 //! the rows of the parts' chart does, within the reads that `specs/Cost.antt` counts. The crate
 //! stands on `track_types`, `gridding`, `spiral_code`, `packed_bits`, `k2_tree`, `bit_rank`,
-//! `object_perm`, `rule_store`, `log_cursor`, `snapshots`, `movement_log`, `repair_grammar`,
+//! `object_perm`, `rule_store`, `log_cursor`, `snapshots`, `object_track`, `region_test`,
+//! `slice_search`, `interval_search`, `nearest_search`, `movement_log`, `repair_grammar`,
 //! `chart_parts`, `index_format`, `step_count` and `list_laws`. (Its tests make their charts by
 //! `gridding`.)
 #![tactic(auto)]
@@ -12,8 +13,7 @@ mod answering;
 mod index;
 mod opening;
 mod path_walk;
-mod periods;
-mod placing;
+mod searching;
 #[cfg(test)]
 mod tests;
 

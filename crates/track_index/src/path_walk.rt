@@ -1,12 +1,11 @@
 ghost use Rattle.std.specs.Prelude.{◌≡◌, ◌++◌, ◌+◌, ◌≤◌, ◌<◌};
 ghost use Rattle.std.specs.Prelude.{[], length, IfNone, IfOk, option_to_list};
 ghost use Rattle.track_types.specs.Frame.{periods_of};
-ghost use Rattle.track_index.specs.Path.{cost_between, stops_between};
+ghost use Rattle.object_track.specs.Between.{cost_between, stops_between};
 
 use crate::index::Index;
-use crate::periods::Periods;
-use crate::placing::Placed;
 use log_cursor::BlockWalk;
+use object_track::{Periods, Placed};
 use std::alloc::Global;
 use std::marker::Model;
 use std::sync::ledger::Ledger;

@@ -3,19 +3,23 @@ ghost use Rattle.std.specs.Prelude.{◌≡◌, ◌<◌};
 use crate::{Index, IndexRef, open};
 use chart_parts::parts_of;
 use gridding::GridFault;
-use index_format::{FormatFault, encode};
+use index_format::{FormatFault, decode, encode};
 use std::alloc::Global;
 use std::marker::Brand;
 use std::sync::ledger::{Blank, Ledger};
 use std::test::Fail;
 use step_count::Steps;
-use track_types::{Answerer, Cell, Chart, Flaw, Kind, Lazy, Memory, Section, Stop};
+use track_types::{Answerer, Cell, Chart, Flaw, Kind, Lazy, Memory, Section, Sighting, Stop};
 
 mod charts;
 mod files;
+mod plain;
+mod searches;
 
 use charts::{FIRST, Place, Sample, cells_in, chart_of, sample_of, stops_in};
 use files::{FILE, damaged, four_billion_rows};
+use plain::{Bounds, rect};
+use searches::{WINDOWS, has_searches};
 
 // The cells of an object at all instants from the one before `FIRST` on, one after another.
 fn positions<L: Ledger>(
@@ -48,19 +52,6 @@ fn path<L: Ledger>(
     }
     Ok(stops)
 }
-
-// Windows of all instants, of the first one and the last ones, of some, of none, and outside.
-const WINDOWS: [(i32, i32); 9] = [
-    (-100, 100),
-    (FIRST, FIRST),
-    (FIRST + 1, 2),
-    (-2, 5),
-    (0, 0),
-    (3, 100),
-    (5, -2),
-    (-100, FIRST - 1),
-    (15, 100),
-];
 
 // Whether walks over the windows draw what looking through the rows finds.
 fn has_paths<L: Ledger>(
@@ -103,7 +94,7 @@ fn answers<L: Ledger>(
             return Ok(false);
         }
     }
-    Ok(true)
+    has_searches(alloc, index.view(), places, sample.behind, &mut steps)
 }
 
 // The cell of object 7 at instant 2, asked of the index of a chart, which was taken apart before.
@@ -251,6 +242,53 @@ fn damaged_bytes_are_refused_at_their_first_flaw(rt: HostRuntime) -> Result<(), 
     Ok(())
 }
 
+// The bytes that are written of the parts that bytes hold.
+fn rewritten(alloc: Global, bytes: &[u8]) -> Result<Vec<u8>, FormatFault> {
+    if bytes.len() > 1 << 30 {
+        return Err(FormatFault::Memory);
+    }
+    let parts = decode(alloc, bytes)?;
+    match encode(alloc, &parts) {
+        Ok(bytes) => Ok(bytes),
+        Err(Memory) => Err(FormatFault::Memory),
+    }
+}
+
+// The objects in a rect at an instant, asked of the index that bytes are opened as.
+fn seen<L: Ledger>(
+    rt: &HostRuntime,
+    bytes: &[u8],
+    bounds: Bounds,
+    instant: i32,
+    blank: Blank,
+) -> Result<Vec<Sighting>, FormatFault>
+    requires name { blank.name ≡ L.name }
+    requires parts { blank.parts ≡ L.parts }
+    requires some { 0 < L.parts }
+{
+    if bytes.len() > 1 << 30 {
+        return Err(FormatFault::Memory);
+    }
+    let mut steps = Steps::<L>::new(rt, blank);
+    let index = open(rt.alloc(), bytes, &mut steps)?;
+    let region = rect(bounds);
+    let instant = i64::from(instant);
+    match index.view().slice(rt.alloc(), instant, &region, &mut steps) {
+        Ok(found) => Ok(found),
+        Err(Memory) => Err(FormatFault::Memory),
+    }
+}
+
+// A thousand objects, all at (0, 0).
+fn thousand(alloc: Global) -> Result<Vec<Sighting>, Memory> {
+    let mut all = Vec::new(alloc);
+    for object in 0..1000u32 {
+        let cell = Cell { x: 0, y: 0 };
+        all.push(Sighting { object, cell })?;
+    }
+    Ok(all)
+}
+
 #[test]
 fn a_file_for_four_billion_rows_opens(rt: HostRuntime) -> Result<(), Fail> {
     let bytes = four_billion_rows(rt.alloc(), 21)?;
@@ -263,6 +301,12 @@ fn a_file_for_four_billion_rows_opens(rt: HostRuntime) -> Result<(), Fail> {
         stop(4194303, 0, 0),
     ];
     assert_eq!(rt; stops.as_slice(), last.as_slice());
+    let again = rewritten(rt.alloc(), bytes.as_slice())?;
+    assert!(rt; again == bytes);
+    let found = seen::<Brand>(&rt, bytes.as_slice(), (0, 0, 0, 0), 4194303, Blank::new(1))?;
+    assert!(rt; found == thousand(rt.alloc())?);
+    let none = seen::<Brand>(&rt, bytes.as_slice(), (5, 5, 6, 6), 4194303, Blank::new(1))?;
+    assert!(rt; none.is_empty());
     let doubled = four_billion_rows(rt.alloc(), 22)?;
     let too_long = flaw(Section::Rules, 21, Kind::Rule);
     assert_eq!(rt; flaw_of(&rt, doubled.as_slice()), too_long);

@@ -95,7 +95,7 @@ pub(super) fn sample_of(alloc: Global, seed: u64) -> Result<Sample, Memory> {
     })
 }
 
-fn cell(x: i32, y: i32) -> Cell {
+pub(super) fn cell(x: i32, y: i32) -> Cell {
     Cell {
         x: i64::from(x),
         y: i64::from(y),

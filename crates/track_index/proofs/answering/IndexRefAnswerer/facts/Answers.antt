@@ -1,6 +1,6 @@
 use Rattle.std.proofs.Common.{rules}
 use Rattle.track_index.specs.Facts.{facts_of}
-use Rattle.track_index.proofs.TableLemmas.{IsTable-chart_in}
+use Rattle.object_track.proofs.TableLemmas.{IsTable-chart_in}
 use Rattle.track_index.proofs.answering.IndexRefAnswerer.facts.Goals as goal
 
 pub returns-clause-value : goal.returns-clause-value

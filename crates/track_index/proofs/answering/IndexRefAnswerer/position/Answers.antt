@@ -7,8 +7,8 @@ use Rattle.snapshots.specs.IndexCost.{position_cost, position_cost_in}
 use Rattle.snapshots.specs.Parts.{index_in, period_in, stops_in}
 use Rattle.snapshots.specs.SoundParts.{IsValid}
 use Rattle.track_index.specs.Cost.{cost_of}
-use Rattle.track_index.proofs.ChartLemmas.{cell_at-known, cell_at-outside, cell_at-unknown, index_in-some}
-use Rattle.track_index.proofs.MetLemmas.{period_in-some}
+use Rattle.object_track.proofs.ChartLemmas.{cell_at-known, cell_at-outside, cell_at-unknown, index_in-some}
+use Rattle.object_track.proofs.MetLemmas.{period_in-some}
 use Rattle.track_index.proofs.answering.IndexRefAnswerer.position.Goals as goal
 
 -- what the stores say of the period is said of the index

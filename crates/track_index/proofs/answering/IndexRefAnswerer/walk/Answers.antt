@@ -7,8 +7,8 @@ use Rattle.log_cursor.specs.Walk.{WalkView}
 use Rattle.snapshots.specs.IndexCost.{path_cost}
 use Rattle.snapshots.specs.Parts.{chart_in, index_in}
 use Rattle.track_index.specs.Cost.{cost_of}
-use Rattle.track_index.proofs.ChartLemmas.{index_in-some, path_of-unknown}
-use Rattle.track_index.proofs.PathLemmas.{cost_between-none, cost_between-path, stops_between-path, stops_between-none}
+use Rattle.object_track.proofs.ChartLemmas.{index_in-some, path_of-unknown}
+use Rattle.object_track.proofs.BetweenLemmas.{cost_between-none, cost_between-path, stops_between-path, stops_between-none}
 use Rattle.track_index.proofs.answering.IndexRefAnswerer.walk.Goals as goal
 
 pub returns-in_default-clause-left : goal.returns-in_default-clause-left

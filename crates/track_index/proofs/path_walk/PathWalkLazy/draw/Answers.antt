@@ -1,8 +1,9 @@
 use Rattle.std.proofs.Common.{◌≡◌, ◌++◌, w64, to_z, of_z, arith, ap, ◌∙◌}
 use Rattle.std.proofs.lemmas.Int.{ints}
 use Rattle.rule_store.specs.Log.{log_of}
-use Rattle.track_index.specs.Path.{stops_between}
-use Rattle.track_index.proofs.PathLemmas.{drawing-absent, drawing-begun, stops_between-none}
+use Rattle.object_track.specs.Between.{stops_between}
+use Rattle.object_track.proofs.BetweenLemmas.{stops_between-none}
+use Rattle.track_index.proofs.PathLemmas.{drawing-absent, drawing-begun}
 use Rattle.track_index.proofs.path_walk.PathWalkLazy.draw.Goals as goal
 
 pub returns-then-self-clause-none : goal.returns-then-self-clause-none

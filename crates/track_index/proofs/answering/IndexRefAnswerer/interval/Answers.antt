@@ -1,0 +1,19 @@
+use Rattle.std.proofs.Common.{◌≡◌, ◌≤◌, ◌+◌, w64, to_z, of_z, arith, subst}
+use Rattle.std.proofs.lemmas.Int.{ints}
+use Rattle.track_types.specs.declared.parts.Parts.{Parts}
+use Rattle.interval_search.specs.Cost.{interval_cost}
+use Rattle.track_index.specs.Cost.{cost_of}
+use Rattle.track_index.proofs.answering.IndexRefAnswerer.interval.Goals as goal
+
+pub returns-clause-cost : goal.returns-clause-cost
+unfolding cost_of
+returns-clause-cost g c =
+    let parts : Parts = c.args.self.index.now in
+    let low : to_z w64 (of_z w64 c.args.from) ≡ c.args.from = omega (arith, ints) in
+    let high : to_z w64 (of_z w64 c.args.to) ≡ c.args.to = omega (arith, ints) in
+    subst (λ z. c.interval_of.new.steps ≤ c.args.steps.now + interval_cost parts z c.args.to c.args.region.now) low
+    (subst (λ z. c.interval_of.new.steps
+    ≤ c.args.steps.now + interval_cost parts (to_z w64 (of_z w64 c.args.from)) z c.args.region.now) high
+    (subst (λ (p : Parts). c.interval_of.new.steps
+    ≤ c.args.steps.now + interval_cost p (to_z w64 (of_z w64 c.args.from)) (to_z w64 (of_z w64 c.args.to)) c.args.region.now)
+    c.stores.ensures.value c.interval_of.ensures.cost))

@@ -1,0 +1,15 @@
+use Rattle.std.proofs.Common.{◌≡◌, ◌≤◌, ◌+◌, w64, to_z, of_z, arith, subst}
+use Rattle.std.proofs.lemmas.Int.{ints}
+use Rattle.track_types.specs.declared.parts.Parts.{Parts}
+use Rattle.slice_search.specs.Cost.{slice_cost}
+use Rattle.track_index.specs.Cost.{cost_of}
+use Rattle.track_index.proofs.answering.IndexRefAnswerer.slice.Goals as goal
+
+pub returns-clause-cost : goal.returns-clause-cost
+unfolding cost_of
+returns-clause-cost g c =
+    let same : to_z w64 (of_z w64 c.args.instant) ≡ c.args.instant = omega (arith, ints) in
+    subst (λ z. c.slice_of.new.steps ≤ c.args.steps.now + slice_cost c.args.self.index.now z c.args.region.now) same
+    (subst (λ (p : Parts). c.slice_of.new.steps
+    ≤ c.args.steps.now + slice_cost p (to_z w64 (of_z w64 c.args.instant)) c.args.region.now) c.stores.ensures.value
+    c.slice_of.ensures.cost)
