@@ -1,9 +1,12 @@
 -- The definitions, run on inputs that were worked out by hand.
 use Rattle.std.proofs.Common.{◌≡◌, pos, negsuc, [], ◌∷◌, codes, refl, Ok, Err, Some, None, replicate, ◌++◌}
 use Rattle.std.specs.Fmt.{digits}
+use Rattle.list_laws.specs.Ordered.{ordered, placed}
+use Rattle.track_types.specs.ByFilter.{hits_of, nearest_among, nears_at, nears_of, sightings_of}
 use Rattle.track_types.specs.Chart.{ChartView}
 use Rattle.track_types.specs.declared.facts.Facts.{Facts}
 use Rattle.track_types.specs.declared.question.Question.TheVariants as question
+use Rattle.track_types.specs.declared.region.Region.TheVariants as region
 use Rattle.question_shell.specs.Grammar.{question_of}
 use Rattle.question_shell.specs.Lines.{lines_of, unended_line, whole_lines, words_of}
 use Rattle.question_shell.specs.Replies.{costs_of, replies_of}
@@ -69,6 +72,40 @@ greatest_instant = refl
 instant_above : question_of (codes "position 0 2199023255553") ≡ Err (bad.Range 3)
 instant_above = refl
 
+slice_question : question_of (codes "slice -2 rect 0 1 2 3")
+    ≡ Ok (Some (question.Slice (negsuc 1) (region.Rect (pos 0) (pos 1) (pos 2) (pos 3))))
+slice_question = refl
+
+interval_question : question_of (codes "interval 1 2 disc -3 4 4398046511104")
+    ≡ Ok (Some (question.Interval (pos 1) (pos 2) (region.Disc (negsuc 2) (pos 4) 4398046511104)))
+interval_question = refl
+
+nearest_question : question_of (codes "nearest 3 2 0 -1")
+    ≡ Ok (Some (question.Nearest 3 (pos 2) (record { x = pos 0; y = negsuc 0 })))
+nearest_question = refl
+
+-- the word of a region's shape is judged before the number of words, and that before the numbers
+other_shape : question_of (codes "slice x ring") ≡ Err bad.Word
+other_shape = refl
+
+number_as_shape : question_of (codes "interval 0 rect 1 1 2 2") ≡ Err bad.Word
+number_as_shape = refl
+
+shape_missing : question_of (codes "slice x") ≡ Err bad.Count
+shape_missing = refl
+
+side_missing : question_of (codes "slice x rect 1 2 3") ≡ Err bad.Count
+side_missing = refl
+
+instant_bad : question_of (codes "slice x disc y 2 -3") ≡ Err (bad.Number 2)
+instant_bad = refl
+
+radius_below : question_of (codes "slice 0 disc 0 0 -1") ≡ Err (bad.Range 6)
+radius_below = refl
+
+radius_above : question_of (codes "slice 0 disc 0 0 4398046511105") ≡ Err (bad.Range 6)
+radius_above = refl
+
 -- a line of 1,025 bytes is too long where it has a word
 long_line : question_of (replicate 1024 32 ++ 120 ∷ []) ≡ Err bad.Long
 long_line = refl
@@ -94,6 +131,15 @@ replies_to_lines : (facts : Facts) →
     ≡ codes "10 -10\nok 1\nok 0\nbad word\n0 10 -10\n2 12 11\nok 2\nok 0\nbad number 2\n"
 unfolding chart digits replies_of listed whole_lines unended_line
 replies_to_lines facts = refl
+
+replies_to_regions : (facts : Facts) →
+    replies_of chart facts [] (lines_of
+    (codes "slice 2 rect 10 10 12 12\nslice 1 rect 0 0 99 99\ninterval 0 2 disc 10 -10 99\nnearest 2 0 7 -6\n"))
+    ≡ codes "7 12 11\nok 1\nok 0\n7 0 10 -10\nok 1\n7 10 -10 25\nok 1\n"
+unfolding
+    chart digits replies_of listed whole_lines unended_line sightings_of hits_of nears_of nears_at nearest_among
+    ordered placed
+replies_to_regions facts = refl
 
 -- the eleven facts of two objects over four instants
 facts_of_two : Facts

@@ -5,6 +5,8 @@ pub mod SaysLemmas
 pub mod ListingLemmas
 pub mod TurnLemmas
 pub mod CountLemmas
+pub mod DeskLemmas
 pub mod SessionLemmas
 pub mod RunLemmas
+pub mod BuoyLemmas
 mod Examples

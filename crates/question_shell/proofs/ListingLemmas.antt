@@ -1,5 +1,6 @@
 -- Saying the lines of a list, one after another.
 use Rattle.std.proofs.Common.{◌≡◌, ℕ, List, [], ◌∷◌, ◌++◌, length, refl, sym, ap, ◌∙◌, append_assoc, append-nil, Option, subst}
+use Rattle.std.proofs.Common.{Result, Ok, Err, IfOk}
 use Rattle.std.specs.List.{flat_map}
 use Rattle.question_shell.specs.Reply.{listed, ok_line}
 use Rattle.question_shell.specs.Says.{Cuts, Says, Voice}
@@ -46,3 +47,9 @@ says-listing line all left before now listing none =
     let same : listing.done ≡ flat_map line all =
     sym (listing.whole ∙ (ap (λ items. listing.done ++ flat_map line items) none ∙ append-nil listing.done)) in
     subst (λ (text : List ℕ). Says before now text) same listing.says
+
+-- what was found, where memory was had for it, has the reply that the same list has
+pub listed-found : {A B E : Type 0} (line : A → List ℕ) (items : B → List A) (all : List A) (found : Result B E) →
+    IfOk found (λ found. items found ≡ all) → IfOk found (λ found. listed line (items found) ≡ listed line all)
+listed-found line items all (Ok found) is = ap (listed line) is
+listed-found line items all (Err fault) is = tt

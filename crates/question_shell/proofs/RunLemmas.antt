@@ -11,7 +11,7 @@ use Rattle.question_shell.specs.Turns.{BytesTold, Heard, LinesTold, Moment, Turn
 use Rattle.question_shell.specs.declared.turn_fault.TurnFault.{TurnFault}
 use Rattle.question_shell.specs.declared.turn_fault.TurnFault.TheVariants as fault
 use Rattle.question_shell.proofs.SaysLemmas.{Appends-says}
-use Rattle.question_shell.proofs.SessionLemmas.{answers-turns, told-more}
+use Rattle.question_shell.proofs.SessionLemmas.{told-more}
 
 -- the moment of a run at which nothing is held back
 abbrev pub moment_of : Run → Moment
@@ -95,6 +95,7 @@ module _ (meaning : Meaning) (before now : Run) (bytes : List ℕ) (came : Came 
           taken = taken;
           lines = stopped.lines;
           stops = stopped.stops;
-          answers = answers-turns meaning before.rest now.rest before.said now.said before.taken now.taken before.steps
-              now.steps before.desk now.desk stopped.lines stopped.turns;
+          said = Appends-says before.said now.said _ stopped.said;
+          desk = stopped.desk;
+          reads = stopped.reads;
         }

@@ -129,8 +129,7 @@ module _ (meaning : Meaning) (start : Moment) where
       (front-one meaning between now last told))
   told-feed between now came line new (Err fault.Memory) told cleared heard =
       let last = unended_line came in
-      rw (whole_lines-feed came, told.1)
-      (stops-here meaning start between (whole_lines came) last heard.turns told.0)
+      rw (whole_lines-feed came) (stops-here meaning start between now (whole_lines came) last heard.turns told)
 
   -- what is told of some bytes after a refusal is told of more
   pub front-bytes : (now : Moment) (came more : List ℕ) → TurnsFront meaning start now (whole_lines came) →
@@ -161,7 +160,7 @@ module _ (meaning : Meaning) (start : Moment) where
       by_line [] (Err fault.Say) told =
           rw (append-nil (whole_lines came))
           (turns-cut meaning start between now (whole_lines came) heard.turns told.said (omega (arith, told.reads)))
-      by_line [] (Err fault.Memory) told = absurd (false≢true told.0)
+      by_line [] (Err fault.Memory) told = absurd (false≢true told.takes)
       by_line (byte ∷ last) (Ok done) told =
           turns-append meaning start between now (whole_lines came) ((byte ∷ last) ∷ []) heard.turns
           (turns-one meaning between now (byte ∷ last) told)
@@ -169,7 +168,7 @@ module _ (meaning : Meaning) (start : Moment) where
           front-append meaning start between now (whole_lines came) ((byte ∷ last) ∷ []) heard.turns
           (front-one meaning between now (byte ∷ last) told)
       by_line (byte ∷ last) (Err fault.Memory) told =
-          rw told.1 (stops-here meaning start between (whole_lines came) (byte ∷ last) heard.turns told.0)
+          stops-here meaning start between now (whole_lines came) (byte ∷ last) heard.turns told
 
   -- what is told of lines, after what was held back was said too
   pub rest-lines : (between : Moment) (now : Option (List ℕ)) (lines : List (List ℕ))

@@ -1,16 +1,20 @@
 -- Answering one line after another.
 use Rattle.std.proofs.Common.{◌≡◌, ℕ, ◌+◌, ◌≤◌, List, [], ◌∷◌, ◌++◌, refl, sym, ap, ◌∙◌, append_assoc}
-use Rattle.std.proofs.Common.{append-nil, Option, arith, subst}
-use Rattle.std.proofs.Common.{true}
+use Rattle.std.proofs.Common.{append-nil, Option, Result, Ok, Err, arith, subst, true}
 use Rattle.track_types.specs.Chart.{ChartView}
 use Rattle.track_types.specs.declared.facts.Facts.{Facts}
 use Rattle.track_types.specs.declared.question.Question.{Question}
 use Rattle.track_types.specs.declared.stop.Stop.{Stop}
 use Rattle.question_shell.specs.Grammar.{question_of}
 use Rattle.question_shell.specs.Replies.{costs_of, desk_after, replies_of, turn_of}
+use Rattle.question_shell.specs.Reply.{asked_cost, only_text}
 use Rattle.question_shell.specs.Says.{Cuts, Says}
 use Rattle.question_shell.specs.Session.{Meaning, costs_by, desk_by, replies_by, takes_memory}
-use Rattle.question_shell.specs.Turns.{Moment, Takes, TakesFront, Turns, TurnsBefore, TurnsFront, turn_by}
+use Rattle.question_shell.specs.Turns.{AnswerTold, Moment, Refused, ReplyTold, Takes, TakesFront, Turns, TurnsBefore}
+use Rattle.question_shell.specs.Turns.{TurnsFront, turn_by}
+use Rattle.question_shell.specs.declared.bad.Bad.{Bad}
+use Rattle.question_shell.specs.declared.turn_fault.TurnFault.{TurnFault}
+use Rattle.question_shell.specs.declared.turn_fault.TurnFault.TheVariants as fault
 use Rattle.question_shell.proofs.SaysLemmas.{cuts-append, cuts-more, says-append, says-nothing}
 
 -- the desk after some lines and then others
@@ -143,7 +147,9 @@ module _ (meaning : Meaning) (before : Moment) where
           ∙ append_assoc stopped.lines (stopped.stops.line ∷ stopped.stops.behind) more;
       takes = stopped.stops.takes;
     };
-    turns = stopped.turns;
+    said = stopped.said;
+    desk = stopped.desk;
+    reads = stopped.reads;
   }
 
   -- what was held back is said
@@ -171,28 +177,63 @@ module _ (meaning : Meaning) (before : Moment) where
         reads = omega (arith, turns.reads, due);
       }
 
+  -- the lines before one that takes memory, without their reads
+  front_of : (between : Moment) (all : List (List ℕ)) → (stopped : TurnsBefore meaning before between all) →
+      Turns meaning before (record between { due = 0 }) stopped.lines
+  front_of between all stopped = record { said = stopped.said; desk = stopped.desk; reads = omega arith }
+
   pub before-say : (between now : Moment) (all : List (List ℕ)) → TurnsBefore meaning before between all →
       Says between.voice now.voice [] → now.desk ≡ between.desk → now.due ≤ between.due →
       TurnsBefore meaning before now all
-  before-say between now all stopped says desk due = record {
-    lines = stopped.lines;
-    stops = stopped.stops;
-    turns = turns-say between now stopped.lines stopped.turns says desk due;
-  }
+  before-say between now all stopped says desk due =
+      let turns = turns-say (record between { due = 0 }) (record now { due = 0 }) stopped.lines (front_of between all stopped)
+      says desk (omega arith) in
+      record {
+        lines = stopped.lines;
+        stops = stopped.stops;
+        said = turns.said;
+        desk = turns.desk;
+        reads = omega (arith, stopped.reads, due);
+      }
 
   pub before-cut : (between now : Moment) (all : List (List ℕ)) → TurnsBefore meaning before between all →
       Cuts between.voice now.voice.said [] → now.due ≤ between.due → TurnsFront meaning before now all
   before-cut between now all stopped cuts due =
+      let first = turns-cut (record between { due = 0 }) (record now { due = 0 }) stopped.lines
+      (front_of between all stopped) cuts (omega arith) in
+      let lines = stopped.lines ++ stopped.stops.line ∷ [] in
+      let more = front-more (record now { due = 0 }) stopped.lines (stopped.stops.line ∷ []) first in
+      let front : TurnsFront meaning before now lines =
+      record { said = more.said; reads = omega (arith, stopped.reads, due) } in
       let P : List (List ℕ) → Type 0 = λ lines. TurnsFront meaning before now lines in
-      subst P (sym stopped.stops.split)
-      (front-more now stopped.lines (stopped.stops.line ∷ stopped.stops.behind)
-      (turns-cut between now stopped.lines stopped.turns cuts due))
+      subst P (append_assoc stopped.lines (stopped.stops.line ∷ []) stopped.stops.behind ∙ sym stopped.stops.split)
+      (front-more now lines stopped.stops.behind front)
 
-  -- a line that takes memory, after lines that were answered
-  pub stops-here : (between : Moment) (lines : List (List ℕ)) (line : List ℕ) → Turns meaning before between lines →
-      takes_memory (question_of line) ≡ true → TurnsBefore meaning before between (lines ++ line ∷ [])
-  stops-here between lines line turns takes = record {
+  -- memory was refused to a line, after lines that were answered
+  pub stops-here : (between now : Moment) (lines : List (List ℕ)) (line : List ℕ) →
+      Turns meaning before between lines → Refused meaning between now (question_of line) →
+      TurnsBefore meaning before now (lines ++ line ∷ [])
+  unfolding costs_of
+  stops-here between now lines line turns refused = record {
     lines = lines;
-    stops = record { line = line; behind = []; split = refl; takes = takes };
-    turns = turns;
+    stops = record { line = line; behind = []; split = refl; takes = refused.takes };
+    said = rw refused.voice turns.said;
+    desk = refused.desk ∙ turns.desk;
+    reads = omega (
+      arith,
+      turns.reads,
+      refused.reads,
+      costs_of-append meaning.cost meaning.chart meaning.facts before.desk lines (line ∷ []),
+    );
   }
+
+  -- what is told of a reply is told of the answer to a question that it answers and that may take memory
+  pub told-reply : (now : Moment) (asked : Result (Option Question) Bad) (text : List ℕ)
+      (result : Result Unit TurnFault) → turn_by meaning before asked ≡ only_text before.desk text →
+      takes_memory asked ≡ true → now.desk ≡ before.desk → now.due ≤ before.due + asked_cost meaning.cost asked →
+      ReplyTold before.voice now.voice text result → AnswerTold meaning before now asked result
+  told-reply now asked text (Ok done) turn takes desk reads told =
+      record { said = rw turn told; desk = rw turn desk; reads = reads }
+  told-reply now asked text (Err fault.Say) turn takes desk reads told = record { said = rw turn told; reads = reads }
+  told-reply now asked text (Err fault.Memory) turn takes desk reads told =
+      record { takes = takes; voice = told; desk = desk; reads = reads }

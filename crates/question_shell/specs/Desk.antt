@@ -1,5 +1,6 @@
 -- The desk: 16 places for held walks.
-use Rattle.std.specs.Prelude.{ℕ, List, map, replicate, Option, None, option_map}
+use Rattle.std.specs.Prelude.{ℕ, Bool, List, [], map, replicate, Option, None, option_map, is_some}
+use Rattle.std.specs.Prelude.{slice_index_or}
 use Rattle.std.specs.Option.{option_map_or}
 use Rattle.std.specs.List.{sum_by}
 use Rattle.track_types.specs.declared.stop.Stop.{Stop}
@@ -19,3 +20,19 @@ held_of desk = map (option_map (λ walk. walk.0)) desk
 -- how many reads the walks in the places may still make
 abbrev pub budget_of : DeskView → ℕ
 budget_of desk = sum_by (λ place. option_map_or (λ walk. walk.1) place 0) desk
+
+-- what a place holds; nothing where it is empty
+abbrev pub place_of : DeskView → ℕ → Option (List Stop × ℕ)
+place_of desk slot = slice_index_or desk slot None
+
+-- whether a place holds a walk
+abbrev pub is_held_in : DeskView → ℕ → Bool
+is_held_in desk slot = is_some (place_of desk slot)
+
+-- the stops that are left in a place; none where it is empty
+abbrev pub stops_in : DeskView → ℕ → List Stop
+stops_in desk slot = option_map_or (λ walk. walk.0) (place_of desk slot) []
+
+-- how many reads the walk in a place may still make; 0 where it is empty
+abbrev pub budget_in : DeskView → ℕ → ℕ
+budget_in desk slot = option_map_or (λ walk. walk.1) (place_of desk slot) 0

@@ -3,12 +3,15 @@ use Rattle.std.specs.Prelude.{ℕ, ℤ, pos, List, [], ◌∷◌, ◌++◌, leng
 use Rattle.std.specs.Prelude.{option_to_list}
 use Rattle.std.specs.List.{flat_map}
 use Rattle.std.specs.Fmt.{decimal, signed_decimal}
-use Rattle.track_types.specs.ByFilter.{cell_at, path_of}
+use Rattle.track_types.specs.ByFilter.{cell_at, hits_of, nears_of, path_of, sightings_of}
 use Rattle.track_types.specs.Chart.{ChartView}
 use Rattle.track_types.specs.declared.cell.Cell.{Cell}
 use Rattle.track_types.specs.declared.facts.Facts.{Facts}
+use Rattle.track_types.specs.declared.hit.Hit.{Hit}
+use Rattle.track_types.specs.declared.near.Near.{Near}
 use Rattle.track_types.specs.declared.question.Question.{Question}
 use Rattle.track_types.specs.declared.question.Question.TheVariants as question
+use Rattle.track_types.specs.declared.sighting.Sighting.{Sighting}
 use Rattle.track_types.specs.declared.stop.Stop.{Stop}
 use Rattle.question_shell.specs.declared.bad.Bad.{Bad}
 use Rattle.question_shell.specs.declared.bad.Bad.TheVariants as bad
@@ -24,6 +27,27 @@ cell_line cell = said_line (signed_decimal cell.x ++ codes " " ++ signed_decimal
 -- T X Y
 abbrev pub stop_line : Stop → List ℕ
 stop_line stop = signed_decimal stop.instant ++ codes " " ++ cell_line stop.cell
+
+-- O X Y
+abbrev pub sighting_line : Sighting → List ℕ
+sighting_line sighting = decimal sighting.object ++ codes " " ++ cell_line sighting.cell
+
+-- O T X Y
+abbrev pub hit_line : Hit → List ℕ
+hit_line hit =
+    decimal hit.object ++ codes " " ++ signed_decimal hit.instant ++ codes " " ++ cell_line hit.cell
+
+-- O X Y D2
+abbrev pub near_line : Near → List ℕ
+near_line near = said_line (
+    decimal near.object
+    ++ codes " "
+    ++ signed_decimal near.cell.x
+    ++ codes " "
+    ++ signed_decimal near.cell.y
+    ++ codes " "
+    ++ decimal near.dist2
+    )
 
 -- what `info` tells of each fact: its name and its number
 abbrev pub named_facts : Facts → List (List ℕ × ℤ)
@@ -74,15 +98,18 @@ pub record Turn : Type 0 where
 abbrev pub only_text : List (Option (List Stop)) → List ℕ → Turn
 only_text desk text = record { text = text; desk = desk }
 
--- what a question brings; one that has no words yet is said to be of a bad word
+-- what a question brings; one that no words ask is said to be of a bad word
 abbrev pub question_turn : ChartView → Facts → List (Option (List Stop)) → Question → Turn
 question_turn chart facts desk (question.Position object instant) =
     only_text desk (listed cell_line (option_to_list (cell_at chart.rows object instant)))
 question_turn chart facts desk (question.Path object from to) =
     only_text desk (listed stop_line (path_of chart.rows object from to))
-question_turn chart facts desk (question.Slice instant region) = only_text desk (bad_line bad.Word)
-question_turn chart facts desk (question.Interval from to region) = only_text desk (bad_line bad.Word)
-question_turn chart facts desk (question.Nearest count instant cell) = only_text desk (bad_line bad.Word)
+question_turn chart facts desk (question.Slice instant region) =
+    only_text desk (listed sighting_line (sightings_of chart.rows instant region))
+question_turn chart facts desk (question.Interval from to region) =
+    only_text desk (listed hit_line (hits_of chart.rows from to region))
+question_turn chart facts desk (question.Nearest count instant cell) =
+    only_text desk (listed near_line (nears_of chart.rows count instant cell))
 question_turn chart facts desk question.Info = only_text desk (listed fact_line (named_facts facts))
 question_turn chart facts desk (question.Hold slot object from to) = only_text desk (bad_line bad.Word)
 question_turn chart facts desk (question.More slot count) = only_text desk (bad_line bad.Word)

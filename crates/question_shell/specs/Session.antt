@@ -1,5 +1,5 @@
 -- What came from a source, what was said for it, and what was read.
-use Rattle.std.specs.Prelude.{◌≡◌, ℕ, ◌+◌, ◌≤◌, Bool, true, false, List, ◌∷◌, ◌++◌, ◌⊎◌, length, take}
+use Rattle.std.specs.Prelude.{◌≡◌, ℕ, ◌+◌, ◌≤◌, Bool, true, false, List, [], ◌∷◌, ◌++◌, ◌⊎◌, length, take}
 use Rattle.std.specs.Prelude.{Option, Some, None}
 use Rattle.std.specs.Prelude.{Result, Ok, Err}
 use Rattle.std.specs.Io.KnownBytes.{Appends, Consumes, IsAtEnd}
@@ -91,9 +91,9 @@ abbrev pub takes_memory : Result (Option Question) Bad → Bool
 takes_memory (Ok None) = false
 takes_memory (Ok (Some (question.Position object instant))) = false
 takes_memory (Ok (Some (question.Path object from to))) = true
-takes_memory (Ok (Some (question.Slice instant region))) = false
-takes_memory (Ok (Some (question.Interval from to region))) = false
-takes_memory (Ok (Some (question.Nearest count instant cell))) = false
+takes_memory (Ok (Some (question.Slice instant region))) = true
+takes_memory (Ok (Some (question.Interval from to region))) = true
+takes_memory (Ok (Some (question.Nearest count instant cell))) = true
 takes_memory (Ok (Some question.Info)) = false
 takes_memory (Ok (Some (question.Hold slot object from to))) = false
 takes_memory (Ok (Some (question.More slot count))) = false
@@ -111,7 +111,8 @@ pub record StopsAt (lines before : List (List ℕ)) : Type 0 where
 abbrev pub AreTaken : Option (List ℕ) → List ℕ → List (List ℕ) → Type 0
 AreTaken rest bytes lines = (lines ≡ whole_lines bytes) ⊎ (IsAtEnd rest × (lines ≡ lines_of bytes))
 
--- The lines before one that takes memory were answered, and no other.
+-- The lines before one that takes memory were answered, and no other: exactly their replies were said, the desk is the
+-- one after them, and no more was read than they and that line cost.
 pub record AnswersBefore (meaning : Meaning) (before now : Run) : Type 0 where
   pub bytes : List ℕ
   pub came : Came before now bytes
@@ -120,7 +121,11 @@ pub record AnswersBefore (meaning : Meaning) (before now : Run) : Type 0 where
   pub taken : AreTaken now.rest bytes all
   pub lines : List (List ℕ)
   pub stops : StopsAt all lines
-  pub answers : Answers meaning before now lines
+  pub said : Appends before.said now.said (replies_by meaning (held_of before.desk) lines)
+  pub desk : held_of now.desk ≡ desk_by meaning (held_of before.desk) lines
+  pub reads : now.steps + budget_of now.desk
+      ≤ before.steps + budget_of before.desk
+      + costs_by meaning (held_of before.desk) (lines ++ stops.line ∷ [])
 
 -- All that came before a last piece of at most 4,096 bytes was answered when that piece came: the replies to its whole
 -- lines were said, and then some text more.

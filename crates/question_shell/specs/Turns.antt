@@ -1,5 +1,5 @@
 -- What one line after another brings, while text is held back.
-use Rattle.std.specs.Prelude.{◌≡◌, ℕ, ◌+◌, ◌≤◌, List, [], Option, Result, Ok, Err, true}
+use Rattle.std.specs.Prelude.{◌≡◌, ℕ, ◌+◌, ◌≤◌, List, [], ◌∷◌, ◌++◌, Option, Result, Ok, Err, true}
 use Rattle.track_types.specs.declared.question.Question.{Question}
 use Rattle.track_types.specs.declared.stop.Stop.{Stop}
 use Rattle.question_shell.specs.Desk.{DeskView, budget_of, held_of}
@@ -38,6 +38,13 @@ pub record TakesFront (meaning : Meaning) (before now : Moment) (asked : Result 
   pub said : Cuts before.voice now.voice.said (turn_by meaning before asked).text
   pub reads : now.due ≤ before.due + asked_cost meaning.cost asked
 
+-- Memory was refused to the answer: nothing was said, and no more was read than it may cost.
+pub record Refused (meaning : Meaning) (before now : Moment) (asked : Result (Option Question) Bad) : Type 0 where
+  pub takes : takes_memory asked ≡ true
+  pub voice : now.voice ≡ before.voice
+  pub desk : now.desk ≡ before.desk
+  pub reads : now.due ≤ before.due + asked_cost meaning.cost asked
+
 -- Lines were answered.
 pub record Turns (meaning : Meaning) (before now : Moment) (lines : List (List ℕ)) : Type 0 where
   pub said : Says before.voice now.voice (replies_by meaning before.desk lines)
@@ -49,23 +56,30 @@ pub record TurnsFront (meaning : Meaning) (before now : Moment) (lines : List (L
   pub said : Cuts before.voice now.voice.said (replies_by meaning before.desk lines)
   pub reads : now.due ≤ before.due + costs_by meaning before.desk lines
 
--- The lines before one that takes memory were answered.
+-- The lines before one that takes memory were answered, and no more was read than they and that line cost.
 pub record TurnsBefore (meaning : Meaning) (before now : Moment) (all : List (List ℕ)) : Type 0 where
   pub lines : List (List ℕ)
   pub stops : StopsAt all lines
-  pub turns : Turns meaning before now lines
+  pub said : Says before.voice now.voice (replies_by meaning before.desk lines)
+  pub desk : now.desk ≡ desk_by meaning before.desk lines
+  pub reads : now.due ≤ before.due + costs_by meaning before.desk (lines ++ stops.line ∷ [])
 
 -- The whole lines of the bytes that came were answered, and the line that is coming is kept.
 pub record Heard (meaning : Meaning) (before now : Moment) (came : List ℕ) (line : LineKept) : Type 0 where
   pub turns : Turns meaning before now (whole_lines came)
   pub kept : line ≡ kept_of (unended_line came)
 
--- What is told of an answer to what a line asks: it was given, a front of it was said, or memory was refused and
--- nothing changed.
+-- What is told of an answer to what a line asks: it was given, a front of it was said, or memory was refused.
 abbrev pub AnswerTold : Meaning → Moment → Moment → Result (Option Question) Bad → Result Unit TurnFault → Type 0
 AnswerTold meaning before now asked (Ok done) = Takes meaning before now asked
 AnswerTold meaning before now asked (Err fault.Say) = TakesFront meaning before now asked
-AnswerTold meaning before now asked (Err fault.Memory) = (takes_memory asked ≡ true) × (now ≡ before)
+AnswerTold meaning before now asked (Err fault.Memory) = Refused meaning before now asked
+
+-- What is told of a reply that takes memory: it was said, or a front of it, or memory was refused and nothing was said.
+abbrev pub ReplyTold : Voice → Voice → List ℕ → Result Unit TurnFault → Type 0
+ReplyTold before now text (Ok done) = Says before now text
+ReplyTold before now text (Err fault.Say) = Cuts before now.said text
+ReplyTold before now text (Err fault.Memory) = now ≡ before
 
 -- What is told of the reply to a bad line: it was said, or a front of it.
 abbrev pub BadTold : Voice → Voice → Bad → Result Unit TurnFault → Type 0

@@ -1,26 +1,27 @@
-ghost use Rattle.std.specs.Prelude.{◌≡◌, ◌≢◌, ℕ, ◌≤◌, IfOk, IfSome, Some, Ok, Err};
+ghost use Rattle.std.specs.Prelude.{◌≡◌, ◌≢◌, ℕ, ◌≤◌, List, IfOk, IfSome, Some, Ok, Err};
 ghost use Rattle.host_ports.specs.Faults.{Rose};
 ghost use Rattle.track_types.specs.Near.{IsAsked};
 ghost use Rattle.track_types.specs.declared.question.Question.TheVariants as question;
 ghost use Rattle.question_shell.specs.Desk.{DeskView};
 ghost use Rattle.question_shell.specs.Grammar.{AreAsked};
+ghost use Rattle.question_shell.specs.Reply.{listed};
 ghost use Rattle.question_shell.specs.Says.{voice};
 ghost use Rattle.question_shell.specs.Session.{meaning_of};
-ghost use Rattle.question_shell.specs.Turns.{AnswerTold, BadTold, moment};
+ghost use Rattle.question_shell.specs.Turns.{AnswerTold, BadTold, ReplyTold, moment};
 ghost use Rattle.question_shell.specs.declared.turn_fault.TurnFault.TheVariants as fault;
 
 use crate::bad::Bad;
 use crate::held_text::HeldText;
-use crate::reply::bad_line;
-use crate::saying::{say_cell, say_facts, say_path};
+use crate::reply::{Found, bad_line};
+use crate::saying::{say_cell, say_facts, say_found, say_path};
 use crate::turn_fault::TurnFault;
 use host_ports::Sink;
 use std::alloc::Global;
 use std::sync::ledger::Ledger;
 use step_count::Steps;
-use track_types::{Answerer, Question};
+use track_types::{Answerer, Memory, Question};
 
-// Answers what a line asks. Only a walk takes memory, and it is made before anything is said.
+// Answers what a line asks. Walks and lists take memory, and are made before anything is said.
 pub(crate) fn answer<A: Answerer, K: Sink, L: Ledger>(
     alloc: Global,
     answerer: A,
@@ -46,6 +47,26 @@ pub(crate) fn answer<A: Answerer, K: Sink, L: Ledger>(
         Ok(Some(Question::Path { object, from, to })) => {
             answer_path(alloc, answerer, object, (from, to), text, sink, steps)
         }
+        Ok(Some(Question::Slice { instant, region })) => {
+            let found = answerer.slice(alloc, instant, &region, steps);
+            answer_found(found, text, sink)
+        }
+        Ok(Some(Question::Interval { from, to, region })) => {
+            let found = answerer.interval(alloc, from, to, &region, steps);
+            answer_found(found, text, sink)
+        }
+        Ok(
+            Some(
+                Question::Nearest {
+                    count,
+                    instant,
+                    cell,
+                },
+            ),
+        ) => {
+            let found = answerer.nearest(alloc, count, instant, cell, steps);
+            answer_found(found, text, sink)
+        }
         Ok(Some(Question::Info)) => answer_info(answerer, text, sink),
         Ok(Some(_)) => answer_bad(Bad::Word, text, sink),
         Err(bad) => answer_bad(bad, text, sink),
@@ -60,6 +81,28 @@ fn answer_bad<K: Sink>(bad: Bad, text: &mut HeldText, sink: &mut K) -> Result<()
     ensures faults { K.faults sink.old ≤ K.faults sink.new }
 {
     let Ok(()) = text.put(&bad_line(bad), sink) else {
+        return Err(TurnFault::Say);
+    };
+    Ok(())
+}
+
+// Says what was found, unless there was no memory for it.
+fn answer_found<T: Found + Drop, K: Sink>(
+    found: Result<Vec<T>, Memory>,
+    text: &mut HeldText,
+    sink: &mut K,
+) -> Result<(), TurnFault>
+    ensures told { (reply : List ℕ) → IfOk found (λ found. listed T.line found.items ≡ reply) →
+        ReplyTold (voice (K.said sink.old) text.old) (voice (K.said sink.new) text.new)
+        reply result }
+    ensures cause { result ≡ Err fault.Say → Rose (K.faults sink.old) (K.faults sink.new) }
+    ensures untouched { result ≢ Err fault.Say → K.faults sink.new ≡ K.faults sink.old }
+    ensures faults { K.faults sink.old ≤ K.faults sink.new }
+{
+    let Ok(found) = found else {
+        return Err(TurnFault::Memory);
+    };
+    let Ok(()) = say_found(found.as_slice(), text, sink) else {
         return Err(TurnFault::Say);
     };
     Ok(())

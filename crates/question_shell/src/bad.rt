@@ -7,7 +7,7 @@ use std::fmt::{self, Display, Formatter, Write};
 pub enum Bad {
     /// The line has a word, and more than 1,024 bytes.
     Long,
-    /// The first word names no question.
+    /// The first word names no question, or a region's first word names no shape.
     Word,
     /// The question has another number of words.
     Count,
@@ -21,7 +21,10 @@ impl Display for Bad {
     fn fmt<W: Write>(&self, f: &mut Formatter<W>) -> fmt::Result {
         match self {
             Bad::Long => write!(f, "the line is too long"),
-            Bad::Word => write!(f, "the first word names no question"),
+            Bad::Word => write!(
+                f,
+                "the first word names no question, or a region's no shape"
+            ),
             Bad::Count => write!(f, "the question has another number of words"),
             Bad::Number(place) => write!(f, "word {place} is no whole number"),
             Bad::Range(place) => write!(f, "word {place} is out of its range"),

@@ -1,8 +1,12 @@
-ghost use Rattle.std.specs.Prelude.{◌≡◌, IfOk};
-ghost use Rattle.question_shell.specs.Desk.{empty_desk};
+ghost use Rattle.std.specs.Prelude.{◌≡◌, ◌+◌, ◌++◌, ◌<◌, ◌≤◌, [], IfNone, IfOk, None, Some, length};
+ghost use Rattle.std.specs.Prelude.{option_map, option_to_list, slice_set};
+ghost use Rattle.question_shell.specs.Desk.{budget_in, empty_desk, is_held_in, place_of};
+ghost use Rattle.question_shell.specs.Desk.{stops_in};
 
 use std::alloc::Global;
 use std::marker::Model;
+use std::sync::ledger::Ledger;
+use step_count::Steps;
 use track_types::{Lazy, Memory, Stop};
 
 /// How many walks a desk can hold.
@@ -35,5 +39,51 @@ impl<W: Lazy<Item = Stop> + Drop> Desk<W> {
             places.push(None)?;
         }
         Ok(Desk { places })
+    }
+    /// Whether the place of this slot holds a walk. A desk has 16 places.
+    pub fn is_held(&self, slot: u8) -> bool
+        requires { slot < 16 }
+        ensures value { result ≡ is_held_in self.now slot }
+        ensures places { length self.now ≡ 16 }
+    {
+        self.places[slot as usize].is_some()
+    }
+
+    /// Puts a walk into the empty place of this slot. The other places stay.
+    pub fn hold(&mut self, slot: u8, walk: W)
+        requires slot { slot < 16 }
+        requires empty { place_of self.old slot ≡ None }
+        ensures { self.new ≡ slice_set self.old slot (Some (W.left walk, W.budget walk)) }
+    {
+        self.places[slot as usize] = Some(walk);
+    }
+
+    /// Takes the first stop off the walk in the place of this slot and answers it, or `None` exactly
+    /// where the place is empty or its walk has no stop left. A walk that has ended stays held. What is
+    /// read is taken from the budget of that walk, and the other places stay.
+    pub fn draw<L: Ledger>(&mut self, slot: u8, steps: &mut Steps<L>) -> Option<Stop>
+        requires { slot < 16 }
+        ensures found { stops_in self.old slot ≡ option_to_list result ++ stops_in self.new slot }
+        ensures none { IfNone result (stops_in self.old slot ≡ []) }
+        ensures cost { steps.new + budget_in self.new slot
+            ≤ steps.old + budget_in self.old slot }
+        ensures held { is_held_in self.new slot ≡ is_held_in self.old slot }
+        ensures others { self.new ≡ slice_set self.old slot (place_of self.new slot) }
+    {
+        let Some(walk) = &mut self.places[slot as usize] else {
+            return None;
+        };
+        walk.draw(steps)
+    }
+
+    /// Empties the place of this slot and answers the walk that it held, `None` exactly where it was
+    /// empty. The other places stay.
+    pub fn release(&mut self, slot: u8) -> Option<W>
+        requires { slot < 16 }
+        ensures walk { option_map (λ walk. (W.left walk, W.budget walk)) result
+            ≡ place_of self.old slot }
+        ensures emptied { self.new ≡ slice_set self.old slot None }
+    {
+        self.places[slot as usize].take()
     }
 }

@@ -1,22 +1,22 @@
 ghost use Rattle.std.specs.Prelude.{◌≡◌, ◌==◌, ◌≤◌, IfOk, IfErr, IfSome, Some, None, length};
+ghost use Rattle.track_types.specs.Region.{IsRegionAsked};
 ghost use Rattle.question_shell.specs.Grammar.{AreAsked, AreInRange, IsInRange, asked_by};
-ghost use Rattle.question_shell.specs.Grammar.{first_fault, form_question, number_words};
-ghost use Rattle.question_shell.specs.Grammar.{numbers_of};
-ghost use Rattle.question_shell.specs.Grammar.{question_of, value_of, word_fault};
+ghost use Rattle.question_shell.specs.Grammar.{first_fault, form_question, form_words};
+ghost use Rattle.question_shell.specs.Grammar.{number_of, numbers_of, question_of};
+ghost use Rattle.question_shell.specs.Grammar.{region_by, region_words, word_fault};
 ghost use Rattle.question_shell.specs.Lines.{words_of};
-ghost use Rattle.track_types.specs.Numeral.{numeral_of};
 
 use crate::bad::Bad;
-use crate::form::{Form, MOST_NUMBERS, NumberWord};
-use crate::words::next_word;
+use crate::form::{Form, FormWord, MOST_WORDS, Shape};
+use crate::words::{next_word, skip_words};
 use arrayvec::ArrayVec;
-use track_types::{NumberFault, Question, number_within};
+use track_types::{Cell, NumberFault, Question, Region, number_within};
 
 /// How many bytes a question line may have, without its line feed.
 pub(crate) const LONGEST_LINE: usize = 1024;
 
-/// The numbers of a question, in the order of its words.
-type Numbers = ArrayVec<i64, MOST_NUMBERS>;
+/// The numbers of a question, one for each word after its first: 0 for what names a shape.
+type Numbers = ArrayVec<i64, MOST_WORDS>;
 
 /// Reads a question line, without its line feed: `Ok(None)` exactly where it has no word, however
 /// long it is, else what it asks, or the first thing that is wrong with it.
@@ -30,9 +30,7 @@ pub fn read_question(line: &[u8]) -> Result<Option<Question>, Bad>
     if line.len() > LONGEST_LINE {
         return Err(Bad::Long);
     }
-    let Some(form) = Form::named(first) else {
-        return Err(Bad::Word);
-    };
+    let form = Form::named(first, rest)?;
     Ok(Some(read_form(form, rest)?))
 }
 
@@ -41,7 +39,7 @@ fn read_form(form: Form, line: &[u8]) -> Result<Question, Bad>
     ensures value { result ≡ form_question form (words_of line.now) }
     ensures asked { IfOk result AreAsked }
 {
-    let wanted = form.number_words();
+    let wanted = form.words();
     if !has_words(line, wanted.len()) {
         return Err(Bad::Count);
     }
@@ -53,22 +51,19 @@ fn read_form(form: Form, line: &[u8]) -> Result<Question, Bad>
 fn has_words(line: &[u8], count: usize) -> bool
     ensures { result ≡ (length (words_of line.now) == count) }
 {
-    let mut rest = line;
-    for _ in 0..count {
-        let Some((_, after)) = next_word(rest) else {
-            return false;
-        };
-        rest = after;
-    }
+    let Some(rest) = skip_words(line, count) else {
+        return false;
+    };
     next_word(rest).is_none()
 }
 
-// Reads the number words of a line that has as many words, the second and later ones of a question.
-fn read_numbers(wanted: &[NumberWord], line: &[u8]) -> Result<Numbers, Bad>
-    requires few { length wanted.now ≤ 3 }
+// Reads the words of a line that has as many, the second and later ones of a question.
+fn read_numbers(wanted: &[FormWord], line: &[u8]) -> Result<Numbers, Bad>
+    requires few { length wanted.now ≤ 7 }
     requires as_many { length (words_of line.now) ≡ length wanted.now }
     ensures none { IfOk result (λ _. first_fault wanted.now 2 (words_of line.now) ≡ None) }
-    ensures value { IfOk result (λ numbers. numbers.items ≡ numbers_of (words_of line.now)) }
+    ensures value { IfOk result (λ numbers.
+        numbers.items ≡ numbers_of wanted.now (words_of line.now)) }
     ensures ranges { IfOk result (λ numbers. AreInRange wanted.now numbers.items) }
     ensures err { IfErr result (λ bad. first_fault wanted.now 2 (words_of line.now) ≡ Some bad) }
 {
@@ -84,14 +79,17 @@ fn read_numbers(wanted: &[NumberWord], line: &[u8]) -> Result<Numbers, Bad>
     Ok(numbers)
 }
 
-// Reads the number word at a place of a line.
-fn read_number(wanted: NumberWord, word: &[u8], place: u32) -> Result<i64, Bad>
+// Reads the word at a place of a line.
+fn read_number(wanted: FormWord, word: &[u8], place: u32) -> Result<i64, Bad>
     ensures none { IfOk result (λ _. word_fault wanted place word.now ≡ None) }
-    ensures value { IfOk result (λ number. number ≡ value_of (numeral_of word.now)) }
+    ensures value { IfOk result (λ number. number ≡ number_of wanted word.now) }
     ensures range { IfOk result (IsInRange wanted) }
     ensures err { IfErr result (λ bad. word_fault wanted place word.now ≡ Some bad) }
 {
-    match number_within(word, wanted.least, wanted.greatest) {
+    let FormWord::Number { least, greatest } = wanted else {
+        return Ok(0);
+    };
+    match number_within(word, least, greatest) {
         Ok(number) => Ok(number),
         Err(NumberFault::NotNumber) => Err(Bad::Number(place)),
         Err(NumberFault::Range) => Err(Bad::Range(place)),
@@ -100,7 +98,7 @@ fn read_number(wanted: NumberWord, word: &[u8], place: u32) -> Result<i64, Bad>
 
 // What a form with its numbers asks.
 fn question(form: Form, numbers: &[i64]) -> Question
-    requires { AreInRange (number_words form) numbers.now }
+    requires { AreInRange (form_words form) numbers.now }
     ensures value { result ≡ asked_by form numbers.now }
     ensures asked { AreAsked result }
 {
@@ -114,6 +112,44 @@ fn question(form: Form, numbers: &[i64]) -> Question
             from: numbers[1],
             to: numbers[2],
         },
+        Form::Slice(shape) => Question::Slice {
+            instant: numbers[0],
+            region: region(shape, &numbers[2..]),
+        },
+        Form::Interval(shape) => Question::Interval {
+            from: numbers[0],
+            to: numbers[1],
+            region: region(shape, &numbers[3..]),
+        },
+        Form::Nearest => Question::Nearest {
+            count: numbers[0].unsigned_abs() as u32,
+            instant: numbers[1],
+            cell: Cell {
+                x: numbers[2],
+                y: numbers[3],
+            },
+        },
         Form::Info => Question::Info,
+    }
+}
+
+// The region of a shape with its numbers.
+fn region(shape: Shape, numbers: &[i64]) -> Region
+    requires { AreInRange (region_words shape) numbers.now }
+    ensures value { result ≡ region_by shape numbers.now }
+    ensures asked { IsRegionAsked result }
+{
+    match shape {
+        Shape::Rect => Region::Rect {
+            x1: numbers[0],
+            y1: numbers[1],
+            x2: numbers[2],
+            y2: numbers[3],
+        },
+        Shape::Disc => Region::Disc {
+            x: numbers[0],
+            y: numbers[1],
+            r: numbers[2].unsigned_abs(),
+        },
     }
 }

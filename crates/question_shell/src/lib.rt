@@ -2,7 +2,7 @@
 //!
 //! `run` answers the lines of a source one after another and says exactly the replies that
 //! filtering the answerer's chart gives, through a buffer of fixed size. The crate stands on
-//! track_types, host_ports, step_count, arrayvec and itoa.
+//! track_types, list_laws, host_ports, step_count, arrayvec and itoa.
 #![tactic(auto)]
 
 mod answering;

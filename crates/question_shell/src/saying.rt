@@ -7,7 +7,7 @@ ghost use Rattle.question_shell.specs.Says.{Cuts, Says, voice};
 
 use crate::held_text::HeldText;
 use crate::named_fact::named_facts;
-use crate::reply::{cell_line, fact_line, ok_line, stop_line};
+use crate::reply::{Found, cell_line, fact_line, ok_line, stop_line};
 use host_ports::{Cut, Sink};
 use std::sync::ledger::Ledger;
 use step_count::Steps;
@@ -53,6 +53,27 @@ pub(crate) fn say_path<W: Lazy<Item = Stop>, K: Sink, L: Ledger>(
 {
     let count = say_stops(walk, text, sink, steps)?;
     text.put(&ok_line(count), sink)
+}
+
+// Says the reply to a question for a slice, an interval or the nearest: a line for each that was
+// found.
+pub(crate) fn say_found<T: Found, K: Sink>(
+    found: &[T],
+    text: &mut HeldText,
+    sink: &mut K,
+) -> Result<(), Cut>
+    ensures ok { OnOk result (Says (voice (K.said sink.old) text.old)
+        (voice (K.said sink.new) text.new) (listed T.line found.now)) }
+    ensures err { OnErr result (Cuts (voice (K.said sink.old) text.old)
+        (K.said sink.new) (listed T.line found.now)) }
+    ensures cause { OnErr result (Rose (K.faults sink.old) (K.faults sink.new)) }
+    ensures untouched { OnOk result (K.faults sink.new ≡ K.faults sink.old) }
+    ensures faults { K.faults sink.old ≤ K.faults sink.new }
+{
+    for item in found {
+        text.put(&item.line(), sink)?;
+    }
+    text.put(&ok_line(found.len() as u64), sink)
 }
 
 // Says the reply to `info`: a line for each fact.

@@ -24,13 +24,13 @@ const PIECE: usize = 4096;
 /// Answers the question lines of a source until its end, and says the replies.
 ///
 /// Every whole line that came is answered before more is listened to. At most 2^32 bytes are
-/// answered, and one byte more is listened to, in pieces of at most 4,096. Memory is taken for a
-/// `path` line alone.
+/// answered, and one byte more is listened to, in pieces of at most 4,096. Memory is taken for the
+/// lines `path`, `slice`, `interval` and `nearest` alone.
 ///
 /// `Listen` comes only where the source failed, and then the whole lines that came were answered.
 /// `Say` comes only where the sink failed, and then a front of the replies was said and nothing
 /// more was listened to. `Limit` comes where more than 2^32 bytes came, and then the whole lines
-/// among the first 2^32 were answered. After `Memory` exactly the lines before a `path` line were
+/// among the first 2^32 were answered. After `Memory` exactly the lines before one of these four were
 /// answered. The count of faults of a device that the answer does not name is what it was.
 pub fn run<A: Answerer, S: Source, K: Sink, L: Ledger>(
     alloc: Global,

@@ -1,4 +1,6 @@
-ghost use Rattle.std.specs.Prelude.{◌≡◌, ◌<◌};
+ghost use Rattle.std.specs.Prelude.{◌≡◌, ◌<◌, ◌∷◌, [], IfOk, if◌then◌else◌, pos};
+ghost use Rattle.std.specs.Ordering.{int_eq};
+ghost use Rattle.track_types.specs.Region.{is_between};
 
 use super::{Desk, ShellFault, run};
 use crate::held_text::HeldText;
@@ -9,7 +11,7 @@ use std::marker::Brand;
 use std::sync::ledger::{Blank, Ledger};
 use std::test::Fail;
 use step_count::Steps;
-use track_types::{Answerer, Cell, Facts, Lazy, Memory, Stop};
+use track_types::{Answerer, Cell, Facts, Hit, Lazy, Memory, Near, Region, Sighting, Stop, dist2};
 
 /// A buoy, object 7, that was seen once: at instant 2 in the cell (12, -11). For a walk of object 8
 /// it has no memory. Its facts are those of a chart with two objects.
@@ -114,6 +116,81 @@ impl Answerer for Buoy {
             Ok(Seen { stop: None })
         }
     }
+
+    fn slice<L: Ledger>(
+        self,
+        alloc: Global,
+        instant: i64,
+        region: &Region,
+        steps: &mut Steps<L>,
+    ) -> Result<Vec<Sighting>, Memory> {
+        steps.tick();
+        let sighting = Sighting {
+            object: 7,
+            cell: CELL,
+        };
+        one_if(alloc, is_at(instant) & region.contains(CELL), sighting)
+    }
+
+    fn interval<L: Ledger>(
+        self,
+        alloc: Global,
+        from: i64,
+        to: i64,
+        region: &Region,
+        steps: &mut Steps<L>,
+    ) -> Result<Vec<Hit>, Memory> {
+        steps.tick();
+        let hit = Hit {
+            object: 7,
+            instant: 2,
+            cell: CELL,
+        };
+        one_if(alloc, is_in(from, to) & region.contains(CELL), hit)
+    }
+
+    fn nearest<L: Ledger>(
+        self,
+        alloc: Global,
+        count: u32,
+        instant: i64,
+        cell: Cell,
+        steps: &mut Steps<L>,
+    ) -> Result<Vec<Near>, Memory> {
+        steps.tick();
+        let near = Near {
+            object: 7,
+            cell: CELL,
+            dist2: dist2(cell, CELL),
+        };
+        one_if(alloc, is_at(instant) & (0 < count), near)
+    }
+}
+
+/// Whether the buoy was seen at this instant.
+fn is_at(instant: i64) -> bool
+    ensures { result ≡ int_eq instant (pos 2) }
+{
+    instant == 2
+}
+
+/// Whether it was seen from one instant to another.
+fn is_in(from: i64, to: i64) -> bool
+    ensures { result ≡ is_between from to (pos 2) }
+{
+    from <= 2 && 2 <= to
+}
+
+/// The item alone, or nothing.
+fn one_if<T: Drop>(alloc: Global, is_found: bool, item: T) -> Result<Vec<T>, Memory>
+    ensures { IfOk result (λ found. found.items ≡ (if is_found then item ∷ [] else [])) }
+{
+    let mut found = Vec::new(alloc);
+    if !is_found {
+        return Ok(found);
+    }
+    found.push(item)?;
+    Ok(found)
 }
 
 /// A walk with so many stops left, all alike.
@@ -184,7 +261,7 @@ fn answer(rt: &HostRuntime, outside: &mut Outside) -> Result<Result<(), ShellFau
 
 #[test]
 fn each_line_has_its_reply(rt: HostRuntime) -> Result<(), Fail> {
-    let cases: [(&[u8], &[u8]); 10] = [
+    let cases: [(&[u8], &[u8]); 14] = [
         (b"position 7 2\n", b"12 -11\nok 1\n"),
         (b"position 7 1\nposition 9 2", b"ok 0\nok 0\n"),
         (b"path 7 2 2\n", b"2 12 -11\nok 1\n"),
@@ -195,20 +272,36 @@ fn each_line_has_its_reply(rt: HostRuntime) -> Result<(), Fail> {
             b"objects 2\nfirst 0\nlast 3\nperiod 4\ncell 1\ntick 1\nheight 2\nalphabet 2\nrules 0\nlog 3\ndepth 0\nok 11\n",
         ),
         (
-            b"Position 7 2\nslice 2 rect 0 0 1 1\n",
-            b"bad word\nbad word\n",
+            b"slice 2 rect 12 -11 12 -11\nslice 2 disc 12 -11 0\nslice 2 rect 13 -11 12 -11\n",
+            b"7 12 -11\nok 1\n7 12 -11\nok 1\nok 0\n",
+        ),
+        (
+            b"interval 0 9 disc 0 0 17\ninterval 0 9 disc 0 0 16\ninterval 3 9 rect 0 -99 99 99\n",
+            b"7 2 12 -11\nok 1\nok 0\nok 0\n",
+        ),
+        (
+            b"nearest 4 2 0 0\nnearest 0 2 0 0\n",
+            b"7 12 -11 265\nok 1\nok 0\n",
+        ),
+        (
+            b"Position 7 2\nslice 0 ring 1 2 3\nslice x ring\ninterval 0 rect 1 1 2 2\n",
+            b"bad word\nbad word\nbad word\nbad word\n",
+        ),
+        (
+            b"slice 0\nslice 0 rect 1 2 3\nnearest 1 0 0\nslice x disc 0 0\n",
+            b"bad count\nbad count\nbad count\nbad count\n",
         ),
         (
             b"position 7\npath 7 2\nposition 7 2 1\ninfo x\n",
             b"bad count\nbad count\nbad count\nbad count\n",
         ),
         (
-            b"position a 2\npath 7 2 --1\npath 7 2x 2x\n",
-            b"bad number 2\nbad number 4\nbad number 3\n",
+            b"position a 2\npath 7 2 --1\npath 7 2x 2x\nnearest a 0 0 0\n",
+            b"bad number 2\nbad number 4\nbad number 3\nbad number 2\n",
         ),
         (
-            b"position -1 x\nposition 4294967296 2\npath 7 0 2199023255553\n",
-            b"bad range 2\nbad range 2\nbad range 4\n",
+            b"position -1 x\nposition 4294967296 2\npath 7 0 2199023255553\nslice 0 disc 0 0 -1\nslice 0 disc 0 0 4398046511105\n",
+            b"bad range 2\nbad range 2\nbad range 4\nbad range 6\nbad range 6\n",
         ),
     ];
     for (lines, said) in cases {
@@ -256,6 +349,20 @@ fn long_lines_and_long_replies_are_said(rt: HostRuntime) -> Result<(), Fail> {
             "pieces of {piece}"
         );
     }
+    // A reply longer than that text.
+    let mut said = Vec::new(alloc);
+    for _ in 0..600 {
+        said.extend_from_slice(b"2 12 -11\n")?;
+    }
+    said.extend_from_slice(b"ok 600\n")?;
+    let mut sink = MemSink::new(alloc, 8192, Vec::new(alloc))?;
+    assert_eq!(rt; said_of_alike(&rt, &mut sink), Ok(()));
+    assert_eq!(rt; sink.as_slice(), said.as_slice());
+    // Walks are drawn from slot by slot, and one that has ended stays held until it is released.
+    assert_eq!(rt;
+        answers_of_branded_desk(&rt)?.as_slice(),
+        b"ynyyynnnynn".as_slice()
+    );
     Ok(())
 }
 
@@ -279,28 +386,37 @@ fn said_of_alike(rt: &HostRuntime, sink: &mut MemSink) -> Result<(), Cut> {
     say_alike::<Brand>(rt, sink, Blank::new(1))
 }
 
-#[test]
-fn a_reply_longer_than_the_buffer_is_said(rt: HostRuntime) -> Result<(), Fail> {
-    let alloc = rt.alloc();
-    let mut said = Vec::new(alloc);
-    for _ in 0..600 {
-        said.extend_from_slice(b"2 12 -11\n")?;
-    }
-    said.extend_from_slice(b"ok 600\n")?;
-    let mut sink = MemSink::new(alloc, 8192, Vec::new(alloc))?;
-    assert_eq!(rt; said_of_alike(&rt, &mut sink), Ok(()));
-    assert_eq!(rt; sink.as_slice(), said.as_slice());
-    Ok(())
+/// What a desk with two stops in slot 0 and one in slot 15 answers, move by move: `y` or `n`.
+fn answers_of_desk<L: Ledger>(rt: &HostRuntime, blank: Blank) -> Result<Vec<u8>, Memory>
+    requires name { blank.name ≡ L.name }
+    requires parts { blank.parts ≡ L.parts }
+    requires some { 0 < L.parts }
+{
+    let mut steps = Steps::<L>::new(rt, blank);
+    let mut desk = Desk::new(rt.alloc())?;
+    desk.hold(0, Alike { left: 2 });
+    desk.hold(15, Alike { left: 1 });
+    let mut answers = Vec::new(rt.alloc());
+    answers.push(letter(desk.draw(15, &mut steps).is_some()))?;
+    answers.push(letter(desk.draw(15, &mut steps).is_some()))?;
+    answers.push(letter(desk.is_held(15)))?;
+    answers.push(letter(desk.draw(0, &mut steps).is_some()))?;
+    answers.push(letter(desk.release(15).is_some()))?;
+    answers.push(letter(desk.is_held(15)))?;
+    answers.push(letter(desk.draw(15, &mut steps).is_some()))?;
+    answers.push(letter(desk.release(15).is_some()))?;
+    answers.push(letter(desk.draw(0, &mut steps).is_some()))?;
+    answers.push(letter(desk.draw(0, &mut steps).is_some()))?;
+    answers.push(letter(desk.is_held(1)))?;
+    Ok(answers)
 }
 
-#[test]
-fn devices_that_never_fail_have_no_fault(rt: HostRuntime) -> Result<(), Fail> {
-    assert_eq!(rt;
-        answer_calm(&rt, b"position 7 2\n\npath 7 0 4\nwhere")?,
-        Ok(())
-    );
-    assert_eq!(rt; answer_calm(&rt, b"path 8 0 4\n")?, Err(ShellFault::Memory));
-    Ok(())
+fn letter(answer: bool) -> u8 {
+    if answer { b'y' } else { b'n' }
+}
+
+fn answers_of_branded_desk(rt: &HostRuntime) -> Result<Vec<u8>, Memory> {
+    answers_of_desk::<Brand>(rt, Blank::new(1))
 }
 
 #[test]
@@ -325,5 +441,12 @@ fn a_refusal_says_what_came_before(rt: HostRuntime) -> Result<(), Fail> {
     outside = make_outside(alloc, b"position 7 2\npath 8 0 4\nposition 7 2\n", 4096)?;
     assert_eq!(rt; answer(&rt, &mut outside)?, Err(ShellFault::Memory));
     assert_eq!(rt; outside.sink.as_slice(), b"12 -11\nok 1\n".as_slice());
+
+    // Devices that never fail have no fault.
+    assert_eq!(rt;
+        answer_calm(&rt, b"position 7 2\n\npath 7 0 4\nwhere")?,
+        Ok(())
+    );
+    assert_eq!(rt; answer_calm(&rt, b"path 8 0 4\n")?, Err(ShellFault::Memory));
     Ok(())
 }

@@ -1,4 +1,4 @@
-ghost use Rattle.std.specs.Prelude.{◌≡◌, ℕ, ◌<◌, ◌≤◌, ◌∷◌, [], true, false, not, length, take};
+ghost use Rattle.std.specs.Prelude.{◌≡◌, ℕ, ◌+◌, ◌<◌, ◌≤◌, ◌∷◌, [], true, false, not, length, take};
 ghost use Rattle.std.specs.Prelude.{drop, slice_index, IfSome, IfNone};
 ghost use Rattle.std.specs.List.{list_all};
 ghost use Rattle.question_shell.specs.Lines.{BeginsWord, EndsWord, is_gap, words_of};
@@ -13,6 +13,23 @@ pub(crate) fn next_word(line: &[u8]) -> Option<(&[u8], &[u8])>
         return None;
     }
     Some(rest.split_at(word_length(rest)))
+}
+
+// What comes after so many words of a line.
+pub(crate) fn skip_words(line: &[u8], count: usize) -> Option<&[u8]>
+    ensures none { IfNone result (length (words_of line.now) < count) }
+    ensures some { IfSome result (λ rest. words_of rest.now ≡ drop count (words_of line.now)) }
+    ensures length { IfSome result (λ rest.
+        length (words_of line.now) ≡ count + length (words_of rest.now)) }
+{
+    let mut rest = line;
+    for _ in 0..count {
+        let Some((_, after)) = next_word(rest) else {
+            return None;
+        };
+        rest = after;
+    }
+    Some(rest)
 }
 
 // The line from its first byte that is no gap.

@@ -1,0 +1,68 @@
+-- The answers over the one row of the tests.
+use Rattle.std.proofs.Common.{◌≡◌, ℕ, ℤ, pos, negsuc, Bool, ◌&&◌, if◌then◌else◌, nat_lt, List, [], ◌∷◌, refl}
+use Rattle.std.proofs.Common.{false, inl, inr, Result, Ok, Err, IfOk, arith}
+use Rattle.std.proofs.lemmas.Bool.{cases_Bool}
+use Rattle.std.proofs.lemmas.Bool.Decides.{nat_tests}
+use Rattle.std.proofs.lemmas.Int.{ints}
+use Rattle.std.specs.Ordering.{int_eq, is_lt, nat_cmp, ordering_then}
+use Rattle.list_laws.specs.Ordered.{ordered, placed}
+use Rattle.track_types.specs.ByFilter.{hits_of, nearest_among, nears_at, nears_of, sightings_of}
+use Rattle.track_types.specs.Region.{in_region, is_between, squared_distance}
+use Rattle.track_types.specs.declared.cell.Cell.{Cell}
+use Rattle.track_types.specs.declared.hit.Hit.{Hit}
+use Rattle.track_types.specs.declared.near.Near.{Near}
+use Rattle.track_types.specs.declared.region.Region.{Region}
+use Rattle.track_types.specs.declared.row.Row.{Row}
+use Rattle.track_types.specs.declared.sighting.Sighting.{Sighting}
+
+abbrev pub buoy_cell : Cell
+buoy_cell = record { x = pos 12; y = negsuc 10 }
+
+abbrev pub buoy_row : Row
+buoy_row = record { object = 7; instant = pos 2; cell = buoy_cell }
+
+abbrev pub buoy_sighting : Sighting
+buoy_sighting = record { object = 7; cell = buoy_cell }
+
+abbrev pub buoy_hit : Hit
+buoy_hit = record { object = 7; instant = pos 2; cell = buoy_cell }
+
+abbrev pub buoy_near : Cell → Near
+buoy_near cell = record { object = 7; cell = buoy_cell; dist2 = squared_distance cell buoy_cell }
+
+-- what holds of one value holds of another
+pub ok-map : {A E : Type 0} {P Q : A → Type 0} (result : Result A E) → ((x : A) → P x → Q x) → IfOk result P →
+    IfOk result Q
+ok-map (Ok x) more holds = more x holds
+ok-map (Err fault) more holds = tt
+
+pub one-sighting : (instant : ℤ) (region : Region) →
+    (if int_eq instant (pos 2) && in_region region buoy_cell then buoy_sighting ∷ [] else []) ≡ sightings_of (buoy_row ∷ []) instant region
+unfolding sightings_of
+one-sighting instant region = elim (cases_Bool (int_eq instant (pos 2) && in_region region buoy_cell)) [
+  | inl met ↦ rw met refl
+  | inr fails ↦ rw fails refl
+]
+
+pub one-hit : (from to : ℤ) (region : Region) →
+    (if is_between from to (pos 2) && in_region region buoy_cell then buoy_hit ∷ [] else []) ≡ hits_of (buoy_row ∷ []) from to region
+unfolding hits_of
+one-hit from to region = elim (cases_Bool (is_between from to (pos 2) && in_region region buoy_cell)) [
+  | inl met ↦ rw met refl
+  | inr fails ↦ rw fails refl
+]
+
+-- nothing comes before itself
+not_before : (d : ℕ) → is_lt (ordering_then (nat_cmp d d) (nat_cmp 7 7)) ≡ false
+not_before d = grind (arith, ints, nat_tests)
+
+pub one-near : (count : ℕ) (instant : ℤ) (cell : Cell) →
+    (if int_eq instant (pos 2) && nat_lt 0 count then buoy_near cell ∷ [] else []) ≡ nears_of (buoy_row ∷ []) count instant cell
+unfolding nears_of nears_at nearest_among ordered placed
+one-near count instant cell = elim (cases_Bool (int_eq instant (pos 2))) [
+  | inl met ↦ elim (cases_Bool (nat_lt 0 count)) [
+    | inl some ↦ rw (met, some, not_before (squared_distance cell buoy_cell), some) refl
+    | inr none ↦ rw (met, none, not_before (squared_distance cell buoy_cell), none) refl
+  ]
+  | inr fails ↦ rw fails refl
+]
