@@ -1,13 +1,13 @@
 ghost use Rattle.std.specs.Prelude.{◌≡◌, ◌<◌};
 
 use super::{Outcome, gract};
-use host_ports::{MemFiles, MemSink, MemSource};
+use host_ports::{Files, MemFiles, MemSink, MemSource, Source};
 use std::alloc::{AllocError, Global};
 use std::marker::Brand;
 use std::sync::ledger::{Blank, Ledger};
 use std::test::Fail;
 use step_count::Steps;
-use track_types::{LimitKind, Memory, RowFault};
+use track_types::{Flaw, Kind, LimitKind, Memory, RowFault, Section};
 
 /// What is handed to a call, by default a file of no row, no question and devices that do not fail.
 #[derive(Drop)]
@@ -18,7 +18,7 @@ struct Outside {
 }
 
 fn make_outside(alloc: Global, csv: &[u8], lines: &[u8], piece: usize) -> Result<Outside, Memory> {
-    let mut files = MemFiles::new(alloc, 0, Vec::new(alloc))?;
+    let mut files = MemFiles::new(alloc, 130, Vec::new(alloc))?;
     files.put("t.csv", csv)?;
     Ok(Outside {
         files,
@@ -29,6 +29,29 @@ fn make_outside(alloc: Global, csv: &[u8], lines: &[u8], piece: usize) -> Result
         ),
         sink: MemSink::new(alloc, 16384, Vec::new(alloc))?,
     })
+}
+
+// Whether that file can be read and has exactly these bytes.
+fn holds(files: &mut MemFiles, name: &str, bytes: &[u8]) -> bool {
+    let mut held = [0; 256];
+    if files.begin(name).is_err() {
+        return false;
+    }
+    match files.pull(&mut held) {
+        Ok(count) => held.get(..count) == Some(bytes),
+        Err(_) => false,
+    }
+}
+
+// How many of the places for saves were free. They are used up.
+fn free_places(files: &mut MemFiles) -> u32 {
+    let mut free = 0;
+    for nth in 1..=17 {
+        if files.save("", b"").is_ok() {
+            free = nth;
+        }
+    }
+    free
 }
 
 // The words of a command, separated at spaces.
@@ -71,6 +94,12 @@ fn run(rt: &HostRuntime, command: &str, outside: &mut Outside) -> Result<Outcome
 }
 
 const PATH: &[u8] = b"7,0,10,10\n7,1,11,10\n7,2,12,10\n7,2,12,11\n";
+
+/// The index of `PATH` under CELL 1, TICK 1 and PERIOD 4.
+const INDEX: &[u8] = b"GRACT001\x04\0\0\0\x02\0\0\0\x01\0\0\0\x03\0\0\0\x02\0\0\0\0\0\0\0\x02\0\0\0\
+\0\0\0\0\0\0\0\0\x0a\0\0\0\0\0\0\0\x0a\0\0\0\0\0\0\0\x01\0\0\0\0\0\0\0\x01\0\0\0\0\0\0\0\
+\x07\0\0\0\x02\0\0\0\0\0\0\0\x03\0\0\0\0\0\0\0\x01\0\0\0\0\x08\0\0\0\x11\x01\0\0\0\0\x02\0\0\0\
+\0\0\0\0\x01\0\0\0";
 
 const SHIP: &[u8] = b"object,instant,x,y\r\n265547250,1467327600,312455,6401239\r\n\
 \"265547250\", 1467327662,312561,6401250\r\n";
@@ -157,6 +186,7 @@ fn lines_have_their_replies(rt: HostRuntime) -> Result<(), Fail> {
             assert_eq!(rt; outside.sink.as_slice(), said);
         }
     }
+    assert!(rt; check_build(&rt)?);
     Ok(())
 }
 
@@ -165,7 +195,13 @@ fn a_call_is_refused_for_its_cause(rt: HostRuntime) -> Result<(), Fail> {
     let row = |nth, field, fault| Outcome::Row { nth, field, fault };
     let limit = |kind, value| Outcome::Limit { kind, value };
     let words = |place| Outcome::Words { place };
-    let cases: [(&[u8], &str, Outcome); 18] = [
+    let header = |kind| Outcome::Flaw(Flaw {
+        section: Section::Header,
+        period: 0,
+        index: 0,
+        kind,
+    });
+    let cases: [(&[u8], &str, Outcome); 23] = [
         (b"", "once t.csv 1 1 1", Outcome::Empty),
         (b"object,instant,x,y\n", "once t.csv 1 1 1", Outcome::Empty),
         (
@@ -208,6 +244,11 @@ fn a_call_is_refused_for_its_cause(rt: HostRuntime) -> Result<(), Fail> {
         (PATH, "once t.csv 1 1", words(5)),
         (PATH, "once t.csv 1 1 4194305", words(5)),
         (PATH, "once t.csv 1 1 4 x", words(6)),
+        (PATH, "build", words(2)),
+        (PATH, "build t.csv t.idx 1 1 4 x", words(7)),
+        (PATH, "ask t.csv", header(Kind::Magic)),
+        (b"", "ask t.csv", header(Kind::Short)),
+        (PATH, "ask none.idx", Outcome::LoadFailed),
     ];
     for (csv, command, expected) in cases {
         let mut outside = make_outside(rt.alloc(), csv, b"position 7 0\n", 4096)?;
@@ -215,6 +256,46 @@ fn a_call_is_refused_for_its_cause(rt: HostRuntime) -> Result<(), Fail> {
         assert_eq!(rt; outside.sink.as_slice(), b"".as_slice());
     }
     Ok(())
+}
+
+// Whether the index is built with one save, without a question or a reply.
+fn is_built(rt: &HostRuntime, outside: &mut Outside) -> Result<bool, AllocError> {
+    let outcome = run(rt, "build t.csv t.idx 1 1 4", outside)?;
+    Ok(outcome == Outcome::Done && is_quiet(outside))
+}
+
+// Whether nothing was listened to and nothing was said.
+fn is_quiet(outside: &Outside) -> bool {
+    outside.source.taken() == 0 && outside.sink.as_slice().is_empty()
+}
+
+// Whether a question is answered from the index that was built.
+fn is_asked(rt: &HostRuntime, outside: &mut Outside) -> Result<bool, AllocError> {
+    let outcome = run(rt, "ask t.idx", outside)?;
+    Ok(outcome == Outcome::Done && outside.sink.as_slice() == b"12 11\nok 1\n".as_slice())
+}
+
+// Whether a build fails that finds no place for its save.
+fn is_unsaved(rt: &HostRuntime, outside: &mut Outside) -> Result<bool, AllocError> {
+    let outcome = run(rt, "build t.csv t.idx 1 1 4", outside)?;
+    Ok(outcome == Outcome::SaveFailed && is_quiet(outside))
+}
+
+fn check_build(rt: &HostRuntime) -> Result<bool, Memory> {
+    let mut outside = make_outside(rt.alloc(), PATH, b"position 7 2\n", 4096)?;
+    let built = is_built(rt, &mut outside)?;
+    let saved = holds(&mut outside.files, "t.idx", INDEX);
+    let kept = holds(&mut outside.files, "t.csv", PATH);
+    let asked = is_asked(rt, &mut outside)?;
+    Ok(built && saved && kept && asked && free_places(&mut outside.files) == 15)
+}
+
+fn check_full(rt: &HostRuntime) -> Result<bool, Memory> {
+    let mut outside = make_outside(rt.alloc(), PATH, b"position 7 2\n", 4096)?;
+    let free = free_places(&mut outside.files) == 16;
+    let unsaved = is_unsaved(rt, &mut outside)?;
+    let missing = outside.files.begin("t.idx").is_err();
+    Ok(free && unsaved && missing && holds(&mut outside.files, "t.csv", PATH))
 }
 
 // A source and files that fail at their second call, and a sink with room for 8 bytes.
@@ -255,5 +336,6 @@ fn a_failing_device_ends_the_call(rt: HostRuntime) -> Result<(), Fail> {
         assert_eq!(rt; run(&rt, "once t.csv 1 1 4", &mut outside)?, outcome);
         assert_eq!(rt; outside.sink.as_slice(), said);
     }
+    assert!(rt; check_full(&rt)?);
     Ok(())
 }
