@@ -1,4 +1,4 @@
-# make demo   proves and builds the program into ./gract, and runs it on the examples
+# make demo   proves and builds the program into ./gract, builds an index of the examples, and asks it
 # make gract  builds it alone
 # make test   the gate: every proof, edit, test and program, then the repository's own checks
 # make clean  takes away what the others made
@@ -18,4 +18,4 @@ test:
 	@.ci/run
 
 clean:
-	rm -rf gract crates/*/out
+	rm -rf gract storms.idx crates/*/out
