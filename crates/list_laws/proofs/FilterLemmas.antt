@@ -70,3 +70,12 @@ module _ {X : Type 0} (a b : X → Bool) where
   length-filter-le (x ∷ xs) each =
       let P : X → Type 0 = λ y. a y ≡ true → b y ≡ true in
       grind (arith, All-head P x xs each, length-filter-le xs (All-tail P x xs each))
+
+  -- a test keeps no more, in sum, than another that it implies
+  pub sum_by-filter-le : (f : X → ℕ) (xs : List X) → All (λ x. a x ≡ true → b x ≡ true) xs
+      → sum_by f (filter a xs) ≤ sum_by f (filter b xs)
+  sum_by-filter-le f [] each = omega arith
+  sum_by-filter-le f (x ∷ xs) each =
+      let P : X → Type 0 = λ y. a y ≡ true → b y ≡ true in
+      let rest = sum_by-filter-le f xs (All-tail P x xs each) in
+      grind (arith, All-head P x xs each, rest, sum_by-cons f x (filter a xs), sum_by-cons f x (filter b xs))

@@ -1,10 +1,11 @@
 -- What is first of what members give, each of which may give nothing.
-use Rattle.std.proofs.Common.{◌≡◌, ◌⊎◌, ℕ, zero, suc, ◌+◌, ◌<◌, ◌≤◌, List, [], ◌∷◌, map, Option, None, Some, All, inl, inr, refl, ap, ◌∙◌, arith}
+use Rattle.std.proofs.Common.{◌≡◌, ℕ, zero, suc, ◌+◌, ◌<◌, ◌≤◌, List, [], ◌∷◌, map, Option, None, Some, All, inl, inr, refl, ap, ◌∙◌, arith}
 use Rattle.std.specs.List.{filter_map, range_with_len}
 use Rattle.std.specs.Option.{option_map, option_or}
 use Rattle.std.proofs.lemmas.Bool.{cases_order}
 use Rattle.std.proofs.lemmas.List.Elements.{All-nil, All-cons, All-head, All-tail}
 use Rattle.list_laws.specs.First.{first_of}
+use Rattle.list_laws.proofs.OptionLemmas.{made_cases}
 
 module _ {Y : Type 0} (give : ℕ → Option Y) where
   -- nothing comes where no number of a range gives anything
@@ -76,11 +77,6 @@ first_of-none give (x ∷ xs) none =
 abbrev pub made_first : {X Y : Type 0} → (X → Option Y) → Option X → Option Y
 made_first give None = None
 made_first give (Some x) = give x
-
--- a value is there or not
-made_cases : {X : Type 0} (x : Option X) → (x ≡ None) ⊎ ((y : X) × (x ≡ Some y))
-made_cases None = inl refl
-made_cases (Some y) = inr (y, refl)
 
 -- what is first of what is made of some members
 pub first_of-filter_map : {X Y Z : Type 0} (give : Y → Option Z) (make : X → Option Y) (xs : List X)

@@ -17,3 +17,5 @@ pub mod PieceLemmas
 pub mod RangeLemmas
 pub mod DedupLemmas
 pub mod OptionLemmas
+pub mod GreatestLemmas
+pub mod WeightLemmas

@@ -1,7 +1,7 @@
 -- Mapped lists: laid end to end, side by side, what a test keeps of them, and what leaves a list as it is.
-use Rattle.std.proofs.Common.{◌≡◌, Bool, List, [], ◌∷◌, ◌++◌, map, filter, refl, sym, ◌∙◌, ap, arith, inl, inr, subst}
+use Rattle.std.proofs.Common.{◌≡◌, ◌<◌, Bool, List, [], ◌∷◌, ◌++◌, length, map, filter, All, refl, sym, ◌∙◌, ap, arith, inl, inr, subst}
 use Rattle.std.specs.List.{Contains, flat_map, zip}
-use Rattle.std.proofs.lemmas.List.{map-append}
+use Rattle.std.proofs.lemmas.List.{get_or-map, length-map, map-append}
 use Rattle.list_laws.proofs.MemberLemmas.{first_member, later_member, member_cases, no_member}
 
 -- what a test keeps of a mapped list
@@ -50,3 +50,9 @@ member_of_zip {X} {Y} (a ∷ xs) (b ∷ ys) x y inside = elim (member_cases (x, 
       let rest = member_of_zip xs ys x y later in
       (later_member x a xs rest.0, later_member y b ys rest.1)
 ]
+
+-- what holds of all that is made holds, through the function, of what it is made of
+pub All-from_map : {X Y : Type 0} (P : Y → Type 0) (f : X → Y) (xs : List X) → All P (map f xs) → All (λ x. P (f x)) xs
+All-from_map P f xs all k d below =
+    let there : k < length (map f xs) = rw length-map below in
+    rw (get_or-map f xs k d (f d) below) at (all k (f d) there)

@@ -80,6 +80,14 @@ member_of_find p (y ∷ ys) x found = elim (cases_Bool (p y)) [
   | inr fails ↦ later_member x y ys (member_of_find p ys x (rw fails at found))
 ]
 
+-- and it passes
+pub find-passes : {X : Type 0} (p : X → Bool) (xs : List X) (x : X) → find p xs ≡ Some x → p x ≡ true
+find-passes p [] x found = absurd (cc)
+find-passes p (y ∷ ys) x found = elim (cases_Bool (p y)) [
+  | inl meets ↦ let first : Some y ≡ Some x = rw meets at found in let same : y ≡ x = cc in rw (sym same) meets
+  | inr fails ↦ find-passes p ys x (rw fails at found)
+]
+
 -- nothing passes a filter
 pub filter-none : {X : Type 0} (p : X → Bool) (xs : List X) → ((x : X) → Contains xs x → p x ≡ false) → filter p xs ≡ []
 filter-none p [] fails = refl

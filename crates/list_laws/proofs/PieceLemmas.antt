@@ -1,6 +1,6 @@
 -- Pieces of a list: where each of lists laid end to end stands, and where each of the kept elements.
 use Rattle.std.proofs.Common.{All, ◌≡◌, ℕ, zero, suc, ◌+◌, ◌-◌, ◌<◌, ◌≤◌, Bool, true, List, [], ◌∷◌, ◌++◌, length}
-use Rattle.std.proofs.Common.{map, filter, take, drop, get_or, refl, ap, ◌∙◌, arith, inl, inr, None, Option, Some}
+use Rattle.std.proofs.Common.{filter, take, drop, get_or, refl, ap, ◌∙◌, arith, inl, inr, None, Option, Some}
 use Rattle.std.specs.List.{Contains, cons_option, filter_map, flat_map, slice_range}
 use Rattle.std.specs.List.Sorted.{IsNonDecreasingBy}
 use Rattle.std.proofs.Math.Seq.{drop-append_seam, get_or-append_right, take-append_seam}

@@ -6,11 +6,25 @@ use Rattle.std.specs.List.{cons_option, filter, filter_map, find, flat_map, rang
 use Rattle.std.specs.List.Sorted.{IsStrictlySortedBy}
 use Rattle.std.specs.declared.cmp.Ordering.TheVariants.{Less}
 use Rattle.std.proofs.lemmas.Bool.{cases_Bool, cases_lt}
-use Rattle.std.proofs.lemmas.List.{append-nil}
-use Rattle.std.proofs.lemmas.List.Elements.{All-append, All-head, All-nil}
+use Rattle.std.proofs.lemmas.List.{append-nil, map-id}
+use Rattle.std.proofs.lemmas.List.Elements.{All-append, All-head, All-nil, filter_map-append}
 use Rattle.std.proofs.lemmas.List.Elements.{All-tail, All-from_recursion, recursion_from_All}
+use Rattle.std.proofs.lemmas.List.FromFn.{map-range_with_len_more}
 use Rattle.std.proofs.lemmas.List.Sums.{sum_by-cons}
 use Rattle.list_laws.proofs.FilterLemmas.{sum_by-filter}
+
+-- one more number
+pub range-more : (n : ℕ) → range_with_len 0 (n + 1) ≡ range_with_len 0 n ++ n ∷ []
+range-more n =
+    sym (map-id (range_with_len 0 (n + 1)))
+    ∙ map-range_with_len_more (λ i. i) 0 n n (omega arith)
+    ∙ ap (λ xs. xs ++ n ∷ []) (map-id (range_with_len 0 n))
+
+-- what is made of one number more
+pub filter_map-range_more : {Y : Type 0} (make : ℕ → Option Y) (n : ℕ)
+    → filter_map make (range_with_len 0 (n + 1)) ≡ filter_map make (range_with_len 0 n) ++ cons_option (make n) []
+filter_map-range_more make n =
+    ap (filter_map make) (range-more n) ∙ filter_map-append make (range_with_len 0 n) (n ∷ [])
 
 -- numbers that give nothing
 pub flat_map-range_none : {A : Type 0} (f : ℕ → List A) (from n : ℕ) → ((j : ℕ) → from ≤ j → j < from + n → f j ≡ [])

@@ -1,13 +1,13 @@
 -- Sums over pairs, over ranges, and over what is made of some members of a list.
-use Rattle.std.proofs.Common.{◌≡◌, ℕ, zero, suc, ◌+◌, ◌-◌, ◌<◌, ◌≤◌, Bool, List, [], ◌∷◌, get_or, refl, ap, sym, ◌∙◌}
+use Rattle.std.proofs.Common.{◌≡◌, ℕ, zero, suc, ◌+◌, ◌-◌, ◌<◌, ◌≤◌, Bool, List, [], ◌∷◌, get_or, refl, sym, ◌∙◌}
 use Rattle.std.proofs.Common.{arith, inl, inr, Option, None, Some, All, false, true, length}
-use Rattle.std.specs.Prelude.{◌==◌, if◌then◌else◌}
+use Rattle.std.specs.Prelude.{◌==◌, ◌*◌, if◌then◌else◌, ⊤}
 use Rattle.std.specs.List.{cons_option, enumerate_from, filter_map, range_with_len, sum_by}
 use Rattle.std.proofs.lemmas.Bool.{cases_lt, eq-eqb, ne_eqb}
 use Rattle.std.proofs.lemmas.Bool.Decides.{nat_tests}
-use Rattle.std.proofs.lemmas.List.Elements.{All-nil, All-cons}
 use Rattle.std.proofs.lemmas.List.Sums.{sum_by-cons}
 use Rattle.list_laws.proofs.FlatLemmas.{sum_by_plus}
+use Rattle.list_laws.proofs.OptionLemmas.{All-made}
 
 -- a sum of nothing but zeros
 pub sum_by-zeros : {X : Type 0} (xs : List X) → sum_by (λ _. 0) xs ≡ 0
@@ -69,13 +69,13 @@ sum_by-filter_map {X} {Y} f make (x ∷ xs) =
 -- what holds of all that is made
 pub All-filter_map : {X Y : Type 0} (P : Y → Type 0) (make : X → Option Y) (xs : List X)
     → ((x : X) (y : Y) → make x ≡ Some y → P y) → All P (filter_map make xs)
-All-filter_map P make [] each = All-nil P
-All-filter_map {X} {Y} P make (x ∷ xs) each = by_made (make x) (each x) (All-filter_map P make xs each)
-  where
-    by_made : (made : Option Y) → ((y : Y) → made ≡ Some y → P y) → All P (filter_map make xs)
-        → All P (cons_option made (filter_map make xs))
-    by_made None its rest = rest
-    by_made (Some y) its rest = All-cons P y (filter_map make xs) (its y refl) rest
+All-filter_map P make xs each = All-made make (λ _. ⊤) P (λ x y _. each x y) xs (λ _ _ _. tt)
+
+-- so much more for each
+pub sum_by-each : {X : Type 0} (f : X → ℕ) (k : ℕ) (xs : List X) → sum_by (λ x. k + f x) xs ≡ k * length xs + sum_by f xs
+sum_by-each f k [] = omega arith
+sum_by-each f k (x ∷ xs) =
+    grind (arith, sum_by-cons (λ z. k + f z) x xs, sum_by-cons f x xs, sum_by-each f k xs)
 
 -- a term for one number alone, if its member passes a test
 module _ {X : Type 0} (passes : X → Bool) (place value : ℕ) where

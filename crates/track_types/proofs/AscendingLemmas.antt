@@ -1,5 +1,5 @@
 -- Lists in strict order: by their members, and by what a search for each key finds.
-use Rattle.std.proofs.Common.{◌≡◌, ◌⊎◌, ℕ, zero, suc, ◌<◌, Bool, true, false, List, [], ◌∷◌, length, get_or, Ordering, Some, None, refl, sym, ◌∙◌, ap, arith, inl, inr, subst}
+use Rattle.std.proofs.Common.{◌≡◌, Bool, false, List, [], ◌∷◌, Ordering, Some, None, refl, sym, ◌∙◌, ap, inl, inr, subst}
 use Rattle.std.specs.Prelude.{find}
 use Rattle.std.specs.Cmp.{IsTotalOrder}
 use Rattle.std.specs.List.{Contains}
@@ -9,37 +9,11 @@ use Rattle.std.specs.declared.cmp.Ordering.TheVariants.{Less, Equal, Greater}
 use Rattle.std.proofs.lemmas.Cmp.{tied_itself}
 use Rattle.std.proofs.lemmas.List.Elements.{All-contains, All-from_recursion}
 use Rattle.std.proofs.lemmas.Map.Keys.{sorted_head, sorted_tail}
-
--- a member is the first element or one of the others
-contains_at : {X : Type 0} (x y : X) (ys : List X) (k : ℕ) → k < length (y ∷ ys) → get_or (y ∷ ys) k x ≡ x → (y ≡ x) ⊎ Contains ys x
-contains_at x y ys zero below is = inl is
-contains_at x y ys (suc k) below is = inr (k, omega arith, is)
-
-pub Contains-cases : {X : Type 0} (x y : X) (ys : List X) → Contains (y ∷ ys) x → (y ≡ x) ⊎ Contains ys x
-Contains-cases x y ys inside = contains_at x y ys inside.0 inside.1 inside.2
-
-pub Contains-first : {X : Type 0} (x : X) (xs : List X) → Contains (x ∷ xs) x
-Contains-first x xs = (0, omega arith, refl)
-
-pub Contains-later : {X : Type 0} (x y : X) (ys : List X) → Contains ys x → Contains (y ∷ ys) x
-Contains-later x y ys inside = (suc inside.0, (let below : inside.0 < length ys = inside.1 in omega arith), inside.2)
-
-pub Contains-none : {X : Type 0} {P : Type 0} (x : X) → Contains [] x → P
-Contains-none x inside = let below : inside.0 < 0 = inside.1 in absurd (omega arith)
+use Rattle.list_laws.proofs.MemberLemmas.{first_member, later_member, member_cases, member_of_find, no_member}
 
 -- the first element is below each other one
 pub first_below : {K : Type 0} (R : K → K → Ordering) (x y : K) (xs : List K) → IsStrictlySortedBy R (x ∷ xs) → Contains xs y → R x y ≡ Less
 first_below R x y xs up inside = All-contains (λ z. R x z ≡ Less) xs y (All-from_recursion (λ z. R x z ≡ Less) xs (sorted_head R x xs up)) inside
-
--- what a search finds is a member
-found_at : {X : Type 0} (p : X → Bool) (x z : X) (xs : List X) (b : Bool) → p x ≡ b →
-    (find p xs ≡ Some z → Contains xs z) → find p (x ∷ xs) ≡ Some z → Contains (x ∷ xs) z
-found_at p x z xs true is later found = let first : Some x ≡ Some z = rw is at found in (0, omega arith, cc)
-found_at p x z xs false is later found = Contains-later z x xs (later (rw is at found))
-
-pub Contains-from_find : {X : Type 0} (p : X → Bool) (xs : List X) (z : X) → find p xs ≡ Some z → Contains xs z
-Contains-from_find p [] z found = absurd (cc)
-Contains-from_find p (x ∷ xs) z found = found_at p x z xs (p x) refl (Contains-from_find p xs z) found
 
 -- tests that agree find the same
 pub find-agree : {X : Type 0} (p q : X → Bool) → ((x : X) → p x ≡ q x) → (xs : List X) → find p xs ≡ find q xs
@@ -50,7 +24,7 @@ find-agree p q agree (x ∷ xs) = rw (agree x, find-agree p q agree xs) refl
 pub find-none : {X : Type 0} (p : X → Bool) (xs : List X) → ((z : X) → Contains xs z → p z ≡ false) → find p xs ≡ None
 find-none p [] fails = refl
 find-none p (x ∷ xs) fails =
-    rw (fails x (Contains-first x xs)) (find-none p xs (λ z inside. fails z (Contains-later z x xs inside)))
+    rw (fails x (first_member x xs)) (find-none p xs (λ z inside. fails z (later_member z x xs inside)))
 
 module _ {K : Type 0} {R : K → K → Ordering} (o : IsTotalOrder R) where
   never_below_itself : {P : Type 0} (x y : K) → x ≡ y → R x y ≡ Less → P
@@ -63,9 +37,9 @@ module _ {K : Type 0} {R : K → K → Ordering} (o : IsTotalOrder R) where
   same_first : (x y : K) (xs ys : List K) → IsStrictlySortedBy R (x ∷ xs) → IsStrictlySortedBy R (y ∷ ys) →
       Contains (y ∷ ys) x → Contains (x ∷ xs) y → x ≡ y
   same_first x y xs ys up up' in_ys in_xs =
-      elim (Contains-cases x y ys in_ys) [
+      elim (member_cases x y ys in_ys) [
         | inl is ↦ sym is
-        | inr later ↦ elim (Contains-cases y x xs in_xs) [
+        | inr later ↦ elim (member_cases y x xs in_xs) [
           | inl is ↦ is
           | inr later' ↦
               let below : R x y ≡ Less = first_below R x y xs up later' in
@@ -79,7 +53,7 @@ module _ {K : Type 0} {R : K → K → Ordering} (o : IsTotalOrder R) where
   members_behind : (x y : K) (xs ys : List K) → x ≡ y → IsStrictlySortedBy R (x ∷ xs) →
       ((z : K) → Contains (x ∷ xs) z → Contains (y ∷ ys) z) → (z : K) → Contains xs z → Contains ys z
   members_behind x y xs ys is up into z inside =
-      elim (Contains-cases z y ys (into z (Contains-later z x xs inside))) [
+      elim (member_cases z y ys (into z (later_member z x xs inside))) [
         | inl first ↦ never_below_itself x z (is ∙ first) (first_below R x z xs up inside)
         | inr later ↦ later
       ]
@@ -88,19 +62,19 @@ module _ {K : Type 0} {R : K → K → Ordering} (o : IsTotalOrder R) where
   pub same_from_members : (xs ys : List K) → IsStrictlySortedBy R xs → IsStrictlySortedBy R ys →
       ((z : K) → Contains xs z → Contains ys z) → ((z : K) → Contains ys z → Contains xs z) → xs ≡ ys
   same_from_members [] [] up up' into back = refl
-  same_from_members [] (y ∷ ys) up up' into back = Contains-none y (back y (Contains-first y ys))
-  same_from_members (x ∷ xs) [] up up' into back = Contains-none x (into x (Contains-first x xs))
+  same_from_members [] (y ∷ ys) up up' into back = no_member y (back y (first_member y ys))
+  same_from_members (x ∷ xs) [] up up' into back = no_member x (into x (first_member x xs))
   same_from_members (x ∷ xs) (y ∷ ys) up up' into back =
-      let first : x ≡ y = same_first x y xs ys up up' (into x (Contains-first x xs)) (back y (Contains-first y ys)) in
+      let first : x ≡ y = same_first x y xs ys up up' (into x (first_member x xs)) (back y (first_member y ys)) in
       let rest : xs ≡ ys = same_from_members xs ys (sorted_tail R x xs up) (sorted_tail R y ys up')
       (members_behind x y xs ys first up into) (members_behind y x ys xs (sym first) up' back) in
       cc
 
   -- a search for a member's key finds that member
   pub find-member : (xs : List K) (z : K) → IsStrictlySortedBy R xs → Contains xs z → find (eq_by_cmp R z) xs ≡ Some z
-  find-member [] z up inside = Contains-none z inside
+  find-member [] z up inside = no_member z inside
   find-member (x ∷ xs) z up inside =
-      elim (Contains-cases z x xs inside) [
+      elim (member_cases z x xs inside) [
         | inl is ↦
             let tied : R z x ≡ Equal = subst (λ w. R z w ≡ Equal) (sym is) (tied_itself o z) in
             rw tied (ap Some is)
@@ -115,5 +89,5 @@ module _ {K : Type 0} {R : K → K → Ordering} (o : IsTotalOrder R) where
       ((z : K) → find (eq_by_cmp R z) xs ≡ find (eq_by_cmp R z) ys) → xs ≡ ys
   same_from_finds xs ys up up' finds =
       same_from_members xs ys up up'
-      (λ z inside. Contains-from_find (eq_by_cmp R z) ys z (sym (finds z) ∙ find-member xs z up inside))
-      (λ z inside. Contains-from_find (eq_by_cmp R z) xs z (finds z ∙ find-member ys z up' inside))
+      (λ z inside. member_of_find (eq_by_cmp R z) ys z (sym (finds z) ∙ find-member xs z up inside))
+      (λ z inside. member_of_find (eq_by_cmp R z) xs z (finds z ∙ find-member ys z up' inside))

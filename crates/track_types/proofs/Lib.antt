@@ -3,6 +3,7 @@ pub mod QuantityLemmas
 pub mod AscendingLemmas
 pub mod RowLemmas
 pub mod RegionLemmas
+pub mod BoxLemmas
 pub mod WideningLemmas
 pub mod LazyLemmas
 mod Examples

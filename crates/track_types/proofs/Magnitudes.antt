@@ -1,9 +1,10 @@
 -- What digits mean, one digit after another.
-use Rattle.std.proofs.Common.{◌≡◌, ℕ, zero, suc, ◌+◌, ◌-◌, ◌*◌, ◌^◌, ◌<◌, ◌≤◌, List, [], ◌∷◌, ◌++◌, length, get_or, take, drop, refl, arith, length-append, add_assoc, subst}
-use Rattle.std.proofs.Math.Nat.{mul_assoc, add-mul, pow-suc}
+use Rattle.std.proofs.Common.{◌≡◌, add-one, true, ℕ, zero, suc, ◌+◌, ◌-◌, ◌*◌, ◌^◌, ◌<◌, ◌≤◌, List, [], ◌∷◌, ◌++◌, length, get_or, take, drop, refl, arith, length-append, add_assoc, subst}
+use Rattle.std.proofs.Math.Nat.{mul_assoc, add-mul, pow-le-pow_right, pow-suc}
 use Rattle.std.proofs.lemmas.Nat.{pow-add}
 use Rattle.std.proofs.lemmas.List.{take_more, take-append-drop}
-use Rattle.track_types.specs.Numeral.{magnitude_of}
+use Rattle.std.proofs.lemmas.Bool.Decides.{nat_tests}
+use Rattle.track_types.specs.Numeral.{is_digit, magnitude_of}
 
 -- digits before others count by the place of the last of them
 pub magnitude_of-append : (front back : List ℕ) → magnitude_of (front ++ back) ≡ magnitude_of front * 10 ^ length back + magnitude_of back
@@ -31,3 +32,16 @@ pub magnitude_of_before : (digits : List ℕ) (i : ℕ) → magnitude_of (take i
 magnitude_of_before digits i =
     let P : List ℕ → Type 0 = λ all. magnitude_of (take i digits) ≤ magnitude_of all in
     subst P (take-append-drop i digits) (magnitude_of_front (take i digits) (drop i digits))
+
+-- so few digits are below the power of ten of more
+pub below_power : (value i most : ℕ) → value < 10 ^ i → i ≤ most → value < 10 ^ most
+below_power value i most below few =
+    let further : 10 ^ i ≤ 10 ^ most = pow-le-pow_right {n = 10} (omega arith) {i = i} {j = most} few in
+    omega arith
+
+-- and one digit more is below the next power
+digit_below : (digit : ℕ) → is_digit digit ≡ true → digit - 48 < 10
+digit_below digit is = grind (arith, nat_tests)
+
+pub below_more : (value i digit : ℕ) → value < 10 ^ i → is_digit digit ≡ true → 10 * value + (digit - 48) < 10 ^ (i + 1)
+below_more value i digit below is = rw (add-one i, pow-suc 10 i) (omega (arith, digit_below digit is))

@@ -4,8 +4,8 @@ use Rattle.std.specs.Prelude.{fold, ℤ, pos, ◌≤ℤ◌, ◌-ℤ◌, unsigned
 use Rattle.std.specs.Int.{int_max, int_min}
 use Rattle.std.proofs.lemmas.List.Folds.{fold-map}
 use Rattle.std.proofs.lemmas.Int.{fold-int_max_bounds, fold-int_min_bounds, ints}
-use Rattle.std.proofs.lemmas.List.{get_or-map, length-map}
 use Rattle.std.proofs.lemmas.List.Elements.{All-cons, All-nil}
+use Rattle.list_laws.proofs.MapLemmas.{All-from_map}
 use Rattle.track_types.specs.Quantities.{elapsed, first_of, greatest, instants_of, last_of, least, span_of}
 use Rattle.track_types.specs.declared.row.Row.{Row}
 
@@ -27,12 +27,6 @@ pub greatest-from_first : {X : Type 0} (f : X → ℤ) (xs : List X) (d : X) →
 greatest-from_first f [] d some = absurd (omega arith)
 greatest-from_first f (x ∷ xs) d some = rw (int_max-same (f x)) (sym (fold-map int_max f (f x) xs))
 
--- what holds of all that is made of elements holds of each of these
-all_from_map : {X : Type 0} (P : ℤ → Type 0) (f : X → ℤ) (xs : List X) → All P (map f xs) → All (λ x. P (f x)) xs
-all_from_map P f xs all k d below =
-    let there : k < length (map f xs) = rw length-map below in
-    rw (get_or-map f xs k d (f d) below) at (all k (f d) there)
-
 -- none is below the least, and none above the greatest
 least-below : (zs : List ℤ) → All (λ z. least zs ≤ℤ z) zs
 least-below [] = All-nil (λ z. pos 0 ≤ℤ z)
@@ -48,11 +42,11 @@ greatest-above (z ∷ zs) =
 
 -- no row is before the first instant
 pub first_of-below : (rows : List Row) → All (λ row. first_of rows ≤ℤ row.instant) rows
-first_of-below rows = all_from_map (λ z. first_of rows ≤ℤ z) (λ row. row.instant) rows (least-below (instants_of rows))
+first_of-below rows = All-from_map (λ z. first_of rows ≤ℤ z) (λ row. row.instant) rows (least-below (instants_of rows))
 
 -- no row is after the last instant
 pub last_of-above : (rows : List Row) → All (λ row. row.instant ≤ℤ last_of rows) rows
-last_of-above rows = all_from_map (λ z. z ≤ℤ last_of rows) (λ row. row.instant) rows (greatest-above (instants_of rows))
+last_of-above rows = All-from_map (λ z. z ≤ℤ last_of rows) (λ row. row.instant) rows (greatest-above (instants_of rows))
 
 within_width : (low z high : ℤ) → low ≤ℤ z → z ≤ℤ high → unsigned_abs (z -ℤ low) < unsigned_abs (high -ℤ low) + 1
 within_width low z high above below = grind (arith, ints)

@@ -1,10 +1,10 @@
 -- Boxes that a region touches, and the cell of a box that is nearest to a cell.
-use Rattle.std.proofs.Common.{◌≡◌, ◌↔◌, ◌*◌, ◌≤◌, ℤ, Bool, true, IsTrue, refl, arith, ◌≤ℤ◌, ◌-ℤ◌}
-use Rattle.std.specs.Prelude.{◌&&◌, unsigned_abs}
+use Rattle.std.proofs.Common.{◌≡◌, ◌↔◌, ◌*◌, ◌≤◌, ℤ, Bool, true, IsTrue, arith, ◌≤ℤ◌, ◌-ℤ◌}
+use Rattle.std.specs.Prelude.{unsigned_abs}
 use Rattle.std.specs.Int.{int_max, int_min}
 use Rattle.std.specs.Int.Signed.{le_z}
 use Rattle.std.proofs.Math.Nat.{mul-le-mul}
-use Rattle.std.proofs.lemmas.Bool.{and_parts, le-leb, leb-true}
+use Rattle.std.proofs.lemmas.Bool.{and_from, and_parts, le-leb, leb-true}
 use Rattle.std.proofs.lemmas.Int.{clamps, ints}
 use Rattle.track_types.specs.Region.{Intersects, in_box, in_region, is_between, nearest_cell, overlaps, squared_distance, squared_gap, intersects_region}
 use Rattle.track_types.specs.declared.cell.Cell.{Cell}
@@ -31,10 +31,6 @@ nearest-gap : (a b z other : ℤ) → a ≤ℤ other → other ≤ℤ b →
     unsigned_abs (z -ℤ int_max a (int_min z b)) ≤ unsigned_abs (z -ℤ other)
 nearest-gap a b z other above below = omega (arith, ints, clamps)
 
--- two tests that pass
-pub both : (a b : Bool) → a ≡ true → b ≡ true → (a && b) ≡ true
-both a b p q = rw (p, q) refl
-
 -- the nearest number as the tests see it
 is_between-nearest : (a b z : ℤ) → a ≤ℤ b → is_between a b (int_max a (int_min z b)) ≡ true
 is_between-nearest a b z wide =
@@ -44,7 +40,7 @@ is_between-nearest a b z wide =
 le_z-is : (a b : ℤ) → le_z a b ≡ true → a ≤ℤ b
 le_z-is a b holds = grind (arith, ints)
 
-le_z-from : (a b : ℤ) → a ≤ℤ b → le_z a b ≡ true
+pub le_z-from : (a b : ℤ) → a ≤ℤ b → le_z a b ≡ true
 le_z-from a b below = grind (arith, ints)
 
 -- a number that is in two stretches lies between their later start and their earlier end
@@ -82,7 +78,7 @@ squared_gap-nearest a b z other inside =
 -- the nearest cell of a box is in the box
 nearest_cell-in_box : (area : CellBox) (cell : Cell) → in_box area (nearest_cell area cell) ≡ true
 nearest_cell-in_box area cell =
-    both _ _ (is_between-nearest area.x1 area.x2 cell.x area.wide) (is_between-nearest area.y1 area.y2 cell.y area.high)
+    and_from _ _ (is_between-nearest area.x1 area.x2 cell.x area.wide) (is_between-nearest area.y1 area.y2 cell.y area.high)
 
 -- no cell of a box is nearer to a cell than the nearest cell of it
 pub squared_distance-nearest : (area : CellBox) (cell other : Cell) → in_box area other ≡ true →
@@ -99,7 +95,7 @@ intersects_region-from_cell : (region : Region) (area : CellBox) (cell : Cell) �
 intersects_region-from_cell (Rect x1 y1 x2 y2) area cell inside held =
     let box = and_parts (is_between area.x1 area.x2 cell.x) (is_between area.y1 area.y2 cell.y) inside in
     let rect = and_parts (is_between x1 x2 cell.x) (is_between y1 y2 cell.y) held in
-    both _ _ (overlaps-from x1 x2 area.x1 area.x2 cell.x box.0 rect.0) (overlaps-from y1 y2 area.y1 area.y2 cell.y box.1 rect.1)
+    and_from _ _ (overlaps-from x1 x2 area.x1 area.x2 cell.x box.0 rect.0) (overlaps-from y1 y2 area.y1 area.y2 cell.y box.1 rect.1)
 intersects_region-from_cell (Disc x y r) area cell inside held =
     let centre : Cell = record { x = x; y = y } in
     let nearer = squared_distance-nearest area centre cell inside in
@@ -112,7 +108,7 @@ intersects_region-cell (Rect x1 y1 x2 y2) area held =
     let parts = and_parts (overlaps x1 x2 area.x1 area.x2) (overlaps y1 y2 area.y1 area.y2) held in
     let across = overlaps-shared x1 x2 area.x1 area.x2 area.wide parts.0 in
     let along = overlaps-shared y1 y2 area.y1 area.y2 area.high parts.1 in
-    (record { x = int_max x1 area.x1; y = int_max y1 area.y1 }, both _ _ across.0 along.0, both _ _ across.1 along.1)
+    (record { x = int_max x1 area.x1; y = int_max y1 area.y1 }, and_from _ _ across.0 along.0, and_from _ _ across.1 along.1)
 intersects_region-cell (Disc x y r) area held =
     let centre : Cell = record { x = x; y = y } in
     (nearest_cell area centre, nearest_cell-in_box area centre, held)

@@ -1,5 +1,5 @@
 -- The order of rows, and the row of an object and an instant.
-use Rattle.std.proofs.Common.{◌≡◌, ℕ, ℤ, ◌+◌, ◌<◌, false, List, length, get_or, Ordering, Some, None, Result, Ok, Err, refl, sym, ◌∙◌, ap, arith, inl, inr}
+use Rattle.std.proofs.Common.{◌≡◌, ℕ, ℤ, ◌+◌, ◌<◌, ◌≤◌, false, List, length, get_or, Ordering, Some, None, Result, Ok, Err, refl, sym, ◌∙◌, ap, arith, inl, inr}
 use Rattle.std.specs.Prelude.{MatchResult, find, option_map, ◌&&◌, ◌==◌}
 use Rattle.std.specs.Cmp.{IsTotalOrder}
 use Rattle.std.specs.List.{Contains}
@@ -22,6 +22,10 @@ place_order_total = then_total (on_total (λ place. place.0) nat_cmp_total) (on_
 
 pub row_order_total : IsTotalOrder row_order
 row_order_total = on_total place_of place_order_total
+
+-- rows in order have their objects in order
+pub object_le : (a b : Row) → row_order a b ≡ Less → a.object ≤ b.object
+object_le a b below = grind (arith, nat_tests)
 
 -- places tie where both parts are equal
 pub eq_by_cmp-place_order : (object other : ℕ) (instant also : ℤ) →

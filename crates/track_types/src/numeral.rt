@@ -1,4 +1,4 @@
-ghost use Rattle.std.specs.Prelude.{◌≡◌, ◌^◌, ◌<◌, ◌≤◌, true, pos, IfSome, IfNone};
+ghost use Rattle.std.specs.Prelude.{◌≡◌, ◌^◌, ◌<◌, ◌≤◌, true, false, length, pos, IfSome, IfNone};
 ghost use Rattle.std.specs.List.{list_all};
 ghost use Rattle.track_types.specs.Numeral.{is_blank, is_decimal, is_digit, magnitude_of, numeral_of, signed_of, trimmed, without_blanks_before, without_blanks_behind};
 
@@ -18,6 +18,9 @@ pub enum Numeral {
 
 /// The greatest magnitude of a value, 2^62.
 const GREATEST: u128 = 0x4000_0000_0000_0000;
+
+/// The most digits whose value needs no look at its size: it is below 10^18, and so below 2^62.
+const FEW_DIGITS: usize = 18;
 
 /// Reads a word as a numeral: any number of spaces and tabs, at most one `+` or `-`, at least one
 /// decimal digit, and any number of spaces and tabs. It takes no memory, however long the word is.
@@ -64,6 +67,40 @@ fn is_blank_byte(byte: u8) -> bool
 }
 
 fn signed(is_negative: bool, digits: &[u8]) -> Numeral
+    ensures { result ≡ signed_of is_negative digits.now }
+{
+    if digits.len() > FEW_DIGITS {
+        return signed_long(is_negative, digits);
+    }
+    match few_digits(digits) {
+        None => Numeral::Not,
+        Some(size) => Numeral::Value(if is_negative { -size } else { size }),
+    }
+}
+
+// What the digits mean, in one pass, or none where there is no byte or one that is no digit.
+fn few_digits(digits: &[u8]) -> Option<i64>
+    requires { length digits.now ≤ 18 }
+    ensures decimal { IfSome result (λ _. is_decimal digits.now ≡ true) }
+    ensures within { IfSome result (λ value.
+        (value ≡ pos (magnitude_of digits.now)) × (magnitude_of digits.now ≤ 2 ^ 62)) }
+    ensures none { IfNone result (is_decimal digits.now ≡ false) }
+{
+    if digits.is_empty() {
+        return None;
+    }
+    let mut value: u64 = 0;
+    for digit in digits {
+        if !is_digit_byte(*digit) {
+            return None;
+        }
+        value = 10 * value + u64::from(*digit - b'0');
+    }
+    Some(value as i64)
+}
+
+// Digits of any number, of which leading zeros may be most.
+fn signed_long(is_negative: bool, digits: &[u8]) -> Numeral
     ensures { result ≡ signed_of is_negative digits.now }
 {
     if !is_decimal_text(digits) {

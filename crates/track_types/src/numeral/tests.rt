@@ -3,9 +3,17 @@ use std::test::Fail;
 
 #[test]
 fn a_word_is_a_numeral_or_too_large_or_none(rt: HostRuntime) -> Result<(), Fail> {
-    let cases: [(&[u8], Numeral); 8] = [
+    let cases: [(&[u8], Numeral); 10] = [
         (b"0", Numeral::Value(0)),
         (b" \t+007 \t", Numeral::Value(7)),
+        (
+            b"-999999999999999999",
+            Numeral::Value(-999_999_999_999_999_999),
+        ),
+        (
+            b"1000000000000000000",
+            Numeral::Value(1_000_000_000_000_000_000),
+        ),
         (
             b"4611686018427387904",
             Numeral::Value(0x4000_0000_0000_0000),
