@@ -66,25 +66,24 @@ module _ (heads : List Head) (logs : List (List ℕ)) (same : length logs ≡ le
       ∙ run_of-firsts number (drop start (zip heads logs))
 
   module _ (number start : ℕ) (so_far : IsBehind (zip heads logs) number start) where
-    -- the headers of a period are next
+    -- what is part of each block of a period is next
+    part-run : {A : Type 0} (part : Head × List ℕ → A) (all : List A) → map part (zip heads logs) ≡ all
+        → take (run_of number (drop start heads)) (drop start all) ≡ map part (blocks_in number (zip heads logs))
+    part-run part all is =
+        ap (λ parts. take (run_of number (drop start heads)) (drop start parts)) (sym is)
+        ∙ ap (take (run_of number (drop start heads))) (drop-map part start (zip heads logs))
+        ∙ take-map part (run_of number (drop start heads)) (drop start (zip heads logs))
+        ∙ ap (λ n. map part (take n (drop start (zip heads logs)))) (run_of-zip number start)
+        ∙ ap (map part) (blocks_in-run (zip heads logs) number start so_far)
+
+    -- the headers of a period, and their logs
     pub heads-run : take (run_of number (drop start heads)) (drop start heads)
         ≡ map (λ block. block.0) (blocks_in number (zip heads logs))
-    heads-run =
-        ap (λ all. take (run_of number (drop start heads)) (drop start all)) (sym firsts)
-        ∙ ap (take (run_of number (drop start heads))) (drop-map (λ block. block.0) start (zip heads logs))
-        ∙ take-map (λ block. block.0) (run_of number (drop start heads)) (drop start (zip heads logs))
-        ∙ ap (λ n. map (λ block. block.0) (take n (drop start (zip heads logs)))) (run_of-zip number start)
-        ∙ ap (map (λ block. block.0)) (blocks_in-run (zip heads logs) number start so_far)
+    heads-run = part-run (λ block. block.0) heads firsts
 
-    -- and so are their logs
     pub logs-run : take (run_of number (drop start heads)) (drop start logs)
         ≡ map (λ block. block.1) (blocks_in number (zip heads logs))
-    logs-run =
-        ap (λ all. take (run_of number (drop start heads)) (drop start all)) (sym seconds)
-        ∙ ap (take (run_of number (drop start heads))) (drop-map (λ block. block.1) start (zip heads logs))
-        ∙ take-map (λ block. block.1) (run_of number (drop start heads)) (drop start (zip heads logs))
-        ∙ ap (λ n. map (λ block. block.1) (take n (drop start (zip heads logs)))) (run_of-zip number start)
-        ∙ ap (map (λ block. block.1)) (blocks_in-run (zip heads logs) number start so_far)
+    logs-run = part-run (λ block. block.1) logs seconds
 
 module _ (heads : List Head) (logs : List (List ℕ)) (same : length logs ≡ length heads) (number start : ℕ)
     (so_far : IsBehind (zip heads logs) number start) (count : ℕ)

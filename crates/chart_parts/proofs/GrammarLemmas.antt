@@ -4,6 +4,7 @@ use Rattle.std.specs.List.{AllByRecursion, Contains, flat_map, sum_by}
 use Rattle.std.proofs.lemmas.List.{length-map}
 use Rattle.std.proofs.lemmas.List.Concat.{length-flat_map}
 use Rattle.std.proofs.lemmas.List.Elements.{All-contains_itself, All-map, All-weaker, recursion_from_All}
+use Rattle.std.proofs.lemmas.Slice.Zip.{firsts-zip, seconds-zip}
 use Rattle.list_laws.proofs.FlatLemmas.{sum_by-map}
 use Rattle.list_laws.proofs.MemberLemmas.{Contains-flat_map}
 use Rattle.list_laws.proofs.SumLemmas.{sum_by-agree}
@@ -11,6 +12,7 @@ use Rattle.track_types.specs.Chart.{ChartView, IsChart}
 use Rattle.track_types.specs.Limits.{limit_of}
 use Rattle.track_types.specs.Quantities.{symbol_count}
 use Rattle.track_types.specs.declared.limit.LimitKind.TheVariants.{Symbols}
+use Rattle.track_types.specs.declared.row.Row.{Row}
 use Rattle.movement_log.specs.Blocks.{log_length_of}
 use Rattle.movement_log.specs.Logs.{alphabet_of, block_anchors, logged_values, logs_of, terminal_of, values_after}
 use Rattle.movement_log.proofs.AlphabetLemmas.{Contains-ascending_of, length-ascending_of, terminal_of-member}
@@ -19,7 +21,7 @@ use Rattle.movement_log.proofs.PeriodLemmas.{sum_by-block_anchors}
 use Rattle.repair_grammar.specs.GrammarOf.{IsGrammarOf}
 use Rattle.repair_grammar.specs.RePair.{AreBelow}
 use Rattle.repair_grammar.proofs.SoundLemmas.{re_pair-sound}
-use Rattle.chart_parts.specs.PartsOf.{grammar_of}
+use Rattle.chart_parts.specs.PartsOf.{grammar_of, logged_anchors}
 
 module _ (chart : ChartView) where
   -- each value of a log is in the alphabet
@@ -99,3 +101,17 @@ module _ (chart : ChartView) where
         sum_by-logged_values is.period.some,
         is.symbols,
       )
+
+  -- there is a log for each anchor
+  pub length-blocks : length (grammar_of chart).blocks ≡ length (block_anchors chart)
+  length-blocks = IsGrammarOf-chart.same ∙ length-terminals
+
+  -- the anchors beside the logs are those of all blocks
+  pub firsts-logged_anchors : map (λ (block : Row × List ℕ). block.0) (logged_anchors chart) ≡ block_anchors chart
+  unfolding logged_anchors
+  firsts-logged_anchors = firsts-zip (block_anchors chart) (grammar_of chart).blocks length-blocks
+
+  -- and the logs beside the anchors are those of the grammar
+  pub seconds-logged_anchors : map (λ (block : Row × List ℕ). block.1) (logged_anchors chart) ≡ (grammar_of chart).blocks
+  unfolding logged_anchors
+  seconds-logged_anchors = seconds-zip (block_anchors chart) (grammar_of chart).blocks length-blocks

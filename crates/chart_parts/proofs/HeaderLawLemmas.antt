@@ -10,7 +10,7 @@ use Rattle.std.proofs.lemmas.List.{get_or_default, length-map}
 use Rattle.std.proofs.lemmas.List.Elements.{Contains-get_or, All-contains, All-head, All-map, All-tail, All-weaker}
 use Rattle.std.proofs.lemmas.List.FromFn.{get_or-range_with_len, length-range_with_len}
 use Rattle.std.proofs.lemmas.List.Sums.{fails_before_first, passes_at_first}
-use Rattle.k2_tree.specs.Morton.{IsInGrid}
+use Rattle.k2_tree.specs.Morton.{IsGrid, IsInGrid}
 use Rattle.movement_log.specs.Blocks.{no_row, row_at}
 use Rattle.movement_log.proofs.LogLemmas.{bounded}
 use Rattle.snapshots.specs.Parts.{last_in}
@@ -19,9 +19,21 @@ use Rattle.track_types.specs.Frame.{IsFrame, periods_of}
 use Rattle.track_types.specs.Limits.{limit_of}
 use Rattle.track_types.specs.Near.{IsNear, IsRowInRange}
 use Rattle.track_types.specs.Quantities.{columns_of, extent_of, first_of, greatest, instants_of, last_of, least, lines_of, objects_of}
+use Rattle.track_types.specs.declared.frame.Frame.{Frame}
 use Rattle.track_types.specs.declared.limit.LimitKind.TheVariants.{Blocks}
 use Rattle.track_types.specs.declared.row.Row.{Row}
 use Rattle.chart_parts.specs.Header.{frame_of, height_for}
+
+-- the grid of a header
+pub IsGrid-frame : (frame : Frame) → IsFrame frame → IsGrid frame.height frame.base
+IsGrid-frame frame is = record {
+  some = is.some;
+  limit = is.limit;
+  left = omega (arith, ints, is.columns.low);
+  right = omega (arith, ints, is.columns.high);
+  below = omega (arith, ints, is.lines.low);
+  above = omega (arith, ints, is.lines.high);
+}
 
 -- the grid is as wide as what it is made for, and no greater than a header may say
 height_for-wide : (extent : ℕ) → extent ≤ 2 ^ 20 → (height_for extent ≤ 20) × (extent ≤ 2 ^ height_for extent)

@@ -7,7 +7,6 @@ use Rattle.std.specs.List.Sorted.{IsNonDecreasingBy}
 use Rattle.std.proofs.Math.ListN.{get_or-map}
 use Rattle.std.proofs.lemmas.List.{length-map}
 use Rattle.std.proofs.lemmas.List.Elements.{All-weaker, Contains-get_or}
-use Rattle.std.proofs.lemmas.Slice.Zip.{firsts-zip, seconds-zip}
 use Rattle.list_laws.proofs.FlatLemmas.{flat_map-flat_map}
 use Rattle.list_laws.proofs.MapLemmas.{map-flat_map}
 use Rattle.list_laws.proofs.MemberLemmas.{member_of_filter}
@@ -20,7 +19,7 @@ use Rattle.movement_log.specs.Logs.{anchors_in, block_anchors}
 use Rattle.movement_log.proofs.KeyLemmas.{by_key, by_key-sorted, of_key}
 use Rattle.movement_log.proofs.KeyOrderLemmas.{IsNonDecreasingBy-by_key, by_key-within, filter-by_key}
 use Rattle.chart_parts.specs.PartsOf.{grammar_of, logged_anchors, logs_in}
-use Rattle.chart_parts.proofs.GrammarLemmas.{IsGrammarOf-chart, length-terminals}
+use Rattle.chart_parts.proofs.GrammarLemmas.{firsts-logged_anchors, seconds-logged_anchors}
 
 module _ (chart : ChartView) where
   -- how many periods there are
@@ -36,17 +35,6 @@ module _ (chart : ChartView) where
   abbrev rows_by_object : List Row
   rows_by_object = anchors_of (first_of chart.rows) chart.period chart.rows
 
-  length-blocks : length (grammar_of chart).blocks ≡ length (block_anchors chart)
-  length-blocks = (IsGrammarOf-chart chart).same ∙ length-terminals chart
-
-  firsts-logged_anchors : map (λ (block : Row × List ℕ). block.0) (logged_anchors chart) ≡ block_anchors chart
-  unfolding logged_anchors
-  firsts-logged_anchors = firsts-zip (block_anchors chart) (grammar_of chart).blocks length-blocks
-
-  seconds-logged_anchors : map (λ (block : Row × List ℕ). block.1) (logged_anchors chart) ≡ (grammar_of chart).blocks
-  unfolding logged_anchors
-  seconds-logged_anchors = seconds-zip (block_anchors chart) (grammar_of chart).blocks length-blocks
-
   anchors-rise : IsNonDecreasingBy row_period (block_anchors chart)
   unfolding block_anchors
   anchors-rise = IsNonDecreasingBy-by_key row_period 0 count rows_by_object
@@ -61,12 +49,12 @@ module _ (chart : ChartView) where
   first_at : (i : ℕ) (d : Row × List ℕ) →
       get_or (block_anchors chart) i d.0 ≡ (get_or (logged_anchors chart) i d).0
   first_at i d =
-      ap (λ rows. get_or rows i d.0) (sym firsts-logged_anchors)
+      ap (λ rows. get_or rows i d.0) (sym (firsts-logged_anchors chart))
       ∙ get_or-map (λ (block : Row × List ℕ). block.0) (logged_anchors chart) i d
 
   length-logged_anchors : length (logged_anchors chart) ≡ length (block_anchors chart)
   length-logged_anchors =
-      sym (length-map (logged_anchors chart) (λ (block : Row × List ℕ). block.0)) ∙ ap length firsts-logged_anchors
+      sym (length-map (logged_anchors chart) (λ (block : Row × List ℕ). block.0)) ∙ ap length (firsts-logged_anchors chart)
 
   -- the logs are by period
   by_key-logged_anchors : by_key log_period 0 count (logged_anchors chart) ≡ logged_anchors chart
@@ -83,7 +71,7 @@ module _ (chart : ChartView) where
   pub blocks-by_period : (grammar_of chart).blocks ≡ flat_map (logs_in chart) (range_with_len 0 count)
   unfolding logs_in
   blocks-by_period =
-      sym seconds-logged_anchors
+      sym (seconds-logged_anchors chart)
       ∙ ap (map (λ (block : Row × List ℕ). block.1)) (sym by_key-logged_anchors)
       ∙ map-flat_map (λ (block : Row × List ℕ). block.1) (λ k. filter (of_key log_period k) (logged_anchors chart))
       (range_with_len 0 count)
@@ -108,7 +96,7 @@ module _ (chart : ChartView) where
     unfolding block_anchors
     firsts-logged =
         sym (filter-map (of_key row_period number) (λ (block : Row × List ℕ). block.0) (logged_anchors chart))
-        ∙ ap (filter (of_key row_period number)) firsts-logged_anchors
+        ∙ ap (filter (of_key row_period number)) (firsts-logged_anchors chart)
         ∙ filter-by_key row_period number 0 count rows_by_object (omega arith) (omega arith)
 
     -- there is a log for each anchor of a period

@@ -1,14 +1,13 @@
 -- The objects of rows in order: each object once, as `dedup` leaves them.
 use Rattle.std.proofs.Common.{◌≡◌, ℕ, ◌<◌, ◌≤◌, false, List, [], ◌∷◌, map, refl, ap, arith, inl, inr, eq-eqb, ne_eqb}
 use Rattle.std.specs.Prelude.{◌==◌}
-use Rattle.std.specs.declared.cmp.Ordering.TheVariants.{Less}
 use Rattle.std.specs.List.{dedup, dedup_from, list_any}
 use Rattle.std.specs.List.Sorted.{IsStrictlySortedBy}
 use Rattle.std.proofs.lemmas.Bool.{cases_lt}
-use Rattle.std.proofs.lemmas.Bool.Decides.{nat_tests}
 use Rattle.track_types.specs.Quantities.{distinct, objects_of}
-use Rattle.track_types.specs.Row.{IsAscending, row_order}
+use Rattle.track_types.specs.Row.{IsAscending}
 use Rattle.track_types.specs.declared.row.Row.{Row}
+use Rattle.track_types.proofs.RowLemmas.{object_le}
 use Rattle.chart_parts.specs.PeriodWith.{Climbs}
 
 -- a number below all that climb from a greater one is none of them
@@ -36,9 +35,6 @@ distinct-from k (x ∷ xs) up = elim (cases_lt k x) [
 pub distinct-dedup : (n : ℕ) (xs : List ℕ) → Climbs n xs → dedup (λ a b. a == b) xs ≡ distinct xs
 distinct-dedup n [] up = unfold distinct in refl
 distinct-dedup n (x ∷ xs) up = distinct-from x xs up.1
-
-object_le : (a b : Row) → row_order a b ≡ Less → a.object ≤ b.object
-object_le a b below = grind (arith, nat_tests)
 
 climbs-objects : (row : Row) (rest : List Row) → IsAscending (row ∷ rest) → Climbs row.object (map (λ r. r.object) rest)
 unfolding IsStrictlySortedBy

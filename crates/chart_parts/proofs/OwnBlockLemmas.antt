@@ -1,18 +1,15 @@
 -- The blocks of a chart by period: few in each, with cells in the grid and logs that are not long.
 use Rattle.std.proofs.Common.{◌≡◌, ℕ, ◌^◌, ◌<◌, ◌≤◌, List, get_or, length, map, sym, ◌∙◌, ap, arith, subst}
 use Rattle.std.specs.Prelude.{All}
-use Rattle.std.proofs.lemmas.Int.{ints}
 use Rattle.std.proofs.lemmas.List.{length-map}
 use Rattle.std.proofs.lemmas.List.Elements.{All-map, Contains-get_or}
 use Rattle.std.proofs.lemmas.List.Sums.{count_by-le-length, get_or-le-sum_by, length-filter}
 use Rattle.std.proofs.lemmas.Simd.{map-map}
 use Rattle.list_laws.proofs.MapLemmas.{member_of_zip}
 use Rattle.track_types.specs.Chart.{ChartView, IsChart}
-use Rattle.track_types.specs.Frame.{IsFrame, periods_of}
+use Rattle.track_types.specs.Frame.{periods_of}
 use Rattle.track_types.specs.Quantities.{anchors_of, first_of, object_count, objects_of, period_count}
-use Rattle.track_types.specs.declared.frame.Frame.{Frame}
 use Rattle.track_types.specs.declared.row.Row.{Row}
-use Rattle.k2_tree.specs.Morton.{IsGrid}
 use Rattle.movement_log.specs.Logs.{anchors_in, block_anchors, head_of, logs_of}
 use Rattle.movement_log.specs.declared.head.Head.{Head}
 use Rattle.movement_log.proofs.AlphabetLemmas.{terminal_of-member}
@@ -21,21 +18,11 @@ use Rattle.chart_parts.specs.Header.{frame_of}
 use Rattle.chart_parts.specs.PartsOf.{grammar_of, is_present, logged_anchors}
 use Rattle.chart_parts.specs.PeriodWith.{AreBlocksOf, Climbs, IsBlockOf, blocks_in}
 use Rattle.chart_parts.proofs.CellLemmas.{Contains-block_anchors}
-use Rattle.chart_parts.proofs.GrammarLemmas.{IsGrammarOf-chart, few_terminals}
-use Rattle.chart_parts.proofs.HeaderLawLemmas.{IsFrame-frame_of, row-in_grid}
+use Rattle.chart_parts.proofs.GrammarLemmas.{IsGrammarOf-chart, few_terminals, firsts-logged_anchors}
+use Rattle.chart_parts.proofs.HeaderLawLemmas.{IsFrame-frame_of, IsGrid-frame, row-in_grid}
 use Rattle.chart_parts.proofs.ObjectLemmas.{Contains-objects_of}
 use Rattle.chart_parts.proofs.PresenceLemmas.{filter-is_present}
-use Rattle.chart_parts.proofs.OwnPeriodLemmas.{Climbs-rising, firsts-anchors, headed, heads-own, own_blocks, own_blocks-headed, row_period}
-
-IsGrid-header : (frame : Frame) → IsFrame frame → IsGrid frame.height frame.base
-IsGrid-header frame is = record {
-  some = is.some;
-  limit = is.limit;
-  left = omega (arith, ints, is.columns.low);
-  right = omega (arith, ints, is.columns.high);
-  below = omega (arith, ints, is.lines.low);
-  above = omega (arith, ints, is.lines.high);
-}
+use Rattle.chart_parts.proofs.OwnPeriodLemmas.{Climbs-rising, headed, heads-own, own_blocks, own_blocks-headed, row_period}
 
 module _ (chart : ChartView) (is : IsChart chart) where
   by_period : Climbs 0 (map (λ block. block.0.period) (own_blocks chart))
@@ -48,7 +35,7 @@ module _ (chart : ChartView) (is : IsChart chart) where
       ap (map (λ (block : Head × List ℕ). block.0.period)) (own_blocks-headed chart)
       ∙ map-map (λ (block : Head × List ℕ). block.0.period) (headed chart) (logged_anchors chart)
       ∙ sym (map-map (row_period chart) (λ (block : Row × List ℕ). block.0) (logged_anchors chart))
-      ∙ ap (map (row_period chart)) (firsts-anchors chart) in
+      ∙ ap (map (row_period chart)) (firsts-logged_anchors chart) in
       subst (Climbs 0) (sym periods) (Climbs-rising (row_period chart) 0 anchors (λ k d within. omega arith) rising)
 
   few_in : (number : ℕ) → number < periods_of (frame_of chart) → length (blocks_in number (own_blocks chart)) ≤ 2 ^ 16
@@ -102,7 +89,7 @@ module _ (chart : ChartView) (is : IsChart chart) where
   -- the blocks of a chart
   pub AreBlocksOf-own : AreBlocksOf (frame_of chart) (object_count chart.rows) (own_blocks chart)
   AreBlocksOf-own = record {
-    grid = IsGrid-header (frame_of chart) (IsFrame-frame_of chart is);
+    grid = IsGrid-frame (frame_of chart) (IsFrame-frame_of chart is);
     by_period = by_period;
     few = few_in;
     each = each_block;

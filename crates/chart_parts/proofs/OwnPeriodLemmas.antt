@@ -5,7 +5,6 @@ use Rattle.std.specs.List.{range_with_len, zip}
 use Rattle.std.specs.List.Sorted.{IsNonDecreasingBy}
 use Rattle.std.proofs.lemmas.List.{length-map}
 use Rattle.std.proofs.lemmas.Simd.{map-map}
-use Rattle.std.proofs.lemmas.Slice.Zip.{firsts-zip}
 use Rattle.list_laws.proofs.MapLemmas.{filter-map}
 use Rattle.track_types.specs.Chart.{ChartView, IsChart}
 use Rattle.track_types.specs.Quantities.{anchors_of, first_of, object_count, period_count, period_of}
@@ -19,7 +18,7 @@ use Rattle.snapshots.specs.Parts.{numbers_in}
 use Rattle.chart_parts.specs.Header.{frame_of}
 use Rattle.chart_parts.specs.PartsOf.{anchor_codes, grammar_of, logged_anchors, logs_in, period_of_chart}
 use Rattle.chart_parts.specs.PeriodWith.{Climbs, blocks_in, period_of_blocks}
-use Rattle.chart_parts.proofs.GrammarLemmas.{IsGrammarOf-chart, length-terminals}
+use Rattle.chart_parts.proofs.GrammarLemmas.{firsts-logged_anchors, length-blocks}
 use Rattle.chart_parts.proofs.OwnPresenceLemmas.{presence_of-heads}
 
 -- what is made of the first parts beside the second ones
@@ -66,17 +65,10 @@ module _ (chart : ChartView) where
   unfolding logs_of logged_anchors
   own_blocks-headed = zip-map (head_of chart) (block_anchors chart) (grammar_of chart).blocks
 
-  length-logs : length (grammar_of chart).blocks ≡ length (block_anchors chart)
-  length-logs = (IsGrammarOf-chart chart).same ∙ length-terminals chart
-
   -- there are as many logs as headers
   pub as_many-logs : length (grammar_of chart).blocks ≡ length (logs_of chart).heads
   unfolding logs_of
-  as_many-logs = length-logs ∙ sym (length-map (block_anchors chart) (head_of chart))
-
-  pub firsts-anchors : map (λ (block : Row × List ℕ). block.0) (logged_anchors chart) ≡ block_anchors chart
-  unfolding logged_anchors
-  firsts-anchors = firsts-zip (block_anchors chart) (grammar_of chart).blocks length-logs
+  as_many-logs = length-blocks chart ∙ sym (length-map (block_anchors chart) (head_of chart))
 
   module _ (number : ℕ) where
     abbrev logged : List (Row × List ℕ)
@@ -101,7 +93,7 @@ module _ (chart : ChartView) where
         ∙ sym (map-map (head_of chart) (λ (block : Row × List ℕ). block.0) logged)
         ∙ ap (map (head_of chart))
         (sym (filter-map (of_key row_period number) (λ (block : Row × List ℕ). block.0) (logged_anchors chart))
-        ∙ ap (filter (of_key row_period number)) firsts-anchors
+        ∙ ap (filter (of_key row_period number)) (firsts-logged_anchors chart)
         ∙ filter-by_key row_period number 0 count (anchors_of (first_of chart.rows) chart.period chart.rows)
         (omega arith) (omega arith))
 

@@ -4,11 +4,10 @@ use Rattle.std.proofs.Common.{refl, sym, ap, ◌∙◌, arith, subst}
 use Rattle.std.specs.Prelude.{min, slice_index}
 use Rattle.std.specs.List.{Contains}
 use Rattle.std.proofs.Math.Nat.{div-add-mod}
-use Rattle.std.proofs.lemmas.Int.{ints}
 use Rattle.std.proofs.lemmas.List.{length-map}
 use Rattle.std.proofs.lemmas.List.Elements.{All-contains, All-contains_itself, All-map, All-weaker}
 use Rattle.track_types.specs.Chart.{ChartView, IsChart}
-use Rattle.track_types.specs.Frame.{IsFrame, instants_in, periods_of}
+use Rattle.track_types.specs.Frame.{instants_in, periods_of}
 use Rattle.track_types.specs.Quantities.{elapsed, first_of, span_of}
 use Rattle.track_types.specs.declared.cell.Cell.{Cell}
 use Rattle.track_types.specs.declared.frame.Frame.{Frame}
@@ -26,23 +25,12 @@ use Rattle.movement_log.specs.Logs.{anchors_in}
 use Rattle.chart_parts.specs.Header.{frame_of}
 use Rattle.chart_parts.specs.LeafOrder.{distinct_codes, leaf_codes, leaf_order}
 use Rattle.chart_parts.specs.PartsOf.{anchor_codes, parts_of, period_of_chart}
-use Rattle.chart_parts.proofs.HeaderLawLemmas.{IsFrame-frame_of}
+use Rattle.chart_parts.proofs.HeaderLawLemmas.{IsFrame-frame_of, IsGrid-frame}
 use Rattle.chart_parts.proofs.LeafEndLemmas.{All-distinct_codes, Rises-distinct_codes, distinct_codes-at_rank}
 use Rattle.chart_parts.proofs.LeafEndLemmas.{ends_of-last, ones_of-leaf_ends}
 use Rattle.chart_parts.proofs.LeafOrderLemmas.{PermutesPlaces-leaf_order, leaf_order-before, length-leaf_order}
 use Rattle.chart_parts.proofs.LogSliceLemmas.{period_at-parts_of}
 use Rattle.chart_parts.proofs.PeriodAnchorLemmas.{IsAnchorIn-member}
-
--- the grid of a header
-IsGrid-frame : (frame : Frame) → IsFrame frame → IsGrid frame.height frame.base
-IsGrid-frame frame is = record {
-  some = is.some;
-  limit = is.limit;
-  left = omega (arith, ints, is.columns.low);
-  right = omega (arith, ints, is.columns.high);
-  below = omega (arith, ints, is.lines.low);
-  above = omega (arith, ints, is.lines.high);
-}
 
 -- how many instants come before one in its period
 offset_below : (before period span number : ℕ) → 0 < period → before / period ≡ number → before < span →

@@ -3,7 +3,6 @@ use Rattle.std.proofs.Common.{◌≡◌, ℕ, List, [], length, map, get_or, sym
 use Rattle.std.specs.Prelude.{slice_index}
 use Rattle.std.specs.List.{Contains}
 use Rattle.std.proofs.lemmas.Simd.{map-map}
-use Rattle.std.proofs.lemmas.Slice.Zip.{firsts-zip, seconds-zip}
 use Rattle.list_laws.specs.Grown.{expansions}
 use Rattle.list_laws.proofs.MapLemmas.{map-fixed, map-flat_map, member_of_zip, zip-agree}
 use Rattle.list_laws.proofs.MemberLemmas.{Contains-map, member_of_map}
@@ -17,7 +16,7 @@ use Rattle.movement_log.proofs.AlphabetLemmas.{terminal_of-member}
 use Rattle.repair_grammar.specs.GrammarOf.{expanded}
 use Rattle.snapshots.specs.Parts.{rules_in}
 use Rattle.chart_parts.specs.PartsOf.{grammar_of, logged_anchors, parts_of}
-use Rattle.chart_parts.proofs.GrammarLemmas.{Contains-alphabet_of, IsGrammarOf-chart, length-terminals}
+use Rattle.chart_parts.proofs.GrammarLemmas.{Contains-alphabet_of, IsGrammarOf-chart, seconds-logged_anchors}
 
 -- the values of a log are those of the terminals that its symbols stand for
 log_values-expanded : (rules : RulesView) (log : List ℕ) →
@@ -28,26 +27,12 @@ log_values-expanded rules log =
     (λ symbol. get_or (expansions (length rules.alphabet) rules.rules) symbol []) log)
 
 module _ (chart : ChartView) where
-  -- there is a log for each anchor
-  length-logs : length (grammar_of chart).blocks ≡ length (block_anchors chart)
-  length-logs = (IsGrammarOf-chart chart).same ∙ length-terminals chart
-
-  -- the anchors beside the logs are those of all blocks
-  pub firsts-logged_anchors : map (λ (pair : Row × List ℕ). pair.0) (logged_anchors chart) ≡ block_anchors chart
-  unfolding logged_anchors
-  firsts-logged_anchors = firsts-zip (block_anchors chart) (grammar_of chart).blocks length-logs
-
-  -- and the logs beside the anchors are those of the grammar
-  pub seconds-logged_anchors : map (λ (pair : Row × List ℕ). pair.1) (logged_anchors chart) ≡ (grammar_of chart).blocks
-  unfolding logged_anchors
-  seconds-logged_anchors = seconds-zip (block_anchors chart) (grammar_of chart).blocks length-logs
-
   -- each log of the grammar stands beside an anchor
   pub anchored_log : (log : List ℕ) → Contains (grammar_of chart).blocks log →
       (anchor : Row) × Contains (logged_anchors chart) (anchor, log)
   anchored_log log stored =
       let made = member_of_map (λ (pair : Row × List ℕ). pair.1) (logged_anchors chart) log
-      (subst (λ all. Contains all log) (sym seconds-logged_anchors) stored) in
+      (subst (λ all. Contains all log) (sym (seconds-logged_anchors chart)) stored) in
       (made.0.0, subst (λ other. Contains (logged_anchors chart) (made.0.0, other)) made.2 made.1)
 
   -- what stand beside each other are a block's anchor and a log of the grammar

@@ -1,6 +1,6 @@
 -- The hits of rows, object by object: each is the first stop of the object's path in the region.
 use Rattle.std.proofs.Common.{◌≡◌, ℕ, ℤ, Bool, true, false, List, [], ◌∷◌, get_or, map, filter}
-use Rattle.std.proofs.Common.{Option, Some, None, not, refl, ap, sym, ◌∙◌, arith, inl, inr}
+use Rattle.std.proofs.Common.{not, refl, ap, sym, ◌∙◌, arith, inl, inr}
 use Rattle.std.specs.Prelude.{◌&&◌, ◌==◌, slice_get, option_map}
 use Rattle.std.specs.List.{Contains, filter_map, list_any}
 use Rattle.std.specs.List.Sorted.{IsNonDecreasingBy, IsStrictlySortedBy}

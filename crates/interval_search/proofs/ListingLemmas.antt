@@ -1,16 +1,14 @@
 -- A search through the objects of an index: each gives its first hit, for the reads of its path.
 use Rattle.std.proofs.Common.{◌≡◌, ℕ, ◌+◌, ◌<◌, ◌≤◌, ℤ, List, [], ◌∷◌, ◌++◌, length, drop, Option, Some, None}
-use Rattle.std.proofs.Common.{refl, ap, sym, subst, ◌∙◌, arith, eqb}
+use Rattle.std.proofs.Common.{refl, ap, sym, subst, ◌∙◌, arith}
 use Rattle.std.specs.Prelude.{slice_index, option_map}
 use Rattle.std.specs.List.{Contains, filter_map, flat_map, range_with_len}
 use Rattle.std.specs.Option.{option_to_list}
 use Rattle.std.proofs.Math.ListN.{drop_of_length-le}
-use Rattle.std.proofs.lemmas.Bool.{eq-eqb, ne_eqb}
 use Rattle.std.proofs.lemmas.List.{append-nil, at_drop_more}
 use Rattle.std.proofs.lemmas.List.Elements.{Contains-get_or}
 use Rattle.std.proofs.lemmas.List.Sums.{sum_by-drop_more}
 use Rattle.std.proofs.lemmas.Map.Keys.{sorted_from_strictly_increasing}
-use Rattle.list_laws.proofs.FindLemmas.{find_in_range-first}
 use Rattle.list_laws.proofs.KeyedLemmas.{member_of_range}
 use Rattle.list_laws.proofs.MemberLemmas.{member_of_flat_map, member_of_map}
 use Rattle.list_laws.proofs.OptionLemmas.{append-cons_option}
@@ -24,13 +22,12 @@ use Rattle.rule_store.specs.View.{RulesView}
 use Rattle.rule_store.specs.Log.{stop_at}
 use Rattle.log_cursor.specs.Touching.{first_among}
 use Rattle.snapshots.specs.IndexCost.{path_cost}
-use Rattle.snapshots.specs.Parts.{chart_in, index_in, numbers_in, row_of, rows_in, rules_in, stops_in}
+use Rattle.snapshots.specs.Parts.{chart_in, numbers_in, row_of, rows_in, rules_in, stops_in}
 use Rattle.snapshots.specs.SoundParts.{IsValid}
-use Rattle.snapshots.proofs.GetterLemmas.{increasing-below}
 use Rattle.object_track.specs.Between.{cost_between, stops_between}
 use Rattle.object_track.specs.Met.{AreMet}
 use Rattle.object_track.proofs.BetweenLemmas.{cost_between-met, stops_between-met}
-use Rattle.object_track.proofs.TableLemmas.{IsTable-chart_in}
+use Rattle.object_track.proofs.TableLemmas.{index_in-own, IsTable-chart_in}
 use Rattle.interval_search.specs.Cost.{interval_cost}
 use Rattle.interval_search.specs.Finding.{hit_at, hit_in, IsListing}
 use Rattle.interval_search.proofs.HitLemmas.{hits_of-objects}
@@ -80,16 +77,6 @@ module _ (parts : Parts) (valid : IsValid parts) (region : Region) (from to : �
     abbrev object : ℕ
     object = slice_index parts.objects place
 
-    -- it stands at no other place
-    index_in-own : index_in parts.objects object ≡ Some place
-    index_in-own =
-        find_in_range-first (λ i. eqb (slice_index parts.objects i) object) 0 (length parts.objects) place
-        (omega arith) (omega (arith, within))
-        (λ j low less.
-        let below = increasing-below parts.objects valid.shaped.objects j place less within in
-        ne_eqb (slice_index parts.objects j) object (λ same. omega (arith, below, same)))
-        (eq-eqb object object refl)
-
     -- it was searched in the periods that the window meets
     pub listing-more : (next behind before steps later : ℕ) (found : List Hit) (rules after : RulesView)
         (stop : Option Stop) → IsListing parts region from to before place found rules steps
@@ -99,7 +86,7 @@ module _ (parts : Parts) (valid : IsValid parts) (region : Region) (from to : �
         → IsListing parts region from to before (place + 1) (found ++ option_to_list (option_map (hit_at object) stop))
         after later
     listing-more next behind before steps later found rules after stop is met first cost same =
-        let path = stops_between-met parts valid object place from to next behind index_in-own met in
+        let path = stops_between-met parts valid object place from to next behind (index_in-own parts valid place within) met in
         let hit : option_map (hit_at object) stop ≡ hit_in_chart object =
         ap (option_map (hit_at object)) (first ∙ ap (first_among region) path) in
         let rest : List Hit = filter_map hit_in_chart (drop (place + 1) parts.objects) in
@@ -113,7 +100,7 @@ module _ (parts : Parts) (valid : IsValid parts) (region : Region) (from to : �
             arith,
             is.reads,
             cost,
-            cost_between-met parts object place from to next behind index_in-own met,
+            cost_between-met parts object place from to next behind (index_in-own parts valid place within) met,
             sum_by-drop_more (λ o. path_cost parts o from to) parts.objects place 0 within,
           );
         }

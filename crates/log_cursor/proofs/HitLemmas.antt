@@ -4,7 +4,7 @@ use Rattle.std.specs.Option.{is_some, option_map, option_or}
 use Rattle.std.specs.Prelude.{find, get_or, slice_index}
 use Rattle.std.specs.Int.{int_max, int_min}
 use Rattle.std.specs.Prelude.{fold}
-use Rattle.std.proofs.lemmas.Bool.{and_parts, cases_Bool}
+use Rattle.std.proofs.lemmas.Bool.{and_from, and_parts, cases_Bool}
 use Rattle.std.proofs.lemmas.Int.{clamps, ints}
 use Rattle.std.proofs.lemmas.List.Elements.{All-head, All-nil, All-tail, filter-append}
 use Rattle.std.proofs.lemmas.List.Folds.{find-append}
@@ -15,7 +15,7 @@ use Rattle.track_types.specs.declared.cell.Cell.{Cell}
 use Rattle.track_types.specs.declared.cell_box.CellBox.{CellBox}
 use Rattle.track_types.specs.declared.region.Region.{Region}
 use Rattle.track_types.specs.declared.stop.Stop.{Stop}
-use Rattle.track_types.proofs.RegionLemmas.{both, intersects_region-exact, is_between-bounds, is_between-from}
+use Rattle.track_types.proofs.RegionLemmas.{intersects_region-exact, is_between-bounds, is_between-from}
 use Rattle.rule_store.specs.View.{RulesView}
 use Rattle.rule_store.specs.Expansion.{values_of}
 use Rattle.rule_store.specs.Cells.{cells_along, displacement_of, moved, present_in}
@@ -109,7 +109,7 @@ module _ (region : Region) where
   outside area apart cell inside = elim (cases_Bool (in_region region cell)) [
     | inl held ↦
         let in_area : in_box area cell ≡ true =
-        both _ _ (is_between-from area.x1 area.x2 cell.x inside.left inside.right)
+        and_from _ _ (is_between-from area.x1 area.x2 cell.x inside.left inside.right)
         (is_between-from area.y1 area.y2 cell.y inside.below inside.above) in
         let touched : intersects_region region area ≡ true =
         (intersects_region-exact region area).1 (cell, in_area, held) in

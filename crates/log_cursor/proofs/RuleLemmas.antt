@@ -1,32 +1,22 @@
 -- A rule by its symbol: what its two parts, which are below it, tell of it.
-use Rattle.std.proofs.Common.{◌≡◌, ℕ, zero, suc, ◌+◌, ◌-◌, ◌<◌, ◌≤◌, ℤ, true, List, [], ◌∷◌, ◌++◌, length, get_or, max, refl, ap, sym, ◌∙◌, arith}
-use Rattle.std.specs.Prelude.{fold}
+use Rattle.std.proofs.Common.{◌≡◌, ℕ, suc, ◌+◌, ◌-◌, ◌<◌, ◌≤◌, ℤ, true, List, [], ◌∷◌, ◌++◌, length, max, refl, ap, sym, ◌∙◌, arith}
 use Rattle.std.proofs.lemmas.List.{append_assoc}
+use Rattle.list_laws.proofs.GreatestLemmas.{fold_max-at}
 use Rattle.track_types.specs.declared.cell.Cell.{Cell}
 use Rattle.rule_store.specs.View.{RulesView, symbols_in}
 use Rattle.rule_store.specs.Expansion.{depth_in, depth_of, depths, expansion_of, values_of}
 use Rattle.rule_store.specs.Flaws.{AreRules, left_of, right_of}
 use Rattle.rule_store.specs.Log.{log_values, stops_after}
 use Rattle.rule_store.specs.Nodes.{Node, nodes_in, opened_count, parsed}
-use Rattle.rule_store.proofs.ExpansionLemmas.{depth_of-rule, expansion_of-rule, length-depths, values_of-rule}
+use Rattle.rule_store.proofs.ExpansionLemmas.{depth_of-rule, expansion_of-rule, values_of-rule, length-depths}
 use Rattle.rule_store.proofs.FlawLemmas.{no_flaws, rule-sound}
 use Rattle.rule_store.proofs.LogLemmas.{stops_after-rule}
 use Rattle.rule_store.proofs.NodeLemmas.{nodes_in-rule, opened_count-opened, opens, parsed-terminals}
 
--- a number among some, and where they begin, is at most the greatest
-fold_max-start : (numbers : List ℕ) (n : ℕ) → n ≤ fold max n numbers
-fold_max-start [] n = omega arith
-fold_max-start (other ∷ numbers) n = let rest = fold_max-start numbers (max n other) in omega (arith, rest)
-
-fold_max-each : (numbers : List ℕ) (n place : ℕ) → get_or numbers place 0 ≤ fold max n numbers
-fold_max-each [] n place = omega arith
-fold_max-each (other ∷ numbers) n zero = let rest = fold_max-start numbers (max n other) in omega (arith, rest)
-fold_max-each (other ∷ numbers) n (suc place) = fold_max-each numbers (max n other) place
-
 -- no symbol is deeper than the deepest
 pub depth_of-deepest : (rules : RulesView) (symbol : ℕ) → depth_of rules symbol ≤ depth_in rules
 unfolding depth_of depth_in
-depth_of-deepest rules symbol = fold_max-each (depths (length rules.alphabet) rules.rules) 0 symbol
+depth_of-deepest rules symbol = fold_max-at (depths (length rules.alphabet) rules.rules) 0 symbol
 
 -- the parts of a rule are below it
 pub parts-below : (rules : RulesView) (symbol : ℕ) → AreRules rules → length rules.alphabet ≤ symbol →

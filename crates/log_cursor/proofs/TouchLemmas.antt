@@ -2,13 +2,13 @@
 use Rattle.std.proofs.Common.{◌≡◌, ℕ, suc, ◌+◌, ◌<◌, ◌≤◌, ℤ, pos, ◌+ℤ◌, ◌≤ℤ◌, ◌<ℤ◌, true, List, [], ◌∷◌, ◌++◌, length, map, refl, ap, ◌∙◌, arith, inl, inr}
 use Rattle.std.specs.Prelude.{◌&&◌, filter, slice_index}
 use Rattle.std.specs.Int.Signed.{le_z}
-use Rattle.std.proofs.lemmas.Bool.{cases_Bool}
+use Rattle.std.proofs.lemmas.Bool.{and_from, cases_Bool}
 use Rattle.std.proofs.lemmas.Int.{ints}
 use Rattle.std.proofs.lemmas.List.{length-append, length-map, map-append}
 use Rattle.std.proofs.lemmas.List.Elements.{filter-append}
 use Rattle.track_types.specs.declared.cell.Cell.{Cell}
 use Rattle.track_types.specs.declared.region.Region.{Region}
-use Rattle.track_types.proofs.RegionLemmas.{both}
+use Rattle.track_types.proofs.RegionLemmas.{le_z-from}
 use Rattle.rule_store.specs.View.{RulesView, symbols_in}
 use Rattle.rule_store.specs.Expansion.{expansion_of, values_of}
 use Rattle.rule_store.specs.Boxes.{bounding_box_of}
@@ -21,7 +21,6 @@ use Rattle.log_cursor.specs.Start.{start_past}
 use Rattle.log_cursor.specs.Touching.{is_touching, terminal_values, touches_at, touching_count}
 use Rattle.log_cursor.specs.declared.start.Start.{Start}
 use Rattle.log_cursor.proofs.RuleLemmas.{nodes_in-parts}
-use Rattle.log_cursor.proofs.WalkLemmas.{le_z-from}
 
 -- the cell to which values lead, one list after the other
 moved-displaced : (cell : Cell) (xs ys : List ℕ) →
@@ -103,8 +102,8 @@ module _ (rules : RulesView) (from to : ℤ) (region : Region) where
   is_touching-own start inside values are open_end reached touches =
       let long = length-map inside (slice_index rules.alphabet) in
       let same = ap length are in
-      both _ _
-      (both _ _ (le_z-from (start.instant +ℤ pos (0 + 1)) to (omega (arith, ints)))
+      and_from _ _
+      (and_from _ _ (le_z-from (start.instant +ℤ pos (0 + 1)) to (omega (arith, ints)))
       (le_z-from from (start.instant +ℤ pos (0 + length inside)) (omega (arith, ints, reached, long, same))))
       (ap (λ cell. touches_at region cell (bounding_box_of (terminal_values rules inside))) (moved-none start.cell)
       ∙ ap (λ v. touches_at region start.cell (bounding_box_of v)) are

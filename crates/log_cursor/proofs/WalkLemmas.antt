@@ -1,5 +1,5 @@
 -- One turn of a walk over a window: a symbol is passed over, is opened, or has the next stop.
-use Rattle.std.proofs.Common.{◌≡◌, ℕ, suc, ◌+◌, ◌*◌, ◌<◌, ◌≤◌, ℤ, pos, ◌+ℤ◌, ◌≤ℤ◌, ◌<ℤ◌, Bool, true, false, List, [], ◌∷◌, ◌++◌, length, filter, Option, Some, None, refl, ap, sym, subst, ◌∙◌, arith, inl, inr}
+use Rattle.std.proofs.Common.{◌≡◌, ℕ, suc, ◌+◌, ◌<◌, ◌≤◌, ℤ, pos, ◌+ℤ◌, ◌≤ℤ◌, ◌<ℤ◌, Bool, true, false, List, [], ◌∷◌, ◌++◌, length, filter, Option, Some, None, refl, ap, sym, subst, ◌∙◌, arith, ◌*◌, inl, inr}
 use Rattle.std.specs.Option.{is_some, option_to_list}
 use Rattle.track_types.specs.declared.cell_box.CellBox.{CellBox}
 use Rattle.std.specs.Int.Signed.{le_z}
@@ -11,6 +11,7 @@ use Rattle.track_types.specs.Region.{is_between}
 use Rattle.track_types.specs.declared.cell.Cell.{Cell}
 use Rattle.track_types.specs.declared.stop.Stop.{Stop}
 use Rattle.track_types.proofs.RegionLemmas.{is_between-from}
+use Rattle.track_types.proofs.RegionLemmas.{le_z-from}
 use Rattle.rule_store.specs.View.{RulesView, symbols_in}
 use Rattle.rule_store.specs.Expansion.{expansion_of, values_of}
 use Rattle.rule_store.specs.Cells.{cells_along, displacement_of, moved}
@@ -86,9 +87,6 @@ stops_left-end rules from to start symbols end =
 pub none_unless : (hull : Option CellBox) → is_some hull ≡ false → hull ≡ None
 none_unless None none = refl
 none_unless (Some area) none = absurd (cc)
-
-pub le_z-from : (a b : ℤ) → a ≤ℤ b → le_z a b ≡ true
-le_z-from a b below = grind (arith, ints)
 
 module _ (rules : RulesView) (from to : ℤ) (start : Start) where
   -- all stops come after the window

@@ -16,6 +16,7 @@ use Rattle.std.proofs.lemmas.List.Sums.{fails_before_first, passes_at_first, pos
 use Rattle.std.proofs.lemmas.List.Sorted.{Contains-permutation, IsPermutation-sym, length_permutation}
 use Rattle.std.proofs.lemmas.Map.Keys.{IsStrictlyIncreasing-dedup, sorted_from_strictly_increasing}
 use Rattle.list_laws.specs.Ordered.{ordered}
+use Rattle.list_laws.proofs.GreatestLemmas.{fold_max-at}
 use Rattle.list_laws.proofs.MemberLemmas.{Contains-filter, member_of_filter}
 use Rattle.list_laws.proofs.OrderedLemmas.{IsPermutation-ordered, IsSortedBy-ordered}
 use Rattle.track_types.proofs.AscendingLemmas.{same_from_members}
@@ -58,16 +59,6 @@ range-rises a n k below =
     let within : k + 1 < n = omega (arith, length-range_with_len a n) in
     omega (arith, get_or-range_with_len a n k 0 (omega arith), get_or-range_with_len a n (k + 1) 0 within)
 
--- a number of a list is at most the greatest of them
-fold-max-from : (a : ℕ) (xs : List ℕ) → a ≤ fold max a xs
-fold-max-from a [] = omega arith
-fold-max-from a (x ∷ xs) = let more = fold-max-from (max a x) xs in omega arith
-
-fold-max-above : (a : ℕ) (xs : List ℕ) (k : ℕ) → k < length xs → get_or xs k 0 ≤ fold max a xs
-fold-max-above a [] k below = absurd (omega arith)
-fold-max-above a (x ∷ xs) zero below = let more = fold-max-from (max a x) xs in omega arith
-fold-max-above a (x ∷ xs) (suc k) below = fold-max-above (max a x) xs k (omega arith)
-
 -- the values that stand in a list are those of its alphabet, which ascends
 pub Contains-ascending_of : (values : List ℕ) (n : ℕ) → Contains values n → Contains (ascending_of values) n
 unfolding ascending_of
@@ -76,7 +67,7 @@ Contains-ascending_of values n member =
     let within : k < length values = member.1 in
     let at : get_or values k n ≡ n = member.2 in
     let here : (get_or values k n == n) ≡ true = eq-eqb (get_or values k n) n at in
-    let least = fold-max-above 0 values k within in
+    let least = fold_max-at values 0 k in
     let same : get_or values k n ≡ get_or values k 0 = get_or_default values k n 0 within in
     let many : ℕ = suc (fold max 0 values) in
     Contains-filter (λ m. list_any (λ x. x == m) values) (range_with_len 0 many) n

@@ -1,11 +1,12 @@
 -- Anchors of rows in order: a row is its block's anchor where the row before it is of another block.
-use Rattle.std.proofs.Common.{◌≡◌, ℕ, ℤ, suc, ◌+◌, ◌*◌, ◌/◌, ◌≤◌, ◌<◌, Bool, true, false, List, [], ◌∷◌, eq-eqb, get_or, length, refl, sym, ap, arith, inl, inr}
+use Rattle.std.proofs.Common.{◌≡◌, ℕ, ℤ, suc, ◌+◌, ◌/◌, ◌≤◌, ◌<◌, Bool, true, false, List, [], ◌∷◌, eq-eqb, get_or, length, refl, sym, ap, arith, inl, inr}
 use Rattle.std.specs.Prelude.{◌==◌, ◌&&◌, not, ◌<ℤ◌, ◌≤ℤ◌}
 use Rattle.std.specs.Int.Signed.{lt_z}
 use Rattle.std.specs.List.{list_any}
-use Rattle.std.proofs.Math.Nat.{mul-le-mul_left}
+use Rattle.std.proofs.Math.Nat.{div-mul-le_self}
 use Rattle.std.proofs.lemmas.Bool.Decides.{nat_tests}
 use Rattle.std.proofs.lemmas.Bool.{and_parts, cases_Bool, cases_lt}
+use Rattle.std.proofs.lemmas.Nat.{le-div}
 use Rattle.std.proofs.lemmas.Int.{ints}
 use Rattle.std.proofs.lemmas.List.Folds.{list_any_at}
 use Rattle.track_types.specs.Quantities.{elapsed, is_anchor, is_same_block, period_of}
@@ -23,11 +24,7 @@ none_passes p d (x ∷ xs) fails =
 
 -- later instants have no smaller periods
 div_mono : (m n d : ℕ) → 0 < d → m ≤ n → m / d ≤ n / d
-div_mono m n d some below =
-    elim (cases_lt (n / d) (m / d)) [
-      | inl less ↦ let up : d * (n / d + 1) ≤ d * (m / d) = mul-le-mul_left d (let next : n / d + 1 ≤ m / d = omega arith in next) in absurd (omega arith)
-      | inr is ↦ is
-    ]
+div_mono m n d some below = le-div (m / d) n d some (omega (arith, div-mul-le_self m d, below))
 
 module _ (first : ℤ) (period : ℕ) where
   pub same_parts : (a b : Row) → is_same_block first period a b ≡ true →

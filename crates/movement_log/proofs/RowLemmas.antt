@@ -9,6 +9,7 @@ use Rattle.std.proofs.lemmas.List.{get_or-reverse, length-reverse}
 use Rattle.std.proofs.lemmas.Map.Keys.{Less-from_sorted}
 use Rattle.track_types.specs.Row.{IsAscending, is_row_of, row_order}
 use Rattle.track_types.specs.declared.row.Row.{Row}
+use Rattle.track_types.proofs.RowLemmas.{object_le}
 use Rattle.movement_log.specs.Blocks.{no_row, row_at}
 use Rattle.movement_log.specs.Values.{is_earlier, last_before, move_value, value_at}
 
@@ -39,9 +40,6 @@ module _ {X : Type 0} (p : X → Bool) (d : X) where
       ∙ ap Some there
 
 -- the order of two rows, as an order of their objects and instants
-object_le : (a b : Row) → row_order a b ≡ Less → a.object ≤ b.object
-object_le a b below = grind (arith, nat_tests)
-
 pub instant_lt : (a b : Row) → row_order a b ≡ Less → a.object ≡ b.object → a.instant <ℤ b.instant
 instant_lt a b below same = grind (arith, nat_tests, ints)
 

@@ -1,22 +1,23 @@
 -- What the look for each object finds is the answer: the nearest of the first objects are kept, and those of all are.
 use Rattle.std.proofs.Common.{◌≡◌, ℕ, zero, suc, ◌+◌, ◌<◌, ◌≤◌, ℤ, Bool, false, List, [], ◌∷◌, ◌++◌, length, map, filter}
-use Rattle.std.proofs.Common.{take, All, Ordering, Option, None, Some, eqb, refl, sym, subst, ◌∙◌, ap, arith, inl, inr}
+use Rattle.std.proofs.Common.{take, All, Ordering, Option, None, Some, refl, sym, subst, ◌∙◌, ap, arith, inl, inr}
 use Rattle.std.specs.Prelude.{drop, slice_get, slice_index}
-use Rattle.std.specs.List.{AllByRecursion, filter_map, flat_map, list_any, range_with_len, sum_by}
+use Rattle.std.specs.List.{AllByRecursion, cons_option, filter_map, list_any, range_with_len, sum_by}
 use Rattle.std.specs.Option.{option_map, option_to_list}
 use Rattle.std.specs.Ordering.{eq_by_cmp, is_eq, nat_cmp, ordering_then}
 use Rattle.std.specs.declared.cmp.Ordering.TheVariants.{Less, Equal, Greater}
-use Rattle.std.proofs.lemmas.Bool.{cases_Bool, eq-eqb, ne_eqb}
+use Rattle.std.proofs.lemmas.Bool.{cases_Bool}
 use Rattle.std.proofs.lemmas.Bool.Decides.{nat_tests}
-use Rattle.std.proofs.lemmas.List.{append-nil, map-id}
-use Rattle.std.proofs.lemmas.List.Elements.{All-head, All-tail, filter_map-append}
-use Rattle.std.proofs.lemmas.List.FromFn.{map-range_with_len_more}
+use Rattle.std.proofs.lemmas.List.{append-nil, take-append-drop}
+use Rattle.std.proofs.lemmas.List.Elements.{All-from_recursion, All-head, All-tail}
+use Rattle.std.proofs.lemmas.List.Folds.{list_any_none}
 use Rattle.std.proofs.lemmas.List.Sums.{sum_by-drop_more}
 use Rattle.list_laws.specs.Ordered.{AreApart, ordered, placed}
-use Rattle.list_laws.proofs.FindLemmas.{find_in_range-first}
 use Rattle.list_laws.proofs.FlatLemmas.{flat_map_agree}
 use Rattle.list_laws.proofs.LeastLemmas.{least-take, ordered-last, take-placed}
 use Rattle.list_laws.proofs.MapLemmas.{map-flat_map}
+use Rattle.list_laws.proofs.OptionLemmas.{flat_map-options}
+use Rattle.list_laws.proofs.RangeLemmas.{filter_map-range_more}
 use Rattle.list_laws.proofs.OrderedLemmas.{all-ordered, find-filter}
 use Rattle.track_types.specs.ByFilter.{near_of, near_order, nearest_among, nears_at, nears_of}
 use Rattle.track_types.specs.Frame.{periods_of}
@@ -28,65 +29,32 @@ use Rattle.track_types.specs.declared.parts.Parts.{Parts}
 use Rattle.track_types.specs.declared.stop.Stop.{Stop}
 use Rattle.log_cursor.specs.Seek.{cell_among, is_stop_at}
 use Rattle.snapshots.specs.IndexCost.{position_cost, position_cost_in}
-use Rattle.snapshots.specs.Parts.{chart_in, end_in, first_in, index_in, period_in, row_of, stops_in}
+use Rattle.snapshots.specs.Parts.{chart_in, end_in, first_in, period_in, row_of, stops_in}
 use Rattle.snapshots.specs.SoundParts.{IsValid}
 use Rattle.snapshots.proofs.GetterLemmas.{increasing-below}
 use Rattle.object_track.proofs.InstantLemmas.{rows_at-instant, rows_at-outside, stops_at-few}
 use Rattle.object_track.proofs.MetLemmas.{period_in-some}
 use Rattle.object_track.proofs.StopsLemmas.{All-stops_in, IsStopIn}
-use Rattle.object_track.proofs.TableLemmas.{IsCellWithin-asked}
+use Rattle.object_track.proofs.TableLemmas.{index_in-own, IsCellWithin-asked}
 use Rattle.nearest_search.specs.Cost.{nearest_cost}
 use Rattle.nearest_search.specs.Found.{AreFound, near_in, near_with, nears_in}
 use Rattle.nearest_search.specs.Kept.{ClosestView}
-use Rattle.nearest_search.proofs.KeptLemmas.{near_order_total}
+use Rattle.nearest_search.proofs.KeptLemmas.{list_any-front, near_order_total}
 
 -- an object by its number, its cell and its distance
 abbrev pub near_by : ℕ → Cell → ℕ → Near
 near_by object found far = record { object = object; cell = found; dist2 = far }
 
--- one more number
-range-more : (n : ℕ) → range_with_len 0 (n + 1) ≡ range_with_len 0 n ++ n ∷ []
-range-more n =
-    sym (map-id (range_with_len 0 (n + 1)))
-    ∙ map-range_with_len_more (λ i. i) 0 n n (omega arith)
-    ∙ ap (λ xs. xs ++ n ∷ []) (map-id (range_with_len 0 n))
+-- none of them passes, nor any of the first ones
+none-there : {X : Type 0} (p : X → Bool) (xs : List X) → AllByRecursion (λ x. p x ≡ false) xs → list_any p xs ≡ false
+none-there p xs none = list_any_none p xs (All-from_recursion (λ x. p x ≡ false) xs none)
 
--- what is made of one number more
-filter_map-none : {X : Type 0} (make : ℕ → Option X) (n : ℕ) → make n ≡ None
-    → filter_map make (range_with_len 0 (n + 1)) ≡ filter_map make (range_with_len 0 n)
-filter_map-none make n none =
-    ap (filter_map make) (range-more n)
-    ∙ filter_map-append make (range_with_len 0 n) (n ∷ [])
-    ∙ (rw none (append-nil (filter_map make (range_with_len 0 n))))
-
-filter_map-some : {X : Type 0} (make : ℕ → Option X) (n : ℕ) (x : X) → make n ≡ Some x
-    → filter_map make (range_with_len 0 (n + 1)) ≡ filter_map make (range_with_len 0 n) ++ x ∷ []
-filter_map-some make n x some =
-    ap (filter_map make) (range-more n)
-    ∙ filter_map-append make (range_with_len 0 n) (n ∷ [])
-    ∙ (rw some refl)
-
--- what is made of some, as lists of one or none
-filter_map-flat : {X Y : Type 0} (make : X → Option Y) (xs : List X)
-    → flat_map (λ x. option_to_list (make x)) xs ≡ filter_map make xs
-filter_map-flat make [] = refl
-filter_map-flat {Y = Y} make (x ∷ xs) = at (make x) refl (filter_map-flat make xs)
-  where
-    at : (o : Option Y) → make x ≡ o → flat_map (λ x. option_to_list (make x)) xs ≡ filter_map make xs
-        → flat_map (λ x. option_to_list (make x)) (x ∷ xs) ≡ filter_map make (x ∷ xs)
-    at None is rest = rw is rest
-    at (Some y) is rest = rw is (ap (λ ys. y ∷ ys) rest)
-
--- none of the first ones passes where none of all does
-any-take : {X : Type 0} (p : X → Bool) (k : ℕ) (xs : List X) → AllByRecursion (λ x. p x ≡ false) xs
+none-taken : {X : Type 0} (p : X → Bool) (k : ℕ) (xs : List X) → AllByRecursion (λ x. p x ≡ false) xs
     → list_any p (take k xs) ≡ false
-any-take p zero xs none = refl
-any-take p (suc k) [] none = refl
-any-take p (suc k) (x ∷ xs) none = rw (none.0) (any-take p k xs none.1)
-
-any-none : {X : Type 0} (p : X → Bool) (xs : List X) → AllByRecursion (λ x. p x ≡ false) xs → list_any p xs ≡ false
-any-none p [] none = refl
-any-none p (x ∷ xs) none = rw (none.0) (any-none p xs none.1)
+none-taken p k xs none =
+    let all : list_any p (take k xs ++ drop k xs) ≡ false =
+    ap (list_any p) (take-append-drop k xs) ∙ none-there p xs none in
+    list_any-front p (take k xs) (drop k xs) all
 
 -- two objects that differ do not tie
 then-apart : (a b : Ordering) → is_eq b ≡ false → is_eq (ordering_then a b) ≡ false
@@ -211,7 +179,7 @@ module _ (parts : Parts) (valid : IsValid parts) (number : ℕ) (instant : ℤ) 
           (range_with_len (a + 1) n)
           (range-above a (a + 1) n (length parts.objects) (omega arith) (omega (arith, most))) in
           rw is (
-            any-none (eq_by_cmp near_order near)
+            none-there (eq_by_cmp near_order near)
                 (filter_map (near_in parts number instant cell) (range_with_len (a + 1) n)) behind,
             rest,
           )
@@ -232,7 +200,8 @@ module _ (parts : Parts) (valid : IsValid parts) (number : ℕ) (instant : ℤ) 
       ∙ ap (λ (o : Option Stop). option_to_list (option_map (near_with cell (slice_index parts.objects i))
       (option_map (λ (s : Stop). s.cell) o))) (sym (find-filter (is_stop_at instant) (stops_in parts i number))))
       (range_with_len 0 (length parts.objects))
-      ∙ filter_map-flat (near_in parts number instant cell) (range_with_len 0 (length parts.objects))
+      ∙ flat_map-options (λ i. option_to_list (near_in parts number instant cell i)) (near_in parts number instant cell)
+      (λ i. refl) (range_with_len 0 (length parts.objects))
 
   -- the answer is the nearest of what is found at all places
   pub found-all : (count places before : ℕ) (closest : ClosestView) (steps : ℕ)
@@ -265,17 +234,6 @@ module _ (parts : Parts) (valid : IsValid parts) (number : ℕ) (instant : ℤ) 
       at (suc n) = refl
 
   module _ (place : ℕ) (within : place < length parts.objects) where
-    -- the object at a place stands at no other place
-    index_in-own : index_in parts.objects (slice_index parts.objects place) ≡ Some place
-    index_in-own =
-        let object : ℕ = slice_index parts.objects place in
-        find_in_range-first (λ i. eqb (slice_index parts.objects i) object) 0 (length parts.objects) place
-        (omega arith) (omega (arith, within))
-        (λ j low less.
-        let below = increasing-below parts.objects valid.shaped.objects j place less within in
-        ne_eqb (slice_index parts.objects j) object (λ same. omega (arith, below, same)))
-        (eq-eqb object object refl)
-
     module _ (count before steps later : ℕ) (closest : ClosestView)
         (is : AreFound parts number instant cell count place before closest steps)
         (when : period_in parts.frame instant ≡ Some number)
@@ -286,7 +244,7 @@ module _ (parts : Parts) (valid : IsValid parts) (number : ℕ) (instant : ℤ) 
       unfolding position_cost
       cost-more =
           let one : position_cost parts (slice_index parts.objects place) instant
-          ≡ position_cost_in parts (Some place) (Some number) = rw (index_in-own, when) refl in
+          ≡ position_cost_in parts (Some place) (Some number) = rw (index_in-own parts valid place within, when) refl in
           omega (
             arith,
             is.cost,
@@ -298,19 +256,24 @@ module _ (parts : Parts) (valid : IsValid parts) (number : ℕ) (instant : ℤ) 
       -- the object is absent
       pub found-none : cell_among (stops_in parts place number) instant ≡ None
           → AreFound parts number instant cell count (place + 1) before closest later
-      found-none none = record {
-        wanted = is.wanted;
-        nears = is.nears ∙ ap (λ nears. take count (ordered near_order nears))
-            (sym (filter_map-none (near_in parts number instant cell) place (rw none refl)));
-        cost = cost-more;
-      }
+      found-none none =
+          let old : List Near = nears_in parts number instant cell place in
+          let absent : near_in parts number instant cell place ≡ None = rw none refl in
+          let same : nears_in parts number instant cell (place + 1) ≡ old =
+          filter_map-range_more (near_in parts number instant cell) place
+          ∙ ap (λ (one : Option Near). old ++ cons_option one []) absent ∙ append-nil old in
+          record {
+            wanted = is.wanted;
+            nears = is.nears ∙ ap (λ nears. take count (ordered near_order nears)) (sym same);
+            cost = cost-more;
+          }
 
       module _ (near : Near) (some : near_in parts number instant cell place ≡ Some near) where
         -- it ties with none that is kept
         pub found-apart : list_any (eq_by_cmp near_order near) closest.nears ≡ false
         found-apart =
             ap (list_any (eq_by_cmp near_order near)) is.nears
-            ∙ any-take (eq_by_cmp near_order near) count (ordered near_order (nears_in parts number instant cell place))
+            ∙ none-taken (eq_by_cmp near_order near) count (ordered near_order (nears_in parts number instant cell place))
             (all-ordered near_order (λ y. eq_by_cmp near_order near y ≡ false) (nears_in parts number instant cell place)
             (before-apart place near within some))
 
@@ -320,6 +283,9 @@ module _ (parts : Parts) (valid : IsValid parts) (number : ℕ) (instant : ℤ) 
             → AreFound parts number instant cell count (place + 1) before next later
         found-some next wanted nears =
             let old : List Near = nears_in parts number instant cell place in
+            let more : nears_in parts number instant cell (place + 1) ≡ old ++ near ∷ [] =
+            filter_map-range_more (near_in parts number instant cell) place
+            ∙ ap (λ (one : Option Near). old ++ cons_option one []) some in
             record {
               wanted = wanted ∙ is.wanted;
               nears = nears
@@ -329,6 +295,6 @@ module _ (parts : Parts) (valid : IsValid parts) (number : ℕ) (instant : ℤ) 
                   ∙ ap (take count) (sym (ordered-last near_order near_order_total near old
                   (before-apart place near within some)))
                   ∙ ap (λ ns. take count (ordered near_order ns))
-                  (sym (filter_map-some (near_in parts number instant cell) place near some));
+                  (sym more);
               cost = cost-more;
             }

@@ -1,15 +1,17 @@
 -- The kept entries in order: a new one is put in its place, and the last one gives way.
 use Rattle.std.proofs.Common.{◌≡◌, ℕ, zero, suc, ◌+◌, ◌≤◌, ◌<◌, Bool, true, false, List, [], ◌∷◌, ◌++◌, length, map, take, Ordering, Option, None, Some, ◌-◌}
 use Rattle.std.proofs.Common.{refl, sym, ◌∙◌, ap, arith}
-use Rattle.std.specs.Prelude.{◌||◌, slice_get, IfSome, IsSome}
+use Rattle.std.specs.Prelude.{slice_get, IfSome, IsSome}
 use Rattle.std.specs.BTreeMap.{insert_entry}
 use Rattle.std.specs.Cmp.{IsTotalOrder}
 use Rattle.std.specs.List.{AllByRecursion, list_any}
 use Rattle.std.specs.Ordering.{eq_by_cmp, is_eq, is_lt, nat_cmp, ordering_reverse, ordering_then}
 use Rattle.std.specs.declared.cmp.Ordering.TheVariants.{Less, Equal, Greater}
+use Rattle.std.proofs.lemmas.Bool.{or_parts}
 use Rattle.std.proofs.lemmas.Cmp.{nat_cmp_total, on_total, then_total}
 use Rattle.std.proofs.lemmas.Option.{get_or_from_slice_get, slice_get_within}
 use Rattle.std.proofs.lemmas.List.{get_or_push, length-append, length-map, map-append, nil_from_length, take_all, take_at}
+use Rattle.std.proofs.lemmas.List.Folds.{list_any-append}
 use Rattle.std.proofs.lemmas.List.MinMax.{ranks_by}
 use Rattle.std.proofs.lemmas.List.Sorted.{length_permutation}
 use Rattle.list_laws.specs.Ordered.{placed}
@@ -34,11 +36,6 @@ rank_order_total : IsTotalOrder rank_order
 rank_order_total =
     then_total (on_total (λ (rank : ℕ × ℕ). rank.0) nat_cmp_total) (on_total (λ (rank : ℕ × ℕ). rank.1) nat_cmp_total)
 
--- two lists of which one test of the first element is false, and then that of the others
-neither : (a b : Bool) → (a || b) ≡ false → (a ≡ false) × (b ≡ false)
-neither true b none = absurd (cc)
-neither false b none = (refl, none)
-
 -- a new entry is put where its object belongs
 pub kept-insert : (near : Near) (entries : List ((ℕ × ℕ) × Cell))
     → list_any (eq_by_cmp near_order near) (kept_nears entries) ≡ false
@@ -47,7 +44,7 @@ pub kept-insert : (near : Near) (entries : List ((ℕ × ℕ) × Cell))
 unfolding placed
 kept-insert near [] apart = refl
 kept-insert near (entry ∷ entries) apart =
-    let alone = neither (eq_by_cmp near_order near (entry_near entry)) (list_any (eq_by_cmp near_order near) (kept_nears entries))
+    let alone = or_parts (eq_by_cmp near_order near (entry_near entry)) (list_any (eq_by_cmp near_order near) (kept_nears entries))
     apart in
     at (near_order near (entry_near entry)) refl (near_order_total.antisymm (entry_near entry) near) alone.0
     (kept-insert near entries alone.1)
@@ -70,10 +67,8 @@ length-placed near nears =
     ∙ omega arith
 
 -- none of the first ones passes where none of all passes
-list_any-front : {X : Type 0} (p : X → Bool) (xs ys : List X) → list_any p (xs ++ ys) ≡ false → list_any p xs ≡ false
-list_any-front p [] ys none = refl
-list_any-front p (x ∷ xs) ys none =
-    let parts = neither (p x) (list_any p (xs ++ ys)) none in rw (parts.0) (list_any-front p xs ys parts.1)
+pub list_any-front : {X : Type 0} (p : X → Bool) (xs ys : List X) → list_any p (xs ++ ys) ≡ false → list_any p xs ≡ false
+list_any-front p xs ys none = (or_parts (list_any p xs) (list_any p ys) (sym (list_any-append p xs ys) ∙ none)).0
 
 module _ (wanted : ℕ) (near : Near) (entries : List ((ℕ × ℕ) × Cell)) where
   rank : ℕ × ℕ
@@ -178,7 +173,7 @@ pub all-before : (near : Near) (last : ℕ × ℕ) (entries : List ((ℕ × ℕ)
     → AllByRecursion (λ kept. is_lt (near_order kept near) ≡ true) (kept_nears entries)
 all-before near last [] after up apart = tt
 all-before near last (entry ∷ entries) after up apart =
-    let alone = neither (eq_by_cmp near_order near (entry_near entry)) (list_any (eq_by_cmp near_order near) (kept_nears entries))
+    let alone = or_parts (eq_by_cmp near_order near (entry_near entry)) (list_any (eq_by_cmp near_order near) (kept_nears entries))
     apart in
     let not_before : is_lt (near_order near (entry_near entry)) ≡ false =
     (ranks_by rank_order_total (λ (r : ℕ × ℕ). r)).chain (near.dist2, near.object) last entry.0 after up.0 in (

@@ -1,5 +1,5 @@
 -- What holds of the periods of an index and of the blocks in them.
-use Rattle.std.proofs.Common.{ℕ, suc, ◌+◌, ◌*◌, ◌^◌, ◌<◌, ◌≤◌, pos, ◌+ℤ◌, ◌≤ℤ◌, List}
+use Rattle.std.proofs.Common.{ℕ, suc, ◌+◌, ◌^◌, ◌<◌, ◌≤◌, List, ◌*◌, pos, ◌+ℤ◌, ◌≤ℤ◌}
 use Rattle.std.proofs.Common.{[], ◌∷◌, length, Option, None, Some, IfSome, true, refl, subst, arith}
 use Rattle.std.specs.Prelude.{slice_index}
 use Rattle.std.proofs.Math.Nat.{pow-le-pow_right}
@@ -23,7 +23,7 @@ use Rattle.rule_store.specs.Boxes.{bounding_box_of}
 use Rattle.log_cursor.specs.Start.{start_at, AreHullsAsked, IsHullAsked, IsPlaced}
 use Rattle.snapshots.specs.JoinFlaws.{cell_after, cell_before}
 use Rattle.snapshots.specs.Parts.{anchored_at, log_in, no_period, period_at, rules_in, snapshot_in}
-use Rattle.snapshots.specs.Sound.{IsBlock, IsSnapshot}
+use Rattle.snapshots.specs.Sound.{IsBlock}
 use Rattle.snapshots.specs.SoundParts.{IsPlaced as IsInGridAt, IsSoundLog, IsValid}
 use Rattle.snapshots.specs.Stores.{snapshots_in, AreOf}
 use Rattle.snapshots.specs.View.{all_blocks, block_of}
@@ -107,29 +107,6 @@ module _ (parts : Parts) (valid : IsValid parts) where
     shaped_period =
         All-get_or (IsShapedPeriod (length parts.objects)) parts.periods number no_period
         (omega (arith, valid.shaped.periods, within)) valid.shaped.each
-
-    -- the snapshot of a period is one
-    pub IsSnapshot-valid : IsSnapshot (snapshot_in parts number)
-    IsSnapshot-valid = record {
-      shaped = record {
-        header = valid.shaped.header;
-        period = within;
-        some = valid.shaped.some;
-        few = valid.shaped.few;
-        bits = shaped_period.bits;
-        presence = shaped_period.presence;
-        offsets = shaped_period.offsets;
-        lasts = shaped_period.lasts;
-        perm = shaped_period.perm;
-        lengths = shaped_period.lengths;
-        total = omega (
-          arith,
-          start_in-within parts (rules_in parts) (snapshots_in parts) AreOf-own number within,
-          valid.shaped.few_symbols,
-        );
-      };
-      sound = valid.sound.periods number within;
-    }
 
     module _ (block : Anchored) (its : IsBlock (snapshot_in parts number) block) where
       -- the object of a block is one of the index's

@@ -30,7 +30,8 @@ use Rattle.snapshots.specs.SoundParts.{IsValid}
 use Rattle.snapshots.specs.View.{block_of}
 use Rattle.snapshots.specs.declared.anchored.Anchored.{Anchored}
 use Rattle.snapshots.proofs.BlockFactsLemmas.{IsBlock-from_block_of}
-use Rattle.object_track.proofs.BlockLemmas.{IsSnapshot-valid, IsSoundLog-block, IsPlaced-block}
+use Rattle.snapshots.proofs.ReachLemmas.{IsSnapshot-valid}
+use Rattle.object_track.proofs.BlockLemmas.{IsSoundLog-block, IsPlaced-block}
 
 -- a stop from one instant to another, in a near cell
 pub record IsStopIn (low high : ℤ) (stop : Stop) : Type 0 where

@@ -1,11 +1,13 @@
 -- The chart of an index is a table: its rows ascend, and lie within it.
-use Rattle.std.proofs.Common.{◌≡◌, ℕ, ◌<◌, List, length, get_or, All, map, sym, subst, arith}
+use Rattle.std.proofs.Common.{◌≡◌, ℕ, ◌<◌, List, length, get_or, All, Some, eqb, map, refl, sym, subst, arith}
 use Rattle.std.specs.Prelude.{slice_index}
 use Rattle.std.specs.List.{flat_map}
 use Rattle.std.specs.List.Sorted.{IsStrictlySortedBy}
 use Rattle.std.specs.declared.cmp.Ordering.TheVariants.{Less}
+use Rattle.std.proofs.lemmas.Bool.{eq-eqb, ne_eqb}
 use Rattle.std.proofs.lemmas.Int.{ints}
 use Rattle.std.proofs.lemmas.List.Elements.{All-map, All-weaker}
+use Rattle.list_laws.proofs.FindLemmas.{find_in_range-first}
 use Rattle.list_laws.proofs.MapLemmas.{map-flat_map}
 use Rattle.list_laws.proofs.RangeLemmas.{All-flat_map_range, IsStrictlySortedBy-flat_map_range}
 use Rattle.track_types.specs.Frame.{periods_of}
@@ -15,7 +17,7 @@ use Rattle.track_types.specs.Table.{IsRowOf, IsTable}
 use Rattle.track_types.specs.declared.cell.Cell.{Cell}
 use Rattle.track_types.specs.declared.parts.Parts.{Parts}
 use Rattle.track_types.specs.declared.stop.Stop.{Stop}
-use Rattle.snapshots.specs.Parts.{chart_in, end_in, first_in, numbers_in, row_of, rows_in, stops_in}
+use Rattle.snapshots.specs.Parts.{chart_in, end_in, first_in, index_in, numbers_in, row_of, rows_in, stops_in}
 use Rattle.snapshots.specs.SoundParts.{IsValid}
 use Rattle.snapshots.proofs.GetterLemmas.{increasing-below}
 use Rattle.object_track.proofs.MetLemmas.{period-before, period-inside}
@@ -29,6 +31,18 @@ IsCellWithin-asked cell near = record {
 }
 
 module _ (parts : Parts) (valid : IsValid parts) where
+  -- the object at a place stands at no other place
+  pub index_in-own : (place : ℕ) → place < length parts.objects
+      → index_in parts.objects (slice_index parts.objects place) ≡ Some place
+  index_in-own place within =
+      let object : ℕ = slice_index parts.objects place in
+      find_in_range-first (λ i. eqb (slice_index parts.objects i) object) 0 (length parts.objects) place
+      (omega arith) (omega (arith, within))
+      (λ j low less.
+      let below = increasing-below parts.objects valid.shaped.objects j place less within in
+      ne_eqb (slice_index parts.objects j) object (λ same. omega (arith, below, same)))
+      (eq-eqb object object refl)
+
   -- the stops of an object
   abbrev stops_of_all : ℕ → List Stop
   stops_of_all index = flat_map (stops_in parts index) (numbers_in parts.frame)

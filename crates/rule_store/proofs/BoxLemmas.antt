@@ -1,38 +1,16 @@
 -- Least boxes: round joined lists of cells, and round cells that are moved.
-use Rattle.std.proofs.Common.{◌≡◌, ℤ, ◌+ℤ◌, ◌≤ℤ◌, List, [], ◌∷◌, ◌++◌, Some, None, map, refl, ap, sym, ◌∙◌, arith, subst}
+use Rattle.std.proofs.Common.{◌≡◌, ℤ, ◌+ℤ◌, List, [], ◌∷◌, ◌++◌, Some, None, map, refl, ap, sym, ◌∙◌, arith}
 use Rattle.std.specs.Prelude.{fold, unwrap_or}
 use Rattle.std.specs.Int.{int_max, int_min}
-use Rattle.std.proofs.Props.{props}
 use Rattle.std.proofs.lemmas.Int.{ints}
 use Rattle.std.proofs.lemmas.List.{map-append}
 use Rattle.std.proofs.lemmas.List.Sums.{fold-append}
 use Rattle.track_types.specs.Quantities.{greatest, least}
 use Rattle.track_types.specs.declared.cell.Cell.{Cell}
 use Rattle.track_types.specs.declared.cell_box.CellBox.{CellBox}
+use Rattle.track_types.proofs.BoxLemmas.{same_box}
 use Rattle.rule_store.specs.Cells.{moved}
 use Rattle.rule_store.specs.Boxes.{box_round, column, line}
-
-abbrev box : (x1 y1 x2 y2 : ℤ) → x1 ≤ℤ x2 → y1 ≤ℤ y2 → CellBox
-box x1 y1 x2 y2 wide high = record { x1 = x1; y1 = y1; x2 = x2; y2 = y2; wide = wide; high = high }
-
-same_bounds : (x1 y1 x2 y2 : ℤ) (w v : x1 ≤ℤ x2) (h g : y1 ≤ℤ y2) → box x1 y1 x2 y2 w h ≡ box x1 y1 x2 y2 v g
-same_bounds x1 y1 x2 y2 w v h g =
-    let wide : IsProp (x1 ≤ℤ x2) = hlevel props in
-    let high : IsProp (y1 ≤ℤ y2) = hlevel props in
-    ap (λ p. box x1 y1 x2 y2 p h) (wide w v) ∙ ap (λ p. box x1 y1 x2 y2 v p) (high h g)
-
--- boxes with the same bounds are the same
-pub same_box : (a b : CellBox) → a.x1 ≡ b.x1 → a.y1 ≡ b.y1 → a.x2 ≡ b.x2 → a.y2 ≡ b.y2 → a ≡ b
-same_box a b x1 y1 x2 y2 = by_bounds b.x1 b.y1 b.x2 b.y2 x1 y1 x2 y2 b.wide b.high
-  where
-    by_bounds : (p q r s : ℤ) → a.x1 ≡ p → a.y1 ≡ q → a.x2 ≡ r → a.y2 ≡ s → (v : p ≤ℤ r) (g : q ≤ℤ s)
-        → a ≡ box p q r s v g
-    by_bounds p q r s e f k m =
-        subst (λ p. (v : p ≤ℤ r) (g : q ≤ℤ s) → a ≡ box p q r s v g) e
-        (subst (λ q. (v : a.x1 ≤ℤ r) (g : q ≤ℤ s) → a ≡ box a.x1 q r s v g) f
-        (subst (λ r. (v : a.x1 ≤ℤ r) (g : a.y1 ≤ℤ s) → a ≡ box a.x1 a.y1 r s v g) k
-        (subst (λ s. (v : a.x1 ≤ℤ a.x2) (g : a.y1 ≤ℤ s) → a ≡ box a.x1 a.y1 a.x2 s v g) m
-        (λ v g. same_bounds a.x1 a.y1 a.x2 a.y2 a.wide v a.high g))))
 
 -- The least and the greatest number alike, by a way to pick one of two.
 module _ (pick : ℤ → ℤ → ℤ) (assoc : (a b c : ℤ) → pick (pick a b) c ≡ pick a (pick b c))

@@ -1,26 +1,17 @@
 -- What follows from no flaw: short movements, sound rules and known symbols.
 use Rattle.std.proofs.Common.{◌≡◌, ℕ, zero, suc, ◌+◌, ◌-◌, ◌*◌, ◌^◌, ◌<◌, ◌≤◌, true, false, List, length, Option, Some, None, refl, arith, inl, inr}
 use Rattle.std.specs.Prelude.{Bool, slice_index, not, ◌||◌, nat_lt, nat_le}
-use Rattle.std.specs.Option.{option_map, option_or}
 use Rattle.std.proofs.Math.Nat.{one-le-pow, pow-le-pow_right}
 use Rattle.std.proofs.lemmas.Bool.{and_parts, and_right, cases_Bool, cases_lt, le-leb, leb-false, lt-ltb, le-ltb, ltb-false, ltb-true, not-false, or_parts}
 use Rattle.spiral_code.specs.Spiral.{move_of, ring_of, square}
 use Rattle.spiral_code.proofs.SpiralLemmas.{move_of-below}
 use Rattle.track_types.specs.declared.cell_box.CellBox.{CellBox}
 use Rattle.list_laws.proofs.FindLemmas.{find_in_range-all, find_in_range-first, find_in_range-none}
+use Rattle.list_laws.proofs.FirstLemmas.{map-none, or-none}
 use Rattle.rule_store.specs.View.{RulesView, symbols_in}
 use Rattle.rule_store.specs.Entry.{entry_of}
 use Rattle.rule_store.specs.Flaws.{are_below, box_passes, code_flaw, is_far, is_long, is_rule_flawed, reach_limit, rule_at, rule_flaw, rules_flaw, symbol_flaw}
 use Rattle.rule_store.specs.declared.entry.Entry.{Entry}
-
--- a choice of two is none where both are
-or-none : {X : Type 0} (a b : Option X) → option_or a b ≡ None → (a ≡ None) × (b ≡ None)
-or-none None b none = (refl, none)
-or-none (Some x) b none = absurd (cc)
-
-map-none : {X Y : Type 0} (f : X → Y) (a : Option X) → option_map f a ≡ None → a ≡ None
-map-none f None none = refl
-map-none f (Some x) none = absurd (cc)
 
 pub record NoFlaws (view : RulesView) : Type 0 where
   pub codes : code_flaw view.height view.alphabet ≡ None

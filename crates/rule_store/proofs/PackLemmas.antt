@@ -4,13 +4,14 @@ use Rattle.std.proofs.lemmas.Int.{ints}
 use Rattle.spiral_code.specs.Spiral.{move_of}
 use Rattle.track_types.specs.declared.cell.Cell.{Cell}
 use Rattle.track_types.specs.declared.cell_box.CellBox.{CellBox}
+use Rattle.track_types.proofs.BoxLemmas.{same_box}
 use Rattle.rule_store.specs.Cells.{cells_along, displacement_of, moved, movement_of, present_in}
 use Rattle.rule_store.specs.Boxes.{bounding_box_of, box_round, origin}
 use Rattle.rule_store.specs.Entry.{entry_with}
 use Rattle.rule_store.specs.Stored.{IsHull}
 use Rattle.rule_store.specs.declared.entry.Entry.{Entry}
 use Rattle.rule_store.specs.declared.packed_box.PackedBox.{PackedBox}
-use Rattle.rule_store.proofs.BoxLemmas.{box_round-is, same_box}
+use Rattle.rule_store.proofs.BoxLemmas.{box_round-is}
 use Rattle.rule_store.proofs.CellLemmas.{present-append}
 
 -- an entry is that of values, field by field

@@ -5,6 +5,8 @@ use Rattle.std.specs.List.{sum_by}
 use Rattle.std.proofs.lemmas.Bool.{and_parts}
 use Rattle.std.proofs.lemmas.Int.{ints}
 use Rattle.std.proofs.lemmas.List.Elements.{All-weaker}
+use Rattle.list_laws.proofs.FilterLemmas.{sum_by-filter-le}
+use Rattle.list_laws.proofs.SumLemmas.{sum_by-each}
 use Rattle.track_types.specs.Frame.{periods_of}
 use Rattle.track_types.specs.Near.{IsBoxWithin}
 use Rattle.track_types.specs.Region.{is_between}
@@ -28,12 +30,11 @@ use Rattle.snapshots.specs.SoundParts.{IsValid}
 use Rattle.snapshots.specs.View.{SnapshotView, all_blocks, tree_in}
 use Rattle.snapshots.specs.declared.anchored.Anchored.{Anchored}
 use Rattle.snapshots.proofs.BlockFactsLemmas.{All-all_blocks}
-use Rattle.object_track.proofs.BlockLemmas.{IsSnapshot-valid}
+use Rattle.snapshots.proofs.ReachLemmas.{IsSnapshot-valid}
 use Rattle.slice_search.specs.Cost.{cell_box, hit_cost, is_block_within_reach, is_within_reach, period_search_cost}
 use Rattle.slice_search.specs.Reach.{may_reach_in}
 use Rattle.slice_search.specs.Sightings.{log_reads}
 use Rattle.slice_search.proofs.ReachLemmas.{IsWeaker-may_reach}
-use Rattle.slice_search.proofs.WeightLemmas.{sum_by-each, sum_by-filter-le}
 
 -- what passes at each level passes at the last
 passes-last : (test : Node → Bool) (n code : ℕ) → passes test n code ≡ true → test (node 0 (code / 4 ^ 0)) ≡ true
@@ -93,8 +94,8 @@ module _ (parts : Parts) (valid : IsValid parts) (instant : ℤ) (number : ℕ) 
       let squares = square_count-le (tree_in view) is (is_within_reach parts number instant region) kept
       (IsWeaker-may_reach parts number instant region) in
       let each = sum_by-each (log_reads parts number instant region) block_reads blocks in
-      let less = sum_by-filter-le cost (λ block. passes_at kept (tree_in view) block.cell)
-      (is_block_within_reach parts number instant region) (all_blocks view)
+      let less = sum_by-filter-le (λ block. passes_at kept (tree_in view) block.cell)
+      (is_block_within_reach parts number instant region) cost (all_blocks view)
       (All-weaker (IsBlock view)
       (λ block. passes_at kept (tree_in view) block.cell ≡ true
       → is_block_within_reach parts number instant region block ≡ true) passing-reach (all_blocks view)

@@ -1,5 +1,4 @@
--- Lists by their weights, boxes within reach, and sightings.
-mod WeightLemmas
+-- Boxes within reach, and sightings.
 mod ReachLemmas
 mod SightingLemmas
 mod SliceLemmas

@@ -15,7 +15,8 @@ use Rattle.track_types.specs.declared.cell_box.CellBox.{CellBox}
 use Rattle.track_types.specs.declared.frame.Frame.{Frame}
 use Rattle.track_types.specs.declared.parts.Parts.{Parts}
 use Rattle.track_types.specs.declared.region.Region.{Region}
-use Rattle.track_types.proofs.RegionLemmas.{intersects_region-exact, is_between-bounds, is_between-from}
+use Rattle.track_types.proofs.RegionLemmas.{intersects_region-exact, is_between-bounds, is_between-from, le_z-from}
+use Rattle.track_types.proofs.WideningLemmas.{is_between-wider}
 use Rattle.k2_tree.specs.Areas.{IsBoxInside}
 use Rattle.k2_tree.specs.Morton.{IsInGrid}
 use Rattle.k2_tree.specs.Pruning.{IsKeptFor, IsWeaker}
@@ -26,9 +27,6 @@ use Rattle.slice_search.specs.Reach.{cut, cut_box, grid_of, may_reach, may_reach
 -- the test for at most, and what it says
 le_z-bound : (a b : ℤ) → le_z a b ≡ true → a ≤ℤ b
 le_z-bound a b holds = grind (arith, ints)
-
-le_z-from : (a b : ℤ) → a ≤ℤ b → le_z a b ≡ true
-le_z-from a b below = grind (arith, ints)
 
 -- a number between cut bounds is between both pairs of bounds, where these overlap
 is_between-uncut : (low high first last z : ℤ) → low ≤ℤ high → overlaps low high first last ≡ true
@@ -83,15 +81,7 @@ in_box-cut grid area cell both =
     let along = is_between-cut grid.y1 grid.y2 area.y1 area.y2 cell.y held.1 box.1 in
     (and_from _ _ across.0 along.0, and_from _ _ across.1 along.1)
 
--- what is between bounds is between bounds that are moved outwards as far or farther, from ones as far out or farther
-is_between-wider : (low high first last z : ℤ) (n m : ℕ) → n ≤ m → low ≤ℤ first → last ≤ℤ high
-    → is_between (first -ℤ pos n) (last +ℤ pos n) z ≡ true → is_between (low -ℤ pos m) (high +ℤ pos m) z ≡ true
-is_between-wider low high first last z n m more left right inside =
-    let bounds = is_between-bounds (first -ℤ pos n) (last +ℤ pos n) z inside in
-    let above : (first -ℤ pos n) ≤ℤ z = bounds.0 in
-    let below : z ≤ℤ (last +ℤ pos n) = bounds.1 in
-    is_between-from (low -ℤ pos m) (high +ℤ pos m) z (omega (arith, ints)) (omega (arith, ints))
-
+-- what is in a widened box is in an outer one that is widened as far or farther
 in_box-wider : (inner outer : CellBox) (n m : ℕ) (cell : Cell) → IsBoxInside inner outer → n ≤ m
     → in_box (widened n inner) cell ≡ true → in_box (widened m outer) cell ≡ true
 in_box-wider inner outer n m cell within more inside =

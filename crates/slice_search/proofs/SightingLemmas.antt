@@ -1,7 +1,7 @@
 -- The sightings of a chart at an instant are those of the blocks of the instant's period.
-use Rattle.std.proofs.Common.{◌≡◌, ℕ, ◌<◌, ◌≤◌, ℤ, ◌≤ℤ◌, Bool, true, false, List, [], ◌∷◌, length, map, filter}
+use Rattle.std.proofs.Common.{◌≡◌, ℕ, ◌<◌, ◌≤◌, ℤ, ◌≤ℤ◌, Bool, true, List, [], ◌∷◌, length, map, filter}
 use Rattle.std.proofs.Common.{Option, None, Some, inl, inr, refl, ap, sym, ◌∙◌, arith}
-use Rattle.std.specs.Prelude.{◌&&◌, option_to_list, slice_index, slice_index_or}
+use Rattle.std.specs.Prelude.{◌&&◌, option_to_list, slice_index}
 use Rattle.std.specs.List.{filter_map, range_with_len}
 use Rattle.std.specs.Option.{option_map}
 use Rattle.std.specs.Ordering.{int_eq}
@@ -9,10 +9,10 @@ use Rattle.std.proofs.lemmas.Bool.{cases_Bool}
 use Rattle.std.proofs.lemmas.Bool.Decides.{Decides-int_eq}
 use Rattle.std.proofs.lemmas.Int.{ints}
 use Rattle.std.proofs.lemmas.List.Elements.{filter_agree}
-use Rattle.std.proofs.lemmas.Option.{none-some, same_Some}
 use Rattle.list_laws.proofs.FilterLemmas.{filter_and}
 use Rattle.list_laws.proofs.FlatLemmas.{filter-flat_map, flat_map_agree}
 use Rattle.list_laws.proofs.MapLemmas.{map-flat_map}
+use Rattle.list_laws.proofs.OptionLemmas.{flat_map-made, made_of}
 use Rattle.track_types.specs.ByFilter.{is_row_at, is_sighted, sighting_of, sightings_of}
 use Rattle.track_types.specs.Frame.{periods_of}
 use Rattle.track_types.specs.Region.{in_region, is_between}
@@ -27,11 +27,11 @@ use Rattle.log_cursor.specs.Seek.{is_stop_at}
 use Rattle.log_cursor.specs.Touching.{first_among, first_hit_of}
 use Rattle.snapshots.specs.Parts.{chart_in, period_in, row_of, snapshot_in, stops_in, stops_in_block}
 use Rattle.snapshots.specs.SoundParts.{IsValid}
-use Rattle.snapshots.specs.View.{SnapshotView, all_blocks, block_of, present_block}
+use Rattle.snapshots.specs.View.{all_blocks, block_of}
 use Rattle.snapshots.specs.declared.anchored.Anchored.{Anchored}
+use Rattle.snapshots.proofs.ByObjectLemmas.{index-from_block_of}
 use Rattle.object_track.proofs.InstantLemmas.{rows_at-instant, stops_at-few}
 use Rattle.slice_search.specs.Sightings.{seen_at, sighting_in}
-use Rattle.slice_search.proofs.WeightLemmas.{flat_map-made, made_of}
 
 -- a window of one instant
 is_between-one : (instant z : ℤ) → is_between instant instant z ≡ int_eq instant z
@@ -80,18 +80,6 @@ filter_both instant region rows =
     (λ row. grind arith) rows
     ∙ filter_and (is_row_in region) (is_row_at instant) rows
 
--- the block of an object is its own
-pub index-of_block : (view : SnapshotView) (index : ℕ) (block : Anchored) → block_of view index ≡ Some block
-    → block.index ≡ index
-index-of_block view index block has = elim (cases_Bool (slice_index_or view.parts.present index false)) [
-  | inl on ↦
-      let same : Some (present_block view index) ≡ Some block = rw on at has in
-      sym (ap (λ (b : Anchored). b.index) (same_Some (present_block view index) block same))
-  | inr off ↦
-      let none : None ≡ Some block = rw off at has in
-      absurd (none-some block none)
-]
-
 module _ (parts : Parts) (valid : IsValid parts) (instant : ℤ) (number : ℕ) (within : number < periods_of parts.frame)
     (region : Region) where
   -- what is sighted of an object
@@ -101,7 +89,7 @@ module _ (parts : Parts) (valid : IsValid parts) (instant : ℤ) (number : ℕ) 
 
   -- what is sighted of an object is what is found in its block
   sighted-block : (index : ℕ) → sighted index
-      ≡ made_of (block_of (snapshot_in parts number)) (sighting_in parts number instant region)
+      ≡ made_of (sighting_in parts number instant region) (block_of (snapshot_in parts number))
       (block_of (snapshot_in parts number) index)
   unfolding sighted sighting_in first_hit_of stops_in
   sighted-block index =
@@ -114,14 +102,14 @@ module _ (parts : Parts) (valid : IsValid parts) (instant : ℤ) (number : ℕ) 
           → length (filter (is_stop_at instant) (stops_in_block parts number found)) ≤ 1
           → map sighting_of (filter (is_row_in region)
           (map (row_of object) (filter (is_stop_at instant) (stops_in_block parts number found))))
-          ≡ made_of (block_of (snapshot_in parts number)) (sighting_in parts number instant region) found
+          ≡ made_of (sighting_in parts number instant region) (block_of (snapshot_in parts number)) found
       by_block None has few = refl
       by_block (Some block) has few =
           let stops : List Stop = stops_in_block parts number (Some block) in
           seen-few object region (filter (is_stop_at instant) stops) few
           ∙ ap (λ i. option_to_list (option_map (seen_at (slice_index parts.objects i))
           (first_among region (filter (is_stop_at instant) stops))))
-          (sym (index-of_block (snapshot_in parts number) index block has))
+          (sym (index-from_block_of (snapshot_in parts number) index block has))
           ∙ ap (λ xs. option_to_list (option_map (seen_at (slice_index parts.objects block.index))
           (first_among region xs))) (sym (in_window-one instant stops))
 
@@ -138,6 +126,6 @@ module _ (parts : Parts) (valid : IsValid parts) (instant : ℤ) (number : ℕ) 
       ∙ ap (filter (is_row_in region)) (rows_at-instant parts valid instant number when)
       ∙ filter-flat_map (is_row_in region) rows indices)
       ∙ map-flat_map sighting_of (λ index. filter (is_row_in region) (rows index)) indices
-      ∙ flat_map_agree sighted (λ index. made_of (block_of (snapshot_in parts number))
-      (sighting_in parts number instant region) (block_of (snapshot_in parts number) index)) sighted-block indices
-      ∙ flat_map-made (block_of (snapshot_in parts number)) (sighting_in parts number instant region) indices
+      ∙ flat_map_agree sighted (λ index. made_of (sighting_in parts number instant region)
+      (block_of (snapshot_in parts number)) (block_of (snapshot_in parts number) index)) sighted-block indices
+      ∙ flat_map-made (sighting_in parts number instant region) (block_of (snapshot_in parts number)) indices

@@ -1,21 +1,22 @@
 -- What a walk finds, put in order by object, is the answer to a slice.
-use Rattle.std.proofs.Common.{◌≡◌, ℕ, ◌<◌, ◌≤◌, ℤ, Bool, true, false, List, [], ◌∷◌, length, map, filter, All}
+use Rattle.std.proofs.Common.{◌≡◌, ℕ, ◌<◌, ◌≤◌, ℤ, true, false, List, [], ◌∷◌, length, map, filter, All}
 use Rattle.std.proofs.Common.{Option, None, Some, inl, inr, refl, ap, sym, subst, ◌∙◌, arith}
 use Rattle.std.specs.Prelude.{find, slice_index, IfSome}
 use Rattle.std.specs.List.{filter_map, sum_by, Contains}
 use Rattle.std.specs.List.Sorted.{IsNonDecreasingBy, IsPermutation, IsStrictlySortedBy}
 use Rattle.std.specs.Option.{option_map}
-use Rattle.std.specs.declared.cmp.Ordering.TheVariants.{Less}
-use Rattle.std.proofs.lemmas.Bool.{cases_Bool, cases_order}
-use Rattle.std.proofs.lemmas.Bool.Decides.{nat_tests, Decides-int_eq}
+use Rattle.std.proofs.lemmas.Bool.{cases_order}
+use Rattle.std.proofs.lemmas.Bool.Decides.{Decides-int_eq}
 use Rattle.std.proofs.lemmas.List.Elements.{All-contains, All-weaker}
 use Rattle.std.proofs.lemmas.List.Kept.{IsStrictlySortedBy-filter}
 use Rattle.std.proofs.lemmas.List.Sorted.{All-permutation, sum_by-IsPermutation}
 use Rattle.std.proofs.lemmas.Map.Keys.{sorted_head, sorted_tail}
 use Rattle.std.proofs.lemmas.Option.{none-some, same_Some}
-use Rattle.list_laws.proofs.MemberLemmas.{member_of_filter, member_of_find}
+use Rattle.list_laws.proofs.MemberLemmas.{find-passes, member_of_filter, member_of_find}
+use Rattle.list_laws.proofs.OptionLemmas.{filter_map-filter, All-made}
 use Rattle.list_laws.proofs.RangeLemmas.{All-from_filter_map}
 use Rattle.list_laws.proofs.SumLemmas.{made_weight, sum_by-filter_map}
+use Rattle.list_laws.proofs.WeightLemmas.{same_from_weights, IsRising, IsRising-from_order}
 use Rattle.track_types.specs.ByFilter.{is_sighted, sighting_of, sightings_of}
 use Rattle.track_types.specs.Frame.{periods_of}
 use Rattle.track_types.specs.Region.{in_region}
@@ -25,6 +26,7 @@ use Rattle.track_types.specs.declared.region.Region.{Region}
 use Rattle.track_types.specs.declared.row.Row.{Row}
 use Rattle.track_types.specs.declared.sighting.Sighting.{Sighting}
 use Rattle.track_types.specs.declared.stop.Stop.{Stop}
+use Rattle.track_types.proofs.RowLemmas.{object_le}
 use Rattle.log_cursor.specs.Seek.{is_stop_at}
 use Rattle.log_cursor.specs.Start.{start_at}
 use Rattle.log_cursor.specs.Touching.{first_hit_of}
@@ -37,7 +39,8 @@ use Rattle.snapshots.specs.View.{SnapshotView, all_blocks, block_of}
 use Rattle.snapshots.specs.declared.anchored.Anchored.{Anchored}
 use Rattle.snapshots.proofs.BlockFactsLemmas.{All-all_blocks}
 use Rattle.snapshots.proofs.GetterLemmas.{increasing-below}
-use Rattle.object_track.proofs.BlockLemmas.{block-known, IsPlaced-block, IsSnapshot-valid}
+use Rattle.snapshots.proofs.ReachLemmas.{IsSnapshot-valid}
+use Rattle.object_track.proofs.BlockLemmas.{block-known, IsPlaced-block}
 use Rattle.object_track.proofs.InstantLemmas.{rows_at-outside}
 use Rattle.object_track.proofs.StopsLemmas.{All-stops_in, IsStopIn}
 use Rattle.object_track.proofs.TableLemmas.{IsTable-chart_in}
@@ -46,31 +49,19 @@ use Rattle.slice_search.specs.Reach.{grid_of}
 use Rattle.slice_search.specs.Sightings.{is_wanted, seen_at, sighting_in, AreSightings}
 use Rattle.slice_search.proofs.ReachLemmas.{in_box-grid, may_reach-near}
 use Rattle.slice_search.proofs.SightingLemmas.{filter_both, in_window-one, is_row_in, sightings_of-blocks}
-use Rattle.slice_search.proofs.WeightLemmas.{filter_map-filter, same_from_weights, All-made, IsRising, IsRising-from_order}
 
 -- the object of a sighting
 abbrev pub object_of : Sighting → ℕ
 object_of sighting = sighting.object
 
 -- rows in order have their objects in order
-rows-rise : (a b : Row) → row_order a b ≡ Less → a.object ≤ b.object
-rows-rise a b less = grind (arith, nat_tests)
-
 sightings-rise : (rows : List Row) → IsStrictlySortedBy row_order rows → IsRising object_of (map sighting_of rows)
 sightings-rise [] up = tt
 sightings-rise (row ∷ []) up = tt
 sightings-rise (row ∷ other ∷ rows) up = (
-  rows-rise row other (sorted_head row_order row (other ∷ rows) up).0,
+  object_le row other (sorted_head row_order row (other ∷ rows) up).0,
   sightings-rise (other ∷ rows) (sorted_tail row_order row (other ∷ rows) up),
 )
-
--- what a search finds passes
-find-passes : {X : Type 0} (p : X → Bool) (xs : List X) (z : X) → find p xs ≡ Some z → p z ≡ true
-find-passes p [] z found = absurd (cc)
-find-passes p (x ∷ xs) z found = elim (cases_Bool (p x)) [
-  | inl meets ↦ let first : Some x ≡ Some z = rw meets at found in subst (λ y. p y ≡ true) (same_Some x z first) meets
-  | inr fails ↦ find-passes p xs z (rw fails at found)
-]
 
 -- a sighting is a stop's
 seen-from : (object : ℕ) (found : Option Stop) (sighting : Sighting)

@@ -5,6 +5,7 @@ use Rattle.std.specs.List.{filter_map, sum_by}
 use Rattle.std.proofs.lemmas.List.{append-nil}
 use Rattle.std.proofs.lemmas.List.Elements.{All-tail}
 use Rattle.std.proofs.lemmas.List.Sums.{sum_by-cons}
+use Rattle.list_laws.proofs.OptionLemmas.{append-cons_option}
 use Rattle.track_types.specs.declared.cell.Cell.{Cell}
 use Rattle.track_types.specs.declared.cell_box.CellBox.{CellBox}
 use Rattle.track_types.specs.declared.parts.Parts.{Parts}
@@ -19,7 +20,6 @@ use Rattle.snapshots.specs.declared.anchored.Anchored.{Anchored}
 use Rattle.slice_search.specs.Reach.{grid_of, may_reach_in, short_width}
 use Rattle.slice_search.specs.Sightings.{is_wanted, log_reads, sighting_in, AreSightings}
 use Rattle.slice_search.proofs.ReachLemmas.{IsKeptFor-may_reach}
-use Rattle.slice_search.proofs.WeightLemmas.{filter_map-next}
 
 -- what follows from a result follows from its success
 pub on_ok : {A E : Type 0} (P Q : A → Type 0) → ((a : A) → P a → Q a) → (result : Result A E) → IfOk result P
@@ -40,7 +40,9 @@ module _ (parts : Parts) (number : ℕ) (instant : ℤ) (region : Region) where
       → next ≡ found ++ option_to_list (sighting_in parts number instant region block) → IsWalking all left next
   walking-next all block left found next is more = record {
     their = ap (λ xs. xs ++ filter_map (sighting_in parts number instant region) left) more
-        ∙ filter_map-next (sighting_in parts number instant region) found block left ∙ is.their;
+        ∙ sym (append-cons_option found (filter_map (sighting_in parts number instant region) left)
+        (sighting_in parts number instant region block))
+        ∙ is.their;
     left_are = All-tail (IsBlock (snapshot_in parts number)) block left is.left_are;
   }
 

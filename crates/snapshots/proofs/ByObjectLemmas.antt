@@ -1,5 +1,5 @@
 -- The blocks of a period, put where their objects stand.
-use Rattle.std.proofs.Common.{◌≡◌, ◌≢◌, ◌⊎◌, ℕ, zero, suc, ◌+◌, ◌*◌, ◌<◌, ◌≤◌, Bool, true, false, eqb, List, [], ◌∷◌, length, get_or, set, map, filter, All, Option, None, Some, inl, inr, refl, ap, sym, ◌∙◌, arith, subst}
+use Rattle.std.proofs.Common.{◌≡◌, ◌≢◌, ◌⊎◌, ℕ, zero, suc, ◌+◌, ◌*◌, ◌<◌, ◌≤◌, Bool, true, false, eqb, List, [], ◌∷◌, length, get_or, set, map, All, Option, None, Some, inl, inr, refl, ap, sym, ◌∙◌, arith, subst}
 use Rattle.std.specs.Prelude.{if◌then◌else◌, replicate, slice_index_or}
 use Rattle.std.specs.List.{range_with_len, sum_by}
 use Rattle.std.proofs.lemmas.Bool.{cases_Bool}
@@ -9,6 +9,8 @@ use Rattle.std.proofs.lemmas.List.Sums.{sum_by-cons}
 use Rattle.std.proofs.lemmas.List.Elements.{All-tail}
 use Rattle.std.proofs.lemmas.Option.{none-some, same_Some, slice_get_within}
 use Rattle.std.proofs.lemmas.List.FromFn.{get_or-map-range_with_len, length-map-range_with_len}
+use Rattle.list_laws.proofs.FilterLemmas.{filter-all}
+use Rattle.list_laws.proofs.OptionLemmas.{made_cases}
 use Rattle.list_laws.proofs.SumLemmas.{made_weight, sum_by-filter_map}
 use Rattle.track_types.specs.declared.cell.Cell.{Cell}
 use Rattle.k2_tree.specs.Pruning.{square_count, IsKeptFor}
@@ -34,11 +36,6 @@ pub record IsScattering (view : SnapshotView) (left : List Anchored) (table : Li
   pub settled : (index : ℕ) → index < view.objects → IsSettled view left table index
   pub blocks : All (IsBlock view) left
 
--- a test that all pass keeps all
-filter-all : {X : Type 0} (xs : List X) → filter (λ _. true) xs ≡ xs
-filter-all [] = refl
-filter-all (x ∷ xs) = ap (λ ys. x ∷ ys) (filter-all xs)
-
 -- where nothing is left out, the same blocks are drawn as there are
 pub WeighSame-all : (view : SnapshotView) (left : List Anchored)
     → ((wanted : Cell → Bool) → IsKeptFor everywhere wanted
@@ -46,8 +43,8 @@ pub WeighSame-all : (view : SnapshotView) (left : List Anchored)
     → WeighSame left (all_blocks view)
 WeighSame-all view left same =
     let all = same (λ _. true) (λ area cell near inside wanted. refl) in
-    subst (λ xs. WeighSame xs (all_blocks view)) (filter-all left)
-    (subst (WeighSame (wanted_blocks (λ _. true) left)) (filter-all (all_blocks view)) all)
+    subst (λ xs. WeighSame xs (all_blocks view)) (filter-all (λ _. true) left (λ _ _ _. refl))
+    (subst (WeighSame (wanted_blocks (λ _. true) left)) (filter-all (λ _. true) (all_blocks view) (λ _ _ _. refl)) all)
 
 -- there are as many of them
 pub length-weighed : (xs ys : List Anchored) → WeighSame xs ys → length xs ≡ length ys
@@ -85,15 +82,6 @@ present-counts view index block within has its =
     let all = sum_by-filter_map (counts index) (block_of view) (range_with_len 0 view.objects) in
     omega (arith, here, some, all)
 
--- an object has a block or none
-pub has_block : (view : SnapshotView) (index : ℕ)
-    → (block_of view index ≡ None) ⊎ ((block : Anchored) × (block_of view index ≡ Some block))
-has_block view index = by_cases (block_of view index)
-  where
-    by_cases : (b : Option Anchored) → (b ≡ None) ⊎ ((block : Anchored) × (b ≡ Some block))
-    by_cases None = inl refl
-    by_cases (Some block) = inr (block, refl)
-
 -- the block of an object is its own
 pub index-from_block_of : (view : SnapshotView) (index : ℕ) (block : Anchored) → block_of view index ≡ Some block
     → block.index ≡ index
@@ -114,7 +102,7 @@ scattering-none view left same all = record {
   long = length-replicate view.objects None;
   settled = λ index within.
       let empty = get_or-replicate view.objects index None None within in
-      elim (has_block view index) [
+      elim (made_cases (block_of view index)) [
         | inl none ↦ inl (empty ∙ sym none)
         | inr some ↦
             let its = index-from_block_of view index some.0 some.1 in

@@ -17,7 +17,7 @@ mod ObjectsLemmas
 mod ChosenLemmas
 pub mod LogsLemmas
 mod SpeedLemmas
-mod ByObjectLemmas
+pub mod ByObjectLemmas
 mod JudgingLemmas
 pub mod JoinLemmas
 pub mod SoundPartsLemmas

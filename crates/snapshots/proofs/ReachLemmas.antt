@@ -5,12 +5,13 @@ use Rattle.std.specs.Int.{div_ceil, int_max, int_min}
 use Rattle.std.specs.List.{range_with_len}
 use Rattle.std.proofs.lemmas.Grind.{div_ceil_times}
 use Rattle.std.proofs.lemmas.Int.{fold-int_max_bounds, fold-int_min_bounds, ints}
-use Rattle.std.proofs.lemmas.List.{get_or-map, length-map}
 use Rattle.std.proofs.lemmas.List.Elements.{All-append, All-cons, All-get_or, All-head, All-map, All-nil, All-tail, All-weaker}
 use Rattle.std.proofs.lemmas.List.FromFn.{get_or-range_with_len, length-range_with_len}
 use Rattle.std.proofs.lemmas.List.Sums.{sum_by-cons}
 use Rattle.std.proofs.lemmas.Nat.{mul-le}
 use Rattle.std.proofs.Math.Nat.{le_trans}
+use Rattle.list_laws.proofs.GreatestLemmas.{fold_max-each}
+use Rattle.list_laws.proofs.MapLemmas.{All-from_map}
 use Rattle.track_types.specs.Frame.{periods_of}
 use Rattle.track_types.specs.Shape.{IsShapedPeriod}
 use Rattle.track_types.specs.declared.cell.Cell.{Cell}
@@ -36,13 +37,7 @@ use Rattle.snapshots.specs.View.{all_blocks}
 use Rattle.snapshots.specs.declared.anchored.Anchored.{Anchored}
 use Rattle.snapshots.proofs.BlockFactsLemmas.{All-all_blocks}
 use Rattle.snapshots.proofs.JoinLemmas.{start_in-within}
-use Rattle.snapshots.proofs.SpeedLemmas.{block_speed-most, fold_max-each}
-
--- what holds of all that is made of cells holds of each of these
-all_from_map : (P : ℤ → Type 0) (f : Cell → ℤ) (cells : List Cell) → All P (map f cells) → All (λ c. P (f c)) cells
-all_from_map P f cells all k d below =
-    let there : k < length (map f cells) = rw length-map below in
-    rw (get_or-map f cells k d (f d) below) at (all k (f d) there)
+use Rattle.snapshots.proofs.SpeedLemmas.{block_speed-most}
 
 -- a cell is in a box that is moved to another cell
 pub record IsCovered (cell : Cell) (hull : CellBox) (other : Cell) : Type 0 where
@@ -63,10 +58,10 @@ covered hull (first ∷ rest) is =
     let x2 = fold-int_max_bounds first.x columns (fold int_max first.x columns) refl in
     let y1 = fold-int_min_bounds first.y lines (fold int_min first.y lines) refl in
     let y2 = fold-int_max_bounds first.y lines (fold int_max first.y lines) refl in
-    let left = all_from_map (λ z. fold int_min first.x columns ≤ℤ z) column rest x1.1 in
-    let right = all_from_map (λ z. z ≤ℤ fold int_max first.x columns) column rest x2.1 in
-    let below = all_from_map (λ z. fold int_min first.y lines ≤ℤ z) line rest y1.1 in
-    let above = all_from_map (λ z. z ≤ℤ fold int_max first.y lines) line rest y2.1 in
+    let left = All-from_map (λ z. fold int_min first.x columns ≤ℤ z) column rest x1.1 in
+    let right = All-from_map (λ z. z ≤ℤ fold int_max first.x columns) column rest x2.1 in
+    let below = All-from_map (λ z. fold int_min first.y lines ≤ℤ z) line rest y1.1 in
+    let above = All-from_map (λ z. z ≤ℤ fold int_max first.y lines) line rest y2.1 in
     All-cons (IsCovered origin hull) first rest (record {
       left = omega (arith, ints, x1.0, bounds.x1);
       right = omega (arith, ints, x2.0, bounds.x2);

@@ -1,11 +1,10 @@
 -- The greatest speed so far: of a log's symbols, and of a period's blocks.
-use Rattle.std.proofs.Common.{◌≡◌, ℕ, ◌+◌, ◌≤◌, List, [], ◌∷◌, ◌++◌, length, map, max, take, All, Some, None, ap, sym, ◌∙◌, arith}
+use Rattle.std.proofs.Common.{◌≡◌, ℕ, ◌+◌, ◌≤◌, List, [], ◌++◌, length, map, max, take, All, Some, None, ap, sym, ◌∙◌}
 use Rattle.std.specs.Prelude.{fold, slice_index}
 use Rattle.std.specs.List.{cons_option, filter_map, range_with_len}
-use Rattle.std.proofs.lemmas.List.{append-nil, map-append, map-id}
-use Rattle.std.proofs.lemmas.List.Elements.{All-cons, All-nil, filter_map-append}
-use Rattle.std.proofs.lemmas.List.FromFn.{map-range_with_len_more}
-use Rattle.std.proofs.lemmas.List.Sums.{fold-append}
+use Rattle.std.proofs.lemmas.List.{append-nil}
+use Rattle.list_laws.proofs.GreatestLemmas.{fold_max-each, fold_max-more}
+use Rattle.list_laws.proofs.RangeLemmas.{filter_map-range_more, range-more}
 use Rattle.track_types.specs.declared.cell.Cell.{Cell}
 use Rattle.rule_store.specs.View.{RulesView}
 use Rattle.rule_store.specs.Entry.{entry_of}
@@ -14,28 +13,6 @@ use Rattle.snapshots.specs.View.{SnapshotView, all_blocks, block_of}
 use Rattle.snapshots.specs.JoinFlaws.{cell_before, lasting}
 use Rattle.snapshots.specs.Speed.{block_speed, blocks_speed, hull_speed, log_speed, symbol_speed}
 use Rattle.snapshots.specs.declared.anchored.Anchored.{Anchored}
-
--- the greatest of some numbers is not below the one at which it begins, nor below any of them
-fold_max-start : (numbers : List ℕ) (n : ℕ) → n ≤ fold max n numbers
-fold_max-start [] n = omega arith
-fold_max-start (other ∷ numbers) n = omega (arith, fold_max-start numbers (max n other))
-
-pub fold_max-each : {A : Type 0} (f : A → ℕ) (xs : List A) (n : ℕ) → All (λ x. f x ≤ fold max n (map f xs)) xs
-fold_max-each f [] n = All-nil (λ x. f x ≤ n)
-fold_max-each f (x ∷ xs) n =
-    let here : f x ≤ fold max (max n (f x)) (map f xs) =
-    omega (arith, fold_max-start (map f xs) (max n (f x))) in
-    All-cons (λ y. f y ≤ fold max (max n (f x)) (map f xs)) x xs here (fold_max-each f xs (max n (f x)))
-
--- one number more
-fold_max-more : {A : Type 0} (f : A → ℕ) (xs : List A) (x : A) (n : ℕ)
-    → fold max n (map f (xs ++ x ∷ [])) ≡ max (fold max n (map f xs)) (f x)
-fold_max-more f xs x n = ap (fold max n) (map-append f xs (x ∷ [])) ∙ fold-append max n (map f xs) (f x ∷ [])
-
-range-more : (n : ℕ) → range_with_len 0 (n + 1) ≡ range_with_len 0 n ++ n ∷ []
-range-more n =
-    sym (map-id (range_with_len 0 (n + 1))) ∙ map-range_with_len_more (λ k. k) 0 n n (omega arith)
-    ∙ ap (λ ks. ks ++ n ∷ []) (map-id (range_with_len 0 n))
 
 module _ (rules : RulesView) (start : Cell) (log : List ℕ) where
   -- the greatest speed of a log's first symbols
@@ -77,9 +54,7 @@ module _ (rules : RulesView) (view : SnapshotView) where
 
   blocks_before-more : (index : ℕ)
       → blocks_before (index + 1) ≡ blocks_before index ++ cons_option (block_of view index) []
-  blocks_before-more index =
-      ap (filter_map (block_of view)) (range-more index)
-      ∙ filter_map-append (block_of view) (range_with_len 0 index) (index ∷ [])
+  blocks_before-more index = filter_map-range_more (block_of view) index
 
   -- one object more, with a block or without
   pub blocks_speed-block : (index : ℕ) (block : Anchored) (speed more now : ℕ) → block_of view index ≡ Some block

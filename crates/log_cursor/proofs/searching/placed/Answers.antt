@@ -1,6 +1,6 @@
 use Rattle.std.proofs.Common.{arith}
 use Rattle.std.proofs.lemmas.Int.{ints}
-use Rattle.rule_store.proofs.BoxLemmas.{same_box}
+use Rattle.track_types.proofs.BoxLemmas.{same_box}
 use Rattle.log_cursor.proofs.searching.placed.Goals as goal
 
 pub returns-clause-value : goal.returns-clause-value

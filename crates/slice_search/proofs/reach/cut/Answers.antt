@@ -2,7 +2,7 @@ use Rattle.std.proofs.Common.{◌≡◌, ℤ, w64, to_z, of_z, arith, rules, sub
 use Rattle.std.specs.Prelude.{FitsSigned}
 use Rattle.std.specs.Int.{int_max, int_min}
 use Rattle.std.proofs.lemmas.Int.{clamps, ints, to_z-of_z}
-use Rattle.rule_store.proofs.BoxLemmas.{same_box}
+use Rattle.track_types.proofs.BoxLemmas.{same_box}
 use Rattle.track_types.specs.Near.{IsWithin}
 use Rattle.slice_search.specs.Reach.{cut, cut_box}
 use Rattle.slice_search.proofs.reach.cut.Goals as goal

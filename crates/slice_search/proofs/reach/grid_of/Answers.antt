@@ -2,7 +2,7 @@ use Rattle.std.proofs.Common.{◌≡◌, ℕ, ◌*◌, ◌%◌, ◌-◌, ◌^◌
 use Rattle.std.specs.Prelude.{neg_ℤ, ◌≤ℤ◌}
 use Rattle.std.proofs.Math.Nat.{pow-le-pow_right}
 use Rattle.std.proofs.lemmas.Int.{ints}
-use Rattle.rule_store.proofs.BoxLemmas.{same_box}
+use Rattle.track_types.proofs.BoxLemmas.{same_box}
 use Rattle.track_types.specs.Near.{IsNear, IsWithin}
 use Rattle.slice_search.proofs.reach.grid_of.Goals as goal
 

@@ -1,6 +1,6 @@
 use Rattle.std.proofs.Common.{◌≡◌, ℕ, ◌^◌, ◌≤◌, ℤ, pos, ◌+ℤ◌, ◌-ℤ◌, w64, to_z, of_z, arith}
 use Rattle.std.proofs.lemmas.Int.{ints}
-use Rattle.rule_store.proofs.BoxLemmas.{same_box}
+use Rattle.track_types.proofs.BoxLemmas.{same_box}
 use Rattle.track_types.specs.Near.{IsWithin}
 use Rattle.slice_search.proofs.reach.wider.Goals as goal
 
