@@ -29,7 +29,7 @@ use Rattle.snapshots.specs.Parts.{start_in}
 use Rattle.track_index.specs.CheckFlaws.{check_flaw, grammar_flaw, lengths_flaw, snapshots_flaw}
 
 -- a header of three instants, whose grid has side 4 and begins at (10, 10)
-abbrev frame : Frame
+abbrev pub frame : Frame
 frame = record {
   first = pos 0;
   span = 3;
@@ -41,7 +41,7 @@ frame = record {
 }
 
 -- one object's block at (10, 10), with so many symbols
-abbrev block : ℕ → List Bool → ℕ → PeriodParts
+abbrev pub block : ℕ → List Bool → ℕ → PeriodParts
 block offset tree len = record {
   present = true ∷ [];
   offsets = offset ∷ [];
@@ -52,11 +52,11 @@ block offset tree len = record {
 }
 
 -- the bits of the cell at the least corner of a grid, level by level
-abbrev corner : ℕ → List Bool
+abbrev pub corner : ℕ → List Bool
 corner zero = []
 corner (suc levels) = true ∷ false ∷ false ∷ false ∷ corner levels
 
-abbrev with : Frame → List ℕ → List (ℕ × ℕ) → List PeriodParts → List ℕ → Parts
+abbrev pub with : Frame → List ℕ → List (ℕ × ℕ) → List PeriodParts → List ℕ → Parts
 with frame alphabet rules periods symbols = record {
   frame = frame;
   objects = 7 ∷ [];
@@ -67,7 +67,7 @@ with frame alphabet rules periods symbols = record {
 }
 
 -- one object that moves to the right, and then up to the right
-abbrev path : Parts
+abbrev pub path : Parts
 path = with frame (2 ∷ 3 ∷ []) [] (block 0 (corner 2) 2 ∷ []) (0 ∷ 1 ∷ [])
 
 parts_of_a_path_have_no_flaw : check_flaw path ≡ None
@@ -206,7 +206,7 @@ unfolding position_cost path_cost depth_in grown all_blocks picked codes_below c
 a_path_reads_136 = refl
 
 -- one object that is absent at the second instant, in a grid of side 2 that begins at (-1, 5)
-abbrev absent : Parts
+abbrev pub absent : Parts
 absent = record {
   frame = record {
     first = pos 0;
@@ -243,7 +243,7 @@ unfolding position_cost path_cost depth_in grown all_blocks picked codes_below c
 its_path_reads_95 = refl
 
 -- one object that moves to the right four times, by one rule that stands twice
-abbrev repeated : Parts
+abbrev pub repeated : Parts
 repeated = record {
   frame = record {
     first = pos 0;

@@ -7,3 +7,4 @@ mod OpeningLemmas
 mod PathLemmas
 mod RegionLemmas
 mod Examples
+mod SearchExamples
