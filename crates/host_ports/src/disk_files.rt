@@ -12,6 +12,8 @@ use std::marker::Model;
 use std::{fs, rt};
 
 /// The files of a runtime. It tells none of them, and is always plain: a `pass` gives what it is handed.
+///
+/// A file that was read to its end is closed, so that nothing that comes later can meet it under its descriptor.
 #[derive(Drop)]
 pub struct DiskFiles<'a, R: rt::Files> {
     rt: &'a R,
@@ -94,7 +96,8 @@ impl<'a, R: rt::Files> Files for DiskFiles<'a, R> {
         Ok(())
     }
 
-    /// Reads once, and again where a signal interrupts it. Any other error is a fault.
+    /// Reads once, and again where a signal interrupts it. Any other error is a fault. At its end the file is
+    /// closed, and stays at its end even where more bytes are added to it.
     fn pull(&mut self, buf: &mut [u8]) -> Result<usize, Failed>
         requires { 0 < length buf.old }
         ensures within { ReadsAtMost result buf.new }
@@ -105,10 +108,14 @@ impl<'a, R: rt::Files> Files for DiskFiles<'a, R> {
         ensures saves { self.new.saves ≡ self.old.saves }
         ensures save_faults { self.new.save_faults ≡ self.old.save_faults }
     {
-        match &mut self.begun {
-            Some(file) => self.meter.count_read(read_piece(file, buf)),
-            None => Ok(0),
+        let Some(file) = &mut self.begun else {
+            return Ok(0);
+        };
+        let count = self.meter.count_read(read_piece(file, buf))?;
+        if count == 0 {
+            self.begun = None;
         }
+        Ok(count)
     }
 
     /// Writes a new file beside the one of that name, waits until the device has it, and renames it. The
