@@ -1,10 +1,11 @@
 -- The answers over the one row of the tests.
-use Rattle.std.proofs.Common.{◌≡◌, ℕ, ℤ, pos, negsuc, Bool, ◌&&◌, if◌then◌else◌, nat_lt, List, [], ◌∷◌, refl}
+use Rattle.std.proofs.Common.{◌≡◌, ℕ, ℤ, pos, negsuc, ◌&&◌, if◌then◌else◌, nat_lt, [], ◌∷◌, refl}
 use Rattle.std.proofs.Common.{false, inl, inr, Result, Ok, Err, IfOk, arith}
 use Rattle.std.proofs.lemmas.Bool.{cases_Bool}
 use Rattle.std.proofs.lemmas.Bool.Decides.{nat_tests}
 use Rattle.std.proofs.lemmas.Int.{ints}
 use Rattle.std.specs.Ordering.{int_eq, is_lt, nat_cmp, ordering_then}
+use Rattle.host_ports.specs.Faults.{Rose}
 use Rattle.list_laws.specs.Ordered.{ordered, placed}
 use Rattle.track_types.specs.ByFilter.{hits_of, nearest_among, nears_at, nears_of, sightings_of}
 use Rattle.track_types.specs.Region.{in_region, is_between, squared_distance}
@@ -66,3 +67,8 @@ one-near count instant cell = elim (cases_Bool (int_eq instant (pos 2))) [
   ]
   | inr fails ↦ rw fails refl
 ]
+
+-- a count of faults that stays at 0 did not rise
+pub calm : Rose 0 0 → ⊥
+calm (inl rose) = omega (arith, rose)
+calm (inr most) = omega (arith, most)

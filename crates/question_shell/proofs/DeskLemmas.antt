@@ -1,10 +1,14 @@
 -- Places of the desk.
-use Rattle.std.proofs.Common.{◌≡◌, ℕ, ◌+◌, ◌<◌, ◌≤◌, List, [], ◌++◌, length, map, set, get_or, sym, ap, ◌∙◌, arith}
+use Rattle.std.proofs.Common.{◌≡◌, ℕ, ◌+◌, ◌<◌, zero, suc, ◌≤◌, List, [], ◌∷◌, ◌++◌, length, map, set, get_or, sym}
+use Rattle.std.proofs.Common.{refl, ap, ◌∙◌, arith, inl, inr}
 use Rattle.std.specs.Prelude.{Option, Some, None, is_some, option_map}
 use Rattle.std.specs.Option.{option_map_or}
-use Rattle.std.proofs.lemmas.List.{get_or-map, get_or-set_same, length-map, map-set}
+use Rattle.std.proofs.lemmas.Bool.{cases_lt}
+use Rattle.std.proofs.lemmas.List.{get_or-map, get_or-set_same, length-map, map-set, set-get_or, set-set}
+use Rattle.std.proofs.lemmas.List.Sums.{sum_by-set}
 use Rattle.track_types.specs.declared.stop.Stop.{Stop}
-use Rattle.question_shell.specs.Desk.{DeskView, budget_in, is_held_in, place_of, stops_in}
+use Rattle.question_shell.specs.Desk.{DeskView, Draws, budget_in, budget_of, held_of, is_held_in, place_of, stops_in}
+use Rattle.question_shell.specs.Reply.{stops_at}
 
 -- a desk by its places, of which each shows what is seen of its walk
 module _ {W : Type 0} (seen : W → List Stop × ℕ) (places : List (Option W)) (desk : DeskView) (slot : ℕ)
@@ -24,28 +28,96 @@ module _ {W : Type 0} (seen : W → List Stop × ℕ) (places : List (Option W))
     shown-place place default below is = sym (ap (λ desk. get_or desk slot None) shown)
         ∙ (get_or-map (option_map seen) places slot default None below ∙ ap (option_map seen) is)
 
--- a desk before and after a walk in one of its places was drawn from
-module _ (desk now : DeskView) (slot : ℕ) (old new : List Stop × ℕ) (below : slot < length desk)
-    (before : place_of desk slot ≡ Some old) (after : now ≡ set desk slot (Some new))
+-- A walk in one place of a desk was drawn from, and stands there again.
+pub record IsDrawn (desk now : DeskView) (slot : ℕ) (old new : List Stop × ℕ) : Type 0 where
+  pub below : slot < length desk
+  pub before : place_of desk slot ≡ Some old
+  pub after : now ≡ set desk slot (Some new)
+
+module _ {desk now : DeskView} {slot : ℕ} {old new : List Stop × ℕ} (drawn : IsDrawn desk now slot old new) where
+  place-now : place_of now slot ≡ Some new
+  place-now = ap (λ desk. place_of desk slot) drawn.after ∙ get_or-set_same desk slot (Some new) None drawn.below
+
+  pub draws-found : (first : List Stop) → old.0 ≡ first ++ new.0 → stops_in desk slot ≡ first ++ stops_in now slot
+  draws-found first found = ap (λ place. option_map_or (λ walk. walk.0) place []) drawn.before
+      ∙ (found ∙ ap (λ place. first ++ option_map_or (λ walk. walk.0) place []) (sym place-now))
+
+  pub draws-cost : (start end : ℕ) → end + new.1 ≤ start + old.1 →
+      end + budget_in now slot ≤ start + budget_in desk slot
+  draws-cost start end cost = omega (
+    arith,
+    cost,
+    ap (λ place. option_map_or (λ walk. walk.1) place 0) drawn.before,
+    ap (λ place. option_map_or (λ walk. walk.1) place 0) place-now,
+  )
+
+  pub draws-held : is_held_in now slot ≡ is_held_in desk slot
+  draws-held = ap is_some place-now ∙ sym (ap is_some drawn.before)
+
+  pub draws-others : now ≡ set desk slot (place_of now slot)
+  draws-others = drawn.after ∙ ap (set desk slot) (sym place-now)
+
+-- the stops in a place, by the lists that the desk holds
+pub stops_at-held : (desk : DeskView) (slot : ℕ) →
+    stops_at (held_of desk) slot ≡ option_map (λ walk. walk.0) (place_of desk slot)
+stops_at-held desk slot = shown_at (option_map (λ walk. walk.0)) refl desk slot
   where
-    place-now : place_of now slot ≡ Some new
-    place-now = ap (λ desk. place_of desk slot) after ∙ get_or-set_same desk slot (Some new) None below
+    shown_at : (f : Option (List Stop × ℕ) → Option (List Stop)) → f None ≡ None → (desk : DeskView) (slot : ℕ) →
+        stops_at (map f desk) slot ≡ f (place_of desk slot)
+    shown_at f empty [] slot = sym empty
+    shown_at f empty (place ∷ desk) zero = refl
+    shown_at f empty (place ∷ desk) (suc slot) = shown_at f empty desk slot
 
-    pub draws-found : (first : List Stop) → old.0 ≡ first ++ new.0 → stops_in desk slot ≡ first ++ stops_in now slot
-    draws-found first found = ap (λ place. option_map_or (λ walk. walk.0) place []) before
-        ∙ (found ∙ ap (λ place. first ++ option_map_or (λ walk. walk.0) place []) (sym place-now))
+pub is_some-stops_at : (desk : DeskView) (slot : ℕ) → is_some (stops_at (held_of desk) slot) ≡ is_held_in desk slot
+is_some-stops_at desk slot = ap is_some (stops_at-held desk slot) ∙ is_some-map (place_of desk slot)
+  where
+    is_some-map : (place : Option (List Stop × ℕ)) → is_some (option_map (λ walk. walk.0) place) ≡ is_some place
+    is_some-map None = refl
+    is_some-map (Some walk) = refl
 
-    pub draws-cost : (start end : ℕ) → end + new.1 ≤ start + old.1 →
-        end + budget_in now slot ≤ start + budget_in desk slot
-    draws-cost start end cost = omega (
-      arith,
-      cost,
-      ap (λ place. option_map_or (λ walk. walk.1) place 0) before,
-      ap (λ place. option_map_or (λ walk. walk.1) place 0) place-now,
-    )
+-- the lists and the budget of a desk of which a place was given another walk, or none
+module _ (desk : DeskView) (slot : ℕ) (place : Option (List Stop × ℕ)) where
+  pub held_of-set : held_of (set desk slot place) ≡ set (held_of desk) slot (option_map (λ walk. walk.0) place)
+  held_of-set = map-set (option_map (λ walk. walk.0)) desk slot place
 
-    pub draws-held : is_held_in now slot ≡ is_held_in desk slot
-    draws-held = ap is_some place-now ∙ sym (ap is_some before)
+  pub budget_of-set : slot < length desk →
+      budget_of (set desk slot place) + budget_in desk slot
+      ≡ budget_of desk + option_map_or (λ walk. walk.1) place 0
+  budget_of-set below = sum_by-set (λ place. option_map_or (λ walk. walk.1) place 0) desk slot place None below
 
-    pub draws-others : now ≡ set desk slot (place_of now slot)
-    draws-others = after ∙ ap (set desk slot) (sym place-now)
+-- a place that is emptied may read nothing more
+pub budget_of-emptied : (desk : DeskView) (slot : ℕ) → budget_of (set desk slot None) ≤ budget_of desk
+budget_of-emptied desk slot = elim (cases_lt slot (length desk)) [
+  | inl below ↦ omega (arith, budget_of-set desk slot None below)
+  | inr beyond ↦ omega (arith, ap budget_of (set_beyond desk slot beyond))
+]
+  where
+    set_beyond : (desk : DeskView) (slot : ℕ) → length desk ≤ slot → set desk slot None ≡ desk
+    set_beyond [] slot beyond = refl
+    set_beyond (place ∷ desk) zero beyond = absurd (omega (arith, beyond))
+    set_beyond (place ∷ desk) (suc slot) beyond = ap (λ desk. place ∷ desk) (set_beyond desk slot (omega (arith, beyond)))
+
+-- nothing was drawn
+pub draws-nothing : (desk : DeskView) (slot steps : ℕ) → Draws desk desk slot steps steps
+draws-nothing desk slot steps =
+    record { held = refl; others = sym (set-get_or desk slot None); cost = omega arith }
+
+module _ (before between : DeskView) (slot start here : ℕ) (draws : Draws before between slot start here) where
+  -- what the desk may read falls by what was read
+  pub draws-due : slot < length before → here + budget_of between ≤ start + budget_of before
+  draws-due below = omega (
+    arith,
+    draws.cost,
+    budget_of-set before slot (place_of between slot) below,
+    ap budget_of draws.others,
+  )
+
+  -- more was drawn
+  pub draws-more : (now : DeskView) (end : ℕ) → Draws between now slot here end → Draws before now slot start end
+  draws-more now end more = record {
+    held = more.held ∙ draws.held;
+    others = more.others
+        ∙ (ap (λ desk. set desk slot (place_of now slot)) draws.others
+        ∙ set-set before slot (place_of between slot) (place_of now slot));
+    cost = omega (arith, draws.cost, more.cost);
+  }

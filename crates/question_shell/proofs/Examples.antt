@@ -1,5 +1,5 @@
 -- The definitions, run on inputs that were worked out by hand.
-use Rattle.std.proofs.Common.{◌≡◌, pos, negsuc, [], ◌∷◌, codes, refl, Ok, Err, Some, None, replicate, ◌++◌}
+use Rattle.std.proofs.Common.{◌≡◌, ℕ, pos, negsuc, List, [], ◌∷◌, codes, refl, Ok, Err, Some, None, replicate, ◌++◌}
 use Rattle.std.specs.Fmt.{digits}
 use Rattle.list_laws.specs.Ordered.{ordered, placed}
 use Rattle.track_types.specs.ByFilter.{hits_of, nearest_among, nears_at, nears_of, sightings_of}
@@ -9,8 +9,9 @@ use Rattle.track_types.specs.declared.question.Question.TheVariants as question
 use Rattle.track_types.specs.declared.region.Region.TheVariants as region
 use Rattle.question_shell.specs.Grammar.{question_of}
 use Rattle.question_shell.specs.Lines.{lines_of, unended_line, whole_lines, words_of}
-use Rattle.question_shell.specs.Replies.{costs_of, replies_of}
+use Rattle.question_shell.specs.Replies.{costs_of, desk_after, replies_of}
 use Rattle.question_shell.specs.Reply.{listed}
+use Rattle.question_shell.specs.Slots.{replies_to_each, replies_to_slot}
 use Rattle.question_shell.specs.declared.bad.Bad.TheVariants as bad
 
 -- lines: an empty one counts, a last one counts where it has a byte
@@ -106,6 +107,24 @@ radius_below = refl
 radius_above : question_of (codes "slice 0 disc 0 0 4398046511105") ≡ Err (bad.Range 6)
 radius_above = refl
 
+hold_question : question_of (codes "hold 15 7 -1 2") ≡ Ok (Some (question.Hold 15 7 (negsuc 0) (pos 2)))
+hold_question = refl
+
+more_question : question_of (codes "more 0 4294967295") ≡ Ok (Some (question.More 0 4294967295))
+more_question = refl
+
+free_question : question_of (codes "free 3") ≡ Ok (Some (question.Free 3))
+free_question = refl
+
+slot_above : question_of (codes "hold 16 7 0 2") ≡ Err (bad.Range 2)
+slot_above = refl
+
+slot_below : question_of (codes "free -1") ≡ Err (bad.Range 2)
+slot_below = refl
+
+slot_missing : question_of (codes "more 3") ≡ Err bad.Count
+slot_missing = refl
+
 -- a line of 1,025 bytes is too long where it has a word
 long_line : question_of (replicate 1024 32 ++ 120 ∷ []) ≡ Err bad.Long
 long_line = refl
@@ -161,6 +180,67 @@ reply_to_info : replies_of chart facts_of_two [] (lines_of (codes "info"))
     ≡ codes "objects 2\nfirst 0\nlast 3\nperiod 4\ncell 1\ntick 1\nheight 2\nalphabet 2\nrules 0\nlog 3\ndepth 0\nok 11\n"
 unfolding facts_of_two digits replies_of listed whole_lines unended_line
 reply_to_info = refl
+
+-- object 7 in three rows
+path_chart : ChartView
+path_chart = record {
+  rows = record { object = 7; instant = pos 0; cell = record { x = pos 10; y = pos 10 } }
+      ∷ record { object = 7; instant = pos 1; cell = record { x = pos 11; y = pos 10 } }
+      ∷ record { object = 7; instant = pos 2; cell = record { x = pos 12; y = pos 11 } } ∷ [];
+  first = pos 0;
+  last = pos 2;
+  period = 4;
+  cell = 1;
+  tick = 1;
+}
+
+-- a slot stays held when its walk has ended, until it is freed
+replies_to_cursor : (facts : Facts) →
+    replies_of path_chart facts (replicate 16 None) (lines_of
+    (codes "hold 0 7 0 2\nhold 0 7 0 2\nmore 0 0\nmore 0 9\nmore 0 9\nfree 0\nhold 0 8 0 2\nmore 0 1\n"))
+    ≡ codes "ok 0\nbad held\nok 0\n0 10 10\n1 11 10\n2 12 11\nok 3\nok 0\nok 0\nok 0\nok 0\n"
+unfolding path_chart digits replies_of listed whole_lines unended_line
+replies_to_cursor facts = refl
+
+-- walks in two slots, drawn from in turn
+two_cursors : List (List ℕ)
+two_cursors = lines_of
+    (codes "hold 0 7 0 2\nhold 15 7 1 2\nmore 0 1\nmore 15 5\nmore 0 5\nmore 0 1\nhold 15 7 0 0\nfree 3\nfree 15\nmore 15 1\n")
+
+replies_to_two_cursors : (facts : Facts) →
+    replies_of path_chart facts (replicate 16 None) two_cursors
+    ≡ codes "ok 0\nok 0\n0 10 10\nok 1\n1 11 10\n2 12 11\nok 2\n1 11 10\n2 12 11\nok 2\nok 0\nbad held\nbad free\nok 0\nbad free\n"
+unfolding path_chart two_cursors digits replies_of listed whole_lines unended_line
+replies_to_two_cursors facts = refl
+
+-- the replies to the lines of slot 15 among them, and what these lines alone would get
+replies_to_last_slot : (facts : Facts) →
+    replies_to_slot path_chart facts (replicate 16 None) 15 two_cursors
+    ≡ codes "ok 0\n" ∷ codes "1 11 10\n2 12 11\nok 2\n" ∷ codes "bad held\n" ∷ codes "ok 0\n" ∷ codes "bad free\n" ∷ []
+unfolding path_chart two_cursors digits replies_to_slot listed whole_lines unended_line
+replies_to_last_slot facts = refl
+
+replies_to_last_slot_alone : (facts : Facts) →
+    replies_to_each path_chart facts (replicate 16 None)
+    (lines_of (codes "hold 15 7 1 2\nmore 15 5\nhold 15 7 0 0\nfree 15\nmore 15 1\n"))
+    ≡ codes "ok 0\n" ∷ codes "1 11 10\n2 12 11\nok 2\n" ∷ codes "bad held\n" ∷ codes "ok 0\n" ∷ codes "bad free\n" ∷ []
+unfolding path_chart digits replies_to_each listed whole_lines unended_line
+replies_to_last_slot_alone facts = refl
+
+-- the desk after lines: what is left of a walk in slot 0, and nothing in slot 1
+desk_after_lines : (facts : Facts) →
+    desk_after path_chart facts (replicate 2 None) (lines_of (codes "hold 0 7 0 2\nhold 1 7 0 2\nmore 0 2\nfree 1\n"))
+    ≡ Some (record { instant = pos 2; cell = record { x = pos 12; y = pos 11 } } ∷ []) ∷ None ∷ []
+unfolding path_chart desk_after listed whole_lines unended_line
+desk_after_lines facts = refl
+
+-- holding costs what its path may cost, unless the slot is held; drawing and freeing cost nothing more
+costs_of_cursors : (facts : Facts) →
+    costs_of (λ asked. 5) path_chart facts (replicate 16 None)
+    (lines_of (codes "hold 0 7 0 2\nhold 0 7 0 2\nmore 0 3\nfree 0\nhold 0 7 0 2\n"))
+    ≡ 10
+unfolding path_chart costs_of listed whole_lines unended_line
+costs_of_cursors facts = refl
 
 -- a bad and a blank line cost nothing, and `info` neither
 costs_of_lines : (facts : Facts) →

@@ -6,6 +6,8 @@ pub mod ListingLemmas
 pub mod TurnLemmas
 pub mod CountLemmas
 pub mod DeskLemmas
+pub mod CursorLemmas
+pub mod SlotLemmas
 pub mod SessionLemmas
 pub mod RunLemmas
 pub mod BuoyLemmas

@@ -1,17 +1,19 @@
 -- From what is told of lines to what a run promises.
-use Rattle.std.proofs.Common.{◌≡◌, ℕ, ◌+◌, ◌≤◌, List, [], ◌++◌, length, sym, ap, ◌∙◌, subst, arith, Err}
-use Rattle.std.proofs.Common.{take, drop}
+use Rattle.std.proofs.Common.{◌≡◌, ℕ, ◌+◌, ◌≤◌, List, [], ◌++◌, length, sym, ap, ◌∙◌, subst, arith, Err, refl}
+use Rattle.std.proofs.Common.{append-nil, inl, inr, take, drop}
+use Rattle.std.specs.Io.KnownBytes.{Consumes, IsAtEnd, Keeps}
 use Rattle.std.proofs.lemmas.List.{take-append-drop}
 use Rattle.track_types.specs.Limits.{limit_of}
 use Rattle.track_types.specs.declared.limit.LimitKind.TheVariants.{Questions}
 use Rattle.question_shell.specs.LineKept.{LineKept}
-use Rattle.question_shell.specs.Lines.{whole_lines}
-use Rattle.question_shell.specs.Session.{AnswersBefore, AnswersFront, AnswersToPiece, AreTaken, Came, Meaning, Run}
-use Rattle.question_shell.specs.Turns.{BytesTold, Heard, LinesTold, Moment, TurnsFront, moment}
+use Rattle.question_shell.specs.Lines.{lines_of, unended_line, whole_lines}
+use Rattle.question_shell.specs.Session.{AnswersAll, AnswersBefore, AnswersFirst, AnswersFront, AnswersToPiece}
+use Rattle.question_shell.specs.Session.{AnswersWhole, AreTaken, Came, Meaning, Run}
+use Rattle.question_shell.specs.Turns.{BytesTold, Heard, LinesTold, Moment, Turns, TurnsFront, moment}
 use Rattle.question_shell.specs.declared.turn_fault.TurnFault.{TurnFault}
 use Rattle.question_shell.specs.declared.turn_fault.TurnFault.TheVariants as fault
 use Rattle.question_shell.proofs.SaysLemmas.{Appends-says}
-use Rattle.question_shell.proofs.SessionLemmas.{told-more}
+use Rattle.question_shell.proofs.SessionLemmas.{answers-turns, came-end, came-kept, came-more, heard-again, told-more}
 
 -- the moment of a run at which nothing is held back
 abbrev pub moment_of : Run → Moment
@@ -99,3 +101,118 @@ module _ (meaning : Meaning) (before now : Run) (bytes : List ℕ) (came : Came 
           desk = stopped.desk;
           reads = stopped.reads;
         }
+
+-- Where a run stands as it listens again: what came was heard, and nothing is held back.
+pub record Stands (meaning : Meaning) (before here : Run) (line : LineKept) : Type 0 where
+  pub bytes : List ℕ
+  pub came : Came before here bytes
+  pub short : length bytes ≤ limit_of Questions
+  pub heard : Heard meaning (moment_of before) (moment_of here) bytes line
+
+-- one byte too many came
+pub answers-first : (meaning : Meaning) (before now : Run) (bytes : List ℕ) (line : LineKept) →
+    Came before now bytes → length bytes ≡ limit_of Questions + 1 →
+    Heard meaning (moment_of before) (moment_of now) (take (limit_of Questions) bytes) line →
+    AnswersFirst meaning before now
+answers-first meaning before now bytes line came past heard = record {
+  bytes = bytes;
+  came = came;
+  past = past;
+  answers = answers-turns meaning before.rest now.rest before.said now.said before.taken now.taken before.steps now.steps
+      before.desk now.desk (whole_lines (take (limit_of Questions) bytes)) heard.turns;
+}
+
+-- The end came where a run listened.
+pub record Ends (here now : Run) : Type 0 where
+  pub piece : List ℕ
+  pub nothing : piece ≡ []
+  pub consumed : Consumes here.rest now.rest piece
+  pub taken : now.taken ≡ here.taken + length piece
+  pub at_end : IsAtEnd now.rest
+
+-- A piece came after these bytes, of which so much may be answered.
+pub record Brings (bytes : List ℕ) (here now : Run) (piece counted : List ℕ) : Type 0 where
+  pub consumed : Consumes here.rest now.rest piece
+  pub taken : now.taken ≡ here.taken + length piece
+  pub few : length piece ≤ 4096
+  pub within : length (bytes ++ piece) ≤ limit_of Questions + 1
+  pub front : take (limit_of Questions) (bytes ++ piece) ≡ bytes ++ counted
+
+module _ (meaning : Meaning) (before here now : Run) (line : LineKept) (stands : Stands meaning before here line) where
+  abbrev bytes : List ℕ
+  bytes = stands.bytes
+
+  -- the source failed, and nothing else changed
+  pub answers-whole : Keeps here.rest now.rest → now.taken ≡ here.taken → moment_of now ≡ moment_of here →
+      AnswersWhole meaning before now
+  answers-whole kept taken same = record {
+    bytes = bytes;
+    came = came-kept before here now bytes stands.came kept taken;
+    within = stands.short;
+    answers = answers-turns meaning before.rest now.rest before.said now.said before.taken now.taken before.steps
+        now.steps before.desk now.desk (whole_lines bytes)
+        (subst (λ (here : Moment). Turns meaning (moment_of before) here (whole_lines bytes)) (sym same)
+        stands.heard.turns);
+  }
+
+  -- the end came
+  module _ (ends : Ends here now) where
+    came-here : Came before now bytes
+    came-here = came-end before here now bytes ends.piece ends.nothing stands.came ends.consumed ends.taken
+
+    pub answers-all : ((start : Moment) (came : List ℕ) → Heard meaning start (moment_of here) came line →
+        Turns meaning start (moment_of now) (lines_of came)) → AnswersAll meaning before now
+    answers-all told = record {
+      bytes = bytes;
+      came = came-here;
+      at_end = ends.at_end;
+      within = stands.short;
+      answers = answers-turns meaning before.rest now.rest before.said now.said before.taken now.taken before.steps
+          now.steps before.desk now.desk (lines_of bytes) (told (moment_of before) bytes stands.heard);
+    }
+
+    module _ (refused : TurnFault)
+        (told : (start : Moment) (came : List ℕ) → Heard meaning start (moment_of here) came line →
+        LinesTold meaning start (moment_of now) (lines_of came) (Err refused))
+      where
+        pub front-end : refused ≡ fault.Say → AnswersFront meaning before now
+        front-end say =
+            let again = heard-again meaning (moment_of before) (moment_of here) bytes line stands.heard in
+            let last = last-piece meaning before here now bytes bytes [] line _ refused (sym (append-nil bytes))
+            (omega arith) stands.heard (told (moment_of here) (unended_line bytes) again) say in
+            answers-front meaning before now bytes came-here (omega (arith, stands.short)) (lines_of bytes)
+            (inr (ends.at_end, refl)) refused (told (moment_of before) bytes stands.heard) say last
+
+        pub before-end : refused ≡ fault.Memory → AnswersBefore meaning before now
+        before-end memory =
+            answers-before meaning before now bytes came-here (omega (arith, stands.short)) (lines_of bytes)
+            (inr (ends.at_end, refl)) refused (told (moment_of before) bytes stands.heard) memory
+
+  -- a piece more came, and was answered as far as it may be
+  module _ (piece counted : List ℕ) (new : LineKept) (refused : TurnFault)
+      (brings : Brings bytes here now piece counted)
+      (told : (start : Moment) (came : List ℕ) → Heard meaning start (moment_of here) came line →
+      BytesTold meaning start (moment_of now) (came ++ counted) new (Err refused))
+    where
+      came-piece : Came before now (bytes ++ piece)
+      came-piece = came-more before here now bytes piece stands.came brings.consumed brings.taken
+
+      told-piece : LinesTold meaning (moment_of before) (moment_of now) (whole_lines (bytes ++ piece)) (Err refused)
+      told-piece =
+          refused-first meaning (moment_of before) (moment_of now) (bytes ++ counted) (bytes ++ piece) new refused
+          brings.front (told (moment_of before) bytes stands.heard)
+
+      pub front-piece : refused ≡ fault.Say → AnswersFront meaning before now
+      front-piece say =
+          let again = heard-again meaning (moment_of before) (moment_of here) bytes line stands.heard in
+          let told_here = told-whole meaning (moment_of here) (moment_of now) _ new refused
+          (told (moment_of here) (unended_line bytes) again) in
+          let last = last-piece meaning before here now (bytes ++ piece) bytes piece line _ refused refl brings.few
+          stands.heard told_here say in
+          answers-front meaning before now (bytes ++ piece) came-piece brings.within (whole_lines (bytes ++ piece)) (inl refl)
+          refused told-piece say last
+
+      pub before-piece : refused ≡ fault.Memory → AnswersBefore meaning before now
+      before-piece memory =
+          answers-before meaning before now (bytes ++ piece) came-piece brings.within (whole_lines (bytes ++ piece))
+          (inl refl) refused told-piece memory

@@ -11,7 +11,7 @@ use Rattle.std.specs.Io.KnownBytes.{Consumes, Keeps}
 use Rattle.host_ports.specs.Faults.{Rose}
 use Rattle.track_types.specs.Limits.{limit_of}
 use Rattle.track_types.specs.declared.limit.LimitKind.TheVariants.{Questions}
-use Rattle.question_shell.specs.Desk.{DeskView}
+use Rattle.question_shell.specs.Desk.{DeskView, held_of}
 use Rattle.question_shell.specs.Grammar.{question_of}
 use Rattle.question_shell.specs.LineKept.{LineKept, kept_of}
 use Rattle.question_shell.specs.Lines.{if_any, is_line_feed, lines_of, unended_line, whole_lines}
@@ -25,6 +25,7 @@ use Rattle.question_shell.proofs.LineLemmas.{Pieces, piece-left, separated, sepa
 use Rattle.question_shell.proofs.LineLemmas.{separated-end, separated-unended}
 use Rattle.question_shell.proofs.LineLemmas.{unended_line-is, whole_lines-is}
 use Rattle.question_shell.proofs.SaysLemmas.{Appends-says}
+use Rattle.question_shell.proofs.SlotLemmas.{slots-independent}
 use Rattle.question_shell.proofs.TurnLemmas.{before-cut, before-more, before-say, front-append, front-more}
 use Rattle.question_shell.proofs.TurnLemmas.{front-one, stops-here, turns-append, turns-cut, turns-nothing}
 use Rattle.question_shell.proofs.TurnLemmas.{turns-one, turns-say}
@@ -236,7 +237,12 @@ pub answers-turns : (meaning : Meaning) (rest0 rest said0 said : Option (List �
     Turns meaning (moment said0 [] desk0 steps0) (moment said [] desk steps) lines →
     Answers meaning (run_of rest0 taken0 said0 desk0 steps0) (run_of rest taken said desk steps) lines
 answers-turns meaning rest0 rest said0 said taken0 taken steps0 steps desk0 desk lines turns =
-    record { said = Appends-says said0 said _ turns.said; desk = turns.desk; reads = turns.reads }
+    record {
+      said = Appends-says said0 said _ turns.said;
+      desk = turns.desk;
+      slots = slots-independent meaning (held_of desk0) lines;
+      reads = turns.reads;
+    }
 
 -- at first nothing came
 pub came-nothing : (before : Run) → Came before before []

@@ -10,8 +10,8 @@ use Rattle.question_shell.specs.Replies.{costs_of, desk_after, replies_of, turn_
 use Rattle.question_shell.specs.Reply.{asked_cost, only_text}
 use Rattle.question_shell.specs.Says.{Cuts, Says}
 use Rattle.question_shell.specs.Session.{Meaning, costs_by, desk_by, replies_by, takes_memory}
-use Rattle.question_shell.specs.Turns.{AnswerTold, Moment, Refused, ReplyTold, Takes, TakesFront, Turns, TurnsBefore}
-use Rattle.question_shell.specs.Turns.{TurnsFront, turn_by}
+use Rattle.question_shell.specs.Turns.{AnswerTold, LineTold, Moment, Refused, ReplyTold, Takes, TakesFront, Turns}
+use Rattle.question_shell.specs.Turns.{TurnsBefore, TurnsFront, turn_by}
 use Rattle.question_shell.specs.declared.bad.Bad.{Bad}
 use Rattle.question_shell.specs.declared.turn_fault.TurnFault.{TurnFault}
 use Rattle.question_shell.specs.declared.turn_fault.TurnFault.TheVariants as fault
@@ -216,13 +216,20 @@ module _ (meaning : Meaning) (before : Moment) where
   unfolding costs_of
   stops-here between now lines line turns refused = record {
     lines = lines;
-    stops = record { line = line; behind = []; split = refl; takes = refused.takes };
+    stops = record {
+      line = line;
+      behind = [];
+      split = refl;
+      takes = subst (λ (desk : List (Option (List Stop))). takes_memory desk (question_of line) ≡ true) turns.desk
+          refused.takes;
+    };
     said = rw refused.voice turns.said;
     desk = refused.desk ∙ turns.desk;
     reads = omega (
       arith,
       turns.reads,
       refused.reads,
+      ap (λ desk. asked_cost meaning.cost desk (question_of line)) turns.desk,
       costs_of-append meaning.cost meaning.chart meaning.facts before.desk lines (line ∷ []),
     );
   }
@@ -230,10 +237,19 @@ module _ (meaning : Meaning) (before : Moment) where
   -- what is told of a reply is told of the answer to a question that it answers and that may take memory
   pub told-reply : (now : Moment) (asked : Result (Option Question) Bad) (text : List ℕ)
       (result : Result Unit TurnFault) → turn_by meaning before asked ≡ only_text before.desk text →
-      takes_memory asked ≡ true → now.desk ≡ before.desk → now.due ≤ before.due + asked_cost meaning.cost asked →
+      takes_memory before.desk asked ≡ true → now.desk ≡ before.desk → now.due ≤ before.due + asked_cost meaning.cost before.desk asked →
       ReplyTold before.voice now.voice text result → AnswerTold meaning before now asked result
   told-reply now asked text (Ok done) turn takes desk reads told =
       record { said = rw turn told; desk = rw turn desk; reads = reads }
   told-reply now asked text (Err fault.Say) turn takes desk reads told = record { said = rw turn told; reads = reads }
   told-reply now asked text (Err fault.Memory) turn takes desk reads told =
       record { takes = takes; voice = told; desk = desk; reads = reads }
+
+  -- what is told of a reply of one line is told of the answer to a question that it answers
+  pub told-line : (now : Moment) (asked : Result (Option Question) Bad) (text : List ℕ)
+      (result : Result Unit TurnFault) → turn_by meaning before asked ≡ record { text = text; desk = now.desk } →
+      now.due ≤ before.due + asked_cost meaning.cost before.desk asked →
+      LineTold before.voice now.voice text result → AnswerTold meaning before now asked result
+  told-line now asked text (Ok done) turn reads told = record { said = rw turn told; desk = rw turn refl; reads = reads }
+  told-line now asked text (Err fault.Say) turn reads told = record { said = rw turn told; reads = reads }
+  told-line now asked text (Err fault.Memory) turn reads told = absurd told

@@ -1,6 +1,6 @@
 -- The desk: 16 places for held walks.
-use Rattle.std.specs.Prelude.{ℕ, Bool, List, [], map, replicate, Option, None, option_map, is_some}
-use Rattle.std.specs.Prelude.{slice_index_or}
+use Rattle.std.specs.Prelude.{◌≡◌, ℕ, ◌+◌, ◌≤◌, Bool, List, [], map, replicate, Option, None, option_map, is_some}
+use Rattle.std.specs.Prelude.{slice_index_or, slice_set}
 use Rattle.std.specs.Option.{option_map_or}
 use Rattle.std.specs.List.{sum_by}
 use Rattle.track_types.specs.declared.stop.Stop.{Stop}
@@ -36,3 +36,10 @@ stops_in desk slot = option_map_or (λ walk. walk.0) (place_of desk slot) []
 -- how many reads the walk in a place may still make; 0 where it is empty
 abbrev pub budget_in : DeskView → ℕ → ℕ
 budget_in desk slot = option_map_or (λ walk. walk.1) (place_of desk slot) 0
+
+-- Stops may have been drawn from the walk in a place: it is held if and only if it was, the other places stay, and what
+-- was read was taken from its budget.
+pub record Draws (before now : DeskView) (slot start end : ℕ) : Type 0 where
+  pub held : is_held_in now slot ≡ is_held_in before slot
+  pub others : now ≡ slice_set before slot (place_of now slot)
+  pub cost : end + budget_in now slot ≤ start + budget_in before slot

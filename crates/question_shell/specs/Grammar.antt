@@ -19,7 +19,7 @@ use Rattle.question_shell.specs.Lines.{words_of}
 use Rattle.question_shell.specs.declared.bad.Bad.{Bad}
 use Rattle.question_shell.specs.declared.bad.Bad.TheVariants as bad
 use Rattle.question_shell.specs.declared.form.Form.{Form}
-use Rattle.question_shell.specs.declared.form.Form.TheVariants.{Position, Path, Slice, Interval, Nearest, Info}
+use Rattle.question_shell.specs.declared.form.Form.TheVariants.{Position, Path, Slice, Interval, Nearest, Info, Hold, More, Free}
 use Rattle.question_shell.specs.declared.form.FormWord.{FormWord}
 use Rattle.question_shell.specs.declared.form.FormWord.TheVariants as word
 use Rattle.question_shell.specs.declared.form.Shape.{Shape}
@@ -37,6 +37,10 @@ place_word = word.Number (neg_ℤ (pos (2 ^ 41))) (pos (2 ^ 41))
 abbrev pub radius_word : FormWord
 radius_word = word.Number (pos 0) (pos (2 ^ 42))
 
+-- a slot
+abbrev pub slot_word : FormWord
+slot_word = word.Number (pos 0) (pos 15)
+
 -- the words of a region after its first
 abbrev pub region_words : Shape → List FormWord
 region_words Rect = place_word ∷ place_word ∷ place_word ∷ place_word ∷ []
@@ -50,6 +54,9 @@ form_words (Slice shape) = place_word ∷ word.Shape ∷ region_words shape
 form_words (Interval shape) = place_word ∷ place_word ∷ word.Shape ∷ region_words shape
 form_words Nearest = object_word ∷ place_word ∷ place_word ∷ place_word ∷ []
 form_words Info = []
+form_words Hold = slot_word ∷ object_word ∷ place_word ∷ place_word ∷ []
+form_words More = slot_word ∷ object_word ∷ []
+form_words Free = slot_word ∷ []
 
 -- the shape that a region's first word names, or what is wrong where there is no such word or another
 abbrev pub shape_of : Option (List ℕ) → Result Shape Bad
@@ -74,6 +81,9 @@ form_of first words =
     else if bytes_eq first (codes "interval") then region_form Interval (shape_of (slice_get words 2))
     else if bytes_eq first (codes "nearest") then Ok Nearest
     else if bytes_eq first (codes "info") then Ok Info
+    else if bytes_eq first (codes "hold") then Ok Hold
+    else if bytes_eq first (codes "more") then Ok More
+    else if bytes_eq first (codes "free") then Ok Free
     else Err bad.Word
 
 -- a number by its word's place among a question's words after its first, counted from 0; 0 where there is none
@@ -100,6 +110,13 @@ asked_by Nearest numbers = question.Nearest
     (number_at numbers 1)
     (record { x = number_at numbers 2; y = number_at numbers 3 })
 asked_by Info numbers = question.Info
+asked_by Hold numbers = question.Hold
+    (unsigned_abs (number_at numbers 0))
+    (unsigned_abs (number_at numbers 1))
+    (number_at numbers 2)
+    (number_at numbers 3)
+asked_by More numbers = question.More (unsigned_abs (number_at numbers 0)) (unsigned_abs (number_at numbers 1))
+asked_by Free numbers = question.Free (unsigned_abs (number_at numbers 0))
 
 -- a number is in the range of a word
 abbrev pub IsInRange : FormWord → ℤ → Type 0
@@ -188,7 +205,7 @@ is_long line = nat_lt 1024 (length line)
 abbrev pub question_of : List ℕ → Result (Option Question) Bad
 question_of line = question_in (is_long line) (words_of line)
 
--- the instants, the region and the cell that a question names may be asked for
+-- the instants, the region and the cell that a question names may be asked for, and its slot is one of the desk's 16
 abbrev pub AreAsked : Question → Type 0
 AreAsked (question.Position object instant) = IsAsked instant
 AreAsked (question.Path object from to) = IsAsked from × IsAsked to
@@ -196,6 +213,6 @@ AreAsked (question.Slice instant region) = IsAsked instant × IsRegionAsked regi
 AreAsked (question.Interval from to region) = IsAsked from × IsAsked to × IsRegionAsked region
 AreAsked (question.Nearest count instant cell) = IsAsked instant × IsCellAsked cell
 AreAsked question.Info = ⊤
-AreAsked (question.Hold slot object from to) = ⊤
-AreAsked (question.More slot count) = ⊤
-AreAsked (question.Free slot) = ⊤
+AreAsked (question.Hold slot object from to) = (slot < 16) × IsAsked from × IsAsked to
+AreAsked (question.More slot count) = slot < 16
+AreAsked (question.Free slot) = slot < 16

@@ -3,6 +3,7 @@ pub mod Grammar
 pub mod Desk
 pub mod Reply
 pub mod Replies
+pub mod Slots
 pub mod Session
 pub mod Says
 pub mod LineKept

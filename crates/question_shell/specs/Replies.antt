@@ -26,4 +26,4 @@ desk_after chart facts desk (line ∷ lines) = desk_after chart facts (turn_of c
 unfoldable pub costs_of : (Question → ℕ) → ChartView → Facts → List (Option (List Stop)) → List (List ℕ) → ℕ
 costs_of cost chart facts desk [] = 0
 costs_of cost chart facts desk (line ∷ lines) =
-    asked_cost cost (question_of line) + costs_of cost chart facts (turn_of chart facts desk line).desk lines
+    asked_cost cost desk (question_of line) + costs_of cost chart facts (turn_of chart facts desk line).desk lines

@@ -1,6 +1,6 @@
 -- What is said for each line.
-use Rattle.std.specs.Prelude.{ℕ, ℤ, pos, List, [], ◌∷◌, ◌++◌, length, codes, Option, Some, None, Result, Ok, Err}
-use Rattle.std.specs.Prelude.{option_to_list}
+use Rattle.std.specs.Prelude.{ℕ, ℤ, pos, List, [], ◌∷◌, ◌++◌, drop, length, take, codes, Option, Some, None, Result, Ok, Err}
+use Rattle.std.specs.Prelude.{option_to_list, slice_index_or, slice_set}
 use Rattle.std.specs.List.{flat_map}
 use Rattle.std.specs.Fmt.{decimal, signed_decimal}
 use Rattle.track_types.specs.ByFilter.{cell_at, hits_of, nears_of, path_of, sightings_of}
@@ -98,7 +98,37 @@ pub record Turn : Type 0 where
 abbrev pub only_text : List (Option (List Stop)) → List ℕ → Turn
 only_text desk text = record { text = text; desk = desk }
 
--- what a question brings; one that no words ask is said to be of a bad word
+-- what is said where a slot is held that should be empty
+abbrev pub held_line : List ℕ
+held_line = said_line (codes "bad held")
+
+-- what is said where a slot is empty that should be held
+abbrev pub free_line : List ℕ
+free_line = said_line (codes "bad free")
+
+-- what is brought by holding stops in a slot, where its place holds this
+abbrev pub hold_turn : List (Option (List Stop)) → ℕ → List Stop → Option (List Stop) → Turn
+hold_turn desk slot stops None = record { text = ok_line 0; desk = slice_set desk slot (Some stops) }
+hold_turn desk slot stops (Some held) = only_text desk held_line
+
+-- what is brought by drawing so many stops from a slot, where its place holds this
+abbrev pub more_turn : List (Option (List Stop)) → ℕ → ℕ → Option (List Stop) → Turn
+more_turn desk slot count None = only_text desk free_line
+more_turn desk slot count (Some held) = record {
+  text = listed stop_line (take count held);
+  desk = slice_set desk slot (Some (drop count held));
+}
+
+-- what is brought by emptying a slot, where its place holds this
+abbrev pub free_turn : List (Option (List Stop)) → ℕ → Option (List Stop) → Turn
+free_turn desk slot None = only_text desk free_line
+free_turn desk slot (Some held) = record { text = ok_line 0; desk = slice_set desk slot None }
+
+-- what the place of a slot holds; nothing where it is empty
+abbrev pub stops_at : List (Option (List Stop)) → ℕ → Option (List Stop)
+stops_at desk slot = slice_index_or desk slot None
+
+-- what a question brings
 abbrev pub question_turn : ChartView → Facts → List (Option (List Stop)) → Question → Turn
 question_turn chart facts desk (question.Position object instant) =
     only_text desk (listed cell_line (option_to_list (cell_at chart.rows object instant)))
@@ -111,9 +141,10 @@ question_turn chart facts desk (question.Interval from to region) =
 question_turn chart facts desk (question.Nearest count instant cell) =
     only_text desk (listed near_line (nears_of chart.rows count instant cell))
 question_turn chart facts desk question.Info = only_text desk (listed fact_line (named_facts facts))
-question_turn chart facts desk (question.Hold slot object from to) = only_text desk (bad_line bad.Word)
-question_turn chart facts desk (question.More slot count) = only_text desk (bad_line bad.Word)
-question_turn chart facts desk (question.Free slot) = only_text desk (bad_line bad.Word)
+question_turn chart facts desk (question.Hold slot object from to) =
+    hold_turn desk slot (path_of chart.rows object from to) (stops_at desk slot)
+question_turn chart facts desk (question.More slot count) = more_turn desk slot count (stops_at desk slot)
+question_turn chart facts desk (question.Free slot) = free_turn desk slot (stops_at desk slot)
 
 -- what is brought by what a line asks: nothing for a blank line
 abbrev pub asked_turn : ChartView → Facts → List (Option (List Stop)) → Result (Option Question) Bad → Turn
@@ -121,9 +152,19 @@ asked_turn chart facts desk (Ok None) = only_text desk []
 asked_turn chart facts desk (Ok (Some asked)) = question_turn chart facts desk asked
 asked_turn chart facts desk (Err bad) = only_text desk (bad_line bad)
 
--- what a line's question may cost in reads: nothing for a blank or bad line, or for `info`
-abbrev pub asked_cost : (Question → ℕ) → Result (Option Question) Bad → ℕ
-asked_cost cost (Ok None) = 0
-asked_cost cost (Ok (Some question.Info)) = 0
-asked_cost cost (Ok (Some asked)) = cost asked
-asked_cost cost (Err bad) = 0
+-- what holding costs where the place of its slot holds this: as much as its path, and nothing where it is held
+abbrev pub hold_cost : ℕ → Option (List Stop) → ℕ
+hold_cost cost None = cost
+hold_cost cost (Some held) = 0
+
+-- what a line's question may cost in reads, where the desk holds these walks: nothing for a blank or bad line, for
+-- `info`, `more` and `free`
+abbrev pub asked_cost : (Question → ℕ) → List (Option (List Stop)) → Result (Option Question) Bad → ℕ
+asked_cost cost desk (Ok None) = 0
+asked_cost cost desk (Ok (Some question.Info)) = 0
+asked_cost cost desk (Ok (Some (question.Hold slot object from to))) =
+    hold_cost (cost (question.Path object from to)) (stops_at desk slot)
+asked_cost cost desk (Ok (Some (question.More slot count))) = 0
+asked_cost cost desk (Ok (Some (question.Free slot))) = 0
+asked_cost cost desk (Ok (Some asked)) = cost asked
+asked_cost cost desk (Err bad) = 0

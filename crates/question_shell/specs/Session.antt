@@ -1,6 +1,6 @@
 -- What came from a source, what was said for it, and what was read.
 use Rattle.std.specs.Prelude.{◌≡◌, ℕ, ◌+◌, ◌≤◌, Bool, true, false, List, [], ◌∷◌, ◌++◌, ◌⊎◌, length, take}
-use Rattle.std.specs.Prelude.{Option, Some, None}
+use Rattle.std.specs.Prelude.{Option, Some, None, is_none, ⊤}
 use Rattle.std.specs.Prelude.{Result, Ok, Err}
 use Rattle.std.specs.Io.KnownBytes.{Appends, Consumes, IsAtEnd}
 use Rattle.track_types.specs.Chart.{ChartView}
@@ -14,7 +14,11 @@ use Rattle.question_shell.specs.Desk.{DeskView, budget_of, held_of}
 use Rattle.question_shell.specs.Grammar.{question_of}
 use Rattle.question_shell.specs.Lines.{lines_of, whole_lines}
 use Rattle.question_shell.specs.Replies.{costs_of, desk_after, replies_of}
+use Rattle.question_shell.specs.Reply.{stops_at}
+use Rattle.question_shell.specs.Slots.{lines_of_slot, replies_to_each, replies_to_slot}
 use Rattle.question_shell.specs.declared.bad.Bad.{Bad}
+use Rattle.question_shell.specs.declared.shell_fault.ShellFault.{ShellFault}
+use Rattle.question_shell.specs.declared.shell_fault.ShellFault.TheVariants as shell_fault
 
 -- What an answerer means: a chart, its facts, and what each question may cost in reads.
 pub record Meaning : Type 0 where
@@ -56,13 +60,30 @@ pub record Came (before now : Run) (bytes : List ℕ) : Type 0 where
   pub consumed : Consumes before.rest now.rest bytes
   pub counted : now.taken ≡ before.taken + length bytes
 
--- These lines were answered in between: exactly their replies were said, the desk is the one after them, and what was
--- read, with what the desk may still read, is at most what they cost, with what the desk could read before.
+-- The replies to the lines `hold`, `more` and `free` of each slot are those that these lines alone would get from the same
+-- desk.
+abbrev pub AreIndependent : Meaning → List (Option (List Stop)) → List (List ℕ) → Type 0
+AreIndependent meaning desk lines = (slot : ℕ) →
+    replies_to_slot meaning.chart meaning.facts desk slot lines
+    ≡ replies_to_each meaning.chart meaning.facts desk (lines_of_slot slot lines)
+
+-- These lines were answered in between: exactly their replies were said, the desk is the one after them, the replies to
+-- each slot's lines are its own, and what was read, with what the desk may still read, is at most what they cost, with
+-- what the desk could read before.
 pub record Answers (meaning : Meaning) (before now : Run) (lines : List (List ℕ)) : Type 0 where
   pub said : Appends before.said now.said (replies_by meaning (held_of before.desk) lines)
   pub desk : held_of now.desk ≡ desk_by meaning (held_of before.desk) lines
+  pub slots : AreIndependent meaning (held_of before.desk) lines
   pub reads : now.steps + budget_of now.desk
       ≤ before.steps + budget_of before.desk + costs_by meaning (held_of before.desk) lines
+
+-- an answer that names no device: all was answered, too many bytes came, or memory was refused
+abbrev pub NamesNoDevice : Result Unit ShellFault → Type 0
+NamesNoDevice (Ok done) = ⊤
+NamesNoDevice (Err shell_fault.Listen) = ⊥
+NamesNoDevice (Err shell_fault.Say) = ⊥
+NamesNoDevice (Err (shell_fault.Limit value)) = ⊤
+NamesNoDevice (Err shell_fault.Memory) = ⊤
 
 -- The source was read to its end, and all lines were answered.
 pub record AnswersAll (meaning : Meaning) (before now : Run) : Type 0 where
@@ -86,26 +107,26 @@ pub record AnswersFirst (meaning : Meaning) (before now : Run) : Type 0 where
   pub past : length bytes ≡ limit_of Questions + 1
   pub answers : Answers meaning before now (whole_lines (take (limit_of Questions) bytes))
 
--- whether answering this takes memory
-abbrev pub takes_memory : Result (Option Question) Bad → Bool
-takes_memory (Ok None) = false
-takes_memory (Ok (Some (question.Position object instant))) = false
-takes_memory (Ok (Some (question.Path object from to))) = true
-takes_memory (Ok (Some (question.Slice instant region))) = true
-takes_memory (Ok (Some (question.Interval from to region))) = true
-takes_memory (Ok (Some (question.Nearest count instant cell))) = true
-takes_memory (Ok (Some question.Info)) = false
-takes_memory (Ok (Some (question.Hold slot object from to))) = false
-takes_memory (Ok (Some (question.More slot count))) = false
-takes_memory (Ok (Some (question.Free slot))) = false
-takes_memory (Err bad) = false
+-- whether answering this takes memory, where the desk holds these walks
+abbrev pub takes_memory : List (Option (List Stop)) → Result (Option Question) Bad → Bool
+takes_memory desk (Ok None) = false
+takes_memory desk (Ok (Some (question.Position object instant))) = false
+takes_memory desk (Ok (Some (question.Path object from to))) = true
+takes_memory desk (Ok (Some (question.Slice instant region))) = true
+takes_memory desk (Ok (Some (question.Interval from to region))) = true
+takes_memory desk (Ok (Some (question.Nearest count instant cell))) = true
+takes_memory desk (Ok (Some question.Info)) = false
+takes_memory desk (Ok (Some (question.Hold slot object from to))) = is_none (stops_at desk slot)
+takes_memory desk (Ok (Some (question.More slot count))) = false
+takes_memory desk (Ok (Some (question.Free slot))) = false
+takes_memory desk (Err bad) = false
 
--- One of the lines takes memory, and the lines before it are these.
-pub record StopsAt (lines before : List (List ℕ)) : Type 0 where
+-- One of the lines takes memory, where the desk is the one after the lines before it, which are these.
+pub record StopsAt (meaning : Meaning) (desk : List (Option (List Stop))) (lines before : List (List ℕ)) : Type 0 where
   pub line : List ℕ
   pub behind : List (List ℕ)
   pub split : lines ≡ before ++ line ∷ behind
-  pub takes : takes_memory (question_of line) ≡ true
+  pub takes : takes_memory (desk_by meaning desk before) (question_of line) ≡ true
 
 -- The lines that may be answered: the whole ones, and all of them where the source was read to its end.
 abbrev pub AreTaken : Option (List ℕ) → List ℕ → List (List ℕ) → Type 0
@@ -120,7 +141,7 @@ pub record AnswersBefore (meaning : Meaning) (before now : Run) : Type 0 where
   pub all : List (List ℕ)
   pub taken : AreTaken now.rest bytes all
   pub lines : List (List ℕ)
-  pub stops : StopsAt all lines
+  pub stops : StopsAt meaning (held_of before.desk) all lines
   pub said : Appends before.said now.said (replies_by meaning (held_of before.desk) lines)
   pub desk : held_of now.desk ≡ desk_by meaning (held_of before.desk) lines
   pub reads : now.steps + budget_of now.desk

@@ -5,7 +5,7 @@ use Rattle.track_types.specs.declared.stop.Stop.{Stop}
 use Rattle.question_shell.specs.Desk.{DeskView, budget_of, held_of}
 use Rattle.question_shell.specs.LineKept.{LineKept, kept_of}
 use Rattle.question_shell.specs.Lines.{unended_line, whole_lines}
-use Rattle.question_shell.specs.Reply.{Turn, asked_cost, asked_turn, bad_line}
+use Rattle.question_shell.specs.Reply.{Turn, asked_cost, asked_turn}
 use Rattle.question_shell.specs.Says.{Cuts, Says, Voice, voice}
 use Rattle.question_shell.specs.Session.{Meaning, StopsAt, costs_by, desk_by, replies_by, takes_memory}
 use Rattle.question_shell.specs.declared.bad.Bad.{Bad}
@@ -31,19 +31,19 @@ turn_by meaning before asked = asked_turn meaning.chart meaning.facts before.des
 pub record Takes (meaning : Meaning) (before now : Moment) (asked : Result (Option Question) Bad) : Type 0 where
   pub said : Says before.voice now.voice (turn_by meaning before asked).text
   pub desk : now.desk ≡ (turn_by meaning before asked).desk
-  pub reads : now.due ≤ before.due + asked_cost meaning.cost asked
+  pub reads : now.due ≤ before.due + asked_cost meaning.cost before.desk asked
 
 -- A front of the answer was said.
 pub record TakesFront (meaning : Meaning) (before now : Moment) (asked : Result (Option Question) Bad) : Type 0 where
   pub said : Cuts before.voice now.voice.said (turn_by meaning before asked).text
-  pub reads : now.due ≤ before.due + asked_cost meaning.cost asked
+  pub reads : now.due ≤ before.due + asked_cost meaning.cost before.desk asked
 
 -- Memory was refused to the answer: nothing was said, and no more was read than it may cost.
 pub record Refused (meaning : Meaning) (before now : Moment) (asked : Result (Option Question) Bad) : Type 0 where
-  pub takes : takes_memory asked ≡ true
+  pub takes : takes_memory before.desk asked ≡ true
   pub voice : now.voice ≡ before.voice
   pub desk : now.desk ≡ before.desk
-  pub reads : now.due ≤ before.due + asked_cost meaning.cost asked
+  pub reads : now.due ≤ before.due + asked_cost meaning.cost before.desk asked
 
 -- Lines were answered.
 pub record Turns (meaning : Meaning) (before now : Moment) (lines : List (List ℕ)) : Type 0 where
@@ -59,7 +59,7 @@ pub record TurnsFront (meaning : Meaning) (before now : Moment) (lines : List (L
 -- The lines before one that takes memory were answered, and no more was read than they and that line cost.
 pub record TurnsBefore (meaning : Meaning) (before now : Moment) (all : List (List ℕ)) : Type 0 where
   pub lines : List (List ℕ)
-  pub stops : StopsAt all lines
+  pub stops : StopsAt meaning before.desk all lines
   pub said : Says before.voice now.voice (replies_by meaning before.desk lines)
   pub desk : now.desk ≡ desk_by meaning before.desk lines
   pub reads : now.due ≤ before.due + costs_by meaning before.desk (lines ++ stops.line ∷ [])
@@ -81,11 +81,11 @@ ReplyTold before now text (Ok done) = Says before now text
 ReplyTold before now text (Err fault.Say) = Cuts before now.said text
 ReplyTold before now text (Err fault.Memory) = now ≡ before
 
--- What is told of the reply to a bad line: it was said, or a front of it.
-abbrev pub BadTold : Voice → Voice → Bad → Result Unit TurnFault → Type 0
-BadTold before now bad (Ok done) = Says before now (bad_line bad)
-BadTold before now bad (Err fault.Say) = Cuts before now.said (bad_line bad)
-BadTold before now bad (Err fault.Memory) = ⊥
+-- What is told of a reply of one line: it was said, or a front of it.
+abbrev pub LineTold : Voice → Voice → List ℕ → Result Unit TurnFault → Type 0
+LineTold before now line (Ok done) = Says before now line
+LineTold before now line (Err fault.Say) = Cuts before now.said line
+LineTold before now line (Err fault.Memory) = ⊥
 
 -- What is told of bytes that came: they were heard, a front of the replies was said, or memory was refused.
 abbrev pub BytesTold : Meaning → Moment → Moment → List ℕ → LineKept → Result Unit TurnFault → Type 0

@@ -7,13 +7,15 @@ ghost use Rattle.question_shell.specs.Grammar.{AreAsked};
 ghost use Rattle.question_shell.specs.Reply.{listed};
 ghost use Rattle.question_shell.specs.Says.{voice};
 ghost use Rattle.question_shell.specs.Session.{meaning_of};
-ghost use Rattle.question_shell.specs.Turns.{AnswerTold, BadTold, ReplyTold, moment};
+ghost use Rattle.question_shell.specs.Turns.{AnswerTold, ReplyTold, moment};
 ghost use Rattle.question_shell.specs.declared.turn_fault.TurnFault.TheVariants as fault;
 
 use crate::bad::Bad;
+use crate::cursors::{answer_free, answer_hold, answer_more};
+use crate::desk::Desk;
 use crate::held_text::HeldText;
 use crate::reply::{Found, bad_line};
-use crate::saying::{say_cell, say_facts, say_found, say_path};
+use crate::saying::{answer_line, say_cell, say_facts, say_found, say_path};
 use crate::turn_fault::TurnFault;
 use host_ports::Sink;
 use std::alloc::Global;
@@ -26,64 +28,81 @@ pub(crate) fn answer<A: Answerer, K: Sink, L: Ledger>(
     alloc: Global,
     answerer: A,
     asked: Result<Option<Question>, Bad>,
+    desk: &mut Desk<A::Walk>,
     text: &mut HeldText,
     sink: &mut K,
     steps: &mut Steps<L>,
 ) -> Result<(), TurnFault>
     requires { IfOk asked (λ asked. IfSome asked AreAsked) }
-    ensures told { (desk : DeskView) →
-        AnswerTold (meaning_of (A.chart answerer) (A.facts answerer) (A.cost answerer))
-        (moment (K.said sink.old) text.old desk steps.old)
-        (moment (K.said sink.new) text.new desk steps.new) asked result }
+    ensures told { AnswerTold (meaning_of (A.chart answerer) (A.facts answerer) (A.cost answerer))
+        (moment (K.said sink.old) text.old desk.old steps.old)
+        (moment (K.said sink.new) text.new desk.new steps.new) asked result }
     ensures cause { result ≡ Err fault.Say → Rose (K.faults sink.old) (K.faults sink.new) }
     ensures untouched { result ≢ Err fault.Say → K.faults sink.new ≡ K.faults sink.old }
     ensures faults { K.faults sink.old ≤ K.faults sink.new }
 {
     match asked {
         Ok(None) => Ok(()),
-        Ok(Some(Question::Position { object, instant })) => {
-            answer_position(answerer, object, instant, text, sink, steps)
+        Ok(Some(question)) => {
+            answer_question(alloc, answerer, question, desk, text, sink, steps)
         }
-        Ok(Some(Question::Path { object, from, to })) => {
-            answer_path(alloc, answerer, object, (from, to), text, sink, steps)
-        }
-        Ok(Some(Question::Slice { instant, region })) => {
-            let found = answerer.slice(alloc, instant, &region, steps);
-            answer_found(found, text, sink)
-        }
-        Ok(Some(Question::Interval { from, to, region })) => {
-            let found = answerer.interval(alloc, from, to, &region, steps);
-            answer_found(found, text, sink)
-        }
-        Ok(
-            Some(
-                Question::Nearest {
-                    count,
-                    instant,
-                    cell,
-                },
-            ),
-        ) => {
-            let found = answerer.nearest(alloc, count, instant, cell, steps);
-            answer_found(found, text, sink)
-        }
-        Ok(Some(Question::Info)) => answer_info(answerer, text, sink),
-        Ok(Some(_)) => answer_bad(Bad::Word, text, sink),
-        Err(bad) => answer_bad(bad, text, sink),
+        Err(bad) => answer_line(&bad_line(bad), text, sink),
     }
 }
 
-fn answer_bad<K: Sink>(bad: Bad, text: &mut HeldText, sink: &mut K) -> Result<(), TurnFault>
-    ensures told { BadTold (voice (K.said sink.old) text.old)
-        (voice (K.said sink.new) text.new) bad result }
+fn answer_question<A: Answerer, K: Sink, L: Ledger>(
+    alloc: Global,
+    answerer: A,
+    question: Question,
+    desk: &mut Desk<A::Walk>,
+    text: &mut HeldText,
+    sink: &mut K,
+    steps: &mut Steps<L>,
+) -> Result<(), TurnFault>
+    requires { AreAsked question }
+    ensures told { AnswerTold (meaning_of (A.chart answerer) (A.facts answerer) (A.cost answerer))
+        (moment (K.said sink.old) text.old desk.old steps.old)
+        (moment (K.said sink.new) text.new desk.new steps.new) (Ok (Some question)) result }
     ensures cause { result ≡ Err fault.Say → Rose (K.faults sink.old) (K.faults sink.new) }
     ensures untouched { result ≢ Err fault.Say → K.faults sink.new ≡ K.faults sink.old }
     ensures faults { K.faults sink.old ≤ K.faults sink.new }
 {
-    let Ok(()) = text.put(&bad_line(bad), sink) else {
-        return Err(TurnFault::Say);
-    };
-    Ok(())
+    match question {
+        Question::Position { object, instant } => {
+            answer_position(answerer, object, instant, text, sink, steps)
+        }
+        Question::Path { object, from, to } => {
+            answer_path(alloc, answerer, object, (from, to), text, sink, steps)
+        }
+        Question::Slice { instant, region } => {
+            let found = answerer.slice(alloc, instant, &region, steps);
+            answer_found(found, text, sink)
+        }
+        Question::Interval { from, to, region } => {
+            let found = answerer.interval(alloc, from, to, &region, steps);
+            answer_found(found, text, sink)
+        }
+        Question::Nearest {
+            count,
+            instant,
+            cell,
+        } => {
+            let found = answerer.nearest(alloc, count, instant, cell, steps);
+            answer_found(found, text, sink)
+        }
+        Question::Info => answer_info(answerer, text, sink),
+        Question::Hold {
+            slot,
+            object,
+            from,
+            to,
+        } => {
+            let path = (object, from, to);
+            answer_hold(alloc, answerer, slot, path, desk, text, sink)
+        }
+        Question::More { slot, count } => answer_more(desk, slot, count, text, sink, steps),
+        Question::Free { slot } => answer_free(desk, slot, text, sink),
+    }
 }
 
 // Says what was found, unless there was no memory for it.

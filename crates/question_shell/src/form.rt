@@ -38,9 +38,21 @@ pub enum Form {
     Nearest,
     /// `info`
     Info,
+    /// `hold S O T1 T2`
+    Hold,
+    /// `more S N`
+    More,
+    /// `free S`
+    Free,
 }
 
-/// An object's number, O, or a count, K.
+/// A slot of the desk, S.
+const SLOT: FormWord = FormWord::Number {
+    least: 0,
+    greatest: 15,
+};
+
+/// An object's number, O, or a count, K or N.
 const OBJECT: FormWord = FormWord::Number {
     least: 0,
     greatest: 0xffff_ffff,
@@ -72,6 +84,12 @@ const INTERVAL_DISC: [FormWord; 6] = [PLACE, PLACE, FormWord::Shape, PLACE, PLAC
 
 const NEAREST: [FormWord; 4] = [OBJECT, PLACE, PLACE, PLACE];
 
+const HOLD: [FormWord; 4] = [SLOT, OBJECT, PLACE, PLACE];
+
+const MORE: [FormWord; 2] = [SLOT, OBJECT];
+
+const FREE: [FormWord; 1] = [SLOT];
+
 /// The most words that a question has after its first.
 pub(crate) const MOST_WORDS: usize = 7;
 
@@ -92,6 +110,12 @@ impl Form {
             Ok(Form::Nearest)
         } else if word == b"info".as_slice() {
             Ok(Form::Info)
+        } else if word == b"hold".as_slice() {
+            Ok(Form::Hold)
+        } else if word == b"more".as_slice() {
+            Ok(Form::More)
+        } else if word == b"free".as_slice() {
+            Ok(Form::Free)
         } else {
             Err(Bad::Word)
         }
@@ -111,6 +135,9 @@ impl Form {
             Form::Interval(Shape::Disc) => &INTERVAL_DISC,
             Form::Nearest => &NEAREST,
             Form::Info => &[],
+            Form::Hold => &HOLD,
+            Form::More => &MORE,
+            Form::Free => &FREE,
         }
     }
 }

@@ -19,7 +19,8 @@ pub(crate) const LONGEST_LINE: usize = 1024;
 type Numbers = ArrayVec<i64, MOST_WORDS>;
 
 /// Reads a question line, without its line feed: `Ok(None)` exactly where it has no word, however
-/// long it is, else what it asks, or the first thing that is wrong with it.
+/// long it is, else what it asks, or the first thing that is wrong with it. Whether a slot is held or
+/// empty only a desk can tell, so it is not judged here.
 pub fn read_question(line: &[u8]) -> Result<Option<Question>, Bad>
     ensures value { result ≡ question_of line.now }
     ensures asked { IfOk result (λ asked. IfSome asked AreAsked) }
@@ -130,6 +131,19 @@ fn question(form: Form, numbers: &[i64]) -> Question
             },
         },
         Form::Info => Question::Info,
+        Form::Hold => Question::Hold {
+            slot: numbers[0].unsigned_abs() as u8,
+            object: numbers[1].unsigned_abs() as u32,
+            from: numbers[2],
+            to: numbers[3],
+        },
+        Form::More => Question::More {
+            slot: numbers[0].unsigned_abs() as u8,
+            count: numbers[1].unsigned_abs() as u32,
+        },
+        Form::Free => Question::Free {
+            slot: numbers[0].unsigned_abs() as u8,
+        },
     }
 }
 

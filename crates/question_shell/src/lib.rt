@@ -1,12 +1,14 @@
 //! Question lines in, replies out: the shell around whatever answers questions.
 //!
 //! `run` answers the lines of a source one after another and says exactly the replies that
-//! filtering the answerer's chart gives, through a buffer of fixed size. The crate stands on
-//! track_types, list_laws, host_ports, step_count, arrayvec and itoa.
+//! filtering the answerer's chart gives, through a buffer of fixed size. Its `Desk` holds up to 16
+//! walks over paths, which lines draw from in turn. The crate stands on track_types, list_laws,
+//! host_ports, step_count, arrayvec and itoa.
 #![tactic(auto)]
 
 mod answering;
 mod bad;
+mod cursors;
 mod desk;
 mod form;
 mod grammar;

@@ -1,6 +1,5 @@
 ghost use Rattle.std.specs.Prelude.{◌≡◌, ◌≢◌, ℕ, ◌≤◌, [], ◌∷◌, ◌++◌, List, Err, OnOk, ◌⊎◌};
 ghost use Rattle.host_ports.specs.Faults.{Rose};
-ghost use Rattle.question_shell.specs.Desk.{DeskView};
 ghost use Rattle.question_shell.specs.LineKept.{kept_of};
 ghost use Rattle.question_shell.specs.Lines.{lines_of};
 ghost use Rattle.question_shell.specs.Says.{voice};
@@ -10,6 +9,7 @@ ghost use Rattle.question_shell.specs.Turns.{moment};
 ghost use Rattle.question_shell.specs.declared.turn_fault.TurnFault.TheVariants as fault;
 
 use crate::answering::answer;
+use crate::desk::Desk;
 use crate::held_text::HeldText;
 use crate::line_buffer::LineBuffer;
 use crate::turn_fault::TurnFault;
@@ -44,13 +44,14 @@ pub(crate) fn take_piece<A: Answerer, K: Sink, L: Ledger>(
     answerer: A,
     talk: &mut Talk,
     piece: &[u8],
+    desk: &mut Desk<A::Walk>,
     sink: &mut K,
     steps: &mut Steps<L>,
 ) -> Result<(), TurnFault>
-    ensures told { (start : Moment) (came : List ℕ) (desk : DeskView) →
+    ensures told { (start : Moment) (came : List ℕ) →
         let meaning = meaning_of (A.chart answerer) (A.facts answerer) (A.cost answerer) in
-        let now = moment (K.said sink.new) [] desk steps.new in
-        Heard meaning start (moment (K.said sink.old) talk.old.text desk steps.old)
+        let now = moment (K.said sink.new) [] desk.new steps.new in
+        Heard meaning start (moment (K.said sink.old) talk.old.text desk.old steps.old)
         came talk.old.line →
         BytesTold meaning start now (came ++ piece.now) talk.new.line result }
     ensures said { OnOk result (talk.new.text ≡ []) }
@@ -58,7 +59,7 @@ pub(crate) fn take_piece<A: Answerer, K: Sink, L: Ledger>(
     ensures untouched { result ≢ Err fault.Say → K.faults sink.new ≡ K.faults sink.old }
     ensures faults { K.faults sink.old ≤ K.faults sink.new }
 {
-    let answered = take_bytes(alloc, answerer, talk, piece, sink, steps);
+    let answered = take_bytes(alloc, answerer, talk, piece, desk, sink, steps);
     say_rest(answered, &mut talk.text, sink)
 }
 
@@ -68,13 +69,14 @@ fn take_bytes<A: Answerer, K: Sink, L: Ledger>(
     answerer: A,
     talk: &mut Talk,
     bytes: &[u8],
+    desk: &mut Desk<A::Walk>,
     sink: &mut K,
     steps: &mut Steps<L>,
 ) -> Result<(), TurnFault>
-    ensures told { (start : Moment) (came : List ℕ) (desk : DeskView) →
+    ensures told { (start : Moment) (came : List ℕ) →
         let meaning = meaning_of (A.chart answerer) (A.facts answerer) (A.cost answerer) in
-        let now = moment (K.said sink.new) talk.new.text desk steps.new in
-        Heard meaning start (moment (K.said sink.old) talk.old.text desk steps.old)
+        let now = moment (K.said sink.new) talk.new.text desk.new steps.new in
+        Heard meaning start (moment (K.said sink.old) talk.old.text desk.old steps.old)
         came talk.old.line →
         BytesTold meaning start now (came ++ bytes.now) talk.new.line result }
     ensures cause { result ≡ Err fault.Say → Rose (K.faults sink.old) (K.faults sink.new) }
@@ -82,7 +84,7 @@ fn take_bytes<A: Answerer, K: Sink, L: Ledger>(
     ensures faults { K.faults sink.old ≤ K.faults sink.new }
 {
     for byte in bytes {
-        take_byte(alloc, answerer, talk, *byte, sink, steps)?;
+        take_byte(alloc, answerer, talk, *byte, desk, sink, steps)?;
     }
     Ok(())
 }
@@ -93,13 +95,14 @@ fn take_byte<A: Answerer, K: Sink, L: Ledger>(
     answerer: A,
     talk: &mut Talk,
     byte: u8,
+    desk: &mut Desk<A::Walk>,
     sink: &mut K,
     steps: &mut Steps<L>,
 ) -> Result<(), TurnFault>
-    ensures told { (start : Moment) (came : List ℕ) (desk : DeskView) →
+    ensures told { (start : Moment) (came : List ℕ) →
         let meaning = meaning_of (A.chart answerer) (A.facts answerer) (A.cost answerer) in
-        let now = moment (K.said sink.new) talk.new.text desk steps.new in
-        Heard meaning start (moment (K.said sink.old) talk.old.text desk steps.old)
+        let now = moment (K.said sink.new) talk.new.text desk.new steps.new in
+        Heard meaning start (moment (K.said sink.old) talk.old.text desk.old steps.old)
         came talk.old.line →
         BytesTold meaning start now (came ++ byte ∷ []) talk.new.line result }
     ensures cause { result ≡ Err fault.Say → Rose (K.faults sink.old) (K.faults sink.new) }
@@ -112,7 +115,7 @@ fn take_byte<A: Answerer, K: Sink, L: Ledger>(
     }
     let asked = talk.line.question();
     talk.line.clear();
-    answer(alloc, answerer, asked, &mut talk.text, sink, steps)
+    answer(alloc, answerer, asked, desk, &mut talk.text, sink, steps)
 }
 
 // Answers a last line that no line feed ends, and says all that was held back.
@@ -120,13 +123,14 @@ pub(crate) fn take_end<A: Answerer, K: Sink, L: Ledger>(
     alloc: Global,
     answerer: A,
     talk: &mut Talk,
+    desk: &mut Desk<A::Walk>,
     sink: &mut K,
     steps: &mut Steps<L>,
 ) -> Result<(), TurnFault>
-    ensures told { (start : Moment) (came : List ℕ) (desk : DeskView) →
+    ensures told { (start : Moment) (came : List ℕ) →
         let meaning = meaning_of (A.chart answerer) (A.facts answerer) (A.cost answerer) in
-        let now = moment (K.said sink.new) [] desk steps.new in
-        Heard meaning start (moment (K.said sink.old) talk.old.text desk steps.old)
+        let now = moment (K.said sink.new) [] desk.new steps.new in
+        Heard meaning start (moment (K.said sink.old) talk.old.text desk.old steps.old)
         came talk.old.line →
         LinesTold meaning start now (lines_of came) result }
     ensures cause { result ≡ Err fault.Say → Rose (K.faults sink.old) (K.faults sink.new) }
@@ -134,7 +138,7 @@ pub(crate) fn take_end<A: Answerer, K: Sink, L: Ledger>(
     ensures faults { K.faults sink.old ≤ K.faults sink.new }
 {
     let asked = talk.line.question();
-    let answered = answer(alloc, answerer, asked, &mut talk.text, sink, steps);
+    let answered = answer(alloc, answerer, asked, desk, &mut talk.text, sink, steps);
     say_rest(answered, &mut talk.text, sink)
 }
 

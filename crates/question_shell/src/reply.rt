@@ -1,6 +1,7 @@
 ghost use Rattle.std.specs.Prelude.{◌≡◌, ◌≤◌, ◌++◌, length};
 ghost use Rattle.std.specs.Fmt.{decimal};
-ghost use Rattle.question_shell.specs.Reply.{bad_line, cell_line, fact_line, ok_line};
+ghost use Rattle.question_shell.specs.Reply.{bad_line, cell_line, fact_line, free_line, held_line};
+ghost use Rattle.question_shell.specs.Reply.{ok_line};
 ghost use Rattle.question_shell.specs.Reply.{said_line, stop_line};
 ghost use Rattle.question_shell.specs.Says.{told_of};
 
@@ -135,6 +136,20 @@ pub(crate) fn bad_line(bad: Bad) -> ReplyLine
         Bad::Number(place) => placed_line("bad number ", place),
         Bad::Range(place) => placed_line("bad range ", place),
     }
+}
+
+// bad held
+pub(crate) fn held_line() -> ReplyLine
+    ensures { result.bytes ≡ held_line }
+{
+    plain_line("bad held\n")
+}
+
+// bad free
+pub(crate) fn free_line() -> ReplyLine
+    ensures { result.bytes ≡ free_line }
+{
+    plain_line("bad free\n")
 }
 
 fn plain_line(text: &str) -> ReplyLine

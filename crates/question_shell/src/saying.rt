@@ -1,17 +1,39 @@
-ghost use Rattle.std.specs.Prelude.{◌≡◌, ◌+◌, ◌^◌, ◌≤◌, IfOk, OnOk, OnErr, length, option_to_list};
+ghost use Rattle.std.specs.Prelude.{◌≡◌, ◌≢◌, ◌+◌, ◌^◌, ◌≤◌, Err, IfOk, OnOk, OnErr, length};
+ghost use Rattle.std.specs.Prelude.{option_to_list};
 ghost use Rattle.std.specs.List.{flat_map};
 ghost use Rattle.host_ports.specs.Faults.{Rose};
 ghost use Rattle.question_shell.specs.Reply.{cell_line, fact_line, listed};
 ghost use Rattle.question_shell.specs.Reply.{named_facts, stop_line};
 ghost use Rattle.question_shell.specs.Says.{Cuts, Says, voice};
+ghost use Rattle.question_shell.specs.Turns.{LineTold};
+ghost use Rattle.question_shell.specs.declared.turn_fault.TurnFault.TheVariants as fault;
 
 use crate::held_text::HeldText;
 use crate::named_fact::named_facts;
-use crate::reply::{Found, cell_line, fact_line, ok_line, stop_line};
+use crate::reply::{Found, ReplyLine, cell_line, fact_line, ok_line, stop_line};
+use crate::turn_fault::TurnFault;
 use host_ports::{Cut, Sink};
 use std::sync::ledger::Ledger;
 use step_count::Steps;
 use track_types::{Cell, Facts, Lazy, Stop};
+
+// Answers by one line.
+pub(crate) fn answer_line<K: Sink>(
+    line: &ReplyLine,
+    text: &mut HeldText,
+    sink: &mut K,
+) -> Result<(), TurnFault>
+    ensures told { LineTold (voice (K.said sink.old) text.old)
+        (voice (K.said sink.new) text.new) line.now.bytes result }
+    ensures cause { result ≡ Err fault.Say → Rose (K.faults sink.old) (K.faults sink.new) }
+    ensures untouched { result ≢ Err fault.Say → K.faults sink.new ≡ K.faults sink.old }
+    ensures faults { K.faults sink.old ≤ K.faults sink.new }
+{
+    let Ok(()) = text.put(line, sink) else {
+        return Err(TurnFault::Say);
+    };
+    Ok(())
+}
 
 // Says the reply to a question for a position.
 pub(crate) fn say_cell<K: Sink>(

@@ -2,7 +2,8 @@ ghost use Rattle.std.specs.Prelude.{◌≡◌, ◌≢◌, ℕ, ◌+◌, ◌≤�
 ghost use Rattle.host_ports.specs.Faults.{Rose};
 ghost use Rattle.track_types.specs.Limits.{limit_of};
 ghost use Rattle.question_shell.specs.Session.{AnswersAll, AnswersBefore, AnswersFirst};
-ghost use Rattle.question_shell.specs.Session.{AnswersFront, AnswersWhole, meaning_of, run_of};
+ghost use Rattle.question_shell.specs.Session.{AnswersFront, AnswersWhole, NamesNoDevice};
+ghost use Rattle.question_shell.specs.Session.{meaning_of, run_of};
 ghost use Rattle.question_shell.specs.declared.shell_fault.ShellFault.TheVariants as fault;
 
 use crate::desk::Desk;
@@ -25,13 +26,14 @@ const PIECE: usize = 4096;
 ///
 /// Every whole line that came is answered before more is listened to. At most 2^32 bytes are
 /// answered, and one byte more is listened to, in pieces of at most 4,096. Memory is taken for the
-/// lines `path`, `slice`, `interval` and `nearest` alone.
+/// lines `path`, `slice`, `interval` and `nearest` alone, and for a `hold` whose slot is empty.
 ///
 /// `Listen` comes only where the source failed, and then the whole lines that came were answered.
 /// `Say` comes only where the sink failed, and then a front of the replies was said and nothing
 /// more was listened to. `Limit` comes where more than 2^32 bytes came, and then the whole lines
-/// among the first 2^32 were answered. After `Memory` exactly the lines before one of these four were
-/// answered. The count of faults of a device that the answer does not name is what it was.
+/// among the first 2^32 were answered. After `Memory` exactly the lines before one of these five were
+/// answered. The count of faults of a device that the answer does not name is what it was, so that
+/// devices without a fault have `Ok`, `Limit` or `Memory`.
 pub fn run<A: Answerer, S: Source, K: Sink, L: Ledger>(
     alloc: Global,
     answerer: A,
@@ -67,6 +69,8 @@ pub fn run<A: Answerer, S: Source, K: Sink, L: Ledger>(
     ensures listen_untouched { result ≢ Err fault.Listen →
         S.faults source.new ≡ S.faults source.old }
     ensures say_untouched { result ≢ Err fault.Say → K.faults sink.new ≡ K.faults sink.old }
+    ensures complete { (Rose (S.faults source.old) (S.faults source.new) → ⊥) →
+        (Rose (K.faults sink.old) (K.faults sink.new) → ⊥) → NamesNoDevice result }
     ensures within { S.taken source.new ≤ S.taken source.old + (limit_of LimitKind.Questions + 1) }
     ensures listen_faults { S.faults source.old ≤ S.faults source.new }
     ensures say_faults { K.faults sink.old ≤ K.faults sink.new }
@@ -80,7 +84,7 @@ pub fn run<A: Answerer, S: Source, K: Sink, L: Ledger>(
             return Err(ShellFault::Listen);
         };
         if count == 0 {
-            return match take_end(alloc, answerer, &mut talk, sink, steps) {
+            return match take_end(alloc, answerer, &mut talk, desk, sink, steps) {
                 Ok(()) => Ok(()),
                 Err(TurnFault::Say) => Err(ShellFault::Say),
                 Err(TurnFault::Memory) => Err(ShellFault::Memory),
@@ -88,7 +92,15 @@ pub fn run<A: Answerer, S: Source, K: Sink, L: Ledger>(
         }
         // The byte past the longest input is taken and not answered.
         let counted = count.min(LONGEST_INPUT - taken);
-        match take_piece(alloc, answerer, &mut talk, &buffer[..counted], sink, steps) {
+        match take_piece(
+            alloc,
+            answerer,
+            &mut talk,
+            &buffer[..counted],
+            desk,
+            sink,
+            steps,
+        ) {
             Ok(()) => taken += count,
             Err(TurnFault::Say) => return Err(ShellFault::Say),
             Err(TurnFault::Memory) => return Err(ShellFault::Memory),

@@ -1,6 +1,8 @@
 ghost use Rattle.std.specs.Prelude.{◌≡◌, ◌<◌, ◌∷◌, [], IfOk, if◌then◌else◌, pos};
 ghost use Rattle.std.specs.Ordering.{int_eq};
+ghost use Rattle.host_ports.specs.Faults.{Rose};
 ghost use Rattle.track_types.specs.Region.{is_between};
+ghost use Rattle.question_shell.specs.Session.{NamesNoDevice};
 
 use super::{Desk, ShellFault, run};
 use crate::held_text::HeldText;
@@ -249,6 +251,8 @@ fn call<S: Source, K: Sink, L: Ledger>(
     requires name { blank.name ≡ L.name }
     requires parts { blank.parts ≡ L.parts }
     requires some { 0 < L.parts }
+    ensures { (Rose (S.faults source.old) (S.faults source.new) → ⊥) →
+        (Rose (K.faults sink.old) (K.faults sink.new) → ⊥) → IfOk result NamesNoDevice }
 {
     let mut desk = Desk::new(rt.alloc())?;
     let mut steps = Steps::<L>::new(rt, blank);
@@ -261,7 +265,7 @@ fn answer(rt: &HostRuntime, outside: &mut Outside) -> Result<Result<(), ShellFau
 
 #[test]
 fn each_line_has_its_reply(rt: HostRuntime) -> Result<(), Fail> {
-    let cases: [(&[u8], &[u8]); 14] = [
+    let cases: [(&[u8], &[u8]); 18] = [
         (b"position 7 2\n", b"12 -11\nok 1\n"),
         (b"position 7 1\nposition 9 2", b"ok 0\nok 0\n"),
         (b"path 7 2 2\n", b"2 12 -11\nok 1\n"),
@@ -302,6 +306,24 @@ fn each_line_has_its_reply(rt: HostRuntime) -> Result<(), Fail> {
         (
             b"position -1 x\nposition 4294967296 2\npath 7 0 2199023255553\nslice 0 disc 0 0 -1\nslice 0 disc 0 0 4398046511105\n",
             b"bad range 2\nbad range 2\nbad range 4\nbad range 6\nbad range 6\n",
+        ),
+        (
+            b"hold 0 7 0\nhold\nmore 0\nmore 0 1 1\nfree\nfree 0 0\n",
+            b"bad count\nbad count\nbad count\nbad count\nbad count\nbad count\n",
+        ),
+        (
+            b"hold a 7 16 x\nhold 0 7 0 x\nmore 0 -\nhold 16 7 0 2\nhold -1 7 0 2\nmore 16 1\nmore 0 4294967296\nfree -1\n",
+            b"bad number 2\nbad number 5\nbad number 3\nbad range 2\nbad range 2\nbad range 2\nbad range 3\nbad range 2\n",
+        ),
+        // A walk that has ended stays held, and a held slot takes no memory for another.
+        (
+            b"hold 0 7 0 2\nhold 0 8 0 2\nmore 3 1\nfree 3\nmore 0 0\nmore 0 4294967295\nmore 0 9\nfree 0\nfree 0\n",
+            b"ok 0\nbad held\nbad free\nbad free\nok 0\n2 12 -11\nok 1\nok 0\nok 0\nbad free\n",
+        ),
+        // Walks in three slots are drawn from in turn.
+        (
+            b"hold 0 7 0 2\nhold 15 7 2 9\nhold 1 7 3 9\nmore 15 1\nmore 1 1\nmore 0 1\nmore 15 1\nfree 0\nmore 0 1\nhold 0 7 2 2\nmore 15 1\nmore 0 1\n",
+            b"ok 0\nok 0\nok 0\n2 12 -11\nok 1\nok 0\n2 12 -11\nok 1\nok 0\nok 0\nbad free\nok 0\nok 0\n2 12 -11\nok 1\n",
         ),
     ];
     for (lines, said) in cases {
@@ -366,7 +388,10 @@ fn long_lines_and_long_replies_are_said(rt: HostRuntime) -> Result<(), Fail> {
     Ok(())
 }
 
-fn answer_calm(rt: &HostRuntime, lines: &[u8]) -> Result<Result<(), ShellFault>, Memory> {
+/// The answer over devices that never fail: `Ok`, `Limit` or `Memory`.
+fn answer_calm(rt: &HostRuntime, lines: &[u8]) -> Result<Result<(), ShellFault>, Memory>
+    ensures { IfOk result NamesNoDevice }
+{
     let mut source = CalmSource::new(Vec::from_slice(rt.alloc(), lines)?);
     call::<CalmSource, NullSink, Brand>(rt, &mut source, &mut NullSink, Blank::new(1))
 }
@@ -441,6 +466,17 @@ fn a_refusal_says_what_came_before(rt: HostRuntime) -> Result<(), Fail> {
     outside = make_outside(alloc, b"position 7 2\npath 8 0 4\nposition 7 2\n", 4096)?;
     assert_eq!(rt; answer(&rt, &mut outside)?, Err(ShellFault::Memory));
     assert_eq!(rt; outside.sink.as_slice(), b"12 -11\nok 1\n".as_slice());
+
+    outside = make_outside(
+        alloc,
+        b"hold 0 7 0 4\nmore 0 1\nhold 1 8 0 4\nmore 0 1\n",
+        4096,
+    )?;
+    assert_eq!(rt; answer(&rt, &mut outside)?, Err(ShellFault::Memory));
+    assert_eq!(rt;
+        outside.sink.as_slice(),
+        b"ok 0\n2 12 -11\nok 1\n".as_slice()
+    );
 
     // Devices that never fail have no fault.
     assert_eq!(rt;

@@ -1,5 +1,4 @@
-use Rattle.std.proofs.Common.{◌∙◌, sym, ap, slice_get, refl}
-use Rattle.question_shell.specs.Grammar.{shape_of}
+use Rattle.std.proofs.Common.{refl}
 use Rattle.question_shell.specs.Lines.{words_of}
 use Rattle.question_shell.proofs.GrammarLemmas.{slice_get-drop}
 use Rattle.question_shell.proofs.form.read_shape.Goals as goal

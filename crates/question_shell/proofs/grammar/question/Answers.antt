@@ -1,4 +1,4 @@
-use Rattle.std.proofs.Common.{◌≡◌, ◌∷◌, [], refl, arith}
+use Rattle.std.proofs.Common.{◌∷◌, [], refl, arith}
 use Rattle.question_shell.specs.Grammar.{AreInRange, form_words, place_word, region_words}
 use Rattle.question_shell.specs.declared.form.Form.TheVariants.{Interval, Slice}
 use Rattle.question_shell.specs.declared.form.FormWord.TheVariants.{Shape}

@@ -8,7 +8,7 @@ use Rattle.question_shell.proofs.SessionLemmas.{around_byte, rose-later, told-mo
 use Rattle.question_shell.proofs.listening.take_bytes.Goals as goal
 
 pub returns-in_err-take_byte-clause-told : goal.returns-in_err-take_byte-clause-told
-returns-in_err-take_byte-clause-told g c start came desk heard =
+returns-in_err-take_byte-clause-told g c start came heard =
     let exit = err_from_is_err_and c.from_residual.result c.from_residual.ensures.1 in
     let meaning = meaning_of (g.A.Answerer.chart c.args.answerer) (g.A.Answerer.facts c.args.answerer)
     (g.A.Answerer.cost c.args.answerer) in
@@ -16,10 +16,11 @@ returns-in_err-take_byte-clause-told g c start came desk heard =
     let i = c.loop-byte.byte-index in
     let refused = c.in_err-take_byte.field-0.0 in
     let line = c.take_byte.new.talk.line in
-    let now = moment (g.K.Sink.said c.take_byte.new.sink) c.take_byte.new.talk.text desk c.take_byte.new.steps in
+    let now = moment (g.K.Sink.said c.take_byte.new.sink) c.take_byte.new.talk.text c.take_byte.new.desk
+    c.take_byte.new.steps in
     let front = came ++ take i piece in
     let P : List ℕ → Type 0 = λ input. BytesTold meaning start now input line (Err refused) in
-    let told = c.in_err-take_byte.ensures.told start front desk (c.loop-byte.invariant.heard start came desk heard) in
+    let told = c.in_err-take_byte.ensures.told start front (c.loop-byte.invariant.heard start came heard) in
     rw (exit.1, exit.2) (subst P (around_byte came piece i c.loop-byte-test.true)
     (told-more meaning start now (front ++ get_or piece i 0 ∷ []) (drop (i + 1) piece) line line refused told))
 
@@ -43,25 +44,26 @@ returns-in_err-take_byte-clause-untouched g c differs =
 pub loop-byte-preserved : goal.loop-byte-preserved
 loop-byte-preserved g c = record {
   faults = c.in_ok-take_byte.ensures.untouched (λ same. absurd (cc)) ∙ c.loop-byte.invariant.faults;
-  heard = λ start came desk heard.
+  heard = λ start came heard.
       let meaning = meaning_of (g.A.Answerer.chart c.args.answerer) (g.A.Answerer.facts c.args.answerer)
       (g.A.Answerer.cost c.args.answerer) in
       let piece = c.args.bytes.now in
       let i = c.loop-byte.byte-index in
-      let now = moment (g.K.Sink.said c.take_byte.new.sink) c.take_byte.new.talk.text desk c.take_byte.new.steps in
+      let now = moment (g.K.Sink.said c.take_byte.new.sink) c.take_byte.new.talk.text c.take_byte.new.desk
+      c.take_byte.new.steps in
       let P : List ℕ → Type 0 = λ input. Heard meaning start now input c.take_byte.new.talk.line in
       subst P (append_assoc came (take i piece) (get_or piece i 0 ∷ [])
       ∙ ap (λ text. came ++ text) (sym (take_more piece i 0 c.loop-byte-test.true)))
-      (c.in_ok-take_byte.ensures.told start (came ++ take i piece) desk
-      (c.loop-byte.invariant.heard start came desk heard));
+      (c.in_ok-take_byte.ensures.told start (came ++ take i piece)
+      (c.loop-byte.invariant.heard start came heard));
 }
 
 pub returns-clause-told : goal.returns-clause-told
-returns-clause-told g c start came desk heard =
+returns-clause-told g c start came heard =
     let meaning = meaning_of (g.A.Answerer.chart c.args.answerer) (g.A.Answerer.facts c.args.answerer)
     (g.A.Answerer.cost c.args.answerer) in
     let piece = c.args.bytes.now in
-    let now = moment (g.K.Sink.said c.loop-byte.sink) c.loop-byte.talk.text desk c.loop-byte.steps in
+    let now = moment (g.K.Sink.said c.loop-byte.sink) c.loop-byte.talk.text c.loop-byte.desk c.loop-byte.steps in
     let P : List ℕ → Type 0 = λ input. Heard meaning start now (came ++ input) c.loop-byte.talk.line in
     subst P (take_all c.loop-byte.byte-index piece (omega (arith, c.loop-byte-test.false)))
-    (c.loop-byte.invariant.heard start came desk heard)
+    (c.loop-byte.invariant.heard start came heard)

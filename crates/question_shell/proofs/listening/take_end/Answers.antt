@@ -9,14 +9,14 @@ use Rattle.question_shell.proofs.SessionLemmas.{rest-lines, rose-after, told-end
 use Rattle.question_shell.proofs.listening.take_end.Goals as goal
 
 pub returns-clause-told : goal.returns-clause-told
-returns-clause-told g c start came desk heard =
+returns-clause-told g c start came heard =
     let meaning = meaning_of (g.A.Answerer.chart c.args.answerer) (g.A.Answerer.facts c.args.answerer)
     (g.A.Answerer.cost c.args.answerer) in
     let said = c.answer-answered in
-    let here = moment (g.K.Sink.said c.args.sink.now) c.args.talk.now.text desk c.args.steps.now in
-    let between = moment (g.K.Sink.said said.new.sink) said.new.text desk said.new.steps in
+    let here = moment (g.K.Sink.said c.args.sink.now) c.args.talk.now.text c.args.desk.now c.args.steps.now in
+    let between = moment (g.K.Sink.said said.new.sink) said.new.text said.new.desk said.new.steps in
     let told = subst (λ (asked : Result (Option Question) Bad). AnswerTold meaning here between asked said.result)
-    (c.question-asked.ensures.value (unended_line came) heard.kept) (said.ensures.told desk) in
+    (c.question-asked.ensures.value (unended_line came) heard.kept) said.ensures.told in
     rest-lines meaning start between (g.K.Sink.said c.say_rest.new.sink) (lines_of came) said.result c.say_rest.result
     (told-end meaning start here between came c.args.talk.now.line said.result told heard) c.say_rest.ensures.told
 

@@ -6,13 +6,13 @@ use Rattle.question_shell.proofs.SessionLemmas.{rest-bytes, rose-after}
 use Rattle.question_shell.proofs.listening.take_piece.Goals as goal
 
 pub returns-clause-told : goal.returns-clause-told
-returns-clause-told g c start came desk heard =
+returns-clause-told g c start came heard =
     let meaning = meaning_of (g.A.Answerer.chart c.args.answerer) (g.A.Answerer.facts c.args.answerer)
     (g.A.Answerer.cost c.args.answerer) in
     let took = c.take_bytes-answered in
-    let between = moment (g.K.Sink.said took.new.sink) took.new.talk.text desk took.new.steps in
+    let between = moment (g.K.Sink.said took.new.sink) took.new.talk.text took.new.desk took.new.steps in
     rest-bytes meaning start between (g.K.Sink.said c.say_rest.new.sink) (came ++ c.args.piece.now) took.new.talk.line
-    took.result c.say_rest.result (took.ensures.told start came desk heard) c.say_rest.ensures.told
+    took.result c.say_rest.result (took.ensures.told start came heard) c.say_rest.ensures.told
 
 pub returns-clause-cause : goal.returns-clause-cause
 returns-clause-cause g c failed =

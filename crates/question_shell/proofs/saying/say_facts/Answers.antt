@@ -3,7 +3,7 @@ use Rattle.std.proofs.Common.{length, arith, add-one, pos, ℤ, Bor}
 use Rattle.std.proofs.lemmas.List.{drop_all, length-map}
 use Rattle.std.specs.List.{flat_map}
 use Rattle.track_types.specs.declared.facts.Facts.{Facts}
-use Rattle.question_shell.specs.Reply.{fact_line, listed, named_facts, ok_line}
+use Rattle.question_shell.specs.Reply.{fact_line, listed, named_facts}
 use Rattle.question_shell.specs.Says.{told_of, voice}
 use Rattle.question_shell.proofs.ListingLemmas.{cuts-listing, listing-next, says-listing}
 use Rattle.question_shell.proofs.SaysLemmas.{listed-is, on_err_always, on_err-cuts, on_ok-says}

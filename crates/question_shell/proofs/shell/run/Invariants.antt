@@ -9,13 +9,13 @@ abbrev pub invariant-pieces : goal.invariant-pieces
 invariant-pieces g l = record {
   bytes : List ℕ;
   came : Came
-      (run_of (g.S.Source.rest l.fn.source) (g.S.Source.taken l.fn.source) (g.K.Sink.said l.fn.sink) l.desk l.fn.steps)
+      (run_of (g.S.Source.rest l.fn.source) (g.S.Source.taken l.fn.source) (g.K.Sink.said l.fn.sink) l.fn.desk l.fn.steps)
       (run_of (g.S.Source.rest l.source) (g.S.Source.taken l.source) (g.K.Sink.said l.sink) l.desk l.steps) bytes;
   count : l.taken ≡ length bytes;
   within : l.taken ≤ limit_of Questions + 1;
   heard : Heard
       (meaning_of (g.A.Answerer.chart l.answerer) (g.A.Answerer.facts l.answerer) (g.A.Answerer.cost l.answerer))
-      (moment (g.K.Sink.said l.fn.sink) [] l.desk l.fn.steps) (moment (g.K.Sink.said l.sink) [] l.desk l.steps)
+      (moment (g.K.Sink.said l.fn.sink) [] l.fn.desk l.fn.steps) (moment (g.K.Sink.said l.sink) [] l.desk l.steps)
       (take (limit_of Questions) bytes) l.talk.line;
   text : l.talk.text ≡ [];
   listen_faults : g.S.Source.faults l.source ≡ g.S.Source.faults l.fn.source;

@@ -1,66 +1,43 @@
-use Rattle.std.proofs.Common.{◌≡◌, ◌<◌, ◌∙◌, sym, arith, length, Some, List, ℕ}
-use Rattle.std.specs.Prelude.{option_to_list}
-use Rattle.track_types.specs.declared.stop.Stop.{Stop}
-use Rattle.question_shell.proofs.DeskLemmas.{draws-cost, draws-found, draws-held, draws-others}
+use Rattle.std.proofs.Common.{◌<◌, ◌∙◌, sym, arith, length, map, set, Some}
+use Rattle.std.specs.Prelude.{option_map, option_to_list}
+use Rattle.question_shell.proofs.DeskLemmas.{IsDrawn, draws-cost, draws-found, draws-held, draws-others}
 use Rattle.question_shell.proofs.DeskLemmas.{shown-below, shown-place, shown-set}
+use Rattle.question_shell.proofs.desk.Desk.draw.Given.{Over}
 use Rattle.question_shell.proofs.desk.Desk.draw.Goals as goal
+use Rattle.question_shell.proofs.desk.Desk.draw.Goals.{After-draw}
+
+-- the desk before and after the draw
+drawn : (g : Over) (c : After-draw g) →
+    IsDrawn c.args.self.now
+    (map (option_map (λ walk. (g.W.Lazy.left walk, g.W.Lazy.budget walk)))
+    (set c.self.inside.places.items c.args.slot (Some c.draw.new.self)))
+    c.args.slot (g.W.Lazy.left c.in-Some.walk, g.W.Lazy.budget c.in-Some.walk)
+    (g.W.Lazy.left c.draw.new.self, g.W.Lazy.budget c.draw.new.self)
+drawn g c =
+    let places = c.self.inside.places.items in
+    let desk = c.args.self.now in
+    let slot = c.args.slot in
+    let below : slot < length places = omega (arith, c.requires, c.self.invariant) in
+    record {
+      below = shown-below (λ walk. (g.W.Lazy.left walk, g.W.Lazy.budget walk)) places desk slot c.self.view_is below;
+      before = shown-place (λ walk. (g.W.Lazy.left walk, g.W.Lazy.budget walk)) places desk slot c.self.view_is
+          (Some c.in-Some.walk) c.index_mut.result.now below (sym c.index_mut.ensures.value ∙ c.in-Some.is);
+      after = shown-set (λ walk. (g.W.Lazy.left walk, g.W.Lazy.budget walk)) places desk slot c.self.view_is
+          (Some c.draw.new.self);
+    }
 
 pub returns-clause-found : goal.returns-clause-found
 returns-clause-found g c =
-    let places = c.self.inside.places.items in
-    let desk = c.args.self.now in
-    let slot = c.args.slot in
-    let old : List Stop × ℕ = (g.W.Lazy.left c.in-Some.walk, g.W.Lazy.budget c.in-Some.walk) in
-    let new : List Stop × ℕ = (g.W.Lazy.left c.draw.new.self, g.W.Lazy.budget c.draw.new.self) in
-    let below : slot < length places = omega (arith, c.requires, c.self.invariant) in
-    draws-found desk _ slot old new
-    (shown-below (λ walk. (g.W.Lazy.left walk, g.W.Lazy.budget walk)) places desk slot c.self.view_is below)
-    (shown-place (λ walk. (g.W.Lazy.left walk, g.W.Lazy.budget walk)) places desk slot c.self.view_is
-    (Some c.in-Some.walk) c.index_mut.result.now below (sym c.index_mut.ensures.value ∙ c.in-Some.is))
-    (shown-set (λ walk. (g.W.Lazy.left walk, g.W.Lazy.budget walk)) places desk slot c.self.view_is
-    (Some c.draw.new.self)) (option_to_list c.draw.result) c.draw.ensures.found
+    draws-found (drawn g (goal.at.returns-clause-found g c).After-draw) (option_to_list c.draw.result)
+    c.draw.ensures.found
 
 pub returns-clause-cost : goal.returns-clause-cost
 returns-clause-cost g c =
-    let places = c.self.inside.places.items in
-    let desk = c.args.self.now in
-    let slot = c.args.slot in
-    let old : List Stop × ℕ = (g.W.Lazy.left c.in-Some.walk, g.W.Lazy.budget c.in-Some.walk) in
-    let new : List Stop × ℕ = (g.W.Lazy.left c.draw.new.self, g.W.Lazy.budget c.draw.new.self) in
-    let below : slot < length places = omega (arith, c.requires, c.self.invariant) in
-    draws-cost desk _ slot old new
-    (shown-below (λ walk. (g.W.Lazy.left walk, g.W.Lazy.budget walk)) places desk slot c.self.view_is below)
-    (shown-place (λ walk. (g.W.Lazy.left walk, g.W.Lazy.budget walk)) places desk slot c.self.view_is
-    (Some c.in-Some.walk) c.index_mut.result.now below (sym c.index_mut.ensures.value ∙ c.in-Some.is))
-    (shown-set (λ walk. (g.W.Lazy.left walk, g.W.Lazy.budget walk)) places desk slot c.self.view_is
-    (Some c.draw.new.self)) c.args.steps.now c.draw.new.steps c.draw.ensures.cost
+    draws-cost (drawn g (goal.at.returns-clause-cost g c).After-draw) c.args.steps.now c.draw.new.steps
+    c.draw.ensures.cost
 
 pub returns-clause-held : goal.returns-clause-held
-returns-clause-held g c =
-    let places = c.self.inside.places.items in
-    let desk = c.args.self.now in
-    let slot = c.args.slot in
-    let old : List Stop × ℕ = (g.W.Lazy.left c.in-Some.walk, g.W.Lazy.budget c.in-Some.walk) in
-    let new : List Stop × ℕ = (g.W.Lazy.left c.draw.new.self, g.W.Lazy.budget c.draw.new.self) in
-    let below : slot < length places = omega (arith, c.requires, c.self.invariant) in
-    draws-held desk _ slot old new
-    (shown-below (λ walk. (g.W.Lazy.left walk, g.W.Lazy.budget walk)) places desk slot c.self.view_is below)
-    (shown-place (λ walk. (g.W.Lazy.left walk, g.W.Lazy.budget walk)) places desk slot c.self.view_is
-    (Some c.in-Some.walk) c.index_mut.result.now below (sym c.index_mut.ensures.value ∙ c.in-Some.is))
-    (shown-set (λ walk. (g.W.Lazy.left walk, g.W.Lazy.budget walk)) places desk slot c.self.view_is
-    (Some c.draw.new.self))
+returns-clause-held g c = draws-held (drawn g (goal.at.returns-clause-held g c).After-draw)
 
 pub returns-clause-others : goal.returns-clause-others
-returns-clause-others g c =
-    let places = c.self.inside.places.items in
-    let desk = c.args.self.now in
-    let slot = c.args.slot in
-    let old : List Stop × ℕ = (g.W.Lazy.left c.in-Some.walk, g.W.Lazy.budget c.in-Some.walk) in
-    let new : List Stop × ℕ = (g.W.Lazy.left c.draw.new.self, g.W.Lazy.budget c.draw.new.self) in
-    let below : slot < length places = omega (arith, c.requires, c.self.invariant) in
-    draws-others desk _ slot old new
-    (shown-below (λ walk. (g.W.Lazy.left walk, g.W.Lazy.budget walk)) places desk slot c.self.view_is below)
-    (shown-place (λ walk. (g.W.Lazy.left walk, g.W.Lazy.budget walk)) places desk slot c.self.view_is
-    (Some c.in-Some.walk) c.index_mut.result.now below (sym c.index_mut.ensures.value ∙ c.in-Some.is))
-    (shown-set (λ walk. (g.W.Lazy.left walk, g.W.Lazy.budget walk)) places desk slot c.self.view_is
-    (Some c.draw.new.self))
+returns-clause-others g c = draws-others (drawn g (goal.at.returns-clause-others g c).After-draw)
