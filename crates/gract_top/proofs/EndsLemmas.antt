@@ -1,6 +1,6 @@
 -- How a call ends once its file was loaded.
 use Rattle.std.proofs.Common.{◌≡◌, ◌≢◌, ℕ, ◌+◌, ◌<◌, ◌≤◌, ◌^◌, true, false, List, length, Result, Ok, Err}
-use Rattle.std.proofs.Common.{inl, inr, refl, sym, ap, ◌∙◌, subst, arith}
+use Rattle.std.proofs.Common.{inr, refl, sym, ap, ◌∙◌, subst, arith}
 use mathlib.Core.Bool.{false≢true}
 use Rattle.host_ports.specs.FileMap.{IsMissing}
 use Rattle.host_ports.specs.FilesState.{FilesState}
@@ -15,7 +15,7 @@ use Rattle.track_index.specs.Opening.{IsFile}
 use Rattle.gract_top.specs.Outcome.{EndsOpened, EndsOver, Talk}
 use Rattle.gract_top.specs.Ends.{AnswersChart, AnswersFile, EndsAsk, EndsBuild, EndsLoading, EndsOnce, Moment}
 use Rattle.gract_top.specs.Ends.{Saved, SavesChart, SavesNothing, written}
-use Rattle.gract_top.specs.Refusal.{IsAccepted, is_early, is_late, is_refusal}
+use Rattle.gract_top.specs.Refusal.{IsAccepted, is_early, is_refusal}
 use Rattle.gract_top.specs.declared.outcome.Outcome.{Outcome}
 use Rattle.gract_top.specs.declared.outcome.Outcome.TheVariants as outcome
 use Rattle.gract_top.specs.declared.request.Settings.{Settings}

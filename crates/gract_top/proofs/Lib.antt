@@ -1,4 +1,8 @@
 pub mod RequestLemmas
 pub mod OutcomeLemmas
 pub mod EndsLemmas
+pub mod SummaryLemmas
+pub mod InfoLemmas
+pub mod SamplingLemmas
+pub mod CompletenessLemmas
 mod Examples

@@ -12,6 +12,7 @@ use Rattle.chart_parts.specs.PartsOf.{parts_of}
 use Rattle.index_format.specs.Spelling.{bytes_of_parts}
 use Rattle.gract_top.specs.Outcome.{EndsOpened, EndsOver, Talk}
 use Rattle.gract_top.specs.Refusal.{IsAccepted, IsIndexLoaded, IsIndexRefused, IsRefused, is_early, is_late, is_refusal}
+use Rattle.gract_top.specs.Sampling.{EndsSample, speech}
 use Rattle.gract_top.specs.declared.outcome.Outcome.{Outcome}
 use Rattle.gract_top.specs.declared.outcome.Outcome.TheVariants as outcome
 use Rattle.gract_top.specs.declared.request.Settings.{Settings}
@@ -121,11 +122,16 @@ pub record EndsAsk (result : Outcome) (index : List ℕ) (untouched : Type 0) (b
   pub memory : result ≡ outcome.Memory →
       StaysSilent untouched before now ⊎ AnswersFile result index untouched before now
 
--- how the call that a request asks for ends, where it is not refused
-abbrev pub Ends : Request → Outcome → Type 0 → Moment → Moment → Type 0
-Ends (request.Once csv settings) result untouched before now = EndsOnce result csv.now settings untouched before now
-Ends (request.Build csv index settings) result untouched before now =
+-- How the call that a request asks for ends, where it is not refused. `unheard` says that the source is as it was, and
+-- `unsaid` that the sink is.
+abbrev pub Ends : Request → Outcome → Type 0 → Type 0 → Moment → Moment → Type 0
+Ends (request.Once csv settings) result unheard unsaid before now =
+    EndsOnce result csv.now settings (unheard × unsaid) before now
+Ends (request.Build csv index settings) result unheard unsaid before now =
     EndsBuild result csv.now index.now settings before.files now.files
-    × (StaysSilent untouched before now × (now.given ≡ before.given))
-Ends (request.Ask index) result untouched before now = EndsAsk result index.now untouched before now
-Ends (request.Refused place) result untouched before now = ⊤
+    × (StaysSilent (unheard × unsaid) before now × (now.given ≡ before.given))
+Ends (request.Ask index) result unheard unsaid before now = EndsAsk result index.now (unheard × unsaid) before now
+Ends (request.Sample settings) result unheard unsaid before now =
+    unheard × EndsSample result settings unsaid before.files now.files before.given
+    (speech before.talk.said before.talk.steps) (speech now.talk.said now.talk.steps)
+Ends (request.Refused place) result unheard unsaid before now = ⊤

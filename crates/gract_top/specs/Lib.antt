@@ -2,5 +2,8 @@ pub mod Request
 pub mod Loading
 pub mod Refusal
 pub mod Outcome
+pub mod Summary
+pub mod Sampling
 pub mod Ends
+pub mod Completeness
 pub mod OutcomeText

@@ -1,5 +1,5 @@
 -- What the command words ask for.
-use Rattle.std.specs.Prelude.{⊤, ℕ, ◌+◌, pos, Bool, if◌then◌else◌, List, [], ◌∷◌, codes, Option, Some, is_ok}
+use Rattle.std.specs.Prelude.{⊤, ℕ, ◌+◌, ◌^◌, ◌<◌, ◌≤◌, pos, Bool, if◌then◌else◌, List, [], ◌∷◌, codes, Option, Some, is_ok}
 use Rattle.std.specs.Prelude.{None, map}
 use denote.Ref.{Bor}
 use Rattle.std.specs.Int.RustNames.{unsigned_abs}
@@ -7,12 +7,13 @@ use Rattle.std.specs.Str.{bytes_eq}
 use Rattle.question_shell.specs.Lines.{has_byte}
 use Rattle.track_types.specs.Limits.{IsPeriod, IsResolution}
 use Rattle.track_types.specs.Bounds.{number_within}
-use Rattle.track_types.specs.declared.limit.TheConstants.{MAX_PERIOD, MAX_RESOLUTION}
+use Rattle.track_types.specs.declared.limit.TheConstants.{MAX_OBJECTS, MAX_PERIOD, MAX_RESOLUTION, MAX_SPAN}
 use Rattle.row_reader.specs.Row.{value_of}
 use Rattle.gract_top.specs.declared.request.WordKind.{WordKind}
 use Rattle.gract_top.specs.declared.request.WordKind.TheVariants.{File, Number}
 use Rattle.gract_top.specs.declared.request.Request.{Request}
-use Rattle.gract_top.specs.declared.request.Request.TheVariants.{Ask, Build, Once, Refused}
+use Rattle.gract_top.specs.declared.request.Request.TheVariants.{Ask, Build, Once, Refused, Sample}
+use Rattle.gract_top.specs.declared.request.SampleSettings.{SampleSettings}
 use Rattle.gract_top.specs.declared.request.Settings.{Settings}
 
 -- a file word is any text that is not empty, a number word a numeral in its range
@@ -44,6 +45,10 @@ build_words = File ∷ File ∷ settings_words
 abbrev pub ask_words : List WordKind
 ask_words = File ∷ []
 
+-- the words behind `sample`: OBJECTS INSTANTS SEED PERIOD
+abbrev pub sample_words : List WordKind
+sample_words = Number (pos 1) (pos MAX_OBJECTS) ∷ Number (pos 1) (pos MAX_SPAN) ∷ Number (pos 0) (pos (2 ^ 62)) ∷ Number (pos 1) (pos MAX_PERIOD) ∷ []
+
 -- the value of a number word that fits
 abbrev pub natural_value : List ℕ → ℕ
 natural_value word = unsigned_abs (value_of word)
@@ -52,6 +57,15 @@ natural_value word = unsigned_abs (value_of word)
 abbrev pub settings_of : List ℕ → List ℕ → List ℕ → Settings
 settings_of cell tick period =
     record { cell = natural_value cell; tick = natural_value tick; period = natural_value period }
+
+-- the settings of a sample, of four number words
+abbrev pub sample_settings_of : List ℕ → List ℕ → List ℕ → List ℕ → SampleSettings
+sample_settings_of objects instants seed period = record {
+  objects = natural_value objects;
+  instants = natural_value instants;
+  seed = natural_value seed;
+  period = natural_value period;
+}
 
 -- the texts that words are
 abbrev pub texts : List (Bor (List ℕ)) → List (List ℕ)
@@ -75,6 +89,13 @@ ask_or (Some place) words = Refused place
 ask_or None (index ∷ []) = Ask index
 ask_or None other = Refused 2
 
+-- what words behind `sample` ask for, unless the word at some place is bad
+abbrev pub sample_or : Option ℕ → List (Bor (List ℕ)) → Request
+sample_or (Some place) words = Refused place
+sample_or None (objects ∷ instants ∷ seed ∷ period ∷ []) =
+    Sample (sample_settings_of objects.now instants.now seed.now period.now)
+sample_or None other = Refused 2
+
 -- what the words behind `once` ask for
 abbrev pub once_of : List (Bor (List ℕ)) → Request
 once_of words = once_or (first_bad once_words (texts words) 2) words
@@ -87,6 +108,10 @@ build_of words = build_or (first_bad build_words (texts words) 2) words
 abbrev pub ask_of : List (Bor (List ℕ)) → Request
 ask_of words = ask_or (first_bad ask_words (texts words) 2) words
 
+-- what the words behind `sample` ask for
+abbrev pub sample_of : List (Bor (List ℕ)) → Request
+sample_of words = sample_or (first_bad sample_words (texts words) 2) words
+
 -- What the words ask for: one of the forms with its values, or the place of the first bad word, counted from 1.
 abbrev pub request_of : List (Bor (List ℕ)) → Request
 request_of [] = Refused 1
@@ -94,15 +119,25 @@ request_of (name ∷ words) =
     if bytes_eq name.now (codes "once") then once_of words
     else if bytes_eq name.now (codes "build") then build_of words
     else if bytes_eq name.now (codes "ask") then ask_of words
+    else if bytes_eq name.now (codes "sample") then sample_of words
     else Refused 1
 
 -- numbers are in the ranges of settings
 abbrev pub AreSettings : Settings → Type 0
 AreSettings settings = IsResolution settings.cell × IsResolution settings.tick × IsPeriod settings.period
 
+-- numbers are in the ranges of a sample's settings
+pub record AreSampleSettings (settings : SampleSettings) : Type 0 where
+  pub objects : 0 < settings.objects
+  pub most_objects : settings.objects ≤ MAX_OBJECTS
+  pub instants : 0 < settings.instants
+  pub most_instants : settings.instants ≤ MAX_SPAN
+  pub period : IsPeriod settings.period
+
 -- the numbers of a request are in their ranges
 abbrev pub AreInRange : Request → Type 0
 AreInRange (Once csv settings) = AreSettings settings
 AreInRange (Build csv index settings) = AreSettings settings
 AreInRange (Ask index) = ⊤
+AreInRange (Sample settings) = AreSampleSettings settings
 AreInRange (Refused place) = ⊤

@@ -1,7 +1,8 @@
-ghost use Rattle.std.specs.Prelude.{◌≡◌, ◌≢◌, ℕ, ◌+◌, ◌≤◌, ◌↔◌};
+ghost use Rattle.std.specs.Prelude.{◌≡◌, ◌≢◌, ℕ, ◌+◌, ◌≤◌, ◌↔◌, ◌⊎◌};
 ghost use Rattle.host_ports.specs.Faults.{Rose};
 ghost use Rattle.host_ports.specs.FilesState.{state_of};
 ghost use Rattle.track_types.specs.Limits.{limit_of};
+ghost use Rattle.gract_top.specs.Completeness.{IsCalm, IsReady};
 ghost use Rattle.gract_top.specs.Outcome.{talk};
 ghost use Rattle.gract_top.specs.Ends.{Ends, moment};
 ghost use Rattle.gract_top.specs.Request.{request_of};
@@ -10,6 +11,7 @@ use crate::asking::{ask, once};
 use crate::building::build;
 use crate::outcome::Outcome;
 use crate::request::{Request, read_request};
+use crate::sampling::sample;
 use host_ports::{Files, Sink, Source};
 use std::alloc::Global;
 use std::sync::ledger::Ledger;
@@ -22,7 +24,11 @@ use track_types::LimitKind;
 /// - `once CSV CELL TICK PERIOD` loads the CSV file, grids its rows, writes the index of their chart,
 ///   opens what the files give for its bytes, and answers the source's lines from that;
 /// - `build CSV INDEX CELL TICK PERIOD` saves the bytes of that index under INDEX;
-/// - `ask INDEX` loads and opens an index file, and answers the source's lines from it.
+/// - `ask INDEX` loads and opens an index file, and answers the source's lines from it;
+/// - `sample OBJECTS INSTANTS SEED PERIOD` makes rows from a number, grids them with CELL and TICK 1,
+///   writes the index of their chart, opens what the files give for its bytes, and says a summary of it:
+///   the reply to `info`, and the last line of the reply to each of five questions more. Files and
+///   source are left alone.
 ///
 /// Each outcome comes for its cause alone, which its clause states. `Memory` may come to any words
 /// that have a form: before the first question is listened to, or at a line that takes memory.
@@ -42,7 +48,7 @@ pub fn gract<F: Files, S: Source, K: Sink, L: Ledger>(
         × (steps.new ≡ steps.old) }
 
     // Else the outcome is that of the command and of the file that they name.
-    ensures ends { Ends (request_of words.now) result ((source.new ≡ source.old) × (sink.new ≡ sink.old))
+    ensures ends { Ends (request_of words.now) result (source.new ≡ source.old) (sink.new ≡ sink.old)
         (moment (state_of (F.map files.old) (F.rest files.old) (F.taken files.old)
         (F.load_faults files.old) (F.save_faults files.old) (F.saves files.old) (F.begins files.old))
         (F.given files.old)
@@ -66,6 +72,16 @@ pub fn gract<F: Files, S: Source, K: Sink, L: Ledger>(
     ensures say_cause { result ≡ Outcome.SayFailed → Rose (K.faults sink.old) (K.faults sink.new) }
     ensures say_untouched { result ≢ Outcome.SayFailed → K.faults sink.new ≡ K.faults sink.old }
 
+    // Where what the request needs is there and no device fails, all is done, unless memory is refused.
+    ensures complete { IsReady (request_of words.now)
+        (moment (state_of (F.map files.old) (F.rest files.old) (F.taken files.old)
+        (F.load_faults files.old) (F.save_faults files.old) (F.saves files.old) (F.begins files.old))
+        (F.given files.old)
+        (talk (S.rest source.old) (S.taken source.old) (K.said sink.old) steps.old)) →
+        IsCalm (F.load_faults files.old) (F.load_faults files.new) (F.save_faults files.old)
+        (F.save_faults files.new) (S.faults source.old) (S.faults source.new) (K.faults sink.old)
+        (K.faults sink.new) → (result ≡ Outcome.Done) ⊎ (result ≡ Outcome.Memory) }
+
     // No byte of questions beyond their limit and one is asked for.
     ensures within { S.taken source.new ≤ S.taken source.old + (limit_of LimitKind.Questions + 1) }
 {
@@ -80,5 +96,6 @@ pub fn gract<F: Files, S: Source, K: Sink, L: Ledger>(
             settings,
         } => build(alloc, csv, index, settings, files),
         Request::Ask { index } => ask(alloc, index, files, source, sink, steps),
+        Request::Sample { settings } => sample(alloc, settings, files, sink, steps),
     }
 }

@@ -2,10 +2,10 @@
 //!
 //! `gract` loads a CSV file, grids its rows and writes the index of their chart, or loads an index
 //! file; it saves the index, or opens it and says for each line of its source the reply that
-//! filtering the chart gives. Files, source and sink are handed in, so the call's contract can speak
-//! of all that came, was saved and was said. The crate stands on row_reader, gridding, chart_parts,
-//! snapshots, index_format, track_index, question_shell, host_ports, track_types, step_count,
-//! arrayvec and itoa.
+//! filtering the chart gives. Or it makes a sample's rows and says a summary of their index. Files, source
+//! and sink are handed in, so the call's contract can speak of all that came, was saved and was said.
+//! The crate stands on row_reader, gridding, sample_rows, chart_parts, snapshots, index_format,
+//! track_index, question_shell, host_ports, track_types, step_count, arrayvec and itoa.
 #![tactic(auto)]
 
 mod answering;
@@ -14,10 +14,13 @@ mod building;
 mod chart_loading;
 mod chart_writing;
 mod commands;
+mod counting;
 mod loading;
 mod outcome;
 mod outcome_text;
 mod request;
+mod sampling;
+mod summarizing;
 #[cfg(test)]
 mod tests;
 

@@ -2,8 +2,9 @@ ghost use Rattle.std.specs.Prelude.{◌≡◌, ◌+◌, ◌^◌, ◌≤◌, ◌�
 ghost use Rattle.gract_top.specs.Request.{AreInRange, AreSettings, ask_of, build_of, first_bad};
 ghost use Rattle.gract_top.specs.Request.{fits_word, natural_value, once_of, request_of};
 ghost use Rattle.gract_top.specs.Request.{settings_of, settings_words, texts};
+ghost use Rattle.gract_top.specs.Request.{AreSampleSettings, sample_of, sample_settings_of, sample_words};
 
-use track_types::{MAX_PERIOD, MAX_RESOLUTION, number_within};
+use track_types::{MAX_OBJECTS, MAX_PERIOD, MAX_RESOLUTION, MAX_SPAN, number_within};
 
 /// What a command wants at a place.
 #[derive(Clone, Copy, Debug, PartialEq, Eq)]
@@ -32,6 +33,10 @@ pub enum Request<'a> {
     Ask {
         index: &'a str,
     },
+    /// To say the summary of a sample.
+    Sample {
+        settings: SampleSettings,
+    },
     /// Nothing: the first bad word stands at this place, counted from 1.
     Refused {
         place: u32,
@@ -49,11 +54,27 @@ pub struct Settings {
     pub period: u32,
 }
 
+/// What a sample is made from.
+#[derive(Clone, Copy, Debug, PartialEq, Eq)]
+pub struct SampleSettings {
+    /// How many objects it has, 1 to 2^16.
+    pub objects: u32,
+    /// How many instants it has, 1 to 2^22.
+    pub instants: u32,
+    /// What its generator begins with, at most 2^62.
+    pub seed: u64,
+    /// How many instants are in a period.
+    pub period: u32,
+}
+
 /// The greatest CELL and TICK.
 const RESOLUTION: i64 = MAX_RESOLUTION as i64;
 
 /// The greatest PERIOD.
 const PERIOD: i64 = MAX_PERIOD as i64;
+
+/// The greatest SEED, 2^62.
+const SEED: i64 = 4_611_686_018_427_387_904;
 
 /// A word for CELL or TICK.
 const RESOLUTION_WORD: WordKind = WordKind::Number {
@@ -87,6 +108,23 @@ const BUILD: [WordKind; 5] = [
 /// The words behind `ask`: INDEX.
 const ASK: [WordKind; 1] = [WordKind::File];
 
+/// The words behind `sample`: OBJECTS INSTANTS SEED PERIOD.
+const SAMPLE: [WordKind; 4] = [
+    WordKind::Number {
+        least: 1,
+        greatest: MAX_OBJECTS as i64,
+    },
+    WordKind::Number {
+        least: 1,
+        greatest: MAX_SPAN as i64,
+    },
+    WordKind::Number {
+        least: 0,
+        greatest: SEED,
+    },
+    PERIOD_WORD,
+];
+
 // Reads the command words.
 pub(crate) fn read_request<'a>(words: &[&'a str]) -> Request<'a>
     ensures value { result ≡ request_of words.now }
@@ -101,6 +139,8 @@ pub(crate) fn read_request<'a>(words: &[&'a str]) -> Request<'a>
                 read_build(rest)
             } else if *name == "ask" {
                 read_ask(rest)
+            } else if *name == "sample" {
+                read_sample(rest)
             } else {
                 Request::Refused { place: 1 }
             }
@@ -151,6 +191,36 @@ fn read_ask<'a>(words: &[&'a str]) -> Request<'a>
     match words {
         [index] => Request::Ask { index: *index },
         _ => Request::Refused { place: 2 }, // no other number of words has the form
+    }
+}
+
+fn read_sample<'a>(words: &[&'a str]) -> Request<'a>
+    ensures value { result ≡ sample_of words.now }
+    ensures ranges { AreInRange result }
+{
+    if let Some(place) = first_bad_place(&SAMPLE, words, 2) {
+        return Request::Refused { place };
+    }
+    match words {
+        [objects, instants, seed, period] => Request::Sample {
+            settings: sample_settings_of(objects, instants, seed, period),
+        },
+        _ => Request::Refused { place: 2 }, // no other number of words has the form
+    }
+}
+
+// The settings of a sample, of four number words that fit.
+fn sample_settings_of(objects: &str, instants: &str, seed: &str, period: &str) -> SampleSettings
+    requires fit { first_bad sample_words
+        (objects.now ∷ instants.now ∷ seed.now ∷ period.now ∷ []) 0 ≡ None }
+    ensures value { result ≡ sample_settings_of objects.now instants.now seed.now period.now }
+    ensures ranges { AreSampleSettings result }
+{
+    SampleSettings {
+        objects: natural(objects, MAX_OBJECTS as i64) as u32,
+        instants: natural(instants, MAX_SPAN as i64) as u32,
+        seed: seed_of(seed),
+        period: natural(period, PERIOD) as u32,
     }
 }
 
@@ -206,6 +276,16 @@ fn natural(word: &str, greatest: i64) -> u64
     ensures within { (1 ≤ result) × (pos result ≤ℤ greatest) }
 {
     number_within(word.as_bytes(), 1, greatest)
+        .unwrap()
+        .unsigned_abs()
+}
+
+// The value of a word for SEED that fits.
+fn seed_of(word: &str) -> u64
+    requires { fits_word (WordKind.Number (pos 0) (pos (2 ^ 62))) word.now ≡ true }
+    ensures { result ≡ natural_value word.now }
+{
+    number_within(word.as_bytes(), 0, SEED)
         .unwrap()
         .unsigned_abs()
 }

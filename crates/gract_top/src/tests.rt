@@ -179,6 +179,7 @@ fn lines_have_their_replies(rt: HostRuntime) -> Result<(), Fail> {
         (PATH, "once t.csv 1 1 4", &long, b"bad long\n12 11\nok 1\n"),
         (&track, "once t.csv 1 1 100", b"path 7 0 1000\n", &stops),
     ];
+    assert!(rt; check_samples(&rt)?);
     for (csv, command, lines, said) in cases {
         for piece in [5, 4096] {
             let mut outside = make_outside(alloc, csv, lines, piece)?;
@@ -201,7 +202,7 @@ fn a_call_is_refused_for_its_cause(rt: HostRuntime) -> Result<(), Fail> {
         index: 0,
         kind,
     });
-    let cases: [(&[u8], &str, Outcome); 23] = [
+    let cases: [(&[u8], &str, Outcome); 29] = [
         (b"", "once t.csv 1 1 1", Outcome::Empty),
         (b"object,instant,x,y\n", "once t.csv 1 1 1", Outcome::Empty),
         (
@@ -249,6 +250,16 @@ fn a_call_is_refused_for_its_cause(rt: HostRuntime) -> Result<(), Fail> {
         (PATH, "ask t.csv", header(Kind::Magic)),
         (b"", "ask t.csv", header(Kind::Short)),
         (PATH, "ask none.idx", Outcome::LoadFailed),
+        (PATH, "sample 0 1 0 4", words(2)),
+        (PATH, "sample 65536 4194305 0 4", words(3)),
+        (PATH, "sample 1 1 4611686018427387905 4", words(4)),
+        (PATH, "sample 1 1 -1 4", words(4)),
+        (PATH, "sample 1 1 0 4 x", words(6)),
+        (
+            PATH,
+            "sample 4097 4096 0 4",
+            limit(LimitKind::Rows, 16_781_312),
+        ),
     ];
     for (csv, command, expected) in cases {
         let mut outside = make_outside(rt.alloc(), csv, b"position 7 0\n", 4096)?;
@@ -296,6 +307,103 @@ fn check_full(rt: &HostRuntime) -> Result<bool, Memory> {
     let unsaved = is_unsaved(rt, &mut outside)?;
     let missing = outside.files.begin("t.idx").is_err();
     Ok(free && unsaved && missing && holds(&mut outside.files, "t.csv", PATH))
+}
+
+/// Samples, and what is said of each. The last was worked out by another program.
+const SAMPLES: [(&str, &[u8]); 3] = [
+    (
+        "sample 2 1 5 4",
+        b"objects 2\nfirst 0\nlast 0\nperiod 4\ncell 1\ntick 1\nheight 7\nalphabet 0\nrules 0\n\
+log 0\ndepth 0\nok 11\nok 1\nok 1\nok 2\nok 0\nok 2\n",
+    ),
+    (
+        "sample 1 2 0 4",
+        b"objects 1\nfirst 0\nlast 1\nperiod 4\ncell 1\ntick 1\nheight 1\nalphabet 1\nrules 0\n\
+log 1\ndepth 0\nok 11\nok 1\nok 2\nok 1\nok 0\nok 1\n",
+    ),
+    (
+        "sample 64 64 9 16",
+        b"objects 64\nfirst 0\nlast 63\nperiod 16\ncell 1\ntick 1\nheight 10\nalphabet 10\n\
+rules 282\nlog 1721\ndepth 3\nok 11\nok 1\nok 60\nok 17\nok 1\nok 5\n",
+    ),
+];
+
+/// What is said of the index of four billion rows, whatever sample it is laid for.
+const FOUR_BILLION: &[u8] = b"objects 1000\nfirst 0\nlast 4194303\nperiod 4194304\ncell 1\ntick 1\n\
+height 1\nalphabet 1\nrules 21\nlog 22000\ndepth 21\nok 11\nok 1\nok 1\nok 1000\nok 0\nok 5\n";
+
+// The index of 1,000 objects that stand still for 2^22 instants: 104,507 bytes.
+fn four_billion_rows(alloc: Global) -> Result<Vec<u8>, AllocError> {
+    let mut bytes = Vec::from_slice(alloc, b"GRACT001")?;
+    for number in [1 << 22, 1, 1000, 1 << 22, 1, 21, 22_000u32] {
+        bytes.extend_from_slice(&number.to_le_bytes())?;
+    }
+    for number in [0, 0, 0, 1, 1u64] {
+        bytes.extend_from_slice(&number.to_le_bytes())?;
+    }
+    push_numbers(&mut bytes, 1000)?;
+    bytes.extend_from_slice(&1u64.to_le_bytes())?;
+    for rule in 0..21u32 {
+        bytes.extend_from_slice(&rule.to_le_bytes())?;
+        bytes.extend_from_slice(&rule.to_le_bytes())?;
+    }
+    bytes.extend_from_slice(&[255; 125])?;
+    bytes.extend_from_slice(&[0; 4000])?;
+    bytes.extend_from_slice(b"\x04\0\0\0\x01")?;
+    bytes.extend_from_slice(&[0; 124])?;
+    bytes.push(128)?;
+    push_numbers(&mut bytes, 1000)?;
+    for _ in 0..1000u32 {
+        bytes.extend_from_slice(&22u32.to_le_bytes())?;
+    }
+    for _ in 0..1000u32 {
+        push_numbers(&mut bytes, 22)?;
+    }
+    Ok(bytes)
+}
+
+// The numbers from 0 on, so many.
+fn push_numbers(bytes: &mut Vec<u8>, count: u32) -> Result<(), AllocError> {
+    for number in 0..count {
+        bytes.extend_from_slice(&number.to_le_bytes())?;
+    }
+    Ok(())
+}
+
+// Whether this is said, with files and source as they were.
+fn is_said(
+    rt: &HostRuntime,
+    command: &str,
+    outside: &mut Outside,
+    said: &[u8],
+) -> Result<bool, AllocError> {
+    let outcome = run(rt, command, outside)?;
+    Ok(
+        outcome == Outcome::Done
+            && outside.source.taken() == 0
+            && outside.sink.as_slice() == said
+            && outside.files.taken() == 0
+            && free_places(&mut outside.files) == 16,
+    )
+}
+
+// Whether laid bytes are opened in place of those of the sample's index.
+fn is_laid(rt: &HostRuntime, bytes: Vec<u8>, said: &[u8]) -> Result<bool, Memory> {
+    let mut outside = make_outside(rt.alloc(), b"", b"position 7 2\n", 4096)?;
+    if bytes.len() > 1 << 30 {
+        return Ok(false);
+    }
+    outside.files.lay(bytes);
+    Ok(is_said(rt, "sample 2 1 5 4", &mut outside, said)?)
+}
+
+fn check_samples(rt: &HostRuntime) -> Result<bool, Memory> {
+    let mut all = is_laid(rt, four_billion_rows(rt.alloc())?, FOUR_BILLION)?;
+    for (command, said) in SAMPLES {
+        let mut outside = make_outside(rt.alloc(), b"", b"position 7 2\n", 4096)?;
+        all &= is_said(rt, command, &mut outside, said)?;
+    }
+    Ok(all)
 }
 
 // A source and files that fail at their second call, and a sink with room for 8 bytes.

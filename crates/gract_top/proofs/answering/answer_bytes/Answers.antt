@@ -1,5 +1,4 @@
 use Rattle.std.proofs.Common.{◌≡◌, List, ℕ, sym, subst, arith}
-use Rattle.track_types.specs.declared.parts.Parts.{Parts}
 use Rattle.track_index.specs.Opening.{IsFile}
 use Rattle.gract_top.proofs.OutcomeLemmas.{AnswersOver-opened, AnswersOver-same, EndsOpened-over, EndsOver-over}
 use Rattle.gract_top.proofs.answering.answer_bytes.Goals as goal

@@ -1,0 +1,241 @@
+-- Where what a request needs is there and no device fails, a call is done or out of memory.
+use Rattle.std.proofs.Common.{◌≡◌, ◌≢◌, ℕ, ◌+◌, ◌≤◌, true, false, nat_lt, List, length, Option, Some, None, ◌⊎◌}
+use Rattle.std.proofs.Common.{inl, inr, refl, sym, ap, ◌∙◌, subst, arith, length-append}
+use Rattle.std.proofs.lemmas.Bool.{cases_Bool}
+use Rattle.std.proofs.lemmas.Bool.Decides.{nat_tests}
+use Rattle.std.proofs.lemmas.List.{take_all}
+use Rattle.std.specs.Io.KnownBytes.{Consumes}
+use Rattle.host_ports.specs.FileMap.{FileMap, IsMissing, held}
+use Rattle.host_ports.specs.FilesState.{FilesState, IsPlain}
+use Rattle.host_ports.specs.Faults.{Rose}
+use Rattle.track_types.specs.Limits.{limit_of}
+use Rattle.track_types.specs.declared.flaw.Flaw.{Flaw}
+use Rattle.track_types.specs.declared.limit.LimitKind.{LimitKind}
+use Rattle.track_types.specs.declared.limit.LimitKind.TheVariants as limit
+use Rattle.track_index.specs.Opening.{first_flaw}
+use Rattle.track_index.proofs.DecidingLemmas.{first_flaw-file}
+use Rattle.gract_top.specs.Completeness.{HasAccepted, HasIndex, HasQuestions}
+use Rattle.gract_top.specs.Ends.{AnswersChart, AnswersFile, EndsAsk, EndsBuild, EndsOnce, Moment, Saved, written}
+use Rattle.gract_top.specs.Loading.{FileCame}
+use Rattle.gract_top.specs.Outcome.{EndsOpened, Talk}
+use Rattle.gract_top.specs.Refusal.{IsIndexRefused, IsRefused, file_refusal, index_refusal, is_late, is_refusal}
+use Rattle.gract_top.specs.Sampling.{EndsSample, Speech, SumsNothing, SumsSample, Told, sample_chart, sample_refusal}
+use Rattle.gract_top.specs.Summary.{summary_of}
+use Rattle.chart_parts.specs.PartsOf.{parts_of}
+use Rattle.snapshots.specs.Parts.{chart_in}
+use Rattle.track_index.specs.Facts.{facts_of}
+use Rattle.gract_top.specs.declared.outcome.Outcome.{Outcome}
+use Rattle.gract_top.specs.declared.outcome.Outcome.TheVariants as outcome
+use Rattle.gract_top.specs.declared.request.SampleSettings.{SampleSettings}
+use Rattle.gract_top.specs.declared.request.Settings.{Settings}
+
+-- an outcome that is good: all was done, or memory was refused
+abbrev pub IsGood : Outcome → Type 0
+IsGood result = (result ≡ outcome.Done) ⊎ (result ≡ outcome.Memory)
+
+-- a quantity other than that of questions is one of what is loaded
+limit-either : (kind : LimitKind) (value : ℕ) → (is_refusal (outcome.Limit kind value) ≡ true) ⊎ (kind ≡ limit.Questions)
+limit-either limit.Csv value = inl refl
+limit-either limit.Rows value = inl refl
+limit-either limit.Objects value = inl refl
+limit-either limit.Span value = inl refl
+limit-either limit.Extent value = inl refl
+limit-either limit.Blocks value = inl refl
+limit-either limit.Symbols value = inl refl
+limit-either limit.Index value = inl refl
+limit-either limit.Questions value = inr refl
+
+-- the causes that are left out by the devices and the words, and that lead to the others
+by_cause : (result : Outcome) → ((place : ℕ) → result ≢ outcome.Words place) → (result ≢ outcome.LoadFailed) →
+    (result ≢ outcome.SaveFailed) → (result ≢ outcome.ListenFailed) → (result ≢ outcome.SayFailed) →
+    (is_refusal result ≡ true → ⊥) → ((flaw : Flaw) → result ≢ outcome.Flaw flaw) →
+    ((value : ℕ) → result ≢ outcome.Limit limit.Questions value) → IsGood result
+by_cause outcome.Done words load save listen say refused flawed long = inl refl
+by_cause (outcome.Words place) words load save listen say refused flawed long = absurd (words place refl)
+by_cause outcome.LoadFailed words load save listen say refused flawed long = absurd (load refl)
+by_cause (outcome.Limit kind value) words load save listen say refused flawed long =
+    elim (limit-either kind value) [
+      | inl refusal ↦ absurd (refused refusal)
+      | inr questions ↦ absurd (long value (ap (λ other. outcome.Limit other value) questions))
+    ]
+by_cause (outcome.Row nth field fault) words load save listen say refused flawed long = absurd (refused refl)
+by_cause outcome.Empty words load save listen say refused flawed long = absurd (refused refl)
+by_cause (outcome.Flaw flaw) words load save listen say refused flawed long = absurd (flawed flaw refl)
+by_cause outcome.SaveFailed words load save listen say refused flawed long = absurd (save refl)
+by_cause outcome.ListenFailed words load save listen say refused flawed long = absurd (listen refl)
+by_cause outcome.SayFailed words load save listen say refused flawed long = absurd (say refl)
+by_cause outcome.Memory words load save listen say refused flawed long = inr refl
+
+-- a file that is held is not missing
+held-found : (map : Option FileMap) (files : FileMap) (name bytes : List ℕ) → map ≡ Some files →
+    held files name ≡ Some bytes → IsMissing map name → ⊥
+held-found None files name bytes told holds missing = missing
+held-found (Some others) files name bytes told holds missing =
+    let same : others ≡ files = cc in
+    let none : held files name ≡ None = sym (ap (λ these. held these name) same) ∙ missing in
+    absurd (cc)
+
+-- what came of a file that is not too long is all of it
+came-whole : (map : Option FileMap) (files : FileMap) (taken : ℕ) (name whole : List ℕ) (most : ℕ) (bytes : List ℕ) →
+    map ≡ Some files → held files name ≡ Some whole → length whole ≤ most → FileCame map taken name most bytes →
+    bytes ≡ whole
+came-whole None files taken name whole most bytes told holds short came = absurd (cc)
+came-whole (Some others) files taken name whole most bytes told holds short came =
+    let same : others ≡ files = cc in
+    let holds_now : held others name ≡ Some whole = ap (λ these. held these name) same ∙ holds in
+    let front = came.held in
+    let one : front.0 ≡ whole = cc in
+    front.2 ∙ rw one (take_all (most + 1) whole (omega (arith, short)))
+
+-- an accepted file is not too long
+accepted-short : (bytes : List ℕ) (settings : Settings) → file_refusal bytes settings ≡ None →
+    length bytes ≤ limit_of limit.Csv
+accepted-short bytes settings accepted = elim (cases_Bool (nat_lt (limit_of limit.Csv) (length bytes))) [
+  | inl long ↦ absurd (let none = rw long at accepted in cc)
+  | inr short ↦ grind (arith, nat_tests, short)
+]
+
+-- an accepted file is not refused
+accepted-kept : (map : Option FileMap) (taken : ℕ) (csv : List ℕ) (settings : Settings) (cause : Outcome) →
+    HasAccepted map csv settings → IsRefused map taken csv settings cause → ⊥
+accepted-kept map taken csv settings cause ready refused =
+    let short = accepted-short ready.bytes settings ready.accepted in
+    let same : refused.bytes ≡ ready.bytes =
+    came-whole map ready.files taken csv ready.bytes (limit_of limit.Csv) refused.bytes ready.told ready.holds short refused.came in
+    let both : Some cause ≡ None =
+    sym refused.refusal ∙ ap (λ bytes. file_refusal bytes settings) same ∙ ready.accepted in
+    absurd (cc)
+
+-- an index file that is not too long is not refused
+index-kept : (map : Option FileMap) (taken : ℕ) (index : List ℕ) (cause : Outcome) → HasIndex map index →
+    IsIndexRefused map taken index cause → ⊥
+index-kept map taken index cause ready refused =
+    let same : refused.bytes ≡ ready.bytes =
+    came-whole map ready.files taken index ready.bytes (limit_of limit.Index) refused.bytes ready.told ready.holds
+    ready.short refused.came in
+    let test : nat_lt (limit_of limit.Index) (length ready.bytes) ≡ false = grind (arith, nat_tests, ready.short) in
+    let none : index_refusal ready.bytes ≡ None = rw test refl in
+    let both : Some cause ≡ None = sym refused.refusal ∙ ap index_refusal same ∙ none in
+    absurd (cc)
+
+-- no more questions come than are told
+questions-short : (told now : Option (List ℕ)) (bytes : List ℕ) → HasQuestions told → Consumes told now bytes →
+    length bytes ≡ limit_of limit.Questions + 1 → ⊥
+questions-short None now bytes ready came past = absurd (let none = ready.told in cc)
+questions-short (Some lines) None bytes ready came past = came
+questions-short (Some lines) (Some rest) bytes ready came past =
+    let told = ready.told in
+    let same : lines ≡ ready.bytes = cc in
+    let lengths = ap length came ∙ length-append bytes rest in
+    omega (arith, lengths, ap length same, ready.short, past)
+
+module _ (untouched : Type 0) (before now : Talk) (ready : HasQuestions before.rest) where
+  -- bytes that hold parts are neither flawed nor asked too much
+  opened-long : (bytes : List ℕ) (value : ℕ) →
+      EndsOpened (outcome.Limit limit.Questions value) bytes untouched before now → ⊥
+  opened-long bytes value ends =
+      let first = ends.answers.answers.answered.1 in
+      questions-short before.rest now.rest first.bytes ready first.came.consumed first.past
+
+-- a call of `once`
+pub once-good : (result : Outcome) (csv : List ℕ) (settings : Settings) (untouched : Type 0) (before now : Moment) →
+    EndsOnce result csv settings untouched before now → HasAccepted before.files.map csv settings →
+    HasQuestions before.talk.rest → IsPlain before.given → ((place : ℕ) → result ≢ outcome.Words place) →
+    (result ≢ outcome.SaveFailed) → (result ≢ outcome.ListenFailed) → (result ≢ outcome.SayFailed) →
+    (Rose before.files.load_faults now.files.load_faults → ⊥) → IsGood result
+once-good result csv settings untouched before now ends ready lines plain words save listen say calm =
+    by_cause result words
+    (λ failed. elim (ends.loading.load_failed failed) [
+      | inl rose ↦ calm rose
+      | inr missing ↦ held-found before.files.map ready.files csv ready.bytes ready.told ready.holds missing
+    ])
+    save listen say
+    (λ refusal. accepted-kept before.files.map now.files.taken csv settings result ready (ends.refused refusal))
+    (λ flaw is.
+    let Over : Outcome → Type 0 = λ other. AnswersChart other csv settings untouched before now in
+    let late : is_late result ≡ true = ap is_late is in
+    let answers = subst Over is (ends.late late) in
+    (answers.plain plain).answers.answered)
+    (λ value is.
+    let Over : Outcome → Type 0 = λ other. AnswersChart other csv settings untouched before now in
+    let late : is_late result ≡ true = ap is_late is in
+    let answers = subst Over is (ends.late late) in
+    opened-long untouched before.talk now.talk lines _ value answers.ended)
+
+-- a call of `ask`
+pub ask-good : (result : Outcome) (index : List ℕ) (untouched : Type 0) (before now : Moment) →
+    EndsAsk result index untouched before now → HasIndex before.files.map index → HasQuestions before.talk.rest →
+    ((place : ℕ) → result ≢ outcome.Words place) → (result ≢ outcome.SaveFailed) → (result ≢ outcome.ListenFailed) →
+    (result ≢ outcome.SayFailed) → (Rose before.files.load_faults now.files.load_faults → ⊥) → IsGood result
+ask-good result index untouched before now ends ready lines words save listen say calm =
+    by_cause result words
+    (λ failed. elim (ends.loading.load_failed failed) [
+      | inl rose ↦ calm rose
+      | inr missing ↦ held-found before.files.map ready.files index ready.bytes ready.told ready.holds missing
+    ])
+    save listen say
+    (λ refusal. index-kept before.files.map now.files.taken index result ready (ends.refused refusal))
+    (λ flaw is.
+    let Over : Outcome → Type 0 = λ other. AnswersFile other index untouched before now in
+    let late : is_late result ≡ true = ap is_late is in
+    let answers = subst Over is (ends.late late) in
+    let same : answers.bytes ≡ ready.bytes = came-whole before.files.map ready.files now.files.taken index ready.bytes
+    (limit_of limit.Index) answers.bytes ready.told ready.holds ready.short answers.loaded.came in
+    let none : first_flaw answers.bytes ≡ None =
+    ap first_flaw same ∙ first_flaw-file ready.bytes ready.parts ready.file in
+    let both : Some flaw ≡ None = sym answers.ended.0 ∙ none in
+    absurd (cc))
+    (λ value is.
+    let Over : Outcome → Type 0 = λ other. AnswersFile other index untouched before now in
+    let late : is_late result ≡ true = ap is_late is in
+    let answers = subst Over is (ends.late late) in
+    opened-long untouched before.talk now.talk lines answers.bytes value answers.ended)
+
+-- a call of `build`
+pub build-good : (result : Outcome) (csv index : List ℕ) (settings : Settings) (before now : FilesState) →
+    EndsBuild result csv index settings before now → HasAccepted before.map csv settings →
+    ((place : ℕ) → result ≢ outcome.Words place) → (result ≢ outcome.SaveFailed) → (result ≢ outcome.ListenFailed) →
+    (result ≢ outcome.SayFailed) → (Rose before.load_faults now.load_faults → ⊥) → IsGood result
+build-good result csv index settings before now ends ready words save listen say calm =
+    by_cause result words
+    (λ failed. elim (ends.loading.load_failed failed) [
+      | inl rose ↦ calm rose
+      | inr missing ↦ held-found before.map ready.files csv ready.bytes ready.told ready.holds missing
+    ])
+    save listen say
+    (λ refusal. accepted-kept before.map now.taken csv settings result ready (ends.refused refusal))
+    (λ flaw is. let late : is_late result ≡ true = ap is_late is in
+    let Saves : Outcome → Type 0 = λ other. Saved other index (written (ends.late late).chart) before now in
+    subst Saves is (ends.late late).saved)
+    (λ value is. let late : is_late result ≡ true = ap is_late is in
+    let Saves : Outcome → Type 0 = λ other. Saved other index (written (ends.late late).chart) before now in
+    subst Saves is (ends.late late).saved)
+
+module _ (result : Outcome) (settings : SampleSettings) (unsaid : Type 0) (given : List ℕ → List ℕ) (before now : Speech)
+    (plain : IsPlain given)
+  where
+    -- a sample that is accepted ends in no outcome of which nothing of a summary is told
+    sums-none : (other : Outcome) → (other ≢ outcome.Memory) →
+        ((text : List ℕ) → Told other text before.said now.said → ⊥) → result ≡ other →
+        (((result ≡ outcome.Memory) × SumsNothing unsaid before now) ⊎ SumsSample result settings unsaid given before now) → ⊥
+    sums-none other apart untold is (inl memory) = apart (sym is ∙ memory.0)
+    sums-none other apart untold is (inr sums) = elim (sums.plain plain) [
+      | inl memory ↦ apart (sym is ∙ memory.0)
+      | inr over ↦
+          let text = summary_of (chart_in (parts_of (sample_chart settings))) (facts_of (parts_of (sample_chart settings)))
+          settings.instants in
+          let Tells : Outcome → Type 0 = λ these. Told these text before.said now.said in
+          untold text (subst Tells is over.told)
+    ]
+
+    -- a call of `sample`
+    pub sample-good : (files_before files_now : FilesState) →
+        EndsSample result settings unsaid files_before files_now given before now → sample_refusal settings ≡ None →
+        ((place : ℕ) → result ≢ outcome.Words place) → (result ≢ outcome.LoadFailed) →
+        (result ≢ outcome.SaveFailed) → (result ≢ outcome.ListenFailed) → (result ≢ outcome.SayFailed) → IsGood result
+    sample-good files_before files_now ends accepted words load save listen say =
+        by_cause result words load save listen say
+        (λ refusal. let both : Some result ≡ None = sym (ends.refused refusal).0 ∙ accepted in cc)
+        (λ flaw is. sums-none (outcome.Flaw flaw) (λ memory. cc) (λ text told. told) is (ends.accepted (ap is_refusal is)))
+        (λ value is. sums-none (outcome.Limit limit.Questions value) (λ memory. cc) (λ text told. told) is
+        (ends.accepted (ap is_refusal is)))
