@@ -1,15 +1,20 @@
 //! The program: the one call of gract_top over the real files, standard input and standard output.
 //!
 //! An outcome other than `Done` is told in one line on standard error, and each has its status.
+//! `--help` and `--version`, each alone, are answered here.
 #![tactic(auto)]
 
 ghost use Rattle.std.specs.Prelude.{◌≡◌, ◌<◌};
 
+mod about;
 mod command_line;
+mod standard_streams;
 
+use about::about_text;
 use command_line::command_words;
 use gract_top::{Outcome, gract};
-use host_ports::{DiskFiles, InputSource, OutputSink};
+use host_ports::{DiskFiles, InputSource, OutputSink, Sink};
+use standard_streams::take_standard_streams;
 use std::io;
 use std::marker::Brand;
 use std::process::ExitCode;
@@ -17,8 +22,9 @@ use std::sync::ledger::{Blank, Ledger};
 use step_count::Steps;
 
 fn main(rt: HostRuntime) -> ExitCode {
+    take_standard_streams(&rt);
     let outcome = match command_words(&rt) {
-        Ok(words) => run_words::<Brand>(&rt, &words, Blank::new(1)),
+        Ok(words) => answer(&rt, &words),
         Err(outcome) => outcome,
     };
     if outcome != Outcome::Done {
@@ -26,6 +32,20 @@ fn main(rt: HostRuntime) -> ExitCode {
         let _ = eprintln!(rt; "{}", outcome.text());
     }
     ExitCode::from(outcome.status())
+}
+
+// Says the text that the words ask for, or runs the program on them.
+fn answer(rt: &HostRuntime, words: &Vec<String>) -> Outcome {
+    let Some(text) = about_text(words.as_slice()) else {
+        return run_words::<Brand>(rt, words, Blank::new(1));
+    };
+    if OutputSink::new(io::writer(rt))
+        .say(text.as_bytes())
+        .is_err()
+    {
+        return Outcome::SayFailed;
+    }
+    Outcome::Done
 }
 
 // Runs the program on its words; nothing asks how many reads were counted.
