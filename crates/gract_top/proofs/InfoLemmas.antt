@@ -6,12 +6,13 @@ use Rattle.std.proofs.Math.Seq.{take-append_seam}
 use Rattle.std.proofs.lemmas.List.{take_all}
 use Rattle.std.specs.Io.KnownBytes.{Appends, Consumes, IsAtEnd}
 use Rattle.track_types.specs.declared.question.Question.TheVariants as question
+use Rattle.track_types.specs.declared.stop.Stop.{Stop}
 use Rattle.question_shell.specs.Desk.{budget_of, empty_desk, held_of}
 use Rattle.question_shell.specs.Grammar.{question_of}
 use Rattle.question_shell.specs.Lines.{if_any, lines_of, unended_line, whole_lines}
 use Rattle.question_shell.specs.Replies.{costs_of, replies_of}
 use Rattle.question_shell.specs.Session.{AnswersAll, AnswersBefore, AnswersFirst, AnswersFront}
-use Rattle.question_shell.specs.Session.{Meaning, Run, costs_by, replies_by, takes_memory}
+use Rattle.question_shell.specs.Session.{Meaning, Run, costs_by, desk_by, replies_by, takes_memory}
 use Rattle.gract_top.specs.Sampling.{SaysFront}
 use Rattle.gract_top.specs.Summary.{reply_to}
 
@@ -50,8 +51,10 @@ unfolding whole_lines unended_line
 lines-one = by_front (λ bytes. lines_of bytes ≡ if_any bytes) refl refl refl refl refl
 
 -- and takes no memory
-takes-none : (bytes rest : List ℕ) → info ≡ bytes ++ rest → takes_memory (question_of bytes) ≡ false
-takes-none = by_front (λ bytes. takes_memory (question_of bytes) ≡ false) refl refl refl refl refl
+takes-none : (bytes rest : List ℕ) → info ≡ bytes ++ rest → (desk : List (Option (List Stop))) →
+    takes_memory desk (question_of bytes) ≡ false
+takes-none = by_front (λ bytes. (desk : List (Option (List Stop))) → takes_memory desk (question_of bytes) ≡ false)
+    (λ desk. refl) (λ desk. refl) (λ desk. refl) (λ desk. refl) (λ desk. refl)
 
 -- what came is a front of the line
 came-front : (told now : Option (List ℕ)) (bytes : List ℕ) → told ≡ Some info → Consumes told now bytes →
@@ -175,6 +178,7 @@ module _ (meaning : Meaning) (before now : Run) (told : before.rest ≡ Some inf
         | inr ended ↦
             let one : stops.line ≡ bytes = only-line bytes answers.lines stops.behind stops.line
             (sym (ended.1 ∙ lines-one bytes front.0 front.2) ∙ stops.split) in
-            false≢true (sym (ap (λ line. takes_memory (question_of line)) one ∙ takes-none bytes front.0 front.2)
-            ∙ stops.takes)
+            let desk = desk_by meaning (held_of before.desk) answers.lines in
+            false≢true (sym (ap (λ line. takes_memory desk (question_of line)) one
+            ∙ takes-none bytes front.0 front.2 desk) ∙ stops.takes)
       ]
