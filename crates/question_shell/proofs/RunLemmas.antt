@@ -5,6 +5,7 @@ use Rattle.std.specs.Io.KnownBytes.{Consumes, IsAtEnd, Keeps}
 use Rattle.std.proofs.lemmas.List.{take-append-drop}
 use Rattle.track_types.specs.Limits.{limit_of}
 use Rattle.track_types.specs.declared.limit.LimitKind.TheVariants.{Questions}
+use Rattle.question_shell.specs.Desk.{held_of}
 use Rattle.question_shell.specs.LineKept.{LineKept}
 use Rattle.question_shell.specs.Lines.{lines_of, unended_line, whole_lines}
 use Rattle.question_shell.specs.Session.{AnswersAll, AnswersBefore, AnswersFirst, AnswersFront, AnswersToPiece}
@@ -12,6 +13,7 @@ use Rattle.question_shell.specs.Session.{AnswersWhole, AreTaken, Came, Meaning, 
 use Rattle.question_shell.specs.Turns.{BytesTold, Heard, LinesTold, Moment, Turns, TurnsFront, moment}
 use Rattle.question_shell.specs.declared.turn_fault.TurnFault.{TurnFault}
 use Rattle.question_shell.specs.declared.turn_fault.TurnFault.TheVariants as fault
+use Rattle.question_shell.proofs.SlotLemmas.{slots-independent}
 use Rattle.question_shell.proofs.SaysLemmas.{Appends-says}
 use Rattle.question_shell.proofs.SessionLemmas.{answers-turns, came-end, came-kept, came-more, heard-again, told-more}
 
@@ -99,6 +101,7 @@ module _ (meaning : Meaning) (before now : Run) (bytes : List ℕ) (came : Came 
           stops = stopped.stops;
           said = Appends-says before.said now.said _ stopped.said;
           desk = stopped.desk;
+          slots = slots-independent meaning (held_of before.desk) stopped.lines;
           reads = stopped.reads;
         }
 

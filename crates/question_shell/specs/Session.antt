@@ -144,6 +144,7 @@ pub record AnswersBefore (meaning : Meaning) (before now : Run) : Type 0 where
   pub stops : StopsAt meaning (held_of before.desk) all lines
   pub said : Appends before.said now.said (replies_by meaning (held_of before.desk) lines)
   pub desk : held_of now.desk ≡ desk_by meaning (held_of before.desk) lines
+  pub slots : AreIndependent meaning (held_of before.desk) lines
   pub reads : now.steps + budget_of now.desk
       ≤ before.steps + budget_of before.desk
       + costs_by meaning (held_of before.desk) (lines ++ stops.line ∷ [])
