@@ -3,6 +3,7 @@ use Rattle.std.proofs.Common.{◌≡◌, ◌⊎◌, ℕ, suc, ◌+◌, ◌*◌, 
 use Rattle.std.specs.Prelude.{ℤ, pos, ◌+ℤ◌, ◌-ℤ◌, ◌≤ℤ◌, unsigned_abs, ◌==◌, ◌&&◌, not}
 use Rattle.std.specs.List.{Contains, list_any, range_with_len}
 use Rattle.std.specs.List.Sorted.{IsNonDecreasingBy}
+use Rattle.std.specs.Cmp.{both_ways}
 use Rattle.std.proofs.lemmas.Bool.{and_from, and_parts, cases_lt, not-true}
 use Rattle.std.proofs.lemmas.Bool.Decides.{nat_tests}
 use Rattle.std.proofs.lemmas.Int.{by_lt_z, ints}
@@ -19,7 +20,7 @@ use Rattle.track_types.specs.Quantities.{anchors_of, elapsed, first_of, is_ancho
 use Rattle.track_types.specs.Row.{IsAscending, is_row_of, row_order}
 use Rattle.track_types.specs.declared.cell.Cell.{Cell}
 use Rattle.track_types.specs.declared.row.Row.{Row}
-use Rattle.track_types.proofs.AscendingLemmas.{first_below}
+use Rattle.list_laws.proofs.AscendingLemmas.{first_below}
 use Rattle.track_types.proofs.QuantityLemmas.{elapsed-span, first_of-below}
 use Rattle.rule_store.specs.Cells.{cells_along}
 use Rattle.rule_store.specs.Log.{stop_at, stops_from}
@@ -33,12 +34,6 @@ use Rattle.movement_log.proofs.RowLemmas.{row_of as passes_at}
 use Rattle.chart_parts.proofs.BlockWords.{anchor_of, anchor_stops, stops_with}
 use Rattle.chart_parts.proofs.CellLemmas.{cells_along-values_after, place_from_test}
 use Rattle.chart_parts.proofs.PlaceLemmas.{filter-place, map-stops_from, rows_from}
-
--- tests that imply each other agree
-same_from_each : (b c : Bool) → (b ≡ true → c ≡ true) → (c ≡ true → b ≡ true) → b ≡ c
-same_from_each true c into back = sym (into refl)
-same_from_each false true into back = back refl
-same_from_each false false into back = refl
 
 -- the bounds of a number by its quotient, and its quotient by these bounds
 quotient_bounds : (n d q : ℕ) → 0 < d → n / d ≡ q → (q * d ≤ n) × (n < q * d + d)
@@ -193,7 +188,7 @@ module _ (chart : ChartView) (is : IsChart chart) (object number : ℕ) where
     -- the block's row so many instants after the anchor is the object's row at that instant
     test-after : (n : ℕ) → n < suc len → (row : Row) → Contains chart.rows row →
         ((after row == n) && test row) ≡ is_row_of object (anchor.instant +ℤ pos n) row
-    test-after n short row among = same_from_each _ _
+    test-after n short row among = both_ways _ _
         (λ passes.
         let both = and_parts (after row == n) (test row) passes in
         let far : after row ≡ n = grind (arith, nat_tests, both.0) in

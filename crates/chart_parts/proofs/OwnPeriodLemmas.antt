@@ -6,6 +6,7 @@ use Rattle.std.specs.List.Sorted.{IsNonDecreasingBy}
 use Rattle.std.proofs.lemmas.List.{length-map}
 use Rattle.std.proofs.lemmas.Simd.{map-map}
 use Rattle.list_laws.proofs.MapLemmas.{filter-map}
+use Rattle.list_laws.proofs.MapLemmas.{map-range_agree, zip-map}
 use Rattle.track_types.specs.Chart.{ChartView, IsChart}
 use Rattle.track_types.specs.Quantities.{anchors_of, first_of, object_count, period_count, period_of}
 use Rattle.track_types.specs.declared.row.Row.{Row}
@@ -20,21 +21,6 @@ use Rattle.chart_parts.specs.PartsOf.{anchor_codes, grammar_of, logged_anchors, 
 use Rattle.chart_parts.specs.PeriodWith.{Climbs, blocks_in, period_of_blocks}
 use Rattle.chart_parts.proofs.GrammarLemmas.{firsts-logged_anchors, length-blocks}
 use Rattle.chart_parts.proofs.OwnPresenceLemmas.{presence_of-heads}
-
--- what is made of the first parts beside the second ones
-zip-map : {X Y Z : Type 0} (f : X → Y) (xs : List X) (zs : List Z) →
-    zip (map f xs) zs ≡ map (λ pair. (f pair.0, pair.1)) (zip xs zs)
-zip-map f [] zs = refl
-zip-map f (x ∷ xs) [] = refl
-zip-map f (x ∷ xs) (z ∷ zs) = ap (λ all. (f x, z) ∷ all) (zip-map f xs zs)
-
--- what is made of numbers from one on, where it is the same of each
-map-range_agree : {Y : Type 0} (f g : ℕ → Y) (a n : ℕ) → ((i : ℕ) → a ≤ i → i < a + n → f i ≡ g i) →
-    map f (range_with_len a n) ≡ map g (range_with_len a n)
-map-range_agree f g a zero same = refl
-map-range_agree f g a (suc n) same =
-    ap (λ y. y ∷ map f (range_with_len (a + 1) n)) (same a (omega arith) (omega arith))
-    ∙ ap (λ ys. g a ∷ ys) (map-range_agree f g (a + 1) n (λ i low high. same i (omega arith) (omega arith)))
 
 -- numbers that do not fall climb from one that is below them all
 pub Climbs-rising : {X : Type 0} (key : X → ℕ) (n : ℕ) (xs : List X) → All (λ x. n ≤ key x) xs →

@@ -10,7 +10,7 @@ use Rattle.list_laws.proofs.MemberLemmas.{Contains-filter, filter-none, find_cas
 use Rattle.track_types.specs.ByFilter.{cell_at}
 use Rattle.track_types.specs.Row.{IsAscending, is_row_of, place_of, place_order, row_order}
 use Rattle.track_types.specs.declared.row.Row.{Row}
-use Rattle.track_types.proofs.AscendingLemmas.{find-member, same_from_members}
+use Rattle.list_laws.proofs.AscendingLemmas.{find-member, same_from_members}
 use Rattle.track_types.proofs.RowLemmas.{row_order_total}
 use Rattle.rule_store.specs.Log.{stop_at, stops_from}
 use Rattle.snapshots.specs.Parts.{row_of}

@@ -21,7 +21,7 @@ use Rattle.list_laws.proofs.PieceLemmas.{get_or-filter}
 use Rattle.track_types.specs.Chart.{ChartView, IsChart}
 use Rattle.track_types.specs.Quantities.{objects_of}
 use Rattle.track_types.specs.declared.row.Row.{Row}
-use Rattle.track_types.proofs.AscendingLemmas.{find-none, same_from_members}
+use Rattle.list_laws.proofs.AscendingLemmas.{find-none, same_from_members}
 use Rattle.movement_log.specs.Blocks.{no_row, row_at}
 use Rattle.movement_log.specs.Logs.{anchors_in}
 use Rattle.chart_parts.specs.PartsOf.{is_present}

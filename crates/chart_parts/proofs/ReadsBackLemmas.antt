@@ -5,6 +5,7 @@ use Rattle.std.specs.List.{flat_map, range_with_len}
 use Rattle.std.proofs.lemmas.List.Folds.{flat_map-map}
 use Rattle.std.proofs.lemmas.List.FromFn.{fill_by_all}
 use Rattle.list_laws.proofs.KeyedLemmas.{flat_map_alike, member_of_range}
+use Rattle.list_laws.proofs.RangeLemmas.{flat_map-places}
 use Rattle.snapshots.specs.Parts.{chart_in, numbers_in, row_of, rows_in, stops_in}
 use Rattle.track_types.specs.Chart.{ChartView, IsChart}
 use Rattle.track_types.specs.Frame.{periods_of}
@@ -20,13 +21,6 @@ abbrev pub AreTracks : ChartView → Type 0
 AreTracks chart = (i number : ℕ) → i < length (objects_of chart.rows) → number < periods_of (frame_of chart) →
     stops_in (parts_of chart) i number
     ≡ stops_with chart (anchor_of chart number (slice_index (objects_of chart.rows) i))
-
--- what is made of the elements by their places
-flat_map-places : {X : Type 0} (f : ℕ → List X) (xs : List ℕ) →
-    flat_map (λ i. f (slice_index xs i)) (range_with_len 0 (length xs)) ≡ flat_map f xs
-flat_map-places f xs =
-    sym (flat_map-map f (slice_index xs) (range_with_len 0 (length xs)))
-    ∙ ap (flat_map f) (sym (fill_by_all (slice_index xs) xs (length xs) 0 refl (λ k below. refl)))
 
 module _ (chart : ChartView) (is : IsChart chart) (tracks : AreTracks chart) where
   abbrev objects : List ℕ

@@ -1,5 +1,5 @@
 -- Anchors of rows in order: a row is its block's anchor where the row before it is of another block.
-use Rattle.std.proofs.Common.{◌≡◌, ℕ, ℤ, suc, ◌+◌, ◌*◌, ◌/◌, ◌≤◌, ◌<◌, Bool, true, false, List, [], ◌∷◌, ◌++◌, Ordering, Option, Some, None, add-one, append_assoc, drop, drop-cons, eq-eqb, get_or, length, zero-add, refl, sym, ◌∙◌, ap, arith, inl, inr, ◌⊎◌}
+use Rattle.std.proofs.Common.{◌≡◌, ℕ, ℤ, suc, ◌+◌, ◌≤◌, ◌<◌, Bool, true, false, List, [], ◌∷◌, ◌++◌, Ordering, Option, Some, None, add-one, append_assoc, drop, drop-cons, eq-eqb, get_or, length, zero-add, refl, sym, ◌∙◌, ap, arith, inl, inr, ◌⊎◌}
 use Rattle.std.specs.Prelude.{if◌then◌else◌, ◌==◌, ◌&&◌, ◌||◌, not, filter, sum_by, option_map, All, ◌<ℤ◌, ◌≤ℤ◌, ◌-ℤ◌, unsigned_abs}
 use Rattle.std.specs.Int.Signed.{lt_z}
 use Rattle.std.specs.List.{AllByRecursion, list_any}
@@ -7,13 +7,13 @@ use Rattle.std.specs.List.Sorted.{IsStrictlySortedBy}
 use Rattle.std.specs.Ordering.{MatchOrdering, int_cmp, nat_cmp, ordering_then}
 use Rattle.std.specs.declared.cmp.Ordering.TheVariants.{Less, Equal, Greater}
 use Rattle.std.proofs.lemmas.Bool.Decides.{nat_tests}
-use Rattle.std.proofs.lemmas.Bool.{and_parts, cases_lt}
-use Rattle.std.proofs.Math.Nat.{mul-le-mul_left}
+use Rattle.std.proofs.lemmas.Bool.{and_parts}
 use Rattle.std.proofs.lemmas.Int.{ints}
 use Rattle.std.proofs.lemmas.Cmp.{ranked, int_ranked}
 use Rattle.std.proofs.lemmas.List.Elements.{recursion_from_All}
 use Rattle.std.proofs.lemmas.List.Folds.{list_any-append}
 use Rattle.std.proofs.lemmas.List.Sums.{sum_by-cons}
+use Rattle.list_laws.proofs.NumberLemmas.{div-le}
 use Rattle.track_types.specs.Quantities.{anchors_of, elapsed, is_anchor, is_same_block, log_length, period_of}
 use Rattle.track_types.specs.Row.{IsAscending, row_order}
 use Rattle.track_types.specs.declared.row.Row.{Row}
@@ -50,14 +50,6 @@ and_true false = refl
 or_false : (b : Bool) → (b || false) ≡ b
 or_false true = refl
 or_false false = refl
-
--- later instants have no smaller periods
-div_mono : (m n d : ℕ) → 0 < d → m ≤ n → m / d ≤ n / d
-div_mono m n d some below =
-    elim (cases_lt (n / d) (m / d)) [
-      | inl less ↦ let up : d * (n / d + 1) ≤ d * (m / d) = mul-le-mul_left d (let next : n / d + 1 ≤ m / d = omega arith in next) in absurd (omega arith)
-      | inr is ↦ is
-    ]
 
 still_behind : (first x y : ℤ) → first ≤ℤ x → x <ℤ y → first ≤ℤ y
 still_behind first x y behind later = omega (arith, ints)
@@ -113,10 +105,10 @@ module _ (first : ℤ) (period : ℕ) where
       let periods : period_of first period a ≡ period_of first period row = grind (arith, nat_tests, parts.1) in
       let one = ordered_alike a b row objects (order_cases a b below) (order_cases b row above) in
       let up : period_of first period a ≤ period_of first period b =
-      div_mono (elapsed first a) (elapsed first b) period some (elapsed_mono first a.instant b.instant behind one.1) in
+      div-le period (elapsed first a) (elapsed first b) some (elapsed_mono first a.instant b.instant behind one.1) in
       let behind_b : first ≤ℤ b.instant = still_behind first a.instant b.instant behind one.1 in
       let down : period_of first period b ≤ period_of first period row =
-      div_mono (elapsed first b) (elapsed first row) period some (elapsed_mono first b.instant row.instant behind_b one.2) in
+      div-le period (elapsed first b) (elapsed first row) some (elapsed_mono first b.instant row.instant behind_b one.2) in
       let same_object : (b.object == row.object) ≡ true = eq-eqb b.object row.object one.0 in
       let same_period : (period_of first period b == period_of first period row) ≡ true =
       eq-eqb (period_of first period b) (period_of first period row) (squeezed _ _ _ periods up down) in

@@ -1,11 +1,12 @@
 -- A tree's cells and their Morton numbers.
-use Rattle.std.proofs.Common.{◌≡◌, ℕ, suc, ◌+◌, ◌/◌, ◌^◌, ◌<◌, ◌==◌, Bool, false, List, [], ◌∷◌, length, map}
-use Rattle.std.proofs.Common.{get_or, refl, sym, ap, ◌∙◌, arith, subst, Option, None, Some, All, MatchOption}
+use Rattle.std.proofs.Common.{◌≡◌, ℕ, ◌+◌, ◌/◌, ◌^◌, ◌<◌, ◌==◌, Bool, false, List, [], length, map}
+use Rattle.std.proofs.Common.{get_or, sym, ap, ◌∙◌, arith, subst, Option, None, Some, All, MatchOption}
 use Rattle.std.specs.Prelude.{slice_get, Contains}
 use Rattle.std.proofs.lemmas.Bool.Decides.{nat_tests}
 use Rattle.std.proofs.lemmas.List.{length-map}
 use Rattle.std.proofs.lemmas.List.Elements.{All-map}
 use Rattle.std.proofs.lemmas.Option.{slice_get-map}
+use Rattle.list_laws.proofs.MapLemmas.{map-back}
 use Rattle.list_laws.proofs.MemberLemmas.{Contains-map, member_of_map, none_from_list_any}
 use Rattle.packed_bits.specs.Bits.{ones_of}
 use Rattle.track_types.specs.declared.cell.Cell.{Cell}
@@ -15,12 +16,6 @@ use Rattle.k2_tree.specs.Tree.{Tree, codes_in, codes_of, tree_bits, tree_of, tre
 use Rattle.k2_tree.specs.Flaws.{StandsFor}
 use Rattle.k2_tree.proofs.MortonLemmas.{morton_of-cell_of, cell_of-morton_of, cell_of-inside}
 use Rattle.k2_tree.proofs.DescentLemmas.{length-codes_in, codes_in-morton_bits, codes_in-none}
-
--- what leads back from each image leads back from the list of them
-map-back : {X Y : Type 0} (f : X → Y) (g : Y → X) (xs : List X) → All (λ x. g (f x) ≡ x) xs → map g (map f xs) ≡ xs
-map-back f g [] back = refl
-map-back f g (x ∷ xs) back =
-    rw (back 0 x (omega arith)) (ap (λ ys. x ∷ ys) (map-back f g xs (λ k d h. back (suc k) d (omega arith))))
 
 -- the numbers of the cells of numbers are these numbers
 pub codes_back : (height : ℕ) (base : Cell) (codes : List ℕ) → All (λ code. code < 4 ^ height) codes

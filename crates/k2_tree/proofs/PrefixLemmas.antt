@@ -4,9 +4,9 @@ use Rattle.std.proofs.Common.{Bool, true, false, List, [], ◌∷◌, map, filte
 use Rattle.std.proofs.Common.{refl, sym, ap, ◌∙◌, inl, inr, arith, lit<, subst}
 use Rattle.std.proofs.lemmas.Bool.{cases_Bool}
 use Rattle.std.proofs.lemmas.Bool.Decides.{nat_tests}
-use Rattle.std.proofs.lemmas.Nat.{le-div}
-use Rattle.std.proofs.Math.Nat.{div-one, pow-suc, div-eq_of_lt, div-mul-le_self}
+use Rattle.std.proofs.Math.Nat.{div-one, pow-suc, div-eq_of_lt}
 use Rattle.std.specs.List.{dedup_from, list_any}
+use Rattle.list_laws.proofs.NumberLemmas.{div-le}
 use Rattle.k2_tree.specs.TreeBits.{is_in, prefixes, longer, Rises}
 use Rattle.k2_tree.proofs.MortonLemmas.{div-pow_suc}
 use Rattle.k2_tree.proofs.RisingLemmas.{Climbs, Rises-weaker, other_test, same_from_rising}
@@ -32,10 +32,6 @@ once_from-rises k (x ∷ xs) up = elim (by_test x k) [
       let apart : k < x = omega (arith, differ.0) in
       rw differ.1 (omega arith, Rises-weaker (suc k) x (once_from x xs) (omega arith) (once_from-rises x xs up.1))
 ]
-
--- division keeps the order
-pub div-le : (k a b : ℕ) → 0 < k → a ≤ b → a / k ≤ b / k
-div-le k a b some le = le-div (a / k) b k some (omega (arith, le, div-mul-le_self a k))
 
 -- powers of the fan are not 0
 pub fan_pos : (n : ℕ) → 0 < 4 ^ n

@@ -1,5 +1,5 @@
 -- What tests keep of a list.
-use Rattle.std.proofs.Common.{◌≡◌, ℕ, ◌*◌, ◌≤◌, Bool, true, false, List, [], ◌∷◌, length, filter}
+use Rattle.std.proofs.Common.{◌≡◌, ℕ, ◌*◌, ◌≤◌, Bool, true, List, [], ◌∷◌, length, filter}
 use Rattle.std.proofs.Common.{refl, ◌∙◌, arith, inl, inr, All}
 use Rattle.std.proofs.lemmas.Bool.{cases_Bool}
 use Rattle.std.specs.Prelude.{◌&&◌, if◌then◌else◌}
@@ -14,13 +14,6 @@ module _ {X : Type 0} where
   filter-all p (x ∷ xs) each =
       let P : X → Type 0 = λ y. p y ≡ true in
       grind (arith, All-head P x xs each, filter-all p xs (All-tail P x xs each))
-
-  -- a test that is false on all keeps none
-  pub filter-none : (p : X → Bool) (xs : List X) → All (λ x. p x ≡ false) xs → filter p xs ≡ []
-  filter-none p [] each = refl
-  filter-none p (x ∷ xs) each =
-      let P : X → Type 0 = λ y. p y ≡ false in
-      grind (arith, All-head P x xs each, filter-none p xs (All-tail P x xs each))
 
   -- one or none each
   pub flat_map_if : (p : X → Bool) (xs : List X) → flat_map (λ x. if p x then x ∷ [] else []) xs ≡ filter p xs

@@ -1,15 +1,20 @@
--- A list and its front: what holds of each element, and strict order, one element after the other.
+-- A list, its front and its back: what holds of each element, and strict order, one element after the other.
 use Rattle.std.proofs.Common.{◌≡◌, ℕ, ◌+◌, ◌-◌, ◌<◌, List, [], ◌∷◌, ◌++◌, length, All, get_or, slice_index, inl, inr, sym, ap, ◌∙◌, arith}
 use Rattle.std.specs.List.Sorted.{IsStrictlyIncreasing}
 use Rattle.std.proofs.lemmas.Bool.{cases_lt}
 use Rattle.std.proofs.lemmas.List.{length-append, get_or_append_left}
 use Rattle.std.proofs.Math.Seq.{get_or-append_seam}
-use Rattle.std.proofs.lemmas.List.Elements.{All-append, All-from_recursion}
+use Rattle.std.proofs.lemmas.List.Elements.{All-append, All-from_recursion, All-tail}
 
 -- what holds of each element holds of each of the front
 pub All-front : {X : Type 0} (P : X → Type 0) (xs ys : List X) → All P (xs ++ ys) → All P xs
 All-front P xs ys all k d within =
     rw (sym (get_or_append_left xs ys d k within)) (all k d (omega (arith, length-append xs ys)))
+
+-- and of the back
+pub All-back : {X : Type 0} (P : X → Type 0) (xs ys : List X) → All P (xs ++ ys) → All P ys
+All-back P [] ys each = each
+All-back P (x ∷ xs) ys each = All-back P xs ys (All-tail P x (xs ++ ys) each)
 
 -- and of the last
 pub All-last : {X : Type 0} (P : X → Type 0) (xs : List X) (x : X) → All P (xs ++ x ∷ []) → P x

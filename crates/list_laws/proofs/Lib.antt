@@ -18,4 +18,7 @@ pub mod RangeLemmas
 pub mod DedupLemmas
 pub mod OptionLemmas
 pub mod GreatestLemmas
+pub mod IncreasingLemmas
+pub mod AscendingLemmas
+pub mod NumberLemmas
 pub mod WeightLemmas

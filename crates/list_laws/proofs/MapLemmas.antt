@@ -1,6 +1,6 @@
 -- Mapped lists: laid end to end, side by side, what a test keeps of them, and what leaves a list as it is.
-use Rattle.std.proofs.Common.{◌≡◌, ◌<◌, Bool, List, [], ◌∷◌, ◌++◌, length, map, filter, All, refl, sym, ◌∙◌, ap, arith, inl, inr, subst}
-use Rattle.std.specs.List.{Contains, flat_map, zip}
+use Rattle.std.proofs.Common.{zero, ◌≡◌, ◌<◌, Bool, List, [], ◌∷◌, ◌++◌, length, map, filter, All, refl, sym, ◌∙◌, ap, arith, inl, inr, subst, suc, ℕ, ◌≤◌, ◌+◌}
+use Rattle.std.specs.List.{Contains, flat_map, range_with_len, zip}
 use Rattle.std.proofs.lemmas.List.{get_or-map, length-map, map-append}
 use Rattle.list_laws.proofs.MemberLemmas.{first_member, later_member, member_cases, no_member}
 
@@ -22,6 +22,34 @@ map-fixed f [] same = refl
 map-fixed f (x ∷ xs) same =
     let rest = map-fixed f xs (λ y inside. same y (later_member y x xs inside)) in
     ap (λ y. y ∷ map f xs) (same x (first_member x xs)) ∙ ap (λ ys. x ∷ ys) rest
+
+-- what agrees on all elements makes the same list
+pub map_alike : {X Y : Type 0} (f g : X → Y) (xs : List X) → All (λ x. f x ≡ g x) xs → map f xs ≡ map g xs
+map_alike f g [] each = refl
+map_alike f g (x ∷ xs) each =
+    let first : f x ≡ g x = each 0 x (omega arith) in
+    ap (λ y. y ∷ map f xs) first ∙ ap (λ ys. g x ∷ ys) (map_alike f g xs (λ k d below. each (suc k) d (omega arith)))
+
+-- what is made of numbers from one on, where it is the same of each
+pub map-range_agree : {Y : Type 0} (f g : ℕ → Y) (a n : ℕ) → ((i : ℕ) → a ≤ i → i < a + n → f i ≡ g i) →
+    map f (range_with_len a n) ≡ map g (range_with_len a n)
+map-range_agree f g a zero same = refl
+map-range_agree f g a (suc n) same =
+    ap (λ y. y ∷ map f (range_with_len (a + 1) n)) (same a (omega arith) (omega arith))
+    ∙ ap (λ ys. g a ∷ ys) (map-range_agree f g (a + 1) n (λ i low high. same i (omega arith) (omega arith)))
+
+-- what leads back from each image leads back from the list of them
+pub map-back : {X Y : Type 0} (f : X → Y) (g : Y → X) (xs : List X) → All (λ x. g (f x) ≡ x) xs → map g (map f xs) ≡ xs
+map-back f g [] back = refl
+map-back f g (x ∷ xs) back =
+    rw (back 0 x (omega arith)) (ap (λ ys. x ∷ ys) (map-back f g xs (λ k d h. back (suc k) d (omega arith))))
+
+-- what is made of the first parts beside the second ones
+pub zip-map : {X Y Z : Type 0} (f : X → Y) (xs : List X) (zs : List Z) →
+    zip (map f xs) zs ≡ map (λ pair. (f pair.0, pair.1)) (zip xs zs)
+zip-map f [] zs = refl
+zip-map f (x ∷ xs) [] = refl
+zip-map f (x ∷ xs) (z ∷ zs) = ap (λ all. (f x, z) ∷ all) (zip-map f xs zs)
 
 -- elements side by side, of which two functions make the same lists
 pub zip-agree : {X Y Z : Type 0} (f : X → Z) (g : Y → Z) (xs : List X) (ys : List Y) (x : X) (y : Y)

@@ -1,5 +1,5 @@
 -- Lists and sums over a range of numbers, of which only some give any.
-use Rattle.std.proofs.Common.{◌≡◌, ℕ, zero, suc, ◌+◌, ◌-◌, ◌<◌, ◌≤◌, Bool, true, List, [], ◌∷◌, ◌++◌}
+use Rattle.std.proofs.Common.{◌≡◌, ℕ, zero, suc, ◌+◌, ◌-◌, ◌<◌, ◌≤◌, Bool, true, List, [], ◌∷◌, ◌++◌, slice_index, length}
 use Rattle.std.proofs.Common.{Ordering, Option, None, Some, IfSome, All, refl, ap, sym, subst, ◌∙◌, arith, inl, inr}
 use Rattle.std.specs.Prelude.{get_or, if◌then◌else◌}
 use Rattle.std.specs.List.{cons_option, filter, filter_map, find, flat_map, range_with_len, sum_by}
@@ -7,11 +7,24 @@ use Rattle.std.specs.List.Sorted.{IsStrictlySortedBy}
 use Rattle.std.specs.declared.cmp.Ordering.TheVariants.{Less}
 use Rattle.std.proofs.lemmas.Bool.{cases_Bool, cases_lt}
 use Rattle.std.proofs.lemmas.List.{append-nil, map-id}
+use Rattle.std.proofs.lemmas.List.Concat.{flat_map-append}
 use Rattle.std.proofs.lemmas.List.Elements.{All-append, All-head, All-nil, filter_map-append}
 use Rattle.std.proofs.lemmas.List.Elements.{All-tail, All-from_recursion, recursion_from_All}
-use Rattle.std.proofs.lemmas.List.FromFn.{map-range_with_len_more}
+use Rattle.std.proofs.lemmas.List.FromFn.{map-range_with_len_more, fill_by_all}
 use Rattle.std.proofs.lemmas.List.Sums.{sum_by-cons}
+use Rattle.std.proofs.lemmas.List.Folds.{flat_map-map}
 use Rattle.list_laws.proofs.FilterLemmas.{sum_by-filter}
+
+-- numbers from one on, in two parts
+pub range-parts : (a m n : ℕ) → range_with_len a (m + n) ≡ range_with_len a m ++ range_with_len (a + m) n
+range-parts a zero n =
+    let same : a + 0 ≡ a = omega arith in
+    let none : 0 + n ≡ n = omega arith in
+    rw (same, none) refl
+range-parts a (suc m) n =
+    let long : suc m + n ≡ suc (m + n) = omega arith in
+    let from : a + suc m ≡ (a + 1) + m = omega arith in
+    rw (long, from) (ap (λ ns. a ∷ ns) (range-parts (a + 1) m n))
 
 -- one more number
 pub range-more : (n : ℕ) → range_with_len 0 (n + 1) ≡ range_with_len 0 n ++ n ∷ []
@@ -25,6 +38,19 @@ pub filter_map-range_more : {Y : Type 0} (make : ℕ → Option Y) (n : ℕ)
     → filter_map make (range_with_len 0 (n + 1)) ≡ filter_map make (range_with_len 0 n) ++ cons_option (make n) []
 filter_map-range_more make n =
     ap (filter_map make) (range-more n) ∙ filter_map-append make (range_with_len 0 n) (n ∷ [])
+
+pub flat_map-range_next : {A : Type 0} (f : ℕ → List A) (n : ℕ)
+    → flat_map f (range_with_len 0 (n + 1)) ≡ flat_map f (range_with_len 0 n) ++ f n
+flat_map-range_next f n =
+    ap (flat_map f) (range-more n) ∙ flat_map-append f (range_with_len 0 n) (n ∷ [])
+    ∙ ap (λ ys. flat_map f (range_with_len 0 n) ++ ys) (append-nil (f n))
+
+-- what is made of the elements by their places
+pub flat_map-places : {X : Type 0} (f : ℕ → List X) (xs : List ℕ) →
+    flat_map (λ i. f (slice_index xs i)) (range_with_len 0 (length xs)) ≡ flat_map f xs
+flat_map-places f xs =
+    sym (flat_map-map f (slice_index xs) (range_with_len 0 (length xs)))
+    ∙ ap (flat_map f) (sym (fill_by_all (slice_index xs) xs (length xs) 0 refl (λ k below. refl)))
 
 -- numbers that give nothing
 pub flat_map-range_none : {A : Type 0} (f : ℕ → List A) (from n : ℕ) → ((j : ℕ) → from ≤ j → j < from + n → f j ≡ [])

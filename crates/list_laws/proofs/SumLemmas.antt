@@ -1,9 +1,9 @@
 -- Sums over pairs, over ranges, and over what is made of some members of a list.
-use Rattle.std.proofs.Common.{◌≡◌, ℕ, zero, suc, ◌+◌, ◌-◌, ◌<◌, ◌≤◌, Bool, List, [], ◌∷◌, get_or, refl, sym, ◌∙◌}
+use Rattle.std.proofs.Common.{◌≡◌, ℕ, zero, suc, ◌+◌, ◌-◌, ◌<◌, ◌≤◌, Bool, List, [], ◌∷◌, get_or, refl, sym, ◌∙◌, ap, eqb}
 use Rattle.std.proofs.Common.{arith, inl, inr, Option, None, Some, All, false, true, length}
 use Rattle.std.specs.Prelude.{◌==◌, ◌*◌, if◌then◌else◌, ⊤}
 use Rattle.std.specs.List.{cons_option, enumerate_from, filter_map, range_with_len, sum_by}
-use Rattle.std.proofs.lemmas.Bool.{cases_lt, eq-eqb, ne_eqb}
+use Rattle.std.proofs.lemmas.Bool.{cases_lt, eq-eqb, ne_eqb, cases_Bool}
 use Rattle.std.proofs.lemmas.Bool.Decides.{nat_tests}
 use Rattle.std.proofs.lemmas.List.Sums.{sum_by-cons}
 use Rattle.list_laws.proofs.FlatLemmas.{sum_by_plus}
@@ -108,3 +108,38 @@ module _ {X : Type 0} (passes : X → Bool) (place value : ℕ) where
         let rest = sum_by-weight_above (k + 1) xs (omega arith) in
         rw front (grind (arith, same, sum_by-cons weight_at (k, x) (enumerate_from (k + 1) xs), rest))
   ]
+
+-- a number of a range counts in a sum over it
+pub sum_by-range_some : (f : ℕ → ℕ) (from n place : ℕ) → from ≤ place → place < from + n
+    → f place ≤ sum_by f (range_with_len from n)
+sum_by-range_some f from zero place low high = absurd (omega arith)
+sum_by-range_some f from (suc n) place low high = elim (cases_Bool (eqb from place)) [
+  | inl here ↦
+      let same : from ≡ place = grind (arith, nat_tests) in
+      omega (arith, sum_by-cons f from (range_with_len (from + 1) n), ap f same)
+  | inr other ↦
+      let apart : from < place = grind (arith, nat_tests) in
+      let rest = sum_by-range_some f (from + 1) n place (omega arith) (omega arith) in
+      omega (arith, sum_by-cons f from (range_with_len (from + 1) n), rest)
+]
+
+-- the first terms of a sum over numbers, and the next one, are within the whole sum
+from-zero : (from : ℕ) → from + 0 ≡ from
+from-zero from = omega arith
+
+from-suc : (from n : ℕ) → from + suc n ≡ from + 1 + n
+from-suc from n = omega arith
+
+pub sum_by-range_next : (f : ℕ → ℕ) (from n m : ℕ) → n < m
+    → sum_by f (range_with_len from n) + f (from + n) ≤ sum_by f (range_with_len from m)
+sum_by-range_next f from n zero less = absurd (omega arith)
+sum_by-range_next f from zero (suc m) less =
+    omega (arith, sum_by-cons f from (range_with_len (from + 1) m), ap f (from-zero from))
+sum_by-range_next f from (suc n) (suc m) less =
+    omega (
+      arith,
+      sum_by-cons f from (range_with_len (from + 1) n),
+      sum_by-cons f from (range_with_len (from + 1) m),
+      sum_by-range_next f (from + 1) n m (omega arith),
+      ap f (from-suc from n),
+    )

@@ -10,6 +10,7 @@ use Rattle.std.proofs.lemmas.List.{append-nil, get_or_past, length-append, lengt
 use Rattle.std.proofs.lemmas.List.FromFn.{length-map-range_with_len}
 use Rattle.std.proofs.lemmas.List.Elements.{All-append, All-cons, All-head, All-map, All-nil, All-tail}
 use Rattle.std.specs.Option.{option_to_list}
+use Rattle.list_laws.proofs.FrontLemmas.{All-back}
 use Rattle.spiral_code.specs.Spiral.{move_of}
 use Rattle.list_laws.specs.Grown.{grown}
 use Rattle.list_laws.proofs.FrontLemmas.{All-front}
@@ -39,11 +40,6 @@ use Rattle.log_cursor.proofs.StopLemmas.{duration_of-terminal}
 pub same_start : (i j x u y v : ℤ) → i ≡ j → x ≡ u → y ≡ v → start_at i (cell_at x y) ≡ start_at j (cell_at u v)
 same_start i j x u y v instants columns lines =
     ap (λ z. start_at z (cell_at x y)) instants ∙ ap (start_at j) (same_cell x y u v columns lines)
-
--- what holds of each element holds of each of the back
-All-back : {X : Type 0} (P : X → Type 0) (xs ys : List X) → All P (xs ++ ys) → All P ys
-All-back P [] ys each = each
-All-back P (x ∷ xs) ys each = All-back P xs ys (All-tail P x (xs ++ ys) each)
 
 -- values lead from a near cell along near cells to a near one
 end-near : (cell : Cell) (values : List ℕ) → IsCellAsked cell →

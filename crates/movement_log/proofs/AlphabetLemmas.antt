@@ -1,5 +1,5 @@
 -- An alphabet: the place of a value in it, and that sorted values, each kept once, are the alphabet.
-use Rattle.std.proofs.Common.{◌≡◌, ◌≢◌, ℕ, zero, suc, ◌+◌, ◌<◌, ◌≤◌, true, List, [], ◌∷◌, length, get_or, arith, ◌∙◌, ap, add-one, eq-eqb, ne_eqb, inl, inr, eqb, zero-add, subst}
+use Rattle.std.proofs.Common.{◌≡◌, ◌≢◌, ℕ, suc, ◌+◌, ◌<◌, ◌≤◌, true, List, [], ◌∷◌, length, get_or, arith, ◌∙◌, ap, eq-eqb, ne_eqb, inl, inr, eqb, zero-add, subst}
 use Rattle.std.specs.Prelude.{fold, max, ◌==◌}
 use Rattle.std.specs.List.{Contains, dedup, dedup_from, list_any, range_with_len}
 use Rattle.std.specs.List.Sorted.{IsPermutation, IsSorted, IsStrictlyIncreasing}
@@ -17,34 +17,18 @@ use Rattle.std.proofs.lemmas.List.Sorted.{Contains-permutation, IsPermutation-sy
 use Rattle.std.proofs.lemmas.Map.Keys.{IsStrictlyIncreasing-dedup, sorted_from_strictly_increasing}
 use Rattle.list_laws.specs.Ordered.{ordered}
 use Rattle.list_laws.proofs.GreatestLemmas.{fold_max-at}
+use Rattle.list_laws.proofs.IncreasingLemmas.{increasing-below}
 use Rattle.list_laws.proofs.MemberLemmas.{Contains-filter, member_of_filter}
 use Rattle.list_laws.proofs.OrderedLemmas.{IsPermutation-ordered, IsSortedBy-ordered}
-use Rattle.track_types.proofs.AscendingLemmas.{same_from_members}
+use Rattle.list_laws.proofs.AscendingLemmas.{same_from_members}
 use Rattle.movement_log.specs.Logs.{ascending_of, terminal_of}
-
--- numbers that rise from each to the next rise from each to any later one
-rises : (xs : List ℕ) → IsStrictlyIncreasing xs → (i j : ℕ) → i < j → j < length xs → get_or xs i 0 < get_or xs j 0
-rises xs up i zero below within = absurd (omega arith)
-rises xs up i (suc j) below within =
-    let next : get_or xs j 0 < get_or xs (suc j) 0 = rw (← add-one j) (up j (omega arith)) in
-    elim (cases_lt i j) [
-      | inl less ↦ let before = rises xs up i j less (omega arith) in omega arith
-      | inr not ↦ let is : i ≡ j = omega arith in let at = ap (λ k. get_or xs k 0) is in omega arith
-    ]
-
-pub rises_or_is : (xs : List ℕ) → IsStrictlyIncreasing xs → (i j : ℕ) → i ≤ j → j < length xs → get_or xs i 0 ≤ get_or xs j 0
-rises_or_is xs up i j below within =
-    elim (cases_lt i j) [
-      | inl less ↦ let before = rises xs up i j less within in omega arith
-      | inr not ↦ let is : i ≡ j = omega arith in let at = ap (λ k. get_or xs k 0) is in omega arith
-    ]
 
 -- a value's terminal is its place, and the alphabet's length where it has none
 pub terminal_at : (alphabet : List ℕ) (value place : ℕ) → IsStrictlyIncreasing alphabet → place < length alphabet →
     get_or alphabet place 0 ≡ value → terminal_of alphabet value ≡ place
 terminal_at alphabet value place up within is =
     position_or_len_is (λ other. other == value) alphabet place 0 (omega arith)
-    (λ k below. let less = rises alphabet up k place below within in ne_eqb (get_or alphabet k 0) value (λ e. omega arith))
+    (λ k below. let less = increasing-below alphabet up k place below within in ne_eqb (get_or alphabet k 0) value (λ e. omega arith))
     (λ _. eq-eqb (get_or alphabet place 0) value is)
 
 pub terminal_none : (alphabet : List ℕ) (value : ℕ) → ((k : ℕ) → k < length alphabet → get_or alphabet k 0 ≢ value) →

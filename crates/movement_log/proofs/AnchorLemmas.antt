@@ -1,14 +1,13 @@
 -- Anchors of rows in order: a row is its block's anchor where the row before it is of another block.
-use Rattle.std.proofs.Common.{◌≡◌, ℕ, ℤ, suc, ◌+◌, ◌/◌, ◌≤◌, ◌<◌, Bool, true, false, List, [], ◌∷◌, eq-eqb, get_or, length, refl, sym, ap, arith, inl, inr}
+use Rattle.std.proofs.Common.{◌≡◌, ℕ, ℤ, suc, ◌+◌, ◌≤◌, ◌<◌, Bool, true, false, List, [], ◌∷◌, eq-eqb, get_or, length, refl, sym, ap, arith, inl, inr}
 use Rattle.std.specs.Prelude.{◌==◌, ◌&&◌, not, ◌<ℤ◌, ◌≤ℤ◌}
 use Rattle.std.specs.Int.Signed.{lt_z}
 use Rattle.std.specs.List.{list_any}
-use Rattle.std.proofs.Math.Nat.{div-mul-le_self}
 use Rattle.std.proofs.lemmas.Bool.Decides.{nat_tests}
 use Rattle.std.proofs.lemmas.Bool.{and_parts, cases_Bool, cases_lt}
-use Rattle.std.proofs.lemmas.Nat.{le-div}
 use Rattle.std.proofs.lemmas.Int.{ints}
 use Rattle.std.proofs.lemmas.List.Folds.{list_any_at}
+use Rattle.list_laws.proofs.NumberLemmas.{div-le}
 use Rattle.track_types.specs.Quantities.{elapsed, is_anchor, is_same_block, period_of}
 use Rattle.track_types.specs.Row.{IsAscending}
 use Rattle.track_types.specs.declared.row.Row.{Row}
@@ -22,10 +21,6 @@ none_passes p d [] fails = refl
 none_passes p d (x ∷ xs) fails =
     rw (fails 0 (omega arith), none_passes p d xs (λ k below. fails (suc k) (omega arith))) refl
 
--- later instants have no smaller periods
-div_mono : (m n d : ℕ) → 0 < d → m ≤ n → m / d ≤ n / d
-div_mono m n d some below = le-div (m / d) n d some (omega (arith, div-mul-le_self m d, below))
-
 module _ (first : ℤ) (period : ℕ) where
   pub same_parts : (a b : Row) → is_same_block first period a b ≡ true →
       (a.object ≡ b.object) × (period_of first period a ≡ period_of first period b)
@@ -38,10 +33,11 @@ module _ (first : ℤ) (period : ℕ) where
   same_from_parts a b objects periods =
       rw (eq-eqb a.object b.object objects, eq-eqb (period_of first period a) (period_of first period b) periods) refl
 
+  -- later instants have no smaller periods
   pub period_mono : (a b : Row) → 0 < period → first ≤ℤ a.instant → a.instant ≤ℤ b.instant →
       period_of first period a ≤ period_of first period b
   period_mono a b some begins later =
-      div_mono (elapsed first a) (elapsed first b) period some (grind (arith, ints))
+      div-le period (elapsed first a) (elapsed first b) some (grind (arith, ints))
 
   -- whether another row of a row's block is earlier
   abbrev pub is_before : Row → Row → Bool

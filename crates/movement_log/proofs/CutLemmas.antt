@@ -1,9 +1,11 @@
 -- What blocks, their values and the alphabet of these make together.
-use Rattle.std.proofs.Common.{◌≡◌, ℕ, suc, List, [], ◌∷◌, length, map, refl, sym, ◌∙◌, ap, arith}
-use Rattle.std.specs.Prelude.{All, sum_by}
+use Rattle.std.proofs.Common.{◌≡◌, ℕ, List, length, map, sym, ◌∙◌, ap}
+use Rattle.std.specs.Prelude.{sum_by}
 use Rattle.std.specs.List.{flat_map}
 use Rattle.std.proofs.lemmas.List.FromFn.{length-map-range_with_len}
+use Rattle.std.proofs.lemmas.Simd.{map-map}
 use Rattle.list_laws.proofs.FlatLemmas.{sum_by-map}
+use Rattle.list_laws.proofs.MapLemmas.{map_alike}
 use Rattle.list_laws.proofs.SumLemmas.{sum_by-agree}
 use Rattle.track_types.specs.Chart.{ChartView}
 use Rattle.track_types.specs.declared.row.Row.{Row}
@@ -12,17 +14,6 @@ use Rattle.movement_log.specs.Logs.{alphabet_of, ascending_of, block_anchors, he
 use Rattle.movement_log.specs.declared.blocks.Block.{Block}
 use Rattle.movement_log.specs.declared.head.Head.{Head}
 use Rattle.movement_log.specs.declared.raw_logs.RawLogs.{RawLogs}
-
--- what is made of what is made of each element, and what agrees on all elements
-map_twice : {X Y Z : Type 0} (g : Y → Z) (f : X → Y) (xs : List X) → map (λ x. g (f x)) xs ≡ map g (map f xs)
-map_twice g f [] = refl
-map_twice g f (x ∷ xs) = ap (λ ys. g (f x) ∷ ys) (map_twice g f xs)
-
-map_alike : {X Y : Type 0} (f g : X → Y) (xs : List X) → All (λ x. f x ≡ g x) xs → map f xs ≡ map g xs
-map_alike f g [] each = refl
-map_alike f g (x ∷ xs) each =
-    let first : f x ≡ g x = each 0 x (omega arith) in
-    ap (λ y. y ∷ map f xs) first ∙ ap (λ ys. g x ∷ ys) (map_alike f g xs (λ k d below. each (suc k) d (omega arith)))
 
 module _ (chart : ChartView) where
   -- the values of the logs of blocks
@@ -45,14 +36,14 @@ module _ (chart : ChartView) where
   values_are : (blocks : List Block) → AreBlocks chart (block_anchors chart) blocks → values_of_blocks blocks ≡ logged_values chart
   unfolding logged_values
   values_are blocks are =
-      map_twice (values_after chart) (anchor_in chart.rows) blocks ∙ ap (map (values_after chart)) are.anchors
+      sym (map-map (values_after chart) (anchor_in chart.rows) blocks) ∙ ap (map (values_after chart)) are.anchors
 
   heads_are : (blocks : List Block) → AreBlocks chart (block_anchors chart) blocks →
       map (λ block. block.head) blocks ≡ map (head_of chart) (block_anchors chart)
   heads_are blocks are =
       map_alike (λ block. block.head) (λ block. head_of chart (anchor_in chart.rows block)) blocks
       (λ k d below. (are.each k d below).head)
-      ∙ map_twice (head_of chart) (anchor_in chart.rows) blocks ∙ ap (map (head_of chart)) are.anchors
+      ∙ sym (map-map (head_of chart) (anchor_in chart.rows) blocks) ∙ ap (map (head_of chart)) are.anchors
 
   -- logs of these three parts
   abbrev pub logs_with : List ℕ → List Head → List (List ℕ) → RawLogs

@@ -8,6 +8,7 @@ use Rattle.std.proofs.lemmas.Int.{fold-int_max_bounds, fold-int_min_bounds, ints
 use Rattle.std.proofs.Math.ListN.{get_or-map}
 use Rattle.std.proofs.lemmas.List.{length-map, map-append, take_all}
 use Rattle.std.proofs.lemmas.List.FromFn.{length-map-range_with_len, map-range_with_len_more}
+use Rattle.list_laws.proofs.RangeLemmas.{range-parts}
 use Rattle.spiral_code.specs.Spiral.{ring_of}
 use Rattle.track_types.specs.Quantities.{extent_of, greatest, least, width_of}
 use Rattle.track_types.specs.Row.{IsAscending}
@@ -15,17 +16,6 @@ use Rattle.track_types.specs.declared.row.Row.{Row}
 use Rattle.movement_log.specs.Blocks.{is_in_log, no_row, row_at}
 use Rattle.movement_log.specs.Values.{move_value, value_at}
 use Rattle.movement_log.proofs.RowLemmas.{instant_rises, value_at-absent, value_at-present}
-
--- numbers from one on, in two parts
-range-parts : (a m n : ℕ) → range_with_len a (m + n) ≡ range_with_len a m ++ range_with_len (a + m) n
-range-parts a zero n =
-    let same : a + 0 ≡ a = omega arith in
-    let none : 0 + n ≡ n = omega arith in
-    rw (same, none) refl
-range-parts a (suc m) n =
-    let long : suc m + n ≡ suc (m + n) = omega arith in
-    let from : a + suc m ≡ (a + 1) + m = omega arith in
-    rw (long, from) (ap (λ ns. a ∷ ns) (range-parts (a + 1) m n))
 
 module _ (value : ℕ → ℕ) where
   zeros : (a n : ℕ) → ((k : ℕ) → a ≤ k → k < a + n → value k ≡ 0) → map value (range_with_len a n) ≡ replicate n 0

@@ -31,7 +31,7 @@ use Rattle.log_cursor.specs.Seek.{cell_among, is_stop_at}
 use Rattle.snapshots.specs.IndexCost.{position_cost, position_cost_in}
 use Rattle.snapshots.specs.Parts.{chart_in, end_in, first_in, period_in, row_of, stops_in}
 use Rattle.snapshots.specs.SoundParts.{IsValid}
-use Rattle.snapshots.proofs.GetterLemmas.{increasing-below}
+use Rattle.list_laws.proofs.IncreasingLemmas.{increasing-below}
 use Rattle.object_track.proofs.InstantLemmas.{rows_at-instant, rows_at-outside, stops_at-few}
 use Rattle.object_track.proofs.MetLemmas.{period_in-some}
 use Rattle.object_track.proofs.StopsLemmas.{All-stops_in, IsStopIn}

@@ -1,16 +1,16 @@
 -- What a look at all rows of an index's chart finds: it is in the blocks of the one object, and in those periods alone
 -- that have the instants.
 use Rattle.std.proofs.Common.{◌≡◌, ℕ, ◌<◌, ℤ, ◌≤ℤ◌, List, [], ◌∷◌, length, get_or, None, Some, Bool}
-use Rattle.std.proofs.Common.{map, filter, eqb, true, false, inl, inr, refl, ap, sym, ◌∙◌, arith}
+use Rattle.std.proofs.Common.{map, filter, eqb, true, false, inl, inr, refl, ap, subst, sym, ◌∙◌, arith}
 use Rattle.std.specs.Prelude.{slice_get, slice_index}
 use Rattle.std.specs.List.{flat_map, range_with_len}
 use Rattle.std.specs.Option.{option_map}
 use Rattle.std.proofs.lemmas.Bool.{cases_order, eq-eqb, eqb-true, ne_eqb}
 use Rattle.std.proofs.lemmas.Int.{ints}
 use Rattle.std.proofs.lemmas.List.{map-id}
-use Rattle.std.proofs.lemmas.List.Elements.{All-map, All-weaker, filter_agree}
+use Rattle.std.proofs.lemmas.List.Elements.{All-contains, filter_agree}
 use Rattle.std.proofs.lemmas.Simd.{map-map}
-use Rattle.list_laws.proofs.FilterLemmas.{filter-none}
+use Rattle.list_laws.proofs.MemberLemmas.{filter-none, member_of_map}
 use Rattle.list_laws.proofs.FlatLemmas.{filter-flat_map, flat_map_agree}
 use Rattle.list_laws.proofs.MapLemmas.{filter-map}
 use Rattle.list_laws.proofs.OrderedLemmas.{find-filter}
@@ -29,7 +29,7 @@ use Rattle.log_cursor.specs.Seek.{cell_among, is_stop_at}
 use Rattle.log_cursor.proofs.StopLemmas.{int_eq-apart}
 use Rattle.snapshots.specs.Parts.{chart_in, end_in, first_in, index_in, last_in, numbers_in, period_in, row_of, rows_in, stops_in}
 use Rattle.snapshots.specs.SoundParts.{IsValid}
-use Rattle.snapshots.proofs.GetterLemmas.{increasing-below}
+use Rattle.list_laws.proofs.IncreasingLemmas.{increasing-below}
 use Rattle.object_track.specs.Met.{IsMissed}
 use Rattle.object_track.proofs.MetLemmas.{period-apart, period-inside, period_in-none, period_in-some}
 use Rattle.object_track.proofs.StopsLemmas.{All-stops_in, IsStopIn}
@@ -59,9 +59,9 @@ module _ (parts : Parts) (valid : IsValid parts) where
   unfolding rows_in
   rows_in-none test object index other of =
       let stops : List Stop = flat_map (stops_in parts index) (numbers_in parts.frame) in
-      filter-none test (map (row_of (slice_index parts.objects index)) stops)
-      (All-map (λ row. test row ≡ false) (row_of (slice_index parts.objects index)) stops
-      (λ k d within. of (row_of (slice_index parts.objects index) (get_or stops k d)) other))
+      filter-none test (map (row_of (slice_index parts.objects index)) stops) (λ row among.
+      let from = member_of_map (row_of (slice_index parts.objects index)) stops row among in
+      subst (λ r. test r ≡ false) from.2 (of (row_of (slice_index parts.objects index) from.0) other))
 
   -- objects at two places differ
   objects-apart : (i j : ℕ) → i < length parts.objects → j < length parts.objects → (i ≡ j → ⊥)
@@ -116,9 +116,10 @@ module _ (parts : Parts) (valid : IsValid parts) where
       → filter test (stops_in parts index number) ≡ []
   stops-missed index number test within fails =
       filter-none test (stops_in parts index number)
-      (All-weaker (IsStopIn (first_in parts.frame number) (end_in parts.frame number)) (λ stop. test stop ≡ false)
-      (λ stop its. fails stop its.above its.below) (stops_in parts index number)
-      (All-stops_in parts valid index number within))
+      (λ stop among.
+      let its = All-contains (IsStopIn (first_in parts.frame number) (end_in parts.frame number))
+      (stops_in parts index number) stop (All-stops_in parts valid index number within) among in
+      fails stop its.above its.below)
 
   -- the stops of a period that a window misses
   pub in_window-missed : (index number : ℕ) (from to : ℤ) → number < periods_of parts.frame

@@ -19,7 +19,7 @@ use Rattle.track_types.specs.declared.parts.Parts.{Parts}
 use Rattle.track_types.specs.declared.stop.Stop.{Stop}
 use Rattle.snapshots.specs.Parts.{chart_in, end_in, first_in, index_in, numbers_in, row_of, rows_in, stops_in}
 use Rattle.snapshots.specs.SoundParts.{IsValid}
-use Rattle.snapshots.proofs.GetterLemmas.{increasing-below}
+use Rattle.list_laws.proofs.IncreasingLemmas.{increasing-below}
 use Rattle.object_track.proofs.MetLemmas.{period-before, period-inside}
 use Rattle.object_track.proofs.StopsLemmas.{All-stops_in, row_order-greater, row_order-later, stops_in-ascend, IsStopIn}
 

@@ -1,8 +1,8 @@
 -- The rows of a sample, run on numbers that were worked out by hand.
-use Rattle.std.proofs.Common.{◌≡◌, ℕ, pos, List, [], ◌∷◌, true, false, refl}
+use Rattle.std.proofs.Common.{◌≡◌, ℕ, pos, [], ◌∷◌, refl}
 use Rattle.track_types.specs.declared.raw_row.RawRow.{RawRow}
 use Rattle.sample_rows.specs.declared.spot.Spot.{Spot}
-use Rattle.sample_rows.specs.Sample.{drawn, is_absent, next_state, object_rows, rows_at, sample_rows, shifted, spot_after}
+use Rattle.sample_rows.specs.Sample.{next_state, object_rows, rows_at, sample_rows, shifted, spot_after}
 use Rattle.sample_rows.specs.Sample.{spot_at, state_after, value_of}
 
 -- a row

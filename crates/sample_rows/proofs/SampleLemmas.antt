@@ -1,34 +1,17 @@
 -- Laws of a sample's rows: how one instant follows another, object by object.
-use Rattle.std.proofs.Common.{◌≡◌, ◌≢◌, ℕ, zero, suc, ◌+◌, ◌*◌, ◌<◌, ◌≤◌, List, [], ◌∷◌, ◌++◌, length, map, get_or, set, All}
-use Rattle.std.proofs.Common.{Bool, true, false, if◌then◌else◌, refl, ap, sym, ◌∙◌, inl, inr, arith}
+use Rattle.std.proofs.Common.{◌≡◌, ◌≢◌, ℕ, zero, suc, ◌+◌, ◌*◌, ◌<◌, ◌≤◌, List, [], ◌∷◌, ◌++◌, length, map, get_or, set}
+use Rattle.std.proofs.Common.{if◌then◌else◌, refl, ap, sym, ◌∙◌, inl, inr, arith}
 use Rattle.std.specs.List.{flat_map, range_with_len}
 use Rattle.std.proofs.lemmas.Bool.{cases_Bool, cases_lt}
 use Rattle.std.proofs.lemmas.List.{append-nil, append_assoc, get_or-set_same, get_or-set_other, length-set}
 use Rattle.std.proofs.lemmas.List.FromFn.{get_or-map-range_with_len, length-map-range_with_len, length-range_with_len}
 use Rattle.list_laws.proofs.LengthLemmas.{length-flat_map-within}
+use Rattle.list_laws.proofs.RangeLemmas.{flat_map-range_next}
 use Rattle.track_types.specs.declared.raw_row.RawRow.{RawRow}
 use Rattle.sample_rows.specs.declared.spot.Spot.{Spot}
 use Rattle.sample_rows.specs.Reached.{IsReached}
 use Rattle.sample_rows.specs.Sample.{drawn, first_spot, is_absent, next_state, object_rows, row_of, rows_at, sample_rows}
 use Rattle.sample_rows.specs.Sample.{spot_after, spot_at, state_after, value_of}
-
--- the lists of a range of numbers, and that of the number behind it
-flat_map-range_more : {A : Type 0} (f : ℕ → List A) (from n : ℕ)
-    → flat_map f (range_with_len from (n + 1)) ≡ flat_map f (range_with_len from n) ++ f (from + n)
-flat_map-range_more f from zero =
-    let same : from + 0 ≡ from = omega arith in rw (same, append-nil (f from)) refl
-flat_map-range_more f from (suc n) =
-    let same : from + 1 + n ≡ from + suc n = omega arith in
-    let more : suc n + 1 ≡ suc (n + 1) = omega arith in
-    rw more (ap (λ ys. f from ++ ys) (flat_map-range_more f (from + 1) n)
-    ∙ ap (λ k. f from ++ (flat_map f (range_with_len (from + 1) n) ++ f k)) same
-    ∙ sym (append_assoc (f from) (flat_map f (range_with_len (from + 1) n)) (f (from + suc n))))
-
-pub flat_map-range_next : {A : Type 0} (f : ℕ → List A) (n : ℕ)
-    → flat_map f (range_with_len 0 (n + 1)) ≡ flat_map f (range_with_len 0 n) ++ f n
-flat_map-range_next f n =
-    let same : 0 + n ≡ n = omega arith in
-    flat_map-range_more f 0 n ∙ ap (λ k. flat_map f (range_with_len 0 n) ++ f k) same
 
 -- the row of an object at the first instant
 abbrev pub first_row : ℕ → RawRow

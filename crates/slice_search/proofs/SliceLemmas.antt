@@ -38,7 +38,7 @@ use Rattle.snapshots.specs.Speed.{gap, width_at, IsReached, IsWithinReach}
 use Rattle.snapshots.specs.View.{SnapshotView, all_blocks, block_of}
 use Rattle.snapshots.specs.declared.anchored.Anchored.{Anchored}
 use Rattle.snapshots.proofs.BlockFactsLemmas.{All-all_blocks}
-use Rattle.snapshots.proofs.GetterLemmas.{increasing-below}
+use Rattle.list_laws.proofs.IncreasingLemmas.{increasing-below}
 use Rattle.snapshots.proofs.ReachLemmas.{IsSnapshot-valid}
 use Rattle.object_track.proofs.BlockLemmas.{block-known, IsPlaced-block}
 use Rattle.object_track.proofs.InstantLemmas.{rows_at-outside}

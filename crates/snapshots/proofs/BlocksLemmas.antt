@@ -3,6 +3,7 @@ use Rattle.std.proofs.Common.{◌≡◌, ℕ, ◌+◌, ◌<◌, true, false, Lis
 use Rattle.std.proofs.Common.{map, filter, refl, sym, ap, ◌∙◌, arith}
 use Rattle.std.specs.List.{range_with_len}
 use Rattle.std.specs.Prelude.{◌==◌, Some, slice_index, slice_index_or}
+use Rattle.std.specs.Cmp.{both_ways}
 use Rattle.std.proofs.lemmas.Bool.{and_from, and_parts, eq-eqb, eqb-true}
 use Rattle.std.proofs.lemmas.List.{map-id}
 use Rattle.std.proofs.lemmas.Option.{get_or_from_slice_get, slice_get-get_or, slice_get_within}
@@ -20,7 +21,7 @@ use Rattle.snapshots.specs.View.{place_in, places_from, present_block, rank_in}
 use Rattle.snapshots.specs.Objects.{blocks_of, objects_of}
 use Rattle.snapshots.specs.Sound.{IsSnapshot}
 use Rattle.snapshots.proofs.BlockLemmas.{block_found, rank_within}
-use Rattle.snapshots.proofs.ChosenLemmas.{in-from_made, made_same, same_tests, IsMade-from_in, Rises-made}
+use Rattle.snapshots.proofs.ChosenLemmas.{in-from_made, made_same, IsMade-from_in, Rises-made}
 
 -- the object at a place in leaf order
 abbrev pub index_at : SnapshotView → ℕ → ℕ
@@ -117,7 +118,7 @@ indices_in-by_object view leaf is =
     same_from_rising 0 (indices_in view leaf) (map (λ index. index) kept) (Rises-indices_in view leaf is)
     (Rises-made (λ index. index) (is_at view leaf) 0 view.objects 0 (λ p from to passes. omega arith)
     (λ p q less to p_passes q_passes. less))
-    (λ c. same_tests (is_in (indices_in view leaf) c) (is_in (map (λ index. index) kept) c) (to c) (from c))
+    (λ c. both_ways (is_in (indices_in view leaf) c) (is_in (map (λ index. index) kept) c) (to c) (from c))
     ∙ map-id kept
   where
     kept : List ℕ

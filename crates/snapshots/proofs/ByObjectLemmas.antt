@@ -9,6 +9,7 @@ use Rattle.std.proofs.lemmas.List.Sums.{sum_by-cons}
 use Rattle.std.proofs.lemmas.List.Elements.{All-tail}
 use Rattle.std.proofs.lemmas.Option.{none-some, same_Some, slice_get_within}
 use Rattle.std.proofs.lemmas.List.FromFn.{get_or-map-range_with_len, length-map-range_with_len}
+use Rattle.list_laws.proofs.SumLemmas.{sum_by-range_some}
 use Rattle.list_laws.proofs.FilterLemmas.{filter-all}
 use Rattle.list_laws.proofs.OptionLemmas.{made_cases}
 use Rattle.list_laws.proofs.SumLemmas.{made_weight, sum_by-filter_map}
@@ -55,20 +56,6 @@ length-weighed xs ys same = sym (ones xs) ∙ same (λ _. 1) ∙ ones ys
     ones [] = refl
     ones (z ∷ zs) = omega (arith, ones zs, sum_by-cons (λ _. 1) z zs)
 
--- a number of a range counts in a sum over it
-sum_by-range-some : (f : ℕ → ℕ) (from n place : ℕ) → from ≤ place → place < from + n
-    → f place ≤ sum_by f (range_with_len from n)
-sum_by-range-some f from zero place low high = absurd (omega arith)
-sum_by-range-some f from (suc n) place low high = elim (cases_Bool (eqb from place)) [
-  | inl here ↦
-      let same : from ≡ place = grind (arith, nat_tests) in
-      omega (arith, sum_by-cons f from (range_with_len (from + 1) n), ap f same)
-  | inr other ↦
-      let apart : from < place = grind (arith, nat_tests) in
-      let rest = sum_by-range-some f (from + 1) n place (omega arith) (omega arith) in
-      omega (arith, sum_by-cons f from (range_with_len (from + 1) n), rest)
-]
-
 -- a block of the period counts once at least
 present-counts : (view : SnapshotView) (index : ℕ) (block : Anchored) → index < view.objects
     → block_of view index ≡ Some block → block.index ≡ index → 0 < sum_by (counts index) (all_blocks view)
@@ -78,7 +65,7 @@ present-counts view index block within has its =
     let here : made index ≡ 1 =
     ap (made_weight (counts index)) has ∙ ap (λ i. if eqb i index then 1 else 0) its
     ∙ (let yes : eqb index index ≡ true = grind (arith, nat_tests) in rw yes refl) in
-    let some = sum_by-range-some made 0 view.objects index (omega arith) (omega arith) in
+    let some = sum_by-range_some made 0 view.objects index (omega arith) (omega arith) in
     let all = sum_by-filter_map (counts index) (block_of view) (range_with_len 0 view.objects) in
     omega (arith, here, some, all)
 

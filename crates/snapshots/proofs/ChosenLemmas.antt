@@ -103,9 +103,3 @@ in-from_made k test first (suc count) place from to passes = elim (cases_order f
     or_right : (b : Bool) {r : Bool} → r ≡ true → (b || r) ≡ true
     or_right true e = refl
     or_right false e = e
-
--- tests that pass together are one
-pub same_tests : (a b : Bool) → (a ≡ true → b ≡ true) → (b ≡ true → a ≡ true) → a ≡ b
-same_tests true b to from = sym (to refl)
-same_tests false true to from = from refl
-same_tests false false to from = refl

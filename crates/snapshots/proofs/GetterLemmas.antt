@@ -10,6 +10,7 @@ use Rattle.std.proofs.lemmas.Int.{ints}
 use Rattle.std.proofs.lemmas.List.FromFn.{get_or-map-range_with_len}
 use Rattle.std.proofs.lemmas.List.Sorted.{searched}
 use Rattle.list_laws.proofs.FindLemmas.{find_in_range-first, find_in_range-none}
+use Rattle.list_laws.proofs.IncreasingLemmas.{increasing-at_most, increasing-below}
 use Rattle.track_types.specs.Region.{is_between}
 use Rattle.track_types.specs.Frame.{periods_of}
 use Rattle.track_types.specs.declared.frame.Frame.{Frame}
@@ -19,31 +20,6 @@ use Rattle.snapshots.specs.Parts.{index_in, last_in, numbers_in, period_in, snap
 use Rattle.snapshots.specs.Speed.{speed_of}
 use Rattle.snapshots.specs.Stores.{snapshots_in}
 use Rattle.snapshots.specs.View.{SnapshotView}
-
--- of ascending numbers each is less than a later one
-increasing-less : (xs : List ℕ) → IsStrictlyIncreasing xs → (i gap : ℕ) → i + suc gap < length xs
-    → get_or xs i 0 < get_or xs (i + suc gap) 0
-increasing-less xs rising i zero within = rising i within
-increasing-less xs rising i (suc gap) within =
-    let before = increasing-less xs rising i gap (omega arith) in
-    let next = rising (i + suc gap) (omega arith) in
-    let same : i + suc gap + 1 ≡ i + suc (suc gap) = omega arith in
-    omega (arith, before, next, ap (λ k. get_or xs k 0) same)
-
--- of ascending numbers the later one is the greater
-pub increasing-below : (xs : List ℕ) → IsStrictlyIncreasing xs → (i j : ℕ) → i < j → j < length xs
-    → get_or xs i 0 < get_or xs j 0
-increasing-below xs rising i j less within =
-    let same : i + suc (j - i - 1) ≡ j = omega arith in
-    let below = increasing-less xs rising i (j - i - 1) (omega (arith, same)) in
-    omega (arith, below, ap (λ k. get_or xs k 0) same)
-
-increasing-at_most : (xs : List ℕ) → IsStrictlyIncreasing xs → (i j : ℕ) → i ≤ j → j < length xs
-    → get_or xs i 0 ≤ get_or xs j 0
-increasing-at_most xs rising i j most within = elim (cases_lt i j) [
-  | inl less ↦ let below = increasing-below xs rising i j less within in omega arith
-  | inr same ↦ let is : i ≡ j = omega arith in omega (arith, ap (λ k. get_or xs k 0) is)
-]
 
 -- two numbers that differ
 apart : (a b : ℕ) → a < b → eqb a b ≡ false

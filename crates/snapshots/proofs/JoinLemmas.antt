@@ -8,6 +8,7 @@ use Rattle.std.proofs.lemmas.List.Sums.{sum_by-cons, sum_by_more, sum_by_more_le
 use Rattle.std.proofs.lemmas.List.FromFn.{length-map-range_with_len, map-range_with_len_more}
 use Rattle.std.proofs.lemmas.List.FromFn.{sum_by-map-range_with_len_more}
 use Rattle.list_laws.proofs.FirstLemmas.{first_of_range-at, first_of_range-none}
+use Rattle.list_laws.proofs.SumLemmas.{sum_by-range_next}
 use Rattle.track_types.specs.Frame.{periods_of}
 use Rattle.track_types.specs.declared.parts.Parts.{Parts}
 use Rattle.rule_store.specs.View.{RulesView}
@@ -115,27 +116,6 @@ module _ (parts : Parts) (rules : RulesView) (snaps : List SnapshotView) (of : A
     unfolding open_cost
     reads-within = omega (arith, is.reads, of.total)
 
--- the first terms of a sum over numbers, and the next one, are within the whole sum
-from-zero : (from : ℕ) → from + 0 ≡ from
-from-zero from = omega arith
-
-from-suc : (from n : ℕ) → from + suc n ≡ from + 1 + n
-from-suc from n = omega arith
-
-sum_by-range-part : (f : ℕ → ℕ) (from n m : ℕ) → n < m
-    → sum_by f (range_with_len from n) + f (from + n) ≤ sum_by f (range_with_len from m)
-sum_by-range-part f from n zero less = absurd (omega arith)
-sum_by-range-part f from zero (suc m) less =
-    omega (arith, sum_by-cons f from (range_with_len (from + 1) m), ap f (from-zero from))
-sum_by-range-part f from (suc n) (suc m) less =
-    omega (
-      arith,
-      sum_by-cons f from (range_with_len (from + 1) n),
-      sum_by-cons f from (range_with_len (from + 1) m),
-      sum_by-range-part f (from + 1) n m (omega arith),
-      ap f (from-suc from n),
-    )
-
 -- the reads so far are within the cost of opening
 pub reads-so_far : (parts : Parts) (rules : RulesView) (snaps : List SnapshotView) → AreOf parts rules snaps
     → (number before steps after : ℕ) → IsJoining parts number before steps → number < periods_of parts.frame
@@ -144,7 +124,7 @@ pub reads-so_far : (parts : Parts) (rules : RulesView) (snaps : List SnapshotVie
 unfolding open_cost
 reads-so_far parts rules snaps of number before steps after is within reads =
     let here = start_in-within parts rules snaps of number within in
-    let some = sum_by-range-part (λ n. blocks_reads (snapshot_in parts n)) 0 number (periods_of parts.frame)
+    let some = sum_by-range_next (λ n. blocks_reads (snapshot_in parts n)) 0 number (periods_of parts.frame)
     (omega arith) in
     let same : 0 + number ≡ number = omega arith in
     let one = ap (λ n. blocks_reads (snapshot_in parts n)) same in

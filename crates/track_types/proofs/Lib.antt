@@ -1,6 +1,5 @@
 pub mod Magnitudes
 pub mod QuantityLemmas
-pub mod AscendingLemmas
 pub mod RowLemmas
 pub mod RegionLemmas
 pub mod BoxLemmas

@@ -15,7 +15,7 @@ use Rattle.std.proofs.lemmas.Map.Keys.{Less-from_sorted}
 use Rattle.track_types.specs.ByFilter.{cell_at}
 use Rattle.track_types.specs.Row.{IsAscending, is_row_of, is_same_place, place_of, place_order, row_order}
 use Rattle.track_types.specs.declared.row.Row.{Row}
-use Rattle.track_types.proofs.AscendingLemmas.{find-agree, find-member, find-none}
+use Rattle.list_laws.proofs.AscendingLemmas.{find-agree, find-member, find-none}
 
 pub place_order_total : IsTotalOrder place_order
 place_order_total = then_total (on_total (λ place. place.0) nat_cmp_total) (on_total (λ place. place.1) int_cmp_total)

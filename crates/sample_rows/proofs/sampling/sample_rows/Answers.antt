@@ -1,7 +1,7 @@
-use Rattle.std.proofs.Common.{◌≡◌, ◌+◌, ◌∙◌, List, [], ◌++◌, length, drop, take, sym, ap, refl, subst, arith}
+use Rattle.std.proofs.Common.{◌≡◌, ◌∙◌, List, ◌++◌, length, drop, take, sym, ap, refl, subst, arith}
 use Rattle.std.proofs.Math.Seq.{take-append_seam}
 use Rattle.sample_rows.specs.Reached.{IsReached}
-use Rattle.sample_rows.specs.Sample.{rows_at, sample_rows}
+use Rattle.sample_rows.specs.Sample.{sample_rows}
 use Rattle.sample_rows.specs.declared.spot.Spot.{Spot}
 use Rattle.sample_rows.proofs.SampleLemmas.{sample_rows-few, sample_rows-more, sample_rows-one, sample_rows-some}
 use Rattle.sample_rows.proofs.sampling.sample_rows.Goals as goal

@@ -1,4 +1,4 @@
-use Rattle.std.proofs.Common.{◌≡◌, ap, pos, w64, ◌+◌, ◌*◌, ◌^◌, ◌<◌, ◌≤◌, ◌∙◌, get_or, length, refl, sym, true, arith, rules}
+use Rattle.std.proofs.Common.{◌≡◌, ap, pos, w64, ◌^◌, ◌<◌, ◌∙◌, get_or, refl, sym, true, arith}
 use Rattle.std.proofs.lemmas.Int.{to_z_pos}
 use Rattle.std.proofs.lemmas.List.{take_all}
 use Rattle.std.proofs.lemmas.List.Folds.{list_all_more}
