@@ -1,5 +1,5 @@
 -- The definitions, run on a worked block.
-use Rattle.std.proofs.Common.{◌≡◌, ℕ, ℤ, pos, List, [], ◌∷◌, Some, None, refl}
+use Rattle.std.proofs.Common.{◌≡◌, ℕ, pos, List, [], ◌∷◌, Some, None, refl}
 use Rattle.track_types.specs.declared.region.Region.{Region}
 use Rattle.track_types.specs.declared.region.Region.TheVariants.{Disc, Rect}
 use Rattle.rule_store.specs.View.{RulesView, rules_with}

@@ -8,7 +8,7 @@ use Rattle.rule_store.specs.Expansion.{depth_in, depth_of, depths, expansion_of,
 use Rattle.rule_store.specs.Flaws.{AreRules, left_of, right_of}
 use Rattle.rule_store.specs.Log.{log_values, stops_after}
 use Rattle.rule_store.specs.Nodes.{Node, nodes_in, opened_count, parsed}
-use Rattle.rule_store.proofs.ExpansionLemmas.{depth_of-rule, expansion_of-rule, values_of-rule, length-depths}
+use Rattle.rule_store.proofs.ExpansionLemmas.{depth_of-rule, expansion_of-rule, values_of-rule}
 use Rattle.rule_store.proofs.FlawLemmas.{no_flaws, rule-sound}
 use Rattle.rule_store.proofs.LogLemmas.{stops_after-rule}
 use Rattle.rule_store.proofs.NodeLemmas.{nodes_in-rule, opened_count-opened, opens, parsed-terminals}

@@ -1,13 +1,11 @@
 -- The stops of symbols, and which of them pass a test for the instant.
-use Rattle.std.proofs.Common.{◌≡◌, ℕ, zero, suc, ◌+◌, ◌<◌, ℤ, pos, ◌+ℤ◌, ◌≤ℤ◌, ◌<ℤ◌, Bool, true, false, List, [], ◌∷◌, ◌++◌, length, filter, Option, Some, None, refl, ap, sym, ◌∙◌, arith, inl, inr}
+use Rattle.std.proofs.Common.{◌≡◌, ℕ, zero, suc, ◌<◌, ℤ, pos, ◌+ℤ◌, ◌≤ℤ◌, ◌<ℤ◌, Bool, true, false, List, [], ◌∷◌, ◌++◌, length, filter, Option, Some, None, refl, ap, sym, ◌∙◌, arith, inl, inr}
 use Rattle.std.specs.Option.{is_some}
 use Rattle.std.specs.Ordering.{int_eq}
-use Rattle.std.specs.Prelude.{find, slice_get}
 use Rattle.std.proofs.lemmas.Int.{ints}
 use Rattle.std.proofs.lemmas.Bool.{cases_Bool}
 use Rattle.std.proofs.lemmas.Bool.Decides.{Decides-int_eq}
 use Rattle.std.proofs.lemmas.List.Elements.{filter-append}
-use Rattle.list_laws.proofs.OrderedLemmas.{find-filter}
 use Rattle.track_types.specs.Region.{is_between}
 use Rattle.track_types.specs.declared.cell.Cell.{Cell}
 use Rattle.track_types.specs.declared.stop.Stop.{Stop}
@@ -16,12 +14,11 @@ use Rattle.rule_store.specs.Expansion.{values_of}
 use Rattle.rule_store.specs.Cells.{cells_along, displacement_of, moved, present_in}
 use Rattle.rule_store.specs.Boxes.{bounding_box_of, box_round, origin}
 use Rattle.rule_store.specs.Entry.{duration_of}
-use Rattle.rule_store.specs.Log.{log_values, stop_at, stops_after, stops_from}
+use Rattle.rule_store.specs.Log.{stop_at, stops_after, stops_from}
 use Rattle.rule_store.proofs.BoxLemmas.{box_round-none}
 use Rattle.rule_store.proofs.CellLemmas.{length-cells_along, same_cell}
 use Rattle.rule_store.proofs.ExpansionLemmas.{length-values_of, values_of-terminal}
 use Rattle.rule_store.proofs.LogLemmas.{stops_after-cons}
-use Rattle.log_cursor.specs.Seek.{cell_among, is_stop_at}
 
 -- from an instant on there are so many stops' instants
 abbrev IsFalseFrom : (Stop → Bool) → ℤ → ℕ → Type 0

@@ -1,5 +1,5 @@
 -- One turn of a walk over a window: a symbol is passed over, is opened, or has the next stop.
-use Rattle.std.proofs.Common.{◌≡◌, ℕ, suc, ◌+◌, ◌<◌, ◌≤◌, ℤ, pos, ◌+ℤ◌, ◌≤ℤ◌, ◌<ℤ◌, Bool, true, false, List, [], ◌∷◌, ◌++◌, length, filter, Option, Some, None, refl, ap, sym, subst, ◌∙◌, arith, ◌*◌, inl, inr}
+use Rattle.std.proofs.Common.{◌≡◌, ℕ, suc, ◌+◌, ◌<◌, ◌≤◌, ℤ, pos, ◌+ℤ◌, ◌≤ℤ◌, ◌<ℤ◌, Bool, true, false, List, [], ◌∷◌, ◌++◌, length, filter, Option, Some, None, refl, ap, sym, subst, ◌∙◌, arith}
 use Rattle.std.specs.Option.{is_some, option_to_list}
 use Rattle.track_types.specs.declared.cell_box.CellBox.{CellBox}
 use Rattle.std.specs.Int.Signed.{le_z}
@@ -14,7 +14,7 @@ use Rattle.track_types.proofs.RegionLemmas.{is_between-from}
 use Rattle.track_types.proofs.RegionLemmas.{le_z-from}
 use Rattle.rule_store.specs.View.{RulesView, symbols_in}
 use Rattle.rule_store.specs.Expansion.{expansion_of, values_of}
-use Rattle.rule_store.specs.Cells.{cells_along, displacement_of, moved}
+use Rattle.rule_store.specs.Cells.{cells_along}
 use Rattle.rule_store.specs.Boxes.{bounding_box_of}
 use Rattle.rule_store.specs.Cost.{parts_reads}
 use Rattle.rule_store.specs.Entry.{duration_of, entry_of}
@@ -24,7 +24,7 @@ use Rattle.rule_store.specs.Log.{block_stops, in_window, log_values, stop_at, st
 use Rattle.rule_store.specs.Nodes.{block_budget, opened_count}
 use Rattle.rule_store.proofs.ExpansionLemmas.{length-values_of}
 use Rattle.rule_store.proofs.LogLemmas.{stops_after-none}
-use Rattle.rule_store.proofs.NodeLemmas.{opened_count-cons, opened_count-none, opens}
+use Rattle.rule_store.proofs.NodeLemmas.{opened_count-cons, opened_count-none}
 use Rattle.log_cursor.specs.Pending.{IsTaken, PendingView}
 use Rattle.log_cursor.specs.Start.{IsStart, IsWayOf, start_after, start_past}
 use Rattle.log_cursor.specs.Walk.{IsWalking, WalkView, at_rest, begun, opened_left, stops_left, turns_of, walk_of}

@@ -1,5 +1,5 @@
 -- Ways: values that are walked without leaving the numbers, in two parts, of a rule, and of a block that is placed.
-use Rattle.std.proofs.Common.{◌≡◌, ℕ, zero, suc, ◌+◌, ◌-◌, ◌*◌, ◌^◌, drop, ◌<◌, ◌≤◌, ℤ, pos, ◌+ℤ◌, ◌≤ℤ◌, List, [], ◌∷◌, ◌++◌, length, Some, None, map, refl, ap, sym, subst, ◌∙◌, arith, All, inl, inr}
+use Rattle.std.proofs.Common.{◌≡◌, ℕ, zero, suc, ◌+◌, ◌-◌, ◌*◌, ◌^◌, drop, ◌<◌, ◌≤◌, ℤ, ◌≤ℤ◌, List, [], ◌∷◌, ◌++◌, length, Some, None, map, refl, ap, sym, subst, ◌∙◌, arith, All, inl, inr}
 use Rattle.std.specs.Prelude.{Option, fold, get_or}
 use Rattle.std.specs.Int.{int_max, int_min}
 use Rattle.std.specs.List.{range_with_len}
@@ -15,7 +15,7 @@ use Rattle.spiral_code.specs.Spiral.{move_of}
 use Rattle.list_laws.specs.Grown.{grown}
 use Rattle.list_laws.proofs.FrontLemmas.{All-front}
 use Rattle.list_laws.proofs.GrownLemmas.{length-grown}
-use Rattle.track_types.specs.Near.{IsAsked, IsCellAsked}
+use Rattle.track_types.specs.Near.{IsCellAsked}
 use Rattle.track_types.specs.declared.cell.Cell.{Cell}
 use Rattle.track_types.specs.declared.cell_box.CellBox.{CellBox}
 use Rattle.rule_store.specs.View.{RulesView, symbols_in}
@@ -31,7 +31,7 @@ use Rattle.rule_store.proofs.BoxLemmas.{box_round-bounds}
 use Rattle.rule_store.proofs.CellLemmas.{cells_along-append, moved-moved, moved-none, present-moved, same_cell}
 use Rattle.rule_store.proofs.ExpansionLemmas.{length-values_of}
 use Rattle.rule_store.proofs.FlawLemmas.{near_entry, no_flaws, rule-sound}
-use Rattle.log_cursor.specs.Start.{AreHullsAsked, IsBoxAsked, IsHullAsked, IsPlaced, IsStart, IsWay, IsWayOf, start_after, start_at, start_past}
+use Rattle.log_cursor.specs.Start.{AreHullsAsked, IsHullAsked, IsPlaced, IsStart, IsWay, IsWayOf, start_after, start_at, start_past}
 use Rattle.log_cursor.specs.declared.start.Start.{Start}
 use Rattle.log_cursor.proofs.RuleLemmas.{log_values-parts}
 use Rattle.log_cursor.proofs.StopLemmas.{duration_of-terminal}

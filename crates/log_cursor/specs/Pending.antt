@@ -1,5 +1,5 @@
 -- Symbols that are still to be walked over, the next one first.
-use Rattle.std.specs.Prelude.{◌≡◌, ℕ, ◌+◌, ◌<◌, ◌≤◌, List, [], ◌∷◌, ◌++◌, length, drop, reverse, slice_index}
+use Rattle.std.specs.Prelude.{◌≡◌, ℕ, ◌+◌, ◌<◌, ◌≤◌, List, ◌∷◌, ◌++◌, length, drop, reverse, slice_index}
 use Rattle.rule_store.specs.View.{RulesView, symbols_in}
 use Rattle.rule_store.specs.Expansion.{depth_in, depth_of}
 use Rattle.rule_store.specs.Entry.{entry_of}

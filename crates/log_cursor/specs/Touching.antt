@@ -1,5 +1,5 @@
 -- What a search for the first stop in a region finds, and how many rules it opens.
-use Rattle.std.specs.Prelude.{◌≡◌, ℕ, ◌+◌, ◌*◌, ◌≤◌, ℤ, ◌+ℤ◌, Bool, false, ◌&&◌, List, length, map, filter, find, slice_index, Option, Some, None}
+use Rattle.std.specs.Prelude.{◌≡◌, ℕ, ◌+◌, ◌*◌, ◌≤◌, ℤ, Bool, false, ◌&&◌, List, length, map, filter, find, slice_index, Option, Some, None}
 use Rattle.track_types.specs.Region.{in_region, intersects_region}
 use Rattle.track_types.specs.declared.cell.Cell.{Cell}
 use Rattle.track_types.specs.declared.cell_box.CellBox.{CellBox}

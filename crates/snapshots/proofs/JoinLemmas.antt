@@ -117,7 +117,7 @@ module _ (parts : Parts) (rules : RulesView) (snaps : List SnapshotView) (of : A
     reads-within = omega (arith, is.reads, of.total)
 
 -- the reads so far are within the cost of opening
-pub reads-so_far : (parts : Parts) (rules : RulesView) (snaps : List SnapshotView) → AreOf parts rules snaps
+reads-so_far : (parts : Parts) (rules : RulesView) (snaps : List SnapshotView) → AreOf parts rules snaps
     → (number before steps after : ℕ) → IsJoining parts number before steps → number < periods_of parts.frame
     → after ≤ steps + (blocks_reads (snapshot_in parts number) + sum (snapshot_in parts number).parts.lengths)
     → after ≤ before + open_cost parts
@@ -130,28 +130,66 @@ reads-so_far parts rules snaps of number before steps after is within reads =
     let one = ap (λ n. blocks_reads (snapshot_in parts n)) same in
     omega (arith, is.reads, reads, here, some, one)
 
--- the snapshot that is read of the list
-pub read-item : (parts : Parts) (rules : RulesView) (snaps items : List SnapshotView) (number : ℕ)
+-- a turn: the snapshot of a period is read of the list
+pub record IsTurn (parts : Parts) (rules : RulesView) (snaps : List SnapshotView) (number : ℕ) (item : SnapshotView)
+    : Type 0 where
+  pub of : AreOf parts rules snaps
+  pub within : number < periods_of parts.frame
+  pub item_is : item ≡ snapshot_in parts number
+
+pub IsTurn-read : (parts : Parts) (rules : RulesView) (snaps items : List SnapshotView) (number : ℕ)
     (item : SnapshotView) → AreOf parts rules snaps → items ≡ snaps → number < length items
-    → item ≡ get_or items number item → item ≡ snapshot_in parts number
-read-item parts rules snaps items number item of same within read =
-    read ∙ ap (λ (xs : List SnapshotView). get_or xs number item) same
-    ∙ snapshot-read parts rules snaps of number item (omega (arith, ap length same))
+    → item ≡ get_or items number item → IsTurn parts rules snaps number item
+IsTurn-read parts rules snaps items number item of same here read = record {
+  of = of;
+  within = omega (arith, here, ap length same, length-snaps parts rules snaps of);
+  item_is = read ∙ ap (λ (xs : List SnapshotView). get_or xs number item) same
+      ∙ snapshot-read parts rules snaps of number item (omega (arith, ap length same));
+}
 
--- the flaw of its blocks is that of the period
-pub blocks_flaw-item : (parts : Parts) (rules : RulesView) (snaps : List SnapshotView) (number : ℕ)
-    (item : SnapshotView) → AreOf parts rules snaps → item ≡ snapshot_in parts number
-    → blocks_flaw rules item ≡ join_flaw parts number
-blocks_flaw-item parts rules snaps number item of same =
-    ap (λ r. blocks_flaw r item) of.rules_are ∙ ap (blocks_flaw (rules_in parts)) same
+module _ (parts : Parts) (rules : RulesView) (snaps : List SnapshotView) (number : ℕ) (item : SnapshotView)
+    (turn : IsTurn parts rules snaps number item) where
+  -- its logs end within the symbols
+  pub turn-symbols : item.start + sum item.parts.lengths ≤ length parts.symbols
+  turn-symbols =
+      subst (λ (view : SnapshotView). view.start + sum view.parts.lengths ≤ length parts.symbols) (sym turn.item_is)
+      (start_in-within parts rules snaps turn.of number turn.within)
 
--- and the speed of its blocks is one more of the periods' speeds
-pub speeds-more : (parts : Parts) (rules : RulesView) (snaps : List SnapshotView) (number : ℕ)
-    (item : SnapshotView) (speeds : List ℕ) (speed : ℕ) → AreOf parts rules snaps → item ≡ snapshot_in parts number
-    → speeds ≡ map (speed_of parts) (range_with_len 0 number) → speed ≡ blocks_speed rules item
-    → speeds ++ speed ∷ [] ≡ map (speed_of parts) (range_with_len 0 (number + 1))
-speeds-more parts rules snaps number item speeds speed of same so_far found =
-    let here : speed ≡ speed_of parts number =
-    found ∙ ap (λ r. blocks_speed r item) of.rules_are ∙ ap (blocks_speed (rules_in parts)) same in
-    ap (λ xs. xs ++ speed ∷ []) so_far ∙ ap (λ n. map (speed_of parts) (range_with_len 0 number) ++ n ∷ []) here
-    ∙ sym (map-range_with_len_more (speed_of parts) 0 number number (omega arith))
+  -- the flaw of its blocks is that of the period
+  turn-flaw_is : blocks_flaw rules item ≡ join_flaw parts number
+  turn-flaw_is =
+      ap (λ r. blocks_flaw r item) turn.of.rules_are ∙ ap (blocks_flaw (rules_in parts)) turn.item_is
+
+  -- and the speed of its blocks is one more of the periods' speeds
+  pub turn-speeds : (speeds : List ℕ) (speed : ℕ) → speeds ≡ map (speed_of parts) (range_with_len 0 number)
+      → speed ≡ blocks_speed rules item
+      → speeds ++ speed ∷ [] ≡ map (speed_of parts) (range_with_len 0 (number + 1))
+  turn-speeds speeds speed so_far found =
+      let here : speed ≡ speed_of parts number =
+      found ∙ ap (λ r. blocks_speed r item) turn.of.rules_are ∙ ap (blocks_speed (rules_in parts)) turn.item_is in
+      ap (λ xs. xs ++ speed ∷ []) so_far ∙ ap (λ n. map (speed_of parts) (range_with_len 0 number) ++ n ∷ []) here
+      ∙ sym (map-range_with_len_more (speed_of parts) 0 number number (omega arith))
+
+  module _ (before steps : ℕ) (is : IsJoining parts number before steps) where
+    -- its flaw is the first
+    pub turn-flaw : (found : SnapFault) → IsFaultFor (blocks_flaw rules item) found
+        → IsFaultFor (logs_flaw parts) found
+    turn-flaw found fault =
+        logs_flaw-at parts rules snaps turn.of number before steps found is turn.within
+        (subst (λ first. IsFaultFor first found) turn-flaw_is fault)
+
+    module _ (after : ℕ) (reads : after ≤ steps + (blocks_reads item + sum item.parts.lengths)) where
+      reads_in : after ≤ steps + (blocks_reads (snapshot_in parts number)
+          + sum (snapshot_in parts number).parts.lengths)
+      reads_in =
+          subst (λ view. after ≤ steps + (blocks_reads view + sum view.parts.lengths)) turn.item_is reads
+
+      -- the reads so far are within the cost of opening
+      pub turn-reads : after ≤ before + open_cost parts
+      turn-reads = reads-so_far parts rules snaps turn.of number before steps after is turn.within reads_in
+
+      -- one period more
+      pub turn-more : IsSnapshot item → blocks_flaw rules item ≡ None → IsJoining parts (number + 1) before after
+      turn-more sound none =
+          joining-more parts rules snaps turn.of number before steps after is turn.within
+          (subst IsSnapshot turn.item_is sound) (sym turn-flaw_is ∙ none) reads_in

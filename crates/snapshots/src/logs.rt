@@ -1,12 +1,12 @@
 ghost use Rattle.std.specs.Prelude.{◌≡◌, ◌+◌, ◌<◌, ◌≤◌, ◌^◌, None, Some, length, IfErr, IfOk, OnOk};
 ghost use Rattle.std.specs.Prelude.{max, sum, pos, ◌+ℤ◌, ◌≤ℤ◌, IfSome};
 ghost use Rattle.track_types.specs.Frame.{instants_in, periods_of, IsFrame};
-ghost use Rattle.track_types.specs.Near.{IsBoxWithin, IsCellWithin, IsWithin};
+ghost use Rattle.track_types.specs.Near.{IsBoxWithin, IsCellWithin, IsNear, IsWithin};
 ghost use Rattle.snapshots.specs.Flaws.{IsFaultFor};
 ghost use Rattle.snapshots.specs.Parts.{log_at};
 ghost use Rattle.snapshots.specs.Sound.{IsSnapshot};
 ghost use Rattle.snapshots.specs.IndexCost.{blocks_reads};
-ghost use Rattle.snapshots.specs.JoinFlaws.{blocks_flaw, has_columns, has_lines, lasting, log_flaw};
+ghost use Rattle.snapshots.specs.JoinFlaws.{blocks_flaw, has_columns, has_lines, is_along, lasting, log_flaw};
 ghost use Rattle.snapshots.specs.JoinFlaws.{off_grid_at, passes_grid, IsReachable};
 ghost use Rattle.snapshots.specs.Speed.{block_speed, blocks_speed, far_of, gap, hull_speed};
 
@@ -203,13 +203,7 @@ fn has_columns(frame: &Frame, cell: Cell, hull: &CellBox) -> bool
     requires hull { IsBoxWithin hull.now }
     ensures { result ≡ has_columns frame.now cell hull.now }
 {
-    if cell.x + hull.x1 < frame.base.x {
-        return false;
-    }
-    if cell.x + hull.x2 >= frame.base.x + side_of(frame) {
-        return false;
-    }
-    true
+    is_along(frame, frame.base.x, cell.x, hull.x1, hull.x2)
 }
 
 // Whether its lines are.
@@ -219,10 +213,23 @@ fn has_lines(frame: &Frame, cell: Cell, hull: &CellBox) -> bool
     requires hull { IsBoxWithin hull.now }
     ensures { result ≡ has_lines frame.now cell hull.now }
 {
-    if cell.y + hull.y1 < frame.base.y {
+    is_along(frame, frame.base.y, cell.y, hull.y1, hull.y2)
+}
+
+// Whether the numbers from one to another, moved by an amount, are in the grid, whose least such number
+// is given.
+fn is_along(frame: &Frame, least: i64, amount: i64, first: i64, last: i64) -> bool
+    requires header { IsFrame frame.now }
+    requires least { IsNear least }
+    requires amount { IsReachable amount }
+    requires first { IsWithin first }
+    requires last { IsWithin last }
+    ensures { result ≡ is_along frame.now.height least amount first last }
+{
+    if amount + first < least {
         return false;
     }
-    if cell.y + hull.y2 >= frame.base.y + side_of(frame) {
+    if amount + last >= least + side_of(frame) {
         return false;
     }
     true

@@ -1,8 +1,8 @@
-use Rattle.std.proofs.Common.{◌≡◌, [], ◌∷◌, to_z, of_z, w64, ◌+◌, ◌<◌, ◌≤◌, ◌≤ℤ◌, ◌<ℤ◌, length, subst, sym, ap, ◌∙◌, arith}
+use Rattle.std.proofs.Common.{◌≡◌, [], ◌∷◌, to_z, of_z, w64, ◌+◌, ◌<◌, ◌≤ℤ◌, ◌<ℤ◌, length, subst, sym, ap, ◌∙◌, arith}
 use Rattle.std.proofs.lemmas.Int.{ints}
 use Rattle.rule_store.specs.Flaws.{AreRules}
 use Rattle.rule_store.specs.View.{RulesView, symbols_in}
-use Rattle.rule_store.specs.Expansion.{depth_in, depth_of}
+use Rattle.rule_store.specs.Expansion.{depth_of}
 use Rattle.rule_store.specs.Entry.{entry_of}
 use Rattle.rule_store.specs.Log.{block_stops, log_of, stops_after}
 use Rattle.log_cursor.specs.Seek.{IsSeeking, cell_among}

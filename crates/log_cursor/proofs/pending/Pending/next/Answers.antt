@@ -1,4 +1,4 @@
-use Rattle.std.proofs.Common.{◌≡◌, ◌<◌, ◌+◌, [], length, subst, sym, ap, ◌∙◌, arith}
+use Rattle.std.proofs.Common.{◌≡◌, ◌<◌, ◌+◌, [], length, subst, arith}
 use Rattle.rule_store.specs.Log.{log_of}
 use Rattle.log_cursor.specs.Pending.{IsTaken, pending_of}
 use Rattle.log_cursor.proofs.StackLemmas.{IsTaken-read, IsTaken-top, no_part, no_part_left}

@@ -4,7 +4,7 @@ use Rattle.rule_store.specs.View.{RulesView}
 use Rattle.rule_store.specs.Entry.{entry_of}
 use Rattle.rule_store.specs.Flaws.{left_of, right_of}
 use Rattle.log_cursor.specs.Pending.{AreRoomy, IsRoomy, PendingView, log_from}
-use Rattle.log_cursor.proofs.StackLemmas.{opened_stack, opened_stack-fits, opened_stack-roomy, pushed-both, reverse-opened}
+use Rattle.log_cursor.proofs.StackLemmas.{opened_stack-fits, opened_stack-roomy, pushed-both, reverse-opened}
 use Rattle.log_cursor.proofs.pending.Pending.open.Goals as goal
 use Rattle.log_cursor.proofs.pending.Pending.open.Goals.{After-push_reserved, After-push_reserved-2}
 use Rattle.log_cursor.proofs.pending.Pending.open.Given.{Over}
