@@ -36,6 +36,18 @@ read_one [] place on = absurd (false≢true on)
 read_one (bit ∷ bits) zero on = ap Some on
 read_one (bit ∷ bits) (suc place) on = read_one bits place on
 
+-- an object that has a block is present, and the block is that of a present object
+pub present_block-is : (view : SnapshotView) (index : ℕ) (block : Anchored) → block_of view index ≡ Some block
+    → (slice_index_or view.parts.present index false ≡ true) × (present_block view index ≡ block)
+present_block-is view index block has = elim (cases_Bool (slice_index_or view.parts.present index false)) [
+  | inl on ↦
+      let same : Some (present_block view index) ≡ Some block = rw on at has in
+      (on, same_Some (present_block view index) block same)
+  | inr off ↦
+      let none : None ≡ Some block = rw off at has in
+      absurd (none-some block none)
+]
+
 module _ (view : SnapshotView) (is : IsSnapshot view) where
   -- the block of a present object
   IsBlock-present : (index : ℕ) → slice_index_or view.parts.present index false ≡ true
@@ -62,14 +74,9 @@ module _ (view : SnapshotView) (is : IsSnapshot view) where
 
   -- the block that an object has
   pub IsBlock-from_block_of : (index : ℕ) (block : Anchored) → block_of view index ≡ Some block → IsBlock view block
-  IsBlock-from_block_of index block has = elim (cases_Bool (slice_index_or view.parts.present index false)) [
-    | inl on ↦
-        let same : Some (present_block view index) ≡ Some block = rw on at has in
-        subst (IsBlock view) (same_Some (present_block view index) block same) (IsBlock-present index on)
-    | inr off ↦
-        let none : None ≡ Some block = rw off at has in
-        absurd (none-some block none)
-  ]
+  IsBlock-from_block_of index block has =
+      let same = present_block-is view index block has in
+      subst (IsBlock view) same.1 (IsBlock-present index same.0)
 
   -- all blocks of the period
   pub All-all_blocks : All (IsBlock view) (all_blocks view)

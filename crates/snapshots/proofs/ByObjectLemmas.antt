@@ -21,6 +21,7 @@ use Rattle.snapshots.specs.Objects.{wanted_blocks, WeighSame}
 use Rattle.snapshots.specs.Sound.{IsBlock, IsSnapshot}
 use Rattle.snapshots.specs.View.{SnapshotView, all_blocks, block_of, present_block, tree_in}
 use Rattle.snapshots.specs.declared.anchored.Anchored.{Anchored}
+use Rattle.snapshots.proofs.BlockFactsLemmas.{present_block-is}
 
 -- a block counts if it is an object's
 abbrev pub counts : ℕ → Anchored → ℕ
@@ -72,14 +73,8 @@ present-counts view index block within has its =
 -- the block of an object is its own
 pub index-from_block_of : (view : SnapshotView) (index : ℕ) (block : Anchored) → block_of view index ≡ Some block
     → block.index ≡ index
-index-from_block_of view index block has = elim (cases_Bool (slice_index_or view.parts.present index false)) [
-  | inl on ↦
-      let same : Some (present_block view index) ≡ Some block = rw on at has in
-      sym (ap (λ (b : Anchored). b.index) (same_Some (present_block view index) block same))
-  | inr off ↦
-      let none : None ≡ Some block = rw off at has in
-      absurd (none-some block none)
-]
+index-from_block_of view index block has =
+    sym (ap (λ (b : Anchored). b.index) (present_block-is view index block has).1)
 
 -- before the first block: the table has none
 pub scattering-none : (view : SnapshotView) (left : List Anchored) → WeighSame left (all_blocks view)

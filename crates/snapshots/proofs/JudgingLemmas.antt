@@ -27,7 +27,7 @@ use Rattle.snapshots.specs.declared.anchored.Anchored.{Anchored}
 use Rattle.snapshots.specs.declared.fault.SnapFault.{SnapFault}
 use Rattle.snapshots.specs.declared.fault.SnapFault.TheVariants as fault
 use Rattle.snapshots.proofs.BlockLemmas.{rank_in-within}
-use Rattle.snapshots.proofs.BlockFactsLemmas.{IsBlock-from_block_of}
+use Rattle.snapshots.proofs.BlockFactsLemmas.{present_block-is, IsBlock-from_block_of}
 
 module _ (rules : RulesView) (view : SnapshotView) where
   -- what an object's block gives
@@ -77,14 +77,8 @@ pub record IsTaken (view : SnapshotView) (index : ℕ) (block : Anchored) : Type
 -- the log of a present object
 present-len : (view : SnapshotView) (index : ℕ) (block : Anchored) → block_of view index ≡ Some block
     → block.len ≡ get_or view.parts.lengths (rank_in view index) 0
-present-len view index block has = elim (cases_Bool (slice_index_or view.parts.present index false)) [
-  | inl on ↦
-      let same : Some (present_block view index) ≡ Some block = rw on at has in
-      sym (ap (λ (b : Anchored). b.len) (same_Some (present_block view index) block same))
-  | inr off ↦
-      let none : None ≡ Some block = rw off at has in
-      absurd (none-some block none)
-]
+present-len view index block has =
+    sym (ap (λ (b : Anchored). b.len) (present_block-is view index block has).1)
 
 module _ (view : SnapshotView) (is : IsSnapshot view) (index : ℕ) where
   pub taken : (block : Anchored) → block_of view index ≡ Some block → IsTaken view index block

@@ -1,6 +1,6 @@
 -- How far objects get: each stop of a block is as near to its anchor as the speed of its period tells, and in the grid.
 use Rattle.std.proofs.Common.{◌≡◌, ℕ, suc, ◌+◌, ◌*◌, ◌^◌, ◌<◌, ◌≤◌, ℤ, pos, ◌+ℤ◌, ◌≤ℤ◌, List, [], ◌∷◌, length, get_or, map, max, take, All, Option, Some, None, IfSome, refl, ap, sym, subst, ◌∙◌, arith}
-use Rattle.std.specs.Prelude.{slice_index, fold}
+use Rattle.std.specs.Prelude.{slice_index, fold, sum}
 use Rattle.std.specs.Int.{div_ceil, int_max, int_min}
 use Rattle.std.specs.List.{range_with_len}
 use Rattle.std.proofs.lemmas.Grind.{div_ceil_times}
@@ -12,11 +12,15 @@ use Rattle.std.proofs.lemmas.Nat.{mul-le}
 use Rattle.std.proofs.Math.Nat.{le_trans}
 use Rattle.list_laws.proofs.GreatestLemmas.{fold_max-each}
 use Rattle.list_laws.proofs.MapLemmas.{All-from_map}
-use Rattle.track_types.specs.Frame.{periods_of}
+use Rattle.track_types.specs.Frame.{periods_of, IsFrame}
+use Rattle.track_types.specs.Limits.{limit_of}
 use Rattle.track_types.specs.Shape.{IsShapedPeriod}
 use Rattle.track_types.specs.declared.cell.Cell.{Cell}
 use Rattle.track_types.specs.declared.cell_box.CellBox.{CellBox}
+use Rattle.track_types.specs.declared.frame.Frame.{Frame}
+use Rattle.track_types.specs.declared.limit.LimitKind.TheVariants.{Objects, Symbols}
 use Rattle.track_types.specs.declared.parts.Parts.{Parts}
+use Rattle.track_types.specs.declared.period_parts.PeriodParts.{PeriodParts}
 use Rattle.track_types.specs.declared.stop.Stop.{Stop}
 use Rattle.rule_store.specs.View.{RulesView}
 use Rattle.rule_store.specs.Boxes.{bounding_box_of, box_round, column, line, origin}
@@ -27,13 +31,14 @@ use Rattle.rule_store.specs.Log.{block_stops, stop_at, stops_after, stops_from}
 use Rattle.rule_store.proofs.BoxLemmas.{box_round-bounds, box_round-none}
 use Rattle.rule_store.proofs.CellLemmas.{present-moved, same_cell}
 use Rattle.rule_store.proofs.LogLemmas.{stops_after-cons, stops_after-none}
+use Rattle.snapshots.specs.Flaws.{IsShaped}
 use Rattle.snapshots.specs.JoinFlaws.{cell_after, cell_before, lasting}
-use Rattle.snapshots.specs.Parts.{anchored_at, first_in, log_at, no_period, period_at, rules_in, snapshot_in, stops_of}
+use Rattle.snapshots.specs.Parts.{anchored_at, first_in, log_at, no_period, period_at, rules_in, snapshot_in, start_in, stops_of}
 use Rattle.snapshots.specs.Sound.{IsBlock, IsSnapshot}
 use Rattle.snapshots.specs.SoundParts.{IsPlaced, IsSoundLog, IsValid}
 use Rattle.snapshots.specs.Speed.{block_speed, far_of, gap, hull_speed, log_speed, speed_of, symbol_speed, width_at, IsReached, IsWithinReach}
 use Rattle.snapshots.specs.Stores.{snapshots_in, AreOf}
-use Rattle.snapshots.specs.View.{all_blocks}
+use Rattle.snapshots.specs.View.{all_blocks, view_with}
 use Rattle.snapshots.specs.declared.anchored.Anchored.{Anchored}
 use Rattle.snapshots.proofs.BlockFactsLemmas.{All-all_blocks}
 use Rattle.snapshots.proofs.JoinLemmas.{start_in-within}
@@ -267,6 +272,24 @@ module _ (parts : Parts) (number : ℕ) (block : Anchored) where
       (subst (λ start. All (IsReached parts number block) (stops_after rules start block.cell log)) none
       (reached-after rules log block.cell 0 held))
 
+-- the snapshot of a shaped period is shaped
+pub IsShaped-view : (frame : Frame) (number objects start : ℕ) (period : PeriodParts) → IsFrame frame
+    → number < periods_of frame → 1 ≤ objects → objects ≤ limit_of Objects → IsShapedPeriod objects period
+    → start + sum period.lengths ≤ limit_of Symbols → IsShaped (view_with frame number objects start period)
+IsShaped-view frame number objects start period header within some few shaped total = record {
+  header = header;
+  period = within;
+  some = some;
+  few = few;
+  bits = shaped.bits;
+  presence = shaped.presence;
+  offsets = shaped.offsets;
+  lasts = shaped.lasts;
+  perm = shaped.perm;
+  lengths = shaped.lengths;
+  total = total;
+}
+
 -- the snapshot of a period of valid parts is one
 pub IsSnapshot-valid : (parts : Parts) → IsValid parts → (number : ℕ) → number < periods_of parts.frame
     → IsSnapshot (snapshot_in parts number)
@@ -281,23 +304,12 @@ IsSnapshot-valid parts valid number within =
       total = valid.sound.total;
     } in
     record {
-      shaped = record {
-        header = valid.shaped.header;
-        period = within;
-        some = valid.shaped.some;
-        few = valid.shaped.few;
-        bits = shaped.bits;
-        presence = shaped.presence;
-        offsets = shaped.offsets;
-        lasts = shaped.lasts;
-        perm = shaped.perm;
-        lengths = shaped.lengths;
-        total = omega (
-          arith,
-          start_in-within parts (rules_in parts) (snapshots_in parts) own number within,
-          valid.shaped.few_symbols,
-        );
-      };
+      shaped = IsShaped-view parts.frame number (length parts.objects) (start_in parts number)
+          (period_at parts.periods number) valid.shaped.header within valid.shaped.some valid.shaped.few shaped (omega (
+            arith,
+            start_in-within parts (rules_in parts) (snapshots_in parts) own number within,
+            valid.shaped.few_symbols,
+          ));
       sound = valid.sound.periods number within;
     }
 

@@ -16,6 +16,7 @@ use Rattle.track_types.specs.declared.period_parts.PeriodParts.{PeriodParts}
 use Rattle.snapshots.specs.View.{SnapshotView, view_with}
 use Rattle.snapshots.specs.Flaws.{flaw_of, IsShaped}
 use Rattle.snapshots.specs.Parts.{no_period, period_at, symbols_of}
+use Rattle.snapshots.proofs.ReachLemmas.{IsShaped-view}
 use Rattle.index_format.specs.declared.fault.FormatFault.{FormatFault}
 use Rattle.index_format.specs.declared.fault.FormatFault.TheVariants as fault
 use Rattle.track_index.specs.CheckFlaws.{snapshot_with, snapshots_flaw, snapshots_with, AreShapedPeriods, IsFaultFor}
@@ -36,19 +37,8 @@ IsShaped-at frame objects periods number shaped within =
     let its = All-get_or (IsShapedPeriod objects) periods number no_period within shaped.each in
     let most = sum_by_more_le symbols_of periods number no_period within in
     let limit : sum_by symbols_of periods ≤ 2 ^ 25 = shaped.total in
-    record {
-      header = shaped.header;
-      period = omega (arith, within, shaped.many);
-      some = shaped.some;
-      few = shaped.few;
-      bits = its.bits;
-      presence = its.presence;
-      offsets = its.offsets;
-      lasts = its.lasts;
-      perm = its.perm;
-      lengths = its.lengths;
-      total = omega (arith, most, limit);
-    }
+    IsShaped-view frame number objects (sum_by symbols_of (take number periods)) (period_at periods number)
+    shaped.header (omega (arith, within, shaped.many)) shaped.some shaped.few its (omega (arith, most, limit))
 
 module _ (frame : Frame) (objects : ℕ) (periods : List PeriodParts) where
   -- before the first period
