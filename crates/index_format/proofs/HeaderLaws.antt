@@ -1,12 +1,11 @@
 -- The header: what is read is spelled so and in its ranges, and what is in its ranges is read again.
-use Rattle.std.proofs.Common.{◌≡◌, ℕ, ℤ, pos, ◌-◌, ◌*◌, ◌^◌, ◌<◌, ◌≤◌, Bool, true, false, ltb, List, ◌++◌, length, take, drop, Ok, refl, sym, ap, T, FitsSigned, ◌∙◌, append_assoc, arith}
+use Rattle.std.proofs.Common.{◌≡◌, ℕ, ℤ, pos, ◌-◌, ◌*◌, ◌^◌, ◌<◌, ◌≤◌, Bool, true, false, ltb, List, ◌++◌, length, take, drop, Ok, refl, sym, ap, FitsSigned, ◌∙◌, append_assoc, arith}
 use Rattle.std.specs.Prelude.{IfOk, nat_le, neg_ℤ, ◌≤ℤ◌, ◌+ℤ◌}
 use Rattle.std.specs.Int.{Width, w32, w64, cast_signed, cast_unsigned, div_ceil}
-use Rattle.std.specs.Int.Signed.{le_z, le_z_yes}
+use Rattle.std.specs.Int.Signed.{le_z}
 use Rattle.std.specs.Str.{bytes_eq}
 use Rattle.std.proofs.lemmas.Bool.{le-ltb, and_parts, and_from}
 use Rattle.std.proofs.lemmas.Bool.Decides.{nat_tests}
-use Rattle.std.proofs.lemmas.Float.{T_from_true}
 use Rattle.std.proofs.lemmas.Int.{ints, of_z-to_z, to_z-of_z, fits_signed_from_abs}
 use Rattle.std.proofs.Math.Facts.{Fits-of_z}
 use Rattle.std.proofs.lemmas.List.{take-append-drop}
@@ -17,6 +16,7 @@ use Rattle.track_types.specs.Limits.{limit_of}
 use Rattle.track_types.specs.declared.limit.LimitKind.TheVariants as limits
 use Rattle.track_types.specs.declared.limit.TheConstants.{MAX_HEIGHT}
 use Rattle.track_types.specs.declared.flaw.Kind.TheVariants.{Short}
+use Rattle.track_types.proofs.RegionLemmas.{le_z-from, le_z-is}
 use Rattle.index_format.specs.declared.header.Header.{Header}
 use Rattle.index_format.specs.declared.header.Sizes.{Sizes}
 use Rattle.index_format.specs.Spelling.{magic, short_bytes, long_bytes, signed_bytes, size_bytes, header_bytes, sizes_of}
@@ -35,16 +35,6 @@ between least greatest n test =
 is_between-true : (least greatest n : ℕ) → least ≤ n → n ≤ greatest → is_between least greatest n ≡ true
 is_between-true least greatest n low high =
     and_from (nat_le least n) (nat_le n greatest) (grind (arith, nat_tests, low)) (grind (arith, nat_tests, high))
-
-at_most : (a b : ℤ) → le_z a b ≡ true → a ≤ℤ b
-at_most a b test = le_z_yes (T_from_true (le_z a b) test)
-
-is_true : (b : Bool) → T b → b ≡ true
-is_true true holds = refl
-is_true false holds = absurd holds
-
-at_most-true : (a b : ℤ) → a ≤ℤ b → le_z a b ≡ true
-at_most-true a b low = is_true (le_z a b) low.le
 
 -- fields
 
@@ -119,18 +109,9 @@ sizes_at-takes bytes fits =
     then_ok _ _ (field_at w32 5 (is_between 0 many) span.1) (field_at-takes wide32 5 (is_between 0 many) span.1 t4.0.fits) (λ alphabet t5.
     then_ok _ _ (field_at w32 6 (is_between 0 many) alphabet.1) (field_at-takes wide32 6 (is_between 0 many) alphabet.1 t5.0.fits) (λ rules t6.
     then_ok _ _ (field_at w32 7 (is_between 0 many) rules.1) (field_at-takes wide32 7 (is_between 0 many) rules.1 t6.0.fits) (λ symbols t7.
-    let sizes : Sizes = record {
-      period = period.0;
-      height = height.0;
-      objects = objects.0;
-      span = span.0;
-      alphabet = alphabet.0;
-      rules = rules.0;
-      symbols = symbols.0;
-    } in
     let blocks = objects.0 * div_ceil span.0 period.0 in
     let both = and_parts (is_between 1 (limit_of limits.Span) span.0) (nat_le blocks (limit_of limits.Blocks)) t4.2 in (
-      Takes-text (size_bytes sizes) (simp append_assoc refl)
+      Takes-text _ (simp append_assoc refl)
           (Takes-then t1.0 (Takes-then t2.0 (Takes-then t3.0 (Takes-then t4.0 (Takes-then t5.0 (Takes-then t6.0 t7.0)))))),
       record {
         period = between 1 (2 ^ 22) period.0 t1.2;
@@ -188,10 +169,10 @@ near_fits z low high = fits_signed_from_abs w64 z (omega (arith, ints, low, high
 near : (z : ℤ) → is_near z ≡ true → IsNear z
 near z test =
     let both = and_parts (le_z (neg_ℤ far) z) (le_z z far) test in
-    record { low = at_most (neg_ℤ far) z both.0; high = at_most z far both.1 }
+    record { low = le_z-is (neg_ℤ far) z both.0; high = le_z-is z far both.1 }
 
 near-true : (z : ℤ) → IsNear z → is_near z ≡ true
-near-true z is = and_from (le_z (neg_ℤ far) z) (le_z z far) (at_most-true (neg_ℤ far) z is.low) (at_most-true z far is.high)
+near-true z is = and_from (le_z (neg_ℤ far) z) (le_z z far) (le_z-from (neg_ℤ far) z is.low) (le_z-from z far is.high)
 
 -- the first instant is not after the last
 first_before : (first : ℤ) (more : ℕ) → (first +ℤ pos more) ≤ℤ far → first ≤ℤ far
@@ -209,26 +190,11 @@ header_at-takes bytes fits =
     then_ok _ _ (signed_at 10 is_near x.1) (signed_at-takes 10 is_near x.1 t3.0.fits) (λ y t4.
     then_ok _ _ (field_at w64 11 units y.1) (field_at-takes wide64 11 units y.1 t4.0.fits) (λ cell t5.
     then_ok _ _ (field_at w64 12 units cell.1) (field_at-takes wide64 12 units cell.1 t5.0.fits) (λ tick t6.
-    let header : Header = record {
-      frame = record {
-        first = first.0;
-        span = sizes.0.span;
-        period = sizes.0.period;
-        height = sizes.0.height;
-        base = record { x = x.0; y = y.0 };
-        cell = cell.0;
-        tick = tick.0;
-      };
-      objects = sizes.0.objects;
-      alphabet = sizes.0.alphabet;
-      rules = sizes.0.rules;
-      symbols = sizes.0.symbols;
-    } in
     let begin = and_parts (le_z (neg_ℤ far) first.0) (le_z (first.0 +ℤ pos (sizes.0.span - 1)) far) t2.1 in
     let cells = between 1 (2 ^ 30) cell.0 t5.2 in
     let ticks = between 1 (2 ^ 30) tick.0 t6.2 in
     let are = t1.1 in (
-      Takes-text (header_bytes header) (simp append_assoc refl)
+      Takes-text _ (simp append_assoc refl)
           (Takes-then t0 (Takes-then t1.0 (Takes-then t2.0 (Takes-then t3.0 (Takes-then t4.0 (Takes-then t5.0 t6.0)))))),
       record {
         frame = record {
@@ -237,8 +203,8 @@ header_at-takes bytes fits =
           limit = are.height.1;
           long = are.span.0;
           short = are.span.1;
-          begins = at_most (neg_ℤ far) first.0 begin.0;
-          ends = at_most (first.0 +ℤ pos (sizes.0.span - 1)) far begin.1;
+          begins = le_z-is (neg_ℤ far) first.0 begin.0;
+          ends = le_z-is (first.0 +ℤ pos (sizes.0.span - 1)) far begin.1;
           columns = near x.0 t3.1;
           lines = near y.0 t4.1;
           cells = record { some = cells.0; limit = cells.1 };
@@ -262,8 +228,8 @@ header_at-again header rest is =
     let r1 = size_bytes (sizes_of header) ++ r2 in
     let text : header_bytes header ++ rest ≡ magic ++ r1 = simp append_assoc refl in
     let begins = and_from (le_z (neg_ℤ far) frame.first) (le_z (frame.first +ℤ pos (frame.span - 1)) far)
-    (at_most-true (neg_ℤ far) frame.first is.frame.begins)
-    (at_most-true (frame.first +ℤ pos (frame.span - 1)) far is.frame.ends) in
+    (le_z-from (neg_ℤ far) frame.first is.frame.begins)
+    (le_z-from (frame.first +ℤ pos (frame.span - 1)) far is.frame.ends) in
     ap header_at text ∙ rw (
       after_magic-again r1,
       sizes_at-again (sizes_of header) r2 is.sizes,

@@ -1,5 +1,5 @@
 -- Items one after the other, as a loop reads them.
-use Rattle.std.proofs.Common.{◌≡◌, ℕ, suc, ◌+◌, ◌-◌, ◌<◌, ◌≤◌, true, false, List, [], ◌∷◌, ◌++◌, length, get_or, eqb, Ok, Err, refl, sym, ap, ◌∙◌, arith}
+use Rattle.std.proofs.Common.{◌≡◌, ℕ, suc, ◌+◌, ◌-◌, ◌<◌, ◌≤◌, true, false, List, [], ◌∷◌, ◌++◌, length, get_or, eqb, ◌⊎◌, inl, inr, Ok, Err, refl, sym, ap, ◌∙◌, arith}
 use Rattle.std.specs.Int.{Width, w32}
 use Rattle.std.proofs.lemmas.Bool.{lt-ltb, le-ltb}
 use Rattle.std.proofs.lemmas.Grind.{get_or_default_zero}
@@ -63,11 +63,11 @@ short_at-number section period i seen bytes missing long is =
 
 module _ (seen : List ℕ) (n i : ℕ) (long : length seen ≡ i) where
   -- a first number rises
-  pub rises-first : i ≤ 0 → rises seen n ≡ true
+  rises-first : i ≤ 0 → rises seen n ≡ true
   rises-first first = let none : length seen ≡ 0 = omega arith in rw none refl
 
   -- one above the last rises
-  pub rises-above : (last : ℕ) → 0 < i → last ≡ get_or seen (i - 1) last → last < n → rises seen n ≡ true
+  rises-above : (last : ℕ) → 0 < i → last ≡ get_or seen (i - 1) last → last < n → rises seen n ≡ true
   rises-above last some is above =
       let zero_default : last ≡ get_or seen (length seen - 1) 0 =
       is ∙ get_or_default_zero seen (i - 1) last (omega arith) ∙ ap (λ k. get_or seen (k - 1) 0) (sym long) in
@@ -76,7 +76,7 @@ module _ (seen : List ℕ) (n i : ℕ) (long : length seen ≡ i) where
       rw (more, test) refl
 
   -- one that is not above the last falls
-  pub rises-below : (last : ℕ) → 0 < i → last ≡ get_or seen (i - 1) last → n ≤ last → rises seen n ≡ false
+  rises-below : (last : ℕ) → 0 < i → last ≡ get_or seen (i - 1) last → n ≤ last → rises seen n ≡ false
   rises-below last some is below =
       let zero_default : last ≡ get_or seen (length seen - 1) 0 =
       is ∙ get_or_default_zero seen (i - 1) last (omega arith) ∙ ap (λ k. get_or seen (k - 1) 0) (sym long) in
@@ -91,23 +91,54 @@ module _ (w : Width) (section : Section) (i : ℕ) (seen bytes : List ℕ) (miss
       ∙ ap (λ flaw. number_at w flaw bytes) (sym is)
 
   -- a number that is not there is not one that rises
-  pub rising_at-fault : (why : FormatFault) → IsFaultOf (number_at w missing bytes) why
+  rising_at-fault : (why : FormatFault) → IsFaultOf (number_at w missing bytes) why
       → IsFaultOf (rising_at w section seen bytes) why
   unfolding rising_at
   rising_at-fault fault.Memory read = tt
   rising_at-fault (fault.Flaw flaw) read = rw (number, read) refl
 
   -- a number that does not rise is a flaw
-  pub rising_at-order : (n : ℕ) (rest : List ℕ) → number_at w missing bytes ≡ Ok (n, rest) → rises seen n ≡ false
+  rising_at-order : (n : ℕ) (rest : List ℕ) → number_at w missing bytes ≡ Ok (n, rest) → rises seen n ≡ false
       → rising_at w section seen bytes ≡ Err (flaw_at section 0 i Order)
   unfolding rising_at
   rising_at-order n rest read falls = rw (number, read, falls, long) refl
 
   -- a number that rises is taken
-  pub rising_at-ok : (n : ℕ) (rest : List ℕ) → number_at w missing bytes ≡ Ok (n, rest) → rises seen n ≡ true
+  rising_at-ok : (n : ℕ) (rest : List ℕ) → number_at w missing bytes ≡ Ok (n, rest) → rises seen n ≡ true
       → rising_at w section seen bytes ≡ Ok (n, rest)
   unfolding rising_at
   rising_at-ok n rest read up = rw (number, read, up) refl
+
+-- rising numbers under way, and how the next one is missing
+module _ (w : Width) (section : Section) {count i : ℕ} {seen rest bytes : List ℕ}
+    (so_far : IsUnderWay (rising_at w section) count i seen rest bytes) (missing : Flaw)
+    (is : missing ≡ flaw_at section 0 i Short) (here : i < count) where
+  -- it is
+  pub rising-missing : (why : FormatFault) → IsFaultOf (number_at w missing rest) why
+      → IsFaultOf (items_at (rising_at w section) count [] bytes) why
+  rising-missing why read =
+      items_at-fault so_far why here (rising_at-fault w section i seen rest missing so_far.long is why read)
+
+  module _ (n : ℕ) (after : List ℕ) (read : number_at w missing rest ≡ Ok (n, after)) where
+    -- it is not above the one before
+    pub rising-falls : (last : ℕ) (told : Flaw) → 0 < i → last ≡ get_or seen (i - 1) last → n ≤ last
+        → told ≡ flaw_at section 0 i Order → IsFaultOf (items_at (rising_at w section) count [] bytes) (fault.Flaw told)
+    rising-falls last told some last_is below told_is =
+        let falls = rises-below seen n i so_far.long last some last_is below in
+        rw told_is (items_at-fault so_far (fault.Flaw (flaw_at section 0 i Order)) here
+        (rising_at-order w section i seen rest missing so_far.long is n after read falls))
+
+    -- it is the first, or above the one before
+    pub rising-more : (new : List ℕ)
+        → (i ≤ 0) ⊎ ((last : ℕ) × (0 < i) × (last ≡ get_or seen (i - 1) last) × (last < n))
+        → new ≡ seen ++ n ∷ [] → IsUnderWay (rising_at w section) count (i + 1) new after bytes
+    rising-more new above appended =
+        let up : rises seen n ≡ true = elim above [
+          | inl first ↦ rises-first seen n i so_far.long first
+          | inr later ↦ rises-above seen n i so_far.long later.0 later.1 later.2 later.3
+        ] in
+        items_at-more so_far n after new here (rising_at-ok w section i seen rest missing so_far.long is n after read up)
+        appended
 
 module _ (i : ℕ) (seen : List (ℕ × ℕ)) (bytes : List ℕ) (missing : Flaw) (long : length seen ≡ i) (is : missing ≡ flaw_at Rules 0 i Short) where
   -- the flaw of either number of a rule

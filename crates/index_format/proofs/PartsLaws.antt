@@ -109,8 +109,3 @@ given_takes bytes (Ok parts) fits given = of_ok (parts_in bytes) (parts_in-takes
         → IsShaped parts × (bytes ≡ bytes_of_parts parts)
     of_ok read holds is = rw is at holds
 given_takes bytes (Err fault) fits given = tt
-
--- a fact of what was found gives another
-pub if_ok-map : {A E : Type 0} (P Q : A → Type 0) → ((a : A) → P a → Q a) → (answer : Result A E) → IfOk answer P → IfOk answer Q
-if_ok-map P Q gives (Ok a) holds = gives a holds
-if_ok-map P Q gives (Err e) holds = tt

@@ -49,16 +49,8 @@ period_at-takes objects seen bytes fits =
     then_ok _ _ (items_at (short_at Perm b) n [] lasts.1) (items_at-takes (shorts_listed Perm b) n lasts.1 t5.0.fits) (λ perm t6.
     then_ok _ _ (items_at (short_at Lengths b) n [] perm.1) (items_at-takes (shorts_listed Lengths b) n perm.1 t6.0.fits) (λ lengths t7.
     let length_text : Takes offsets.1 (short_bytes (length tree.0)) long.1 =
-    rw t4.1 t3.0 in
-    let period : PeriodParts = record {
-      present = present.0;
-      offsets = offsets.0;
-      tree = tree.0;
-      lasts = lasts.0;
-      perm = perm.0;
-      lengths = lengths.0;
-    } in (
-      Takes-text (period_bytes period) (simp append_assoc refl)
+    rw t4.1 t3.0 in (
+      Takes-text _ (simp append_assoc refl)
           (Takes-then t1.0 (Takes-then t2.0 (Takes-then length_text (Takes-then t4.0 (Takes-then t5.0 (Takes-then t6.0 t7.0)))))),
       record {
         presence = t1.1;

@@ -44,6 +44,18 @@ times_of-some other pair = refl
 pub times_of-own : (pair : ℕ × ℕ) → times_of (Some pair) pair ≡ 1
 times_of-own pair = rw (times_of-some pair pair, own_pair pair.0 pair.1) refl
 
+-- before one of some pairs stand fewer of its kind
+pub times_in-before : (pairs : List (ℕ × ℕ)) (i : ℕ) → i < length pairs
+    → times_in (take i pairs) (get_or pairs i (0, 0)) < times_in pairs (get_or pairs i (0, 0))
+times_in-before pairs i within =
+    let pair : ℕ × ℕ = get_or pairs i (0, 0) in
+    omega (
+      arith,
+      times_in-more pairs i (0, 0) pair within,
+      times_in-take-le pairs (i + 1) pair,
+      times_of-own pair,
+    )
+
 pub times_of-none : (pair : ℕ × ℕ) → times_of None pair ≡ 0
 unfolding times_of
 times_of-none pair = refl

@@ -15,7 +15,7 @@ use Rattle.track_types.specs.declared.cell_box.CellBox.{CellBox}
 use Rattle.track_types.specs.declared.frame.Frame.{Frame}
 use Rattle.track_types.specs.declared.parts.Parts.{Parts}
 use Rattle.track_types.specs.declared.region.Region.{Region}
-use Rattle.track_types.proofs.RegionLemmas.{intersects_region-exact, is_between-bounds, is_between-from, le_z-from}
+use Rattle.track_types.proofs.RegionLemmas.{intersects_region-exact, is_between-bounds, is_between-from, le_z-from, le_z-is}
 use Rattle.track_types.proofs.WideningLemmas.{is_between-wider}
 use Rattle.k2_tree.specs.Areas.{IsBoxInside}
 use Rattle.k2_tree.specs.Morton.{IsInGrid}
@@ -23,10 +23,6 @@ use Rattle.k2_tree.specs.Pruning.{IsKeptFor, IsWeaker}
 use Rattle.snapshots.specs.Speed.{gap, width_at}
 use Rattle.slice_search.specs.Cost.{cell_box, is_within_reach}
 use Rattle.slice_search.specs.Reach.{cut, cut_box, grid_of, may_reach, may_reach_in, meets, short_width}
-
--- the test for at most, and what it says
-le_z-bound : (a b : ℤ) → le_z a b ≡ true → a ≤ℤ b
-le_z-bound a b holds = grind (arith, ints)
 
 -- a number between cut bounds is between both pairs of bounds, where these overlap
 is_between-uncut : (low high first last z : ℤ) → low ≤ℤ high → overlaps low high first last ≡ true
@@ -36,7 +32,7 @@ is_between-uncut low high first last z wide common inside =
     let bounds = is_between-bounds (cut low high first) (cut low high last) z inside in
     let above : cut low high first ≤ℤ z = bounds.0 in
     let below : z ≤ℤ cut low high last = bounds.1 in
-    let both : int_max low first ≤ℤ int_min high last = le_z-bound _ _ common in (
+    let both : int_max low first ≤ℤ int_min high last = le_z-is _ _ common in (
       is_between-from low high z (omega (arith, ints, clamps)) (omega (arith, ints, clamps)),
       is_between-from first last z (omega (arith, ints, clamps)) (omega (arith, ints, clamps)),
     )

@@ -21,12 +21,6 @@ use Rattle.slice_search.specs.Reach.{grid_of, may_reach_in, short_width}
 use Rattle.slice_search.specs.Sightings.{is_wanted, log_reads, sighting_in, AreSightings}
 use Rattle.slice_search.proofs.ReachLemmas.{IsKeptFor-may_reach}
 
--- what follows from a result follows from its success
-pub on_ok : {A E : Type 0} (P Q : A → Type 0) → ((a : A) → P a → Q a) → (result : Result A E) → IfOk result P
-    → IfOk result Q
-on_ok P Q more (Ok a) holds = more a holds
-on_ok P Q more (Err e) holds = tt
-
 module _ (parts : Parts) (number : ℕ) (instant : ℤ) (region : Region) where
   -- what was found, and what is in the blocks that are left, is what is in all blocks of the walk
   pub record IsWalking (all left : List Anchored) (found : List Sighting) : Type 0 where

@@ -37,7 +37,7 @@ is_between-nearest a b z wide =
     is_between-from a b (int_max a (int_min z b)) (nearest-low a b z wide) (nearest-high a b z wide)
 
 -- the test for at most, and what it says
-le_z-is : (a b : ℤ) → le_z a b ≡ true → a ≤ℤ b
+pub le_z-is : (a b : ℤ) → le_z a b ≡ true → a ≤ℤ b
 le_z-is a b holds = grind (arith, ints)
 
 pub le_z-from : (a b : ℤ) → a ≤ℤ b → le_z a b ≡ true

@@ -1,15 +1,16 @@
+use Rattle.std.proofs.lemmas.Result.{IfOk-weaker}
 use Rattle.std.proofs.Common.{ap, subst, ◌∙◌, arith}
 use Rattle.index_format.specs.Answers.{Gives}
 use Rattle.index_format.specs.Reading.{parts_in}
-use Rattle.index_format.proofs.PartsLaws.{if_ok-map, parts_in-again, given_takes}
+use Rattle.index_format.proofs.PartsLaws.{parts_in-again, given_takes}
 use Rattle.index_format.proofs.decoding.decode.Goals as goal
 
 pub returns-clause-shaped : goal.returns-clause-shaped
-returns-clause-shaped c = if_ok-map _ _ (λ parts both. both.0) c.parts_of.result
+returns-clause-shaped c = IfOk-weaker c.parts_of.result _ _ (λ parts both. both.0)
     (given_takes c.args.bytes.now c.parts_of.result (λ i. omega (arith, c.type_inv.bytes i)) c.parts_of.ensures)
 
 pub returns-clause-spelled : goal.returns-clause-spelled
-returns-clause-spelled c = if_ok-map _ _ (λ parts both. both.1) c.parts_of.result
+returns-clause-spelled c = IfOk-weaker c.parts_of.result _ _ (λ parts both. both.1)
     (given_takes c.args.bytes.now c.parts_of.result (λ i. omega (arith, c.type_inv.bytes i)) c.parts_of.ensures)
 
 pub returns-clause-one : goal.returns-clause-one

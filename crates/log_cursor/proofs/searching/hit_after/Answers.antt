@@ -6,7 +6,9 @@ use Rattle.log_cursor.specs.Start.{start_after}
 use Rattle.log_cursor.specs.Touching.{IsSearching, hit_left, touching_left, turns_left}
 use Rattle.log_cursor.specs.declared.start.Start.{Start}
 use Rattle.log_cursor.proofs.SearchLemmas.{hit_left-end, hit_left-over, hit_left-same, touching_left-same, turn-apart, turn-before, turn-fewer, turn-found, turn-near, turn-opened, turn-opened-fewer, turn-start}
+use Rattle.log_cursor.proofs.searching.hit_after.Given.{Over}
 use Rattle.log_cursor.proofs.searching.hit_after.Goals as goal
+use Rattle.log_cursor.proofs.searching.hit_after.Goals.{After-is_rule}
 use Rattle.log_cursor.proofs.searching.hit_after.Goals.{then-next-from-via-then-next-from, then-next-from-via-else-next-from+then-not-touches}
 
 pub returns-in_err-entry-clause-value : goal.returns-in_err-entry-clause-value
@@ -67,6 +69,13 @@ loop-at-preserved-then-next-from g c =
           c.next.ensures.rules c.next.ensures.cost (sym w.touches.ensures ∙ w.if-not-touches.true)
     ])
 
+-- where its entry is not passed over, the window has instants after it and up to its end
+within : (g : Over) (c : After-is_rule g) → (c.loop-at.at.instant <ℤ to_z w64 (of_z w64 c.args.to))
+    × (to_z w64 (of_z w64 c.args.from) ≤ℤ (start_after c.loop-at.at c.in_ok-entry.entry).instant)
+within g c =
+    let next_is = ap (λ (s : Start). s.instant) c.after-next.ensures in
+    (omega (arith, ints, c.loop-at-test.true), omega (arith, ints, next_is, c.if-next-from.false))
+
 pub returns-then-not-is_rule-clause-value : goal.returns-then-not-is_rule-clause-value
 returns-then-not-is_rule-clause-value g c =
     let first = c.args.pending in
@@ -76,10 +85,7 @@ returns-then-not-is_rule-clause-value g c =
     let to : to_z w64 (of_z w64 c.args.to) ≡ c.args.to = omega (arith, ints) in
     let here = c.after-next.result in
     let kept : to_z w64 (of_z w64 here.instant) ≡ here.instant = omega (arith, ints) in
-    let next_is = ap (λ (s : Start). s.instant) c.after-next.ensures in
-    let open_end : c.loop-at.at.instant <ℤ to_z w64 (of_z w64 c.args.to) = omega (arith, ints, c.loop-at-test.true) in
-    let reached : to_z w64 (of_z w64 c.args.from) ≤ℤ (start_after c.loop-at.at c.in_ok-entry.entry).instant =
-    omega (arith, ints, next_is, c.if-next-from.false) in
+    let its = within g (goal.at.returns-then-not-is_rule-clause-value g c).After-is_rule in
     let terminal : c.in_ok-entry.entry.symbol < length now.rules.alphabet =
     leb-false _ _ (sym c.is_rule.ensures ∙ c.if-not-is_rule.true) in
     ap (λ z. Some (stop_at z here.cell)) kept
@@ -87,7 +93,7 @@ returns-then-not-is_rule-clause-value g c =
     ∙ sym (hit_left-same first.rules c.args.from c.args.to _ _ region c.args.start first.symbols from to
     ∙ turn-found _ _ c.loop-at.pending now _ _ _ _ _ c.next.new.steps c.in_ok-entry.entry c.loop-at.invariant
     c.in_ok-entry.ensures.found c.next.ensures.rules c.next.ensures.cost
-    (sym c.touches.ensures ∙ c.if-not-touches.false) open_end reached terminal)
+    (sym c.touches.ensures ∙ c.if-not-touches.false) its.0 its.1 terminal)
 
 pub returns-then-not-is_rule-clause-cost : goal.returns-then-not-is_rule-clause-cost
 returns-then-not-is_rule-clause-cost g c =
@@ -100,28 +106,22 @@ returns-then-not-is_rule-clause-cost g c =
 
 pub loop-at-smaller : goal.loop-at-smaller
 loop-at-smaller g c =
-    let next_is = ap (λ (s : Start). s.instant) c.after-next.ensures in
-    let open_end : c.loop-at.at.instant <ℤ to_z w64 (of_z w64 c.args.to) = omega (arith, ints, c.loop-at-test.true) in
-    let reached : to_z w64 (of_z w64 c.args.from) ≤ℤ (start_after c.loop-at.at c.in_ok-entry.entry).instant =
-    omega (arith, ints, next_is, c.if-next-from.false) in
+    let its = within g (goal.at.loop-at-smaller g c).After-is_rule in
     let rule : length c.next.new.self.rules.alphabet ≤ c.in_ok-entry.entry.symbol =
     leb-true _ _ (sym c.is_rule.ensures ∙ c.if-not-is_rule.false) in
     turn-opened-fewer _ _ c.loop-at.pending c.next.new.self _ _ _ _ _ c.next.new.steps c.in_ok-entry.entry
     c.loop-at.invariant c.in_ok-entry.ensures.found c.next.ensures.rules c.next.ensures.cost
-    (sym c.touches.ensures ∙ c.if-not-touches.false) open_end reached c.next.ensures.sound rule c.open.new.self
+    (sym c.touches.ensures ∙ c.if-not-touches.false) its.0 its.1 c.next.ensures.sound rule c.open.new.self
     c.open.new.steps c.open.ensures.rules c.open.ensures.symbols c.open.ensures.unread c.open.ensures.cost
 
 pub loop-at-preserved : goal.loop-at-preserved
 loop-at-preserved g c =
-    let next_is = ap (λ (s : Start). s.instant) c.after-next.ensures in
-    let open_end : c.loop-at.at.instant <ℤ to_z w64 (of_z w64 c.args.to) = omega (arith, ints, c.loop-at-test.true) in
-    let reached : to_z w64 (of_z w64 c.args.from) ≤ℤ (start_after c.loop-at.at c.in_ok-entry.entry).instant =
-    omega (arith, ints, next_is, c.if-next-from.false) in
+    let its = within g (goal.at.loop-at-preserved g c).After-is_rule in
     let rule : length c.next.new.self.rules.alphabet ≤ c.in_ok-entry.entry.symbol =
     leb-true _ _ (sym c.is_rule.ensures ∙ c.if-not-is_rule.false) in
     turn-opened _ _ c.loop-at.pending c.next.new.self _ _ _ _ _ c.next.new.steps c.in_ok-entry.entry
     c.loop-at.invariant c.in_ok-entry.ensures.found c.next.ensures.rules c.next.ensures.cost
-    (sym c.touches.ensures ∙ c.if-not-touches.false) open_end reached c.next.ensures.sound rule c.open.new.self
+    (sym c.touches.ensures ∙ c.if-not-touches.false) its.0 its.1 c.next.ensures.sound rule c.open.new.self
     c.open.new.steps c.open.ensures.rules c.open.ensures.symbols c.open.ensures.unread c.open.ensures.cost
 
 pub returns-clause-value : goal.returns-clause-value

@@ -8,7 +8,9 @@ use Rattle.log_cursor.specs.Start.{IsWayOf, start_after}
 use Rattle.log_cursor.specs.Walk.{IsWalking, opened_left, stops_left, turns_of}
 use Rattle.log_cursor.specs.declared.start.Start.{Start}
 use Rattle.log_cursor.proofs.WalkLemmas.{none_unless, stops_left-end, stops_left-over, turn-absent, turn-before, turn-fewer, turn-found, turn-opened, turn-opened-fewer, turn-reads, turn-start, turn-way}
+use Rattle.log_cursor.proofs.walk.BlockWalkLazy.draw.Given.{Over}
 use Rattle.log_cursor.proofs.walk.BlockWalkLazy.draw.Goals as goal
+use Rattle.log_cursor.proofs.walk.BlockWalkLazy.draw.Goals.{After-is_rule}
 use Rattle.log_cursor.proofs.walk.BlockWalkLazy.draw.Goals.{then-next-self-via-then-next-self, then-next-self-via-else-next-self+then-is_none}
 
 pub returns-in_err-entry-clause-none : goal.returns-in_err-entry-clause-none
@@ -49,32 +51,33 @@ loop-self-preserved-then-next-self g c =
           (none_unless c.in_ok-entry.entry.hull (w.is_none.ensures ∙ ap not w.if-is_none.true))
     ])
 
+-- where its entry is not passed over, it has a box, and the window has instants after it and up to its end
+within : (g : Over) (c : After-is_rule g) → (is_some c.in_ok-entry.entry.hull ≡ true)
+    × (c.loop-self.self-inside.at.instant <ℤ c.loop-self.self-inside.to)
+    × (c.loop-self.self-inside.from ≤ℤ (start_after c.loop-self.self-inside.at c.in_ok-entry.entry).instant)
+within g c =
+    let next_is = ap (λ (s : Start). s.instant) c.after-next.ensures in (
+      c.is_none.ensures ∙ ap not c.if-is_none.false,
+      omega (arith, ints, c.loop-self-test.true),
+      omega (arith, ints, next_is, c.if-next-self.false),
+    )
+
 pub loop-self-smaller : goal.loop-self-smaller
 loop-self-smaller g c =
-    let walk = c.loop-self.self-inside in
-    let next_is = ap (λ (s : Start). s.instant) c.after-next.ensures in
-    let some : is_some c.in_ok-entry.entry.hull ≡ true = c.is_none.ensures ∙ ap not c.if-is_none.false in
-    let open_end : walk.at.instant <ℤ walk.to = omega (arith, ints, c.loop-self-test.true) in
-    let reached : walk.from ≤ℤ (start_after walk.at c.in_ok-entry.entry).instant =
-    omega (arith, ints, next_is, c.if-next-self.false) in
+    let its = within g (goal.at.loop-self-smaller g c).After-is_rule in
     let rule : length c.next.new.self.rules.alphabet ≤ c.in_ok-entry.entry.symbol =
     leb-true _ _ (sym c.is_rule.ensures ∙ c.if-is_rule.true) in
     turn-opened-fewer _ _ _ _ _ _ _ _ _ c.next.new.steps _ c.loop-self.invariant c.in_ok-entry.ensures.found
-    c.next.ensures.rules c.next.ensures.cost some open_end reached c.next.ensures.sound rule c.open.new.self
+    c.next.ensures.rules c.next.ensures.cost its.0 its.1 its.2 c.next.ensures.sound rule c.open.new.self
     c.open.new.steps c.open.ensures.rules c.open.ensures.symbols c.open.ensures.unread c.open.ensures.cost
 
 pub loop-self-preserved : goal.loop-self-preserved
 loop-self-preserved g c =
-    let walk = c.loop-self.self-inside in
-    let next_is = ap (λ (s : Start). s.instant) c.after-next.ensures in
-    let some : is_some c.in_ok-entry.entry.hull ≡ true = c.is_none.ensures ∙ ap not c.if-is_none.false in
-    let open_end : walk.at.instant <ℤ walk.to = omega (arith, ints, c.loop-self-test.true) in
-    let reached : walk.from ≤ℤ (start_after walk.at c.in_ok-entry.entry).instant =
-    omega (arith, ints, next_is, c.if-next-self.false) in
+    let its = within g (goal.at.loop-self-preserved g c).After-is_rule in
     let rule : length c.next.new.self.rules.alphabet ≤ c.in_ok-entry.entry.symbol =
     leb-true _ _ (sym c.is_rule.ensures ∙ c.if-is_rule.true) in
     turn-opened _ _ _ _ _ _ _ _ _ c.next.new.steps _ c.loop-self.invariant c.in_ok-entry.ensures.found
-    c.next.ensures.rules c.next.ensures.cost some open_end reached c.next.ensures.sound rule c.open.new.self
+    c.next.ensures.rules c.next.ensures.cost its.0 its.1 its.2 c.next.ensures.sound rule c.open.new.self
     c.open.new.steps c.open.ensures.rules c.open.ensures.symbols c.open.ensures.unread c.open.ensures.cost
 
 pub invariant_of-self-in-loop-self-2 : goal.invariant_of-self-in-loop-self-2
@@ -87,18 +90,14 @@ pub returns-in-loop-self-clause-found : goal.returns-in-loop-self-clause-found
 returns-in-loop-self-clause-found g c =
     let walk = c.loop-self.self-inside in
     let now = c.next.new.self in
-    let next_is = ap (λ (s : Start). s.instant) c.after-next.ensures in
-    let some : is_some c.in_ok-entry.entry.hull ≡ true = c.is_none.ensures ∙ ap not c.if-is_none.false in
-    let open_end : walk.at.instant <ℤ walk.to = omega (arith, ints, c.loop-self-test.true) in
-    let reached : walk.from ≤ℤ (start_after walk.at c.in_ok-entry.entry).instant =
-    omega (arith, ints, next_is, c.if-next-self.false) in
+    let its = within g (goal.at.returns-in-loop-self-clause-found g c).After-is_rule in
     let terminal : c.in_ok-entry.entry.symbol < length now.rules.alphabet =
     leb-false _ _ (sym c.is_rule.ensures ∙ c.if-is_rule.false) in
     let here = c.after-next.result in
     let kept : here.instant ≡ to_z w64 (of_z w64 here.instant) = omega (arith, ints) in
     let rest = stops_left now.rules walk.from walk.to here now.symbols in
     turn-found _ _ _ _ _ _ _ _ _ c.next.new.steps _ c.loop-self.invariant c.in_ok-entry.ensures.found
-    c.next.ensures.rules c.next.ensures.cost some open_end reached terminal
+    c.next.ensures.rules c.next.ensures.cost its.0 its.1 its.2 terminal
     ∙ ap (λ (next : Start). stop_at next.instant next.cell ∷ stops_left now.rules walk.from walk.to next now.symbols)
     (sym c.after-next.ensures)
     ∙ ap (λ z. stop_at z here.cell ∷ rest) kept

@@ -1,8 +1,19 @@
-use Rattle.std.proofs.Common.{◌+◌, arith, sym, ◌∙◌}
+use Rattle.std.proofs.Common.{◌+◌, arith, sym, ◌∙◌, ◌<◌}
 use Rattle.object_perm.proofs.WalkLemmas.{along-zero, along-next}
 use Rattle.object_perm.proofs.InverseLemmas.{inverse_of-at}
 use Rattle.object_perm.proofs.SearchLemmas.{IsTarget, beyond-more, passed-more, few_moves, first_target, indexed-same}
+use Rattle.object_perm.proofs.perm.Perm.inverse.Given.{Over}
 use Rattle.object_perm.proofs.perm.Perm.inverse.Goals as goal
+use Rattle.object_perm.proofs.perm.Perm.inverse.Goals.{After-value_at-next}
+
+-- where there is no target yet, the walk has not come round
+moved_few : (g : Over) (c : After-value_at-next g) → c.loop-target.invariant.moves < 16
+moved_few g c =
+    let indexed = indexed-same c.self.inside.values c.args.self.now c.self.inside.shortcuts c.self.view_is c.self.invariant in
+    let walk = c.loop-target.invariant in
+    few_moves c.args.self.now c.self.inside.shortcuts c.args.v walk.moves c.loop-target.place
+    (indexed.lead_back.ahead c.args.v c.requires) walk.path (sym c.get.ensures.value ∙ c.in_default.is) walk.passed
+    walk.beyond
 
 pub loop-target-init : goal.loop-target-init
 loop-target-init g c =
@@ -37,20 +48,14 @@ returns-in-Some-clause-cost g c =
 
 pub returns-then-next-v-clause-cost : goal.returns-then-next-v-clause-cost
 returns-then-next-v-clause-cost g c =
-    let indexed = indexed-same c.self.inside.values c.args.self.now c.self.inside.shortcuts c.self.view_is c.self.invariant in
     let walk = c.loop-target.invariant in
-    let few = few_moves c.args.self.now c.self.inside.shortcuts c.args.v walk.moves c.loop-target.place
-    (indexed.lead_back.ahead c.args.v c.requires) walk.path
-    (sym c.get.ensures.value ∙ c.in_default.is) walk.passed walk.beyond in
+    let few = moved_few g (goal.at.returns-then-next-v-clause-cost g c).After-value_at-next in
     omega (arith, few, walk.cost, c.in_default.ensures.cost, c.value_at-next.ensures.cost)
 
 pub loop-target-smaller : goal.loop-target-smaller
 loop-target-smaller g c =
-    let indexed = indexed-same c.self.inside.values c.args.self.now c.self.inside.shortcuts c.self.view_is c.self.invariant in
     let walk = c.loop-target.invariant in
-    let few = few_moves c.args.self.now c.self.inside.shortcuts c.args.v walk.moves c.loop-target.place
-    (indexed.lead_back.ahead c.args.v c.requires) walk.path
-    (sym c.get.ensures.value ∙ c.in_default.is) walk.passed walk.beyond in
+    let few = moved_few g (goal.at.loop-target-smaller g c).After-value_at-next in
     omega (arith, few, walk.cost, c.in_default.ensures.cost, c.value_at-next.ensures.cost)
 
 pub loop-target-preserved : goal.loop-target-preserved

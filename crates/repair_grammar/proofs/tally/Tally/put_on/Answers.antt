@@ -1,6 +1,6 @@
 use Rattle.std.proofs.Common.{ℕ, ◌+◌, Some, List, [], take, get_or, arith}
 use Rattle.repair_grammar.specs.Kept.{times_in, times_of}
-use Rattle.repair_grammar.proofs.WalkLemmas.{times_in-none, times_in-more, times_in-take-le, times_in-all, times_of-own}
+use Rattle.repair_grammar.proofs.WalkLemmas.{times_in-none, times_in-before, times_in-more, times_in-all}
 use Rattle.repair_grammar.proofs.TallyLemmas.{after_none, after_by, after_then}
 use Rattle.repair_grammar.proofs.tally.Tally.put_on.Goals as goal
 
@@ -14,9 +14,7 @@ raise-requires c = record {
       let pair : ℕ × ℕ = get_or c.args.pairs.now c.loop-pair.pair-index (0, 0) in
       omega (
         arith,
-        times_in-more c.args.pairs.now c.loop-pair.pair-index (0, 0) pair c.loop-pair-test.true,
-        times_in-take-le c.args.pairs.now (c.loop-pair.pair-index + 1) pair,
-        times_of-own pair,
+        times_in-before c.args.pairs.now c.loop-pair.pair-index c.loop-pair-test.true,
         c.loop-pair.invariant.counts pair,
         c.requires.room pair,
       );

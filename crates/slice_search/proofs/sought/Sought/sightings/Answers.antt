@@ -1,11 +1,12 @@
 use Rattle.std.proofs.Common.{◌≡◌, w64, to_z, of_z, arith, ap, ◌∙◌}
 use Rattle.std.proofs.lemmas.Int.{ints}
+use Rattle.std.proofs.lemmas.Result.{IfOk-weaker}
 use Rattle.snapshots.specs.SoundParts.{IsValid}
 use Rattle.slice_search.specs.Reach.{may_reach, may_reach_in, short_width}
 use Rattle.slice_search.specs.Sightings.{AreSightings}
 use Rattle.slice_search.proofs.CostLemmas.{walk-cost}
 use Rattle.slice_search.proofs.ReachLemmas.{may_reach-same}
-use Rattle.slice_search.proofs.WalkLemmas.{blocks-seen, on_ok, AreSightings-made}
+use Rattle.slice_search.proofs.WalkLemmas.{blocks-seen, AreSightings-made}
 use Rattle.slice_search.proofs.sought.Sought.sightings.Goals as goal
 use Rattle.slice_search.proofs.sought.Sought.sightings.Given.{Over}
 use Rattle.slice_search.proofs.sought.Sought.sightings.Goals.{After-new-reach}
@@ -30,11 +31,11 @@ found_in-requires g c =
 pub returns-clause-ok : goal.returns-clause-ok
 returns-clause-ok g c =
     let self = c.args.self.now in
-    on_ok _ (λ found. AreSightings self.stores.now self.period self.instant self.test.now.region found.items)
+    IfOk-weaker c.found_in.result _ (λ found. AreSightings self.stores.now self.period self.instant self.test.now.region found.items)
     (λ found are.
     AreSightings-made self.stores.now self.period self.instant self.test.now.region _ _ c.snapshot.ensures.value
     (kept_is g (goal.at.returns-clause-ok g c).After-new-reach) _ c.objects_in-blocks.ensures.blocks
-    c.objects_in-blocks.ensures.wanted found.items are) c.found_in.result c.found_in.ensures.ok
+    c.objects_in-blocks.ensures.wanted found.items are) c.found_in.ensures.ok
 
 pub returns-clause-cost : goal.returns-clause-cost
 returns-clause-cost g c =
