@@ -1,8 +1,8 @@
 -- Which boxes are within reach, where they are cut to the grid: each that is, is within reach uncut, and each that holds the
 -- anchor of a block which is seen.
-use Rattle.std.proofs.Common.{◌≡◌, ℕ, ◌-◌, ◌^◌, ◌<◌, ◌≤◌, ℤ, pos, ◌+ℤ◌, ◌-ℤ◌, ◌≤ℤ◌, true}
+use Rattle.std.proofs.Common.{◌≡◌, ℕ, ◌-◌, ◌^◌, ◌<◌, ◌≤◌, ℤ, pos, ◌+ℤ◌, ◌-ℤ◌, ◌≤ℤ◌, true, Bool, refl, sym}
 use Rattle.std.proofs.Common.{false, inl, inr, ap, ◌∙◌, arith}
-use Rattle.std.specs.Prelude.{min, unsigned_abs}
+use Rattle.std.specs.Prelude.{min, unsigned_abs, ◌&&◌}
 use Rattle.std.specs.Int.{int_max, int_min}
 use Rattle.std.specs.Int.Signed.{le_z}
 use Rattle.std.proofs.lemmas.Bool.{and_from, and_parts, cases_Bool}
@@ -23,6 +23,15 @@ use Rattle.k2_tree.specs.Pruning.{IsKeptFor, IsWeaker}
 use Rattle.snapshots.specs.Speed.{gap, width_at}
 use Rattle.slice_search.specs.Cost.{cell_box, is_within_reach}
 use Rattle.slice_search.specs.Reach.{cut, cut_box, grid_of, may_reach, may_reach_in, meets, short_width}
+
+-- what both tests say, from the first
+pub both-hold : (a b result : Bool) → a ≡ true → result ≡ b → result ≡ (a && b)
+both-hold a b result first second = rw first second
+
+pub one-fails : (a b result : Bool) → result ≡ a → result ≡ false → result ≡ (a && b)
+one-fails a b result is fails =
+    let first : a ≡ false = sym is ∙ fails in
+    rw (first, fails) refl
 
 -- a number between cut bounds is between both pairs of bounds, where these overlap
 is_between-uncut : (low high first last z : ℤ) → low ≤ℤ high → overlaps low high first last ≡ true

@@ -12,8 +12,9 @@ use Rattle.bit_rank.specs.Bits.{rank_of}
 use Rattle.bit_rank.proofs.RankLemmas.{rank_of-le, rank_of-step}
 use Rattle.list_laws.proofs.FindLemmas.{find_in_range-all, find_in_range-none}
 use Rattle.object_perm.proofs.FlawLemmas.{first_flaw-permutes, permutes-from_none}
-use Rattle.track_types.specs.Frame.{instants_in}
+use Rattle.track_types.specs.Frame.{instants_in, IsFrame}
 use Rattle.track_types.specs.declared.cell.Cell.{Cell}
+use Rattle.track_types.specs.declared.frame.Frame.{Frame}
 use Rattle.k2_tree.specs.Morton.{IsGrid}
 use Rattle.k2_tree.specs.Tree.{codes_of, tree_bits, tree_of}
 use Rattle.k2_tree.specs.TreeBits.{morton_bits}
@@ -67,18 +68,16 @@ ascends lasts perm p (suc q) none long less within same =
       | inr not ↦ let here : p ≡ q = omega arith in rw here up
     ]
 
--- the grid of a header in its ranges
-IsGrid-shaped : (view : SnapshotView) → IsShaped view → IsGrid view.frame.height view.frame.base
-IsGrid-shaped view shaped =
-    let header = shaped.header in
-    record {
-      some = header.some;
-      limit = header.limit;
-      left = omega (arith, ints, header.columns.low);
-      right = omega (arith, ints, header.columns.high);
-      below = omega (arith, ints, header.lines.low);
-      above = omega (arith, ints, header.lines.high);
-    }
+-- the grid of a header
+pub IsGrid-frame : (frame : Frame) → IsFrame frame → IsGrid frame.height frame.base
+IsGrid-frame frame is = record {
+  some = is.some;
+  limit = is.limit;
+  left = omega (arith, ints, is.columns.low);
+  right = omega (arith, ints, is.columns.high);
+  below = omega (arith, ints, is.lines.low);
+  above = omega (arith, ints, is.lines.high);
+}
 
 -- bits without a flaw are those of the tree that they tell
 stands : (height : ℕ) (base : Cell) (bits : List Bool) → IsGrid height base → length bits ≤ 2 ^ 31
@@ -101,7 +100,7 @@ IsSound-flawless view shaped none =
     record {
       offsets = All-from_get_or (λ x. x < instants_in view.frame view.number) view.parts.offsets 0 (λ i within.
           leb-false _ _ (find_in_range-all _ 0 (length view.parts.offsets) flawless.offsets i (omega arith) (omega arith)));
-      tree = stands view.frame.height view.frame.base view.parts.tree (IsGrid-shaped view shaped) shaped.bits
+      tree = stands view.frame.height view.frame.base view.parts.tree (IsGrid-frame view.frame shaped.header) shaped.bits
           flawless.tree;
       cells = cells.0;
       last = cells.1;

@@ -2,16 +2,8 @@ use Rattle.std.proofs.Common.{◌≡◌, Bool, true, false, refl, rules, sym, �
 use Rattle.std.specs.Prelude.{◌&&◌, FitsSigned}
 use Rattle.std.proofs.lemmas.Int.{to_z-of_z}
 use Rattle.track_types.specs.Region.{overlaps}
+use Rattle.slice_search.proofs.ReachLemmas.{both-hold, one-fails}
 use Rattle.slice_search.proofs.reach.meets.Goals as goal
-
--- the test of both axes, from the first
-both-met : (a b result : Bool) → a ≡ true → result ≡ b → result ≡ (a && b)
-both-met a b result first second = rw first second
-
-none-met : (a b result : Bool) → result ≡ a → result ≡ false → result ≡ (a && b)
-none-met a b result is fails =
-    let first : a ≡ false = sym is ∙ fails in
-    rw (first, fails) refl
 
 pub returns-then-overlaps : goal.returns-then-overlaps
 returns-then-overlaps c =
@@ -29,7 +21,7 @@ returns-then-overlaps c =
     (rw (to_z-of_z w64 _ x1, to_z-of_z w64 _ x2, to_z-of_z w64 _ left, to_z-of_z w64 _ right) at (sym c.overlaps.ensures)) ∙ c.if-overlaps.true in
     let along : c.overlaps-then-overlaps.result ≡ overlaps a.y1 a.y2 b.y1 b.y2 =
     rw (to_z-of_z w64 _ y1, to_z-of_z w64 _ y2, to_z-of_z w64 _ lower, to_z-of_z w64 _ upper) at c.overlaps-then-overlaps.ensures in
-    both-met (overlaps a.x1 a.x2 b.x1 b.x2) (overlaps a.y1 a.y2 b.y1 b.y2) _ across along
+    both-hold (overlaps a.x1 a.x2 b.x1 b.x2) (overlaps a.y1 a.y2 b.y1 b.y2) _ across along
 
 pub returns-else-overlaps : goal.returns-else-overlaps
 returns-else-overlaps c =
@@ -41,4 +33,4 @@ returns-else-overlaps c =
     let right : FitsSigned w64 b.x2 = search rules in
     let across : c.overlaps.result ≡ overlaps a.x1 a.x2 b.x1 b.x2 =
     rw (to_z-of_z w64 _ x1, to_z-of_z w64 _ x2, to_z-of_z w64 _ left, to_z-of_z w64 _ right) at c.overlaps.ensures in
-    none-met (overlaps a.x1 a.x2 b.x1 b.x2) (overlaps a.y1 a.y2 b.y1 b.y2) _ across c.if-overlaps.false
+    one-fails (overlaps a.x1 a.x2 b.x1 b.x2) (overlaps a.y1 a.y2 b.y1 b.y2) _ across c.if-overlaps.false

@@ -4,16 +4,8 @@ use Rattle.track_types.specs.Region.{intersects_region}
 use Rattle.track_types.specs.Widening.{widened}
 use Rattle.track_types.specs.declared.cell_box.CellBox.{CellBox}
 use Rattle.slice_search.specs.Reach.{cut_box, may_reach, meets}
+use Rattle.slice_search.proofs.ReachLemmas.{both-hold, one-fails}
 use Rattle.slice_search.proofs.reach.ReachKeep.keep.Goals as goal
-
--- what both tests say, from the first
-both-hold : (a b result : Bool) → a ≡ true → result ≡ b → result ≡ (a && b)
-both-hold a b result first second = rw first second
-
-one-fails : (a b result : Bool) → result ≡ a → result ≡ false → result ≡ (a && b)
-one-fails a b result is fails =
-    let first : a ≡ false = sym is ∙ fails in
-    rw (first, fails) refl
 
 pub returns-then-meets : goal.returns-then-meets
 unfolding may_reach
