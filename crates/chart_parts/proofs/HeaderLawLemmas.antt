@@ -24,17 +24,6 @@ use Rattle.track_types.specs.declared.limit.LimitKind.TheVariants.{Blocks}
 use Rattle.track_types.specs.declared.row.Row.{Row}
 use Rattle.chart_parts.specs.Header.{frame_of, height_for}
 
--- the grid of a header
-pub IsGrid-frame : (frame : Frame) → IsFrame frame → IsGrid frame.height frame.base
-IsGrid-frame frame is = record {
-  some = is.some;
-  limit = is.limit;
-  left = omega (arith, ints, is.columns.low);
-  right = omega (arith, ints, is.columns.high);
-  below = omega (arith, ints, is.lines.low);
-  above = omega (arith, ints, is.lines.high);
-}
-
 -- the grid is as wide as what it is made for, and no greater than a header may say
 height_for-wide : (extent : ℕ) → extent ≤ 2 ^ 20 → (height_for extent ≤ 20) × (extent ≤ 2 ^ height_for extent)
 height_for-wide extent short =

@@ -17,9 +17,10 @@ use Rattle.movement_log.proofs.KeyOrderLemmas.{IsNonDecreasingBy-by_key}
 use Rattle.chart_parts.specs.Header.{frame_of}
 use Rattle.chart_parts.specs.PartsOf.{grammar_of, is_present, logged_anchors}
 use Rattle.chart_parts.specs.PeriodWith.{AreBlocksOf, Climbs, IsBlockOf, blocks_in}
+use Rattle.snapshots.proofs.SoundLemmas.{IsGrid-frame}
 use Rattle.chart_parts.proofs.CellLemmas.{Contains-block_anchors}
 use Rattle.chart_parts.proofs.GrammarLemmas.{IsGrammarOf-chart, few_terminals, firsts-logged_anchors}
-use Rattle.chart_parts.proofs.HeaderLawLemmas.{IsFrame-frame_of, IsGrid-frame, row-in_grid}
+use Rattle.chart_parts.proofs.HeaderLawLemmas.{IsFrame-frame_of, row-in_grid}
 use Rattle.chart_parts.proofs.ObjectLemmas.{Contains-objects_of}
 use Rattle.chart_parts.proofs.PresenceLemmas.{filter-is_present}
 use Rattle.chart_parts.proofs.OwnPeriodLemmas.{Climbs-rising, headed, heads-own, own_blocks, own_blocks-headed, row_period}

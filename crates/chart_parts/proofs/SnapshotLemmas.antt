@@ -25,7 +25,8 @@ use Rattle.movement_log.specs.Logs.{anchors_in}
 use Rattle.chart_parts.specs.Header.{frame_of}
 use Rattle.chart_parts.specs.LeafOrder.{distinct_codes, leaf_codes, leaf_order}
 use Rattle.chart_parts.specs.PartsOf.{anchor_codes, parts_of, period_of_chart}
-use Rattle.chart_parts.proofs.HeaderLawLemmas.{IsFrame-frame_of, IsGrid-frame}
+use Rattle.snapshots.proofs.SoundLemmas.{IsGrid-frame}
+use Rattle.chart_parts.proofs.HeaderLawLemmas.{IsFrame-frame_of}
 use Rattle.chart_parts.proofs.LeafEndLemmas.{All-distinct_codes, Rises-distinct_codes, distinct_codes-at_rank}
 use Rattle.chart_parts.proofs.LeafEndLemmas.{ends_of-last, ones_of-leaf_ends}
 use Rattle.chart_parts.proofs.LeafOrderLemmas.{PermutesPlaces-leaf_order, leaf_order-before, length-leaf_order}

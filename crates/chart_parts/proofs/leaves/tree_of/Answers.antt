@@ -8,23 +8,25 @@ use Rattle.k2_tree.specs.TreeBits.{morton_bits}
 use Rattle.chart_parts.specs.declared.leaves.Leaf.{Leaf}
 use Rattle.chart_parts.proofs.TreeLemmas.{codes-of_cells, inside-of_cells, once}
 use Rattle.chart_parts.proofs.leaves.tree_of.Goals as goal
+use Rattle.chart_parts.proofs.leaves.tree_of.Goals.{After-as_slice-2}
+
+-- the cells are those of the leaves, each once
+cells_are : (c : After-as_slice-2)
+    → c.as_slice-2.result.now ≡ map (λ leaf. leaf.cell) (once c.args.frame c.args.leaves.items)
+cells_are c =
+    let kept = dedup_same _ (λ (a b : Leaf). a.code == b.code) _
+    (λ x y b f' x' y' k. search rules) _ _ c.dedup_by_key.ensures.filtered in
+    c.as_slice-2.ensures.value ∙ c.in_ok-cells.ensures
+    ∙ ap (map (λ leaf. leaf.cell)) (c.as_slice.ensures.value ∙ kept)
 
 pub build-requires-clause-inside : goal.build-requires-clause-inside
 build-requires-clause-inside c =
-    let kept = dedup_same _ (λ (a b : Leaf). a.code == b.code) _
-    (λ x y b f' x' y' k. search rules) _ _ c.dedup_by_key.ensures.filtered in
-    let cells : c.as_slice-2.result.now ≡ map (λ leaf. leaf.cell) (once c.args.frame c.args.leaves.items) =
-    c.as_slice-2.ensures.value ∙ c.in_ok-cells.ensures
-    ∙ ap (map (λ leaf. leaf.cell)) (c.as_slice.ensures.value ∙ kept) in
+    let cells = cells_are (goal.at.build-requires-clause-inside c).After-as_slice-2 in
     rw cells (inside-of_cells c.args.frame c.args.leaves.items c.requires.each)
 
 pub build-requires-clause-ascending : goal.build-requires-clause-ascending
 build-requires-clause-ascending c =
-    let kept = dedup_same _ (λ (a b : Leaf). a.code == b.code) _
-    (λ x y b f' x' y' k. search rules) _ _ c.dedup_by_key.ensures.filtered in
-    let cells : c.as_slice-2.result.now ≡ map (λ leaf. leaf.cell) (once c.args.frame c.args.leaves.items) =
-    c.as_slice-2.ensures.value ∙ c.in_ok-cells.ensures
-    ∙ ap (map (λ leaf. leaf.cell)) (c.as_slice.ensures.value ∙ kept) in
+    let cells = cells_are (goal.at.build-requires-clause-ascending c).After-as_slice-2 in
     rw (cells, codes-of_cells c.args.frame c.args.leaves.items c.requires.each)
     (IsStrictlyIncreasing-dedup (map (λ leaf. leaf.code) c.args.leaves.items) c.requires.sorted)
 
@@ -32,11 +34,7 @@ pub returns : goal.returns
 unfolding tree_bits
 returns c =
     let frame = c.args.frame in
-    let kept = dedup_same _ (λ (a b : Leaf). a.code == b.code) _
-    (λ x y b f' x' y' k. search rules) _ _ c.dedup_by_key.ensures.filtered in
-    let cells : c.as_slice-2.result.now ≡ map (λ leaf. leaf.cell) (once c.args.frame c.args.leaves.items) =
-    c.as_slice-2.ensures.value ∙ c.in_ok-cells.ensures
-    ∙ ap (map (λ leaf. leaf.cell)) (c.as_slice.ensures.value ∙ kept) in
+    let cells = cells_are (goal.at.returns c).After-as_slice-2 in
     record {
       ok =
           c.bits.ensures ∙ ap tree_bits c.in_ok-tree.ensures.ok
