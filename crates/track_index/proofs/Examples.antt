@@ -1,5 +1,5 @@
 -- The definitions, run on the parts of small charts, and on damaged ones.
-use Rattle.std.proofs.Common.{◌≡◌, ℕ, zero, suc, Bool, true, false, pos, neg_ℤ, List, [], ◌∷◌, None, Some, refl}
+use Rattle.std.proofs.Common.{◌≡◌, ℕ, zero, suc, Bool, true, false, pos, neg_ℤ, List, [], ◌∷◌, map, Option, None, Some, refl}
 use Rattle.bit_rank.specs.Bits.{rank_of}
 use Rattle.k2_tree.specs.Flaws.{group_flaw, level_flaw, tree_flaw}
 use Rattle.k2_tree.specs.Morton.{cell_of, column_of, row_of}
@@ -10,6 +10,7 @@ use Rattle.list_laws.specs.First.{first_of}
 use Rattle.list_laws.specs.Grown.{grown}
 use Rattle.packed_bits.specs.Bits.{ones_of}
 use Rattle.spiral_code.specs.Spiral.{move_of, ring_moves, ring_of_code, side_moves}
+use Rattle.track_types.specs.declared.flaw.Flaw.{Flaw}
 use Rattle.track_types.specs.declared.flaw.Kind.TheVariants as kind
 use Rattle.track_types.specs.declared.flaw.Section.TheVariants as section
 use Rattle.track_types.specs.declared.frame.Frame.{Frame}
@@ -70,73 +71,6 @@ with frame alphabet rules periods symbols = record {
 abbrev pub path : Parts
 path = with frame (2 ∷ 3 ∷ []) [] (block 0 (corner 2) 2 ∷ []) (0 ∷ 1 ∷ [])
 
-parts_of_a_path_have_no_flaw : check_flaw path ≡ None
-unfolding check_flaw grammar_flaw lengths_flaw snapshots_flaw first_of logs_flaw blocks_flaw all_blocks log_flaw
-    off_grid_at is_off_grid cell_after lasting start_in code_flaw rule_flaw symbol_flaw is_rule_flawed entry_of values_of
-    expansion_of grown displacement_of bounding_box_of box_round cells_along duration_of move_of ring_moves ring_of_code
-    side_moves row_of column_of cell_of picked codes_below codes_in longer rank_of ones_of group_flaw level_flaw tree_flaw
-parts_of_a_path_have_no_flaw = refl
-
--- a code of ring 5 in a grid of side 4
-a_long_movement_is_flawed : check_flaw (with frame (2 ∷ 100 ∷ []) [] (block 0 (corner 2) 2 ∷ []) (0 ∷ 1 ∷ []))
-    ≡ Some (flaw_in 0 section.Alphabet kind.Code 1)
-unfolding check_flaw grammar_flaw lengths_flaw snapshots_flaw first_of logs_flaw blocks_flaw all_blocks log_flaw
-    off_grid_at is_off_grid cell_after lasting start_in code_flaw rule_flaw symbol_flaw is_rule_flawed entry_of values_of
-    expansion_of grown displacement_of bounding_box_of box_round cells_along duration_of move_of ring_moves ring_of_code
-    side_moves row_of column_of cell_of picked codes_below codes_in longer rank_of ones_of group_flaw level_flaw tree_flaw
-a_long_movement_is_flawed = refl
-
-a_rule_of_itself_is_flawed : check_flaw (with frame (2 ∷ 3 ∷ []) ((2, 0) ∷ []) (block 0 (corner 2) 2 ∷ []) (0 ∷ 1 ∷ []))
-    ≡ Some (flaw_in 0 section.Rules kind.Rule 0)
-unfolding check_flaw grammar_flaw lengths_flaw snapshots_flaw first_of logs_flaw blocks_flaw all_blocks log_flaw
-    off_grid_at is_off_grid cell_after lasting start_in code_flaw rule_flaw symbol_flaw is_rule_flawed entry_of values_of
-    expansion_of grown displacement_of bounding_box_of box_round cells_along duration_of move_of ring_moves ring_of_code
-    side_moves row_of column_of cell_of picked codes_below codes_in longer rank_of ones_of group_flaw level_flaw tree_flaw
-a_rule_of_itself_is_flawed = refl
-
-an_unknown_symbol_is_flawed : check_flaw (with frame (2 ∷ 3 ∷ []) [] (block 0 (corner 2) 2 ∷ []) (0 ∷ 2 ∷ []))
-    ≡ Some (flaw_in 0 section.Log kind.Symbol 1)
-unfolding check_flaw grammar_flaw lengths_flaw snapshots_flaw first_of logs_flaw blocks_flaw all_blocks log_flaw
-    off_grid_at is_off_grid cell_after lasting start_in code_flaw rule_flaw symbol_flaw is_rule_flawed entry_of values_of
-    expansion_of grown displacement_of bounding_box_of box_round cells_along duration_of move_of ring_moves ring_of_code
-    side_moves row_of column_of cell_of picked codes_below codes_in longer rank_of ones_of group_flaw level_flaw tree_flaw
-an_unknown_symbol_is_flawed = refl
-
--- the anchor is late too
-a_length_too_small_is_flawed : check_flaw (with frame (2 ∷ 3 ∷ []) [] (block 4 (corner 2) 1 ∷ []) (0 ∷ 1 ∷ []))
-    ≡ Some (flaw_in 0 section.Lengths kind.Total 0)
-unfolding check_flaw grammar_flaw lengths_flaw snapshots_flaw first_of logs_flaw blocks_flaw all_blocks log_flaw
-    off_grid_at is_off_grid cell_after lasting start_in code_flaw rule_flaw symbol_flaw is_rule_flawed entry_of values_of
-    expansion_of grown displacement_of bounding_box_of box_round cells_along duration_of move_of ring_moves ring_of_code
-    side_moves row_of column_of cell_of picked codes_below codes_in longer rank_of ones_of group_flaw level_flaw tree_flaw
-a_length_too_small_is_flawed = refl
-
--- the third instant is the last
-a_late_anchor_is_flawed : check_flaw (with frame (2 ∷ 3 ∷ []) [] (block 3 (corner 2) 2 ∷ []) (0 ∷ 1 ∷ []))
-    ≡ Some (flaw_in 0 section.Offsets kind.Offset 0)
-unfolding check_flaw grammar_flaw lengths_flaw snapshots_flaw first_of logs_flaw blocks_flaw all_blocks log_flaw
-    off_grid_at is_off_grid cell_after lasting start_in code_flaw rule_flaw symbol_flaw is_rule_flawed entry_of values_of
-    expansion_of grown displacement_of bounding_box_of box_round cells_along duration_of move_of ring_moves ring_of_code
-    side_moves row_of column_of cell_of picked codes_below codes_in longer rank_of ones_of group_flaw level_flaw tree_flaw
-a_late_anchor_is_flawed = refl
-
--- the fourth of these movements leaves the grid, and only two would last to the end
-leaving_the_grid_comes_before_the_duration : check_flaw (with frame (2 ∷ 3 ∷ []) [] (block 0 (corner 2) 4 ∷ []) (1 ∷ 1 ∷ 1 ∷ 1 ∷ []))
-    ≡ Some (flaw_in 0 section.Log kind.OffGrid 3)
-unfolding check_flaw grammar_flaw lengths_flaw snapshots_flaw first_of logs_flaw blocks_flaw all_blocks log_flaw
-    off_grid_at is_off_grid cell_after lasting start_in code_flaw rule_flaw symbol_flaw is_rule_flawed entry_of values_of
-    expansion_of grown displacement_of bounding_box_of box_round cells_along duration_of move_of ring_moves ring_of_code
-    side_moves row_of column_of cell_of picked codes_below codes_in longer rank_of ones_of group_flaw level_flaw tree_flaw
-leaving_the_grid_comes_before_the_duration = refl
-
-a_short_log_is_flawed : check_flaw (with frame (2 ∷ 3 ∷ []) [] (block 0 (corner 2) 1 ∷ []) (0 ∷ []))
-    ≡ Some (flaw_in 0 section.Lengths kind.Duration 0)
-unfolding check_flaw grammar_flaw lengths_flaw snapshots_flaw first_of logs_flaw blocks_flaw all_blocks log_flaw
-    off_grid_at is_off_grid cell_after lasting start_in code_flaw rule_flaw symbol_flaw is_rule_flawed entry_of values_of
-    expansion_of grown displacement_of bounding_box_of box_round cells_along duration_of move_of ring_moves ring_of_code
-    side_moves row_of column_of cell_of picked codes_below codes_in longer rank_of ones_of group_flaw level_flaw tree_flaw
-a_short_log_is_flawed = refl
-
 -- two periods of two instants
 abbrev halves : Frame
 halves = record {
@@ -148,62 +82,6 @@ halves = record {
   cell = 1;
   tick = 1;
 }
-
--- the second period's anchor is late, and the first one's bits tell no tree
-earlier_periods_come_first : check_flaw (with halves (2 ∷ 3 ∷ []) [] (block 0 (corner 1) 1 ∷ block 2 (corner 2) 1 ∷ []) (0 ∷ 1 ∷ []))
-    ≡ Some (flaw_in 0 section.Tree kind.Tree 4)
-unfolding check_flaw grammar_flaw lengths_flaw snapshots_flaw first_of logs_flaw blocks_flaw all_blocks log_flaw
-    off_grid_at is_off_grid cell_after lasting start_in code_flaw rule_flaw symbol_flaw is_rule_flawed entry_of values_of
-    expansion_of grown displacement_of bounding_box_of box_round cells_along duration_of move_of ring_moves ring_of_code
-    side_moves row_of column_of cell_of picked codes_below codes_in longer rank_of ones_of group_flaw level_flaw tree_flaw
-earlier_periods_come_first = refl
-
--- the first period's log is too long, and the second one's anchor is late
-periods_come_before_logs : check_flaw (with halves (2 ∷ 3 ∷ []) [] (block 0 (corner 2) 2 ∷ block 2 (corner 2) 0 ∷ []) (0 ∷ 1 ∷ []))
-    ≡ Some (flaw_in 1 section.Offsets kind.Offset 0)
-unfolding check_flaw grammar_flaw lengths_flaw snapshots_flaw first_of logs_flaw blocks_flaw all_blocks log_flaw
-    off_grid_at is_off_grid cell_after lasting start_in code_flaw rule_flaw symbol_flaw is_rule_flawed entry_of values_of
-    expansion_of grown displacement_of bounding_box_of box_round cells_along duration_of move_of ring_moves ring_of_code
-    side_moves row_of column_of cell_of picked codes_below codes_in longer rank_of ones_of group_flaw level_flaw tree_flaw
-periods_come_before_logs = refl
-
--- one symbol is missing, which is told in the last period
-the_total_is_told_in_the_last_period : check_flaw (with halves (2 ∷ 3 ∷ []) [] (block 0 (corner 2) 1 ∷ block 0 (corner 2) 0 ∷ []) (0 ∷ 1 ∷ []))
-    ≡ Some (flaw_in 1 section.Lengths kind.Total 0)
-unfolding check_flaw grammar_flaw lengths_flaw snapshots_flaw first_of logs_flaw blocks_flaw all_blocks log_flaw
-    off_grid_at is_off_grid cell_after lasting start_in code_flaw rule_flaw symbol_flaw is_rule_flawed entry_of values_of
-    expansion_of grown displacement_of bounding_box_of box_round cells_along duration_of move_of ring_moves ring_of_code
-    side_moves row_of column_of cell_of picked codes_below codes_in longer rank_of ones_of group_flaw level_flaw tree_flaw
-the_total_is_told_in_the_last_period = refl
-
-opening_a_path_reads_201 : open_cost path ≡ 201
-unfolding open_cost blocks_reads all_blocks squares_above squares_from prefixes picked codes_below codes_in longer
-    row_of column_of cell_of rank_of ones_of start_in
-opening_a_path_reads_201 = refl
-
-a_position_reads_136 : position_cost path 7 (pos 2) ≡ 136
-unfolding position_cost path_cost depth_in grown all_blocks picked codes_below codes_in longer row_of column_of cell_of
-    rank_of ones_of start_in block_budget nodes_in opened_count parsed values_of expansion_of bounding_box_of box_round
-    cells_along move_of ring_moves ring_of_code side_moves
-a_position_reads_136 = refl
-
-a_position_of_no_object_reads_nothing : position_cost path 8 (pos 2) ≡ 0
-unfolding position_cost path_cost depth_in grown all_blocks picked codes_below codes_in longer row_of column_of cell_of
-    rank_of ones_of start_in block_budget nodes_in opened_count parsed values_of expansion_of bounding_box_of box_round
-    cells_along move_of ring_moves ring_of_code side_moves
-a_position_of_no_object_reads_nothing = refl
-
-a_position_after_the_last_instant_reads_nothing : position_cost path 7 (pos 3) ≡ 0
-unfolding position_cost path_cost depth_in grown all_blocks picked codes_below codes_in longer row_of column_of cell_of
-    rank_of ones_of start_in block_budget nodes_in opened_count parsed values_of expansion_of bounding_box_of box_round
-    cells_along move_of ring_moves ring_of_code side_moves
-a_position_after_the_last_instant_reads_nothing = refl
-
-a_path_reads_136 : path_cost path 7 (pos 0) (pos 9) ≡ 136
-unfolding position_cost path_cost depth_in grown all_blocks picked codes_below codes_in longer row_of column_of cell_of
-    rank_of ones_of start_in block_budget nodes_in opened_count parsed values_of expansion_of bounding_box_of box_round
-    cells_along move_of ring_moves ring_of_code side_moves
-a_path_reads_136 = refl
 
 -- one object that is absent at the second instant, in a grid of side 2 that begins at (-1, 5)
 abbrev pub absent : Parts
@@ -224,24 +102,6 @@ absent = record {
   symbols = 0 ∷ 1 ∷ [];
 }
 
-an_absence_has_no_flaw : check_flaw absent ≡ None
-unfolding check_flaw grammar_flaw lengths_flaw snapshots_flaw first_of logs_flaw blocks_flaw all_blocks log_flaw
-    off_grid_at is_off_grid cell_after lasting start_in code_flaw rule_flaw symbol_flaw is_rule_flawed entry_of values_of
-    expansion_of grown displacement_of bounding_box_of box_round cells_along duration_of move_of ring_moves ring_of_code
-    side_moves row_of column_of cell_of picked codes_below codes_in longer rank_of ones_of group_flaw level_flaw tree_flaw
-an_absence_has_no_flaw = refl
-
-opening_it_reads_149 : open_cost absent ≡ 149
-unfolding open_cost blocks_reads all_blocks squares_above squares_from prefixes picked codes_below codes_in longer
-    row_of column_of cell_of rank_of ones_of start_in
-opening_it_reads_149 = refl
-
-its_path_reads_95 : path_cost absent 9 (pos 0) (pos 2) ≡ 95
-unfolding position_cost path_cost depth_in grown all_blocks picked codes_below codes_in longer row_of column_of cell_of
-    rank_of ones_of start_in block_budget nodes_in opened_count parsed values_of expansion_of bounding_box_of box_round
-    cells_along move_of ring_moves ring_of_code side_moves
-its_path_reads_95 = refl
-
 -- one object that moves to the right four times, by one rule that stands twice
 abbrev pub repeated : Parts
 repeated = record {
@@ -261,27 +121,102 @@ repeated = record {
   symbols = 1 ∷ 1 ∷ [];
 }
 
-a_rule_has_no_flaw : check_flaw repeated ≡ None
+-- parts, sound and damaged, and the first flaw of each
+abbrev told : List (Parts × Option Flaw)
+told =
+    -- parts of a path have no flaw
+    (path, None) ∷
+    -- a long movement is flawed: a code of ring 5 in a grid of side 4
+    (
+      with frame (2 ∷ 100 ∷ []) [] (block 0 (corner 2) 2 ∷ []) (0 ∷ 1 ∷ []),
+      Some (flaw_in 0 section.Alphabet kind.Code 1),
+    ) ∷
+    -- a rule of itself is flawed
+    (
+      with frame (2 ∷ 3 ∷ []) ((2, 0) ∷ []) (block 0 (corner 2) 2 ∷ []) (0 ∷ 1 ∷ []),
+      Some (flaw_in 0 section.Rules kind.Rule 0),
+    ) ∷
+    -- an unknown symbol is flawed
+    (
+      with frame (2 ∷ 3 ∷ []) [] (block 0 (corner 2) 2 ∷ []) (0 ∷ 2 ∷ []),
+      Some (flaw_in 0 section.Log kind.Symbol 1),
+    ) ∷
+    -- a length too small is flawed: the anchor is late too
+    (
+      with frame (2 ∷ 3 ∷ []) [] (block 4 (corner 2) 1 ∷ []) (0 ∷ 1 ∷ []),
+      Some (flaw_in 0 section.Lengths kind.Total 0),
+    ) ∷
+    -- a late anchor is flawed: the third instant is the last
+    (
+      with frame (2 ∷ 3 ∷ []) [] (block 3 (corner 2) 2 ∷ []) (0 ∷ 1 ∷ []),
+      Some (flaw_in 0 section.Offsets kind.Offset 0),
+    ) ∷
+    -- leaving the grid comes before the duration: the fourth of these movements does, and only two would last to the
+    -- end
+    (
+      with frame (2 ∷ 3 ∷ []) [] (block 0 (corner 2) 4 ∷ []) (1 ∷ 1 ∷ 1 ∷ 1 ∷ []),
+      Some (flaw_in 0 section.Log kind.OffGrid 3),
+    ) ∷
+    -- a short log is flawed
+    (
+      with frame (2 ∷ 3 ∷ []) [] (block 0 (corner 2) 1 ∷ []) (0 ∷ []),
+      Some (flaw_in 0 section.Lengths kind.Duration 0),
+    ) ∷
+    -- earlier periods come first: the second period's anchor is late, and the first one's bits tell no tree
+    (
+      with halves (2 ∷ 3 ∷ []) [] (block 0 (corner 1) 1 ∷ block 2 (corner 2) 1 ∷ []) (0 ∷ 1 ∷ []),
+      Some (flaw_in 0 section.Tree kind.Tree 4),
+    ) ∷
+    -- periods come before logs: the first period's log is too long, and the second one's anchor is late
+    (
+      with halves (2 ∷ 3 ∷ []) [] (block 0 (corner 2) 2 ∷ block 2 (corner 2) 0 ∷ []) (0 ∷ 1 ∷ []),
+      Some (flaw_in 1 section.Offsets kind.Offset 0),
+    ) ∷
+    -- the total is told in the last period: one symbol is missing
+    (
+      with halves (2 ∷ 3 ∷ []) [] (block 0 (corner 2) 1 ∷ block 0 (corner 2) 0 ∷ []) (0 ∷ 1 ∷ []),
+      Some (flaw_in 1 section.Lengths kind.Total 0),
+    ) ∷
+    -- an absence has no flaw
+    (absent, None) ∷
+    -- a rule has no flaw
+    (repeated, None) ∷
+    []
+
+each_is_told : map (λ row. check_flaw row.0) told ≡ map (λ row. row.1) told
 unfolding check_flaw grammar_flaw lengths_flaw snapshots_flaw first_of logs_flaw blocks_flaw all_blocks log_flaw
     off_grid_at is_off_grid cell_after lasting start_in code_flaw rule_flaw symbol_flaw is_rule_flawed entry_of values_of
     expansion_of grown displacement_of bounding_box_of box_round cells_along duration_of move_of ring_moves ring_of_code
     side_moves row_of column_of cell_of picked codes_below codes_in longer rank_of ones_of group_flaw level_flaw tree_flaw
-a_rule_has_no_flaw = refl
+each_is_told = refl
 
-opening_it_reads_253 : open_cost repeated ≡ 253
+-- what opening reads
+opening_reads : map open_cost (path ∷ absent ∷ repeated ∷ []) ≡ 201 ∷ 149 ∷ 253 ∷ []
 unfolding open_cost blocks_reads all_blocks squares_above squares_from prefixes picked codes_below codes_in longer
     row_of column_of cell_of rank_of ones_of start_in
-opening_it_reads_253 = refl
+opening_reads = refl
 
-its_position_reads_178 : position_cost repeated 1 (pos 3) ≡ 178
+-- what positions and paths read, at most
+abbrev reads : List (ℕ × ℕ)
+reads =
+    -- a position
+    (position_cost path 7 (pos 2), 136) ∷
+    -- a position of no object reads nothing
+    (position_cost path 8 (pos 2), 0) ∷
+    -- a position after the last instant reads nothing
+    (position_cost path 7 (pos 3), 0) ∷
+    -- a path
+    (path_cost path 7 (pos 0) (pos 9), 136) ∷
+    -- a path with an absence
+    (path_cost absent 9 (pos 0) (pos 2), 95) ∷
+    -- a position by a rule
+    (position_cost repeated 1 (pos 3), 178) ∷
+    -- a path of which one rule meets the window
+    (path_cost repeated 1 (pos 2) (pos 3), 179) ∷
+    []
+
+each_reads_so : map (λ row. row.0) reads ≡ map (λ row. row.1) reads
 unfolding position_cost path_cost depth_in grown all_blocks picked codes_below codes_in longer row_of column_of cell_of
     rank_of ones_of start_in block_budget nodes_in opened_count parsed values_of expansion_of bounding_box_of box_round
     cells_along move_of ring_moves ring_of_code side_moves
-its_position_reads_178 = refl
-
--- one rule meets the window
-its_path_reads_179 : path_cost repeated 1 (pos 2) (pos 3) ≡ 179
-unfolding position_cost path_cost depth_in grown all_blocks picked codes_below codes_in longer row_of column_of cell_of
-    rank_of ones_of start_in block_budget nodes_in opened_count parsed values_of expansion_of bounding_box_of box_round
-    cells_along move_of ring_moves ring_of_code side_moves
-its_path_reads_179 = refl
+each_reads_so = refl

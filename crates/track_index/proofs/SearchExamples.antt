@@ -1,5 +1,5 @@
 -- The costs of searches, run on the parts of small charts.
-use Rattle.std.proofs.Common.{◌≡◌, ℕ, pos, neg_ℤ, true, false, [], ◌∷◌, refl}
+use Rattle.std.proofs.Common.{◌≡◌, ℕ, pos, neg_ℤ, true, false, [], ◌∷◌, refl, List, map}
 use Rattle.bit_rank.specs.Bits.{rank_of}
 use Rattle.k2_tree.specs.Morton.{cell_of, column_of, interleaved, morton_of, row_of}
 use Rattle.k2_tree.specs.Squares.{squares_above, squares_from}
@@ -26,76 +26,34 @@ use Rattle.nearest_search.specs.Cost.{nearest_cost}
 use Rattle.slice_search.specs.Cost.{period_search_cost, slice_cost}
 use Rattle.track_index.proofs.Examples.{absent, block, corner, path, repeated}
 
-a_slice_within_reach_reads_201 : slice_cost path (pos 1) (Rect (pos 9) (pos 9) (pos 12) (pos 12)) ≡ 201
-unfolding slice_cost period_search_cost touching_count blocks_speed log_speed cell_after lasting duration_of entry_of
-    interval_cost nearest_cost position_cost path_cost depth_in grown all_blocks squares_above squares_from prefixes picked
-    codes_below codes_in longer row_of column_of cell_of morton_of interleaved rank_of ones_of start_in block_budget nodes_in opened_count parsed
-    values_of expansion_of bounding_box_of box_round displacement_of cells_along move_of ring_moves ring_of_code side_moves
-a_slice_within_reach_reads_201 = refl
+-- what searches read, at most
+abbrev reads : List (ℕ × ℕ)
+reads =
+    -- a slice within reach
+    (slice_cost path (pos 1) (Rect (pos 9) (pos 9) (pos 12) (pos 12)), 201) ∷
+    -- an interval: as much as the paths of all objects
+    (interval_cost path (pos 0) (pos 9) (Rect (pos 0) (pos 0) (pos 12) (pos 12)), 136) ∷
+    -- the nearest: as much as the positions of all objects
+    (nearest_cost path 5 (pos 1) (record { x = pos 0; y = pos 0 }), 136) ∷
+    -- a slice round an absence
+    (slice_cost absent (pos 2) (Rect (neg_ℤ (pos 9)) (neg_ℤ (pos 9)) (pos 20) (pos 20)), 149) ∷
+    -- a slice of the grid alone: only the reach of the whole grid touches this region
+    (slice_cost repeated (pos 1) (Rect (pos 9) (pos 9) (pos 12) (pos 12)), 52) ∷
+    -- a slice of three squares: the reach of the anchor's cell does not touch it
+    (slice_cost repeated (pos 2) (Rect (pos 5) (pos 5) (pos 6) (pos 6)), 156) ∷
+    -- a slice that opens no rule
+    (slice_cost repeated (pos 3) (Rect (pos 1) (pos 1) (pos 1) (pos 1)), 253) ∷
+    -- a slice that opens a rule
+    (slice_cost repeated (pos 1) (Disc (pos 0) (pos 0) 2), 254) ∷
+    -- an interval of one rule
+    (interval_cost repeated (pos 0) (pos 5) (Rect (pos 5) (pos 5) (pos 6) (pos 6)), 179) ∷
+    -- the nearest of one
+    (nearest_cost repeated 2 (pos 3) (record { x = pos 100; y = pos 0 }), 178) ∷
+    []
 
--- as much as the paths of all objects
-an_interval_reads_136 : interval_cost path (pos 0) (pos 9) (Rect (pos 0) (pos 0) (pos 12) (pos 12)) ≡ 136
+each_reads_so : map (λ row. row.0) reads ≡ map (λ row. row.1) reads
 unfolding slice_cost period_search_cost touching_count blocks_speed log_speed cell_after lasting duration_of entry_of
     interval_cost nearest_cost position_cost path_cost depth_in grown all_blocks squares_above squares_from prefixes picked
     codes_below codes_in longer row_of column_of cell_of morton_of interleaved rank_of ones_of start_in block_budget nodes_in opened_count parsed
     values_of expansion_of bounding_box_of box_round displacement_of cells_along move_of ring_moves ring_of_code side_moves
-an_interval_reads_136 = refl
-
--- as much as the positions of all objects
-the_nearest_read_136 : nearest_cost path 5 (pos 1) (record { x = pos 0; y = pos 0 }) ≡ 136
-unfolding slice_cost period_search_cost touching_count blocks_speed log_speed cell_after lasting duration_of entry_of
-    interval_cost nearest_cost position_cost path_cost depth_in grown all_blocks squares_above squares_from prefixes picked
-    codes_below codes_in longer row_of column_of cell_of morton_of interleaved rank_of ones_of start_in block_budget nodes_in opened_count parsed
-    values_of expansion_of bounding_box_of box_round displacement_of cells_along move_of ring_moves ring_of_code side_moves
-the_nearest_read_136 = refl
-
-a_slice_round_an_absence_reads_149 : slice_cost absent (pos 2) (Rect (neg_ℤ (pos 9)) (neg_ℤ (pos 9)) (pos 20) (pos 20)) ≡ 149
-unfolding slice_cost period_search_cost touching_count blocks_speed log_speed cell_after lasting duration_of entry_of
-    interval_cost nearest_cost position_cost path_cost depth_in grown all_blocks squares_above squares_from prefixes picked
-    codes_below codes_in longer row_of column_of cell_of morton_of interleaved rank_of ones_of start_in block_budget nodes_in opened_count parsed
-    values_of expansion_of bounding_box_of box_round displacement_of cells_along move_of ring_moves ring_of_code side_moves
-a_slice_round_an_absence_reads_149 = refl
-
--- only the reach of the whole grid touches this region
-a_slice_of_the_grid_alone_reads_52 : slice_cost repeated (pos 1) (Rect (pos 9) (pos 9) (pos 12) (pos 12)) ≡ 52
-unfolding slice_cost period_search_cost touching_count blocks_speed log_speed cell_after lasting duration_of entry_of
-    interval_cost nearest_cost position_cost path_cost depth_in grown all_blocks squares_above squares_from prefixes picked
-    codes_below codes_in longer row_of column_of cell_of morton_of interleaved rank_of ones_of start_in block_budget nodes_in opened_count parsed
-    values_of expansion_of bounding_box_of box_round displacement_of cells_along move_of ring_moves ring_of_code side_moves
-a_slice_of_the_grid_alone_reads_52 = refl
-
--- the reach of the anchor's cell does not touch it
-a_slice_of_three_squares_reads_156 : slice_cost repeated (pos 2) (Rect (pos 5) (pos 5) (pos 6) (pos 6)) ≡ 156
-unfolding slice_cost period_search_cost touching_count blocks_speed log_speed cell_after lasting duration_of entry_of
-    interval_cost nearest_cost position_cost path_cost depth_in grown all_blocks squares_above squares_from prefixes picked
-    codes_below codes_in longer row_of column_of cell_of morton_of interleaved rank_of ones_of start_in block_budget nodes_in opened_count parsed
-    values_of expansion_of bounding_box_of box_round displacement_of cells_along move_of ring_moves ring_of_code side_moves
-a_slice_of_three_squares_reads_156 = refl
-
-a_slice_that_opens_no_rule_reads_253 : slice_cost repeated (pos 3) (Rect (pos 1) (pos 1) (pos 1) (pos 1)) ≡ 253
-unfolding slice_cost period_search_cost touching_count blocks_speed log_speed cell_after lasting duration_of entry_of
-    interval_cost nearest_cost position_cost path_cost depth_in grown all_blocks squares_above squares_from prefixes picked
-    codes_below codes_in longer row_of column_of cell_of morton_of interleaved rank_of ones_of start_in block_budget nodes_in opened_count parsed
-    values_of expansion_of bounding_box_of box_round displacement_of cells_along move_of ring_moves ring_of_code side_moves
-a_slice_that_opens_no_rule_reads_253 = refl
-
-a_slice_that_opens_a_rule_reads_254 : slice_cost repeated (pos 1) (Disc (pos 0) (pos 0) 2) ≡ 254
-unfolding slice_cost period_search_cost touching_count blocks_speed log_speed cell_after lasting duration_of entry_of
-    interval_cost nearest_cost position_cost path_cost depth_in grown all_blocks squares_above squares_from prefixes picked
-    codes_below codes_in longer row_of column_of cell_of morton_of interleaved rank_of ones_of start_in block_budget nodes_in opened_count parsed
-    values_of expansion_of bounding_box_of box_round displacement_of cells_along move_of ring_moves ring_of_code side_moves
-a_slice_that_opens_a_rule_reads_254 = refl
-
-an_interval_of_one_rule_reads_179 : interval_cost repeated (pos 0) (pos 5) (Rect (pos 5) (pos 5) (pos 6) (pos 6)) ≡ 179
-unfolding slice_cost period_search_cost touching_count blocks_speed log_speed cell_after lasting duration_of entry_of
-    interval_cost nearest_cost position_cost path_cost depth_in grown all_blocks squares_above squares_from prefixes picked
-    codes_below codes_in longer row_of column_of cell_of morton_of interleaved rank_of ones_of start_in block_budget nodes_in opened_count parsed
-    values_of expansion_of bounding_box_of box_round displacement_of cells_along move_of ring_moves ring_of_code side_moves
-an_interval_of_one_rule_reads_179 = refl
-
-the_nearest_of_one_reads_178 : nearest_cost repeated 2 (pos 3) (record { x = pos 100; y = pos 0 }) ≡ 178
-unfolding slice_cost period_search_cost touching_count blocks_speed log_speed cell_after lasting duration_of entry_of
-    interval_cost nearest_cost position_cost path_cost depth_in grown all_blocks squares_above squares_from prefixes picked
-    codes_below codes_in longer row_of column_of cell_of morton_of interleaved rank_of ones_of start_in block_budget nodes_in opened_count parsed
-    values_of expansion_of bounding_box_of box_round displacement_of cells_along move_of ring_moves ring_of_code side_moves
-the_nearest_of_one_reads_178 = refl
+each_reads_so = refl
