@@ -1,13 +1,13 @@
 -- The blocks of a period, put where their objects stand.
-use Rattle.std.proofs.Common.{◌≡◌, ◌≢◌, ◌⊎◌, ℕ, zero, suc, ◌+◌, ◌*◌, ◌<◌, ◌≤◌, Bool, true, false, eqb, List, [], ◌∷◌, length, get_or, set, map, All, Option, None, Some, inl, inr, refl, ap, sym, ◌∙◌, arith, subst}
-use Rattle.std.specs.Prelude.{if◌then◌else◌, replicate, slice_index_or}
+use Rattle.std.proofs.Common.{◌≡◌, ◌≢◌, ◌⊎◌, ℕ, ◌+◌, ◌*◌, ◌<◌, ◌≤◌, Bool, true, eqb, List, [], ◌∷◌, length, get_or, set, map, All, Option, None, Some, inl, inr, refl, ap, sym, ◌∙◌, arith, subst}
+use Rattle.std.specs.Prelude.{if◌then◌else◌, replicate}
 use Rattle.std.specs.List.{range_with_len, sum_by}
 use Rattle.std.proofs.lemmas.Bool.{cases_Bool}
 use Rattle.std.proofs.lemmas.Bool.Decides.{nat_tests}
 use Rattle.std.proofs.lemmas.List.{same_lists, get_or-set_same, get_or-set_other, get_or-replicate, get_or_default, length-set, length-replicate}
 use Rattle.std.proofs.lemmas.List.Sums.{sum_by-cons}
 use Rattle.std.proofs.lemmas.List.Elements.{All-tail}
-use Rattle.std.proofs.lemmas.Option.{none-some, same_Some, slice_get_within}
+use Rattle.std.proofs.lemmas.Option.{slice_get_within}
 use Rattle.std.proofs.lemmas.List.FromFn.{get_or-map-range_with_len, length-map-range_with_len}
 use Rattle.list_laws.proofs.SumLemmas.{sum_by-range_some}
 use Rattle.list_laws.proofs.FilterLemmas.{filter-all}
@@ -19,7 +19,7 @@ use Rattle.snapshots.specs.IndexCost.{blocks_reads, everywhere}
 use Rattle.snapshots.specs.Cost.{block_reads, square_reads}
 use Rattle.snapshots.specs.Objects.{wanted_blocks, WeighSame}
 use Rattle.snapshots.specs.Sound.{IsBlock, IsSnapshot}
-use Rattle.snapshots.specs.View.{SnapshotView, all_blocks, block_of, present_block, tree_in}
+use Rattle.snapshots.specs.View.{SnapshotView, all_blocks, block_of, tree_in}
 use Rattle.snapshots.specs.declared.anchored.Anchored.{Anchored}
 use Rattle.snapshots.proofs.BlockFactsLemmas.{present_block-is}
 
