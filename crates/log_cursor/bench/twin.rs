@@ -69,7 +69,10 @@ fn measure(store: &Store, period: u32, start: Place, log: &[u32], seeks: &mut Ta
     let mut state = 7u64;
     for _ in 0..1000 {
         state = next(state);
-        if let Some((x, y)) = seek(store, log, start, start.0 + i64::from((state >> 32) as u32 % period)) { seeks.add(x, y) }
+        match seek(store, log, start, start.0 + i64::from((state >> 32) as u32 % period)) {
+            Some((x, y)) => seeks.add(x, y),
+            None => seeks.add(0, 0),
+        }
     }
     seeks.nanos += begin.elapsed().as_nanos();
     let begin = Instant::now();
@@ -82,7 +85,7 @@ fn measure(store: &Store, period: u32, start: Place, log: &[u32], seeks: &mut Ta
 
 fn print(period: u32, seeks: &mut Tally, stops: &mut Tally) {
     if period > 0 {
-        println!("PERIOD {period}: seek {} found {} ns {}", seeks.sum, seeks.count, seeks.nanos);
+        println!("PERIOD {period}: seek {} calls {} ns {}", seeks.sum, seeks.count, seeks.nanos);
         println!("PERIOD {period}: walk {} stops {} ns {}", stops.sum, stops.count, stops.nanos);
     }
     (*seeks, *stops) = Default::default();
