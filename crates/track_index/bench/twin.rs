@@ -616,22 +616,25 @@ fn entries(frame: &Frame, alphabet: &[u64], rules: &[(u32, u32)], symbols: &[u32
     Some(entries)
 }
 
-// Whether a log stays in the grid and lasts for so many instants.
-fn is_sound(frame: &Frame, entries: &[Entry], log: &[u32], block: &Anchored, instants: u32) -> bool {
+// The speed of a log that stays in the grid and lasts for so many instants.
+fn speed_of(frame: &Frame, entries: &[Entry], log: &[u32], block: &Anchored, instants: u32) -> Option<u64> {
     let side = 1i64 << frame.height;
-    let (mut x, mut y, mut duration) = (block.x, block.y, 0);
+    let (mut x, mut y, mut duration, mut speed) = (block.x, block.y, 0, 0u64);
     for symbol in log {
         let entry = &entries[*symbol as usize];
         if let Some((x1, y1, x2, y2)) = hull(entry, x, y) {
             if x1 < frame.base.0 || x2 >= frame.base.0 + side || y1 < frame.base.1 || y2 >= frame.base.1 + side {
-                return false;
+                return None;
             }
+            let columns = x1.abs_diff(block.x).max(x2.abs_diff(block.x));
+            let lines = y1.abs_diff(block.y).max(y2.abs_diff(block.y));
+            speed = speed.max(columns.max(lines).div_ceil(duration + 1));
         }
         x += i64::from(entry.dx);
         y += i64::from(entry.dy);
         duration += u64::from(entry.duration);
     }
-    duration == u64::from(instants - 1 - block.offset)
+    (duration == u64::from(instants - 1 - block.offset)).then_some(speed)
 }
 
 struct Index {
@@ -642,7 +645,10 @@ struct Index {
     entries: Vec<Entry>,
     depth: u32,
     snapshots: Vec<Snapshot>,
+    speeds: Vec<u64>,
     symbols: Vec<u32>,
+    // How many microseconds the logs took.
+    join: u128,
 }
 
 fn check(parts: Parts) -> Option<Index> {
@@ -666,14 +672,16 @@ fn check(parts: Parts) -> Option<Index> {
         snapshots.push(Snapshot::check(&frame, instants(number), start, period)?);
         start += symbols;
     }
+    let start = Instant::now();
+    let mut speeds = vec![0; snapshots.len()];
     for (number, snapshot) in snapshots.iter().enumerate() {
         for block in snapshot.blocks(&frame, parts.objects.len()).iter().flatten() {
             let log = &parts.symbols[block.from as usize..(block.from + block.len) as usize];
-            if !is_sound(&frame, &entries, log, block, instants(number)) {
-                return None;
-            }
+            let speed = speed_of(&frame, &entries, log, block, instants(number))?;
+            speeds[number] = speed.max(speeds[number]);
         }
     }
+    let join = start.elapsed().as_micros();
     Some(Index {
         frame,
         objects: parts.objects,
@@ -682,7 +690,9 @@ fn check(parts: Parts) -> Option<Index> {
         entries,
         depth,
         snapshots,
+        speeds,
         symbols: parts.symbols,
+        join,
     })
 }
 
@@ -690,7 +700,7 @@ fn check(parts: Parts) -> Option<Index> {
 fn size(index: &Index) -> usize {
     let shortcuts = |s: &Snapshot| s.perm.groups.len() + s.perm.targets.len();
     let snapshots: usize = index.snapshots.iter().map(shortcuts).sum();
-    let lists = index.objects.len() + index.alphabet.len() + index.rules.len() + index.entries.len();
+    let lists = index.objects.len() + index.alphabet.len() + index.rules.len() + index.entries.len() + index.speeds.len();
     snapshots + lists + index.symbols.len() + index.frame.height as usize
 }
 
@@ -723,7 +733,7 @@ fn main() {
         let index = black_box(check(parts).unwrap());
         let took = start.elapsed().as_micros();
         black_box(size(&index));
-        println!("check {} {took} us", index.depth);
+        println!("check {} {took} us, {} us of them for the logs", index.depth, index.join);
         drop(index);
         let start = Instant::now();
         let index = black_box(decode(bytes).and_then(check).unwrap());
