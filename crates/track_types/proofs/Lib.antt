@@ -1,4 +1,6 @@
 pub mod Magnitudes
+pub mod Digits
+pub mod BareDigits
 pub mod QuantityLemmas
 pub mod RowLemmas
 pub mod RegionLemmas

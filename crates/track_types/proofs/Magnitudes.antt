@@ -1,6 +1,6 @@
 -- What digits mean, one digit after another.
-use Rattle.std.proofs.Common.{◌≡◌, add-one, true, ℕ, zero, suc, ◌+◌, ◌-◌, ◌*◌, ◌^◌, ◌<◌, ◌≤◌, List, [], ◌∷◌, ◌++◌, length, get_or, take, drop, refl, arith, length-append, add_assoc, subst}
-use Rattle.std.proofs.Math.Nat.{mul_assoc, add-mul, pow-le-pow_right, pow-suc}
+use Rattle.std.proofs.Common.{◌≡◌, true, ℕ, zero, suc, ◌+◌, ◌-◌, ◌*◌, ◌^◌, ◌<◌, ◌≤◌, List, [], ◌∷◌, ◌++◌, length, get_or, take, drop, refl, arith, length-append, add_assoc, subst}
+use Rattle.std.proofs.Math.Nat.{mul_assoc, add-mul, pow-suc}
 use Rattle.std.proofs.lemmas.Nat.{pow-add}
 use Rattle.std.proofs.lemmas.List.{take_more, take-append-drop}
 use Rattle.std.proofs.lemmas.Bool.Decides.{nat_tests}
@@ -18,7 +18,7 @@ pub magnitude_of-take : (digits : List ℕ) (i : ℕ) → i < length digits →
 magnitude_of-take digits i below = rw (take_more digits i 0 below, magnitude_of-append (take i digits) (get_or digits i 0 ∷ [])) (omega arith)
 
 -- digits in front mean no more than with those that follow
-le_pow : (m n : ℕ) → m ≤ m * 10 ^ n
+pub le_pow : (m n : ℕ) → m ≤ m * 10 ^ n
 le_pow m zero = omega arith
 le_pow m (suc n) =
     let before : m ≤ m * 10 ^ n = le_pow m n in
@@ -33,15 +33,6 @@ magnitude_of_before digits i =
     let P : List ℕ → Type 0 = λ all. magnitude_of (take i digits) ≤ magnitude_of all in
     subst P (take-append-drop i digits) (magnitude_of_front (take i digits) (drop i digits))
 
--- so few digits are below the power of ten of more
-pub below_power : (value i most : ℕ) → value < 10 ^ i → i ≤ most → value < 10 ^ most
-below_power value i most below few =
-    let further : 10 ^ i ≤ 10 ^ most = pow-le-pow_right {n = 10} (omega arith) {i = i} {j = most} few in
-    omega arith
-
--- and one digit more is below the next power
-digit_below : (digit : ℕ) → is_digit digit ≡ true → digit - 48 < 10
+-- a digit means less than ten
+pub digit_below : (digit : ℕ) → is_digit digit ≡ true → digit - 48 < 10
 digit_below digit is = grind (arith, nat_tests)
-
-pub below_more : (value i digit : ℕ) → value < 10 ^ i → is_digit digit ≡ true → 10 * value + (digit - 48) < 10 ^ (i + 1)
-below_more value i digit below is = rw (add-one i, pow-suc 10 i) (omega (arith, digit_below digit is))

@@ -1,4 +1,4 @@
-ghost use Rattle.std.specs.Prelude.{◌≡◌, ◌^◌, ◌<◌, ◌≤◌, true, false, length, pos, IfSome, IfNone};
+ghost use Rattle.std.specs.Prelude.{◌≡◌, ◌+◌, ◌*◌, ◌^◌, ◌<◌, ◌≤◌, [], ◌∷◌, true, false, length, pos, IfSome, IfNone};
 ghost use Rattle.std.specs.List.{list_all};
 ghost use Rattle.track_types.specs.Numeral.{is_blank, is_decimal, is_digit, magnitude_of, numeral_of, signed_of, trimmed, without_blanks_before, without_blanks_behind};
 
@@ -25,6 +25,25 @@ const FEW_DIGITS: usize = 18;
 /// Reads a word as a numeral: any number of spaces and tabs, at most one `+` or `-`, at least one
 /// decimal digit, and any number of spaces and tabs. It takes no memory, however long the word is.
 pub fn number(word: &[u8]) -> Numeral
+    ensures { result ≡ numeral_of word.now }
+{
+    match bare_number(word) {
+        Some(value) => Numeral::Value(value),
+        None => trimmed_number(word),
+    }
+}
+
+// The value of few digits with nothing about them, as most words are.
+fn bare_number(word: &[u8]) -> Option<i64>
+    ensures { IfSome result (λ value. numeral_of word.now ≡ Numeral.Value value) }
+{
+    if word.len() > FEW_DIGITS {
+        return None;
+    }
+    few_digits(word)
+}
+
+fn trimmed_number(word: &[u8]) -> Numeral
     ensures { result ≡ numeral_of word.now }
 {
     match trim_end(trim_start(word)) {
@@ -78,7 +97,8 @@ fn signed(is_negative: bool, digits: &[u8]) -> Numeral
     }
 }
 
-// What the digits mean, in one pass, or none where there is no byte or one that is no digit.
+// What the digits mean, in one pass, or none where there is no byte or one that is no digit. Four
+// digits a turn are the fastest.
 fn few_digits(digits: &[u8]) -> Option<i64>
     requires { length digits.now ≤ 18 }
     ensures decimal { IfSome result (λ _. is_decimal digits.now ≡ true) }
@@ -90,13 +110,77 @@ fn few_digits(digits: &[u8]) -> Option<i64>
         return None;
     }
     let mut value: u64 = 0;
-    for digit in digits {
-        if !is_digit_byte(*digit) {
-            return None;
-        }
-        value = 10 * value + u64::from(*digit - b'0');
+    let mut left = digits;
+    while let [thousands, hundreds, tens, ones, rest @ ..] = left {
+        value = 10_000 * value + four_digits(*thousands, *hundreds, *tens, *ones)?;
+        left = rest;
     }
-    Some(value as i64)
+    Some(last_digits(value, left)? as i64)
+}
+
+// What at most three digits mean that come after those that mean `value`.
+fn last_digits(value: u64, digits: &[u8]) -> Option<u64>
+    requires few { length digits.now < 4 }
+    requires small { (value + 1) * 10 ^ length digits.now ≤ 10 ^ 18 }
+    ensures digits { IfSome result (λ all. list_all is_digit digits.now ≡ true) }
+    ensures value { IfSome result (λ all.
+        all ≡ value * 10 ^ length digits.now + magnitude_of digits.now) }
+    ensures within { IfSome result (λ all. all < 10 ^ 18) }
+    ensures none { IfNone result (list_all is_digit digits.now ≡ false) }
+{
+    match digits {
+        [] => Some(value),
+        [ones] => Some(10 * value + one_digit(*ones)?),
+        [tens, ones] => Some(100 * value + two_digits(*tens, *ones)?),
+        [hundreds, tens, ones, ..] => {
+            Some(1000 * value + 100 * one_digit(*hundreds)? + two_digits(*tens, *ones)?)
+        }
+    }
+}
+
+fn four_digits(thousands: u8, hundreds: u8, tens: u8, ones: u8) -> Option<u64>
+    ensures digits { let bytes = thousands ∷ hundreds ∷ tens ∷ ones ∷ [] in
+        IfSome result (λ value. (list_all is_digit bytes ≡ true) × (value ≡ magnitude_of bytes)) }
+    ensures none { let bytes = thousands ∷ hundreds ∷ tens ∷ ones ∷ [] in
+        IfNone result (list_all is_digit bytes ≡ false) }
+{
+    // No test waits for another, so that one instruction makes them all.
+    let is_decimal = is_digit_byte(thousands)
+        & is_digit_byte(hundreds)
+        & is_digit_byte(tens)
+        & is_digit_byte(ones);
+    if !is_decimal {
+        return None;
+    }
+    let sum = 1000 * u64::from(thousands)
+        + 100 * u64::from(hundreds)
+        + 10 * u64::from(tens)
+        + u64::from(ones);
+    Some(sum - 1111 * u64::from(b'0'))
+}
+
+fn two_digits(tens: u8, ones: u8) -> Option<u64>
+    ensures digits { let bytes = tens ∷ ones ∷ [] in
+        IfSome result (λ value. (list_all is_digit bytes ≡ true) × (value ≡ magnitude_of bytes)) }
+    ensures none { let bytes = tens ∷ ones ∷ [] in
+        IfNone result (list_all is_digit bytes ≡ false) }
+{
+    if !(is_digit_byte(tens) & is_digit_byte(ones)) {
+        return None;
+    }
+    Some(10 * u64::from(tens) + u64::from(ones) - 11 * u64::from(b'0'))
+}
+
+fn one_digit(byte: u8) -> Option<u64>
+    ensures digits { IfSome result (λ value.
+        (list_all is_digit (byte ∷ []) ≡ true) × (value ≡ magnitude_of (byte ∷ []))) }
+    ensures none { IfNone result (list_all is_digit (byte ∷ []) ≡ false) }
+{
+    if is_digit_byte(byte) {
+        Some(u64::from(byte - b'0'))
+    } else {
+        None
+    }
 }
 
 // Digits of any number, of which leading zeros may be most.
