@@ -43,6 +43,7 @@ fn bare_number(word: &[u8]) -> Option<i64>
     few_digits(word)
 }
 
+#[inline(never)]
 fn trimmed_number(word: &[u8]) -> Numeral
     ensures { result ≡ numeral_of word.now }
 {
