@@ -66,7 +66,8 @@ fn read_row(fields: &ByteRecord) -> Result<RawRow, FieldFault>
     })
 }
 
-// The value of a field of a record, counted from 1.
+// The value of a field of a record, counted from 1. Inlined, so that no value passes through memory.
+#[inline(always)]
 fn read_field(fields: &ByteRecord, field: u32, least: i64, greatest: i64) -> Result<i64, FieldFault>
     requires first { 0 < field }
     requires last { field ≤ length (fields_of fields.now) }

@@ -43,6 +43,7 @@ fn bare_number(word: &[u8]) -> Option<i64>
     few_digits(word)
 }
 
+// Any other word. Out of line, so that the common way stays short.
 #[inline(never)]
 fn trimmed_number(word: &[u8]) -> Numeral
     ensures { result ≡ numeral_of word.now }
