@@ -1,5 +1,6 @@
 pub mod ChartLemmas
 mod KeptLemmas
+mod BucketLemmas
 mod DedupLemmas
 mod RunLemmas
 mod SymbolLemmas

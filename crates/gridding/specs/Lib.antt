@@ -3,3 +3,4 @@ pub mod ChartOf
 pub mod GridLimit
 pub mod Axis
 pub mod Block
+pub mod Buckets

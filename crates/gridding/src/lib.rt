@@ -7,10 +7,12 @@
 
 mod chart_making;
 mod counts;
+mod distribution;
 mod extents;
 mod fault;
 mod floor;
 mod limits;
+mod object_ranges;
 mod rows;
 #[cfg(test)]
 mod tests;

@@ -1,18 +1,23 @@
-use Rattle.std.proofs.Common.{◌≡◌, ◌∙◌, rules}
+use Rattle.std.proofs.Common.{◌≡◌, ◌∙◌, List, sym, rules}
 use Rattle.std.specs.Prelude.{map, reverse}
+use Rattle.std.specs.List.Sorted.{IsStable}
 use Rattle.std.proofs.lemmas.Fn.{dedup_same}
 use Rattle.std.proofs.lemmas.List.Sorted.{answers_always}
+use Rattle.gridding.proofs.BucketLemmas.{stable-stable}
 use Rattle.gridding.proofs.DedupLemmas.{chart_rows-sorted, map-reverse}
 use Rattle.gridding.specs.ChartOf.{chart_rows, gridded}
-use Rattle.track_types.specs.Row.{is_same_place, place_of}
+use Rattle.track_types.specs.Row.{is_same_place, place_of, row_order}
+use Rattle.track_types.specs.declared.row.Row.{Row}
 use Rattle.gridding.proofs.rows.chart_rows.Goals as goal
 
 pub returns : goal.returns
 unfolding chart_rows
 returns c =
-    let rows = map (gridded c.args.cell c.args.tick) c.args.rows.now in
-    let backwards : c.in_ok-made.made.items ≡ reverse rows = c.in_ok-made.ensures ∙ map-reverse (gridded c.args.cell c.args.tick) c.args.rows.now in
+    let rows : List Row = map (gridded c.args.cell c.args.tick) c.args.rows.now in
+    let sorted : List Row = c.sort_by_key.new.self.items in
+    let backwards : map (gridded c.args.cell c.args.tick) (reverse c.args.rows.now) ≡ reverse rows = map-reverse (gridded c.args.cell c.args.tick) c.args.rows.now in
+    let first : IsStable row_order (reverse rows) c.in_ok-made.made.items = rw (sym backwards) c.in_ok-made.ensures in
     let up = c.in_ok-sort_by_key.ensures.sorted place_of (answers_always _ _ _ (λ f a r g h. search rules)) in
-    let stable = c.in_ok-sort_by_key.ensures.stable place_of (answers_always _ _ _ (λ f a r g h. search rules)) in
+    let stable : IsStable row_order c.in_ok-made.made.items sorted = c.in_ok-sort_by_key.ensures.stable place_of (answers_always _ _ _ (λ f a r g h. search rules)) in
     let deduped = dedup_same _ is_same_place _ (λ x y b f' x' y' k. search rules) _ _ c.dedup_by_key.ensures.filtered in
-    deduped ∙ chart_rows-sorted rows c.sort_by_key.new.self.items up (rw backwards at stable)
+    deduped ∙ chart_rows-sorted rows sorted up (stable-stable (reverse rows) c.in_ok-made.made.items sorted first stable)
