@@ -37,7 +37,7 @@ unfolding kept
 all-kept_at P row later true again one all = rw again all
 all-kept_at P row later false again one all = rw again (one, all)
 
-all-kept : (P : Row → Type 0) (rows : List Row) → AllByRecursion P rows → AllByRecursion P (kept rows)
+pub all-kept : (P : Row → Type 0) (rows : List Row) → AllByRecursion P rows → AllByRecursion P (kept rows)
 all-kept P [] all = unfold kept in tt
 all-kept P (row ∷ later) all = all-kept_at P row later (list_any (is_same_place row) later) refl all.0 (all-kept P later all.1)
 

@@ -1,7 +1,7 @@
 pub mod ChartLemmas
 mod KeptLemmas
-mod BucketLemmas
 mod DedupLemmas
+mod BucketLemmas
 mod RunLemmas
 mod SymbolLemmas
 mod ExtentLemmas

@@ -5,9 +5,9 @@
 //! that passes its limit.
 #![tactic(auto)]
 
+mod buckets;
 mod chart_making;
 mod counts;
-mod distribution;
 mod extents;
 mod fault;
 mod floor;

@@ -1,23 +1,21 @@
-use Rattle.std.proofs.Common.{◌≡◌, ◌∙◌, List, sym, rules}
-use Rattle.std.specs.Prelude.{map, reverse}
-use Rattle.std.specs.List.Sorted.{IsStable}
-use Rattle.std.proofs.lemmas.Fn.{dedup_same}
-use Rattle.std.proofs.lemmas.List.Sorted.{answers_always}
-use Rattle.gridding.proofs.BucketLemmas.{stable-stable}
-use Rattle.gridding.proofs.DedupLemmas.{chart_rows-sorted, map-reverse}
-use Rattle.gridding.specs.ChartOf.{chart_rows, gridded}
-use Rattle.track_types.specs.Row.{is_same_place, place_of, row_order}
+use Rattle.std.proofs.Common.{◌≡◌, ◌∙◌, List, Bor, ap, sym}
+use Rattle.std.specs.List.{flat_map}
+use Rattle.std.specs.Global.{Vec}
+use Rattle.std.proofs.lemmas.List.Folds.{flat_map-map}
+use Rattle.std.proofs.lemmas.Result.{IfOk-weaker}
+use Rattle.track_types.specs.declared.raw_row.RawRow.{RawRow}
 use Rattle.track_types.specs.declared.row.Row.{Row}
+use Rattle.gridding.specs.Buckets.{buckets_of, raws_in, raws_of}
+use Rattle.gridding.specs.ChartOf.{chart_rows}
+use Rattle.gridding.proofs.BucketLemmas.{chart_rows-buckets}
 use Rattle.gridding.proofs.rows.chart_rows.Goals as goal
 
 pub returns : goal.returns
-unfolding chart_rows
 returns c =
-    let rows : List Row = map (gridded c.args.cell c.args.tick) c.args.rows.now in
-    let sorted : List Row = c.sort_by_key.new.self.items in
-    let backwards : map (gridded c.args.cell c.args.tick) (reverse c.args.rows.now) ≡ reverse rows = map-reverse (gridded c.args.cell c.args.tick) c.args.rows.now in
-    let first : IsStable row_order (reverse rows) c.in_ok-made.made.items = rw (sym backwards) c.in_ok-made.ensures in
-    let up = c.in_ok-sort_by_key.ensures.sorted place_of (answers_always _ _ _ (λ f a r g h. search rules)) in
-    let stable : IsStable row_order c.in_ok-made.made.items sorted = c.in_ok-sort_by_key.ensures.stable place_of (answers_always _ _ _ (λ f a r g h. search rules)) in
-    let deduped = dedup_same _ is_same_place _ (λ x y b f' x' y' k. search rules) _ _ c.dedup_by_key.ensures.filtered in
-    deduped ∙ chart_rows-sorted rows sorted up (stable-stable (reverse rows) c.in_ok-made.made.items sorted first stable)
+    let chart : List RawRow → List Row = λ bucket. chart_rows bucket c.args.cell c.args.tick in
+    let buckets : List (Vec (Bor RawRow)) = c.in_ok-buckets.buckets.items in
+    let all : flat_map (λ bucket. chart (raws_of bucket.items)) buckets ≡ chart c.args.rows.now =
+    sym (flat_map-map chart (λ (bucket : Vec (Bor RawRow)). raws_of bucket.items) buckets) ∙ ap (flat_map chart) c.in_ok-buckets.ensures
+    ∙ chart_rows-buckets c.of.result c.args.cell c.args.tick c.args.rows.now in
+    IfOk-weaker c.all_rows.result (λ made. made.items ≡ flat_map (λ bucket. chart (raws_of bucket.items)) buckets) (λ made. made.items ≡ chart c.args.rows.now)
+    (λ made is. is ∙ all) c.all_rows.ensures
