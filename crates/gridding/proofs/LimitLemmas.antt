@@ -21,12 +21,26 @@ pub refused : (r : Result (Unit {0}) GridFault) (past : Option (LimitKind × ℕ
 refused (Ok done) past kind value is told = tt
 refused (Err fault) past kind value is told = subst (IsRefusal past) (sym told.0) (is told.1)
 
--- the terminals are refused where nothing else is
-pub symbols_past : (rows : List Row) (period : ℕ) →
-    is_past (Objects, object_count rows) ≡ false → is_past (Span, span_of rows) ≡ false → is_past (Extent, extent_of rows) ≡ false →
-    is_past (Blocks, block_count rows period) ≡ false → is_past (Symbols, symbol_count rows period) ≡ true →
-    first_past rows period ≡ Some (Symbols, symbol_count rows period)
-symbols_past rows period objects span extent blocks symbols = rw (objects, span, extent, blocks, symbols) refl
+-- no quantity but the terminals passes its limit, and these are so many
+pub record IsJudged (rows : List Row) (period terminals : ℕ) : Type 0 where
+  pub objects : is_past (Objects, object_count rows) ≡ false
+  pub span : is_past (Span, span_of rows) ≡ false
+  pub extent : is_past (Extent, extent_of rows) ≡ false
+  pub blocks : is_past (Blocks, block_count rows period) ≡ false
+  pub symbols : terminals ≡ symbol_count rows period
+
+module _ {rows : List Row} {period terminals : ℕ} (judged : IsJudged rows period terminals) where
+  -- the terminals are refused
+  pub symbols_past : is_past (Symbols, terminals) ≡ true → first_past rows period ≡ Some (Symbols, terminals)
+  symbols_past past =
+      let there : is_past (Symbols, symbol_count rows period) ≡ true = rw judged.symbols at past in
+      rw (judged.objects, judged.span, judged.extent, judged.blocks, there, judged.symbols) refl
+
+  -- nothing is
+  pub none_past : is_past (Symbols, terminals) ≡ false → first_past rows period ≡ None
+  none_past within =
+      let there : is_past (Symbols, symbol_count rows period) ≡ false = rw judged.symbols at within in
+      rw (judged.objects, judged.span, judged.extent, judged.blocks, there) refl
 
 -- a search that finds nothing passed each element over
 passed_over_at : {X : Type 0} (p : X → Bool) (x : X) (xs : List X) (b : Bool) → p x ≡ b → find p (x ∷ xs) ≡ None → (p x ≡ false) × (find p xs ≡ None)

@@ -1,6 +1,6 @@
 pub mod Floor
 pub mod ChartOf
 pub mod GridLimit
-pub mod Axis
+pub mod Extents
 pub mod Block
 pub mod Buckets

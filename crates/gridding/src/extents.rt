@@ -1,30 +1,7 @@
-ghost use Rattle.std.specs.Prelude.{◌≡◌, ◌+◌, ◌<◌, ◌-ℤ◌, All, length, map, unsigned_abs};
-ghost use Rattle.track_types.specs.Near.{IsNear};
-ghost use Rattle.track_types.specs.Quantities.{greatest, least};
+ghost use Rattle.std.specs.Prelude.{◌≡◌, ◌+◌, ◌<◌, ◌-ℤ◌, All, length, unsigned_abs};
+ghost use Rattle.track_types.specs.Near.{IsNear, IsRowInRange};
 
 use track_types::Row;
-
-/// What rows are measured along.
-#[derive(Clone, Copy)]
-pub enum Axis {
-    Time,
-    Column,
-    Line,
-}
-
-impl Axis {
-    ghost use Rattle.gridding.specs.Axis.{coordinate};
-
-    fn coordinate(self, row: &Row) -> i64
-        ensures { result ≡ coordinate self row.now }
-    {
-        match self {
-            Axis::Time => row.instant,
-            Axis::Column => row.cell.x,
-            Axis::Line => row.cell.y,
-        }
-    }
-}
 
 /// From the least to the greatest of some numbers.
 #[derive(Clone, Copy)]
@@ -34,24 +11,26 @@ pub struct Extent {
 }
 
 impl Extent {
-    ghost use Rattle.gridding.specs.Axis.{coordinate};
+    ghost use Rattle.gridding.specs.Extents.{widened};
 
-    /// From the least to the greatest of rows on an axis.
-    pub fn of(rows: &[Row], axis: Axis) -> Self
-        requires some { 0 < length rows.now }
-        requires near { All (λ row. IsNear (coordinate axis row)) rows.now }
-        ensures near_least { IsNear result.least }
-        ensures near_greatest { IsNear result.greatest }
-        ensures least { result.least ≡ least (map (coordinate axis) rows.now) }
-        ensures greatest { result.greatest ≡ greatest (map (coordinate axis) rows.now) }
+    // From a number to itself.
+    fn at(number: i64) -> Self
+        ensures { (result.least ≡ number) × (result.greatest ≡ number) }
     {
-        let mut least = axis.coordinate(&rows[0]);
-        let mut greatest = least;
-        for row in rows {
-            least = least.min(axis.coordinate(row));
-            greatest = greatest.max(axis.coordinate(row));
+        Extent {
+            least: number,
+            greatest: number,
         }
-        Extent { least, greatest }
+    }
+
+    // The extent, and so much more that a number is in it.
+    fn widened(self, number: i64) -> Self
+        ensures { result ≡ widened self number }
+    {
+        Extent {
+            least: self.least.min(number),
+            greatest: self.greatest.max(number),
+        }
     }
 
     /// How many whole numbers there are, the least and the greatest among them.
@@ -61,5 +40,40 @@ impl Extent {
         ensures { result ≡ unsigned_abs (self.greatest -ℤ self.least) + 1 }
     {
         self.greatest.abs_diff(self.least) + 1
+    }
+}
+
+/// The extents of rows: of their instants, and of the columns and lines of their cells.
+#[derive(Clone, Copy)]
+pub struct Extents {
+    pub time: Extent,
+    pub columns: Extent,
+    pub lines: Extent,
+}
+
+impl Extents {
+    ghost use Rattle.gridding.specs.Extents.{IsExtentOf};
+
+    /// The extents of rows, in one pass.
+    pub fn of(rows: &[Row]) -> Self
+        requires some { 0 < length rows.now }
+        requires in_range { All IsRowInRange rows.now }
+        ensures time { IsExtentOf (λ row. row.instant) rows.now result.time }
+        ensures columns { IsExtentOf (λ row. row.cell.x) rows.now result.columns }
+        ensures lines { IsExtentOf (λ row. row.cell.y) rows.now result.lines }
+    {
+        let mut time = Extent::at(rows[0].instant);
+        let mut columns = Extent::at(rows[0].cell.x);
+        let mut lines = Extent::at(rows[0].cell.y);
+        for row in rows {
+            time = time.widened(row.instant);
+            columns = columns.widened(row.cell.x);
+            lines = lines.widened(row.cell.y);
+        }
+        Extents {
+            time,
+            columns,
+            lines,
+        }
     }
 }

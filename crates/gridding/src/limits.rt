@@ -1,12 +1,11 @@
-ghost use Rattle.std.specs.Prelude.{◌≡◌, ◌^◌, ◌<◌, ◌≤◌, All, IfErr, None, OnOk, false, length, true};
+ghost use Rattle.std.specs.Prelude.{◌≡◌, ◌^◌, ◌<◌, ◌≤◌, All, IfErr, None, OnOk, false, length, true, ◌+◌, ◌-ℤ◌, max, unsigned_abs};
 ghost use Rattle.gridding.specs.GridLimit.{IsRefusal, first_past, is_past};
 ghost use Rattle.track_types.specs.Limits.{IsPeriod, limit_of};
-ghost use Rattle.track_types.specs.Near.{IsRowInRange};
-ghost use Rattle.track_types.specs.Quantities.{extent_of};
+ghost use Rattle.track_types.specs.Near.{IsNear, IsRowInRange};
 ghost use Rattle.track_types.specs.Row.{IsAscending};
 
 use crate::counts::{object_count, symbol_count};
-use crate::extents::{Axis, Extent};
+use crate::extents::{Extent, Extents};
 use crate::fault::GridFault;
 use track_types::{LimitKind, Row};
 
@@ -23,23 +22,26 @@ pub fn check_limits(rows: &[Row], period: u32) -> Result<(), GridFault>
     let period = u64::from(period);
     let objects = object_count(rows);
     within(LimitKind::Objects, objects)?;
-    let time = Extent::of(rows, Axis::Time);
-    let span = time.width();
+    let extents = Extents::of(rows);
+    let span = extents.time.width();
     within(LimitKind::Span, span)?;
-    within(LimitKind::Extent, extent(rows))?;
+    within(LimitKind::Extent, greater(extents.columns, extents.lines))?;
     within(LimitKind::Blocks, objects * span.div_ceil(period))?;
-    let symbols = symbol_count(rows, time.least, span, period);
+    let symbols = symbol_count(rows, extents.time.least, span, period);
     within(LimitKind::Symbols, symbols)
 }
 
-// The greater of the two axes.
-fn extent(rows: &[Row]) -> u64
-    requires some { 0 < length rows.now }
-    requires in_range { All IsRowInRange rows.now }
-    ensures { result ≡ extent_of rows.now }
+// The width of the wider of two extents.
+fn greater(columns: Extent, lines: Extent) -> u64
+    requires least_column { IsNear columns.least }
+    requires greatest_column { IsNear columns.greatest }
+    requires least_line { IsNear lines.least }
+    requires greatest_line { IsNear lines.greatest }
+    ensures { result ≡ max (unsigned_abs (columns.greatest -ℤ columns.least) + 1)
+        (unsigned_abs (lines.greatest -ℤ lines.least) + 1) }
 {
-    let columns = Extent::of(rows, Axis::Column).width();
-    let lines = Extent::of(rows, Axis::Line).width();
+    let columns = columns.width();
+    let lines = lines.width();
     columns.max(lines)
 }
 

@@ -1,0 +1,18 @@
+-- From the least to the greatest of the numbers of rows.
+use Rattle.std.specs.Prelude.{◌≡◌, ℤ, List, map}
+use Rattle.std.specs.Int.{int_max, int_min}
+use Rattle.track_types.specs.Near.{IsNear}
+use Rattle.track_types.specs.Quantities.{greatest, least}
+use Rattle.track_types.specs.declared.row.Row.{Row}
+use Rattle.gridding.specs.declared.extents.Extent.{Extent}
+
+-- an extent, and so much more that a number is in it
+abbrev pub widened : Extent → ℤ → Extent
+widened extent number = record { least = int_min extent.least number; greatest = int_max extent.greatest number }
+
+-- the extent of a number of each row
+pub record IsExtentOf (number : Row → ℤ) (rows : List Row) (extent : Extent) : Type 0 where
+  pub near_least : IsNear extent.least
+  pub near_greatest : IsNear extent.greatest
+  pub least : extent.least ≡ least (map number rows)
+  pub greatest : extent.greatest ≡ greatest (map number rows)
