@@ -1,4 +1,5 @@
-ghost use Rattle.std.specs.Prelude.{◌≡◌, ◌^◌, ◌<◌, ◌≤◌, All, IfErr, None, OnOk, false, length, true, ◌+◌, ◌-ℤ◌, max, unsigned_abs};
+ghost use Rattle.std.specs.Prelude.{◌≡◌, ◌+◌, ◌^◌, ◌<◌, ◌≤◌, ◌-ℤ◌, max, unsigned_abs};
+ghost use Rattle.std.specs.Prelude.{All, IfErr, None, OnOk, false, length, true};
 ghost use Rattle.gridding.specs.GridLimit.{IsRefusal, first_past, is_past};
 ghost use Rattle.track_types.specs.Limits.{IsPeriod, limit_of};
 ghost use Rattle.track_types.specs.Near.{IsNear, IsRowInRange};
