@@ -1,5 +1,5 @@
 -- What was said of a text, and what is held back.
-use Rattle.std.specs.Prelude.{◌≡◌, ℕ, ℤ, List, ◌++◌, Option}
+use Rattle.std.specs.Prelude.{◌≡◌, ℕ, ℤ, List, ◌++◌, Option, Result, Ok, Err}
 use Rattle.std.specs.Borrow.{Bor}
 use Rattle.std.specs.Io.KnownBytes.{Appends}
 
@@ -26,3 +26,8 @@ pub record Says (before now : Voice) (text : List ℕ) : Type 0 where
 pub record Cuts (before : Voice) (now : Option (List ℕ)) (text : List ℕ) : Type 0 where
   pub unsaid : List ℕ
   pub says : Says before (voice now unsaid) text
+
+-- What is told of a text that was put: it was said, or a front of it.
+abbrev pub PutTold : {T E : Type 0} → Voice → Voice → List ℕ → Result T E → Type 0
+PutTold before now text (Ok value) = Says before now text
+PutTold before now text (Err fault) = Cuts before now.said text

@@ -93,6 +93,11 @@ BytesTold meaning before now came line (Ok done) = Heard meaning before now came
 BytesTold meaning before now came line (Err fault.Say) = TurnsFront meaning before now (whole_lines came)
 BytesTold meaning before now came line (Err fault.Memory) = TurnsBefore meaning before now (whole_lines came)
 
+-- What bytes more tell at a moment: with those that were heard before, they were heard, or told of as above.
+abbrev pub MoreTold : Meaning → Moment → LineKept → List ℕ → Moment → LineKept → Result Unit TurnFault → Type 0
+MoreTold meaning before coming bytes now line result = (start : Moment) (came : List ℕ) →
+    Heard meaning start before came coming → BytesTold meaning start now (came ++ bytes) line result
+
 -- What is told of these lines: all were answered, a front of the replies was said, or memory was refused.
 abbrev pub LinesTold : Meaning → Moment → Moment → List (List ℕ) → Result Unit TurnFault → Type 0
 LinesTold meaning before now lines (Ok done) = Turns meaning before now lines

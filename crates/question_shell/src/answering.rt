@@ -11,7 +11,7 @@ ghost use Rattle.question_shell.specs.Turns.{AnswerTold, ReplyTold, moment};
 ghost use Rattle.question_shell.specs.declared.turn_fault.TurnFault.TheVariants as fault;
 
 use crate::bad::Bad;
-use crate::cursors::{answer_free, answer_hold, answer_more};
+use crate::cursors::{AskedPath, answer_free, answer_hold, answer_more};
 use crate::desk::Desk;
 use crate::held_text::HeldText;
 use crate::reply::{Found, bad_line};
@@ -72,7 +72,8 @@ fn answer_question<A: Answerer, K: Sink, L: Ledger>(
             answer_position(answerer, object, instant, text, sink, steps)
         }
         Question::Path { object, from, to } => {
-            answer_path(alloc, answerer, object, (from, to), text, sink, steps)
+            let path = AskedPath { object, from, to };
+            answer_path(alloc, answerer, path, text, sink, steps)
         }
         Question::Slice { instant, region } => {
             let found = answerer.slice(alloc, instant, &region, steps);
@@ -97,7 +98,7 @@ fn answer_question<A: Answerer, K: Sink, L: Ledger>(
             from,
             to,
         } => {
-            let path = (object, from, to);
+            let path = AskedPath { object, from, to };
             answer_hold(alloc, answerer, slot, path, desk, text, sink)
         }
         Question::More { slot, count } => answer_more(desk, slot, count, text, sink, steps),
@@ -174,26 +175,25 @@ fn answer_position<A: Answerer, K: Sink, L: Ledger>(
 fn answer_path<A: Answerer, K: Sink, L: Ledger>(
     alloc: Global,
     answerer: A,
-    object: u32,
-    window: (i64, i64),
+    path: AskedPath,
     text: &mut HeldText,
     sink: &mut K,
     steps: &mut Steps<L>,
 ) -> Result<(), TurnFault>
-    requires from { IsAsked window.0 }
-    requires to { IsAsked window.1 }
+    requires from { IsAsked path.from }
+    requires to { IsAsked path.to }
     ensures told { (desk : DeskView) →
         AnswerTold (meaning_of (A.chart answerer) (A.facts answerer) (A.cost answerer))
         (moment (K.said sink.old) text.old desk steps.old)
         (moment (K.said sink.new) text.new desk steps.new)
-        (Ok (Some (question.Path object window.0 window.1))) result }
+        (Ok (Some (question.Path path.object path.from path.to))) result }
     ensures cause { result ≡ Err fault.Say → Rose (K.faults sink.old) (K.faults sink.new) }
     ensures untouched { result ≢ Err fault.Say → K.faults sink.new ≡ K.faults sink.old }
     ensures faults { K.faults sink.old ≤ K.faults sink.new }
 {
     // The rows of what has facts ascend, so that a count of stops fits.
     let _ = answerer.facts();
-    let Ok(mut walk) = answerer.walk(alloc, object, window.0, window.1) else {
+    let Ok(mut walk) = answerer.walk(alloc, path.object, path.from, path.to) else {
         return Err(TurnFault::Memory);
     };
     let Ok(()) = say_path(&mut walk, text, sink, steps) else {

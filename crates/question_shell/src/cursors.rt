@@ -6,7 +6,7 @@ ghost use Rattle.track_types.specs.Near.{IsAsked};
 ghost use Rattle.track_types.specs.declared.question.Question.TheVariants as question;
 ghost use Rattle.question_shell.specs.Desk.{Draws, stops_in};
 ghost use Rattle.question_shell.specs.Reply.{listed, stop_line};
-ghost use Rattle.question_shell.specs.Says.{Cuts, Says, voice};
+ghost use Rattle.question_shell.specs.Says.{Cuts, PutTold, Says, voice};
 ghost use Rattle.question_shell.specs.Session.{Meaning, meaning_of};
 ghost use Rattle.question_shell.specs.Turns.{AnswerTold, moment};
 ghost use Rattle.question_shell.specs.declared.turn_fault.TurnFault.TheVariants as fault;
@@ -22,24 +22,32 @@ use std::sync::ledger::Ledger;
 use step_count::Steps;
 use track_types::{Answerer, Lazy, Stop};
 
+/// What a line asks of an object: its path from one instant to another.
+#[derive(Clone, Copy)]
+pub(crate) struct AskedPath {
+    pub object: u32,
+    pub from: i64,
+    pub to: i64,
+}
+
 // Holds a walk over a path, where the place of its slot is empty. Only the walk takes memory.
 pub(crate) fn answer_hold<A: Answerer, K: Sink>(
     alloc: Global,
     answerer: A,
     slot: u8,
-    path: (u32, i64, i64),
+    path: AskedPath,
     desk: &mut Desk<A::Walk>,
     text: &mut HeldText,
     sink: &mut K,
 ) -> Result<(), TurnFault>
     requires slot { slot < 16 }
-    requires from { IsAsked path.1 }
-    requires to { IsAsked path.2 }
+    requires from { IsAsked path.from }
+    requires to { IsAsked path.to }
     ensures told { (steps : ℕ) →
         AnswerTold (meaning_of (A.chart answerer) (A.facts answerer) (A.cost answerer))
         (moment (K.said sink.old) text.old desk.old steps)
         (moment (K.said sink.new) text.new desk.new steps)
-        (Ok (Some (question.Hold slot path.0 path.1 path.2))) result }
+        (Ok (Some (question.Hold slot path.object path.from path.to))) result }
     ensures cause { result ≡ Err fault.Say → Rose (K.faults sink.old) (K.faults sink.new) }
     ensures untouched { result ≢ Err fault.Say → K.faults sink.new ≡ K.faults sink.old }
     ensures faults { K.faults sink.old ≤ K.faults sink.new }
@@ -47,7 +55,7 @@ pub(crate) fn answer_hold<A: Answerer, K: Sink>(
     if desk.is_held(slot) {
         return answer_line(&held_line(), text, sink);
     }
-    let Ok(walk) = answerer.walk(alloc, path.0, path.1, path.2) else {
+    let Ok(walk) = answerer.walk(alloc, path.object, path.from, path.to) else {
         return Err(TurnFault::Memory);
     };
     desk.hold(slot, walk);
@@ -114,11 +122,9 @@ fn say_next<W: Lazy<Item = Stop> + Drop, K: Sink, L: Ledger>(
     steps: &mut Steps<L>,
 ) -> Result<(), Cut>
     requires { slot < 16 }
-    ensures ok { OnOk result (Says (voice (K.said sink.old) text.old)
+    ensures told { PutTold (voice (K.said sink.old) text.old)
         (voice (K.said sink.new) text.new)
-        (listed stop_line (take count (stops_in desk.old slot)))) }
-    ensures err { OnErr result (Cuts (voice (K.said sink.old) text.old)
-        (K.said sink.new) (listed stop_line (take count (stops_in desk.old slot)))) }
+        (listed stop_line (take count (stops_in desk.old slot))) result }
     ensures left { OnOk result (stops_in desk.new slot ≡ drop count (stops_in desk.old slot)) }
     ensures draws { Draws desk.old desk.new slot steps.old steps.new }
     ensures cause { OnErr result (Rose (K.faults sink.old) (K.faults sink.new)) }

@@ -1,6 +1,6 @@
 ghost use Rattle.std.specs.Prelude.{◌≡◌, ◌≤◌, [], OnOk, OnErr};
 ghost use Rattle.host_ports.specs.Faults.{Rose};
-ghost use Rattle.question_shell.specs.Says.{Cuts, Says, voice};
+ghost use Rattle.question_shell.specs.Says.{PutTold, voice};
 
 use crate::reply::ReplyLine;
 use arrayvec::ArrayVec;
@@ -35,11 +35,8 @@ impl HeldText {
 
     // Holds a line back; what was held before is said first where there is no room.
     pub(crate) fn put<K: Sink>(&mut self, line: &ReplyLine, sink: &mut K) -> Result<(), Cut>
-        ensures ok { OnOk result (
-            Says (voice (K.said sink.old) self.old) (voice (K.said sink.new) self.new)
-            line.now.bytes) }
-        ensures err { OnErr result (
-            Cuts (voice (K.said sink.old) self.old) (K.said sink.new) line.now.bytes) }
+        ensures told { PutTold (voice (K.said sink.old) self.old)
+            (voice (K.said sink.new) self.new) line.now.bytes result }
         ensures cause { OnErr result (Rose (K.faults sink.old) (K.faults sink.new)) }
         ensures untouched { OnOk result (K.faults sink.new ≡ K.faults sink.old) }
         ensures faults { K.faults sink.old ≤ K.faults sink.new }
@@ -56,10 +53,8 @@ impl HeldText {
     // Says what is held back; where that is nothing, the sink is left alone.
     pub(crate) fn say<K: Sink>(&mut self, sink: &mut K) -> Result<(), Cut>
         ensures empty { OnOk result (self.new ≡ []) }
-        ensures ok { OnOk result (
-            Says (voice (K.said sink.old) self.old) (voice (K.said sink.new) []) []) }
-        ensures err { OnErr result (
-            Cuts (voice (K.said sink.old) self.old) (K.said sink.new) []) }
+        ensures told { PutTold (voice (K.said sink.old) self.old)
+            (voice (K.said sink.new) []) [] result }
         ensures cause { OnErr result (Rose (K.faults sink.old) (K.faults sink.new)) }
         ensures untouched { OnOk result (K.faults sink.new ≡ K.faults sink.old) }
         ensures faults { K.faults sink.old ≤ K.faults sink.new }

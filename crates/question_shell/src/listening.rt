@@ -1,10 +1,10 @@
-ghost use Rattle.std.specs.Prelude.{◌≡◌, ◌≢◌, ℕ, ◌≤◌, [], ◌∷◌, ◌++◌, List, Err, OnOk, ◌⊎◌};
+ghost use Rattle.std.specs.Prelude.{◌≡◌, ◌≢◌, ℕ, ◌≤◌, [], ◌∷◌, List, Err, OnOk, ◌⊎◌};
 ghost use Rattle.host_ports.specs.Faults.{Rose};
 ghost use Rattle.question_shell.specs.LineKept.{kept_of};
 ghost use Rattle.question_shell.specs.Lines.{lines_of};
 ghost use Rattle.question_shell.specs.Says.{voice};
 ghost use Rattle.question_shell.specs.Session.{meaning_of};
-ghost use Rattle.question_shell.specs.Turns.{BytesTold, Heard, LinesTold, Moment, RestTold};
+ghost use Rattle.question_shell.specs.Turns.{Heard, LinesTold, Moment, MoreTold, RestTold};
 ghost use Rattle.question_shell.specs.Turns.{moment};
 ghost use Rattle.question_shell.specs.declared.turn_fault.TurnFault.TheVariants as fault;
 
@@ -48,12 +48,9 @@ pub(crate) fn take_piece<A: Answerer, K: Sink, L: Ledger>(
     sink: &mut K,
     steps: &mut Steps<L>,
 ) -> Result<(), TurnFault>
-    ensures told { (start : Moment) (came : List ℕ) →
-        let meaning = meaning_of (A.chart answerer) (A.facts answerer) (A.cost answerer) in
-        let now = moment (K.said sink.new) [] desk.new steps.new in
-        Heard meaning start (moment (K.said sink.old) talk.old.text desk.old steps.old)
-        came talk.old.line →
-        BytesTold meaning start now (came ++ piece.now) talk.new.line result }
+    ensures told { MoreTold (meaning_of (A.chart answerer) (A.facts answerer) (A.cost answerer))
+        (moment (K.said sink.old) talk.old.text desk.old steps.old) talk.old.line piece.now
+        (moment (K.said sink.new) [] desk.new steps.new) talk.new.line result }
     ensures said { OnOk result (talk.new.text ≡ []) }
     ensures cause { result ≡ Err fault.Say → Rose (K.faults sink.old) (K.faults sink.new) }
     ensures untouched { result ≢ Err fault.Say → K.faults sink.new ≡ K.faults sink.old }
@@ -73,12 +70,9 @@ fn take_bytes<A: Answerer, K: Sink, L: Ledger>(
     sink: &mut K,
     steps: &mut Steps<L>,
 ) -> Result<(), TurnFault>
-    ensures told { (start : Moment) (came : List ℕ) →
-        let meaning = meaning_of (A.chart answerer) (A.facts answerer) (A.cost answerer) in
-        let now = moment (K.said sink.new) talk.new.text desk.new steps.new in
-        Heard meaning start (moment (K.said sink.old) talk.old.text desk.old steps.old)
-        came talk.old.line →
-        BytesTold meaning start now (came ++ bytes.now) talk.new.line result }
+    ensures told { MoreTold (meaning_of (A.chart answerer) (A.facts answerer) (A.cost answerer))
+        (moment (K.said sink.old) talk.old.text desk.old steps.old) talk.old.line bytes.now
+        (moment (K.said sink.new) talk.new.text desk.new steps.new) talk.new.line result }
     ensures cause { result ≡ Err fault.Say → Rose (K.faults sink.old) (K.faults sink.new) }
     ensures untouched { result ≢ Err fault.Say → K.faults sink.new ≡ K.faults sink.old }
     ensures faults { K.faults sink.old ≤ K.faults sink.new }
@@ -99,12 +93,9 @@ fn take_byte<A: Answerer, K: Sink, L: Ledger>(
     sink: &mut K,
     steps: &mut Steps<L>,
 ) -> Result<(), TurnFault>
-    ensures told { (start : Moment) (came : List ℕ) →
-        let meaning = meaning_of (A.chart answerer) (A.facts answerer) (A.cost answerer) in
-        let now = moment (K.said sink.new) talk.new.text desk.new steps.new in
-        Heard meaning start (moment (K.said sink.old) talk.old.text desk.old steps.old)
-        came talk.old.line →
-        BytesTold meaning start now (came ++ byte ∷ []) talk.new.line result }
+    ensures told { MoreTold (meaning_of (A.chart answerer) (A.facts answerer) (A.cost answerer))
+        (moment (K.said sink.old) talk.old.text desk.old steps.old) talk.old.line (byte ∷ [])
+        (moment (K.said sink.new) talk.new.text desk.new steps.new) talk.new.line result }
     ensures cause { result ≡ Err fault.Say → Rose (K.faults sink.old) (K.faults sink.new) }
     ensures untouched { result ≢ Err fault.Say → K.faults sink.new ≡ K.faults sink.old }
     ensures faults { K.faults sink.old ≤ K.faults sink.new }

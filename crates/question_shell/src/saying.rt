@@ -4,7 +4,7 @@ ghost use Rattle.std.specs.List.{flat_map};
 ghost use Rattle.host_ports.specs.Faults.{Rose};
 ghost use Rattle.question_shell.specs.Reply.{cell_line, fact_line, listed};
 ghost use Rattle.question_shell.specs.Reply.{named_facts, stop_line};
-ghost use Rattle.question_shell.specs.Says.{Cuts, Says, voice};
+ghost use Rattle.question_shell.specs.Says.{PutTold, voice};
 ghost use Rattle.question_shell.specs.Turns.{LineTold};
 ghost use Rattle.question_shell.specs.declared.turn_fault.TurnFault.TheVariants as fault;
 
@@ -41,10 +41,8 @@ pub(crate) fn say_cell<K: Sink>(
     text: &mut HeldText,
     sink: &mut K,
 ) -> Result<(), Cut>
-    ensures ok { OnOk result (Says (voice (K.said sink.old) text.old)
-        (voice (K.said sink.new) text.new) (listed cell_line (option_to_list cell))) }
-    ensures err { OnErr result (Cuts (voice (K.said sink.old) text.old)
-        (K.said sink.new) (listed cell_line (option_to_list cell))) }
+    ensures told { PutTold (voice (K.said sink.old) text.old)
+        (voice (K.said sink.new) text.new) (listed cell_line (option_to_list cell)) result }
     ensures cause { OnErr result (Rose (K.faults sink.old) (K.faults sink.new)) }
     ensures untouched { OnOk result (K.faults sink.new ≡ K.faults sink.old) }
     ensures faults { K.faults sink.old ≤ K.faults sink.new }
@@ -64,10 +62,8 @@ pub(crate) fn say_path<W: Lazy<Item = Stop>, K: Sink, L: Ledger>(
     steps: &mut Steps<L>,
 ) -> Result<(), Cut>
     requires { length (W.left walk.old) ≤ 2 ^ 43 }
-    ensures ok { OnOk result (Says (voice (K.said sink.old) text.old)
-        (voice (K.said sink.new) text.new) (listed stop_line (W.left walk.old))) }
-    ensures err { OnErr result (Cuts (voice (K.said sink.old) text.old)
-        (K.said sink.new) (listed stop_line (W.left walk.old))) }
+    ensures told { PutTold (voice (K.said sink.old) text.old)
+        (voice (K.said sink.new) text.new) (listed stop_line (W.left walk.old)) result }
     ensures cost { steps.new ≤ steps.old + W.budget walk.old }
     ensures cause { OnErr result (Rose (K.faults sink.old) (K.faults sink.new)) }
     ensures untouched { OnOk result (K.faults sink.new ≡ K.faults sink.old) }
@@ -84,10 +80,8 @@ pub(crate) fn say_found<T: Found, K: Sink>(
     text: &mut HeldText,
     sink: &mut K,
 ) -> Result<(), Cut>
-    ensures ok { OnOk result (Says (voice (K.said sink.old) text.old)
-        (voice (K.said sink.new) text.new) (listed T.line found.now)) }
-    ensures err { OnErr result (Cuts (voice (K.said sink.old) text.old)
-        (K.said sink.new) (listed T.line found.now)) }
+    ensures told { PutTold (voice (K.said sink.old) text.old)
+        (voice (K.said sink.new) text.new) (listed T.line found.now) result }
     ensures cause { OnErr result (Rose (K.faults sink.old) (K.faults sink.new)) }
     ensures untouched { OnOk result (K.faults sink.new ≡ K.faults sink.old) }
     ensures faults { K.faults sink.old ≤ K.faults sink.new }
@@ -100,10 +94,8 @@ pub(crate) fn say_found<T: Found, K: Sink>(
 
 // Says the reply to `info`: a line for each fact.
 pub(crate) fn say_facts<K: Sink>(facts: Facts, text: &mut HeldText, sink: &mut K) -> Result<(), Cut>
-    ensures ok { OnOk result (Says (voice (K.said sink.old) text.old)
-        (voice (K.said sink.new) text.new) (listed fact_line (named_facts facts))) }
-    ensures err { OnErr result (Cuts (voice (K.said sink.old) text.old)
-        (K.said sink.new) (listed fact_line (named_facts facts))) }
+    ensures told { PutTold (voice (K.said sink.old) text.old)
+        (voice (K.said sink.new) text.new) (listed fact_line (named_facts facts)) result }
     ensures cause { OnErr result (Rose (K.faults sink.old) (K.faults sink.new)) }
     ensures untouched { OnOk result (K.faults sink.new ≡ K.faults sink.old) }
     ensures faults { K.faults sink.old ≤ K.faults sink.new }
@@ -124,10 +116,8 @@ fn say_stops<W: Lazy<Item = Stop>, K: Sink, L: Ledger>(
 ) -> Result<u64, Cut>
     requires { length (W.left walk.old) ≤ 2 ^ 43 }
     ensures count { IfOk result (λ count. count ≡ length (W.left walk.old)) }
-    ensures ok { OnOk result (Says (voice (K.said sink.old) text.old)
-        (voice (K.said sink.new) text.new) (flat_map stop_line (W.left walk.old))) }
-    ensures err { OnErr result (Cuts (voice (K.said sink.old) text.old)
-        (K.said sink.new) (flat_map stop_line (W.left walk.old))) }
+    ensures told { PutTold (voice (K.said sink.old) text.old)
+        (voice (K.said sink.new) text.new) (flat_map stop_line (W.left walk.old)) result }
     ensures cost { steps.new ≤ steps.old + W.budget walk.old }
     ensures cause { OnErr result (Rose (K.faults sink.old) (K.faults sink.new)) }
     ensures untouched { OnOk result (K.faults sink.new ≡ K.faults sink.old) }

@@ -11,7 +11,7 @@ returns-in_default-clause-told g c desk steps =
     let now = g.K.Sink.said c.say_facts.new.sink in
     record {
       said = subst (λ (facts : Facts). Cuts before now (listed fact_line (named_facts facts)))
-          c.facts.ensures.value c.in_default.ensures.err;
+          c.facts.ensures.value c.in_default.ensures.told;
       reads = omega arith;
     }
 
@@ -21,7 +21,7 @@ returns-clause-told g c desk steps =
     let now = voice (g.K.Sink.said c.say_facts.new.sink) c.say_facts.new.text in
     record {
       said = subst (λ (facts : Facts). Says before now (listed fact_line (named_facts facts)))
-          c.facts.ensures.value c.in-Ok.ensures.ok;
+          c.facts.ensures.value c.in-Ok.ensures.told;
       desk = refl {a = held_of desk};
       reads = omega arith;
     }

@@ -3,6 +3,6 @@ use Rattle.question_shell.proofs.answering.answer_path.Goals as goal
 
 pub say_path-requires : goal.say_path-requires
 say_path-requires g c =
-    rw (c.in-Ok.ensures.left, asked_kept c.args.window.0 c.requires.from, asked_kept c.args.window.1 c.requires.to)
-    (length-path_of (g.A.Answerer.chart c.args.answerer).rows c.args.object c.args.window.0 c.args.window.1
+    rw (c.in-Ok.ensures.left, asked_kept c.args.path.from c.requires.from, asked_kept c.args.path.to c.requires.to)
+    (length-path_of (g.A.Answerer.chart c.args.answerer).rows c.args.path.object c.args.path.from c.args.path.to
     c.facts.ensures.table.ascending c.requires.from c.requires.to)

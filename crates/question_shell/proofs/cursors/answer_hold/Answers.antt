@@ -16,7 +16,7 @@ returns-then-is_held-clause-told g c steps =
     (g.A.Answerer.cost c.args.answerer) in
     let said = c.answer_line in
     told-held meaning (g.K.Sink.said c.args.sink.now) (g.K.Sink.said said.new.sink) c.args.text.now said.new.text
-    c.args.desk.now c.args.slot steps said.result c.args.path.0 c.args.path.1 c.args.path.2
+    c.args.desk.now c.args.slot steps said.result c.args.path.object c.args.path.from c.args.path.to
     (rw c.is_held.ensures.value at c.if-is_held.true) (rw c.held_line.ensures at said.ensures.told)
 
 pub returns-in_default-clause-told : goal.returns-in_default-clause-told
@@ -25,7 +25,7 @@ returns-in_default-clause-told g c steps =
     (g.A.Answerer.cost c.args.answerer) in
     let said = g.K.Sink.said c.args.sink.now in
     refused-hold meaning said said c.args.text.now c.args.text.now c.args.desk.now c.args.slot steps (Err fault.Memory)
-    c.args.path.0 c.args.path.1 c.args.path.2 (rw c.is_held.ensures.value at c.if-is_held.false)
+    c.args.path.object c.args.path.from c.args.path.to (rw c.is_held.ensures.value at c.if-is_held.false)
 
 pub returns-clause-told : goal.returns-clause-told
 returns-clause-told g c steps =
@@ -36,9 +36,9 @@ returns-clause-told g c steps =
     let said = c.answer_line-2 in
     let below : slot < length c.args.desk.now = omega (arith, c.requires.slot, c.is_held.ensures.places) in
     told-hold meaning (g.K.Sink.said c.args.sink.now) (g.K.Sink.said said.new.sink) c.args.text.now said.new.text
-    c.args.desk.now slot steps said.result path.0 path.1 path.2
+    c.args.desk.now slot steps said.result path.object path.from path.to
     (g.A.Walk.Lazy.left c.in-Ok.walk, g.A.Walk.Lazy.budget c.in-Ok.walk) c.hold.new.self below
     (rw c.is_held.ensures.value at c.if-is_held.false) c.hold.ensures
-    (simp (asked_kept path.1 c.requires.from, asked_kept path.2 c.requires.to) at c.in-Ok.ensures.left)
-    (simp (asked_kept path.1 c.requires.from, asked_kept path.2 c.requires.to) at c.in-Ok.ensures.budget)
+    (simp (asked_kept path.from c.requires.from, asked_kept path.to c.requires.to) at c.in-Ok.ensures.left)
+    (simp (asked_kept path.from c.requires.from, asked_kept path.to c.requires.to) at c.in-Ok.ensures.budget)
     (rw c.ok_line.ensures at said.ensures.told)

@@ -18,12 +18,12 @@ returns-in_default-clause-told g c meaning =
     let below : c.args.slot < length c.args.desk.now = omega (arith, c.requires, c.is_held.ensures.places) in
     front-more meaning (g.K.Sink.said c.args.sink.now) c.args.text.now c.args.desk.now c.say_next.new.desk c.args.slot
     c.args.count c.args.steps.now c.say_next.new.steps below (rw c.is_held.ensures.value at c.if-not-is_held.false)
-    c.in_default.ensures.draws (g.K.Sink.said c.say_next.new.sink) c.say_next.new.text c.in_default.ensures.err
+    c.in_default.ensures.draws (g.K.Sink.said c.say_next.new.sink) c.say_next.new.text c.in_default.ensures.told
 
 pub returns-clause-told : goal.returns-clause-told
 returns-clause-told g c meaning =
     let below : c.args.slot < length c.args.desk.now = omega (arith, c.requires, c.is_held.ensures.places) in
     takes-more meaning (g.K.Sink.said c.args.sink.now) c.args.text.now c.args.desk.now c.say_next.new.desk c.args.slot
     c.args.count c.args.steps.now c.say_next.new.steps below (rw c.is_held.ensures.value at c.if-not-is_held.false)
-    c.in-Ok.ensures.draws (g.K.Sink.said c.say_next.new.sink) c.say_next.new.text c.in-Ok.ensures.ok
+    c.in-Ok.ensures.draws (g.K.Sink.said c.say_next.new.sink) c.say_next.new.text c.in-Ok.ensures.told
     c.in-Ok.ensures.left

@@ -36,7 +36,7 @@ loop-said-preserved g c =
           (voice (g.K.Sink.said c.args.sink.now) c.args.text.now)
           (voice (g.K.Sink.said c.loop-said.sink) c.loop-said.text) c.stop_line.result.bytes read.listing
           (take-next c.args.count i c.in-Some.stop left rest c.loop-said-test.true cut) c.stop_line.ensures
-          (voice (g.K.Sink.said c.put.new.sink) c.put.new.self) c.in_ok-put.ensures.ok;
+          (voice (g.K.Sink.said c.put.new.sink) c.put.new.self) c.in_ok-put.ensures.told;
       left = ap (drop 1) (sym cut ∙ read.left) ∙ drop-drop 1 i all;
       number = omega (arith, read.number, ap length cut);
       draws = draws-more c.args.desk.now c.loop-said.desk c.args.slot c.args.steps.now c.loop-said.steps read.draws
@@ -57,7 +57,7 @@ returns-in_err-put-clause-err g c =
     (voice (g.K.Sink.said c.args.sink.now) c.args.text.now)
     (voice (g.K.Sink.said c.loop-said.sink) c.loop-said.text) c.stop_line.result.bytes c.loop-said.invariant.listing
     (take-next c.args.count i c.in-Some.stop left rest c.loop-said-test.true c.in-Some.ensures.found)
-    c.stop_line.ensures (g.K.Sink.said c.put.new.sink) c.in_err-put.ensures.err)
+    c.stop_line.ensures (g.K.Sink.said c.put.new.sink) c.in_err-put.ensures.told)
 
 pub returns-in_err-put-clause-draws : goal.returns-in_err-put-clause-draws
 returns-in_err-put-clause-draws g c =

@@ -1,12 +1,12 @@
-use Rattle.std.proofs.Common.{◌≡◌, ℕ, ◌+◌, ◌<◌, ◌≤◌, List, ◌∷◌, [], ◌++◌, ◌∙◌, ap, sym, drop, drop-cons, get_or, map}
+use Rattle.std.proofs.Common.{◌≡◌, ℕ, ◌+◌, ◌<◌, ◌≤◌, List, ◌∷◌, [], ◌∙◌, ap, sym, drop, drop-cons, get_or, map}
 use Rattle.std.proofs.Common.{length, arith, add-one, pos, ℤ, Bor}
 use Rattle.std.proofs.lemmas.List.{drop_all, length-map}
-use Rattle.std.specs.List.{flat_map}
+use Rattle.std.proofs.lemmas.Result.{err_from_is_err_and}
 use Rattle.track_types.specs.declared.facts.Facts.{Facts}
-use Rattle.question_shell.specs.Reply.{fact_line, listed, named_facts}
+use Rattle.question_shell.specs.Reply.{fact_line, named_facts}
 use Rattle.question_shell.specs.Says.{told_of, voice}
 use Rattle.question_shell.proofs.ListingLemmas.{cuts-listing, listing-next, says-listing}
-use Rattle.question_shell.proofs.SaysLemmas.{listed-is, on_err_always, on_err-cuts, on_ok-says}
+use Rattle.question_shell.proofs.SaysLemmas.{told-listed}
 use Rattle.question_shell.proofs.saying.say_facts.Goals as goal
 
 -- where there is no fact
@@ -43,47 +43,33 @@ loop-fact-preserved g c =
           (voice (g.K.Sink.said c.loop-fact.sink) c.loop-fact.text) c.fact_line.result.bytes
           c.loop-fact.invariant.listing
           (table-cut c.args.facts table c.named_facts-facts.ensures.told index c.loop-fact-test.true)
-          c.fact_line.ensures (voice (g.K.Sink.said c.put.new.sink) c.put.new.self) c.in_ok-put.ensures.ok;
+          c.fact_line.ensures (voice (g.K.Sink.said c.put.new.sink) c.put.new.self) c.in_ok-put.ensures.told;
       faults = c.in_ok-put.ensures.untouched ∙ c.loop-fact.invariant.faults;
     }
 
-pub returns-in_err-put-clause-err : goal.returns-in_err-put-clause-err
-returns-in_err-put-clause-err g c =
+pub returns-in_err-put-clause-told : goal.returns-in_err-put-clause-told
+returns-in_err-put-clause-told g c =
+    let exit = err_from_is_err_and c.from_residual.result c.from_residual.ensures.1 in
     let table = c.named_facts-facts.result in
     let index = c.loop-fact.fact-index in
-    on_err_always c.from_residual.result
+    rw exit.1
     (cuts-listing fact_line (named_facts c.args.facts) (map told_of (drop index table))
     (map told_of (drop (index + 1) table)) (told_of (get_or table index no_fact))
     (voice (g.K.Sink.said c.args.sink.now) c.args.text.now)
     (voice (g.K.Sink.said c.loop-fact.sink) c.loop-fact.text) c.fact_line.result.bytes
     c.loop-fact.invariant.listing
     (table-cut c.args.facts table c.named_facts-facts.ensures.told index c.loop-fact-test.true)
-    c.fact_line.ensures (g.K.Sink.said c.put.new.sink) c.in_err-put.ensures.err)
+    c.fact_line.ensures (g.K.Sink.said c.put.new.sink) c.in_err-put.ensures.told)
 
-pub returns-clause-ok : goal.returns-clause-ok
-returns-clause-ok g c =
+pub returns-clause-told : goal.returns-clause-told
+returns-clause-told g c =
     let start = voice (g.K.Sink.said c.args.sink.now) c.args.text.now in
     let between = voice (g.K.Sink.said c.loop-fact.sink) c.loop-fact.text in
     let facts = named_facts c.args.facts in
     let table = c.named_facts-facts.result in
     let index = c.loop-fact.fact-index in
-    let whole : flat_map fact_line facts ++ c.ok_line.result.bytes ≡ listed fact_line facts =
-    ap (λ text. flat_map fact_line facts ++ text) c.ok_line.ensures ∙ sym (listed-is fact_line facts) in
-    on_ok-says start between (flat_map fact_line facts) c.ok_line.result.bytes (listed fact_line facts) whole
+    told-listed fact_line facts start between (voice (g.K.Sink.said c.put-2.new.sink) c.put-2.new.self)
+    c.ok_line.result.bytes c.put-2.result c.ok_line.ensures
     (says-listing fact_line facts (map told_of (drop index table)) start between c.loop-fact.invariant.listing
     (table-end c.args.facts table c.named_facts-facts.ensures.told index c.loop-fact-test.false))
-    c.put-2.result (voice (g.K.Sink.said c.put-2.new.sink) c.put-2.new.self) c.put-2.ensures.ok
-
-pub returns-clause-err : goal.returns-clause-err
-returns-clause-err g c =
-    let start = voice (g.K.Sink.said c.args.sink.now) c.args.text.now in
-    let between = voice (g.K.Sink.said c.loop-fact.sink) c.loop-fact.text in
-    let facts = named_facts c.args.facts in
-    let table = c.named_facts-facts.result in
-    let index = c.loop-fact.fact-index in
-    let whole : flat_map fact_line facts ++ c.ok_line.result.bytes ≡ listed fact_line facts =
-    ap (λ text. flat_map fact_line facts ++ text) c.ok_line.ensures ∙ sym (listed-is fact_line facts) in
-    on_err-cuts start between (flat_map fact_line facts) c.ok_line.result.bytes (listed fact_line facts) whole
-    (says-listing fact_line facts (map told_of (drop index table)) start between c.loop-fact.invariant.listing
-    (table-end c.args.facts table c.named_facts-facts.ensures.told index c.loop-fact-test.false))
-    c.put-2.result (g.K.Sink.said c.put-2.new.sink) c.put-2.ensures.err
+    c.put-2.ensures.told

@@ -1,8 +1,9 @@
 use Rattle.std.proofs.Common.{◌≡◌, ◌++◌, ◌∙◌, ap, sym, refl, subst, append_assoc, length, arith, List, ℕ, []}
+use Rattle.std.proofs.lemmas.Result.{err_from_is_err_and}
 use Rattle.std.specs.List.{flat_map}
 use Rattle.question_shell.specs.Reply.{stop_line}
 use Rattle.question_shell.specs.Says.{Cuts, Says, voice}
-use Rattle.question_shell.proofs.SaysLemmas.{cuts-append, cuts-more, on_err_always, says-append, says-nothing}
+use Rattle.question_shell.proofs.SaysLemmas.{cuts-append, cuts-more, says-append, says-nothing}
 use Rattle.question_shell.proofs.saying.say_stops.Goals as goal
 
 pub loop-stop-init : goal.loop-stop-init
@@ -15,8 +16,9 @@ loop-stop-init g c = record {
   faults = refl;
 }
 
-pub returns-in_err-put-clause-err : goal.returns-in_err-put-clause-err
-returns-in_err-put-clause-err g c = on_err_always c.from_residual.result (
+pub returns-in_err-put-clause-told : goal.returns-in_err-put-clause-told
+returns-in_err-put-clause-told g c =
+    let exit = err_from_is_err_and c.from_residual.result c.from_residual.ensures.1 in
     let read = c.loop-stop.invariant in
     let start = voice (g.K.Sink.said c.args.sink.now) c.args.text.now in
     let between = voice (g.K.Sink.said c.loop-stop.sink) c.loop-stop.text in
@@ -27,9 +29,9 @@ returns-in_err-put-clause-err g c = on_err_always c.from_residual.result (
     read.whole ∙ (ap (λ stops. read.done ++ flat_map stop_line stops) c.in-Some.ensures.found
     ∙ sym (append_assoc read.done line rest)) in
     let cut : Cuts between now line =
-    subst (λ (text : List ℕ). Cuts between now text) c.stop_line.ensures c.in_err-put.ensures.err in
-    rw whole (cuts-more start now (read.done ++ line) rest
-    (cuts-append start between now read.done line read.says cut)))
+    subst (λ (text : List ℕ). Cuts between now text) c.stop_line.ensures c.in_err-put.ensures.told in
+    rw (exit.1, whole) (cuts-more start now (read.done ++ line) rest
+    (cuts-append start between now read.done line read.says cut))
 
 pub loop-stop-preserved : goal.loop-stop-preserved
 loop-stop-preserved g c =
@@ -40,7 +42,7 @@ loop-stop-preserved g c =
     let line = stop_line c.in-Some.stop in
     let rest = flat_map stop_line (g.W.Lazy.left c.draw.new.self) in
     let says : Says between now line =
-    subst (λ (text : List ℕ). Says between now text) c.stop_line.ensures c.in_ok-put.ensures.ok in
+    subst (λ (text : List ℕ). Says between now text) c.stop_line.ensures c.in_ok-put.ensures.told in
     record {
       done = read.done ++ line;
       count = omega (arith, read.count, ap length c.in-Some.ensures.found);
