@@ -10,7 +10,7 @@ use Rattle.question_shell.specs.LineKept.{LineKept}
 use Rattle.question_shell.specs.Lines.{lines_of, unended_line, whole_lines}
 use Rattle.question_shell.specs.Session.{AnswersAll, AnswersBefore, AnswersFirst, AnswersFront, AnswersToPiece}
 use Rattle.question_shell.specs.Session.{AnswersWhole, AreTaken, Came, Meaning, Run}
-use Rattle.question_shell.specs.Turns.{BytesTold, Heard, LinesTold, Moment, Turns, TurnsFront, moment}
+use Rattle.question_shell.specs.Turns.{BytesTold, Heard, LinesTold, Moment, MoreTold, Turns, TurnsFront, moment}
 use Rattle.question_shell.specs.declared.turn_fault.TurnFault.{TurnFault}
 use Rattle.question_shell.specs.declared.turn_fault.TurnFault.TheVariants as fault
 use Rattle.question_shell.proofs.SlotLemmas.{slots-independent}
@@ -141,37 +141,34 @@ pub record Brings (bytes : List ℕ) (here now : Run) (piece counted : List ℕ)
   pub within : length (bytes ++ piece) ≤ limit_of Questions + 1
   pub front : take (limit_of Questions) (bytes ++ piece) ≡ bytes ++ counted
 
-module _ (meaning : Meaning) (before here now : Run) (line : LineKept) (stands : Stands meaning before here line) where
-  abbrev bytes : List ℕ
-  bytes = stands.bytes
-
+module _ {meaning : Meaning} {before here now : Run} {line : LineKept} (stands : Stands meaning before here line) where
   -- the source failed, and nothing else changed
   pub answers-whole : Keeps here.rest now.rest → now.taken ≡ here.taken → moment_of now ≡ moment_of here →
       AnswersWhole meaning before now
   answers-whole kept taken same = record {
-    bytes = bytes;
-    came = came-kept before here now bytes stands.came kept taken;
+    bytes = stands.bytes;
+    came = came-kept before here now stands.bytes stands.came kept taken;
     within = stands.short;
     answers = answers-turns meaning before.rest now.rest before.said now.said before.taken now.taken before.steps
-        now.steps before.desk now.desk (whole_lines bytes)
-        (subst (λ (here : Moment). Turns meaning (moment_of before) here (whole_lines bytes)) (sym same)
+        now.steps before.desk now.desk (whole_lines stands.bytes)
+        (subst (λ (here : Moment). Turns meaning (moment_of before) here (whole_lines stands.bytes)) (sym same)
         stands.heard.turns);
   }
 
   -- the end came
   module _ (ends : Ends here now) where
-    came-here : Came before now bytes
-    came-here = came-end before here now bytes ends.piece ends.nothing stands.came ends.consumed ends.taken
+    came-here : Came before now stands.bytes
+    came-here = came-end before here now stands.bytes ends.piece ends.nothing stands.came ends.consumed ends.taken
 
     pub answers-all : ((start : Moment) (came : List ℕ) → Heard meaning start (moment_of here) came line →
         Turns meaning start (moment_of now) (lines_of came)) → AnswersAll meaning before now
     answers-all told = record {
-      bytes = bytes;
+      bytes = stands.bytes;
       came = came-here;
       at_end = ends.at_end;
       within = stands.short;
       answers = answers-turns meaning before.rest now.rest before.said now.said before.taken now.taken before.steps
-          now.steps before.desk now.desk (lines_of bytes) (told (moment_of before) bytes stands.heard);
+          now.steps before.desk now.desk (lines_of stands.bytes) (told (moment_of before) stands.bytes stands.heard);
     }
 
     module _ (refused : TurnFault)
@@ -180,42 +177,40 @@ module _ (meaning : Meaning) (before here now : Run) (line : LineKept) (stands :
       where
         pub front-end : refused ≡ fault.Say → AnswersFront meaning before now
         front-end say =
-            let again = heard-again meaning (moment_of before) (moment_of here) bytes line stands.heard in
-            let last = last-piece meaning before here now bytes bytes [] line _ refused (sym (append-nil bytes))
-            (omega arith) stands.heard (told (moment_of here) (unended_line bytes) again) say in
-            answers-front meaning before now bytes came-here (omega (arith, stands.short)) (lines_of bytes)
-            (inr (ends.at_end, refl)) refused (told (moment_of before) bytes stands.heard) say last
+            let again = heard-again meaning (moment_of before) (moment_of here) stands.bytes line stands.heard in
+            let last = last-piece meaning before here now stands.bytes stands.bytes [] line _ refused (sym (append-nil stands.bytes))
+            (omega arith) stands.heard (told (moment_of here) (unended_line stands.bytes) again) say in
+            answers-front meaning before now stands.bytes came-here (omega (arith, stands.short)) (lines_of stands.bytes)
+            (inr (ends.at_end, refl)) refused (told (moment_of before) stands.bytes stands.heard) say last
 
         pub before-end : refused ≡ fault.Memory → AnswersBefore meaning before now
         before-end memory =
-            answers-before meaning before now bytes came-here (omega (arith, stands.short)) (lines_of bytes)
-            (inr (ends.at_end, refl)) refused (told (moment_of before) bytes stands.heard) memory
+            answers-before meaning before now stands.bytes came-here (omega (arith, stands.short)) (lines_of stands.bytes)
+            (inr (ends.at_end, refl)) refused (told (moment_of before) stands.bytes stands.heard) memory
 
   -- a piece more came, and was answered as far as it may be
-  module _ (piece counted : List ℕ) (new : LineKept) (refused : TurnFault)
-      (brings : Brings bytes here now piece counted)
-      (told : (start : Moment) (came : List ℕ) → Heard meaning start (moment_of here) came line →
-      BytesTold meaning start (moment_of now) (came ++ counted) new (Err refused))
+  module _ {piece counted : List ℕ} (brings : Brings stands.bytes here now piece counted) (new : LineKept) (refused : TurnFault)
+      (told : MoreTold meaning (moment_of here) line counted (moment_of now) new (Err refused))
     where
-      came-piece : Came before now (bytes ++ piece)
-      came-piece = came-more before here now bytes piece stands.came brings.consumed brings.taken
+      came-piece : Came before now (stands.bytes ++ piece)
+      came-piece = came-more before here now stands.bytes piece stands.came brings.consumed brings.taken
 
-      told-piece : LinesTold meaning (moment_of before) (moment_of now) (whole_lines (bytes ++ piece)) (Err refused)
+      told-piece : LinesTold meaning (moment_of before) (moment_of now) (whole_lines (stands.bytes ++ piece)) (Err refused)
       told-piece =
-          refused-first meaning (moment_of before) (moment_of now) (bytes ++ counted) (bytes ++ piece) new refused
-          brings.front (told (moment_of before) bytes stands.heard)
+          refused-first meaning (moment_of before) (moment_of now) (stands.bytes ++ counted) (stands.bytes ++ piece) new refused
+          brings.front (told (moment_of before) stands.bytes stands.heard)
 
       pub front-piece : refused ≡ fault.Say → AnswersFront meaning before now
       front-piece say =
-          let again = heard-again meaning (moment_of before) (moment_of here) bytes line stands.heard in
+          let again = heard-again meaning (moment_of before) (moment_of here) stands.bytes line stands.heard in
           let told_here = told-whole meaning (moment_of here) (moment_of now) _ new refused
-          (told (moment_of here) (unended_line bytes) again) in
-          let last = last-piece meaning before here now (bytes ++ piece) bytes piece line _ refused refl brings.few
+          (told (moment_of here) (unended_line stands.bytes) again) in
+          let last = last-piece meaning before here now (stands.bytes ++ piece) stands.bytes piece line _ refused refl brings.few
           stands.heard told_here say in
-          answers-front meaning before now (bytes ++ piece) came-piece brings.within (whole_lines (bytes ++ piece)) (inl refl)
+          answers-front meaning before now (stands.bytes ++ piece) came-piece brings.within (whole_lines (stands.bytes ++ piece)) (inl refl)
           refused told-piece say last
 
       pub before-piece : refused ≡ fault.Memory → AnswersBefore meaning before now
       before-piece memory =
-          answers-before meaning before now (bytes ++ piece) came-piece brings.within (whole_lines (bytes ++ piece))
+          answers-before meaning before now (stands.bytes ++ piece) came-piece brings.within (whole_lines (stands.bytes ++ piece))
           (inl refl) refused told-piece memory

@@ -97,35 +97,28 @@ pieces-init g c =
 
 pub returns-in_default-clause-listen : goal.returns-in_default-clause-listen
 returns-in_default-clause-listen g c is_listen =
-    let at = (goal.at.returns-in_default-clause-listen g c).After-listen in
-    let source = c.listen.new.self in
-    let now = record (here g at) { rest = g.S.Source.rest source; taken = g.S.Source.taken source } in
-    answers-whole (meaning g at) (before g at) (here g at) now c.pieces.talk.line (stands g at)
-    c.in_default.ensures.read (omega (arith, c.in_default.ensures.taken)) refl
+    answers-whole (stands g (goal.at.returns-in_default-clause-listen g c).After-listen) c.in_default.ensures.read
+    (omega (arith, c.in_default.ensures.taken)) refl
 
 pub returns-in-Ok-take_end-clause-ok : goal.returns-in-Ok-take_end-clause-ok
 returns-in-Ok-take_end-clause-ok g c =
     let place = goal.at.returns-in-Ok-take_end-clause-ok g c in
-    let at = place.After-listen in
-    answers-all (meaning g at) (before g at) (here g at) _ c.pieces.talk.line (stands g at)
-    (ends g place.After-take_end)
+    answers-all (stands g place.After-listen) (ends g place.After-take_end)
     (λ start came heard. c.in-Ok-take_end.ensures.told start came (rw c.pieces.invariant.text heard))
 
 pub returns-in-Err-Say-clause-say : goal.returns-in-Err-Say-clause-say
 returns-in-Err-Say-clause-say g c is_say =
     let place = goal.at.returns-in-Err-Say-clause-say g c in
-    let at = place.After-listen in
     let arm = c.in-Err-Say in
-    front-end (meaning g at) (before g at) (here g at) _ c.pieces.talk.line (stands g at) (ends g place.After-take_end)
-    arm.field-0 (λ start came heard. arm.ensures.told start came (rw c.pieces.invariant.text heard)) arm.field-0-is
+    front-end (stands g place.After-listen) (ends g place.After-take_end) arm.field-0
+    (λ start came heard. arm.ensures.told start came (rw c.pieces.invariant.text heard)) arm.field-0-is
 
 pub returns-in-Err-Memory-clause-memory : goal.returns-in-Err-Memory-clause-memory
 returns-in-Err-Memory-clause-memory g c is_memory =
     let place = goal.at.returns-in-Err-Memory-clause-memory g c in
-    let at = place.After-listen in
     let arm = c.in-Err-Memory in
-    before-end (meaning g at) (before g at) (here g at) _ c.pieces.talk.line (stands g at) (ends g place.After-take_end)
-    arm.field-0 (λ start came heard. arm.ensures.told start came (rw c.pieces.invariant.text heard)) arm.field-0-is
+    before-end (stands g place.After-listen) (ends g place.After-take_end) arm.field-0
+    (λ start came heard. arm.ensures.told start came (rw c.pieces.invariant.text heard)) arm.field-0-is
 
 pub pieces-preserved : goal.pieces-preserved
 unfolding stands
@@ -152,20 +145,16 @@ pub returns-in-Err-Say-take_piece-clause-say : goal.returns-in-Err-Say-take_piec
 unfolding stands
 returns-in-Err-Say-take_piece-clause-say g c is_say =
     let place = goal.at.returns-in-Err-Say-take_piece-clause-say g c in
-    let at = place.After-listen in
     let arm = c.in-Err-Say-take_piece in
-    front-piece (meaning g at) (before g at) (here g at) _ c.pieces.talk.line (stands g at) _ _
-    c.take_piece.new.talk.line arm.field-0 (brings g place.After-take_piece)
+    front-piece (stands g place.After-listen) (brings g place.After-take_piece) c.take_piece.new.talk.line arm.field-0
     (λ start came heard. arm.ensures.told start came (rw c.pieces.invariant.text heard)) arm.field-0-is
 
 pub returns-in-Err-Memory-take_piece-clause-memory : goal.returns-in-Err-Memory-take_piece-clause-memory
 unfolding stands
 returns-in-Err-Memory-take_piece-clause-memory g c is_memory =
     let place = goal.at.returns-in-Err-Memory-take_piece-clause-memory g c in
-    let at = place.After-listen in
     let arm = c.in-Err-Memory-take_piece in
-    before-piece (meaning g at) (before g at) (here g at) _ c.pieces.talk.line (stands g at) _ _
-    c.take_piece.new.talk.line arm.field-0 (brings g place.After-take_piece)
+    before-piece (stands g place.After-listen) (brings g place.After-take_piece) c.take_piece.new.talk.line arm.field-0
     (λ start came heard. arm.ensures.told start came (rw c.pieces.invariant.text heard)) arm.field-0-is
 
 pub returns-clause-limit : goal.returns-clause-limit
