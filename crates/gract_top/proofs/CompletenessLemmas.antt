@@ -133,7 +133,8 @@ module _ (untouched : Type 0) (before now : Talk) (ready : HasQuestions before.r
   -- bytes that hold parts are neither flawed nor asked too much
   opened-long : (bytes : List ℕ) (value : ℕ) →
       EndsOpened (outcome.Limit limit.Questions value) bytes untouched before now → ⊥
-  opened-long bytes value ends =
+  opened-long bytes value (inl unopened) = unopened
+  opened-long bytes value (inr ends) =
       let first = ends.answers.answers.answered.1 in
       questions-short before.rest now.rest first.bytes ready first.came.consumed first.past
 
@@ -155,7 +156,10 @@ once-good result csv settings untouched before now ends ready lines plain words 
     let Over : Outcome → Type 0 = λ other. AnswersChart other csv settings untouched before now in
     let late : is_late result ≡ true = ap is_late is in
     let answers = subst Over is (ends.late late) in
-    (answers.plain plain).answers.answered)
+    elim (answers.plain plain) [
+      | inl memory ↦ absurd (let same = memory.0 in cc)
+      | inr over ↦ over.answers.answered
+    ])
     (λ value is.
     let Over : Outcome → Type 0 = λ other. AnswersChart other csv settings untouched before now in
     let late : is_late result ≡ true = ap is_late is in
@@ -183,8 +187,10 @@ ask-good result index untouched before now ends ready lines words save listen sa
     (limit_of limit.Index) answers.bytes ready.told ready.holds ready.short answers.loaded.came in
     let none : first_flaw answers.bytes ≡ None =
     ap first_flaw same ∙ first_flaw-file ready.bytes ready.parts ready.file in
-    let both : Some flaw ≡ None = sym answers.ended.0 ∙ none in
-    absurd (cc))
+    elim answers.ended [
+      | inl unopened ↦ absurd (let both : Some flaw ≡ None = sym unopened.0 ∙ none in cc)
+      | inr over ↦ over.answers.answers.answered
+    ])
     (λ value is.
     let Over : Outcome → Type 0 = λ other. AnswersFile other index untouched before now in
     let late : is_late result ≡ true = ap is_late is in

@@ -1,6 +1,6 @@
 -- How a call ends once its file was loaded.
 use Rattle.std.proofs.Common.{◌≡◌, ◌≢◌, ℕ, ◌+◌, ◌<◌, ◌≤◌, ◌^◌, true, false, List, length, Result, Ok, Err}
-use Rattle.std.proofs.Common.{inr, refl, sym, ap, ◌∙◌, subst, arith}
+use Rattle.std.proofs.Common.{inl, inr, refl, sym, ap, ◌∙◌, subst, arith}
 use mathlib.Core.Bool.{false≢true}
 use Rattle.host_ports.specs.FileMap.{IsMissing}
 use Rattle.host_ports.specs.FilesState.{FilesState}
@@ -103,7 +103,10 @@ pub EndsOpened-unsaved : (result : Outcome) (bytes : List ℕ) (untouched : Type
     EndsOpened result bytes untouched before now → result ≢ outcome.SaveFailed
 EndsOpened-unsaved result bytes untouched before now ended is =
     let Ended : Outcome → Type 0 = λ other. EndsOpened other bytes untouched before now in
-    (subst Ended is ended).answers.answers.answered
+    elim (subst Ended is ended) [
+      | inl unopened ↦ unopened
+      | inr over ↦ over.answers.answers.answered
+    ]
 
 module _ (index bytes : List ℕ) (before now : FilesState) where
   -- a save ends in one of two ways

@@ -1,10 +1,12 @@
 -- The definitions, run on inputs that were worked out by hand.
-use Rattle.std.proofs.Common.{◌≡◌, ℕ, List, [], ◌∷◌, codes, refl, Bor, map}
+use Rattle.std.proofs.Common.{◌≡◌, ℕ, List, [], ◌∷◌, codes, refl, Bor, map, Ok, Some}
 use Rattle.std.specs.Fmt.{digits}
+use Rattle.question_shell.specs.Grammar.{question_of}
 use Rattle.track_types.specs.declared.limit.LimitKind.TheVariants as limit
 use Rattle.track_types.specs.declared.raw_row.RowFault.TheVariants as fault
 use Rattle.gract_top.specs.OutcomeText.{text_of}
 use Rattle.gract_top.specs.Request.{request_of}
+use Rattle.gract_top.specs.Summary.{counted_questions}
 use Rattle.gract_top.specs.declared.outcome.Outcome.TheVariants as outcome
 use Rattle.gract_top.specs.declared.request.Request.TheVariants as request
 
@@ -43,6 +45,13 @@ period_above = refl
 one_word_more : request_of (words (codes "once" ∷ codes "t.csv" ∷ codes "1" ∷ codes "1" ∷ codes "4" ∷ codes "x" ∷ []))
     ≡ request.Refused 6
 one_word_more = refl
+
+-- the lines that ask for a summary of 64 instants
+summary_lines : map question_of
+    (codes "position 0 32" ∷ codes "path 0 0 63" ∷ codes "slice 32 rect 0 0 511 511"
+    ∷ codes "interval 0 63 disc 512 512 100" ∷ codes "nearest 5 63 512 512" ∷ [])
+    ≡ map (λ asked. Ok (Some asked)) (counted_questions 64)
+summary_lines = refl
 
 -- texts
 limit_line : text_of (outcome.Limit limit.Extent 1048577) ≡ codes "gract: limit extent passed at 1048577"

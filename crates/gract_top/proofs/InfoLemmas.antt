@@ -89,7 +89,12 @@ empty-front : (xs ys : List ℕ) → [] ≡ xs ++ ys → xs ≡ []
 empty-front [] ys is = refl
 empty-front (x ∷ xs) ys is = absurd (cc)
 
-module _ (meaning : Meaning) (before now : Run) (told : before.rest ≡ Some info) (desk : before.desk ≡ empty_desk) where
+-- A run begins with the line alone, and from an empty desk.
+pub record BeginsInfo (before : Run) : Type 0 where
+  pub told : before.rest ≡ Some info
+  pub desk : before.desk ≡ empty_desk
+
+module _ (meaning : Meaning) (before now : Run) (begins : BeginsInfo before) where
   replies-info : replies_by meaning (held_of before.desk) (lines_of info)
       ≡ reply_to meaning.chart meaning.facts question.Info
   unfolding replies_of whole_lines unended_line
@@ -97,7 +102,7 @@ module _ (meaning : Meaning) (before now : Run) (told : before.rest ≡ Some inf
 
   costs-info : budget_of before.desk + costs_by meaning (held_of before.desk) (lines_of info) ≡ 0
   unfolding costs_of whole_lines unended_line
-  costs-info = rw desk refl
+  costs-info = rw begins.desk refl
 
   replies-none : replies_by meaning (held_of before.desk) [] ≡ []
   unfolding replies_of
@@ -105,13 +110,13 @@ module _ (meaning : Meaning) (before now : Run) (told : before.rest ≡ Some inf
 
   costs-none : budget_of before.desk + costs_by meaning (held_of before.desk) [] ≡ 0
   unfolding costs_of
-  costs-none = rw desk refl
+  costs-none = rw begins.desk refl
 
   -- the reply was said
   pub info-said : AnswersAll meaning before now → Appends before.said now.said
       (reply_to meaning.chart meaning.facts question.Info)
   info-said answers =
-      let all = came-all before.rest now.rest answers.bytes told answers.came.consumed answers.at_end in
+      let all = came-all before.rest now.rest answers.bytes begins.told answers.came.consumed answers.at_end in
       let Says : List ℕ → Type 0 = λ text. Appends before.said now.said text in
       let says : Says (replies_by meaning (held_of before.desk) (lines_of info)) =
       subst (λ (bytes : List ℕ). Says (replies_by meaning (held_of before.desk) (lines_of bytes))) all answers.answers.said in
@@ -119,7 +124,7 @@ module _ (meaning : Meaning) (before now : Run) (told : before.rest ≡ Some inf
 
   pub info-read : AnswersAll meaning before now → now.steps ≤ before.steps
   info-read answers =
-      let all = came-all before.rest now.rest answers.bytes told answers.came.consumed answers.at_end in
+      let all = came-all before.rest now.rest answers.bytes begins.told answers.came.consumed answers.at_end in
       let costs = ap (λ bytes. costs_by meaning (held_of before.desk) (lines_of bytes)) all in
       omega (arith, answers.answers.reads, costs, costs-info)
 
@@ -128,7 +133,7 @@ module _ (meaning : Meaning) (before now : Run) (told : before.rest ≡ Some inf
       SaysFront before.said now.said (reply_to meaning.chart meaning.facts question.Info)
       × (now.steps ≤ before.steps)
   info-cut answers =
-      let front = came-front before.rest now.rest answers.bytes told answers.came.consumed in
+      let front = came-front before.rest now.rest answers.bytes begins.told answers.came.consumed in
       elim answers.taken [
         | inl whole ↦
             let none : answers.lines ≡ [] = whole ∙ whole-none answers.bytes front.0 front.2 in
@@ -145,7 +150,7 @@ module _ (meaning : Meaning) (before now : Run) (told : before.rest ≡ Some inf
               omega (arith, answers.reads, costs, costs-none),
             )
         | inr ended ↦
-            let all = came-all before.rest now.rest answers.bytes told answers.came.consumed ended.0 in
+            let all = came-all before.rest now.rest answers.bytes begins.told answers.came.consumed ended.0 in
             let one : answers.lines ≡ lines_of info = ended.1 ∙ ap lines_of all in
             let costs = ap (costs_by meaning (held_of before.desk)) one in (
               record {
@@ -161,7 +166,7 @@ module _ (meaning : Meaning) (before now : Run) (told : before.rest ≡ Some inf
   -- the line is not too long
   pub info-short : AnswersFirst meaning before now → ⊥
   info-short answers =
-      let front = came-front before.rest now.rest answers.bytes told answers.came.consumed in
+      let front = came-front before.rest now.rest answers.bytes begins.told answers.came.consumed in
       let lengths = ap length front.2 ∙ length-append answers.bytes front.0 in
       let four : length info ≡ 4 = refl in
       omega (arith, lengths, four, answers.past)
@@ -169,7 +174,7 @@ module _ (meaning : Meaning) (before now : Run) (told : before.rest ≡ Some inf
   -- and takes no memory
   pub info-kept : AnswersBefore meaning before now → ⊥
   info-kept answers =
-      let front = came-front before.rest now.rest answers.bytes told answers.came.consumed in
+      let front = came-front before.rest now.rest answers.bytes begins.told answers.came.consumed in
       let bytes = answers.bytes in
       let stops = answers.stops in
       elim answers.taken [

@@ -206,7 +206,7 @@ module _ (chart : ChartView) (facts : Facts) (cost : Question → ℕ) where
       let whole : counts_of chart facts all ≡ counting.done = counting.whole ∙ rw none (append-nil counting.done) in
       rw whole counting.said
 
-  module _ (all left rest : List Question) (asked : Question) (before now : Speech) (count : ℕ)
+  module _ {all left rest : List Question} {asked : Question} {before now : Speech} (count : ℕ)
       (counting : IsCounting all left before now) (cut : left ≡ asked ∷ rest)
       (counted : last_line (reply_to chart facts asked) ≡ ok_line count)
     where

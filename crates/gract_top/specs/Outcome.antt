@@ -63,20 +63,24 @@ pub record AnswersBytes (result : Outcome) (bytes : List ℕ) (untouched : Type 
   pub file : IsFile bytes parts
   pub answers : AnswersOver result parts untouched before now
 
--- Nothing was listened to or said, and no more was read than opening bytes may cost.
-abbrev pub OpensOnly : List ℕ → Type 0 → Talk → Talk → Type 0
-OpensOnly bytes untouched before now = untouched × (now.steps ≤ before.steps + bytes_cost bytes)
+-- Source and sink are as they were, and between these two counts no more was read than opening bytes may cost.
+abbrev pub OpensOnly : List ℕ → Type 0 → ℕ → ℕ → Type 0
+OpensOnly bytes untouched before now = untouched × (now ≤ before + bytes_cost bytes)
+
+-- The bytes were not opened: for their first flaw, or out of memory.
+abbrev pub Unopened : Outcome → List ℕ → Type 0 → ℕ → ℕ → Type 0
+Unopened (outcome.Flaw flaw) bytes untouched before now =
+    (first_flaw bytes ≡ Some flaw) × OpensOnly bytes untouched before now
+Unopened outcome.Memory bytes untouched before now = OpensOnly bytes untouched before now
+Unopened other bytes untouched before now = ⊥
 
 -- How a call ends once it has bytes to open: with their first flaw, or over what they hold, unless it was out of memory.
 abbrev pub EndsOpened : Outcome → List ℕ → Type 0 → Talk → Talk → Type 0
-EndsOpened (outcome.Flaw flaw) bytes untouched before now =
-    (first_flaw bytes ≡ Some flaw) × OpensOnly bytes untouched before now
-EndsOpened outcome.Memory bytes untouched before now =
-    OpensOnly bytes untouched before now ⊎ AnswersBytes outcome.Memory bytes untouched before now
-EndsOpened other bytes untouched before now = AnswersBytes other bytes untouched before now
+EndsOpened result bytes untouched before now =
+    Unopened result bytes untouched before.steps now.steps ⊎ AnswersBytes result bytes untouched before now
 
 -- How a call ends once it has the bytes of an index file that holds these parts: over them, unless it was out of memory.
 abbrev pub EndsOver : Outcome → List ℕ → Parts → Type 0 → Talk → Talk → Type 0
-EndsOver outcome.Memory bytes parts untouched before now =
-    OpensOnly bytes untouched before now ⊎ AnswersOver outcome.Memory parts untouched before now
-EndsOver other bytes parts untouched before now = AnswersOver other parts untouched before now
+EndsOver result bytes parts untouched before now =
+    ((result ≡ outcome.Memory) × OpensOnly bytes untouched before.steps now.steps)
+    ⊎ AnswersOver result parts untouched before now

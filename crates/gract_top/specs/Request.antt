@@ -33,19 +33,19 @@ first_bad (kind ∷ kinds) (word ∷ words) place =
 abbrev pub settings_words : List WordKind
 settings_words = Number (pos 1) (pos MAX_RESOLUTION) ∷ Number (pos 1) (pos MAX_RESOLUTION) ∷ Number (pos 1) (pos MAX_PERIOD) ∷ []
 
--- the words behind `once`: CSV CELL TICK PERIOD
+-- the words after `once`: CSV CELL TICK PERIOD
 abbrev pub once_words : List WordKind
 once_words = File ∷ settings_words
 
--- the words behind `build`: CSV INDEX CELL TICK PERIOD
+-- the words after `build`: CSV INDEX CELL TICK PERIOD
 abbrev pub build_words : List WordKind
 build_words = File ∷ File ∷ settings_words
 
--- the words behind `ask`: INDEX
+-- the words after `ask`: INDEX
 abbrev pub ask_words : List WordKind
 ask_words = File ∷ []
 
--- the words behind `sample`: OBJECTS INSTANTS SEED PERIOD
+-- the words after `sample`: OBJECTS INSTANTS SEED PERIOD
 abbrev pub sample_words : List WordKind
 sample_words = Number (pos 1) (pos MAX_OBJECTS) ∷ Number (pos 1) (pos MAX_SPAN) ∷ Number (pos 0) (pos (2 ^ 62)) ∷ Number (pos 1) (pos MAX_PERIOD) ∷ []
 
@@ -71,44 +71,44 @@ sample_settings_of objects instants seed period = record {
 abbrev pub texts : List (Bor (List ℕ)) → List (List ℕ)
 texts words = map (λ word. word.now) words
 
--- what words behind `once` ask for, unless the word at some place is bad
+-- what words after `once` ask for, unless the word at some place is bad
 abbrev pub once_or : Option ℕ → List (Bor (List ℕ)) → Request
 once_or (Some place) words = Refused place
 once_or None (csv ∷ cell ∷ tick ∷ period ∷ []) = Once csv (settings_of cell.now tick.now period.now)
 once_or None other = Refused 2
 
--- what words behind `build` ask for, unless the word at some place is bad
+-- what words after `build` ask for, unless the word at some place is bad
 abbrev pub build_or : Option ℕ → List (Bor (List ℕ)) → Request
 build_or (Some place) words = Refused place
 build_or None (csv ∷ index ∷ cell ∷ tick ∷ period ∷ []) = Build csv index (settings_of cell.now tick.now period.now)
 build_or None other = Refused 2
 
--- what words behind `ask` ask for, unless the word at some place is bad
+-- what words after `ask` ask for, unless the word at some place is bad
 abbrev pub ask_or : Option ℕ → List (Bor (List ℕ)) → Request
 ask_or (Some place) words = Refused place
 ask_or None (index ∷ []) = Ask index
 ask_or None other = Refused 2
 
--- what words behind `sample` ask for, unless the word at some place is bad
+-- what words after `sample` ask for, unless the word at some place is bad
 abbrev pub sample_or : Option ℕ → List (Bor (List ℕ)) → Request
 sample_or (Some place) words = Refused place
 sample_or None (objects ∷ instants ∷ seed ∷ period ∷ []) =
     Sample (sample_settings_of objects.now instants.now seed.now period.now)
 sample_or None other = Refused 2
 
--- what the words behind `once` ask for
+-- what the words after `once` ask for
 abbrev pub once_of : List (Bor (List ℕ)) → Request
 once_of words = once_or (first_bad once_words (texts words) 2) words
 
--- what the words behind `build` ask for
+-- what the words after `build` ask for
 abbrev pub build_of : List (Bor (List ℕ)) → Request
 build_of words = build_or (first_bad build_words (texts words) 2) words
 
--- what the words behind `ask` ask for
+-- what the words after `ask` ask for
 abbrev pub ask_of : List (Bor (List ℕ)) → Request
 ask_of words = ask_or (first_bad ask_words (texts words) 2) words
 
--- what the words behind `sample` ask for
+-- what the words after `sample` ask for
 abbrev pub sample_of : List (Bor (List ℕ)) → Request
 sample_of words = sample_or (first_bad sample_words (texts words) 2) words
 

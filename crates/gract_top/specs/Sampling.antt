@@ -15,7 +15,8 @@ use Rattle.snapshots.specs.IndexCost.{open_cost}
 use Rattle.snapshots.specs.Parts.{chart_in}
 use Rattle.track_index.specs.Cost.{cost_of}
 use Rattle.track_index.specs.Facts.{facts_of}
-use Rattle.track_index.specs.Opening.{bytes_cost, first_flaw, IsFile}
+use Rattle.track_index.specs.Opening.{IsFile}
+use Rattle.gract_top.specs.Outcome.{OpensOnly, Unopened}
 use Rattle.gract_top.specs.Refusal.{grid_refusal, is_refusal}
 use Rattle.gract_top.specs.Summary.{summary_cost, summary_of}
 use Rattle.gract_top.specs.declared.outcome.Outcome.{Outcome}
@@ -67,26 +68,15 @@ pub record SumsBytes (result : Outcome) (bytes : List ℕ) (instants : ℕ) (bef
   pub file : IsFile bytes parts
   pub sums : SumsOver result parts instants before now
 
--- Nothing was said, and no more was read than opening bytes may cost.
-abbrev pub OpensSilently : List ℕ → Type 0 → Speech → Speech → Type 0
-OpensSilently bytes unsaid before now = unsaid × (now.steps ≤ before.steps + bytes_cost bytes)
-
--- the bytes were not opened: for their first flaw, or out of memory
-abbrev pub Unopened : Outcome → List ℕ → Type 0 → Speech → Speech → Type 0
-Unopened (outcome.Flaw flaw) bytes unsaid before now =
-    (first_flaw bytes ≡ Some flaw) × OpensSilently bytes unsaid before now
-Unopened outcome.Memory bytes unsaid before now = OpensSilently bytes unsaid before now
-Unopened other bytes unsaid before now = ⊥
-
 -- how a call ends once it has bytes to open
 abbrev pub EndsSummed : Outcome → List ℕ → ℕ → Type 0 → Speech → Speech → Type 0
 EndsSummed result bytes instants unsaid before now =
-    Unopened result bytes unsaid before now ⊎ SumsBytes result bytes instants before now
+    Unopened result bytes unsaid before.steps now.steps ⊎ SumsBytes result bytes instants before now
 
 -- how it ends once it has the bytes of an index file that holds these parts
 abbrev pub EndsSummedOver : Outcome → List ℕ → Parts → ℕ → Type 0 → Speech → Speech → Type 0
 EndsSummedOver result bytes parts instants unsaid before now =
-    ((result ≡ outcome.Memory) × OpensSilently bytes unsaid before now) ⊎ SumsOver result parts instants before now
+    ((result ≡ outcome.Memory) × OpensOnly bytes unsaid before.steps now.steps) ⊎ SumsOver result parts instants before now
 
 -- The sample is accepted, and what the files gave for the bytes of its index was opened and summed up. Plain files give
 -- these very bytes, and the summary is of the sample's own chart.

@@ -1,4 +1,4 @@
-ghost use Rattle.std.specs.Prelude.{◌≡◌, ◌≢◌, ℕ, ◌+◌, ◌≤◌, ◌^◌, ◌⊎◌, false, true, length, Err, IfOk, IfErr};
+ghost use Rattle.std.specs.Prelude.{◌≡◌, ◌≢◌, ℕ, ◌+◌, ◌≤◌, ◌⊎◌, false, true, Err, IfOk, IfErr};
 ghost use Rattle.host_ports.specs.Faults.{Rose};
 ghost use Rattle.host_ports.specs.FileMap.{IsMissing};
 ghost use Rattle.host_ports.specs.FilesState.{state_of};
@@ -62,7 +62,7 @@ pub(crate) fn once<F: Files, S: Source, K: Sink, L: Ledger>(
     let Ok(bytes) = index_bytes(alloc, chart) else {
         return Outcome::Memory;
     };
-    let bytes = pass_on(files, bytes);
+    let bytes = files.pass(bytes);
     answer_bytes(alloc, bytes, source, sink, steps)
 }
 
@@ -143,19 +143,4 @@ fn index_too_long() -> Outcome
         kind: LimitKind::Index,
         value: MAX_INDEX + 1,
     }
-}
-
-// What the files give for these bytes. Nothing else of them changes.
-fn pass_on<F: Files>(files: &mut F, bytes: Vec<u8>) -> Vec<u8>
-    requires { length bytes.items ≤ 2 ^ 30 }
-    ensures given { result.items ≡ F.given files.old bytes.items }
-    ensures short { length result.items ≤ 2 ^ 30 }
-    ensures map { F.map files.new ≡ F.map files.old }
-    ensures taken { F.taken files.new ≡ F.taken files.old }
-    ensures load_faults { F.load_faults files.new ≡ F.load_faults files.old }
-    ensures save_faults { F.save_faults files.new ≡ F.save_faults files.old }
-    ensures saves { F.saves files.new ≡ F.saves files.old }
-    ensures begins { F.begins files.new ≡ F.begins files.old }
-{
-    files.pass(bytes)
 }

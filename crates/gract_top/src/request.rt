@@ -88,7 +88,7 @@ const PERIOD_WORD: WordKind = WordKind::Number {
     greatest: PERIOD,
 };
 
-/// The words behind `once`: CSV CELL TICK PERIOD.
+/// The words after `once`: CSV CELL TICK PERIOD.
 const ONCE: [WordKind; 4] = [
     WordKind::File,
     RESOLUTION_WORD,
@@ -96,7 +96,7 @@ const ONCE: [WordKind; 4] = [
     PERIOD_WORD,
 ];
 
-/// The words behind `build`: CSV INDEX CELL TICK PERIOD.
+/// The words after `build`: CSV INDEX CELL TICK PERIOD.
 const BUILD: [WordKind; 5] = [
     WordKind::File,
     WordKind::File,
@@ -105,10 +105,10 @@ const BUILD: [WordKind; 5] = [
     PERIOD_WORD,
 ];
 
-/// The words behind `ask`: INDEX.
+/// The words after `ask`: INDEX.
 const ASK: [WordKind; 1] = [WordKind::File];
 
-/// The words behind `sample`: OBJECTS INSTANTS SEED PERIOD.
+/// The words after `sample`: OBJECTS INSTANTS SEED PERIOD.
 const SAMPLE: [WordKind; 4] = [
     WordKind::Number {
         least: 1,

@@ -1,4 +1,4 @@
-use Rattle.std.proofs.Common.{◌+◌, ◌∙◌, pos, get_or, refl, drop, arith}
+use Rattle.std.proofs.Common.{◌∙◌, pos, get_or, refl, drop, arith}
 use Rattle.std.proofs.lemmas.List.{drop_all, drop_more}
 use Rattle.track_types.specs.declared.question.Question.TheVariants as question
 use Rattle.gract_top.specs.Sampling.{speech}
@@ -22,9 +22,7 @@ loop-question-preserved g c =
     let first = question.Position 0 (pos 0) in
     let asked = get_or all index first in
     record {
-      counting = IsCounting-next chart facts (g.A.Answerer.cost c.args.answerer) all (drop index all) (drop (index + 1) all)
-          asked (speech (g.K.Sink.said c.args.sink.now) c.args.steps.now)
-          (speech (g.K.Sink.said c.loop-question.sink) c.loop-question.steps) c.in-Ok.count
+      counting = IsCounting-next chart facts (g.A.Answerer.cost c.args.answerer) c.in-Ok.count
           c.loop-question.invariant.counting (drop_more all index first c.loop-question-test.true)
           (last_line-counted chart facts asked c.in-Ok.count (c.requires index first c.loop-question-test.true)
           c.in-Ok.ensures.within c.in-Ok.ensures.ok)
@@ -41,9 +39,7 @@ returns-in_default-say_count-clause-err g c =
     let index = c.loop-question.question-index in
     let first = question.Position 0 (pos 0) in
     let asked = get_or all index first in
-    IsCounting-cut chart facts (g.A.Answerer.cost c.args.answerer) all (drop index all) (drop (index + 1) all)
-    asked (speech (g.K.Sink.said c.args.sink.now) c.args.steps.now)
-    (speech (g.K.Sink.said c.loop-question.sink) c.loop-question.steps) c.in-Ok.count
+    IsCounting-cut chart facts (g.A.Answerer.cost c.args.answerer) c.in-Ok.count
     c.loop-question.invariant.counting (drop_more all index first c.loop-question-test.true)
     (last_line-counted chart facts asked c.in-Ok.count (c.requires index first c.loop-question-test.true)
     c.in-Ok.ensures.within c.in-Ok.ensures.ok)
