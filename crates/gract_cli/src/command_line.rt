@@ -8,7 +8,7 @@ const SHORT_WORD: usize = 256;
 /// How often a buffer is doubled at most.
 const DOUBLINGS: u32 = 24;
 
-/// The words behind the program's name.
+/// The words after the program's name.
 ///
 /// A word that is not UTF-8 is a faulty command line: it is refused by its place, as `Outcome::Words`.
 pub fn command_words<R: Env + AllocGlobal>(rt: &R) -> Result<Vec<String>, Outcome> {

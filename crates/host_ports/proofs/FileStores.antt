@@ -29,7 +29,7 @@ held-take_more store files place none name within =
     ap (λ xs. held (file_map store xs) name) (take_more files place none within)
     ∙ ap (λ files_now. held files_now name) (file_map-append store (take place files) (get_or files place none))
 
--- a range stays where more is stored behind it
+-- a range stays where more is stored after it
 slice_range-append :
     (xs ys : List ℕ) (from to : ℕ) → from ≤ to → to ≤ length xs
     → slice_range (xs ++ ys) from to ≡ slice_range xs from to
@@ -58,7 +58,7 @@ map-entry_of store more (file ∷ files) within =
     let later = map-entry_of store more files (λ k d inside. within (suc k) d (omega (arith, inside))) in
     rw (first, later) refl
 
--- a file that is stored behind the others is the first of the map
+-- a file that is stored after the others is the first of the map
 pub file_map-push :
     (store : List ℕ) (files : List HeldFile) (name bytes : List ℕ) (file : HeldFile)
     → All (IsWithin store) files

@@ -27,7 +27,7 @@ slice_get-drop (x ∷ xs) (suc k) = slice_get-drop xs k
 pub take-rest : {A : Type 0} (n : ℕ) (xs : List A) → take (length xs - n) (drop n xs) ≡ drop n xs
 take-rest n xs = rw (← length-drop n xs) (take-length (drop n xs))
 
--- numbers behind others are in the ranges of the words behind others
+-- numbers after others are in the ranges of the words after others
 pub ranges-behind : (front wanted : List FormWord) (n : ℕ) (numbers : List ℤ) → length front ≡ n →
     AreInRange (front ++ wanted) numbers → AreInRange wanted (take (length numbers - n) (drop n numbers))
 ranges-behind front wanted n numbers few ranges = rw (take-rest n numbers) (record {
