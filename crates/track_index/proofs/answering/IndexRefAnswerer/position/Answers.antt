@@ -9,6 +9,8 @@ use Rattle.snapshots.specs.SoundParts.{IsValid}
 use Rattle.track_index.specs.Cost.{cost_of}
 use Rattle.object_track.proofs.ChartLemmas.{cell_at-known, cell_at-outside, cell_at-unknown, index_in-some}
 use Rattle.object_track.proofs.MetLemmas.{period_in-some}
+use Rattle.track_index.proofs.answering.IndexRefAnswerer.position.Given.{Over}
+use Rattle.track_index.proofs.answering.IndexRefAnswerer.position.Goals.{In_ok-period, In_ok-place}
 use Rattle.track_index.proofs.answering.IndexRefAnswerer.position.Goals as goal
 
 -- what the stores say of the period is said of the index
@@ -16,6 +18,19 @@ when-is : (stores parts : Parts) (z instant : ℤ) (period : Option ℕ) → sto
     → period ≡ period_in stores.frame z → period ≡ period_in parts.frame instant
 when-is stores parts z instant period same is found =
     found ∙ ap (period_in stores.frame) is ∙ ap (λ (p : Parts). period_in p.frame instant) same
+
+-- the place that was found is the object's in the index
+known : (g : Over) (c : In_ok-place g)
+    → Some c.in_ok-place.place ≡ index_in c.args.self.index.now.objects c.args.object
+known g c =
+    c.in_ok-place.ensures.value ∙ ap (λ (p : Parts). index_in p.objects c.args.object) c.stores-stores.ensures.value
+
+-- the period that was found is the instant's in the index
+when : (g : Over) (c : In_ok-period g)
+    → Some c.in_ok-period.period ≡ period_in c.args.self.index.now.frame c.args.instant
+when g c =
+    when-is c.stores-stores.result.now c.args.self.index.now _ c.args.instant (Some c.in_ok-period.period)
+    c.stores-stores.ensures.value (omega (arith, ints)) c.in_ok-period.ensures.value
 
 pub returns-in_err-place-clause-value : goal.returns-in_err-place-clause-value
 returns-in_err-place-clause-value g c =
@@ -26,14 +41,11 @@ returns-in_err-place-clause-value g c =
 
 pub returns-in_err-period-clause-value : goal.returns-in_err-period-clause-value
 returns-in_err-period-clause-value g c =
-    let known = c.in_ok-place.ensures.value
-    ∙ ap (λ (p : Parts). index_in p.objects c.args.object) c.stores-stores.ensures.value in
-    let same : to_z w64 (of_z w64 c.args.instant) ≡ c.args.instant = omega (arith, ints) in
     let none = when-is c.stores-stores.result.now c.args.self.index.now _ c.args.instant None
-    c.stores-stores.ensures.value same c.in_err-period.ensures.value in
+    c.stores-stores.ensures.value (omega (arith, ints)) c.in_err-period.ensures.value in
     c.from_residual-in_err-period.ensures
     ∙ sym (cell_at-outside c.args.self.index.now c.stores-stores.ensures.valid c.args.object c.in_ok-place.place
-    (sym known) c.args.instant (sym none))
+    (sym (known g (goal.at.returns-in_err-period-clause-value g c).In_ok-place)) c.args.instant (sym none))
 
 pub cell_in-requires-clause-place : goal.cell_in-requires-clause-place
 cell_in-requires-clause-place g c =
@@ -43,39 +55,31 @@ cell_in-requires-clause-place g c =
 pub cell_in-requires-clause-period : goal.cell_in-requires-clause-period
 cell_in-requires-clause-period g c =
     let valid = subst IsValid (sym c.stores-stores.ensures.value) c.stores-stores.ensures.valid in
-    let same : to_z w64 (of_z w64 c.args.instant) ≡ c.args.instant = omega (arith, ints) in
-    let when = when-is c.stores-stores.result.now c.stores-stores.result.now _ c.args.instant _ refl same
-    c.in_ok-period.ensures.value in
+    let when = when-is c.stores-stores.result.now c.stores-stores.result.now _ c.args.instant _ refl
+    (omega (arith, ints)) c.in_ok-period.ensures.value in
     (period_in-some c.stores-stores.result.now.frame valid.shaped.header c.args.instant c.in_ok-period.period
     (sym when)).0
 
 pub returns-clause-value : goal.returns-clause-value
 returns-clause-value g c =
     let parts : Parts = c.args.self.index.now in
-    let known = c.in_ok-place.ensures.value
-    ∙ ap (λ (p : Parts). index_in p.objects c.args.object) c.stores-stores.ensures.value in
+    let at = goal.at.returns-clause-value g c in
     let same : to_z w64 (of_z w64 c.args.instant) ≡ c.args.instant = omega (arith, ints) in
-    let when = when-is c.stores-stores.result.now parts _ c.args.instant (Some c.in_ok-period.period)
-    c.stores-stores.ensures.value same c.in_ok-period.ensures.value in
     c.cell_in.ensures.value
     ∙ ap (λ z. cell_among (stops_in c.stores-stores.result.now c.in_ok-place.place c.in_ok-period.period) z) same
     ∙ ap (λ p. cell_among (stops_in p c.in_ok-place.place c.in_ok-period.period) c.args.instant)
     c.stores-stores.ensures.value
-    ∙ sym (cell_at-known parts c.stores-stores.ensures.valid c.args.object c.in_ok-place.place (sym known)
-    c.args.instant c.in_ok-period.period (sym when))
+    ∙ sym (cell_at-known parts c.stores-stores.ensures.valid c.args.object c.in_ok-place.place
+    (sym (known g at.In_ok-place)) c.args.instant c.in_ok-period.period (sym (when g at.In_ok-period)))
 
 pub returns-clause-cost : goal.returns-clause-cost
 unfolding cost_of position_cost
 returns-clause-cost g c =
     let parts : Parts = c.args.self.index.now in
-    let known = c.in_ok-place.ensures.value
-    ∙ ap (λ (p : Parts). index_in p.objects c.args.object) c.stores-stores.ensures.value in
-    let same : to_z w64 (of_z w64 c.args.instant) ≡ c.args.instant = omega (arith, ints) in
-    let when = when-is c.stores-stores.result.now parts _ c.args.instant (Some c.in_ok-period.period)
-    c.stores-stores.ensures.value same c.in_ok-period.ensures.value in
+    let at = goal.at.returns-clause-cost g c in
     let cost : c.cell_in.new.steps ≤ c.args.steps.now
     + position_cost_in parts (Some c.in_ok-place.place) (Some c.in_ok-period.period) =
     subst (λ p. c.cell_in.new.steps ≤ c.args.steps.now
     + position_cost_in p (Some c.in_ok-place.place) (Some c.in_ok-period.period)) c.stores-stores.ensures.value
     c.cell_in.ensures.cost in
-    rw (← known, ← when) cost
+    rw (← known g at.In_ok-place, ← when g at.In_ok-period) cost
