@@ -1,10 +1,12 @@
 -- What tests keep of a list.
-use Rattle.std.proofs.Common.{◌≡◌, ℕ, ◌*◌, ◌≤◌, Bool, true, List, [], ◌∷◌, length, filter}
-use Rattle.std.proofs.Common.{refl, ◌∙◌, arith, inl, inr, All}
+use Rattle.std.proofs.Common.{◌≡◌, ℕ, ◌*◌, ◌≤◌, Bool, true, List, [], ◌∷◌, ◌++◌, length, filter}
+use Rattle.std.proofs.Common.{refl, sym, ap, ◌∙◌, arith, inl, inr, All}
 use Rattle.std.proofs.lemmas.Bool.{cases_Bool}
-use Rattle.std.specs.Prelude.{◌&&◌, if◌then◌else◌}
+use Rattle.std.proofs.lemmas.Bool.Decides.{nat_tests}
+use Rattle.std.proofs.lemmas.List.{append-nil, reverse-append}
+use Rattle.std.specs.Prelude.{◌&&◌, ◌==◌, if◌then◌else◌, reverse}
 use Rattle.std.specs.List.{flat_map, sum_by}
-use Rattle.std.proofs.lemmas.List.Elements.{All-head, All-tail}
+use Rattle.std.proofs.lemmas.List.Elements.{All-head, All-tail, filter-append}
 use Rattle.std.proofs.lemmas.List.Sums.{sum_by-cons}
 
 module _ {X : Type 0} where
@@ -72,3 +74,19 @@ module _ {X : Type 0} (a b : X → Bool) where
       let P : X → Type 0 = λ y. a y ≡ true → b y ≡ true in
       let rest = sum_by-filter-le f xs (All-tail P x xs each) in
       grind (arith, All-head P x xs each, rest, sum_by-cons f x (filter a xs), sum_by-cons f x (filter b xs))
+
+-- what passes, from the last on
+pub filter-reverse : {X : Type 0} (p : X → Bool) (xs : List X) → filter p (reverse xs) ≡ reverse (filter p xs)
+filter-reverse p [] = refl
+filter-reverse p (x ∷ xs) =
+    ap (filter p) (reverse-append (x ∷ []) xs) ∙ filter-append p (reverse xs) (x ∷ [])
+    ∙ ap (λ ys. ys ++ filter p (x ∷ [])) (filter-reverse p xs) ∙ elim (cases_Bool (p x)) [
+      | inl holds ↦ rw holds (sym (reverse-append (x ∷ []) (filter p xs)))
+      | inr fails ↦ rw fails (append-nil (reverse (filter p xs)))
+    ]
+
+module _ {X : Type 0} (passes : X → Bool) (key : X → ℕ) (own : ℕ) (one_key : (x : X) → passes x ≡ true → key x ≡ own) where
+  -- where all that pass have one key, no other key matters
+  pub filter-own_key : (xs : List X) → filter passes (filter (λ x. key x == own) xs) ≡ filter passes xs
+  filter-own_key [] = refl
+  filter-own_key (x ∷ xs) = grind (arith, nat_tests, one_key x, filter-own_key xs)

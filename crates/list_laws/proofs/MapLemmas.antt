@@ -1,5 +1,5 @@
 -- Mapped lists: laid end to end, side by side, what a test keeps of them, and what leaves a list as it is.
-use Rattle.std.proofs.Common.{zero, ◌≡◌, ◌<◌, Bool, List, [], ◌∷◌, ◌++◌, length, map, filter, All, refl, sym, ◌∙◌, ap, arith, inl, inr, subst, suc, ℕ, ◌≤◌, ◌+◌}
+use Rattle.std.proofs.Common.{zero, ◌≡◌, ◌≢◌, ◌<◌, set, Bool, List, [], ◌∷◌, ◌++◌, length, map, filter, All, refl, sym, ◌∙◌, ap, arith, inl, inr, subst, suc, ℕ, ◌≤◌, ◌+◌}
 use Rattle.std.specs.List.{Contains, flat_map, range_with_len, zip}
 use Rattle.std.proofs.lemmas.List.{get_or-map, length-map, map-append}
 use Rattle.list_laws.proofs.MemberLemmas.{first_member, later_member, member_cases, no_member}
@@ -37,6 +37,20 @@ map-range_agree f g a zero same = refl
 map-range_agree f g a (suc n) same =
     ap (λ y. y ∷ map f (range_with_len (a + 1) n)) (same a (omega arith) (omega arith))
     ∙ ap (λ ys. g a ∷ ys) (map-range_agree f g (a + 1) n (λ i low high. same i (omega arith) (omega arith)))
+
+-- where two give the same for all numbers but one, the one is set
+pub set-map-range : {X : Type 0} (f g : ℕ → X) (from count place own : ℕ) → own ≡ from + place → ((n : ℕ) → n ≢ own → f n ≡ g n) → place < count →
+    set (map f (range_with_len from count)) place (g own) ≡ map g (range_with_len from count)
+set-map-range f g from zero place own is others within = absurd (omega arith)
+set-map-range f g from (suc count) zero own is others within =
+    let here : own ≡ from = omega arith in
+    let rest : map f (range_with_len (from + 1) count) ≡ map g (range_with_len (from + 1) count) =
+    map-range_agree f g (from + 1) count (λ n low high. others n (λ same. omega arith)) in
+    rw (here, rest) refl
+set-map-range f g from (suc count) (suc place) own is others within =
+    let here : f from ≡ g from = others from (λ same. omega arith) in
+    let rest = set-map-range f g (from + 1) count place own (omega arith) others (omega arith) in
+    rw (here, rest) refl
 
 -- what leads back from each image leads back from the list of them
 pub map-back : {X Y : Type 0} (f : X → Y) (g : Y → X) (xs : List X) → All (λ x. g (f x) ≡ x) xs → map g (map f xs) ≡ xs
