@@ -1,7 +1,7 @@
 pub mod ChartLemmas
 mod KeptLemmas
 mod DedupLemmas
-mod BucketLemmas
+mod RangeLemmas
 mod RunLemmas
 mod SymbolLemmas
 mod ExtentLemmas

@@ -3,4 +3,4 @@ pub mod ChartOf
 pub mod GridLimit
 pub mod Extents
 pub mod Block
-pub mod Buckets
+pub mod Ranges

@@ -5,7 +5,6 @@
 //! that passes its limit.
 #![tactic(auto)]
 
-mod buckets;
 mod chart_making;
 mod counts;
 mod extents;
@@ -14,6 +13,7 @@ mod floor;
 mod limits;
 mod object_ranges;
 mod rows;
+mod scattering;
 #[cfg(test)]
 mod tests;
 

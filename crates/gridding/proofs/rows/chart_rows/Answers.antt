@@ -1,21 +1,20 @@
-use Rattle.std.proofs.Common.{◌≡◌, ◌∙◌, List, ap, sym}
-use Rattle.std.specs.List.{flat_map}
-use Rattle.std.specs.Global.{Vec}
-use Rattle.std.proofs.lemmas.List.Folds.{flat_map-map}
-use Rattle.std.proofs.lemmas.Result.{IfOk-weaker}
+use Rattle.std.proofs.Common.{◌∙◌, List, map, rules}
+use Rattle.std.specs.List.Sorted.{IsStable}
+use Rattle.std.proofs.lemmas.Fn.{dedup_same}
+use Rattle.std.proofs.lemmas.List.Sorted.{answers_always}
+use Rattle.gridding.proofs.DedupLemmas.{chart_rows-sorted}
+use Rattle.gridding.specs.ChartOf.{chart_rows, gridded}
+use Rattle.track_types.specs.Row.{is_same_place, place_of, row_order}
 use Rattle.track_types.specs.declared.row.Row.{Row}
-use Rattle.gridding.specs.Buckets.{chart_of_newest}
-use Rattle.gridding.specs.ChartOf.{chart_rows}
-use Rattle.gridding.proofs.BucketLemmas.{chart_rows-buckets}
 use Rattle.gridding.proofs.rows.chart_rows.Goals as goal
 
 pub returns : goal.returns
+unfolding chart_rows
 returns c =
-    let items : Vec Row → List Row = λ bucket. bucket.items in
-    let buckets : List (Vec Row) = c.in_ok-buckets.buckets.items in
-    let chart : List Row = chart_rows c.args.rows.now c.args.cell c.args.tick in
-    let all : flat_map (λ bucket. chart_of_newest (items bucket)) buckets ≡ chart =
-    sym (flat_map-map chart_of_newest items buckets) ∙ ap (flat_map chart_of_newest) c.in_ok-buckets.ensures
-    ∙ chart_rows-buckets c.of.result c.args.rows.now c.args.cell c.args.tick in
-    IfOk-weaker c.all_rows.result (λ made. made.items ≡ flat_map (λ bucket. chart_of_newest bucket.items) buckets) (λ made. made.items ≡ chart)
-    (λ made is. is ∙ all) c.all_rows.ensures
+    let rows : List Row = map (gridded c.args.cell c.args.tick) c.args.rows.now in
+    let parts : List Row = c.in_ok-made.made.items in
+    let sorted : List Row = c.sort_by_key.new.self.items in
+    let up = c.in_ok-sort_by_key.ensures.sorted place_of (answers_always _ _ _ (λ f a r g h. search rules)) in
+    let stable : IsStable row_order parts sorted = c.in_ok-sort_by_key.ensures.stable place_of (answers_always _ _ _ (λ f a r g h. search rules)) in
+    let deduped = dedup_same _ is_same_place _ (λ x y b f' x' y' k. search rules) _ _ c.dedup_by_key.ensures.filtered in
+    deduped ∙ chart_rows-sorted rows sorted up (λ sought. stable sought ∙ c.in_ok-made.ensures sought)
