@@ -9,7 +9,7 @@ SOURCES := crates.txt $(shell find crates -name out -prune -o -type f \( -name '
 .PHONY: demo try test clean
 
 gract: $(SOURCES)
-	@echo 'Proving and building gract. The first time takes some minutes.'
+	@echo 'Proving and building gract. The first time takes some twenty minutes.'
 	@scripts/build
 
 demo: gract
