@@ -13,6 +13,7 @@ use Rattle.track_types.specs.Row.{IsAscending, is_row_of, is_same_place, row_ord
 use Rattle.track_types.specs.declared.raw_row.RawRow.{RawRow}
 use Rattle.track_types.specs.declared.row.Row.{Row}
 use Rattle.list_laws.specs.Ordered.{ordered}
+use Rattle.list_laws.proofs.MemberLemmas.{some_from_any}
 use Rattle.list_laws.proofs.OrderedLemmas.{IsPermutation-ordered, all-ordered, any-ordered}
 use Rattle.gridding.proofs.KeptLemmas.{any-kept, ascending-kept, found-chart_rows, place_equiv}
 use Rattle.gridding.specs.ChartOf.{chart_rows, gridded, kept}
@@ -74,10 +75,6 @@ chart_rows-few raws cell tick =
     (length-kept (map (gridded cell tick) raws))
 
 -- there is one where there is a raw row
-some_from_any : (p : Row → Bool) (rows : List Row) → list_any p rows ≡ true → 0 < length rows
-some_from_any p [] any = absurd (cc)
-some_from_any p (row ∷ rest) any = omega arith
-
 pub chart_rows-some : (raws : List RawRow) (cell tick : ℕ) → 0 < length raws → 0 < length (chart_rows raws cell tick)
 unfolding chart_rows
 chart_rows-some [] cell tick some = absurd (omega arith)

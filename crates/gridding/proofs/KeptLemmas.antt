@@ -1,5 +1,5 @@
 -- What a search for a row's object and instant finds in the rows of a chart, and that these are in order.
-use Rattle.std.proofs.Common.{◌≡◌, Bool, true, false, List, [], ◌∷◌, ◌++◌, Ordering, Option, Some, None, refl, sym, ◌∙◌, ap}
+use Rattle.std.proofs.Common.{◌≡◌, Bool, true, false, List, [], ◌∷◌, ◌++◌, Ordering, Option, None, refl, sym, ◌∙◌, ap}
 use Rattle.std.specs.Prelude.{find, reverse}
 use Rattle.std.specs.Cmp.{IsEquivalence}
 use Rattle.std.specs.List.{list_any}
@@ -13,6 +13,10 @@ use Rattle.track_types.proofs.RowLemmas.{eq_by_cmp-row_order, row_order_total}
 use Rattle.track_types.specs.Row.{IsAscending, is_same_place, row_order}
 use Rattle.track_types.specs.declared.row.Row.{Row}
 use Rattle.list_laws.specs.Ordered.{AreApart, ordered}
+use Rattle.list_laws.proofs.AscendingLemmas.{find-none}
+use Rattle.list_laws.proofs.FindLemmas.{find-some_passes}
+use Rattle.list_laws.proofs.FirstLemmas.{option_or-none}
+use Rattle.list_laws.proofs.MemberLemmas.{list_any-agree, none_from_list_any}
 use Rattle.list_laws.proofs.OrderedLemmas.{IsStrictlySortedBy-ordered, find-ordered}
 use Rattle.gridding.specs.ChartOf.{kept}
 
@@ -30,30 +34,6 @@ same_alike a b sought same = place_equiv.symm sought a ∙ place_equiv.congr a b
 same_seek_alike : (a b : Row) (rows : List Row) → is_same_place a b ≡ true → list_any (is_same_place a) rows ≡ list_any (is_same_place b) rows
 same_seek_alike a b [] same = refl
 same_seek_alike a b (row ∷ rows) same = rw (place_equiv.congr a b row same, same_seek_alike a b rows same) refl
-
--- nothing is found where no row passes
-none_at : {X : Type 0} (p : X → Bool) (x : X) (xs : List X) (b : Bool) → p x ≡ b → list_any p (x ∷ xs) ≡ false →
-    (list_any p xs ≡ false → find p xs ≡ None) → find p (x ∷ xs) ≡ None
-none_at p x xs true is none rest = let never : true ≡ false = rw is at none in absurd (cc)
-none_at p x xs false is none rest = rw is (rest (rw is at none))
-
-find-none_passes : {X : Type 0} (p : X → Bool) (xs : List X) → list_any p xs ≡ false → find p xs ≡ None
-find-none_passes p [] none = refl
-find-none_passes p (x ∷ xs) none = none_at p x xs (p x) refl none (find-none_passes p xs)
-
--- something is found where some row passes, whatever comes behind
-some_at : {X : Type 0} (p : X → Bool) (x : X) (xs : List X) (other : Option X) (b : Bool) → p x ≡ b → list_any p (x ∷ xs) ≡ true →
-    (list_any p xs ≡ true → option_or (find p xs) other ≡ find p xs) → option_or (find p (x ∷ xs)) other ≡ find p (x ∷ xs)
-some_at p x xs other true is some rest = rw is refl
-some_at p x xs other false is some rest = rw is (rest (rw is at some))
-
-find-some_passes : {X : Type 0} (p : X → Bool) (xs : List X) (other : Option X) → list_any p xs ≡ true → option_or (find p xs) other ≡ find p xs
-find-some_passes p [] other some = absurd (cc)
-find-some_passes p (x ∷ xs) other some = some_at p x xs other (p x) refl some (find-some_passes p xs other)
-
-option_or-none : {X : Type 0} (found : Option X) → option_or found None ≡ found
-option_or-none None = refl
-option_or-none (Some x) = refl
 
 -- what is kept has a row of each place that has one
 any-kept_at : (sought row : Row) (later : List Row) (again passes : Bool) → list_any (is_same_place row) later ≡ again →
@@ -82,7 +62,9 @@ found-kept_at sought row later true true again passes =
 found-kept_at sought row later true false again passes = rw (again, passes) (sym (option_or-none (found sought (kept later))))
 found-kept_at sought row later false true again passes =
     let none : list_any (is_same_place sought) (kept later) ≡ false = any-kept sought later ∙ same_seek_alike sought row later passes ∙ again in
-    rw (again, passes, find-none_passes (is_same_place sought) (kept later) none) refl
+    let nothing : found sought (kept later) ≡ None =
+    find-none (is_same_place sought) (kept later) (λ row inside. none_from_list_any (is_same_place sought) (kept later) row none inside) in
+    rw (again, passes, nothing) refl
 found-kept_at sought row later false false again passes = rw (again, passes) (sym (option_or-none (found sought (kept later))))
 
 found-kept : (sought : Row) (rows : List Row) → found sought (kept rows) ≡ found sought (reverse rows)
@@ -105,18 +87,13 @@ tied_place sought a b first second =
     by_order Equal tied = refl
     by_order Greater tied = refl
 
--- tests that agree pass for some element alike
-any-agree : {X : Type 0} (p q : X → Bool) → ((x : X) → p x ≡ q x) → (xs : List X) → list_any p xs ≡ list_any q xs
-any-agree p q agree [] = refl
-any-agree p q agree (x ∷ xs) = rw (agree x, any-agree p q agree xs) refl
-
 -- no two rows that are kept tie
 apart-kept_at : (row : Row) (later : List Row) (again : Bool) → list_any (is_same_place row) later ≡ again →
     AreApart row_order (kept later) → AreApart row_order (kept (row ∷ later))
 unfolding kept
 apart-kept_at row later true again rest = rw again rest
 apart-kept_at row later false again rest =
-    rw again (any-agree _ _ (eq_by_cmp-row_order row) (kept later) ∙ any-kept row later ∙ again, rest)
+    rw again (list_any-agree _ _ (eq_by_cmp-row_order row) (kept later) ∙ any-kept row later ∙ again, rest)
 
 apart-kept : (rows : List Row) → AreApart row_order (kept rows)
 apart-kept [] = unfold kept in tt

@@ -1,7 +1,8 @@
 -- Which quantity is refused.
-use Rattle.std.proofs.Common.{◌≡◌, ℕ, ◌<◌, ◌≤◌, Bool, true, false, [], ◌∷◌, length, arith, Option, Some, None, Result, Ok, Err, refl, sym, subst}
-use Rattle.std.specs.Prelude.{All, IfErr, List, find, nat_lt}
+use Rattle.std.proofs.Common.{◌≡◌, ℕ, ◌<◌, ◌≤◌, true, false, [], ◌∷◌, length, arith, Option, Some, None, Result, Ok, Err, refl, sym, subst}
+use Rattle.std.specs.Prelude.{All, IfErr, List, nat_lt}
 use Rattle.std.proofs.lemmas.Bool.Decides.{nat_tests}
+use Rattle.list_laws.proofs.FindLemmas.{find-passed_over}
 use Rattle.track_types.specs.Chart.{IsChart, chart_with}
 use Rattle.track_types.specs.Limits.{IsPeriod, IsResolution, limit_of}
 use Rattle.track_types.specs.Near.{IsRowInRange}
@@ -42,14 +43,6 @@ module _ {rows : List Row} {period terminals : ℕ} (judged : IsJudged rows peri
       let there : is_past (Symbols, symbol_count rows period) ≡ false = rw judged.symbols at within in
       rw (judged.objects, judged.span, judged.extent, judged.blocks, there) refl
 
--- a search that finds nothing passed each element over
-passed_over_at : {X : Type 0} (p : X → Bool) (x : X) (xs : List X) (b : Bool) → p x ≡ b → find p (x ∷ xs) ≡ None → (p x ≡ false) × (find p xs ≡ None)
-passed_over_at p x xs true is none = let some : Some x ≡ None = rw is at none in absurd (cc)
-passed_over_at p x xs false is none = (is, rw is at none)
-
-passed_over : {X : Type 0} (p : X → Bool) (x : X) (xs : List X) → find p (x ∷ xs) ≡ None → (p x ≡ false) × (find p xs ≡ None)
-passed_over p x xs none = passed_over_at p x xs (p x) refl none
-
 within_limit : (limit value : ℕ) → nat_lt limit value ≡ false → value ≤ limit
 within_limit limit value not_past = grind (arith, nat_tests)
 
@@ -61,11 +54,11 @@ chart_with-IsChart rows cell tick period some few up in_range is_cell is_tick is
     let behind_extent = (Blocks, block_count rows period) ∷ behind_blocks in
     let behind_span = (Extent, extent_of rows) ∷ behind_extent in
     let behind_objects = (Span, span_of rows) ∷ behind_span in
-    let objects = passed_over is_past (Objects, object_count rows) behind_objects none in
-    let span = passed_over is_past (Span, span_of rows) behind_span objects.1 in
-    let extent = passed_over is_past (Extent, extent_of rows) behind_extent span.1 in
-    let blocks = passed_over is_past (Blocks, block_count rows period) behind_blocks extent.1 in
-    let symbols = passed_over is_past (Symbols, symbol_count rows period) [] blocks.1 in
+    let objects = find-passed_over is_past (Objects, object_count rows) behind_objects none in
+    let span = find-passed_over is_past (Span, span_of rows) behind_span objects.1 in
+    let extent = find-passed_over is_past (Extent, extent_of rows) behind_extent span.1 in
+    let blocks = find-passed_over is_past (Blocks, block_count rows period) behind_blocks extent.1 in
+    let symbols = find-passed_over is_past (Symbols, symbol_count rows period) [] blocks.1 in
     record {
       some = some;
       rows = few;

@@ -1,5 +1,5 @@
 -- Anchors of rows in order: a row is its block's anchor where the row before it is of another block.
-use Rattle.std.proofs.Common.{◌≡◌, ℕ, ℤ, suc, ◌+◌, ◌≤◌, ◌<◌, Bool, true, false, List, [], ◌∷◌, ◌++◌, Ordering, Option, Some, None, add-one, append_assoc, drop, drop-cons, eq-eqb, get_or, length, zero-add, refl, sym, ◌∙◌, ap, arith, inl, inr, ◌⊎◌}
+use Rattle.std.proofs.Common.{◌≡◌, ℕ, ℤ, suc, ◌+◌, ◌≤◌, ◌<◌, Bool, true, false, List, [], ◌∷◌, ◌++◌, Ordering, Option, Some, None, add-one, append_assoc, drop, drop-cons, eq-eqb, get_or, length, refl, sym, ◌∙◌, ap, arith, inl, inr, ◌⊎◌}
 use Rattle.std.specs.Prelude.{if◌then◌else◌, ◌==◌, ◌&&◌, ◌||◌, not, filter, sum_by, option_map, All, ◌<ℤ◌, ◌≤ℤ◌, ◌-ℤ◌, unsigned_abs}
 use Rattle.std.specs.Int.Signed.{lt_z}
 use Rattle.std.specs.List.{AllByRecursion, list_any}
@@ -12,7 +12,7 @@ use Rattle.std.proofs.lemmas.Int.{ints}
 use Rattle.std.proofs.lemmas.Cmp.{ranked, int_ranked}
 use Rattle.std.proofs.lemmas.List.Elements.{recursion_from_All}
 use Rattle.std.proofs.lemmas.List.Folds.{list_any-append}
-use Rattle.std.proofs.lemmas.List.Sums.{sum_by-cons}
+use Rattle.list_laws.proofs.FilterLemmas.{sum_by-filter_more}
 use Rattle.list_laws.proofs.NumberLemmas.{div-le}
 use Rattle.track_types.specs.Quantities.{anchors_of, elapsed, is_anchor, is_same_block, log_length, period_of}
 use Rattle.track_types.specs.Row.{IsAscending, row_order}
@@ -192,12 +192,6 @@ module _ (first : ℤ) (period : ℕ) where
   unfolding terminals
   terminals-nil span before = refl
 
-  -- what the rows that pass add up to, with one row more in front
-  sum-filter_at : (f : Row → ℕ) (p : Row → Bool) (row : Row) (rest : List Row) (left_out : Bool) → p row ≡ not left_out →
-      sum_by f (filter p (row ∷ rest)) ≡ (if left_out then 0 else f row) + sum_by f (filter p rest)
-  sum-filter_at f p row rest true is = rw is (sym (zero-add _))
-  sum-filter_at f p row rest false is = rw is (sum_by-cons f row (filter p rest))
-
   above_all : (row : Row) (rest : List Row) → first ≤ℤ row.instant → AllByRecursion (λ y. row_order row y ≡ Less) rest → AllByRecursion (IsAbove (Some row)) rest
   above_all row [] behind all = tt
   above_all row (y ∷ rest) behind all = ((all.0, behind), above_all row rest behind all.1)
@@ -220,7 +214,7 @@ module _ (first : ℤ) (period : ℕ) where
       is_anchor-seen front rest before row shows above.0 up.0 ∙ ap not (seen-block before row above.0) in
       let more : sum_by length_of (filter (is_anchor first period all) (row ∷ rest))
       ≡ (if again then 0 else length_of row) + sum_by length_of (filter (is_anchor first period all) rest) =
-      sum-filter_at length_of (is_anchor first period all) row rest again anchor in
+      sum_by-filter_more length_of (is_anchor first period all) row rest again anchor in
       let others : terminals span (Some (block_of first period row)) rest
       ≡ sum_by length_of (filter (is_anchor first period ((front ++ row ∷ []) ++ rest)) rest) =
       terminals-anchors span (front ++ row ∷ []) rest (Some row) some (ShowsAll-push front before row some above.0 shows)

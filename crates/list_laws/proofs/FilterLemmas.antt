@@ -1,13 +1,14 @@
 -- What tests keep of a list.
-use Rattle.std.proofs.Common.{◌≡◌, ℕ, ◌*◌, ◌≤◌, Bool, true, List, [], ◌∷◌, ◌++◌, length, filter}
+use Rattle.std.proofs.Common.{◌≡◌, ℕ, ◌*◌, ◌≤◌, Bool, true, List, [], ◌∷◌, ◌++◌, length, filter, ◌≢◌, ◌+◌, take, false, zero-add}
 use Rattle.std.proofs.Common.{refl, sym, ap, ◌∙◌, arith, inl, inr, All}
 use Rattle.std.proofs.lemmas.Bool.{cases_Bool}
 use Rattle.std.proofs.lemmas.Bool.Decides.{nat_tests}
 use Rattle.std.proofs.lemmas.List.{append-nil, reverse-append}
-use Rattle.std.specs.Prelude.{◌&&◌, ◌==◌, if◌then◌else◌, reverse}
+use Rattle.std.specs.Prelude.{◌&&◌, ◌==◌, if◌then◌else◌, reverse, not}
 use Rattle.std.specs.List.{flat_map, sum_by}
 use Rattle.std.proofs.lemmas.List.Elements.{All-head, All-tail, filter-append}
 use Rattle.std.proofs.lemmas.List.Sums.{sum_by-cons}
+use borrow.Rule.Slice.PartMut.{mid_of, post_of, put_mid, put_same}
 
 module _ {X : Type 0} where
   -- a test that is true on all keeps all
@@ -43,6 +44,12 @@ module _ {X : Type 0} where
         sum_by-cons f x (filter p xs),
         sum_by-cons (λ y. if p y then f y else 0) x xs,
       )
+
+-- a sum over what passes a test, with one element more in front, which is left out or not
+pub sum_by-filter_more : {X : Type 0} (f : X → ℕ) (p : X → Bool) (x : X) (xs : List X) (left_out : Bool) → p x ≡ not left_out →
+    sum_by f (filter p (x ∷ xs)) ≡ (if left_out then 0 else f x) + sum_by f (filter p xs)
+sum_by-filter_more f p x xs true is = rw is (sym (zero-add _))
+sum_by-filter_more f p x xs false is = rw is (sum_by-cons f x (filter p xs))
 
 -- of two tests
 module _ {X : Type 0} (a b : X → Bool) where
@@ -90,3 +97,17 @@ module _ {X : Type 0} (passes : X → Bool) (key : X → ℕ) (own : ℕ) (one_k
   pub filter-own_key : (xs : List X) → filter passes (filter (λ x. key x == own) xs) ≡ filter passes xs
   filter-own_key [] = refl
   filter-own_key (x ∷ xs) = grind (arith, nat_tests, one_key x, filter-own_key xs)
+
+  -- and there is nothing of another key
+  pub filter-other_key : (n : ℕ) → n ≢ own → (xs : List X) → filter passes (filter (λ x. key x == n) xs) ≡ []
+  filter-other_key n differ [] = refl
+  filter-other_key n differ (x ∷ xs) = grind (arith, nat_tests, one_key x, filter-other_key n differ xs)
+
+-- what passes a test where a part was put back, of which as much passes
+pub filter-put_mid : {X : Type 0} (p : X → Bool) (a k : ℕ) (xs ys : List X) → filter p ys ≡ filter p (mid_of a k xs) →
+    filter p (put_mid a k xs ys) ≡ filter p xs
+filter-put_mid p a k xs ys same =
+    filter-append p (take a xs) (ys ++ post_of a k xs)
+    ∙ ap (λ all. filter p (take a xs) ++ all)
+    (filter-append p ys (post_of a k xs) ∙ ap (λ all. all ++ filter p (post_of a k xs)) same ∙ sym (filter-append p (mid_of a k xs) (post_of a k xs)))
+    ∙ sym (filter-append p (take a xs) (mid_of a k xs ++ post_of a k xs)) ∙ ap (filter p) (put_same a k xs)

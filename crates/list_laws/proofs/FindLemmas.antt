@@ -1,7 +1,8 @@
--- The first number of a range that passes a test.
-use Rattle.std.proofs.Common.{◌≡◌, ℕ, zero, suc, ◌+◌, ◌<◌, ◌≤◌, Bool, true, false, None, Some, inl, inr, refl, ap, ◌∙◌, arith}
-use Rattle.std.specs.List.{find, range_with_len}
+-- The first that passes a test: of a range of numbers, and of a list.
+use Rattle.std.proofs.Common.{◌≡◌, ℕ, zero, suc, ◌+◌, ◌<◌, ◌≤◌, Bool, true, false, None, Some, inl, inr, refl, ap, ◌∙◌, arith, List, [], ◌∷◌, Option}
+use Rattle.std.specs.List.{find, range_with_len, list_any}
 use Rattle.std.proofs.lemmas.Bool.{cases_order, cases_Bool}
+use Rattle.std.specs.Option.{option_or}
 
 -- it is one that passes, where none before it does
 pub find_in_range-first : (test : ℕ → Bool) (from n place : ℕ) → from ≤ place → place < from + n →
@@ -39,4 +40,16 @@ find_in_range-all test from (suc n) none j low high = elim (cases_Bool (test fro
         | inl same ↦ ap test same ∙ fails
         | inr other ↦ find_in_range-all test (from + 1) n later j (omega arith) (omega arith)
       ]
+]
+
+-- where some element passes, there is one, whatever comes after
+pub find-some_passes : {X : Type 0} (p : X → Bool) (xs : List X) (other : Option X) → list_any p xs ≡ true → option_or (find p xs) other ≡ find p xs
+find-some_passes p [] other some = absurd (cc)
+find-some_passes p (x ∷ xs) other some = grind (arith, find-some_passes p xs other)
+
+-- a search that finds nothing passed the first element over, and finds nothing among the others
+pub find-passed_over : {X : Type 0} (p : X → Bool) (x : X) (xs : List X) → find p (x ∷ xs) ≡ None → (p x ≡ false) × (find p xs ≡ None)
+find-passed_over p x xs none = elim (cases_Bool (p x)) [
+  | inl passes ↦ let found : Some x ≡ None = rw passes at none in absurd (cc)
+  | inr fails ↦ (fails, rw fails at none)
 ]

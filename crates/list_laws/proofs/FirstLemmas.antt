@@ -39,6 +39,11 @@ pub or-none : {Y : Type 0} (a b : Option Y) → option_or a b ≡ None → (a �
 or-none None b none = (refl, none)
 or-none (Some y) b none = absurd (cc)
 
+-- a choice with nothing as the second is the first
+pub option_or-none : {Y : Type 0} (a : Option Y) → option_or a None ≡ a
+option_or-none None = refl
+option_or-none (Some y) = refl
+
 -- what is made of a value is none only where there is no value
 pub map-none : {X Y : Type 0} (f : X → Y) (a : Option X) → option_map f a ≡ None → a ≡ None
 map-none f None none = refl

@@ -1,7 +1,8 @@
--- Mapped lists: laid end to end, side by side, what a test keeps of them, and what leaves a list as it is.
+-- Mapped lists: laid end to end, side by side, from the last on, what a test keeps of them, and what leaves a list as it is.
 use Rattle.std.proofs.Common.{zero, ◌≡◌, ◌≢◌, ◌<◌, set, Bool, List, [], ◌∷◌, ◌++◌, length, map, filter, All, refl, sym, ◌∙◌, ap, arith, inl, inr, subst, suc, ℕ, ◌≤◌, ◌+◌}
 use Rattle.std.specs.List.{Contains, flat_map, range_with_len, zip}
-use Rattle.std.proofs.lemmas.List.{get_or-map, length-map, map-append}
+use Rattle.std.proofs.lemmas.List.{get_or-map, length-map, map-append, reverse-append}
+use Rattle.std.specs.Prelude.{reverse}
 use Rattle.list_laws.proofs.MemberLemmas.{first_member, later_member, member_cases, no_member}
 
 -- what a test keeps of a mapped list
@@ -98,3 +99,10 @@ pub All-from_map : {X Y : Type 0} (P : Y → Type 0) (f : X → Y) (xs : List X)
 All-from_map P f xs all k d below =
     let there : k < length (map f xs) = rw length-map below in
     rw (get_or-map f xs k d (f d) below) at (all k (f d) there)
+
+-- what is made of each element, from the last on
+pub map-reverse : {X Y : Type 0} (f : X → Y) (xs : List X) → map f (reverse xs) ≡ reverse (map f xs)
+map-reverse f [] = refl
+map-reverse f (x ∷ xs) =
+    ap (map f) (reverse-append (x ∷ []) xs) ∙ map-append f (reverse xs) (x ∷ []) ∙ ap (λ ys. ys ++ f x ∷ []) (map-reverse f xs)
+    ∙ sym (reverse-append (f x ∷ []) (map f xs))

@@ -151,3 +151,13 @@ member_of_flat_map f (x ∷ xs) a inside = elim (Contains-append_cases (f x) (fl
   | inl here ↦ (x, first_member x xs, here)
   | inr later ↦ let from = member_of_flat_map f xs a later in (from.0, later_member from.0 x xs from.1, from.2)
 ]
+
+-- tests that agree pass for some element alike
+pub list_any-agree : {X : Type 0} (p q : X → Bool) → ((x : X) → p x ≡ q x) → (xs : List X) → list_any p xs ≡ list_any q xs
+list_any-agree p q agree [] = refl
+list_any-agree p q agree (x ∷ xs) = rw (agree x, list_any-agree p q agree xs) refl
+
+-- a list has an element where one passes a test
+pub some_from_any : {X : Type 0} (p : X → Bool) (xs : List X) → list_any p xs ≡ true → 0 < length xs
+some_from_any p [] any = absurd (cc)
+some_from_any p (x ∷ xs) any = omega arith

@@ -143,3 +143,24 @@ sum_by-range_next f from (suc n) (suc m) less =
       sum_by-range_next f (from + 1) n m (omega arith),
       ap f (from-suc from n),
     )
+
+-- one for one number of a range
+abbrev pub one_at : ℕ → ℕ → ℕ
+one_at own n = if own == n then 1 else 0
+
+-- a range that begins above the number has none of it
+ones_above : (own from count : ℕ) → own < from → sum_by (one_at own) (range_with_len from count) ≡ 0
+ones_above own from zero above = refl
+ones_above own from (suc count) above =
+    grind (arith, nat_tests, sum_by-cons (one_at own) from (range_with_len (from + 1) count), ones_above own (from + 1) count (omega arith))
+
+-- and there is one of it, where it is in the range
+pub ones_within : (own from count : ℕ) → from ≤ own → own < from + count → sum_by (one_at own) (range_with_len from count) ≡ 1
+ones_within own from zero low high = absurd (omega arith)
+ones_within own from (suc count) low high = elim (cases_lt from own) [
+  | inl later ↦
+      grind (arith, nat_tests, sum_by-cons (one_at own) from (range_with_len (from + 1) count), ones_within own (from + 1) count (omega arith) (omega arith))
+  | inr not ↦
+      let here : from ≡ own = omega arith in
+      grind (arith, nat_tests, sum_by-cons (one_at own) from (range_with_len (from + 1) count), ones_above own (from + 1) count (omega arith))
+]
