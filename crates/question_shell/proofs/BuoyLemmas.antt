@@ -1,6 +1,6 @@
 -- The answers over the one row of the tests.
 use Rattle.std.proofs.Common.{◌≡◌, ℕ, ℤ, pos, negsuc, ◌&&◌, if◌then◌else◌, nat_lt, [], ◌∷◌, refl}
-use Rattle.std.proofs.Common.{false, inl, inr, Result, Ok, Err, IfOk, arith}
+use Rattle.std.proofs.Common.{false, inl, inr, arith}
 use Rattle.std.proofs.lemmas.Bool.{cases_Bool}
 use Rattle.std.proofs.lemmas.Bool.Decides.{nat_tests}
 use Rattle.std.proofs.lemmas.Int.{ints}
@@ -30,12 +30,6 @@ buoy_hit = record { object = 7; instant = pos 2; cell = buoy_cell }
 
 abbrev pub buoy_near : Cell → Near
 buoy_near cell = record { object = 7; cell = buoy_cell; dist2 = squared_distance cell buoy_cell }
-
--- what holds of one value holds of another
-pub ok-map : {A E : Type 0} {P Q : A → Type 0} (result : Result A E) → ((x : A) → P x → Q x) → IfOk result P →
-    IfOk result Q
-ok-map (Ok x) more holds = more x holds
-ok-map (Err fault) more holds = tt
 
 pub one-sighting : (instant : ℤ) (region : Region) →
     (if int_eq instant (pos 2) && in_region region buoy_cell then buoy_sighting ∷ [] else []) ≡ sightings_of (buoy_row ∷ []) instant region
