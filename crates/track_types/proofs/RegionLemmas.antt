@@ -1,5 +1,5 @@
--- Boxes that a region touches, and the cell of a box that is nearest to a cell.
-use Rattle.std.proofs.Common.{◌≡◌, ◌↔◌, ◌*◌, ◌≤◌, ℤ, Bool, true, IsTrue, arith, ◌≤ℤ◌, ◌-ℤ◌}
+-- The bounds between which the cells of a box lie, boxes that a region touches, and the cell of a box that is nearest to a cell.
+use Rattle.std.proofs.Common.{◌≡◌, ◌↔◌, ◌*◌, ◌≤◌, ℤ, true, IsTrue, arith, ◌≤ℤ◌, ◌-ℤ◌}
 use Rattle.std.specs.Prelude.{unsigned_abs}
 use Rattle.std.specs.Int.{int_max, int_min}
 use Rattle.std.specs.Int.Signed.{le_z}
@@ -19,22 +19,24 @@ is_between-bounds low high z holds = (grind (arith, ints), grind (arith, ints))
 pub is_between-from : (low high z : ℤ) → low ≤ℤ z → z ≤ℤ high → is_between low high z ≡ true
 is_between-from low high z above below = grind (arith, ints)
 
--- the number from a to b that is nearest to z is between a and b
-nearest-low : (a b z : ℤ) → a ≤ℤ b → a ≤ℤ int_max a (int_min z b)
-nearest-low a b z wide = omega (arith, ints, clamps)
+-- a cell lies within the bounds of a box
+pub record IsBounded (area : CellBox) (cell : Cell) : Type 0 where
+  pub left : area.x1 ≤ℤ cell.x
+  pub right : cell.x ≤ℤ area.x2
+  pub below : area.y1 ≤ℤ cell.y
+  pub above : cell.y ≤ℤ area.y2
 
-nearest-high : (a b z : ℤ) → a ≤ℤ b → int_max a (int_min z b) ≤ℤ b
-nearest-high a b z wide = omega (arith, ints, clamps)
+-- the test for a cell of a box, and what it says
+pub in_box-bounds : (area : CellBox) (cell : Cell) → in_box area cell ≡ true → IsBounded area cell
+in_box-bounds area cell inside = record {
+  left = grind (arith, ints);
+  right = grind (arith, ints);
+  below = grind (arith, ints);
+  above = grind (arith, ints);
+}
 
--- no number from a to b is nearer
-nearest-gap : (a b z other : ℤ) → a ≤ℤ other → other ≤ℤ b →
-    unsigned_abs (z -ℤ int_max a (int_min z b)) ≤ unsigned_abs (z -ℤ other)
-nearest-gap a b z other above below = omega (arith, ints, clamps)
-
--- the nearest number as the tests see it
-is_between-nearest : (a b z : ℤ) → a ≤ℤ b → is_between a b (int_max a (int_min z b)) ≡ true
-is_between-nearest a b z wide =
-    is_between-from a b (int_max a (int_min z b)) (nearest-low a b z wide) (nearest-high a b z wide)
+pub in_box-from : (area : CellBox) (cell : Cell) → IsBounded area cell → in_box area cell ≡ true
+in_box-from area cell is = grind (arith, ints, is.left, is.right, is.below, is.above)
 
 -- the test for at most, and what it says
 pub le_z-is : (a b : ℤ) → le_z a b ≡ true → a ≤ℤ b
@@ -43,50 +45,39 @@ le_z-is a b holds = grind (arith, ints)
 pub le_z-from : (a b : ℤ) → a ≤ℤ b → le_z a b ≡ true
 le_z-from a b below = grind (arith, ints)
 
--- a number that is in two stretches lies between their later start and their earlier end
-starts-le-ends : (low high first last z : ℤ) → low ≤ℤ z → z ≤ℤ high → first ≤ℤ z → z ≤ℤ last → int_max low first ≤ℤ int_min high last
-starts-le-ends low high first last z a b c d = omega (arith, ints, clamps)
-
+-- two stretches with a number in common overlap
 overlaps-from : (low high first last z : ℤ) → is_between first last z ≡ true → is_between low high z ≡ true →
     overlaps low high first last ≡ true
-overlaps-from low high first last z inside held =
-    let box = is_between-bounds first last z inside in
-    let rect = is_between-bounds low high z held in
-    le_z-from (int_max low first) (int_min high last) (starts-le-ends low high first last z rect.0 rect.1 box.0 box.1)
+overlaps-from low high first last z inside held = grind (arith, ints, clamps)
 
--- where the starts are not after the ends, the later start is in both stretches
-start-between : (low high first last : ℤ) → first ≤ℤ last → int_max low first ≤ℤ int_min high last →
-    (first ≤ℤ int_max low first) × (int_max low first ≤ℤ last) × (low ≤ℤ int_max low first) × (int_max low first ≤ℤ high)
-start-between low high first last wide below =
-    (omega (arith, ints, clamps), omega (arith, ints, clamps), omega (arith, ints, clamps), omega (arith, ints, clamps))
-
+-- where they overlap, the later start is in both
 overlaps-shared : (low high first last : ℤ) → first ≤ℤ last → overlaps low high first last ≡ true →
     (is_between first last (int_max low first) ≡ true) × (is_between low high (int_max low first) ≡ true)
-overlaps-shared low high first last wide held =
-    let start = start-between low high first last wide (le_z-is (int_max low first) (int_min high last) held) in (
-      is_between-from first last (int_max low first) start.0 start.1,
-      is_between-from low high (int_max low first) start.2 start.3,
-    )
+overlaps-shared low high first last wide held = (grind (arith, ints, clamps), grind (arith, ints, clamps))
 
-squared_gap-nearest : (a b z other : ℤ) → is_between a b other ≡ true →
+-- no number from a to b is nearer to z than the nearest one
+squared_gap-nearest : (a b z other : ℤ) → a ≤ℤ other → other ≤ℤ b →
     squared_gap z (int_max a (int_min z b)) ≤ squared_gap z other
-squared_gap-nearest a b z other inside =
-    let box = is_between-bounds a b other inside in
-    let nearer = nearest-gap a b z other box.0 box.1 in
+squared_gap-nearest a b z other above below =
+    let nearer : unsigned_abs (z -ℤ int_max a (int_min z b)) ≤ unsigned_abs (z -ℤ other) = omega (arith, ints, clamps) in
     mul-le-mul nearer nearer
 
 -- the nearest cell of a box is in the box
 nearest_cell-in_box : (area : CellBox) (cell : Cell) → in_box area (nearest_cell area cell) ≡ true
-nearest_cell-in_box area cell =
-    and_from _ _ (is_between-nearest area.x1 area.x2 cell.x area.wide) (is_between-nearest area.y1 area.y2 cell.y area.high)
+nearest_cell-in_box area cell = in_box-from area (nearest_cell area cell) (record {
+  left = omega (arith, ints, clamps);
+  right = omega (arith, ints, clamps, area.wide);
+  below = omega (arith, ints, clamps);
+  above = omega (arith, ints, clamps, area.high);
+})
 
 -- no cell of a box is nearer to a cell than the nearest cell of it
 pub squared_distance-nearest : (area : CellBox) (cell other : Cell) → in_box area other ≡ true →
     squared_distance cell (nearest_cell area cell) ≤ squared_distance cell other
 squared_distance-nearest area cell other inside =
-    let box = and_parts (is_between area.x1 area.x2 other.x) (is_between area.y1 area.y2 other.y) inside in
-    let across = squared_gap-nearest area.x1 area.x2 cell.x other.x box.0 in
-    let along = squared_gap-nearest area.y1 area.y2 cell.y other.y box.1 in
+    let box = in_box-bounds area other inside in
+    let across = squared_gap-nearest area.x1 area.x2 cell.x other.x box.left box.right in
+    let along = squared_gap-nearest area.y1 area.y2 cell.y other.y box.below box.above in
     omega arith
 
 -- where a cell of the box is in the region, the test passes
@@ -119,13 +110,3 @@ intersects_region-exact region area = (
   intersects_region-cell region area,
   λ touched. intersects_region-from_cell region area touched.0 touched.1 touched.2,
 )
-
--- whether a cell is in a rect, from its two coordinates
-pub in_region-rect : (region : Region) (x1 y1 x2 y2 : ℤ) (cell : Cell) (held : Bool) → region ≡ Rect x1 y1 x2 y2 →
-    is_between x1 x2 cell.x ≡ true → held ≡ is_between y1 y2 cell.y → held ≡ in_region region cell
-in_region-rect region x1 y1 x2 y2 cell held is across along = rw (is, across) along
-
--- whether a rect has a cell of a box, from the two axes
-pub intersects_region-rect : (region : Region) (x1 y1 x2 y2 : ℤ) (area : CellBox) (held : Bool) → region ≡ Rect x1 y1 x2 y2 →
-    overlaps x1 x2 area.x1 area.x2 ≡ true → held ≡ overlaps y1 y2 area.y1 area.y2 → held ≡ intersects_region region area
-intersects_region-rect region x1 y1 x2 y2 area held is across along = rw (is, across) along
