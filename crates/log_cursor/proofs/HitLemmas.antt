@@ -15,7 +15,7 @@ use Rattle.track_types.specs.declared.cell.Cell.{Cell}
 use Rattle.track_types.specs.declared.cell_box.CellBox.{CellBox}
 use Rattle.track_types.specs.declared.region.Region.{Region}
 use Rattle.track_types.specs.declared.stop.Stop.{Stop}
-use Rattle.track_types.proofs.RegionLemmas.{intersects_region-exact, is_between-bounds, is_between-from}
+use Rattle.track_types.proofs.RegionLemmas.{in_box-bounds, in_box-from, intersects_region-exact, IsBounded}
 use Rattle.rule_store.specs.View.{RulesView}
 use Rattle.rule_store.specs.Expansion.{values_of}
 use Rattle.rule_store.specs.Cells.{cells_along, displacement_of, moved, present_in}
@@ -31,7 +31,7 @@ use Rattle.log_cursor.specs.Touching.{first_among, hit_left, touches_at}
 use Rattle.log_cursor.specs.Walk.{stops_left}
 use Rattle.log_cursor.specs.declared.start.Start.{Start}
 use Rattle.log_cursor.proofs.WalkLemmas.{stops_left-terminal}
-use Rattle.log_cursor.proofs.WayLemmas.{IsBounded, box_round-bounded}
+use Rattle.log_cursor.proofs.WayLemmas.{box_round-bounded}
 
 -- the box of values, placed at a cell, is the least round the cells along them from there
 placed-round : (cell : Cell) (values : List ℕ) (hull : Option CellBox) → hull ≡ bounding_box_of values →
@@ -108,11 +108,8 @@ module _ (region : Region) where
       in_region region cell ≡ false
   outside area apart cell inside = elim (cases_Bool (in_region region cell)) [
     | inl held ↦
-        let in_area : in_box area cell ≡ true =
-        and_from _ _ (is_between-from area.x1 area.x2 cell.x inside.left inside.right)
-        (is_between-from area.y1 area.y2 cell.y inside.below inside.above) in
         let touched : intersects_region region area ≡ true =
-        (intersects_region-exact region area).1 (cell, in_area, held) in
+        (intersects_region-exact region area).1 (cell, in_box-from area cell inside, held) in
         absurd (cc)
     | inr other ↦ other
   ]
@@ -160,13 +157,10 @@ module _ (region : Region) where
       let bounds = box_round-bounds area (moved origin (move_of code)) [] is in
       let placed = placed_box cell area in
       let found = (intersects_region-exact region placed).0 touches in
-      let parts = and_parts (is_between placed.x1 placed.x2 found.0.x) (is_between placed.y1 placed.y2 found.0.y)
-      found.1 in
-      let across = is_between-bounds placed.x1 placed.x2 found.0.x parts.0 in
-      let along = is_between-bounds placed.y1 placed.y2 found.0.y parts.1 in
+      let inside = in_box-bounds placed found.0 found.1 in
       let same : found.0 ≡ moved cell (displacement_of (suc code ∷ [])) =
-      same_cell found.0.x found.0.y _ _ (omega (arith, ints, bounds.x1, bounds.x2, across.0, across.1))
-      (omega (arith, ints, bounds.y1, bounds.y2, along.0, along.1)) in
+      same_cell found.0.x found.0.y _ _ (omega (arith, ints, bounds.x1, bounds.x2, inside.left, inside.right))
+      (omega (arith, ints, bounds.y1, bounds.y2, inside.below, inside.above)) in
       subst (λ c. in_region region c ≡ true) same found.2
 
   held-move : (cell : Cell) (value : ℕ) → touches_at region cell (bounding_box_of (value ∷ [])) ≡ true →

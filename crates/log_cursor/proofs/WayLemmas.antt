@@ -18,6 +18,7 @@ use Rattle.list_laws.proofs.GrownLemmas.{length-grown}
 use Rattle.track_types.specs.Near.{IsCellAsked}
 use Rattle.track_types.specs.declared.cell.Cell.{Cell}
 use Rattle.track_types.specs.declared.cell_box.CellBox.{CellBox}
+use Rattle.track_types.proofs.RegionLemmas.{IsBounded}
 use Rattle.rule_store.specs.View.{RulesView, symbols_in}
 use Rattle.rule_store.specs.Expansion.{expansion_of, values_of}
 use Rattle.rule_store.specs.Cells.{cell_at, cells_along, displacement_of, moved, present_in}
@@ -206,14 +207,7 @@ none-round : (first : Cell) (rest : List Cell) → None ≡ box_round (first ∷
 unfolding box_round
 none-round first rest is = absurd (cc)
 
--- a cell lies within the bounds of a box
-pub record IsBounded (area : CellBox) (cell : Cell) : Type 0 where
-  pub left : area.x1 ≤ℤ cell.x
-  pub below : area.y1 ≤ℤ cell.y
-  pub right : cell.x ≤ℤ area.x2
-  pub above : cell.y ≤ℤ area.y2
-
--- so do the cells round which it is the least
+-- the cells round which a box is the least lie within its bounds
 pub box_round-bounded : (area : CellBox) (cells : List Cell) → Some area ≡ box_round cells → All (IsBounded area) cells
 box_round-bounded area [] is = All-nil (IsBounded area)
 box_round-bounded area (first ∷ rest) is =

@@ -14,7 +14,7 @@ use Rattle.track_types.specs.declared.cell.Cell.{Cell}
 use Rattle.track_types.specs.declared.cell_box.CellBox.{CellBox}
 use Rattle.track_types.specs.declared.parts.Parts.{Parts}
 use Rattle.track_types.specs.declared.region.Region.{Region}
-use Rattle.track_types.proofs.RegionLemmas.{is_between-bounds}
+use Rattle.track_types.proofs.RegionLemmas.{in_box-bounds}
 use Rattle.k2_tree.specs.Areas.{area_at, box_from}
 use Rattle.k2_tree.specs.Morton.{morton_of, IsInGrid}
 use Rattle.k2_tree.specs.Pruning.{on_areas, passes, passes_at, square_count}
@@ -47,11 +47,8 @@ area_at-cell : (tree : Tree) (cell : Cell) → IsTree tree → IsInGrid tree.hei
     → area_at tree.base (node 0 (morton_of tree.height tree.base cell / 4 ^ 0)) ≡ cell_box cell
 area_at-cell tree cell is inside =
     let area : CellBox = area_at tree.base (node 0 (morton_of tree.height tree.base cell / 4 ^ 0)) in
-    let held = in_area is.grid inside 0 (omega arith) in
-    let box = and_parts (is_between area.x1 area.x2 cell.x) (is_between area.y1 area.y2 cell.y) held in
-    let across = is_between-bounds area.x1 area.x2 cell.x box.0 in
-    let along = is_between-bounds area.y1 area.y2 cell.y box.1 in
-    same_corner area.x1 area.y1 cell.x cell.y across.0 across.1 along.0 along.1
+    let box = in_box-bounds area cell (in_area is.grid inside 0 (omega arith)) in
+    same_corner area.x1 area.y1 cell.x cell.y box.left box.right box.below box.above
   where
     same_corner : (x y u v : ℤ) → x ≤ℤ u → u ≤ℤ (x +ℤ pos 0) → y ≤ℤ v → v ≤ℤ (y +ℤ pos 0)
         → box_from x y 0 ≡ box_from u v 0

@@ -15,8 +15,8 @@ use Rattle.track_types.specs.declared.cell_box.CellBox.{CellBox}
 use Rattle.track_types.specs.declared.frame.Frame.{Frame}
 use Rattle.track_types.specs.declared.parts.Parts.{Parts}
 use Rattle.track_types.specs.declared.region.Region.{Region}
-use Rattle.track_types.proofs.RegionLemmas.{intersects_region-exact, is_between-bounds, is_between-from, le_z-from, le_z-is}
-use Rattle.track_types.proofs.WideningLemmas.{is_between-wider}
+use Rattle.track_types.proofs.RegionLemmas.{in_box-bounds, in_box-from, intersects_region-exact, is_between-from}
+use Rattle.track_types.proofs.WideningLemmas.{in_box-wider}
 use Rattle.k2_tree.specs.Areas.{IsBoxInside}
 use Rattle.k2_tree.specs.Morton.{IsInGrid}
 use Rattle.k2_tree.specs.Pruning.{IsKeptFor, IsWeaker}
@@ -37,30 +37,12 @@ one-fails a b result is fails =
 is_between-uncut : (low high first last z : ℤ) → low ≤ℤ high → overlaps low high first last ≡ true
     → is_between (cut low high first) (cut low high last) z ≡ true
     → (is_between low high z ≡ true) × (is_between first last z ≡ true)
-is_between-uncut low high first last z wide common inside =
-    let bounds = is_between-bounds (cut low high first) (cut low high last) z inside in
-    let above : cut low high first ≤ℤ z = bounds.0 in
-    let below : z ≤ℤ cut low high last = bounds.1 in
-    let both : int_max low first ≤ℤ int_min high last = le_z-is _ _ common in (
-      is_between-from low high z (omega (arith, ints, clamps)) (omega (arith, ints, clamps)),
-      is_between-from first last z (omega (arith, ints, clamps)) (omega (arith, ints, clamps)),
-    )
+is_between-uncut low high first last z wide common inside = (grind (arith, ints, clamps), grind (arith, ints, clamps))
 
 -- and what is between both pairs is between the cut bounds, and the pairs overlap
 is_between-cut : (low high first last z : ℤ) → is_between low high z ≡ true → is_between first last z ≡ true
     → (overlaps low high first last ≡ true) × (is_between (cut low high first) (cut low high last) z ≡ true)
-is_between-cut low high first last z held inside =
-    let outer = is_between-bounds low high z held in
-    let bounds = is_between-bounds first last z inside in
-    let left : low ≤ℤ z = outer.0 in
-    let right : z ≤ℤ high = outer.1 in
-    let above : first ≤ℤ z = bounds.0 in
-    let below : z ≤ℤ last = bounds.1 in
-    let both : int_max low first ≤ℤ int_min high last = omega (arith, ints, clamps) in (
-      le_z-from _ _ both,
-      is_between-from (cut low high first) (cut low high last) z (omega (arith, ints, clamps))
-          (omega (arith, ints, clamps)),
-    )
+is_between-cut low high first last z held inside = (grind (arith, ints, clamps), grind (arith, ints, clamps))
 
 -- a cell is in a grid and in a box
 abbrev pub InBoth : CellBox → CellBox → Cell → Type 0
@@ -86,50 +68,28 @@ in_box-cut grid area cell both =
     let along = is_between-cut grid.y1 grid.y2 area.y1 area.y2 cell.y held.1 box.1 in
     (and_from _ _ across.0 along.0, and_from _ _ across.1 along.1)
 
--- what is in a widened box is in an outer one that is widened as far or farther
-in_box-wider : (inner outer : CellBox) (n m : ℕ) (cell : Cell) → IsBoxInside inner outer → n ≤ m
-    → in_box (widened n inner) cell ≡ true → in_box (widened m outer) cell ≡ true
-in_box-wider inner outer n m cell within more inside =
-    let box = and_parts (is_between (inner.x1 -ℤ pos n) (inner.x2 +ℤ pos n) cell.x)
-    (is_between (inner.y1 -ℤ pos n) (inner.y2 +ℤ pos n) cell.y) inside in
-    and_from _ _
-    (is_between-wider outer.x1 outer.x2 inner.x1 inner.x2 cell.x n m more within.left within.right box.0)
-    (is_between-wider outer.y1 outer.y2 inner.y1 inner.y2 cell.y n m more within.below within.above box.1)
-
 -- the box of a cell is inside of each box that holds it
 cell_box-inside : (area : CellBox) (at : Cell) → in_box area at ≡ true → IsBoxInside (cell_box at) area
 cell_box-inside area at held =
-    let box = and_parts (is_between area.x1 area.x2 at.x) (is_between area.y1 area.y2 at.y) held in
-    let across = is_between-bounds area.x1 area.x2 at.x box.0 in
-    let along = is_between-bounds area.y1 area.y2 at.y box.1 in
-    let right : at.x ≤ℤ area.x2 = across.1 in
-    let above : at.y ≤ℤ area.y2 = along.1 in
-    let x2 : (at.x +ℤ pos 0) ≤ℤ area.x2 = omega (arith, ints) in
-    let y2 : (at.y +ℤ pos 0) ≤ℤ area.y2 = omega (arith, ints) in
-    record { left = across.0; right = x2; below = along.0; above = y2 }
+    let box = in_box-bounds area at held in
+    record { left = box.left; right = omega (arith, ints, box.right); below = box.below; above = omega (arith, ints, box.above) }
 
 -- a cell of an index's grid is in its box
-is_between-grid : (base z : ℤ) (side : ℕ) → base ≤ℤ z → unsigned_abs (z -ℤ base) < side
-    → is_between base (base +ℤ pos (side - 1)) z ≡ true
-is_between-grid base z side above below =
-    is_between-from base (base +ℤ pos (side - 1)) z above (omega (arith, ints))
-
 pub in_box-grid : (frame : Frame) (cell : Cell) → IsInGrid frame.height frame.base cell
     → in_box (grid_of frame) cell ≡ true
-in_box-grid frame cell inside =
-    and_from _ _ (is_between-grid frame.base.x cell.x (2 ^ frame.height) inside.left inside.right)
-    (is_between-grid frame.base.y cell.y (2 ^ frame.height) inside.below inside.above)
+in_box-grid frame cell inside = in_box-from (grid_of frame) cell (record {
+  left = inside.left;
+  right = omega (arith, ints, inside.left, inside.right);
+  below = inside.below;
+  above = omega (arith, ints, inside.below, inside.above);
+})
 
 -- a number near another is between the bounds around it
 is_between-around : (at z : ℤ) (n : ℕ) → IsAsked at → IsAsked z → gap z at ≤ n
     → is_between (at -ℤ pos (min n (2 ^ 42))) (at +ℤ pos 0 +ℤ pos (min n (2 ^ 42))) z ≡ true
 is_between-around at z n near also close =
-    let low = near.low in
-    let high = near.high in
-    let least = also.low in
-    let most = also.high in
     is_between-from (at -ℤ pos (min n (2 ^ 42))) (at +ℤ pos 0 +ℤ pos (min n (2 ^ 42))) z
-    (omega (arith, ints, clamps)) (omega (arith, ints, clamps))
+    (omega (arith, ints, clamps, near.high, also.low)) (omega (arith, ints, clamps, near.low, also.high))
 
 -- a cell of the grid and of the region is at most so far from a box
 record IsReachedFrom (region : Region) (grid : CellBox) (n : ℕ) (area : CellBox) : Type 0 where
@@ -162,24 +122,20 @@ module _ (region : Region) (grid : CellBox) where
       → intersects_region region (widened m area) ≡ true
   may_reach-uncut n m area more kept =
       let is = may_reach-cell n area kept in
-      let itself : IsBoxInside area area = record {
-        left = omega (arith, ints);
-        right = omega (arith, ints);
-        below = omega (arith, ints);
-        above = omega (arith, ints);
-      } in
+      let same : (z : ℤ) → z ≤ℤ z = λ z. omega (arith, ints) in
       (intersects_region-exact region (widened m area)).1
-      (is.cell, in_box-wider area area n m is.cell itself more is.near, is.held)
+      (is.cell, in_box-wider area area n m is.cell more (same area.x1) (same area.x2) (same area.y1) (same area.y2) is.near, is.held)
 
   -- a box is within reach where a cell of it is
   pub IsKeptFor-may_reach : (n : ℕ)
       → IsKeptFor (may_reach region grid n) (λ cell. may_reach region grid n (cell_box cell))
   IsKeptFor-may_reach n = λ area at near held wanted.
       let is = may_reach-cell n (cell_box at) wanted in
+      let inside = cell_box-inside area at held in
       may_reach-from n area (record {
         cell = is.cell;
         grid_has = is.grid_has;
-        near = in_box-wider (cell_box at) area n n is.cell (cell_box-inside area at held) (omega arith) is.near;
+        near = in_box-wider (cell_box at) area n n is.cell (omega arith) inside.left inside.right inside.below inside.above is.near;
         held = is.held;
       })
 

@@ -3,7 +3,10 @@ use Rattle.std.specs.Prelude.{neg_ℤ, ◌≤ℤ◌}
 use Rattle.std.proofs.Math.Nat.{pow-le-pow_right}
 use Rattle.std.proofs.lemmas.Int.{ints}
 use Rattle.track_types.proofs.BoxLemmas.{same_box}
-use Rattle.track_types.specs.Near.{IsNear, IsWithin}
+use Rattle.track_types.specs.Frame.{IsFrame}
+use Rattle.track_types.specs.Near.{IsBoxWithin, IsNear, IsWithin}
+use Rattle.track_types.specs.declared.frame.Frame.{Frame}
+use Rattle.slice_search.specs.Reach.{grid_of}
 use Rattle.slice_search.proofs.reach.grid_of.Goals as goal
 
 -- the greatest coordinate as the code counts it, by the grid's side
@@ -13,28 +16,24 @@ last_of base side = to_z w64 (of_z w64 (to_z w64 (of_z w64 base)
 
 last-is : (base : ℤ) (side : ℕ) → IsNear base → 2 ≤ side → side ≤ 2 ^ 20
     → last_of base side ≡ base +ℤ pos (side - 1)
-last-is base side near some limit =
-    let low : neg_ℤ (pos (2 ^ 40)) ≤ℤ base = near.low in
-    let high : base ≤ℤ pos (2 ^ 40) = near.high in
-    omega (arith, ints)
-
-last-within : (base : ℤ) (side : ℕ) → IsNear base → 2 ≤ side → side ≤ 2 ^ 20 → IsWithin (base +ℤ pos (side - 1))
-last-within base side near some limit =
-    let low : neg_ℤ (pos (2 ^ 40)) ≤ℤ base = near.low in
-    let high : base ≤ℤ pos (2 ^ 40) = near.high in
-    record { low = omega (arith, ints); high = omega (arith, ints) }
+last-is base side near some limit = omega (arith, ints, near.low, near.high)
 
 first-is : (base : ℤ) → IsNear base → to_z w64 (of_z w64 base) ≡ base
-first-is base near =
-    let low : neg_ℤ (pos (2 ^ 40)) ≤ℤ base = near.low in
-    let high : base ≤ℤ pos (2 ^ 40) = near.high in
-    omega (arith, ints)
+first-is base near = omega (arith, ints, near.low, near.high)
 
-first-within : (base : ℤ) → IsNear base → IsWithin base
-first-within base near =
-    let low : neg_ℤ (pos (2 ^ 40)) ≤ℤ base = near.low in
-    let high : base ≤ℤ pos (2 ^ 40) = near.high in
-    record { low = omega (arith, ints); high = omega (arith, ints) }
+-- the bounds of an axis are within
+axis-within : (base : ℤ) (side : ℕ) → IsNear base → side ≤ 2 ^ 20 → IsWithin base × IsWithin (base +ℤ pos (side - 1))
+axis-within base side near limit = (
+  record { low = omega (arith, ints, near.low); high = omega (arith, ints, near.high) },
+  record { low = omega (arith, ints, near.low); high = omega (arith, ints, near.high) },
+)
+
+grid-within : (frame : Frame) → IsFrame frame → IsBoxWithin (grid_of frame)
+grid-within frame is =
+    let limit : 2 ^ frame.height ≤ 2 ^ 20 = pow-le-pow_right (omega arith) is.limit in
+    let columns = axis-within frame.base.x (2 ^ frame.height) is.columns limit in
+    let lines = axis-within frame.base.y (2 ^ frame.height) is.lines limit in
+    record { x1 = columns.0; y1 = lines.0; x2 = columns.1; y2 = lines.1 }
 
 pub returns-clause-value : goal.returns-clause-value
 returns-clause-value c =
@@ -47,17 +46,4 @@ returns-clause-value c =
     (last-is frame.base.y (2 ^ frame.height) is.lines some limit)
 
 pub returns-clause-within : goal.returns-clause-within
-returns-clause-within c =
-    let frame = c.args.frame.now in
-    let is = c.requires in
-    let side : ℕ = 2 ^ frame.height in
-    let some : 2 ^ 1 ≤ 2 ^ frame.height = pow-le-pow_right (omega arith) is.some in
-    let limit : 2 ^ frame.height ≤ 2 ^ 20 = pow-le-pow_right (omega arith) is.limit in
-    record {
-      x1 = subst IsWithin (sym (first-is frame.base.x is.columns)) (first-within frame.base.x is.columns);
-      y1 = subst IsWithin (sym (first-is frame.base.y is.lines)) (first-within frame.base.y is.lines);
-      x2 = subst IsWithin (sym (last-is frame.base.x side is.columns some limit))
-          (last-within frame.base.x side is.columns some limit);
-      y2 = subst IsWithin (sym (last-is frame.base.y side is.lines some limit))
-          (last-within frame.base.y side is.lines some limit);
-    }
+returns-clause-within c = subst IsBoxWithin (sym (returns-clause-value c)) (grid-within c.args.frame.now c.requires)
