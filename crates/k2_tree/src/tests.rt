@@ -69,34 +69,12 @@ fn leaves_found<L: Ledger>(rt: &impl Abort, host: &HostRuntime, tree: &K2Tree, b
     }
 }
 
-// The bits are these, in one word or none.
-fn bits_are(rt: &impl Abort, bits: BitList, len: u32, words: &[u64]) {
-    assert_eq!(rt; bits.len(), len);
-    assert_eq!(rt; bits.into_words().as_slice(), words);
-}
-
-#[test]
-fn small_sets_have_their_numbers_and_bits(rt: HostRuntime) -> Result<(), Fail> {
-    assert_eq!(rt;
-        morton(Cell { x: 10, y: -19 }, 2, BASE),
-        2,
-        "the row's bit above"
-    );
-    assert_eq!(rt; morton(Cell { x: 13, y: -20 }, 2, BASE), 5);
-    let tree = three_cells(rt.alloc())?;
-    assert_eq!(rt; tree.leaves(), 3);
-    leaves_found::<Brand>(&rt, &rt, &tree, Blank::new(1));
-    bits_are(&rt, tree.bits(), 12, [0b0010_1001_0011].as_slice());
-    let corner = [Cell { x: 3, y: 0 }];
-    let tree = K2Tree::build(rt.alloc(), corner.as_slice(), 2, ORIGIN)?;
-    bits_are(&rt, tree.bits(), 8, [0b0010_0010].as_slice());
-    let diagonal = [ORIGIN, Cell { x: 1, y: 1 }];
-    let tree = K2Tree::build(rt.alloc(), diagonal.as_slice(), 1, ORIGIN)?;
-    bits_are(&rt, tree.bits(), 4, [0b1001].as_slice());
-    let tree = K2Tree::build(rt.alloc(), [].as_slice(), 2, BASE)?;
-    assert_eq!(rt; tree.leaves(), 0);
-    bits_are(&rt, tree.bits(), 0, [].as_slice());
-    Ok(())
+// A set has so many leaves, and these bits, in one word or none.
+fn bits_are(rt: &impl Abort, what: &str, tree: K2Tree, leaves: u32, len: u32, words: &[u64]) {
+    assert_eq!(rt; tree.leaves(), leaves, "the leaves of {what}");
+    let bits = tree.bits();
+    assert_eq!(rt; bits.len(), len, "the length of {what}");
+    assert_eq!(rt; bits.into_words().as_slice(), words, "the bits of {what}");
 }
 
 // The bits as a list.
@@ -123,25 +101,81 @@ fn flaw_of(alloc: Global, bits: &[bool], height: u32) -> Result<Option<u32>, Tre
     }
 }
 
-#[test]
-fn bits_are_a_tree_or_have_their_first_flaw(rt: HostRuntime) -> Result<(), Fail> {
-    for (bits, height, flaw) in [
-        ([O, I, O, O].as_slice(), 2, Some(4)),
-        ([O, I, O, O, O, O, O, O].as_slice(), 2, Some(4)),
-        ([O, I, O, O, O, I, O, O, I, O, O, O].as_slice(), 2, Some(8)),
-        ([O, O, O, O].as_slice(), 1, Some(0)),
-        ([I, I, O, O, I, O, O, I, O, I, O, O].as_slice(), 2, None),
-        ([].as_slice(), 2, None),
+// Bits are a tree, or have their first flaw.
+fn flaws_are_first(rt: &impl Abort, alloc: Global) -> Result<(), Fail> {
+    for (what, bits, height, flaw) in [
+        ("a group is missing", [O, I, O, O].as_slice(), 2, Some(4)),
+        (
+            "an empty group",
+            [O, I, O, O, O, O, O, O].as_slice(),
+            2,
+            Some(4),
+        ),
+        (
+            "a group too many",
+            [O, I, O, O, O, I, O, O, I, O, O, O].as_slice(),
+            2,
+            Some(8),
+        ),
+        ("an empty root", [O, O, O, O].as_slice(), 1, Some(0)),
+        (
+            "three cells",
+            [I, I, O, O, I, O, O, I, O, I, O, O].as_slice(),
+            2,
+            None,
+        ),
+        ("no bits", [].as_slice(), 2, None),
     ] {
-        assert_eq!(rt; flaw_of(rt.alloc(), bits, height)?, flaw, "height {height}");
+        assert_eq!(rt; flaw_of(alloc, bits, height)?, flaw, "{what}");
     }
     assert_eq!(rt;
-        format!(in rt.alloc(); "{}", TreeFault::Flaw { place: 4 })?.as_str(),
+        format!(in alloc; "{}", TreeFault::Flaw { place: 4 })?.as_str(),
         "no tree has these bits: the first flaw is at place 4"
     );
-    let list = list_of(rt.alloc(), [I, I, O, O, I, O, O, I, O, I, O, O].as_slice())?;
-    let tree = K2Tree::check(rt.alloc(), list, 2, BASE)?;
-    assert_eq!(rt; tree.leaves(), 3);
-    bits_are(&rt, tree.bits(), 12, [0b0010_1001_0011].as_slice());
     Ok(())
+}
+
+// The bits of three cells are those of the tree that they are checked as.
+fn checked_bits_stay(rt: &impl Abort, alloc: Global) -> Result<(), Fail> {
+    let list = list_of(alloc, [I, I, O, O, I, O, O, I, O, I, O, O].as_slice())?;
+    let tree = K2Tree::check(alloc, list, 2, BASE)?;
+    bits_are(
+        rt,
+        "checked bits",
+        tree,
+        3,
+        12,
+        [0b0010_1001_0011].as_slice(),
+    );
+    Ok(())
+}
+
+#[test]
+fn sets_have_their_bits_and_bits_their_first_flaw(rt: HostRuntime) -> Result<(), Fail> {
+    assert_eq!(rt;
+        morton(Cell { x: 10, y: -19 }, 2, BASE),
+        2,
+        "the row's bit above"
+    );
+    assert_eq!(rt; morton(Cell { x: 13, y: -20 }, 2, BASE), 5);
+    let tree = three_cells(rt.alloc())?;
+    leaves_found::<Brand>(&rt, &rt, &tree, Blank::new(1));
+    bits_are(
+        &rt,
+        "three cells",
+        tree,
+        3,
+        12,
+        [0b0010_1001_0011].as_slice(),
+    );
+    let corner = [Cell { x: 3, y: 0 }];
+    let tree = K2Tree::build(rt.alloc(), corner.as_slice(), 2, ORIGIN)?;
+    bits_are(&rt, "a corner", tree, 1, 8, [0b0010_0010].as_slice());
+    let diagonal = [ORIGIN, Cell { x: 1, y: 1 }];
+    let tree = K2Tree::build(rt.alloc(), diagonal.as_slice(), 1, ORIGIN)?;
+    bits_are(&rt, "a diagonal", tree, 2, 4, [0b1001].as_slice());
+    let tree = K2Tree::build(rt.alloc(), [].as_slice(), 2, BASE)?;
+    bits_are(&rt, "no cell", tree, 0, 0, [].as_slice());
+    flaws_are_first(&rt, rt.alloc())?;
+    checked_bits_stay(&rt, rt.alloc())
 }

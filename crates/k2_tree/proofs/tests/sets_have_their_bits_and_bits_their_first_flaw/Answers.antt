@@ -1,7 +1,7 @@
 use Rattle.std.proofs.Common.{zero, suc, [], ◌∷◌, arith}
 use Rattle.std.specs.List.Sorted.{IsStrictlyIncreasing}
 use Rattle.k2_tree.specs.Morton.{morton_of, interleaved}
-use Rattle.k2_tree.proofs.tests.small_sets_have_their_numbers_and_bits.Goals as goal
+use Rattle.k2_tree.proofs.tests.sets_have_their_bits_and_bits_their_first_flaw.Goals as goal
 
 numbers : IsStrictlyIncreasing (0 ∷ 3 ∷ [])
 numbers zero within = omega arith
