@@ -1,8 +1,8 @@
 -- How the records of a text come one after another.
-use Rattle.std.proofs.Common.{◌≡◌, ◌⊎◌, inl, inr, ℕ, zero, suc, ◌+◌, ◌<◌, ◌≤◌, Bool, true, false, if◌then◌else◌, List, [], ◌∷◌, ◌++◌, length, Option, Some, None, Result, Ok, Err, IfOk, OnOk, MatchResult, IsErrAnd, Bor, refl, sym, ap, ◌∙◌, arith, append_assoc, length-append}
+use Rattle.std.proofs.Common.{◌≡◌, ◌⊎◌, inl, inr, ℕ, zero, suc, ◌+◌, ◌<◌, ◌≤◌, Bool, true, false, if◌then◌else◌, List, [], ◌∷◌, ◌++◌, length, Option, Some, None, Result, Ok, Err, IfOk, IsSome, OnOk, MatchResult, IsErrAnd, Bor, refl, sym, ap, ◌∙◌, arith, append_assoc, length-append}
 use Rattle.std.proofs.lemmas.List.{append-nil}
 use Rattle.csv.specs.Machine.{Read, ends_at_end, field_after, fields_after, is_end, next_record, step}
-use Rattle.csv.specs.Reading.{NextIs, ReadRecord, ReadsNext, Ready, default_config, is_bom, names_headers, pending_of, reader_config, reader_headers, reader_state, reader_trim, records_from, source_of, strip_bom, took_first}
+use Rattle.csv.specs.Reading.{ChangesHeaders, NextIs, ReadRecord, ReadsNext, Ready, default_config, is_bom, names_headers, pending_of, reader_config, reader_headers, reader_state, reader_trim, records_from, source_of, strip_bom, took_first}
 use Rattle.csv.specs.declared.parser.Action.{Action}
 use Rattle.csv.specs.declared.parser.Action.TheVariants as act
 use Rattle.csv.specs.declared.parser.Config.{Config}
@@ -216,15 +216,16 @@ length-strip_bom (a ∷ []) = omega arith
 length-strip_bom (a ∷ b ∷ []) = omega arith
 length-strip_bom (a ∷ b ∷ c ∷ rest) = length-either (is_bom a b c) (a ∷ b ∷ c ∷ []) rest
 
--- a reader at the front of a file
-pub has_read-none : (bytes : List ℕ) (reader : Reader (Bor (List ℕ)))
-    → reader_trim reader ≡ trim.None → names_headers reader ≡ false → reader_headers reader ≡ None
+-- a reader at the front of a file, which was given a header row
+pub has_read-none : (bytes : List ℕ) (reader given : Reader (Bor (List ℕ)))
+    → reader_trim reader ≡ trim.None → names_headers reader ≡ true
     → reader_config reader ≡ default_config → reader_state reader ≡ st.StartRecord
-    → source_of (λ s. Some s.now) reader ≡ Some (strip_bom bytes) → HasRead bytes [] reader
-has_read-none bytes reader untrimmed nameless headless plain start source = record {
+    → source_of (λ s. Some s.now) reader ≡ Some (strip_bom bytes)
+    → ChangesHeaders reader given → IsSome (reader_headers given) → HasRead bytes [] given
+has_read-none bytes reader given untrimmed names plain start source changes headers = rw changes (record {
   text = strip_bom bytes;
   untrimmed = untrimmed;
-  ready = inr (inr (nameless, headless));
+  ready = inr (inl (names, headers));
   plain = plain;
   source = source;
   behind = record {
@@ -233,4 +234,4 @@ has_read-none bytes reader untrimmed nameless headless plain start source = reco
     whole = rw start refl;
     within = length-strip_bom bytes;
   };
-}
+})

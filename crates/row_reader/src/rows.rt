@@ -33,10 +33,7 @@ pub fn read_rows(alloc: Global, bytes: &[u8]) -> Result<Vec<RawRow>, RowsFault>
     ensures ranges { IfOk result (λ rows. All IsRawInRange rows.items) }
     ensures fault { IfErr result (IsFaultOf bytes.now) }
 {
-    let mut reader = ReaderBuilder::new()
-        .has_headers(false)
-        .flexible(true)
-        .from_reader(alloc, bytes);
+    let mut reader = reader_of(alloc, bytes)?;
     let mut fields = ByteRecord::new(alloc);
     let mut rows = Vec::new(alloc);
     for nth in 1..u64::MAX {
@@ -51,6 +48,21 @@ pub fn read_rows(alloc: Global, bytes: &[u8]) -> Result<Vec<RawRow>, RowsFault>
     }
     // No file has so many records.
     Err(RowsFault::Memory)
+}
+
+// A reader at the front of a file. It is given a header, of no field, since csv keeps two copies of the first record where it
+// has none, and that record may be the whole file.
+fn reader_of(alloc: Global, bytes: &[u8]) -> Result<Reader<&[u8]>, RowsFault>
+    ensures ok { IfOk result (HasRead bytes.now []) }
+    ensures err { IfErr result (λ fault. fault ≡ RowsFault.Memory) }
+{
+    let mut reader = ReaderBuilder::new()
+        .flexible(true)
+        .from_reader(alloc, bytes);
+    match reader.set_byte_headers(ByteRecord::new(alloc)) {
+        Ok(()) => Ok(reader),
+        Err(_refused) => Err(RowsFault::Memory),
+    }
 }
 
 // Reads the next record, where there is one.

@@ -5,30 +5,19 @@ use Rattle.std.proofs.lemmas.List.{length-map}
 use Rattle.std.proofs.lemmas.List.Elements.{All-append, All-cons, All-nil}
 use Rattle.std.proofs.lemmas.Result.{err_from_is_err_and}
 use Rattle.row_reader.specs.Rows.{data_among, refusals_of, rows_of}
-use Rattle.row_reader.proofs.ReadingLemmas.{has_read-none}
 use Rattle.row_reader.proofs.RowsLemmas.{IsFaultOf-csv_fault, csv_fault-refusal, data_among-heading, refusals_of-row, rows_of-row}
 use Rattle.row_reader.proofs.rows.read_rows.Goals as goal
 
 pub loop-nth-init : goal.loop-nth-init
-loop-nth-init c =
-    let made = c.from_reader-reader.ensures in
-    let builder = c.flexible.ensures in
-    let builder' = c.has_headers.ensures in
-    record {
-      seen = [];
-      has_read = has_read-none c.args.bytes.now c.from_reader-reader.result
-          (rw (builder, builder') at made.trim ∙ c.new.ensures.trim)
-          (rw (builder, builder') at made.has_headers)
-          made.headers
-          (rw (builder, builder') at made.config ∙ c.new.ensures.config)
-          made.state
-          made.source;
-      number = omega arith;
-      accepted = search rules;
-      rows = search rules;
-      few = search rules;
-      ranges = rw c.new-rows.ensures.items (λ k d below. absurd (omega arith));
-    }
+loop-nth-init c = record {
+  seen = [];
+  has_read = c.in_ok-reader.ensures.ok;
+  number = omega arith;
+  accepted = search rules;
+  rows = search rules;
+  few = search rules;
+  ranges = rw c.new-rows.ensures.items (λ k d below. absurd (omega arith));
+}
 
 pub returns-then-not-branch-clause-ok : goal.returns-then-not-branch-clause-ok
 returns-then-not-branch-clause-ok c =
