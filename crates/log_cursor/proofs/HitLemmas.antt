@@ -4,13 +4,13 @@ use Rattle.std.specs.Option.{is_some, option_map, option_or}
 use Rattle.std.specs.Prelude.{find, get_or, slice_index}
 use Rattle.std.specs.Int.{int_max, int_min}
 use Rattle.std.specs.Prelude.{fold}
-use Rattle.std.proofs.lemmas.Bool.{and_from, and_parts, cases_Bool}
+use Rattle.std.proofs.lemmas.Bool.{cases_Bool}
 use Rattle.std.proofs.lemmas.Int.{clamps, ints}
 use Rattle.std.proofs.lemmas.List.Elements.{All-head, All-nil, All-tail, filter-append}
 use Rattle.std.proofs.lemmas.List.Folds.{find-append}
 use Rattle.spiral_code.specs.Spiral.{move_of}
 use Rattle.track_types.specs.Near.{IsAsked, IsCellAsked}
-use Rattle.track_types.specs.Region.{in_box, in_region, intersects_region, is_between}
+use Rattle.track_types.specs.Region.{in_region, intersects_region, is_between}
 use Rattle.track_types.specs.declared.cell.Cell.{Cell}
 use Rattle.track_types.specs.declared.cell_box.CellBox.{CellBox}
 use Rattle.track_types.specs.declared.region.Region.{Region}

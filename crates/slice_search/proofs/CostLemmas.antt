@@ -9,7 +9,6 @@ use Rattle.list_laws.proofs.FilterLemmas.{sum_by-filter-le}
 use Rattle.list_laws.proofs.SumLemmas.{sum_by-each}
 use Rattle.track_types.specs.Frame.{periods_of}
 use Rattle.track_types.specs.Near.{IsBoxWithin}
-use Rattle.track_types.specs.Region.{is_between}
 use Rattle.track_types.specs.declared.cell.Cell.{Cell}
 use Rattle.track_types.specs.declared.cell_box.CellBox.{CellBox}
 use Rattle.track_types.specs.declared.parts.Parts.{Parts}

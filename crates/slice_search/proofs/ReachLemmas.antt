@@ -1,10 +1,8 @@
 -- Which boxes are within reach, where they are cut to the grid: each that is, is within reach uncut, and each that holds the
 -- anchor of a block which is seen.
-use Rattle.std.proofs.Common.{◌≡◌, ℕ, ◌-◌, ◌^◌, ◌<◌, ◌≤◌, ℤ, pos, ◌+ℤ◌, ◌-ℤ◌, ◌≤ℤ◌, true, Bool, refl, sym}
+use Rattle.std.proofs.Common.{◌≡◌, ℕ, ◌^◌, ◌≤◌, ℤ, pos, ◌+ℤ◌, ◌-ℤ◌, ◌≤ℤ◌, true, Bool, refl, sym}
 use Rattle.std.proofs.Common.{false, inl, inr, ap, ◌∙◌, arith}
-use Rattle.std.specs.Prelude.{min, unsigned_abs, ◌&&◌}
-use Rattle.std.specs.Int.{int_max, int_min}
-use Rattle.std.specs.Int.Signed.{le_z}
+use Rattle.std.specs.Prelude.{min, ◌&&◌}
 use Rattle.std.proofs.lemmas.Bool.{and_from, and_parts, cases_Bool}
 use Rattle.std.proofs.lemmas.Int.{clamps, ints}
 use Rattle.track_types.specs.Near.{IsAsked, IsCellAsked}

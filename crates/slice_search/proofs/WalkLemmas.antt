@@ -1,6 +1,6 @@
 -- A walk over the blocks of a period, from one to the next.
-use Rattle.std.proofs.Common.{◌≡◌, ℕ, ◌+◌, ℤ, Bool, Result, Ok, Err, List, [], ◌∷◌, ◌++◌, All, ap, sym, subst, ◌∙◌}
-use Rattle.std.specs.Prelude.{option_to_list, IfOk}
+use Rattle.std.proofs.Common.{◌≡◌, ℕ, ◌+◌, ℤ, Bool, List, [], ◌∷◌, ◌++◌, All, ap, sym, subst, ◌∙◌}
+use Rattle.std.specs.Prelude.{option_to_list}
 use Rattle.std.specs.List.{filter_map, sum_by}
 use Rattle.std.proofs.lemmas.List.{append-nil}
 use Rattle.std.proofs.lemmas.List.Elements.{All-tail}

@@ -1,5 +1,4 @@
-use Rattle.std.proofs.Common.{◌≡◌, Bool, true, false, refl, ap, sym, ◌∙◌}
-use Rattle.std.specs.Prelude.{◌&&◌}
+use Rattle.std.proofs.Common.{◌≡◌, true, ap, sym, ◌∙◌}
 use Rattle.track_types.specs.Region.{intersects_region}
 use Rattle.track_types.specs.Widening.{widened}
 use Rattle.track_types.specs.declared.cell_box.CellBox.{CellBox}
