@@ -4,8 +4,12 @@ ghost use Rattle.track_types.specs.Near.{IsRawInRange};
 
 use crate::{GridFault, grid};
 use std::alloc::{AllocError, Global};
+use std::process::Abort;
 use std::test::Fail;
 use track_types::{Cell, Chart, LimitKind, RawRow, Row};
+
+// An object, a time, and coordinates.
+type Place = (u32, i32, i32, i32);
 
 fn row(object: u32, instant: i64, x: i64, y: i64) -> Row {
     Row {
@@ -26,7 +30,7 @@ fn raw(object: u32, time: i32, x: i32, y: i32) -> RawRow
     }
 }
 
-fn raws(alloc: Global, rows: &[(u32, i32, i32, i32)]) -> Result<Vec<RawRow>, AllocError>
+fn raws(alloc: Global, rows: &[Place]) -> Result<Vec<RawRow>, AllocError>
     ensures near { IfOk result (λ raws. All IsRawInRange raws.items) }
     ensures few { IfOk result (λ raws. length raws.items ≡ length rows.now) }
 {
@@ -40,7 +44,7 @@ fn raws(alloc: Global, rows: &[(u32, i32, i32, i32)]) -> Result<Vec<RawRow>, All
 
 fn gridded(
     alloc: Global,
-    rows: &[(u32, i32, i32, i32)],
+    rows: &[Place],
     cell: u64,
     tick: u64,
     period: u32,
@@ -54,21 +58,24 @@ fn gridded(
     grid(alloc, raws.as_slice(), cell, tick, period)
 }
 
+fn extent(value: u64) -> Option<GridFault> {
+    limit(LimitKind::Extent, value)
+}
+
+fn blocks(value: u64) -> Option<GridFault> {
+    limit(LimitKind::Blocks, value)
+}
+
+fn symbols(value: u64) -> Option<GridFault> {
+    limit(LimitKind::Symbols, value)
+}
+
 fn limit(kind: LimitKind, value: u64) -> Option<GridFault> {
     Some(GridFault::Limit { kind, value })
 }
 
 #[test]
-fn floors_round_towards_minus_infinity(rt: HostRuntime) -> Result<(), Fail> {
-    let chart = gridded(rt.alloc(), &[(1, -1, -1, -10)], 10, 60, 4)?;
-    assert_eq!(rt; chart.rows(), [row(1, -1, -1, -1)].as_slice());
-    assert_eq!(rt; (chart.first(), chart.last()), (-1, -1));
-    assert_eq!(rt; (chart.cell(), chart.tick(), chart.period()), (10, 60, 4));
-    Ok(())
-}
-
-#[test]
-fn the_last_row_of_an_instant_counts(rt: HostRuntime) -> Result<(), Fail> {
+fn rows_are_floored_and_the_last_of_an_instant_counts(rt: HostRuntime) -> Result<(), Fail> {
     let rows = [
         (7, 21, 0, 0),
         (9, -1, 4, 4),
@@ -78,59 +85,28 @@ fn the_last_row_of_an_instant_counts(rt: HostRuntime) -> Result<(), Fail> {
         (7, 20, 6, 6),
         (7, 19, 2, 2),
     ];
-    let want = [
+    let last = [
         row(3, 2, 8, 8),
         row(7, 1, 2, 2),
         row(7, 2, 6, 6),
         row(9, -1, 4, 4),
     ];
-    let chart = gridded(rt.alloc(), &rows, 1, 10, 4)?;
-    assert_eq!(rt; chart.rows(), want.as_slice());
-    assert_eq!(rt; (chart.first(), chart.last()), (-1, 2));
-    Ok(())
-}
-
-#[test]
-fn no_row_has_no_chart(rt: HostRuntime) -> Result<(), Fail> {
-    let refused = gridded(rt.alloc(), &[], 1, 1, 1).err();
-    assert_eq!(rt; refused, Some(GridFault::Empty));
-    Ok(())
-}
-
-#[test]
-fn extents_up_to_2_to_the_20(rt: HostRuntime) -> Result<(), Fail> {
-    let rows = [
-        ("columns", (1, 1, 1048575, 0), None),
-        (
-            "one column more",
-            (1, 1, 1048576, 0),
-            limit(LimitKind::Extent, 1048577),
-        ),
-        ("lines to the left", (1, 1, 0, -1048575), None),
-        (
-            "one line more",
-            (1, 1, 0, -1048576),
-            limit(LimitKind::Extent, 1048577),
-        ),
-        (
-            "the greater axis",
-            (1, 1, 1048578, 1048577),
-            limit(LimitKind::Extent, 1048579),
-        ),
-    ];
-    for (what, far, want) in rows {
-        let refused = gridded(rt.alloc(), &[(1, 0, 0, 0), far], 1, 1, 4).err();
-        assert_eq!(rt; refused, want, "{what}");
+    let (low, floor) = ([(1, -1, -1, -10)], [row(1, -1, -1, -1)]);
+    for (what, rows, cell, tick, want, ends) in [
+        ("floors", low.as_slice(), 10, 60, floor.as_slice(), (-1, -1)),
+        ("latest", rows.as_slice(), 1, 10, last.as_slice(), (-1, 2)),
+    ] {
+        let chart = gridded(rt.alloc(), rows, cell, tick, 4)?;
+        assert_eq!(rt; chart.rows(), want, "{what}");
+        assert_eq!(rt; (chart.first(), chart.last()), ends, "{what}");
+        let steps = (chart.cell(), chart.tick(), chart.period());
+        assert_eq!(rt; steps, (cell, tick, 4), "{what}");
     }
     Ok(())
 }
 
 // So many objects in one cell at time 0, and further rows.
-fn fleet(
-    alloc: Global,
-    objects: u32,
-    more: &[(u32, i32, i32, i32)],
-) -> Result<Vec<(u32, i32, i32, i32)>, AllocError>
+fn fleet(alloc: Global, objects: u32, more: &[Place]) -> Result<Vec<Place>, AllocError>
     ensures { IfOk result (λ rows. length rows.items ≡ objects + length more.now) }
 {
     let mut rows = Vec::new(alloc);
@@ -141,52 +117,80 @@ fn fleet(
     Ok(rows)
 }
 
-#[test]
-fn limits_are_judged_in_order(rt: HostRuntime) -> Result<(), Fail> {
+// A name, so many objects at time 0, a further row, the period, and the fault that is wanted.
+type Case<'a> = (&'a str, u32, Place, u32, Option<GridFault>);
+
+fn judged(rt: &impl Abort, alloc: Global, cases: &[Case<'_>]) -> Result<(), Fail> {
+    for &(what, objects, more, period, want) in cases {
+        assert!(rt; objects < 100_000 && 0 < period && period <= 4194304);
+        let rows = fleet(alloc, objects, &[more])?;
+        let refused = gridded(alloc, rows.as_slice(), 1, 1, period).err();
+        assert_eq!(rt; refused, want, "{what}");
+    }
+    Ok(())
+}
+
+fn extents_up_to_2_to_the_20(rt: &impl Abort, alloc: Global) -> Result<(), Fail> {
+    let cases = [
+        ("columns", 1, (0, 1, 1048575, 0), 4, None),
+        ("one column more", 1, (0, 1, 1048576, 0), 4, extent(1048577)),
+        ("lines to the left", 1, (0, 1, 0, -1048575), 4, None),
+        ("one line more", 1, (0, 1, 0, -1048576), 4, extent(1048577)),
+        (
+            "the greater axis",
+            1,
+            (0, 1, 1048578, 1048577),
+            4,
+            extent(1048579),
+        ),
+    ];
+    judged(rt, alloc, &cases)
+}
+
+fn limits_before_blocks(rt: &impl Abort, alloc: Global) -> Result<(), Fail> {
     let end = 4194303;
-    let rows = [
+    let (objects, span) = (
+        limit(LimitKind::Objects, 65537),
+        limit(LimitKind::Span, 4194305),
+    );
+    let cases = [
         (
             "objects before span",
             65537,
             (0, end + 1, 1048576, 0),
             1,
-            limit(LimitKind::Objects, 65537),
+            objects,
         ),
         (
             "span before extent",
             65536,
             (0, end + 1, 1048576, 0),
             1,
-            limit(LimitKind::Span, 4194305),
+            span,
         ),
         (
             "extent before blocks",
             65536,
             (0, end, 1048576, 0),
             1,
-            limit(LimitKind::Extent, 1048577),
+            extent(1048577),
         ),
+    ];
+    judged(rt, alloc, &cases)
+}
+
+fn blocks_and_symbols(rt: &impl Abort, alloc: Global) -> Result<(), Fail> {
+    let end = 4194303;
+    let cases = [
+        ("blocks", 5, (0, end, 0, 0), 1, blocks(20971520)),
         (
-            "blocks",
-            5,
-            (0, end, 0, 0),
-            1,
-            limit(LimitKind::Blocks, 20971520),
-        ),
-        (
-            "a last period of one instant",
+            "a short last period",
             9,
             (0, end - 1, 0, 0),
             2,
-            limit(LimitKind::Blocks, 18874368),
+            blocks(18874368),
         ),
-        (
-            "symbols",
-            9,
-            (0, end, 0, 0),
-            4194304,
-            limit(LimitKind::Symbols, 37748727),
-        ),
+        ("symbols", 9, (0, end, 0, 0), 4194304, symbols(37748727)),
         (
             "as many symbols as may be",
             8,
@@ -199,20 +203,23 @@ fn limits_are_judged_in_order(rt: HostRuntime) -> Result<(), Fail> {
             9,
             (9, end - 3, 0, 0),
             4194304,
-            limit(LimitKind::Symbols, 37748700),
+            symbols(37748700),
         ),
     ];
-    for (what, objects, last, period, want) in rows {
-        assert!(rt; objects < 100_000 && 0 < period && period <= 4194304);
-        let rows = fleet(rt.alloc(), objects, &[last])?;
-        let refused = gridded(rt.alloc(), rows.as_slice(), 1, 1, period).err();
-        assert_eq!(rt; refused, want, "{what}");
-    }
-    Ok(())
+    judged(rt, alloc, &cases)
+}
+
+#[test]
+fn limits_are_judged_in_order(rt: HostRuntime) -> Result<(), Fail> {
+    let refused = gridded(rt.alloc(), &[], 1, 1, 1).err();
+    assert_eq!(rt; refused, Some(GridFault::Empty), "no row");
+    extents_up_to_2_to_the_20(&rt, rt.alloc())?;
+    limits_before_blocks(&rt, rt.alloc())?;
+    blocks_and_symbols(&rt, rt.alloc())
 }
 
 // 200 raw rows of each of 1,000 objects, in order of their times; x is the time.
-fn long_tracks(alloc: Global) -> Result<Vec<(u32, i32, i32, i32)>, AllocError> {
+fn long_tracks(alloc: Global) -> Result<Vec<Place>, AllocError> {
     let mut rows = Vec::new(alloc);
     for place in 0..200_000u32 {
         let time = (place / 1000) as i32;
