@@ -1,4 +1,7 @@
 mod Examples
 mod FieldLemmas
+mod PieceLemmas
+mod ProgressLemmas
 mod ReadingLemmas
 mod RowsLemmas
+mod TakenLemmas

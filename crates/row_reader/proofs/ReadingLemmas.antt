@@ -21,7 +21,7 @@ choice true value found other e = inl cc
 choice false value found other e = inr e
 
 -- a record takes a byte of the text, or it is the last
-next_record-left : (cfg : Config) (state : State) (fields : Fields) (field text : List ℕ) (read : Read)
+pub next_record-left : (cfg : Config) (state : State) (fields : Fields) (field text : List ℕ) (read : Read)
     → next_record cfg state fields field text ≡ Some read
     → (length read.2 < length text) ⊎ ((read.1 ≡ st.StartRecord) × (read.2 ≡ []))
 unfolding next_record

@@ -12,11 +12,11 @@ use Rattle.row_reader.specs.declared.fault.RowsFault.{RowsFault}
 abbrev is_data_pair : ℕ × Fields → Bool
 is_data_pair numbered = is_data numbered.0 numbered.1
 
-abbrev refusal_of_placed : ℕ × (ℕ × Fields) → Option RowsFault
+abbrev pub refusal_of_placed : ℕ × (ℕ × Fields) → Option RowsFault
 refusal_of_placed placed = refusal_of placed.0 placed.1.0 placed.1.1
 
 -- the data records among records that are numbered from another number
-abbrev data_from : ℕ → List Fields → List (ℕ × Fields)
+abbrev pub data_from : ℕ → List Fields → List (ℕ × Fields)
 data_from first all = filter is_data_pair (enumerate_from first all)
 
 -- items behind others are numbered on
@@ -35,7 +35,7 @@ data_among-append seen after =
     ap (filter is_data_pair) (enumerate_from-append 1 seen after)
     ∙ filter-append is_data_pair (enumerate_from 1 seen) (enumerate_from (1 + length seen) after)
 
-data_among-data : (seen : List Fields) (fields : Fields) (after : List Fields) (nth : ℕ) → nth ≡ length seen + 1
+pub data_among-data : (seen : List Fields) (fields : Fields) (after : List Fields) (nth : ℕ) → nth ≡ length seen + 1
     → is_data nth fields ≡ true
     → data_among (seen ++ (fields ∷ after)) ≡ data_among seen ++ ((nth, fields) ∷ data_from (nth + 1) after)
 data_among-data seen fields after nth number is =

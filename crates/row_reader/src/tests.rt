@@ -1,4 +1,6 @@
-use crate::{RowsFault, read_rows};
+use crate::{RowParser, RowsFault, read_rows};
+use std::alloc::Global;
+use std::process::Abort;
 use std::test::Fail;
 use track_types::{RawRow, RowFault};
 
@@ -12,6 +14,51 @@ fn fault(nth: u64, field: u32, fault: RowFault) -> RowsFault {
     RowsFault::Row { nth, field, fault }
 }
 
+// Gives a parser bytes in pieces of a size, the last of which may be shorter.
+fn take_in_pieces(
+    rt: &impl Abort,
+    parser: &mut RowParser,
+    bytes: &[u8],
+    size: usize,
+    rows: &mut Vec<RawRow>,
+) {
+    assert!(rt; size > 0);
+    for piece in bytes.chunks(size) {
+        assert!(rt; parser.kept() < 10_000_000);
+        assert!(rt; piece.len() < 10_000_000);
+        assert!(rt; parser.take(piece, rows).is_ok());
+    }
+}
+
+fn rows_by_pieces(
+    rt: &impl Abort,
+    alloc: Global,
+    file: &[u8],
+    size: usize,
+) -> Result<Vec<RawRow>, RowsFault> {
+    let mut parser = RowParser::new(alloc);
+    let mut rows = Vec::new(alloc);
+    take_in_pieces(rt, &mut parser, file, size, &mut rows);
+    assert!(rt; parser.kept() < 10_000_000);
+    parser.finish(&mut rows)?;
+    Ok(rows)
+}
+
+// Reads a short file whole, and shows that its pieces have the same rows or the same fault.
+fn read_both(rt: &impl Abort, alloc: Global, file: &str) -> Result<Vec<RawRow>, RowsFault> {
+    let bytes = file.as_bytes();
+    assert!(rt; bytes.len() < 100);
+    let whole = read_rows(alloc, bytes);
+    for size in [1, 2, 3, 5, 7] {
+        assert_eq!(rt;
+            rows_by_pieces(rt, alloc, bytes, size),
+            whole,
+            "{file:?} by {size}"
+        );
+    }
+    whole
+}
+
 #[test]
 fn a_file_has_its_rows(rt: HostRuntime) -> Result<(), Fail> {
     let ships =
@@ -23,14 +70,17 @@ fn a_file_has_its_rows(rt: HostRuntime) -> Result<(), Fail> {
         row(265547250, 1467327662, 312561, 6401250),
     ];
     let one = [row(7, 0, 1, 2)];
-    let files: [(&str, &[RawRow]); 13] = [
+    let two = [row(7, 0, 1, 2), row(8, 0, 1, 2)];
+    let files: [(&str, &[RawRow]); 15] = [
         (ships, &track), // in the order of the file
         ("", &[]),
         ("\u{feff}", &[]),
         ("\n\r\n\r\r", &[]),
         ("object,instant,x,y\n", &[]),
         ("\u{feff}\nobject,\"instant\",x,y", &[]),
+        ("object,instant,x,y\n7,0,1,2\n8,0,1,2\n", &two),
         ("7,0,1,2\r", &one), // a lone CR ends a record
+        ("7,0,1,2\r8,0,1,2\r\r", &two),
         ("\n\r\n7,0,1,2\n\n\r\r", &one), // blank lines are no records
         ("\u{feff}7,0,1,2", &one), // a byte order mark is dropped
         ("\"7\",\"0\",\"1\",\"2\"", &one), // quotes are no part of a field
@@ -39,8 +89,7 @@ fn a_file_has_its_rows(rt: HostRuntime) -> Result<(), Fail> {
         (greatest, &[row(4294967295, FAR, FAR, FAR)]),
     ];
     for (file, want) in files {
-        assert!(rt; file.len() < 100);
-        let rows = read_rows(rt.alloc(), file.as_bytes())?;
+        let rows = read_both(&rt, rt.alloc(), file)?;
         assert_eq!(rt; rows.as_slice(), want, "{file:?}");
     }
     Ok(())
@@ -66,11 +115,18 @@ fn the_first_refusal_is_told(rt: HostRuntime) -> Result<(), Fail> {
         ("\u{feff}\u{feff}7,0,1,2", word(1, 1)), // a second byte order mark
         ("7,0,1,2\n\n\n7,0,1,z", word(2, 4)), // blank lines have no number
         ("7,0,1,2\n7,0,z,\n7\n", word(2, 3)), // the first record at fault
+        ("7,0,1,2\n\u{feff}7,0,1,2\n", word(2, 1)), // a byte order mark behind a line
+        ("7,0,1,\"2\n\"\n", word(1, 4)), // a line feed in quotes
+        ("7,0,1,2\n\"7\n\",0,1\n", count(2, 3)), // and in a record of three fields
+        ("object,instant,x,\"y\n\"\n7,0,1,2", word(1, 1)), // and in a heading
+        ("7,0,1,\"2\n7,0,1,2\n", word(1, 4)), // quotes that do not end
     ];
     for (file, want) in files {
-        assert!(rt; file.len() < 100);
-        let refusal = read_rows(rt.alloc(), file.as_bytes()).err();
-        assert_eq!(rt; refusal, Some(want), "{file:?}");
+        assert_eq!(rt;
+            read_both(&rt, rt.alloc(), file).err(),
+            Some(want),
+            "{file:?}"
+        );
     }
     Ok(())
 }
@@ -86,6 +142,18 @@ fn seventy_thousand_rows_and_the_one_after(rt: HostRuntime) -> Result<(), Fail> 
     let rows = read_rows(rt.alloc(), file.as_slice())?;
     assert_eq!(rt; rows.len(), 70_000);
     assert_eq!(rt; rows.get(65_537), Some(&row(65_537, -5, 65_537, 6_401_239)));
+    assert_eq!(rt;
+        rows_by_pieces(&rt, rt.alloc(), file.as_slice(), 16_384)?,
+        rows
+    );
+
+    // Half of the file has 35,483 lines and a byte: their rows are there, and little is kept.
+    let (half, _others) = file.as_slice().split_at(file.len() / 2);
+    let mut parser = RowParser::new(rt.alloc());
+    let mut early = Vec::new(rt.alloc());
+    take_in_pieces(&rt, &mut parser, half, 16_384, &mut early);
+    assert_eq!(rt; early.len(), 35_483);
+    assert_eq!(rt; parser.kept(), 2);
 
     file.extend_from_slice(b"7,0,1\n")?;
     assert!(rt; file.len() < 10_000_000);

@@ -1,6 +1,6 @@
 use Rattle.csv.specs.Records.{fields_of}
 use Rattle.row_reader.proofs.ReadingLemmas.{ShowsNext-read}
-use Rattle.row_reader.proofs.rows.read_next.Goals as goal
+use Rattle.row_reader.proofs.reading.read_next.Goals as goal
 
 pub returns-clause-found : goal.returns-clause-found
 returns-clause-found c = λ bytes seen has.

@@ -1,6 +1,6 @@
 use Rattle.std.proofs.Common.{◌∙◌}
 use Rattle.row_reader.proofs.ReadingLemmas.{has_read-none}
-use Rattle.row_reader.proofs.rows.reader_of.Goals as goal
+use Rattle.row_reader.proofs.reading.reader_of.Goals as goal
 
 pub returns-in-Ok-clause-ok : goal.returns-in-Ok-clause-ok
 returns-in-Ok-clause-ok c =

@@ -1,0 +1,83 @@
+-- What a parser has taken, one piece after another.
+use Rattle.std.proofs.Common.{◌≡◌, ℕ, List, [], ◌∷◌, ◌++◌, length, is_ok, OnOk, Result, Ok, Err, if◌then◌else◌, sym, ap, ◌∙◌, arith, append_assoc, length-append}
+use Rattle.std.proofs.lemmas.List.{append-nil}
+use Rattle.std.proofs.lemmas.List.Elements.{All-append}
+use Rattle.std.proofs.lemmas.Result.{on_ok_weaker}
+use Rattle.track_types.specs.Near.{IsRawInRange}
+use Rattle.track_types.specs.declared.raw_row.RawRow.{RawRow}
+use Rattle.row_reader.specs.Pieces.{Adds, AreRowsAfter, HasTaken}
+use Rattle.row_reader.specs.Rows.{records_of}
+use Rattle.row_reader.specs.declared.parser.RowParser.{RowParser}
+use Rattle.row_reader.proofs.PieceLemmas.{closed, cut}
+use Rattle.row_reader.proofs.ProgressLemmas.{few-rows, rows-after}
+
+-- a piece was put behind what is kept
+pub HasTaken-kept : (bytes piece : List ℕ) (raws : List RawRow) (old new : RowParser)
+    → new.rest.items ≡ old.rest.items ++ piece → new.progress ≡ old.progress
+    → HasTaken bytes raws old → HasTaken (bytes ++ piece) raws new
+HasTaken-kept bytes piece raws old new rest same has = record {
+  records = has.records;
+  whole = λ more.
+      ap records_of (append_assoc bytes piece more)
+      ∙ has.whole (piece ++ more)
+      ∙ ap (λ text. has.records ++ records_of text)
+      (sym (append_assoc old.rest.items piece more) ∙ ap (λ kept. kept ++ more) (sym rest));
+  within = rw (rest, length-append old.rest.items piece, length-append bytes piece) (omega (arith, has.within));
+  past = rw same has.past;
+  rows = has.rows;
+  few = has.few;
+  ranges = has.ranges;
+}
+
+-- the same of a call that puts it there
+pub HasTaken-piece : {T E : Type 0} (result : Result T E) (piece : List ℕ) (old new : RowParser)
+    → new.rest.items ≡ (if is_ok result then old.rest.items ++ piece else old.rest.items)
+    → new.progress ≡ old.progress
+    → OnOk result ((bytes : List ℕ) (raws : List RawRow) → HasTaken bytes raws old → HasTaken (bytes ++ piece) raws new)
+HasTaken-piece (Ok done) piece old new rest same =
+    λ bytes raws has. HasTaken-kept bytes piece raws old new rest same has
+HasTaken-piece (Err e) piece old new rest same = tt
+
+-- and where no row is given
+pub HasTaken-piece_alone : {T E : Type 0} (result : Result T E)
+    (piece : List ℕ) (rows : List RawRow) (old new : RowParser)
+    → new.rest.items ≡ (if is_ok result then old.rest.items ++ piece else old.rest.items)
+    → new.progress ≡ old.progress
+    → OnOk result ((bytes : List ℕ) (raws : List RawRow) → HasTaken bytes raws old
+    → Adds rows rows (λ more. HasTaken (bytes ++ piece) (raws ++ more) new))
+HasTaken-piece_alone result piece rows old new rest same =
+    on_ok_weaker result (λ kept bytes raws has. record {
+      more = [];
+      added = sym (append-nil rows);
+      promise = rw (append-nil raws) (kept bytes raws has);
+    }) (HasTaken-piece result piece old new rest same)
+
+-- what is kept, which ends with a line feed, was read, and the line feed stays
+pub HasTaken-lines : (bytes front : List ℕ) (raws more : List RawRow) (old new : RowParser)
+    (has : HasTaken bytes raws old) → old.rest.items ≡ front ++ (10 ∷ []) → new.rest.items ≡ 10 ∷ []
+    → AreRowsAfter has.records (records_of old.rest.items) new.progress more → HasTaken bytes (raws ++ more) new
+HasTaken-lines bytes front raws more old new has ends rest are =
+    let text = old.rest.items in
+    let read = records_of text in
+    let rows = rows-after has.records read raws more new.progress has.rows are in
+    let shut = rw ends at (closed has.records read are.past.accepted) in
+    record {
+      records = has.records ++ read;
+      whole = λ others.
+          has.whole others
+          ∙ ap (λ records. has.records ++ records) (rw (ends, rest) (cut front others shut))
+          ∙ sym (append_assoc has.records read (records_of (new.rest.items ++ others)));
+      within = rw rest (let long = has.within in omega (arith, ap length ends, length-append front (10 ∷ []), long));
+      past = are.past;
+      rows = rows;
+      few = few-rows (has.records ++ read) (raws ++ more) new.progress rows are.past;
+      ranges = All-append IsRawInRange raws more has.ranges are.ranges;
+    }
+
+-- the records of a file that ends with what is kept
+pub records_of-kept : (bytes text : List ℕ) (raws : List RawRow) (parser : RowParser) → text ≡ parser.rest.items
+    → (has : HasTaken bytes raws parser) → records_of bytes ≡ has.records ++ records_of text
+records_of-kept bytes text raws parser kept has =
+    ap records_of (sym (append-nil bytes))
+    ∙ has.whole []
+    ∙ ap (λ rest. has.records ++ records_of rest) (append-nil parser.rest.items ∙ sym kept)

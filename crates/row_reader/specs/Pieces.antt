@@ -1,0 +1,47 @@
+-- How far the reading of a file is, also of one that comes piece by piece.
+use Rattle.std.specs.Prelude.{◌≡◌, ◌+◌, ◌≤◌, ℕ, List, [], ◌++◌, length, All, None}
+use Rattle.track_types.specs.Limits.{limit_of}
+use Rattle.track_types.specs.Near.{IsRawInRange}
+use Rattle.track_types.specs.declared.limit.LimitKind.TheVariants.{Rows}
+use Rattle.track_types.specs.declared.raw_row.RawRow.{RawRow}
+use Rattle.row_reader.specs.Row.{Fields}
+use Rattle.row_reader.specs.Rows.{csv_fault, data_among, raws_of, records_of, refusals_of, rows_of}
+use Rattle.row_reader.specs.declared.parser.RowParser.{RowParser}
+use Rattle.row_reader.specs.declared.reading.Progress.{Progress}
+
+-- rows were put after those of a list, and this holds of them
+pub record Adds (before after : List RawRow) (holds : List RawRow → Type 0) : Type 0 where
+  pub more : List RawRow
+  pub added : after ≡ before ++ more
+  pub promise : holds more
+
+-- the first records of a file were read: none of them is refused, and those that are data gave a row each
+pub record IsPast (records : List Fields) (progress : Progress) : Type 0 where
+  pub number : progress.next ≡ length records + 1
+  pub accepted : refusals_of (data_among records) ≡ []
+  pub given : progress.given ≡ length (data_among records)
+  pub few : progress.given ≤ limit_of Rows
+
+-- records that come after others were read too, and these are their rows
+pub record AreRowsAfter (before records : List Fields) (progress : Progress) (more : List RawRow) : Type 0 where
+  pub past : IsPast (before ++ records) progress
+  pub rows : rows_of (data_among (before ++ records)) ≡ rows_of (data_among before) ++ more
+  pub ranges : All IsRawInRange more
+
+-- a parser has taken these bytes and given these rows: however the file goes on, its first records are those whose rows
+-- were given, none of them is refused, and the others are those of what the parser keeps with what follows
+pub record HasTaken (bytes : List ℕ) (raws : List RawRow) (parser : RowParser) : Type 0 where
+  pub records : List Fields
+  pub whole : (more : List ℕ) → records_of (bytes ++ more) ≡ records ++ records_of (parser.rest.items ++ more)
+  pub within : length parser.rest.items ≤ length bytes
+  pub past : IsPast records parser.progress
+  pub rows : raws ≡ rows_of (data_among records)
+  pub few : length raws ≤ limit_of Rows
+  pub ranges : All IsRawInRange raws
+
+-- these are all rows of a file that is accepted
+pub record AreRowsOf (bytes : List ℕ) (raws : List RawRow) : Type 0 where
+  pub accepted : csv_fault bytes ≡ None
+  pub rows : raws ≡ raws_of bytes
+  pub few : length raws ≤ limit_of Rows
+  pub ranges : All IsRawInRange raws

@@ -1,0 +1,93 @@
+ghost use Rattle.std.specs.Prelude.{◌≡◌, ◌+◌, ◌^◌, ◌≤◌, ℕ, List, [], ◌∷◌, ◌++◌, length, take, IfOk, IfErr};
+ghost use Rattle.track_types.specs.Limits.{limit_of};
+ghost use Rattle.csv.specs.Records.{fields_of};
+ghost use Rattle.row_reader.specs.Pieces.{Adds, AreRowsAfter, IsPast};
+ghost use Rattle.row_reader.specs.Reading.{HasRead, ShowsNext};
+ghost use Rattle.row_reader.specs.Row.{Fields};
+ghost use Rattle.row_reader.specs.Rows.{IsFaultOf, records_of};
+
+use crate::fault::RowsFault;
+use crate::heading::is_data_record;
+use crate::row::read_data;
+use csv::{ByteRecord, Reader, ReaderBuilder};
+use std::alloc::Global;
+use track_types::{LimitKind, RawRow};
+
+/// How far the reading of a file is: the number of its next record, and how many rows it gave.
+#[derive(Clone, Copy)]
+pub struct Progress {
+    pub next: u64,
+    pub given: usize,
+}
+
+impl Progress {
+    /// Of a file of which nothing was read yet.
+    pub fn start() -> Self
+        ensures { IsPast [] result }
+    {
+        Progress { next: 1, given: 0 }
+    }
+}
+
+/// Reads all records of a text, which is a file's from its next record on, and puts their rows
+/// after those of `rows`. After a refusal the rows of the records before it are there too.
+pub fn read_on(
+    alloc: Global,
+    text: &[u8],
+    progress: Progress,
+    rows: &mut Vec<RawRow>,
+) -> Result<Progress, RowsFault>
+    requires { length text.now ≤ limit_of LimitKind.Csv }
+    ensures ok { IfOk result (λ after. Adds rows.old.items rows.new.items (λ more.
+        (before : List Fields) → IsPast before progress →
+        AreRowsAfter before (records_of text.now) after more)) }
+    ensures kept { take (length rows.old.items) rows.new.items ≡ rows.old.items }
+    ensures fault { IfErr result (λ fault.
+        (bytes : List ℕ) (before : List Fields) → IsPast before progress →
+        records_of bytes ≡ before ++ records_of text.now → IsFaultOf bytes fault) }
+{
+    let mut reader = reader_of(alloc, text)?;
+    let mut fields = ByteRecord::new(alloc);
+    let mut given = progress.given;
+    for nth in progress.next..u64::MAX {
+        if !read_next(&mut reader, &mut fields)? {
+            return Ok(Progress { next: nth, given });
+        }
+        if !is_data_record(nth, &fields) {
+            continue;
+        }
+        let row = read_data(&fields, nth, given)?;
+        rows.push(row)?;
+        given += 1;
+    }
+    // No file has so many records.
+    Err(RowsFault::Memory)
+}
+
+// A reader at the front of a text. It is given a header, of no field, since csv keeps two copies of
+// the first record where it has none, and that record may be the whole text.
+fn reader_of(alloc: Global, bytes: &[u8]) -> Result<Reader<&[u8]>, RowsFault>
+    ensures ok { IfOk result (HasRead bytes.now []) }
+    ensures err { IfErr result (λ fault. fault ≡ RowsFault.Memory) }
+{
+    let mut reader = ReaderBuilder::new()
+        .flexible(true)
+        .from_reader(alloc, bytes);
+    match reader.set_byte_headers(ByteRecord::new(alloc)) {
+        Ok(()) => Ok(reader),
+        Err(_refused) => Err(RowsFault::Memory),
+    }
+}
+
+// Reads the next record, where there is one.
+fn read_next(reader: &mut Reader<&[u8]>, fields: &mut ByteRecord) -> Result<bool, RowsFault>
+    ensures found { (bytes : List ℕ) (seen : List Fields) → HasRead bytes seen reader.old →
+        IfOk result (ShowsNext bytes seen (fields_of fields.new) reader.new) }
+    ensures err { IfErr result (λ fault. fault ≡ RowsFault.Memory) }
+{
+    // Records of any length and any bytes are taken, so what csv refuses is want of memory. Its
+    // contract leaves one more error open, that the slice cannot be read, and it is answered alike.
+    reader
+        .read_byte_record(fields)
+        .map_err(|_error| RowsFault::Memory)
+}
