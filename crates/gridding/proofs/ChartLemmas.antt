@@ -42,6 +42,14 @@ pub all-kept : (P : Row → Type 0) (rows : List Row) → AllByRecursion P rows 
 all-kept P [] all = unfold kept in tt
 all-kept P (row ∷ later) all = all-kept_at P row later (list_any (is_same_place row) later) refl all.0 (all-kept P later all.1)
 
+-- a raw row in range is gridded to a row in range
+pub IsRowInRange-gridded : (raw : RawRow) (cell tick : ℕ) → IsRawInRange raw → IsRowInRange (gridded cell tick raw)
+IsRowInRange-gridded raw cell tick near = record {
+  instant = IsNear-floor_div raw.time tick near.time;
+  x = IsNear-floor_div raw.x cell near.x;
+  y = IsNear-floor_div raw.y cell near.y;
+}
+
 -- they are in range
 pub chart_rows-in_range : (raws : List RawRow) (cell tick : ℕ) → All IsRawInRange raws → All IsRowInRange (chart_rows raws cell tick)
 unfolding chart_rows
@@ -51,10 +59,7 @@ chart_rows-in_range raws cell tick near =
     (all-kept IsRowInRange (map (gridded cell tick) raws) (gridded_all raws (recursion_from_All IsRawInRange raws near)))) where
       gridded_all : (raws : List RawRow) → AllByRecursion IsRawInRange raws → AllByRecursion IsRowInRange (map (gridded cell tick) raws)
       gridded_all [] all = tt
-      gridded_all (raw ∷ raws) all = (
-        record { instant = IsNear-floor_div raw.time tick all.0.time; x = IsNear-floor_div raw.x cell all.0.x; y = IsNear-floor_div raw.y cell all.0.y },
-        gridded_all raws all.1,
-      )
+      gridded_all (raw ∷ raws) all = (IsRowInRange-gridded raw cell tick all.0, gridded_all raws all.1)
 
 -- there are not more than raw rows
 length-kept_at : (row : Row) (later : List Row) (again : Bool) → list_any (is_same_place row) later ≡ again →
@@ -83,6 +88,11 @@ chart_rows-some (raw ∷ raws) cell tick some =
     let rows = map (gridded cell tick) (raw ∷ raws) in
     let here : list_any (is_same_place row) rows ≡ true = rw (place_equiv.refl row) refl in
     some_from_any (is_same_place row) (ordered row_order (kept rows)) (any-ordered row_order (is_same_place row) (kept rows) ∙ any-kept row rows ∙ here)
+
+-- so where there is none, there is no raw row
+pub chart_rows-none : (raws : List RawRow) (cell tick : ℕ) → length (chart_rows raws cell tick) ≡ 0 → raws ≡ []
+chart_rows-none [] cell tick none = refl
+chart_rows-none (raw ∷ raws) cell tick none = absurd (omega (arith, none, chart_rows-some (raw ∷ raws) cell tick (omega arith)))
 
 -- the cell of an object at an instant is that of its last raw row in the instant
 pub cell_at-chart_rows : (raws : List RawRow) (cell tick object : ℕ) (instant : ℤ) →

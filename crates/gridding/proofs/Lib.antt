@@ -1,7 +1,8 @@
 pub mod ChartLemmas
+mod BlockLemmas
 mod KeptLemmas
-mod DedupLemmas
-mod RangeLemmas
+mod GriddedLemmas
+mod MergeLemmas
 mod RunLemmas
 mod SymbolLemmas
 mod ExtentLemmas

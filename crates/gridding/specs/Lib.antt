@@ -3,4 +3,7 @@ pub mod ChartOf
 pub mod GridLimit
 pub mod Extents
 pub mod Block
-pub mod Ranges
+pub mod PackedPlace
+pub mod Blocks
+pub mod Gridded
+pub mod Merged

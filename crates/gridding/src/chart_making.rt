@@ -5,8 +5,7 @@ ghost use Rattle.track_types.specs.Limits.{IsPeriod, IsResolution, limit_of};
 ghost use Rattle.track_types.specs.Near.{IsRawInRange};
 
 use crate::fault::GridFault;
-use crate::limits::check_limits;
-use crate::rows::chart_rows;
+use crate::gridded_rows::GriddedRows;
 use std::alloc::Global;
 use track_types::{Chart, LimitKind, RawRow};
 
@@ -34,10 +33,7 @@ pub fn grid(
         × (chart ≡ chart_of rows.now cell tick period)) }
     ensures fault { IfErr result (IsFaultOf rows.now cell tick period) }
 {
-    if rows.is_empty() {
-        return Err(GridFault::Empty);
-    }
-    let made = chart_rows(alloc, rows, cell, tick)?;
-    check_limits(made.as_slice(), period)?;
-    Ok(Chart::new(made, cell, tick, period))
+    let mut gridded = GriddedRows::new(alloc, cell, tick);
+    gridded.append(rows)?;
+    gridded.chart(alloc, period)
 }

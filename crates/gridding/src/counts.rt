@@ -1,7 +1,7 @@
 ghost use Rattle.std.specs.Prelude.{◌≡◌, ◌^◌, ◌<◌, ◌≤◌, All, length, sum_by};
-ghost use Rattle.gridding.specs.Block.{IsInSpan, block_of, is_block_of, is_object_of};
+ghost use Rattle.gridding.specs.Block.{IsInSpan, block_of, is_block_of};
 ghost use Rattle.track_types.specs.Limits.{IsPeriod, limit_of};
-ghost use Rattle.track_types.specs.Quantities.{anchors_of, log_length, object_count};
+ghost use Rattle.track_types.specs.Quantities.{anchors_of, log_length};
 ghost use Rattle.track_types.specs.Row.{IsAscending};
 
 use track_types::{LimitKind, Row};
@@ -11,32 +11,6 @@ use track_types::{LimitKind, Row};
 pub struct Block {
     pub object: u32,
     pub period: u64,
-}
-
-/// How many different objects rows in order have.
-pub fn object_count(rows: &[Row]) -> u64
-    requires { IsAscending rows.now }
-    ensures exact { result ≡ object_count rows.now }
-    ensures within { result ≤ length rows.now }
-{
-    let mut count = 0;
-    let mut before = None;
-    for row in rows {
-        if !is_object_of(before, row.object) {
-            count += 1;
-        }
-        before = Some(row.object);
-    }
-    count
-}
-
-fn is_object_of(before: Option<u32>, object: u32) -> bool
-    ensures { result ≡ is_object_of before object }
-{
-    match before {
-        Some(before) => before == object,
-        None => false,
-    }
 }
 
 /// How many terminals the logs of all blocks of rows in order have: one for each instant of a block's

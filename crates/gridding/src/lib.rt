@@ -2,7 +2,7 @@
 //! instant the last.
 //!
 //! `grid` is exact: it answers the chart of the rows, or that there is no row, or the first quantity
-//! that passes its limit.
+//! that passes its limit. `GriddedRows` take rows piece by piece, and answer the same.
 #![tactic(auto)]
 
 mod chart_making;
@@ -10,12 +10,16 @@ mod counts;
 mod extents;
 mod fault;
 mod floor;
+mod gridded_rows;
 mod limits;
-mod object_ranges;
-mod rows;
-mod scattering;
+mod merging;
+mod packed_place;
+mod row_gridding;
+mod survey;
 #[cfg(test)]
 mod tests;
+mod track_blocks;
 
 pub use chart_making::grid;
 pub use fault::GridFault;
+pub use gridded_rows::GriddedRows;

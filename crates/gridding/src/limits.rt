@@ -5,9 +5,10 @@ ghost use Rattle.track_types.specs.Limits.{IsPeriod, limit_of};
 ghost use Rattle.track_types.specs.Near.{IsNear, IsRowInRange};
 ghost use Rattle.track_types.specs.Row.{IsAscending};
 
-use crate::counts::{object_count, symbol_count};
-use crate::extents::{Extent, Extents};
+use crate::counts::symbol_count;
+use crate::extents::Extent;
 use crate::fault::GridFault;
+use crate::survey::Survey;
 use track_types::{LimitKind, Row};
 
 /// Refuses the first quantity of rows in order that passes its limit.
@@ -21,14 +22,13 @@ pub fn check_limits(rows: &[Row], period: u32) -> Result<(), GridFault>
     ensures limit { IfErr result (IsRefusal (first_past rows.now period)) }
 {
     let period = u64::from(period);
-    let objects = object_count(rows);
-    within(LimitKind::Objects, objects)?;
-    let extents = Extents::of(rows);
-    let span = extents.time.width();
+    let survey = Survey::of(rows);
+    let span = survey.time.width();
+    within(LimitKind::Objects, survey.objects)?;
     within(LimitKind::Span, span)?;
-    within(LimitKind::Extent, greater(extents.columns, extents.lines))?;
-    within(LimitKind::Blocks, objects * span.div_ceil(period))?;
-    let symbols = symbol_count(rows, extents.time.least, span, period);
+    within(LimitKind::Extent, greater(survey.columns, survey.lines))?;
+    within(LimitKind::Blocks, survey.objects * span.div_ceil(period))?;
+    let symbols = symbol_count(rows, survey.time.least, span, period);
     within(LimitKind::Symbols, symbols)
 }
 

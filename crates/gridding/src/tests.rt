@@ -1,8 +1,8 @@
-ghost use Rattle.std.specs.Prelude.{◌≡◌, ◌+◌, ◌^◌, ◌≤◌, All, IfOk, length};
-ghost use Rattle.track_types.specs.Limits.{IsPeriod, IsResolution};
+ghost use Rattle.std.specs.Prelude.{◌≡◌, ◌+◌, ◌*◌, ◌^◌, ◌<◌, ◌≤◌, All, IfOk, length};
+ghost use Rattle.track_types.specs.Limits.{IsPeriod, IsResolution, limit_of};
 ghost use Rattle.track_types.specs.Near.{IsRawInRange};
 
-use crate::{GridFault, grid};
+use crate::{GridFault, GriddedRows, grid};
 use std::alloc::{AllocError, Global};
 use std::process::Abort;
 use std::test::Fail;
@@ -218,23 +218,86 @@ fn limits_are_judged_in_order(rt: HostRuntime) -> Result<(), Fail> {
     blocks_and_symbols(&rt, rt.alloc())
 }
 
-// 200 raw rows of each of 1,000 objects, in order of their times; x is the time.
-fn long_tracks(alloc: Global) -> Result<Vec<Place>, AllocError> {
+// So many raw rows of each object, in order of their times; x is the time.
+fn tracks(alloc: Global, objects: u32, count: u32) -> Result<Vec<Place>, AllocError>
+    requires some { 0 < objects }
+    requires few { objects * count ≤ 200000 }
+{
     let mut rows = Vec::new(alloc);
-    for place in 0..200_000u32 {
-        let time = (place / 1000) as i32;
-        rows.push((place % 1000, time, time, 0))?;
+    for place in 0..objects * count {
+        let time = (place / objects) as i32;
+        rows.push((place % objects, time, time, 0))?;
     }
     Ok(rows)
 }
 
 #[test]
 fn a_hundred_thousand_rows_have_a_chart(rt: HostRuntime) -> Result<(), Fail> {
-    let rows = long_tracks(rt.alloc())?;
+    let rows = tracks(rt.alloc(), 1000, 200)?;
     assert!(rt; rows.len() <= 200_000);
     let chart = gridded(rt.alloc(), rows.as_slice(), 1, 2, 8)?;
     assert_eq!(rt; chart.rows().len(), 100_000);
     assert_eq!(rt; chart.rows().get(54_321), Some(&row(543, 21, 43, 0)));
     assert_eq!(rt; chart.rows().last(), Some(&row(999, 99, 199, 0)));
+    rows_may_come_in_pieces(&rt, rt.alloc())?;
+    the_farthest_rows_have_a_chart(&rt, rt.alloc())
+}
+
+// The chart of rows that come so many at a time.
+fn in_pieces(alloc: Global, rows: &[RawRow], count: usize, tick: u64) -> Result<Chart, GridFault>
+    requires few { length rows.now ≤ limit_of LimitKind.Rows }
+    requires near { All IsRawInRange rows.now }
+    requires some { 0 < count }
+    requires tick { IsResolution tick }
+{
+    let mut gridded = GriddedRows::new(alloc, 1, tick);
+    for piece in rows.chunks(count) {
+        gridded.append(piece)?;
+    }
+    gridded.chart(alloc, 8)
+}
+
+// Of each of 3 objects, whose rows come by turns, more rows than one and than two blocks have. Two rows of an object
+// are of one instant, and come in one piece or in two.
+fn rows_may_come_in_pieces(rt: &impl Abort, alloc: Global) -> Result<(), Fail> {
+    for count in [31u32, 40, 70] {
+        let rows = tracks(alloc, 3, count)?;
+        assert!(rt; rows.len() <= 210);
+        let raws = raws(alloc, rows.as_slice())?;
+        let whole = grid(alloc, raws.as_slice(), 1, 2, 8)?;
+        let last = i64::from(count - 1);
+        assert_eq!(rt;
+            whole.rows().last(),
+            Some(&row(2, last / 2, last, 0)),
+            "{count} rows"
+        );
+        for size in [1usize, 3, 31, 105] {
+            let chart = in_pieces(alloc, raws.as_slice(), size, 2)?;
+            assert_eq!(rt;
+                chart.rows(),
+                whole.rows(),
+                "{count} rows, {size} at a time"
+            );
+        }
+    }
+    Ok(())
+}
+
+// One row as far from 0 as rows may be.
+fn the_farthest_rows_have_a_chart(rt: &impl Abort, alloc: Global) -> Result<(), Fail> {
+    for far in [1i64 << 40, -(1i64 << 40)] {
+        let raw = RawRow {
+            object: u32::MAX,
+            time: far,
+            x: far,
+            y: -far,
+        };
+        let chart = in_pieces(alloc, &[raw], 1, 1)?;
+        assert_eq!(rt;
+            chart.rows(),
+            [row(u32::MAX, far, far, -far)].as_slice(),
+            "{far}"
+        );
+    }
     Ok(())
 }

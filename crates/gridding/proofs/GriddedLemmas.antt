@@ -1,0 +1,95 @@
+-- Rows in order that are found as in blocks of raw rows are those of the chart of the raw rows.
+use Rattle.std.proofs.Common.{◌≡◌, ◌≢◌, ℕ, ◌+◌, ◌<◌, length, take, get_or, true, false, List, [], ◌∷◌, ◌++◌, filter, map, refl, sym, ◌∙◌, ap, arith, inl, inr}
+use Rattle.std.specs.Prelude.{find, reverse, slice_get, ◌==◌}
+use Rattle.std.specs.Ordering.{eq_by_cmp}
+use Rattle.std.proofs.lemmas.Bool.{and_parts, cases_Bool}
+use Rattle.std.proofs.lemmas.Bool.Decides.{nat_tests}
+use Rattle.std.proofs.lemmas.List.{append_assoc, map-append, take_more}
+use Rattle.std.proofs.lemmas.List.Elements.{filter-append}
+use Rattle.list_laws.proofs.AscendingLemmas.{find-agree, same_from_finds}
+use Rattle.list_laws.proofs.FilterLemmas.{filter-own_key, filter-reverse}
+use Rattle.list_laws.proofs.OrderedLemmas.{find-filter}
+use Rattle.track_types.proofs.RowLemmas.{eq_by_cmp-row_order, row_order_total}
+use Rattle.track_types.specs.Row.{IsAscending, is_same_place, row_order}
+use Rattle.track_types.specs.declared.raw_row.RawRow.{RawRow}
+use Rattle.track_types.specs.declared.row.Row.{Row}
+use Rattle.list_laws.specs.Ordered.{ordered}
+use Rattle.gridding.specs.Blocks.{blocks_with, row_at, rows_of_block, rows_of_blocks, rows_with}
+use Rattle.gridding.specs.ChartOf.{chart_rows, gridded, kept}
+use Rattle.gridding.specs.GridLimit.{IsFaultOf, IsRefusal, first_past}
+use Rattle.gridding.specs.declared.fault.GridFault.{GridFault}
+use Rattle.gridding.specs.declared.fault.GridFault.TheVariants.{Empty, Limit, Memory}
+use Rattle.gridding.specs.Gridded.{AreBlocksOf, HasGridded}
+use Rattle.gridding.specs.declared.gridded_rows.GriddedRows.{GriddedRows}
+use Rattle.gridding.specs.declared.packed_place.PackedPlace.{PackedPlace}
+use Rattle.gridding.specs.declared.track_blocks.Block.{Block}
+use Rattle.gridding.specs.declared.track_blocks.TrackBlocks.{TrackBlocks}
+use Rattle.gridding.proofs.KeptLemmas.{ascending-kept, found, found-chart_rows}
+
+-- a block has rows of its object alone
+rows_with-own : (object : ℕ) (places : List PackedPlace) → rows_with object (map (row_at object) places) ≡ map (row_at object) places
+rows_with-own object [] = refl
+rows_with-own object (place ∷ places) = grind (arith, nat_tests, rows_with-own object places)
+
+rows_with-other : (object other : ℕ) (places : List PackedPlace) → (other == object) ≡ false → rows_with object (map (row_at other) places) ≡ []
+rows_with-other object other [] differ = refl
+rows_with-other object other (place ∷ places) differ = rw differ (rows_with-other object other places differ)
+
+-- so an object's rows are those of its blocks
+rows_with-blocks : (object : ℕ) (blocks : List Block) → rows_with object (rows_of_blocks blocks) ≡ rows_of_blocks (blocks_with object blocks)
+rows_with-blocks object [] = refl
+rows_with-blocks object (block ∷ blocks) =
+    let rest = rows_with-blocks object blocks in
+    let parts = filter-append (λ row. row.object == object) (rows_of_block block) (rows_of_blocks blocks) in
+    elim (cases_Bool (block.object == object)) [
+      | inl own ↦ grind (arith, nat_tests, rest, parts, own, rows_with-own object block.places.items)
+      | inr other ↦ grind (arith, rest, parts, other, rows_with-other object block.object block.places.items other)
+    ]
+
+-- a search for a place looks at the rows of its object alone
+found-by_object : (sought : Row) (rows : List Row) →
+    found sought (reverse rows) ≡ slice_get (reverse (filter (is_same_place sought) (rows_with sought.object rows))) 0
+found-by_object sought rows =
+    let own : (row : Row) → is_same_place sought row ≡ true → row.object ≡ sought.object = λ row same.
+    let is : (sought.object == row.object) ≡ true = (and_parts _ _ same).0 in grind (arith, nat_tests) in
+    find-filter (is_same_place sought) (reverse rows)
+    ∙ ap (λ all. slice_get all 0) (filter-reverse (is_same_place sought) rows)
+    ∙ ap (λ all. slice_get (reverse all) 0) (sym (filter-own_key (is_same_place sought) (λ row. row.object) sought.object own rows))
+
+found-blocks : (rows : List Row) (tracks : TrackBlocks) → AreBlocksOf rows tracks → (sought : Row) →
+    found sought (reverse (rows_of_blocks tracks.blocks.items)) ≡ found sought (reverse rows)
+found-blocks rows tracks blocks sought =
+    found-by_object sought (rows_of_blocks tracks.blocks.items)
+    ∙ ap (λ all. slice_get (reverse (filter (is_same_place sought) all)) 0)
+    (rows_with-blocks sought.object tracks.blocks.items ∙ blocks.held sought.object)
+    ∙ sym (found-by_object sought rows)
+
+-- rows in order that are found as in the blocks are those of the chart
+pub chart_rows-blocks : (raws : List RawRow) (cell tick : ℕ) (all : GriddedRows) (made : List Row) → HasGridded cell tick raws all →
+    IsAscending made → ((sought : Row) → found sought made ≡ found sought (reverse (rows_of_blocks all.tracks.blocks.items))) → made ≡ chart_rows raws cell tick
+unfolding chart_rows
+chart_rows-blocks raws cell tick all made has up finds =
+    let rows : List Row = map (gridded cell tick) raws in
+    same_from_finds row_order_total made (ordered row_order (kept rows)) up (ascending-kept rows)
+    (λ sought.
+    let by_place : (all : List Row) → find (eq_by_cmp row_order sought) all ≡ found sought all =
+    find-agree (eq_by_cmp row_order sought) (is_same_place sought) (eq_by_cmp-row_order sought) in
+    by_place made ∙ finds sought ∙ found-blocks rows all.tracks has.blocks sought ∙ sym (found-chart_rows sought rows) ∙ sym (by_place (ordered row_order (kept rows))))
+
+-- the refusal of the rows of the chart of raw rows is a fault of these
+pub IsFaultOf-refusal : (raws : List RawRow) (cell tick period : ℕ) (fault : GridFault) → raws ≢ [] →
+    IsRefusal (first_past (chart_rows raws cell tick) period) fault → IsFaultOf raws cell tick period fault
+IsFaultOf-refusal raws cell tick period (Limit kind value) some refusal = (some, refusal)
+IsFaultOf-refusal raws cell tick period Empty some refusal = absurd refusal
+IsFaultOf-refusal raws cell tick period Memory some refusal = tt
+
+-- one raw row more is in the blocks
+pub AreBlocksOf-more : (cell tick : ℕ) (raws rows : List RawRow) (i : ℕ) (d : RawRow) (own_cell own_tick : ℕ) (row : Row) (tracks : TrackBlocks) →
+    i < length rows → own_cell ≡ cell → own_tick ≡ tick → row ≡ gridded own_cell own_tick (get_or rows i d) →
+    AreBlocksOf (map (gridded cell tick) (raws ++ take i rows) ++ row ∷ []) tracks → AreBlocksOf (map (gridded cell tick) (raws ++ take (i + 1) rows)) tracks
+AreBlocksOf-more cell tick raws rows i d own_cell own_tick row tracks below by_cell by_tick is blocks =
+    let g : RawRow → Row = gridded cell tick in
+    let more : raws ++ take (i + 1) rows ≡ (raws ++ take i rows) ++ get_or rows i d ∷ [] =
+    ap (λ all. raws ++ all) (take_more rows i d below) ∙ sym (append_assoc raws (take i rows) (get_or rows i d ∷ [])) in
+    let own : row ≡ g (get_or rows i d) = rw (by_cell, by_tick) at is in
+    rw (more, map-append g (raws ++ take i rows) (get_or rows i d ∷ []), ← own) blocks
