@@ -1,5 +1,5 @@
 -- Where what a request needs is there and no device fails, a call is done or out of memory.
-use Rattle.std.proofs.Common.{◌≡◌, ◌≢◌, ℕ, ◌+◌, ◌≤◌, true, false, nat_lt, List, length, Option, Some, None, ◌⊎◌}
+use Rattle.std.proofs.Common.{◌≡◌, ◌≢◌, ℕ, ◌+◌, ◌≤◌, true, nat_lt, List, length, Option, Some, None, ◌⊎◌}
 use Rattle.std.proofs.Common.{inl, inr, refl, sym, ap, ◌∙◌, subst, arith, length-append}
 use Rattle.std.proofs.lemmas.Bool.{cases_Bool}
 use Rattle.std.proofs.lemmas.Bool.Decides.{nat_tests}
@@ -18,7 +18,8 @@ use Rattle.gract_top.specs.Completeness.{HasAccepted, HasIndex, HasQuestions}
 use Rattle.gract_top.specs.Ends.{AnswersChart, AnswersFile, EndsAsk, EndsBuild, EndsOnce, Moment, Saved, written}
 use Rattle.gract_top.specs.Loading.{FileCame}
 use Rattle.gract_top.specs.Outcome.{EndsOpened, Talk}
-use Rattle.gract_top.specs.Refusal.{IsIndexRefused, IsRefused, file_refusal, index_refusal, is_late, is_refusal}
+use Rattle.gract_top.specs.Refusal.{IsIndexRefused, IsRefused, file_refusal, is_late, is_refusal, length_refusal}
+use Rattle.gract_top.proofs.LoadingLemmas.{length_refusal-short}
 use Rattle.gract_top.specs.Sampling.{EndsSample, Speech, SumsNothing, SumsSample, Told, sample_chart, sample_refusal}
 use Rattle.gract_top.specs.Summary.{summary_of}
 use Rattle.chart_parts.specs.PartsOf.{parts_of}
@@ -113,9 +114,8 @@ index-kept map taken index cause ready refused =
     let same : refused.bytes ≡ ready.bytes =
     came-whole map ready.files taken index ready.bytes (limit_of limit.Index) refused.bytes ready.told ready.holds
     ready.short refused.came in
-    let test : nat_lt (limit_of limit.Index) (length ready.bytes) ≡ false = grind (arith, nat_tests, ready.short) in
-    let none : index_refusal ready.bytes ≡ None = rw test refl in
-    let both : Some cause ≡ None = sym refused.refusal ∙ ap index_refusal same ∙ none in
+    let none = length_refusal-short limit.Index ready.bytes ready.short in
+    let both : Some cause ≡ None = sym refused.refusal ∙ ap (length_refusal limit.Index) same ∙ none in
     absurd (cc)
 
 -- no more questions come than are told

@@ -13,7 +13,7 @@ use Rattle.track_types.specs.declared.parts.Parts.{Parts}
 use Rattle.chart_parts.specs.PartsOf.{parts_of}
 use Rattle.track_index.specs.Opening.{IsFile}
 use Rattle.gract_top.specs.Outcome.{EndsOpened, EndsOver, Talk}
-use Rattle.gract_top.specs.Ends.{AnswersChart, AnswersFile, EndsAsk, EndsBuild, EndsLoading, EndsOnce, Moment}
+use Rattle.gract_top.specs.Ends.{AnswersChart, EndsBuild, EndsLoading, EndsOnce, Moment}
 use Rattle.gract_top.specs.Ends.{Saved, SavesChart, SavesNothing, written}
 use Rattle.gract_top.specs.Refusal.{IsAccepted, is_early, is_refusal}
 use Rattle.gract_top.specs.declared.outcome.Outcome.{Outcome}
@@ -82,21 +82,6 @@ module _ (result : Outcome) (csv : List ℕ) (settings : Settings) (untouched : 
     late = λ late. answers;
     memory = λ memory. inr answers;
   }
-
--- the call ended after the index file was loaded
-pub EndsAsk-late : (result : Outcome) (index : List ℕ) (untouched : Type 0) (before now : Moment) →
-    EndsLoading result index limit.Index before.files now.files → SavesNothing before.files now.files →
-    now.given ≡ before.given → is_early result ≡ false → AnswersFile result index untouched before now →
-    EndsAsk result index untouched before now
-EndsAsk-late result index untouched before now loading unsaved given later answers = record {
-  loading = loading;
-  unsaved = unsaved;
-  given = given;
-  refused = λ refusal. absurd (false≢true (sym later ∙ is_early-refusal result refusal));
-  early = λ early. absurd (false≢true (sym later ∙ early));
-  late = λ late. answers;
-  memory = λ memory. inr answers;
-}
 
 -- what is answered from bytes that were opened is no failure of a save
 pub EndsOpened-unsaved : (result : Outcome) (bytes : List ℕ) (untouched : Type 0) (before now : Talk) →

@@ -1,4 +1,6 @@
 pub mod RequestLemmas
+pub mod LoadingLemmas
+mod ReceivedLemmas
 pub mod OutcomeLemmas
 pub mod EndsLemmas
 pub mod SummaryLemmas

@@ -1,6 +1,8 @@
 -- What came of a file that was loaded.
-use Rattle.std.specs.Prelude.{◌≡◌, ℕ, ◌+◌, ⊤, List, length, take, Option, Some, None}
+use Rattle.std.specs.Prelude.{◌≡◌, ℕ, ◌+◌, ◌≤◌, ⊤, List, length, take, Option, Some, None}
 use Rattle.host_ports.specs.FileMap.{FileMap, held}
+use Rattle.track_types.specs.Limits.{limit_of}
+use Rattle.track_types.specs.declared.limit.LimitKind.{LimitKind}
 
 -- where the files are told, these are the first bytes of the one of that name: all of it, or one more than the limit
 abbrev pub HoldsFront : Option FileMap → List ℕ → ℕ → List ℕ → Type 0
@@ -13,8 +15,14 @@ pub record FileCame (map : Option FileMap) (taken : ℕ) (name : List ℕ) (limi
   pub counted : taken ≡ length bytes
   pub held : HoldsFront map name limit bytes
 
--- One byte more came than a file may have.
-pub record TooLong (map : Option FileMap) (taken : ℕ) (name : List ℕ) (limit : ℕ) : Type 0 where
+-- The bytes that came of a file are all of it, and no more than its limit.
+pub record IsLoaded (kind : LimitKind) (map : Option FileMap) (taken : ℕ) (name bytes : List ℕ) : Type 0 where
+  pub came : FileCame map taken name (limit_of kind) bytes
+  pub short : length bytes ≤ limit_of kind
+
+-- All bytes of a file were received: `has_taken` says what took them.
+pub record IsReceived (kind : LimitKind) (map : Option FileMap) (taken : ℕ) (name : List ℕ)
+    (has_taken : List ℕ → Type 0) : Type 0 where
   pub bytes : List ℕ
-  pub came : FileCame map taken name limit bytes
-  pub past : length bytes ≡ limit + 1
+  pub loaded : IsLoaded kind map taken name bytes
+  pub received : has_taken bytes

@@ -1,6 +1,7 @@
 -- What the CSV file decides before a question is read.
-use Rattle.std.specs.Prelude.{◌≡◌, ℕ, ◌+◌, ◌≤◌, Bool, true, false, nat_lt, if◌then◌else◌, List, [], ◌∷◌, length}
+use Rattle.std.specs.Prelude.{◌≡◌, ℕ, ◌+◌, Bool, true, false, nat_lt, if◌then◌else◌, List, [], ◌∷◌, length}
 use Rattle.std.specs.Prelude.{Option, Some, None}
+use Rattle.std.specs.Option.{option_or}
 use Rattle.host_ports.specs.FileMap.{FileMap}
 use Rattle.track_types.specs.Chart.{ChartView}
 use Rattle.track_types.specs.Limits.{limit_of}
@@ -12,7 +13,7 @@ use Rattle.row_reader.specs.declared.fault.RowsFault.{RowsFault}
 use Rattle.row_reader.specs.declared.fault.RowsFault.TheVariants as rows
 use Rattle.gridding.specs.ChartOf.{chart_of}
 use Rattle.gridding.specs.GridLimit.{grid_limit}
-use Rattle.gract_top.specs.Loading.{FileCame}
+use Rattle.gract_top.specs.Loading.{FileCame, IsLoaded}
 use Rattle.gract_top.specs.declared.request.Settings.{Settings}
 use Rattle.gract_top.specs.declared.outcome.Outcome.{Outcome}
 use Rattle.gract_top.specs.declared.outcome.Outcome.TheVariants as outcome
@@ -31,13 +32,23 @@ rows_refusal None [] settings = Some outcome.Empty
 rows_refusal None (first ∷ others) settings =
     grid_refusal (grid_limit (first ∷ others) settings.cell settings.tick settings.period)
 
+-- the refusal of a file for its length
+abbrev pub length_refusal : LimitKind → List ℕ → Option Outcome
+length_refusal kind bytes =
+    if nat_lt (limit_of kind) (length bytes) then Some (outcome.Limit kind (limit_of kind + 1)) else None
+
+-- The bytes that came of a file are refused for their length.
+pub record IsLengthRefused (kind : LimitKind) (map : Option FileMap) (taken : ℕ) (name : List ℕ) (cause : Outcome) :
+    Type 0 where
+  pub bytes : List ℕ
+  pub came : FileCame map taken name (limit_of kind) bytes
+  pub refusal : length_refusal kind bytes ≡ Some cause
+
 -- The refusal of a file, or none where it is accepted: it is too long, a record is no row or one row too many, there is
 -- no data record, or a quantity of the chart passes its limit.
 abbrev pub file_refusal : List ℕ → Settings → Option Outcome
 file_refusal bytes settings =
-    if nat_lt (limit_of limit.Csv) (length bytes)
-    then Some (outcome.Limit limit.Csv (limit_of limit.Csv + 1))
-    else rows_refusal (csv_fault bytes) (raws_of bytes) settings
+    option_or (length_refusal limit.Csv bytes) (rows_refusal (csv_fault bytes) (raws_of bytes) settings)
 
 -- The bytes that came of the CSV file are refused for this.
 pub record IsRefused (map : Option FileMap) (taken : ℕ) (csv : List ℕ) (settings : Settings) (cause : Outcome) :
@@ -45,14 +56,6 @@ pub record IsRefused (map : Option FileMap) (taken : ℕ) (csv : List ℕ) (sett
   pub bytes : List ℕ
   pub came : FileCame map taken csv (limit_of limit.Csv) bytes
   pub refusal : file_refusal bytes settings ≡ Some cause
-
--- The bytes that came of the CSV file are its rows.
-pub record HasRows (map : Option FileMap) (taken : ℕ) (csv : List ℕ) (raws : List RawRow) : Type 0 where
-  pub bytes : List ℕ
-  pub came : FileCame map taken csv (limit_of limit.Csv) bytes
-  pub short : length bytes ≤ limit_of limit.Csv
-  pub accepted : csv_fault bytes ≡ None
-  pub rows : raws ≡ raws_of bytes
 
 -- The bytes that came of the CSV file are accepted, and have this chart.
 pub record IsAccepted (map : Option FileMap) (taken : ℕ) (csv : List ℕ) (settings : Settings) (chart : ChartView) :
@@ -62,23 +65,13 @@ pub record IsAccepted (map : Option FileMap) (taken : ℕ) (csv : List ℕ) (set
   pub accepted : file_refusal bytes settings ≡ None
   pub gridded : chart ≡ chart_of (raws_of bytes) settings.cell settings.tick settings.period
 
--- the refusal of an index file for its length; its flaws are found when it is opened
-abbrev pub index_refusal : List ℕ → Option Outcome
-index_refusal bytes =
-    if nat_lt (limit_of limit.Index) (length bytes)
-    then Some (outcome.Limit limit.Index (limit_of limit.Index + 1))
-    else None
+-- the bytes that came of an index file are refused; its flaws are found when it is opened
+abbrev pub IsIndexRefused : Option FileMap → ℕ → List ℕ → Outcome → Type 0
+IsIndexRefused = IsLengthRefused limit.Index
 
--- The bytes that came of the index file are refused for this.
-pub record IsIndexRefused (map : Option FileMap) (taken : ℕ) (index : List ℕ) (cause : Outcome) : Type 0 where
-  pub bytes : List ℕ
-  pub came : FileCame map taken index (limit_of limit.Index) bytes
-  pub refusal : index_refusal bytes ≡ Some cause
-
--- The bytes that came of the index file are all of it, and may be opened.
-pub record IsIndexLoaded (map : Option FileMap) (taken : ℕ) (index bytes : List ℕ) : Type 0 where
-  pub came : FileCame map taken index (limit_of limit.Index) bytes
-  pub short : length bytes ≤ limit_of limit.Index
+-- the bytes that came of an index file are all of it, and may be opened
+abbrev pub IsIndexLoaded : Option FileMap → ℕ → List ℕ → List ℕ → Type 0
+IsIndexLoaded = IsLoaded limit.Index
 
 -- an outcome that the bytes of the loaded file decide before anything is made of them
 abbrev pub is_refusal : Outcome → Bool

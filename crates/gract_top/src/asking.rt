@@ -1,25 +1,22 @@
-ghost use Rattle.std.specs.Prelude.{◌≡◌, ◌≢◌, ℕ, ◌+◌, ◌≤◌, ◌⊎◌, false, true, Err, IfOk, IfErr};
+ghost use Rattle.std.specs.Prelude.{◌≡◌, ◌≢◌, ℕ, ◌+◌, ◌≤◌};
 ghost use Rattle.host_ports.specs.Faults.{Rose};
-ghost use Rattle.host_ports.specs.FileMap.{IsMissing};
 ghost use Rattle.host_ports.specs.FilesState.{state_of};
-ghost use Rattle.host_ports.specs.NumberedCalls.{raised};
 ghost use Rattle.track_types.specs.Limits.{limit_of};
 ghost use Rattle.gract_top.specs.Outcome.{talk};
 ghost use Rattle.gract_top.specs.Ends.{EndsAsk, EndsOnce, moment};
-ghost use Rattle.gract_top.specs.Refusal.{IsIndexLoaded, IsIndexRefused, is_late, is_refusal};
 ghost use Rattle.gract_top.specs.Request.{AreSettings};
 
 use crate::answering::answer_bytes;
 use crate::chart_loading::load_chart;
 use crate::chart_writing::index_bytes;
-use crate::loading::{LoadFault, load};
+use crate::loading::load;
 use crate::outcome::Outcome;
 use crate::request::Settings;
 use host_ports::{Files, Sink, Source};
 use std::alloc::Global;
 use std::sync::ledger::Ledger;
 use step_count::Steps;
-use track_types::{LimitKind, MAX_INDEX};
+use track_types::LimitKind;
 
 // Answers the source's lines from the index of the CSV file of that name. What is opened is what the
 // files give for the bytes of that index.
@@ -97,50 +94,9 @@ pub(crate) fn ask<F: Files, S: Source, K: Sink, L: Ledger>(
     ensures say_untouched { result ≢ Outcome.SayFailed → K.faults sink.new ≡ K.faults sink.old }
     ensures within { S.taken source.new ≤ S.taken source.old + (limit_of LimitKind.Questions + 1) }
 {
-    let bytes = match load_index(alloc, index, files) {
-        Ok(bytes) => bytes,
-        Err(outcome) => return outcome,
-    };
-    answer_bytes(alloc, bytes, source, sink, steps)
-}
-
-// The bytes of the index file of that name, or the outcome that loading it decides.
-fn load_index<F: Files>(alloc: Global, index: &str, files: &mut F) -> Result<Vec<u8>, Outcome>
-    ensures loaded { IfOk result (λ bytes.
-        IsIndexLoaded (F.map files.old) (F.taken files.new) index.now bytes.items) }
-    ensures early { IfErr result (λ outcome. is_late outcome ≡ false) }
-    ensures words { IfErr result (λ outcome. (place : ℕ) → outcome ≢ Outcome.Words place) }
-    ensures load_failed { result ≡ Err Outcome.LoadFailed →
-        Rose (F.load_faults files.old) (F.load_faults files.new)
-        ⊎ IsMissing (F.map files.old) index.now }
-    ensures missing { IsMissing (F.map files.old) index.now → result ≡ Err Outcome.LoadFailed }
-    ensures untouched { result ≢ Err Outcome.LoadFailed →
-        F.load_faults files.new ≡ F.load_faults files.old }
-    ensures refused { IfErr result (λ outcome. is_refusal outcome ≡ true →
-        IsIndexRefused (F.map files.old) (F.taken files.new) index.now outcome) }
-    ensures too_long { (value : ℕ) → result ≡ Err (Outcome.Limit LimitKind.Index value) →
-        (value ≡ limit_of LimitKind.Index + 1) × (F.taken files.new ≡ value) }
-    ensures taken { F.taken files.new ≤ limit_of LimitKind.Index + 1 }
-    ensures begins { F.begins files.new ≡ raised (F.begins files.old) }
-    ensures map { F.map files.new ≡ F.map files.old }
-    ensures saves { F.saves files.new ≡ F.saves files.old }
-    ensures save_faults { F.save_faults files.new ≡ F.save_faults files.old }
-    ensures given { F.given files.new ≡ F.given files.old }
-    ensures faults { F.load_faults files.old ≤ F.load_faults files.new }
-{
-    match load(alloc, files, index, MAX_INDEX as usize) {
-        Ok(bytes) => Ok(bytes),
-        Err(LoadFault::Failed) => Err(Outcome::LoadFailed),
-        Err(LoadFault::TooLong) => Err(index_too_long()),
-        Err(LoadFault::Memory) => Err(Outcome::Memory),
-    }
-}
-
-fn index_too_long() -> Outcome
-    ensures { result ≡ Outcome.Limit LimitKind.Index (limit_of LimitKind.Index + 1) }
-{
-    Outcome::Limit {
-        kind: LimitKind::Index,
-        value: MAX_INDEX + 1,
+    let mut bytes = Vec::new(alloc);
+    match load(files, index, LimitKind::Index, &mut bytes) {
+        Ok(()) => answer_bytes(alloc, bytes, source, sink, steps),
+        Err(outcome) => outcome,
     }
 }

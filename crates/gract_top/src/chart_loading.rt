@@ -1,22 +1,22 @@
-ghost use Rattle.std.specs.Prelude.{◌≡◌, ◌≢◌, ℕ, ◌+◌, ◌≤◌, ◌⊎◌, true, false, Err, All};
-ghost use Rattle.std.specs.Prelude.{IfOk, IfErr, vec_len};
+ghost use Rattle.std.specs.Prelude.{◌≡◌, ◌≢◌, ℕ, ◌+◌, ◌≤◌, ◌⊎◌, true, false, Err};
+ghost use Rattle.std.specs.Prelude.{IfOk, IfErr};
 ghost use Rattle.host_ports.specs.Faults.{Rose};
 ghost use Rattle.host_ports.specs.FileMap.{IsMissing};
 ghost use Rattle.track_types.specs.Limits.{IsPeriod, IsResolution, limit_of};
-ghost use Rattle.track_types.specs.Near.{IsRawInRange};
 ghost use Rattle.host_ports.specs.NumberedCalls.{raised};
-ghost use Rattle.gract_top.specs.Loading.{TooLong};
-ghost use Rattle.gract_top.specs.Refusal.{HasRows, IsAccepted, IsRefused, is_late, is_refusal};
+ghost use Rattle.gract_top.specs.Received.{HasGriddedRows};
+ghost use Rattle.gract_top.specs.Refusal.{IsAccepted, IsRefused, is_late, is_refusal};
 ghost use Rattle.gract_top.specs.declared.request.Settings.{Settings};
 
-use crate::loading::{LoadFault, load};
+use crate::loading::load;
 use crate::outcome::Outcome;
 use crate::request::Settings;
-use gridding::{GridFault, grid};
+use crate::rows_receiver::RowsReceiver;
+use gridding::{GridFault, GriddedRows};
 use host_ports::Files;
-use row_reader::{RowsFault, read_rows};
+use row_reader::RowsFault;
 use std::alloc::Global;
-use track_types::{Chart, LimitKind, MAX_CSV, RawRow};
+use track_types::{Chart, LimitKind};
 
 // The chart of the CSV file of that name, or the outcome that it decides.
 pub(crate) fn load_chart<F: Files>(
@@ -50,11 +50,11 @@ pub(crate) fn load_chart<F: Files>(
     ensures given { F.given files.new ≡ F.given files.old }
     ensures faults { F.load_faults files.old ≤ F.load_faults files.new }
 {
-    let rows = match load_rows(alloc, csv, files) {
+    let rows = match load_rows(alloc, csv, settings, files) {
         Ok(rows) => rows,
         Err(outcome) => return Err(outcome),
     };
-    match grid(alloc, &rows, settings.cell, settings.tick, settings.period) {
+    match rows.chart(alloc, settings.period) {
         Ok(chart) => Ok(chart),
         Err(GridFault::Empty) => Err(Outcome::Empty),
         Err(GridFault::Limit { kind, value }) => Err(Outcome::Limit { kind, value }),
@@ -62,12 +62,17 @@ pub(crate) fn load_chart<F: Files>(
     }
 }
 
-// The raw rows of the CSV file of that name.
-fn load_rows<F: Files>(alloc: Global, csv: &str, files: &mut F) -> Result<Vec<RawRow>, Outcome>
-    ensures rows { IfOk result (λ rows.
-        HasRows (F.map files.old) (F.taken files.new) csv.now rows.items) }
-    ensures few { IfOk result (λ rows. vec_len rows ≤ limit_of LimitKind.Rows) }
-    ensures ranges { IfOk result (λ rows. All IsRawInRange rows.items) }
+// The rows of the CSV file of that name, gridded.
+fn load_rows<F: Files>(
+    alloc: Global,
+    csv: &str,
+    settings: Settings,
+    files: &mut F,
+) -> Result<GriddedRows, Outcome>
+    requires cell { IsResolution settings.cell }
+    requires tick { IsResolution settings.tick }
+    ensures rows { IfOk result
+        (HasGriddedRows (F.map files.old) (F.taken files.new) csv.now settings) }
     ensures early { IfErr result (λ outcome. is_late outcome ≡ false) }
     ensures words { IfErr result (λ outcome. (place : ℕ) → outcome ≢ Outcome.Words place) }
     ensures load_failed { result ≡ Err Outcome.LoadFailed →
@@ -76,7 +81,7 @@ fn load_rows<F: Files>(alloc: Global, csv: &str, files: &mut F) -> Result<Vec<Ra
     ensures missing { IsMissing (F.map files.old) csv.now → result ≡ Err Outcome.LoadFailed }
     ensures untouched { result ≢ Err Outcome.LoadFailed →
         F.load_faults files.new ≡ F.load_faults files.old }
-    ensures refused { IfErr result (λ outcome. is_refusal outcome ≡ true → (settings : Settings) →
+    ensures refused { IfErr result (λ outcome. is_refusal outcome ≡ true →
         IsRefused (F.map files.old) (F.taken files.new) csv.now settings outcome) }
     ensures csv_taken { (value : ℕ) → result ≡ Err (Outcome.Limit LimitKind.Csv value) →
         (value ≡ limit_of LimitKind.Csv + 1) × (F.taken files.new ≡ value) }
@@ -88,13 +93,9 @@ fn load_rows<F: Files>(alloc: Global, csv: &str, files: &mut F) -> Result<Vec<Ra
     ensures given { F.given files.new ≡ F.given files.old }
     ensures faults { F.load_faults files.old ≤ F.load_faults files.new }
 {
-    let bytes = match load(alloc, files, csv, MAX_CSV as usize) {
-        Ok(bytes) => bytes,
-        Err(LoadFault::Failed) => return Err(Outcome::LoadFailed),
-        Err(LoadFault::TooLong) => return Err(csv_too_long()),
-        Err(LoadFault::Memory) => return Err(Outcome::Memory),
-    };
-    match read_rows(alloc, &bytes) {
+    let mut receiver = RowsReceiver::new(alloc, settings.cell, settings.tick);
+    load(files, csv, LimitKind::Csv, &mut receiver)?;
+    match receiver.finish() {
         Ok(rows) => Ok(rows),
         Err(RowsFault::Row { nth, field, fault }) => Err(Outcome::Row { nth, field, fault }),
         Err(RowsFault::Limit { value }) => Err(Outcome::Limit {
@@ -102,14 +103,5 @@ fn load_rows<F: Files>(alloc: Global, csv: &str, files: &mut F) -> Result<Vec<Ra
             value,
         }),
         Err(RowsFault::Memory) => Err(Outcome::Memory),
-    }
-}
-
-fn csv_too_long() -> Outcome
-    ensures { result ≡ Outcome.Limit LimitKind.Csv (limit_of LimitKind.Csv + 1) }
-{
-    Outcome::Limit {
-        kind: LimitKind::Csv,
-        value: MAX_CSV + 1,
     }
 }

@@ -18,7 +18,9 @@ mod counting;
 mod loading;
 mod outcome;
 mod outcome_text;
+mod receiver;
 mod request;
+mod rows_receiver;
 mod sampling;
 mod summarizing;
 #[cfg(test)]

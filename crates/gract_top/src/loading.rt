@@ -1,46 +1,47 @@
-ghost use Rattle.std.specs.Prelude.{◌≡◌, ◌≢◌, ◌+◌, ◌^◌, ◌<◌, ◌≤◌, ◌⊎◌, vec_len, IfOk, Err};
+ghost use Rattle.std.specs.Prelude.{◌≡◌, ◌≢◌, ◌+◌, ◌^◌, ◌<◌, ◌≤◌, ◌⊎◌, ℕ, [], true, false, IfErr, OnOk, Err};
 ghost use Rattle.host_ports.specs.Faults.{Rose};
 ghost use Rattle.host_ports.specs.FileMap.{IsMissing};
 ghost use Rattle.host_ports.specs.NumberedCalls.{raised};
-ghost use Rattle.gract_top.specs.Loading.{FileCame, TooLong};
+ghost use Rattle.track_types.specs.Limits.{limit_of};
+ghost use Rattle.track_types.specs.declared.limit.LimitKind.{LimitKind};
+ghost use Rattle.gract_top.specs.Loading.{IsReceived};
+ghost use Rattle.gract_top.specs.Refusal.{IsLengthRefused, is_late, is_refusal};
 
+use crate::outcome::Outcome;
+use crate::receiver::Receiver;
 use host_ports::Files;
-use std::alloc::Global;
-
-/// Why a file was not loaded.
-#[derive(Clone, Copy, Debug, PartialEq, Eq)]
-pub(crate) enum LoadFault {
-    /// It could not be read, or there is none of that name.
-    Failed,
-    /// It has more bytes than the limit.
-    TooLong,
-    /// Memory was refused.
-    Memory,
-}
+use track_types::LimitKind;
 
 /// How many bytes are asked for at a time.
-const PIECE: usize = 0x4000;
+const PIECE: usize = 0x2_0000;
 
-// Loads a file of at most `limit` bytes. No byte beyond `limit + 1` is asked for.
-pub(crate) fn load<F: Files>(
-    alloc: Global,
+// Loads a file piece by piece into a receiver that took nothing yet, or tells the outcome that this decides. No byte
+// beyond the limit of that kind and one is asked for.
+pub(crate) fn load<F: Files, R: Receiver>(
     files: &mut F,
     name: &str,
-    limit: usize,
-) -> Result<Vec<u8>, LoadFault>
-    requires { limit < 2 ^ 40 }
-    ensures within { IfOk result (λ bytes. vec_len bytes ≤ limit) }
-    ensures came { IfOk result (λ bytes.
-        FileCame (F.map files.old) (F.taken files.new) name.now limit bytes.items) }
-    ensures failed { result ≡ Err LoadFault.Failed →
+    kind: LimitKind,
+    receiver: &mut R,
+) -> Result<(), Outcome>
+    requires small { limit_of kind < 2 ^ 40 }
+    requires early { is_late (Outcome.Limit kind (limit_of kind + 1)) ≡ false }
+    requires most { limit_of kind ≤ R.most }
+    requires fresh { R.has_taken receiver.old [] receiver.old }
+    ensures came { OnOk result (IsReceived kind (F.map files.old) (F.taken files.new) name.now
+        (λ bytes. R.has_taken receiver.old bytes receiver.new)) }
+    ensures early { IfErr result (λ outcome. is_late outcome ≡ false) }
+    ensures words { IfErr result (λ outcome. (place : ℕ) → outcome ≢ Outcome.Words place) }
+    ensures load_failed { result ≡ Err Outcome.LoadFailed →
         Rose (F.load_faults files.old) (F.load_faults files.new)
         ⊎ IsMissing (F.map files.old) name.now }
-    ensures missing { IsMissing (F.map files.old) name.now → result ≡ Err LoadFault.Failed }
-    ensures long { result ≡ Err LoadFault.TooLong →
-        TooLong (F.map files.old) (F.taken files.new) name.now limit }
-    ensures taken { F.taken files.new ≤ limit + 1 }
-    ensures untouched { result ≢ Err LoadFault.Failed →
+    ensures missing { IsMissing (F.map files.old) name.now → result ≡ Err Outcome.LoadFailed }
+    ensures untouched { result ≢ Err Outcome.LoadFailed →
         F.load_faults files.new ≡ F.load_faults files.old }
+    ensures refused { IfErr result (λ outcome. is_refusal outcome ≡ true →
+        IsLengthRefused kind (F.map files.old) (F.taken files.new) name.now outcome) }
+    ensures too_long { (other : LimitKind) (value : ℕ) → result ≡ Err (Outcome.Limit other value) →
+        (other ≡ kind) × (value ≡ limit_of kind + 1) × (F.taken files.new ≡ value) }
+    ensures taken { F.taken files.new ≤ limit_of kind + 1 }
     ensures begins { F.begins files.new ≡ raised (F.begins files.old) }
     ensures map { F.map files.new ≡ F.map files.old }
     ensures saves { F.saves files.new ≡ F.saves files.old }
@@ -49,21 +50,26 @@ pub(crate) fn load<F: Files>(
     ensures faults { F.load_faults files.old ≤ F.load_faults files.new }
 {
     if files.begin(name).is_err() {
-        return Err(LoadFault::Failed);
+        return Err(Outcome::LoadFailed);
     }
-    let mut bytes = Vec::new(alloc);
+    let limit = kind.greatest() as usize;
     let mut piece = [0; PIECE];
-    'pieces: while bytes.len() <= limit {
-        let room = PIECE.min(limit + 1 - bytes.len());
-        let Ok(count) = files.pull(&mut piece[..room]) else {
-            return Err(LoadFault::Failed);
+    let mut count = 0;
+    'pieces: loop {
+        let room = PIECE.min(limit + 1 - count);
+        let Ok(came) = files.pull(&mut piece[..room]) else {
+            return Err(Outcome::LoadFailed);
         };
-        if count == 0 {
-            return Ok(bytes);
+        if came == 0 {
+            return Ok(());
         }
-        if bytes.extend_from_slice(&piece[..count]).is_err() {
-            return Err(LoadFault::Memory);
+        count += came;
+        if count > limit {
+            let value = limit as u64 + 1;
+            return Err(Outcome::Limit { kind, value });
+        }
+        if receiver.take(&piece[..came]).is_err() {
+            return Err(Outcome::Memory);
         }
     }
-    Err(LoadFault::TooLong)
 }

@@ -1,0 +1,48 @@
+-- What a receiver of rows has taken, and why a file is refused for its rows.
+use Rattle.std.proofs.Common.{◌≡◌, ◌≢◌, ℕ, List, [], ◌∷◌, ◌++◌, All, Option, Some, None, refl, sym, subst, ◌∙◌}
+use Rattle.std.proofs.lemmas.List.Elements.{All-tail}
+use Rattle.host_ports.specs.FileMap.{FileMap}
+use Rattle.track_types.specs.declared.limit.LimitKind.{LimitKind}
+use Rattle.track_types.specs.declared.limit.LimitKind.TheVariants as limit
+use Rattle.track_types.specs.declared.raw_row.RawRow.{RawRow}
+use Rattle.row_reader.specs.Pieces.{AreRowsOf}
+use Rattle.gridding.specs.GridLimit.{grid_limit}
+use Rattle.gridding.specs.Gridded.{HasGridded}
+use Rattle.gract_top.specs.Loading.{IsLoaded}
+use Rattle.gract_top.specs.Received.{HasReceived, HasReceivedSince}
+use Rattle.gract_top.specs.Refusal.{IsRefused, rows_refusal}
+use Rattle.gract_top.specs.declared.outcome.Outcome.TheVariants as outcome
+use Rattle.gract_top.specs.declared.request.Settings.{Settings}
+use Rattle.gract_top.specs.declared.rows_receiver.RowsReceiver.{RowsReceiver}
+use Rattle.gract_top.proofs.LoadingLemmas.{length_refusal-short}
+
+-- what holds of all elements holds of those at the end
+pub all-back : {X : Type 0} (P : X → Type 0) (front back : List X) → All P (front ++ back) → All P back
+all-back P [] back all = all
+all-back P (x ∷ front) back all = all-back P front back (All-tail P x (front ++ back) all)
+
+-- a receiver grids by the CELL and the TICK by which it began
+pub HasReceived-since : (cell tick : ℕ) (start receiver : RowsReceiver) (bytes : List ℕ) → HasGridded cell tick [] start.rows →
+    HasReceivedSince start bytes receiver → HasReceived cell tick bytes receiver
+HasReceived-since cell tick start receiver bytes began since =
+    subst (λ cell. HasReceived cell tick bytes receiver) (sym since.2.by_cell ∙ began.by_cell)
+    (subst (λ tick. HasReceived since.0 tick bytes receiver) (sym since.2.by_tick ∙ began.by_tick) since.3)
+
+-- the refusal of rows for a quantity
+refusal-grid : (raws : List RawRow) (settings : Settings) (kind : LimitKind) (value : ℕ) → raws ≢ [] →
+    grid_limit raws settings.cell settings.tick settings.period ≡ Some (kind, value) →
+    rows_refusal None raws settings ≡ Some (outcome.Limit kind value)
+refusal-grid [] settings kind value some past = absurd (some refl)
+refusal-grid (raw ∷ raws) settings kind value some past = rw past refl
+
+-- a file of which all rows came is refused for a quantity of their chart
+pub IsRefused-grid : (map : Option FileMap) (taken : ℕ) (csv bytes : List ℕ) (raws : List RawRow) (settings : Settings)
+    (kind : LimitKind) (value : ℕ) → IsLoaded limit.Csv map taken csv bytes → AreRowsOf bytes raws → raws ≢ [] →
+    grid_limit raws settings.cell settings.tick settings.period ≡ Some (kind, value) →
+    IsRefused map taken csv settings (outcome.Limit kind value)
+IsRefused-grid map taken csv bytes raws settings kind value loaded all some past = record {
+  bytes = bytes;
+  came = loaded.came;
+  refusal = rw (length_refusal-short limit.Csv bytes loaded.short, all.accepted, ← all.rows)
+      (refusal-grid raws settings kind value some past);
+}
