@@ -21,6 +21,7 @@ use Rattle.track_types.specs.Row.{IsAscending, is_row_of, row_order}
 use Rattle.track_types.specs.declared.cell.Cell.{Cell}
 use Rattle.track_types.specs.declared.row.Row.{Row}
 use Rattle.list_laws.proofs.AscendingLemmas.{first_below}
+use Rattle.list_laws.proofs.KeyRangeLemmas.{by_key-sorted, of_key}
 use Rattle.track_types.proofs.QuantityLemmas.{elapsed-span, first_of-below}
 use Rattle.rule_store.specs.Cells.{cells_along}
 use Rattle.rule_store.specs.Log.{stop_at, stops_from}
@@ -28,7 +29,6 @@ use Rattle.snapshots.specs.Parts.{row_of}
 use Rattle.movement_log.specs.Blocks.{no_row, row_at}
 use Rattle.movement_log.specs.Logs.{anchors_in, values_after}
 use Rattle.movement_log.proofs.AnchorLemmas.{before_from, is_before, not_before, same_from_parts, same_parts}
-use Rattle.movement_log.proofs.KeyLemmas.{by_key-sorted, of_key}
 use Rattle.movement_log.proofs.RowLemmas.{instant_lt, instant_rises}
 use Rattle.movement_log.proofs.RowLemmas.{row_of as passes_at}
 use Rattle.chart_parts.proofs.BlockWords.{anchor_of, anchor_stops, stops_with}

@@ -7,6 +7,7 @@ use Rattle.std.proofs.lemmas.Int.{by_lt_z, ints}
 use Rattle.std.proofs.lemmas.List.Elements.{Contains-get_or}
 use Rattle.std.proofs.lemmas.Map.Keys.{Less-from_sorted}
 use Rattle.list_laws.proofs.MemberLemmas.{find_cases, member_of_filter, member_of_flat_map}
+use Rattle.list_laws.proofs.PlaceLemmas.{find_last_at}
 use Rattle.spiral_code.specs.Spiral.{code_of, move_of}
 use Rattle.spiral_code.proofs.SpiralLemmas.{move_of-code_of}
 use Rattle.track_types.specs.ByFilter.{cell_at}
@@ -18,7 +19,7 @@ use Rattle.track_types.specs.declared.row.Row.{Row}
 use Rattle.rule_store.specs.Cells.{cells_along, moved}
 use Rattle.movement_log.specs.Logs.{anchors_in, block_anchors, values_after}
 use Rattle.movement_log.specs.Values.{is_earlier, last_before, value_at}
-use Rattle.movement_log.proofs.RowLemmas.{earlier, find_last_at, instant_lt, not_earlier, row_of}
+use Rattle.movement_log.proofs.RowLemmas.{earlier, instant_lt, not_earlier, row_of}
 
 -- a movement by its code leads to the cell from which it was made
 moved-code_of : (from to : Cell) → moved from (move_of (code_of (to.x -ℤ from.x) (to.y -ℤ from.y))) ≡ to

@@ -13,9 +13,9 @@ use Rattle.std.proofs.lemmas.List.MinMax.{ranks_by}
 use Rattle.std.proofs.lemmas.List.Sorted.{All-permutation, IsNonDecreasingBy-from_sort}
 use Rattle.list_laws.proofs.FlatLemmas.{flat_map_agree}
 use Rattle.list_laws.proofs.OrderedLemmas.{IsPermutation-ordered, IsSortedBy-ordered_weak, filter-ordered}
+use Rattle.list_laws.proofs.KeyRangeLemmas.{by_key, by_key-sorted, by_key-stable, map-by_key, of_key}
 use Rattle.track_types.specs.declared.frame.Frame.{Frame}
 use Rattle.movement_log.specs.declared.head.Head.{Head}
-use Rattle.movement_log.proofs.KeyLemmas.{by_key, by_key-sorted, by_key-stable, map-by_key, of_key}
 use Rattle.k2_tree.specs.Morton.{morton_of}
 use Rattle.chart_parts.specs.LeafOrder.{by_code, leaf_order}
 use Rattle.chart_parts.specs.PeriodWith.{ArePlaced, IsLeafIn, codes_of_heads, leaf_at, no_head}

@@ -11,13 +11,12 @@ use Rattle.list_laws.proofs.FlatLemmas.{flat_map-flat_map}
 use Rattle.list_laws.proofs.MapLemmas.{map-flat_map}
 use Rattle.list_laws.proofs.MemberLemmas.{member_of_filter}
 use Rattle.list_laws.proofs.MapLemmas.{filter-map}
+use Rattle.list_laws.proofs.KeyRangeLemmas.{by_key, by_key-sorted, by_key-within, filter-by_key, IsNonDecreasingBy-by_key, of_key}
 use Rattle.track_types.specs.Chart.{ChartView}
 use Rattle.track_types.specs.Quantities.{anchors_of, first_of, period_count, period_of}
 use Rattle.track_types.specs.declared.row.Row.{Row}
 use Rattle.movement_log.specs.Blocks.{no_row, row_at}
 use Rattle.movement_log.specs.Logs.{anchors_in, block_anchors}
-use Rattle.movement_log.proofs.KeyLemmas.{by_key, by_key-sorted, of_key}
-use Rattle.movement_log.proofs.KeyOrderLemmas.{IsNonDecreasingBy-by_key, by_key-within, filter-by_key}
 use Rattle.chart_parts.specs.PartsOf.{grammar_of, logged_anchors, logs_in}
 use Rattle.chart_parts.proofs.GrammarLemmas.{firsts-logged_anchors, seconds-logged_anchors}
 

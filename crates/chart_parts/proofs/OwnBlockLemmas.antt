@@ -6,6 +6,7 @@ use Rattle.std.proofs.lemmas.List.Elements.{All-map, Contains-get_or}
 use Rattle.std.proofs.lemmas.List.Sums.{count_by-le-length, get_or-le-sum_by, length-filter}
 use Rattle.std.proofs.lemmas.Simd.{map-map}
 use Rattle.list_laws.proofs.MapLemmas.{member_of_zip}
+use Rattle.list_laws.proofs.KeyRangeLemmas.{IsNonDecreasingBy-by_key}
 use Rattle.track_types.specs.Chart.{ChartView, IsChart}
 use Rattle.track_types.specs.Frame.{periods_of}
 use Rattle.track_types.specs.Quantities.{anchors_of, first_of, object_count, objects_of, period_count}
@@ -13,7 +14,6 @@ use Rattle.track_types.specs.declared.row.Row.{Row}
 use Rattle.movement_log.specs.Logs.{anchors_in, block_anchors, head_of, logs_of}
 use Rattle.movement_log.specs.declared.head.Head.{Head}
 use Rattle.movement_log.proofs.AlphabetLemmas.{terminal_of-member}
-use Rattle.movement_log.proofs.KeyOrderLemmas.{IsNonDecreasingBy-by_key}
 use Rattle.chart_parts.specs.Header.{frame_of}
 use Rattle.chart_parts.specs.PartsOf.{grammar_of, is_present, logged_anchors}
 use Rattle.chart_parts.specs.PeriodWith.{AreBlocksOf, Climbs, IsBlockOf, blocks_in}

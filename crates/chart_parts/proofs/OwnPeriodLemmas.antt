@@ -1,20 +1,19 @@
 -- The parts of a chart's periods, from the headers and logs of its blocks.
-use Rattle.std.proofs.Common.{◌≡◌, ℕ, zero, suc, ◌+◌, ◌<◌, ◌≤◌, List, [], ◌∷◌, filter, length, map, refl, sym, ◌∙◌, ap, arith}
+use Rattle.std.proofs.Common.{◌≡◌, ℕ, suc, ◌<◌, ◌≤◌, List, [], ◌∷◌, filter, length, map, refl, sym, ◌∙◌, ap, arith}
 use Rattle.std.specs.Prelude.{All, ◌==◌}
-use Rattle.std.specs.List.{range_with_len, zip}
+use Rattle.std.specs.List.{zip}
 use Rattle.std.specs.List.Sorted.{IsNonDecreasingBy}
 use Rattle.std.proofs.lemmas.List.{length-map}
 use Rattle.std.proofs.lemmas.Simd.{map-map}
 use Rattle.list_laws.proofs.MapLemmas.{filter-map}
 use Rattle.list_laws.proofs.MapLemmas.{map-range_agree, zip-map}
+use Rattle.list_laws.proofs.KeyRangeLemmas.{filter-by_key, of_key}
 use Rattle.track_types.specs.Chart.{ChartView, IsChart}
 use Rattle.track_types.specs.Quantities.{anchors_of, first_of, object_count, period_count, period_of}
 use Rattle.track_types.specs.declared.row.Row.{Row}
 use Rattle.k2_tree.specs.Morton.{morton_of}
 use Rattle.movement_log.specs.Logs.{anchors_in, block_anchors, head_of, logs_of}
 use Rattle.movement_log.specs.declared.head.Head.{Head}
-use Rattle.movement_log.proofs.KeyLemmas.{of_key}
-use Rattle.movement_log.proofs.KeyOrderLemmas.{filter-by_key}
 use Rattle.snapshots.specs.Parts.{numbers_in}
 use Rattle.chart_parts.specs.Header.{frame_of}
 use Rattle.chart_parts.specs.PartsOf.{anchor_codes, grammar_of, logged_anchors, logs_in, period_of_chart}

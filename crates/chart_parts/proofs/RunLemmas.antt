@@ -4,7 +4,7 @@ use Rattle.std.specs.Prelude.{◌==◌}
 use Rattle.std.specs.List.{prefix_len}
 use Rattle.std.proofs.lemmas.Bool.{cases_Bool}
 use Rattle.std.proofs.lemmas.Bool.Decides.{nat_tests}
-use Rattle.movement_log.proofs.KeyLemmas.{of_key}
+use Rattle.list_laws.proofs.KeyRangeLemmas.{of_key}
 use Rattle.chart_parts.specs.PeriodWith.{Climbs}
 
 module _ {X : Type 0} (key : X → ℕ) where

@@ -1,12 +1,11 @@
 -- The rows of a chart are those of its blocks, by object, then period.
-use Rattle.std.proofs.Common.{◌≡◌, ℕ, ◌<◌, ◌≤◌, List, [], ◌∷◌, ◌++◌, length, map, filter, refl, sym, ◌∙◌, ap, arith, inl, inr}
+use Rattle.std.proofs.Common.{◌≡◌, ℕ, ◌<◌, ◌≤◌, List, length, map, filter, sym, ◌∙◌, ap, arith, inl, inr}
 use Rattle.std.specs.Prelude.{ℤ, ◌≤ℤ◌, ◌==◌}
 use Rattle.std.specs.List.{Contains, flat_map, range_with_len}
 use Rattle.std.specs.List.Sorted.{IsNonDecreasingBy}
 use Rattle.std.proofs.lemmas.Bool.{cases_lt}
 use Rattle.std.proofs.lemmas.Bool.Decides.{nat_tests}
 use Rattle.std.proofs.lemmas.Int.{ints}
-use Rattle.std.proofs.lemmas.List.{map-append}
 use Rattle.std.proofs.lemmas.List.Elements.{All-contains, All-filter, Contains-get_or}
 use Rattle.std.proofs.lemmas.List.Kept.{IsStrictlySortedBy-filter}
 use Rattle.std.proofs.lemmas.List.Sorted.{IsNonDecreasingBy-from_default}
@@ -14,6 +13,7 @@ use Rattle.list_laws.proofs.FilterLemmas.{filter_and}
 use Rattle.list_laws.proofs.FlatLemmas.{flat_map_agree}
 use Rattle.list_laws.proofs.MapLemmas.{map-flat_map}
 use Rattle.list_laws.proofs.MemberLemmas.{member_of_filter}
+use Rattle.list_laws.proofs.KeyRangeLemmas.{by_key-sorted, of_key}
 use Rattle.track_types.specs.Chart.{ChartView, IsChart}
 use Rattle.track_types.specs.Quantities.{first_of, objects_of, period_count}
 use Rattle.track_types.specs.Row.{IsAscending, row_order}
@@ -23,7 +23,6 @@ use Rattle.track_types.proofs.QuantityLemmas.{first_of-below}
 use Rattle.snapshots.specs.Parts.{numbers_in, row_of}
 use Rattle.movement_log.specs.Blocks.{no_row, row_at}
 use Rattle.movement_log.proofs.AnchorLemmas.{period_mono}
-use Rattle.movement_log.proofs.KeyLemmas.{by_key-sorted, of_key}
 use Rattle.movement_log.proofs.PeriodLemmas.{rows_below}
 use Rattle.movement_log.proofs.RowLemmas.{instant_rises}
 use Rattle.chart_parts.specs.Header.{frame_of}

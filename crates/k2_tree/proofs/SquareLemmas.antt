@@ -1,10 +1,11 @@
 -- The squares of a tree in one list, and the numbers that they have in it.
-use Rattle.std.proofs.Common.{◌≡◌, ℕ, zero, suc, ◌+◌, ◌-◌, ◌<◌, List, [], ◌∷◌, ◌++◌, length, get_or}
+use Rattle.std.proofs.Common.{◌≡◌, ℕ, zero, suc, ◌+◌, ◌-◌, ◌<◌, List, [], ◌++◌, length, get_or}
 use Rattle.std.proofs.Common.{refl, sym, ap, ◌∙◌, inl, inr, arith, subst, Some, append_assoc, length-append}
 use Rattle.std.proofs.lemmas.List.{append-nil, length-map, get_or-map}
 use Rattle.std.proofs.lemmas.Option.{slice_get-get_or, slice_get_within, same_Some}
 use Rattle.std.proofs.lemmas.Bool.{cases_lt}
 use Rattle.std.specs.Prelude.{slice_get}
+use Rattle.list_laws.proofs.SliceLemmas.{slice_get-append_add, slice_get-append_left}
 use Rattle.k2_tree.specs.TreeBits.{prefixes, Rises}
 use Rattle.k2_tree.specs.Squares.{Node, node, level_squares, squares_from, squares_above, IsSquare}
 use Rattle.k2_tree.proofs.PrefixLemmas.{prefixes-zero}
@@ -36,19 +37,6 @@ length-upper_squares zero n codes = refl
 length-upper_squares (suc k) n codes =
     length-append (upper_squares k (suc n) codes) (level_squares (suc n) codes)
     ∙ omega (arith, length-upper_squares k (suc n) codes, length-map (prefixes (suc n) codes) (node (suc n)))
-
--- what stands in the first list
-slice_get-append_left : {X : Type 0} (xs ys : List X) (i : ℕ) → i < length xs → slice_get (xs ++ ys) i ≡ slice_get xs i
-slice_get-append_left [] ys i within = absurd (omega arith)
-slice_get-append_left (x ∷ xs) ys zero within = refl
-slice_get-append_left (x ∷ xs) ys (suc i) within = slice_get-append_left xs ys i (omega arith)
-
--- what stands in the second list
-slice_get-append_add : {X : Type 0} (xs ys : List X) (i : ℕ) → slice_get (xs ++ ys) (length xs + i) ≡ slice_get ys i
-slice_get-append_add [] ys i = let e : 0 + i ≡ i = omega arith in ap (slice_get ys) e
-slice_get-append_add (x ∷ xs) ys i =
-    let e : suc (length xs) + i ≡ suc (length xs + i) = omega arith in
-    ap (slice_get (x ∷ xs ++ ys)) e ∙ slice_get-append_add xs ys i
 
 -- the squares of a level by place
 slice_get-level : (n i : ℕ) (codes : List ℕ) → i < length (prefixes n codes)

@@ -1,8 +1,8 @@
 -- The first that passes a test: of a range of numbers, and of a list.
-use Rattle.std.proofs.Common.{◌≡◌, ℕ, zero, suc, ◌+◌, ◌<◌, ◌≤◌, Bool, true, false, None, Some, inl, inr, refl, ap, ◌∙◌, arith, List, [], ◌∷◌, Option}
+use Rattle.std.proofs.Common.{◌≡◌, ℕ, zero, suc, ◌+◌, ◌<◌, ◌≤◌, Bool, true, false, None, Some, inl, inr, refl, ap, ◌∙◌, arith, List, [], ◌∷◌, Option, map}
 use Rattle.std.specs.List.{find, range_with_len, list_any}
 use Rattle.std.proofs.lemmas.Bool.{cases_order, cases_Bool}
-use Rattle.std.specs.Option.{option_or}
+use Rattle.std.specs.Option.{option_map, option_or}
 
 -- it is one that passes, where none before it does
 pub find_in_range-first : (test : ℕ → Bool) (from n place : ℕ) → from ≤ place → place < from + n →
@@ -53,3 +53,8 @@ find-passed_over p x xs none = elim (cases_Bool (p x)) [
   | inl passes ↦ let found : Some x ≡ None = rw passes at none in absurd (cc)
   | inr fails ↦ (fails, rw fails at none)
 ]
+
+-- a search among images
+pub find-map : {X Y : Type 0} (p : Y → Bool) (f : X → Y) (xs : List X) → find p (map f xs) ≡ option_map f (find (λ x. p (f x)) xs)
+find-map p f [] = refl
+find-map p f (x ∷ xs) = grind (arith, find-map p f xs)

@@ -1,11 +1,13 @@
--- A list, its front and its back: what holds of each element, strict order, one element after the other,
+-- A list, its front and its back: what holds of each element, tests, strict order, one element after the other,
 -- and a front that grows by one.
-use Rattle.std.proofs.Common.{◌≡◌, ℕ, ◌+◌, ◌-◌, ◌<◌, List, [], ◌∷◌, ◌++◌, length, All, get_or, slice_index, inl, inr, sym, ap, ◌∙◌, arith, suc, set, replicate, append_assoc}
+use Rattle.std.proofs.Common.{◌≡◌, ℕ, ◌+◌, ◌-◌, ◌<◌, List, [], ◌∷◌, ◌++◌, length, All, get_or, slice_index, inl, inr, sym, ap, ◌∙◌, arith, suc, set, replicate, append_assoc, Bool, false}
 use Rattle.std.specs.List.Sorted.{IsStrictlyIncreasing}
-use Rattle.std.proofs.lemmas.Bool.{cases_lt}
+use Rattle.std.specs.List.{list_any}
+use Rattle.std.proofs.lemmas.Bool.{cases_lt, or_parts}
 use Rattle.std.proofs.lemmas.List.{length-append, get_or_append_left, length-reverse, reverse-append}
 use Rattle.std.proofs.Math.Seq.{get_or-append_seam, set-append_seam}
 use Rattle.std.proofs.lemmas.List.Elements.{All-append, All-from_recursion, All-tail}
+use Rattle.std.proofs.lemmas.List.Folds.{list_any-append}
 use Rattle.std.specs.Prelude.{reverse}
 
 -- what holds of each element holds of each of the front
@@ -72,3 +74,7 @@ set-next {X} xs x filler c k long less =
     ∙ set-append_seam (reverse xs) filler rest x
     ∙ sym (append_assoc (reverse xs) (x ∷ []) rest)
     ∙ ap (λ ys. ys ++ rest) (sym last)
+
+-- none of the first ones passes where none of all passes
+pub list_any-front : {X : Type 0} (p : X → Bool) (xs ys : List X) → list_any p (xs ++ ys) ≡ false → list_any p xs ≡ false
+list_any-front p xs ys none = (or_parts (list_any p xs) (list_any p ys) (sym (list_any-append p xs ys) ∙ none)).0

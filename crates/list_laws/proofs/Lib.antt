@@ -22,3 +22,9 @@ pub mod IncreasingLemmas
 pub mod AscendingLemmas
 pub mod NumberLemmas
 pub mod WeightLemmas
+pub mod StableLemmas
+pub mod MoveLemmas
+pub mod KeyRangeLemmas
+pub mod PlaceLemmas
+pub mod SliceLemmas
+pub mod ZipLemmas

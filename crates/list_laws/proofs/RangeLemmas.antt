@@ -1,8 +1,8 @@
 -- Lists and sums over a range of numbers, of which only some give any, or one is set at a place.
 use Rattle.std.proofs.Common.{◌≡◌, ℕ, zero, suc, ◌+◌, ◌-◌, ◌<◌, ◌≤◌, Bool, true, List, [], ◌∷◌, ◌++◌, slice_index, length, ◌≢◌, set}
-use Rattle.std.proofs.Common.{Ordering, Option, None, Some, IfSome, All, refl, ap, sym, subst, ◌∙◌, arith, inl, inr}
+use Rattle.std.proofs.Common.{Ordering, Option, None, Some, IfSome, All, map, refl, ap, sym, subst, ◌∙◌, arith, inl, inr}
 use Rattle.std.specs.Prelude.{get_or, if◌then◌else◌}
-use Rattle.std.specs.List.{cons_option, filter, filter_map, find, flat_map, range_with_len, sum_by}
+use Rattle.std.specs.List.{cons_option, enumerate_from, filter, filter_map, find, flat_map, range_with_len, sum_by}
 use Rattle.std.specs.List.Sorted.{IsStrictlySortedBy}
 use Rattle.std.specs.declared.cmp.Ordering.TheVariants.{Less}
 use Rattle.std.proofs.lemmas.Bool.{cases_Bool, cases_lt}
@@ -255,3 +255,26 @@ module _ {X : Type 0} (f g : ℕ → List X) (c : ℕ → ℕ) (long : (n : ℕ)
       set-append_right (f from) (flat_map f later) (c from) i v (long from) (omega (arith, at, sum))
       ∙ ap (λ ys. f from ++ ys) (set-flat_map-range (from + 1) count place (i - c from) (omega arith) (omega arith) (omega (arith, at, sum)))
       ∙ ap (λ ys. ys ++ flat_map g later) apart
+
+-- elements after others are numbered on
+pub enumerate_from-append : {X : Type 0} (first : ℕ) (front back : List X)
+    → enumerate_from first (front ++ back) ≡ enumerate_from first front ++ enumerate_from (first + length front) back
+enumerate_from-append first [] back = ap (λ n. enumerate_from n back) (omega arith)
+enumerate_from-append first (x ∷ front) back =
+    let next : first + 1 + length front ≡ first + length (x ∷ front) = omega arith in
+    let renumbered = ap (λ n. enumerate_from (first + 1) front ++ enumerate_from n back) next in
+    ap (λ rest. (first, x) ∷ rest) (enumerate_from-append (first + 1) front back ∙ renumbered)
+
+-- what is made of the numbers that pass a test, at once or in two steps
+pub made_same : {X : Type 0} (f h : ℕ → X) (k : ℕ → ℕ) (test : ℕ → Bool) (first count : ℕ)
+    → ((p : ℕ) → p < first + count → f p ≡ h (k p))
+    → map f (filter test (range_with_len first count)) ≡ map h (map k (filter test (range_with_len first count)))
+made_same f h k test first zero same = refl
+made_same f h k test first (suc count) same =
+    let rest = made_same f h k test (first + 1) count (λ p less. same p (omega arith)) in
+    elim (cases_Bool (test first)) [
+      | inl on ↦ rw on
+          (ap (λ x. x ∷ map f (filter test (range_with_len (first + 1) count))) (same first (omega arith))
+          ∙ ap (λ xs. h (k first) ∷ xs) rest)
+      | inr off ↦ rw off rest
+    ]

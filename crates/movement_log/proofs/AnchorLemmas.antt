@@ -1,5 +1,5 @@
 -- Anchors of rows in order: a row is its block's anchor where the row before it is of another block.
-use Rattle.std.proofs.Common.{◌≡◌, ℕ, ℤ, suc, ◌+◌, ◌≤◌, ◌<◌, Bool, true, false, List, [], ◌∷◌, eq-eqb, get_or, length, refl, sym, ap, arith, inl, inr}
+use Rattle.std.proofs.Common.{◌≡◌, ℕ, ℤ, ◌+◌, ◌≤◌, ◌<◌, Bool, true, false, List, eq-eqb, length, refl, sym, ap, arith, inl, inr}
 use Rattle.std.specs.Prelude.{◌==◌, ◌&&◌, not, ◌<ℤ◌, ◌≤ℤ◌}
 use Rattle.std.specs.Int.Signed.{lt_z}
 use Rattle.std.specs.List.{list_any}
@@ -8,18 +8,12 @@ use Rattle.std.proofs.lemmas.Bool.{and_parts, cases_Bool, cases_lt}
 use Rattle.std.proofs.lemmas.Int.{ints}
 use Rattle.std.proofs.lemmas.List.Folds.{list_any_at}
 use Rattle.list_laws.proofs.NumberLemmas.{div-le}
+use Rattle.list_laws.proofs.PlaceLemmas.{list_any-none_at}
 use Rattle.track_types.specs.Quantities.{elapsed, is_anchor, is_same_block, period_of}
 use Rattle.track_types.specs.Row.{IsAscending}
 use Rattle.track_types.specs.declared.row.Row.{Row}
 use Rattle.movement_log.specs.Blocks.{no_row, row_at}
 use Rattle.movement_log.proofs.RowLemmas.{instant_rises, object_rises}
-
--- a test that no place passes
-none_passes : {X : Type 0} (p : X → Bool) (d : X) (xs : List X) → ((k : ℕ) → k < length xs → p (get_or xs k d) ≡ false) →
-    list_any p xs ≡ false
-none_passes p d [] fails = refl
-none_passes p d (x ∷ xs) fails =
-    rw (fails 0 (omega arith), none_passes p d xs (λ k below. fails (suc k) (omega arith))) refl
 
 module _ (first : ℤ) (period : ℕ) where
   pub same_parts : (a b : Row) → is_same_block first period a b ≡ true →
@@ -61,7 +55,7 @@ module _ (first : ℤ) (period : ℕ) where
     is_anchor-first some =
         let row = row_at rows 0 in
         let none : list_any (is_before row) rows ≡ false =
-        none_passes (is_before row) no_row rows
+        list_any-none_at (is_before row) no_row rows
         (λ k within. not_before row (row_at rows k) (λ same. elim (cases_lt 0 k) [
           | inl later ↦
               let objects = (same_parts (row_at rows k) row same).0 in
@@ -86,7 +80,7 @@ module _ (first : ℤ) (period : ℕ) where
               rw same (ap not any)
           | inr differ ↦
               let none : list_any (is_before row) rows ≡ false =
-              none_passes (is_before row) no_row rows
+              list_any-none_at (is_before row) no_row rows
               (λ k within. not_before row (row_at rows k) (λ same. late i below some begins differ k within same)) in
               rw differ (ap not none)
         ]

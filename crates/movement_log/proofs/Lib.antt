@@ -5,7 +5,5 @@ pub mod LogLemmas
 pub mod ObjectLemmas
 pub mod AnchorLemmas
 pub mod BlockLemmas
-pub mod KeyLemmas
-pub mod KeyOrderLemmas
 pub mod PeriodLemmas
 pub mod CutLemmas

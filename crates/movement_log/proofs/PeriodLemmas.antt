@@ -8,6 +8,7 @@ use Rattle.std.proofs.Math.Nat.{div-lt_iff_lt-mul}
 use Rattle.std.proofs.lemmas.Grind.{div_ceil_times}
 use Rattle.std.proofs.lemmas.List.Elements.{All-filter}
 use Rattle.std.proofs.lemmas.List.Sorted.{All-permutation}
+use Rattle.list_laws.proofs.KeyRangeLemmas.{by_key, by_key-sorted, by_key-stable, map-by_key, sum_by-by_key}
 use Rattle.track_types.proofs.QuantityLemmas.{elapsed-span}
 use Rattle.track_types.specs.Chart.{ChartView}
 use Rattle.track_types.specs.Quantities.{anchors_of, elapsed, first_of, is_anchor, period_count, period_of, span_of}
@@ -15,7 +16,6 @@ use Rattle.track_types.specs.declared.row.Row.{Row}
 use Rattle.movement_log.specs.Blocks.{AreBlocks, IsBlockIn, anchor_in, anchors_by_object, no_row}
 use Rattle.movement_log.specs.Logs.{block_anchors}
 use Rattle.movement_log.specs.declared.blocks.Block.{Block}
-use Rattle.movement_log.proofs.KeyLemmas.{by_key, by_key-sorted, by_key-stable, map-by_key, sum_by-by_key}
 
 -- a number below another is in a period of those that this takes
 period_below : (before span period : ℕ) → 0 < period → before < span → before / period < div_ceil span period

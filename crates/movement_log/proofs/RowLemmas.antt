@@ -1,43 +1,17 @@
 -- Rows in order, by their places: what an object's cell and value are at an instant near one of its rows.
-use Rattle.std.proofs.Common.{◌≡◌, ◌≢◌, ℕ, zero, suc, ◌+◌, ◌-◌, ◌<◌, ◌≤◌, Bool, true, false, List, [], ◌∷◌, length, get_or, Some, None, arith, refl, sym, ◌∙◌, ap, inl, inr}
-use Rattle.std.specs.Prelude.{ℤ, ◌<ℤ◌, ◌≤ℤ◌, find, reverse}
+use Rattle.std.proofs.Common.{◌≡◌, ◌≢◌, ℕ, ◌+◌, ◌-◌, ◌<◌, ◌≤◌, true, false, List, length, Some, None, arith, refl, sym, ap, inl, inr}
+use Rattle.std.specs.Prelude.{ℤ, ◌<ℤ◌, ◌≤ℤ◌, find}
 use Rattle.std.specs.declared.cmp.Ordering.TheVariants.{Less}
 use Rattle.std.proofs.lemmas.Bool.{cases_lt}
 use Rattle.std.proofs.lemmas.Bool.Decides.{nat_tests}
 use Rattle.std.proofs.lemmas.Int.{ints}
-use Rattle.std.proofs.lemmas.List.{get_or-reverse, length-reverse}
 use Rattle.std.proofs.lemmas.Map.Keys.{Less-from_sorted}
+use Rattle.list_laws.proofs.PlaceLemmas.{find_first_at, find_last_at, find_none_at}
 use Rattle.track_types.specs.Row.{IsAscending, is_row_of, row_order}
 use Rattle.track_types.specs.declared.row.Row.{Row}
 use Rattle.track_types.proofs.RowLemmas.{object_le}
 use Rattle.movement_log.specs.Blocks.{no_row, row_at}
 use Rattle.movement_log.specs.Values.{is_earlier, last_before, move_value, value_at}
-
--- a search by places: the first one that passes, or none
-module _ {X : Type 0} (p : X → Bool) (d : X) where
-  pub find_none_at : (xs : List X) → ((k : ℕ) → k < length xs → p (get_or xs k d) ≡ false) → find p xs ≡ None
-  find_none_at [] fails = refl
-  find_none_at (x ∷ xs) fails =
-      rw (fails 0 (omega arith)) (find_none_at xs (λ k below. fails (suc k) (omega arith)))
-
-  pub find_first_at : (xs : List X) (i : ℕ) → i < length xs → p (get_or xs i d) ≡ true →
-      ((k : ℕ) → k < i → p (get_or xs k d) ≡ false) → find p xs ≡ Some (get_or xs i d)
-  find_first_at [] i below passes fails = absurd (omega arith)
-  find_first_at (x ∷ xs) zero below passes fails = rw passes refl
-  find_first_at (x ∷ xs) (suc i) below passes fails =
-      rw (fails 0 (omega arith)) (find_first_at xs i (omega arith) passes (λ k before. fails (suc k) (omega arith)))
-
-  -- the last one that passes
-  pub find_last_at : (xs : List X) (i : ℕ) → i < length xs → p (get_or xs i d) ≡ true →
-      ((k : ℕ) → i < k → k < length xs → p (get_or xs k d) ≡ false) → find p (reverse xs) ≡ Some (get_or xs i d)
-  find_last_at xs i below passes fails =
-      let back : ℕ = length xs - 1 - i in
-      let again : length xs - 1 - back ≡ i = omega arith in
-      let there : get_or (reverse xs) back d ≡ get_or xs i d =
-      get_or-reverse xs back d (omega arith) ∙ ap (λ k. get_or xs k d) again in
-      find_first_at (reverse xs) back (omega (arith, length-reverse xs)) (ap p there ∙ passes)
-      (λ k before. ap p (get_or-reverse xs k d (omega arith)) ∙ fails (length xs - 1 - k) (omega arith) (omega arith))
-      ∙ ap Some there
 
 -- the order of two rows, as an order of their objects and instants
 pub instant_lt : (a b : Row) → row_order a b ≡ Less → a.object ≡ b.object → a.instant <ℤ b.instant

@@ -32,6 +32,7 @@ use Rattle.snapshots.specs.IndexCost.{position_cost, position_cost_in}
 use Rattle.snapshots.specs.Parts.{chart_in, end_in, first_in, period_in, row_of, stops_in}
 use Rattle.snapshots.specs.SoundParts.{IsValid}
 use Rattle.list_laws.proofs.IncreasingLemmas.{increasing-below}
+use Rattle.list_laws.proofs.FrontLemmas.{list_any-front}
 use Rattle.object_track.proofs.InstantLemmas.{rows_at-instant, rows_at-outside, stops_at-few}
 use Rattle.object_track.proofs.MetLemmas.{period_in-some}
 use Rattle.object_track.proofs.StopsLemmas.{All-stops_in, IsStopIn}
@@ -39,7 +40,7 @@ use Rattle.object_track.proofs.TableLemmas.{index_in-own, IsCellWithin-asked}
 use Rattle.nearest_search.specs.Cost.{nearest_cost}
 use Rattle.nearest_search.specs.Found.{AreFound, near_in, near_with, nears_in}
 use Rattle.nearest_search.specs.Kept.{ClosestView}
-use Rattle.nearest_search.proofs.KeptLemmas.{list_any-front, near_order_total}
+use Rattle.nearest_search.proofs.KeptLemmas.{near_order_total}
 
 -- an object by its number, its cell and its distance
 abbrev pub near_by : ℕ → Cell → ℕ → Near

@@ -1,5 +1,5 @@
 -- The kept entries in order: a new one is put in its place, and the last one gives way.
-use Rattle.std.proofs.Common.{◌≡◌, ℕ, zero, suc, ◌+◌, ◌≤◌, ◌<◌, Bool, true, false, List, [], ◌∷◌, ◌++◌, length, map, take, Ordering, Option, None, Some, ◌-◌}
+use Rattle.std.proofs.Common.{◌≡◌, ℕ, zero, suc, ◌+◌, ◌≤◌, ◌<◌, true, false, List, [], ◌∷◌, ◌++◌, length, map, take, Ordering, Option, None, Some, ◌-◌}
 use Rattle.std.proofs.Common.{refl, sym, ◌∙◌, ap, arith}
 use Rattle.std.specs.Prelude.{slice_get, IfSome, IsSome}
 use Rattle.std.specs.BTreeMap.{insert_entry}
@@ -9,14 +9,15 @@ use Rattle.std.specs.Ordering.{eq_by_cmp, is_eq, is_lt, nat_cmp, ordering_revers
 use Rattle.std.specs.declared.cmp.Ordering.TheVariants.{Less, Equal, Greater}
 use Rattle.std.proofs.lemmas.Bool.{or_parts}
 use Rattle.std.proofs.lemmas.Cmp.{nat_cmp_total, on_total, then_total}
-use Rattle.std.proofs.lemmas.Option.{get_or_from_slice_get, slice_get_within}
-use Rattle.std.proofs.lemmas.List.{get_or_push, length-append, length-map, map-append, nil_from_length, take_all, take_at}
-use Rattle.std.proofs.lemmas.List.Folds.{list_any-append}
+use Rattle.std.proofs.lemmas.Option.{slice_get_within}
+use Rattle.std.proofs.lemmas.List.{length-append, length-map, map-append, nil_from_length, take_all, take_at}
 use Rattle.std.proofs.lemmas.List.MinMax.{ranks_by}
 use Rattle.std.proofs.lemmas.List.Sorted.{length_permutation}
 use Rattle.list_laws.specs.Ordered.{placed}
 use Rattle.list_laws.proofs.LeastLemmas.{one_before, placed-after, placed-before}
 use Rattle.list_laws.proofs.OrderedLemmas.{IsPermutation-placed}
+use Rattle.list_laws.proofs.FrontLemmas.{list_any-front}
+use Rattle.list_laws.proofs.SliceLemmas.{slice_get-last}
 use Rattle.track_types.specs.ByFilter.{near_order}
 use Rattle.track_types.specs.declared.cell.Cell.{Cell}
 use Rattle.track_types.specs.declared.near.Near.{Near}
@@ -65,10 +66,6 @@ pub length-placed : (near : Near) (nears : List Near) → length (placed near_or
 length-placed near nears =
     length_permutation (near ∷ nears) (placed near_order near nears) (IsPermutation-placed near_order near nears)
     ∙ omega arith
-
--- none of the first ones passes where none of all passes
-pub list_any-front : {X : Type 0} (p : X → Bool) (xs ys : List X) → list_any p (xs ++ ys) ≡ false → list_any p xs ≡ false
-list_any-front p xs ys none = (or_parts (list_any p xs) (list_any p ys) (sym (list_any-append p xs ys) ∙ none)).0
 
 module _ (wanted : ℕ) (near : Near) (entries : List ((ℕ × ℕ) × Cell)) where
   rank : ℕ × ℕ
@@ -139,13 +136,6 @@ pub absurd-none : {X P : Type 0} (o : Option X) → o ≡ None → IsSome o → 
 absurd-none None is some = absurd (cc)
 absurd-none (Some x) is some = absurd (cc)
 
--- a last entry is the one at the last place
-last-is : {X : Type 0} (xs : List X) (x y : X) → slice_get (xs ++ x ∷ []) (length (xs ++ x ∷ []) - 1) ≡ Some y → x ≡ y
-last-is xs x y is =
-    let place : length xs ≡ length (xs ++ x ∷ []) - 1 = omega (arith, length-append xs (x ∷ [])) in
-    sym (get_or_push xs x x (length (xs ++ x ∷ []) - 1) place)
-    ∙ get_or_from_slice_get (xs ++ x ∷ []) (length (xs ++ x ∷ []) - 1) y x is
-
 -- the last entry was taken off
 pub kept-popped : (wanted : ℕ) (near : Near) (entries : List ((ℕ × ℕ) × Cell)) → wanted ≤ length entries
     → length entries ≤ wanted → (others : List ((ℕ × ℕ) × Cell)) (popped : Option ((ℕ × ℕ) × Cell)) (rank : ℕ × ℕ) (cell : Cell)
@@ -160,7 +150,7 @@ kept-popped wanted near entries full few others None rank cell removed some at b
     let none : Option ((ℕ × ℕ) × Cell) = None in
     absurd-none none refl (some (omega (arith, within)))
 kept-popped wanted near entries full few others (Some last) rank cell removed some at before apart =
-    let same : last ≡ (rank, cell) = last-is others last (rank, cell)
+    let same : last ≡ (rank, cell) = slice_get-last others last (rank, cell)
     (ap (λ (es : List ((ℕ × ℕ) × Cell)). slice_get es (length es - 1)) (sym removed) ∙ at) in
     kept-instead wanted near entries full few others last removed
     (ap (λ (e : (ℕ × ℕ) × Cell). is_lt (rank_order (near.dist2, near.object) e.0)) same ∙ before) apart

@@ -1,10 +1,10 @@
 -- Number words, one after another.
-use Rattle.std.proofs.Common.{◌≡◌, ℕ, zero, suc, ◌+◌, ◌-◌, ◌<◌, List, [], ◌∷◌, ◌++◌, length, take, drop, get_or, refl, ap, ◌∙◌, arith, subst}
-use Rattle.std.proofs.Common.{ℤ, pos, to_z, of_z, w64, slice_get, Some, None, Ok, drop-cons, inl, inr, add-one, length-append, append_assoc}
+use Rattle.std.proofs.Common.{◌≡◌, ℕ, suc, ◌+◌, ◌-◌, ◌<◌, List, [], ◌∷◌, ◌++◌, length, take, drop, get_or, refl, ap, ◌∙◌, arith, subst}
+use Rattle.std.proofs.Common.{ℤ, pos, to_z, of_z, w64, Some, None, Ok, drop-cons, inl, inr, add-one, length-append, append_assoc}
 use Rattle.std.proofs.lemmas.Bool.{cases_lt}
 use Rattle.std.proofs.lemmas.Int.{ints, to_z-of_z}
 use Rattle.std.proofs.lemmas.List.{get_or_at, get_or_append_left, get_or-append-add, get_or-drop, length-drop}
-use Rattle.std.proofs.Math.Seq.{take-length}
+use Rattle.list_laws.proofs.SliceLemmas.{take-rest}
 use Rattle.track_types.specs.Bounds.{number_within, value_within}
 use Rattle.track_types.specs.Numeral.{numeral_of}
 use Rattle.track_types.specs.declared.numeral.Numeral.{Numeral}
@@ -15,17 +15,6 @@ use Rattle.question_shell.specs.Grammar.{value_of, word_fault}
 use Rattle.question_shell.specs.declared.bad.Bad.{Bad}
 use Rattle.question_shell.specs.declared.form.FormWord.{FormWord}
 use Rattle.question_shell.specs.declared.form.FormWord.TheVariants.{Shape}
-
--- a word's place in a list is where dropping those before it leaves it first
-pub slice_get-drop : {A : Type 0} (xs : List A) (k : ℕ) → slice_get xs k ≡ slice_get (drop k xs) 0
-slice_get-drop [] zero = refl
-slice_get-drop [] (suc k) = refl
-slice_get-drop (x ∷ xs) zero = refl
-slice_get-drop (x ∷ xs) (suc k) = slice_get-drop xs k
-
--- all of what is left
-pub take-rest : {A : Type 0} (n : ℕ) (xs : List A) → take (length xs - n) (drop n xs) ≡ drop n xs
-take-rest n xs = rw (← length-drop n xs) (take-length (drop n xs))
 
 -- numbers after others are in the ranges of the words after others
 pub ranges-behind : (front wanted : List FormWord) (n : ℕ) (numbers : List ℤ) → length front ≡ n →

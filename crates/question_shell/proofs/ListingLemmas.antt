@@ -1,6 +1,6 @@
 -- Saying the lines of a list, one after another.
 use Rattle.std.proofs.Common.{◌≡◌, ℕ, List, [], ◌∷◌, ◌++◌, length, refl, sym, ap, ◌∙◌, append_assoc, append-nil, Option, subst}
-use Rattle.std.proofs.Common.{Result, Ok, Err, IfOk, suc, ◌+◌, ◌-◌, ◌<◌, arith, take}
+use Rattle.std.proofs.Common.{Result, Ok, Err, IfOk, ◌+◌, ◌-◌}
 use Rattle.std.specs.List.{flat_map}
 use Rattle.question_shell.specs.Reply.{listed, ok_line}
 use Rattle.question_shell.specs.Says.{Cuts, Says, Voice}
@@ -39,13 +39,6 @@ module _ {A : Type 0} (line : A → List ℕ) (all left rest : List A) (item : A
         (cuts-more before now ((listing.done ++ text) ++ flat_map line rest) (ok_line (length all))
         (cuts-more before now (listing.done ++ text) (flat_map line rest)
         (cuts-append before between now listing.done text listing.says cuts)))
-
--- of a list of which so many items are told, one more
-pub take-next : {A : Type 0} (count i : ℕ) (item : A) (left rest : List A) → i < count → left ≡ item ∷ rest →
-    take (count - i) left ≡ item ∷ take (count - (i + 1)) rest
-take-next count i item left rest below cut =
-    let more : count - i ≡ suc (count - (i + 1)) = omega (arith, below) in
-    rw (more, cut) refl
 
 -- where no item is left, all lines were said
 pub says-listing : {A : Type 0} (line : A → List ℕ) (all left : List A) (before now : Voice) →

@@ -7,6 +7,7 @@ use Rattle.std.specs.Cmp.{both_ways}
 use Rattle.std.proofs.lemmas.Bool.{and_from, and_parts, eq-eqb, eqb-true}
 use Rattle.std.proofs.lemmas.List.{map-id}
 use Rattle.std.proofs.lemmas.Option.{get_or_from_slice_get, slice_get-get_or, slice_get_within}
+use Rattle.list_laws.proofs.RangeLemmas.{made_same}
 use Rattle.bit_rank.specs.Bits.{IsSelected, select_of}
 use Rattle.bit_rank.proofs.RankLemmas.{lt-from_rank_of, IsSelected-select_of}
 use Rattle.bit_rank.proofs.RankLemmas.{select_of-from_IsSelected}
@@ -21,7 +22,7 @@ use Rattle.snapshots.specs.View.{place_in, places_from, present_block, rank_in}
 use Rattle.snapshots.specs.Objects.{blocks_of, objects_of}
 use Rattle.snapshots.specs.Sound.{IsSnapshot}
 use Rattle.snapshots.proofs.BlockLemmas.{block_found, rank_within}
-use Rattle.snapshots.proofs.ChosenLemmas.{in-from_made, made_same, IsMade-from_in, Rises-made}
+use Rattle.snapshots.proofs.ChosenLemmas.{in-from_made, IsMade-from_in, Rises-made}
 
 -- the object at a place in leaf order
 abbrev pub index_at : SnapshotView → ℕ → ℕ

@@ -1,25 +1,11 @@
 -- Numbers of a range that pass a test, and what is made of each.
-use Rattle.std.proofs.Common.{◌≡◌, ℕ, zero, suc, ◌+◌, ◌<◌, ◌≤◌, Bool, true, false, ◌∷◌, map, filter, refl, sym}
+use Rattle.std.proofs.Common.{◌≡◌, ℕ, zero, suc, ◌+◌, ◌<◌, ◌≤◌, Bool, true, false, map, filter, refl, sym}
 use Rattle.std.proofs.Common.{ap, ◌∙◌, arith, inl, inr}
 use Rattle.std.specs.List.{range_with_len}
 use Rattle.std.specs.Prelude.{◌==◌, ◌||◌}
 use Rattle.std.proofs.lemmas.Bool.{cases_Bool, cases_order, eqb-true, or_cases}
 use Rattle.k2_tree.specs.TreeBits.{is_in, Rises}
 use Rattle.k2_tree.proofs.RisingLemmas.{is_in-first}
-
--- made at once or in two steps
-pub made_same : {X : Type 0} (f h : ℕ → X) (k : ℕ → ℕ) (test : ℕ → Bool) (first count : ℕ)
-    → ((p : ℕ) → p < first + count → f p ≡ h (k p))
-    → map f (filter test (range_with_len first count)) ≡ map h (map k (filter test (range_with_len first count)))
-made_same f h k test first zero same = refl
-made_same f h k test first (suc count) same =
-    let rest = made_same f h k test (first + 1) count (λ p less. same p (omega arith)) in
-    elim (cases_Bool (test first)) [
-      | inl on ↦ rw on
-          (ap (λ x. x ∷ map f (filter test (range_with_len (first + 1) count))) (same first (omega arith))
-          ∙ ap (λ xs. h (k first) ∷ xs) rest)
-      | inr off ↦ rw off rest
-    ]
 
 -- what is made rises where each is greater than the one before
 pub Rises-made : (k : ℕ → ℕ) (test : ℕ → Bool) (first count low : ℕ)

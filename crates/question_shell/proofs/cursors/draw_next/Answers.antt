@@ -1,11 +1,12 @@
 use Rattle.std.proofs.Common.{◌≡◌, ◌+◌, ◌-◌, ◌∷◌, ◌∙◌, ap, sym, refl, arith, drop, length, take, length-take}
 use Rattle.std.proofs.lemmas.List.{drop_all, drop-drop}
 use Rattle.std.proofs.Math.Seq.{take-nil}
+use Rattle.list_laws.proofs.SliceLemmas.{take-next}
 use Rattle.question_shell.specs.Desk.{stops_in}
 use Rattle.question_shell.specs.Reply.{stop_line}
 use Rattle.question_shell.specs.Says.{voice}
 use Rattle.question_shell.proofs.DeskLemmas.{draws-more, draws-nothing}
-use Rattle.question_shell.proofs.ListingLemmas.{cuts-listing, listing-next, listing-start, says-listing, take-next}
+use Rattle.question_shell.proofs.ListingLemmas.{cuts-listing, listing-next, listing-start, says-listing}
 use Rattle.question_shell.proofs.SaysLemmas.{on_err_always}
 use Rattle.question_shell.proofs.cursors.draw_next.Goals as goal
 

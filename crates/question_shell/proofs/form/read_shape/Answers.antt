@@ -1,6 +1,6 @@
 use Rattle.std.proofs.Common.{refl}
+use Rattle.list_laws.proofs.SliceLemmas.{slice_get-drop}
 use Rattle.question_shell.specs.Lines.{words_of}
-use Rattle.question_shell.proofs.GrammarLemmas.{slice_get-drop}
 use Rattle.question_shell.proofs.form.read_shape.Goals as goal
 
 pub returns-in_default-next_word : goal.returns-in_default-next_word

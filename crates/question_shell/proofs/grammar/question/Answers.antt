@@ -1,8 +1,9 @@
 use Rattle.std.proofs.Common.{◌∷◌, [], refl, arith}
+use Rattle.list_laws.proofs.SliceLemmas.{take-rest}
 use Rattle.question_shell.specs.Grammar.{AreInRange, form_words, place_word, region_words}
 use Rattle.question_shell.specs.declared.form.Form.TheVariants.{Interval, Slice}
 use Rattle.question_shell.specs.declared.form.FormWord.TheVariants.{Shape}
-use Rattle.question_shell.proofs.GrammarLemmas.{place_kept, ranges-behind, take-rest}
+use Rattle.question_shell.proofs.GrammarLemmas.{place_kept, ranges-behind}
 use Rattle.question_shell.proofs.grammar.question.Goals as goal
 
 pub region-requires : goal.region-requires
