@@ -1,5 +1,5 @@
 -- The rows of records that come after others, one record after another.
-use Rattle.std.proofs.Common.{◌≡◌, ℕ, ◌+◌, ◌<◌, ◌≤◌, List, [], ◌∷◌, ◌++◌, length, All, slice_get, true, false, Some, None, Bor, refl, sym, ap, ◌∙◌, arith, append_assoc, length-append}
+use Rattle.std.proofs.Common.{◌≡◌, ℕ, ◌+◌, ◌<◌, ◌≤◌, List, [], ◌∷◌, ◌++◌, length, All, slice_get, true, false, Option, Some, None, refl, sym, ap, ◌∙◌, arith, append_assoc, length-append}
 use Rattle.std.proofs.lemmas.List.{append-nil, length-map}
 use Rattle.std.proofs.lemmas.List.Elements.{All-append, All-cons, All-nil}
 use Rattle.csv.specs.Reading.{default_config, reader_state, records_from}
@@ -70,13 +70,14 @@ AreRowsAfter-row before seen fields nth given more row is sound below same in_ra
     }
 
 -- a record that is refused
-pub IsFaultOf-refusal : (bytes text : List ℕ) (before seen : List Fields) (fields : Fields) (nth given : ℕ)
-    (fault : RowsFault) (more : List RawRow) (reader : Reader (Bor (List ℕ)))
+pub IsFaultOf-refusal : {R : Type 0} (remaining : R → Option (List ℕ)) (bytes text : List ℕ)
+    (before seen : List Fields) (fields : Fields) (nth given : ℕ)
+    (fault : RowsFault) (more : List RawRow) (reader : Reader R)
     → is_data nth fields ≡ true → refusal_of given nth fields ≡ Some fault
     → AreRowsAfter before seen (record { next = nth; given = given }) more
-    → HasRead text (seen ++ (fields ∷ [])) reader
+    → HasRead remaining text (seen ++ (fields ∷ [])) reader
     → records_of bytes ≡ before ++ records_of text → IsFaultOf bytes fault
-IsFaultOf-refusal bytes text before seen fields nth given fault more reader is refused are has whole =
+IsFaultOf-refusal remaining bytes text before seen fields nth given fault more reader is refused are has whole =
     let all = before ++ seen in
     let past = are.past in
     let behind = has.behind in

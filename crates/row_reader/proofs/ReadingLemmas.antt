@@ -1,8 +1,8 @@
 -- How the records of a text come one after another.
-use Rattle.std.proofs.Common.{◌≡◌, ◌⊎◌, inl, inr, ℕ, zero, suc, ◌+◌, ◌<◌, ◌≤◌, Bool, true, false, if◌then◌else◌, List, [], ◌∷◌, ◌++◌, length, Option, Some, None, Result, Ok, Err, IfOk, IsSome, OnOk, MatchResult, IsErrAnd, Bor, refl, sym, ap, ◌∙◌, arith, append_assoc, length-append}
+use Rattle.std.proofs.Common.{◌≡◌, ◌⊎◌, inl, inr, ℕ, zero, suc, ◌+◌, ◌<◌, ◌≤◌, Bool, true, false, if◌then◌else◌, List, [], ◌∷◌, ◌++◌, length, Option, Some, None, IsSome, refl, sym, ap, ◌∙◌, arith, append_assoc, length-append}
 use Rattle.std.proofs.lemmas.List.{append-nil}
 use Rattle.csv.specs.Machine.{Read, ends_at_end, field_after, fields_after, is_end, next_record, step}
-use Rattle.csv.specs.Reading.{ChangesHeaders, NextIs, ReadRecord, ReadsNext, Ready, default_config, is_bom, names_headers, pending_of, reader_config, reader_headers, reader_state, reader_trim, records_from, source_of, strip_bom, took_first}
+use Rattle.csv.specs.Reading.{ChangesHeaders, NextIs, ReadRecord, ReadsNext, default_config, is_bom, names_headers, pending_of, reader_config, reader_headers, reader_state, reader_trim, records_from, source_of, strip_bom, took_first}
 use Rattle.csv.specs.declared.parser.Action.{Action}
 use Rattle.csv.specs.declared.parser.Action.TheVariants as act
 use Rattle.csv.specs.declared.parser.Config.{Config}
@@ -162,12 +162,13 @@ reads-none state text None fields state' reads = absurd reads
 reads-none state text (Some text') fields state' reads = next-none _ fields state' text' reads
 
 -- a reader that found a record
-has_read-some : (bytes : List ℕ) (seen : List Fields) (old new : Reader (Bor (List ℕ))) (fields : Fields)
-    → HasRead bytes seen old → took_first new ≡ true → ReadRecord (λ s. Some s.now) old new true fields
-    → HasRead bytes (seen ++ (fields ∷ [])) new × (length fields ≤ length bytes + 1)
-has_read-some bytes seen old new fields has took reads =
+has_read-some : {R : Type 0} (remaining : R → Option (List ℕ))
+    (bytes : List ℕ) (seen : List Fields) (old new : Reader R) (fields : Fields)
+    → HasRead remaining bytes seen old → took_first new ≡ true → ReadRecord remaining old new true fields
+    → HasRead remaining bytes (seen ++ (fields ∷ [])) new × (length fields ≤ length bytes + 1)
+has_read-some remaining bytes seen old new fields has took reads =
     let next = rw (has.plain, has.source) at reads.0 in
-    let found = reads-some old.state has.text (pending_of (Some new.rdr.now) new) fields new.state next in
+    let found = reads-some old.state has.text (pending_of (remaining new.rdr) new) fields new.state next in
     let more = behind-some bytes seen old.state has.text (fields, new.state, found.0) has.behind found.2 in (
       record {
         text = found.0;
@@ -181,26 +182,20 @@ has_read-some bytes seen old new fields has took reads =
     )
 
 -- a reader that found none
-has_read-end : (bytes : List ℕ) (seen : List Fields) (old new : Reader (Bor (List ℕ))) (fields : Fields)
-    → HasRead bytes seen old → ReadRecord (λ s. Some s.now) old new false fields → records_of bytes ≡ seen
-has_read-end bytes seen old new fields has reads =
+has_read-end : {R : Type 0} (remaining : R → Option (List ℕ))
+    (bytes : List ℕ) (seen : List Fields) (old new : Reader R) (fields : Fields)
+    → HasRead remaining bytes seen old → ReadRecord remaining old new false fields → records_of bytes ≡ seen
+has_read-end remaining bytes seen old new fields has reads =
     let next = rw (has.plain, has.source) at reads.0 in
-    let none = reads-none old.state has.text (pending_of (Some new.rdr.now) new) fields new.state next in
+    let none = reads-none old.state has.text (pending_of (remaining new.rdr) new) fields new.state next in
     behind-none bytes seen old.state has.text has.behind none
 
--- what is answered to a read
-pub ShowsNext-read : {E F : Type 0} (bytes : List ℕ) (seen : List Fields) (old new : Reader (Bor (List ℕ)))
-    (fields : Fields) (read : Result Bool E) (result : Result Bool F) (Q : E → F → Type 0)
-    → HasRead bytes seen old → (reader_trim old ≡ trim.None → OnOk read (took_first new ≡ true))
-    → IfOk read (λ found. reader_trim old ≡ trim.None → Ready old → ReadRecord (λ s. Some s.now) old new found fields)
-    → MatchResult read (λ found. result ≡ Ok found) (λ e. IsErrAnd result (Q e))
-    → IfOk result (ShowsNext bytes seen fields new)
-ShowsNext-read bytes seen old new fields (Ok true) result Q has took reads same =
-    rw same (has_read-some bytes seen old new fields has (took has.untrimmed) (reads has.untrimmed has.ready))
-ShowsNext-read bytes seen old new fields (Ok false) result Q has took reads same =
-    rw same (has_read-end bytes seen old new fields has (reads has.untrimmed has.ready))
-ShowsNext-read bytes seen old new fields (Err e) (Ok found) Q has took reads failed = absurd failed
-ShowsNext-read bytes seen old new fields (Err e) (Err fault) Q has took reads failed = tt
+-- what a read shows
+pub ShowsNext-read : {R : Type 0} (remaining : R → Option (List ℕ)) (bytes : List ℕ) (seen : List Fields) (old new : Reader R)
+    (fields : Fields) (found : Bool) → HasRead remaining bytes seen old → took_first new ≡ true
+    → ReadRecord remaining old new found fields → ShowsNext remaining bytes seen fields new found
+ShowsNext-read remaining bytes seen old new fields true has took reads = has_read-some remaining bytes seen old new fields has took reads
+ShowsNext-read remaining bytes seen old new fields false has took reads = has_read-end remaining bytes seen old new fields has reads
 
 -- a text without its front, or the whole, is no longer
 length-either : (test : Bool) (front rest : List ℕ)
@@ -217,12 +212,12 @@ length-strip_bom (a ∷ b ∷ []) = omega arith
 length-strip_bom (a ∷ b ∷ c ∷ rest) = length-either (is_bom a b c) (a ∷ b ∷ c ∷ []) rest
 
 -- a reader at the front of a file, which was given a header row
-pub has_read-none : (bytes : List ℕ) (reader given : Reader (Bor (List ℕ)))
+pub has_read-none : {R : Type 0} (remaining : R → Option (List ℕ)) (bytes : List ℕ) (reader given : Reader R)
     → reader_trim reader ≡ trim.None → names_headers reader ≡ true
     → reader_config reader ≡ default_config → reader_state reader ≡ st.StartRecord
-    → source_of (λ s. Some s.now) reader ≡ Some (strip_bom bytes)
-    → ChangesHeaders reader given → IsSome (reader_headers given) → HasRead bytes [] given
-has_read-none bytes reader given untrimmed names plain start source changes headers = rw changes (record {
+    → source_of remaining reader ≡ Some (strip_bom bytes)
+    → ChangesHeaders reader given → IsSome (reader_headers given) → HasRead remaining bytes [] given
+has_read-none remaining bytes reader given untrimmed names plain start source changes headers = rw changes (record {
   text = strip_bom bytes;
   untrimmed = untrimmed;
   ready = inr (inl (names, headers));

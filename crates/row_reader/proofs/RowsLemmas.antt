@@ -3,6 +3,7 @@ use Rattle.std.proofs.Common.{◌≡◌, ℕ, ◌+◌, List, [], ◌∷◌, ◌+
 use Rattle.std.specs.List.{enumerate_from, filter_map}
 use Rattle.std.proofs.lemmas.List.{append-nil, map-append}
 use Rattle.std.proofs.lemmas.List.Elements.{filter-append, filter_map-append}
+use Rattle.list_laws.proofs.RangeLemmas.{enumerate_from-append}
 use Rattle.row_reader.specs.Row.{Fields, raw_of}
 use Rattle.row_reader.specs.Rows.{IsFaultOf, csv_fault, data_among, is_data, records_of, refusal_of, refusals_of, rows_of}
 use Rattle.row_reader.specs.declared.fault.RowsFault.TheVariants.{Row, Limit, Memory}
@@ -19,16 +20,7 @@ refusal_of_placed placed = refusal_of placed.0 placed.1.0 placed.1.1
 abbrev pub data_from : ℕ → List Fields → List (ℕ × Fields)
 data_from first all = filter is_data_pair (enumerate_from first all)
 
--- items behind others are numbered on
-enumerate_from-append : {X : Type 0} (first : ℕ) (front back : List X)
-    → enumerate_from first (front ++ back) ≡ enumerate_from first front ++ enumerate_from (first + length front) back
-enumerate_from-append first [] back = ap (λ n. enumerate_from n back) (omega arith)
-enumerate_from-append first (item ∷ front) back =
-    let next : first + 1 + length front ≡ first + length (item ∷ front) = omega arith in
-    let renumbered = ap (λ n. enumerate_from (first + 1) front ++ enumerate_from n back) next in
-    ap (λ rest. (first, item) ∷ rest) (enumerate_from-append (first + 1) front back ∙ renumbered)
-
--- a record behind others is data, or it is none
+-- a record after others is data, or it is none
 data_among-append : (seen after : List Fields)
     → data_among (seen ++ after) ≡ data_among seen ++ data_from (1 + length seen) after
 data_among-append seen after =
@@ -48,7 +40,7 @@ data_among-heading seen fields nth number is =
     let here : 1 + length seen ≡ nth = omega arith in
     data_among-append seen (fields ∷ []) ∙ rw (here, is) (append-nil (data_among seen))
 
--- the refusals of data records behind those that have none
+-- the refusals of data records after those that have none
 refusals_of-append : (front back : List (ℕ × Fields)) → refusals_of front ≡ []
     → refusals_of (front ++ back) ≡ filter_map refusal_of_placed (enumerate_from (length front) back)
 refusals_of-append front back none =
@@ -74,7 +66,7 @@ rows_of-row seen fields nth number is =
     ap rows_of (data_among-data seen fields [] nth number is)
     ∙ map-append (λ numbered. raw_of numbered.1) (data_among seen) ((nth, fields) ∷ [])
 
--- a record that is refused behind rows
+-- a record that is refused after rows
 pub csv_fault-refusal : (bytes : List ℕ) (seen : List Fields) (fields : Fields) (after : List Fields)
     (nth : ℕ) (fault : RowsFault)
     → nth ≡ length seen + 1 → is_data nth fields ≡ true → refusals_of (data_among seen) ≡ []

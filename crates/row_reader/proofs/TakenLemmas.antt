@@ -1,5 +1,5 @@
 -- What a parser has taken, one piece after another.
-use Rattle.std.proofs.Common.{◌≡◌, ℕ, List, [], ◌∷◌, ◌++◌, length, is_ok, OnOk, Result, Ok, Err, if◌then◌else◌, sym, ap, ◌∙◌, arith, append_assoc, length-append}
+use Rattle.std.proofs.Common.{◌≡◌, ℕ, List, [], ◌∷◌, ◌++◌, is_ok, OnOk, Result, Ok, Err, if◌then◌else◌, sym, ap, ◌∙◌, arith, append_assoc, length-append}
 use Rattle.std.proofs.lemmas.List.{append-nil}
 use Rattle.std.proofs.lemmas.List.Elements.{All-append}
 use Rattle.std.proofs.lemmas.Result.{on_ok_weaker}
@@ -9,10 +9,10 @@ use Rattle.row_reader.specs.Pieces.{Adds, AreRowsAfter, HasTaken}
 use Rattle.row_reader.specs.Rows.{records_of}
 use Rattle.row_reader.specs.declared.parser.RowParser.{RowParser}
 use Rattle.row_reader.proofs.PieceLemmas.{closed, cut}
-use Rattle.row_reader.proofs.ProgressLemmas.{few-rows, rows-after}
+use Rattle.row_reader.proofs.ProgressLemmas.{rows-after}
 
--- a piece was put behind what is kept
-pub HasTaken-kept : (bytes piece : List ℕ) (raws : List RawRow) (old new : RowParser)
+-- a piece was put after what is kept
+HasTaken-kept : (bytes piece : List ℕ) (raws : List RawRow) (old new : RowParser)
     → new.rest.items ≡ old.rest.items ++ piece → new.progress ≡ old.progress
     → HasTaken bytes raws old → HasTaken (bytes ++ piece) raws new
 HasTaken-kept bytes piece raws old new rest same has = record {
@@ -25,7 +25,6 @@ HasTaken-kept bytes piece raws old new rest same has = record {
   within = rw (rest, length-append old.rest.items piece, length-append bytes piece) (omega (arith, has.within));
   past = rw same has.past;
   rows = has.rows;
-  few = has.few;
   ranges = has.ranges;
 }
 
@@ -38,39 +37,42 @@ HasTaken-piece (Ok done) piece old new rest same =
     λ bytes raws has. HasTaken-kept bytes piece raws old new rest same has
 HasTaken-piece (Err e) piece old new rest same = tt
 
--- and where no row is given
+-- and where no row is put after those that were there
 pub HasTaken-piece_alone : {T E : Type 0} (result : Result T E)
-    (piece : List ℕ) (rows : List RawRow) (old new : RowParser)
-    → new.rest.items ≡ (if is_ok result then old.rest.items ++ piece else old.rest.items)
+    (piece : List ℕ) (rows rows' : List RawRow) (old new : RowParser)
+    → rows' ≡ rows → new.rest.items ≡ (if is_ok result then old.rest.items ++ piece else old.rest.items)
     → new.progress ≡ old.progress
     → OnOk result ((bytes : List ℕ) (raws : List RawRow) → HasTaken bytes raws old
-    → Adds rows rows (λ more. HasTaken (bytes ++ piece) (raws ++ more) new))
-HasTaken-piece_alone result piece rows old new rest same =
+    → Adds rows rows' (λ more. HasTaken (bytes ++ piece) (raws ++ more) new))
+HasTaken-piece_alone result piece rows rows' old new none rest same =
     on_ok_weaker result (λ kept bytes raws has. record {
       more = [];
-      added = sym (append-nil rows);
+      added = none ∙ sym (append-nil rows);
       promise = rw (append-nil raws) (kept bytes raws has);
     }) (HasTaken-piece result piece old new rest same)
 
--- what is kept, which ends with a line feed, was read, and the line feed stays
-pub HasTaken-lines : (bytes front : List ℕ) (raws more : List RawRow) (old new : RowParser)
-    (has : HasTaken bytes raws old) → old.rest.items ≡ front ++ (10 ∷ []) → new.rest.items ≡ 10 ∷ []
-    → AreRowsAfter has.records (records_of old.rest.items) new.progress more → HasTaken bytes (raws ++ more) new
-HasTaken-lines bytes front raws more old new has ends rest are =
-    let text = old.rest.items in
-    let read = records_of text in
-    let rows = rows-after has.records read raws more new.progress has.rows are in
-    let shut = rw ends at (closed has.records read are.past.accepted) in
+-- what is kept was read, and the lines after it, and a line feed stays
+pub HasTaken-lines : (bytes lines front : List ℕ) (raws more : List RawRow) (old new : RowParser)
+    (has : HasTaken bytes raws old) → lines ≡ front ++ (10 ∷ []) → new.rest.items ≡ 10 ∷ []
+    → AreRowsAfter has.records (records_of (old.rest.items ++ lines)) new.progress more
+    → HasTaken (bytes ++ lines) (raws ++ more) new
+HasTaken-lines bytes lines front raws more old new has ends rest are =
+    let kept = old.rest.items in
+    let read = records_of (kept ++ lines) in
+    let text : kept ++ lines ≡ (kept ++ front) ++ (10 ∷ []) =
+    ap (λ last. kept ++ last) ends ∙ sym (append_assoc kept front (10 ∷ [])) in
+    let shut = rw text at (closed has.records read are.past.accepted) in
     record {
       records = has.records ++ read;
       whole = λ others.
-          has.whole others
-          ∙ ap (λ records. has.records ++ records) (rw (ends, rest) (cut front others shut))
+          ap records_of (append_assoc bytes lines others)
+          ∙ has.whole (lines ++ others)
+          ∙ ap (λ all. has.records ++ records_of all) (sym (append_assoc kept lines others))
+          ∙ ap (λ records. has.records ++ records) (rw (text, rest) (cut (kept ++ front) others shut))
           ∙ sym (append_assoc has.records read (records_of (new.rest.items ++ others)));
-      within = rw rest (let long = has.within in omega (arith, ap length ends, length-append front (10 ∷ []), long));
+      within = rw (rest, ends, length-append bytes (front ++ (10 ∷ [])), length-append front (10 ∷ [])) (omega arith);
       past = are.past;
-      rows = rows;
-      few = few-rows (has.records ++ read) (raws ++ more) new.progress rows are.past;
+      rows = rows-after has.records read raws more new.progress has.rows are;
       ranges = All-append IsRawInRange raws more has.ranges are.ranges;
     }
 

@@ -28,15 +28,18 @@ pub record AreRowsAfter (before records : List Fields) (progress : Progress) (mo
   pub rows : rows_of (data_among (before ++ records)) ≡ rows_of (data_among before) ++ more
   pub ranges : All IsRawInRange more
 
+-- how many bytes a parser keeps, of which no row was given yet
+abbrev pub kept_length : RowParser → ℕ
+kept_length parser = length parser.rest.items
+
 -- a parser has taken these bytes and given these rows: however the file goes on, its first records are those whose rows
 -- were given, none of them is refused, and the others are those of what the parser keeps with what follows
 pub record HasTaken (bytes : List ℕ) (raws : List RawRow) (parser : RowParser) : Type 0 where
   pub records : List Fields
   pub whole : (more : List ℕ) → records_of (bytes ++ more) ≡ records ++ records_of (parser.rest.items ++ more)
-  pub within : length parser.rest.items ≤ length bytes
+  pub within : kept_length parser ≤ length bytes
   pub past : IsPast records parser.progress
   pub rows : raws ≡ rows_of (data_among records)
-  pub few : length raws ≤ limit_of Rows
   pub ranges : All IsRawInRange raws
 
 -- these are all rows of a file that is accepted

@@ -11,7 +11,7 @@ use Rattle.row_reader.specs.Row.{Fields, raw_of, record_fault}
 use Rattle.row_reader.specs.declared.fault.RowsFault.{RowsFault}
 use Rattle.row_reader.specs.declared.fault.RowsFault.TheVariants.{Row, Limit, Memory}
 
--- the records of a file behind one byte order mark, each a list of fields
+-- the records of a file after one byte order mark, each a list of fields
 abbrev pub records_of : List ℕ → List Fields
 records_of bytes = records default_config (strip_bom bytes)
 

@@ -2,7 +2,7 @@
 //!
 //! `read_rows` reads a whole file, and a `RowParser` one that comes piece by piece, without keeping
 //! it. Both are exact: what they answer is what the file's records say, and only want of memory is
-//! free. The crate stands on csv, memchr and track_types.
+//! free. The crate stands on csv, memchr, track_types and list_laws.
 #![tactic(auto)]
 
 mod fault;

@@ -1,20 +1,27 @@
 ghost use Rattle.std.specs.Prelude.{◌≡◌, ◌+◌, ◌≤◌, ℕ, List, [], ◌∷◌, ◌++◌, length, IfErr, OnOk};
 ghost use Rattle.track_types.specs.Limits.{limit_of};
 ghost use Rattle.track_types.specs.declared.raw_row.RawRow.{RawRow};
-ghost use Rattle.row_reader.specs.Pieces.{Adds, AreRowsOf, HasTaken};
+ghost use Rattle.row_reader.specs.Pieces.{Adds, AreRowsOf, HasTaken, kept_length};
 ghost use Rattle.row_reader.specs.Rows.{IsFaultOf};
 
 use crate::fault::RowsFault;
 use crate::reading::{Progress, read_on};
 use memchr::memrchr;
 use std::alloc::{AllocError, Global};
+use std::io::Read;
 use track_types::{LimitKind, RawRow};
+
+/// How many bytes have to be there, kept and in a piece, for lines to be read. Each reading makes a
+/// reader of csv, whose tables cost 10 to 20 µs, and a pipe that gives line by line would pay that
+/// for each line.
+const LEAST: usize = 0x8000;
 
 /// Reads the rows of a CSV file whose bytes come piece by piece, as `read_rows` reads those of a
 /// whole file.
 ///
-/// What it keeps is the line that has not ended. A line feed ends it, and so a file whose lines end
-/// with CR alone is kept whole. From a refused line on all is kept up to `finish`.
+/// What it keeps is the line that has not ended, and before it fewer than 32,768 bytes. A line feed
+/// ends a line, and so a file whose lines end with CR alone is kept whole. From the text on that has
+/// a refused record, all is kept up to `finish`.
 #[derive(Drop)]
 pub struct RowParser {
     // Bytes of which no record was given yet.
@@ -22,6 +29,8 @@ pub struct RowParser {
     progress: Progress,
     // Whether a record was refused, so that `rest` is read when all of the file is there.
     is_waiting: bool,
+    // How many bytes have to be there, kept and in a piece, for lines to be read.
+    least: usize,
 }
 
 impl RowParser {
@@ -29,51 +38,61 @@ impl RowParser {
     pub fn new(alloc: Global) -> Self
         ensures { HasTaken [] [] result }
     {
+        RowParser::with_least(alloc, LEAST)
+    }
+
+    // One that reads lines where so many bytes are there.
+    pub(crate) fn with_least(alloc: Global, least: usize) -> Self
+        ensures { HasTaken [] [] result }
+    {
         RowParser {
             rest: Vec::new(alloc),
             progress: Progress::start(),
             is_waiting: false,
+            least,
         }
     }
 
     /// How many bytes are kept, of which no row was given yet.
-    pub fn kept(&self) -> usize
-        ensures { result ≡ length self.now.rest.items }
+    pub fn kept_length(&self) -> usize
+        ensures { result ≡ kept_length self.now }
     {
         self.rest.len()
     }
 
-    /// Takes the next piece of the file, and puts rows that are complete after those of `rows`. No
-    /// refusal is told before `finish`. After an `Err` the parser is of no more use.
+    /// Takes the next piece of the file, and puts the rows that it then reads after those of `rows`.
+    /// Small pieces are read together, and no refusal is told before `finish`. After an `Err` the
+    /// parser is of no more use.
     pub fn take(&mut self, piece: &[u8], rows: &mut Vec<RawRow>) -> Result<(), AllocError>
-        requires { length self.now.rest.items + length piece.now ≤ limit_of LimitKind.Csv }
+        requires { kept_length self.now + length piece.now ≤ limit_of LimitKind.Csv }
         ensures { OnOk result (
             (bytes : List ℕ) (raws : List RawRow) → HasTaken bytes raws self.old →
             Adds rows.old.items rows.new.items
             (λ more. HasTaken (bytes ++ piece.now) (raws ++ more) self.new)) }
     {
-        if self.is_waiting {
+        if self.is_waiting || self.rest.len() + piece.len() < self.least {
             return self.rest.extend_from_slice(piece);
         }
         let Some(last) = memrchr(b'\n', piece) else {
             return self.rest.extend_from_slice(piece);
         };
         let (lines, others) = piece.split_at(last + 1);
-        self.rest.extend_from_slice(lines)?;
-        self.read_lines(rows)?;
+        self.read_lines(lines, rows)?;
         self.rest.extend_from_slice(others)
     }
 
-    // Reads what is kept, which ends with a line feed.
-    fn read_lines(&mut self, rows: &mut Vec<RawRow>) -> Result<(), AllocError>
-        requires { length self.now.rest.items ≤ limit_of LimitKind.Csv }
+    // Reads what is kept and the lines after it, which end with a line feed.
+    fn read_lines(&mut self, lines: &[u8], rows: &mut Vec<RawRow>) -> Result<(), AllocError>
+        requires { kept_length self.now + length lines.now ≤ limit_of LimitKind.Csv }
         ensures { OnOk result (
             (bytes front : List ℕ) (raws : List RawRow) → HasTaken bytes raws self.old →
-            self.old.rest.items ≡ front ++ (10 ∷ []) →
-            Adds rows.old.items rows.new.items (λ more. HasTaken bytes (raws ++ more) self.new)) }
+            lines.now ≡ front ++ (10 ∷ []) →
+            Adds rows.old.items rows.new.items
+            (λ more. HasTaken (bytes ++ lines.now) (raws ++ more) self.new)) }
     {
         let count = rows.len();
-        match read_on(*self.rest.allocator(), &self.rest, self.progress, rows) {
+        let text = self.rest.as_slice().chain(lines);
+        match read_on(*self.rest.allocator(), text, self.progress, rows) {
             Ok(progress) => {
                 self.progress = progress;
                 self.rest.clear();
@@ -87,7 +106,7 @@ impl RowParser {
                 // for another reason. So the refusal is told when all of the file is there.
                 rows.truncate(count);
                 self.is_waiting = true;
-                Ok(())
+                self.rest.extend_from_slice(lines)
             }
         }
     }
@@ -95,7 +114,7 @@ impl RowParser {
     /// Ends the file, and puts the rows that were not given yet after those of `rows`, or tells the
     /// first refusal, as `read_rows` does.
     pub fn finish(self, rows: &mut Vec<RawRow>) -> Result<(), RowsFault>
-        requires { length self.rest.items ≤ limit_of LimitKind.Csv }
+        requires { kept_length self ≤ limit_of LimitKind.Csv }
         ensures ok { OnOk result (
             (bytes : List ℕ) (raws : List RawRow) → HasTaken bytes raws self →
             Adds rows.old.items rows.new.items (λ more. AreRowsOf bytes (raws ++ more))) }
@@ -103,7 +122,8 @@ impl RowParser {
             (bytes : List ℕ) (raws : List RawRow) → HasTaken bytes raws self →
             IsFaultOf bytes fault) }
     {
-        read_on(*self.rest.allocator(), &self.rest, self.progress, rows)?;
+        let text = self.rest.as_slice();
+        read_on(*self.rest.allocator(), text, self.progress, rows)?;
         Ok(())
     }
 }

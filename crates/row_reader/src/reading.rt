@@ -1,4 +1,4 @@
-ghost use Rattle.std.specs.Prelude.{◌≡◌, ◌+◌, ◌^◌, ◌≤◌, ℕ, List, [], ◌∷◌, ◌++◌, length, take, IfOk, IfErr};
+ghost use Rattle.std.specs.Prelude.{◌≡◌, ◌+◌, ◌^◌, ◌≤◌, ℕ, List, [], ◌∷◌, ◌++◌, length, take, Some, IfOk, IfErr, IsSomeAnd};
 ghost use Rattle.track_types.specs.Limits.{limit_of};
 ghost use Rattle.csv.specs.Records.{fields_of};
 ghost use Rattle.row_reader.specs.Pieces.{Adds, AreRowsAfter, IsPast};
@@ -11,6 +11,7 @@ use crate::heading::is_data_record;
 use crate::row::read_data;
 use csv::{ByteRecord, Reader, ReaderBuilder};
 use std::alloc::Global;
+use std::io::Read;
 use track_types::{LimitKind, RawRow};
 
 /// How far the reading of a file is: the number of its next record, and how many rows it gave.
@@ -29,24 +30,26 @@ impl Progress {
     }
 }
 
-/// Reads all records of a text, which is a file's from its next record on, and puts their rows
-/// after those of `rows`. After a refusal the rows of the records before it are there too.
-pub fn read_on(
+/// Reads all records of the text that a source gives, which is a file's from its next record on, and
+/// puts their rows after those of `rows`. After a refusal the rows of the records before it are
+/// there too. A source that cannot be read is answered as `Memory`.
+pub fn read_on<R: Read + Drop>(
     alloc: Global,
-    text: &[u8],
+    source: R,
     progress: Progress,
     rows: &mut Vec<RawRow>,
 ) -> Result<Progress, RowsFault>
-    requires { length text.now ≤ limit_of LimitKind.Csv }
-    ensures ok { IfOk result (λ after. Adds rows.old.items rows.new.items (λ more.
+    requires { IsSomeAnd (R.remaining source) (λ text. length text ≤ limit_of LimitKind.Csv) }
+    ensures ok { IfOk result (λ after. (text : List ℕ) → R.remaining source ≡ Some text →
+        Adds rows.old.items rows.new.items (λ more.
         (before : List Fields) → IsPast before progress →
-        AreRowsAfter before (records_of text.now) after more)) }
+        AreRowsAfter before (records_of text) after more)) }
     ensures kept { take (length rows.old.items) rows.new.items ≡ rows.old.items }
-    ensures fault { IfErr result (λ fault.
+    ensures fault { IfErr result (λ fault. (text : List ℕ) → R.remaining source ≡ Some text →
         (bytes : List ℕ) (before : List Fields) → IsPast before progress →
-        records_of bytes ≡ before ++ records_of text.now → IsFaultOf bytes fault) }
+        records_of bytes ≡ before ++ records_of text → IsFaultOf bytes fault) }
 {
-    let mut reader = reader_of(alloc, text)?;
+    let mut reader = reader_of(alloc, source)?;
     let mut fields = ByteRecord::new(alloc);
     let mut given = progress.given;
     for nth in progress.next..u64::MAX {
@@ -66,13 +69,14 @@ pub fn read_on(
 
 // A reader at the front of a text. It is given a header, of no field, since csv keeps two copies of
 // the first record where it has none, and that record may be the whole text.
-fn reader_of(alloc: Global, bytes: &[u8]) -> Result<Reader<&[u8]>, RowsFault>
-    ensures ok { IfOk result (HasRead bytes.now []) }
+fn reader_of<R: Read + Drop>(alloc: Global, source: R) -> Result<Reader<R>, RowsFault>
+    ensures ok { IfOk result (λ reader. (text : List ℕ) → R.remaining source ≡ Some text →
+        HasRead R.remaining text [] reader) }
     ensures err { IfErr result (λ fault. fault ≡ RowsFault.Memory) }
 {
     let mut reader = ReaderBuilder::new()
         .flexible(true)
-        .from_reader(alloc, bytes);
+        .from_reader(alloc, source);
     match reader.set_byte_headers(ByteRecord::new(alloc)) {
         Ok(()) => Ok(reader),
         Err(_refused) => Err(RowsFault::Memory),
@@ -80,14 +84,16 @@ fn reader_of(alloc: Global, bytes: &[u8]) -> Result<Reader<&[u8]>, RowsFault>
 }
 
 // Reads the next record, where there is one.
-fn read_next(reader: &mut Reader<&[u8]>, fields: &mut ByteRecord) -> Result<bool, RowsFault>
-    ensures found { (bytes : List ℕ) (seen : List Fields) → HasRead bytes seen reader.old →
-        IfOk result (ShowsNext bytes seen (fields_of fields.new) reader.new) }
+fn read_next<R: Read>(reader: &mut Reader<R>, fields: &mut ByteRecord) -> Result<bool, RowsFault>
+    ensures found { (bytes : List ℕ) (seen : List Fields) → HasRead R.remaining bytes seen reader.old →
+        IfOk result (ShowsNext R.remaining bytes seen (fields_of fields.new) reader.new) }
     ensures err { IfErr result (λ fault. fault ≡ RowsFault.Memory) }
 {
     // Records of any length and any bytes are taken, so what csv refuses is want of memory. Its
-    // contract leaves one more error open, that the slice cannot be read, and it is answered alike.
-    reader
-        .read_byte_record(fields)
-        .map_err(|_error| RowsFault::Memory)
+    // contract leaves one more error open, that the source, a slice or two, cannot be read,
+    // and it is answered alike.
+    match reader.read_byte_record(fields) {
+        Ok(found) => Ok(found),
+        Err(_refused) => Err(RowsFault::Memory),
+    }
 }

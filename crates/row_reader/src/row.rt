@@ -23,7 +23,7 @@ struct FieldFault {
     fault: RowFault,
 }
 
-/// Reads the data record `nth` as a row, behind `count` others.
+/// Reads the data record `nth` as a row, after `count` others.
 pub fn read_data(fields: &ByteRecord, nth: u64, count: usize) -> Result<RawRow, RowsFault>
     requires { length (fields_of fields.now) < 2 ^ 32 }
     ensures ok { let all = fields_of fields.now in

@@ -9,7 +9,7 @@ use Rattle.row_reader.proofs.rows.read_rows.Goals.{In_ok-read_on}
 
 all_rows : (c : In_ok-read_on) → AreRowsOf c.args.bytes.now c.read_on.new.rows.items
 all_rows c =
-    let read = c.in_ok-read_on.ensures.ok in
+    let read = c.in_ok-read_on.ensures.ok c.args.bytes.now refl in
     rw (read.added, c.new-rows.ensures.items)
     (AreRowsOf-after c.args.bytes.now c.args.bytes.now [] [] read.more c.in_ok-read_on.field-0 refl refl
     (All-nil IsRawInRange) (read.promise [] c.start.ensures))
@@ -17,7 +17,8 @@ all_rows c =
 pub returns-in_err-read_on-clause-fault : goal.returns-in_err-read_on-clause-fault
 returns-in_err-read_on-clause-fault c =
     let answered = err_from_is_err_and c.from_residual.result c.from_residual.ensures.1 in
-    rw (answered.1, answered.2) (c.in_err-read_on.ensures.fault c.args.bytes.now [] c.start.ensures refl)
+    rw (answered.1, answered.2)
+    (c.in_err-read_on.ensures.fault c.args.bytes.now refl c.args.bytes.now [] c.start.ensures refl)
 
 pub returns-clause-ok : goal.returns-clause-ok
 returns-clause-ok c = ((all_rows c).accepted, (all_rows c).rows)

@@ -1,7 +1,6 @@
-use Rattle.std.proofs.Common.{rules, ◌≡◌, ◌∙◌, List, ℕ, [], ◌∷◌, ◌++◌, length, take, is_ok, OnOk, Result, Ok, Err, if◌then◌else◌, sym, ap, vec_len}
-use Rattle.std.proofs.lemmas.List.{append-nil}
+use Rattle.std.proofs.Common.{rules, ◌≡◌, ◌∙◌, List, ℕ, [], ◌∷◌, ◌++◌, length, take, is_ok, OnOk, Result, Ok, Err, if◌then◌else◌, refl, ap, vec_len}
 use Rattle.std.proofs.lemmas.Result.{on_ok_weaker}
-use Rattle.row_reader.proofs.TakenLemmas.{HasTaken-lines}
+use Rattle.row_reader.proofs.TakenLemmas.{HasTaken-lines, HasTaken-piece_alone}
 use Rattle.row_reader.proofs.parser.RowParser.read_lines.Goals as goal
 
 -- where the line feed was put into what was cleared, it is all that is kept
@@ -12,33 +11,26 @@ feed_alone (Err e) cleared kept none all = tt
 
 pub returns-in-Ok : goal.returns-in-Ok
 returns-in-Ok c =
-    let read = c.in-Ok.ensures.ok in
+    let old = c.args.self.now in
+    let lines = c.args.lines.now in
+    let known = c.chain-text.ensures.bytes ∙ rw c.as_slice.ensures.value refl in
+    let read = c.in-Ok.ensures.ok (old.rest.items ++ lines) known in
     let alone = feed_alone c.extend_from_slice.result c.clear.new.self.items c.extend_from_slice.new.self.items
     c.clear.ensures.items c.extend_from_slice.ensures.items in
     on_ok_weaker c.extend_from_slice.result (λ rest bytes front raws has ends. record {
       more = read.more;
       added = read.added;
-      promise = HasTaken-lines bytes front raws read.more c.args.self.now _ has ends rest
-          (rw (sym c.deref.ensures.value) (read.promise has.records has.past));
+      promise = HasTaken-lines bytes lines front raws read.more old _ has ends rest
+          (read.promise has.records has.past);
     }) alone
 
 pub returns-in-Err : goal.returns-in-Err
-returns-in-Err c = λ bytes front raws has ends.
+returns-in-Err c =
     let rows = c.args.rows.now in
     let size : vec_len rows ≡ length rows.items = search rules in
-    record {
-      more = [];
-      added = c.truncate.ensures.items
-          ∙ ap (λ count. take count c.read_on.new.rows.items) (c.len-count.ensures ∙ size)
-          ∙ c.read_on.ensures.kept
-          ∙ sym (append-nil rows.items);
-      promise = rw (append-nil raws) (record {
-        records = has.records;
-        whole = has.whole;
-        within = has.within;
-        past = has.past;
-        rows = has.rows;
-        few = has.few;
-        ranges = has.ranges;
-      });
-    }
+    let none = c.truncate.ensures.items
+    ∙ ap (λ count. take count c.read_on.new.rows.items) (c.len-count.ensures ∙ size)
+    ∙ c.read_on.ensures.kept in
+    on_ok_weaker c.extend_from_slice-in-Err.result (λ kept bytes front raws has ends. kept bytes raws has)
+    (HasTaken-piece_alone c.extend_from_slice-in-Err.result c.args.lines.now rows.items c.truncate.new.self.items
+    c.args.self.now _ none c.extend_from_slice-in-Err.ensures.items refl)
