@@ -1,173 +1,220 @@
 -- Rows in blocks: what one place more in an object's last block, and one block more at the end, make of the rows of each
 -- object and of where its last block stands.
-use Rattle.std.proofs.Common.{◌≡◌, ◌≢◌, ℕ, suc, List, [], ◌∷◌, ◌++◌, length, map, set, Option, Some, None, refl, sym, ap, ◌∙◌, subst, arith, inl, inr}
-use Rattle.std.specs.Prelude.{◌==◌, nat_eq, slice_get, slice_index_or}
+use Rattle.std.proofs.Common.{◌≡◌, ◌≢◌, ℕ, zero, suc, ◌+◌, ◌<◌, List, [], ◌∷◌, ◌++◌, Option, Some, None}
+use Rattle.std.proofs.Common.{drop, filter, get_or, length, map, set, take}
+use Rattle.std.proofs.Common.{refl, sym, ap, ◌∙◌, subst, arith, inl, inr}
+use Rattle.std.specs.Prelude.{◌==◌, nat_eq}
 use Rattle.std.specs.HashMap.{Updates, get}
+use Rattle.std.specs.List.{zip}
+use Rattle.std.specs.Option.{IfSome}
 use Rattle.std.proofs.lemmas.Bool.{cases_eq}
 use Rattle.std.proofs.lemmas.Bool.Decides.{nat_tests}
 use Rattle.std.proofs.lemmas.Grind.{flat_map-append}
-use Rattle.std.proofs.lemmas.Option.{get_or_from_slice_get}
-use Rattle.std.proofs.lemmas.List.{append-nil, append_assoc, map-append}
-use Rattle.std.proofs.Math.Seq.{get_or-append_seam, set-append_seam}
+use Rattle.std.proofs.lemmas.Option.{get_or_from_slice_get, slice_get_within}
+use Rattle.std.proofs.lemmas.List.{append-nil, append_assoc, drop-append-le, get_or-map, length-append, length-map}
+use Rattle.std.proofs.lemmas.List.{length-set, map-append, map-set, set-get_or}
+use Rattle.std.proofs.Math.Seq.{drop-append-add}
 use Rattle.std.proofs.lemmas.List.Elements.{filter-append}
+use Rattle.std.proofs.lemmas.Slice.Zip.{firsts-zip, get_or-zip, length-zip}
+use Rattle.list_laws.proofs.SliceLemmas.{slice_get-append_add, slice_get-append_left}
+use Rattle.list_laws.proofs.ZipLemmas.{zip-append, zip-set}
 use Rattle.track_types.specs.declared.row.Row.{Row}
-use Rattle.gridding.specs.Blocks.{IsLastBlock, blocks_with, row_at, rows_of_block, rows_of_blocks, rows_with}
-use Rattle.gridding.specs.Gridded.{AreBlocksOf}
+use Rattle.gridding.specs.Blocks.{IsLastOf, Run, filled_of, row_at, rows_of_run, rows_of_runs}
+use Rattle.gridding.specs.Blocks.{rows_with, runs_of, runs_with}
+use Rattle.gridding.specs.GriddedRows.{AreBlocksOf}
 use Rattle.gridding.specs.declared.packed_place.PackedPlace.{PackedPlace}
-use Rattle.gridding.specs.declared.track_blocks.Block.{Block}
 use Rattle.gridding.specs.declared.track_blocks.TrackBlocks.{TrackBlocks}
 
--- the object of a block
-abbrev owner : Block → ℕ
-owner block = block.object
+-- the object of a run
+abbrev owner : Run → ℕ
+owner run = run.0
 
--- Where the last block stands is a matter of the blocks' objects.
-module _ (object : ℕ) where
-  -- no block of the object
-  none_alike : (xs ys : List Block) → map owner xs ≡ map owner ys → blocks_with object xs ≡ [] → blocks_with object ys ≡ []
-  none_alike [] [] same none = refl
-  none_alike [] (y ∷ ys) same none = cc
-  none_alike (x ∷ xs) [] same none = cc
-  none_alike (x ∷ xs) (y ∷ ys) same none = grind (arith, nat_tests, none_alike xs ys)
+-- an object at the end stands there last
+last_opened : (object : ℕ) (objects : List ℕ) → IsLastOf object (objects ++ (object ∷ [])) (Some (length objects))
+last_opened object objects = (
+  grind (arith, slice_get-append_add objects (object ∷ []) 0),
+  grind (arith, drop-append-add objects (object ∷ []) 1),
+)
 
-  -- the last one, with one block more in front of all
-  last_later : (y : Block) (ys : List Block) (place : ℕ) → IsLastBlock object ys (Some place) → IsLastBlock object (y ∷ ys) (Some (suc place))
-  last_later y ys place (front, block, back, all, long, own, none) = (y ∷ front, block, back, ap (λ zs. y ∷ zs) all, ap suc long, own, none)
+-- and no other object stands elsewhere
+last_before : (object opened : ℕ) (objects : List ℕ) (last : Option ℕ) → opened ≢ object →
+    IsLastOf object objects last → IsLastOf object (objects ++ (opened ∷ [])) last
+last_before object opened objects None differ none =
+    grind (arith, nat_tests, filter-append (λ other. other == object) objects (opened ∷ []))
+last_before object opened objects (Some place) differ (is, none) =
+    let within : place < length objects = slice_get_within objects place object is in (
+      slice_get-append_left objects (opened ∷ []) place within ∙ is,
+      grind (
+        arith,
+        nat_tests,
+        drop-append-le (suc place) objects (opened ∷ []) (omega arith),
+        filter-append (λ other. other == object) (drop (suc place) objects) (opened ∷ []),
+      ),
+    )
 
-  -- the last one at a place
-  last_at : (front : List Block) (block : Block) (back ys : List Block) → map owner (front ++ (block ∷ back)) ≡ map owner ys
-      → block.object ≡ object → blocks_with object back ≡ [] → IsLastBlock object ys (Some (length front))
-  last_at [] block back [] same own none = cc
-  last_at [] block back (y ∷ ys) same own none =
-      let first : block.object ≡ y.object = cc in
-      let rest : map owner back ≡ map owner ys = cc in
-      ([], y, ys, refl, refl, sym first ∙ own, none_alike back ys rest none)
-  last_at (x ∷ front) block back [] same own none = cc
-  last_at (x ∷ front) block back (y ∷ ys) same own none =
-      let rest : map owner (front ++ (block ∷ back)) ≡ map owner ys = cc in
-      last_later y ys (length front) (last_at front block back ys rest own none)
+-- the rows of an object in runs
+abbrev rows_in : ℕ → List Run → List Row
+rows_in object runs = rows_of_runs (runs_with object runs)
 
-  -- the last one, if there is one
-  last_alike : (xs ys : List Block) (last : Option ℕ) → map owner xs ≡ map owner ys → IsLastBlock object xs last → IsLastBlock object ys last
-  last_alike xs ys None same none = none_alike xs ys same none
-  last_alike xs ys (Some place) same (front, block, back, all, long, own, none) =
-      subst (λ n. IsLastBlock object ys (Some n)) long
-      (last_at front block back ys (ap (map owner) (sym all) ∙ same) own none)
-
-  -- another object's block at the end
-  last_before : (xs : List Block) (opened : Block) (last : Option ℕ) → opened.object ≢ object → IsLastBlock object xs last
-      → IsLastBlock object (xs ++ (opened ∷ [])) last
-  last_before xs opened None differ none = grind (arith, nat_tests, filter-append (λ block. block.object == object) xs (opened ∷ []))
-  last_before xs opened (Some place) differ (front, block, back, all, long, own, none) = (
-    front,
-    block,
-    back ++ (opened ∷ []),
-    ap (λ ys. ys ++ (opened ∷ [])) all ∙ append_assoc front (block ∷ back) (opened ∷ []),
-    long,
-    own,
-    grind (arith, nat_tests, filter-append (λ b. b.object == object) back (opened ∷ [])),
-  )
-
--- the rows of an object in blocks
-abbrev rows_in : ℕ → List Block → List Row
-rows_in object blocks = rows_of_blocks (blocks_with object blocks)
-
--- of two lists of blocks
-rows_in-append : (object : ℕ) (xs ys : List Block) → rows_in object (xs ++ ys) ≡ rows_in object xs ++ rows_in object ys
+-- of two lists of runs
+rows_in-append : (object : ℕ) (xs ys : List Run) → rows_in object (xs ++ ys) ≡ rows_in object xs ++ rows_in object ys
 rows_in-append object xs ys =
-    ap rows_of_blocks (filter-append (λ block. block.object == object) xs ys)
-    ∙ flat_map-append rows_of_block (blocks_with object xs) (blocks_with object ys)
+    ap rows_of_runs (filter-append (λ run. run.0 == object) xs ys)
+    ∙ flat_map-append rows_of_run (runs_with object xs) (runs_with object ys)
 
--- a block of one place
-rows_in-opened : (object : ℕ) (place : PackedPlace) (opened : Block) → opened.object ≡ object → opened.places.items ≡ place ∷ [] → (other : ℕ)
-    → rows_in other (opened ∷ []) ≡ rows_with other (row_at object place ∷ [])
-rows_in-opened object place opened own one other = elim (cases_eq object other) [
+-- of a run of one place
+rows_in-opened : (object : ℕ) (place : PackedPlace) (other : ℕ) →
+    rows_in other ((object, place ∷ []) ∷ []) ≡ rows_with other (row_at object place ∷ [])
+rows_in-opened object place other = elim (cases_eq object other) [
   | inl is ↦ grind (arith, nat_tests)
   | inr differ ↦ grind (arith, nat_tests)
 ]
 
--- one place more in an object's last block
-module _ (object : ℕ) (place : PackedPlace) (front back : List Block) (block pushed : Block) (own : block.object ≡ object) (same : pushed.object ≡ object)
-    (put : pushed.places.items ≡ block.places.items ++ (place ∷ [])) (none : blocks_with object back ≡ []) where
-  -- no block changes its object
-  owners_stay : map owner (front ++ (block ∷ back)) ≡ map owner (front ++ (pushed ∷ back))
-  owners_stay = grind (arith, map-append owner front (block ∷ back), map-append owner front (pushed ∷ back))
+-- where there is no run of an object
+rows_in-none : (object : ℕ) (runs : List Run) → filter (λ other. other == object) (map owner runs) ≡ [] →
+    rows_in object runs ≡ []
+rows_in-none object [] none = refl
+rows_in-none object (run ∷ runs) none = elim (cases_eq run.0 object) [
+  | inl is ↦ grind (arith, nat_tests)
+  | inr differ ↦ grind (arith, nat_tests, rows_in-none object runs)
+]
 
-  -- the block's own rows
-  rows_of_block-pushed : rows_of_block pushed ≡ rows_of_block block ++ (row_at object place ∷ [])
-  rows_of_block-pushed = rw (same, own, put) (map-append (row_at object) block.places.items (place ∷ []))
+-- of one place more in a run after which there is none of its object
+rows_in-put : (object : ℕ) (places : List PackedPlace) (place : PackedPlace) (other : ℕ) (runs : List Run) →
+    filter (λ own. own == object) (map owner runs) ≡ [] →
+    rows_in other ((object, places ++ (place ∷ [])) ∷ runs)
+    ≡ rows_in other ((object, places) ∷ runs) ++ rows_with other (row_at object place ∷ [])
+rows_in-put object places place other runs none =
+    let none_after = rows_in-none object runs none in
+    let put = map-append (row_at object) places (place ∷ []) in
+    elim (cases_eq object other) [
+      | inl is ↦
+          let end = append-nil (map (row_at object) places) in
+          grind (arith, nat_tests, none_after, put, end, append-nil (map (row_at object) (places ++ (place ∷ []))))
+      | inr differ ↦ grind (arith, nat_tests, append-nil (rows_in other runs))
+    ]
 
-  -- an object's rows in the block and in what is behind it
-  rows_in-back : (other : ℕ) → rows_in other (pushed ∷ back) ≡ rows_in other (block ∷ back) ++ rows_with other (row_at object place ∷ [])
-  rows_in-back other = elim (cases_eq object other) [
-    | inl is ↦ grind (arith, nat_tests, rows_of_block-pushed, append-nil (rows_of_block pushed), append-nil (rows_of_block block))
-    | inr differ ↦ grind (arith, nat_tests, append-nil (rows_in other back))
-  ]
-
-  -- an object's rows in all
-  rows_in-pushed : (other : ℕ) → rows_in other (front ++ (pushed ∷ back)) ≡ rows_in other (front ++ (block ∷ back)) ++ rows_with other (row_at object place ∷ [])
-  rows_in-pushed other =
-      rows_in-append other front (pushed ∷ back) ∙ ap (λ rows. rows_in other front ++ rows) (rows_in-back other)
-      ∙ sym (append_assoc (rows_in other front) (rows_in other (block ∷ back)) (rows_with other (row_at object place ∷ [])))
-      ∙ ap (λ rows. rows ++ rows_with other (row_at object place ∷ [])) (sym (rows_in-append other front (block ∷ back)))
-
--- what is read behind a front
-read_behind : {X : Type 0} (front : List X) (x : X) (back : List X) (read : X) → slice_get (front ++ (x ∷ back)) (length front) ≡ Some read → x ≡ read
-read_behind front x back read is = sym (get_or-append_seam front x back read) ∙ get_or_from_slice_get (front ++ (x ∷ back)) (length front) read read is
+-- of one place more in an object's last run
+rows_in-pushed : (object last : ℕ) (places : List PackedPlace) (place : PackedPlace) (other : ℕ) (runs : List Run) →
+    (d : Run) → IsLastOf object (map owner runs) (Some last) → get_or runs last d ≡ (object, places) →
+    rows_in other (set runs last (object, places ++ (place ∷ [])))
+    ≡ rows_in other runs ++ rows_with other (row_at object place ∷ [])
+rows_in-pushed object last places place other [] d (is, none) here = cc
+rows_in-pushed object zero places place other (run ∷ runs) d (is, none) here =
+    rw here (rows_in-put object places place other runs none)
+rows_in-pushed object (suc last) places place other (run ∷ runs) d (is, none) here =
+    let pushed : Run = (object, places ++ (place ∷ [])) in
+    let rest = rows_in-pushed object last places place other runs d (is, none) here in
+    rows_in-append other (run ∷ []) (set runs last pushed) ∙ ap (λ rows. rows_in other (run ∷ []) ++ rows) rest
+    ∙ sym (append_assoc (rows_in other (run ∷ [])) (rows_in other runs) (rows_with other (row_at object place ∷ [])))
+    ∙ ap (λ rows. rows ++ rows_with other (row_at object place ∷ [])) (sym (rows_in-append other (run ∷ []) runs))
 
 -- a row more
 module _ (rows : List Row) (old new : TrackBlocks) (object : ℕ) (place : PackedPlace) (blocks : AreBlocksOf rows old) where
+  -- each block has its filled places
+  filled_long : length (map filled_of (zip old.blocks.items old.lengths.items)) ≡ length old.objects.items
+  filled_long =
+      let pairs = length-map (zip old.blocks.items old.lengths.items) filled_of in
+      omega (arith, pairs, length-zip old.blocks.items old.lengths.items, blocks.objects, blocks.lengths)
+
   -- each object has the rows that it had, and this one if it is its own
-  held_more : (other : ℕ) → rows_in other new.blocks.items ≡ rows_in other old.blocks.items ++ rows_with other (row_at object place ∷ [])
-      → rows_in other new.blocks.items ≡ rows_with other (rows ++ (row_at object place ∷ []))
+  held_more : (other : ℕ) →
+      rows_in other (runs_of new) ≡ rows_in other (runs_of old) ++ rows_with other (row_at object place ∷ []) →
+      rows_in other (runs_of new) ≡ rows_with other (rows ++ (row_at object place ∷ []))
   held_more other more =
       more ∙ ap (λ held. held ++ rows_with other (row_at object place ∷ [])) (blocks.held other)
       ∙ sym (filter-append (λ row. row.object == other) rows (row_at object place ∷ []))
 
   -- in the object's last block
-  pub blocks_pushed : (last : ℕ) (found pushed : Block) → IsLastBlock object old.blocks.items (Some last)
-      → found ≡ slice_index_or old.blocks.items last found → pushed.object ≡ found.object
-      → pushed.places.items ≡ found.places.items ++ (place ∷ []) → new.blocks.items ≡ set old.blocks.items last pushed
-      → new.last_of ≡ old.last_of → new.current ≡ last → AreBlocksOf (rows ++ (row_at object place ∷ [])) new
-  blocks_pushed last found pushed (front, block, back, all, long, own, none) read same put written map_stays current =
-      let found_is : found ≡ block = grind (arith, get_or-append_seam front block back found) in
-      let its_own : pushed.object ≡ object = same ∙ ap owner found_is ∙ own in
-      let more : pushed.places.items ≡ block.places.items ++ (place ∷ []) = rw (sym found_is) put in
-      let made : new.blocks.items ≡ front ++ (pushed ∷ back) = written ∙ rw (sym long, all) (set-append_seam front block back pushed) in
-      let owners : map owner old.blocks.items ≡ map owner new.blocks.items =
-      rw (all, made) (owners_stay object place front back block pushed own its_own more none) in
-      let at_last : IsLastBlock object new.blocks.items (Some last) = (front, pushed, back, made, long, its_own, none) in
+  pub blocks_pushed : (last n : ℕ) (places pushed : List PackedPlace) → IsLastOf object old.objects.items (Some last) →
+      places ≡ get_or old.blocks.items last places → n ≡ get_or old.lengths.items last n →
+      take (n + 1) pushed ≡ take n places ++ (place ∷ []) →
+      new.blocks.items ≡ set old.blocks.items last pushed → new.objects ≡ old.objects →
+      new.lengths.items ≡ set old.lengths.items last (n + 1) → new.last_of ≡ old.last_of →
+      new.recent ≡ Some (object, last) → AreBlocksOf (rows ++ (row_at object place ∷ [])) new
+  unfolding runs_of
+  blocks_pushed last n places pushed is_last places_are n_is put blocks_are objects_stay lengths_are map_stays recent =
+      let objects : List ℕ = old.objects.items in
+      let pairs : List (List PackedPlace × ℕ) = zip old.blocks.items old.lengths.items in
+      let filled : List (List PackedPlace) = map filled_of pairs in
+      let long : length filled ≡ length objects = filled_long in
+      let within : last < length objects = slice_get_within objects last object is_last.0 in
+      let pair : get_or pairs last (places, n) ≡ (places, n) =
+      get_or-zip old.blocks.items old.lengths.items last (places, n) (omega (arith, blocks.objects))
+      (omega (arith, blocks.objects, blocks.lengths)) ∙ grind (arith, places_are, n_is) in
+      let own : get_or objects last object ≡ object = get_or_from_slice_get objects last object object is_last.0 in
+      let run : Run = (object, take n places) in
+      let run_is : get_or (runs_of old) last run ≡ run =
+      get_or-zip objects filled last run within (omega arith)
+      ∙ grind (
+        arith,
+        own,
+        get_or-map filled_of pairs last (places, n) (take n places) (omega (arith, long, length-map pairs filled_of)),
+        ap filled_of pair,
+      ) in
+      let more : List PackedPlace = take n places ++ (place ∷ []) in
+      let filled_now : map filled_of (zip new.blocks.items new.lengths.items) ≡ set filled last more =
+      rw (blocks_are, lengths_are)
+      (ap (map filled_of) (zip-set old.blocks.items old.lengths.items last pushed (n + 1))
+      ∙ map-set filled_of pairs last (pushed, n + 1) ∙ ap (set filled last) put) in
+      let made : runs_of new ≡ set (runs_of old) last (object, more) =
+      rw (objects_stay, filled_now)
+      (ap (λ all. zip all (set filled last more)) (sym (set-get_or objects last object) ∙ ap (set objects last) own)
+      ∙ zip-set objects filled last object more) in
+      let owners : map owner (runs_of old) ≡ objects = firsts-zip objects filled long in
       record {
-        held = λ other. held_more other (rw (all, made) (rows_in-pushed object place front back block pushed own its_own more none other));
-        last = λ other. last_alike other old.blocks.items new.blocks.items (get nat_eq new.last_of other) owners (rw map_stays (blocks.last other));
-        current = λ at is.
-            let place_is : new.current ≡ length front = current ∙ sym long in
-            let read : pushed ≡ at = read_behind front pushed back at (rw (made, place_is) at is) in
-            let object_is : at.object ≡ object = ap owner (sym read) ∙ its_own in
-            rw (object_is, current) at_last;
+        objects = rw (blocks_are, objects_stay, length-set) blocks.objects;
+        lengths = rw (blocks_are, lengths_are, length-set old.blocks.items, length-set old.lengths.items)
+            blocks.lengths;
+        held = λ other. held_more other
+            (ap (rows_in other) made
+            ∙ rows_in-pushed object last (take n places) place other (runs_of old) run (rw owners is_last) run_is);
+        last = λ other. rw (objects_stay, map_stays) (blocks.last other);
+        recent = rw (recent, objects_stay) is_last;
       }
 
   -- in a block at the end
-  pub blocks_opened : (last : ℕ) (opened : Block) → opened.object ≡ object → opened.places.items ≡ place ∷ []
-      → last ≡ length old.blocks.items → new.blocks.items ≡ old.blocks.items ++ (opened ∷ [])
-      → Updates nat_eq old.last_of new.last_of object (Some last) → new.current ≡ last → AreBlocksOf (rows ++ (row_at object place ∷ [])) new
-  blocks_opened last opened own one long made updates current =
-      let at_last : IsLastBlock object new.blocks.items (Some last) = (old.blocks.items, opened, [], made, sym long, own, refl) in
+  pub blocks_opened : (last : ℕ) (opened : List PackedPlace) → take 1 opened ≡ place ∷ [] →
+      last ≡ length old.blocks.items → new.blocks.items ≡ old.blocks.items ++ (opened ∷ []) →
+      new.objects.items ≡ old.objects.items ++ (object ∷ []) → new.lengths.items ≡ old.lengths.items ++ (1 ∷ []) →
+      Updates nat_eq old.last_of new.last_of object (Some last) → new.recent ≡ Some (object, last) →
+      AreBlocksOf (rows ++ (row_at object place ∷ [])) new
+  unfolding runs_of
+  blocks_opened last opened one place_is blocks_are objects_are lengths_are updates recent =
+      let objects : List ℕ = old.objects.items in
+      let pairs : List (List PackedPlace × ℕ) = zip old.blocks.items old.lengths.items in
+      let run : Run = (object, place ∷ []) in
+      let filled_now : map filled_of (zip new.blocks.items new.lengths.items)
+      ≡ map filled_of pairs ++ ((place ∷ []) ∷ []) =
+      rw (blocks_are, lengths_are)
+      (ap (map filled_of) (zip-append old.blocks.items (opened ∷ []) old.lengths.items (1 ∷ []) (sym blocks.lengths))
+      ∙ map-append filled_of pairs ((opened, 1) ∷ []) ∙ ap (λ last. map filled_of pairs ++ (last ∷ [])) one) in
+      let made : runs_of new ≡ runs_of old ++ (run ∷ []) =
+      rw (objects_are, filled_now)
+      (zip-append objects (object ∷ []) (map filled_of pairs) ((place ∷ []) ∷ []) (sym filled_long)) in
+      let at_last : IsLastOf object new.objects.items (Some last) =
+      rw (objects_are, place_is, ← blocks.objects) (last_opened object objects) in
+      let one_more = length-append old.blocks.items (opened ∷ []) in
       record {
+        objects = grind (arith, blocks.objects, blocks_are, objects_are, one_more, length-append objects (object ∷ []));
+        lengths = grind (arith, blocks.lengths, blocks_are, lengths_are, one_more, length-append old.lengths.items (1 ∷ []));
         held = λ other.
             held_more other
-            (ap (rows_in other) made ∙ rows_in-append other old.blocks.items (opened ∷ [])
-            ∙ ap (λ end. rows_in other old.blocks.items ++ end) (rows_in-opened object place opened own one other));
+            (ap (rows_in other) made ∙ rows_in-append other (runs_of old) (run ∷ [])
+            ∙ ap (λ end. rows_in other (runs_of old) ++ end) (rows_in-opened object place other));
         last = λ other. elim (cases_eq object other) [
-          | inl is ↦ subst (λ o. IsLastBlock o new.blocks.items (get nat_eq new.last_of o)) is (rw updates.1 at_last)
+          | inl is ↦ subst (λ o. IsLastOf o new.objects.items (get nat_eq new.last_of o)) is (rw updates.1 at_last)
           | inr differ ↦
               let stays : get nat_eq new.last_of other ≡ get nat_eq old.last_of other = updates.2 other (grind (arith, nat_tests)) in
-              let others : opened.object ≢ other = λ same. differ (sym own ∙ same) in
-              rw (stays, made) (last_before other old.blocks.items opened (get nat_eq old.last_of other) others (blocks.last other))
+              rw (stays, objects_are)
+              (last_before other object objects (get nat_eq old.last_of other) differ (blocks.last other))
         ];
-        current = λ at is.
-            let place_is : new.current ≡ length old.blocks.items = current ∙ long in
-            let read : opened ≡ at = read_behind old.blocks.items opened [] at (rw (made, place_is) at is) in
-            let object_is : at.object ≡ object = ap owner (sym read) ∙ own in
-            rw (object_is, current) at_last;
+        recent = rw recent at_last;
       }
+
+-- the block that was written last is the last one of its object
+pub last_from_recent : (rows : List Row) (tracks : TrackBlocks) (owner object last : ℕ) → AreBlocksOf rows tracks →
+    tracks.recent ≡ Some (owner, last) → owner ≡ object → IsLastOf object tracks.objects.items (Some last)
+last_from_recent rows tracks owner object last blocks recent is =
+    subst (λ other. IsLastOf other tracks.objects.items (Some last)) is
+    (subst (λ put. IfSome put (λ at. IsLastOf at.0 tracks.objects.items (Some at.1))) recent blocks.recent)

@@ -9,20 +9,15 @@ use Rattle.std.proofs.lemmas.List.{length-map}
 use Rattle.std.proofs.lemmas.List.Elements.{All-from_recursion, recursion_from_All}
 use Rattle.track_types.specs.ByFilter.{cell_at}
 use Rattle.track_types.specs.Near.{IsNear, IsRawInRange, IsRowInRange}
-use Rattle.track_types.specs.Row.{IsAscending, is_row_of, is_same_place, row_order}
+use Rattle.track_types.specs.Row.{is_row_of, is_same_place, row_order}
 use Rattle.track_types.specs.declared.raw_row.RawRow.{RawRow}
 use Rattle.track_types.specs.declared.row.Row.{Row}
 use Rattle.list_laws.specs.Ordered.{ordered}
 use Rattle.list_laws.proofs.MemberLemmas.{some_from_any}
 use Rattle.list_laws.proofs.OrderedLemmas.{IsPermutation-ordered, all-ordered, any-ordered}
-use Rattle.gridding.proofs.KeptLemmas.{any-kept, ascending-kept, found-chart_rows, place_equiv}
+use Rattle.gridding.proofs.KeptLemmas.{any-kept, found-chart_rows, place_equiv}
 use Rattle.gridding.specs.ChartOf.{chart_rows, gridded, kept}
 use Rattle.gridding.specs.Floor.{floor_div}
-
--- they are in order
-pub chart_rows-ascending : (raws : List RawRow) (cell tick : ℕ) → IsAscending (chart_rows raws cell tick)
-unfolding chart_rows
-chart_rows-ascending raws cell tick = ascending-kept (map (gridded cell tick) raws)
 
 -- a quotient is not farther from 0
 IsNear-floor_div : (a : ℤ) (d : ℕ) → IsNear a → IsNear (floor_div a d)

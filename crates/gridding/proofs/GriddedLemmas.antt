@@ -1,10 +1,12 @@
 -- Rows in order that are found as in blocks of raw rows are those of the chart of the raw rows.
 use Rattle.std.proofs.Common.{◌≡◌, ◌≢◌, ℕ, ◌+◌, ◌<◌, length, take, get_or, true, false, List, [], ◌∷◌, ◌++◌, filter, map, refl, sym, ◌∙◌, ap, arith, inl, inr}
 use Rattle.std.specs.Prelude.{find, reverse, slice_get, ◌==◌}
+use Rattle.std.specs.Option.{option_or}
 use Rattle.std.specs.Ordering.{eq_by_cmp}
 use Rattle.std.proofs.lemmas.Bool.{and_parts, cases_Bool}
 use Rattle.std.proofs.lemmas.Bool.Decides.{nat_tests}
-use Rattle.std.proofs.lemmas.List.{append_assoc, map-append, take_more}
+use Rattle.std.proofs.lemmas.List.{append_assoc, map-append, reverse-append, take_more}
+use Rattle.std.proofs.lemmas.List.Folds.{find-append}
 use Rattle.std.proofs.lemmas.List.Elements.{filter-append}
 use Rattle.list_laws.proofs.AscendingLemmas.{find-agree, same_from_finds}
 use Rattle.list_laws.proofs.FilterLemmas.{filter-own_key, filter-reverse}
@@ -14,36 +16,38 @@ use Rattle.track_types.specs.Row.{IsAscending, is_same_place, row_order}
 use Rattle.track_types.specs.declared.raw_row.RawRow.{RawRow}
 use Rattle.track_types.specs.declared.row.Row.{Row}
 use Rattle.list_laws.specs.Ordered.{ordered}
-use Rattle.gridding.specs.Blocks.{blocks_with, row_at, rows_of_block, rows_of_blocks, rows_with}
+use Rattle.gridding.specs.Blocks.{Run, row_at, rows_of_run, rows_of_runs, rows_with, runs_of, runs_with}
 use Rattle.gridding.specs.ChartOf.{chart_rows, gridded, kept}
 use Rattle.gridding.specs.GridLimit.{IsFaultOf, IsRefusal, first_past}
 use Rattle.gridding.specs.declared.fault.GridFault.{GridFault}
 use Rattle.gridding.specs.declared.fault.GridFault.TheVariants.{Empty, Limit, Memory}
-use Rattle.gridding.specs.Gridded.{AreBlocksOf, HasGridded}
+use Rattle.gridding.specs.GriddedRows.{AreBlocksOf, HoldsRows, HasGridded}
 use Rattle.gridding.specs.declared.gridded_rows.GriddedRows.{GriddedRows}
 use Rattle.gridding.specs.declared.packed_place.PackedPlace.{PackedPlace}
-use Rattle.gridding.specs.declared.track_blocks.Block.{Block}
 use Rattle.gridding.specs.declared.track_blocks.TrackBlocks.{TrackBlocks}
 use Rattle.gridding.proofs.KeptLemmas.{ascending-kept, found, found-chart_rows}
 
--- a block has rows of its object alone
-rows_with-own : (object : ℕ) (places : List PackedPlace) → rows_with object (map (row_at object) places) ≡ map (row_at object) places
+-- a run has rows of its object alone
+rows_with-own : (object : ℕ) (places : List PackedPlace) →
+    rows_with object (map (row_at object) places) ≡ map (row_at object) places
 rows_with-own object [] = refl
 rows_with-own object (place ∷ places) = grind (arith, nat_tests, rows_with-own object places)
 
-rows_with-other : (object other : ℕ) (places : List PackedPlace) → (other == object) ≡ false → rows_with object (map (row_at other) places) ≡ []
+rows_with-other : (object other : ℕ) (places : List PackedPlace) → (other == object) ≡ false →
+    rows_with object (map (row_at other) places) ≡ []
 rows_with-other object other [] differ = refl
 rows_with-other object other (place ∷ places) differ = rw differ (rows_with-other object other places differ)
 
--- so an object's rows are those of its blocks
-rows_with-blocks : (object : ℕ) (blocks : List Block) → rows_with object (rows_of_blocks blocks) ≡ rows_of_blocks (blocks_with object blocks)
-rows_with-blocks object [] = refl
-rows_with-blocks object (block ∷ blocks) =
-    let rest = rows_with-blocks object blocks in
-    let parts = filter-append (λ row. row.object == object) (rows_of_block block) (rows_of_blocks blocks) in
-    elim (cases_Bool (block.object == object)) [
-      | inl own ↦ grind (arith, nat_tests, rest, parts, own, rows_with-own object block.places.items)
-      | inr other ↦ grind (arith, rest, parts, other, rows_with-other object block.object block.places.items other)
+-- so an object's rows are those of its runs
+rows_with-runs : (object : ℕ) (runs : List Run) →
+    rows_with object (rows_of_runs runs) ≡ rows_of_runs (runs_with object runs)
+rows_with-runs object [] = refl
+rows_with-runs object (run ∷ runs) =
+    let rest = rows_with-runs object runs in
+    let parts = filter-append (λ row. row.object == object) (rows_of_run run) (rows_of_runs runs) in
+    elim (cases_Bool (run.0 == object)) [
+      | inl own ↦ grind (arith, nat_tests, rest, parts, own, rows_with-own object run.1)
+      | inr other ↦ grind (arith, rest, parts, other, rows_with-other object run.0 run.1 other)
     ]
 
 -- a search for a place looks at the rows of its object alone
@@ -57,24 +61,44 @@ found-by_object sought rows =
     ∙ ap (λ all. slice_get (reverse all) 0) (sym (filter-own_key (is_same_place sought) (λ row. row.object) sought.object own rows))
 
 found-blocks : (rows : List Row) (tracks : TrackBlocks) → AreBlocksOf rows tracks → (sought : Row) →
-    found sought (reverse (rows_of_blocks tracks.blocks.items)) ≡ found sought (reverse rows)
+    found sought (reverse (rows_of_runs (runs_of tracks))) ≡ found sought (reverse rows)
 found-blocks rows tracks blocks sought =
-    found-by_object sought (rows_of_blocks tracks.blocks.items)
+    found-by_object sought (rows_of_runs (runs_of tracks))
     ∙ ap (λ all. slice_get (reverse (filter (is_same_place sought) all)) 0)
-    (rows_with-blocks sought.object tracks.blocks.items ∙ blocks.held sought.object)
+    (rows_with-runs sought.object (runs_of tracks) ∙ blocks.held sought.object)
     ∙ sym (found-by_object sought rows)
 
--- rows in order that are found as in the blocks are those of the chart
-pub chart_rows-blocks : (raws : List RawRow) (cell tick : ℕ) (all : GriddedRows) (made : List Row) → HasGridded cell tick raws all →
-    IsAscending made → ((sought : Row) → found sought made ≡ found sought (reverse (rows_of_blocks all.tracks.blocks.items))) → made ≡ chart_rows raws cell tick
+-- with rows after, these are searched first
+found-after : (sought : Row) (front back : List Row) →
+    found sought (reverse (front ++ back)) ≡ option_or (found sought (reverse back)) (found sought (reverse front))
+found-after sought front back =
+    ap (found sought) (reverse-append front back) ∙ find-append (is_same_place sought) (reverse back) (reverse front)
+
+-- the rows of blocks, and then the loose ones
+abbrev rows_held : GriddedRows → List Row
+rows_held all = rows_of_runs (runs_of all.tracks) ++ all.loose.items
+
+found-held : (rows : List Row) (all : GriddedRows) → HoldsRows rows all → (sought : Row) →
+    found sought (reverse (rows_held all)) ≡ found sought (reverse rows)
+found-held rows all held sought =
+    let loose : List Row = all.loose.items in
+    found-after sought (rows_of_runs (runs_of all.tracks)) loose
+    ∙ ap (λ front. option_or (found sought (reverse loose)) front) (found-blocks held.front all.tracks held.blocks sought)
+    ∙ sym (ap (λ rows. found sought (reverse rows)) held.all ∙ found-after sought held.front loose)
+
+-- rows in order that are found as in the rows that are held are those of the chart
+pub chart_rows-held : (raws : List RawRow) (cell tick : ℕ) (all : GriddedRows) (made : List Row) → HasGridded cell tick raws all →
+    IsAscending made → ((sought : Row) → found sought made ≡ found sought (reverse (rows_held all))) →
+    made ≡ chart_rows raws cell tick
 unfolding chart_rows
-chart_rows-blocks raws cell tick all made has up finds =
+chart_rows-held raws cell tick all made has up finds =
     let rows : List Row = map (gridded cell tick) raws in
     same_from_finds row_order_total made (ordered row_order (kept rows)) up (ascending-kept rows)
     (λ sought.
     let by_place : (all : List Row) → find (eq_by_cmp row_order sought) all ≡ found sought all =
     find-agree (eq_by_cmp row_order sought) (is_same_place sought) (eq_by_cmp-row_order sought) in
-    by_place made ∙ finds sought ∙ found-blocks rows all.tracks has.blocks sought ∙ sym (found-chart_rows sought rows) ∙ sym (by_place (ordered row_order (kept rows))))
+    by_place made ∙ finds sought ∙ found-held rows all has.held sought ∙ sym (found-chart_rows sought rows)
+    ∙ sym (by_place (ordered row_order (kept rows))))
 
 -- the refusal of the rows of the chart of raw rows is a fault of these
 pub IsFaultOf-refusal : (raws : List RawRow) (cell tick period : ℕ) (fault : GridFault) → raws ≢ [] →
@@ -83,13 +107,13 @@ IsFaultOf-refusal raws cell tick period (Limit kind value) some refusal = (some,
 IsFaultOf-refusal raws cell tick period Empty some refusal = absurd refusal
 IsFaultOf-refusal raws cell tick period Memory some refusal = tt
 
--- one raw row more is in the blocks
-pub AreBlocksOf-more : (cell tick : ℕ) (raws rows : List RawRow) (i : ℕ) (d : RawRow) (own_cell own_tick : ℕ) (row : Row) (tracks : TrackBlocks) →
+-- one raw row more is held
+pub HoldsRows-more : (cell tick : ℕ) (raws rows : List RawRow) (i : ℕ) (d : RawRow) (own_cell own_tick : ℕ) (row : Row) (all : GriddedRows) →
     i < length rows → own_cell ≡ cell → own_tick ≡ tick → row ≡ gridded own_cell own_tick (get_or rows i d) →
-    AreBlocksOf (map (gridded cell tick) (raws ++ take i rows) ++ row ∷ []) tracks → AreBlocksOf (map (gridded cell tick) (raws ++ take (i + 1) rows)) tracks
-AreBlocksOf-more cell tick raws rows i d own_cell own_tick row tracks below by_cell by_tick is blocks =
+    HoldsRows (map (gridded cell tick) (raws ++ take i rows) ++ row ∷ []) all → HoldsRows (map (gridded cell tick) (raws ++ take (i + 1) rows)) all
+HoldsRows-more cell tick raws rows i d own_cell own_tick row all below by_cell by_tick is held =
     let g : RawRow → Row = gridded cell tick in
     let more : raws ++ take (i + 1) rows ≡ (raws ++ take i rows) ++ get_or rows i d ∷ [] =
-    ap (λ all. raws ++ all) (take_more rows i d below) ∙ sym (append_assoc raws (take i rows) (get_or rows i d ∷ [])) in
+    ap (λ part. raws ++ part) (take_more rows i d below) ∙ sym (append_assoc raws (take i rows) (get_or rows i d ∷ [])) in
     let own : row ≡ g (get_or rows i d) = rw (by_cell, by_tick) at is in
-    rw (more, map-append g (raws ++ take i rows) (get_or rows i d ∷ []), ← own) blocks
+    rw (more, map-append g (raws ++ take i rows) (get_or rows i d ∷ []), ← own) held

@@ -3,8 +3,10 @@ mod BlockLemmas
 mod KeptLemmas
 mod GriddedLemmas
 mod MergeLemmas
-mod RunLemmas
+mod SortingLemmas
+mod ObjectCountLemmas
 mod SymbolLemmas
 mod ExtentLemmas
+mod SurveyLemmas
 mod LimitLemmas
 mod Examples

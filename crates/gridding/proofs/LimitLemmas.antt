@@ -50,14 +50,14 @@ within_limit limit value not_past = grind (arith, nat_tests)
 pub chart_with-IsChart : (rows : List Row) (cell tick period : ℕ) → 0 < length rows → length rows ≤ limit_of Rows → IsAscending rows → All IsRowInRange rows →
     IsResolution cell → IsResolution tick → IsPeriod period → first_past rows period ≡ None → IsChart (chart_with rows cell tick period)
 chart_with-IsChart rows cell tick period some few up in_range is_cell is_tick is_period none =
-    let behind_blocks = (Symbols, symbol_count rows period) ∷ [] in
-    let behind_extent = (Blocks, block_count rows period) ∷ behind_blocks in
-    let behind_span = (Extent, extent_of rows) ∷ behind_extent in
-    let behind_objects = (Span, span_of rows) ∷ behind_span in
-    let objects = find-passed_over is_past (Objects, object_count rows) behind_objects none in
-    let span = find-passed_over is_past (Span, span_of rows) behind_span objects.1 in
-    let extent = find-passed_over is_past (Extent, extent_of rows) behind_extent span.1 in
-    let blocks = find-passed_over is_past (Blocks, block_count rows period) behind_blocks extent.1 in
+    let after_blocks = (Symbols, symbol_count rows period) ∷ [] in
+    let after_extent = (Blocks, block_count rows period) ∷ after_blocks in
+    let after_span = (Extent, extent_of rows) ∷ after_extent in
+    let after_objects = (Span, span_of rows) ∷ after_span in
+    let objects = find-passed_over is_past (Objects, object_count rows) after_objects none in
+    let span = find-passed_over is_past (Span, span_of rows) after_span objects.1 in
+    let extent = find-passed_over is_past (Extent, extent_of rows) after_extent span.1 in
+    let blocks = find-passed_over is_past (Blocks, block_count rows period) after_blocks extent.1 in
     let symbols = find-passed_over is_past (Symbols, symbol_count rows period) [] blocks.1 in
     record {
       some = some;

@@ -1,14 +1,17 @@
 -- Anchors of rows in order: a row is its block's anchor where the row before it is of another block.
 use Rattle.std.proofs.Common.{◌≡◌, ℕ, ℤ, suc, ◌+◌, ◌≤◌, ◌<◌, Bool, true, false, List, [], ◌∷◌, ◌++◌, Ordering, Option, Some, None, add-one, append_assoc, drop, drop-cons, eq-eqb, get_or, length, refl, sym, ◌∙◌, ap, arith, inl, inr, ◌⊎◌}
-use Rattle.std.specs.Prelude.{if◌then◌else◌, ◌==◌, ◌&&◌, ◌||◌, not, filter, sum_by, option_map, All, ◌<ℤ◌, ◌≤ℤ◌, ◌-ℤ◌, unsigned_abs}
+use Rattle.std.specs.Prelude.{if◌then◌else◌, ◌==◌, ◌&&◌, ◌||◌, not, filter, sum_by, option_map, All, ◌*◌, ◌/◌, ◌<ℤ◌, ◌≤ℤ◌, ◌+ℤ◌, ◌-ℤ◌, nat_lt, pos, unsigned_abs}
 use Rattle.std.specs.Int.Signed.{lt_z}
 use Rattle.std.specs.List.{AllByRecursion, list_any}
 use Rattle.std.specs.List.Sorted.{IsStrictlySortedBy}
 use Rattle.std.specs.Ordering.{MatchOrdering, int_cmp, nat_cmp, ordering_then}
 use Rattle.std.specs.declared.cmp.Ordering.TheVariants.{Less, Equal, Greater}
+use Rattle.std.proofs.Math.Bool.{and-false, and-true}
 use Rattle.std.proofs.lemmas.Bool.Decides.{nat_tests}
 use Rattle.std.proofs.lemmas.Bool.{and_parts}
 use Rattle.std.proofs.lemmas.Int.{ints}
+use Rattle.std.proofs.Math.Nat.{div-lt_iff_lt-mul}
+use Rattle.std.proofs.lemmas.Nat.{le-div}
 use Rattle.std.proofs.lemmas.Cmp.{ranked, int_ranked}
 use Rattle.std.proofs.lemmas.List.Elements.{recursion_from_All}
 use Rattle.std.proofs.lemmas.List.Folds.{list_any-append}
@@ -18,11 +21,12 @@ use Rattle.track_types.specs.Quantities.{anchors_of, elapsed, is_anchor, is_same
 use Rattle.track_types.specs.Row.{IsAscending, row_order}
 use Rattle.track_types.specs.declared.row.Row.{Row}
 use Rattle.track_types.proofs.RowLemmas.{row_order_total}
-use Rattle.gridding.specs.Block.{IsInSpan, block_of, is_block_of}
+use Rattle.gridding.specs.Block.{IsInSpan, block_of, is_block_of, period_end}
 use Rattle.gridding.specs.declared.counts.Block.{Block}
 
 -- the order of two rows, as an order of their objects and instants
-in_order : (m n : ℕ) (r o : Ordering) {P : Type 0} → MatchOrdering r (m < n) (m ≡ n) (n < m) → (o ≡ Less → P) → ordering_then r o ≡ Less → (m < n) ⊎ ((m ≡ n) × P)
+in_order : (m n : ℕ) (r o : Ordering) {P : Type 0} → MatchOrdering r (m < n) (m ≡ n) (n < m) → (o ≡ Less → P) →
+    ordering_then r o ≡ Less → (m < n) ⊎ ((m ≡ n) × P)
 in_order m n Less o is behind below = inl is
 in_order m n Equal o is behind below = inr (is, behind below)
 in_order m n Greater o is behind below = absurd (cc)
@@ -39,26 +43,32 @@ order_cases a b below =
     (earlier_instant a.instant b.instant (int_cmp a.instant b.instant) (int_ranked a.instant b.instant (int_cmp a.instant b.instant) refl))
     below
 
-and_false : (b : Bool) → (b && false) ≡ false
-and_false true = refl
-and_false false = refl
-
-and_true : (b : Bool) → (b && true) ≡ b
-and_true true = refl
-and_true false = refl
-
 or_false : (b : Bool) → (b || false) ≡ b
 or_false true = refl
 or_false false = refl
 
-still_behind : (first x y : ℤ) → first ≤ℤ x → x <ℤ y → first ≤ℤ y
-still_behind first x y behind later = omega (arith, ints)
+still_after : (first x y : ℤ) → first ≤ℤ x → x <ℤ y → first ≤ℤ y
+still_after first x y behind later = omega (arith, ints)
 
 squeezed : (a b row : ℕ) → a ≡ row → a ≤ b → b ≤ row → b ≡ row
 squeezed a b row same up down = omega arith
 
 elapsed_mono : (first x y : ℤ) → first ≤ℤ x → x <ℤ y → unsigned_abs (x -ℤ first) ≤ unsigned_abs (y -ℤ first)
 elapsed_mono first x y behind later = grind (arith, ints)
+
+by_end : (p q b end : ℕ) → p ≤ q → (b < end → q < p + 1) → (end ≤ b → p + 1 ≤ q) → (p == q) ≡ nat_lt b end
+by_end p q b end up within behind = grind (arith, nat_tests)
+
+-- a greater number has the same quotient where it is below the next multiple
+quotient_by_end : (k a b : ℕ) → 0 < k → a ≤ b → (a / k == b / k) ≡ nat_lt b ((a / k + 1) * k)
+quotient_by_end k a b some up =
+    by_end (a / k) (b / k) b ((a / k + 1) * k) (div-le k a b some up)
+    (div-lt_iff_lt-mul some).1 (le-div (a / k + 1) b k some)
+
+-- instants that are counted from the first on
+end_from_first : (first y : ℤ) (end : ℕ) → first ≤ℤ y →
+    nat_lt (unsigned_abs (y -ℤ first)) end ≡ lt_z y (first +ℤ pos end)
+end_from_first first y end behind = grind (arith, ints, nat_tests)
 
 -- of three rows in order, where the outer two are of one object
 ordered_alike : (a b row : Row) → a.object ≡ row.object →
@@ -81,11 +91,11 @@ module _ (first : ℤ) (period : ℕ) where
       elim (order_cases row other below) [
         | inl objects ↦ let differ : (other.object == row.object) ≡ false = grind (arith, nat_tests) in rw differ refl
         | inr same ↦ let later : row.instant <ℤ other.instant = same.1 in
-            let not_before : lt_z other.instant row.instant ≡ false = grind (arith, ints) in rw not_before (and_false _)
+            let not_before : lt_z other.instant row.instant ≡ false = grind (arith, ints) in rw not_before (and-false _)
       ]
 
   not_earlier_itself : (row : Row) → is_earlier row row ≡ false
-  not_earlier_itself row = let not_before : lt_z row.instant row.instant ≡ false = grind (arith, ints) in rw not_before (and_false _)
+  not_earlier_itself row = let not_before : lt_z row.instant row.instant ≡ false = grind (arith, ints) in rw not_before (and-false _)
 
   -- of two rows in order, the first is earlier in the other's block where they are of one block
   earlier_block : (a row : Row) → row_order a row ≡ Less → is_earlier row a ≡ is_same_block first period a row
@@ -93,7 +103,7 @@ module _ (first : ℤ) (period : ℕ) where
       elim (order_cases a row below) [
         | inl objects ↦ let differ : (a.object == row.object) ≡ false = grind (arith, nat_tests) in rw differ refl
         | inr same ↦ let later : a.instant <ℤ row.instant = same.1 in
-            let before : lt_z a.instant row.instant ≡ true = grind (arith, ints) in rw before (and_true _)
+            let before : lt_z a.instant row.instant ≡ true = grind (arith, ints) in rw before (and-true _)
       ]
 
   -- of three rows in order, the second is of the block that the first and the third are of
@@ -106,16 +116,18 @@ module _ (first : ℤ) (period : ℕ) where
       let one = ordered_alike a b row objects (order_cases a b below) (order_cases b row above) in
       let up : period_of first period a ≤ period_of first period b =
       div-le period (elapsed first a) (elapsed first b) some (elapsed_mono first a.instant b.instant behind one.1) in
-      let behind_b : first ≤ℤ b.instant = still_behind first a.instant b.instant behind one.1 in
+      let after_b : first ≤ℤ b.instant = still_after first a.instant b.instant behind one.1 in
       let down : period_of first period b ≤ period_of first period row =
-      div-le period (elapsed first b) (elapsed first row) some (elapsed_mono first b.instant row.instant behind_b one.2) in
+      div-le period (elapsed first b) (elapsed first row) some (elapsed_mono first b.instant row.instant after_b one.2) in
       let same_object : (b.object == row.object) ≡ true = eq-eqb b.object row.object one.0 in
       let same_period : (period_of first period b == period_of first period row) ≡ true =
       eq-eqb (period_of first period b) (period_of first period row) (squeezed _ _ _ periods up down) in
       rw (same_object, same_period) refl
 
-  seen_at : (before row next : Row) → 0 < period → (row_order before row ≡ Less) × (first ≤ℤ before.instant) → row_order row next ≡ Less →
-      row_order before next ≡ Less → (b : Bool) → is_earlier next before ≡ b → (is_earlier next before || is_earlier next row) ≡ is_earlier next row
+  seen_at : (before row next : Row) → 0 < period → (row_order before row ≡ Less) × (first ≤ℤ before.instant) →
+      row_order row next ≡ Less →
+      row_order before next ≡ Less → (b : Bool) → is_earlier next before ≡ b →
+      (is_earlier next before || is_earlier next row) ≡ is_earlier next row
   seen_at before row next some above below far true is =
       let same : is_same_block first period before next ≡ true = sym (earlier_block before next far) ∙ is in
       let also : is_earlier next row ≡ true =
@@ -128,7 +140,7 @@ module _ (first : ℤ) (period : ℕ) where
   seen None row = false
   seen (Some before) row = is_earlier row before
 
-  -- the row before, if there was one, is below a row and behind the first instant
+  -- the row before, if there was one, is below a row and after the first instant
   abbrev pub IsAbove : Option Row → Row → Type 0
   IsAbove None row = Unit {0}
   IsAbove (Some before) row = (row_order before row ≡ Less) × (first ≤ℤ before.instant)
@@ -157,7 +169,8 @@ module _ (first : ℤ) (period : ℕ) where
       rw (parts, so_far, or_false (is_earlier next row)) (seen_more before row next some above below.0)
 
   -- no later row shows that a row is not an anchor
-  none_later : (row : Row) (rest : List Row) → AllByRecursion (λ y. row_order row y ≡ Less) rest → list_any (is_earlier row) rest ≡ false
+  none_later : (row : Row) (rest : List Row) → AllByRecursion (λ y. row_order row y ≡ Less) rest →
+      list_any (is_earlier row) rest ≡ false
   none_later row [] all = refl
   none_later row (y ∷ rest) all = rw (not_earlier row y all.0, none_later row rest all.1) refl
 
@@ -170,21 +183,51 @@ module _ (first : ℤ) (period : ℕ) where
       let behind : list_any (is_earlier row) (row ∷ rest) ≡ false = rw (not_earlier_itself row, none_later row rest all) refl in
       ap not (rw (parts, shows row above, behind) (or_false (seen before row)))
 
-  -- the row before shows this exactly where it is of the same block
-  seen-block : (before : Option Row) (row : Row) → IsAbove before row →
-      seen before row ≡ is_block_of (option_map (block_of first period) before) (block_of first period row)
-  seen-block None row above = refl
-  seen-block (Some before) row above = earlier_block before row above.0
+  -- a row is in the period of an earlier one where it comes before its end
+  same_by_end : (a row : Row) → 0 < period → (row_order a row ≡ Less) × (first ≤ℤ a.instant) →
+      is_same_block first period a row ≡ is_block_of (Some (block_of first period a)) row
+  same_by_end a row some above =
+      elim (order_cases a row above.0) [
+        | inl objects ↦ let differ : (a.object == row.object) ≡ false = grind (arith, nat_tests) in rw differ refl
+        | inr same ↦ ap (λ b. (a.object == row.object) && b) (
+            quotient_by_end period (elapsed first a) (elapsed first row) some
+            (elapsed_mono first a.instant row.instant above.1 same.1)
+            ∙ end_from_first first row.instant (period_end first period a)
+            (still_after first a.instant row.instant above.1 same.1))
+      ]
 
-  -- how many terminals the blocks of rows have, where a block begins at each row that is not of the block of the row before
+  -- rows of one block are so by the same object and the same end
+  same_block : (a row : Row) → is_same_block first period a row ≡ true →
+      block_of first period a ≡ block_of first period row
+  same_block a row same =
+      let parts = and_parts (a.object == row.object) (period_of first period a == period_of first period row) same in
+      let objects : a.object ≡ row.object = grind (arith, nat_tests, parts.0) in
+      let periods : period_of first period a ≡ period_of first period row = grind (arith, nat_tests, parts.1) in
+      rw (objects, periods) refl
+
+  -- a block with a row's object, and with the end of the row's period
+  pub is_block : (row : Row) (block : Block) → block.object ≡ row.object →
+      block.end ≡ first +ℤ pos (period_end first period row) → block ≡ block_of first period row
+  is_block row block object end =
+      ap (λ o. record { object = o; end = block.end }) object ∙ ap (λ e. record { object = row.object; end = e }) end
+
+  -- the row before shows this exactly where it is of the same block
+  seen-block : (before : Option Row) (row : Row) → 0 < period → IsAbove before row →
+      seen before row ≡ is_block_of (option_map (block_of first period) before) row
+  seen-block None row some above = refl
+  seen-block (Some before) row some above = earlier_block before row above.0 ∙ same_by_end before row some above
+
+  -- how many terminals the blocks of rows have, where a block begins at each row that is not of the block before
   pub terminals : ℕ → Option Block → List Row → ℕ
   terminals span before [] = 0
   terminals span before (row ∷ rest) =
-      (if is_block_of before (block_of first period row) then 0 else log_length first span period row) + terminals span (Some (block_of first period row)) rest
+      if is_block_of before row then terminals span before rest
+      else (log_length first span period row + terminals span (Some (block_of first period row)) rest)
 
   terminals-cons : (span : ℕ) (before : Option Block) (row : Row) (rest : List Row) →
       terminals span before (row ∷ rest)
-      ≡ (if is_block_of before (block_of first period row) then 0 else log_length first span period row) + terminals span (Some (block_of first period row)) rest
+      ≡ (if is_block_of before row then terminals span before rest
+      else (log_length first span period row + terminals span (Some (block_of first period row)) rest))
   unfolding terminals
   terminals-cons span before row rest = refl
 
@@ -192,7 +235,31 @@ module _ (first : ℤ) (period : ℕ) where
   unfolding terminals
   terminals-nil span before = refl
 
-  above_all : (row : Row) (rest : List Row) → first ≤ℤ row.instant → AllByRecursion (λ y. row_order row y ≡ Less) rest → AllByRecursion (IsAbove (Some row)) rest
+  -- after a row, the block before is that of the row
+  terminals-at : (span : ℕ) (a row : Row) (rest : List Row) (again : Bool) →
+      is_block_of (Some (block_of first period a)) row ≡ again →
+      (again ≡ true → is_same_block first period a row ≡ true) →
+      terminals span (Some (block_of first period a)) (row ∷ rest)
+      ≡ (if again then 0 else log_length first span period row) + terminals span (Some (block_of first period row)) rest
+  terminals-at span a row rest true is same =
+      let alike : terminals span (Some (block_of first period a)) rest
+      ≡ terminals span (Some (block_of first period row)) rest =
+      ap (λ block. terminals span (Some block) rest) (same_block a row (same refl)) in
+      terminals-cons span (Some (block_of first period a)) row rest ∙ rw is (omega arith)
+  terminals-at span a row rest false is same =
+      terminals-cons span (Some (block_of first period a)) row rest ∙ rw is refl
+
+  terminals-step : (span : ℕ) (before : Option Row) (row : Row) (rest : List Row) → 0 < period → IsAbove before row →
+      terminals span (option_map (block_of first period) before) (row ∷ rest)
+      ≡ (if is_block_of (option_map (block_of first period) before) row then 0 else log_length first span period row)
+      + terminals span (Some (block_of first period row)) rest
+  terminals-step span None row rest some above = terminals-cons span None row rest
+  terminals-step span (Some a) row rest some above =
+      terminals-at span a row rest (is_block_of (Some (block_of first period a)) row) refl
+      (λ is. same_by_end a row some above ∙ is)
+
+  above_all : (row : Row) (rest : List Row) → first ≤ℤ row.instant → AllByRecursion (λ y. row_order row y ≡ Less) rest →
+      AllByRecursion (IsAbove (Some row)) rest
   above_all row [] behind all = tt
   above_all row (y ∷ rest) behind all = ((all.0, behind), above_all row rest behind all.1)
 
@@ -209,9 +276,9 @@ module _ (first : ℤ) (period : ℕ) where
   terminals-anchors span front (row ∷ rest) before some shows above up behind =
       let all = front ++ row ∷ rest in
       let length_of = log_length first span period in
-      let again = is_block_of (option_map (block_of first period) before) (block_of first period row) in
+      let again = is_block_of (option_map (block_of first period) before) row in
       let anchor : is_anchor first period all row ≡ not again =
-      is_anchor-seen front rest before row shows above.0 up.0 ∙ ap not (seen-block before row above.0) in
+      is_anchor-seen front rest before row shows above.0 up.0 ∙ ap not (seen-block before row some above.0) in
       let more : sum_by length_of (filter (is_anchor first period all) (row ∷ rest))
       ≡ (if again then 0 else length_of row) + sum_by length_of (filter (is_anchor first period all) rest) =
       sum_by-filter_more length_of (is_anchor first period all) row rest again anchor in
@@ -220,7 +287,8 @@ module _ (first : ℤ) (period : ℕ) where
       terminals-anchors span (front ++ row ∷ []) rest (Some row) some (ShowsAll-push front before row some above.0 shows)
       (above_all row rest behind.0 up.0) up.1 behind.1 in
       let joined : (front ++ row ∷ []) ++ rest ≡ all = append_assoc front (row ∷ []) rest in
-      ap (λ n. (if again then 0 else length_of row) + n) (others ∙ ap (λ rows. sum_by length_of (filter (is_anchor first period rows) rest)) joined)
+      terminals-step span before row rest some above.0
+      ∙ ap (λ n. (if again then 0 else length_of row) + n) (others ∙ ap (λ rows. sum_by length_of (filter (is_anchor first period rows) rest)) joined)
       ∙ sym more
 
   -- of rows in order, those at which a block begins are the anchors
@@ -229,12 +297,13 @@ module _ (first : ℤ) (period : ℕ) where
   unfolding anchors_of
   terminals-ascending span rows some up inside =
       terminals-anchors span [] rows None some (λ row above. refl) (above_none rows) up
-      (recursion_from_All (λ row. first ≤ℤ row.instant) rows (λ k d below. (inside k d below).behind_first))
+      (recursion_from_All (λ row. first ≤ℤ row.instant) rows (λ k d below. (inside k d below).after_first))
 
   -- one row more, at a step of a loop
   pub terminals-drop : (span : ℕ) (before : Option Block) (rows : List Row) (i : ℕ) (d : Row) (again : Bool) → i < length rows →
-      again ≡ is_block_of before (block_of first period (get_or rows i d)) →
+      again ≡ is_block_of before (get_or rows i d) →
       terminals span before (drop i rows)
-      ≡ (if again then 0 else log_length first span period (get_or rows i d)) + terminals span (Some (block_of first period (get_or rows i d))) (drop (i + 1) rows)
+      ≡ (if again then terminals span before (drop (i + 1) rows)
+      else (log_length first span period (get_or rows i d) + terminals span (Some (block_of first period (get_or rows i d))) (drop (i + 1) rows)))
   terminals-drop span before rows i d again below is =
       rw (add-one i, is, drop-cons rows i d) (terminals-cons span before (get_or rows i d) (drop (suc i) rows))

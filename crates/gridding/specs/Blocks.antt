@@ -1,33 +1,58 @@
 -- Rows in blocks, each of one object.
-use Rattle.std.specs.Prelude.{◌≡◌, ℕ, ◌==◌, List, [], ◌∷◌, ◌++◌, filter, length, map, Option, Some, None}
-use Rattle.std.specs.List.{flat_map}
+use Rattle.std.specs.Prelude.{◌≡◌, ℕ, suc, ◌==◌, List, [], drop, filter, map, slice_get, take, Option, Some, None}
+use Rattle.std.specs.Borrow.{Bor}
+use Rattle.std.specs.List.{flat_map, zip}
 use Rattle.track_types.specs.declared.row.Row.{Row}
 use Rattle.gridding.specs.PackedPlace.{cell_of, instant_of}
 use Rattle.gridding.specs.declared.packed_place.PackedPlace.{PackedPlace}
-use Rattle.gridding.specs.declared.track_blocks.Block.{Block}
+use Rattle.gridding.specs.declared.track_blocks.TrackBlocks.{TrackBlocks}
+
+-- an object, and places of its rows in the order in which they came
+abbrev pub Run : Type 0
+Run = ℕ × List PackedPlace
 
 -- the row of an object at a packed place
 abbrev pub row_at : ℕ → PackedPlace → Row
 row_at object place = record { object = object; instant = instant_of place; cell = cell_of place }
 
--- the rows of a block, in the order in which they came
-abbrev pub rows_of_block : Block → List Row
-rows_of_block block = map (row_at block.object) block.places.items
+-- the rows of a run
+abbrev pub rows_of_run : Run → List Row
+rows_of_run run = map (row_at run.0) run.1
 
--- the rows of blocks, block after block
-abbrev pub rows_of_blocks : List Block → List Row
-rows_of_blocks = flat_map rows_of_block
+-- the rows of runs, run after run
+abbrev pub rows_of_runs : List Run → List Row
+rows_of_runs = flat_map rows_of_run
 
--- the blocks of an object
-abbrev pub blocks_with : ℕ → List Block → List Block
-blocks_with object = filter (λ block. block.object == object)
+-- the runs of an object
+abbrev pub runs_with : ℕ → List Run → List Run
+runs_with object = filter (λ run. run.0 == object)
 
 -- the rows of an object
 abbrev pub rows_with : ℕ → List Row → List Row
 rows_with object = filter (λ row. row.object == object)
 
--- the last block of an object, if it has one
-abbrev pub IsLastBlock : ℕ → List Block → Option ℕ → Type 0
-IsLastBlock object blocks None = blocks_with object blocks ≡ []
-IsLastBlock object blocks (Some place) =
-    (front : List Block) × (block : Block) × (back : List Block) × (blocks ≡ front ++ (block ∷ back)) × (length front ≡ place) × (block.object ≡ object) × (blocks_with object back ≡ [])
+-- where an object stands last among objects, if it does
+abbrev pub IsLastOf : ℕ → List ℕ → Option ℕ → Type 0
+IsLastOf object objects None = filter (λ other. other == object) objects ≡ []
+IsLastOf object objects (Some place) =
+    (slice_get objects place ≡ Some object) × (filter (λ other. other == object) (drop (suc place) objects) ≡ [])
+
+-- so many places of a block, from the first on
+abbrev pub filled_of : List PackedPlace × ℕ → List PackedPlace
+filled_of block = take block.1 block.0
+
+-- the runs of blocks: of each block its object and the places that are filled
+unfoldable pub runs_of : TrackBlocks → List Run
+runs_of tracks = zip tracks.objects.items (map filled_of (zip tracks.blocks.items tracks.lengths.items))
+
+-- an object beside a reference to places
+abbrev pub RunRef : Type 0
+RunRef = ℕ × Bor (List PackedPlace)
+
+-- the run that is referred to
+abbrev pub run_in : RunRef → Run
+run_in entry = (entry.0, entry.1.now)
+
+-- the runs that are referred to
+abbrev pub runs_in : List RunRef → List Run
+runs_in = map run_in

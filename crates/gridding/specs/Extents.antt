@@ -1,5 +1,5 @@
 -- From the least to the greatest of the numbers of rows.
-use Rattle.std.specs.Prelude.{◌≡◌, ℤ, List, map}
+use Rattle.std.specs.Prelude.{◌≡◌, ◌^◌, ◌-◌, ℤ, pos, negsuc, List, fold, map}
 use Rattle.std.specs.Int.{int_max, int_min}
 use Rattle.track_types.specs.Near.{IsNear}
 use Rattle.track_types.specs.Quantities.{greatest, least}
@@ -9,6 +9,14 @@ use Rattle.gridding.specs.declared.extents.Extent.{Extent}
 -- an extent, and so much more that a number is in it
 abbrev pub widened : Extent → ℤ → Extent
 widened extent number = record { least = int_min extent.least number; greatest = int_max extent.greatest number }
+
+-- the extent of no numbers, from the greatest of a word to the least: the first number is all of it
+abbrev pub no_extent : Extent
+no_extent = record { least = pos (2 ^ 63 - 1); greatest = negsuc (2 ^ 63 - 1) }
+
+-- the extent of numbers
+abbrev pub extent_over : List ℤ → Extent
+extent_over = fold widened no_extent
 
 -- the extent of a number of each row
 pub record IsExtentOf (number : Row → ℤ) (rows : List Row) (extent : Extent) : Type 0 where

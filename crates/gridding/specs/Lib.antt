@@ -2,8 +2,9 @@ pub mod Floor
 pub mod ChartOf
 pub mod GridLimit
 pub mod Extents
+pub mod Survey
 pub mod Block
 pub mod PackedPlace
 pub mod Blocks
-pub mod Gridded
-pub mod Merged
+pub mod GriddedRows
+pub mod Merging

@@ -1,7 +1,8 @@
-ghost use Rattle.std.specs.Prelude.{◌≡◌, ◌^◌, ◌<◌, ◌≤◌, All, length, sum_by};
-ghost use Rattle.gridding.specs.Block.{IsInSpan, block_of, is_block_of};
+ghost use Rattle.std.specs.Prelude.{◌≡◌, ◌+◌, ◌-◌, ◌^◌, ◌<◌, ◌≤◌, ◌+ℤ◌, All, length, min, pos, sum_by};
+ghost use Rattle.gridding.specs.Block.{IsInSpan, is_block_of, period_end};
 ghost use Rattle.track_types.specs.Limits.{IsPeriod, limit_of};
-ghost use Rattle.track_types.specs.Quantities.{anchors_of, log_length};
+ghost use Rattle.track_types.specs.Near.{IsNear};
+ghost use Rattle.track_types.specs.Quantities.{anchors_of, elapsed, log_length};
 ghost use Rattle.track_types.specs.Row.{IsAscending};
 
 use track_types::{LimitKind, Row};
@@ -10,59 +11,77 @@ use track_types::{LimitKind, Row};
 #[derive(Clone, Copy)]
 pub struct Block {
     pub object: u32,
-    pub period: u64,
+    /// The first instant after the period.
+    pub end: i64,
 }
 
 /// How many terminals the logs of all blocks of rows in order have: one for each instant of a block's
 /// period after the block's first row. Periods begin at `first`, and the last ends where the span does.
+///
+/// Rows ascend, so that a row is of the block before where it is of its object and comes before the end of its
+/// period. So only a block's first row takes a division.
 pub fn symbol_count(rows: &[Row], first: i64, span: u64, period: u64) -> u64
     requires ascending { IsAscending rows.now }
     requires few { length rows.now ≤ limit_of LimitKind.Rows }
     requires in_span { All (IsInSpan first span) rows.now }
     requires span { span ≤ limit_of LimitKind.Span }
+    requires near { IsNear first }
     requires period { IsPeriod period }
     ensures { result ≡ sum_by (log_length first span period) (anchors_of first period rows.now) }
 {
     let mut count = 0;
     let mut before = None;
     for row in rows {
-        let block = block_of(row, first, period);
-        if !is_block_of(before, block) {
-            count += log_length(row, first, span, period);
+        if !is_block_of(before, row) {
+            let period_end = end_of_period(row, first, period);
+            count += log_length(row, first, span, period_end);
+            before = Some(block_until(row, first, period_end));
         }
-        before = Some(block);
     }
     count
 }
 
-fn block_of(row: &Row, first: i64, period: u64) -> Block
-    requires { 0 < period }
-    ensures { result ≡ block_of first period row.now }
+fn is_block_of(before: Option<Block>, row: &Row) -> bool
+    ensures { result ≡ is_block_of before row.now }
 {
-    Block {
-        object: row.object,
-        period: row.instant.abs_diff(first) / period,
+    match before {
+        Some(before) => before.object == row.object && row.instant < before.end,
+        None => false,
     }
 }
 
-// How many instants of its period come after an anchor's.
-fn log_length(anchor: &Row, first: i64, span: u64, period: u64) -> u64
-    requires in_span { IsInSpan first span anchor.now }
-    requires span { span ≤ limit_of LimitKind.Span }
+// How many instants come before the end of an anchor's period, from the first on.
+fn end_of_period(anchor: &Row, first: i64, period: u64) -> u64
+    requires elapsed { elapsed first anchor.now < limit_of LimitKind.Span }
     requires period { IsPeriod period }
-    ensures exact { result ≡ log_length first span period anchor.now }
+    ensures exact { result ≡ period_end first period anchor.now }
+    ensures after { elapsed first anchor.now < result }
+    ensures within { result ≤ 2 ^ 23 }
+{
+    (anchor.instant.abs_diff(first) / period + 1) * period
+}
+
+// How many instants of its period come after an anchor's.
+fn log_length(anchor: &Row, first: i64, span: u64, period_end: u64) -> u64
+    requires in_span { elapsed first anchor.now < span }
+    requires in_period { elapsed first anchor.now < period_end }
+    requires span { span ≤ limit_of LimitKind.Span }
+    ensures exact { result ≡ min period_end span - (elapsed first anchor.now + 1) }
     ensures within { result ≤ limit_of LimitKind.Span }
 {
     let elapsed = anchor.instant.abs_diff(first);
-    let period_end = (elapsed / period + 1) * period;
     period_end.min(span) - (elapsed + 1)
 }
 
-fn is_block_of(before: Option<Block>, block: Block) -> bool
-    ensures { result ≡ is_block_of before block }
+// The block of an anchor, whose period ends after so many instants.
+fn block_until(anchor: &Row, first: i64, period_end: u64) -> Block
+    requires near { IsNear first }
+    requires within { period_end ≤ 2 ^ 23 }
+    ensures object { result.object ≡ anchor.now.object }
+    ensures end { result.end ≡ first +ℤ pos period_end }
 {
-    match before {
-        Some(before) => before.object == block.object && before.period == block.period,
-        None => false,
+    Block {
+        object: anchor.object,
+        end: first + period_end as i64,
     }
 }

@@ -9,15 +9,15 @@ pub struct Extent {
 }
 
 impl Extent {
-    ghost use Rattle.gridding.specs.Extents.{widened};
+    ghost use Rattle.gridding.specs.Extents.{no_extent, widened};
 
-    /// From a number to itself.
-    pub fn at(number: i64) -> Self
-        ensures { (result.least ≡ number) × (result.greatest ≡ number) }
+    /// The extent of no numbers.
+    pub fn empty() -> Self
+        ensures { result ≡ no_extent }
     {
         Extent {
-            least: number,
-            greatest: number,
+            least: i64::MAX,
+            greatest: i64::MIN,
         }
     }
 

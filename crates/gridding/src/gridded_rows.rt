@@ -1,7 +1,8 @@
-ghost use Rattle.std.specs.Prelude.{◌≡◌, ◌≢◌, ◌≤◌, ◌<◌, ℕ, List, [], ◌++◌, length, All, None, IfErr, IfOk, OnOk};
+ghost use Rattle.std.specs.Prelude.{◌≡◌, ◌≢◌, ◌≤◌, ◌<◌, ℕ, List, [], ◌∷◌, ◌++◌, length, All, None, IfErr, IfOk, OnOk};
 ghost use Rattle.track_types.specs.Limits.{IsPeriod, IsResolution};
-ghost use Rattle.track_types.specs.Near.{IsRawInRange};
+ghost use Rattle.track_types.specs.Near.{IsRawInRange, IsRowInRange};
 ghost use Rattle.track_types.specs.declared.raw_row.RawRow.{RawRow};
+ghost use Rattle.track_types.specs.declared.row.Row.{Row};
 
 use crate::fault::GridFault;
 use crate::limits::check_limits;
@@ -9,12 +10,18 @@ use crate::merging::merged_rows;
 use crate::row_gridding::gridded;
 use crate::track_blocks::TrackBlocks;
 use std::alloc::{AllocError, Global};
-use track_types::{Chart, RawRow};
+use track_types::{Chart, RawRow, Row};
 
-/// Raw rows that are gridded as they come. They take some 17 bytes a row, and with their chart 49.
+/// Raw rows that are gridded as they come. Where objects have many, they take some 17 bytes a row, and with their chart
+/// 49.
+///
+/// A file of more objects than a chart may have is refused in the end, but with its count of objects, for which all its
+/// rows are needed. From the first row that has no block on they take 32 bytes each.
 #[derive(Drop)]
 pub struct GriddedRows {
     tracks: TrackBlocks,
+    // The rows from the first that had no block, in their order.
+    loose: Vec<Row>,
     // How many rows came, for the memory of their chart.
     count: usize,
     cell: u64,
@@ -25,7 +32,7 @@ pub struct GriddedRows {
 
 impl GriddedRows {
     ghost use Rattle.gridding.specs.ChartOf.{chart_of};
-    ghost use Rattle.gridding.specs.Gridded.{AreFew, HasGridded};
+    ghost use Rattle.gridding.specs.GriddedRows.{AreFew, HoldsRows, HasGridded};
     ghost use Rattle.gridding.specs.GridLimit.{IsFaultOf, grid_limit};
 
     /// No rows yet, to be gridded by `cell` and `tick`.
@@ -36,22 +43,38 @@ impl GriddedRows {
     {
         GriddedRows {
             tracks: TrackBlocks::new(alloc),
+            loose: Vec::new(alloc),
             count: 0,
             cell,
             tick,
         }
     }
 
-    /// Takes rows that come after those before.
+    /// Takes rows that come after those before. After an `Err` the rows in hand are of no more use.
     pub fn append(&mut self, rows: &[RawRow]) -> Result<(), AllocError>
         requires { All IsRawInRange rows.now }
         ensures { OnOk result ((cell tick : ℕ) (raws : List RawRow) → HasGridded cell tick raws self.old →
             HasGridded cell tick (raws ++ rows.now) self.new) }
     {
         for raw in rows {
-            self.tracks.add(gridded(raw, self.cell, self.tick))?;
+            self.add(gridded(raw, self.cell, self.tick))?;
         }
         self.count = self.count.saturating_add(rows.len());
+        Ok(())
+    }
+
+    // Puts a row after those before: into a block, as long as each row had one.
+    fn add(&mut self, row: Row) -> Result<(), AllocError>
+        requires { IsRowInRange row }
+        ensures cell { self.new.cell ≡ self.old.cell }
+        ensures tick { self.new.tick ≡ self.old.tick }
+        ensures rows { OnOk result ((rows : List Row) → HoldsRows rows self.old →
+            HoldsRows (rows ++ (row ∷ [])) self.new) }
+    {
+        if self.loose.is_empty() && self.tracks.add(row)? {
+            return Ok(());
+        }
+        self.loose.push(row)?;
         Ok(())
     }
 
@@ -67,11 +90,12 @@ impl GriddedRows {
         ensures fault { IfErr result (λ fault. (cell tick : ℕ) (raws : List RawRow) →
             HasGridded cell tick raws self → IsFaultOf raws cell tick period fault) }
     {
-        let made = merged_rows(alloc, self.tracks.as_slice(), self.count)?;
-        if made.is_empty() {
+        let runs = self.tracks.runs(alloc)?;
+        let made = merged_rows(alloc, runs, &self.loose, self.count)?;
+        if made.rows.is_empty() {
             return Err(GridFault::Empty);
         }
-        check_limits(made.as_slice(), period)?;
-        Ok(Chart::new(made, self.cell, self.tick, period))
+        check_limits(made.rows.as_slice(), made.survey, period)?;
+        Ok(Chart::new(made.rows, self.cell, self.tick, period))
     }
 }

@@ -15,6 +15,7 @@ mod limits;
 mod merging;
 mod packed_place;
 mod row_gridding;
+mod row_sorting;
 mod survey;
 #[cfg(test)]
 mod tests;

@@ -1,6 +1,7 @@
 ghost use Rattle.std.specs.Prelude.{◌≡◌, ◌+◌, ◌^◌, ◌<◌, ◌≤◌, ◌-ℤ◌, max, unsigned_abs};
 ghost use Rattle.std.specs.Prelude.{All, IfErr, None, OnOk, false, length, true};
 ghost use Rattle.gridding.specs.GridLimit.{IsRefusal, first_past, is_past};
+ghost use Rattle.gridding.specs.Survey.{IsMeasureOf};
 ghost use Rattle.track_types.specs.Limits.{IsPeriod, limit_of};
 ghost use Rattle.track_types.specs.Near.{IsNear, IsRowInRange};
 ghost use Rattle.track_types.specs.Row.{IsAscending};
@@ -11,18 +12,18 @@ use crate::fault::GridFault;
 use crate::survey::Survey;
 use track_types::{LimitKind, Row};
 
-/// Refuses the first quantity of rows in order that passes its limit.
-pub fn check_limits(rows: &[Row], period: u32) -> Result<(), GridFault>
+/// Refuses the first quantity of rows in order that passes its limit. `survey` is what was found of them.
+pub fn check_limits(rows: &[Row], survey: Survey, period: u32) -> Result<(), GridFault>
     requires some { 0 < length rows.now }
     requires few { length rows.now ≤ limit_of LimitKind.Rows }
     requires ascending { IsAscending rows.now }
     requires in_range { All IsRowInRange rows.now }
+    requires survey { IsMeasureOf rows.now survey }
     requires period { IsPeriod period }
     ensures ok { OnOk result (first_past rows.now period ≡ None) }
     ensures limit { IfErr result (IsRefusal (first_past rows.now period)) }
 {
     let period = u64::from(period);
-    let survey = Survey::of(rows);
     let span = survey.time.width();
     within(LimitKind::Objects, survey.objects)?;
     within(LimitKind::Span, span)?;

@@ -14,7 +14,8 @@ const INSTANT_BIT: u32 = 2 * NUMBER_BITS;
 /// The bits of a place's last number.
 const NUMBER_MASK: u128 = (1 << NUMBER_BITS) - 1;
 
-/// An instant and a cell in 16 bytes. Each of the three numbers is at most 2^40 away from 0, and 42 bits have room for it.
+/// An instant and a cell in 16 bytes. Each of the three numbers is at most 2^40 away from 0, and 42 bits have room for
+/// it.
 #[derive(Clone, Copy, Default)]
 pub struct PackedPlace {
     bits: u128,

@@ -1,18 +1,25 @@
-ghost use Rattle.std.specs.Prelude.{◌≡◌, ◌<◌, ◌≤◌, All, length};
-ghost use Rattle.gridding.specs.Block.{is_object_of};
-ghost use Rattle.track_types.specs.Near.{IsRowInRange};
-ghost use Rattle.track_types.specs.Quantities.{object_count};
-ghost use Rattle.track_types.specs.Row.{IsAscending};
+ghost use Rattle.std.specs.Prelude.{◌≡◌, [], ◌∷◌, ◌++◌, List};
+ghost use Rattle.gridding.specs.Survey.{is_object_of};
+ghost use Rattle.track_types.specs.declared.row.Row.{Row};
 
 use crate::extents::Extent;
 use track_types::Row;
 
-/// What one pass over rows finds.
+/// Rows, with what was found of them.
+#[derive(Drop)]
+pub struct SurveyedRows {
+    pub rows: Vec<Row>,
+    pub survey: Survey,
+}
+
+/// What is found of rows, one after the other.
 #[derive(Clone, Copy)]
 pub struct Survey {
-    /// How many different objects the rows have.
+    /// How many different objects rows in order have.
     pub objects: u64,
-    /// The extent of their instants.
+    /// The object of the last row.
+    pub last: Option<u32>,
+    /// The extent of the rows' instants.
     pub time: Extent,
     /// The extent of the columns of their cells.
     pub columns: Extent,
@@ -21,39 +28,44 @@ pub struct Survey {
 }
 
 impl Survey {
-    ghost use Rattle.gridding.specs.Extents.{IsExtentOf};
+    ghost use Rattle.gridding.specs.Survey.{IsSurveyOf};
 
-    /// The survey of rows in order.
-    pub fn of(rows: &[Row]) -> Self
-        requires some { 0 < length rows.now }
-        requires ascending { IsAscending rows.now }
-        requires in_range { All IsRowInRange rows.now }
-        ensures objects { result.objects ≡ object_count rows.now }
-        ensures few { result.objects ≤ length rows.now }
-        ensures time { IsExtentOf (λ row. row.instant) rows.now result.time }
-        ensures columns { IsExtentOf (λ row. row.cell.x) rows.now result.columns }
-        ensures lines { IsExtentOf (λ row. row.cell.y) rows.now result.lines }
+    /// The survey of no rows.
+    pub fn start() -> Self
+        ensures { IsSurveyOf [] result }
     {
-        let mut objects = 0;
-        let mut before = None;
-        let mut time = Extent::at(rows[0].instant);
-        let mut columns = Extent::at(rows[0].cell.x);
-        let mut lines = Extent::at(rows[0].cell.y);
-        for row in rows {
-            if !is_object_of(before, row.object) {
-                objects += 1;
-            }
-            before = Some(row.object);
-            time = time.widened(row.instant);
-            columns = columns.widened(row.cell.x);
-            lines = lines.widened(row.cell.y);
-        }
         Survey {
-            objects,
-            time,
-            columns,
-            lines,
+            objects: 0,
+            last: None,
+            time: Extent::empty(),
+            columns: Extent::empty(),
+            lines: Extent::empty(),
         }
+    }
+
+    /// The survey of the same rows and one more after them.
+    pub fn with(self, row: &Row) -> Self
+        ensures { (rows : List Row) → IsSurveyOf rows self → IsSurveyOf (rows ++ (row.now ∷ [])) result }
+    {
+        let again = is_object_of(self.last, row.object);
+        Survey {
+            objects: self.objects.saturating_add(u64::from(!again)),
+            last: Some(row.object),
+            time: self.time.widened(row.instant),
+            columns: self.columns.widened(row.cell.x),
+            lines: self.lines.widened(row.cell.y),
+        }
+    }
+
+    /// The survey of all these rows.
+    pub fn of(rows: &[Row]) -> Self
+        ensures { IsSurveyOf rows.now result }
+    {
+        let mut survey = Survey::start();
+        for row in rows {
+            survey = survey.with(row);
+        }
+        survey
     }
 }
 

@@ -213,6 +213,14 @@ fn blocks_and_symbols(rt: &impl Abort, alloc: Global) -> Result<(), Fail> {
 fn limits_are_judged_in_order(rt: HostRuntime) -> Result<(), Fail> {
     let refused = gridded(rt.alloc(), &[], 1, 1, 1).err();
     assert_eq!(rt; refused, Some(GridFault::Empty), "no row");
+    let crowd = tracks(rt.alloc(), 70_000, 2)?;
+    assert!(rt; crowd.len() <= 200_000);
+    let refused = gridded(rt.alloc(), crowd.as_slice(), 1, 1, 1).err();
+    assert_eq!(rt;
+        refused,
+        limit(LimitKind::Objects, 70_000),
+        "rows without a block"
+    );
     extents_up_to_2_to_the_20(&rt, rt.alloc())?;
     limits_before_blocks(&rt, rt.alloc())?;
     blocks_and_symbols(&rt, rt.alloc())

@@ -1,7 +1,7 @@
 use Rattle.std.proofs.Common.{◌≡◌, ◌++◌, ◌<◌, List}
 use Rattle.std.specs.Slice.Iter.{chunks_rest, chunks_size}
 use Rattle.track_types.specs.declared.raw_row.RawRow.{RawRow}
-use Rattle.gridding.specs.Gridded.{HasGridded}
+use Rattle.gridding.specs.GriddedRows.{HasGridded}
 use Rattle.gridding.proofs.tests.in_pieces.Given as goal
 
 -- the pieces so far are gridded

@@ -1,9 +1,8 @@
-use Rattle.std.proofs.Common.{rules, ◌≡◌, [], ◌∷◌, ◌++◌, Result, Ok, Err, refl, subst}
-use Rattle.std.specs.Prelude.{OnOk}
+use Rattle.std.proofs.Common.{rules, ◌≡◌, [], ◌∷◌, ◌++◌, refl, subst}
 use Rattle.gridding.specs.Blocks.{row_at}
-use Rattle.gridding.specs.Gridded.{AreBlocksOf}
+use Rattle.gridding.specs.GriddedRows.{AreBlocksOf}
 use Rattle.gridding.specs.PackedPlace.{cell_of, instant_of}
-use Rattle.gridding.proofs.track_blocks.TrackBlocks.add.Goals.{After-new-place, in_default-via-in-Some+else-put, in_default-via-in_default}
+use Rattle.gridding.proofs.track_blocks.TrackBlocks.add.Goals.{After-new-place, in-Some+else-put, in-None+else-len}
 use Rattle.gridding.proofs.track_blocks.TrackBlocks.add.Goals as goal
 
 -- what is packed is the row
@@ -13,20 +12,16 @@ packed c =
     let cell : cell_of c.new-place.result ≡ c.args.row.cell = search rules in
     rw (instant, cell) refl
 
--- what holds of a value, if there is one
-on_ok : {A E P Q : Type 0} (result : Result A E) → (P → Q) → OnOk result P → OnOk result Q
-on_ok (Ok value) more holds = more holds
-on_ok (Err fault) more holds = holds
+pub returns-then-put-clause-put : goal.returns-then-put-clause-put
+returns-then-put-clause-put c = λ _ rows blocks.
+    subst (λ row. AreBlocksOf (rows ++ (row ∷ [])) c.put.new.self) (packed (goal.at.returns-then-put-clause-put c).After-new-place)
+    (c.put.ensures.put c.if-put.true rows blocks (c.in-Some.ensures rows blocks))
 
-pub returns-in-Some : goal.returns-in-Some
-returns-in-Some c = λ rows blocks.
-    subst (λ row. AreBlocksOf (rows ++ (row ∷ [])) c.put.new.self) (packed (goal.at.returns-in-Some c).After-new-place)
-    (c.put.ensures.put c.if-put.true rows c.args.row.object blocks (c.in-Some.ensures rows blocks))
-
-pub returns-in_default : goal.returns-in_default
-returns-in_default c = on_ok c.open.result (λ opens rows blocks.
-    let kept : AreBlocksOf rows c.in_default.self = elim c.in_default.branch [
-      | in_default-via-in-Some+else-put w ↦ rw w.self-is (w.put.ensures.full w.if-put.false rows blocks)
-      | in_default-via-in_default w ↦ rw w.self-is blocks
+pub returns-clause-put : goal.returns-clause-put
+returns-clause-put c = λ _ rows blocks.
+    let before : AreBlocksOf rows c.match-last_block.self = elim c.match-last_block.branch [
+      | in-Some+else-put w ↦ rw w.self-is (w.put.ensures.full w.if-put.false rows blocks)
+      | in-None+else-len w ↦ rw w.self-is blocks
     ] in
-    subst (λ row. AreBlocksOf (rows ++ (row ∷ [])) c.open.new.self) (packed (goal.at.returns-in_default c).After-new-place) (opens rows kept)) c.open.ensures
+    subst (λ row. AreBlocksOf (rows ++ (row ∷ [])) c.open.new.self) (packed (goal.at.returns-clause-put c).After-new-place)
+    (c.in_ok-open.ensures rows before)

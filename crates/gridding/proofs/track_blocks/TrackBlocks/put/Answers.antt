@@ -1,8 +1,8 @@
-use Rattle.std.proofs.Common.{refl}
+use Rattle.std.proofs.Common.{refl, rules}
 use Rattle.gridding.proofs.BlockLemmas.{blocks_pushed}
 use Rattle.gridding.proofs.track_blocks.TrackBlocks.put.Goals as goal
 
-pub returns-in-Some-clause-put : goal.returns-in-Some-clause-put
-returns-in-Some-clause-put c = λ _ rows object blocks last.
-    blocks_pushed rows c.args.self.now _ object c.args.place blocks c.args.last c.in-Some.block.now
-    (record { object = c.in-Some.block.now.object; places = c.push.new.self }) last c.in-Some.ensures.value refl c.push.ensures.items refl refl refl
+pub returns-in-Some-get_mut-clause-put : goal.returns-in-Some-get_mut-clause-put
+returns-in-Some-get_mut-clause-put c = λ _ rows blocks last.
+    blocks_pushed rows c.args.self.now _ c.args.object c.args.place blocks c.args.last c.in-Some.field-0.now
+    c.in-Some-get_mut.places.now _ last (search rules) (search rules) c.write.ensures refl refl refl refl refl

@@ -1,0 +1,39 @@
+-- Rows that are gridded and put in blocks as they come.
+use Rattle.std.specs.Prelude.{◌≡◌, ◌≤◌, ◌++◌, ℕ, List, length, map, All, Some, nat_eq}
+use Rattle.std.specs.HashMap.{get}
+use Rattle.std.specs.Option.{IfSome}
+use Rattle.track_types.specs.Limits.{limit_of}
+use Rattle.track_types.specs.Near.{IsRawInRange}
+use Rattle.track_types.specs.declared.limit.LimitKind.TheVariants.{Rows}
+use Rattle.track_types.specs.declared.raw_row.RawRow.{RawRow}
+use Rattle.track_types.specs.declared.row.Row.{Row}
+use Rattle.gridding.specs.Blocks.{IsLastOf, rows_of_runs, rows_with, runs_of, runs_with}
+use Rattle.gridding.specs.ChartOf.{gridded}
+use Rattle.gridding.specs.declared.gridded_rows.GriddedRows.{GriddedRows}
+use Rattle.gridding.specs.declared.track_blocks.TrackBlocks.{TrackBlocks}
+
+-- Blocks have these rows: each object's in the order in which they came. Each block has an object and a length, and the
+-- last block of each object is told.
+pub record AreBlocksOf (rows : List Row) (tracks : TrackBlocks) : Type 0 where
+  pub objects : length tracks.objects.items ≡ length tracks.blocks.items
+  pub lengths : length tracks.lengths.items ≡ length tracks.blocks.items
+  pub held : (object : ℕ) → rows_of_runs (runs_with object (runs_of tracks)) ≡ rows_with object rows
+  pub last : (object : ℕ) → IsLastOf object tracks.objects.items (get nat_eq tracks.last_of object)
+  pub recent : IfSome tracks.recent (λ put. IsLastOf put.0 tracks.objects.items (Some put.1))
+
+-- These rows came, in this order: those in blocks, and after them those from the first that had no block on.
+pub record HoldsRows (rows : List Row) (gridded : GriddedRows) : Type 0 where
+  pub front : List Row
+  pub all : rows ≡ front ++ gridded.loose.items
+  pub blocks : AreBlocksOf front gridded.tracks
+
+-- These raw rows came, and were gridded by CELL and TICK.
+pub record HasGridded (cell tick : ℕ) (raws : List RawRow) (rows : GriddedRows) : Type 0 where
+  pub by_cell : rows.cell ≡ cell
+  pub by_tick : rows.tick ≡ tick
+  pub held : HoldsRows (map (gridded cell tick) raws) rows
+  pub ranges : All IsRawInRange raws
+
+-- These are the rows of so many raw rows as a chart may have.
+abbrev pub AreFew : GriddedRows → Type 0
+AreFew rows = (cell : ℕ) × (tick : ℕ) × (raws : List RawRow) × HasGridded cell tick raws rows × (length raws ≤ limit_of Rows)

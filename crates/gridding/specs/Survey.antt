@@ -1,0 +1,32 @@
+-- What is found of rows that are looked at one by one, in their order.
+use Rattle.std.specs.Prelude.{◌≡◌, ◌<◌, ◌≤◌, ◌^◌, ℕ, Bool, false, ◌==◌, List, fold, length, Option, Some, None}
+use Rattle.track_types.specs.Quantities.{columns_of, instants_of, lines_of, object_count}
+use Rattle.track_types.specs.Row.{IsAscending}
+use Rattle.track_types.specs.declared.row.Row.{Row}
+use Rattle.gridding.specs.Extents.{IsExtentOf, extent_over}
+use Rattle.gridding.specs.declared.survey.Survey.{Survey}
+
+-- whether the row before, if there was one, was of this object
+abbrev pub is_object_of : Option ℕ → ℕ → Bool
+is_object_of None object = false
+is_object_of (Some before) object = before == object
+
+-- the object of the last row, if there is a row
+abbrev pub last_object : List Row → Option ℕ
+last_object = fold (λ _ row. Some row.object) None
+
+-- What has been found of these rows. Objects are counted of rows in order, of which there are no more than a word counts.
+pub record IsSurveyOf (rows : List Row) (survey : Survey) : Type 0 where
+  pub objects : IsAscending rows → length rows < 2 ^ 64 → survey.objects ≡ object_count rows
+  pub last : survey.last ≡ last_object rows
+  pub time : survey.time ≡ extent_over (instants_of rows)
+  pub columns : survey.columns ≡ extent_over (columns_of rows)
+  pub lines : survey.lines ≡ extent_over (lines_of rows)
+
+-- what a survey tells of some rows in order and in range
+pub record IsMeasureOf (rows : List Row) (survey : Survey) : Type 0 where
+  pub objects : survey.objects ≡ object_count rows
+  pub few : survey.objects ≤ length rows
+  pub time : IsExtentOf (λ row. row.instant) rows survey.time
+  pub columns : IsExtentOf (λ row. row.cell.x) rows survey.columns
+  pub lines : IsExtentOf (λ row. row.cell.y) rows survey.lines
