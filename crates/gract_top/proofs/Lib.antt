@@ -1,6 +1,6 @@
 pub mod RequestLemmas
 pub mod LoadingLemmas
-mod ReceivedLemmas
+mod ReceivingLemmas
 pub mod OutcomeLemmas
 pub mod EndsLemmas
 pub mod SummaryLemmas

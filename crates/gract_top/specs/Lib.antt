@@ -1,7 +1,7 @@
 pub mod Request
 pub mod Loading
 pub mod Refusal
-pub mod Received
+pub mod Receiving
 pub mod Outcome
 pub mod Summary
 pub mod Sampling

@@ -4,7 +4,7 @@ ghost use Rattle.host_ports.specs.Faults.{Rose};
 ghost use Rattle.host_ports.specs.FileMap.{IsMissing};
 ghost use Rattle.track_types.specs.Limits.{IsPeriod, IsResolution, limit_of};
 ghost use Rattle.host_ports.specs.NumberedCalls.{raised};
-ghost use Rattle.gract_top.specs.Received.{HasGriddedRows};
+ghost use Rattle.gract_top.specs.Receiving.{HasGriddedRows};
 ghost use Rattle.gract_top.specs.Refusal.{IsAccepted, IsRefused, is_late, is_refusal};
 ghost use Rattle.gract_top.specs.declared.request.Settings.{Settings};
 

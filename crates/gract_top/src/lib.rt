@@ -5,7 +5,7 @@
 //! filtering the chart gives. Or it makes a sample's rows and says a summary of their index. Files, source
 //! and sink are handed in, so the call's contract can speak of all that came, was saved and was said.
 //! The crate stands on row_reader, gridding, sample_rows, chart_parts, snapshots, index_format,
-//! track_index, question_shell, host_ports, track_types, step_count, arrayvec and itoa.
+//! track_index, question_shell, host_ports, track_types, step_count, list_laws, arrayvec and itoa.
 #![tactic(auto)]
 
 mod answering;

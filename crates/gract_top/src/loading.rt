@@ -13,7 +13,7 @@ use host_ports::Files;
 use track_types::LimitKind;
 
 /// How many bytes are asked for at a time.
-const PIECE: usize = 0x2_0000;
+const PIECE: usize = 0x4_0000;
 
 // Loads a file piece by piece into a receiver that took nothing yet, or tells the outcome that this decides. No byte
 // beyond the limit of that kind and one is asked for.

@@ -8,7 +8,7 @@ use track_types::RawRow;
 #[derive(Drop)]
 pub(crate) struct RowsReceiver {
     parser: RowParser,
-    // The rows of the piece that was taken last, in memory that is used again.
+    // The rows that the parser gave last, in memory that is used again.
     batch: Vec<RawRow>,
     rows: GriddedRows,
 }
@@ -17,8 +17,8 @@ impl RowsReceiver {
     ghost use Rattle.std.specs.Prelude.{◌≡◌, ◌≤◌, ℕ, List, [], length, IfOk, IfErr};
     ghost use Rattle.track_types.specs.Limits.{IsResolution, limit_of};
     ghost use Rattle.track_types.specs.declared.limit.LimitKind.TheVariants.{Csv};
-    ghost use Rattle.gridding.specs.Gridded.{HasGridded};
-    ghost use Rattle.gract_top.specs.Received.{AreGriddedRowsOf, HasReceived, HasReceivedSince};
+    ghost use Rattle.gridding.specs.GriddedRows.{HasGridded};
+    ghost use Rattle.gract_top.specs.Receiving.{AreGriddedRowsOf, HasReceived, HasReceivedSince};
     ghost use Rattle.row_reader.specs.Rows.{IsFaultOf};
 
     // One that took nothing yet, and grids by `cell` and `tick`.
@@ -59,7 +59,7 @@ impl RowsReceiver {
 }
 
 impl Receiver for RowsReceiver {
-    ghost use Rattle.gract_top.specs.Received.{HasReceivedSince};
+    ghost use Rattle.gract_top.specs.Receiving.{HasReceivedSince};
     ghost use Rattle.track_types.specs.declared.limit.TheConstants.{MAX_CSV};
 
     ghost has_taken = { HasReceivedSince };

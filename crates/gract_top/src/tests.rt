@@ -118,6 +118,23 @@ fn long_track(alloc: Global) -> Result<(Vec<u8>, Vec<u8>), AllocError> {
     Ok((csv, said))
 }
 
+// A file of more bytes than are asked for at a time, and what is said of the path where the first piece ends, in the
+// row of the instant 7,343.
+fn file_of_pieces(alloc: Global) -> Result<(Vec<u8>, Vec<u8>), AllocError> {
+    let mut csv = Vec::new(alloc);
+    let mut said = Vec::new(alloc);
+    for instant in 0..8000u32 {
+        let row = format!(in alloc; "4000000000,{instant},{instant},-1099511627776\n")?;
+        csv.extend_from_slice(row.as_bytes())?;
+        if instant / 100 == 73 {
+            let stop = format!(in alloc; "{instant} {instant} -1099511627776\n")?;
+            said.extend_from_slice(stop.as_bytes())?;
+        }
+    }
+    said.extend_from_slice(b"ok 100\n")?;
+    Ok((csv, said))
+}
+
 // A line of 1,025 bytes that has words, and a last line without a line feed.
 fn long_line(alloc: Global) -> Result<Vec<u8>, AllocError> {
     let mut lines = Vec::from_slice(alloc, b"position 7")?;
@@ -133,7 +150,8 @@ fn lines_have_their_replies(rt: HostRuntime) -> Result<(), Fail> {
     let alloc = rt.alloc();
     let (track, stops) = long_track(alloc)?;
     let long = long_line(alloc)?;
-    let cases: [(&[u8], &str, &[u8], &[u8]); 9] = [
+    let (pieces, middle) = file_of_pieces(alloc)?;
+    let cases: [(&[u8], &str, &[u8], &[u8]); 10] = [
         (
             PATH,
             "once t.csv 1 1 4",
@@ -178,6 +196,12 @@ fn lines_have_their_replies(rt: HostRuntime) -> Result<(), Fail> {
         ),
         (PATH, "once t.csv 1 1 4", &long, b"bad long\n12 11\nok 1\n"),
         (&track, "once t.csv 1 1 100", b"path 7 0 1000\n", &stops),
+        (
+            &pieces,
+            "once t.csv 1 1 8192",
+            b"path 4000000000 7300 7399\n",
+            &middle,
+        ),
     ];
     assert!(rt; check_samples(&rt)?);
     for (csv, command, lines, said) in cases {

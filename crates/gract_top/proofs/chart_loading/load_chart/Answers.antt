@@ -1,4 +1,4 @@
-use Rattle.gract_top.proofs.ReceivedLemmas.{IsRefused-grid}
+use Rattle.gract_top.proofs.ReceivingLemmas.{IsRefused-grid}
 use Rattle.gract_top.proofs.chart_loading.load_chart.Goals as goal
 
 pub returns-in-Err-Limit-clause-refused : goal.returns-in-Err-Limit-clause-refused

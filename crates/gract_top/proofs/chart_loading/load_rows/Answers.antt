@@ -1,6 +1,6 @@
 use Rattle.std.proofs.Common.{refl}
 use Rattle.gract_top.proofs.LoadingLemmas.{IsRefused-rows}
-use Rattle.gract_top.proofs.ReceivedLemmas.{HasReceived-since}
+use Rattle.gract_top.proofs.ReceivingLemmas.{HasReceived-since}
 use Rattle.gract_top.proofs.chart_loading.load_rows.Goals as goal
 
 pub returns-in-Ok-clause-rows : goal.returns-in-Ok-clause-rows

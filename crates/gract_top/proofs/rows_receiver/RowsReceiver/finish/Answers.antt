@@ -1,7 +1,7 @@
 use Rattle.std.proofs.Common.{◌≡◌, ◌∙◌, ◌++◌, ap}
 use Rattle.std.proofs.lemmas.Result.{err_from_is_err_and}
+use Rattle.list_laws.proofs.FrontLemmas.{All-back}
 use Rattle.track_types.specs.Near.{IsRawInRange}
-use Rattle.gract_top.proofs.ReceivedLemmas.{all-back}
 use Rattle.gract_top.proofs.rows_receiver.RowsReceiver.finish.Goals as goal
 
 pub returns-in_err-finish-clause-fault : goal.returns-in_err-finish-clause-fault
@@ -15,7 +15,7 @@ append-requires c =
     let all = c.in_ok-finish.ensures.ok c.requires.2 has.raws has.taken in
     let batch : c.deref.result.now ≡ all.more =
     c.deref.ensures.value ∙ all.added ∙ ap (λ front. front ++ all.more) c.clear.ensures.items in
-    rw batch (all-back IsRawInRange has.raws all.more all.promise.ranges)
+    rw batch (All-back IsRawInRange has.raws all.more all.promise.ranges)
 
 pub returns-in-Ok-clause-ok : goal.returns-in-Ok-clause-ok
 returns-in-Ok-clause-ok c = λ cell tick bytes has.

@@ -1,25 +1,19 @@
 -- What a receiver of rows has taken, and why a file is refused for its rows.
-use Rattle.std.proofs.Common.{◌≡◌, ◌≢◌, ℕ, List, [], ◌∷◌, ◌++◌, All, Option, Some, None, refl, sym, subst, ◌∙◌}
-use Rattle.std.proofs.lemmas.List.Elements.{All-tail}
+use Rattle.std.proofs.Common.{◌≡◌, ◌≢◌, ℕ, List, [], ◌∷◌, Option, Some, None, refl, sym, subst, ◌∙◌}
 use Rattle.host_ports.specs.FileMap.{FileMap}
 use Rattle.track_types.specs.declared.limit.LimitKind.{LimitKind}
 use Rattle.track_types.specs.declared.limit.LimitKind.TheVariants as limit
 use Rattle.track_types.specs.declared.raw_row.RawRow.{RawRow}
 use Rattle.row_reader.specs.Pieces.{AreRowsOf}
 use Rattle.gridding.specs.GridLimit.{grid_limit}
-use Rattle.gridding.specs.Gridded.{HasGridded}
+use Rattle.gridding.specs.GriddedRows.{HasGridded}
 use Rattle.gract_top.specs.Loading.{IsLoaded}
-use Rattle.gract_top.specs.Received.{HasReceived, HasReceivedSince}
+use Rattle.gract_top.specs.Receiving.{HasReceived, HasReceivedSince}
 use Rattle.gract_top.specs.Refusal.{IsRefused, rows_refusal}
 use Rattle.gract_top.specs.declared.outcome.Outcome.TheVariants as outcome
 use Rattle.gract_top.specs.declared.request.Settings.{Settings}
 use Rattle.gract_top.specs.declared.rows_receiver.RowsReceiver.{RowsReceiver}
 use Rattle.gract_top.proofs.LoadingLemmas.{length_refusal-short}
-
--- what holds of all elements holds of those at the end
-pub all-back : {X : Type 0} (P : X → Type 0) (front back : List X) → All P (front ++ back) → All P back
-all-back P [] back all = all
-all-back P (x ∷ front) back all = all-back P front back (All-tail P x (front ++ back) all)
 
 -- a receiver grids by the CELL and the TICK by which it began
 pub HasReceived-since : (cell tick : ℕ) (start receiver : RowsReceiver) (bytes : List ℕ) → HasGridded cell tick [] start.rows →

@@ -4,7 +4,7 @@ use Rattle.host_ports.specs.FileMap.{FileMap}
 use Rattle.track_types.specs.declared.limit.LimitKind.TheVariants as limit
 use Rattle.track_types.specs.declared.raw_row.RawRow.{RawRow}
 use Rattle.row_reader.specs.Pieces.{AreRowsOf, HasTaken}
-use Rattle.gridding.specs.Gridded.{HasGridded}
+use Rattle.gridding.specs.GriddedRows.{HasGridded}
 use Rattle.gridding.specs.declared.gridded_rows.GriddedRows.{GriddedRows}
 use Rattle.gract_top.specs.Loading.{IsLoaded}
 use Rattle.gract_top.specs.declared.request.Settings.{Settings}
