@@ -1,14 +1,13 @@
 -- A list, its front and its back: what holds of each element, tests, strict order, one element after the other,
 -- and a front that grows by one.
-use Rattle.std.proofs.Common.{◌≡◌, ℕ, ◌+◌, ◌-◌, ◌<◌, List, [], ◌∷◌, ◌++◌, length, All, get_or, slice_index, inl, inr, sym, ap, ◌∙◌, arith, suc, set, replicate, append_assoc, Bool, false}
+use Rattle.std.proofs.Common.{◌≡◌, ℕ, ◌+◌, ◌-◌, ◌<◌, List, [], ◌∷◌, ◌++◌, length, All, get_or, slice_index, inl, inr, sym, ap, ◌∙◌, arith, Bool, false}
 use Rattle.std.specs.List.Sorted.{IsStrictlyIncreasing}
 use Rattle.std.specs.List.{list_any}
 use Rattle.std.proofs.lemmas.Bool.{cases_lt, or_parts}
-use Rattle.std.proofs.lemmas.List.{length-append, get_or_append_left, length-reverse, reverse-append}
-use Rattle.std.proofs.Math.Seq.{get_or-append_seam, set-append_seam}
+use Rattle.std.proofs.lemmas.List.{length-append, get_or_append_left}
+use Rattle.std.proofs.Math.Seq.{get_or-append_seam}
 use Rattle.std.proofs.lemmas.List.Elements.{All-append, All-from_recursion, All-tail}
 use Rattle.std.proofs.lemmas.List.Folds.{list_any-append}
-use Rattle.std.specs.Prelude.{reverse}
 
 -- what holds of each element holds of each of the front
 pub All-front : {X : Type 0} (P : X → Type 0) (xs ys : List X) → All P (xs ++ ys) → All P xs
@@ -60,20 +59,6 @@ IsStrictlyIncreasing-snoc xs n up above k within =
           let below : get_or xs k 0 < n = rw (sym place) (above (omega (arith, long))) in
           omega (arith, below, first, second)
     ]
-
--- the next place after a front that is filled is set
-pub set-next : {X : Type 0} (xs : List X) (x filler : X) (c k : ℕ) → length xs ≡ k → k < c →
-    set (reverse xs ++ replicate (c - k) filler) k x ≡ reverse (x ∷ xs) ++ replicate (c - (k + 1)) filler
-set-next {X} xs x filler c k long less =
-    let one : c - k ≡ suc (c - (k + 1)) = omega arith in
-    let rest : List X = replicate (c - (k + 1)) filler in
-    let here : k ≡ length (reverse xs) = sym (length-reverse xs ∙ long) in
-    let last : reverse (x ∷ xs) ≡ reverse xs ++ x ∷ [] = reverse-append (x ∷ []) xs in
-    ap (λ n. set (reverse xs ++ replicate n filler) k x) one
-    ∙ ap (λ n. set (reverse xs ++ filler ∷ rest) n x) here
-    ∙ set-append_seam (reverse xs) filler rest x
-    ∙ sym (append_assoc (reverse xs) (x ∷ []) rest)
-    ∙ ap (λ ys. ys ++ rest) (sym last)
 
 -- none of the first ones passes where none of all passes
 pub list_any-front : {X : Type 0} (p : X → Bool) (xs ys : List X) → list_any p (xs ++ ys) ≡ false → list_any p xs ≡ false

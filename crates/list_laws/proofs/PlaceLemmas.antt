@@ -11,6 +11,7 @@ module _ {X : Type 0} (p : X → Bool) (d : X) where
   list_any-none_at (x ∷ xs) fails =
       rw (fails 0 (omega arith), list_any-none_at xs (λ k below. fails (suc k) (omega arith))) refl
 
+  -- and so none is found
   pub find_none_at : (xs : List X) → ((k : ℕ) → k < length xs → p (get_or xs k d) ≡ false) → find p xs ≡ None
   find_none_at [] fails = refl
   find_none_at (x ∷ xs) fails =

@@ -1,12 +1,12 @@
--- Lists and sums over a range of numbers, of which only some give any, or one is set at a place.
-use Rattle.std.proofs.Common.{◌≡◌, ℕ, zero, suc, ◌+◌, ◌-◌, ◌<◌, ◌≤◌, Bool, true, List, [], ◌∷◌, ◌++◌, slice_index, length, ◌≢◌, set}
+-- Lists and sums over a range of numbers, of which only some give any.
+use Rattle.std.proofs.Common.{◌≡◌, ℕ, zero, suc, ◌+◌, ◌-◌, ◌<◌, ◌≤◌, Bool, true, List, [], ◌∷◌, ◌++◌, slice_index, length}
 use Rattle.std.proofs.Common.{Ordering, Option, None, Some, IfSome, All, map, refl, ap, sym, subst, ◌∙◌, arith, inl, inr}
 use Rattle.std.specs.Prelude.{get_or, if◌then◌else◌}
 use Rattle.std.specs.List.{cons_option, enumerate_from, filter, filter_map, find, flat_map, range_with_len, sum_by}
 use Rattle.std.specs.List.Sorted.{IsStrictlySortedBy}
 use Rattle.std.specs.declared.cmp.Ordering.TheVariants.{Less}
 use Rattle.std.proofs.lemmas.Bool.{cases_Bool, cases_lt}
-use Rattle.std.proofs.lemmas.List.{append-nil, map-id, set-append_left, set-append_right}
+use Rattle.std.proofs.lemmas.List.{append-nil, map-id}
 use Rattle.std.proofs.lemmas.List.Concat.{flat_map-append}
 use Rattle.std.proofs.lemmas.List.Elements.{All-append, All-head, All-nil, filter_map-append}
 use Rattle.std.proofs.lemmas.List.Elements.{All-tail, All-from_recursion, recursion_from_All}
@@ -14,7 +14,6 @@ use Rattle.std.proofs.lemmas.List.FromFn.{map-range_with_len_more, fill_by_all}
 use Rattle.std.proofs.lemmas.List.Sums.{sum_by-cons}
 use Rattle.std.proofs.lemmas.List.Folds.{flat_map-map}
 use Rattle.list_laws.proofs.FilterLemmas.{sum_by-filter}
-use Rattle.list_laws.proofs.KeyedLemmas.{flat_map_alike, member_of_range}
 
 -- numbers from one on, in two parts
 pub range-parts : (a m n : ℕ) → range_with_len a (m + n) ≡ range_with_len a m ++ range_with_len (a + m) n
@@ -231,31 +230,6 @@ module _ {X : Type 0} (order : X → X → Ordering) where
       (λ k d within. All-flat_map_range (λ y. order (get_or (f from) k d) y ≡ Less) f (from + 1) n
       (λ j low high. before from j (omega arith) (omega arith) (omega arith) k d within))
 
--- a place in one part is set in all parts, one after the other
-module _ {X : Type 0} (f g : ℕ → List X) (c : ℕ → ℕ) (long : (n : ℕ) → length (f n) ≡ c n) (own k : ℕ) (v : X)
-    (others : (n : ℕ) → n ≢ own → f n ≡ g n) (here : set (f own) k v ≡ g own) (within : k < c own) where
-  pub set-flat_map-range : (from count place i : ℕ) → own ≡ from + place → place < count → i ≡ sum_by c (range_with_len from place) + k →
-      set (flat_map f (range_with_len from count)) i v ≡ flat_map g (range_with_len from count)
-  set-flat_map-range from zero place i is less at = absurd (omega arith)
-  set-flat_map-range from (suc count) zero i is less at =
-      let same : from ≡ own = omega arith in
-      let first : i ≡ k = omega (arith, at) in
-      let later : List ℕ = range_with_len (from + 1) count in
-      let rest : flat_map f later ≡ flat_map g later =
-      flat_map_alike f g later (λ n among. others n (λ e. omega (arith, (member_of_range (from + 1) count n among).0, e))) in
-      let inside : k < length (f own) = omega (arith, long own) in
-      rw (same, first) (set-append_left (f own) (flat_map f (range_with_len (own + 1) count)) k v inside
-      ∙ ap (λ ys. ys ++ flat_map f (range_with_len (own + 1) count)) here
-      ∙ ap (λ ys. g own ++ ys) (rw same at rest))
-  set-flat_map-range from (suc count) (suc place) i is less at =
-      let apart : f from ≡ g from = others from (λ e. omega (arith, e)) in
-      let later : List ℕ = range_with_len (from + 1) count in
-      let sum : sum_by c (range_with_len from (suc place)) ≡ c from + sum_by c (range_with_len (from + 1) place) =
-      sum_by-cons c from (range_with_len (from + 1) place) in
-      set-append_right (f from) (flat_map f later) (c from) i v (long from) (omega (arith, at, sum))
-      ∙ ap (λ ys. f from ++ ys) (set-flat_map-range (from + 1) count place (i - c from) (omega arith) (omega arith) (omega (arith, at, sum)))
-      ∙ ap (λ ys. ys ++ flat_map g later) apart
-
 -- elements after others are numbered on
 pub enumerate_from-append : {X : Type 0} (first : ℕ) (front back : List X)
     → enumerate_from first (front ++ back) ≡ enumerate_from first front ++ enumerate_from (first + length front) back
@@ -266,12 +240,12 @@ enumerate_from-append first (x ∷ front) back =
     ap (λ rest. (first, x) ∷ rest) (enumerate_from-append (first + 1) front back ∙ renumbered)
 
 -- what is made of the numbers that pass a test, at once or in two steps
-pub made_same : {X : Type 0} (f h : ℕ → X) (k : ℕ → ℕ) (test : ℕ → Bool) (first count : ℕ)
+pub map-filter_range : {X : Type 0} (f h : ℕ → X) (k : ℕ → ℕ) (test : ℕ → Bool) (first count : ℕ)
     → ((p : ℕ) → p < first + count → f p ≡ h (k p))
     → map f (filter test (range_with_len first count)) ≡ map h (map k (filter test (range_with_len first count)))
-made_same f h k test first zero same = refl
-made_same f h k test first (suc count) same =
-    let rest = made_same f h k test (first + 1) count (λ p less. same p (omega arith)) in
+map-filter_range f h k test first zero same = refl
+map-filter_range f h k test first (suc count) same =
+    let rest = map-filter_range f h k test (first + 1) count (λ p less. same p (omega arith)) in
     elim (cases_Bool (test first)) [
       | inl on ↦ rw on
           (ap (λ x. x ∷ map f (filter test (range_with_len (first + 1) count))) (same first (omega arith))

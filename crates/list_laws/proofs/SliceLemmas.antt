@@ -19,7 +19,7 @@ slice_get-append_add (x ∷ xs) ys i =
     ap (slice_get (x ∷ xs ++ ys)) e ∙ slice_get-append_add xs ys i
 
 -- what is read after a front is what stands there
-pub slice_get-seam : {X : Type 0} (front : List X) (x : X) (back : List X) (y : X) → slice_get (front ++ x ∷ back) (length front) ≡ Some y → x ≡ y
+slice_get-seam : {X : Type 0} (front : List X) (x : X) (back : List X) (y : X) → slice_get (front ++ x ∷ back) (length front) ≡ Some y → x ≡ y
 slice_get-seam front x back y is =
     sym (get_or-append_seam front x back y) ∙ get_or_from_slice_get (front ++ x ∷ back) (length front) y y is
 

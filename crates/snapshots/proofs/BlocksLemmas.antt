@@ -7,7 +7,7 @@ use Rattle.std.specs.Cmp.{both_ways}
 use Rattle.std.proofs.lemmas.Bool.{and_from, and_parts, eq-eqb, eqb-true}
 use Rattle.std.proofs.lemmas.List.{map-id}
 use Rattle.std.proofs.lemmas.Option.{get_or_from_slice_get, slice_get-get_or, slice_get_within}
-use Rattle.list_laws.proofs.RangeLemmas.{made_same}
+use Rattle.list_laws.proofs.RangeLemmas.{map-filter_range}
 use Rattle.bit_rank.specs.Bits.{IsSelected, select_of}
 use Rattle.bit_rank.proofs.RankLemmas.{lt-from_rank_of, IsSelected-select_of}
 use Rattle.bit_rank.proofs.RankLemmas.{select_of-from_IsSelected}
@@ -149,7 +149,7 @@ indices_in-by_object view leaf is =
 pub blocks_in-by_object : (view : SnapshotView) (leaf : ℕ) → IsSnapshot view
     → blocks_in view leaf ≡ objects_at view leaf
 blocks_in-by_object view leaf is =
-    made_same (block_at view) (present_block view) (index_at view) (λ place. leaf_at view place == leaf) 0
+    map-filter_range (block_at view) (present_block view) (index_at view) (λ place. leaf_at view place == leaf) 0
     (length view.parts.perm) (λ place within. block_back view place is (omega arith))
     ∙ ap (map (present_block view)) (indices_in-by_object view leaf is)
 

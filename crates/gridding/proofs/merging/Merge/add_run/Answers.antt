@@ -1,6 +1,6 @@
 use Rattle.std.proofs.Common.{◌≡◌, ◌∙◌, ◌+◌, ◌≤◌, ℕ, ap, arith, refl, sym}
 use Rattle.std.proofs.lemmas.List.{append-nil}
-use Rattle.list_laws.proofs.MoveLemmas.{done_last, moved_last}
+use Rattle.list_laws.proofs.MoveLemmas.{reverse-move_end, reverse-move_last}
 use Rattle.gridding.proofs.KeptLemmas.{found}
 use Rattle.gridding.proofs.MergeLemmas.{alike-run, order-weaker}
 use Rattle.gridding.specs.Merging.{AreInOrder, FindAlike, IsSurveyed, rows_of_merge}
@@ -14,7 +14,7 @@ loop-place-preserved c = record {
   survey = c.loop-place.invariant.survey;
   object = c.loop-place.invariant.object;
   all = rw c.in_ok-push.ensures.items
-      (moved_last c.loop-place.self.track.items c.loop-place.place-iterator.iter.rest.now c.next.new.self.iter.rest.now _ c.in-Some.place.now
+      (reverse-move_last c.loop-place.self.track.items c.loop-place.place-iterator.iter.rest.now c.next.new.self.iter.rest.now _ c.in-Some.place.now
       c.in-Some.ensures.steps c.loop-place.invariant.all);
 }
 
@@ -51,5 +51,5 @@ returns c =
       order = λ up before. rw c.loop-place.invariant.made (start.order up before);
       survey = λ of. rw (c.loop-place.invariant.made, c.loop-place.invariant.survey) (start.survey of);
       alike = alike-run (rows_of_merge old) begun c.loop-place.self object c.args.places.now start.alike start.own c.loop-place.invariant.made c.loop-place.invariant.object
-          (done_last c.loop-place.self.track.items c.loop-place.place-iterator.iter.rest.now _ c.in-None.ensures.steps.0 c.loop-place.invariant.all);
+          (reverse-move_end c.loop-place.self.track.items c.loop-place.place-iterator.iter.rest.now _ c.in-None.ensures.steps.0 c.loop-place.invariant.all);
     }
