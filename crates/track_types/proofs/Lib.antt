@@ -1,5 +1,6 @@
 pub mod Magnitudes
 pub mod Digits
+pub mod DigitWords
 pub mod BareDigits
 pub mod QuantityLemmas
 pub mod RowLemmas

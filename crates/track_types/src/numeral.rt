@@ -146,19 +146,17 @@ fn four_digits(thousands: u8, hundreds: u8, tens: u8, ones: u8) -> Option<u64>
     ensures none { let bytes = thousands ∷ hundreds ∷ tens ∷ ones ∷ [] in
         IfNone result (list_all is_digit bytes ≡ false) }
 {
-    // No test waits for another, so that one instruction makes them all.
-    let is_decimal = is_digit_byte(thousands)
-        & is_digit_byte(hundreds)
-        & is_digit_byte(tens)
-        & is_digit_byte(ones);
-    if !is_decimal {
+    // All four as one word: tests of single bytes become vector instructions, which are slower.
+    let word = u64::from(u32::from_le_bytes([thousands, hundreds, tens, ones]));
+    // The upper half of a digit is 3, and so is that of the digit plus 6. A byte that carries into
+    // the next one is no digit itself.
+    if word & (word + 0x0606_0606) & 0xf0f0_f0f0 != 0x3030_3030 {
         return None;
     }
-    let sum = 1000 * u64::from(thousands)
-        + 100 * u64::from(hundreds)
-        + 10 * u64::from(tens)
-        + u64::from(ones);
-    Some(sum - 1111 * u64::from(b'0'))
+    let digits = word - 0x3030_3030;
+    // Each byte of `pairs` is ten times a digit and the next: 0xa01 is 10 * 0x100 + 1.
+    let pairs = 0xa01 * digits / 0x100;
+    Some(100 * (pairs % 0x100) + pairs / 0x1_0000 % 0x100)
 }
 
 fn two_digits(tens: u8, ones: u8) -> Option<u64>
