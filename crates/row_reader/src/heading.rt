@@ -7,6 +7,7 @@ use crate::field::{FIELDS, field_in};
 use csv::ByteRecord;
 
 /// Whether a record is data: it is not the first one, or no heading.
+#[inline]
 pub fn is_data_record(nth: u64, fields: &ByteRecord) -> bool
     ensures { result ≡ is_data nth (fields_of fields.now) }
 {

@@ -23,7 +23,9 @@ struct FieldFault {
     fault: RowFault,
 }
 
-/// Reads the data record `nth` as a row, after `count` others.
+/// Reads the data record `nth` as a row, after `count` others. Inlined, as are the two below, so that
+/// no value of a row passes through memory before the row stands among the others.
+#[inline(always)]
 pub fn read_data(fields: &ByteRecord, nth: u64, count: usize) -> Result<RawRow, RowsFault>
     requires { length (fields_of fields.now) < 2 ^ 32 }
     ensures ok { let all = fields_of fields.now in
@@ -41,6 +43,7 @@ pub fn read_data(fields: &ByteRecord, nth: u64, count: usize) -> Result<RawRow, 
 }
 
 // Reads a record as a row: the number of its fields is judged first, then each from the left.
+#[inline(always)]
 fn read_row(fields: &ByteRecord) -> Result<RawRow, FieldFault>
     requires { length (fields_of fields.now) < 2 ^ 32 }
     ensures ok { let all = fields_of fields.now in
@@ -66,7 +69,7 @@ fn read_row(fields: &ByteRecord) -> Result<RawRow, FieldFault>
     })
 }
 
-// The value of a field of a record, counted from 1. Inlined, so that no value passes through memory.
+// The value of a field of a record, counted from 1.
 #[inline(always)]
 fn read_field(fields: &ByteRecord, field: u32, least: i64, greatest: i64) -> Result<i64, FieldFault>
     requires first { 0 < field }
