@@ -6,6 +6,7 @@ mod MergeLemmas
 mod SortingLemmas
 mod ObjectCountLemmas
 mod SymbolLemmas
+mod DivisorLemmas
 mod ExtentLemmas
 mod SurveyLemmas
 mod LimitLemmas

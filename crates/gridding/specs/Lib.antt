@@ -1,4 +1,5 @@
 pub mod Floor
+pub mod Grid
 pub mod ChartOf
 pub mod GridLimit
 pub mod Extents

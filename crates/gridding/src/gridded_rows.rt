@@ -7,7 +7,7 @@ ghost use Rattle.track_types.specs.declared.row.Row.{Row};
 use crate::fault::GridFault;
 use crate::limits::check_limits;
 use crate::merging::merged_rows;
-use crate::row_gridding::gridded;
+use crate::row_gridding::Grid;
 use crate::track_blocks::TrackBlocks;
 use std::alloc::{AllocError, Global};
 use track_types::{Chart, RawRow, Row};
@@ -56,8 +56,9 @@ impl GriddedRows {
         ensures { OnOk result ((cell tick : ℕ) (raws : List RawRow) → HasGridded cell tick raws self.old →
             HasGridded cell tick (raws ++ rows.now) self.new) }
     {
+        let grid = Grid::new(self.cell, self.tick);
         for raw in rows {
-            self.add(gridded(raw, self.cell, self.tick))?;
+            self.add(grid.row(raw))?;
         }
         self.count = self.count.saturating_add(rows.len());
         Ok(())

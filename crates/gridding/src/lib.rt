@@ -7,9 +7,9 @@
 
 mod chart_making;
 mod counts;
+mod divisor;
 mod extents;
 mod fault;
-mod floor;
 mod gridded_rows;
 mod limits;
 mod merging;

@@ -89,9 +89,7 @@ impl Merge {
             self.end_track()?;
             self.object = object;
         }
-        for place in places.iter().rev() {
-            self.track.push(*place)?;
-        }
+        push_from_last(&mut self.track, places)?;
         Ok(())
     }
 
@@ -121,4 +119,15 @@ impl Merge {
         self.track.clear();
         Ok(())
     }
+}
+
+// Puts places after the others, from the last to the first. They are copied at once and then turned: a loop that takes
+// them one by one from their block waits for each of its lines.
+fn push_from_last(track: &mut Vec<PackedPlace>, places: &[PackedPlace]) -> Result<(), AllocError>
+    ensures { OnOk result (track.new.items ≡ track.old.items ++ reverse places.now) }
+{
+    let start = track.len();
+    track.extend_from_slice(places)?;
+    track[start..].reverse();
+    Ok(())
 }

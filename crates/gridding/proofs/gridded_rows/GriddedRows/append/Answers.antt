@@ -16,8 +16,8 @@ loop-raw-preserved c = record {
       let rows : List RawRow = c.args.rows.now in
       let i = c.loop-raw.raw-index in
       let before = c.loop-raw.invariant.held cell tick raws has in
-      HoldsRows-more cell tick raws rows i _ _ _ c.gridded.result c.add.new.self c.loop-raw-test.true
-      (c.loop-raw.invariant.by_cell ∙ has.by_cell) (c.loop-raw.invariant.by_tick ∙ has.by_tick) c.gridded.ensures
+      HoldsRows-more cell tick raws rows i _ _ _ c.row.result c.add.new.self c.loop-raw-test.true
+      (c.new-grid.ensures.cell ∙ has.by_cell) (c.new-grid.ensures.tick ∙ has.by_tick) c.row.ensures
       (c.in_ok-add.ensures.rows (map (gridded cell tick) (raws ++ take i rows)) before);
 }
 

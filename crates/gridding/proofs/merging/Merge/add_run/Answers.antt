@@ -8,16 +8,6 @@ use Rattle.gridding.specs.declared.merging.Merge.{Merge}
 use Rattle.gridding.proofs.merging.Merge.add_run.Goals.{then-object-self+in_ok-end_track, else-object-self}
 use Rattle.gridding.proofs.merging.Merge.add_run.Goals as goal
 
-pub loop-place-preserved : goal.loop-place-preserved
-loop-place-preserved c = record {
-  made = c.loop-place.invariant.made;
-  survey = c.loop-place.invariant.survey;
-  object = c.loop-place.invariant.object;
-  all = rw c.in_ok-push.ensures.items
-      (reverse-move_last c.loop-place.self.track.items c.loop-place.place-iterator.iter.rest.now c.next.new.self.iter.rest.now _ c.in-Some.place.now
-      c.in-Some.ensures.steps c.loop-place.invariant.all);
-}
-
 -- a track of the run's object is begun or goes on
 record IsBegun (old : Merge) (object : ℕ) (begun : Merge) : Type 0 where
   own : begun.object ≡ object
@@ -47,9 +37,9 @@ returns c =
       })
     ] in
     record {
-      object = c.loop-place.invariant.object ∙ start.own;
-      order = λ up before. rw c.loop-place.invariant.made (start.order up before);
-      survey = λ of. rw (c.loop-place.invariant.made, c.loop-place.invariant.survey) (start.survey of);
-      alike = alike-run (rows_of_merge old) begun c.loop-place.self object c.args.places.now start.alike start.own c.loop-place.invariant.made c.loop-place.invariant.object
-          (reverse-move_end c.loop-place.self.track.items c.loop-place.place-iterator.iter.rest.now _ c.in-None.ensures.steps.0 c.loop-place.invariant.all);
+      object = start.own;
+      order = λ up before. start.order up before;
+      survey = λ of. start.survey of;
+      alike = alike-run (rows_of_merge old) begun (record begun { track = c.push_from_last.new.track }) object c.args.places.now
+          start.alike start.own refl refl c.in_ok-push_from_last.ensures;
     }
