@@ -1,6 +1,5 @@
 use Rattle.std.proofs.Common.{◌≡◌, ◌∙◌, ◌+◌, ◌≤◌, ℕ, ap, arith, refl, sym}
 use Rattle.std.proofs.lemmas.List.{append-nil}
-use Rattle.list_laws.proofs.MoveLemmas.{reverse-move_end, reverse-move_last}
 use Rattle.gridding.proofs.KeptLemmas.{found}
 use Rattle.gridding.proofs.MergeLemmas.{alike-run, order-weaker}
 use Rattle.gridding.specs.Merging.{AreInOrder, FindAlike, IsSurveyed, rows_of_merge}
