@@ -1,18 +1,17 @@
 -- Rows in blocks: what one place more in an object's last block, and one block more at the end, make of the rows of each
 -- object and of where its last block stands.
-use Rattle.std.proofs.Common.{◌≡◌, ◌≢◌, ℕ, zero, suc, ◌+◌, ◌<◌, List, [], ◌∷◌, ◌++◌, Option, Some, None}
+use Rattle.std.proofs.Common.{◌≡◌, ◌≢◌, ℕ, zero, suc, ◌+◌, ◌<◌, ◌≤◌, List, [], ◌∷◌, ◌++◌, Option, Some, None}
 use Rattle.std.proofs.Common.{drop, filter, get_or, length, map, set, take}
 use Rattle.std.proofs.Common.{refl, sym, ap, ◌∙◌, subst, arith, inl, inr}
-use Rattle.std.specs.Prelude.{◌==◌, nat_eq}
+use Rattle.std.specs.Prelude.{◌==◌, nat_eq, slice_get}
 use Rattle.std.specs.HashMap.{Updates, get}
 use Rattle.std.specs.List.{zip}
-use Rattle.std.specs.Option.{IfSome}
 use Rattle.std.proofs.lemmas.Bool.{cases_eq}
 use Rattle.std.proofs.lemmas.Bool.Decides.{nat_tests}
 use Rattle.std.proofs.lemmas.Grind.{flat_map-append}
 use Rattle.std.proofs.lemmas.Option.{get_or_from_slice_get, slice_get_within}
-use Rattle.std.proofs.lemmas.List.{append-nil, append_assoc, drop-append-le, get_or-map, length-append, length-map}
-use Rattle.std.proofs.lemmas.List.{length-set, map-append, map-set, set-get_or}
+use Rattle.std.proofs.lemmas.List.{append-nil, append_assoc, drop-append-le, get_or-map, get_or-set_other, get_or_append_left}
+use Rattle.std.proofs.lemmas.List.{length-append, length-map, length-set, map-append, map-set, set-get_or}
 use Rattle.std.proofs.Math.Seq.{drop-append-add}
 use Rattle.std.proofs.lemmas.List.Elements.{filter-append}
 use Rattle.std.proofs.lemmas.Slice.Zip.{firsts-zip, get_or-zip, length-zip}
@@ -21,8 +20,9 @@ use Rattle.list_laws.proofs.ZipLemmas.{zip-append, zip-set}
 use Rattle.track_types.specs.declared.row.Row.{Row}
 use Rattle.gridding.specs.Blocks.{IsLastOf, Run, filled_of, row_at, rows_of_run, rows_of_runs}
 use Rattle.gridding.specs.Blocks.{rows_with, runs_of, runs_with}
-use Rattle.gridding.specs.GriddedRows.{AreBlocksOf}
+use Rattle.gridding.specs.GriddedRows.{AreBlocksOf, HasRoom, IsFull}
 use Rattle.gridding.specs.declared.packed_place.PackedPlace.{PackedPlace}
+use Rattle.gridding.specs.declared.track_blocks.TheConstants.{ROWS}
 use Rattle.gridding.specs.declared.track_blocks.TrackBlocks.{TrackBlocks}
 
 -- the object of a run
@@ -51,6 +51,33 @@ last_before object opened objects (Some place) differ (is, none) =
         filter-append (λ other. other == object) (drop (suc place) objects) (opened ∷ []),
       ),
     )
+
+-- an object of which there is none stands nowhere
+stands_nowhere : (object : ℕ) (objects : List ℕ) (place : ℕ) → filter (λ other. other == object) objects ≡ [] →
+    slice_get objects place ≡ Some object → ⊥
+stands_nowhere object [] place none is = omega (arith, slice_get_within [] place object is)
+stands_nowhere object (other ∷ objects) zero none is =
+    let same : other ≡ object = get_or_from_slice_get (other ∷ objects) 0 object object is in grind (arith, nat_tests)
+stands_nowhere object (other ∷ objects) (suc place) none is = elim (cases_eq other object) [
+  | inl same ↦ grind (arith, nat_tests)
+  | inr differ ↦ stands_nowhere object objects place (grind (arith, nat_tests)) is
+]
+
+-- an object stands nowhere after its last place
+place_le : (object : ℕ) (objects : List ℕ) (last place : ℕ) →
+    filter (λ other. other == object) (drop (suc last) objects) ≡ [] → slice_get objects place ≡ Some object →
+    place ≤ last
+place_le object [] last place none is = absurd (omega (arith, slice_get_within [] place object is))
+place_le object (other ∷ objects) last zero none is = omega arith
+place_le object (other ∷ objects) zero (suc place) none is = absurd (stands_nowhere object objects place none is)
+place_le object (other ∷ objects) (suc last) (suc place) none is =
+    omega (arith, place_le object objects last place none is)
+
+-- so that it has one last place
+same_last : (object : ℕ) (objects : List ℕ) (a b : ℕ) → IsLastOf object objects (Some a) →
+    IsLastOf object objects (Some b) → a ≡ b
+same_last object objects a b at_a at_b =
+    omega (arith, place_le object objects a b at_a.1 at_b.0, place_le object objects b a at_b.1 at_a.0)
 
 -- the rows of an object in runs
 abbrev rows_in : ℕ → List Run → List Row
@@ -109,14 +136,15 @@ rows_in-pushed object (suc last) places place other (run ∷ runs) d (is, none) 
     ∙ sym (append_assoc (rows_in other (run ∷ [])) (rows_in other runs) (rows_with other (row_at object place ∷ [])))
     ∙ ap (λ rows. rows ++ rows_with other (row_at object place ∷ [])) (sym (rows_in-append other (run ∷ []) runs))
 
+-- each block has its filled places
+filled_long : (rows : List Row) (tracks : TrackBlocks) → AreBlocksOf rows tracks →
+    length (map filled_of (zip tracks.blocks.items tracks.lengths.items)) ≡ length tracks.objects.items
+filled_long rows tracks blocks =
+    let pairs = length-map (zip tracks.blocks.items tracks.lengths.items) filled_of in
+    omega (arith, pairs, length-zip tracks.blocks.items tracks.lengths.items, blocks.objects, blocks.lengths)
+
 -- a row more
 module _ (rows : List Row) (old new : TrackBlocks) (object : ℕ) (place : PackedPlace) (blocks : AreBlocksOf rows old) where
-  -- each block has its filled places
-  filled_long : length (map filled_of (zip old.blocks.items old.lengths.items)) ≡ length old.objects.items
-  filled_long =
-      let pairs = length-map (zip old.blocks.items old.lengths.items) filled_of in
-      omega (arith, pairs, length-zip old.blocks.items old.lengths.items, blocks.objects, blocks.lengths)
-
   -- each object has the rows that it had, and this one if it is its own
   held_more : (other : ℕ) →
       rows_in other (runs_of new) ≡ rows_in other (runs_of old) ++ rows_with other (row_at object place ∷ []) →
@@ -126,18 +154,22 @@ module _ (rows : List Row) (old new : TrackBlocks) (object : ℕ) (place : Packe
       ∙ sym (filter-append (λ row. row.object == other) rows (row_at object place ∷ []))
 
   -- in the object's last block
-  pub blocks_pushed : (last n : ℕ) (places pushed : List PackedPlace) → IsLastOf object old.objects.items (Some last) →
-      places ≡ get_or old.blocks.items last places → n ≡ get_or old.lengths.items last n →
+  pub blocks_pushed : (last n : ℕ) (places pushed : List PackedPlace) →
+      slice_get old.objects.items last ≡ Some object → n < ROWS →
+      places ≡ get_or old.blocks.items last places → slice_get old.lengths.items last ≡ Some n →
       take (n + 1) pushed ≡ take n places ++ (place ∷ []) →
       new.blocks.items ≡ set old.blocks.items last pushed → new.objects ≡ old.objects →
       new.lengths.items ≡ set old.lengths.items last (n + 1) → new.last_of ≡ old.last_of →
-      new.recent ≡ Some (object, last) → AreBlocksOf (rows ++ (row_at object place ∷ [])) new
+      AreBlocksOf (rows ++ (row_at object place ∷ [])) new
   unfolding runs_of
-  blocks_pushed last n places pushed is_last places_are n_is put blocks_are objects_stay lengths_are map_stays recent =
+  blocks_pushed last n places pushed is below places_are length_is put blocks_are objects_stay lengths_are map_stays =
       let objects : List ℕ = old.objects.items in
+      let n_is : get_or old.lengths.items last n ≡ n = get_or_from_slice_get old.lengths.items last n n length_is in
+      let had_room : HasRoom old last = rw (get_or_from_slice_get old.lengths.items last n ROWS length_is) below in
+      let is_last : IsLastOf object objects (Some last) = blocks.room object last is had_room in
       let pairs : List (List PackedPlace × ℕ) = zip old.blocks.items old.lengths.items in
       let filled : List (List PackedPlace) = map filled_of pairs in
-      let long : length filled ≡ length objects = filled_long in
+      let long : length filled ≡ length objects = filled_long rows old blocks in
       let within : last < length objects = slice_get_within objects last object is_last.0 in
       let pair : get_or pairs last (places, n) ≡ (places, n) =
       get_or-zip old.blocks.items old.lengths.items last (places, n) (omega (arith, blocks.objects))
@@ -170,17 +202,25 @@ module _ (rows : List Row) (old new : TrackBlocks) (object : ℕ) (place : Packe
             (ap (rows_in other) made
             ∙ rows_in-pushed object last (take n places) place other (runs_of old) run (rw owners is_last) run_is);
         last = λ other. rw (objects_stay, map_stays) (blocks.last other);
-        recent = rw (recent, objects_stay) is_last;
+        room = λ other at stands room. rw objects_stay (elim (cases_eq at last) [
+          | inl same ↦
+              let one : object ≡ other =
+              sym own ∙ get_or_from_slice_get objects last other object (rw (objects_stay, same) at stands) in
+              subst (λ o. IsLastOf o objects (Some at)) one (rw same is_last)
+          | inr differ ↦
+              let stays = get_or-set_other old.lengths.items last at (n + 1) ROWS differ in
+              blocks.room other at (rw objects_stay at stands) (rw (lengths_are, stays) at room)
+        ]);
       }
 
   -- in a block at the end
   pub blocks_opened : (last : ℕ) (opened : List PackedPlace) → take 1 opened ≡ place ∷ [] →
       last ≡ length old.blocks.items → new.blocks.items ≡ old.blocks.items ++ (opened ∷ []) →
       new.objects.items ≡ old.objects.items ++ (object ∷ []) → new.lengths.items ≡ old.lengths.items ++ (1 ∷ []) →
-      Updates nat_eq old.last_of new.last_of object (Some last) → new.recent ≡ Some (object, last) →
+      Updates nat_eq old.last_of new.last_of object (Some last) → IsFull object old →
       AreBlocksOf (rows ++ (row_at object place ∷ [])) new
   unfolding runs_of
-  blocks_opened last opened one place_is blocks_are objects_are lengths_are updates recent =
+  blocks_opened last opened one place_is blocks_are objects_are lengths_are updates full =
       let objects : List ℕ = old.objects.items in
       let pairs : List (List PackedPlace × ℕ) = zip old.blocks.items old.lengths.items in
       let run : Run = (object, place ∷ []) in
@@ -191,7 +231,7 @@ module _ (rows : List Row) (old new : TrackBlocks) (object : ℕ) (place : Packe
       ∙ map-append filled_of pairs ((opened, 1) ∷ []) ∙ ap (λ last. map filled_of pairs ++ (last ∷ [])) one) in
       let made : runs_of new ≡ runs_of old ++ (run ∷ []) =
       rw (objects_are, filled_now)
-      (zip-append objects (object ∷ []) (map filled_of pairs) ((place ∷ []) ∷ []) (sym filled_long)) in
+      (zip-append objects (object ∷ []) (map filled_of pairs) ((place ∷ []) ∷ []) (sym (filled_long rows old blocks))) in
       let at_last : IsLastOf object new.objects.items (Some last) =
       rw (objects_are, place_is, ← blocks.objects) (last_opened object objects) in
       let one_more = length-append old.blocks.items (opened ∷ []) in
@@ -209,12 +249,49 @@ module _ (rows : List Row) (old new : TrackBlocks) (object : ℕ) (place : Packe
               rw (stays, objects_are)
               (last_before other object objects (get nat_eq old.last_of other) differ (blocks.last other))
         ];
-        recent = rw recent at_last;
+        room = λ other at stands room. elim (cases_eq at last) [
+          | inl same ↦
+              let here : get_or new.objects.items last object ≡ object =
+              get_or_from_slice_get new.objects.items last object object at_last.0 in
+              let one : object ≡ other =
+              sym here ∙ get_or_from_slice_get new.objects.items last other object (rw same at stands) in
+              subst (λ o. IsLastOf o new.objects.items (Some at)) one (rw same at_last)
+          | inr differ ↦
+              let long = length-append objects (object ∷ []) in
+              let here : slice_get (objects ++ (object ∷ [])) at ≡ Some other = rw objects_are at stands in
+              let within : at < length objects =
+              omega (arith, slice_get_within (objects ++ (object ∷ [])) at other here, long, place_is, blocks.objects, differ) in
+              let stood : slice_get objects at ≡ Some other =
+              sym (slice_get-append_left objects (object ∷ []) at within) ∙ here in
+              let filled = get_or_append_left old.lengths.items (1 ∷ []) ROWS at (omega (arith, within, blocks.objects, blocks.lengths)) in
+              let had_room : HasRoom old at = rw (lengths_are, filled) at room in
+              let no_other : object ≢ other = λ same. full at (rw same stood) had_room in
+              rw objects_are (last_before other object objects (Some at) no_other (blocks.room other at stood had_room))
+        ];
       }
 
--- the block that was written last is the last one of its object
-pub last_from_recent : (rows : List Row) (tracks : TrackBlocks) (owner object last : ℕ) → AreBlocksOf rows tracks →
-    tracks.recent ≡ Some (owner, last) → owner ≡ object → IsLastOf object tracks.objects.items (Some last)
-last_from_recent rows tracks owner object last blocks recent is =
-    subst (λ other. IsLastOf other tracks.objects.items (Some last)) is
-    (subst (λ put. IfSome put (λ at. IsLastOf at.0 tracks.objects.items (Some at.1))) recent blocks.recent)
+-- an object has no room where its last block has none, or where it has no block
+pub full_from_last : (rows : List Row) (tracks : TrackBlocks) (object last : ℕ) → AreBlocksOf rows tracks →
+    get nat_eq tracks.last_of object ≡ Some last →
+    (slice_get tracks.objects.items last ≡ Some object → HasRoom tracks last → ⊥) → IsFull object tracks
+full_from_last rows tracks object last blocks is none place stands room =
+    let objects : List ℕ = tracks.objects.items in
+    let told : IsLastOf object objects (Some last) = rw is at (blocks.last object) in
+    let one : place ≡ last = same_last object objects place last (blocks.room object place stands room) told in
+    none told.0 (rw one at room)
+
+pub full_from_none : (rows : List Row) (tracks : TrackBlocks) (object : ℕ) → AreBlocksOf rows tracks →
+    get nat_eq tracks.last_of object ≡ None → IsFull object tracks
+full_from_none rows tracks object blocks is place stands room =
+    stands_nowhere object tracks.objects.items place (rw is at (blocks.last object)) stands
+
+-- an object that has no block has no rows
+pub no_rows_from_none : (rows : List Row) (tracks : TrackBlocks) (object : ℕ) → AreBlocksOf rows tracks →
+    get nat_eq tracks.last_of object ≡ None → rows_with object rows ≡ []
+unfolding runs_of
+no_rows_from_none rows tracks object blocks is =
+    let objects : List ℕ = tracks.objects.items in
+    let filled : List (List PackedPlace) = map filled_of (zip tracks.blocks.items tracks.lengths.items) in
+    let owners : map owner (runs_of tracks) ≡ objects = firsts-zip objects filled (filled_long rows tracks blocks) in
+    let none : filter (λ other. other == object) objects ≡ [] = rw is at (blocks.last object) in
+    sym (blocks.held object) ∙ rows_in-none object (runs_of tracks) (rw owners none)

@@ -1,7 +1,6 @@
 -- Rows that are gridded and put in blocks as they come.
-use Rattle.std.specs.Prelude.{◌≡◌, ◌≤◌, ◌++◌, ℕ, List, length, map, All, Some, nat_eq}
+use Rattle.std.specs.Prelude.{◌≡◌, ◌<◌, ◌≤◌, ◌++◌, ℕ, List, get_or, length, map, slice_get, All, Some, nat_eq}
 use Rattle.std.specs.HashMap.{get}
-use Rattle.std.specs.Option.{IfSome}
 use Rattle.track_types.specs.Limits.{limit_of}
 use Rattle.track_types.specs.Near.{IsRawInRange}
 use Rattle.track_types.specs.declared.limit.LimitKind.TheVariants.{Rows}
@@ -10,16 +9,26 @@ use Rattle.track_types.specs.declared.row.Row.{Row}
 use Rattle.gridding.specs.Blocks.{IsLastOf, rows_of_runs, rows_with, runs_of, runs_with}
 use Rattle.gridding.specs.ChartOf.{gridded}
 use Rattle.gridding.specs.declared.gridded_rows.GriddedRows.{GriddedRows}
+use Rattle.gridding.specs.declared.track_blocks.TheConstants.{ROWS}
 use Rattle.gridding.specs.declared.track_blocks.TrackBlocks.{TrackBlocks}
 
--- Blocks have these rows: each object's in the order in which they came. Each block has an object and a length, and the
--- last block of each object is told.
+-- a block has room for a place more
+abbrev pub HasRoom : TrackBlocks → ℕ → Type 0
+HasRoom tracks place = get_or tracks.lengths.items place ROWS < ROWS
+
+-- no block of an object has room
+abbrev pub IsFull : ℕ → TrackBlocks → Type 0
+IsFull object tracks = (place : ℕ) → slice_get tracks.objects.items place ≡ Some object → HasRoom tracks place → ⊥
+
+-- Blocks have these rows: each object's in the order in which they came. Each block has an object and a length, the
+-- last block of each object is told, and no other has room.
 pub record AreBlocksOf (rows : List Row) (tracks : TrackBlocks) : Type 0 where
   pub objects : length tracks.objects.items ≡ length tracks.blocks.items
   pub lengths : length tracks.lengths.items ≡ length tracks.blocks.items
   pub held : (object : ℕ) → rows_of_runs (runs_with object (runs_of tracks)) ≡ rows_with object rows
   pub last : (object : ℕ) → IsLastOf object tracks.objects.items (get nat_eq tracks.last_of object)
-  pub recent : IfSome tracks.recent (λ put. IsLastOf put.0 tracks.objects.items (Some put.1))
+  pub room : (object place : ℕ) → slice_get tracks.objects.items place ≡ Some object → HasRoom tracks place →
+      IsLastOf object tracks.objects.items (Some place)
 
 -- These rows came, in this order: those in blocks, and after them those from the first that had no block on.
 pub record HoldsRows (rows : List Row) (gridded : GriddedRows) : Type 0 where

@@ -1,12 +1,15 @@
-ghost use Rattle.std.specs.Prelude.{◌≡◌, ◌<◌, ◌+◌, ℕ, List, [], ◌∷◌, ◌++◌, true, false, take, Some, Ok, IfOk, OnOk};
+ghost use Rattle.std.specs.Prelude.{◌≡◌, ◌<◌, ◌≤◌, ◌+◌, ℕ, List, [], ◌∷◌, ◌++◌, true, false, slice_get, take, Some, Ok};
+ghost use Rattle.std.specs.Prelude.{IfOk, OnOk};
+ghost use Rattle.std.specs.HashMap.{hash_map_len};
 ghost use Rattle.gridding.specs.declared.track_blocks.TheConstants.{ROWS};
+ghost use Rattle.track_types.specs.Limits.{limit_of};
 ghost use Rattle.track_types.specs.Near.{IsRowInRange};
 ghost use Rattle.track_types.specs.declared.row.Row.{Row};
 
 use crate::packed_place::PackedPlace;
 use std::alloc::{AllocError, Global};
 use std::collections::HashMap;
-use track_types::{MAX_OBJECTS, Row};
+use track_types::{LimitKind, MAX_OBJECTS, Row};
 
 /// How many places a block has: enough that each block is read at once, and few enough that blocks that are not full
 /// take little. Blocks of 31 places begin 496 bytes apart, and not 512: so the places that are written at the same time
@@ -23,19 +26,19 @@ pub struct TrackBlocks {
     blocks: Vec<[PackedPlace; ROWS]>,
     // The object of each block.
     objects: Vec<u32>,
-    // How many places of each block are filled. These stand apart from the blocks, so that a cache holds the lengths of
-    // all blocks that are written at the same time, one for each object: a row of another object than the row before
-    // waits for no load of its block.
+    // How many places of each block are filled. These and the objects stand apart from the blocks, so that a cache
+    // holds them for all blocks that are written at the same time, one for each object: no row waits for a load of its
+    // block.
     lengths: Vec<u8>,
     // The last block of each object.
     last_of: HashMap<u32, usize>,
-    // The object of the row that was put last, and its last block.
-    recent: Option<(u32, usize)>,
+    // The block that was written last.
+    recent: usize,
 }
 
 impl TrackBlocks {
-    ghost use Rattle.gridding.specs.Blocks.{IsLastOf, row_at, runs_in, runs_of};
-    ghost use Rattle.gridding.specs.GriddedRows.{AreBlocksOf};
+    ghost use Rattle.gridding.specs.Blocks.{row_at, rows_with, runs_in, runs_of};
+    ghost use Rattle.gridding.specs.GriddedRows.{AreBlocksOf, HasRoom, IsFull};
 
     /// No blocks.
     #[tactic(auto, unfolding(crate::specs::Blocks::runs_of))]
@@ -47,24 +50,53 @@ impl TrackBlocks {
             objects: Vec::new(alloc),
             lengths: Vec::new(alloc),
             last_of: HashMap::new(alloc),
-            recent: None,
+            recent: 0,
         }
     }
 
     /// Puts a row after those of its object, and answers whether it could: a row whose object has no block is left out
     /// once there are as many objects as a chart may have. So a file in which each row has another object does not take
     /// a block a row.
+    #[inline]
     pub fn add(&mut self, row: Row) -> Result<bool, AllocError>
         requires { IsRowInRange row }
         ensures put { result ≡ Ok true → (rows : List Row) → AreBlocksOf rows self.old →
             AreBlocksOf (rows ++ (row ∷ [])) self.new }
         ensures left_out { result ≡ Ok false → (rows : List Row) → AreBlocksOf rows self.old →
             AreBlocksOf rows self.new }
+        ensures full { result ≡ Ok false → (rows : List Row) → AreBlocksOf rows self.old →
+            (rows_with row.object rows ≡ []) × (limit_of LimitKind.Objects ≤ hash_map_len self.old.last_of) }
     {
         let place = PackedPlace::new(row.instant, row.cell);
-        match self.last_block(row.object) {
+        let guess = self.guess(row.object);
+        if self.put(row.object, guess, place) {
+            return Ok(true);
+        }
+        self.put_anywhere(row.object, place)
+    }
+
+    // A block that may be the object's last. A wrong guess costs time alone. While the rows are those of one object,
+    // nothing is hashed.
+    #[inline]
+    fn guess(&self, object: u32) -> usize {
+        match self.objects.get(self.recent) {
+            Some(&owner) if owner == object => self.recent,
+            _ => self.last_of.get(&object).copied().unwrap_or(usize::MAX),
+        }
+    }
+
+    // Puts a place into the object's last block, or into a new one.
+    #[inline(never)]
+    fn put_anywhere(&mut self, object: u32, place: PackedPlace) -> Result<bool, AllocError>
+        ensures put { result ≡ Ok true → (rows : List Row) → AreBlocksOf rows self.old →
+            AreBlocksOf (rows ++ (row_at object place ∷ [])) self.new }
+        ensures left_out { result ≡ Ok false → self.new ≡ self.old }
+        ensures full { result ≡ Ok false → (rows : List Row) → AreBlocksOf rows self.old →
+            (rows_with object rows ≡ []) × (limit_of LimitKind.Objects ≤ hash_map_len self.old.last_of) }
+    {
+        match self.last_of.get(&object).copied() {
             Some(last) => {
-                if self.put(row.object, last, place) {
+                if self.put(object, last, place) {
                     return Ok(true);
                 }
             }
@@ -74,51 +106,39 @@ impl TrackBlocks {
                 }
             }
         }
-        self.open(row.object, place)?;
+        self.open(object, place)?;
         Ok(true)
     }
 
-    // The object's last block, if it has one. While the rows are those of one object, nothing is hashed.
+    // Puts a place into a block, if it is one of the object and has room: so it is the object's last, since no block is
+    // opened before the one before is full. Of the block nothing is read. Where it has an object, it is there with its
+    // length, but the type does not say so; `get_mut` costs what an index would.
     #[inline]
-    #[tactic(auto, using(crate::proofs::BlockLemmas::last_from_recent))]
-    fn last_block(&self, object: u32) -> Option<usize>
-        ensures { (rows : List Row) → AreBlocksOf rows self.now →
-            IsLastOf object self.now.objects.items result }
-    {
-        match self.recent {
-            Some((owner, last)) if owner == object => Some(last),
-            _ => self.last_of.get(&object).copied(),
-        }
-    }
-
-    // Puts a place into the object's last block, if that has room. Of the block nothing is read. It and its length are
-    // there, but the type does not say so; `get_mut` costs what an index would.
-    #[inline]
-    fn put(&mut self, object: u32, last: usize, place: PackedPlace) -> bool
+    fn put(&mut self, object: u32, guess: usize, place: PackedPlace) -> bool
+        ensures left_out { result ≡ false → self.new ≡ self.old }
         ensures full { result ≡ false → (rows : List Row) → AreBlocksOf rows self.old →
-            AreBlocksOf rows self.new }
+            slice_get self.old.objects.items guess ≡ Some object → HasRoom self.old guess → ⊥ }
         ensures put { result ≡ true → (rows : List Row) → AreBlocksOf rows self.old →
-            IsLastOf object self.old.objects.items (Some last) →
             AreBlocksOf (rows ++ (row_at object place ∷ [])) self.new }
     {
-        let length = match self.lengths.get(last) {
-            Some(&length) if (length as usize) < ROWS => length,
+        let length = match (self.objects.get(guess), self.lengths.get(guess)) {
+            (Some(&owner), Some(&length)) if owner == object && (length as usize) < ROWS => length,
             _ => return false,
         };
-        match self.blocks.get_mut(last) {
+        match self.blocks.get_mut(guess) {
             Some(places) => {
                 write(places, length, place);
-                self.lengths[last] = length + 1;
-                self.recent = Some((object, last));
+                self.lengths[guess] = length + 1;
+                self.recent = guess;
                 true
             }
             None => false,
         }
     }
 
-    // Opens a block of the object, with this place in it.
+    // Opens a block of the object, with this place in it. The blocks that the object has are to be full.
     fn open(&mut self, object: u32, place: PackedPlace) -> Result<(), AllocError>
-        ensures { OnOk result ((rows : List Row) → AreBlocksOf rows self.old →
+        ensures { OnOk result ((rows : List Row) → AreBlocksOf rows self.old → IsFull object self.old →
             AreBlocksOf (rows ++ (row_at object place ∷ [])) self.new) }
     {
         let last = self.blocks.len();
@@ -126,7 +146,7 @@ impl TrackBlocks {
         self.objects.push(object)?;
         self.lengths.push(1)?;
         self.last_of.insert(object, last)?;
-        self.recent = Some((object, last));
+        self.recent = last;
         Ok(())
     }
 

@@ -12,7 +12,7 @@ use std::io::Read;
 use track_types::{LimitKind, RawRow};
 
 /// How many bytes have to be there, kept and in a piece, for lines to be read. Each reading makes a
-/// reader of csv, whose tables cost 10 to 20 µs, and a pipe that gives line by line would pay that
+/// reader of csv, whose tables cost some 10 µs, and a pipe that gives line by line would pay that
 /// for each line.
 const LEAST: usize = 0x8000;
 

@@ -2,7 +2,7 @@ use Rattle.std.proofs.Common.{rules, ◌≡◌, [], ◌∷◌, ◌++◌, refl, s
 use Rattle.gridding.specs.Blocks.{row_at}
 use Rattle.gridding.specs.GriddedRows.{AreBlocksOf}
 use Rattle.gridding.specs.PackedPlace.{cell_of, instant_of}
-use Rattle.gridding.proofs.track_blocks.TrackBlocks.add.Goals.{After-new-place, in-Some+else-put, in-None+else-len}
+use Rattle.gridding.proofs.track_blocks.TrackBlocks.add.Goals.{After-new-place}
 use Rattle.gridding.proofs.track_blocks.TrackBlocks.add.Goals as goal
 
 -- what is packed is the row
@@ -15,13 +15,19 @@ packed c =
 pub returns-then-put-clause-put : goal.returns-then-put-clause-put
 returns-then-put-clause-put c = λ _ rows blocks.
     subst (λ row. AreBlocksOf (rows ++ (row ∷ [])) c.put.new.self) (packed (goal.at.returns-then-put-clause-put c).After-new-place)
-    (c.put.ensures.put c.if-put.true rows blocks (c.in-Some.ensures rows blocks))
+    (c.put.ensures.put c.if-put.true rows blocks)
 
 pub returns-clause-put : goal.returns-clause-put
-returns-clause-put c = λ _ rows blocks.
-    let before : AreBlocksOf rows c.match-last_block.self = elim c.match-last_block.branch [
-      | in-Some+else-put w ↦ rw w.self-is (w.put.ensures.full w.if-put.false rows blocks)
-      | in-None+else-len w ↦ rw w.self-is blocks
-    ] in
-    subst (λ row. AreBlocksOf (rows ++ (row ∷ [])) c.open.new.self) (packed (goal.at.returns-clause-put c).After-new-place)
-    (c.in_ok-open.ensures rows before)
+returns-clause-put c = λ is rows blocks.
+    subst (λ row. AreBlocksOf (rows ++ (row ∷ [])) c.put_anywhere.new.self)
+    (packed (goal.at.returns-clause-put c).After-new-place)
+    (c.put_anywhere.ensures.put is rows (rw (c.put.ensures.left_out c.if-put.false) blocks))
+
+pub returns-clause-left_out : goal.returns-clause-left_out
+returns-clause-left_out c = λ is rows blocks.
+    rw (c.put_anywhere.ensures.left_out is, c.put.ensures.left_out c.if-put.false) blocks
+
+pub returns-clause-full : goal.returns-clause-full
+returns-clause-full c = λ is rows blocks.
+    let same = c.put.ensures.left_out c.if-put.false in
+    rw same at (c.put_anywhere.ensures.full is rows (rw same blocks))
