@@ -99,8 +99,8 @@ fn signed(is_negative: bool, digits: &[u8]) -> Numeral
     }
 }
 
-// What the digits mean, in one pass, or none where there is no byte or one that is no digit. Four
-// digits a turn are the fastest.
+// What the digits mean, in one pass, or none where there is no byte or one that is no digit. Many
+// digits at once are the fastest.
 fn few_digits(digits: &[u8]) -> Option<i64>
     requires { length digits.now ≤ 18 }
     ensures decimal { IfSome result (λ _. is_decimal digits.now ≡ true) }
@@ -108,14 +108,24 @@ fn few_digits(digits: &[u8]) -> Option<i64>
         (value ≡ pos (magnitude_of digits.now)) × (magnitude_of digits.now ≤ 2 ^ 62)) }
     ensures none { IfNone result (is_decimal digits.now ≡ false) }
 {
-    if digits.is_empty() {
-        return None;
-    }
     let mut value: u64 = 0;
     let mut left = digits;
+    // Few words have sixteen digits or more, so that one group of eight is enough.
+    if let [a, b, c, d, e, f, g, h, rest @ ..] = left {
+        value = eight_digits(*a, *b, *c, *d, *e, *f, *g, *h)?;
+        left = rest;
+    }
     while let [thousands, hundreds, tens, ones, rest @ ..] = left {
         value = 10_000 * value + four_digits(*thousands, *hundreds, *tens, *ones)?;
         left = rest;
+    }
+    if left.is_empty() {
+        // Only here can the word itself be empty, so that other words need no such test.
+        return if digits.is_empty() {
+            None
+        } else {
+            Some(value as i64)
+        };
     }
     Some(last_digits(value, left)? as i64)
 }
@@ -135,9 +145,31 @@ fn last_digits(value: u64, digits: &[u8]) -> Option<u64>
         [ones] => Some(10 * value + one_digit(*ones)?),
         [tens, ones] => Some(100 * value + two_digits(*tens, *ones)?),
         [hundreds, tens, ones, ..] => {
-            Some(1000 * value + 100 * one_digit(*hundreds)? + two_digits(*tens, *ones)?)
+            let front = 100 * value + two_digits(*hundreds, *tens)?;
+            Some(10 * front + one_digit(*ones)?)
         }
     }
+}
+
+fn eight_digits(a: u8, b: u8, c: u8, d: u8, e: u8, f: u8, g: u8, h: u8) -> Option<u64>
+    ensures digits { let bytes = a ∷ b ∷ c ∷ d ∷ e ∷ f ∷ g ∷ h ∷ [] in
+        IfSome result (λ value. (list_all is_digit bytes ≡ true) × (value ≡ magnitude_of bytes)) }
+    ensures none { let bytes = a ∷ b ∷ c ∷ d ∷ e ∷ f ∷ g ∷ h ∷ [] in
+        IfNone result (list_all is_digit bytes ≡ false) }
+{
+    // As in `four_digits`, in a word of twice the length.
+    let word = u64::from_le_bytes([a, b, c, d, e, f, g, h]);
+    let marks = word & word.wrapping_add(0x0606_0606_0606_0606) & 0xf0f0_f0f0_f0f0_f0f0;
+    if marks != 0x3030_3030_3030_3030 {
+        return None;
+    }
+    let digits = word - 0x3030_3030_3030_3030;
+    // What goes beyond the word by either product is of no use.
+    let pairs = digits.wrapping_mul(0xa01) / 0x100 & 0x00ff_00ff_00ff_00ff;
+    // The lowest 16 bits of `fours` are a hundred times a pair and the next, and so are those from
+    // bit 32 on: 0x64_0001 is 100 * 0x1_0000 + 1.
+    let fours = pairs.wrapping_mul(0x64_0001) / 0x1_0000;
+    Some(10_000 * (fours % 0x1_0000) + fours / 0x1_0000_0000)
 }
 
 fn four_digits(thousands: u8, hundreds: u8, tens: u8, ones: u8) -> Option<u64>
@@ -154,9 +186,10 @@ fn four_digits(thousands: u8, hundreds: u8, tens: u8, ones: u8) -> Option<u64>
         return None;
     }
     let digits = word - 0x3030_3030;
-    // Each byte of `pairs` is ten times a digit and the next: 0xa01 is 10 * 0x100 + 1.
-    let pairs = 0xa01 * digits / 0x100;
-    Some(100 * (pairs % 0x100) + pairs / 0x1_0000 % 0x100)
+    // Every second byte of `pairs` is ten times a digit and the next: 0xa01 is 10 * 0x100 + 1.
+    let pairs = 0xa01 * digits / 0x100 & 0x00ff_00ff;
+    // And 0x64_0001 is 100 * 0x1_0000 + 1.
+    Some(pairs * 0x64_0001 % 0x1_0000_0000 / 0x1_0000)
 }
 
 fn two_digits(tens: u8, ones: u8) -> Option<u64>
@@ -165,10 +198,12 @@ fn two_digits(tens: u8, ones: u8) -> Option<u64>
     ensures none { let bytes = tens ∷ ones ∷ [] in
         IfNone result (list_all is_digit bytes ≡ false) }
 {
-    if !(is_digit_byte(tens) & is_digit_byte(ones)) {
+    // As in `four_digits`, in a word of half the length.
+    let word = u64::from(u16::from_le_bytes([tens, ones]));
+    if word & (word + 0x0606) & 0xf0f0 != 0x3030 {
         return None;
     }
-    Some(10 * u64::from(tens) + u64::from(ones) - 11 * u64::from(b'0'))
+    Some(0xa01 * (word - 0x3030) / 0x100 % 0x100)
 }
 
 fn one_digit(byte: u8) -> Option<u64>
