@@ -3,7 +3,8 @@
 use Rattle.std.proofs.Common.{◌≡◌, ◌≢◌, ℕ, zero, suc, ◌+◌, ◌<◌, ◌≤◌, List, [], ◌∷◌, ◌++◌, Option, Some, None}
 use Rattle.std.proofs.Common.{drop, filter, get_or, length, map, set, take}
 use Rattle.std.proofs.Common.{refl, sym, ap, ◌∙◌, subst, arith, inl, inr}
-use Rattle.std.specs.Prelude.{◌==◌, nat_eq, slice_get}
+use Rattle.std.specs.Prelude.{◌==◌, ◌⊎◌, Bool, true, false, Result, Ok, Err, IfOk, nat_eq, slice_get}
+use Rattle.std.specs.declared.alloc.AllocError.{AllocError}
 use Rattle.std.specs.HashMap.{Updates, get}
 use Rattle.std.specs.List.{zip}
 use Rattle.std.proofs.lemmas.Bool.{cases_eq}
@@ -11,19 +12,21 @@ use Rattle.std.proofs.lemmas.Bool.Decides.{nat_tests}
 use Rattle.std.proofs.lemmas.Grind.{flat_map-append}
 use Rattle.std.proofs.lemmas.Option.{get_or_from_slice_get, slice_get_within}
 use Rattle.std.proofs.lemmas.List.{append-nil, append_assoc, drop-append-le, get_or-map, get_or-set_other, get_or_append_left}
-use Rattle.std.proofs.lemmas.List.{length-append, length-map, length-set, map-append, map-set, set-get_or}
+use Rattle.std.proofs.lemmas.List.{length-append, length-map, length-set, map-append, map-set, nil_from_length, set-get_or}
 use Rattle.std.proofs.Math.Seq.{drop-append-add}
 use Rattle.std.proofs.lemmas.List.Elements.{filter-append}
 use Rattle.std.proofs.lemmas.Slice.Zip.{firsts-zip, get_or-zip, length-zip}
 use Rattle.list_laws.proofs.SliceLemmas.{slice_get-append_add, slice_get-append_left}
 use Rattle.list_laws.proofs.ZipLemmas.{zip-append, zip-set}
 use Rattle.track_types.specs.declared.row.Row.{Row}
-use Rattle.gridding.specs.Blocks.{IsLastOf, Run, filled_of, row_at, rows_of_run, rows_of_runs}
+use Rattle.gridding.specs.Blocks.{IsLastOf, Run, filled_of, rows_of_run, rows_of_runs}
+use Rattle.gridding.specs.PackedPlace.{row_at}
 use Rattle.gridding.specs.Blocks.{rows_with, runs_of, runs_with}
-use Rattle.gridding.specs.GriddedRows.{AreBlocksOf, HasRoom, IsFull}
+use Rattle.gridding.specs.GriddedRows.{AreBlocksOf, HasAdded, HasKept, HasPut, HasRoom, IsAway, IsFull, IsOneTooMany}
 use Rattle.gridding.specs.declared.packed_place.PackedPlace.{PackedPlace}
 use Rattle.gridding.specs.declared.track_blocks.TheConstants.{ROWS}
 use Rattle.gridding.specs.declared.track_blocks.TrackBlocks.{TrackBlocks}
+use Rattle.gridding.specs.declared.packed_place.Origin.{Origin}
 
 -- the object of a run
 abbrev owner : Run → ℕ
@@ -79,62 +82,63 @@ same_last : (object : ℕ) (objects : List ℕ) (a b : ℕ) → IsLastOf object 
 same_last object objects a b at_a at_b =
     omega (arith, place_le object objects a b at_a.1 at_b.0, place_le object objects b a at_b.1 at_a.0)
 
--- the rows of an object in runs
-abbrev rows_in : ℕ → List Run → List Row
-rows_in object runs = rows_of_runs (runs_with object runs)
+module _ (origin : Origin) where
+  -- the rows of an object in runs
+  abbrev rows_in : ℕ → List Run → List Row
+  rows_in object runs = rows_of_runs origin (runs_with object runs)
 
--- of two lists of runs
-rows_in-append : (object : ℕ) (xs ys : List Run) → rows_in object (xs ++ ys) ≡ rows_in object xs ++ rows_in object ys
-rows_in-append object xs ys =
-    ap rows_of_runs (filter-append (λ run. run.0 == object) xs ys)
-    ∙ flat_map-append rows_of_run (runs_with object xs) (runs_with object ys)
+  -- of two lists of runs
+  rows_in-append : (object : ℕ) (xs ys : List Run) → rows_in object (xs ++ ys) ≡ rows_in object xs ++ rows_in object ys
+  rows_in-append object xs ys =
+      ap (rows_of_runs origin) (filter-append (λ run. run.0 == object) xs ys)
+      ∙ flat_map-append (rows_of_run origin) (runs_with object xs) (runs_with object ys)
 
--- of a run of one place
-rows_in-opened : (object : ℕ) (place : PackedPlace) (other : ℕ) →
-    rows_in other ((object, place ∷ []) ∷ []) ≡ rows_with other (row_at object place ∷ [])
-rows_in-opened object place other = elim (cases_eq object other) [
-  | inl is ↦ grind (arith, nat_tests)
-  | inr differ ↦ grind (arith, nat_tests)
-]
+  -- of a run of one place
+  rows_in-opened : (object : ℕ) (place : PackedPlace) (other : ℕ) →
+      rows_in other ((object, place ∷ []) ∷ []) ≡ rows_with other (row_at origin object place ∷ [])
+  rows_in-opened object place other = elim (cases_eq object other) [
+    | inl is ↦ grind (arith, nat_tests)
+    | inr differ ↦ grind (arith, nat_tests)
+  ]
 
--- where there is no run of an object
-rows_in-none : (object : ℕ) (runs : List Run) → filter (λ other. other == object) (map owner runs) ≡ [] →
-    rows_in object runs ≡ []
-rows_in-none object [] none = refl
-rows_in-none object (run ∷ runs) none = elim (cases_eq run.0 object) [
-  | inl is ↦ grind (arith, nat_tests)
-  | inr differ ↦ grind (arith, nat_tests, rows_in-none object runs)
-]
+  -- where there is no run of an object
+  rows_in-none : (object : ℕ) (runs : List Run) → filter (λ other. other == object) (map owner runs) ≡ [] →
+      rows_in object runs ≡ []
+  rows_in-none object [] none = refl
+  rows_in-none object (run ∷ runs) none = elim (cases_eq run.0 object) [
+    | inl is ↦ grind (arith, nat_tests)
+    | inr differ ↦ grind (arith, nat_tests, rows_in-none object runs)
+  ]
 
--- of one place more in a run after which there is none of its object
-rows_in-put : (object : ℕ) (places : List PackedPlace) (place : PackedPlace) (other : ℕ) (runs : List Run) →
-    filter (λ own. own == object) (map owner runs) ≡ [] →
-    rows_in other ((object, places ++ (place ∷ [])) ∷ runs)
-    ≡ rows_in other ((object, places) ∷ runs) ++ rows_with other (row_at object place ∷ [])
-rows_in-put object places place other runs none =
-    let none_after = rows_in-none object runs none in
-    let put = map-append (row_at object) places (place ∷ []) in
-    elim (cases_eq object other) [
-      | inl is ↦
-          let end = append-nil (map (row_at object) places) in
-          grind (arith, nat_tests, none_after, put, end, append-nil (map (row_at object) (places ++ (place ∷ []))))
-      | inr differ ↦ grind (arith, nat_tests, append-nil (rows_in other runs))
-    ]
+  -- of one place more in a run after which there is none of its object
+  rows_in-put : (object : ℕ) (places : List PackedPlace) (place : PackedPlace) (other : ℕ) (runs : List Run) →
+      filter (λ own. own == object) (map owner runs) ≡ [] →
+      rows_in other ((object, places ++ (place ∷ [])) ∷ runs)
+      ≡ rows_in other ((object, places) ∷ runs) ++ rows_with other (row_at origin object place ∷ [])
+  rows_in-put object places place other runs none =
+      let none_after = rows_in-none object runs none in
+      let put = map-append (row_at origin object) places (place ∷ []) in
+      elim (cases_eq object other) [
+        | inl is ↦
+            let end = append-nil (map (row_at origin object) places) in
+            grind (arith, nat_tests, none_after, put, end, append-nil (map (row_at origin object) (places ++ (place ∷ []))))
+        | inr differ ↦ grind (arith, nat_tests, append-nil (rows_in other runs))
+      ]
 
--- of one place more in an object's last run
-rows_in-pushed : (object last : ℕ) (places : List PackedPlace) (place : PackedPlace) (other : ℕ) (runs : List Run) →
-    (d : Run) → IsLastOf object (map owner runs) (Some last) → get_or runs last d ≡ (object, places) →
-    rows_in other (set runs last (object, places ++ (place ∷ [])))
-    ≡ rows_in other runs ++ rows_with other (row_at object place ∷ [])
-rows_in-pushed object last places place other [] d (is, none) here = cc
-rows_in-pushed object zero places place other (run ∷ runs) d (is, none) here =
-    rw here (rows_in-put object places place other runs none)
-rows_in-pushed object (suc last) places place other (run ∷ runs) d (is, none) here =
-    let pushed : Run = (object, places ++ (place ∷ [])) in
-    let rest = rows_in-pushed object last places place other runs d (is, none) here in
-    rows_in-append other (run ∷ []) (set runs last pushed) ∙ ap (λ rows. rows_in other (run ∷ []) ++ rows) rest
-    ∙ sym (append_assoc (rows_in other (run ∷ [])) (rows_in other runs) (rows_with other (row_at object place ∷ [])))
-    ∙ ap (λ rows. rows ++ rows_with other (row_at object place ∷ [])) (sym (rows_in-append other (run ∷ []) runs))
+  -- of one place more in an object's last run
+  rows_in-pushed : (object last : ℕ) (places : List PackedPlace) (place : PackedPlace) (other : ℕ) (runs : List Run) →
+      (d : Run) → IsLastOf object (map owner runs) (Some last) → get_or runs last d ≡ (object, places) →
+      rows_in other (set runs last (object, places ++ (place ∷ [])))
+      ≡ rows_in other runs ++ rows_with other (row_at origin object place ∷ [])
+  rows_in-pushed object last places place other [] d (is, none) here = cc
+  rows_in-pushed object zero places place other (run ∷ runs) d (is, none) here =
+      rw here (rows_in-put object places place other runs none)
+  rows_in-pushed object (suc last) places place other (run ∷ runs) d (is, none) here =
+      let pushed : Run = (object, places ++ (place ∷ [])) in
+      let rest = rows_in-pushed object last places place other runs d (is, none) here in
+      rows_in-append other (run ∷ []) (set runs last pushed) ∙ ap (λ rows. rows_in other (run ∷ []) ++ rows) rest
+      ∙ sym (append_assoc (rows_in other (run ∷ [])) (rows_in other runs) (rows_with other (row_at origin object place ∷ [])))
+      ∙ ap (λ rows. rows ++ rows_with other (row_at origin object place ∷ [])) (sym (rows_in-append other (run ∷ []) runs))
 
 -- each block has its filled places
 filled_long : (rows : List Row) (tracks : TrackBlocks) → AreBlocksOf rows tracks →
@@ -144,14 +148,15 @@ filled_long rows tracks blocks =
     omega (arith, pairs, length-zip tracks.blocks.items tracks.lengths.items, blocks.objects, blocks.lengths)
 
 -- a row more
-module _ (rows : List Row) (old new : TrackBlocks) (object : ℕ) (place : PackedPlace) (blocks : AreBlocksOf rows old) where
+module _ (rows : List Row) (old new : TrackBlocks) (object : ℕ) (place : PackedPlace) (blocks : AreBlocksOf rows old) (origin_stays : new.origin ≡ old.origin) where
   -- each object has the rows that it had, and this one if it is its own
   held_more : (other : ℕ) →
-      rows_in other (runs_of new) ≡ rows_in other (runs_of old) ++ rows_with other (row_at object place ∷ []) →
-      rows_in other (runs_of new) ≡ rows_with other (rows ++ (row_at object place ∷ []))
+      rows_in old.origin other (runs_of new) ≡ rows_in old.origin other (runs_of old) ++ rows_with other (row_at old.origin object place ∷ []) →
+      rows_in new.origin other (runs_of new) ≡ rows_with other (rows ++ (row_at old.origin object place ∷ []))
+  unfolding runs_of
   held_more other more =
-      more ∙ ap (λ held. held ++ rows_with other (row_at object place ∷ [])) (blocks.held other)
-      ∙ sym (filter-append (λ row. row.object == other) rows (row_at object place ∷ []))
+      rw origin_stays more ∙ ap (λ held. held ++ rows_with other (row_at old.origin object place ∷ [])) (blocks.held other)
+      ∙ sym (filter-append (λ row. row.object == other) rows (row_at old.origin object place ∷ []))
 
   -- in the object's last block
   pub blocks_pushed : (last n : ℕ) (places pushed : List PackedPlace) →
@@ -160,7 +165,7 @@ module _ (rows : List Row) (old new : TrackBlocks) (object : ℕ) (place : Packe
       take (n + 1) pushed ≡ take n places ++ (place ∷ []) →
       new.blocks.items ≡ set old.blocks.items last pushed → new.objects ≡ old.objects →
       new.lengths.items ≡ set old.lengths.items last (n + 1) → new.last_of ≡ old.last_of →
-      AreBlocksOf (rows ++ (row_at object place ∷ [])) new
+      AreBlocksOf (rows ++ (row_at old.origin object place ∷ [])) new
   unfolding runs_of
   blocks_pushed last n places pushed is below places_are length_is put blocks_are objects_stay lengths_are map_stays =
       let objects : List ℕ = old.objects.items in
@@ -199,8 +204,8 @@ module _ (rows : List Row) (old new : TrackBlocks) (object : ℕ) (place : Packe
         lengths = rw (blocks_are, lengths_are, length-set old.blocks.items, length-set old.lengths.items)
             blocks.lengths;
         held = λ other. held_more other
-            (ap (rows_in other) made
-            ∙ rows_in-pushed object last (take n places) place other (runs_of old) run (rw owners is_last) run_is);
+            (ap (rows_in old.origin other) made
+            ∙ rows_in-pushed old.origin object last (take n places) place other (runs_of old) run (rw owners is_last) run_is);
         last = λ other. rw (objects_stay, map_stays) (blocks.last other);
         room = λ other at stands room. rw objects_stay (elim (cases_eq at last) [
           | inl same ↦
@@ -218,7 +223,7 @@ module _ (rows : List Row) (old new : TrackBlocks) (object : ℕ) (place : Packe
       last ≡ length old.blocks.items → new.blocks.items ≡ old.blocks.items ++ (opened ∷ []) →
       new.objects.items ≡ old.objects.items ++ (object ∷ []) → new.lengths.items ≡ old.lengths.items ++ (1 ∷ []) →
       Updates nat_eq old.last_of new.last_of object (Some last) → IsFull object old →
-      AreBlocksOf (rows ++ (row_at object place ∷ [])) new
+      AreBlocksOf (rows ++ (row_at old.origin object place ∷ [])) new
   unfolding runs_of
   blocks_opened last opened one place_is blocks_are objects_are lengths_are updates full =
       let objects : List ℕ = old.objects.items in
@@ -240,8 +245,8 @@ module _ (rows : List Row) (old new : TrackBlocks) (object : ℕ) (place : Packe
         lengths = grind (arith, blocks.lengths, blocks_are, lengths_are, one_more, length-append old.lengths.items (1 ∷ []));
         held = λ other.
             held_more other
-            (ap (rows_in other) made ∙ rows_in-append other (runs_of old) (run ∷ [])
-            ∙ ap (λ end. rows_in other (runs_of old) ++ end) (rows_in-opened object place other));
+            (ap (rows_in old.origin other) made ∙ rows_in-append old.origin other (runs_of old) (run ∷ [])
+            ∙ ap (λ end. rows_in old.origin other (runs_of old) ++ end) (rows_in-opened old.origin object place other));
         last = λ other. elim (cases_eq object other) [
           | inl is ↦ subst (λ o. IsLastOf o new.objects.items (get nat_eq new.last_of o)) is (rw updates.1 at_last)
           | inr differ ↦
@@ -270,6 +275,22 @@ module _ (rows : List Row) (old new : TrackBlocks) (object : ℕ) (place : Packe
         ];
       }
 
+-- where there are no blocks, places may be counted from anywhere
+pub blocks_begun : (rows : List Row) (old new : TrackBlocks) → AreBlocksOf rows old → length old.blocks.items ≡ 0 →
+    new.blocks ≡ old.blocks → new.objects ≡ old.objects → new.lengths ≡ old.lengths → new.last_of ≡ old.last_of →
+    AreBlocksOf rows new
+unfolding runs_of
+blocks_begun rows old new blocks none blocks_stay objects_stay lengths_stay map_stays =
+    let no_objects : old.objects.items ≡ [] = nil_from_length old.objects.items (blocks.objects ∙ none) in
+    record {
+      objects = rw (objects_stay, blocks_stay) blocks.objects;
+      lengths = rw (lengths_stay, blocks_stay) blocks.lengths;
+      held = λ object. rw (objects_stay, no_objects) (rw no_objects at (blocks.held object));
+      last = λ object. rw (objects_stay, map_stays) (blocks.last object);
+      room = λ object place stands room. rw objects_stay
+          (blocks.room object place (rw objects_stay at stands) (rw lengths_stay at room));
+    }
+
 -- an object has no room where its last block has none, or where it has no block
 pub full_from_last : (rows : List Row) (tracks : TrackBlocks) (object last : ℕ) → AreBlocksOf rows tracks →
     get nat_eq tracks.last_of object ≡ Some last →
@@ -294,4 +315,13 @@ no_rows_from_none rows tracks object blocks is =
     let filled : List (List PackedPlace) = map filled_of (zip tracks.blocks.items tracks.lengths.items) in
     let owners : map owner (runs_of tracks) ≡ objects = firsts-zip objects filled (filled_long rows tracks blocks) in
     let none : filter (λ other. other == object) objects ≡ [] = rw is at (blocks.last object) in
-    sym (blocks.held object) ∙ rows_in-none object (runs_of tracks) (rw owners none)
+    sym (blocks.held object) ∙ rows_in-none tracks.origin object (runs_of tracks) (rw owners none)
+
+-- a row was added where each answer says what it is to say
+pub has_added : (row : Row) (old new : TrackBlocks) (answer : Result Bool AllocError) →
+    (answer ≡ Ok true → HasPut row old new) →
+    (answer ≡ Ok false → HasKept old new × ((rows : List Row) → AreBlocksOf rows old → IsAway row old ⊎ IsOneTooMany row rows old)) →
+    IfOk answer (HasAdded row old new)
+has_added row old new (Ok true) put left_out = put refl
+has_added row old new (Ok false) put left_out = left_out refl
+has_added row old new (Err fault) put left_out = tt

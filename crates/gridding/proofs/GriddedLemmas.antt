@@ -16,39 +16,53 @@ use Rattle.track_types.specs.Row.{IsAscending, is_same_place, row_order}
 use Rattle.track_types.specs.declared.raw_row.RawRow.{RawRow}
 use Rattle.track_types.specs.declared.row.Row.{Row}
 use Rattle.list_laws.specs.Ordered.{ordered}
-use Rattle.gridding.specs.Blocks.{Run, row_at, rows_of_run, rows_of_runs, rows_with, runs_of, runs_with}
+use Rattle.gridding.specs.Blocks.{Run, rows_of_run, rows_of_runs, rows_with, runs_of, runs_with}
 use Rattle.gridding.specs.ChartOf.{chart_rows, gridded, kept}
 use Rattle.gridding.specs.GridLimit.{IsFaultOf, IsRefusal, first_past}
 use Rattle.gridding.specs.declared.fault.GridFault.{GridFault}
 use Rattle.gridding.specs.declared.fault.GridFault.TheVariants.{Empty, Limit, Memory}
 use Rattle.gridding.specs.GriddedRows.{AreBlocksOf, HoldsRows, HasGridded}
 use Rattle.gridding.specs.declared.gridded_rows.GriddedRows.{GriddedRows}
+use Rattle.gridding.specs.PackedPlace.{row_at}
 use Rattle.gridding.specs.declared.packed_place.PackedPlace.{PackedPlace}
 use Rattle.gridding.specs.declared.track_blocks.TrackBlocks.{TrackBlocks}
 use Rattle.gridding.proofs.KeptLemmas.{ascending-kept, found, found-chart_rows}
+use Rattle.gridding.specs.declared.packed_place.Origin.{Origin}
 
--- a run has rows of its object alone
-rows_with-own : (object : ℕ) (places : List PackedPlace) →
-    rows_with object (map (row_at object) places) ≡ map (row_at object) places
-rows_with-own object [] = refl
-rows_with-own object (place ∷ places) = grind (arith, nat_tests, rows_with-own object places)
+module _ (origin : Origin) where
+  -- a run has rows of its object alone
+  rows_with-own : (object : ℕ) (places : List PackedPlace) →
+      rows_with object (map (row_at origin object) places) ≡ map (row_at origin object) places
+  rows_with-own object [] = refl
+  rows_with-own object (place ∷ places) = grind (arith, nat_tests, rows_with-own object places)
 
-rows_with-other : (object other : ℕ) (places : List PackedPlace) → (other == object) ≡ false →
-    rows_with object (map (row_at other) places) ≡ []
-rows_with-other object other [] differ = refl
-rows_with-other object other (place ∷ places) differ = rw differ (rows_with-other object other places differ)
+  rows_with-other : (object other : ℕ) (places : List PackedPlace) → (other == object) ≡ false →
+      rows_with object (map (row_at origin other) places) ≡ []
+  rows_with-other object other [] differ = refl
+  rows_with-other object other (place ∷ places) differ = rw differ (rows_with-other object other places differ)
 
--- so an object's rows are those of its runs
-rows_with-runs : (object : ℕ) (runs : List Run) →
-    rows_with object (rows_of_runs runs) ≡ rows_of_runs (runs_with object runs)
-rows_with-runs object [] = refl
-rows_with-runs object (run ∷ runs) =
-    let rest = rows_with-runs object runs in
-    let parts = filter-append (λ row. row.object == object) (rows_of_run run) (rows_of_runs runs) in
-    elim (cases_Bool (run.0 == object)) [
-      | inl own ↦ grind (arith, nat_tests, rest, parts, own, rows_with-own object run.1)
-      | inr other ↦ grind (arith, rest, parts, other, rows_with-other object run.0 run.1 other)
-    ]
+  -- so an object's rows are those of its runs
+  rows_with-runs : (object : ℕ) (runs : List Run) →
+      rows_with object (rows_of_runs origin runs) ≡ rows_of_runs origin (runs_with object runs)
+  rows_with-runs object [] = refl
+  rows_with-runs object (run ∷ runs) =
+      let rest = rows_with-runs object runs in
+      let parts = filter-append (λ row. row.object == object) (rows_of_run origin run) (rows_of_runs origin runs) in
+      elim (cases_Bool (run.0 == object)) [
+        | inl own ↦ grind (arith, nat_tests, rest, parts, own, rows_with-own object run.1)
+        | inr other ↦ grind (arith, rest, parts, other, rows_with-other object run.0 run.1 other)
+      ]
+
+-- blocks of the rows that are in blocks have the rows that those have
+pub blocks_anew : (rows : List Row) (old new : TrackBlocks) → AreBlocksOf rows old →
+    AreBlocksOf (rows_of_runs old.origin (runs_of old)) new → AreBlocksOf rows new
+blocks_anew rows old new blocks made = record {
+  objects = made.objects;
+  lengths = made.lengths;
+  held = λ object. made.held object ∙ rows_with-runs old.origin object (runs_of old) ∙ blocks.held object;
+  last = made.last;
+  room = made.room;
+}
 
 -- a search for a place looks at the rows of its object alone
 found-by_object : (sought : Row) (rows : List Row) →
@@ -61,11 +75,11 @@ found-by_object sought rows =
     ∙ ap (λ all. slice_get (reverse all) 0) (sym (filter-own_key (is_same_place sought) (λ row. row.object) sought.object own rows))
 
 found-blocks : (rows : List Row) (tracks : TrackBlocks) → AreBlocksOf rows tracks → (sought : Row) →
-    found sought (reverse (rows_of_runs (runs_of tracks))) ≡ found sought (reverse rows)
+    found sought (reverse (rows_of_runs tracks.origin (runs_of tracks))) ≡ found sought (reverse rows)
 found-blocks rows tracks blocks sought =
-    found-by_object sought (rows_of_runs (runs_of tracks))
+    found-by_object sought (rows_of_runs tracks.origin (runs_of tracks))
     ∙ ap (λ all. slice_get (reverse (filter (is_same_place sought) all)) 0)
-    (rows_with-runs sought.object (runs_of tracks) ∙ blocks.held sought.object)
+    (rows_with-runs tracks.origin sought.object (runs_of tracks) ∙ blocks.held sought.object)
     ∙ sym (found-by_object sought rows)
 
 -- with rows after, these are searched first
@@ -76,13 +90,13 @@ found-after sought front back =
 
 -- the rows of blocks, and then the loose ones
 abbrev rows_held : GriddedRows → List Row
-rows_held all = rows_of_runs (runs_of all.tracks) ++ all.loose.items
+rows_held all = rows_of_runs all.tracks.origin (runs_of all.tracks) ++ all.loose.items
 
 found-held : (rows : List Row) (all : GriddedRows) → HoldsRows rows all → (sought : Row) →
     found sought (reverse (rows_held all)) ≡ found sought (reverse rows)
 found-held rows all held sought =
     let loose : List Row = all.loose.items in
-    found-after sought (rows_of_runs (runs_of all.tracks)) loose
+    found-after sought (rows_of_runs all.tracks.origin (runs_of all.tracks)) loose
     ∙ ap (λ front. option_or (found sought (reverse loose)) front) (found-blocks held.front all.tracks held.blocks sought)
     ∙ sym (ap (λ rows. found sought (reverse rows)) held.all ∙ found-after sought held.front loose)
 

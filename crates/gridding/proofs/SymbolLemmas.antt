@@ -1,8 +1,8 @@
 -- Anchors of rows in order: a row is its block's anchor where the row before it is of another block.
-use Rattle.std.proofs.Common.{◌≡◌, ℕ, ℤ, suc, ◌+◌, ◌≤◌, ◌<◌, Bool, true, false, List, [], ◌∷◌, ◌++◌, Ordering, Option, Some, None, add-one, append_assoc, drop, drop-cons, eq-eqb, get_or, length, refl, sym, ◌∙◌, ap, arith, inl, inr, ◌⊎◌}
+use Rattle.std.proofs.Common.{◌≡◌, ℕ, ℤ, zero, suc, ◌+◌, ◌≤◌, ◌<◌, Bool, true, false, List, [], ◌∷◌, ◌++◌, Ordering, Option, Some, None, append_assoc, drop, eq-eqb, get_or, length, refl, sym, ◌∙◌, ap, arith, inl, inr, ◌⊎◌}
 use Rattle.std.specs.Prelude.{if◌then◌else◌, ◌==◌, ◌&&◌, ◌||◌, not, filter, sum_by, option_map, All, ◌*◌, ◌/◌, ◌<ℤ◌, ◌≤ℤ◌, ◌+ℤ◌, ◌-ℤ◌, nat_lt, pos, unsigned_abs}
 use Rattle.std.specs.Int.Signed.{lt_z}
-use Rattle.std.specs.List.{AllByRecursion, list_any}
+use Rattle.std.specs.List.{AllByRecursion, list_any, prefix_len}
 use Rattle.std.specs.List.Sorted.{IsStrictlySortedBy}
 use Rattle.std.specs.Ordering.{MatchOrdering, int_cmp, nat_cmp, ordering_then}
 use Rattle.std.specs.declared.cmp.Ordering.TheVariants.{Less, Equal, Greater}
@@ -21,8 +21,13 @@ use Rattle.track_types.specs.Quantities.{anchors_of, elapsed, is_anchor, is_same
 use Rattle.track_types.specs.Row.{IsAscending, row_order}
 use Rattle.track_types.specs.declared.row.Row.{Row}
 use Rattle.track_types.proofs.RowLemmas.{row_order_total}
-use Rattle.gridding.specs.Block.{IsInSpan, block_of, is_block_of, period_end}
+use Rattle.gridding.specs.Block.{IsInSpan, block_of, is_of_block, period_end}
 use Rattle.gridding.specs.declared.counts.Block.{Block}
+
+-- whether a row is of the block before, if there was one
+abbrev is_block_of : Option Block → Row → Bool
+is_block_of None row = false
+is_block_of (Some before) row = is_of_block before row
 
 -- the order of two rows, as an order of their objects and instants
 in_order : (m n : ℕ) (r o : Ordering) {P : Type 0} → MatchOrdering r (m < n) (m ≡ n) (n < m) → (o ≡ Less → P) →
@@ -79,6 +84,13 @@ ordered_alike a b row same (inl below) (inl above) = absurd (omega arith)
 ordered_alike a b row same (inl below) (inr (alike, above)) = absurd (omega arith)
 ordered_alike a b row same (inr (also, below)) (inl above) = absurd (omega arith)
 ordered_alike a b row same (inr (also, below)) (inr (alike, above)) = (alike, below, above)
+
+-- rows in order stay so without the first ones
+pub IsAscending-drop : (n : ℕ) (rows : List Row) → IsAscending rows → IsAscending (drop n rows)
+unfolding IsStrictlySortedBy
+IsAscending-drop zero rows up = up
+IsAscending-drop (suc n) [] up = tt
+IsAscending-drop (suc n) (row ∷ rest) up = IsAscending-drop n rest up.1
 
 module _ (first : ℤ) (period : ℕ) where
   -- whether another row of a row's block is earlier, so that the row is not its anchor
@@ -231,9 +243,12 @@ module _ (first : ℤ) (period : ℕ) where
   unfolding terminals
   terminals-cons span before row rest = refl
 
-  pub terminals-nil : (span : ℕ) (before : Option Block) → terminals span before [] ≡ 0
+  -- where no row is left
+  pub terminals-none : (span : ℕ) (before : Option Block) (rows : List Row) → length rows < 1 →
+      terminals span before rows ≡ 0
   unfolding terminals
-  terminals-nil span before = refl
+  terminals-none span before [] none = refl
+  terminals-none span before (row ∷ rest) none = absurd (omega arith)
 
   -- after a row, the block before is that of the row
   terminals-at : (span : ℕ) (a row : Row) (rest : List Row) (again : Bool) →
@@ -299,11 +314,46 @@ module _ (first : ℤ) (period : ℕ) where
       terminals-anchors span [] rows None some (λ row above. refl) (above_none rows) up
       (recursion_from_All (λ row. first ≤ℤ row.instant) rows (λ k d below. (inside k d below).after_first))
 
-  -- one row more, at a step of a loop
-  pub terminals-drop : (span : ℕ) (before : Option Block) (rows : List Row) (i : ℕ) (d : Row) (again : Bool) → i < length rows →
-      again ≡ is_block_of before (get_or rows i d) →
-      terminals span before (drop i rows)
-      ≡ (if again then terminals span before (drop (i + 1) rows)
-      else (log_length first span period (get_or rows i d) + terminals span (Some (block_of first period (get_or rows i d))) (drop (i + 1) rows)))
-  terminals-drop span before rows i d again below is =
-      rw (add-one i, is, drop-cons rows i d) (terminals-cons span before (get_or rows i d) (drop (suc i) rows))
+  -- a row is of its own block
+  own_block : (row : Row) → first ≤ℤ row.instant → elapsed first row < period_end first period row →
+      is_of_block (block_of first period row) row ≡ true
+  own_block row behind before_end =
+      let objects : (row.object == row.object) ≡ true = eq-eqb row.object row.object refl in
+      let counted : nat_lt (elapsed first row) (period_end first period row) ≡ true = grind (arith, nat_tests) in
+      rw objects (sym (end_from_first first row.instant (period_end first period row) behind) ∙ counted)
+
+  -- a block's row is passed over, and any other row begins another block
+  terminals-after_one : (span : ℕ) (block : Block) (row : Row) (rest : List Row) (again : Bool) →
+      is_of_block block row ≡ again →
+      terminals span (Some block) rest ≡ terminals span None (drop (prefix_len (is_of_block block) rest) rest) →
+      terminals span (Some block) (row ∷ rest)
+      ≡ terminals span None (drop (prefix_len (is_of_block block) (row ∷ rest)) (row ∷ rest))
+  unfolding terminals
+  terminals-after_one span block row rest true is others =
+      let next : 1 + prefix_len (is_of_block block) rest ≡ suc (prefix_len (is_of_block block) rest) = omega arith in
+      rw (is, next) others
+  terminals-after_one span block row rest false is others = rw is refl
+
+  -- where a block's rows end, another block begins
+  terminals-after : (span : ℕ) (block : Block) (rows : List Row) →
+      terminals span (Some block) rows ≡ terminals span None (drop (prefix_len (is_of_block block) rows) rows)
+  unfolding terminals
+  terminals-after span block [] = refl
+  terminals-after span block (row ∷ rest) =
+      terminals-after_one span block row rest (is_of_block block row) refl (terminals-after span block rest)
+
+  -- one block more, at a step of a loop
+  pub terminals-block : (span : ℕ) (rows : List Row) (d : Row) → 0 < length rows → first ≤ℤ (get_or rows 0 d).instant →
+      elapsed first (get_or rows 0 d) < period_end first period (get_or rows 0 d) →
+      (terminals span None rows ≡ log_length first span period (get_or rows 0 d)
+      + terminals span None (drop (prefix_len (is_of_block (block_of first period (get_or rows 0 d))) rows) rows))
+      × (0 < prefix_len (is_of_block (block_of first period (get_or rows 0 d))) rows)
+  unfolding terminals
+  terminals-block span [] d some behind before_end = absurd (omega arith)
+  terminals-block span (row ∷ rest) d some behind before_end =
+      let length_of = prefix_len (is_of_block (block_of first period row)) in
+      let next : 1 + length_of rest ≡ suc (length_of rest) = omega arith in
+      rw (own_block row behind before_end, next) (
+        ap (λ n. log_length first span period row + n) (terminals-after span (block_of first period row) rest),
+        omega arith,
+      )

@@ -1,5 +1,5 @@
 -- The blocks of rows: an object's rows in one period.
-use Rattle.std.specs.Prelude.{ℕ, ◌+◌, ◌*◌, ◌<◌, ℤ, pos, ◌+ℤ◌, ◌≤ℤ◌, Bool, false, ◌&&◌, ◌==◌, Option, Some, None}
+use Rattle.std.specs.Prelude.{◌≡◌, ℕ, ◌+◌, ◌*◌, ◌<◌, ℤ, pos, ◌+ℤ◌, ◌≤ℤ◌, Bool, ◌&&◌, ◌==◌, List, [], ◌∷◌}
 use Rattle.std.specs.Int.Signed.{lt_z}
 use Rattle.gridding.specs.declared.counts.Block.{Block}
 use Rattle.track_types.specs.Quantities.{elapsed, period_of}
@@ -13,10 +13,15 @@ period_end first period row = (period_of first period row + 1) * period
 abbrev pub block_of : ℤ → ℕ → Row → Block
 block_of first period row = record { object = row.object; end = first +ℤ pos (period_end first period row) }
 
--- whether a row is of the block before, if there was one: of its object, and before the end of its period
-abbrev pub is_block_of : Option Block → Row → Bool
-is_block_of None row = false
-is_block_of (Some before) row = (before.object == row.object) && lt_z row.instant before.end
+-- whether a row is of a block: of its object, and before the end of its period
+abbrev pub is_of_block : Block → Row → Bool
+is_of_block block row = (block.object == row.object) && lt_z row.instant block.end
+
+-- rows begin with one of a block's object, and the block ends within so many instants from that row on
+abbrev pub BeginsWith : Block → ℕ → List Row → Type 0
+BeginsWith block period [] = ⊥
+BeginsWith block period (anchor ∷ later) =
+    (anchor.object ≡ block.object) × (block.end ≤ℤ (anchor.instant +ℤ pos period))
 
 -- a row is within a span of instants that begins at the first
 pub record IsInSpan (first : ℤ) (span : ℕ) (row : Row) : Type 0 where

@@ -3,7 +3,8 @@ use Rattle.std.specs.Prelude.{◌≡◌, ℕ, suc, ◌==◌, List, [], drop, fil
 use Rattle.std.specs.Borrow.{Bor}
 use Rattle.std.specs.List.{flat_map, zip}
 use Rattle.track_types.specs.declared.row.Row.{Row}
-use Rattle.gridding.specs.PackedPlace.{cell_of, instant_of}
+use Rattle.gridding.specs.PackedPlace.{row_at}
+use Rattle.gridding.specs.declared.packed_place.Origin.{Origin}
 use Rattle.gridding.specs.declared.packed_place.PackedPlace.{PackedPlace}
 use Rattle.gridding.specs.declared.track_blocks.TrackBlocks.{TrackBlocks}
 
@@ -11,17 +12,14 @@ use Rattle.gridding.specs.declared.track_blocks.TrackBlocks.{TrackBlocks}
 abbrev pub Run : Type 0
 Run = ℕ × List PackedPlace
 
--- the row of an object at a packed place
-abbrev pub row_at : ℕ → PackedPlace → Row
-row_at object place = record { object = object; instant = instant_of place; cell = cell_of place }
+module _ (origin : Origin) where
+  -- the rows of a run
+  abbrev pub rows_of_run : Run → List Row
+  rows_of_run run = map (row_at origin run.0) run.1
 
--- the rows of a run
-abbrev pub rows_of_run : Run → List Row
-rows_of_run run = map (row_at run.0) run.1
-
--- the rows of runs, run after run
-abbrev pub rows_of_runs : List Run → List Row
-rows_of_runs = flat_map rows_of_run
+  -- the rows of runs, run after run
+  abbrev pub rows_of_runs : List Run → List Row
+  rows_of_runs = flat_map rows_of_run
 
 -- the runs of an object
 abbrev pub runs_with : ℕ → List Run → List Run

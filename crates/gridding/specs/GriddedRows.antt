@@ -1,13 +1,14 @@
 -- Rows that are gridded and put in blocks as they come.
-use Rattle.std.specs.Prelude.{◌≡◌, ◌<◌, ◌≤◌, ◌++◌, ℕ, List, get_or, length, map, slice_get, All, Some, nat_eq}
-use Rattle.std.specs.HashMap.{get}
+use Rattle.std.specs.Prelude.{◌≡◌, ◌<◌, ◌≤◌, ◌++◌, ◌⊎◌, ℕ, Bool, true, false, List, [], ◌∷◌, get_or, length, map, slice_get, All, Some, nat_eq}
+use Rattle.std.specs.HashMap.{get, hash_map_len}
 use Rattle.track_types.specs.Limits.{limit_of}
 use Rattle.track_types.specs.Near.{IsRawInRange}
-use Rattle.track_types.specs.declared.limit.LimitKind.TheVariants.{Rows}
+use Rattle.track_types.specs.declared.limit.LimitKind.TheVariants.{Objects, Rows}
 use Rattle.track_types.specs.declared.raw_row.RawRow.{RawRow}
 use Rattle.track_types.specs.declared.row.Row.{Row}
 use Rattle.gridding.specs.Blocks.{IsLastOf, rows_of_runs, rows_with, runs_of, runs_with}
 use Rattle.gridding.specs.ChartOf.{gridded}
+use Rattle.gridding.specs.PackedPlace.{HasPlace}
 use Rattle.gridding.specs.declared.gridded_rows.GriddedRows.{GriddedRows}
 use Rattle.gridding.specs.declared.track_blocks.TheConstants.{ROWS}
 use Rattle.gridding.specs.declared.track_blocks.TrackBlocks.{TrackBlocks}
@@ -20,15 +21,37 @@ HasRoom tracks place = get_or tracks.lengths.items place ROWS < ROWS
 abbrev pub IsFull : ℕ → TrackBlocks → Type 0
 IsFull object tracks = (place : ℕ) → slice_get tracks.objects.items place ≡ Some object → HasRoom tracks place → ⊥
 
+-- there are blocks, and a row has no place from their origin
+abbrev pub IsAway : Row → TrackBlocks → Type 0
+IsAway row tracks = (0 < length tracks.blocks.items) × (HasPlace tracks.origin row → ⊥)
+
+-- no other row has a row's object, and as many objects have a last block as a chart may have objects
+abbrev pub IsOneTooMany : Row → List Row → TrackBlocks → Type 0
+IsOneTooMany row rows tracks = (rows_with row.object rows ≡ []) × (limit_of Objects ≤ hash_map_len tracks.last_of)
+
 -- Blocks have these rows: each object's in the order in which they came. Each block has an object and a length, the
 -- last block of each object is told, and no other has room.
 pub record AreBlocksOf (rows : List Row) (tracks : TrackBlocks) : Type 0 where
   pub objects : length tracks.objects.items ≡ length tracks.blocks.items
   pub lengths : length tracks.lengths.items ≡ length tracks.blocks.items
-  pub held : (object : ℕ) → rows_of_runs (runs_with object (runs_of tracks)) ≡ rows_with object rows
+  pub held : (object : ℕ) → rows_of_runs tracks.origin (runs_with object (runs_of tracks)) ≡ rows_with object rows
   pub last : (object : ℕ) → IsLastOf object tracks.objects.items (get nat_eq tracks.last_of object)
   pub room : (object place : ℕ) → slice_get tracks.objects.items place ≡ Some object → HasRoom tracks place →
       IsLastOf object tracks.objects.items (Some place)
+
+-- a row was put after those of its object
+abbrev pub HasPut : Row → TrackBlocks → TrackBlocks → Type 0
+HasPut row old new = (rows : List Row) → AreBlocksOf rows old → AreBlocksOf (rows ++ (row ∷ [])) new
+
+-- blocks have the rows that they had
+abbrev pub HasKept : TrackBlocks → TrackBlocks → Type 0
+HasKept old new = (rows : List Row) → AreBlocksOf rows old → AreBlocksOf rows new
+
+-- a row was put, or it was left out for a cause and the others stay
+abbrev pub HasAdded : Row → TrackBlocks → TrackBlocks → Bool → Type 0
+HasAdded row old new true = HasPut row old new
+HasAdded row old new false =
+    HasKept old new × ((rows : List Row) → AreBlocksOf rows old → IsAway row old ⊎ IsOneTooMany row rows old)
 
 -- These rows came, in this order: those in blocks, and after them those from the first that had no block on.
 pub record HoldsRows (rows : List Row) (gridded : GriddedRows) : Type 0 where

@@ -5,6 +5,7 @@ pub mod GridLimit
 pub mod Extents
 pub mod Survey
 pub mod Block
+pub mod Origin
 pub mod PackedPlace
 pub mod Blocks
 pub mod GriddedRows

@@ -1,5 +1,6 @@
-ghost use Rattle.std.specs.Prelude.{◌≡◌, ◌+◌, ◌-◌, ◌^◌, ◌<◌, ◌≤◌, ◌+ℤ◌, All, length, min, pos, sum_by};
-ghost use Rattle.gridding.specs.Block.{IsInSpan, is_block_of, period_end};
+ghost use Rattle.std.specs.Prelude.{◌≡◌, ◌+◌, ◌-◌, ◌^◌, ◌<◌, ◌≤◌, ◌+ℤ◌, All, drop, length, min, pos, sum_by};
+ghost use Rattle.std.specs.List.{prefix_len};
+ghost use Rattle.gridding.specs.Block.{BeginsWith, IsInSpan, is_of_block, period_end};
 ghost use Rattle.track_types.specs.Limits.{IsPeriod, limit_of};
 ghost use Rattle.track_types.specs.Near.{IsNear};
 ghost use Rattle.track_types.specs.Quantities.{anchors_of, elapsed, log_length};
@@ -15,11 +16,19 @@ pub struct Block {
     pub end: i64,
 }
 
+impl Block {
+    fn contains(self, row: &Row) -> bool
+        ensures { result ≡ is_of_block self row.now }
+    {
+        self.object == row.object && row.instant < self.end
+    }
+}
+
 /// How many terminals the logs of all blocks of rows in order have: one for each instant of a block's
 /// period after the block's first row. Periods begin at `first`, and the last ends where the span does.
 ///
-/// Rows ascend, so that a row is of the block before where it is of its object and comes before the end of its
-/// period. So only a block's first row takes a division.
+/// Rows ascend, so that a block's rows stand together: only its first row takes a division, and where they end
+/// is searched.
 pub fn symbol_count(rows: &[Row], first: i64, span: u64, period: u64) -> u64
     requires ascending { IsAscending rows.now }
     requires few { length rows.now ≤ limit_of LimitKind.Rows }
@@ -30,24 +39,26 @@ pub fn symbol_count(rows: &[Row], first: i64, span: u64, period: u64) -> u64
     ensures { result ≡ sum_by (log_length first span period) (anchors_of first period rows.now) }
 {
     let mut count = 0;
-    let mut before = None;
-    for row in rows {
-        if !is_block_of(before, row) {
-            let period_end = end_of_period(row, first, period);
-            count += log_length(row, first, span, period_end);
-            before = Some(block_until(row, first, period_end));
-        }
+    let mut left = rows;
+    while let [anchor, ..] = left {
+        let period_end = end_of_period(anchor, first, period);
+        count += log_length(anchor, first, span, period_end);
+        left = after_block(left, block_until(anchor, first, period_end), period);
     }
     count
 }
 
-fn is_block_of(before: Option<Block>, row: &Row) -> bool
-    ensures { result ≡ is_block_of before row.now }
+// The rows after those of the block with which rows in order begin. An object has at most one row in an instant,
+// so that the block has no more rows than a period has instants.
+fn after_block<'a>(rows: &'a [Row], block: Block, period: u64) -> &'a [Row]
+    requires ascending { IsAscending rows.now }
+    requires begins { BeginsWith block period rows.now }
+    requires period { IsPeriod period }
+    ensures { result.now ≡ drop (prefix_len (is_of_block block) rows.now) rows.now }
 {
-    match before {
-        Some(before) => before.object == row.object && row.instant < before.end,
-        None => false,
-    }
+    let most = rows.len().min(period as usize);
+    let length = rows[..most].partition_point(|row| block.contains(row));
+    &rows[length..]
 }
 
 // How many instants come before the end of an anchor's period, from the first on.

@@ -12,11 +12,12 @@ use crate::track_blocks::TrackBlocks;
 use std::alloc::{AllocError, Global};
 use track_types::{Chart, RawRow, Row};
 
-/// Raw rows that are gridded as they come. Where objects have many, they take some 17 bytes a row, and with their chart
-/// 49.
+/// Raw rows that are gridded as they come. Where objects have many, they take some 9 bytes a row, and with their chart
+/// 41.
 ///
-/// A file of more objects than a chart may have is refused in the end, but with its count of objects, for which all its
-/// rows are needed. From the first row that has no block on they take 32 bytes each.
+/// From the first row on that has no block, rows take 32 bytes each: it is too far from the others, or there are more
+/// objects than a chart may have. Such a file is refused in the end, unless a row that is far gives way to a later one of
+/// its object and instant; all its rows are needed for the count or the extent that is told.
 #[derive(Drop)]
 pub struct GriddedRows {
     tracks: TrackBlocks,
@@ -92,7 +93,7 @@ impl GriddedRows {
             HasGridded cell tick raws self → IsFaultOf raws cell tick period fault) }
     {
         let runs = self.tracks.runs(alloc)?;
-        let made = merged_rows(alloc, runs, &self.loose, self.count)?;
+        let made = merged_rows(alloc, self.tracks.origin(), runs, &self.loose, self.count)?;
         if made.rows.is_empty() {
             return Err(GridFault::Empty);
         }

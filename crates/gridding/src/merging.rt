@@ -5,7 +5,7 @@ ghost use Rattle.gridding.specs.Survey.{IsSurveyOf};
 ghost use Rattle.track_types.specs.Row.{IsAscending, is_same_place};
 ghost use Rattle.track_types.specs.declared.row.Row.{Row};
 
-use crate::packed_place::PackedPlace;
+use crate::packed_place::{Origin, PackedPlace};
 use crate::row_sorting::sorted_rows;
 use crate::survey::{Survey, SurveyedRows};
 use crate::track_blocks::Run;
@@ -16,6 +16,7 @@ use track_types::Row;
 /// one instant the last, with their survey. `count` is how many rows there are.
 pub fn merged_rows(
     alloc: Global,
+    origin: Origin,
     runs: Vec<Run<'_>>,
     loose: &[Row],
     count: usize,
@@ -23,13 +24,13 @@ pub fn merged_rows(
     ensures ascending { IfOk result (λ made. IsAscending made.rows.items) }
     ensures found { IfOk result (λ made. (sought : Row) →
         find (is_same_place sought) made.rows.items
-        ≡ find (is_same_place sought) (reverse (rows_of_runs (runs_in runs.entry.items) ++ loose.now))) }
+        ≡ find (is_same_place sought) (reverse (rows_of_runs origin (runs_in runs.entry.items) ++ loose.now))) }
     ensures survey { IfOk result (λ made. IsSurveyOf made.rows.items made.survey) }
 {
     if loose.is_empty() {
-        rows_of_tracks(alloc, runs, count)
+        rows_of_tracks(alloc, origin, runs, count)
     } else {
-        sorted_rows(alloc, runs.as_slice(), loose, count)
+        sorted_rows(alloc, origin, runs.as_slice(), loose, count)
     }
 }
 
@@ -37,12 +38,13 @@ pub fn merged_rows(
 // own, which stays in a cache.
 fn rows_of_tracks(
     alloc: Global,
+    origin: Origin,
     mut runs: Vec<Run<'_>>,
     count: usize,
 ) -> Result<SurveyedRows, AllocError>
     ensures ascending { IfOk result (λ made. IsAscending made.rows.items) }
     ensures found { IfOk result (λ made.
-        FindAlike (reverse (rows_of_runs (runs_in runs.entry.items))) made.rows.items) }
+        FindAlike (reverse (rows_of_runs origin (runs_in runs.entry.items))) made.rows.items) }
     ensures survey { IfOk result (λ made. IsSurveyOf made.rows.items made.survey) }
 {
     // From the last on, and by a stable sort, so that an object's runs stand from its last to its first.
@@ -55,9 +57,9 @@ fn rows_of_tracks(
         object: 0,
     };
     for &(object, places) in runs.iter() {
-        merge.add_run(object, places)?;
+        merge.add_run(origin, object, places)?;
     }
-    merge.end_track()?;
+    merge.end_track(origin)?;
     Ok(SurveyedRows {
         rows: merge.made,
         survey: merge.survey,
@@ -77,16 +79,22 @@ impl Merge {
     ghost use Rattle.gridding.specs.Merging.{AreInOrder, IsSurveyed, rows_of_merge};
 
     // Adds a run's rows from the last to the first.
-    fn add_run(&mut self, object: u32, places: &[PackedPlace]) -> Result<(), AllocError>
+    fn add_run(
+        &mut self,
+        origin: Origin,
+        object: u32,
+        places: &[PackedPlace],
+    ) -> Result<(), AllocError>
         ensures object { OnOk result (self.new.object ≡ object) }
         ensures order { OnOk result (self.old.object ≤ object →
             AreInOrder self.old.object self.old.made.items → AreInOrder object self.new.made.items) }
         ensures alike { OnOk result (FindAlike
-            (rows_of_merge self.old ++ reverse (rows_of_run (object, places.now))) (rows_of_merge self.new)) }
+            (rows_of_merge origin self.old ++ reverse (rows_of_run origin (object, places.now)))
+            (rows_of_merge origin self.new)) }
         ensures survey { OnOk result (IsSurveyed self.old → IsSurveyed self.new) }
     {
         if object != self.object {
-            self.end_track()?;
+            self.end_track(origin)?;
             self.object = object;
         }
         push_from_last(&mut self.track, places)?;
@@ -94,24 +102,20 @@ impl Merge {
     }
 
     // Puts the track's rows after the others by instant, and of those in one instant the last that came.
-    fn end_track(&mut self) -> Result<(), AllocError>
+    fn end_track(&mut self, origin: Origin) -> Result<(), AllocError>
         ensures ended { OnOk result (self.new.track.items ≡ []) }
         ensures order { OnOk result (AreInOrder self.old.object self.old.made.items →
             AreInOrder (self.old.object + 1) self.new.made.items) }
-        ensures alike { OnOk result (FindAlike (rows_of_merge self.old) self.new.made.items) }
+        ensures alike { OnOk result (FindAlike (rows_of_merge origin self.old) self.new.made.items) }
         ensures survey { OnOk result (IsSurveyed self.old → IsSurveyed self.new) }
     {
         // A stable sort, so that of the places in one instant the last that came stays the first.
-        self.track.sort_by_key(|place| place.instant())?;
-        self.track.dedup_by_key(|place| place.instant());
+        self.track.sort_by_key(|place| place.elapsed())?;
+        self.track.dedup_by_key(|place| place.elapsed());
         // The survey is kept in registers while rows are put.
         let mut survey = self.survey;
         for place in self.track.iter() {
-            let row = Row {
-                object: self.object,
-                instant: place.instant(),
-                cell: place.cell(),
-            };
+            let row = origin.row(self.object, *place);
             survey = survey.with(&row);
             self.made.push(row)?;
         }

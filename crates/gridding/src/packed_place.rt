@@ -1,71 +1,136 @@
-ghost use Rattle.std.specs.Prelude.{◌≡◌, ◌^◌, ◌<◌, pos, ◌+ℤ◌, ◌-ℤ◌};
-ghost use Rattle.gridding.specs.PackedPlace.{cell_of, instant_of};
-ghost use Rattle.track_types.specs.Near.{IsNear};
-ghost use Rattle.track_types.specs.declared.limit.TheConstants.{MAX_PLACE};
+ghost use Rattle.std.specs.Prelude.{◌≡◌, ◌<◌, ◌+ℤ◌, ◌-ℤ◌, pos, IfNone, IfSome};
+ghost use Rattle.gridding.specs.Origin.{IsCounted, IsOrigin};
+ghost use Rattle.gridding.specs.declared.packed_place.TheConstants.{INSTANTS};
+ghost use Rattle.track_types.specs.Near.{IsNear, IsRowInRange, IsWithin};
 
-use track_types::{Cell, MAX_PLACE};
+use track_types::{Cell, MAX_EXTENT, MAX_SPAN, Row};
 
-/// How many bits a number of a place takes.
-const NUMBER_BITS: u32 = 42;
+/// How many instants places tell apart: as many as a chart may have.
+pub const INSTANTS: u64 = MAX_SPAN;
 
-/// At which bit the instant begins.
-const INSTANT_BIT: u32 = 2 * NUMBER_BITS;
+/// How many of these come before the first row's. Most files begin with an early row.
+const INSTANTS_BEFORE: i64 = INSTANTS as i64 / 32;
 
-/// The bits of a place's last number.
-const NUMBER_MASK: u128 = (1 << NUMBER_BITS) - 1;
+/// How many cells places tell apart along each axis: as many before the first row's as a chart may have, and as many
+/// from it on.
+const CELLS: u64 = 2 * MAX_EXTENT;
 
-/// An instant and a cell in 16 bytes. Each of the three numbers is at most 2^40 away from 0, and 42 bits have room for
-/// it.
+/// How many of these come before the first row's.
+const CELLS_BEFORE: i64 = MAX_EXTENT as i64;
+
+/// An instant and a cell in 8 bytes, counted from an origin.
 #[derive(Clone, Copy, Default)]
 pub struct PackedPlace {
-    bits: u128,
+    bits: u64,
 }
 
 impl PackedPlace {
-    /// Packs an instant and a cell.
-    pub fn new(instant: i64, cell: Cell) -> Self
+    ghost use Rattle.gridding.specs.PackedPlace.{elapsed_of};
+
+    /// How many instants after its origin's it is.
+    #[inline]
+    pub fn elapsed(self) -> u64
+        ensures exact { result ≡ elapsed_of self }
+        ensures within { result < INSTANTS }
+    {
+        self.bits / (CELLS * CELLS)
+    }
+}
+
+/// The instant and the cell from which those of places are counted.
+#[derive(Clone, Copy)]
+pub struct Origin {
+    instant: i64,
+    cell: Cell,
+    ghost instant_near: { IsOrigin instant },
+    ghost x_near: { IsOrigin cell.x },
+    ghost y_near: { IsOrigin cell.y },
+}
+
+impl Origin {
+    ghost use Rattle.gridding.specs.PackedPlace.{HasPlace, row_at};
+
+    /// The origin of places around that of a first row.
+    pub fn around(first: Row) -> Self
+        requires { IsRowInRange first }
+        ensures { HasPlace result first }
+    {
+        Origin {
+            instant: first.instant - INSTANTS_BEFORE,
+            cell: Cell {
+                x: first.cell.x - CELLS_BEFORE,
+                y: first.cell.y - CELLS_BEFORE,
+            },
+        }
+    }
+
+    /// The origin of the same cells, with so many instants before one.
+    pub fn reaching(self, instant: i64, before: u64) -> Self
         requires instant { IsNear instant }
-        requires x { IsNear cell.x }
-        requires y { IsNear cell.y }
-        ensures instant { instant_of result ≡ instant }
-        ensures cell { cell_of result ≡ cell }
+        requires before { before < INSTANTS }
+        ensures { IsCounted result.instant INSTANTS instant }
     {
-        PackedPlace {
-            bits: raised(instant) << INSTANT_BIT | raised(cell.x) << NUMBER_BITS | raised(cell.y),
+        Origin {
+            instant: instant - before as i64,
+            cell: self.cell,
         }
     }
 
-    /// The instant.
-    pub fn instant(self) -> i64
-        ensures { result ≡ instant_of self }
+    /// How many instants after the origin's an instant is.
+    pub fn since(self, instant: i64) -> i64
+        requires { IsNear instant }
+        ensures { result ≡ instant -ℤ self.instant }
     {
-        lowered(self.bits >> INSTANT_BIT)
+        instant - self.instant
     }
 
-    /// The cell.
-    pub fn cell(self) -> Cell
-        ensures { result ≡ cell_of self }
+    /// The place of a row, or none where it is too far away.
+    #[inline]
+    pub fn place(self, row: Row) -> Option<PackedPlace>
+        requires instant { IsWithin row.instant }
+        requires x { IsWithin row.cell.x }
+        requires y { IsWithin row.cell.y }
+        ensures some { IfSome result (λ place. row_at self row.object place ≡ row) }
+        ensures none { IfNone result (HasPlace self row → ⊥) }
     {
-        Cell {
-            x: lowered(self.bits >> NUMBER_BITS & NUMBER_MASK),
-            y: lowered(self.bits & NUMBER_MASK),
+        let instant = offset(self.instant, INSTANTS, row.instant)?;
+        let x = offset(self.cell.x, CELLS, row.cell.x)?;
+        let y = offset(self.cell.y, CELLS, row.cell.y)?;
+        Some(PackedPlace {
+            bits: (instant * CELLS + x) * CELLS + y,
+        })
+    }
+
+    /// The row of an object at a place.
+    #[inline]
+    pub fn row(self, object: u32, place: PackedPlace) -> Row
+        ensures row { result ≡ row_at self object place }
+        ensures instant { IsWithin result.instant }
+        ensures x { IsWithin result.cell.x }
+        ensures y { IsWithin result.cell.y }
+    {
+        Row {
+            object,
+            instant: self.instant + place.elapsed() as i64,
+            cell: Cell {
+                x: self.cell.x + (place.bits / CELLS % CELLS) as i64,
+                y: self.cell.y + (place.bits % CELLS) as i64,
+            },
         }
     }
 }
 
-// A number that is near, counted from the least of such numbers.
-fn raised(number: i64) -> u128
-    requires { IsNear number }
-    ensures exact { pos result ≡ number +ℤ pos MAX_PLACE }
-    ensures within { result < 2 ^ 42 }
+// How far a number is past the least of so many, if it is one of them.
+#[inline]
+fn offset(least: i64, count: u64, number: i64) -> Option<u64>
+    requires least { IsOrigin least }
+    requires number { IsWithin number }
+    ensures some { IfSome result (λ offset. (offset < count) × (least +ℤ pos offset ≡ number)) }
+    ensures none { IfNone result (IsCounted least count number → ⊥) }
 {
-    (number + MAX_PLACE as i64) as u128
-}
-
-// The number that is counted from the least of numbers that are near.
-fn lowered(raised: u128) -> i64
-    requires { raised < 2 ^ 44 }
-    ensures { result ≡ pos raised -ℤ pos MAX_PLACE }
-{
-    raised as i64 - MAX_PLACE as i64
+    let offset = number - least;
+    if offset < 0 || offset as u64 >= count {
+        return None;
+    }
+    Some(offset as u64)
 }

@@ -1,7 +1,8 @@
 ghost use Rattle.std.specs.Prelude.{◌≡◌, ◌+◌, ◌*◌, ◌^◌, ◌<◌, ◌≤◌, All, IfOk, length};
 ghost use Rattle.track_types.specs.Limits.{IsPeriod, IsResolution, limit_of};
-ghost use Rattle.track_types.specs.Near.{IsRawInRange};
+ghost use Rattle.track_types.specs.Near.{IsRawInRange, IsRowInRange};
 
+use crate::track_blocks::TrackBlocks;
 use crate::{GridFault, GriddedRows, grid};
 use std::alloc::{AllocError, Global};
 use std::process::Abort;
@@ -11,7 +12,9 @@ use track_types::{Cell, Chart, LimitKind, RawRow, Row};
 // An object, a time, and coordinates.
 type Place = (u32, i32, i32, i32);
 
-fn row(object: u32, instant: i64, x: i64, y: i64) -> Row {
+fn row(object: u32, instant: i64, x: i64, y: i64) -> Row
+    ensures { result ≡ record { object = object; instant = instant; cell = record { x = x; y = y } } }
+{
     Row {
         object,
         instant,
@@ -248,7 +251,8 @@ fn a_hundred_thousand_rows_have_a_chart(rt: HostRuntime) -> Result<(), Fail> {
     assert_eq!(rt; chart.rows().get(54_321), Some(&row(543, 21, 43, 0)));
     assert_eq!(rt; chart.rows().last(), Some(&row(999, 99, 199, 0)));
     rows_may_come_in_pieces(&rt, rt.alloc())?;
-    the_farthest_rows_have_a_chart(&rt, rt.alloc())
+    the_farthest_rows_have_a_chart(&rt, rt.alloc())?;
+    rows_may_be_far_from_the_first(&rt, rt.alloc())
 }
 
 // The chart of rows that come so many at a time.
@@ -268,9 +272,9 @@ fn in_pieces(alloc: Global, rows: &[RawRow], count: usize, tick: u64) -> Result<
 // Of each of 3 objects, whose rows come by turns, more rows than one and than two blocks have. Two rows of an object
 // are of one instant, and come in one piece or in two.
 fn rows_may_come_in_pieces(rt: &impl Abort, alloc: Global) -> Result<(), Fail> {
-    for count in [31u32, 40, 70] {
+    for count in [63u32, 80, 140] {
         let rows = tracks(alloc, 3, count)?;
-        assert!(rt; rows.len() <= 210);
+        assert!(rt; rows.len() <= 420);
         let raws = raws(alloc, rows.as_slice())?;
         let whole = grid(alloc, raws.as_slice(), 1, 2, 8)?;
         let last = i64::from(count - 1);
@@ -306,6 +310,52 @@ fn the_farthest_rows_have_a_chart(rt: &impl Abort, alloc: Global) -> Result<(), 
             [row(u32::MAX, far, far, -far)].as_slice(),
             "{far}"
         );
+    }
+    Ok(())
+}
+
+// Rows whose instants reach from the least to the greatest that a chart may have, and a row that is too far from the
+// others, for which another comes.
+fn rows_may_be_far_from_the_first(rt: &impl Abort, alloc: Global) -> Result<(), Fail> {
+    let instants = [
+        (1, 5, 1, 0),
+        (2, 4_100_000, 0, 0),
+        (1, 5, 2, 0),
+        (1, -90_000, 3, 0),
+        (2, 5, 4, 0),
+        (1, 4_104_303, 9, 0),
+        (2, 4_100_000, 7, 0),
+    ];
+    let by_instant = [
+        row(1, -90_000, 3, 0),
+        row(1, 5, 2, 0),
+        row(1, 4_104_303, 9, 0),
+        row(2, 5, 4, 0),
+        row(2, 4_100_000, 7, 0),
+    ];
+    let cells = [(1, 5, 1_048_581, 0), (2, 6, 0, 0), (1, 5, 3, -1)];
+    let by_object = [row(1, 5, 3, -1), row(2, 6, 0, 0)];
+    for (what, rows, want) in [
+        ("instants", instants.as_slice(), by_instant.as_slice()),
+        ("cells", cells.as_slice(), by_object.as_slice()),
+    ] {
+        let chart = gridded(alloc, rows, 1, 1, 8)?;
+        assert_eq!(rt; chart.rows(), want, "{what}");
+    }
+    all_have_blocks(rt, alloc, instants.as_slice())
+}
+
+fn near_row(object: u32, instant: i32, x: i32, y: i32) -> Row
+    ensures { IsRowInRange result }
+{
+    row(object, i64::from(instant), i64::from(x), i64::from(y))
+}
+
+fn all_have_blocks(rt: &impl Abort, alloc: Global, rows: &[Place]) -> Result<(), Fail> {
+    let mut tracks = TrackBlocks::new(alloc);
+    for &(object, instant, x, y) in rows {
+        let row = near_row(object, instant, x, y);
+        assert!(rt; tracks.add(row)?, "{instant}");
     }
     Ok(())
 }

@@ -1,4 +1,4 @@
-ghost use Rattle.std.specs.Prelude.{◌≡◌, ◌<◌, ◌≤◌, ◌+◌, ℕ, List, [], ◌∷◌, ◌++◌, true, false, slice_get, take, Some, Ok};
+ghost use Rattle.std.specs.Prelude.{◌≡◌, ◌<◌, ◌≤◌, ◌+◌, List, [], ◌∷◌, ◌++◌, true, false, slice_get, take, Some, Ok};
 ghost use Rattle.std.specs.Prelude.{IfOk, OnOk};
 ghost use Rattle.std.specs.HashMap.{hash_map_len};
 ghost use Rattle.gridding.specs.declared.track_blocks.TheConstants.{ROWS};
@@ -6,15 +6,17 @@ ghost use Rattle.track_types.specs.Limits.{limit_of};
 ghost use Rattle.track_types.specs.Near.{IsRowInRange};
 ghost use Rattle.track_types.specs.declared.row.Row.{Row};
 
-use crate::packed_place::PackedPlace;
+mod recounting;
+
+use crate::packed_place::{Origin, PackedPlace};
 use std::alloc::{AllocError, Global};
 use std::collections::HashMap;
-use track_types::{LimitKind, MAX_OBJECTS, Row};
+use track_types::{Cell, LimitKind, MAX_OBJECTS, Row};
 
 /// How many places a block has: enough that each block is read at once, and few enough that blocks that are not full
-/// take little. Blocks of 31 places begin 496 bytes apart, and not 512: so the places that are written at the same time
+/// take little. Blocks of 63 places begin 504 bytes apart, and not 512: so the places that are written at the same time
 /// are not all kept in the same few sets of a cache.
-const ROWS: usize = 31;
+const ROWS: usize = 63;
 
 /// Places of one object's rows, in the order in which they came.
 pub type Run<'a> = (u32, &'a [PackedPlace]);
@@ -22,6 +24,8 @@ pub type Run<'a> = (u32, &'a [PackedPlace]);
 /// Rows in blocks, each of one object. An object's rows stand in the order in which they came.
 #[derive(Drop)]
 pub struct TrackBlocks {
+    // From where places are counted.
+    origin: Origin,
     // The places of each block, which are no row's past its length.
     blocks: Vec<[PackedPlace; ROWS]>,
     // The object of each block.
@@ -37,15 +41,29 @@ pub struct TrackBlocks {
 }
 
 impl TrackBlocks {
-    ghost use Rattle.gridding.specs.Blocks.{row_at, rows_with, runs_in, runs_of};
-    ghost use Rattle.gridding.specs.GriddedRows.{AreBlocksOf, HasRoom, IsFull};
+    ghost use Rattle.gridding.specs.Blocks.{rows_with, runs_in, runs_of};
+    ghost use Rattle.gridding.specs.GriddedRows.{AreBlocksOf, HasAdded, HasKept, HasRoom, IsAway, IsFull};
+    ghost use Rattle.gridding.specs.PackedPlace.{HasPlace, row_at};
 
-    /// No blocks.
-    #[tactic(auto, unfolding(crate::specs::Blocks::runs_of))]
+    /// No blocks. The first row decides from where places are counted.
     pub fn new(alloc: Global) -> Self
         ensures { AreBlocksOf [] result }
     {
+        let nowhere = Row {
+            object: 0,
+            instant: 0,
+            cell: Cell { x: 0, y: 0 },
+        };
+        TrackBlocks::counted_from(alloc, Origin::around(nowhere))
+    }
+
+    // No blocks, of which places are counted from an origin.
+    #[tactic(auto, unfolding(crate::specs::Blocks::runs_of))]
+    fn counted_from(alloc: Global, origin: Origin) -> Self
+        ensures { AreBlocksOf [] result }
+    {
         TrackBlocks {
+            origin,
             blocks: Vec::new(alloc),
             objects: Vec::new(alloc),
             lengths: Vec::new(alloc),
@@ -54,25 +72,53 @@ impl TrackBlocks {
         }
     }
 
-    /// Puts a row after those of its object, and answers whether it could: a row whose object has no block is left out
-    /// once there are as many objects as a chart may have. So a file in which each row has another object does not take
-    /// a block a row.
+    /// From where the places of blocks are counted.
+    pub fn origin(&self) -> Origin
+        ensures { result ≡ self.now.origin }
+    {
+        self.origin
+    }
+
+    /// Puts a row after those of its object, and answers whether it could. A row is left out that is too far from the
+    /// others, and one whose object has no block once there are as many objects as a chart may have: so a file in which
+    /// each row has another object does not take a block a row.
     #[inline]
     pub fn add(&mut self, row: Row) -> Result<bool, AllocError>
         requires { IsRowInRange row }
-        ensures put { result ≡ Ok true → (rows : List Row) → AreBlocksOf rows self.old →
-            AreBlocksOf (rows ++ (row ∷ [])) self.new }
-        ensures left_out { result ≡ Ok false → (rows : List Row) → AreBlocksOf rows self.old →
-            AreBlocksOf rows self.new }
-        ensures full { result ≡ Ok false → (rows : List Row) → AreBlocksOf rows self.old →
-            (rows_with row.object rows ≡ []) × (limit_of LimitKind.Objects ≤ hash_map_len self.old.last_of) }
+        ensures { IfOk result (HasAdded row self.old self.new) }
     {
-        let place = PackedPlace::new(row.instant, row.cell);
-        let guess = self.guess(row.object);
-        if self.put(row.object, guess, place) {
-            return Ok(true);
+        if let Some(place) = self.origin.place(row) {
+            let guess = self.guess(row.object);
+            if self.put(row.object, guess, place) {
+                return Ok(true);
+            }
         }
-        self.put_anywhere(row.object, place)
+        self.add_anywhere(row)
+    }
+
+    // Puts a row whose block was not guessed.
+    #[inline(never)]
+    fn add_anywhere(&mut self, row: Row) -> Result<bool, AllocError>
+        requires { IsRowInRange row }
+        ensures { IfOk result (HasAdded row self.old self.new) }
+    {
+        self.begin_around(row);
+        match self.origin.place(row) {
+            Some(place) => self.put_anywhere(row.object, place),
+            None => self.add_far(row),
+        }
+    }
+
+    // Has places counted from around a row's, where it is the first.
+    fn begin_around(&mut self, row: Row)
+        requires { IsRowInRange row }
+        ensures kept { HasKept self.old self.new }
+        ensures map { self.new.last_of ≡ self.old.last_of }
+        ensures away { (HasPlace self.new.origin row → ⊥) → IsAway row self.old }
+    {
+        if self.blocks.is_empty() {
+            self.origin = Origin::around(row);
+        }
     }
 
     // A block that may be the object's last. A wrong guess costs time alone. While the rows are those of one object,
@@ -86,10 +132,9 @@ impl TrackBlocks {
     }
 
     // Puts a place into the object's last block, or into a new one.
-    #[inline(never)]
     fn put_anywhere(&mut self, object: u32, place: PackedPlace) -> Result<bool, AllocError>
         ensures put { result ≡ Ok true → (rows : List Row) → AreBlocksOf rows self.old →
-            AreBlocksOf (rows ++ (row_at object place ∷ [])) self.new }
+            AreBlocksOf (rows ++ (row_at self.old.origin object place ∷ [])) self.new }
         ensures left_out { result ≡ Ok false → self.new ≡ self.old }
         ensures full { result ≡ Ok false → (rows : List Row) → AreBlocksOf rows self.old →
             (rows_with object rows ≡ []) × (limit_of LimitKind.Objects ≤ hash_map_len self.old.last_of) }
@@ -119,7 +164,7 @@ impl TrackBlocks {
         ensures full { result ≡ false → (rows : List Row) → AreBlocksOf rows self.old →
             slice_get self.old.objects.items guess ≡ Some object → HasRoom self.old guess → ⊥ }
         ensures put { result ≡ true → (rows : List Row) → AreBlocksOf rows self.old →
-            AreBlocksOf (rows ++ (row_at object place ∷ [])) self.new }
+            AreBlocksOf (rows ++ (row_at self.old.origin object place ∷ [])) self.new }
     {
         let length = match (self.objects.get(guess), self.lengths.get(guess)) {
             (Some(&owner), Some(&length)) if owner == object && (length as usize) < ROWS => length,
@@ -139,7 +184,7 @@ impl TrackBlocks {
     // Opens a block of the object, with this place in it. The blocks that the object has are to be full.
     fn open(&mut self, object: u32, place: PackedPlace) -> Result<(), AllocError>
         ensures { OnOk result ((rows : List Row) → AreBlocksOf rows self.old → IsFull object self.old →
-            AreBlocksOf (rows ++ (row_at object place ∷ [])) self.new) }
+            AreBlocksOf (rows ++ (row_at self.old.origin object place ∷ [])) self.new) }
     {
         let last = self.blocks.len();
         self.blocks.push([place; ROWS])?;

@@ -1,4 +1,4 @@
-use Rattle.gract_top.proofs.ReceivingLemmas.{IsRefused-grid}
+use Rattle.gract_top.proofs.ReceivingLemmas.{IsAccepted-grid, IsRefused-grid}
 use Rattle.gract_top.proofs.chart_loading.load_chart.Goals as goal
 
 pub returns-in-Err-Limit-clause-refused : goal.returns-in-Err-Limit-clause-refused
@@ -7,3 +7,11 @@ returns-in-Err-Limit-clause-refused g c = λ refusal.
     let fault = rw c.in-Err-Limit.field-0-is at
     (c.in-Err-Limit.ensures.fault c.args.settings.cell c.args.settings.tick rows.gridded.raws rows.gridded.gridded) in
     IsRefused-grid _ _ _ rows.bytes rows.gridded.raws c.args.settings _ _ rows.loaded rows.gridded.rows_of fault.0 fault.1
+
+pub returns-in-Ok-chart-clause-chart : goal.returns-in-Ok-chart-clause-chart
+returns-in-Ok-chart-clause-chart g c =
+    let rows = c.in-Ok.ensures.rows in
+    let raws = rows.gridded.raws in
+    let some = c.in-Ok-chart.ensures.some c.args.settings.cell c.args.settings.tick raws rows.gridded.gridded in
+    let ok = c.in-Ok-chart.ensures.ok c.args.settings.cell c.args.settings.tick raws rows.gridded.gridded in
+    IsAccepted-grid _ _ _ rows.bytes raws c.args.settings _ rows.loaded rows.gridded.rows_of some ok.0 ok.1

@@ -35,9 +35,9 @@ loop-object-preserved c =
       survey = c.in_ok-add_run.ensures.survey c.loop-object.invariant.survey;
       order = rw c.in_ok-add_run.ensures.object (c.in_ok-add_run.ensures.order (omega arith) c.loop-object.invariant.order);
       alike = λ sought. c.in_ok-add_run.ensures.alike sought
-          ∙ alike-append (flat_map rows_from_last (take done entries)) (rows_of_merge c.loop-object.merge) (rows_from_last entry)
+          ∙ alike-append (flat_map (rows_from_last c.args.origin) (take done entries)) (rows_of_merge c.args.origin c.loop-object.merge) (rows_from_last c.args.origin entry)
           c.loop-object.invariant.alike sought
-          ∙ ap (found sought) (flat_map-next rows_from_last entries done entry c.loop-object-test.true is);
+          ∙ ap (found sought) (flat_map-next (rows_from_last c.args.origin) entries done entry c.loop-object-test.true is);
     }
 
 pub returns : goal.returns
@@ -53,6 +53,6 @@ returns c =
       survey = c.in_ok-end_track.ensures.survey c.loop-object.invariant.survey;
       ascending = (c.in_ok-end_track.ensures.order c.loop-object.invariant.order).ascending;
       found = λ sought. c.in_ok-end_track.ensures.alike sought ∙ c.loop-object.invariant.alike sought
-          ∙ ap (λ entries. found sought (flat_map rows_from_last entries)) all
-          ∙ alike-order c.args.runs.items order sorted (search rules) stable sought;
+          ∙ ap (λ entries. found sought (flat_map (rows_from_last c.args.origin) entries)) all
+          ∙ alike-order c.args.origin c.args.runs.items order sorted (search rules) stable sought;
     }

@@ -10,5 +10,5 @@ invariant-loop-object l = record {
   next : (j : ℕ) (d : RunRef) → l.object-index ≤ j → j < length l.object-items → l.merge.object ≤ (get_or l.object-items j d).0;
   survey : IsSurveyed l.merge;
   order : AreInOrder l.merge.object l.merge.made.items;
-  alike : FindAlike (flat_map rows_from_last (take l.object-index l.object-items)) (rows_of_merge l.merge);
+  alike : FindAlike (flat_map (rows_from_last l.origin) (take l.object-index l.object-items)) (rows_of_merge l.origin l.merge);
 }

@@ -1,4 +1,4 @@
-use Rattle.std.proofs.Common.{◌≡◌, ◌∙◌, [], ◌∷◌, ◌++◌, Ok, ap, length, arith}
+use Rattle.std.proofs.Common.{◌≡◌, ◌∙◌, [], ◌∷◌, ◌++◌, ap, length, arith}
 use Rattle.std.proofs.lemmas.Bool.Decides.{nat_tests}
 use Rattle.std.proofs.lemmas.List.{append-nil, append_assoc, nil_from_length}
 use Rattle.gridding.specs.GriddedRows.{AreBlocksOf}
@@ -12,14 +12,14 @@ returns-then-branch-clause-rows c = λ rows held.
     record {
       front = held.front ++ (c.args.row ∷ []);
       all = grind (arith, held.all, none, append-nil held.front, append-nil (held.front ++ (c.args.row ∷ [])));
-      blocks = c.in_ok-add.ensures.put (ap Ok c.if-branch.true) held.front held.blocks;
+      blocks = (rw c.if-branch.true at c.in_ok-add.ensures) held.front held.blocks;
     }
 
 pub returns-clause-rows : goal.returns-clause-rows
 returns-clause-rows c = λ rows held.
     let kept : AreBlocksOf held.front c.else-is_empty.self.1.0 = elim c.else-is_empty.branch [
       | else-is_empty-via-then-is_empty+in_ok-add+else-branch w ↦
-          rw w.self-is (w.in_ok-add.ensures.left_out (ap Ok w.if-branch.false) held.front held.blocks)
+          rw w.self-is ((rw w.if-branch.false at w.in_ok-add.ensures).0 held.front held.blocks)
       | else-is_empty-via-else-is_empty w ↦ rw w.self-is held.blocks
     ] in
     record {

@@ -20,7 +20,7 @@ made : (c : After-is_empty) (cell tick : ℕ) (raws : List RawRow) → HasGridde
     c.in_ok-made.made.rows.items ≡ chart_rows raws cell tick
 made c cell tick raws has =
     chart_rows-held raws cell tick c.args.self c.in_ok-made.made.rows.items has c.in_ok-made.ensures.ascending
-    (λ sought. rw (c.in_ok-runs.ensures, c.deref.ensures.value) at c.in_ok-made.ensures.found sought)
+    (λ sought. rw (c.origin.ensures, c.in_ok-runs.ensures, c.deref.ensures.value) at c.in_ok-made.ensures.found sought)
 
 pub returns-then-is_empty-clause-fault : goal.returns-then-is_empty-clause-fault
 returns-then-is_empty-clause-fault c = λ cell tick raws has.

@@ -5,5 +5,5 @@ use Rattle.gridding.proofs.track_blocks.TrackBlocks.open.Goals as goal
 
 pub returns : goal.returns
 returns c = λ rows blocks full.
-    blocks_opened rows c.args.self.now _ c.args.object c.args.place blocks c.len-last.result (replicate ROWS c.args.place) refl
+    blocks_opened rows c.args.self.now _ c.args.object c.args.place blocks refl c.len-last.result (replicate ROWS c.args.place) refl
     (search rules) (search rules) (search rules) (search rules) c.in_ok-insert.ensures.updates full

@@ -15,6 +15,6 @@ returns-in-Some-clause-put c = λ _ rows blocks.
     slice_get_read tracks.objects.items (length tracks.objects.items) c.args.guess owner refl (search rules) (search rules) in
     let length_is : slice_get tracks.lengths.items c.args.guess ≡ Some n =
     slice_get_read tracks.lengths.items (length tracks.lengths.items) c.args.guess n refl (search rules) (search rules) in
-    blocks_pushed rows tracks _ c.args.object c.args.place blocks c.args.guess n c.in-Some.places.now _
+    blocks_pushed rows tracks _ c.args.object c.args.place blocks refl c.args.guess n c.in-Some.places.now _
     (stands ∙ ap Some own) (grind (arith, nat_tests, c.if-length-lt-ROWS.true)) (search rules) length_is c.write.ensures
     refl refl refl refl

@@ -20,10 +20,10 @@ returns-clause-put c = λ _ rows blocks. elim c.match-copied.branch [
       let full : IsFull c.args.object c.args.self.now =
       full_from_last rows c.args.self.now c.args.object w.in-Some.last blocks (search rules)
       (w.put.ensures.full w.if-put.false rows blocks) in
-      c.in_ok-open.ensures rows (rw (w.self-is, w.put.ensures.left_out w.if-put.false) blocks)
-      (rw (w.self-is, w.put.ensures.left_out w.if-put.false) full)
+      let left = w.put.ensures.left_out w.if-put.false in
+      rw (w.self-is, left) at (c.in_ok-open.ensures rows (rw (w.self-is, left) blocks) (rw (w.self-is, left) full))
   | in-None+else-len w ↦
       let full : IsFull c.args.object c.args.self.now =
       full_from_none rows c.args.self.now c.args.object blocks (search rules) in
-      c.in_ok-open.ensures rows (rw w.self-is blocks) (rw w.self-is full)
+      rw w.self-is at (c.in_ok-open.ensures rows (rw w.self-is blocks) (rw w.self-is full))
 ]

@@ -1,0 +1,41 @@
+use Rattle.std.proofs.Common.{◌≡◌, ◌+◌, ◌<◌, ℕ, [], ◌∷◌, ◌++◌, List, Ok, ap, get_or, length, map, take}
+use Rattle.std.proofs.lemmas.List.{append-nil, take_all}
+use Rattle.track_types.specs.declared.row.Row.{Row}
+use Rattle.gridding.proofs.MergeLemmas.{no_place, placed-more}
+use Rattle.gridding.specs.GriddedRows.{AreBlocksOf}
+use Rattle.gridding.specs.PackedPlace.{row_at}
+use Rattle.gridding.specs.declared.packed_place.Origin.{Origin}
+use Rattle.gridding.specs.declared.packed_place.PackedPlace.{PackedPlace}
+use Rattle.gridding.specs.declared.track_blocks.TrackBlocks.{TrackBlocks}
+use Rattle.gridding.proofs.track_blocks.TrackBlocks.add_run.Goals as goal
+
+-- the row of one place more is there
+one_more : (origin own : Origin) (object : ℕ) (rows : List Row) (places : List PackedPlace) (i : ℕ) (place : PackedPlace)
+    (tracks : TrackBlocks) → i < length places →
+    row_at own object place ≡ row_at origin object (get_or places i no_place) →
+    AreBlocksOf ((rows ++ map (row_at origin object) (take i places)) ++ (row_at own object place ∷ [])) tracks →
+    AreBlocksOf (rows ++ map (row_at origin object) (take (i + 1) places)) tracks
+one_more origin own object rows places i place tracks below is blocks =
+    rw (placed-more origin object rows places i no_place below) at (rw is at blocks)
+
+pub loop-place-init : goal.loop-place-init
+loop-place-init c = λ rows blocks. rw (append-nil rows) blocks
+
+pub loop-place-preserved-then-put : goal.loop-place-preserved-then-put
+loop-place-preserved-then-put c = λ rows blocks.
+    one_more c.args.origin c.loop-place.self.origin c.args.object rows c.args.places.now c.loop-place.place-index
+    c.in-Some.place c.put.new.self c.loop-place-test.true (rw c.row.ensures.row at c.in-Some.ensures.some)
+    (c.put.ensures.put c.if-put.true _ (c.loop-place.invariant rows blocks))
+
+pub loop-place-preserved : goal.loop-place-preserved
+loop-place-preserved c = λ rows blocks.
+    let left = c.put.ensures.left_out c.if-put.false in
+    let done : List Row = rows ++ map (row_at c.args.origin c.args.object) (take c.loop-place.place-index c.args.places.now) in
+    let before : AreBlocksOf done c.put.new.self = rw left (c.loop-place.invariant rows blocks) in
+    one_more c.args.origin c.loop-place.self.origin c.args.object rows c.args.places.now c.loop-place.place-index
+    c.in-Some.place c.put_anywhere.new.self c.loop-place-test.true (rw c.row.ensures.row at c.in-Some.ensures.some)
+    (rw left at (c.in_ok-put_anywhere.ensures.put (ap Ok c.if-not-branch.false) done before))
+
+pub returns : goal.returns
+returns c = λ _ rows blocks.
+    rw (take_all c.loop-place.place-index c.args.places.now c.loop-place-test.false) at (c.loop-place.invariant rows blocks)
