@@ -52,7 +52,7 @@ less_upto Less is = refl
 less_upto Equal is = refl
 less_upto Greater is = absurd (cc)
 
-upto_from : (a b : Key) → is_lt (key_order b a) ≡ false → IsUpTo a b
+pub upto_from : (a b : Key) → is_lt (key_order b a) ≡ false → IsUpTo a b
 upto_from a b not_less = ap is_gt (key_order_total.antisymm a b) ∙ turned (key_order b a) ∙ not_less
 
 pub not_before : (a b : Key) → IsUpTo a b → is_lt (key_order b a) ≡ false

@@ -12,12 +12,12 @@ use Rattle.list_laws.proofs.MemberLemmas.{none_from_list_any}
 use Rattle.repair_grammar.specs.declared.tally.Tally.{Tally}
 use Rattle.repair_grammar.specs.RePair.{is_pair, met, replaced, pair_count, AreBelow}
 use Rattle.repair_grammar.specs.Counts.{count_in, lists_of, IsFirst}
-use Rattle.repair_grammar.specs.Kept.{count_of, Covers, IsAfter, IsKept}
+use Rattle.repair_grammar.specs.Kept.{items_of, count_of, AreFresh, Covers, CoversBut, IsAfter, IsKept}
 use Rattle.repair_grammar.proofs.PassLemmas.{met-none, length-replaced, replaced-none}
 use Rattle.repair_grammar.proofs.CountLemmas.{item_list}
 use Rattle.repair_grammar.proofs.KeyLemmas.{counted_stands}
 use Rattle.repair_grammar.proofs.ExpansionLemmas.{parts_below}
-use Rattle.repair_grammar.proofs.TallyLemmas.{covers_fewer}
+use Rattle.repair_grammar.proofs.TallyLemmas.{covers_fewer, covers_but, fresh_after}
 use Rattle.repair_grammar.proofs.RoundLemmas.{counts-le}
 
 -- a block in which the pair isn't met stays
@@ -69,6 +69,51 @@ module _ (pair : ℕ × ℕ) (symbol : ℕ) (left : pair.0 < symbol) (right : pa
     | inr apart ↦ rw apart (passed_before x y rest apart ∙ met-replaced (y ∷ rest))
   ]
 
+-- a symbol more counts at most once
+pub met-step : (pair : ℕ × ℕ) (x : ℕ) (rest : List ℕ) →
+    (met pair rest ≤ met pair (x ∷ rest)) × (met pair (x ∷ rest) ≤ suc (met pair rest))
+unfolding met
+met-step pair x [] = (omega arith, omega arith)
+met-step pair x (y ∷ rest) = let later = met-step pair y rest in elim (cases_Bool (is_pair pair x y)) [
+  | inl is ↦ rw is (later.1, omega (arith, later.0))
+  | inr apart ↦ rw apart (omega arith, omega arith)
+]
+
+-- the pass adds to no pair of older symbols
+module _ (pair : ℕ × ℕ) (symbol : ℕ) (other : ℕ × ℕ) (left : other.0 < symbol) (right : other.1 < symbol) where
+  before_passed : (x y : ℕ) (rest : List ℕ) →
+      met other (replaced pair symbol (y ∷ rest)) ≤ met other (y ∷ rest) →
+      met other (replaced pair symbol rest) ≤ met other rest →
+      met other (x ∷ replaced pair symbol (y ∷ rest)) ≤ met other (x ∷ y ∷ rest)
+  unfolding met replaced
+  before_passed x y [] one two = omega arith
+  before_passed x y (z ∷ rest) one two = elim (cases_Bool (is_pair pair y z)) [
+    | inl is ↦ let after : met other (symbol ∷ replaced pair symbol rest) ≤ met other (y ∷ z ∷ rest) =
+        rw is at one in
+        rw (is, apart_new other symbol left right x) (omega (arith, after, (met-step other x (y ∷ z ∷ rest)).0))
+    | inr apart ↦ let after : met other (y ∷ replaced pair symbol (z ∷ rest)) ≤ met other (y ∷ z ∷ rest) =
+        rw apart at one in
+        rw apart (elim (cases_Bool (is_pair other x y)) [
+          | inl here ↦ rw here (omega (arith, two))
+          | inr not_here ↦ rw not_here (omega (arith, after))
+        ])
+  ]
+
+  pub met-replaced-le : (block : List ℕ) → met other (replaced pair symbol block) ≤ met other block
+  unfolding met replaced
+  met-replaced-le [] = omega arith
+  met-replaced-le (x ∷ []) = omega arith
+  met-replaced-le (x ∷ y ∷ rest) = elim (cases_Bool (is_pair pair x y)) [
+    | inl is ↦ rw is (omega (
+      arith,
+      met_new other symbol left right (replaced pair symbol rest),
+      met-replaced-le rest,
+      (met-step other y rest).0,
+      (met-step other x (y ∷ rest)).0,
+    ))
+    | inr apart ↦ rw apart (before_passed x y rest (met-replaced-le (y ∷ rest)) (met-replaced-le rest))
+  ]
+
 ne_from : (m n : ℕ) → (m == n) ≡ false → (m < n) ⊎ (n < m)
 ne_from m n apart = elim (cases_lt m n) [
   | inl less ↦ inl less
@@ -89,11 +134,14 @@ module _ (pair : ℕ × ℕ) (blocks : List (List ℕ)) (i : ℕ) (block : List 
   unfolding pair_count
   met-counted = let none = sum_by-set (met pair) blocks i [] [] within in omega (arith, none, met-none pair)
 
--- where one block changes
-pub kept-set : (blocks : List (List ℕ)) (i : ℕ) (block : List ℕ) (old new : Tally) → i < length blocks →
+-- where one block changes, and of the pairs below a limit none counts more
+pub kept-set : (blocks : List (List ℕ)) (i : ℕ) (block : List ℕ) (old new : Tally) (limit : ℕ) → i < length blocks →
     IsKept blocks old → IsAfter old new (λ pair. met pair (get_or blocks i [])) (λ pair. met pair block) i →
+    AreFresh limit (count_of old) old.fresh.items →
+    ((pair : ℕ × ℕ) → pair.0 < limit → pair.1 < limit → met pair block ≤ met pair (get_or blocks i [])) →
     IsKept (set blocks i block) new
-kept-set blocks i block old new within kept after = record {
+unfolding CoversBut AreFresh
+kept-set blocks i block old new limit within kept after fresh fewer = record {
   counts = λ pair. omega (arith, pair_count-set pair blocks i block within, kept.counts pair, after.counts pair);
   homes = λ pair home some. elim (cases_Bool (home == i)) [
     | inl is ↦ let same : home ≡ i = eqb-true home i is in
@@ -105,14 +153,27 @@ kept-set blocks i block old new within kept after = record {
     | inr apart ↦ after.homes pair home (kept.homes pair home
         (rw (get_or-set_other blocks i home block [] (eqb-false home i apart)) at some))
   ];
-  keys = after.keys kept.keys;
+  keys = λ pair two. elim (fresh_after limit old new _ _ i after fresh pair (omega (arith, two))) [
+    | inr inside ↦ inl inside
+    | inl below ↦ let less = fewer pair below.0 below.1 in
+        elim (kept.keys pair (omega (arith, two, less, after.counts pair))) [
+          | inl inside ↦ inl (after.fresh pair inside)
+          | inr key ↦ inr (
+            key.0,
+            rw after.keys key.1,
+            key.2,
+            omega (arith, key.3, less, after.counts pair),
+          )
+        ]
+  ];
 }
 
 -- where one comes
 pub kept-push : (blocks : List (List ℕ)) (block : List ℕ) (place : ℕ) (old new : Tally) → length blocks ≡ place →
-    IsKept blocks old → IsAfter old new (λ _. 0) (λ pair. met pair block) place → IsKept (blocks ++ block ∷ []) new
-unfolding pair_count
-kept-push blocks block place old new at kept after = record {
+    IsKept blocks old → IsAfter old new (λ _. 0) (λ pair. met pair block) place →
+    AreFresh 0 (count_of old) old.fresh.items → IsKept (blocks ++ block ∷ []) new
+unfolding pair_count CoversBut AreFresh
+kept-push blocks block place old new at kept after fresh = record {
   counts = λ pair. omega (
     arith,
     sum_by-append (met pair) blocks (block ∷ []),
@@ -142,12 +203,15 @@ kept-push blocks block place old new at kept after = record {
           )
     ]
   ];
-  keys = after.keys kept.keys;
+  keys = λ pair two. elim (fresh_after 0 old new _ _ place after fresh pair (omega (arith, two))) [
+    | inl below ↦ absurd (let never : pair.0 < 0 = below.0 in omega arith)
+    | inr inside ↦ inl inside
+  ];
 }
 
 -- where there are none
 pub kept-none : (tally : Tally) → ((pair : ℕ × ℕ) → count_of tally pair ≡ 0) → IsKept [] tally
-unfolding pair_count Covers
+unfolding pair_count CoversBut
 kept-none tally none = record {
   counts = none;
   homes = λ pair home some. absurd (omega (arith, some, met-none pair));
@@ -270,14 +334,22 @@ unfolding pair_count
 first_below limit blocks pair below first =
     parts_below limit blocks pair below (counted_stands blocks pair (omega (arith, first.two)))
 
+-- no pair of older symbols is fresh
+pub fresh_below : (limit : ℕ) (blocks : List (List ℕ)) (tally : Tally) → IsKept blocks tally → AreBelow limit blocks →
+    AreFresh limit (count_of tally) tally.fresh.items
+unfolding AreFresh pair_count
+fresh_below limit blocks tally kept below = λ pair some.
+    inl (parts_below limit blocks pair below (counted_stands blocks pair (omega (arith, some, kept.counts pair))))
+
 -- the same counts and blocks, with other keys
 pub kept-keys : (blocks : List (List ℕ)) (old new : Tally) → new.counts ≡ old.counts → new.homes ≡ old.homes →
-    Covers (count_of old) new.keys.keys → IsKept blocks old → IsKept blocks new
+    Covers (count_of old) (items_of new.keys) → IsKept blocks old → IsKept blocks new
 kept-keys blocks old new counts homes keys kept =
     let same : (pair : ℕ × ℕ) → count_of new pair ≡ count_of old pair =
     λ pair. ap (λ map. count_in map pair) counts in
     record {
       counts = λ pair. same pair ∙ kept.counts pair;
       homes = λ pair home some. rw homes (kept.homes pair home some);
-      keys = covers_fewer (count_of old) (count_of new) new.keys.keys (λ pair. omega (arith, same pair)) keys;
+      keys = covers_but (count_of new) new.fresh.items (items_of new.keys)
+          (covers_fewer (count_of old) (count_of new) (items_of new.keys) (λ pair. omega (arith, same pair)) keys);
     }

@@ -1,5 +1,5 @@
 -- The key that a round takes.
-use Rattle.std.proofs.Common.{◌≡◌, ℕ, ◌<◌, Bool, false, nat_lt, List, [], ◌∷◌, map, filter, Some, None, Ordering, refl, sym, ◌∙◌, ap, arith, inl, inr}
+use Rattle.std.proofs.Common.{◌≡◌, ℕ, ◌<◌, Bool, false, nat_lt, List, [], ◌∷◌, map, filter, Some, None, Ordering, refl, sym, ap, arith, inl, inr}
 use Rattle.std.specs.Cmp.{IsTotalOrder}
 use Rattle.std.specs.List.{Contains, flat_map, sum_by}
 use Rattle.std.specs.Ordering.{nat_cmp, is_lt, ordering_reverse, ordering_then}
@@ -30,13 +30,10 @@ exact_keys a b tied = ap (λ (p : ℕ × (ℕ × ℕ)). let key : Key = record {
     (λ m n same. sym (exact_unsigned n m same)) (exact_pairs nat_cmp nat_cmp exact_unsigned exact_unsigned)
     (a.count, a.pair) (b.count, b.pair) tied)
 
--- the order by which keys compare is that of rounds
-pub key_cmp-is : (a b : Key) → key_cmp a b ≡ key_order a b
+-- the greater key is the one that rounds take first
+pub key_cmp-is : (a b : Key) → key_cmp a b ≡ key_order b a
 unfolding key_order
 key_cmp-is a b = refl
-
-pub exact_own : (a b : Key) → key_cmp a b ≡ Equal → a ≡ b
-exact_own a b tied = exact_keys a b (sym (key_cmp-is a b) ∙ tied)
 
 neither_before : (r s : Ordering) → r ≡ ordering_reverse s → is_lt r ≡ false → is_lt s ≡ false → r ≡ Equal
 neither_before Less s back not_less not_greater = absurd (cc)

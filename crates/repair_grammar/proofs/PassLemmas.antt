@@ -50,7 +50,7 @@ met_stands pair (x ∷ y ∷ rest) some = elim (cases_Bool (is_pair pair x y)) [
 ]
 
 -- a symbol that isn't the left one is passed
-met-other : (pair : ℕ × ℕ) (x : ℕ) (rest : List ℕ) → (x == pair.0) ≡ false → met pair (x ∷ rest) ≡ met pair rest
+pub met-other : (pair : ℕ × ℕ) (x : ℕ) (rest : List ℕ) → (x == pair.0) ≡ false → met pair (x ∷ rest) ≡ met pair rest
 unfolding met
 met-other pair x [] other = refl
 met-other pair x (y ∷ rest) other = rw (and_left (x == pair.0) (y == pair.1) other) refl

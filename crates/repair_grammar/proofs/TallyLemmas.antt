@@ -1,25 +1,23 @@
 -- Tallies: one count more or less, the blocks of a pair, and the keys that say enough.
-use Rattle.std.proofs.Common.{◌≡◌, ℕ, ◌+◌, ◌-◌, ◌<◌, ◌≤◌, nat_eq, ◌&&◌, cond, Option, Some, None, unwrap_or, List, [], ◌∷◌, refl, sym, ◌∙◌, ap, arith, inl, inr, Ordering}
+use Rattle.std.proofs.Common.{◌≡◌, ℕ, ◌+◌, ◌-◌, ◌<◌, ◌≤◌, nat_eq, ◌&&◌, cond, Option, Some, None, unwrap_or, List, [], ◌∷◌, ◌++◌, false, refl, sym, ◌∙◌, ap, arith, inl, inr}
 use Rattle.std.specs.HashMap.{HashMap, get}
-use Rattle.std.specs.BTreeSet.{insert_key}
-use Rattle.std.specs.BTreeMap.Range.{IsLtBy}
 use Rattle.std.specs.Global.{Vec}
-use Rattle.std.specs.List.{All, Contains, sum_by}
-use Rattle.std.specs.Ordering.{is_lt, match_ordering}
-use Rattle.std.specs.declared.cmp.Ordering.TheVariants.{Less, Equal, Greater}
+use Rattle.std.specs.List.{AllByRecursion, Contains}
+use Rattle.std.specs.List.Sorted.{IsPermutation}
+use Rattle.std.specs.Ordering.{is_lt}
 use Rattle.std.proofs.lemmas.Bool.{cases_Bool, cases_lt, lt-ltb}
 use Rattle.std.proofs.lemmas.Cmp.{upto}
-use Rattle.std.proofs.lemmas.List.Elements.{All-contains}
-use Rattle.std.proofs.lemmas.List.Sums.{sum_by-cons}
-use Rattle.list_laws.proofs.MemberLemmas.{first_member, later_member, member_cases, no_member}
+use Rattle.std.proofs.lemmas.List.Elements.{All-contains, All-from_recursion, Contains-append_cases}
+use Rattle.std.proofs.lemmas.List.Sorted.{Contains-permutation}
+use Rattle.list_laws.proofs.MemberLemmas.{member_cases, no_member}
 use Rattle.repair_grammar.specs.declared.key.Key.{Key}
 use Rattle.repair_grammar.specs.declared.tally.Tally.{Tally}
-use Rattle.repair_grammar.specs.RePair.{is_pair, key_order}
+use Rattle.repair_grammar.specs.RePair.{is_pair, key_order, key_cmp}
 use Rattle.repair_grammar.specs.Counts.{IsFirst, AllBelowTwo}
-use Rattle.repair_grammar.specs.Kept.{homes_in, homes_of, times_of, Covers, IsAfter}
+use Rattle.repair_grammar.specs.Kept.{homes_in, homes_of, times_of, count_of, AreFresh, Covers, CoversBut, IsAfter}
 use Rattle.repair_grammar.proofs.PassLemmas.{whole_pair}
-use Rattle.repair_grammar.proofs.KeyLemmas.{key_order_total}
-use Rattle.repair_grammar.proofs.FirstLemmas.{IsUpTo, fewer_after, not_before, upto_itself, less_upto}
+use Rattle.repair_grammar.proofs.KeyLemmas.{key_order_total, key_cmp-is}
+use Rattle.repair_grammar.proofs.FirstLemmas.{IsUpTo, fewer_after, not_before, upto_itself, upto_from}
 
 -- one count is lower by one, and no other
 pub lowered : (old new : ℕ × ℕ → Option ℕ) (pair other : ℕ × ℕ) (n : ℕ) → n ≡ unwrap_or (old pair) 0 →
@@ -41,7 +39,9 @@ after_none tally block = record {
   counts = λ pair. refl;
   homes = λ pair home inside. inside;
   home = λ pair none. absurd (omega arith);
-  keys = λ covers. covers;
+  keys = refl;
+  fresh = λ pair inside. inside;
+  came = λ pair some. inl some;
 }
 
 -- the same by other numbers
@@ -59,6 +59,8 @@ after_by old new off on off_too on_too block after same more = record {
     ]
   ];
   keys = after.keys;
+  fresh = after.fresh;
+  came = after.came;
 }
 
 -- one change and then another
@@ -78,7 +80,15 @@ after_then first second third off on off_too on_too block one two = record {
       | inr inside ↦ inr inside
     ]
   ];
-  keys = λ covers. two.keys (one.keys covers);
+  keys = two.keys ∙ one.keys;
+  fresh = λ pair inside. two.fresh pair (one.fresh pair inside);
+  came = λ pair some. elim (two.came pair some) [
+    | inl between ↦ elim (one.came pair between) [
+      | inl before ↦ inl before
+      | inr inside ↦ inr (two.fresh pair inside)
+    ]
+    | inr inside ↦ inr inside
+  ];
 }
 
 -- the blocks of an entry
@@ -95,46 +105,65 @@ pub homes_in-is : {S : Type 0} (homes : HashMap (ℕ × ℕ) (Vec ℕ) S) (pair 
 unfolding homes_in
 homes_in-is homes pair = refl
 
--- an inserted key is there, and those before it stay
-module _ {K : Type 0} (cmp : K → K → Ordering) (exact : (a b : K) → cmp a b ≡ Equal → a ≡ b) where
-  pub insert_key-keeps : (key : K) (keys : List K) (other : K) → Contains keys other →
-      Contains (insert_key cmp keys key) other
-  insert_key-keeps key [] other inside = no_member other inside
-  insert_key-keeps key (first ∷ keys) other inside =
-      by (cmp key first) (λ later. insert_key-keeps key keys other later)
-    where
-      by : (r : Ordering) → (Contains keys other → Contains (insert_key cmp keys key) other) →
-          Contains (match_ordering r (key ∷ first ∷ keys) (first ∷ keys) (first ∷ insert_key cmp keys key)) other
-      by Less rest = later_member other key (first ∷ keys) inside
-      by Equal rest = inside
-      by Greater rest = elim (member_cases other first keys inside) [
-        | inl same ↦ rw (sym same) (first_member first (insert_key cmp keys key))
-        | inr later ↦ later_member other first (insert_key cmp keys key) (rest later)
-      ]
+-- no pair counts, so none is fresh
+pub fresh_none : (count : ℕ × ℕ → ℕ) (fresh : List (ℕ × ℕ)) → ((pair : ℕ × ℕ) → count pair ≡ 0) → AreFresh 0 count fresh
+unfolding AreFresh
+fresh_none count fresh none = λ pair some. absurd (omega (arith, none pair))
 
-  pub insert_key-has : (key : K) (keys : List K) → Contains (insert_key cmp keys key) key
-  insert_key-has key [] = first_member key []
-  insert_key-has key (first ∷ keys) = by (cmp key first) refl (insert_key-has key keys)
-    where
-      by : (r : Ordering) → cmp key first ≡ r → Contains (insert_key cmp keys key) key →
-          Contains (match_ordering r (key ∷ first ∷ keys) (first ∷ keys) (first ∷ insert_key cmp keys key)) key
-      by Less is rest = first_member key (first ∷ keys)
-      by Equal is rest =
-          let result : Contains (first ∷ keys) key = rw (exact key first is) (first_member first keys) in result
-      by Greater is rest = later_member key first (insert_key cmp keys key) rest
+-- keys that say enough in another order
+pub covers_moved : (count : ℕ × ℕ → ℕ) (keys more : List Key) → IsPermutation keys more → Covers count keys →
+    Covers count more
+unfolding Covers
+covers_moved count keys more moved covers = λ pair two. let key = covers pair two in
+    (key.0, Contains-permutation keys more key.0 moved key.1, key.2, key.3)
 
-  -- and what is added up over them is no more than before and its own
-  pub sum_by-insert_key : (f : K → ℕ) (key : K) (keys : List K) →
-      sum_by f (insert_key cmp keys key) ≤ sum_by f keys + f key
-  sum_by-insert_key f key [] = omega (arith, sum_by-cons f key [])
-  sum_by-insert_key f key (first ∷ keys) = by (cmp key first) (sum_by-insert_key f key keys)
-    where
-      by : (r : Ordering) → sum_by f (insert_key cmp keys key) ≤ sum_by f keys + f key →
-          sum_by f (match_ordering r (key ∷ first ∷ keys) (first ∷ keys) (first ∷ insert_key cmp keys key))
-          ≤ sum_by f (first ∷ keys) + f key
-      by Less rest = omega (arith, sum_by-cons f key (first ∷ keys))
-      by Equal rest = omega arith
-      by Greater rest = omega (arith, rest, sum_by-cons f first keys, sum_by-cons f first (insert_key cmp keys key))
+-- a fresh pair gets its key
+pub covers_settled : (count : ℕ × ℕ → ℕ) (fresh : List (ℕ × ℕ)) (pair : ℕ × ℕ) (keys more : List Key) →
+    ((other : Key) → Contains keys other → Contains more other) →
+    (1 < count pair → Contains more (record { count = count pair; pair = pair })) →
+    CoversBut (fresh ++ pair ∷ []) count keys → CoversBut fresh count more
+unfolding CoversBut
+covers_settled count fresh pair keys more keeps own covers = λ other two. elim (covers other two) [
+  | inl inside ↦ elim (Contains-append_cases fresh (pair ∷ []) other inside) [
+    | inl before ↦ inl before
+    | inr here ↦ elim (member_cases other pair [] here) [
+      | inl same ↦ inr (rw (sym same) (
+        (record { count = count pair; pair = pair }),
+        own (rw (sym same) at two),
+        refl,
+        omega arith,
+      ))
+      | inr never ↦ no_member other never
+    ]
+  ]
+  | inr key ↦ inr (key.0, keeps key.0 key.1, key.2, key.3)
+]
+
+-- once none is fresh
+pub covers_all : (count : ℕ × ℕ → ℕ) (fresh : List (ℕ × ℕ)) (keys : List Key) → fresh ≡ [] →
+    CoversBut fresh count keys → Covers count keys
+unfolding Covers CoversBut
+covers_all count fresh keys none covers = λ pair two. elim (covers pair two) [
+  | inl never ↦ no_member pair (rw none at never)
+  | inr key ↦ key
+]
+
+pub covers_but : (count : ℕ × ℕ → ℕ) (fresh : List (ℕ × ℕ)) (keys : List Key) → Covers count keys →
+    CoversBut fresh count keys
+unfolding Covers CoversBut
+covers_but count fresh keys covers = λ pair two. inr (covers pair two)
+
+-- fresh pairs after a change
+pub fresh_after : (limit : ℕ) (old new : Tally) (off on : ℕ × ℕ → ℕ) (block : ℕ) → IsAfter old new off on block →
+    AreFresh limit (count_of old) old.fresh.items → AreFresh limit (count_of new) new.fresh.items
+unfolding AreFresh
+fresh_after limit old new off on block after fresh = λ pair some. elim (after.came pair some) [
+  | inl before ↦ elim (fresh pair before) [
+    | inl below ↦ inl below
+    | inr inside ↦ inr (after.fresh pair inside)
+  ]
+  | inr inside ↦ inr inside
+]
 
 -- keys that say enough say enough of smaller counts
 pub covers_fewer : (old new : ℕ × ℕ → ℕ) (keys : List Key) → ((pair : ℕ × ℕ) → new pair ≤ old pair) →
@@ -142,21 +171,6 @@ pub covers_fewer : (old new : ℕ × ℕ → ℕ) (keys : List Key) → ((pair :
 unfolding Covers
 covers_fewer old new keys fewer covers = λ pair two. let key = covers pair (omega (arith, two, fewer pair)) in
     (key.0, key.1, key.2, omega (arith, key.3, fewer pair))
-
--- and of a count that has its own key
-pub covers_raised : (old new : ℕ × ℕ → ℕ) (keys more : List Key) (pair : ℕ × ℕ) →
-    ((key : Key) → Contains keys key → Contains more key) →
-    (1 < new pair → Contains more (record { count = new pair; pair = pair })) →
-    ((other : ℕ × ℕ) → new other ≡ old other + times_of (Some pair) other) → Covers old keys → Covers new more
-unfolding Covers times_of
-covers_raised old new keys more pair keeps own sums covers =
-    λ other two. elim (cases_Bool (is_pair other pair.0 pair.1)) [
-      | inl is ↦ let same : pair ≡ other = whole_pair other pair.0 pair.1 is in
-          rw (sym same) ((record { count = new pair; pair = pair }), own (rw (sym same) at two), refl, omega arith)
-      | inr apart ↦ let count : new other ≡ old other + 0 = rw apart at (sums other) in
-          let key = covers other (omega (arith, two, count)) in
-          (key.0, keeps key.0 key.1, key.2, omega (arith, key.3, count))
-    ]
 
 -- no key: no pair counts two
 pub covers_none : (count : ℕ × ℕ → ℕ) → Covers count [] → AllBelowTwo count
@@ -197,11 +211,10 @@ module _ (count : ℕ × ℕ → ℕ) (key : Key) (rest : List Key) (covers : Co
   ]
 
   -- the first key's pair is the first pair, where the key says its count
-  pub popped_first : (cmp : Key → Key → Ordering) → ((a b : Key) → cmp a b ≡ key_order a b) →
-      All (IsLtBy cmp key) rest →
+  pub popped_first : AllByRecursion (λ other. is_lt (key_cmp key other) ≡ false) rest →
       1 < count key.pair → count key.pair ≡ key.count → IsFirst count key.pair
   unfolding Covers
-  popped_first cmp same above two is = record {
+  popped_first below two is = record {
     two = omega (arith, two);
     first = λ other. elim (cases_lt 1 (count other)) [
       | inr one ↦ fewer_after _ _ (omega (arith, one, two))
@@ -210,8 +223,9 @@ module _ (count : ℕ × ℕ → ℕ) (key : Key) (rest : List Key) (covers : Co
           upto_counted found.0 other found.2 found.3 in
           let key_upto : IsUpTo key found.0 = elim (member_cases found.0 key rest found.1) [
             | inl own ↦ rw (sym own) (upto_itself key)
-            | inr later ↦ less_upto (key_order key found.0)
-                (ap is_lt (sym (same key found.0) ∙ All-contains (IsLtBy cmp key) rest found.0 above later))
+            | inr later ↦ upto_from key found.0 (ap is_lt (sym (key_cmp-is key found.0))
+                ∙ All-contains (λ other. is_lt (key_cmp key other) ≡ false) rest found.0
+                (All-from_recursion (λ other. is_lt (key_cmp key other) ≡ false) rest below) later)
           ] in
           rw is (not_before key (record { count = count other; pair = other })
           (upto key_order_total key found.0 (record { count = count other; pair = other }) key_upto found_upto))

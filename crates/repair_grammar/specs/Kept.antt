@@ -3,7 +3,9 @@ use Rattle.std.specs.Prelude.{◌≡◌, ◌⊎◌, ℕ, ◌+◌, ◌<◌, ◌�
 use Rattle.std.specs.HashMap.{HashMap, get}
 use Rattle.std.specs.List.{Contains, sum_by}
 use Rattle.std.specs.Global.{Vec}
+use Rattle.std.specs.BinaryHeap.{heap_items}
 use Rattle.repair_grammar.specs.declared.key.Key.{Key}
+use Rattle.repair_grammar.specs.declared.keys.Keys.{Keys}
 use Rattle.repair_grammar.specs.declared.tally.Tally.{Tally}
 use Rattle.repair_grammar.specs.declared.walking.Walk.{Walk}
 use Rattle.repair_grammar.specs.RePair.{is_pair, met, pair_count}
@@ -34,10 +36,19 @@ homes_of (Some list) = list.items
 unfoldable pub homes_in : {S : Type 0} → HashMap (ℕ × ℕ) (Vec ℕ) S → ℕ × ℕ → List ℕ
 homes_in homes pair = homes_of (get (λ x y. nat_eq x.0 y.0 && nat_eq x.1 y.1) homes pair)
 
+-- the keys, in no order
+abbrev pub items_of : Keys → List Key
+items_of keys = heap_items keys.heap
+
 -- each pair that counts two has a key that says at least its count
 unfoldable pub Covers : (ℕ × ℕ → ℕ) → List Key → Type 0
 Covers count keys = (pair : ℕ × ℕ) → 1 < count pair →
     (key : Key) × Contains keys key × (key.pair ≡ pair) × (count pair ≤ key.count)
+
+-- the same, but for pairs of a list
+unfoldable pub CoversBut : List (ℕ × ℕ) → (ℕ × ℕ → ℕ) → List Key → Type 0
+CoversBut fresh count keys = (pair : ℕ × ℕ) → 1 < count pair → Contains fresh pair
+    ⊎ ((key : Key) × Contains keys key × (key.pair ≡ pair) × (count pair ≤ key.count))
 
 -- what a tally counts for a pair
 abbrev pub count_of : Tally → ℕ × ℕ → ℕ
@@ -49,7 +60,7 @@ pub record IsKept (blocks : List (List ℕ)) (tally : Tally) : Type 0 where
   pub counts : (pair : ℕ × ℕ) → count_of tally pair ≡ pair_count blocks pair
   pub homes : (pair : ℕ × ℕ) (block : ℕ) → 0 < met pair (slice_index_or blocks block []) →
       Contains (homes_in tally.homes pair) block
-  pub keys : Covers (count_of tally) tally.keys.keys
+  pub keys : CoversBut tally.fresh.items (count_of tally) (items_of tally.keys)
 
 -- a tally after some counts were taken off and others put on, all of one block
 pub record IsAfter (old new : Tally) (off on : ℕ × ℕ → ℕ) (block : ℕ) : Type 0 where
@@ -57,4 +68,11 @@ pub record IsAfter (old new : Tally) (off on : ℕ × ℕ → ℕ) (block : ℕ)
   pub homes : (pair : ℕ × ℕ) (home : ℕ) → Contains (homes_in old.homes pair) home →
       Contains (homes_in new.homes pair) home
   pub home : (pair : ℕ × ℕ) → 0 < on pair → (0 < off pair) ⊎ Contains (homes_in new.homes pair) block
-  pub keys : Covers (count_of old) old.keys.keys → Covers (count_of new) new.keys.keys
+  pub keys : items_of new.keys ≡ items_of old.keys
+  pub fresh : (pair : ℕ × ℕ) → Contains old.fresh.items pair → Contains new.fresh.items pair
+  pub came : (pair : ℕ × ℕ) → 0 < count_of new pair → (0 < count_of old pair) ⊎ Contains new.fresh.items pair
+
+-- each pair that counts and has a symbol from the limit on is fresh
+unfoldable pub AreFresh : ℕ → (ℕ × ℕ → ℕ) → List (ℕ × ℕ) → Type 0
+AreFresh limit count fresh = (pair : ℕ × ℕ) → 0 < count pair →
+    ((pair.0 < limit) × (pair.1 < limit)) ⊎ Contains fresh pair

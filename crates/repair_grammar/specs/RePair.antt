@@ -41,10 +41,10 @@ unfoldable pub key_order : Key → Key → Ordering
 key_order a b = ordering_then (nat_cmp b.count a.count)
     (ordering_then (nat_cmp a.pair.0 b.pair.0) (nat_cmp a.pair.1 b.pair.1))
 
--- the same order by std's words, as an impl of `Ord` states it
+-- the order of keys by std's words, as an impl of `Ord` states it: the key that is taken first is the greatest
 abbrev pub key_cmp : Key → Key → Ordering
-key_cmp = then_cmp (flip_args (on (λ k. k.count) nat_cmp))
-    (then_cmp (on (λ k. k.pair.0) nat_cmp) (on (λ k. k.pair.1) nat_cmp))
+key_cmp = then_cmp (on (λ k. k.count) nat_cmp)
+    (flip_args (then_cmp (on (λ k. k.pair.0) nat_cmp) (on (λ k. k.pair.1) nat_cmp)))
 
 -- whether no key is taken before this one
 unfoldable pub is_first_of : List Key → Key → Bool

@@ -7,7 +7,7 @@ ghost use Rattle.repair_grammar.specs.RePair.{key_order, key_cmp};
 
 use std::cmp::Ordering;
 
-/// A pair of symbols with its count. The lesser of two keys is the one that a round takes first.
+/// A pair of symbols with its count. The greater of two keys is the one that a round takes first.
 #[derive(Clone, Copy, PartialEq, Eq, Drop)]
 pub struct Key {
     pub count: u32,
@@ -20,7 +20,7 @@ impl Key {
     pub fn order(self, other: Key) -> Ordering
         ensures { result ≡ key_order self other }
     {
-        self.cmp(&other)
+        other.cmp(&self)
     }
 }
 
@@ -34,10 +34,9 @@ impl Ord for Key {
     ghost matches_eq = { Prim.search (comparing, rules) };
 
     fn cmp(&self, other: &Key) -> Ordering {
-        other
-            .count
-            .cmp(&self.count)
-            .then(self.pair.cmp(&other.pair))
+        self.count
+            .cmp(&other.count)
+            .then(other.pair.cmp(&self.pair))
     }
 }
 

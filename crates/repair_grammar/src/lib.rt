@@ -11,6 +11,7 @@ mod changes;
 mod counting;
 mod grammar;
 mod key;
+mod keys;
 mod recounting;
 mod replacing;
 mod rounds;

@@ -29,6 +29,7 @@ pub fn by_changes(alloc: Global, alphabet: u32, blocks: &Lists32) -> Result<Gram
         let symbol = alphabet + rules.len() as u32;
         rules.push(pair)?;
         replace_all(alloc, &mut tally, &mut room, &mut blocks, pair, symbol)?;
+        tally.settle()?;
     }
     Ok(Grammar {
         rules: PairList::new(rules),
@@ -55,6 +56,7 @@ fn replace_all(
     requires kept { IsKept (lists_of blocks.old.items) tally.old }
     requires few { sum_by length (lists_of blocks.old.items) < 2 ^ 32 }
     requires new { (pair.0 < symbol) × (pair.1 < symbol) }
+    requires below { AreBelow symbol (lists_of blocks.old.items) }
     ensures kept { OnOk result (IsKept (lists_of blocks.new.items) tally.new) }
     ensures all { OnOk result (lists_of blocks.new.items
         ≡ map (replaced pair symbol) (lists_of blocks.old.items)) }

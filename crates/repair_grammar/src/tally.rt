@@ -1,18 +1,18 @@
-ghost use Rattle.std.specs.Prelude.{◌≡◌, ℕ, ◌+◌, ◌^◌, ◌<◌, ◌≤◌, false, nat_lt, if◌then◌else◌};
+ghost use Rattle.std.specs.Prelude.{◌≡◌, ℕ, ◌+◌, ◌^◌, ◌<◌, ◌≤◌, false, []};
 ghost use Rattle.std.specs.Prelude.{length, IfOk, OnOk, MatchOption};
 ghost use Rattle.std.specs.List.{sum_by, Contains};
-ghost use Rattle.repair_grammar.specs.declared.key.Key.{Key};
 ghost use Rattle.repair_grammar.specs.RePair.{is_pair, met, replaced};
 ghost use Rattle.repair_grammar.specs.Counts.{lists_of, AllBelowTwo, IsFirst};
 ghost use Rattle.repair_grammar.specs.Kept.{count_of, homes_in, times_in, times_of};
-ghost use Rattle.repair_grammar.specs.Kept.{Covers, IsAfter, IsKept};
+ghost use Rattle.repair_grammar.specs.Kept.{Covers, CoversBut, IsAfter, IsKept, items_of};
 
 use crate::changes::Changes;
 use crate::counting::{Counts, count_pair};
 use crate::key::Key;
+use crate::keys::Keys;
 use crate::replacing::replace;
 use std::alloc::Global;
-use std::collections::{BTreeSet, HashMap};
+use std::collections::HashMap;
 use track_types::Memory;
 
 /// For each pair the blocks in which it counts. It may name others too.
@@ -24,8 +24,11 @@ pub type Homes = HashMap<(u32, u32), Vec<usize>>;
 pub struct Tally {
     pub counts: Counts,
     pub homes: Homes,
-    /// A key for each pair that counts two. A key may say more than its pair still counts.
-    pub keys: BTreeSet<Key>,
+    /// A key for each pair that counts two, but for the fresh ones. A key may say more than its pair
+    /// still counts.
+    pub keys: Keys,
+    /// The pairs that came to count in this round.
+    pub fresh: Vec<(u32, u32)>,
 }
 
 impl Tally {
@@ -33,17 +36,20 @@ impl Tally {
     pub fn of(alloc: Global, blocks: &[Vec<u32>]) -> Result<Tally, Memory>
         requires few { sum_by length (lists_of blocks.now) < 2 ^ 32 }
         ensures ok { IfOk result (IsKept (lists_of blocks.now)) }
+        ensures fresh { IfOk result (λ tally. tally.fresh.items ≡ []) }
     {
         let mut tally = Tally {
             counts: HashMap::new(alloc),
             homes: HashMap::new(alloc),
-            keys: BTreeSet::new(alloc),
+            keys: Keys::new(alloc),
+            fresh: Vec::new(alloc),
         };
         let mut changes = Changes::new(alloc);
         for place in 0..blocks.len() {
             changes.begin(blocks[place].as_slice())?;
             tally.put_on(alloc, changes.come.as_slice(), place)?;
         }
+        tally.settle()?;
         Ok(tally)
     }
 
@@ -53,8 +59,7 @@ impl Tally {
         ensures ok { OnOk result (IsAfter self.old self.new (λ _. 0) (times_of (Some pair)) block) }
     {
         let count = count_pair(&mut self.counts, pair)?;
-        let key = Key { count, pair };
-        add_key(&mut self.keys, key)?;
+        add_fresh(&mut self.fresh, pair, count)?;
         add_home(alloc, &mut self.homes, pair, block)?;
         Ok(())
     }
@@ -118,23 +123,39 @@ impl Tally {
         Ok(())
     }
 
+    /// Gives each fresh pair that counts two its key.
+    pub fn settle(&mut self) -> Result<(), Memory>
+        requires keys { CoversBut self.old.fresh.items (count_of self.old) (items_of self.old.keys) }
+        ensures counts { self.new.counts ≡ self.old.counts }
+        ensures homes { self.new.homes ≡ self.old.homes }
+        ensures keys { OnOk result (Covers (count_of self.old) (items_of self.new.keys)) }
+        ensures fresh { OnOk result (self.new.fresh.items ≡ []) }
+    {
+        while let Some(pair) = self.fresh.pop() {
+            let count = self.counts.get(&pair).copied().unwrap_or(0);
+            self.keys.add(Key { count, pair })?;
+        }
+        Ok(())
+    }
+
     /// The pair that a round takes, if one counts two. A key that says more than its pair still
     /// counts makes way for one that says its count.
     pub fn first_pair(&mut self) -> Result<Option<(u32, u32)>, Memory>
-        requires keys { Covers (count_of self.old) self.old.keys.keys }
+        requires keys { Covers (count_of self.old) (items_of self.old.keys) }
         ensures first { IfOk result (λ pair. MatchOption pair (AllBelowTwo (count_of self.old))
             (IsFirst (count_of self.old))) }
         ensures counts { self.new.counts ≡ self.old.counts }
         ensures homes { self.new.homes ≡ self.old.homes }
-        ensures keys { OnOk result (Covers (count_of self.old) self.new.keys.keys) }
+        ensures fresh { self.new.fresh ≡ self.old.fresh }
+        ensures keys { OnOk result (Covers (count_of self.old) (items_of self.new.keys)) }
     {
-        while let Some(key) = self.keys.pop_first() {
+        while let Some(key) = self.keys.take() {
             let pair = key.pair;
             let count = self.counts.get(&pair).copied().unwrap_or(0);
             if count > key.count {
                 continue;
             }
-            add_key(&mut self.keys, Key { count, pair })?;
+            self.keys.add(Key { count, pair })?;
             if count == key.count && count > 1 {
                 return Ok(Some(pair));
             }
@@ -154,17 +175,14 @@ impl Tally {
     }
 }
 
-// Puts a key that counts two among the keys.
-fn add_key(keys: &mut BTreeSet<Key>, key: Key) -> Result<(), Memory>
-    ensures kept { OnOk result ((other : Key) →
-        Contains keys.old.keys other → Contains keys.new.keys other) }
-    ensures added { OnOk result (1 < key.count → Contains keys.new.keys key) }
-    ensures sum { OnOk result (sum_by (λ other. other.count + 1) keys.new.keys
-        ≤ sum_by (λ other. other.count + 1) keys.old.keys
-        + (if nat_lt 1 key.count then key.count + 1 else 0)) }
+// Notes a pair that has come to count.
+fn add_fresh(fresh: &mut Vec<(u32, u32)>, pair: (u32, u32), count: u32) -> Result<(), Memory>
+    ensures kept { OnOk result ((other : ℕ × ℕ) →
+        Contains fresh.old.items other → Contains fresh.new.items other) }
+    ensures added { OnOk result (count ≡ 1 → Contains fresh.new.items pair) }
 {
-    if key.count > 1 {
-        keys.insert(key)?;
+    if count == 1 {
+        fresh.push(pair)?;
     }
     Ok(())
 }

@@ -2,9 +2,10 @@ use Rattle.std.proofs.Common.{◌≡◌, ℕ, ◌+◌, List, length, map, arith,
 use Rattle.std.specs.List.{sum_by}
 use Rattle.repair_grammar.specs.RePair.{pair_count, replaced}
 use Rattle.repair_grammar.specs.Counts.{lists_of, IsFirst, AllBelowTwo}
-use Rattle.repair_grammar.specs.Kept.{count_of}
+use Rattle.repair_grammar.specs.Kept.{count_of, items_of}
 use Rattle.repair_grammar.proofs.ExpansionLemmas.{all_below-replaced}
 use Rattle.repair_grammar.proofs.RoundLemmas.{IsNext, next_is, first_same, re_pair-is, rounds-end}
+use Rattle.repair_grammar.proofs.TallyLemmas.{covers_all}
 use Rattle.repair_grammar.proofs.KeptLemmas.{first_below, kept-keys}
 use Rattle.repair_grammar.proofs.rounds.by_changes.Goals as goal
 use Rattle.repair_grammar.proofs.rounds.by_changes.Goals.{In-Some, In_ok-replace_all}
@@ -12,10 +13,23 @@ use Rattle.repair_grammar.proofs.rounds.by_changes.Goals.{In-Some, In_ok-replace
 pub rounds-init : goal.rounds-init
 rounds-init c = record {
   kept = rw c.as_slice.ensures.value at c.in_ok-tally.ensures.ok;
+  fresh = c.in_ok-tally.ensures.fresh;
   below = rw (c.new-rules.ensures.items, c.in_ok-blocks.ensures, add-zero) c.requires.below;
   few = rw (c.new-rules.ensures.items, c.in_ok-blocks.ensures) (omega arith);
   left = rw (c.new-rules.ensures.items, c.in_ok-blocks.ensures) (sym (re_pair-is c.args.alphabet c.args.blocks.now));
 }
+
+pub first_pair-requires : goal.first_pair-requires
+first_pair-requires c = record {
+  keys = covers_all (count_of c.rounds.tally) c.rounds.tally.fresh.items (items_of c.rounds.tally.keys)
+      c.rounds.invariant.fresh c.rounds.invariant.kept.keys;
+}
+
+pub replace_all-requires-clause-below : goal.replace_all-requires-clause-below
+replace_all-requires-clause-below c =
+    let symbol : c.args.alphabet + c.len.result ≡ c.args.alphabet + length c.rounds.rules.items =
+    omega (arith, c.len.ensures) in
+    rw symbol c.rounds.invariant.below
 
 -- the pair of the round
 first : (c : In-Some) → IsFirst (pair_count (lists_of c.rounds.blocks.items)) c.in-Some.pair
@@ -61,7 +75,9 @@ rounds-preserved c =
     let more : c.args.alphabet + length c.push.new.self.items ≡ c.args.alphabet + length c.rounds.rules.items + 1 =
     omega (arith, step.rules_are) in
     record {
-      kept = c.in_ok-replace_all.ensures.kept;
+      kept = kept-keys (lists_of c.replace_all.new.blocks.items) c.replace_all.new.tally c.settle.new.self
+          c.settle.ensures.counts c.settle.ensures.homes c.in_ok-settle.ensures.keys c.in_ok-replace_all.ensures.kept;
+      fresh = c.in_ok-settle.ensures.fresh;
       below = rw (more, after (goal.at.rounds-preserved c).In_ok-replace_all) (all_below-replaced c.in-Some.pair
           (c.args.alphabet + length c.rounds.rules.items) (lists_of c.rounds.blocks.items) c.rounds.invariant.below);
       few = omega (arith, step.rules_are, step.fewer, c.rounds.invariant.few);

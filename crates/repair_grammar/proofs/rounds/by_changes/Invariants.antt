@@ -1,4 +1,4 @@
-use Rattle.std.proofs.Common.{◌≡◌, ◌+◌, ◌*◌, ◌≤◌, length}
+use Rattle.std.proofs.Common.{◌≡◌, ◌+◌, ◌*◌, ◌≤◌, [], length}
 use Rattle.std.specs.List.{sum_by}
 use Rattle.repair_grammar.specs.RePair.{AreBelow, rounds, re_pair}
 use Rattle.repair_grammar.specs.Counts.{lists_of}
@@ -9,6 +9,7 @@ use Rattle.repair_grammar.proofs.rounds.by_changes.Given as goal
 abbrev pub invariant-rounds : goal.invariant-rounds
 invariant-rounds l = record {
   kept : IsKept (lists_of l.blocks.items) l.tally;
+  fresh : l.tally.fresh.items ≡ [];
   below : AreBelow (l.alphabet + length l.rules.items) (lists_of l.blocks.items);
   few : 2 * length l.rules.items + sum_by length (lists_of l.blocks.items) ≤ sum_by length l.fn.blocks;
   left : rounds (sum_by length (lists_of l.blocks.items)) l.alphabet

@@ -6,13 +6,16 @@ use Rattle.repair_grammar.specs.RePair.{met, replaced}
 use Rattle.repair_grammar.specs.Counts.{lists_of}
 use Rattle.repair_grammar.specs.Kept.{IsAfter, IsKept}
 use Rattle.repair_grammar.proofs.CountLemmas.{item_list}
-use Rattle.repair_grammar.proofs.KeptLemmas.{met-counted, kept-set, few-set, room-set, passed_at, passed-set, passed-past, passed-all}
+use Rattle.repair_grammar.proofs.TallyLemmas.{fresh_after}
+use Rattle.repair_grammar.proofs.KeptLemmas.{met-counted, met-replaced-le, fresh_below, kept-set, few-set, room-set, passed_at, passed-set, passed-past, passed-all}
 use Rattle.repair_grammar.proofs.rounds.replace_all.Goals as goal
 use Rattle.repair_grammar.proofs.rounds.replace_all.Goals.{After-index_mut}
 
 pub loop-place-init : goal.loop-place-init
 loop-place-init c = record {
   kept = c.requires.kept;
+  fresh = fresh_below c.args.symbol (lists_of c.args.blocks.now.items) c.args.tally.now c.requires.kept
+      c.requires.below;
   few = c.requires.few;
   same = refl;
   passed = λ i. refl;
@@ -26,6 +29,7 @@ loop-place-preserved-then-place-len c =
     rw length-map (omega (arith, c.if-place-len.true, c.len.ensures)) in
     record {
       kept = c.loop-place.invariant.kept;
+      fresh = c.loop-place.invariant.fresh;
       few = c.loop-place.invariant.few;
       same = c.loop-place.invariant.same;
       passed = passed-past c.args.pair c.args.symbol c.requires.new.0 c.requires.new.1
@@ -88,8 +92,9 @@ loop-place-preserved c =
     let changed : IsAfter c.loop-place.tally c.replace_in.new.self (λ other. met other (get_or now place []))
     (λ other. met other after) place = rw (sym (item at)) at c.in_ok-replace_in.ensures.after in
     let kept : IsKept (set now place after) c.replace_in.new.self =
-    kept-set now place after c.loop-place.tally c.replace_in.new.self (within_lists at) c.loop-place.invariant.kept
-    changed in
+    kept-set now place after c.loop-place.tally c.replace_in.new.self symbol (within_lists at)
+    c.loop-place.invariant.kept changed c.loop-place.invariant.fresh
+    (λ other left right. met-replaced-le pair symbol other left right (get_or now place [])) in
     let few : sum_by length (set now place after) < 4294967296 =
     omega (arith, few-set pair symbol now place (within_lists at), c.loop-place.invariant.few) in
     let same : length (set now place after) ≡ length (lists_of c.args.blocks.now.items) =
@@ -101,6 +106,8 @@ loop-place-preserved c =
     c.loop-place-test.true c.loop-place.invariant.passed (within_lists at) in
     record {
       kept = rw whole at kept;
+      fresh = fresh_after symbol c.loop-place.tally c.replace_in.new.self (λ other. met other (get_or now place []))
+          (λ other. met other after) place changed c.loop-place.invariant.fresh;
       few = rw whole at few;
       same = rw whole at same;
       passed = rw whole at passed;

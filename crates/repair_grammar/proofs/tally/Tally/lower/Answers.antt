@@ -1,7 +1,7 @@
-use Rattle.std.proofs.Common.{◌≡◌, ℕ, ◌+◌, ◌&&◌, nat_eq, Some, unwrap_or, arith, add-zero, sym, ◌∙◌, ap}
+use Rattle.std.proofs.Common.{◌≡◌, ℕ, ◌+◌, ◌&&◌, nat_eq, Some, unwrap_or, arith, add-zero, inl, refl, sym, ◌∙◌, ap}
 use Rattle.std.specs.HashMap.{get}
 use Rattle.repair_grammar.specs.Kept.{count_of, times_of}
-use Rattle.repair_grammar.proofs.TallyLemmas.{lowered, covers_fewer}
+use Rattle.repair_grammar.proofs.TallyLemmas.{lowered}
 use Rattle.repair_grammar.proofs.tally.Tally.lower.Goals as goal
 use Rattle.repair_grammar.proofs.tally.Tally.lower.Goals.{In_ok-insert}
 
@@ -22,7 +22,8 @@ returns c = record {
     counts = λ other. counts (goal.at.returns c).In_ok-insert other ∙ sym (add-zero _);
     homes = λ other home inside. inside;
     home = λ other none. absurd (omega arith);
-    keys = λ covers. covers_fewer _ _ c.args.self.now.keys.keys
-        (λ other. omega (arith, counts (goal.at.returns c).In_ok-insert other)) covers;
+    keys = refl;
+    fresh = λ other inside. inside;
+    came = λ other some. inl (omega (arith, some, counts (goal.at.returns c).In_ok-insert other));
   };
 }
