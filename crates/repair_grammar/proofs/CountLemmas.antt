@@ -1,5 +1,5 @@
 -- Counts of pairs: one more, one block more, and all that there is room for.
-use Rattle.std.proofs.Common.{◌≡◌, ℕ, ◌+◌, ◌<◌, ◌≤◌, true, cond, Option, Some, unwrap_or, List, [], length, get_or, take, refl, sym, ◌∙◌, ap, arith, inl, inr}
+use Rattle.std.proofs.Common.{◌≡◌, ℕ, ◌+◌, ◌<◌, ◌≤◌, true, cond, Option, None, Some, unwrap_or, List, [], length, get_or, take, refl, sym, ◌∙◌, ap, arith, inl, inr}
 use Rattle.std.specs.Global.{Vec}
 use Rattle.std.specs.List.{sum_by}
 use Rattle.std.proofs.lemmas.Bool.{cases_Bool, and_from, eq-eqb}
@@ -7,6 +7,7 @@ use Rattle.std.proofs.lemmas.List.{take-map, length-map, get_or-map}
 use Rattle.std.proofs.lemmas.List.Sums.{sum_by_more, sum_by_more_le_part}
 use Rattle.repair_grammar.specs.RePair.{is_pair, met, pair_count}
 use Rattle.repair_grammar.specs.Counts.{lists_of}
+use Rattle.repair_grammar.specs.Kept.{times_of}
 use Rattle.repair_grammar.proofs.PassLemmas.{whole_pair, met-le}
 
 -- a pair is met where its own symbols stand
@@ -50,3 +51,15 @@ module _ (pair : ℕ × ℕ) (blocks : List (Vec ℕ)) (i : ℕ) (item : Vec ℕ
         arith,
         met-le pair block,
       )))
+
+-- the pair that a step counts
+pub times_of-some : (other pair : ℕ × ℕ) → times_of (Some other) pair ≡ cond (is_pair pair other.0 other.1) 1 0
+unfolding times_of
+times_of-some other pair = refl
+
+pub times_of-own : (pair : ℕ × ℕ) → times_of (Some pair) pair ≡ 1
+times_of-own pair = rw (times_of-some pair pair, own_pair pair.0 pair.1) refl
+
+pub times_of-none : (pair : ℕ × ℕ) → times_of None pair ≡ 0
+unfolding times_of
+times_of-none pair = refl

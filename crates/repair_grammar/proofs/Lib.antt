@@ -1,4 +1,5 @@
 mod PassLemmas
+mod NewerLemmas
 mod CountLemmas
 mod KeyLemmas
 mod FirstLemmas
@@ -7,7 +8,13 @@ mod UseLemmas
 pub mod UsedLemmas
 pub mod SoundLemmas
 pub mod RoundLemmas
-mod WalkLemmas
-mod TallyLemmas
-mod KeptLemmas
+mod CoverLemmas
+mod RunLemmas
+mod ThreadLemmas
+mod FrontierLemmas
+mod CountedLemmas
+mod RowLemmas
+mod PairLemmas
+mod JoinLemmas
+mod PlaceLemmas
 mod Examples

@@ -202,3 +202,22 @@ module _ (pair : ℕ × ℕ) (symbol : ℕ) (items : List ℕ) (written read : �
 pub replaced-none : (pair : ℕ × ℕ) (symbol : ℕ) → replaced pair symbol [] ≡ []
 unfolding replaced
 replaced-none pair symbol = refl
+
+-- a symbol more counts at most once
+pub met-step : (pair : ℕ × ℕ) (x : ℕ) (rest : List ℕ) →
+    (met pair rest ≤ met pair (x ∷ rest)) × (met pair (x ∷ rest) ≤ suc (met pair rest))
+unfolding met
+met-step pair x [] = (omega arith, omega arith)
+met-step pair x (y ∷ rest) = let later = met-step pair y rest in elim (cases_Bool (is_pair pair x y)) [
+  | inl is ↦ rw is (later.1, omega (arith, later.0))
+  | inr apart ↦ rw apart (omega arith, omega arith)
+]
+
+-- what stands where the pair does
+pub stands_first-whole : (pair : ℕ × ℕ) (block : List ℕ) → stands_first pair block ≡ true →
+    block ≡ pair.0 ∷ pair.1 ∷ drop 2 block
+unfolding stands_first
+stands_first-whole pair [] stands = absurd (cc)
+stands_first-whole pair (x ∷ []) stands = absurd (cc)
+stands_first-whole pair (x ∷ y ∷ rest) stands =
+    rw (left_of_pair pair x y stands, right_of_pair pair x y stands) refl

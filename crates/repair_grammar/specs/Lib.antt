@@ -3,3 +3,7 @@ pub mod RePair
 pub mod GrammarOf
 pub mod Counts
 pub mod Kept
+pub mod Runs
+pub mod Threads
+pub mod Pairs
+pub mod Joins

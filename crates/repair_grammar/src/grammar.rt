@@ -5,7 +5,7 @@ ghost use Rattle.track_types.specs.declared.limit.LimitKind.TheVariants.{Symbols
 ghost use Rattle.repair_grammar.specs.GrammarOf.{IsGrammarOf};
 ghost use Rattle.repair_grammar.specs.RePair.{AreBelow, pair_count, re_pair};
 
-use crate::rounds::by_changes;
+use crate::compressing::by_places;
 use std::alloc::Global;
 use track_types::{Lists32, Memory, PairList};
 
@@ -24,7 +24,8 @@ pub struct Grammar {
 ///
 /// A pair's count is the number of replacements that one pass from left to right through each block
 /// makes. Of pairs that count alike the smaller left symbol goes first, and then the smaller right
-/// one. Symbols are below `alphabet`. It answers `Memory` where memory runs out.
+/// one. Symbols are below `alphabet`. It answers `Memory` where memory runs out, and where there are as
+/// many blocks as places of 32 bits have no room for.
 pub fn compress(alloc: Global, alphabet: u32, blocks: &Lists32) -> Result<Grammar, Memory>
     requires below { AreBelow alphabet blocks.now }
     requires few { sum_by length blocks.now ≤ limit_of Symbols }
@@ -33,5 +34,5 @@ pub fn compress(alloc: Global, alphabet: u32, blocks: &Lists32) -> Result<Gramma
     ensures sound { IfOk result (IsGrammarOf alphabet blocks.now) }
     ensures done { IfOk result (λ grammar. (pair : ℕ × ℕ) → pair_count grammar.blocks pair < 2) }
 {
-    by_changes(alloc, alphabet, blocks)
+    by_places(alloc, alphabet, blocks)
 }

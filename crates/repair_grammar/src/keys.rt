@@ -30,7 +30,7 @@ impl Keys {
         }
     }
 
-    /// Puts a key among the others, unless it counts less than two.
+    /// Puts a key that counts two among the keys.
     pub fn add(&mut self, key: Key) -> Result<(), Memory>
         ensures kept { OnOk result ((other : Key) →
             Contains (heap_items self.old.heap) other → Contains (heap_items self.new.heap) other) }

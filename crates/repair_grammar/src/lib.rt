@@ -7,17 +7,24 @@
 //! `list_laws`.
 #![tactic(auto)]
 
-mod changes;
+mod choosing;
+mod compressing;
+#[cfg(test)]
 mod counting;
 mod grammar;
+mod joining;
 mod key;
 mod keys;
+mod pairs;
+mod passing;
+#[cfg(test)]
 mod recounting;
+#[cfg(test)]
 mod replacing;
-mod rounds;
-mod tally;
+mod rows;
+mod tallying;
 #[cfg(test)]
 mod tests;
-mod walking;
+mod text;
 
 pub use grammar::{Grammar, compress};

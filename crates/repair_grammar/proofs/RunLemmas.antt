@@ -1,0 +1,384 @@
+-- The run rule: counts of a list that is cut at a place.
+use Rattle.std.proofs.Common.{◌≡◌, ℕ, suc, ◌+◌, ◌==◌, Bool, true, false, cond, not, ◌&&◌, if◌then◌else◌, Some, None, List, [], ◌∷◌, ◌++◌, refl, sym, ◌∙◌, ap, subst, arith, inl, inr, append_assoc}
+use Rattle.std.proofs.lemmas.Bool.{cases_Bool, and_right, eqb-true, eqb-false, eq-eqb, ne_eqb, both_ways}
+use Rattle.repair_grammar.specs.RePair.{is_pair, met}
+use Rattle.repair_grammar.specs.Kept.{times_of}
+use Rattle.repair_grammar.specs.Runs.{begins_odd, ends_odd, left_gone, right_gone, left_come}
+use Rattle.repair_grammar.proofs.PassLemmas.{met-other, left_of_pair, right_of_pair}
+
+-- the pair of two alike symbols
+pub twin_pair : (u x : ℕ) → is_pair (u, u) x x ≡ (x == u)
+twin_pair u x = elim (cases_Bool (x == u)) [ inl is ↦ rw is refl | inr apart ↦ rw apart refl ]
+
+-- a pass at two symbols
+met-is : (pair : ℕ × ℕ) (x y : ℕ) (rest : List ℕ) → is_pair pair x y ≡ true →
+    met pair (x ∷ y ∷ rest) ≡ suc (met pair rest)
+unfolding met
+met-is pair x y rest is = rw is refl
+
+met-not : (pair : ℕ × ℕ) (x y : ℕ) (rest : List ℕ) → is_pair pair x y ≡ false →
+    met pair (x ∷ y ∷ rest) ≡ met pair (y ∷ rest)
+unfolding met
+met-not pair x y rest apart = rw apart refl
+
+-- a symbol of a run, and another
+begins_odd-same : (u y : ℕ) (ys : List ℕ) → (y == u) ≡ true → begins_odd u (y ∷ ys) ≡ not (begins_odd u ys)
+unfolding begins_odd
+begins_odd-same u y ys is = rw is refl
+
+begins_odd-other : (u y : ℕ) (ys : List ℕ) → (y == u) ≡ false → begins_odd u (y ∷ ys) ≡ false
+unfolding begins_odd
+begins_odd-other u y ys apart = rw apart refl
+
+pub begins_odd-front : (u x : ℕ) (ys : List ℕ) → begins_odd u (x ∷ ys) ≡ ((x == u) && not (begins_odd u ys))
+unfolding begins_odd
+begins_odd-front u x ys = refl
+
+-- one symbol of a run comes before a list
+pub met-run_cons : (u : ℕ) (ys : List ℕ) → met (u, u) (u ∷ ys) ≡ cond (begins_odd u ys) 1 0 + met (u, u) ys
+met-run_cons u [] = unfold met begins_odd in refl
+met-run_cons u (y ∷ ys) = elim (cases_Bool (y == u)) [
+  | inl is ↦ let same : y ≡ u = eqb-true y u is in
+      let whole : met (u, u) (u ∷ y ∷ ys) ≡ suc (met (u, u) ys) =
+      met-is (u, u) u y ys (rw (is, eq-eqb u u refl) refl) in
+      let later : met (u, u) (y ∷ ys) ≡ cond (begins_odd u ys) 1 0 + met (u, u) ys =
+      ap (λ z. met (u, u) (z ∷ ys)) same ∙ met-run_cons u ys in
+      rw (begins_odd-same u y ys is) (elim (cases_Bool (begins_odd u ys)) [
+        | inl odd ↦ rw odd (let after : met (u, u) (y ∷ ys) ≡ 1 + met (u, u) ys = rw odd at later in
+            omega (arith, whole, after))
+        | inr even ↦ rw even (let after : met (u, u) (y ∷ ys) ≡ 0 + met (u, u) ys = rw even at later in
+            omega (arith, whole, after))
+      ])
+  | inr apart ↦ rw (begins_odd-other u y ys apart)
+      (omega (arith, met-not (u, u) u y ys (rw (apart, and_right (u == u) false refl) refl)))
+]
+
+-- a list behind a run that was odd or not
+abbrev behind : ℕ → Bool → List ℕ → List ℕ
+behind u true ys = u ∷ ys
+behind u false ys = ys
+
+-- the count over two lists: that of each, and one more where two odd runs meet
+met_behind-append : (u : ℕ) (odd : Bool) (xs ys : List ℕ) → met (u, u) (behind u odd (xs ++ ys))
+    ≡ met (u, u) (behind u odd xs) + cond (ends_odd u odd xs && begins_odd u ys) 1 0 + met (u, u) ys
+unfolding met begins_odd ends_odd
+met_behind-append u true [] ys = omega (arith, met-run_cons u ys)
+met_behind-append u false [] ys = omega arith
+met_behind-append u true (x ∷ xs) ys = elim (cases_Bool (x == u)) [
+  | inl is ↦ rw (is, eq-eqb u u refl) (omega (arith, met_behind-append u false xs ys))
+  | inr apart ↦ rw (apart, and_right (u == u) false refl, met-other (u, u) x (xs ++ ys) apart, met-other (u, u) x xs apart)
+      (met_behind-append u false xs ys)
+]
+met_behind-append u false (x ∷ xs) ys = elim (cases_Bool (x == u)) [
+  | inl is ↦ let same : x ≡ u = eqb-true x u is in
+      rw is (omega (
+        arith,
+        met_behind-append u true xs ys,
+        ap (λ z. met (u, u) (z ∷ xs ++ ys)) same,
+        ap (λ z. met (u, u) (z ∷ xs)) same,
+      ))
+  | inr apart ↦ rw (apart, met-other (u, u) x (xs ++ ys) apart, met-other (u, u) x xs apart)
+      (met_behind-append u false xs ys)
+]
+
+pub met-run_append : (u : ℕ) (xs ys : List ℕ) → met (u, u) (xs ++ ys)
+    ≡ met (u, u) xs + cond (ends_odd u false xs && begins_odd u ys) 1 0 + met (u, u) ys
+met-run_append u xs ys = met_behind-append u false xs ys
+
+-- any other list may be cut at a symbol of which two alike are not the pair
+met_two : (other : ℕ × ℕ) (x y : ℕ) (ys : List ℕ) → is_pair other y y ≡ false →
+    met other (x ∷ y ∷ ys) ≡ cond (is_pair other x y) 1 0 + met other (y ∷ ys)
+unfolding met
+met_two other x y ys free = elim (cases_Bool (is_pair other x y)) [
+  | inl is ↦ let left : (y == other.0) ≡ false = elim (cases_Bool (y == other.0)) [
+    | inl same ↦ absurd (both_ways (is_pair other y y) free
+        (rw (same, eq-eqb y other.1 (right_of_pair other x y is)) refl))
+    | inr apart ↦ apart
+  ] in rw (is, met-other other y ys left) (omega arith)
+  | inr apart ↦ rw apart (omega arith)
+]
+
+pub met-cut : (other : ℕ × ℕ) (xs : List ℕ) (y : ℕ) (ys : List ℕ) → is_pair other y y ≡ false →
+    met other (xs ++ y ∷ ys) ≡ met other (xs ++ y ∷ []) + met other (y ∷ ys)
+unfolding met
+met-cut other [] y ys free = omega arith
+met-cut other (x ∷ []) y ys free =
+    let none : met other (y ∷ []) ≡ 0 = refl in omega (arith, met_two other x y ys free, met_two other x y [] free, none)
+met-cut other (x ∷ z ∷ xs) y ys free = elim (cases_Bool (is_pair other x z)) [
+  | inl is ↦ rw is (omega (arith, met-cut other xs y ys free))
+  | inr apart ↦ rw apart (met-cut other (z ∷ xs) y ys free)
+]
+
+-- the symbol in front: its run is longer by one
+pub met-run_front : (u x : ℕ) (ys : List ℕ) →
+    met (u, u) (x ∷ ys) ≡ cond ((x == u) && begins_odd u ys) 1 0 + met (u, u) ys
+met-run_front u x ys = elim (cases_Bool (x == u)) [
+  | inl is ↦ rw is (ap (λ z. met (u, u) (z ∷ ys)) (eqb-true x u is) ∙ met-run_cons u ys)
+  | inr apart ↦ rw apart (omega (arith, met-other (u, u) x ys apart))
+]
+
+-- the symbol at the end of a run
+pub ends_odd-last : (u : ℕ) (odd : Bool) (xs : List ℕ) (x : ℕ) →
+    ends_odd u odd (xs ++ x ∷ []) ≡ ((x == u) && not (ends_odd u odd xs))
+unfolding ends_odd
+ends_odd-last u odd [] x = refl
+ends_odd-last u odd (y ∷ xs) x = ends_odd-last u ((y == u) && not odd) xs x
+
+-- the changes of a pair of two alike symbols u, by the tests whether a, b and c are u, and whether the runs around are odd
+bits : (A B C E G : Bool) (m z : ℕ) → (A && C) ≡ false → (B && C) ≡ false → (A && (B && E)) ≡ false →
+    (C && G) ≡ false →
+    m + cond (E && (A && not (B && not G))) 1 0 + (cond (A && (B && not G)) 1 0 + (cond (B && G) 1 0 + z))
+    + cond (C && E) 1 0
+    ≡ m + cond (E && (C && not G)) 1 0 + (cond (C && G) 1 0 + z)
+    + cond (A && (not B && E)) 1 0 + cond (A && B) 1 0 + cond (B && (not A && G)) 1 0
+bits true true true true true m z ac bc abe cg = absurd (cc)
+bits true true true true false m z ac bc abe cg = absurd (cc)
+bits true true true false true m z ac bc abe cg = absurd (cc)
+bits true true true false false m z ac bc abe cg = absurd (cc)
+bits true true false true true m z ac bc abe cg = absurd (cc)
+bits true true false true false m z ac bc abe cg = absurd (cc)
+bits true true false false true m z ac bc abe cg = omega arith
+bits true true false false false m z ac bc abe cg = omega arith
+bits true false true true true m z ac bc abe cg = absurd (cc)
+bits true false true true false m z ac bc abe cg = absurd (cc)
+bits true false true false true m z ac bc abe cg = absurd (cc)
+bits true false true false false m z ac bc abe cg = absurd (cc)
+bits true false false true true m z ac bc abe cg = omega arith
+bits true false false true false m z ac bc abe cg = omega arith
+bits true false false false true m z ac bc abe cg = omega arith
+bits true false false false false m z ac bc abe cg = omega arith
+bits false true true true true m z ac bc abe cg = absurd (cc)
+bits false true true true false m z ac bc abe cg = absurd (cc)
+bits false true true false true m z ac bc abe cg = absurd (cc)
+bits false true true false false m z ac bc abe cg = absurd (cc)
+bits false true false true true m z ac bc abe cg = omega arith
+bits false true false true false m z ac bc abe cg = omega arith
+bits false true false false true m z ac bc abe cg = omega arith
+bits false true false false false m z ac bc abe cg = omega arith
+bits false false true true true m z ac bc abe cg = absurd (cc)
+bits false false true true false m z ac bc abe cg = omega arith
+bits false false true false true m z ac bc abe cg = absurd (cc)
+bits false false true false false m z ac bc abe cg = omega arith
+bits false false false true true m z ac bc abe cg = omega arith
+bits false false false true false m z ac bc abe cg = omega arith
+bits false false false false true m z ac bc abe cg = omega arith
+bits false false false false false m z ac bc abe cg = omega arith
+
+-- p has the symbol a and its right neighbour b; l stands before them and r behind, and c takes their place
+module _ (front : List ℕ) (l a b c r : ℕ) (rest : List ℕ) (begins : (a == b) ≡ true → (l == a) ≡ false)
+    (new_a : (c == a) ≡ false) (new_b : (c == b) ≡ false) (new_r : (c == r) ≡ false) where
+  abbrev ends : ℕ → Bool
+  ends u = ends_odd u false (front ++ l ∷ [])
+
+  abbrev pub IsChanged : ℕ × ℕ → Type 0
+  IsChanged other =
+      met other (front ++ l ∷ a ∷ b ∷ r ∷ rest) + times_of (left_come front l c) other + times_of (Some (c, r)) other
+      ≡ met other (front ++ l ∷ c ∷ r ∷ rest) + times_of (left_gone front l a b) other + times_of (Some (a, b)) other
+      + times_of (right_gone a b r rest) other
+
+  -- two different symbols: each two neighbours count by themselves
+  module _ (other : ℕ × ℕ) (apart : (other.0 == other.1) ≡ false) where
+    free : (y : ℕ) → is_pair other y y ≡ false
+    free y = elim (cases_Bool (is_pair other y y)) [
+      | inl is ↦ absurd (eqb-false other.0 other.1 apart (sym (left_of_pair other y y is) ∙ right_of_pair other y y is))
+      | inr not ↦ not
+    ]
+
+    single : (x : ℕ) → times_of (Some (x, x)) other ≡ 0
+    unfolding times_of
+    single x = rw (free x) refl
+
+    nothing : times_of None other ≡ 0
+    unfolding times_of
+    nothing = refl
+
+    left_gone-is : times_of (left_gone front l a b) other ≡ cond (is_pair other l a) 1 0
+    unfolding left_gone times_of
+    left_gone-is = elim (cases_Bool (l == a)) [
+      | inl is ↦ let same : is_pair other l a ≡ false = rw (eqb-true l a is) (free a) in
+          rw (is, same) (elim (cases_Bool (not (a == b) && ends a)) [
+            | inl odd ↦ rw odd (single a)
+            | inr even ↦ rw even refl
+          ])
+      | inr differ ↦ rw differ refl
+    ]
+
+    right_gone-is : times_of (right_gone a b r rest) other ≡ cond (is_pair other b r) 1 0
+    unfolding right_gone times_of
+    right_gone-is = elim (cases_Bool (r == b)) [
+      | inl is ↦ let same : is_pair other b r ≡ false = rw (eqb-true r b is) (free b) in
+          rw (is, same) (elim (cases_Bool (not (a == b) && begins_odd b (r ∷ rest))) [
+            | inl odd ↦ rw odd (single b)
+            | inr even ↦ rw even refl
+          ])
+      | inr differ ↦ rw differ refl
+    ]
+
+    left_come-is : times_of (left_come front l c) other ≡ cond (is_pair other l c) 1 0
+    unfolding left_come times_of
+    left_come-is = elim (cases_Bool (l == c)) [
+      | inl is ↦ let same : is_pair other l c ≡ false = rw (eqb-true l c is) (free c) in
+          rw (is, same) (elim (cases_Bool (ends c)) [
+            | inl odd ↦ rw odd (single c)
+            | inr even ↦ rw even refl
+          ])
+      | inr differ ↦ rw differ refl
+    ]
+
+    some : (x y : ℕ) → times_of (Some (x, y)) other ≡ cond (is_pair other x y) 1 0
+    unfolding times_of
+    some x y = refl
+
+    changed-apart : IsChanged other
+    changed-apart = omega (
+      arith,
+      met-cut other front l (a ∷ b ∷ r ∷ rest) (free l),
+      met-cut other front l (c ∷ r ∷ rest) (free l),
+      met_two other l a (b ∷ r ∷ rest) (free a),
+      met_two other a b (r ∷ rest) (free b),
+      met_two other b r rest (free r),
+      met_two other l c (r ∷ rest) (free c),
+      met_two other c r rest (free r),
+      left_gone-is,
+      right_gone-is,
+      left_come-is,
+      some a b,
+      some c r,
+    )
+
+  -- two alike
+  module _ (u : ℕ) where
+    last_is : ends u ≡ ((l == u) && not (ends_odd u false front))
+    last_is = ends_odd-last u false front l
+
+    alike : (x y : ℕ) → times_of (Some (x, y)) (u, u) ≡ cond ((x == u) && (y == u)) 1 0
+    unfolding times_of
+    alike x y = refl
+
+    -- a pair of two alike, if a test holds
+    one_twin : (y : ℕ) (test : Bool) → times_of (if test then Some (y, y) else None) (u, u) ≡ cond ((y == u) && test) 1 0
+    one_twin y true = alike y y ∙ elim (cases_Bool (y == u)) [ inl is ↦ rw is refl | inr differ ↦ rw differ refl ]
+    one_twin y false = unfold times_of in rw (and_right (y == u) false refl) refl
+
+    -- where x is u, y is x if it is u
+    tests : (x y : ℕ) → (x == u) ≡ true → (x == y) ≡ (y == u)
+    tests x y is = elim (cases_Bool (y == u)) [
+      | inl same ↦ rw (same, eq-eqb x y (eqb-true x u is ∙ sym (eqb-true y u same))) refl
+      | inr differ ↦ rw (differ, ne_eqb x y (λ e. eqb-false y u differ (sym e ∙ eqb-true x u is))) refl
+    ]
+
+    -- two that differ are not both u
+    not_both : (x y : ℕ) → (x == y) ≡ false → ((x == u) && (y == u)) ≡ false
+    not_both x y differ = elim (cases_Bool (x == u)) [
+      | inl is ↦ rw (is, sym (tests x y is)) differ
+      | inr none ↦ rw none refl
+    ]
+
+    -- the symbol in front of a run is no part of it, and neither is the one behind it
+    other_than : (x y : ℕ) → (x == u) ≡ true → (y == x) ≡ false → (y == u) ≡ false
+    other_than x y is differ = ap (λ z. y == z) (sym (eqb-true x u is)) ∙ differ
+
+    even_end : (x : ℕ) → (x == u) ≡ true → (l == x) ≡ false → ends u ≡ false
+    even_end x is differ = last_is ∙ rw (other_than x l is differ) refl
+
+    even_begin : (x : ℕ) → (x == u) ≡ true → (r == x) ≡ false → begins_odd u (r ∷ rest) ≡ false
+    even_begin x is differ = begins_odd-other u r rest (other_than x r is differ)
+
+    left_gone-twin : times_of (left_gone front l a b) (u, u)
+        ≡ cond ((a == u) && (not (b == u) && ends u)) 1 0
+    unfolding left_gone
+    left_gone-twin = elim (cases_Bool (l == a)) [
+      | inl is ↦ rw is (one_twin a (not (a == b) && ends a) ∙ elim (cases_Bool (a == u)) [
+        | inl own ↦ rw (own, tests a b own, ap ends (eqb-true a u own)) refl
+        | inr none ↦ rw none refl
+      ])
+      | inr differ ↦ rw differ (alike l a ∙ elim (cases_Bool (a == u)) [
+        | inl own ↦ rw (own, even_end a own differ, and_right (not (b == u)) false refl, other_than a l own differ) refl
+        | inr none ↦ rw (none, and_right (l == u) false refl) refl
+      ])
+    ]
+
+    right_gone-twin : times_of (right_gone a b r rest) (u, u)
+        ≡ cond ((b == u) && (not (a == u) && begins_odd u (r ∷ rest))) 1 0
+    unfolding right_gone
+    right_gone-twin = elim (cases_Bool (r == b)) [
+      | inl is ↦ rw is (one_twin b (not (a == b) && begins_odd b (r ∷ rest)) ∙ elim (cases_Bool (b == u)) [
+        | inl own ↦ let test : (a == b) ≡ (a == u) = ap (λ x. a == x) (eqb-true b u own) in
+            rw (own, test, ap (λ x. begins_odd x (r ∷ rest)) (eqb-true b u own)) refl
+        | inr none ↦ rw none refl
+      ])
+      | inr differ ↦ rw differ (alike b r ∙ elim (cases_Bool (b == u)) [
+        | inl own ↦ rw (own, other_than b r own differ, even_begin b own differ, and_right (not (a == u)) false refl) refl
+        | inr none ↦ rw none refl
+      ])
+    ]
+
+    left_come-twin : times_of (left_come front l c) (u, u) ≡ cond ((c == u) && ends u) 1 0
+    unfolding left_come
+    left_come-twin = elim (cases_Bool (l == c)) [
+      | inl is ↦ rw is (one_twin c (ends c) ∙ elim (cases_Bool (c == u)) [
+        | inl own ↦ rw (own, ap ends (eqb-true c u own)) refl
+        | inr none ↦ rw none refl
+      ])
+      | inr differ ↦ rw differ (alike l c ∙ elim (cases_Bool (c == u)) [
+        | inl own ↦ rw (own, even_end c own differ, other_than c l own differ) refl
+        | inr none ↦ rw (none, and_right (l == u) false refl) refl
+      ])
+    ]
+
+    -- by tests alone
+    both_odd : ((a == u) && ((b == u) && ends u)) ≡ false
+    both_odd = elim (cases_Bool (a == u)) [
+      | inl own ↦ elim (cases_Bool (b == u)) [
+        | inl other ↦ rw (own, other) (even_end a own (begins (tests a b own ∙ other)))
+        | inr none ↦ rw (own, none) refl
+      ]
+      | inr none ↦ rw none refl
+    ]
+
+    new_even : ((c == u) && begins_odd u (r ∷ rest)) ≡ false
+    new_even = elim (cases_Bool (c == u)) [
+      | inl own ↦ rw own (even_begin c own (ne_eqb r c (λ same. eqb-false c r new_r (sym same))))
+      | inr none ↦ rw none refl
+    ]
+
+    turned : (x y : ℕ) → (x == y) ≡ false → (y == x) ≡ false
+    turned x y differ = ne_eqb y x (λ same. eqb-false x y differ (sym same))
+
+    whole : (zs : List ℕ) → met (u, u) (front ++ l ∷ zs) ≡ met (u, u) ((front ++ l ∷ []) ++ zs)
+    whole zs = ap (met (u, u)) (rw append_assoc refl)
+
+    abbrev one : Bool → ℕ
+    one test = cond test 1 0
+
+    changed-twin : IsChanged (u, u)
+    changed-twin = let odd : Bool = begins_odd u (r ∷ rest) in omega (
+      arith,
+      whole (a ∷ b ∷ r ∷ rest),
+      whole (c ∷ r ∷ rest),
+      met-run_append u (front ++ l ∷ []) (a ∷ b ∷ r ∷ rest),
+      met-run_append u (front ++ l ∷ []) (c ∷ r ∷ rest),
+      met-run_front u a (b ∷ r ∷ rest),
+      met-run_front u b (r ∷ rest),
+      met-run_front u c (r ∷ rest),
+      ap (λ (t : Bool). one (ends u && t)) (begins_odd-front u a (b ∷ r ∷ rest)
+          ∙ ap (λ t. (a == u) && not t) (begins_odd-front u b (r ∷ rest))),
+      ap (λ (t : Bool). one (ends u && t)) (begins_odd-front u c (r ∷ rest)),
+      ap (λ (t : Bool). one ((a == u) && t)) (begins_odd-front u b (r ∷ rest)),
+      bits (a == u) (b == u) (c == u) (ends u) odd (met (u, u) (front ++ l ∷ [])) (met (u, u) (r ∷ rest))
+          (not_both a c (turned c a new_a)) (not_both b c (turned c b new_b)) both_odd new_even,
+      left_gone-twin,
+      right_gone-twin,
+      left_come-twin,
+      alike a b,
+      alike c r,
+      ap one (not_both c r new_r),
+    )
+
+  -- the run rule: what a replacement at one place changes, for every pair
+  pub changed : (other : ℕ × ℕ) → IsChanged other
+  changed other = elim (cases_Bool (other.0 == other.1)) [
+    | inl is ↦ let same : (other.0, other.0) ≡ other = λ i. (other.0, eqb-true other.0 other.1 is i) in
+        subst IsChanged same (changed-twin other.0)
+    | inr apart ↦ changed-apart other apart
+  ]

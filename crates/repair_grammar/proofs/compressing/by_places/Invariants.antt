@@ -1,0 +1,25 @@
+use Rattle.std.proofs.Common.{◌≡◌, ℕ, ◌+◌, ◌*◌, ◌≤◌, List, length}
+use Rattle.std.specs.List.{sum_by}
+use Rattle.repair_grammar.specs.RePair.{AreBelow, rounds, re_pair}
+use Rattle.repair_grammar.specs.Kept.{Covers, items_of}
+use Rattle.repair_grammar.specs.Pairs.{count_of, places_of}
+use Rattle.repair_grammar.specs.Threads.{live, row_of, IsCounted}
+use Rattle.repair_grammar.specs.Joins.{IsText}
+use Rattle.repair_grammar.proofs.compressing.by_places.Given as goal
+
+-- the row is that of some blocks, and the rounds that are left of them lead to the end
+abbrev pub invariant-rounds : goal.invariant-rounds
+invariant-rounds l = record {
+  now : List (List ℕ);
+  row : live l.text.symbols.items ≡ row_of now;
+  text : IsText l.text;
+  counted : IsCounted l.text.symbols.items (count_of l.pairs) (places_of l.pairs);
+  keys : Covers (count_of l.pairs) (items_of l.keys);
+  below : AreBelow (l.alphabet + length l.rules.items) now;
+  few : 2 * length l.rules.items + sum_by length now ≤ sum_by length l.blocks;
+  left : rounds (sum_by length now) l.alphabet (record { rules = l.rules.items; blocks = now })
+      ≡ re_pair l.alphabet l.blocks;
+}
+
+abbrev pub decreases-rounds : goal.decreases-rounds
+decreases-rounds l = length (live l.text.symbols.items)

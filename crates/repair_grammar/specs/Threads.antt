@@ -1,0 +1,90 @@
+-- Symbols of all blocks in one row, where a place that is taken out stays as a gap, and neighbours know each other.
+use Rattle.repair_grammar.specs.RePair.{met, replaced}
+use Rattle.std.specs.List.{Contains}
+use Rattle.repair_grammar.specs.Counts.{stands_first}
+use Rattle.repair_grammar.specs.Runs.{ends_odd}
+use Rattle.std.specs.Prelude.{◌≡◌, ℕ, ◌+◌, ◌<◌, ◌≤◌, Bool, true, false, ◌==◌, ◌&&◌, not, List, [], ◌∷◌, ◌++◌, length, filter, take, drop, slice_index_or, if◌then◌else◌}
+
+-- what stands at a place from which the symbol was taken
+abbrev pub gap : ℕ
+gap = 4294967295
+
+-- the symbol at a place
+abbrev pub at : List ℕ → ℕ → ℕ
+at symbols place = slice_index_or symbols place 4294967295
+
+-- the symbols that are left, in order
+unfoldable pub live : List ℕ → List ℕ
+live symbols = filter (λ symbol. not (symbol == 4294967295)) symbols
+
+-- two places at which symbols stand, with gaps alone between them
+pub record AreNeighbours (symbols : List ℕ) (left right : ℕ) : Type 0 where
+  pub before : left < right
+  pub within : right < length symbols
+  pub left_stands : at symbols left < 4294967295
+  pub right_stands : at symbols right < 4294967295
+  pub gaps : (k : ℕ) → left < k → k < right → at symbols k ≡ 4294967295
+
+-- from each place at which a symbol stands, but for the last and the first, next and previous lead to its neighbours
+pub record AreThreads (symbols next previous : List ℕ) : Type 0 where
+  pub few : length symbols < 4294967296
+  pub words : (place : ℕ) → at symbols place < 4294967296
+  pub nexts : length next ≡ length symbols
+  pub previouses : length previous ≡ length symbols
+  pub on : (place : ℕ) → place + 1 < length symbols → at symbols place < 4294967295 →
+      AreNeighbours symbols place (slice_index_or next place 0)
+  pub back : (place : ℕ) → 0 < place → place < length symbols → at symbols place < 4294967295 →
+      AreNeighbours symbols (slice_index_or previous place 0) place
+
+-- a mark that is no symbol stands at both ends
+pub record HasEnds (symbols : List ℕ) : Type 0 where
+  pub some : 0 < length symbols
+  pub first : at symbols 0 ≡ 4294967294
+  pub last : (place : ℕ) → place + 1 ≡ length symbols → at symbols place ≡ 4294967294
+
+-- whether a test is turned
+abbrev pub turned_by : Bool → Bool → Bool
+turned_by odd test = if odd then not test else test
+
+-- whether the pair stands at a place
+unfoldable pub stands_at : List ℕ → ℕ × ℕ → ℕ → Bool
+stands_at symbols pair place = not (at symbols place == 4294967295) && stands_first pair (live (drop place symbols))
+
+-- what a pass from a place on leaves of the whole, where all before the place is done
+abbrev pub passed_from : List ℕ → ℕ × ℕ → ℕ → ℕ → List ℕ
+passed_from symbols pair symbol place = live (take place symbols) ++ replaced pair symbol (live (drop place symbols))
+
+-- the blocks in one row, with a mark before each and behind the last
+unfoldable pub row_of : List (List ℕ) → List ℕ
+row_of [] = 4294967294 ∷ []
+row_of (block ∷ blocks) = 4294967294 ∷ block ++ row_of blocks
+
+-- a pair of symbols, without a mark
+abbrev pub IsPlain : ℕ × ℕ → Type 0
+IsPlain pair = (pair.0 < 4294967294) × (pair.1 < 4294967294)
+
+-- the counts of all pairs of symbols, and for each the places at which it stands; the list may have others too
+pub record IsCounted (symbols : List ℕ) (count : ℕ × ℕ → ℕ) (places : ℕ × ℕ → List ℕ) : Type 0 where
+  pub counts : (pair : ℕ × ℕ) → IsPlain pair → count pair ≡ met pair (live symbols)
+  pub noted : (pair : ℕ × ℕ) (k : ℕ) → IsPlain pair → stands_at symbols pair k ≡ true → Contains (places pair) k
+  pub plain : (pair : ℕ × ℕ) → 0 < count pair → IsPlain pair
+
+-- in the midst of a pass: what is before q is done, and the pair stands behind at places of the list alone
+pub record IsPassing (first symbols : List ℕ) (pair : ℕ × ℕ) (c : ℕ) (places : List ℕ) (q : ℕ) : Type 0 where
+  pub inside : q ≤ length symbols
+  pub done : passed_from symbols pair c q ≡ replaced pair c (live first)
+  pub ahead : (k : ℕ) → stands_at symbols pair k ≡ true → (q ≤ k) × Contains places k
+  pub new : (k : ℕ) → q ≤ k → (c == at symbols k) ≡ false
+
+-- the neighbours of a place and of the one behind it, and the symbols on both sides
+pub record IsAround (symbols : List ℕ) (place left gone right before behind : ℕ) : Type 0 where
+  pub left_near : AreNeighbours symbols left place
+  pub near : AreNeighbours symbols place gone
+  pub next_near : AreNeighbours symbols gone right
+  pub before_is : at symbols left ≡ before
+  pub behind_is : at symbols right ≡ behind
+
+-- the run of a symbol that ends before a place, where the place before stands for it: whether it is odd
+pub record IsRun (symbols : List ℕ) (symbol done : ℕ) (odd : Bool) : Type 0 where
+  pub last : (k : ℕ) → k + 1 ≡ done → at symbols k ≡ symbol
+  pub parity : (k : ℕ) → k + 1 ≡ done → odd ≡ ends_odd symbol false (live (take done symbols))

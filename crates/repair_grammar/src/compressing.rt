@@ -1,0 +1,51 @@
+ghost use Rattle.std.specs.Prelude.{◌≡◌, ◌^◌, ◌≤◌, length, IfOk};
+ghost use Rattle.std.specs.List.{sum_by};
+ghost use Rattle.repair_grammar.specs.RePair.{AreBelow, re_pair};
+
+use crate::choosing::{first_pair, settle};
+use crate::grammar::Grammar;
+use crate::keys::Keys;
+use crate::passing::replace_all;
+use crate::rows::{blocks_from, row};
+use crate::tallying::count_row;
+use crate::text::Text;
+use std::alloc::Global;
+use track_types::{Lists32, Memory, PairList};
+
+/// The rules and blocks of Re-Pair, by changing in each round only what its pair's places change.
+pub fn by_places(alloc: Global, alphabet: u32, blocks: &Lists32) -> Result<Grammar, Memory>
+    requires below { AreBelow alphabet blocks.now }
+    requires few { sum_by length blocks.now ≤ 2 ^ 25 }
+    requires small { alphabet ≤ 2 ^ 25 }
+    ensures ok { IfOk result (λ grammar. grammar ≡ re_pair alphabet blocks.now) }
+{
+    let row = row(alloc, blocks)?;
+    // Places take 32 bits.
+    if row.len() >= u32::MAX as usize {
+        return Err(Memory);
+    }
+    let mut pairs = count_row(alloc, row.as_slice())?;
+    let mut text = Text::new(alloc, row)?;
+    let mut keys = Keys::new(alloc);
+    settle(&mut pairs, &mut keys)?;
+    let mut rules = Vec::new(alloc);
+    let mut places = Vec::new(alloc);
+    'rounds: while let Some(pair) = first_pair(&pairs, &mut keys)? {
+        let symbol = alphabet + rules.len() as u32;
+        rules.push(pair)?;
+        pairs.copy_places(pair, &mut places)?;
+        replace_all(
+            alloc,
+            &mut text,
+            &mut pairs,
+            places.as_slice(),
+            pair,
+            symbol,
+        )?;
+        settle(&mut pairs, &mut keys)?;
+    }
+    Ok(Grammar {
+        rules: PairList::new(rules),
+        blocks: blocks_from(alloc, text.symbols.as_slice())?,
+    })
+}

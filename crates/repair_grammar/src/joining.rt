@@ -1,0 +1,170 @@
+ghost use Rattle.std.specs.Prelude.{◌≡◌, ℕ, ◌+◌, ◌^◌, ◌<◌, ◌≤◌, ◌==◌, true, false, List, ◌∷◌};
+ghost use Rattle.std.specs.Prelude.{length, take, drop, slice_index_or, IfOk, OnOk, IfSome};
+ghost use Rattle.std.specs.List.{Contains};
+ghost use Rattle.repair_grammar.specs.Kept.{times_of};
+ghost use Rattle.repair_grammar.specs.Pairs.{count_of, places_of, HasCome};
+ghost use Rattle.repair_grammar.specs.Runs.{begins_odd, ends_odd};
+ghost use Rattle.repair_grammar.specs.Threads.{at, live, IsCounted, IsPassing, IsPlain};
+ghost use Rattle.repair_grammar.specs.Joins.{IsText, plain_of, gone_left, gone_right, only_if};
+ghost use Rattle.repair_grammar.specs.Joins.{counts_left};
+
+use crate::pairs::Pairs;
+use crate::text::{END, Text};
+use std::alloc::Global;
+use track_types::Memory;
+
+/// The pair of two symbols, if neither is a mark.
+#[tactic(auto, unfolding(crate::specs::Joins::plain_of))]
+pub fn plain_pair(left: u32, right: u32) -> Option<(u32, u32)>
+    ensures { result ≡ plain_of left right }
+{
+    if left < END && right < END {
+        Some((left, right))
+    } else {
+        None
+    }
+}
+
+// The pair on the left that counts once less where the pair at a place goes.
+#[tactic(auto, unfolding(crate::specs::Joins::gone_left))]
+fn left_gone(text: &Text, place: usize, left: u32, pair: (u32, u32)) -> Option<(u32, u32)>
+    requires text { IsText text.now }
+    requires stands { at text.now.symbols.items place ≡ pair.0 }
+    requires inside { place < length text.now.symbols.items }
+    requires plain { pair.0 < 4294967294 }
+    ensures { result ≡ gone_left (ends_odd pair.0 false (live (take place text.now.symbols.items)))
+        left pair.0 pair.1 }
+{
+    if left != pair.0 {
+        return plain_pair(left, pair.0);
+    }
+    if pair.0 != pair.1 && text.is_odd_before(place, pair.0) {
+        Some((pair.0, pair.0))
+    } else {
+        None
+    }
+}
+
+// The pair on the right, before a place.
+#[tactic(auto, unfolding(crate::specs::Joins::gone_right))]
+fn right_gone(text: &Text, place: usize, right: u32, pair: (u32, u32)) -> Option<(u32, u32)>
+    requires text { IsText text.now }
+    requires stands { at text.now.symbols.items place < 4294967295 }
+    requires inside { place < length text.now.symbols.items }
+    requires plain { pair.1 < 4294967294 }
+    ensures { result ≡ gone_right (begins_odd pair.1 (live (drop place text.now.symbols.items)))
+        pair.0 pair.1 right }
+{
+    if right != pair.1 {
+        return plain_pair(pair.1, right);
+    }
+    if pair.0 != pair.1 && text.is_odd_from(place, pair.1) {
+        Some((pair.1, pair.1))
+    } else {
+        None
+    }
+}
+
+/// Notes a place of a pair, if there is one, and counts the pair once more if this place counts.
+pub fn note_some(
+    alloc: Global,
+    pairs: &mut Pairs,
+    pair: Option<(u32, u32)>,
+    place: u32,
+    counts: bool,
+) -> Result<(), Memory>
+    requires room { IfSome pair (λ own. count_of pairs.old own + 1 < 2 ^ 32) }
+    ensures counts { OnOk result ((other : ℕ × ℕ) → count_of pairs.new other
+        ≡ count_of pairs.old other + times_of (only_if counts pair) other) }
+    ensures kept { OnOk result ((other : ℕ × ℕ) (k : ℕ) →
+        Contains (places_of pairs.old other) k → Contains (places_of pairs.new other) k) }
+    ensures noted { OnOk result (IfSome pair (λ own. Contains (places_of pairs.new own) place)) }
+    ensures come { OnOk result (HasCome pairs.old pairs.new) }
+{
+    if let Some(pair) = pair {
+        pairs.note(alloc, pair, place, counts)?;
+    }
+    Ok(())
+}
+
+// Counts a pair once less, if there is one.
+fn lower_some(pairs: &mut Pairs, pair: Option<(u32, u32)>)
+    requires some { IfSome pair (λ own. 0 < count_of pairs.old own) }
+    ensures counts { (other : ℕ × ℕ) → count_of pairs.new other + times_of pair other
+        ≡ count_of pairs.old other }
+    ensures places { (other : ℕ × ℕ) → 0 < count_of pairs.new other →
+        places_of pairs.new other ≡ places_of pairs.old other }
+    ensures fresh { pairs.new.fresh ≡ pairs.old.fresh }
+{
+    if let Some(pair) = pair {
+        pairs.lower(pair);
+    }
+}
+
+// Whether the pair of the symbol before a place and the new one counts, by whether the new symbol's
+// run there is odd: in a run every second pair overlaps the one before it.
+fn counts_next(before: u32, symbol: u32, odd: bool) -> bool
+    ensures { result ≡ counts_left odd before symbol }
+{
+    if before == symbol { odd } else { true }
+}
+
+/// Puts the symbol in place of the pair at a place, and counts what that changes. Where the symbol
+/// stands before the place, it has to be known whether its run there is odd. It gives whether the run
+/// that ends at the place now is.
+pub fn join_at(
+    alloc: Global,
+    text: &mut Text,
+    pairs: &mut Pairs,
+    place: usize,
+    pair: (u32, u32),
+    symbol: u32,
+    odd: bool,
+) -> Result<bool, Memory>
+    requires text { IsText text.old }
+    requires counted { IsCounted text.old.symbols.items (count_of pairs.old) (places_of pairs.old) }
+    requires inside { place < length text.old.symbols.items }
+    requires left { at text.old.symbols.items place ≡ pair.0 }
+    requires right { at text.old.symbols.items (slice_index_or text.old.next.items place 0) ≡ pair.1 }
+    requires plain { IsPlain pair }
+    requires fits { symbol < 4294967294 }
+    requires begins { (pair.0 == pair.1) ≡ true →
+        (at text.old.symbols.items (slice_index_or text.old.previous.items place 0) == pair.0) ≡ false }
+    requires new { (k : ℕ) → place ≤ k → (symbol == at text.old.symbols.items k) ≡ false }
+    requires other { (symbol == pair.1) ≡ false }
+    requires run { (at text.old.symbols.items (slice_index_or text.old.previous.items place 0) == symbol) ≡ true →
+        odd ≡ ends_odd symbol false (live (take place text.old.symbols.items)) }
+    ensures text { OnOk result (IsText text.new) }
+    ensures counted { OnOk result
+        (IsCounted text.new.symbols.items (count_of pairs.new) (places_of pairs.new)) }
+    ensures come { OnOk result (HasCome pairs.old pairs.new) }
+    ensures place { OnOk result (at text.new.symbols.items place ≡ symbol) }
+    ensures run { IfOk result (λ odd.
+        odd ≡ ends_odd symbol false (live (take (place + 1) text.new.symbols.items))) }
+    ensures passing { OnOk result ((first places : List ℕ) (q : ℕ) →
+        IsPassing first text.old.symbols.items pair symbol (place ∷ places) q →
+        ((k : ℕ) → Contains places k → place ≤ k) →
+        IsPassing first text.new.symbols.items pair symbol places (place + 1)) }
+{
+    let around = text.around(place);
+    let counts = counts_next(around.before, symbol, odd);
+    note_some(
+        alloc,
+        pairs,
+        plain_pair(around.before, symbol),
+        around.left as u32,
+        counts,
+    )?;
+    note_some(
+        alloc,
+        pairs,
+        plain_pair(symbol, around.behind),
+        place as u32,
+        true,
+    )?;
+    pairs.lower(pair);
+    lower_some(pairs, left_gone(text, place, around.before, pair));
+    lower_some(pairs, right_gone(text, around.right, around.behind, pair));
+    text.join_around(place, around, symbol);
+    Ok(counts_next(around.before, symbol, !odd))
+}

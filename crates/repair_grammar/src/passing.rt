@@ -1,0 +1,65 @@
+ghost use Rattle.std.specs.Prelude.{◌≡◌, ℕ, ◌<◌, ◌==◌, true, false, length, slice_index_or, OnOk};
+ghost use Rattle.std.specs.List.{Contains};
+ghost use Rattle.std.specs.List.Sorted.{IsNonDecreasing};
+ghost use Rattle.repair_grammar.specs.RePair.{replaced};
+ghost use Rattle.repair_grammar.specs.Pairs.{count_of, places_of, HasCome};
+ghost use Rattle.repair_grammar.specs.Threads.{at, live, stands_at, IsCounted, IsPlain};
+ghost use Rattle.repair_grammar.specs.Joins.{IsText};
+
+use crate::joining::join_at;
+use crate::pairs::Pairs;
+use crate::text::Text;
+use std::alloc::Global;
+use track_types::Memory;
+
+/// Puts the symbol in place of the pair wherever it stands. The places are in order.
+pub fn replace_all(
+    alloc: Global,
+    text: &mut Text,
+    pairs: &mut Pairs,
+    places: &[u32],
+    pair: (u32, u32),
+    symbol: u32,
+) -> Result<(), Memory>
+    requires text { IsText text.old }
+    requires counted { IsCounted text.old.symbols.items (count_of pairs.old) (places_of pairs.old) }
+    requires plain { IsPlain pair }
+    requires fits { symbol < 4294967294 }
+    requires new { (k : ℕ) → (symbol == at text.old.symbols.items k) ≡ false }
+    requires other { (symbol == pair.1) ≡ false }
+    requires order { IsNonDecreasing places.now }
+    requires noted { (k : ℕ) → stands_at text.old.symbols.items pair k ≡ true → Contains places.now k }
+    ensures text { OnOk result (IsText text.new) }
+    ensures counted { OnOk result
+        (IsCounted text.new.symbols.items (count_of pairs.new) (places_of pairs.new)) }
+    ensures come { OnOk result (HasCome pairs.old pairs.new) }
+    ensures all { OnOk result
+        (live text.new.symbols.items ≡ replaced pair symbol (live text.old.symbols.items)) }
+{
+    let mut odd = false;
+    'places: for place in places {
+        if !stands(text, *place as usize, pair) {
+            continue;
+        }
+        odd = join_at(alloc, text, pairs, *place as usize, pair, symbol, odd)?;
+    }
+    Ok(())
+}
+
+// Whether the pair stands at a place.
+fn stands(text: &Text, place: usize, pair: (u32, u32)) -> bool
+    requires text { IsText text.now }
+    requires plain { IsPlain pair }
+    ensures yes { result ≡ true → (place < length text.now.symbols.items)
+        × (at text.now.symbols.items place ≡ pair.0)
+        × (at text.now.symbols.items (slice_index_or text.now.next.items place 0) ≡ pair.1) }
+    ensures no { result ≡ false → stands_at text.now.symbols.items pair place ≡ false }
+{
+    if place >= text.symbols.len() {
+        return false;
+    }
+    if text.symbols[place] != pair.0 {
+        return false;
+    }
+    text.symbols[text.next[place] as usize] == pair.1
+}
