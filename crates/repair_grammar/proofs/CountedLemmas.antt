@@ -103,7 +103,8 @@ module _ (symbols : List ℕ) (p m r c l : ℕ) (near : AreNeighbours symbols p 
         ≡ count other + times_of (left_come (live (take l symbols)) (at symbols l) c) other
         + times_of (Some (c, at symbols r)) other) →
         ((other : ℕ × ℕ) → 0 < count_after other → IsPlain other) →
-        ((other : ℕ × ℕ) (k : ℕ) → 0 < count_after other → Contains (places other) k → Contains (places_after other) k) →
+        ((other : ℕ × ℕ) (k : ℕ) → 0 < count_after other → Contains (places other) k → Contains
+        (places_after other) k) →
         (at symbols r < 4294967294 → 0 < count_after (c, at symbols r) → Contains (places_after (c, at symbols r)) p) →
         (at symbols l < 4294967294 → 0 < count_after (at symbols l, c) → Contains (places_after (at symbols l, c)) l) →
         IsCounted then count_after places_after
@@ -299,7 +300,8 @@ pub run-before : (first symbols : List ℕ) (pair : ℕ × ℕ) (c p l : ℕ) (p
     IsPassing first symbols pair c (p ∷ places) q → stands_at symbols pair p ≡ true → AreNeighbours symbols l p →
     c < 4294967295 → IsRun symbols c q odd → (at symbols l == c) ≡ true → odd ≡ ends_odd c false (live (take p symbols))
 run-before first symbols pair c p l places q odd passing stands near fits run is = elim (cases_lt l q) [
-  | inr past ↦ absurd (eqb-false c (at symbols l) (passing.new l (omega (arith, past))) (sym (eqb-true (at symbols l) c is)))
+  | inr past ↦ absurd (eqb-false c (at symbols l) (passing.new l (omega (arith, past)))
+      (sym (eqb-true (at symbols l) c is)))
   | inl before ↦
       let last : (q - 1) + 1 ≡ q = omega (arith, before) in
       let here : at symbols (q - 1) ≡ c = run.last (q - 1) last in

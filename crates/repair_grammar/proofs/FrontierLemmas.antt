@@ -7,7 +7,7 @@ use Rattle.repair_grammar.specs.Kept.{times_of}
 use Rattle.repair_grammar.specs.Runs.{left_gone, right_gone, left_come}
 use Rattle.repair_grammar.specs.Threads.{at, live, stands_at, passed_from, AreNeighbours, AreThreads}
 use Rattle.repair_grammar.proofs.PassLemmas.{replaced-passed}
-use Rattle.repair_grammar.proofs.ThreadLemmas.{same_or, same_left, live-here, live-last_here, live-stands, live-gap, live-last_gap, live-neighbours, live-before, after, after-place, after-gone, after-other, kept, joined, behind-live, upto-live, was-live, is-live}
+use Rattle.repair_grammar.proofs.ThreadLemmas.{same_or, same_left, live-here, live-last_here, live-stands, live-gap, live-last_gap, live-neighbours, live-before, after, after-place, after-gone, after-other, kept, joined, rest-live, upto-live, was-live, is-live}
 use Rattle.repair_grammar.proofs.RunLemmas.{changed}
 
 pub stands_first-two : (pair : ℕ × ℕ) (x y : ℕ) (rest : List ℕ) → stands_first pair (x ∷ y ∷ rest) ≡ is_pair pair x y
@@ -66,7 +66,7 @@ module _ (symbols : List ℕ) (p m r c : ℕ) (near : AreNeighbours symbols p m)
   frontier-join pair is =
       ap (λ front. front ++ replaced pair c (live (drop (p + 1) then))) (upto-live symbols p m r c near next_near fits)
       ∙ append_assoc (live (take p symbols)) (c ∷ []) (replaced pair c (live (drop (p + 1) then)))
-      ∙ ap (λ rest. live (take p symbols) ++ c ∷ replaced pair c rest) (behind-live symbols p m r c near next_near fits)
+      ∙ ap (λ rest. live (take p symbols) ++ c ∷ replaced pair c rest) (rest-live symbols p m r c near next_near fits)
       ∙ ap (λ rest. live (take p symbols) ++ rest)
       (sym (ap (replaced pair c) (live-neighbours symbols p m near
       ∙ ap (λ rest. at symbols p ∷ rest) (live-stands symbols m near.within near.right_stands))
@@ -79,7 +79,7 @@ module _ (symbols : List ℕ) (p m r c : ℕ) (near : AreNeighbours symbols p m)
       ⊎ (((k ≡ p) × (is_pair other c (at symbols r) ≡ true)) ⊎ ((k ≡ l) × (is_pair other (at symbols l) c ≡ true)))
   unfolding stands_at
   stands-joined next previous other k l threads left_near inside stands = elim (same_or k p) [
-    | inl same ↦ inr (inl (same, behind_new (rw same at stands)))
+    | inl same ↦ inr (inl (same, at_new (rw same at stands)))
     | inr not_p ↦
         let not_m : k ≢ m = λ same. gone_not (rw same at stands) in
         let here : at then k ≡ at symbols k = after-other symbols p m r c near next_near fits k not_p not_m in
@@ -101,11 +101,12 @@ module _ (symbols : List ℕ) (p m r c : ℕ) (near : AreNeighbours symbols p m)
       gone_not stands_m = eqb-false (at then m) 4294967295 (not-true _ (and_parts _ _ stands_m).0)
           (after-gone symbols p m r c near next_near fits)
 
-      behind_new : stands_at then other p ≡ true → is_pair other c (at symbols r) ≡ true
-      behind_new stands_p =
+      at_new : stands_at then other p ≡ true → is_pair other c (at symbols r) ≡ true
+      at_new stands_p =
           let place : at then p ≡ c = after-place symbols p m r c near next_near fits in
           let right : at then r ≡ at symbols r = after-other symbols p m r c near next_near fits r
-          (λ same. omega (arith, near.before, next_near.before, same)) (λ same. omega (arith, next_near.before, same)) in
+          (λ same. omega (arith, near.before, next_near.before, same))
+          (λ same. omega (arith, next_near.before, same)) in
           ap (λ x. is_pair other c x) (sym right) ∙ ap (λ x. is_pair other x (at then r)) (sym place)
           ∙ sym (stands-neighbours then other p r (joined symbols p m r c near next_near fits)) ∙ stands_p
 
@@ -147,7 +148,8 @@ module _ (symbols : List ℕ) (p m r c : ℕ) (near : AreNeighbours symbols p m)
     whole-was = was-live symbols p m r c near next_near fits
         ∙ ap (λ front. front ++ at symbols p ∷ at symbols m ∷ live (drop (m + 1) symbols))
         (live-before symbols l p left_near)
-        ∙ append_assoc (live (take l symbols)) (at symbols l ∷ []) (at symbols p ∷ at symbols m ∷ live (drop (m + 1) symbols))
+        ∙ append_assoc (live (take l symbols)) (at symbols l ∷ [])
+        (at symbols p ∷ at symbols m ∷ live (drop (m + 1) symbols))
         ∙ ap (λ tail. live (take l symbols) ++ at symbols l ∷ at symbols p ∷ at symbols m ∷ tail) right_rest
 
     whole-is : live then ≡ live (take l symbols) ++ at symbols l ∷ c ∷ at symbols r ∷ rest
@@ -156,7 +158,8 @@ module _ (symbols : List ℕ) (p m r c : ℕ) (near : AreNeighbours symbols p m)
         ∙ append_assoc (live (take l symbols)) (at symbols l ∷ []) (c ∷ live (drop (m + 1) symbols))
         ∙ ap (λ tail. live (take l symbols) ++ at symbols l ∷ c ∷ tail) right_rest
 
-    pub counts-joined : (other : ℕ × ℕ) → ((at symbols p == at symbols m) ≡ true → (at symbols l == at symbols p) ≡ false) →
+    pub counts-joined : (other : ℕ × ℕ) → ((at symbols p == at symbols m) ≡ true → (at symbols l == at symbols p)
+        ≡ false) →
         (c == at symbols p) ≡ false → (c == at symbols m) ≡ false → (c == at symbols r) ≡ false →
         met other (live symbols) + times_of (left_come (live (take l symbols)) (at symbols l) c) other
         + times_of (Some (c, at symbols r)) other

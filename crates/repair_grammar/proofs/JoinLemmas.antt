@@ -30,7 +30,8 @@ module _ (other : ℕ × ℕ) (plain : IsPlain other) where
     ]
   ]
 
-  pub gone_left-times : (front : List ℕ) (x a b : ℕ) → times_of (gone_left (ends_odd a false (front ++ x ∷ [])) x a b) other
+  pub gone_left-times : (front : List ℕ) (x a b : ℕ) → times_of
+      (gone_left (ends_odd a false (front ++ x ∷ [])) x a b) other
       ≡ times_of (left_gone front x a b) other
   unfolding gone_left left_gone
   gone_left-times front x a b = elim (cases_Bool (x == a)) [
@@ -170,13 +171,15 @@ unfolding plain_of
 some_of x y x_plain y_plain = rw (lt-ltb x 4294967294 x_plain, lt-ltb y 4294967294 y_plain) refl
 
 -- all that a join changes, at a place p whose neighbours are known
-module _ (symbols : List ℕ) (p l m r before behind c : ℕ) (around : IsAround symbols p l m r before behind)
+module _ (symbols : List ℕ) (p l m r before beyond c : ℕ) (around : IsAround symbols p l m r before beyond)
     (fits : c < 4294967295) (a b : ℕ) (is_a : at symbols p ≡ a) (is_b : at symbols m ≡ b) where
-  -- the run that ends before p, and the one that begins behind the pair
-  pub ends_are : (u : ℕ) → ends_odd u false (live (take l symbols) ++ at symbols l ∷ []) ≡ ends_odd u false (live (take p symbols))
+  -- the run that ends before p, and the one that begins beyond the pair
+  pub ends_are : (u : ℕ) → ends_odd u false (live (take l symbols) ++ at symbols l ∷ []) ≡ ends_odd u false
+      (live (take p symbols))
   ends_are u = ap (ends_odd u false) (sym (live-before symbols l p around.left_near))
 
-  pub begins_are : (u : ℕ) → begins_odd u (at symbols r ∷ live (drop (r + 1) symbols)) ≡ begins_odd u (live (drop r symbols))
+  pub begins_are : (u : ℕ) → begins_odd u (at symbols r ∷ live (drop (r + 1) symbols)) ≡ begins_odd u
+      (live (drop r symbols))
   begins_are u = ap (begins_odd u) (sym (live-stands symbols r around.next_near.within around.next_near.right_stands))
 
   -- the run of the new symbol that ends at p
@@ -198,17 +201,18 @@ module _ (symbols : List ℕ) (p l m r before behind c : ℕ) (around : IsAround
       ]
 
   abbrev pub came : ℕ × ℕ → ℕ
-  came other = times_of (only_if (counts_left (ends_odd c false (live (take p symbols))) before c) (plain_of before c)) other
-      + times_of (plain_of c behind) other
+  came other = times_of (only_if (counts_left (ends_odd c false (live (take p symbols))) before c)
+      (plain_of before c)) other
+      + times_of (plain_of c beyond) other
 
   abbrev pub went : ℕ × ℕ → ℕ
   went other = times_of (gone_left (ends_odd a false (live (take p symbols))) before a b) other
       + times_of (Some (a, b)) other
-      + times_of (gone_right (begins_odd b (live (drop r symbols))) a b behind) other
+      + times_of (gone_right (begins_odd b (live (drop r symbols))) a b beyond) other
 
   came-plain : (other : ℕ × ℕ) → 0 < came other → IsPlain other
-  came-plain other some = elim (cases_lt 0 (times_of (plain_of c behind) other)) [
-    | inl right ↦ counted_plain true c behind other right
+  came-plain other some = elim (cases_lt 0 (times_of (plain_of c beyond) other)) [
+    | inl right ↦ counted_plain true c beyond other right
     | inr none ↦ counted_plain (counts_left (ends_odd c false (live (take p symbols))) before c) before c other
         (omega (arith, some, none))
   ]
@@ -217,7 +221,7 @@ module _ (symbols : List ℕ) (p l m r before behind c : ℕ) (around : IsAround
       ≡ times_of (left_come (live (take l symbols)) (at symbols l) c) other + times_of (Some (c, at symbols r)) other
   came_is other plain = rw (
     sym around.before_is,
-    sym around.behind_is,
+    sym around.after_is,
     sym (ends_are c),
     come_left-times other plain (live (take l symbols)) (at symbols l) c,
     plain_times other plain c (at symbols r),
@@ -231,7 +235,7 @@ module _ (symbols : List ℕ) (p l m r before behind c : ℕ) (around : IsAround
     sym is_a,
     sym is_b,
     sym around.before_is,
-    sym around.behind_is,
+    sym around.after_is,
     sym (ends_are (at symbols p)),
     sym (begins_are (at symbols m)),
     gone_left-times other plain (live (take l symbols)) (at symbols l) (at symbols p) (at symbols m),
@@ -241,7 +245,7 @@ module _ (symbols : List ℕ) (p l m r before behind c : ℕ) (around : IsAround
   -- what goes is counted once what comes is
   pub went_counts : (count : ℕ × ℕ → ℕ) (places : ℕ × ℕ → List ℕ) → IsCounted symbols count places →
       ((a == b) ≡ true → (before == a) ≡ false) →
-      (c == a) ≡ false → (c == b) ≡ false → (c == behind) ≡ false →
+      (c == a) ≡ false → (c == b) ≡ false → (c == beyond) ≡ false →
       (other : ℕ × ℕ) → IsPlain other → went other ≤ count other + came other
   went_counts count places counted begins new_a new_b new_r other plain = omega (
     arith,
@@ -250,17 +254,17 @@ module _ (symbols : List ℕ) (p l m r before behind c : ℕ) (around : IsAround
     went_is other plain,
     counts-joined symbols p m r c around.near around.next_near fits l around.left_near other
         (λ same. rw (around.before_is, is_a) (begins (rw (is_a, is_b) at same))) (rw is_a new_a) (rw is_b new_b)
-        (rw around.behind_is new_r),
+        (rw around.after_is new_r),
   )
 
   -- counts and places after the join
   pub counted_around : (next previous : List ℕ) (count count_after : ℕ × ℕ → ℕ) (places places_after : ℕ × ℕ → List ℕ) →
       AreThreads symbols next previous → HasEnds symbols → c < 4294967294 → a < 4294967294 → b < 4294967294 →
       IsCounted symbols count places →
-      ((a == b) ≡ true → (before == a) ≡ false) → (c == a) ≡ false → (c == b) ≡ false → (c == behind) ≡ false →
+      ((a == b) ≡ true → (before == a) ≡ false) → (c == a) ≡ false → (c == b) ≡ false → (c == beyond) ≡ false →
       ((other : ℕ × ℕ) → count_after other + went other ≡ count other + came other) →
       ((other : ℕ × ℕ) (k : ℕ) → 0 < count_after other → Contains (places other) k → Contains (places_after other) k) →
-      IfSome (plain_of c behind) (λ own. 0 < count_after own → Contains (places_after own) p) →
+      IfSome (plain_of c beyond) (λ own. 0 < count_after own → Contains (places_after own) p) →
       IfSome (plain_of before c) (λ own. 0 < count_after own → Contains (places_after own) l) →
       IsCounted (set (set symbols p c) m 4294967295) count_after places_after
   counted_around next previous count count_after places places_after threads ends c_plain a_plain b_plain counted begins
@@ -268,16 +272,17 @@ module _ (symbols : List ℕ) (p l m r before behind c : ℕ) (around : IsAround
       counted-joined symbols p m r c l around.near around.next_near around.left_near c_plain (rw is_a a_plain)
       (rw is_b b_plain) ends next previous threads
       (λ same. rw (around.before_is, is_a) (begins (rw (is_a, is_b) at same))) (rw is_a new_a) (rw is_b new_b)
-      (rw around.behind_is new_r) count count_after places places_after counted
+      (rw around.after_is new_r) count count_after places places_after counted
       (λ other plain. omega (arith, changes other, came_is other plain, went_is other plain))
       (λ other some. elim (cases_lt 0 (came other)) [
         | inl comes ↦ came-plain other comes
         | inr none ↦ counted.plain other (omega (arith, changes other, none, some))
       ])
       keeps
-      (λ behind_plain. rw around.behind_is (noted_of (λ own. 0 < count_after own → Contains (places_after own) p) c behind
-      c_plain (rw around.behind_is at behind_plain) right))
-      (λ before_plain. rw around.before_is (noted_of (λ own. 0 < count_after own → Contains (places_after own) l) before c
+      (λ after_plain. rw around.after_is (noted_of (λ own. 0 < count_after own → Contains (places_after own) p) c beyond
+      c_plain (rw around.after_is at after_plain) right))
+      (λ before_plain. rw around.before_is (noted_of
+      (λ own. 0 < count_after own → Contains (places_after own) l) before c
       (rw around.before_is at before_plain) c_plain left))
     where
       noted_of : (P : ℕ × ℕ → Type 0) (x y : ℕ) → x < 4294967294 → y < 4294967294 → IfSome (plain_of x y) P → P (x, y)
@@ -286,7 +291,7 @@ module _ (symbols : List ℕ) (p l m r before behind c : ℕ) (around : IsAround
   -- and the pass
   pub passing_around : (next previous : List ℕ) → AreThreads symbols next previous → HasEnds symbols →
       c < 4294967294 → a < 4294967294 → b < 4294967294 →
-      ((a == b) ≡ true → (before == a) ≡ false) → (c == a) ≡ false → (c == b) ≡ false → (c == behind) ≡ false →
+      ((a == b) ≡ true → (before == a) ≡ false) → (c == a) ≡ false → (c == b) ≡ false → (c == beyond) ≡ false →
       (first places : List ℕ) (q : ℕ) → IsPassing first symbols (a, b) c (p ∷ places) q →
       ((k : ℕ) → Contains places k → p ≤ k) →
       IsPassing first (set (set symbols p c) m 4294967295) (a, b) c places (p + 1)
@@ -295,14 +300,15 @@ module _ (symbols : List ℕ) (p l m r before behind c : ℕ) (around : IsAround
       passing-join symbols p m r c l around.near around.next_near around.left_near c_plain (rw is_a a_plain)
       (rw is_b b_plain) ends next previous threads
       (λ same. rw (around.before_is, is_a) (begins (rw (is_a, is_b) at same))) (rw is_a new_a) (rw is_b new_b)
-      (rw around.behind_is new_r) (λ _. 0) (λ _. 0) (λ _. []) (λ _. []) first (a, b) places q passing order
+      (rw around.after_is new_r) (λ _. 0) (λ _. 0) (λ _. []) (λ _. []) first (a, b) places q passing order
       (rw (is_a, is_b) (own_pair a b))
 
 -- one step of the first count
 pub first_step : (taken : Bool) (pair : ℕ × ℕ) (x : ℕ) (rest : List ℕ) (i : ℕ) → i < length rest → IsPlain pair →
     met_after taken pair (x ∷ drop i rest)
     ≡ times_of (only_if (not (taken && (x == get_or rest i 0))) (plain_of x (get_or rest i 0))) pair
-    + met_after (not (taken && (x == get_or rest i 0)) && (x == get_or rest i 0)) pair (get_or rest i 0 ∷ drop (i + 1) rest)
+    + met_after (not (taken && (x == get_or rest i 0)) && (x == get_or rest i 0)) pair
+    (get_or rest i 0 ∷ drop (i + 1) rest)
 first_step taken pair x rest i within plain = elim (cases_Bool (taken && (x == get_or rest i 0))) [
   | inl overlaps ↦ rw overlaps (omega (arith, overlap_step taken pair x rest i within overlaps, times_of-none pair))
   | inr free ↦ rw free (omega (

@@ -148,7 +148,8 @@ pub cut-all : (blocks : List (List ℕ)) (row rest : List ℕ) (first : ℕ) →
 cut-all blocks row rest first whole ends below is =
     let mark : first ≡ 4294967294 = sym (ap (λ xs. at xs 0) whole) ∙ ends.first in
     let tail = row-cons blocks in
-    let later : live rest ≡ tail.0 = ap (drop 1) (sym (live_mark first rest mark) ∙ ap live (sym whole) ∙ is ∙ tail.1) in
+    let later : live rest ≡ tail.0 = ap (drop 1) (sym (live_mark first rest mark) ∙ ap live (sym whole) ∙ is
+    ∙ tail.1) in
     sym (cut-live [] rest) ∙ ap (cut []) later ∙ cut-row blocks tail.0 below tail.1
   where
     live_mark : (first : ℕ) (rest : List ℕ) → first ≡ 4294967294 → live (first ∷ rest) ≡ first ∷ live rest
@@ -201,8 +202,10 @@ row_words limit [] fits below = (omega arith, tt)
 row_words limit (block ∷ blocks) fits below =
     (omega arith, words_block limit block (row_of blocks) fits below.0 (row_words limit blocks fits below.1))
   where
-    words_block : (limit : ℕ) (block rest : List ℕ) → limit < 4294967294 → AllByRecursion (λ symbol. symbol < limit) block →
-        AllByRecursion (λ symbol. symbol < 4294967295) rest → AllByRecursion (λ symbol. symbol < 4294967295) (block ++ rest)
+    words_block : (limit : ℕ) (block rest : List ℕ) → limit < 4294967294 → AllByRecursion
+        (λ symbol. symbol < limit) block →
+        AllByRecursion (λ symbol. symbol < 4294967295) rest → AllByRecursion (λ symbol. symbol < 4294967295)
+        (block ++ rest)
     words_block limit [] rest fits below words = words
     words_block limit (x ∷ block) rest fits below words =
         (omega (arith, below.0, fits), words_block limit block rest fits below.1 words)

@@ -53,37 +53,43 @@ met-run_cons u (y ∷ ys) = elim (cases_Bool (y == u)) [
       (omega (arith, met-not (u, u) u y ys (rw (apart, and_right (u == u) false refl) refl)))
 ]
 
--- a list behind a run that was odd or not
-abbrev behind : ℕ → Bool → List ℕ → List ℕ
-behind u true ys = u ∷ ys
-behind u false ys = ys
+-- a list after a run that was odd or not
+abbrev run_then : ℕ → Bool → List ℕ → List ℕ
+run_then u true ys = u ∷ ys
+run_then u false ys = ys
 
 -- the count over two lists: that of each, and one more where two odd runs meet
-met_behind-append : (u : ℕ) (odd : Bool) (xs ys : List ℕ) → met (u, u) (behind u odd (xs ++ ys))
-    ≡ met (u, u) (behind u odd xs) + cond (ends_odd u odd xs && begins_odd u ys) 1 0 + met (u, u) ys
+met_run_then-append : (u : ℕ) (odd : Bool) (xs ys : List ℕ) → met (u, u) (run_then u odd (xs ++ ys))
+    ≡ met (u, u) (run_then u odd xs) + cond (ends_odd u odd xs && begins_odd u ys) 1 0 + met (u, u) ys
 unfolding met begins_odd ends_odd
-met_behind-append u true [] ys = omega (arith, met-run_cons u ys)
-met_behind-append u false [] ys = omega arith
-met_behind-append u true (x ∷ xs) ys = elim (cases_Bool (x == u)) [
-  | inl is ↦ rw (is, eq-eqb u u refl) (omega (arith, met_behind-append u false xs ys))
-  | inr apart ↦ rw (apart, and_right (u == u) false refl, met-other (u, u) x (xs ++ ys) apart, met-other (u, u) x xs apart)
-      (met_behind-append u false xs ys)
+met_run_then-append u true [] ys = omega (arith, met-run_cons u ys)
+met_run_then-append u false [] ys = omega arith
+met_run_then-append u true (x ∷ xs) ys = elim (cases_Bool (x == u)) [
+  | inl is ↦ rw (is, eq-eqb u u refl) (omega (arith, met_run_then-append u false xs ys))
+  | inr apart ↦ rw (
+    apart,
+    and_right (u == u) false refl,
+    met-other (u, u) x (xs ++ ys) apart,
+    met-other
+        (u, u) x xs apart,
+  )
+      (met_run_then-append u false xs ys)
 ]
-met_behind-append u false (x ∷ xs) ys = elim (cases_Bool (x == u)) [
+met_run_then-append u false (x ∷ xs) ys = elim (cases_Bool (x == u)) [
   | inl is ↦ let same : x ≡ u = eqb-true x u is in
       rw is (omega (
         arith,
-        met_behind-append u true xs ys,
+        met_run_then-append u true xs ys,
         ap (λ z. met (u, u) (z ∷ xs ++ ys)) same,
         ap (λ z. met (u, u) (z ∷ xs)) same,
       ))
   | inr apart ↦ rw (apart, met-other (u, u) x (xs ++ ys) apart, met-other (u, u) x xs apart)
-      (met_behind-append u false xs ys)
+      (met_run_then-append u false xs ys)
 ]
 
 pub met-run_append : (u : ℕ) (xs ys : List ℕ) → met (u, u) (xs ++ ys)
     ≡ met (u, u) xs + cond (ends_odd u false xs && begins_odd u ys) 1 0 + met (u, u) ys
-met-run_append u xs ys = met_behind-append u false xs ys
+met-run_append u xs ys = met_run_then-append u false xs ys
 
 -- any other list may be cut at a symbol of which two alike are not the pair
 met_two : (other : ℕ × ℕ) (x y : ℕ) (ys : List ℕ) → is_pair other y y ≡ false →
@@ -103,7 +109,8 @@ pub met-cut : (other : ℕ × ℕ) (xs : List ℕ) (y : ℕ) (ys : List ℕ) →
 unfolding met
 met-cut other [] y ys free = omega arith
 met-cut other (x ∷ []) y ys free =
-    let none : met other (y ∷ []) ≡ 0 = refl in omega (arith, met_two other x y ys free, met_two other x y [] free, none)
+    let none : met other (y ∷ []) ≡ 0 = refl in omega
+    (arith, met_two other x y ys free, met_two other x y [] free, none)
 met-cut other (x ∷ z ∷ xs) y ys free = elim (cases_Bool (is_pair other x z)) [
   | inl is ↦ rw is (omega (arith, met-cut other xs y ys free))
   | inr apart ↦ rw apart (met-cut other (z ∷ xs) y ys free)
@@ -164,7 +171,7 @@ bits false false false true false m z ac bc abe cg = omega arith
 bits false false false false true m z ac bc abe cg = omega arith
 bits false false false false false m z ac bc abe cg = omega arith
 
--- p has the symbol a and its right neighbour b; l stands before them and r behind, and c takes their place
+-- p has the symbol a and its right neighbour b; l stands before them and r after them, and c takes their place
 module _ (front : List ℕ) (l a b c r : ℕ) (rest : List ℕ) (begins : (a == b) ≡ true → (l == a) ≡ false)
     (new_a : (c == a) ≡ false) (new_b : (c == b) ≡ false) (new_r : (c == r) ≡ false) where
   abbrev ends : ℕ → Bool
@@ -256,7 +263,8 @@ module _ (front : List ℕ) (l a b c r : ℕ) (rest : List ℕ) (begins : (a == 
     alike x y = refl
 
     -- a pair of two alike, if a test holds
-    one_twin : (y : ℕ) (test : Bool) → times_of (if test then Some (y, y) else None) (u, u) ≡ cond ((y == u) && test) 1 0
+    one_twin : (y : ℕ) (test : Bool) → times_of (if test then Some (y, y) else None) (u, u) ≡ cond
+        ((y == u) && test) 1 0
     one_twin y true = alike y y ∙ elim (cases_Bool (y == u)) [ inl is ↦ rw is refl | inr differ ↦ rw differ refl ]
     one_twin y false = unfold times_of in rw (and_right (y == u) false refl) refl
 
@@ -274,7 +282,7 @@ module _ (front : List ℕ) (l a b c r : ℕ) (rest : List ℕ) (begins : (a == 
       | inr none ↦ rw none refl
     ]
 
-    -- the symbol in front of a run is no part of it, and neither is the one behind it
+    -- the symbol in front of a run is no part of it, and neither is the one after it
     other_than : (x y : ℕ) → (x == u) ≡ true → (y == x) ≡ false → (y == u) ≡ false
     other_than x y is differ = ap (λ z. y == z) (sym (eqb-true x u is)) ∙ differ
 
@@ -308,7 +316,13 @@ module _ (front : List ℕ) (l a b c r : ℕ) (rest : List ℕ) (begins : (a == 
         | inr none ↦ rw none refl
       ])
       | inr differ ↦ rw differ (alike b r ∙ elim (cases_Bool (b == u)) [
-        | inl own ↦ rw (own, other_than b r own differ, even_begin b own differ, and_right (not (a == u)) false refl) refl
+        | inl own ↦ rw (
+          own,
+          other_than b r own differ,
+          even_begin b own differ,
+          and_right
+              (not (a == u)) false refl,
+        ) refl
         | inr none ↦ rw none refl
       ])
     ]

@@ -197,14 +197,15 @@ module _ (symbols : List ℕ) (p m r c : ℕ) (near : AreNeighbours symbols p m)
       (live-stands symbols m near.within near.right_stands))
 
   before_it : take p after ≡ take p symbols
-  before_it = take-set-le p (set symbols p c) m 4294967295 (omega (arith, near.before)) ∙ take-set-le p symbols p c (omega arith)
+  before_it = take-set-le p (set symbols p c) m 4294967295 (omega (arith, near.before)) ∙ take-set-le p symbols p c
+      (omega arith)
 
-  behind_it : drop (m + 1) after ≡ drop (m + 1) symbols
-  behind_it = drop-set-lt (m + 1) (set symbols p c) m 4294967295 (omega arith)
+  rest_it : drop (m + 1) after ≡ drop (m + 1) symbols
+  rest_it = drop-set-lt (m + 1) (set symbols p c) m 4294967295 (omega arith)
       ∙ drop-set-lt (m + 1) symbols p c (omega (arith, near.before))
 
-  pub behind-live : live (drop (p + 1) after) ≡ live (drop (m + 1) symbols)
-  behind-live = let distance : p + 1 + (m - p) ≡ m + 1 = omega (arith, near.before) in
+  pub rest-live : live (drop (p + 1) after) ≡ live (drop (m + 1) symbols)
+  rest-live = let distance : p + 1 + (m - p) ≡ m + 1 = omega (arith, near.before) in
       live-gaps after (m - p) (p + 1) (rw after-length (omega (arith, near.within, distance)))
       (λ k from to. elim (same_or k m) [
         | inl same ↦ rw same after-gone
@@ -214,11 +215,12 @@ module _ (symbols : List ℕ) (p m r c : ℕ) (near : AreNeighbours symbols p m)
               | inr more ↦ absurd (not_m (omega (arith, more, to, distance)))
             ])
       ])
-      ∙ ap (λ q. live (drop q after)) distance ∙ ap live behind_it
+      ∙ ap (λ q. live (drop q after)) distance ∙ ap live rest_it
 
   pub from-live : live (drop p after) ≡ c ∷ live (drop (m + 1) symbols)
-  from-live = live-stands after p (rw after-length (omega (arith, near.before, near.within))) (omega (arith, after-place))
-      ∙ ap (λ symbol. symbol ∷ live (drop (p + 1) after)) after-place ∙ ap (λ rest. c ∷ rest) behind-live
+  from-live = live-stands after p (rw after-length (omega (arith, near.before, near.within)))
+      (omega (arith, after-place))
+      ∙ ap (λ symbol. symbol ∷ live (drop (p + 1) after)) after-place ∙ ap (λ rest. c ∷ rest) rest-live
 
   pub is-live : live after ≡ left_part ++ c ∷ live (drop (m + 1) symbols)
   is-live = live-cut after p ∙ ap (λ front. live front ++ live (drop p after)) before_it
@@ -253,7 +255,11 @@ module _ (symbols : List ℕ) (p m r c : ℕ) (near : AreNeighbours symbols p m)
       nexts = rw (length-set next p r, after-length) threads.nexts;
       previouses = rw (length-set previous r p, after-length) threads.previouses;
       on = λ k inside stands. let was = stood k stands in elim (same_or k p) [
-        | inl same ↦ rw (same, get_or-set_same next p r 0 (rw threads.nexts (omega (arith, near.before, near.within)))) joined
+        | inl same ↦ rw (
+          same,
+          get_or-set_same next p r 0
+              (rw threads.nexts (omega (arith, near.before, near.within))),
+        ) joined
         | inr not_p ↦ let old : AreNeighbours symbols k (get_or next k 0) =
             threads.on k (rw (sym after-length) inside) was.1 in
             rw (get_or-set_other next p k r 0 not_p) (kept k (get_or next k 0) was.0
@@ -373,29 +379,29 @@ not_last symbols p ends within plain = elim (same_or (p + 1) (length symbols)) [
 pub read_is : (symbols : List ℕ) (p x : ℕ) → p < length symbols → x ≡ get_or symbols p x → at symbols p ≡ x
 read_is symbols p x within is = get_or_default symbols p 4294967295 x within ∙ sym is
 
-pub threads_around : (symbols next previous : List ℕ) (p l m r c before behind : ℕ) →
-    AreThreads symbols next previous → IsAround symbols p l m r before behind → c < 4294967295 →
+pub threads_around : (symbols next previous : List ℕ) (p l m r c before beyond : ℕ) →
+    AreThreads symbols next previous → IsAround symbols p l m r before beyond → c < 4294967295 →
     AreThreads (set (set symbols p c) m 4294967295) (set next p r) (set previous r p)
-threads_around symbols next previous p l m r c before behind threads around fits =
+threads_around symbols next previous p l m r c before beyond threads around fits =
     let near : AreNeighbours symbols p m = around.near in
-    let behind_near : AreNeighbours symbols m r = around.next_near in
+    let right_near : AreNeighbours symbols m r = around.next_near in
     let next_is : get_or next p 0 ≡ m = same_right symbols p (get_or next p 0) m
     (threads.on p (omega (arith, near.before, near.within)) near.left_stands) near in
-    let more : m + 1 < length symbols = omega (arith, behind_near.before, behind_near.within) in
+    let more : m + 1 < length symbols = omega (arith, right_near.before, right_near.within) in
     let right_is : get_or next m 0 ≡ r = same_right symbols m (get_or next m 0) r
-    (threads.on m more near.right_stands) behind_near in
-    threads-joined symbols p m r c near behind_near fits next previous threads next_is right_is more
+    (threads.on m more near.right_stands) right_near in
+    threads-joined symbols p m r c near right_near fits next previous threads next_is right_is more
 
-pub gone_is : (symbols next previous : List ℕ) (p l m r before behind : ℕ) → AreThreads symbols next previous →
-    IsAround symbols p l m r before behind → get_or next p 0 ≡ m
-gone_is symbols next previous p l m r before behind threads around =
+pub gone_is : (symbols next previous : List ℕ) (p l m r before beyond : ℕ) → AreThreads symbols next previous →
+    IsAround symbols p l m r before beyond → get_or next p 0 ≡ m
+gone_is symbols next previous p l m r before beyond threads around =
     let near : AreNeighbours symbols p m = around.near in
     same_right symbols p (get_or next p 0) m
     (threads.on p (omega (arith, near.before, near.within)) near.left_stands) near
 
-pub left_is : (symbols next previous : List ℕ) (p l m r before behind : ℕ) → AreThreads symbols next previous →
-    IsAround symbols p l m r before behind → get_or previous p 0 ≡ l
-left_is symbols next previous p l m r before behind threads around =
+pub left_is : (symbols next previous : List ℕ) (p l m r before beyond : ℕ) → AreThreads symbols next previous →
+    IsAround symbols p l m r before beyond → get_or previous p 0 ≡ l
+left_is symbols next previous p l m r before beyond threads around =
     let near : AreNeighbours symbols l p = around.left_near in
     same_left symbols (get_or previous p 0) l p
     (threads.back p (omega (arith, near.before)) near.within near.right_stands) near

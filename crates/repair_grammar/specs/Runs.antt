@@ -11,9 +11,10 @@ unfoldable pub ends_odd : ℕ → Bool → List ℕ → Bool
 ends_odd u odd [] = odd
 ends_odd u odd (x ∷ xs) = ends_odd u ((x == u) && not odd) xs
 
--- the pair on the left that counts once less where (a, b) goes, behind front and the symbol l
+-- the pair on the left that counts once less where (a, b) goes, after front and the symbol l
 unfoldable pub left_gone : List ℕ → ℕ → ℕ → ℕ → Option (ℕ × ℕ)
-left_gone front l a b = if l == a then (if not (a == b) && ends_odd a false (front ++ l ∷ []) then Some (a, a) else None)
+left_gone front l a b =
+    if l == a then (if not (a == b) && ends_odd a false (front ++ l ∷ []) then Some (a, a) else None)
     else Some (l, a)
 
 -- the pair on the right, before r and rest

@@ -1,13 +1,10 @@
 -- Symbols of all blocks in one row, where a place that is taken out stays as a gap, and neighbours know each other.
+-- A mark is 4294967294, and a gap 4294967295; symbols are below both.
 use Rattle.repair_grammar.specs.RePair.{met, replaced}
 use Rattle.std.specs.List.{Contains}
 use Rattle.repair_grammar.specs.Counts.{stands_first}
 use Rattle.repair_grammar.specs.Runs.{ends_odd}
 use Rattle.std.specs.Prelude.{◌≡◌, ℕ, ◌+◌, ◌<◌, ◌≤◌, Bool, true, false, ◌==◌, ◌&&◌, not, List, [], ◌∷◌, ◌++◌, length, filter, take, drop, slice_index_or, if◌then◌else◌}
-
--- what stands at a place from which the symbol was taken
-abbrev pub gap : ℕ
-gap = 4294967295
 
 -- the symbol at a place
 abbrev pub at : List ℕ → ℕ → ℕ
@@ -54,7 +51,7 @@ stands_at symbols pair place = not (at symbols place == 4294967295) && stands_fi
 abbrev pub passed_from : List ℕ → ℕ × ℕ → ℕ → ℕ → List ℕ
 passed_from symbols pair symbol place = live (take place symbols) ++ replaced pair symbol (live (drop place symbols))
 
--- the blocks in one row, with a mark before each and behind the last
+-- the blocks in one row, with a mark before each and after the last
 unfoldable pub row_of : List (List ℕ) → List ℕ
 row_of [] = 4294967294 ∷ []
 row_of (block ∷ blocks) = 4294967294 ∷ block ++ row_of blocks
@@ -69,20 +66,20 @@ pub record IsCounted (symbols : List ℕ) (count : ℕ × ℕ → ℕ) (places :
   pub noted : (pair : ℕ × ℕ) (k : ℕ) → IsPlain pair → stands_at symbols pair k ≡ true → Contains (places pair) k
   pub plain : (pair : ℕ × ℕ) → 0 < count pair → IsPlain pair
 
--- in the midst of a pass: what is before q is done, and the pair stands behind at places of the list alone
+-- in the midst of a pass: what is before q is done, and the pair stands after it at places of the list alone
 pub record IsPassing (first symbols : List ℕ) (pair : ℕ × ℕ) (c : ℕ) (places : List ℕ) (q : ℕ) : Type 0 where
   pub inside : q ≤ length symbols
   pub done : passed_from symbols pair c q ≡ replaced pair c (live first)
   pub ahead : (k : ℕ) → stands_at symbols pair k ≡ true → (q ≤ k) × Contains places k
   pub new : (k : ℕ) → q ≤ k → (c == at symbols k) ≡ false
 
--- the neighbours of a place and of the one behind it, and the symbols on both sides
-pub record IsAround (symbols : List ℕ) (place left gone right before behind : ℕ) : Type 0 where
+-- the neighbours of a place and of the one after it, and the symbols on both sides
+pub record IsAround (symbols : List ℕ) (place left gone right before after : ℕ) : Type 0 where
   pub left_near : AreNeighbours symbols left place
   pub near : AreNeighbours symbols place gone
   pub next_near : AreNeighbours symbols gone right
   pub before_is : at symbols left ≡ before
-  pub behind_is : at symbols right ≡ behind
+  pub after_is : at symbols right ≡ after
 
 -- the run of a symbol that ends before a place, where the place before stands for it: whether it is odd
 pub record IsRun (symbols : List ℕ) (symbol done : ℕ) (odd : Bool) : Type 0 where

@@ -24,8 +24,8 @@ pub struct Grammar {
 ///
 /// A pair's count is the number of replacements that one pass from left to right through each block
 /// makes. Of pairs that count alike the smaller left symbol goes first, and then the smaller right
-/// one. Symbols are below `alphabet`. It answers `Memory` where memory runs out, and where there are as
-/// many blocks as places of 32 bits have no room for.
+/// one. Symbols are below `alphabet`. It answers `Memory` where memory runs out, and where blocks and
+/// symbols together are 2^32 - 2 or more.
 pub fn compress(alloc: Global, alphabet: u32, blocks: &Lists32) -> Result<Grammar, Memory>
     requires below { AreBelow alphabet blocks.now }
     requires few { sum_by length blocks.now ≤ limit_of Symbols }

@@ -45,7 +45,7 @@ fn left_gone(text: &Text, place: usize, left: u32, pair: (u32, u32)) -> Option<(
     }
 }
 
-// The pair on the right, before a place.
+// The pair on the right that counts once less, where the symbol at a place stands after the pair.
 #[tactic(auto, unfolding(crate::specs::Joins::gone_right))]
 fn right_gone(text: &Text, place: usize, right: u32, pair: (u32, u32)) -> Option<(u32, u32)>
     requires text { IsText text.now }
@@ -128,11 +128,12 @@ pub fn join_at(
     requires right { at text.old.symbols.items (slice_index_or text.old.next.items place 0) ≡ pair.1 }
     requires plain { IsPlain pair }
     requires fits { symbol < 4294967294 }
-    requires begins { (pair.0 == pair.1) ≡ true →
-        (at text.old.symbols.items (slice_index_or text.old.previous.items place 0) == pair.0) ≡ false }
+    requires begins { (pair.0 == pair.1) ≡ true → (at text.old.symbols.items
+        (slice_index_or text.old.previous.items place 0) == pair.0) ≡ false }
     requires new { (k : ℕ) → place ≤ k → (symbol == at text.old.symbols.items k) ≡ false }
     requires other { (symbol == pair.1) ≡ false }
-    requires run { (at text.old.symbols.items (slice_index_or text.old.previous.items place 0) == symbol) ≡ true →
+    requires run { (at text.old.symbols.items
+        (slice_index_or text.old.previous.items place 0) == symbol) ≡ true →
         odd ≡ ends_odd symbol false (live (take place text.old.symbols.items)) }
     ensures text { OnOk result (IsText text.new) }
     ensures counted { OnOk result
@@ -158,13 +159,13 @@ pub fn join_at(
     note_some(
         alloc,
         pairs,
-        plain_pair(symbol, around.behind),
+        plain_pair(symbol, around.after),
         place as u32,
         true,
     )?;
     pairs.lower(pair);
     lower_some(pairs, left_gone(text, place, around.before, pair));
-    lower_some(pairs, right_gone(text, around.right, around.behind, pair));
+    lower_some(pairs, right_gone(text, around.right, around.after, pair));
     text.join_around(place, around, symbol);
     Ok(counts_next(around.before, symbol, !odd))
 }

@@ -1,8 +1,10 @@
-ghost use Rattle.std.specs.Prelude.{◌≡◌, ℕ, ◌+◌, ◌^◌, ◌<◌, ◌≤◌, cond, IfOk, OnOk, [], ◌∷◌, ◌++◌, if◌then◌else◌};
+ghost use Rattle.std.specs.Prelude.{◌≡◌, ℕ, ◌+◌, ◌^◌, ◌<◌, cond, IfOk, OnOk, [], ◌∷◌, ◌++◌};
+ghost use Rattle.std.specs.Prelude.{if◌then◌else◌};
 ghost use Rattle.std.specs.List.{Contains};
 ghost use Rattle.std.specs.List.Sorted.{IsNonDecreasing};
 ghost use Rattle.repair_grammar.specs.RePair.{is_pair};
-ghost use Rattle.repair_grammar.specs.Pairs.{count_in_table, places_in_table, count_of, places_of, HasCome};
+ghost use Rattle.repair_grammar.specs.Pairs.{count_in_table, places_in_table};
+ghost use Rattle.repair_grammar.specs.Pairs.{count_of, places_of, HasCome};
 
 use std::alloc::Global;
 use std::collections::HashMap;
@@ -106,7 +108,8 @@ fn copy_seen(table: &Table, pair: (u32, u32), places: &mut Vec<u32>) -> Result<(
     Ok(())
 }
 
-// Puts places in order. Nearly always they are, since a round notes its new pairs from left to right.
+// Puts places in order. Nearly always they are, since a round notes its new pairs from left to
+// right.
 fn put_in_order(places: &mut Vec<u32>)
     ensures order { IsNonDecreasing places.new.items }
     ensures all { (place : ℕ) → Contains places.old.items place → Contains places.new.items place }

@@ -14,18 +14,18 @@ pub const END: u32 = u32::MAX - 1;
 /// What stands at a place from which the symbol was taken.
 pub const GAP: u32 = u32::MAX;
 
-/// The places and symbols on both sides of a pair.
+/// The places and symbols on both sides of a place and its right neighbour, which is to go.
 #[derive(Clone, Copy)]
 pub struct Around {
     pub left: usize,
     pub gone: usize,
     pub right: usize,
     pub before: u32,
-    pub behind: u32,
+    pub after: u32,
 }
 
 /// The symbols of all blocks in one row. A place from which the symbol was taken stays as a gap, and
-/// each symbol knows its neighbours.
+/// each symbol knows the places of its neighbours.
 #[derive(Drop)]
 pub struct Text {
     pub symbols: Vec<u32>,
@@ -57,8 +57,7 @@ impl Text {
 
     /// Whether the symbol stands oddly often in a row right before the place.
     pub fn is_odd_before(&self, place: usize, symbol: u32) -> bool
-        requires threads { AreThreads self.now.symbols.items self.now.next.items self.now.previous.items }
-        requires ends { HasEnds self.now.symbols.items }
+        requires text { IsText self.now }
         requires stands { at self.now.symbols.items place < 4294967295 }
         requires inside { (0 < place) × (place < length self.now.symbols.items) }
         requires plain { symbol < 4294967294 }
@@ -75,31 +74,29 @@ impl Text {
 
     /// Whether the symbol stands oddly often in a row from the place on.
     pub fn is_odd_from(&self, place: usize, symbol: u32) -> bool
-        requires threads { AreThreads self.now.symbols.items self.now.next.items self.now.previous.items }
-        requires ends { HasEnds self.now.symbols.items }
+        requires text { IsText self.now }
         requires stands { at self.now.symbols.items place < 4294967295 }
         requires inside { place < length self.now.symbols.items }
         requires plain { symbol < 4294967294 }
         ensures { result ≡ begins_odd symbol (live (drop place self.now.symbols.items)) }
     {
         let mut odd = false;
-        let mut behind = place;
-        'run: while self.symbols[behind] == symbol {
+        let mut here = place;
+        'run: while self.symbols[here] == symbol {
             odd = !odd;
-            behind = self.next[behind] as usize;
+            here = self.next[here] as usize;
         }
         odd
     }
 
     /// What stands around a place and its right neighbour.
     pub fn around(&self, place: usize) -> Around
-        requires threads { AreThreads self.now.symbols.items self.now.next.items self.now.previous.items }
-        requires ends { HasEnds self.now.symbols.items }
+        requires text { IsText self.now }
         requires inside { place < length self.now.symbols.items }
         requires stands { at self.now.symbols.items place < 4294967294 }
         requires gone { at self.now.symbols.items (slice_index_or self.now.next.items place 0) < 4294967294 }
         ensures { IsAround self.now.symbols.items place
-            result.left result.gone result.right result.before result.behind }
+            result.left result.gone result.right result.before result.after }
     {
         let left = self.previous[place] as usize;
         let gone = self.next[place] as usize;
@@ -109,15 +106,16 @@ impl Text {
             gone,
             right,
             before: self.symbols[left],
-            behind: self.symbols[right],
+            after: self.symbols[right],
         }
     }
 
-    /// Puts a symbol at a place, and takes its right neighbour out.
+    /// Puts a symbol at a place, and takes its right neighbour out, where it is known what stands
+    /// around them.
     pub fn join_around(&mut self, place: usize, around: Around, symbol: u32)
         requires threads { AreThreads self.old.symbols.items self.old.next.items self.old.previous.items }
         requires around { IsAround self.old.symbols.items place
-            around.left around.gone around.right around.before around.behind }
+            around.left around.gone around.right around.before around.after }
         requires fits { symbol < 4294967295 }
         ensures threads { AreThreads self.new.symbols.items self.new.next.items self.new.previous.items }
         ensures symbols { self.new.symbols.items

@@ -29,14 +29,16 @@ returns-then-count-gt1-clause-first c =
 pub returns-then-count-gt1-clause-keys : goal.returns-then-count-gt1-clause-keys
 returns-then-count-gt1-clause-keys c =
     let at = (goal.at.returns-then-count-gt1-clause-keys c).After-count-count in
-    covers_popped (count_of c.args.pairs.now) c.in-Some.key (items_of c.take.new.self) (covers at) (items_of c.add.new.self)
+    covers_popped (count_of c.args.pairs.now) c.in-Some.key (items_of c.take.new.self) (covers at)
+    (items_of c.add.new.self)
     (λ other inside. c.in_ok-add.ensures.kept other inside)
     (λ two enough. rw (sym c.count-count.ensures) (c.in_ok-add.ensures.added (rw c.count-count.ensures two)))
 
 pub loop-key-preserved : goal.loop-key-preserved
 loop-key-preserved c =
     let at = (goal.at.loop-key-preserved c).After-count-count in
-    covers_popped (count_of c.args.pairs.now) c.in-Some.key (items_of c.take.new.self) (covers at) (items_of c.add.new.self)
+    covers_popped (count_of c.args.pairs.now) c.in-Some.key (items_of c.take.new.self) (covers at)
+    (items_of c.add.new.self)
     (λ other inside. c.in_ok-add.ensures.kept other inside)
     (λ two enough. rw (sym c.count-count.ensures) (c.in_ok-add.ensures.added (rw c.count-count.ensures two)))
 

@@ -201,6 +201,7 @@ returns c =
       ok = rw (
         c.new-2.ensures,
         c.in_ok-blocks_from.ensures now (below_marks bound now small_enough c.rounds.invariant.below) row_is,
-      ) (sym (rounds-end (sum_by length now) c.args.alphabet (record { rules = c.rounds.rules.items; blocks = now }) small)
+      ) (sym (rounds-end (sum_by length now) c.args.alphabet
+          (record { rules = c.rounds.rules.items; blocks = now }) small)
           ∙ c.rounds.invariant.left);
     }

@@ -35,7 +35,7 @@ note_some-requires-2 c = record {
         counted_room c.args.text.now.symbols.items (count_of c.args.pairs.now)
             (places_of c.args.pairs.now) own c.requires.counted plain,
         c.requires.text.threads.few,
-      )) (plain_is c.args.symbol c.around-around.result.behind));
+      )) (plain_is c.args.symbol c.around-around.result.after));
 }
 
 fits : (c : In_ok-note_some-2) → c.args.symbol < 4294967295
@@ -44,7 +44,7 @@ fits c = omega (arith, c.requires.fits)
 is_b : (c : In_ok-note_some-2) → at c.args.text.now.symbols.items c.around-around.result.gone ≡ c.args.pair.1
 is_b c = ap (at c.args.text.now.symbols.items) (sym (gone_is c.args.text.now.symbols.items c.args.text.now.next.items
     c.args.text.now.previous.items c.args.place c.around-around.result.left c.around-around.result.gone
-    c.around-around.result.right c.around-around.result.before c.around-around.result.behind c.requires.text.threads
+    c.around-around.result.right c.around-around.result.before c.around-around.result.after c.requires.text.threads
     c.around-around.ensures)) ∙ c.requires.right
 
 before_at : (c : In_ok-note_some-2) → c.around-around.result.before
@@ -52,7 +52,7 @@ before_at : (c : In_ok-note_some-2) → c.around-around.result.before
 before_at c = sym c.around-around.ensures.before_is
     ∙ ap (at c.args.text.now.symbols.items) (sym (left_is c.args.text.now.symbols.items c.args.text.now.next.items
     c.args.text.now.previous.items c.args.place c.around-around.result.left c.around-around.result.gone
-    c.around-around.result.right c.around-around.result.before c.around-around.result.behind c.requires.text.threads
+    c.around-around.result.right c.around-around.result.before c.around-around.result.after c.requires.text.threads
     c.around-around.ensures))
 
 begins : (c : In_ok-note_some-2) → (c.args.pair.0 == c.args.pair.1) ≡ true →
@@ -74,8 +74,8 @@ counts_are c = c.counts_next-counts.ensures ∙ elim (cases_Bool (c.around-aroun
 new_a : (c : In_ok-note_some-2) → (c.args.symbol == c.args.pair.0) ≡ false
 new_a c = ap (λ x. c.args.symbol == x) (sym c.requires.left) ∙ c.requires.new c.args.place (omega arith)
 
-new_r : (c : In_ok-note_some-2) → (c.args.symbol == c.around-around.result.behind) ≡ false
-new_r c = ap (λ x. c.args.symbol == x) (sym c.around-around.ensures.behind_is)
+new_r : (c : In_ok-note_some-2) → (c.args.symbol == c.around-around.result.after) ≡ false
+new_r c = ap (λ x. c.args.symbol == x) (sym c.around-around.ensures.after_is)
     ∙ c.requires.new c.around-around.result.right
     (omega (arith, c.around-around.ensures.near.before, c.around-around.ensures.next_near.before))
 
@@ -83,7 +83,7 @@ new_r c = ap (λ x. c.args.symbol == x) (sym c.around-around.ensures.behind_is)
 total : (c : In_ok-note_some-2) (other : ℕ × ℕ) → count_of c.note_some-2.new.pairs other
     ≡ count_of c.args.pairs.now other + came c.args.text.now.symbols.items c.args.place c.around-around.result.left
     c.around-around.result.gone c.around-around.result.right c.around-around.result.before
-    c.around-around.result.behind c.args.symbol c.around-around.ensures (fits c) c.args.pair.0 c.args.pair.1
+    c.around-around.result.after c.args.symbol c.around-around.ensures (fits c) c.args.pair.0 c.args.pair.1
     c.requires.left (is_b c) other
 total c other = omega (
   arith,
@@ -95,7 +95,7 @@ total c other = omega (
 enough : (c : In_ok-note_some-2) (other : ℕ × ℕ) → IsPlain other →
     went c.args.text.now.symbols.items c.args.place c.around-around.result.left
     c.around-around.result.gone c.around-around.result.right c.around-around.result.before
-    c.around-around.result.behind c.args.symbol c.around-around.ensures (fits c) c.args.pair.0 c.args.pair.1
+    c.around-around.result.after c.args.symbol c.around-around.ensures (fits c) c.args.pair.0 c.args.pair.1
     c.requires.left (is_b c) other
     ≤ count_of c.note_some-2.new.pairs other
 enough c other plain = omega (
@@ -103,7 +103,7 @@ enough c other plain = omega (
   total c other,
   went_counts c.args.text.now.symbols.items c.args.place c.around-around.result.left
       c.around-around.result.gone c.around-around.result.right c.around-around.result.before
-      c.around-around.result.behind c.args.symbol c.around-around.ensures (fits c) c.args.pair.0 c.args.pair.1
+      c.around-around.result.after c.args.symbol c.around-around.ensures (fits c) c.args.pair.0 c.args.pair.1
       c.requires.left (is_b c) (count_of c.args.pairs.now) (places_of c.args.pairs.now)
       c.requires.counted (begins c) (new_a c) c.requires.other (new_r c) other plain,
 )
@@ -123,7 +123,7 @@ lower_some-requires c = let at_2 = (goal.at.lower_some-requires c).In_ok-note_so
 pub lower_some-requires-2 : goal.lower_some-requires-2
 lower_some-requires-2 c = let at_2 = (goal.at.lower_some-requires-2 c).In_ok-note_some-2 in record {
   some = rw c.right_gone.ensures (some_counts _ (count_of c.lower_some.new.pairs)
-      (gone_right-plain _ c.args.pair.0 c.args.pair.1 c.around-around.result.behind c.requires.plain.1)
+      (gone_right-plain _ c.args.pair.0 c.args.pair.1 c.around-around.result.after c.requires.plain.1)
       (λ own plain. omega (
         arith,
         enough at_2 own plain,
@@ -159,7 +159,7 @@ returns-clause-counted c = let at_2 = (goal.at.returns-clause-counted c).In_ok-n
     let at_3 = (goal.at.returns-clause-counted c).After-join_around in
     rw c.join_around.ensures.symbols (counted_around c.args.text.now.symbols.items c.args.place c.around-around.result.left
     c.around-around.result.gone c.around-around.result.right c.around-around.result.before
-    c.around-around.result.behind c.args.symbol c.around-around.ensures (fits at_2) c.args.pair.0 c.args.pair.1
+    c.around-around.result.after c.args.symbol c.around-around.ensures (fits at_2) c.args.pair.0 c.args.pair.1
     c.requires.left (is_b at_2) c.args.text.now.next.items c.args.text.now.previous.items
     (count_of c.args.pairs.now) (count_of c.lower_some-2.new.pairs)
     (places_of c.args.pairs.now) (places_of c.lower_some-2.new.pairs) c.requires.text.threads
@@ -187,9 +187,10 @@ returns-clause-counted c = let at_2 = (goal.at.returns-clause-counted c).In_ok-n
 
 pub returns-clause-passing : goal.returns-clause-passing
 returns-clause-passing c = let at_2 = (goal.at.returns-clause-passing c).In_ok-note_some-2 in
-    λ first places q passing order. rw c.join_around.ensures.symbols (passing_around c.args.text.now.symbols.items c.args.place c.around-around.result.left
+    λ first places q passing order. rw c.join_around.ensures.symbols
+    (passing_around c.args.text.now.symbols.items c.args.place c.around-around.result.left
     c.around-around.result.gone c.around-around.result.right c.around-around.result.before
-    c.around-around.result.behind c.args.symbol c.around-around.ensures (fits at_2) c.args.pair.0 c.args.pair.1
+    c.around-around.result.after c.args.symbol c.around-around.ensures (fits at_2) c.args.pair.0 c.args.pair.1
     c.requires.left (is_b at_2) c.args.text.now.next.items c.args.text.now.previous.items
     c.requires.text.threads c.requires.text.ends c.requires.fits c.requires.plain.0 c.requires.plain.1 (begins at_2)
     (new_a at_2) c.requires.other (new_r at_2) first places q passing order)
@@ -204,11 +205,12 @@ returns-clause-come c = let at_3 = (goal.at.returns-clause-come c).After-join_ar
 pub returns-clause-place : goal.returns-clause-place
 returns-clause-place c = let at_2 = (goal.at.returns-clause-place c).In_ok-note_some-2 in
     rw c.join_around.ensures.symbols (after-place c.args.text.now.symbols.items c.args.place c.around-around.result.gone
-    c.around-around.result.right c.args.symbol c.around-around.ensures.near c.around-around.ensures.next_near (fits at_2))
+    c.around-around.result.right c.args.symbol c.around-around.ensures.near c.around-around.ensures.next_near
+    (fits at_2))
 
 pub returns-clause-run : goal.returns-clause-run
 returns-clause-run c = let at_2 = (goal.at.returns-clause-run c).In_ok-note_some-2 in
     rw c.join_around.ensures.symbols (c.counts_next.ensures ∙ run_after c.args.text.now.symbols.items c.args.place
     c.around-around.result.left c.around-around.result.gone c.around-around.result.right c.around-around.result.before
-    c.around-around.result.behind c.args.symbol c.around-around.ensures (fits at_2) c.args.pair.0 c.args.pair.1
+    c.around-around.result.after c.args.symbol c.around-around.ensures (fits at_2) c.args.pair.0 c.args.pair.1
     c.requires.left (is_b at_2) c.args.odd (run at_2))

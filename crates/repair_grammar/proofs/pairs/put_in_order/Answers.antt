@@ -2,7 +2,8 @@ use Rattle.std.proofs.lemmas.List.Sorted.{Contains-permutation, IsNonDecreasingB
 use Rattle.repair_grammar.proofs.pairs.put_in_order.Goals as goal
 
 pub returns-then-not-is_sorted-clause-order : goal.returns-then-not-is_sorted-clause-order
-returns-then-not-is_sorted-clause-order c = IsNonDecreasingBy-from_sort (λ place. place) _ c.sort_unstable.ensures.sorted
+returns-then-not-is_sorted-clause-order c = IsNonDecreasingBy-from_sort
+    (λ place. place) _ c.sort_unstable.ensures.sorted
 
 pub returns-then-not-is_sorted-clause-all : goal.returns-then-not-is_sorted-clause-all
 returns-then-not-is_sorted-clause-all c = λ place inside.

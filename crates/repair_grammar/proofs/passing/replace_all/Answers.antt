@@ -39,7 +39,8 @@ join_at-requires-clause-begins c = let o = (goal.at.join_at-requires-clause-begi
     let is = c.if-not-stands.ensures.yes refl in
     let symbols : List ℕ = c.places.text.symbols.items in
     let place : ℕ = get_or c.args.places.now c.places.place-index 0 in
-    λ same. passing-begins c.args.text.now.symbols.items symbols c.args.pair c.args.symbol place _ _ _ (passing o) (order o)
+    λ same. passing-begins c.args.text.now.symbols.items symbols c.args.pair c.args.symbol place _ _ _ (passing o)
+    (order o)
     (c.places.invariant.text.threads.back place
     (not_first symbols place c.places.invariant.text.ends (omega (arith, is.1, c.requires.plain.0))) is.0
     (omega (arith, is.1, c.requires.plain.0))) is.1 same

@@ -9,7 +9,12 @@ pub each-preserved : goal.each-preserved
 each-preserved c =
     let blocks : List (List ℕ) = c.args.blocks.now in
     let i : ℕ = c.each.block-index in
-    let within : i < length blocks = omega (arith, c.each-test.true, ap (λ (xs : List (List ℕ)). length xs) c.as_slice-block-items.ensures) in
+    let within : i < length blocks = omega (
+      arith,
+      c.each-test.true,
+      ap
+          (λ (xs : List (List ℕ)). length xs) c.as_slice-block-items.ensures,
+    ) in
     let block : List ℕ = get_or blocks i [] in
     let item : c.as_slice.result.now ≡ block =
     c.as_slice.ensures ∙ c.block-item.is

@@ -7,7 +7,8 @@ use Rattle.repair_grammar.proofs.pairs.Pairs.lower.Goals.{After-remove}
 
 -- the pair counts no more
 none : (c : After-remove) → count_in_table c.lower_in.new.table c.args.pair ≡ 0
-none c = let once : count_in_table c.lower_in.new.table c.args.pair + 1 ≡ count_in_table c.args.self.now.table c.args.pair =
+none c = let once : count_in_table c.lower_in.new.table c.args.pair + 1
+    ≡ count_in_table c.args.self.now.table c.args.pair =
     rw (own_pair c.args.pair.0 c.args.pair.1) at (c.lower_in.ensures.counts c.args.pair) in
     omega (arith, once, c.lower_in.ensures.value, c.if-lower_in-eq0.true)
 

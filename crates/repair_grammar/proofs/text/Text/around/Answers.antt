@@ -10,26 +10,27 @@ returns c =
     let next : List ℕ = c.args.self.now.next.items in
     let previous : List ℕ = c.args.self.now.previous.items in
     let left : AreNeighbours symbols c.index.result.now c.args.place =
-    neighbour_back symbols next previous c.args.place c.index.result.now c.requires.threads
-    (not_first symbols c.args.place c.requires.ends c.requires.stands) c.requires.inside
+    neighbour_back symbols next previous c.args.place c.index.result.now c.requires.text.threads
+    (not_first symbols c.args.place c.requires.text.ends c.requires.stands) c.requires.inside
     (omega (arith, c.requires.stands)) c.index.ensures in
     let near : AreNeighbours symbols c.args.place c.index-2.result.now =
-    neighbour_on symbols next previous c.args.place c.index-2.result.now c.requires.threads
-    (not_last symbols c.args.place c.requires.ends c.requires.inside c.requires.stands)
+    neighbour_on symbols next previous c.args.place c.index-2.result.now c.requires.text.threads
+    (not_last symbols c.args.place c.requires.text.ends c.requires.inside c.requires.stands)
     (omega (arith, c.requires.stands)) c.index-2.ensures in
     let same : get_or next c.args.place 0 ≡ c.index-2.result.now =
-    get_or_default next c.args.place 0 c.index-2.result.now (omega (arith, c.requires.threads.nexts, c.requires.inside))
+    get_or_default next c.args.place 0 c.index-2.result.now
+    (omega (arith, c.requires.text.threads.nexts, c.requires.inside))
     ∙ sym c.index-2.ensures in
     let gone : at symbols c.index-2.result.now < 4294967294 = rw same at c.requires.gone in
-    let behind : AreNeighbours symbols c.index-2.result.now c.index-3.result.now =
-    neighbour_on symbols next previous c.index-2.result.now c.index-3.result.now c.requires.threads
-    (not_last symbols c.index-2.result.now c.requires.ends near.within gone)
+    let beyond : AreNeighbours symbols c.index-2.result.now c.index-3.result.now =
+    neighbour_on symbols next previous c.index-2.result.now c.index-3.result.now c.requires.text.threads
+    (not_last symbols c.index-2.result.now c.requires.text.ends near.within gone)
     near.right_stands c.index-3.ensures in
     record {
       left_near = left;
       near = near;
-      next_near = behind;
+      next_near = beyond;
       before_is = read_is symbols c.index.result.now c.index-4.result.now
           (omega (arith, left.before, left.within)) c.index-4.ensures;
-      behind_is = read_is symbols c.index-3.result.now c.index-5.result.now behind.within c.index-5.ensures;
+      after_is = read_is symbols c.index-3.result.now c.index-5.result.now beyond.within c.index-5.ensures;
     }

@@ -6,7 +6,7 @@ use Rattle.repair_grammar.proofs.text.Text.is_odd_before.Goals as goal
 pub run-init : goal.run-init
 run-init c =
     let near : AreNeighbours c.args.self.now.symbols.items c.index.result.now c.args.place =
-    neighbour_back _ c.args.self.now.next.items c.args.self.now.previous.items _ _ c.requires.threads c.requires.inside.0
+    neighbour_back _ c.args.self.now.next.items c.args.self.now.previous.items _ _ c.requires.text.threads c.requires.inside.0
     c.requires.inside.1 c.requires.stands c.index.ensures in
     record {
       stands = near.left_stands;
@@ -21,8 +21,8 @@ run-preserved c =
     read_is symbols c.run.before c.index-in-run.result.now c.run.invariant.within c.index-in-run.ensures
     ∙ c.run-test.true in
     let near : AreNeighbours symbols c.index-in-run-2.result.now c.run.before =
-    neighbour_back _ c.args.self.now.next.items c.args.self.now.previous.items _ _ c.requires.threads
-    (not_first symbols c.run.before c.requires.ends (omega (arith, is, c.requires.plain)))
+    neighbour_back _ c.args.self.now.next.items c.args.self.now.previous.items _ _ c.requires.text.threads
+    (not_first symbols c.run.before c.requires.text.ends (omega (arith, is, c.requires.plain)))
     c.run.invariant.within c.run.invariant.stands c.index-in-run-2.ensures in
     record {
       stands = near.left_stands;

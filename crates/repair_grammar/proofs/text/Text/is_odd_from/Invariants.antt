@@ -6,11 +6,11 @@ use Rattle.repair_grammar.proofs.text.Text.is_odd_from.Given as goal
 -- what was passed, turned by what is left
 abbrev pub invariant-run : goal.invariant-run
 invariant-run l = record {
-  stands : at l.self.symbols.items l.behind < 4294967295;
-  within : l.behind < length l.self.symbols.items;
+  stands : at l.self.symbols.items l.here < 4294967295;
+  within : l.here < length l.self.symbols.items;
   left : begins_odd l.symbol (live (drop l.place l.self.symbols.items))
-      ≡ turned_by l.odd (begins_odd l.symbol (live (drop l.behind l.self.symbols.items)));
+      ≡ turned_by l.odd (begins_odd l.symbol (live (drop l.here l.self.symbols.items)));
 }
 
 abbrev pub decreases-run : goal.decreases-run
-decreases-run l = length l.self.symbols.items - l.behind
+decreases-run l = length l.self.symbols.items - l.here
