@@ -12,10 +12,11 @@ pub record IsText (text : Text) : Type 0 where
 unfoldable pub plain_of : ℕ → ℕ → Option (ℕ × ℕ)
 plain_of x y = if nat_lt x 4294967294 && nat_lt y 4294967294 then Some (x, y) else None
 
--- the pair on one side that counts once less: x and a, or two a where the run beyond x is odd
+-- the pair on the left that counts once less: x and a, or two a where the run that ends there is odd
 unfoldable pub gone_left : Bool → ℕ → ℕ → ℕ → Option (ℕ × ℕ)
 gone_left odd x a b = if x == a then (if not (a == b) && odd then Some (a, a) else None) else plain_of x a
 
+-- the pair on the right that counts once less: b and y, or two b where the run that begins there is odd
 unfoldable pub gone_right : Bool → ℕ → ℕ → ℕ → Option (ℕ × ℕ)
 gone_right odd a b y = if y == b then (if not (a == b) && odd then Some (b, b) else None) else plain_of b y
 

@@ -7,7 +7,7 @@ use Rattle.repair_grammar.specs.Kept.{items_of}
 use Rattle.repair_grammar.specs.Pairs.{count_of, places_of}
 use Rattle.repair_grammar.specs.Threads.{live, row_of, IsPlain}
 use Rattle.repair_grammar.proofs.PassLemmas.{length-replaced}
-use Rattle.repair_grammar.proofs.ExpansionLemmas.{all_below-replaced, below-more}
+use Rattle.repair_grammar.proofs.ExpansionLemmas.{all_below-replaced}
 use Rattle.repair_grammar.proofs.RoundLemmas.{IsNext, next_is, first_same, re_pair-is, rounds-end}
 use Rattle.repair_grammar.proofs.CoverLemmas.{counted_below, covers_after, covers_fresh}
 use Rattle.repair_grammar.proofs.RowLemmas.{below_marks, new_text, row_words, row_ends, word_at}

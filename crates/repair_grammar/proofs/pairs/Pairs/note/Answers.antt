@@ -1,4 +1,4 @@
-use Rattle.std.proofs.Common.{◌≡◌, ◌+◌, ◌≤◌, ℕ, Bool, true, false, cond, arith, ◌∙◌, ap}
+use Rattle.std.proofs.Common.{◌+◌, ◌≤◌, Bool, true, false, cond, arith, ◌∙◌, ap}
 use Rattle.repair_grammar.specs.RePair.{is_pair}
 use Rattle.repair_grammar.specs.Pairs.{count_of}
 use Rattle.repair_grammar.proofs.PairLemmas.{come_noted}
