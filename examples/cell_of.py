@@ -22,15 +22,14 @@ def main():
     parser.add_argument("y", type=Decimal)
     words = parser.parse_args()
     try:
-        plane = tracks.plane_of(words)
-    except tracks.Refused as refusal:
+        grid = tracks.Grid(tracks.plane_of(words), cell=words.cell, west=words.west)
+        if words.back:
+            longitude, latitude = grid.corner(int(words.x), int(words.y))
+            print(f"{longitude:.5f} {latitude:.5f}")
+        else:
+            print(*grid.cell_of(words.x, words.y))
+    except (tracks.Refused, ValueError) as refusal:
         parser.error(str(refusal))
-    if words.back:
-        latitude, longitude = plane.degrees(int(words.x) * words.cell, int(words.y) * words.cell)
-        print(f"{longitude:.5f} {latitude:.5f}")
-    else:
-        x, y = plane.place(words.y, tracks.turned(words.x, words.west))
-        print(x // words.cell, y // words.cell)
 
 
 if __name__ == "__main__":

@@ -18,9 +18,9 @@ def main():
     parser.add_argument("tick", type=int)
     parser.add_argument("time")
     words = parser.parse_args()
-    length = words.tick * words.unit
     try:
-        print(tracks.time_text(int(words.time) * length) if words.back else tracks.seconds_of(words.time) // length)
+        grid = tracks.Grid(tick=words.tick, unit=words.unit)
+        print(tracks.time_text(grid.seconds(int(words.time))) if words.back else grid.instant(words.time))
     except ValueError as fault:
         parser.error(str(fault))
 

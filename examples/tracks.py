@@ -4,114 +4,21 @@ A row is `object,instant,x,y`: the object's number, seconds since 1970-01-01 00:
 whole numbers, and what is not whole is rounded down, also below 0, as gract does.
 """
 
-import csv
-import datetime
-import math
 import os
-import re
 import sys
-from decimal import Decimal, InvalidOperation
+from pathlib import Path
 
-# The greatest object number that gract takes.
-MOST_OBJECT = 2**32 - 1
+# Times, planes, and the numbers of names are those of the package, in python/ beside this folder.
+sys.path.insert(0, str(Path(__file__).resolve().parent.parent / "python"))
 
-# A time of so many units or more, on either side of 0, is in milliseconds: as seconds it would lie after the year 5138.
-LEAST_MILLISECONDS = 10**11
-
-# The mean radius of the earth, in metres (IUGG).
-RADIUS = 6371008.8
-METRES_A_DEGREE = RADIUS * math.pi / 180
-
-FIRST_DAY = datetime.date(1970, 1, 1).toordinal()
-ISO_TIME = re.compile(
-    r"(\d{4})-(\d\d)-(\d\d)(?:[T ](\d\d):(\d\d)(?::(\d\d)(?:[.,]\d+)?)?)?\s*(?:Z|UTC|([+-])(\d\d):?(\d\d))?"
-)
-NUMBER = re.compile(r"[+-]?\d+(?:\.\d+)?")
+from gract import Grid
+from gract.names import Numbers as PlainNumbers
+from gract.planes import Degrees, Metres, degrees_of, turned
+from gract.times import FIRST_DAY, seconds_of, time_text
 
 
 class Refused(Exception):
     """Why a file cannot be made into rows."""
-
-
-def seconds_of(text, form=None):
-    """Seconds since 1970 of a time: an ISO time, a number of seconds or milliseconds, or a text of the strptime form given.
-    A time without an offset is in UTC. Raises ValueError."""
-    text = text.strip()
-    if form:
-        time = datetime.datetime.strptime(text, form)
-        if time.tzinfo is None:
-            time = time.replace(tzinfo=datetime.timezone.utc)
-        passed = time - datetime.datetime(1970, 1, 1, tzinfo=datetime.timezone.utc)
-        return passed.days * 86400 + passed.seconds
-    if NUMBER.fullmatch(text):
-        units = math.floor(Decimal(text))
-        return units // 1000 if abs(units) >= LEAST_MILLISECONDS else units
-    found = ISO_TIME.fullmatch(text)
-    if not found:
-        raise ValueError(f"not a time: {text}")
-    year, month, day, hour, minute, second = (int(part or 0) for part in found.groups()[:6])
-    if hour > 23 or minute > 59 or second > 60:
-        raise ValueError(f"not a time: {text}")
-    days = datetime.date(year, month, day).toordinal() - FIRST_DAY
-    offset = 60 * (60 * int(found.group(8) or 0) + int(found.group(9) or 0))
-    return 86400 * days + 3600 * hour + 60 * minute + second - (-offset if found.group(7) == "-" else offset)
-
-
-def time_text(seconds):
-    """A number of seconds since 1970 as an ISO time."""
-    day = datetime.date.fromordinal(FIRST_DAY + seconds // 86400)
-    rest = seconds % 86400
-    return f"{day} {rest // 3600:02}:{rest // 60 % 60:02}"
-
-
-def degrees_of(latitude, longitude, most_longitude=180):
-    """Two texts as decimal degrees; None where one is no number, or is off the globe, as AIS's 91 and 181 are."""
-    try:
-        latitude, longitude = Decimal(latitude.strip()), Decimal(longitude.strip())
-    except InvalidOperation:
-        return None
-    if not (latitude.is_finite() and longitude.is_finite()):
-        return None
-    if abs(latitude) > 90 or not -180 <= longitude <= most_longitude:
-        return None
-    return latitude, longitude
-
-
-class Metres:
-    """The plane of whole metres round a middle latitude: a degree of longitude is everywhere as wide as there.
-
-    At the middle latitude a `disc` is a circle on the ground, and `nearest` compares distances on the ground. At another
-    latitude a metre east and west in the plane is cos(latitude) / cos(middle) metres on the ground.
-    """
-
-    def __init__(self, middle):
-        self.east = METRES_A_DEGREE * math.cos(math.radians(middle))
-        self.north = METRES_A_DEGREE
-        self.text = f"whole metres, with the width of a degree at latitude {middle}"
-
-    def place(self, latitude, longitude):
-        return math.floor(float(longitude) * self.east), math.floor(float(latitude) * self.north)
-
-    def degrees(self, x, y):
-        return y / self.north, x / self.east
-
-
-class Degrees:
-    """The plane of degrees, so many units to each.
-
-    A `disc` and `nearest` count a degree of longitude like one of latitude. On the ground it is cos(latitude) times as wide: at
-    60 degrees a disc is half as wide as it is high, and `nearest` takes what lies east or west for twice as far as it is.
-    """
-
-    def __init__(self, units):
-        self.units = units
-        self.text = f"degrees, {units} units to each"
-
-    def place(self, latitude, longitude):
-        return math.floor(longitude * self.units), math.floor(latitude * self.units)
-
-    def degrees(self, x, y):
-        return y / self.units, x / self.units
 
 
 def add_plane(parser, plane, units):
@@ -138,38 +45,14 @@ def plane_of(words, latitudes=None):
     return Metres(round((min(latitudes) + max(latitudes)) / 2))
 
 
-def turned(longitude, west):
-    """The same longitude, from `west` on and less than once round."""
-    return longitude - 360 * math.floor((longitude - west) / 360)
-
-
-class Numbers:
-    """The number of each name. Names that are whole numbers up to 2^32 - 1 are their own; with a file of names all are
-    numbered from 1 as they come, after those that the file has from before."""
-
-    def __init__(self, file):
-        self.file, self.found = file, {}
-        if file and os.path.exists(file):
-            with open(file, newline="", encoding="utf-8") as lines:
-                self.found = {name: int(number) for number, name in list(csv.reader(lines))[1:]}
-        self.last = max(self.found.values(), default=0)
+class Numbers(PlainNumbers):
+    """The number of each name, where a name that can be none is told with what to do about it."""
 
     def number(self, name):
-        if self.file:
-            if name not in self.found:
-                self.last += 1
-                self.found[name] = self.last
-            return self.found[name]
-        if not (name.isascii() and name.isdigit()) or int(name) > MOST_OBJECT:
-            raise Refused(f"{name} is no object number up to {MOST_OBJECT}: give --names FILE, and all are numbered from 1")
-        return int(name)
-
-    def save(self):
-        if self.file:
-            with open(self.file, "w", newline="", encoding="utf-8") as lines:
-                table = csv.writer(lines, lineterminator="\n")
-                table.writerow(("object", "name"))
-                table.writerows((number, name) for name, number in self.found.items())
+        try:
+            return super().number(name)
+        except ValueError as fault:
+            raise Refused(f"{fault}: give --names FILE, and all are numbered from 1") from None
 
 
 class Rows:

@@ -1,0 +1,243 @@
+"""What can go wrong, each an exception of its own, with its fields and a sentence for people.
+
+`GractError` is above them all. A wrong argument is an `ArgumentError` and a bad question line a `BadQuestion`, both `ValueError`s
+too. What the program refuses has the fields that the program tells; docs/QUESTIONS.md has its outcomes.
+"""
+
+from typing import Dict, NamedTuple, Optional, Sequence
+
+
+class GractError(Exception):
+    """Anything that this package or the program refuses."""
+
+
+class ArgumentError(GractError, ValueError):
+    """An argument that is refused before the program is asked. `argument` is its name, `problem` what is wrong with it."""
+
+    def __init__(self, argument: str, problem: str):
+        super().__init__(f"{argument}: {problem}")
+        self.argument, self.problem = argument, problem
+
+
+class GridError(GractError, ValueError):
+    """A grid that cannot be read, or that is not the one of its index."""
+
+
+class ClosedError(GractError, ValueError):
+    """An index, or a cursor, that is asked after it was closed."""
+
+    def __init__(self, what: str):
+        super().__init__(f"{what} is closed")
+
+
+class SlotsError(GractError):
+    """More cursors are held than the program has slots for."""
+
+    def __init__(self, slots: int):
+        super().__init__(f"{slots} cursors are held already, and that is the most: close one, or draw it to its end")
+        self.slots = slots
+
+
+class PandasMissing(GractError, ImportError):
+    """A DataFrame was asked for, and pandas is not there."""
+
+    def __init__(self) -> None:
+        super().__init__("pandas is not installed: use the named tuples, or records(), which has the same columns")
+
+
+class ProgramNotFound(GractError, FileNotFoundError):
+    """The program gract is not there, or cannot be run. `tried` says where it was looked for."""
+
+    def __init__(self, tried: Sequence[str]):
+        super().__init__(
+            f"the program gract was not found: {'; '.join(tried)}. make gract builds it; "
+            "say where it is by program= or by the variable GRACT"
+        )
+        self.tried = tuple(tried)
+
+
+class OverwriteError(GractError, FileExistsError):
+    """`build` was to write over a file that is no index."""
+
+    def __init__(self, path: str):
+        super().__init__(f"{path} is there and is no index: it is not written over. Take another name, or remove it")
+        self.path = path
+
+
+class BadQuestion(GractError, ValueError):
+    """A question line that the program calls bad. `line` is the line, `cause` a word of `CAUSES`, `place` the place of the word that
+    is bad, from 1, where the cause has one."""
+
+    CAUSES = {
+        "long": "it has more than 1,024 bytes",
+        "word": "its first word is no question, or its region is of no kind that there is",
+        "count": "it has too few words or too many",
+        "number": "its word {place} is no number",
+        "range": "its word {place} is out of range",
+        "held": "the slot holds a cursor already",
+        "free": "the slot holds no cursor",
+    }
+
+    def __init__(self, line: str, cause: str, place: Optional[int] = None):
+        why = self.CAUSES.get(cause, "it is refused").format(place=place)
+        shown = line if len(line) <= 80 else f"{line[:77]}..."
+        super().__init__(f"bad question '{shown}' ({cause}): {why}")
+        self.line, self.cause, self.place = line, cause, place
+
+
+class ReplyError(GractError):
+    """What the program said is no reply: it is another program, or another version. `said` is the line."""
+
+    def __init__(self, program: str, said: str):
+        super().__init__(f"{program} said '{said[:80]}', which is no reply of gract: is it the right program?")
+        self.program, self.said = program, said
+
+
+class ProgramError(GractError):
+    """An outcome of the program other than that all was done. `status` is what it ended with, `last_words` what it said on
+    standard error."""
+
+    status: Optional[int] = None
+    last_words: str = ""
+
+
+class ChildDied(ProgramError):
+    """The program ended, and not as it says that it does: by a signal, or before all questions had their replies. `status` is
+    negative for a signal."""
+
+    def __init__(self, status: Optional[int], last_words: str):
+        how = "with no status" if status is None else f"by signal {-status}" if status < 0 else f"with status {status}"
+        words = f"; its last words were: {last_words}" if last_words else ", and said nothing"
+        super().__init__(f"the program gract ended {how} while it was needed{words}. The next question begins it anew")
+
+
+class WordsError(ProgramError):
+    """The program does not take its command words. `place` is that of the first bad one, from 1."""
+
+    def __init__(self, place: int):
+        super().__init__(f"the program does not take word {place} of its command: is it of the version of this package?")
+        self.place = place
+
+
+class EmptyError(ProgramError, ValueError):
+    """There is not a single row."""
+
+    def __init__(self, file: str):
+        super().__init__(f"{file} has no rows, and an index needs one")
+        self.file = file
+
+
+class RowError(ProgramError, ValueError):
+    """A record of a CSV file that is no row. `record` is its number from 1, `line` the line on which it begins, found by reading
+    the file again, or None. `fault` is `count`, and `field` how many fields it has; or `number` or `range`, and `field` which
+    one it is, from 1. `text` is the record's fields."""
+
+    FIELDS = ("object", "instant", "x", "y")
+
+    def __init__(self, file: str, record: int, field: int, fault: str, line: Optional[int] = None, text: Sequence[str] = ()):
+        name = self.FIELDS[field - 1] if 1 <= field <= 4 else str(field)
+        span = "0 to 4294967295" if field == 1 else "-1099511627776 to 1099511627776"
+        why = {
+            "count": f"it has {field} fields, and a row has four: object,instant,x,y",
+            "number": f"its field {field} ({name}) is no whole number",
+            "range": f"its field {field} ({name}) is not from {span}",
+        }[fault]
+        where = f"line {line}, record {record}" if line else f"record {record}"
+        shown = f" ({','.join(text)[:80]})" if text else ""
+        heading = "; a heading must be object,instant,x,y" if record == 1 and fault != "range" else ""
+        super().__init__(f"{file}, {where}{shown}: {why}{heading}")
+        self.file, self.record, self.field, self.fault = file, record, field, fault
+        self.line, self.text = line, tuple(text)
+
+
+class Limit(NamedTuple):
+    """A limit of the program: its number, what it counts, and what one does at it."""
+
+    most: int
+    what: str
+    advice: str
+
+
+PARTS = "make parts by day, week or month, each with its own index"
+
+LIMITS: Dict[str, Limit] = {
+    "csv": Limit(2**29, "bytes of the CSV file", PARTS),
+    "rows": Limit(2**24, "rows", PARTS),
+    "objects": Limit(2**16, "different objects", "make parts by groups of objects, each with its own index"),
+    "span": Limit(2**22, "instants from the first row to the last", f"take a greater tick, or {PARTS}; is a time wrong?"),
+    "extent": Limit(2**20, "cells along x or y", "take a greater cell, or make parts by region; is a position wrong?"),
+    "blocks": Limit(2**24, "objects times periods", f"take a greater period, or {PARTS}"),
+    "symbols": Limit(2**25, "instants after the first row of each object in each period",
+                     f"take a smaller period, where objects are seldom there, or a greater tick, or {PARTS}"),
+    "index": Limit(2**30, "bytes of the index file", "is it an index at all? No index that build makes is so long"),
+    "questions": Limit(2**32, "bytes of questions", "begin the program anew"),
+}
+
+
+class LimitError(ProgramError, ValueError):
+    """A limit that is passed. `kind` is a key of `LIMITS`, `value` what there is, `limit` the most that there may be."""
+
+    def __init__(self, kind: str, value: int, file: Optional[str] = None):
+        limit = LIMITS[kind]
+        super().__init__(
+            f"{f'{file}: ' if file else ''}the limit {kind} is passed: {value:,} {limit.what}, and {limit.most:,} is the most. "
+            f"What to do: {limit.advice}"
+        )
+        self.kind, self.value, self.limit, self.file = kind, value, limit.most, file
+
+
+class FormatError(ProgramError, ValueError):
+    """A file that is no index. `section`, `period` (from 0), `place` (from 0) and `kind` are its first flaw, as docs/FORMAT.md has
+    them."""
+
+    def __init__(self, file: str, section: str, period: int, place: int, kind: str):
+        flaw = f"section {section}, period {period}, place {place}: {kind}"
+        if section == "header" and place == 0:
+            why = f"{file} is no index of gract ({flaw}): it does not begin as one"
+        elif kind in ("short", "extra"):
+            why = f"{file} is damaged ({flaw}): bytes {'are missing' if kind == 'short' else 'follow its end'}. Was it copied whole?"
+        else:
+            why = f"{file} is damaged ({flaw}). Take a copy of it, or build it again from its rows"
+        super().__init__(why)
+        self.file, self.section, self.period, self.place, self.kind = file, section, period, place, kind
+
+
+class DeviceError(ProgramError, OSError):
+    """A file or a stream that failed."""
+
+
+class LoadError(DeviceError):
+    """A file could not be read. `file` is its name."""
+
+    def __init__(self, file: str, why: str = "the program could not read it"):
+        super().__init__(f"{file} could not be read: {why}")
+        self.file = file
+
+
+class SaveError(DeviceError):
+    """An index could not be saved. `file` is its name; what it holds now is what it held, or nothing that can be relied on."""
+
+    def __init__(self, file: str):
+        super().__init__(f"{file} could not be saved: is there room, and may its folder be written?")
+        self.file = file
+
+
+class ListenError(DeviceError):
+    """The program could not read its questions."""
+
+    def __init__(self) -> None:
+        super().__init__("the program could not read the questions that it was asked")
+
+
+class SayError(DeviceError):
+    """The program could not write its replies."""
+
+    def __init__(self) -> None:
+        super().__init__("the program could not write its replies")
+
+
+class MemoryRefused(ProgramError, MemoryError):
+    """The program was refused memory."""
+
+    def __init__(self) -> None:
+        super().__init__("the program was refused memory: ask for less at once, or free some. The next question begins it anew")

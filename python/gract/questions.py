@@ -1,0 +1,239 @@
+"""The kinds of questions, in one table: `KINDS`. A new kind of the program is a class here and a line there.
+
+A question is made with whole numbers alone, of cells and instants, and is refused at once, by `ArgumentError`, where the
+program would call its line bad. So no question of these is ever a bad line.
+"""
+
+import dataclasses
+from typing import Any, Callable, ClassVar, Dict, List, NamedTuple, Optional, Tuple, Type, Union
+
+from . import answers
+from .errors import ArgumentError
+from .grid import whole
+
+# The ranges of words, as docs/QUESTIONS.md has them.
+OBJECT = COUNT = (0, 2**32 - 1)
+INSTANT = COORDINATE = (-2**41, 2**41)
+RADIUS = (0, 2**42)
+SLOT = (0, 15)
+
+Range = Tuple[int, int]
+
+
+class Rect(NamedTuple):
+    """The cells from X1 to X2 and from Y1 to Y2, both counted; none where they are the wrong way round."""
+
+    x1: int
+    y1: int
+    x2: int
+    y2: int
+
+    def contains(self, x: int, y: int) -> bool:
+        """Whether the region has that cell."""
+        return self.x1 <= x <= self.x2 and self.y1 <= y <= self.y2
+
+
+class Disc(NamedTuple):
+    """The cells whose squared distance from (X, Y) is at most R times R."""
+
+    x: int
+    y: int
+    r: int
+
+    def contains(self, x: int, y: int) -> bool:
+        """Whether the region has that cell."""
+        return (x - self.x) ** 2 + (y - self.y) ** 2 <= self.r**2
+
+
+Region = Union[Rect, Disc]
+
+# Each kind of region: its word, and the ranges of its numbers.
+REGIONS: Dict[Type[Any], Tuple[str, Tuple[Range, ...]]] = {
+    Rect: ("rect", (COORDINATE,) * 4),
+    Disc: ("disc", (COORDINATE, COORDINATE, RADIUS)),
+}
+
+EVERYWHERE = Rect(COORDINATE[0], COORDINATE[0], COORDINATE[1], COORDINATE[1])
+
+
+def rect(x1: int, y1: int, x2: int, y2: int) -> Rect:
+    """The cells from x1 to x2 and from y1 to y2, both counted. Refuses what are no coordinates of cells."""
+    return checked_region("rect", Rect(x1, y1, x2, y2))
+
+
+def disc(x: int, y: int, r: int) -> Disc:
+    """The cells whose distance from (x, y) is at most r. Refuses what are no coordinates, and a radius outside 0 to 2^42."""
+    return checked_region("disc", Disc(x, y, r))
+
+
+def checked_region(argument: str, region: Any) -> Any:
+    """The region with plain whole numbers; refuses what is no region, by the name of the argument and of the number."""
+    if type(region) not in REGIONS:
+        raise ArgumentError(argument, f"{region!r} is no region: make one by rect(x1, y1, x2, y2) or disc(x, y, r)")
+    ranges = REGIONS[type(region)][1]
+    numbers = zip(region._fields, region, ranges)
+    return type(region)(*(whole(f"{argument}: {name}", value, *span) for name, value, span in numbers))
+
+
+def region_words(region: Region) -> str:
+    """The words of a region in a question line."""
+    return " ".join([REGIONS[type(region)][0], *map(str, region)])
+
+
+def number(span: Range) -> Any:
+    """A field that is a whole number in a range."""
+    return dataclasses.field(metadata={"span": span})
+
+
+@dataclasses.dataclass(frozen=True)
+class Question:
+    """A question: its fields are the words of its line, in their order. `read` makes the answer of the reply's lines before `ok`."""
+
+    word: ClassVar[str]
+    read: ClassVar[Callable[[List[bytes]], Any]]
+    # The fields that every row of the answer has in common.
+    common: ClassVar[Tuple[str, ...]] = ()
+
+    def __post_init__(self) -> None:
+        for field in dataclasses.fields(self):
+            value, span = getattr(self, field.name), field.metadata.get("span")
+            good = whole(field.name, value, *span) if span else checked_region(field.name, value)
+            if good is not value:
+                object.__setattr__(self, field.name, good)
+
+    @property
+    def line(self) -> str:
+        """The question's line, without its end."""
+        values = (getattr(self, field.name) for field in dataclasses.fields(self))
+        return " ".join([self.word, *(str(value) if isinstance(value, int) else region_words(value) for value in values)])
+
+    @property
+    def asked(self) -> Dict[str, int]:
+        """What every row of the answer has in common."""
+        return {name: getattr(self, name) for name in self.common}
+
+
+def rows_of(kind: Type[Any]) -> Any:
+    """Reads lines as named tuples of that kind."""
+    return staticmethod(lambda lines: [kind._make(map(int, line.split())) for line in lines])
+
+
+def read_cell(lines: List[bytes]) -> Optional[answers.Cell]:
+    """The cell of a reply to `position`, or None."""
+    if not lines:
+        return None
+    x, y = lines[0].split()
+    return answers.Cell(int(x), int(y))
+
+
+def read_facts(lines: List[bytes]) -> answers.Facts:
+    """The facts of a reply to `info`. Raises ValueError where they are others."""
+    told = {name.decode(): int(value) for name, value in (line.split() for line in lines)}
+    if tuple(told) != answers.Facts._fields:
+        raise ValueError("other facts")
+    return answers.Facts(**told)
+
+
+@dataclasses.dataclass(frozen=True)
+class Position(Question):
+    """Where an object was at an instant."""
+
+    word = "position"
+    read = staticmethod(read_cell)
+    common = ("object", "instant")
+    object: int = number(OBJECT)
+    instant: int = number(INSTANT)
+
+
+@dataclasses.dataclass(frozen=True)
+class Path(Question):
+    """All rows of an object from one instant to another, both counted."""
+
+    word = "path"
+    read = rows_of(answers.Stop)
+    common = ("object",)
+    object: int = number(OBJECT)
+    since: int = number(INSTANT)
+    until: int = number(INSTANT)
+
+
+@dataclasses.dataclass(frozen=True)
+class Slice(Question):
+    """Who was in a region at an instant."""
+
+    word = "slice"
+    read = rows_of(answers.Sighting)
+    common = ("instant",)
+    instant: int = number(INSTANT)
+    region: Region = dataclasses.field()
+
+
+@dataclasses.dataclass(frozen=True)
+class Interval(Question):
+    """Who was in a region at some instant of a window, and where first."""
+
+    word = "interval"
+    read = rows_of(answers.Hit)
+    since: int = number(INSTANT)
+    until: int = number(INSTANT)
+    region: Region = dataclasses.field()
+
+
+@dataclasses.dataclass(frozen=True)
+class Nearest(Question):
+    """Who was nearest to a cell at an instant."""
+
+    word = "nearest"
+    read = rows_of(answers.Near)
+    common = ("instant",)
+    count: int = number(COUNT)
+    instant: int = number(INSTANT)
+    x: int = number(COORDINATE)
+    y: int = number(COORDINATE)
+
+
+@dataclasses.dataclass(frozen=True)
+class Info(Question):
+    """Facts of the index."""
+
+    word = "info"
+    read = staticmethod(read_facts)
+
+
+@dataclasses.dataclass(frozen=True)
+class Hold(Question):
+    """A slot is to hold a cursor over a path. `Index.held` asks it."""
+
+    word = "hold"
+    read = rows_of(answers.Stop)
+    slot: int = number(SLOT)
+    object: int = number(OBJECT)
+    since: int = number(INSTANT)
+    until: int = number(INSTANT)
+
+
+@dataclasses.dataclass(frozen=True)
+class More(Question):
+    """The next rows of a slot's path. `Index.held` asks it."""
+
+    word = "more"
+    read = rows_of(answers.Stop)
+    slot: int = number(SLOT)
+    count: int = number(COUNT)
+
+
+@dataclasses.dataclass(frozen=True)
+class Free(Question):
+    """A slot is to be empty. `Index.held` asks it."""
+
+    word = "free"
+    read = rows_of(answers.Stop)
+    slot: int = number(SLOT)
+
+
+KINDS: Dict[str, Type[Question]] = {
+    kind.word: kind for kind in (Position, Path, Slice, Interval, Nearest, Info, Hold, More, Free)
+}
+
+# The kinds of which a slot is a part: `Index.held` keeps the slots, and so nobody else may ask them.
+SLOT_KINDS = ("hold", "more", "free")

@@ -1,0 +1,152 @@
+"""Questions as people type them: a word and arguments NAME=VALUE, on a command line or at a prompt."""
+
+import inspect
+import re
+import shlex
+from typing import Any, Callable, Dict, Iterator, List, NamedTuple, Sequence, Tuple
+
+from .answers import Answers, record_of
+from .errors import ArgumentError
+from .index import Index
+from .questions import disc, rect
+
+WHOLE = re.compile(r"[+-]?\d+")
+REAL = re.compile(r"[+-]?(\d+(\.\d*)?|\.\d+)")
+
+REGION = ("box", "around", "metres", "rect", "disc")
+
+# The arguments of each question that can be typed. A method of that name answers it.
+ASKED: Dict[str, Tuple[str, ...]] = {
+    "position": ("object", "at"),
+    "path": ("object", "since", "until"),
+    "slice": ("at", *REGION),
+    "interval": ("since", "until", *REGION),
+    "nearest": ("count", "at", "place", "cell"),
+    "last_known": ("at", "within", *REGION),
+    "visits": ("since", "until", "gap", *REGION),
+    "objects": (),
+    "info": (),
+}
+
+
+def whole_or_text(argument: str, text: str) -> Any:
+    """A whole number is an instant, an object's number or a number of instants; anything else is a time, a name or a length of time."""
+    return int(text) if WHOLE.fullmatch(text) else text
+
+
+def whole_number(argument: str, text: str) -> int:
+    """A whole number."""
+    if not WHOLE.fullmatch(text):
+        raise ArgumentError(argument, f"{text} is no whole number")
+    return int(text)
+
+
+def real_number(argument: str, text: str) -> float:
+    """A number, as 12.5."""
+    if not REAL.fullmatch(text):
+        raise ArgumentError(argument, f"{text} is no number")
+    return float(text)
+
+
+def listed(read: Callable[[str, str], Any]) -> Callable[[str, str], List[Any]]:
+    """Numbers with commas or spaces between them."""
+    return lambda argument, text: [read(argument, part) for part in re.split(r"[,\s]+", text.strip())]
+
+
+def region(make: Callable[..., Any], count: int) -> Callable[[str, str], Any]:
+    """A region of that many whole numbers."""
+
+    def read(argument: str, text: str) -> Any:
+        numbers = listed(whole_number)(argument, text)
+        if len(numbers) != count:
+            raise ArgumentError(argument, f"{text} has {len(numbers)} numbers, and {count} are wanted")
+        return make(*numbers)
+
+    return read
+
+
+class Argument(NamedTuple):
+    """How an argument is read, what it is, and which argument of the method it becomes."""
+
+    read: Callable[[str, str], Any]
+    what: str
+    name: str = ""
+
+
+ARGUMENTS: Dict[str, Argument] = {
+    "object": Argument(whole_or_text, "a number or a name"),
+    "at": Argument(whole_or_text, "a time, as '2022-06-01 12:00' (UTC), or an instant"),
+    "since": Argument(whole_or_text, "a time or an instant (the first)"),
+    "until": Argument(whole_or_text, "a time or an instant (the last)"),
+    "count": Argument(whole_number, "how many"),
+    "place": Argument(listed(real_number), "LONGITUDE,LATITUDE"),
+    "cell": Argument(listed(whole_number), "X,Y"),
+    "within": Argument(whole_or_text, "a length of time, as '90 min', or of instants"),
+    "gap": Argument(whole_or_text, "a length of time, as '90 min', or of instants"),
+    "box": Argument(listed(real_number), "WEST,SOUTH,EAST,NORTH"),
+    "around": Argument(listed(real_number), "LONGITUDE,LATITUDE, with metres="),
+    "metres": Argument(real_number, "a distance from around="),
+    "rect": Argument(region(rect, 4), "X1,Y1,X2,Y2 in cells", "region"),
+    "disc": Argument(region(disc, 3), "X,Y,R in cells", "region"),
+}
+
+
+class Told(NamedTuple):
+    """An answer as records, and notes on how it was asked."""
+
+    kind: str
+    records: List[Dict[str, Any]]
+    notes: Sequence[str]
+
+
+def split(line: str) -> List[str]:
+    """The words of a line, where quotes hold blanks. Refuses an open quote."""
+    try:
+        return shlex.split(line)
+    except ValueError as fault:
+        raise ArgumentError("question", str(fault).lower()) from None
+
+
+def arguments_of(kind: str, words: Sequence[str]) -> Dict[str, Any]:
+    """The arguments of the method that answers a question. Refuses an unknown question, an argument that it has not, one that is given
+    twice, and one that is missing."""
+    if kind not in ASKED:
+        raise ArgumentError("question", f"{kind} is none: there are {', '.join(ASKED)}")
+    found: Dict[str, Any] = {}
+    for word in words:
+        name, sign, text = word.partition("=")
+        if not sign or name not in ASKED[kind]:
+            there = ", ".join(f"{known}=" for known in ASKED[kind]) or "none"
+            raise ArgumentError(name or "question", f"{kind} has no such argument: there are {there}")
+        target = ARGUMENTS[name].name or name
+        if target in found:
+            raise ArgumentError(name, "it is there twice")
+        found[target] = ARGUMENTS[name].read(name, text)
+    parameters = inspect.signature(getattr(Index, kind)).parameters.values()
+    for parameter in parameters:
+        if parameter.name != "self" and parameter.default is parameter.empty and parameter.name not in found:
+            raise ArgumentError(parameter.name, f"it is missing: {ARGUMENTS[parameter.name].what}")
+    return found
+
+
+def told(index: Index, words: Sequence[str]) -> Told:
+    """Asks a question as it is typed."""
+    if not words:
+        raise ArgumentError("question", f"there is none: there are {', '.join(ASKED)}")
+    arguments = arguments_of(words[0], words[1:])
+    answer = getattr(index, words[0])(**arguments)
+    if words[0] == "info":
+        return Told("info", [answer._asdict()], ())
+    if isinstance(answer, Answers):
+        return Told(words[0], list(answer.records()), answer.notes)
+    row = {"object": index.number(arguments["object"]), "instant": index.instant(arguments["at"])}
+    return Told(words[0], [record_of({**row, **answer._asdict()}, index.grid)] if answer else [], ())
+
+
+def help_lines() -> Iterator[str]:
+    """What can be typed."""
+    for kind, names in ASKED.items():
+        yield f"{kind:<11} {' '.join(f'{name}=' for name in names)}".rstrip()
+    yield ""
+    for name, argument in ARGUMENTS.items():
+        yield f"{name + '=':<11} {argument.what}"
