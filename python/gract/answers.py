@@ -1,6 +1,6 @@
 """What questions are answered: named tuples, and lists of them that know what was asked."""
 
-from typing import Any, Dict, Iterator, List, NamedTuple, Optional, Sequence, Tuple, TypeVar
+from typing import Any, Dict, Iterator, List, NamedTuple, Optional, Sequence, Tuple, Type, TypeVar
 
 from .errors import PandasMissing
 from .grid import Grid
@@ -116,13 +116,18 @@ Row = TypeVar("Row", bound=Tuple[Any, ...])
 
 
 class Answers(List[Row]):
-    """The rows of an answer, in the order of the program. `asked` is what every row has in common, as the object of a path;
-    `notes` are sentences on what was asked in place of what, as a distance in metres that was rounded outwards."""
+    """The rows of an answer, in the order of the program, all of the kind `row`. `asked` is what they have in common, as the object of
+    a path; `notes` are sentences on what was asked in place of what, as a distance in metres that was rounded outwards."""
 
-    def __init__(self, rows: Sequence[Row] = (), *, grid: Optional[Grid] = None, asked: Optional[Dict[str, int]] = None,
+    def __init__(self, rows: Sequence[Row], row: Type[Any], *, grid: Optional[Grid] = None, asked: Optional[Dict[str, int]] = None,
                  notes: Sequence[str] = ()):
         super().__init__(rows)
-        self.grid, self.asked, self.notes = grid, dict(asked or {}), tuple(notes)
+        self.row, self.grid, self.asked, self.notes = row, grid, dict(asked or {}), tuple(notes)
+
+    @property
+    def columns(self) -> List[str]:
+        """The columns of the records, also where there is no row."""
+        return list(record_of({**self.asked, **dict.fromkeys(self.row._fields, 0)}, self.grid))
 
     def records(self) -> Iterator[Dict[str, Any]]:
         """Each row as a dictionary: what was asked, the row, and where there is a grid what it makes of it: `name`, `time` (ISO,
@@ -135,7 +140,7 @@ class Answers(List[Row]):
             import pandas
         except ImportError:
             raise PandasMissing() from None
-        frame = pandas.DataFrame(list(self.records()))
+        frame = pandas.DataFrame(list(self.records()), columns=self.columns)
         for column in INSTANTS.values():
             if column in frame.columns:
                 frame[column] = pandas.to_datetime(frame[column], utc=True)

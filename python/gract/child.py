@@ -10,7 +10,7 @@ import selectors
 import subprocess
 import threading
 import weakref
-from typing import Any, List, NamedTuple, Optional, Sequence
+from typing import Any, List, NamedTuple, Sequence
 
 from . import errors
 from .program import refusal_of
@@ -122,18 +122,21 @@ class Child:
         self._words = (self._words + said)[-MOST_WORDS:]
         return bool(said)
 
-    def _outcome(self) -> errors.ProgramError:
-        """How the child ended, once it says no more."""
+    def _wait(self) -> int:
+        """What the child ends with; one that does not end is ended."""
         try:
-            status: Optional[int] = self._process.wait(PATIENCE)
+            return self._process.wait(PATIENCE)
         except subprocess.TimeoutExpired:
             self._process.kill()
-            status = self._process.wait()
-        os.set_blocking(self._process.stderr.fileno(), False)  # type: ignore[union-attr]
-        while len(self._words) < MOST_WORDS:
+            return self._process.wait()
+
+    def _outcome(self) -> errors.ProgramError:
+        """How the child ended, once it says no more."""
+        status = self._wait()
+        before = None
+        while before != self._words:
             before = self._words
-            if not self._hear() or self._words == before:
-                break
+            self._hear()
         return refusal_of(status, self._words.decode(errors="replace"), index=self.index)
 
     def close(self) -> None:
@@ -144,8 +147,7 @@ class Child:
         with self._lock:
             try:
                 _close(self._process.stdin)
-                status = self._process.wait(PATIENCE)
-                if status != 0:
+                if self._wait() != 0:
                     raise self._outcome()
             finally:
                 _end(self._process, os.getpid())

@@ -73,6 +73,7 @@ def run(words: Optional[Sequence[str]] = None) -> int:
 
 
 def tell(refusal: GractError) -> int:
+    """Tells a refusal on standard error, and answers with the status that it is worth."""
     print(f"gract: {refusal}", file=sys.stderr)
     return 1
 

@@ -154,6 +154,8 @@ class Grid:
         """The cells X1, Y1, X2, Y2 that have every row of a box in degrees, its edges counted: rounded outwards. Refuses a box
         whose edges are the wrong way round, or that crosses the longitude at which the plane is cut."""
         south, north = self._latitude(f"{argument}: south", south), self._latitude(f"{argument}: north", north)
+        if south > north:
+            raise ArgumentError(argument, f"its south {south} is north of its north {north}")
         west, east = self._longitude(f"{argument}: west", west), self._longitude(f"{argument}: east", east)
         left, right = planes.turned(west, self.west), planes.turned(east, self.west)
         if east - west >= 360:
@@ -179,8 +181,8 @@ class Grid:
         if not self.west <= east - units / plane.east <= east + units / plane.east < self.west + 360:
             raise ArgumentError(argument, f"the circle crosses longitude {self.west}, at which the plane is cut: ask for boxes")
         # Either end is anywhere in its cell, so that two cells are up to a diagonal further from each other than what is in them. What
-        # is added last is more than the rounding of all products above.
-        radius = math.ceil(units / self.cell + math.sqrt(2) + 1e-6)
+        # is added besides is more than the rounding of all products, here and where rows were made.
+        radius = math.ceil(units / self.cell * (1 + 1e-12) + math.sqrt(2) + 1e-6)
         within = (radius + math.sqrt(2)) * self.cell
         nearest = max(0.0, abs(float(latitude)) - within / plane.north)
         return Circle(*self.cell_of(longitude, latitude), radius, within / planes.least_units(plane, nearest))

@@ -180,7 +180,7 @@ class Index:
         return (questions.EVERYWHERE if region is None else questions.checked_region("region", region)), []
 
     def _rows(self, question: Question, notes: Sequence[str] = ()) -> "Answers[Any]":
-        return Answers(self._answer(question), grid=self.grid, asked=question.asked, notes=notes)
+        return Answers(self._answer(question), question.row, grid=self.grid, asked=question.asked, notes=notes)
 
     # One question each.
 
@@ -261,7 +261,7 @@ class Index:
         rates. One line `interval`, and one line `path` for each object that was in the region in that time."""
         found, notes = self.region(region, box, around, metres)
         rows = derived.last_known(self, self.instant(at), self.instants(within), found)
-        return Answers(rows, grid=self.grid, notes=notes)
+        return Answers(rows, Last, grid=self.grid, notes=notes)
 
     def visits(self, region: Optional[Region] = None, since: Optional[Instant] = None, until: Optional[Instant] = None, *,
                gap: Union[None, int, Duration] = None, box: Optional[Sequence[Degree]] = None,
@@ -272,12 +272,12 @@ class Index:
         found, notes = self.region(region, box, around, metres)
         most = None if gap is None else self.instants(gap, "gap")
         rows = derived.visits(self, found, *self.window(since, until), most)
-        return Answers(rows, grid=self.grid, notes=notes)
+        return Answers(rows, Visit, grid=self.grid, notes=notes)
 
     def objects(self) -> "Answers[Life]":
         """The first and the last row of each object, by object. One line `interval`, and for each object one to six lines `path`,
         whose replies together are at most its rows: windows that reach back 16, 256, 4,096 .. instants from the last."""
-        return Answers(derived.objects(self), grid=self.grid)
+        return Answers(derived.objects(self), Life, grid=self.grid)
 
     # Slots.
 

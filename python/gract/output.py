@@ -16,12 +16,11 @@ def as_table(told: Told) -> str:
 
 
 def as_csv(told: Told) -> str:
-    """CSV with a heading; nothing where there is no row, since the columns are those of the rows."""
+    """CSV with a heading."""
     out = io.StringIO()
-    if told.records:
-        table = csv.DictWriter(out, list(told.records[0]), lineterminator="\n")
-        table.writeheader()
-        table.writerows(told.records)
+    table = csv.DictWriter(out, told.columns, lineterminator="\n")
+    table.writeheader()
+    table.writerows(told.records)
     return out.getvalue()
 
 

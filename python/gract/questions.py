@@ -5,7 +5,7 @@ program would call its line bad. So no question of these is ever a bad line.
 """
 
 import dataclasses
-from typing import Any, Callable, ClassVar, Dict, List, NamedTuple, Optional, Tuple, Type, Union
+from typing import Any, ClassVar, Dict, List, NamedTuple, Optional, Tuple, Type, Union
 
 from . import answers
 from .errors import ArgumentError
@@ -87,10 +87,10 @@ def number(span: Range) -> Any:
 
 @dataclasses.dataclass(frozen=True)
 class Question:
-    """A question: its fields are the words of its line, in their order. `read` makes the answer of the reply's lines before `ok`."""
+    """A question: its fields are the words of its line, in their order, and `row` is what a line of its reply is."""
 
     word: ClassVar[str]
-    read: ClassVar[Callable[[List[bytes]], Any]]
+    row: ClassVar[Type[Any]]
     # The fields that every row of the answer has in common.
     common: ClassVar[Tuple[str, ...]] = ()
 
@@ -100,6 +100,11 @@ class Question:
             good = whole(field.name, value, *span) if span else checked_region(field.name, value)
             if good is not value:
                 object.__setattr__(self, field.name, good)
+
+    @classmethod
+    def read(cls, lines: List[bytes]) -> Any:
+        """The answer of the lines of a reply before its last. Raises ValueError or TypeError where they are others."""
+        return [cls.row._make(map(int, line.split())) for line in lines]
 
     @property
     def line(self) -> str:
@@ -113,36 +118,23 @@ class Question:
         return {name: getattr(self, name) for name in self.common}
 
 
-def rows_of(kind: Type[Any]) -> Any:
-    """Reads lines as named tuples of that kind."""
-    return staticmethod(lambda lines: [kind._make(map(int, line.split())) for line in lines])
-
-
-def read_cell(lines: List[bytes]) -> Optional[answers.Cell]:
-    """The cell of a reply to `position`, or None."""
-    if not lines:
-        return None
-    x, y = lines[0].split()
-    return answers.Cell(int(x), int(y))
-
-
-def read_facts(lines: List[bytes]) -> answers.Facts:
-    """The facts of a reply to `info`. Raises ValueError where they are others."""
-    told = {name.decode(): int(value) for name, value in (line.split() for line in lines)}
-    if tuple(told) != answers.Facts._fields:
-        raise ValueError("other facts")
-    return answers.Facts(**told)
-
-
 @dataclasses.dataclass(frozen=True)
 class Position(Question):
     """Where an object was at an instant."""
 
     word = "position"
-    read = staticmethod(read_cell)
+    row = answers.Cell
     common = ("object", "instant")
     object: int = number(OBJECT)
     instant: int = number(INSTANT)
+
+    @classmethod
+    def read(cls, lines: List[bytes]) -> Optional[answers.Cell]:
+        """A cell, or None."""
+        cells = super().read(lines)
+        if len(cells) > 1:
+            raise ValueError("more than one cell")
+        return cells[0] if cells else None
 
 
 @dataclasses.dataclass(frozen=True)
@@ -150,7 +142,7 @@ class Path(Question):
     """All rows of an object from one instant to another, both counted."""
 
     word = "path"
-    read = rows_of(answers.Stop)
+    row = answers.Stop
     common = ("object",)
     object: int = number(OBJECT)
     since: int = number(INSTANT)
@@ -162,7 +154,7 @@ class Slice(Question):
     """Who was in a region at an instant."""
 
     word = "slice"
-    read = rows_of(answers.Sighting)
+    row = answers.Sighting
     common = ("instant",)
     instant: int = number(INSTANT)
     region: Region = dataclasses.field()
@@ -173,7 +165,7 @@ class Interval(Question):
     """Who was in a region at some instant of a window, and where first."""
 
     word = "interval"
-    read = rows_of(answers.Hit)
+    row = answers.Hit
     since: int = number(INSTANT)
     until: int = number(INSTANT)
     region: Region = dataclasses.field()
@@ -184,7 +176,7 @@ class Nearest(Question):
     """Who was nearest to a cell at an instant."""
 
     word = "nearest"
-    read = rows_of(answers.Near)
+    row = answers.Near
     common = ("instant",)
     count: int = number(COUNT)
     instant: int = number(INSTANT)
@@ -197,7 +189,15 @@ class Info(Question):
     """Facts of the index."""
 
     word = "info"
-    read = staticmethod(read_facts)
+    row = answers.Facts
+
+    @classmethod
+    def read(cls, lines: List[bytes]) -> answers.Facts:
+        """The facts, each line a name and a number."""
+        told = {name.decode(): int(value) for name, value in (line.split() for line in lines)}
+        if tuple(told) != cls.row._fields:
+            raise ValueError("other facts")
+        return answers.Facts(**told)
 
 
 @dataclasses.dataclass(frozen=True)
@@ -205,7 +205,7 @@ class Hold(Question):
     """A slot is to hold a cursor over a path. `Index.held` asks it."""
 
     word = "hold"
-    read = rows_of(answers.Stop)
+    row = answers.Stop
     slot: int = number(SLOT)
     object: int = number(OBJECT)
     since: int = number(INSTANT)
@@ -217,7 +217,7 @@ class More(Question):
     """The next rows of a slot's path. `Index.held` asks it."""
 
     word = "more"
-    read = rows_of(answers.Stop)
+    row = answers.Stop
     slot: int = number(SLOT)
     count: int = number(COUNT)
 
@@ -227,7 +227,7 @@ class Free(Question):
     """A slot is to be empty. `Index.held` asks it."""
 
     word = "free"
-    read = rows_of(answers.Stop)
+    row = answers.Stop
     slot: int = number(SLOT)
 
 

@@ -5,7 +5,7 @@ import re
 import shlex
 from typing import Any, Callable, Dict, Iterator, List, NamedTuple, Sequence, Tuple
 
-from .answers import Answers, record_of
+from .answers import Answers, Cell
 from .errors import ArgumentError
 from .index import Index
 from .questions import disc, rect
@@ -92,11 +92,12 @@ ARGUMENTS: Dict[str, Argument] = {
 
 
 class Told(NamedTuple):
-    """An answer as records, and notes on how it was asked."""
+    """An answer as records with their columns, and notes on how it was asked."""
 
     kind: str
+    columns: Sequence[str]
     records: List[Dict[str, Any]]
-    notes: Sequence[str]
+    notes: Sequence[str] = ()
 
 
 def split(line: str) -> List[str]:
@@ -136,11 +137,11 @@ def told(index: Index, words: Sequence[str]) -> Told:
     arguments = arguments_of(words[0], words[1:])
     answer = getattr(index, words[0])(**arguments)
     if words[0] == "info":
-        return Told("info", [answer._asdict()], ())
-    if isinstance(answer, Answers):
-        return Told(words[0], list(answer.records()), answer.notes)
-    row = {"object": index.number(arguments["object"]), "instant": index.instant(arguments["at"])}
-    return Told(words[0], [record_of({**row, **answer._asdict()}, index.grid)] if answer else [], ())
+        return Told("info", answer._fields, [answer._asdict()])
+    if words[0] == "position":
+        asked = {"object": index.number(arguments["object"]), "instant": index.instant(arguments["at"])}
+        answer = Answers([answer] if answer else [], Cell, grid=index.grid, asked=asked)
+    return Told(words[0], answer.columns, list(answer.records()), answer.notes)
 
 
 def help_lines() -> Iterator[str]:

@@ -1,0 +1,152 @@
+"""Each method, against a plain filter over the storms and over 200 random charts."""
+
+import tempfile
+import unittest
+from pathlib import Path
+
+import gract
+from gract import questions
+
+from . import plain
+
+CHARTS = 200
+
+
+def random_region(draw, far):
+    """A region, its test, and its arguments."""
+    x, y = draw.randrange(-far, far), draw.randrange(-far, far)
+    if draw.random() < 0.5:
+        corners = x, y, x + draw.randrange(-2, far), y + draw.randrange(-2, far)
+        return gract.rect(*corners), plain.in_rect(*corners)
+    disc = x, y, draw.randrange(far)
+    return gract.disc(*disc), plain.in_disc(*disc)
+
+
+class Compared:
+    """An index beside a plain filter, asked at random."""
+
+    def __init__(self, test, index, table, draw, far):
+        self.test, self.index, self.table, self.draw, self.far = test, index, table, draw, far
+
+    def same(self, got, wanted):
+        self.test.assertEqual(got, wanted)
+
+    def instant(self):
+        return self.draw.randrange(self.table.first - 2, self.table.last + 3)
+
+    def window(self):
+        since = self.instant()
+        return since, since + self.draw.randrange(-1, 1 + (self.table.last - self.table.first) // 2 + 1)
+
+    def object(self):
+        return self.draw.choice([*self.table.objects, self.draw.randrange(2**32)])
+
+    def one_line(self):
+        index, table = self.index, self.table
+        item, at, (since, until) = self.object(), self.instant(), self.window()
+        region, has = random_region(self.draw, self.far)
+        x, y, count = self.draw.randrange(-self.far, self.far), self.draw.randrange(-self.far, self.far), self.draw.randrange(6)
+        self.same(index.position(object=item, at=at), table.position(item, at))
+        self.same(index.path(object=item, since=since, until=until), table.path(item, since, until))
+        self.same(index.slice(at=at, region=region), table.slice(at, has))
+        self.same(index.interval(since=since, until=until, region=region), table.interval(since, until, has))
+        self.same(index.nearest(count=count, at=at, cell=(x, y)), table.nearest(count, at, x, y))
+
+    def several_lines(self):
+        index, table = self.index, self.table
+        at, (since, until), (region, has) = self.instant(), self.window(), random_region(self.draw, self.far)
+        within, gap = self.draw.randrange(40), self.draw.choice([None, 0, 1, 2, 5])
+        self.same(index.last_known(at=at, within=within, region=region), table.last_known(at, within, has))
+        self.same(index.visits(region, since, until, gap=gap), table.visits(since, until, has, gap))
+
+    def whole(self):
+        index, table = self.index, self.table
+        self.same(index.objects(), table.lives())
+        self.same(index.path(table.objects[0]), table.path(table.objects[0], table.first, table.last))
+        self.same(index.slice(table.last), table.slice(table.last, lambda x, y: True))
+        self.same(index.interval(), table.interval(table.first, table.last, lambda x, y: True))
+        self.same(list(index.held(table.objects[-1])), table.path(table.objects[-1], table.first, table.last))
+
+    def at_once(self, count):
+        asked = [(self.object(), self.instant()) for _ in range(count)]
+        lines = [f"position {item} {at}" for item, at in asked]
+        typed = [questions.Position(item, at) for item, at in asked]
+        wanted = [self.table.position(item, at) for item, at in asked]
+        self.same(list(self.index.ask(lines)), wanted)
+        self.same(list(self.index.ask(iter(typed))), wanted)
+
+
+class Answers(unittest.TestCase):
+    def test_storms(self):
+        table, draw = plain.storms(), plain.randomness(1)
+        with gract.open(plain.STORMS_INDEX) as index:
+            self.assertEqual(index.facts[:6], (512, table.first, table.last, 1461, 1, 6))
+            self.assertEqual(index.info(), index.facts)
+            compared = Compared(self, index, table, draw, 900)
+            compared.whole()
+            compared.at_once(500)
+            for _ in range(100):
+                compared.one_line()
+            for _ in range(2):
+                compared.several_lines()
+
+    def test_random_charts(self):
+        with tempfile.TemporaryDirectory() as folder:
+            for seed in range(CHARTS):
+                with self.subTest(seed=seed):
+                    self.chart(Path(folder) / "chart.idx", plain.randomness(seed))
+
+    def chart(self, file, draw):
+        rows = plain.random_rows(draw)
+        cell, tick, period = draw.choice([1, 1, 3, 10]), draw.choice([1, 1, 2, 60]), draw.choice([1, 2, 7, 30, 1000, 4194304])
+        gract.build(rows, file, cell=cell, tick=tick, period=period)
+        table = plain.Plain(plain.gridded(rows, cell, tick))
+        with gract.open(file) as index:
+            self.assertEqual(index.facts[:6], (len(table.objects), table.first, table.last, period, cell, tick))
+            compared = Compared(self, index, table, draw, 120 // cell)
+            compared.whole()
+            compared.at_once(50)
+            for _ in range(5):
+                compared.one_line()
+                compared.several_lines()
+
+    def test_kinds_of_rows(self):
+        """An answer's rows are named, and tell what they have in common."""
+        with gract.open(plain.STORMS_INDEX) as index:
+            self.assertEqual(index.position(278, 52097), gract.Cell(x=-896, y=293))
+            path = index.path(278, 52096, 52097)
+            self.assertEqual((type(path[0]), path.asked), (gract.Stop, {"object": 278}))
+            self.assertEqual(type(index.slice(52097)[0]), gract.Sighting)
+            self.assertEqual(type(index.interval(52097, 52098)[0]), gract.Hit)
+            self.assertEqual(index.nearest(1, 74077, (-802, 258)), [gract.Near(502, -865, 282, 4545)])
+            self.assertEqual(list(path.records())[0], {"object": 278, "instant": 52096, "x": path[0].x, "y": path[0].y})
+
+    def test_built_of(self):
+        """An index is the same whatever its rows come as."""
+        with tempfile.TemporaryDirectory() as folder:
+            rows = plain.read_rows(plain.STORMS)
+            frame = Frame(rows, ("object", "time", "x", "y"))
+            for nth, source in enumerate((plain.STORMS, str(plain.STORMS), rows, iter(rows), [list(row) for row in rows], frame)):
+                file = Path(folder) / f"{nth}.idx"
+                gract.build(source, file, cell=1, tick=6, period=1461)
+                self.assertEqual(file.read_bytes(), plain.STORMS_INDEX.read_bytes())
+                self.assertEqual(gract.build(rows, str(file), tick=6, period=1461), None)
+            self.assertEqual(len(list(Path(folder).iterdir())), 6)
+
+
+class Frame:
+    """As much of a DataFrame as `build` uses, where there is no pandas."""
+
+    def __init__(self, rows, columns):
+        self.rows, self.columns = rows, columns
+
+    def rename(self, columns):
+        return Frame(self.rows, tuple(columns.get(name, name) for name in self.columns))
+
+    def __getitem__(self, names):
+        places = [self.columns.index(name) for name in names]
+        return Frame([tuple(row[place] for place in places) for row in self.rows], tuple(names))
+
+    def itertuples(self, index, name):
+        assert index is False and name is None
+        return iter(self.rows)

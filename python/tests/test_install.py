@@ -1,0 +1,40 @@
+"""The installation of python/ into a new environment, without a network."""
+
+import importlib.util
+import os
+import shutil
+import subprocess
+import sys
+import tempfile
+import unittest
+from pathlib import Path
+
+import gract
+
+from . import plain
+
+
+@unittest.skipUnless(importlib.util.find_spec("pip") and importlib.util.find_spec("venv"), "pip or venv is missing, the installation was not tried")
+class Install(unittest.TestCase):
+    def test_install(self):
+        """The package that is installed is the one of the checkout, answers, and leaves no command that hides the program."""
+        with tempfile.TemporaryDirectory() as folder:
+            place, python = Path(folder) / "python", Path(folder) / "venv/bin/python"
+            shutil.copytree(plain.TOP / "python", place, ignore=shutil.ignore_patterns("__pycache__"))
+            self.run_in(folder, sys.executable, "-m", "venv", "--without-pip", "--system-site-packages", "venv")
+            before = set(python.parent.iterdir())
+            self.run_in(folder, str(python), "-m", "pip", "install", "--quiet", "--no-index", "--no-deps", "--disable-pip-version-check", str(place))
+            self.assertEqual(set(python.parent.iterdir()), before)
+            code = f"import gract; print(gract.__file__, gract.__version__, gract.open({str(plain.STORMS_INDEX)!r}).position(278, 52097))"
+            file, version, *cell = self.run_in(folder, str(python), "-c", code, GRACT=gract.find_program()).split(maxsplit=2)
+            self.assertTrue(Path(file).resolve().is_relative_to(Path(folder).resolve()))
+            self.assertEqual((version, cell), (gract.__version__, ["Cell(x=-896, y=293)\n"]))
+            there = {file.name for file in Path(file).parent.glob("*.py")}
+            self.assertEqual(there, {file.name for file in (plain.TOP / "python/gract").glob("*.py")})
+            self.assertEqual(self.run_in(folder, str(python), "-m", "pip", "check", "--disable-pip-version-check").count("gract"), 0)
+
+    def run_in(self, folder, *words, **others):
+        environment = {name: value for name, value in os.environ.items() if name != "PYTHONPATH"}
+        done = subprocess.run(words, cwd=folder, stdout=subprocess.PIPE, stderr=subprocess.PIPE, text=True, env={**environment, **others})
+        self.assertEqual(done.returncode, 0, done.stdout + done.stderr)
+        return done.stdout

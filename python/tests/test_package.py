@@ -1,0 +1,62 @@
+"""The package itself: Python 3.9 can read it, it needs the standard library alone, and all that is public is described."""
+
+import ast
+import sys
+import unittest
+
+import gract
+
+from . import plain
+
+FILES = sorted((plain.TOP / "python").rglob("*.py"))
+OWN = {"gract", "tests"}
+
+# What is used only where it is there.
+OPTIONAL = {"pandas", "readline"}
+
+
+class Package(unittest.TestCase):
+    def trees(self):
+        return [(file, ast.parse(file.read_text(encoding="utf-8"), feature_version=(3, 9))) for file in FILES]
+
+    def test_python_3_9(self):
+        self.assertGreater(len(self.trees()), 15)
+
+    @unittest.skipUnless(hasattr(sys, "stdlib_module_names"), "this Python does not tell its standard library, imports were not looked at")
+    def test_standard_library(self):
+        for file, tree in self.trees():
+            for node in ast.walk(tree):
+                names = [name.name for name in node.names] if isinstance(node, ast.Import) else []
+                names += [node.module] if isinstance(node, ast.ImportFrom) and not node.level else []
+                for name in names:
+                    top = name.split(".")[0]
+                    self.assertTrue(top in sys.stdlib_module_names or top in OWN | OPTIONAL, f"{file.name} imports {name}")
+
+    def test_described(self):
+        kinds = (ast.FunctionDef, ast.ClassDef)
+        for file, tree in self.trees():
+            if file.parent.name != "gract":
+                continue
+            self.assertTrue(ast.get_docstring(tree), file.name)
+            public = [node for node in tree.body if isinstance(node, kinds)]
+            public += [item for node in public if isinstance(node, ast.ClassDef) for item in node.body if isinstance(item, kinds)]
+            for node in public:
+                if not node.name.startswith("_"):
+                    self.assertTrue(ast.get_docstring(node), f"{file.name}: {node.name} is not described")
+
+    def test_long(self):
+        """No function is longer than 40 lines, no line than 140 columns, no file than 500 lines."""
+        for file, tree in self.trees():
+            lines = file.read_text(encoding="utf-8").splitlines()
+            self.assertLess(len(lines), 500, file.name)
+            if file.parent.name == "gract":
+                for node in ast.walk(tree):
+                    if isinstance(node, ast.FunctionDef):
+                        self.assertLessEqual(node.end_lineno - node.lineno + 1, 40, f"{file.name}: {node.name}")
+
+    def test_names(self):
+        self.assertEqual(sorted(gract.__all__), gract.__all__)
+        for name in gract.__all__:
+            self.assertTrue(hasattr(gract, name), name)
+        change = (plain.TOP / "CHANGELOG.md").read_text(encoding="utf-8")
+        self.assertIn(f"\n| {gract.__version__} |", change)
