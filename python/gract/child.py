@@ -1,16 +1,17 @@
 """`Child`: one run of `gract ask`, and the pipes to it.
 
 A pipe takes some 64 KiB. Whoever writes many questions before reading a reply stops when both pipes are full, since the program
-then waits for its replies to be read. So both are done at the same time. One selector does it, and not a thread that
-writes: there is nothing to join or to leave behind, and an interrupt comes to the one thread there is.
+then waits for its replies to be read. So both are done at the same time. One `poll` does it, and not a thread that
+writes: there is nothing to join or to leave behind, and an interrupt comes to the one thread there is. A `poll` object has no
+file that would have to be closed, and it is made once for each child, since to make one costs as much as a question.
 """
 
 import os
-import selectors
+import select
 import subprocess
 import threading
 import weakref
-from typing import Any, List, NamedTuple, Sequence
+from typing import Any, List, Sequence, Tuple
 
 from . import errors
 from .program import refusal_of
@@ -27,11 +28,8 @@ MOST_WORDS = 4096
 PATIENCE = 10.0
 
 
-class Reply(NamedTuple):
-    """The lines of a reply before its last, and its last: `ok N` or `bad CAUSE`."""
-
-    lines: List[bytes]
-    last: bytes
+# The lines of a reply before its last, and its last: `ok N` or `bad CAUSE`. A plain pair, since there may be very many.
+Reply = Tuple[List[bytes], bytes]
 
 
 class Child:
@@ -50,8 +48,13 @@ class Child:
             start_new_session=True,
         )
         self._finalizer = weakref.finalize(self, _end, self._process, os.getpid())
-        for pipe in (self._process.stdin, self._process.stdout, self._process.stderr):
-            os.set_blocking(pipe.fileno(), False)  # type: ignore[union-attr]
+        pipes = (self._process.stdin, self._process.stdout, self._process.stderr)
+        self._stdin, self._stdout, self._stderr = (pipe.fileno() for pipe in pipes)  # type: ignore[union-attr]
+        for pipe in (self._stdin, self._stdout, self._stderr):
+            os.set_blocking(pipe, False)
+        self._ready = select.poll()
+        self._ready.register(self._stdout, select.POLLIN)
+        self._ready.register(self._stderr, select.POLLIN)
 
     @property
     def pid(self) -> int:
@@ -80,25 +83,21 @@ class Child:
                 raise
 
     def _exchange(self, data: memoryview, count: int) -> List[Reply]:
-        stdin, stdout, stderr = self._process.stdin, self._process.stdout, self._process.stderr
         replies = _Replies(self.program, count)
-        with selectors.DefaultSelector() as ready:
-            ready.register(stdout, selectors.EVENT_READ)  # type: ignore[arg-type]
-            ready.register(stderr, selectors.EVENT_READ)  # type: ignore[arg-type]
-            data = self._write(data)
-            if data:
-                ready.register(stdin, selectors.EVENT_WRITE)  # type: ignore[arg-type]
-            while not replies.whole:
-                for key, _ in ready.select():
-                    if key.fileobj is stdin:
-                        data = self._write(data)
-                        if not data:
-                            ready.unregister(stdin)  # type: ignore[arg-type]
-                    elif key.fileobj is stderr:
-                        if not self._hear():
-                            ready.unregister(stderr)  # type: ignore[arg-type]
-                    elif not replies.take(os.read(stdout.fileno(), PIECE)):  # type: ignore[union-attr]
-                        raise self._outcome()
+        data = self._write(data)
+        if data:
+            self._ready.register(self._stdin, select.POLLOUT)
+        while not replies.whole:
+            for pipe, _ in self._ready.poll():
+                if pipe == self._stdin:
+                    data = self._write(data)
+                    if not data:
+                        self._ready.unregister(self._stdin)
+                elif pipe == self._stderr:
+                    if not self._hear():
+                        self._ready.unregister(self._stderr)
+                elif not replies.take(os.read(self._stdout, PIECE)):
+                    raise self._outcome()
         return replies.found
 
     def _write(self, data: memoryview) -> memoryview:
@@ -106,7 +105,7 @@ class Child:
         says, or that it has ended, tells why."""
         try:
             while data:
-                data = data[os.write(self._process.stdin.fileno(), data[:PIECE]):]  # type: ignore[union-attr]
+                data = data[os.write(self._stdin, data[:PIECE]):]
         except BlockingIOError:
             return data
         except BrokenPipeError:
@@ -116,7 +115,7 @@ class Child:
     def _hear(self) -> bool:
         """Keeps what the child says on standard error; False at its end."""
         try:
-            said = os.read(self._process.stderr.fileno(), PIECE)  # type: ignore[union-attr]
+            said = os.read(self._stderr, PIECE)
         except BlockingIOError:
             return True
         self._words = (self._words + said)[-MOST_WORDS:]
@@ -180,7 +179,7 @@ class _Replies:
         found, current = self.found, self._lines
         for line in lines:
             if line.startswith((b"ok ", b"bad ")):
-                found.append(Reply(current, line))
+                found.append((current, line))
                 current = []
             else:
                 current.append(line)

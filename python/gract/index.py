@@ -86,18 +86,18 @@ class Index:
         return self._begin(sum(map(len, lines))).exchange(lines)
 
     def _answer(self, question: Question) -> Any:
-        return self._read(question, self._exchange([question.line.encode() + b"\n"])[0])
+        return self._read(type(question), self._exchange([question.line.encode() + b"\n"])[0])
 
-    def _read(self, question: Union[Question, Type[Question]], reply: Reply) -> Any:
-        """The answer of a reply. Refuses one whose count of lines or whose lines are not those of the question."""
+    def _read(self, kind: Type[Question], reply: Reply) -> Any:
+        """The answer of a reply. Refuses one whose count of lines or whose lines are not those of a question of that kind."""
+        lines, last = reply
         try:
-            if int(reply.last[3:]) == len(reply.lines) and reply.last.startswith(b"ok "):
-                return question.read(reply.lines)
+            if last == b"ok %d" % len(lines):
+                return kind.read(lines)
         except (ValueError, TypeError):
             pass
-        said = reply.last if not reply.lines else reply.lines[0]
         self._drop()
-        raise ReplyError(self.program, said.decode(errors="replace"))
+        raise ReplyError(self.program, (lines[0] if lines else last).decode(errors="replace"))
 
     def _drop(self) -> None:
         if self._child is not None:
@@ -233,18 +233,17 @@ class Index:
             if not taken:
                 return
             replies = self._exchange([line_of(question, first + place) for place, question in enumerate(taken)])
-            yield from map(self._answer_of, taken, replies)
+            for question, reply in zip(taken, replies):
+                yield self._read(type(question), reply) if isinstance(question, Question) else self._read_line(question, reply)
             first += len(taken)
-            rows = sum(len(reply.lines) for reply in replies)
+            rows = sum(len(lines) for lines, _ in replies)
             batch = min(2 * batch, MOST_BATCH) if rows < MOST_ROWS else max(batch // 2, 1)
 
-    def _answer_of(self, question: Union[Question, str], reply: Reply) -> Any:
-        if isinstance(question, str):
-            if reply.last.startswith(b"bad "):
-                cause, *place = reply.last[4:].decode(errors="replace").split()
-                raise BadQuestion(question, cause, int(place[0]) if place and place[0].isdigit() else None)
-            return self._read(KINDS[question.split()[0]], reply)
-        return self._read(question, reply)
+    def _read_line(self, line: str, reply: Reply) -> Any:
+        if reply[1].startswith(b"bad "):
+            cause, *place = reply[1][4:].decode(errors="replace").split()
+            raise BadQuestion(line, cause, int(place[0]) if place and place[0].isdigit() else None)
+        return self._read(KINDS.get(line.split(None, 1)[0], questions.Other), reply)
 
     def held(self, object: Object, since: Optional[Instant] = None, until: Optional[Instant] = None) -> "Cursor":
         """A cursor over an object's path in a window. It holds one of sixteen slots from its first row to its last, or until it is

@@ -5,6 +5,7 @@ program would call its line bad. So no question of these is ever a bad line.
 """
 
 import dataclasses
+import functools
 from typing import Any, ClassVar, Dict, List, NamedTuple, Optional, Tuple, Type, Union
 
 from . import answers
@@ -85,6 +86,12 @@ def number(span: Range) -> Any:
     return dataclasses.field(metadata={"span": span})
 
 
+@functools.lru_cache(maxsize=None)
+def fields_of(kind: Type[Any]) -> Tuple[Tuple[str, Optional[Range]], ...]:
+    """The fields of a kind of question, each with its range; a region has none."""
+    return tuple((field.name, field.metadata.get("span")) for field in dataclasses.fields(kind))
+
+
 @dataclasses.dataclass(frozen=True)
 class Question:
     """A question: its fields are the words of its line, in their order, and `row` is what a line of its reply is."""
@@ -95,11 +102,11 @@ class Question:
     common: ClassVar[Tuple[str, ...]] = ()
 
     def __post_init__(self) -> None:
-        for field in dataclasses.fields(self):
-            value, span = getattr(self, field.name), field.metadata.get("span")
-            good = whole(field.name, value, *span) if span else checked_region(field.name, value)
-            if good is not value:
-                object.__setattr__(self, field.name, good)
+        for name, span in fields_of(type(self)):
+            value = getattr(self, name)
+            if span and type(value) is int and span[0] <= value <= span[1]:
+                continue
+            object.__setattr__(self, name, whole(name, value, *span) if span else checked_region(name, value))
 
     @classmethod
     def read(cls, lines: List[bytes]) -> Any:
@@ -109,8 +116,11 @@ class Question:
     @property
     def line(self) -> str:
         """The question's line, without its end."""
-        values = (getattr(self, field.name) for field in dataclasses.fields(self))
-        return " ".join([self.word, *(str(value) if isinstance(value, int) else region_words(value) for value in values)])
+        words = [self.word]
+        for name, span in fields_of(type(self)):
+            value = getattr(self, name)
+            words.append(str(value) if span else region_words(value))
+        return " ".join(words)
 
     @property
     def asked(self) -> Dict[str, int]:
@@ -131,10 +141,11 @@ class Position(Question):
     @classmethod
     def read(cls, lines: List[bytes]) -> Optional[answers.Cell]:
         """A cell, or None."""
-        cells = super().read(lines)
-        if len(cells) > 1:
-            raise ValueError("more than one cell")
-        return cells[0] if cells else None
+        if not lines:
+            return None
+        line, = lines
+        x, y = line.split()
+        return answers.Cell(int(x), int(y))
 
 
 @dataclasses.dataclass(frozen=True)
@@ -229,6 +240,15 @@ class Free(Question):
     word = "free"
     row = answers.Stop
     slot: int = number(SLOT)
+
+
+class Other(Question):
+    """A question that a later program answers and this package does not know: each line of its reply is a tuple of whole numbers."""
+
+    @classmethod
+    def read(cls, lines: List[bytes]) -> Any:
+        """Tuples of whole numbers."""
+        return [tuple(map(int, line.split())) for line in lines]
 
 
 KINDS: Dict[str, Type[Question]] = {

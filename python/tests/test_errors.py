@@ -291,6 +291,11 @@ class Errors(unittest.TestCase):
             self.assertEqual(storms.path(278, 0, 1).frame().columns, path.columns)
             self.assertEqual(path.columns, ["object", "instant", "time", "x", "y", "longitude", "latitude"])
 
+    def test_later_questions(self):
+        """A line that this package does not know is asked all the same, and its reply is numbers."""
+        with self.stand_in(said="1 -2 3\nok 1\n") as index:
+            self.assertEqual(list(index.ask(["meet 1 2 0 9 5"])), [[(1, -2, 3)]])
+
     def test_noise(self):
         """A child that says much on standard error goes on being read."""
         with self.stand_in(noise=10**6) as index:

@@ -49,7 +49,7 @@ class Pipe(unittest.TestCase):
             self.assertIsNone(next(answers, None))
             everyone = questions.Interval(index.facts.first, index.facts.last, questions.EVERYWHERE)
             replies = index._child.exchange([everyone.line.encode() + b"\n"] * 500)
-            self.assertEqual({len(reply.lines) for reply in replies}, {512})
+            self.assertEqual({len(lines) for lines, _ in replies}, {512})
             self.assertEqual(index._child.pid, pid)
             self.assertEqual(threading.active_count(), 1)
 
