@@ -9,7 +9,7 @@ from typing import IO, Any, Iterable, Iterator, Optional, Sequence
 from .errors import ArgumentError, OverwriteError
 from .grid import Grid, whole
 from .names import MOST_OBJECT
-from .program import Name, file_word, find_program, refusal_of
+from .program import Name, beginning, file_word, find_program, refusal_of
 
 # The ranges of command words and of fields, as docs/QUESTIONS.md has them.
 UNITS = (1, 2**30)
@@ -44,14 +44,15 @@ def build(rows: Any, path: Name, *, cell: Optional[int] = None, tick: Optional[i
     ]
     refuse_other_file(index)
     if isinstance(rows, (str, os.PathLike)):
-        run_build(found, file_word("rows", rows), index, numbers)
+        name = file_word("rows", rows)
+        run_build(found, name, index, numbers, name)
     else:
         # The folder goes with what is in it, whatever happens.
         with tempfile.TemporaryDirectory(prefix="gract-") as folder:
             file = Path(folder) / "rows.csv"
             with file.open("w", encoding="ascii", newline="") as lines:
                 write_rows(lines, rows)
-            run_build(found, str(file), index, numbers)
+            run_build(found, str(file), index, numbers, "the rows")
     if grid is not None:
         grid.save(index)
 
@@ -79,12 +80,13 @@ def refuse_other_file(path: str) -> None:
     raise OverwriteError(path)
 
 
-def run_build(program: str, csv_file: str, index: str, numbers: Sequence[int]) -> None:
-    """Runs `gract build`, and raises its outcome. An interrupt ends it."""
+def run_build(program: str, csv_file: str, index: str, numbers: Sequence[int], called: str) -> None:
+    """Runs `gract build`, and raises its outcome, where the CSV file is called so. An interrupt ends it."""
     command = [program, "build", csv_file, index, *map(str, numbers)]
-    done = subprocess.run(command, stdin=subprocess.DEVNULL, stdout=subprocess.PIPE, stderr=subprocess.PIPE)
+    with beginning(program):
+        done = subprocess.run(command, stdin=subprocess.DEVNULL, stdout=subprocess.PIPE, stderr=subprocess.PIPE)
     if done.returncode != 0:
-        raise refusal_of(done.returncode, done.stderr.decode(errors="replace"), index=index, csv_file=csv_file)
+        raise refusal_of(done.returncode, done.stderr.decode(errors="replace"), index=index, csv_file=called)
 
 
 def write_rows(lines: IO[str], rows: Any) -> None:

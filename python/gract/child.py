@@ -14,7 +14,7 @@ import weakref
 from typing import Any, List, Sequence, Tuple
 
 from . import errors
-from .program import refusal_of
+from .program import beginning, refusal_of
 
 # The program ends after so many bytes of questions.
 MOST_QUESTIONS = 2**32
@@ -43,10 +43,11 @@ class Child:
         self._words = b""
         self._lock = threading.Lock()
         # In a session of its own it does not get the interrupt of a terminal, which would end it between questions too.
-        self._process = subprocess.Popen(
-            [program, "ask", index], bufsize=0, stdin=subprocess.PIPE, stdout=subprocess.PIPE, stderr=subprocess.PIPE,
-            start_new_session=True,
-        )
+        with beginning(program):
+            self._process = subprocess.Popen(
+                [program, "ask", index], bufsize=0, stdin=subprocess.PIPE, stdout=subprocess.PIPE, stderr=subprocess.PIPE,
+                start_new_session=True,
+            )
         self._finalizer = weakref.finalize(self, _end, self._process, os.getpid())
         pipes = (self._process.stdin, self._process.stdout, self._process.stderr)
         self._stdin, self._stdout, self._stderr = (pipe.fileno() for pipe in pipes)  # type: ignore[union-attr]

@@ -3,10 +3,10 @@
 import argparse
 import os
 import sys
-from typing import Any, List, Optional, Sequence
+from typing import Any, Dict, List, Optional, Sequence
 
 from . import building, output, wording
-from .errors import ArgumentError, GractError
+from .errors import GractError
 from .grid import Grid
 from .index import Index
 from .index import open as open_index
@@ -80,12 +80,9 @@ def tell(refusal: GractError) -> int:
 
 def run_build(given: argparse.Namespace) -> int:
     """Builds an index."""
-    others = {"cell": given.cell, "tick": given.tick, "unit": given.unit, "west": given.west}
+    others: Dict[str, Any] = {"cell": given.cell, "tick": given.tick, "unit": given.unit, "west": given.west}
     if given.names:
-        try:
-            others["names"] = Grid(names=given.names).names
-        except (OSError, ValueError) as fault:
-            raise ArgumentError("names", f"{given.names} could not be read as lines object,name: {fault}") from None
+        others["names"] = given.names
     if given.middle is not None:
         grid = Grid.metres(given.middle, **others)
     elif given.per_degree is not None:

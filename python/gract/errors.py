@@ -108,7 +108,7 @@ class ChildDied(ProgramError):
     def __init__(self, status: Optional[int], last_words: str):
         how = "with no status" if status is None else f"by signal {-status}" if status < 0 else f"with status {status}"
         words = f"; its last words were: {last_words}" if last_words else ", and said nothing"
-        super().__init__(f"the program gract ended {how} while it was needed{words}. The next question begins it anew")
+        super().__init__(f"the program gract ended {how} while it was needed{words}")
 
 
 class WordsError(ProgramError):
@@ -123,7 +123,7 @@ class EmptyError(ProgramError, ValueError):
     """There is not a single row."""
 
     def __init__(self, file: str):
-        super().__init__(f"{file} has no rows, and an index needs one")
+        super().__init__(f"{file}: there is no row, and an index needs one")
         self.file = file
 
 
@@ -240,4 +240,4 @@ class MemoryRefused(ProgramError, MemoryError):
     """The program was refused memory."""
 
     def __init__(self) -> None:
-        super().__init__("the program was refused memory: ask for less at once, or free some. The next question begins it anew")
+        super().__init__("the program was refused memory: ask for less at once, or free some")

@@ -63,7 +63,7 @@ class Grid:
         self.epoch = whole("epoch", epoch, -2**62, 2**62)
         self.west = whole("west", west, -360, 180)
         if names is not None and not isinstance(names, Mapping):
-            names = dict(named.read_names(os.fspath(names)))
+            names = names_of_file(names)
         self.names: Dict[int, str] = dict(names or {})
         self._numbers: Dict[str, List[int]] = {}
         for number, name in self.names.items():
@@ -86,9 +86,9 @@ class Grid:
         object of theirs is no number up to 2^32 - 1, all are numbered from 1 as they come. All reports are looked at once."""
         called: Dict[str, None] = {}
         latitudes: List[float] = []
-        for nth, (item, _, _, latitude) in enumerate(reports, 1):
+        for what, (item, _, _, latitude) in numbered(reports):
             called.setdefault(str(item).strip())
-            latitudes.append(real(f"reports: report {nth}: latitude", latitude, -90, 90))
+            latitudes.append(real(f"{what}: latitude", latitude, -90, 90))
         if not latitudes:
             raise ArgumentError("reports", "there are none")
         if not all(name.isascii() and name.isdigit() and int(name) <= named.MOST_OBJECT for name in called):
@@ -100,10 +100,9 @@ class Grid:
     def instant(self, time: times.Time, argument: str = "time") -> int:
         """The instant of a time: a text, a datetime (UTC, where it has no offset). Refuses what is no time."""
         try:
-            seconds = times.seconds_of_datetime(time) if isinstance(time, datetime.datetime) else times.seconds_of(time)
+            return (times.seconds_of(time) - self.epoch) // (self.tick * self.unit)
         except (ValueError, ArithmeticError) as fault:
             raise ArgumentError(argument, str(fault)) from None
-        return (seconds - self.epoch) // (self.tick * self.unit)
 
     def instants(self, duration: times.Duration, argument: str = "duration") -> int:
         """How many instants a length of time has, rounded up so that none is lost. Refuses what is none."""
@@ -214,18 +213,12 @@ class Grid:
         return found
 
     def _rows(self, reports: Iterable[Report]) -> Iterator[RawRow]:
-        for nth, (item, time, longitude, latitude) in enumerate(reports, 1):
-            what = f"reports: report {nth}"
+        for what, (item, time, longitude, latitude) in numbered(reports):
             number = item if isinstance(item, int) and not self._numbers else self.number(item, f"{what}: object")
-            if isinstance(time, int):
-                seconds = time
-            elif isinstance(time, datetime.datetime):
-                seconds = times.seconds_of_datetime(time)
-            else:
-                try:
-                    seconds = times.seconds_of(str(time))
-                except (ValueError, ArithmeticError) as fault:
-                    raise ArgumentError(f"{what}: time", str(fault)) from None
+            try:
+                seconds = time if isinstance(time, int) else times.seconds_of(time)
+            except (ValueError, ArithmeticError) as fault:
+                raise ArgumentError(f"{what}: time", str(fault)) from None
             east = self._longitude(f"{what}: longitude", longitude)
             x, y = self.point(east, self._latitude(f"{what}: latitude", latitude))
             yield RawRow(number, (seconds - self.epoch) // self.unit, x, y)
@@ -313,6 +306,22 @@ def grid_file(index: Union[str, "os.PathLike[str]"]) -> Path:
     """Where the grid of an index is kept: beside it, as NAME.grid.json for NAME.idx and for NAME."""
     path = Path(index)
     return path.with_name(f"{path.stem if path.suffix == '.idx' else path.name}.grid.json")
+
+
+def numbered(reports: Iterable[Report]) -> Iterator[Tuple[str, Report]]:
+    """Reports, each with what it is called where it is refused. Refuses what is none."""
+    for nth, report in enumerate(reports, 1):
+        if not isinstance(report, (tuple, list)) or len(report) != 4:
+            raise ArgumentError(f"reports: report {nth}", f"{report!r} is not (object, time, longitude, latitude)")
+        yield f"reports: report {nth}", (report[0], report[1], report[2], report[3])
+
+
+def names_of_file(file: Any) -> Dict[int, str]:
+    """The names of a CSV file `object,name`. Refuses, by the argument `names`, what is none."""
+    try:
+        return dict(named.read_names(os.fspath(file)))
+    except (OSError, ValueError, TypeError) as fault:
+        raise ArgumentError("names", f"{file!r} could not be read as lines object,name: {fault}") from None
 
 
 def whole(argument: str, value: Any, least: int, most: int) -> int:

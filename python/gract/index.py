@@ -227,7 +227,12 @@ class Index:
         them. Rows are lists of named tuples here; `position` has a cell or None, and `info` has facts. Writing and reading go on
         at the same time. Refuses, by `ArgumentError`, a line with no word, with an end of line in it, or of a slot; a line that
         the program calls bad is a `BadQuestion`, in its turn."""
-        batch, waiting, first = 1, iter(asked), 1
+        if isinstance(asked, (str, Question)) or not hasattr(asked, "__iter__"):
+            raise ArgumentError("asked", f"{asked!r} is not a list of questions, nor anything else that gives them one by one")
+        return self._ask(iter(asked))
+
+    def _ask(self, waiting: Iterator[Union[Question, str]]) -> Iterator[Any]:
+        batch, first = 1, 1
         while True:
             taken = list(itertools.islice(waiting, batch))
             if not taken:

@@ -4,8 +4,9 @@ import csv
 import os
 import re
 import shutil
+from contextlib import contextmanager
 from pathlib import Path
-from typing import IO, List, Optional, Tuple, Union
+from typing import IO, Iterator, List, Optional, Tuple, Union
 
 from . import errors
 from .errors import ProgramError
@@ -26,11 +27,13 @@ WORD = re.compile(r"gract: word (\d+) is not as expected")
 def find_program(program: Optional[Name] = None) -> str:
     """The program: the one named, else that of the variable GRACT, else gract on the path, else ./gract of this checkout. The first
     that is said counts, even where it is not there. Refuses, by `ProgramNotFound`, where there is none that can be run."""
+    if program is not None and not isinstance(program, (str, os.PathLike)):
+        raise errors.ArgumentError("program", f"{program!r} is no name of a file")
     tried: List[str] = []
     said = [("program=", None if program is None else os.fspath(program)), ("the variable GRACT", os.environ.get("GRACT"))]
     for where, name in said:
         if name:
-            found = shutil.which(os.path.abspath(name) if os.path.exists(name) else name)
+            found = shutil.which(os.path.abspath(name) if os.path.isfile(name) else name)
             if found:
                 return found
             raise errors.ProgramNotFound([f"{where} says {name}, which is {'no program' if os.path.exists(name) else 'not there'}"])
@@ -42,16 +45,21 @@ def find_program(program: Optional[Name] = None) -> str:
     built = CHECKOUT / "gract"
     if built.is_file() and os.access(built, os.X_OK):
         return str(built)
-    return _not_found([*tried, f"nor is it {built}"])
+    raise errors.ProgramNotFound([*tried, f"nor is it {built}"])
 
 
-def _not_found(tried: List[str]) -> str:
-    raise errors.ProgramNotFound(tried)
+@contextmanager
+def beginning(program: str) -> Iterator[None]:
+    """Where a program is begun: refuses, by `ProgramNotFound`, one that the system cannot run."""
+    try:
+        yield
+    except OSError as fault:
+        raise errors.ProgramNotFound([f"{program} cannot be run: {fault.strerror}"]) from None
 
 
 def refusal_of(status: Optional[int], last_words: str, *, index: str, csv_file: Optional[str] = None) -> ProgramError:
     """The exception of an outcome that is not `Done`, by what the program said on standard error; `ChildDied` where it is none of
-    its outcomes. `index` and `csv_file` are the files of its command."""
+    its outcomes. `index` and `csv_file` are the files of its command, as people know them."""
     refusal = _told(last_words.strip(), index, csv_file) or errors.ChildDied(status, last_words.strip())
     refusal.status, refusal.last_words = status, last_words.strip()
     return refusal

@@ -22,10 +22,14 @@ Time = Union[str, datetime.datetime]
 Duration = Union[str, datetime.timedelta]
 
 
-def seconds_of(text: str, form: Optional[str] = None) -> int:
-    """Seconds since 1970 of a time: an ISO time, a number of seconds or milliseconds, or a text of the strptime form given.
-    A time without an offset is in UTC. Raises ValueError."""
-    text = text.strip()
+def seconds_of(time: Time, form: Optional[str] = None) -> int:
+    """Seconds since 1970 of a time: a datetime; or an ISO time, a number of seconds or milliseconds, or a text of the strptime form
+    given. A time without an offset is in UTC. Raises ValueError."""
+    if isinstance(time, datetime.datetime):
+        return seconds_of_datetime(time)
+    if not isinstance(time, str):
+        raise ValueError(f"not a time: {time!r}")
+    text = time.strip()
     if form:
         return seconds_of_datetime(datetime.datetime.strptime(text, form))
     if NUMBER.fullmatch(text):
@@ -59,7 +63,7 @@ def duration_of(duration: Duration) -> int:
     """Whole seconds of a timedelta or of a text as `90 min`, `2 h` or `1.5 d`, rounded up. Raises ValueError."""
     if isinstance(duration, datetime.timedelta):
         return -((-duration) // datetime.timedelta(seconds=1))
-    found = DURATION.fullmatch(duration.strip())
+    found = DURATION.fullmatch(duration.strip()) if isinstance(duration, str) else None
     if not found:
         raise ValueError(f"not a length of time, as 90 min or 2 h: {duration}")
     return math.ceil(Decimal(found.group(1)) * LENGTHS[found.group(2)[0]])

@@ -119,7 +119,7 @@ class Command(unittest.TestCase):
             self.assertEqual(err.count("\n"), 1)
         self.assertIn("there is no such file", command("ask", "none.idx", "info")[2])
         self.assertIn("is there and is no index", command("build", plain.STORMS, plain.NAMES)[2])
-        self.assertIn("names: none.csv could not be read", command("build", plain.STORMS, self.index, "--names", "none.csv")[2])
+        self.assertIn("names: 'none.csv' could not be read", command("build", plain.STORMS, self.index, "--names", "none.csv")[2])
         self.assertEqual(command("ask", self.index, "info", "--format", "xml")[0], 2)
         self.assertEqual(command("--program", "/none/gract", "ask", self.index, "info")[0], 1)
 

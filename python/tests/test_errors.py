@@ -84,7 +84,7 @@ class Errors(unittest.TestCase):
             ("within", lambda s: s.last_known(0, -1)), ("within", lambda s: s.last_known(0, "soon")), ("within", lambda s: s.last_known(0, 1.5)),
             ("gap", lambda s: s.visits(gap=-1)), ("gap", lambda s: s.visits(gap="x")),
             ("asked: question 2", lambda s: list(s.ask(["info", "  "]))), ("asked: question 1", lambda s: list(s.ask(["info\ninfo"]))),
-            ("asked: question 1", lambda s: list(s.ask([7]))), ("asked: question 1", lambda s: list(s.ask(["free 0"]))),
+            ("asked", lambda s: s.ask("position 1 1")), ("asked", lambda s: s.ask(7)), ("asked: question 1", lambda s: list(s.ask([7]))), ("asked: question 1", lambda s: list(s.ask(["free 0"]))),
         ]
         with gract.open(plain.STORMS_INDEX, grid=grid) as storms:
             for nth, (argument, ask) in enumerate(wrong):
@@ -100,6 +100,8 @@ class Errors(unittest.TestCase):
                     ask(storms)
         with self.refused(gract.ArgumentError, argument="path"):
             gract.open("")
+        with self.refused(gract.ArgumentError, argument="program"):
+            gract.open(plain.STORMS_INDEX, program=7)
         with self.refused(gract.ArgumentError, argument="grid"):
             gract.open(plain.STORMS_INDEX, grid="storms.grid.json")
 
@@ -136,6 +138,11 @@ class Errors(unittest.TestCase):
             gract.open(plain.STORMS_INDEX, program="/none/gract")
         with self.refused(gract.ProgramNotFound, "no program"):
             gract.open(plain.STORMS_INDEX, program=self.file("text", "text"))
+        text = self.file("text", "text")
+        os.chmod(text, 0o700)
+        for run in (lambda: gract.open(plain.STORMS_INDEX, program=text), lambda: gract.build([], self.folder / "new.idx", program=text)):
+            with self.refused(gract.ProgramNotFound, "cannot be run: Exec format error"):
+                run()
         with mock.patch.dict(os.environ, GRACT="/none/gract"), self.refused(gract.ProgramNotFound, "the variable GRACT"):
             gract.build([(1, 0, 0, 0)], self.folder / "new.idx")
         with mock.patch.dict(os.environ, PATH=str(self.folder)), mock.patch("gract.program.CHECKOUT", self.folder):
@@ -198,7 +205,7 @@ class Errors(unittest.TestCase):
             gract.build(self.file("rows.csv", "-1,0,0,0"), self.folder / "new.idx")
         with self.refused(gract.RowError, "a heading must be", record=1, field=1, fault="number"):
             gract.build(self.file("rows.csv", "mmsi,time,x,y\n1,0,0,0\n"), self.folder / "new.idx")
-        with self.refused(gract.EmptyError, "no rows", file=self.file("rows.csv", "object,instant,x,y\n")):
+        with self.refused(gract.EmptyError, "there is no row", file=self.file("rows.csv", "object,instant,x,y\n")):
             gract.build(self.folder / "rows.csv", self.folder / "new.idx")
         with self.refused(gract.EmptyError):
             gract.build([], self.folder / "new.idx")
@@ -212,7 +219,7 @@ class Errors(unittest.TestCase):
             ("symbols", 9 * 2**22 - 9, 2**25, [(item, 0, 0, 0) for item in range(9)] + [(1, 2**22 - 1, 0, 0)], dict(period=2**22)),
         ]
         for kind, value, limit, rows, others in far:
-            with self.refused(gract.LimitError, "What to do: ", kind=kind, value=value, limit=limit, status=4):
+            with self.refused(gract.LimitError, "the rows: the limit", kind=kind, value=value, limit=limit, status=4):
                 gract.build(rows, self.folder / "new.idx", **others)
         long = self.folder / "long.csv"
         with open(long, "wb") as file:

@@ -46,7 +46,7 @@ class Times(unittest.TestCase):
         self.assertEqual(grid.instant(datetime.datetime(2022, 6, 1, 12)), 27568080)
         self.assertEqual(grid.instant(datetime.datetime(1969, 12, 31, 23, 59, 59, 999999)), -1)
         self.assertEqual(grid.instant(datetime.datetime(2022, 6, 1, 12, tzinfo=datetime.timezone(datetime.timedelta(hours=2)))), 27567960)
-        for text in ("", "noon", "2022-02-30", "2022-06-01 24:00", "2022-06-01 1:00", "1e9", "2022-06-01 12:00 +99"):
+        for text in (5, None, datetime.date(2022, 6, 1), "", "noon", "2022-02-30", "2022-06-01 24:00", "2022-06-01 1:00", "1e9", "2022-06-01 12:00 +99"):
             with self.assertRaises(gract.ArgumentError):
                 grid.instant(text)
 
@@ -68,6 +68,9 @@ class Times(unittest.TestCase):
         grid = gract.Grid(tick=60)
         for length, instants in [("90 min", 90), ("1 h", 60), ("61 s", 2), ("0 s", 0), ("1.5 d", 2160), (datetime.timedelta(seconds=60.1), 2)]:
             self.assertEqual(grid.instants(length), instants)
+        for length in (5, None, "", "1 week", "-1 h"):
+            with self.assertRaises(gract.ArgumentError):
+                grid.instants(length)
 
 
 class Places(unittest.TestCase):
@@ -205,6 +208,8 @@ class Files(unittest.TestCase):
             ("cell", lambda: gract.Grid(cell=0)), ("tick", lambda: gract.Grid(tick=1.5)), ("unit", lambda: gract.Grid(unit=-1)),
             ("epoch", lambda: gract.Grid(epoch="2000")), ("west", lambda: gract.Grid(west=181)), ("middle", lambda: gract.Grid.metres(90)),
             ("per_degree", lambda: gract.Grid.degrees(0.5)), ("names", lambda: gract.Grid(names={-1: "A"})),
+            ("names", lambda: gract.Grid(names=7)), ("names", lambda: gract.Grid(names="/none/names.csv")), ("names", lambda: gract.Grid(names=plain.STORMS)),
+            ("reports: report 2", lambda: gract.Grid.of_reports([(1, "0", 0, 0), (1, "0", 0)])), ("reports: report 1", lambda: gract.Grid().rows([7])),
             ("grid", lambda: gract.Grid().cell_of(0, 0)), ("longitude", lambda: gract.Grid.degrees(1).cell_of(400, 0)),
         ]:
             with self.assertRaises(gract.ArgumentError) as refused:
