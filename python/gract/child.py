@@ -48,7 +48,7 @@ class Child:
                 [program, "ask", index], bufsize=0, stdin=subprocess.PIPE, stdout=subprocess.PIPE, stderr=subprocess.PIPE,
                 start_new_session=True,
             )
-        self._finalizer = weakref.finalize(self, _end, self._process, os.getpid())
+        self._finalizer = weakref.finalize(self, _end, self._process)
         pipes = (self._process.stdin, self._process.stdout, self._process.stderr)
         self._stdin, self._stdout, self._stderr = (pipe.fileno() for pipe in pipes)  # type: ignore[union-attr]
         for pipe in (self._stdin, self._stdout, self._stderr):
@@ -150,7 +150,7 @@ class Child:
                 if self._wait() != 0:
                     raise self._outcome()
             finally:
-                _end(self._process, os.getpid())
+                _end(self._process)
 
     def kill(self) -> None:
         """Ends the child at once, and waits for it."""
@@ -198,10 +198,9 @@ def _close(pipe: Any) -> None:
         pass
 
 
-def _end(process: "subprocess.Popen[bytes]", owner: int) -> None:
-    """Ends a child, whatever it does, and waits for it. A copy of this process that was forked leaves it alone."""
-    if os.getpid() != owner:
-        return
+def _end(process: "subprocess.Popen[bytes]") -> None:
+    """Ends a child, whatever it does, and waits for it. In a copy of this process that was forked it is none of its children, and is
+    left alone."""
     if process.poll() is None:
         process.kill()
     process.wait()

@@ -110,6 +110,16 @@ class Answers(unittest.TestCase):
                 compared.one_line()
                 compared.several_lines()
 
+    def test_last_rows(self):
+        """Each object's last row is found, however long it is before the end."""
+        with tempfile.TemporaryDirectory() as folder:
+            # The windows end 15, 271 and 4,367 instants before the last.
+            file, far = Path(folder) / "last.idx", [*range(280), 4366, 4367, 4368, 4369, 4900]
+            rows = [(item, -back, item, 0) for item, back in enumerate(far)] + [(item, -4900, 0, 0) for item in range(0, 280, 7)]
+            gract.build(rows, file, period=16)
+            with gract.open(file) as index:
+                self.assertEqual(index.objects(), plain.Plain(plain.gridded(rows)).lives())
+
     def test_kinds_of_rows(self):
         """An answer's rows are named, and tell what they have in common."""
         with gract.open(plain.STORMS_INDEX) as index:

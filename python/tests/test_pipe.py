@@ -63,7 +63,7 @@ class Pipe(unittest.TestCase):
 
     def test_another_child_in_time(self):
         """Before the program has taken all bytes that it takes a new child is begun, and cursors go on in it."""
-        with mock.patch.object(child, "MOST_QUESTIONS", 3000), mock.patch("gract.index.DRAWN", 3):
+        with mock.patch.object(child, "MOST_QUESTIONS", 1500), mock.patch("gract.index.DRAWN", 3):
             with gract.open(plain.STORMS_INDEX) as index:
                 cursor, pids = index.held(278), set()
                 whole, got = self.table.path(278, 0, 10**6), []
@@ -71,22 +71,24 @@ class Pipe(unittest.TestCase):
                     self.assertEqual(index.position(278, instant), self.table.position(278, instant))
                     got.extend([next(cursor)] if len(got) < len(whole) else [])
                     pids.add(index._child.pid)
-                    self.assertLessEqual(index._child.sent, 3000)
+                    self.assertLessEqual(index._child.sent, 1500)
                 self.assertEqual(got + list(cursor), whole)
                 self.assertGreater(len(pids), 1)
                 self.assertEqual(sum(map(is_there, pids)), 1)
         self.assertFalse(any(map(is_there, pids)))
 
     def test_a_killed_child(self):
-        with gract.open(plain.STORMS_INDEX) as index:
-            cursor = index.held(278)
-            first = next(cursor)
-            os.kill(index._child.pid, signal.SIGKILL)
-            with self.assertRaises(gract.ChildDied) as died:
-                index.position(278, 52097)
-            self.assertEqual(died.exception.status, -signal.SIGKILL)
-            self.assertEqual(index.position(278, 52097), (-896, 293))
-            self.assertEqual([first, *cursor], self.table.path(278, 0, 10**6))
+        """It is told, the next question begins another, and a cursor goes on where it was, however often."""
+        with gract.open(plain.STORMS_INDEX) as index, mock.patch("gract.index.DRAWN", 1):
+            cursor, drawn = index.held(278), []
+            for _ in range(20):
+                os.kill(index._child.pid, signal.SIGKILL)
+                with self.assertRaises(gract.ChildDied) as died:
+                    index.position(278, 52097)
+                self.assertEqual(died.exception.status, -signal.SIGKILL)
+                self.assertEqual(index.position(278, 52097), (-896, 293))
+                drawn.append(next(cursor))
+            self.assertEqual(drawn + list(cursor), self.table.path(278, 0, 10**6))
 
     def test_a_child_killed_amid_replies(self):
         with gract.open(plain.STORMS_INDEX) as index:
