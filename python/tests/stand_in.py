@@ -8,7 +8,7 @@ many replies (`after`, 1 where it is missing: that of the `info` with which an i
     waits              it waits for ever
     noise              it says so many bytes on standard error, and goes on
 
-With `eats` it reads so many bytes of a second question before that. Its replies before are those of an index of nothing.
+With `pid` it first writes its process's number to the file of that name. Its replies before are those of an index of nothing.
 """
 
 import json
@@ -39,6 +39,9 @@ def end(told):
 
 def main():
     told, count = json.loads(os.environ["STAND_IN"]), 0
+    if "pid" in told:
+        with open(told["pid"], "w", encoding="ascii") as file:
+            file.write(str(os.getpid()))
     if told.get("after", 1) == 0:
         end(told)
     for line in sys.stdin:

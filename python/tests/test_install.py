@@ -22,6 +22,8 @@ class Install(unittest.TestCase):
             place, python = Path(folder) / "python", Path(folder) / "venv/bin/python"
             shutil.copytree(plain.TOP / "python", place, ignore=shutil.ignore_patterns("__pycache__"))
             self.run_in(folder, sys.executable, "-m", "venv", "--without-pip", "--system-site-packages", "venv")
+            if subprocess.run([python, "-m", "pip", "--version"], stdout=subprocess.DEVNULL, stderr=subprocess.DEVNULL).returncode != 0:
+                self.skipTest("a new environment has no pip, the installation was not tried")
             before = set(python.parent.iterdir())
             self.run_in(folder, str(python), "-m", "pip", "install", "--quiet", "--no-index", "--no-deps", "--disable-pip-version-check", str(place))
             self.assertEqual(set(python.parent.iterdir()), before)

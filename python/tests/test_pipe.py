@@ -1,10 +1,12 @@
 """The pipes and the child: many questions, long replies, cursors, a child that is begun anew or killed, and none that is left."""
 
 import gc
+import json
 import os
 import signal
 import subprocess
 import sys
+import tempfile
 import textwrap
 import threading
 import time
@@ -93,7 +95,9 @@ class Pipe(unittest.TestCase):
     def test_a_child_killed_amid_replies(self):
         with gract.open(plain.STORMS_INDEX) as index:
             pid = index._child.pid
-            threading.Timer(0.05, os.kill, (pid, signal.SIGKILL)).start()
+            killer = threading.Timer(0.05, os.kill, (pid, signal.SIGKILL))
+            killer.start()
+            self.addCleanup(killer.join)
             with self.assertRaises(gract.ChildDied):
                 while True:
                     list(index.ask(["interval 0 80000 disc 0 0 5000"] * 50))
@@ -178,6 +182,24 @@ class Pipe(unittest.TestCase):
         self.assertEqual(self.ends("time.sleep(60)", signal.SIGKILL), (-signal.SIGKILL, True))
         waits = {"GRACT": str(plain.TOP / "python/tests/stand_in.py"), "STAND_IN": '{"waits": true}'}
         self.assertEqual(self.ends("index.info()", signal.SIGINT, **waits), (-signal.SIGINT, True))
+
+    def test_no_build_is_left(self):
+        """An interrupt of a build ends the program too."""
+        with tempfile.TemporaryDirectory() as folder:
+            told = os.path.join(folder, "pid")
+            stand_in = {"GRACT": str(plain.TOP / "python/tests/stand_in.py"), "STAND_IN": json.dumps({"after": 0, "waits": True, "pid": told})}
+            code = f"import gract; gract.build([(1, 0, 0, 0)], {os.path.join(folder, 'new.idx')!r})"
+            python = subprocess.Popen([sys.executable, "-c", code], stderr=subprocess.DEVNULL, env={**os.environ, **stand_in})
+            for _ in range(2000):
+                if os.path.exists(told) and os.path.getsize(told):
+                    break
+                time.sleep(0.01)
+            time.sleep(0.1)
+            python.send_signal(signal.SIGINT)
+            self.assertEqual(python.wait(20), -signal.SIGINT)
+            with open(told, encoding="ascii") as file:
+                self.assertTrue(has_gone(int(file.read())))
+            self.assertEqual(os.listdir(folder), ["pid"])
 
     def test_an_interrupt_is_survived(self):
         """After an interrupt within a question the next one is answered."""
