@@ -14,6 +14,7 @@ from .building import build
 from .errors import (
     ArgumentError,
     BadQuestion,
+    ChangedError,
     ChildDied,
     ClosedError,
     DeviceError,
@@ -45,8 +46,8 @@ from .questions import Disc, Rect, disc, rect
 __version__ = "0.1.0"
 
 __all__ = [
-    "Answers", "ArgumentError", "BadQuestion", "Cell", "ChildDied", "Circle", "ClosedError", "Cursor", "Degrees", "DeviceError", "Disc",
-    "EmptyError", "Facts", "FormatError", "GractError", "Grid", "GridError", "Hit", "Index", "Last", "Life", "LimitError",
+    "Answers", "ArgumentError", "BadQuestion", "Cell", "ChangedError", "ChildDied", "Circle", "ClosedError", "Cursor", "Degrees", "DeviceError",
+    "Disc", "EmptyError", "Facts", "FormatError", "GractError", "Grid", "GridError", "Hit", "Index", "Last", "Life", "LimitError",
     "ListenError", "LoadError", "MemoryRefused", "Metres", "Near", "OverwriteError", "PandasMissing", "Place", "ProgramError",
     "ProgramNotFound", "RawRow", "Rect", "ReplyError", "RowError", "SaveError", "SayError", "Sighting", "SlotsError", "Stop", "Visit",
     "WordsError", "build", "disc", "find_program", "open", "questions", "rect",

@@ -30,6 +30,14 @@ class ClosedError(GractError, ValueError):
         super().__init__(f"{what} is closed")
 
 
+class ChangedError(GractError):
+    """An index file that is another one than when it was opened, found where a new child was to open it. `file` is its name."""
+
+    def __init__(self, file: str):
+        super().__init__(f"{file} was written since it was opened, and would answer otherwise: open it again")
+        self.file = file
+
+
 class SlotsError(GractError):
     """More cursors are held than the program has slots for."""
 

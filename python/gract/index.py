@@ -2,13 +2,15 @@
 
 import datetime
 import itertools
+import os
+import stat
 from types import TracebackType
 from typing import Any, Iterable, Iterator, List, Optional, Sequence, Set, Tuple, Type, Union
 
 from . import derived, questions
 from .answers import Answers, Cell, Facts, Hit, Last, Life, Near, Sighting, Stop, Visit
 from .child import Child, Reply
-from .errors import ArgumentError, BadQuestion, ClosedError, GridError, ReplyError, SlotsError
+from .errors import ArgumentError, BadQuestion, ChangedError, ClosedError, GridError, ReplyError, SlotsError
 from .grid import Grid, grid_file, whole
 from .planes import Degree
 from .program import Name, file_word, find_program
@@ -39,7 +41,7 @@ class Index:
     outwards, so that no row is lost, and the answer's `notes` say how.
 
     Each method refuses a wrong argument by `ArgumentError` before the child is asked, and raises the program's own refusals. After
-    one of these the next question begins a new child.
+    one of these the next question begins a new child; where the file was written meanwhile it is a `ChangedError`.
     """
 
     def __init__(self, path: Name, *, program: Optional[Name] = None, grid: Optional[Grid] = None):
@@ -51,6 +53,7 @@ class Index:
         self._closed = False
         self._slots: Set[int] = set()
         self._let_go: List[int] = []
+        self._stamp: Optional[Tuple[int, ...]] = None
         beside = grid_file(self.file)
         self.grid = Grid.load(beside) if grid is None and beside.exists() else grid
         try:
@@ -77,6 +80,10 @@ class Index:
             child, self._child = self._child, None
             child.close()
         if self._child is None:
+            stamp = stamp_of(self.file)
+            if self._stamp is not None and stamp is not None and stamp != self._stamp:
+                raise ChangedError(self.file)
+            self._stamp = stamp
             # A new child holds no cursor. Those that are drawn further hold their rest anew.
             self._slots, self._let_go = set(), []
             self._child = Child(self.program, self.file)
@@ -370,6 +377,15 @@ class Cursor:
         # No question is asked here, since this may come at any time; the slot is freed before the next is taken.
         if getattr(self, "_slot", None) is not None and self._index._child is self._child:
             self._index._let_go.append(self._slot)
+
+
+def stamp_of(file: str) -> Optional[Tuple[int, ...]]:
+    """What tells a file on disk from one that was written in its place: its node, its length, and when it was written."""
+    try:
+        found = os.stat(file)
+    except OSError:
+        return None
+    return (found.st_dev, found.st_ino, found.st_size, found.st_mtime_ns) if stat.S_ISREG(found.st_mode) else None
 
 
 def line_of(question: Union[Question, str], nth: int) -> bytes:

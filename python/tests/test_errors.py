@@ -171,6 +171,21 @@ class Errors(unittest.TestCase):
             with self.refused(gract.ClosedError, "closed"):
                 ask()
 
+    def test_changed(self):
+        """A new child never opens another index than the one that was opened."""
+        file = self.file("storms.idx", plain.STORMS_INDEX.read_bytes())
+        with gract.open(file) as storms:
+            storms._child.kill()
+            self.assertEqual(storms.position(278, 52097), (-896, 293))
+            gract.build([(278, 52097, 0, 0)], file)
+            self.assertEqual(storms.position(278, 52097), (-896, 293))
+            storms._child.kill()
+            for _ in range(2):
+                with self.refused(gract.ChangedError, "was written since", file=file):
+                    storms.position(278, 52097)
+        with gract.open(file) as storms:
+            self.assertEqual(storms.position(278, 52097), (0, 0))
+
     def test_slots(self):
         with gract.open(plain.STORMS_INDEX) as storms:
             kept = [storms.held(item) for item in range(16)]
