@@ -14,6 +14,7 @@ import datetime
 import math
 from decimal import Decimal
 
+import readers
 import tracks
 
 
@@ -26,28 +27,36 @@ def seconds_of(month, day, year):
 
 def convert(words, rows, numbers):
     for name in words.files:
-        with open(name, encoding="utf-8", errors="replace") as lines:
-            for place, line in enumerate(lines, 1):
-                fields = line.split()
-                if not fields:
-                    continue
-                try:
-                    number, month, day, year, latitude, longitude = fields[:6]
-                    seconds = seconds_of(month, day, year)
-                except (ValueError, ArithmeticError):
-                    raise tracks.Refused(f"{name} line {place}: not number, month, day, year, latitude, longitude") from None
-                position = tracks.degrees_of(latitude, longitude, most_longitude=360)
-                if position is None:
-                    rows.leave_out("no position (999.999)")
-                    continue
-                rows.add(numbers.number(number), seconds, position)
+        for place, line in readers.lines_of(name):
+            fields = line.split()
+            if fields:
+                add_line(fields, rows, numbers, (f"{name} line {place}", line))
+
+
+def add_line(fields, rows, numbers, at):
+    if len(fields) < 6:
+        rows.leave_out("a line that is too short", *at)
+        return
+    number, month, day, year, latitude, longitude = fields[:6]
+    try:
+        seconds = seconds_of(month, day, year)
+    except (ValueError, ArithmeticError):
+        rows.leave_out("no month, day and year in the columns 2 to 4", *at)
+        return
+    position = tracks.degrees_of(latitude, longitude, most_longitude=360)
+    if position is None:
+        rows.leave_out("no position (999.999)", *at)
+        return
+    found = readers.number_of(number, numbers, rows, *at)
+    if found is not None:
+        rows.add(found, seconds, position)
 
 
 def main():
     parser = argparse.ArgumentParser(description=__doc__, formatter_class=argparse.RawDescriptionHelpFormatter)
     parser.add_argument("files", nargs="+", metavar="FILE")
     tracks.add_plane(parser, "degrees", 1000)
-    tracks.run(convert, parser)
+    readers.run(convert, parser)
 
 
 if __name__ == "__main__":

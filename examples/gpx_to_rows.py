@@ -12,6 +12,7 @@ import argparse
 import os
 import xml.etree.ElementTree as ElementTree
 
+import readers
 import tracks
 
 
@@ -25,40 +26,52 @@ def text_of(element, word):
     return (found.text or "").strip() if found is not None else ""
 
 
+def root_of(file):
+    with readers.bytes_of(file) as raw:
+        readers.refuse_other_kinds(file, raw.peek(4096)[:4096], taken=(b"<?xml", b"<gpx"))
+        try:
+            root = ElementTree.parse(raw).getroot()
+        except ElementTree.ParseError as fault:
+            raise tracks.Refused(f"{file}: {fault}") from None
+    if root.tag.rpartition("}")[2] != "gpx":
+        raise tracks.Refused(f"{file} is XML, and no GPX: its root is {root.tag.rpartition('}')[2]}")
+    return root
+
+
 def convert(words, rows, numbers):
     count = 0
     for file in words.files:
-        try:
-            root = ElementTree.parse(file).getroot()
-        except ElementTree.ParseError as fault:
-            raise tracks.Refused(f"{file}: {fault}") from None
-        for nth, track in enumerate(named(root, "trk"), 1):
+        for nth, track in enumerate(named(root_of(file), "trk"), 1):
             count += 1
             called = f"{os.path.basename(file)} {nth} {text_of(track, 'name')}".strip()
             number = numbers.number(called) if words.names else count
-            for point in named(track, "trkpt"):
-                add_point(point, number, rows, file)
+            for place, point in enumerate(named(track, "trkpt"), 1):
+                add_point(point, number, rows, (f"{file} track {nth} point {place}", point_text(point)))
 
 
-def add_point(point, number, rows, file):
+def point_text(point):
+    return f"latitude {point.get('lat', 'missing')}, longitude {point.get('lon', 'missing')}, time {text_of(point, 'time') or 'missing'}"
+
+
+def add_point(point, number, rows, at):
     time = text_of(point, "time")
     position = tracks.degrees_of(point.get("lat", ""), point.get("lon", ""))
     if not time:
-        rows.leave_out("a point without a time")
+        rows.leave_out("a point without a time", *at)
     elif position is None:
-        rows.leave_out("a point without a position")
+        rows.leave_out("a point without a position", *at)
     else:
         try:
             rows.add(number, tracks.seconds_of(time), position)
-        except ValueError as fault:
-            raise tracks.Refused(f"{file}: {fault}") from None
+        except ValueError:
+            rows.leave_out("a time that is not understood", *at)
 
 
 def main():
     parser = argparse.ArgumentParser(description=__doc__, formatter_class=argparse.RawDescriptionHelpFormatter)
     parser.add_argument("files", nargs="+", metavar="FILE")
     tracks.add_plane(parser, "metres", 100000)
-    tracks.run(convert, parser)
+    readers.run(convert, parser)
 
 
 if __name__ == "__main__":

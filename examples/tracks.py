@@ -1,10 +1,9 @@
-"""What the scripts of this folder share: times, planes, the numbers of objects, and the rows that gract reads.
+"""What the scripts of this folder share: times, planes and the numbers of objects.
 
 A row is `object,instant,x,y`: the object's number, seconds since 1970-01-01 00:00 UTC, and a place in a plane. All four are
 whole numbers, and what is not whole is rounded down, also below 0, as gract does.
 """
 
-import os
 import sys
 from pathlib import Path
 
@@ -12,9 +11,9 @@ from pathlib import Path
 sys.path.insert(0, str(Path(__file__).resolve().parent.parent / "python"))
 
 from gract import Grid
-from gract.names import Numbers as PlainNumbers
-from gract.planes import Degrees, Metres, degrees_of, turned
-from gract.times import FIRST_DAY, seconds_of, time_text
+from gract.names import MOST_OBJECT, Numbers as PlainNumbers
+from gract.planes import RADIUS, Degrees, Metres, degrees_of, turned
+from gract.times import FIRST_DAY, ISO_TIME, NUMBER, seconds_of, time_text
 
 
 class Refused(Exception):
@@ -53,51 +52,3 @@ class Numbers(PlainNumbers):
             return super().number(name)
         except ValueError as fault:
             raise Refused(f"{fault}: give --names FILE, and all are numbered from 1") from None
-
-
-class Rows:
-    """The rows of a file as they are found, and why others were left out."""
-
-    def __init__(self):
-        self.found, self.left_out = [], {}
-
-    def add(self, number, seconds, place):
-        self.found.append((seconds, number, place))
-
-    def leave_out(self, why):
-        self.left_out[why] = self.left_out.get(why, 0) + 1
-
-    def write(self, words):
-        """Prints the rows by their time, since gract counts the last of an instant. What was done is told on standard error."""
-        self.found.sort(key=lambda row: row[0])
-        if not self.found:
-            raise Refused("there are no rows")
-        plane = plane_of(words, [latitude for _, _, (latitude, _) in self.found])
-        print("object,instant,x,y")
-        for seconds, number, (latitude, longitude) in self.found:
-            x, y = plane.place(latitude, turned(longitude, words.west))
-            print(f"{number},{seconds},{x},{y}")
-        self.tell(plane)
-
-    def tell(self, plane):
-        objects = len({number for _, number, _ in self.found})
-        say = [
-            f"{len(self.found)} rows of {objects} objects, {time_text(self.found[0][0])} to {time_text(self.found[-1][0])} UTC",
-            f"the plane is {plane.text}",
-            *(f"{count} left out: {why}" for why, count in self.left_out.items()),
-        ]
-        for line in say:
-            print(line, file=sys.stderr)
-
-
-def run(convert, parser):
-    """Makes and prints the rows of the files that the words name, or says why it cannot, and then ends with 1."""
-    parser.add_argument("--names", metavar="FILE", help="number the objects from 1, and keep their names in this CSV file")
-    words = parser.parse_args()
-    rows, numbers = Rows(), Numbers(words.names)
-    try:
-        convert(words, rows, numbers)
-        rows.write(words)
-        numbers.save()
-    except (Refused, OSError) as refusal:
-        sys.exit(f"{os.path.basename(sys.argv[0])}: {refusal}")
