@@ -1,14 +1,28 @@
-"""How examples/plot draws: shapes in cells, the axes round them, and both as an SVG or as a script for gnuplot."""
+"""How examples/plot draws: shapes in cells, the axes round them, and both as an SVG."""
 
 import math
 from dataclasses import dataclass
 from html import escape
 
-COLOURS = ("#1f5fa8", "#b5442b", "#2f7d4f", "#7a4fa3", "#a8741f", "#2a8a94", "#a83272", "#5b6470")
-HIT, EDGE, PALE = "#c01818", "#444444", "#dddddd"
+import labels
 
-# Of the drawing, in pixels: its width, its greatest height, and the margins.
-WIDTH, MOST_HEIGHT, LEFT, RIGHT, TOP, BOTTOM = 900, 760, 64, 24, 40, 40
+# The colours of tracks, none of which is near that of regions and hits.
+COLOURS = ("#1f5fa8", "#2f7d4f", "#7a4fa3", "#a8741f", "#2a8a94", "#5b6470", "#6b7a1e", "#3c3f8f")
+HIT, EDGE, PALE, TOWN = "#c8102e", "#444444", "#d5dadd", "#222222"
+LAND, SHORE, SEA = "#f0ece0", "#b3a98f", "#ffffff"
+
+# Of the drawing, in pixels: its width, its greatest height, its least sides, and the margins (the left one at least).
+WIDTH, MOST_HEIGHT, LEAST, LEFT, RIGHT, TOP, BOTTOM = 900, 760, 280, 56, 28, 40, 40
+
+# From so many tracks on dates are left out, and from so many on names too; and the names of hits from so many hits on.
+MOST_DATED, MOST_NAMED, MOST_HITS = 8, 40, 60
+
+
+def colour_of(nth):
+    """The colour of a track by its place among all: those above, and then others, but no red."""
+    if nth < len(COLOURS):
+        return COLOURS[nth]
+    return f"hsl({round(40 + 137.508 * nth % 250)},{55 + nth % 3 * 10}%,{34 + nth % 2 * 8}%)"
 
 
 @dataclass
@@ -20,6 +34,8 @@ class Line:
 
 @dataclass
 class Dot:
+    """A row that was found."""
+
     x: float
     y: float
     text: str
@@ -30,10 +46,11 @@ class Dot:
 
 
 @dataclass
-class Text(Dot):
+class Mark(Dot):
+    """A place on a track with a date, or its end with a name."""
+
     colour: str
-    mark: bool = False
-    strong: bool = False
+    is_end: bool = False
 
 
 class Place(Dot):
@@ -81,109 +98,130 @@ class Axes:
 
     def wide(self, y):
         """How wide a cell is for its height, at this height of the picture."""
-        return math.cos(math.radians(self.plane.degrees(0, y * self.cell)[0])) if self.narrow else 1
+        if not self.narrow:
+            return 1
+        latitude = max(-84, min(84, self.plane.degrees(0, y * self.cell)[0]))
+        return math.cos(math.radians(latitude))
 
-    def marks(self, low, high, is_x):
-        """The marks from one cell to another: the cell, and what stands beside it."""
-        size = 1
-        if self.plane:
-            latitude, longitude = self.plane.degrees(self.cell, self.cell)
-            size = longitude if is_x else latitude
-        step = step_of((high - low) * size)
+    def sizes(self):
+        """How many degrees a cell is wide and high, or 1 where the plane is not known."""
+        if not self.plane:
+            return 1, 1
+        latitude, longitude = self.plane.degrees(self.cell, self.cell)
+        return longitude, latitude
+
+    def marks(self, low, high, is_x, most):
+        """At most about so many marks from one cell to another: the cell, and what stands beside it."""
+        size = self.sizes()[0 if is_x else 1]
+        step = step_of((high - low) * size, most, whole=not self.plane)
         for nth in range(math.ceil(low * size / step), math.floor(high * size / step) + 1):
-            value = nth * step
-            yield value / size, self.text(value, step, is_x)
+            yield nth * step / size, self.text(nth * step, step, is_x)
 
     def text(self, value, step, is_x):
         if not self.plane:
             return f"{value:.0f}"
-        side = ("E" if is_x else "N") if value > 0 else ("W" if is_x else "S") if value < 0 else ""
-        return f"{abs(value):.{max(0, -math.floor(math.log10(step)))}f}°{side}"
+        if is_x:
+            value = (value + 180) % 360 - 180
+        figures = max(0, -math.floor(math.log10(step) + 1e-9))
+        shown = f"{abs(value):.{figures}f}"
+        if float(shown) == 0 or (is_x and float(shown) == 180):
+            return f"{shown}°"
+        return f"{shown}°{('E' if is_x else 'N') if value > 0 else ('W' if is_x else 'S')}"
 
 
-def turn_of(shape):
-    """When a shape is drawn: lines first, then towns, hits, names and dates, since what comes later gives way."""
-    if isinstance(shape, Place):
-        return 1
-    if isinstance(shape, Text):
-        return 3 if shape.mark else 2
-    return 2 if isinstance(shape, Dot) else 0
-
-
-def step_of(length):
-    """A round step of which a length has four to ten."""
-    power = 10 ** math.floor(math.log10(length / 4))
-    return next(power * part for part in (5, 2, 1) if power * part * 4 <= length)
+def step_of(length, most, whole):
+    """The least round step of which a length has at most so many."""
+    power = 10.0 ** math.floor(math.log10(length / most))
+    step = next(power * part for part in (1, 2, 5, 10) if power * part * most >= length * (1 - 1e-9))
+    return max(1, step) if whole else step
 
 
 class Picture:
-    def __init__(self, shapes, axes, title):
-        self.shapes, self.axes, self.title = shapes, axes, title
-        points = [point for shape in shapes for point in shape.points]
+    def __init__(self, shapes, axes, title, has_dates=None, has_names=None):
+        self.shapes, self.axes, self.title, self.left = shapes, axes, title, LEFT
+        self.frame()
+        # What stands beside the frame has to fit there.
+        self.left = max(LEFT, round(12 + max((labels.width_of(text, 11) for _, text in self.marks_up()), default=0)))
+        self.frame()
+        ends = sum(isinstance(shape, Mark) and shape.is_end for shape in shapes)
+        hits = sum(type(shape) is Dot for shape in shapes)
+        self.has_dates = ends <= MOST_DATED if has_dates is None else has_dates
+        self.names_tracks = ends <= MOST_NAMED if has_names is None else has_names
+        self.names_hits = hits <= MOST_HITS if has_names is None else has_names
+        self.is_crowded = ends > MOST_DATED
+        self.land, self.left_out = [], 0
+
+    def frame(self):
+        """The part of the plane that is shown, and how many pixels a cell is wide and high."""
+        points = [point for shape in self.shapes for point in shape.points]
         xs, ys = [x for x, _ in points], [y for _, y in points]
-        edge = 0.06 * max(max(xs) - min(xs), max(ys) - min(ys), 10)
-        self.x1, self.x2 = min(xs) - edge, max(xs) + edge
-        self.y1, self.y2 = min(ys) - edge, max(ys) + edge
-        # Pixels for a cell, in each direction.
-        self.down = min(
-            (MOST_HEIGHT - TOP - BOTTOM) / (self.y2 - self.y1),
-            (WIDTH - LEFT - RIGHT) / ((self.x2 - self.x1) * axes.wide((self.y1 + self.y2) / 2)),
-        )
-        self.across = self.down * axes.wide((self.y1 + self.y2) / 2)
-        self.taken = []
-        self.width = LEFT + RIGHT + round((self.x2 - self.x1) * self.across)
+        wide = self.axes.wide((min(ys) + max(ys)) / 2)
+        edge = 0.06 * max((max(xs) - min(xs)) * wide, max(ys) - min(ys), 10)
+        x1, x2, y1, y2 = min(xs) - edge / wide, max(xs) + edge / wide, min(ys) - edge, max(ys) + edge
+        high, across = MOST_HEIGHT - TOP - BOTTOM, WIDTH - self.left - RIGHT
+        self.down = min(high / (y2 - y1), across / ((x2 - x1) * wide))
+        self.across = self.down * wide
+        # A strip is made wider, so that what stands along its edges has room.
+        more_x = max(0, LEAST - (x2 - x1) * self.across) / 2 / self.across
+        more_y = max(0, LEAST - (y2 - y1) * self.down) / 2 / self.down
+        self.x1, self.x2, self.y1, self.y2 = x1 - more_x, x2 + more_x, y1 - more_y, y2 + more_y
+        self.width = self.left + RIGHT + round((self.x2 - self.x1) * self.across)
         self.height = TOP + BOTTOM + round((self.y2 - self.y1) * self.down)
+        self.right, self.low = self.width - RIGHT, self.height - BOTTOM
+
+    def marks_up(self):
+        return self.axes.marks(self.y1, self.y2, False, max(2, (self.low - TOP) // 70))
 
     def at(self, x, y):
-        return round(LEFT + (x - self.x1) * self.across, 1), round(TOP + (self.y2 - y) * self.down, 1)
-
-    def free_place(self, x, y, text, size):
-        """Where a text at a point begins, so that it lies in the picture and, where it can, on no text before."""
-        wide = 0.6 * size * len(text)
-        places = [
-            (left, low)
-            for low in (y - 4, y + size + 4, y - 4 - 1.5 * size, y + 4 + 2.5 * size)
-            for left in (x + 6, x - 6 - wide)
-            if LEFT <= left and left + wide <= self.width - 4
-        ]
-        free = (
-            (left, low) for left, low in places
-            if not any(left < right and other < left + wide and low - size < down and up < low for other, right, up, down in self.taken)
-        )
-        left, low = next(free, places[0] if places else (x, y))
-        self.taken.append((left, left + wide, low - size, low))
-        return f'x="{left:.1f}" y="{low:.1f}" font-size="{size}"'
+        return round(self.left + (x - self.x1) * self.across, 1), round(TOP + (self.y2 - y) * self.down, 1)
 
     def svg(self):
+        texts = list(self.placed_labels())
+        size = min(15, 15 * (self.width - self.left) / (labels.width_of(self.title, 15, bold=True) + 1))
         lines = [
             f'<svg xmlns="http://www.w3.org/2000/svg" width="{self.width}" height="{self.height}"'
             f' viewBox="0 0 {self.width} {self.height}" font-family="sans-serif" font-size="11">',
+            f'<clipPath id="frame"><path d="M{self.left} {TOP}H{self.right}V{self.low}H{self.left}Z"/></clipPath>',
             f'<rect width="{self.width}" height="{self.height}" fill="white"/>',
+            '<g clip-path="url(#frame)">',
+            *self.svg_land(),
+            "</g>",
             *self.svg_axes(),
+            '<g clip-path="url(#frame)">',
             *(line for shape in sorted(self.shapes, key=turn_of) for line in self.svg_shape(shape)),
-            f'<text x="{LEFT}" y="{TOP - 16}" font-size="15" font-weight="bold">{escape(self.title)}</text>',
+            "</g>",
+            *(line for text in texts for line in svg_text(text)),
+            f'<text x="{self.left}" y="{TOP - 16}" font-size="{size:.3g}" font-weight="bold">{escape(self.title)}</text>',
             "</svg>",
         ]
         return "\n".join(lines) + "\n"
 
+    def svg_land(self):
+        """Land and lakes as they are filled, and shores as lines; polygons have a line round them where there are no shores."""
+        for places, fill, outlined in self.land:
+            path = "M" + "L".join(f"{x} {y}" for x, y in thinned([self.at(*place) for place in places]))
+            stroke = f' stroke="{SHORE}" stroke-width="0.6"' if outlined else f' stroke="{fill}" stroke-width="0.4"'
+            yield f'<path d="{path}{"Z" if fill else ""}" fill="{fill or "none"}"{stroke}/>'
+
     def svg_axes(self):
-        right, low = self.at(self.x2, self.y1)
-        for x, text in self.axes.marks(self.x1, self.x2, True):
+        for x, text in self.axes.marks(self.x1, self.x2, True, max(2, (self.right - self.left) // 72)):
             across, _ = self.at(x, self.y1)
-            yield f'<path d="M{across} {TOP}V{low}" stroke="{PALE}"/>'
-            yield f'<text x="{across}" y="{low + 16}" text-anchor="middle" fill="{EDGE}">{text}</text>'
-        for y, text in self.axes.marks(self.y1, self.y2, False):
+            yield f'<path d="M{across} {TOP}V{self.low}" stroke="{PALE}"/>'
+            yield f'<text x="{across}" y="{self.low + 16}" text-anchor="middle" fill="{EDGE}">{text}</text>'
+        for y, text in self.marks_up():
             _, down = self.at(self.x1, y)
-            yield f'<path d="M{LEFT} {down}H{right}" stroke="{PALE}"/>'
-            yield f'<text x="{LEFT - 6}" y="{down + 4}" text-anchor="end" fill="{EDGE}">{text}</text>'
-        yield f'<path d="M{LEFT} {TOP}H{right}V{low}H{LEFT}Z" fill="none" stroke="{EDGE}"/>'
+            yield f'<path d="M{self.left} {down}H{self.right}" stroke="{PALE}"/>'
+            yield f'<text x="{self.left - 6}" y="{down + 4}" text-anchor="end" fill="{EDGE}">{text}</text>'
+        yield f'<path d="M{self.left} {TOP}H{self.right}V{self.low}H{self.left}Z" fill="none" stroke="{EDGE}"/>'
 
     def svg_shape(self, shape):
         x, y = self.at(*shape.points[0])
         if isinstance(shape, Line):
-            path = " ".join(f"{across},{down}" for across, down in map(lambda point: self.at(*point), shape.points))
+            points = thinned([self.at(*point) for point in shape.points])
+            path = " ".join(f"{across},{down}" for across, down in points)
             dashes = ' stroke-dasharray="2 4"' if shape.dashed else ""
-            yield f'<polyline points="{path}" fill="none" stroke="{shape.colour}" stroke-width="1.6"{dashes}/>'
+            width = 1.1 if self.is_crowded else 1.6
+            yield f'<polyline points="{path}" fill="none" stroke="{shape.colour}" stroke-width="{width}"{dashes}/>'
         elif isinstance(shape, Box):
             right, high = self.at(shape.x2, shape.y2)
             yield f'<path d="M{x} {y}H{right}V{high}H{x}Z" fill="none" stroke="{HIT}" stroke-dasharray="7 4"/>'
@@ -193,69 +231,84 @@ class Picture:
             yield f'<ellipse cx="{x}" cy="{y}" {sizes} fill="none" stroke="{HIT}" stroke-dasharray="7 4"/>'
         elif isinstance(shape, Cross):
             yield f'<path d="M{x - 6} {y}h12M{x} {y - 6}v12" stroke="{HIT}" stroke-width="2"/>'
-        elif isinstance(shape, Text):
-            yield from self.svg_text(shape, x, y)
+        elif isinstance(shape, Mark):
+            if shape.is_end or self.has_dates:
+                radius = 3 if shape.is_end else 2
+                yield f'<circle cx="{x}" cy="{y}" r="{radius}" fill="{shape.colour}"/>'
         elif isinstance(shape, Place):
-            yield f'<rect x="{x - 2}" y="{y - 2}" width="4" height="4"/>'
-            yield f'<text {self.free_place(x, y, shape.text, 11)}>{escape(shape.text)}</text>'
+            yield f'<rect x="{x - 2}" y="{y - 2}" width="4" height="4" fill="{TOWN}"/>'
         else:
-            yield f'<circle cx="{x}" cy="{y}" r="4.5" fill="{HIT}"/>'
-            yield f'<text {self.free_place(x, y, shape.text, 11)} fill="{HIT}">{escape(shape.text)}</text>'
+            radius = 4.5 if self.names_hits else 3
+            yield f'<circle cx="{x}" cy="{y}" r="{radius}" fill="{HIT}" stroke="white"/>'
 
-    def svg_text(self, shape, x, y):
-        if shape.mark:
-            yield f'<circle cx="{x}" cy="{y}" r="2" fill="{shape.colour}"/>'
-        weight, size = (' font-weight="bold"', 13) if shape.strong else ("", 10)
-        yield f'<text {self.free_place(x, y, shape.text, size)} fill="{shape.colour}"{weight}>{escape(shape.text)}</text>'
-
-    def gnuplot(self, name):
-        """The script that makes the picture as a PNG."""
-        lines = [
-            f"set terminal pngcairo size {self.width},{self.height} font 'sans,9'",
-            f"set output {quoted(name)}",
-            f"set title {quoted(self.title)}",
-            f"set xrange [{self.x1}:{self.x2}]",
-            f"set yrange [{self.y1}:{self.y2}]",
-            f"set size ratio {(self.y2 - self.y1) * self.down / ((self.x2 - self.x1) * self.across)}",
-            "set grid linecolor rgb '#dddddd' linetype 1",
-            "set key off",
-            f"set xtics ({marks_text(self.axes.marks(self.x1, self.x2, True))})",
-            f"set ytics ({marks_text(self.axes.marks(self.y1, self.y2, False))})",
-        ]
-        data, plots = [], []
+    def placed_labels(self):
+        """The texts that find room beside what they name."""
+        room = labels.Room(self.left, TOP, self.right, self.low)
+        wanted = []
         for shape in self.shapes:
-            self.add_gnuplot(shape, lines, data, plots)
-        # What has no line still wants a plot.
-        return "\n".join([*lines, *data, "plot " + ", ".join(plots or ["NaN notitle"])]) + "\n"
+            if isinstance(shape, Line):
+                room.add_line([self.at(*point) for point in shape.points])
+            elif isinstance(shape, (Box, Circle)):
+                room.add_line([self.at(*point) for point in edge_of(shape)])
+            elif isinstance(shape, (Dot, Cross)):
+                x, y = self.at(*shape.points[0])
+                label = self.label_of(shape, x, y)
+                if label:
+                    wanted.append(label)
+                if label or not isinstance(shape, Mark):
+                    room.take((x - 3, y - 3, x + 3, y + 3))
+        found = list(labels.placed(wanted, room))
+        self.left_out = len(wanted) - len(found)
+        return found
 
-    def add_gnuplot(self, shape, lines, data, plots):
-        x, y = shape.points[0]
-        if isinstance(shape, Line):
-            nth = len(plots)
-            data += [f"$line{nth} << EOD", *(f"{x} {y}" for x, y in shape.points), "EOD"]
-            plots.append(f"$line{nth} with lines linewidth 1.5 dashtype {3 if shape.dashed else 1} linecolor rgb '{shape.colour}'")
-        elif isinstance(shape, Box):
-            lines.append(f"set object rectangle from {x},{y} to {shape.x2},{shape.y2} fillstyle empty border rgb '{HIT}' dashtype 2")
-        elif isinstance(shape, Circle):
-            size = f"{2 * shape.radius},{2 * shape.radius}"
-            lines.append(f"set object ellipse center {shape.x},{shape.y} size {size} fillstyle empty border rgb '{HIT}' dashtype 2")
-        elif isinstance(shape, Cross):
-            lines.append(f"set label '' at {x},{y} point pointtype 1 pointsize 2 linecolor rgb '{HIT}'")
-        elif isinstance(shape, Text):
-            point = f"point pointtype 7 pointsize 0.4 linecolor rgb '{shape.colour}'" if shape.mark else ""
-            lines.append(f"set label {quoted(shape.text)} at {x},{y} {point} offset 0.6,0.5 textcolor rgb '{shape.colour}'")
-        elif isinstance(shape, Place):
-            lines.append(f"set label {quoted(shape.text)} at {x},{y} point pointtype 5 pointsize 0.6 linecolor rgb 'black' offset 0.6,0")
-        else:
-            point = f"point pointtype 7 linecolor rgb '{HIT}'"
-            lines.append(f"set label {quoted(shape.text)} at {x},{y} {point} offset 0.8,-0.6 textcolor rgb '{HIT}'")
-
-
-def quoted(text):
-    """A text in gnuplot's single quotes, with nothing that it would read as a sign of its own."""
-    text = text.replace("'", "''")
-    return "'" + "".join("\\" + sign if sign in "_^{}@&~" else sign for sign in text) + "'"
+    def label_of(self, shape, x, y):
+        if isinstance(shape, Place):
+            return labels.Label(x, y, shape.text, TOWN, rank=0, held=True)
+        if isinstance(shape, Mark):
+            if shape.is_end:
+                size, bold = (10, False) if self.is_crowded else (13, True)
+                return labels.Label(x, y, shape.text, shape.colour, size, bold, 2, True) if self.names_tracks else None
+            return labels.Label(x, y, shape.text, shape.colour, 10, rank=3) if self.has_dates else None
+        if isinstance(shape, Dot) and shape.text and self.names_hits:
+            return labels.Label(x, y, shape.text, HIT, rank=1, held=True)
+        return None
 
 
-def marks_text(marks):
-    return ", ".join(f"{quoted(text)} {at}" for at, text in marks)
+def edge_of(region):
+    """Places along the edge of a region."""
+    if isinstance(region, Box):
+        return [(region.x1, region.y1), (region.x2, region.y1), (region.x2, region.y2), (region.x1, region.y2), (region.x1, region.y1)]
+    turns = [2 * math.pi * nth / 60 for nth in range(61)]
+    return [(region.x + region.radius * math.cos(turn), region.y + region.radius * math.sin(turn)) for turn in turns]
+
+
+def turn_of(shape):
+    """When a shape is drawn: lines first, then marks on them, regions, and towns and hits last."""
+    if isinstance(shape, Line):
+        return 0
+    if isinstance(shape, Mark):
+        return 1
+    return 3 if isinstance(shape, Dot) else 2
+
+
+def thinned(points, least=0.4):
+    """Points of a line without those that lie within a part of a pixel of the one before; its ends stay."""
+    found = points[:1]
+    for point in points[1:-1]:
+        if max(abs(point[0] - found[-1][0]), abs(point[1] - found[-1][1])) >= least:
+            found.append(point)
+    return found + points[-1:]
+
+
+def svg_text(placed):
+    label = placed.label
+    if placed.line:
+        left, low = placed.left, placed.low - 0.35 * label.size
+        right = left + labels.width_of(label.text, label.size, label.bold)
+        to = left if label.x < left else right if label.x > right else label.x
+        yield f'<path d="M{label.x} {label.y}L{to:.1f} {low:.1f}" stroke="{label.colour}" stroke-width="0.5"/>'
+    weight = ' font-weight="bold"' if label.bold else ""
+    yield (
+        f'<text x="{placed.left:.1f}" y="{placed.low:.1f}" font-size="{label.size}" fill="{label.colour}"{weight}'
+        f' stroke="white" stroke-width="2.5" stroke-linejoin="round" paint-order="stroke">{escape(label.text)}</text>'
+    )

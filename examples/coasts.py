@@ -1,0 +1,231 @@
+"""Coasts to lay under a picture: polygons and lines of a GeoJSON file, or GSHHG's from Debian's package gmt-gshhg.
+
+GSHHG keeps its shores in netCDF files, cut into bins of some degrees. A bin has segments of shores, which begin and end on its
+sides or are closed, and tells of which level its corners are: 0 is the sea, 1 land, 2 a lake, 3 an island in one, and so on. The layout is that of
+GMT's gmt_shore.c.
+"""
+
+import json
+import math
+import os
+
+import debian
+import readers
+import tracks
+
+GSHHG = "/usr/share/gmt-gshhg"
+
+# Which of GSHHG's files: the greatest extent of a picture, in degrees, for which it is fine enough.
+RESOLUTIONS = ((1.5, "f"), (8, "h"), (25, "i"), (90, "l"), (math.inf, "c"))
+
+LAND, LAKE, SHORE = "land", "lake", "shore"
+MOST_LEVEL = 4
+
+
+class Window:
+    """The part of the globe that a picture shows, in degrees; its longitudes may go on beyond 180."""
+
+    def __init__(self, west, south, east, north):
+        self.west, self.south, self.east, self.north = west, south, east, north
+
+    def turned(self, places):
+        """The places, as often as they are seen in the window: whole turns to the east or the west."""
+        if not places:
+            return
+        easts, norths = [east for east, _ in places], [north for _, north in places]
+        if max(norths) < self.south or min(norths) > self.north:
+            return
+        for turn in range(math.ceil((self.west - max(easts)) / 360), math.floor((self.east - min(easts)) / 360) + 1):
+            yield [(east + 360 * turn, north) for east, north in places]
+
+    def clipped(self, ring):
+        """A polygon within the window (after Sutherland and Hodgman)."""
+        for axis, limit, sign in ((0, self.west, 1), (0, self.east, -1), (1, self.south, 1), (1, self.north, -1)):
+            ring = clipped_side(ring, axis, limit, sign)
+        return ring
+
+
+def clipped_side(ring, axis, limit, sign):
+    found = []
+    for before, point in zip(ring[-1:] + ring[:-1], ring):
+        inside, was_inside = sign * (point[axis] - limit) >= 0, sign * (before[axis] - limit) >= 0
+        if inside != was_inside:
+            part = (limit - before[axis]) / (point[axis] - before[axis])
+            found.append((before[0] + part * (point[0] - before[0]), before[1] + part * (point[1] - before[1])))
+        if inside:
+            found.append(point)
+    return found
+
+
+def shapes_of(name, window):
+    """The kind of each shape of a coast that is seen in a window, and its places, as longitudes and latitudes."""
+    if name == "gshhg" or os.path.isdir(name):
+        found = gshhg(GSHHG if name == "gshhg" else name, window)
+    else:
+        found = geojson(name)
+    for kind, places in found:
+        for turned in window.turned(places):
+            if kind == SHORE:
+                yield kind, turned
+            else:
+                ring = window.clipped(turned)
+                if len(ring) > 2:
+                    yield kind, ring
+
+
+def geojson(name):
+    """The polygons and lines of a GeoJSON file."""
+    with readers.bytes_of(name) as raw:
+        try:
+            said = json.load(raw)
+            yield from parts_of(said)
+        except (ValueError, TypeError, KeyError, AttributeError, RecursionError):
+            raise tracks.Refused(f"{name} is no GeoJSON") from None
+
+
+def parts_of(said):
+    kind = said["type"]
+    if kind == "FeatureCollection":
+        for it in said["features"]:
+            yield from parts_of(it)
+    elif kind == "Feature":
+        if said["geometry"]:
+            yield from parts_of(said["geometry"])
+    elif kind == "GeometryCollection":
+        for it in said["geometries"]:
+            yield from parts_of(it)
+    elif kind in ("Polygon", "MultiPolygon"):
+        for polygon in said["coordinates"] if kind == "MultiPolygon" else [said["coordinates"]]:
+            for nth, ring in enumerate(polygon):
+                yield LAKE if nth else LAND, places_in(ring)
+    elif kind in ("LineString", "MultiLineString"):
+        for line in said["coordinates"] if kind == "MultiLineString" else [said["coordinates"]]:
+            yield SHORE, places_in(line)
+    elif kind not in ("Point", "MultiPoint"):
+        raise ValueError(kind)
+
+
+def places_in(line):
+    return [(float(place[0]), float(place[1])) for place in line]
+
+
+def gshhg(folder, window):
+    """Land, lakes, and the shores of both, of the file of GSHHG that is fine enough, or the next that is there."""
+    if not debian.run_with("netCDF4"):
+        raise tracks.Refused("GSHHG's coasts need the Python module netCDF4; Debian's package python3-netcdf4 has it")
+    import netCDF4
+
+    wanted = next(nth for nth, (most, _) in enumerate(RESOLUTIONS) if max(window.east - window.west, window.north - window.south) <= most)
+    order = [letter for _, letter in RESOLUTIONS]
+    files = [os.path.join(folder, f"binned_GSHHS_{letter}.nc") for letter in order[wanted:] + order[:wanted][::-1]]
+    name = next((file for file in files if os.path.exists(file)), None)
+    if name is None:
+        raise tracks.Refused(f"{folder} has no coasts of GSHHG (binned_GSHHS_c.nc and others); Debian's package gmt-gshhg has them")
+    with netCDF4.Dataset(name) as file:
+        # Each value is one, also those that netCDF would take for missing.
+        file.set_auto_mask(False)
+        shores = Shores(file)
+        for number in shores.bins_in(window):
+            yield from shores.of_bin(number)
+
+
+class Shores:
+    """A file of GSHHG."""
+
+    def __init__(self, file):
+        variables = file.variables
+        self.size = int(variables["Bin_size_in_minutes"][0]) / 60
+        self.wide = int(variables["N_bins_in_360_longitude_range"][0])
+        self.first = variables["Id_of_first_segment_in_a_bin"][:].tolist()
+        self.levels = variables["Embedded_node_levels_in_a_bin"][:].tolist()
+        self.count = variables["N_segments_in_a_bin"][:].tolist()
+        self.segments = variables["Embedded_npts_levels_exit_entry_for_a_segment"][:].tolist()
+        self.starts = variables["Id_of_first_point_in_a_segment"][:].tolist()
+        self.ice = variables["Embedded_ANT_flag"][:].tolist()
+        self.east = variables["Relative_longitude_from_SW_corner_of_bin"]
+        self.north = variables["Relative_latitude_from_SW_corner_of_bin"]
+
+    def bins_in(self, window):
+        for number in range(len(self.first)):
+            west, south = self.corner(number)
+            box = [(west, south), (west + self.size, south + self.size)]
+            if any(True for _ in window.turned(box)):
+                yield number
+
+    def corner(self, number):
+        return number % self.wide * self.size, 90 - (number // self.wide + 1) * self.size
+
+    def of_bin(self, number):
+        west, south = self.corner(number)
+        packed = self.levels[number]
+        corners = [packed >> shift & 7 for shift in (9, 6, 3, 0)]
+        by_level = {}
+        segments = range(self.first[number], self.first[number] + self.count[number])
+        points = self.points_of(segments)
+        for segment in segments:
+            fields, start = self.segments[segment], self.starts[segment] - self.starts[segments[0]]
+            # Of Antarctica's two shores the one of its ice is drawn.
+            if self.ice[segment] == 2:
+                continue
+            places = points[start:start + (fields >> 9)]
+            by_level.setdefault(fields >> 6 & 7, []).append((fields >> 3 & 7, fields & 7, places))
+        for level in range(1, MOST_LEVEL + 1):
+            kind = LAND if level % 2 else LAKE
+            for ring in rings_of(by_level.get(level, []), [corner >= level for corner in corners], inside_left=level % 2 == 1):
+                yield kind, [(west + east * self.size, south + north * self.size) for east, north in ring]
+        for segments in by_level.values():
+            for _, _, places in segments:
+                yield SHORE, [(west + east * self.size, south + north * self.size) for east, north in places]
+
+    def points_of(self, segments):
+        """The points of a bin's segments, which stand one after the other, in parts of its sides from its south-west corner."""
+        if not segments:
+            return []
+        start, end = self.starts[segments[0]], self.starts[segments[-1]] + (self.segments[segments[-1]] >> 9)
+        easts, norths = (variable[start:end].tolist() for variable in (self.east, self.north))
+        return [((east & 0xFFFF) / 65535, (north & 0xFFFF) / 65535) for east, north in zip(easts, norths)]
+
+
+# The corners of a bin, in parts of its side, against the clock from the south-west.
+CORNERS = ((0, 0), (1, 0), (1, 1), (0, 1))
+
+
+def along(place):
+    """How far a place on the sides of a bin is from its south-west corner, against the clock, in sides."""
+    east, north = place
+    gaps = (north, 1 - east, 1 - north, east)
+    side = gaps.index(min(gaps))
+    return (east, 1 + north, 3 - east, 4 - north)[side] % 4
+
+
+def rings_of(segments, inside, inside_left):
+    """The polygons of what is inside within one bin, of sides 1: its closed segments, and those that its open ones make with its sides."""
+    open_ones = []
+    for enter, leave, places in segments:
+        if enter == 4 or leave == 4 or len(places) < 2:
+            yield places
+        else:
+            open_ones.append(places if inside_left else places[::-1])
+    if not open_ones:
+        if all(inside):
+            yield list(CORNERS)
+        return
+    starts = sorted((along(places[0]), nth) for nth, places in enumerate(open_ones))
+    left = set(range(len(open_ones)))
+    while left:
+        first = here = min(left)
+        ring = []
+        while here in left:
+            left.discard(here)
+            ring += open_ones[here]
+            here = next_start(along(open_ones[here][-1]), starts, ring)
+        if here == first or ring:
+            yield ring
+
+
+def next_start(end, starts, ring):
+    """The segment that begins next, against the clock from the end of one; the corners on the way are added."""
+    at, nth = next(((at, nth) for at, nth in starts if at >= end), None) or (starts[0][0] + 4, starts[0][1])
+    for corner in range(math.ceil(end), math.floor(at) + 1):
+        ring.append(CORNERS[corner % 4])
+    return nth
