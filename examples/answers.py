@@ -172,4 +172,6 @@ def plane_of(words):
     """The plane that the words say; None where they say none."""
     if words.middle is not None:
         return tracks.Metres(words.middle)
+    if words.per_degree is not None and words.per_degree < 1:
+        raise tracks.Refused("--per-degree N: N is 1 or more")
     return None if words.per_degree is None else tracks.Degrees(words.per_degree)

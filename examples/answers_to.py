@@ -215,7 +215,7 @@ def main():
         sys.stdout.flush()
     except BrokenPipeError:
         os.dup2(os.open(os.devnull, os.O_WRONLY), sys.stdout.fileno())
-    except (tracks.Refused, OSError, OverflowError, ValueError) as refusal:
+    except (tracks.Refused, OSError, ArithmeticError, ValueError) as refusal:
         sys.exit(f"answers_to.py: {refusal}")
 
 

@@ -236,6 +236,8 @@ def table_of(records, words, ids):
 
 def convert(words, rows, numbers, ids, most_longitude=360):
     """The rows of a table. Its longitudes go up to 180, or up to 360 where they are counted eastwards."""
+    if words.separator is not None and len(words.separator) != 1:
+        raise tracks.Refused(f"--separator {words.separator!r} is not one sign")
     records = Records(readers.lines_of(words.export), rows)
     heading, columns, separator = table_of(records, words, ids)
     clock, swaps, first = clocks.Clock(words), Swaps(), True
