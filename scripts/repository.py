@@ -54,6 +54,28 @@ def spec_files(crate):
     return [file for file in files if file.exists()]
 
 
+def heading(file):
+    """The sentence at the head of a file of definitions."""
+    lines = []
+    for line in file.read_text().splitlines():
+        if not line.startswith("-- "):
+            break
+        lines.append(line[3:])
+    return re.split(r"(?<=[.])\s", " ".join(lines))[0]
+
+
+def files_below(file):
+    """The files of definitions that a file's `use` lines name, and all that those rest on."""
+    found, left = set(), [file]
+    while left:
+        for crate, name in re.findall(r"^\s*(?:ghost |pub )?use Rattle\.(\w+)\.specs\.(\w+)", left.pop().read_text(), re.MULTILINE):
+            below = folder(crate) / "specs" / f"{name}.antt"
+            if below.exists() and below not in found:
+                found.add(below)
+                left.append(below)
+    return found
+
+
 def edits(crate):
     """The names of a crate's wrong bodies."""
     return sorted(file.name for file in (folder(crate) / "must-fail").glob("*.edit"))
@@ -64,10 +86,27 @@ def sources(crate):
 
 
 def labels(crate):
-    """The labels of all clauses of a crate."""
-    found = set()
+    """The labels of the clauses of each call of a crate, of calls with one name together, as a dictionary."""
+    found = {}
     for file in sources(crate):
-        found.update(re.findall(r"^ *(?:requires|ensures) (\w+) ", file.read_text(), re.MULTILINE))
+        call = None
+        for line in file.read_text().splitlines():
+            begins = re.match(r"^ *(?:pub(?:\(\w+\))? )?fn (\w+)", line)
+            if begins:
+                call = begins.group(1)
+                found.setdefault(call, set())
+            label = re.match(r"^ *(?:requires|ensures) (\w+) ", line)
+            if label and call:
+                found[call].add(label.group(1))
+    return found
+
+
+def words(crate):
+    """All public names of a crate's definitions, those of fields too."""
+    found = set()
+    for file in spec_files(crate):
+        found.update(name for name, _ in definitions(file))
+        found.update(re.findall(r"^ +pub (\w+) :", file.read_text(), re.MULTILINE))
     return found
 
 
