@@ -7,6 +7,7 @@ ghost use Rattle.repair_grammar.specs.Runs.{begins_odd, ends_odd};
 ghost use Rattle.repair_grammar.specs.Threads.{at, live, IsCounted, IsPassing, IsPlain};
 ghost use Rattle.repair_grammar.specs.Joins.{IsText, plain_of, gone_left, gone_right, only_if};
 ghost use Rattle.repair_grammar.specs.Joins.{counts_left};
+ghost use Rattle.repair_grammar.specs.declared.text.TheConstants.{END, GAP};
 
 use crate::pairs::Pairs;
 use crate::text::{END, Text};
@@ -31,7 +32,7 @@ fn left_gone(text: &Text, place: usize, left: u32, pair: (u32, u32)) -> Option<(
     requires text { IsText text.now }
     requires stands { at text.now.symbols.items place ≡ pair.0 }
     requires inside { place < length text.now.symbols.items }
-    requires plain { pair.0 < 4294967294 }
+    requires plain { pair.0 < END }
     ensures { result ≡ gone_left (ends_odd pair.0 false (live (take place text.now.symbols.items)))
         left pair.0 pair.1 }
 {
@@ -49,9 +50,9 @@ fn left_gone(text: &Text, place: usize, left: u32, pair: (u32, u32)) -> Option<(
 #[tactic(auto, unfolding(crate::specs::Joins::gone_right))]
 fn right_gone(text: &Text, place: usize, right: u32, pair: (u32, u32)) -> Option<(u32, u32)>
     requires text { IsText text.now }
-    requires stands { at text.now.symbols.items place < 4294967295 }
+    requires stands { at text.now.symbols.items place < GAP }
     requires inside { place < length text.now.symbols.items }
-    requires plain { pair.1 < 4294967294 }
+    requires plain { pair.1 < END }
     ensures { result ≡ gone_right (begins_odd pair.1 (live (drop place text.now.symbols.items)))
         pair.0 pair.1 right }
 {
@@ -127,7 +128,7 @@ pub fn join_at(
     requires left { at text.old.symbols.items place ≡ pair.0 }
     requires right { at text.old.symbols.items (slice_index_or text.old.next.items place 0) ≡ pair.1 }
     requires plain { IsPlain pair }
-    requires fits { symbol < 4294967294 }
+    requires fits { symbol < END }
     requires begins { (pair.0 == pair.1) ≡ true → (at text.old.symbols.items
         (slice_index_or text.old.previous.items place 0) == pair.0) ≡ false }
     requires new { (k : ℕ) → place ≤ k → (symbol == at text.old.symbols.items k) ≡ false }

@@ -5,6 +5,7 @@ ghost use Rattle.repair_grammar.specs.RePair.{replaced};
 ghost use Rattle.repair_grammar.specs.Pairs.{count_of, places_of, HasCome};
 ghost use Rattle.repair_grammar.specs.Threads.{at, live, stands_at, IsCounted, IsPlain};
 ghost use Rattle.repair_grammar.specs.Joins.{IsText};
+ghost use Rattle.repair_grammar.specs.declared.text.TheConstants.{END};
 
 use crate::joining::join_at;
 use crate::pairs::Pairs;
@@ -24,7 +25,7 @@ pub fn replace_all(
     requires text { IsText text.old }
     requires counted { IsCounted text.old.symbols.items (count_of pairs.old) (places_of pairs.old) }
     requires plain { IsPlain pair }
-    requires fits { symbol < 4294967294 }
+    requires fits { symbol < END }
     requires new { (k : ℕ) → (symbol == at text.old.symbols.items k) ≡ false }
     requires other { (symbol == pair.1) ≡ false }
     requires order { IsNonDecreasing places.now }

@@ -1,6 +1,7 @@
 ghost use Rattle.std.specs.Prelude.{◌≡◌, ℕ, List, IfOk};
 ghost use Rattle.repair_grammar.specs.RePair.{AreBelow};
 ghost use Rattle.repair_grammar.specs.Threads.{live, row_of, HasEnds};
+ghost use Rattle.repair_grammar.specs.declared.text.TheConstants.{END};
 
 use crate::text::{END, GAP};
 use std::alloc::Global;
@@ -23,7 +24,7 @@ pub fn row(alloc: Global, blocks: &Lists32) -> Result<Vec<u32>, Memory>
 pub fn blocks_from(alloc: Global, row: &[u32]) -> Result<Lists32, Memory>
     requires ends { HasEnds row.now }
     ensures { IfOk result (λ made. (blocks : List (List ℕ)) →
-        AreBelow 4294967294 blocks → live row.now ≡ row_of blocks → made ≡ blocks) }
+        AreBelow END blocks → live row.now ≡ row_of blocks → made ≡ blocks) }
 {
     let mut blocks = Vec::new(alloc);
     let mut block = Vec::new(alloc);

@@ -1,7 +1,8 @@
-ghost use Rattle.std.specs.Prelude.{◌≡◌, ℕ, ◌<◌, length, IfOk};
+ghost use Rattle.std.specs.Prelude.{◌≡◌, ℕ, ◌^◌, ◌<◌, length, IfOk};
 ghost use Rattle.std.specs.List.{Contains};
 ghost use Rattle.repair_grammar.specs.Pairs.{count_of, places_of};
 ghost use Rattle.repair_grammar.specs.Threads.{at, HasEnds, IsCounted};
+ghost use Rattle.repair_grammar.specs.declared.text.TheConstants.{GAP};
 
 use crate::joining::{note_some, plain_pair};
 use crate::pairs::Pairs;
@@ -10,8 +11,8 @@ use track_types::Memory;
 
 /// Counts each pair of a row without gaps, and notes its places.
 pub fn count_row(alloc: Global, row: &[u32]) -> Result<Pairs, Memory>
-    requires few { length row.now < 4294967296 }
-    requires words { (k : ℕ) → k < length row.now → at row.now k < 4294967295 }
+    requires few { length row.now < 2 ^ 32 }
+    requires words { (k : ℕ) → k < length row.now → at row.now k < GAP }
     requires ends { HasEnds row.now }
     ensures counted { IfOk result (λ pairs. IsCounted row.now (count_of pairs) (places_of pairs)) }
     ensures fresh { IfOk result (λ pairs. (pair : ℕ × ℕ) → 0 < count_of pairs pair →

@@ -1,9 +1,10 @@
-ghost use Rattle.std.specs.Prelude.{◌≡◌, ℕ, ◌+◌, ◌<◌, length, IfOk, slice_index_or};
+ghost use Rattle.std.specs.Prelude.{◌≡◌, ℕ, ◌+◌, ◌^◌, ◌<◌, length, IfOk, slice_index_or};
 ghost use Rattle.std.specs.Prelude.{false, take, drop, slice_set};
 ghost use Rattle.std.specs.List.{AllByRecursion};
 ghost use Rattle.repair_grammar.specs.Threads.{at, live, AreThreads, HasEnds, IsAround};
 ghost use Rattle.repair_grammar.specs.Joins.{IsText};
 ghost use Rattle.repair_grammar.specs.Runs.{begins_odd, ends_odd};
+ghost use Rattle.repair_grammar.specs.declared.text.TheConstants.{END, GAP};
 
 use std::alloc::Global;
 use track_types::Memory;
@@ -36,8 +37,8 @@ pub struct Text {
 impl Text {
     /// A row without gaps, threaded from each place to the next.
     pub fn new(alloc: Global, symbols: Vec<u32>) -> Result<Text, Memory>
-        requires few { length symbols.items < 4294967295 }
-        requires plain { AllByRecursion (λ symbol. symbol < 4294967295) symbols.items }
+        requires few { length symbols.items + 1 < 2 ^ 32 }
+        requires plain { AllByRecursion (λ symbol. symbol < GAP) symbols.items }
         requires ends { HasEnds symbols.items }
         ensures text { IfOk result IsText }
         ensures symbols { IfOk result (λ text. text.symbols.items ≡ symbols.items) }
@@ -58,9 +59,9 @@ impl Text {
     /// Whether the symbol stands oddly often in a row right before the place.
     pub fn is_odd_before(&self, place: usize, symbol: u32) -> bool
         requires text { IsText self.now }
-        requires stands { at self.now.symbols.items place < 4294967295 }
+        requires stands { at self.now.symbols.items place < GAP }
         requires inside { (0 < place) × (place < length self.now.symbols.items) }
-        requires plain { symbol < 4294967294 }
+        requires plain { symbol < END }
         ensures { result ≡ ends_odd symbol false (live (take place self.now.symbols.items)) }
     {
         let mut odd = false;
@@ -75,9 +76,9 @@ impl Text {
     /// Whether the symbol stands oddly often in a row from the place on.
     pub fn is_odd_from(&self, place: usize, symbol: u32) -> bool
         requires text { IsText self.now }
-        requires stands { at self.now.symbols.items place < 4294967295 }
+        requires stands { at self.now.symbols.items place < GAP }
         requires inside { place < length self.now.symbols.items }
-        requires plain { symbol < 4294967294 }
+        requires plain { symbol < END }
         ensures { result ≡ begins_odd symbol (live (drop place self.now.symbols.items)) }
     {
         let mut odd = false;
@@ -93,8 +94,8 @@ impl Text {
     pub fn around(&self, place: usize) -> Around
         requires text { IsText self.now }
         requires inside { place < length self.now.symbols.items }
-        requires stands { at self.now.symbols.items place < 4294967294 }
-        requires gone { at self.now.symbols.items (slice_index_or self.now.next.items place 0) < 4294967294 }
+        requires stands { at self.now.symbols.items place < END }
+        requires gone { at self.now.symbols.items (slice_index_or self.now.next.items place 0) < END }
         ensures { IsAround self.now.symbols.items place
             result.left result.gone result.right result.before result.after }
     {
@@ -116,10 +117,10 @@ impl Text {
         requires threads { AreThreads self.old.symbols.items self.old.next.items self.old.previous.items }
         requires around { IsAround self.old.symbols.items place
             around.left around.gone around.right around.before around.after }
-        requires fits { symbol < 4294967295 }
+        requires fits { symbol < GAP }
         ensures threads { AreThreads self.new.symbols.items self.new.next.items self.new.previous.items }
         ensures symbols { self.new.symbols.items
-            ≡ slice_set (slice_set self.old.symbols.items place symbol) around.gone 4294967295 }
+            ≡ slice_set (slice_set self.old.symbols.items place symbol) around.gone GAP }
     {
         self.symbols[place] = symbol;
         self.symbols[around.gone] = GAP;
