@@ -1,0 +1,35 @@
+-- Boxes as they are kept.
+use Rattle.std.proofs.Common.{◌≡◌, ℕ, zero, suc, List, [], ◌∷◌, ◌++◌, length, refl, sym, ap, ◌∙◌, arith, Some}
+use Rattle.std.specs.Prelude.{slice_get}
+use Rattle.std.proofs.lemmas.Option.{same_Some}
+use Rattle.track_types.specs.declared.cell.Cell.{Cell}
+use Rattle.track_types.specs.declared.cell_box.CellBox.{CellBox}
+use Rattle.box_tree.specs.Boxes.{box_with, boxes_of}
+
+pub boxes_of-length : (base : Cell) (corners reaches : List (ℕ × ℕ)) → length reaches ≡ length corners
+    → length (boxes_of base corners reaches) ≡ length corners
+unfolding boxes_of
+boxes_of-length base [] reaches same = refl
+boxes_of-length base (c ∷ corners) [] same = absurd (omega arith)
+boxes_of-length base (c ∷ corners) (r ∷ reaches) same = ap suc (boxes_of-length base corners reaches (omega arith))
+
+pub boxes_of-at : (base : Cell) (corners reaches : List (ℕ × ℕ)) (place : ℕ) (corner reach : ℕ × ℕ)
+    → slice_get corners place ≡ Some corner → slice_get reaches place ≡ Some reach
+    → slice_get (boxes_of base corners reaches) place ≡ Some (box_with base corner reach)
+unfolding boxes_of
+boxes_of-at base [] reaches zero corner reach a b = absurd (cc)
+boxes_of-at base [] reaches (suc place) corner reach a b = absurd (cc)
+boxes_of-at base (c ∷ corners) [] zero corner reach a b = absurd (cc)
+boxes_of-at base (c ∷ corners) [] (suc place) corner reach a b = absurd (cc)
+boxes_of-at base (c ∷ corners) (r ∷ reaches) zero corner reach a b =
+    ap (λ k. Some (box_with base k r)) (same_Some c corner a) ∙ ap (λ k. Some (box_with base corner k)) (same_Some r reach b)
+boxes_of-at base (c ∷ corners) (r ∷ reaches) (suc place) corner reach a b = boxes_of-at base corners reaches place corner reach a b
+
+pub boxes_of-more : (base : Cell) (corners reaches : List (ℕ × ℕ)) (corner reach : ℕ × ℕ) → length reaches ≡ length corners
+    → boxes_of base (corners ++ corner ∷ []) (reaches ++ reach ∷ []) ≡ boxes_of base corners reaches ++ box_with base corner reach ∷ []
+unfolding boxes_of
+boxes_of-more base [] [] corner reach same = refl
+boxes_of-more base [] (r ∷ reaches) corner reach same = absurd (omega arith)
+boxes_of-more base (c ∷ corners) [] corner reach same = absurd (omega arith)
+boxes_of-more base (c ∷ corners) (r ∷ reaches) corner reach same =
+    ap (λ rest. box_with base c r ∷ rest) (boxes_of-more base corners reaches corner reach (omega arith))

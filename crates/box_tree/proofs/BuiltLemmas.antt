@@ -1,0 +1,49 @@
+-- The tree that is built.
+use Rattle.std.proofs.Common.{◌≡◌, ℕ, ◌+◌, ◌*◌, ◌^◌, ◌<◌, ◌≤◌, List, [], ◌∷◌, ◌++◌, length, refl, sym, ap, ◌∙◌, arith, All, subst, lit<}
+use Rattle.std.proofs.Math.Nat.{pow-le-pow_right}
+use Rattle.track_types.specs.declared.cell_box.CellBox.{CellBox}
+use Rattle.track_types.specs.declared.limit.TheConstants.{MAX_HEIGHT}
+use Rattle.box_tree.specs.Held.{IsBucket, Nodes}
+use Rattle.box_tree.specs.Levels.{digits, first_in}
+use Rattle.box_tree.specs.Places.{ArePlaces, Places}
+use Rattle.box_tree.specs.Tree.{AreLevels, IsTree, levels_below, places_with, tree_of}
+use Rattle.box_tree.specs.Building.{BeginsWith, IsMade, IsTask, StandsFor}
+use Rattle.box_tree.specs.declared.task.Task.{Task}
+use Rattle.box_tree.proofs.BeginLemmas.{place_among-all, place_among-zero}
+use Rattle.box_tree.proofs.BuildingLemmas.{held-made}
+use Rattle.box_tree.proofs.MakingLemmas.{stands-more}
+
+-- the task of the whole grid
+pub root-task : (codes : List ℕ) (narrow height all : ℕ) → digits (levels_below narrow height) ≡ all → all ≤ MAX_HEIGHT
+    → All (λ code. code < 4 ^ all) codes → 0 < length codes
+    → IsTask codes narrow (record { below = height; level = all; prefix = 0; low = 0; high = length codes })
+unfolding first_in
+root-task codes narrow height all level few inside some =
+    let none : 0 * 4 ^ all ≡ 0 = omega arith in
+    let one : (0 + 1) * 4 ^ all ≡ 4 ^ all = omega arith in
+    let most : 4 ^ all ≤ 4 ^ 20 = pow-le-pow_right (lit< tt) few in
+    record {
+      level = level;
+      deep = few;
+      small = rw one most;
+      places = record {
+        low_is = rw (none, place_among-zero codes) refl;
+        high_is = rw (one, place_among-all codes (4 ^ all) inside) refl;
+      };
+      some = some;
+    }
+
+-- nodes that were made of all tasks, beginning with the whole grid's, are a tree
+pub tree-built : (height narrow all : ℕ) (codes : List ℕ) (boxes areas : List CellBox) (links : List (ℕ × ℕ)) (first tasks : List Task)
+    → AreLevels height narrow all → ArePlaces (places_with height narrow codes boxes)
+    → ((number : ℕ) → number < length tasks → IsMade codes boxes narrow tasks areas links number)
+    → BeginsWith first tasks → (0 < length codes → StandsFor first height 0 0)
+    → IsTree all (tree_of height narrow 0 codes boxes areas links)
+tree-built height narrow all codes boxes areas links first tasks levels are made begins stands = record {
+  places_are = are;
+  digits_are = levels.digits_are;
+  few = levels.few;
+  room = levels.room;
+  held = λ some. held-made (places_with height narrow codes boxes) narrow tasks (record { areas = areas; links = links }) made height 0 0
+      (subst (λ (all : List Task). StandsFor all height 0 0) (sym begins.is) (stands-more first begins.rest height 0 0 (stands some)));
+}

@@ -1,0 +1,15 @@
+pub mod RunLemmas
+pub mod NodeLemmas
+pub mod BoxesLemmas
+pub mod TreeLemmas
+pub mod DigitsLemmas
+pub mod WalkLemmas
+pub mod VisitLemmas
+pub mod BeginLemmas
+pub mod BridgeLemmas
+pub mod BuildingLemmas
+pub mod SplitLemmas
+pub mod MakingLemmas
+pub mod BuiltLemmas
+pub mod QueueLemmas
+pub mod CostLemmas

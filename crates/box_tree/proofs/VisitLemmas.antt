@@ -1,0 +1,54 @@
+-- Walks over places: what a node that is visited, and a place that is looked at, change.
+use Rattle.std.proofs.Common.{◌≡◌, ℕ, suc, ◌+◌, ◌-◌, ◌*◌, ◌<◌, ◌≤◌, true, false, List, [], ◌∷◌, ◌++◌, filter, refl, sym, ap, ◌∙◌, arith}
+use Rattle.std.specs.List.{flat_map, range_with_len, sum_by}
+use Rattle.std.proofs.lemmas.List.Elements.{filter-append}
+use Rattle.std.proofs.lemmas.List.Sums.{sum_by-cons}
+use Rattle.box_tree.specs.Levels.{squares_in}
+use Rattle.box_tree.specs.Places.{Places, Square, Tests, node_reads, passes, run_of, square}
+use Rattle.box_tree.specs.Walk.{IsVisited, WalkView, turns_in, turns_of, walk_left, walk_reads}
+use Rattle.box_tree.proofs.NodeLemmas.{squares_in-own}
+
+-- a node in which nothing passes is skipped
+pub skipped : (tests : Tests) (walk : WalkView) (square : Square) (begun steps : ℕ)
+    → filter (passes tests walk.tree.places) (run_of walk.tree.places square) ≡ [] → steps ≤ begun + 3
+    → IsVisited tests walk walk square begun steps
+unfolding node_reads
+skipped tests walk square begun steps none paid = record {
+  tree = refl;
+  left = rw none refl;
+  reads = omega arith;
+  turns = let own = squares_in-own (λ _. true) walk.tree.places.codes square.levels square.prefix refl in omega arith;
+}
+
+module _ (tests : Tests) (old new : WalkView) (tree : new.tree ≡ old.tree) where
+  abbrev its : Places
+  its = old.tree.places
+
+  -- the next node is taken off
+  module _ (next : Square) (pending : old.pending ≡ next ∷ new.pending) (low : new.low ≡ old.low) (high : new.high ≡ old.high) where
+    pub left-taken : old.high ≤ old.low
+        → walk_left tests old ≡ filter (passes tests its) (run_of its next) ++ walk_left tests new
+    left-taken done =
+        let none : old.high - old.low ≡ 0 = omega arith in
+        rw (tree, low, high, pending, none) (filter-append (passes tests its) (run_of its next) (flat_map (run_of its) new.pending))
+
+    pub reads-taken : walk_reads tests old ≡ node_reads tests its next + walk_reads tests new
+    reads-taken =
+        rw (tree, low, high, pending) (omega (arith, sum_by-cons (node_reads tests its) next new.pending))
+
+    pub turns-taken : turns_of old ≡ turns_in its next + turns_of new
+    turns-taken = rw (tree, pending) (omega (arith, sum_by-cons (turns_in its) next new.pending))
+
+  -- the next place of the bucket is taken off
+  module _ (some : old.low < old.high) (low : new.low ≡ old.low + 1) (high : new.high ≡ old.high) (pending : new.pending ≡ old.pending) where
+    more : old.high - old.low ≡ suc (old.high - (old.low + 1))
+    more = omega arith
+
+    pub left-kept : passes tests its old.low ≡ true → walk_left tests old ≡ old.low ∷ walk_left tests new
+    left-kept holds = rw (tree, low, high, pending, more, holds) refl
+
+    pub left-passed : passes tests its old.low ≡ false → walk_left tests old ≡ walk_left tests new
+    left-passed fails = rw (tree, low, high, pending, more, fails) refl
+
+    pub reads-place : walk_reads tests new + 3 ≡ walk_reads tests old
+    reads-place = rw (tree, low, high, pending) (omega (arith, more))

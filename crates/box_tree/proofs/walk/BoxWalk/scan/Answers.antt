@@ -1,0 +1,54 @@
+use Rattle.std.proofs.Common.{◌≡◌, ◌∷◌, true, false, sym, ap, ◌∙◌, arith}
+use Rattle.box_tree.specs.Places.{Tests, passes}
+use Rattle.box_tree.specs.Tree.{TreeView}
+use Rattle.box_tree.specs.Walk.{WalkView, IsScanned, walk_left}
+use Rattle.box_tree.proofs.VisitLemmas.{left-kept, left-passed, reads-place}
+use Rattle.box_tree.proofs.walk.BoxWalk.scan.Goals as goal
+use Rattle.box_tree.proofs.walk.BoxWalk.scan.Given.{Over}
+use Rattle.box_tree.proofs.walk.BoxWalk.scan.Goals.{After-meets}
+
+-- what the test said of the next place
+told : (g : Over) (c : After-meets g)
+    → passes (g.S.Search.tests c.args.self.now.search) c.loop-place.self.walk.tree.places c.loop-place.self.walk.low ≡ c.meets.result
+told g c =
+    let tests : Tests = g.S.Search.tests c.args.self.now.search in
+    let it = c.in-Some.ensures in
+    sym (c.meets.ensures.value
+    ∙ ap (λ s. passes (g.S.Search.tests s) c.next_place.new.self.tree.places c.in-Some.place) c.loop-place.invariant.0
+    ∙ ap (λ (t : TreeView). passes tests t.places c.in-Some.place) it.tree
+    ∙ ap (passes tests c.loop-place.self.walk.tree.places) it.first)
+
+pub returns-then-meets-clause-scanned : goal.returns-then-meets-clause-scanned
+returns-then-meets-clause-scanned g c =
+    let tests : Tests = g.S.Search.tests c.args.self.now.search in
+    let is = c.loop-place.invariant.1 in
+    let it = c.in-Some.ensures in
+    let now : WalkView = c.loop-place.self.walk in
+    let new : WalkView = c.next_place.new.self in
+    let holds : passes tests now.tree.places now.low ≡ true =
+    told g (goal.at.returns-then-meets-clause-scanned g c).After-meets ∙ c.if-meets.true in
+    let paid = reads-place tests now new it.tree it.some it.low it.high it.pending in
+    record {
+      tree = it.tree ∙ is.tree;
+      pending = it.pending ∙ is.pending;
+      left = is.left ∙ left-kept tests now new it.tree it.some it.low it.high it.pending holds
+          ∙ ap (λ p. p ∷ walk_left tests new) (sym it.first);
+      reads = omega (arith, is.reads, paid, c.meets.ensures.cost);
+    }
+
+pub loop-place-preserved : goal.loop-place-preserved
+loop-place-preserved g c =
+    let tests : Tests = g.S.Search.tests c.args.self.now.search in
+    let is = c.loop-place.invariant.1 in
+    let it = c.in-Some.ensures in
+    let now : WalkView = c.loop-place.self.walk in
+    let new : WalkView = c.next_place.new.self in
+    let fails : passes tests now.tree.places now.low ≡ false =
+    told g (goal.at.loop-place-preserved g c).After-meets ∙ c.if-meets.false in
+    let paid = reads-place tests now new it.tree it.some it.low it.high it.pending in
+    (c.loop-place.invariant.0, record {
+      tree = it.tree ∙ is.tree;
+      pending = it.pending ∙ is.pending;
+      left = is.left ∙ left-passed tests now new it.tree it.some it.low it.high it.pending fails;
+      reads = omega (arith, is.reads, paid, c.meets.ensures.cost);
+    })

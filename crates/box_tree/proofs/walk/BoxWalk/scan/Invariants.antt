@@ -1,0 +1,19 @@
+use Rattle.std.proofs.Common.{◌≡◌, ℕ, ◌+◌, ◌-◌, ◌≤◌}
+use Rattle.box_tree.specs.Places.{Tests}
+use Rattle.box_tree.specs.Walk.{WalkView, walk_left, walk_reads}
+use Rattle.box_tree.proofs.walk.BoxWalk.scan.Given as goal
+
+-- places of the bucket that do not pass were passed over
+pub record IsScanning (tests : Tests) (old now : WalkView) (begun steps : ℕ) : Type 0 where
+  pub tree : now.tree ≡ old.tree
+  pub pending : now.pending ≡ old.pending
+  pub left : walk_left tests old ≡ walk_left tests now
+  pub reads : steps + walk_reads tests now ≤ begun + walk_reads tests old
+
+abbrev pub invariant-loop-place : goal.invariant-loop-place
+invariant-loop-place g l =
+    (l.self.search ≡ l.fn.self.search)
+    × IsScanning (g.S.Search.tests l.fn.self.search) l.fn.self.walk l.self.walk l.fn.steps l.steps
+
+abbrev pub decreases-loop-place : goal.decreases-loop-place
+decreases-loop-place g l = l.self.walk.high - l.self.walk.low

@@ -1,0 +1,71 @@
+-- Nodes, and what they hold.
+use Rattle.std.specs.Prelude.{◌≡◌, ℕ, ◌+◌, ◌*◌, ◌^◌, ◌<◌, ◌≤◌, ◌==◌, Bool, true, false, List, [], ◌∷◌, length, map, filter, All}
+use Rattle.std.specs.Prelude.{slice_get, Some}
+use Rattle.std.specs.Int.{bit_at}
+use Rattle.std.specs.List.{enumerate_from, range_with_len, sum_by}
+use Rattle.track_types.specs.declared.cell_box.CellBox.{CellBox}
+use Rattle.k2_tree.specs.Areas.{IsBoxInside}
+use Rattle.k2_tree.specs.Squares.{Node, node}
+use Rattle.box_tree.specs.Kinds.{kind_of}
+use Rattle.box_tree.specs.Levels.{children, digits, first_in, run}
+use Rattle.box_tree.specs.Places.{Places, box_at}
+use Rattle.box_tree.specs.declared.kind.Kind.{Kind}
+use Rattle.box_tree.specs.declared.kind.Kind.TheVariants.{Bucket, Branch}
+
+-- nodes: their boxes and their links
+pub record Nodes : Type 0 where
+  pub areas : List CellBox
+  pub links : List (ℕ × ℕ)
+
+-- the digits of a mask
+unfoldable pub digits_in : ℕ → ℕ → List ℕ
+digits_in level mask = filter (λ digit. bit_at mask digit == 1) (range_with_len 0 (4 ^ level))
+
+-- a node of the square has these places
+pub record IsBucket (codes : List ℕ) (n prefix low high : ℕ) : Type 0 where
+  pub low_is : low ≡ first_in codes n prefix
+  pub high_is : high ≡ first_in codes n (prefix + 1)
+
+-- nodes one behind another are of these prefixes
+unfoldable pub Stand : (ℕ → ℕ → Type 0) → ℕ → List ℕ → Type 0
+Stand held first [] = Unit {0}
+Stand held first (prefix ∷ prefixes) = held prefix first × Stand held (first + 1) prefixes
+
+-- it is a branch, and its children are those that hold a number, one node behind another
+pub record IsBranch (codes : List ℕ) (n level prefix end mask : ℕ) (held : ℕ → ℕ → Type 0) : Type 0 where
+  pub first : ℕ
+  pub few : mask < 2 ^ 16
+  pub told : map (λ digit. 4 ^ level * prefix + digit) (digits_in level mask) ≡ children codes n level prefix
+  pub stand : first + length (digits_in level mask) ≡ end
+  pub each : Stand held first (children codes n level prefix)
+
+-- a cell is always a bucket
+abbrev pub IsLast : List ℕ → ℕ → Kind → Type 0
+IsLast codes prefix (Bucket low high) = IsBucket codes 0 prefix low high
+IsLast codes prefix (Branch end mask) = ⊥
+
+-- another square is one where it has few places
+abbrev pub IsUpper : List ℕ → ℕ → ℕ → ℕ → (ℕ → ℕ → Type 0) → Kind → Type 0
+IsUpper codes n level prefix held (Bucket low high) =
+    IsBucket codes (level + n) prefix low high × (high ≤ low + 16)
+IsUpper codes n level prefix held (Branch end mask) = IsBranch codes n level prefix end mask held
+
+-- a node stands, and its box has the boxes of all places of its square
+pub record IsNode (places : Places) (nodes : Nodes) (n prefix number : ℕ) (IsKind : Kind → Type 0) : Type 0 where
+  pub area : CellBox
+  pub link : ℕ × ℕ
+  pub area_is : slice_get nodes.areas number ≡ Some area
+  pub link_is : slice_get nodes.links number ≡ Some link
+  pub covers : All (λ place. IsBoxInside (box_at places.boxes place) area) (run places.codes n prefix)
+  pub kind : IsKind (kind_of link)
+
+-- what the kind of a node says of it, and that a node holds the places of a square
+unfoldable pub IsKindFor : Places → Nodes → List ℕ → ℕ → Kind → Type 0
+IsKindFor places nodes [] prefix = IsLast places.codes prefix
+IsKindFor places nodes (level ∷ levels) prefix =
+    IsUpper places.codes (digits levels) level prefix
+    (λ child number. IsNode places nodes (digits levels) child number (IsKindFor places nodes levels child))
+
+abbrev pub Held : Places → Nodes → List ℕ → ℕ → ℕ → Type 0
+Held places nodes levels prefix number =
+    IsNode places nodes (digits levels) prefix number (IsKindFor places nodes levels prefix)

@@ -1,0 +1,12 @@
+pub mod Levels
+pub mod Places
+pub mod Kinds
+pub mod Held
+pub mod Boxes
+pub mod Tree
+pub mod Walk
+pub mod BoxWalk
+pub mod Building
+pub mod Queued
+pub mod Touching
+pub mod Monotone

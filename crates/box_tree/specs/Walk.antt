@@ -1,0 +1,108 @@
+-- What is left of a walk over the nodes of a tree.
+use Rattle.std.specs.Prelude.{◌≡◌, ℕ, suc, ◌+◌, ◌-◌, ◌*◌, ◌^◌, ◌<◌, ◌≤◌, true, List, [], ◌∷◌, ◌++◌, length, map, filter, reverse, All, Option, option_to_list}
+use Rattle.std.specs.List.{flat_map, range_with_len, sum_by}
+use Rattle.k2_tree.specs.Squares.{Node, node}
+use Rattle.box_tree.specs.Levels.{digits, squares_in}
+use Rattle.box_tree.specs.Places.{Places, Square, Tests, ArePlaces, node_reads, passes, run_of, square}
+use Rattle.box_tree.specs.Tree.{TreeView, IsNodeOf, levels_of, node_square, slots}
+use Rattle.box_tree.specs.declared.node_ref.NodeRef.{NodeRef}
+
+-- a tree, the squares that are still to be visited, the next one first, the places that are left of an open bucket, and
+-- how many nodes wait
+pub record WalkView : Type 0 where
+  pub tree : TreeView
+  pub pending : List Square
+  pub low : ℕ
+  pub high : ℕ
+  pub depth : ℕ
+
+-- the walk whose nodes wait on a stack
+abbrev pub walk_of : TreeView → List NodeRef → ℕ → ℕ → WalkView
+walk_of tree stack low high = record {
+  tree = tree;
+  pending = map (node_square tree.narrow) (reverse stack);
+  low = low;
+  high = high;
+  depth = length stack;
+}
+
+-- each waiting node leaves room for those that come in its place
+abbrev pub Fits : ℕ → ℕ → List NodeRef → Type 0
+Fits narrow total [] = Unit {0}
+Fits narrow total (ref ∷ deeper) = (length deeper + slots (levels_of narrow ref) ≤ total) × Fits narrow total deeper
+
+-- the parts of a walk belong together
+pub record IsWalk (tree : TreeView) (stack : List NodeRef) (low high : ℕ) : Type 0 where
+  pub nodes : All (IsNodeOf tree) (reverse stack)
+  pub fits : Fits tree.narrow (slots tree.places.levels) (reverse stack)
+  pub few : slots tree.places.levels < 128
+  pub within : high ≤ length tree.places.codes
+  pub are : ArePlaces tree.places
+
+-- the places that are left
+abbrev pub walk_left : Tests → WalkView → List ℕ
+walk_left tests walk = filter (passes tests walk.tree.places)
+    (range_with_len walk.low (walk.high - walk.low) ++ flat_map (run_of walk.tree.places) walk.pending)
+
+-- the reads that they are worth
+abbrev pub walk_reads : Tests → WalkView → ℕ
+walk_reads tests walk = 3 * (walk.high - walk.low) + sum_by (node_reads tests walk.tree.places) walk.pending
+
+-- how many squares are in one that is still to be visited
+abbrev pub turns_in : Places → Square → ℕ
+turns_in places square = squares_in (λ _. true) places.codes square.levels square.prefix
+
+-- and in all of them
+abbrev pub turns_of : WalkView → ℕ
+turns_of walk = sum_by (turns_in walk.tree.places) walk.pending
+
+-- the children of a node, one behind another
+abbrev pub child_refs : NodeRef → ℕ → ℕ → List ℕ → List NodeRef
+child_refs parent width first [] = []
+child_refs parent width first (digit ∷ digits) = record {
+  node = first;
+  below = parent.below - 1;
+  level = parent.level - width;
+  prefix = 4 ^ width * parent.prefix + digit;
+} ∷ child_refs parent width (first + 1) digits
+
+-- a node's square, as its numbers' prefix and how many digits are below it
+abbrev pub node_at : NodeRef → Node
+node_at ref = node ref.level ref.prefix
+
+-- a node of a square was opened: its places are left too, and it has paid for itself
+pub record IsOpened (old new : WalkView) (square : Square) : Type 0 where
+  pub left : (tests : Tests) → walk_left tests new
+      ≡ filter (passes tests old.tree.places) (run_of old.tree.places square) ++ walk_left tests old
+  pub reads : (tests : Tests) → tests.square (node (digits square.levels) square.prefix) ≡ true
+      → walk_reads tests new + 3 ≤ walk_reads tests old + node_reads tests old.tree.places square
+  pub turns : turns_of new < turns_of old + turns_in old.tree.places square
+
+-- a node of a square was visited: its places that pass are left too, and it has paid for what was read
+pub record IsVisited (tests : Tests) (old new : WalkView) (square : Square) (begun steps : ℕ) : Type 0 where
+  pub tree : new.tree ≡ old.tree
+  pub left : walk_left tests new
+      ≡ filter (passes tests old.tree.places) (run_of old.tree.places square) ++ walk_left tests old
+  pub reads : steps + walk_reads tests new ≤ begun + walk_reads tests old + node_reads tests old.tree.places square
+  pub turns : turns_of new < turns_of old + turns_in old.tree.places square
+
+-- a bucket was gone through as far as its next place that passes
+pub record IsScanned (tests : Tests) (old new : WalkView) (found : Option ℕ) (begun steps : ℕ) : Type 0 where
+  pub tree : new.tree ≡ old.tree
+  pub pending : new.pending ≡ old.pending
+  pub left : walk_left tests old ≡ option_to_list found ++ walk_left tests new
+  pub reads : steps + walk_reads tests new ≤ begun + walk_reads tests old
+
+-- a branch gave way to its children: they are nodes of the tree, their places are its places in order, each weight of
+-- nodes is paid by the branch, and their squares are the children's
+pub record IsGivenWay (tree : TreeView) (parent : NodeRef) (old new : List NodeRef) : Type 0 where
+  pub children : List NodeRef
+  pub pushed : new ≡ children ++ old
+  pub nodes : All (IsNodeOf tree) children
+  pub few : length children ≤ 16
+  pub places : run_of tree.places (node_square tree.narrow parent)
+      ≡ flat_map (λ child. run_of tree.places (node_square tree.narrow child)) children
+  pub levels : All (λ child. child.below + 1 ≡ parent.below) children
+  pub reads : (tests : Tests) → tests.square (node_at parent) ≡ true
+      → sum_by (λ child. node_reads tests tree.places (node_square tree.narrow child)) children + 3
+      ≤ node_reads tests tree.places (node_square tree.narrow parent)

@@ -1,0 +1,23 @@
+ghost use Rattle.std.specs.Prelude.{◌≡◌};
+ghost use Rattle.box_tree.specs.Kinds.{kind_of};
+
+/// What a node is: a bucket of the places from `low` on and before `high`, or a branch whose children stand
+/// one behind another before `end`, for each digit of the mask one.
+#[derive(Clone, Copy, Debug)]
+pub enum Kind {
+    Bucket { low: u32, high: u32 },
+    Branch { end: u32, mask: u32 },
+}
+
+pub const BUCKET: u32 = 1 << 31;
+
+/// The kind that a link tells.
+pub fn kind_of(link: (u32, u32)) -> Kind
+    ensures { result ≡ kind_of link }
+{
+    if link.1 < BUCKET {
+        Kind::Branch { end: link.0, mask: link.1 }
+    } else {
+        Kind::Bucket { low: link.0, high: link.1 - BUCKET }
+    }
+}

@@ -1,0 +1,158 @@
+ghost use Rattle.std.specs.Prelude.{◌≡◌, ℕ, ◌+◌, ◌-◌, ◌*◌, ◌^◌, ◌<◌, ◌≤◌, ◌++◌, ◌∷◌, [], length, reverse, IfNone, IfSome};
+ghost use Rattle.box_tree.specs.Held.{digits_in};
+ghost use Rattle.box_tree.specs.Tree.{IsNodeOf, levels_of, node_square, slots, whole};
+ghost use Rattle.box_tree.specs.Places.{ArePlaces};
+ghost use Rattle.box_tree.specs.Walk.{child_refs, IsOpened};
+ghost use Rattle.k2_tree.specs.TreeBits.{code_limit};
+
+use crate::kind::Kind;
+use crate::node_ref::NodeRef;
+use crate::tree::BoxTree;
+use arrayvec::ArrayVec;
+use std::marker::Model;
+use std::sync::ledger::Ledger;
+use step_count::Steps;
+
+pub(crate) const SLOTS: usize = 128;
+
+/// A way over the nodes of a tree.
+#[derive(Drop)]
+pub struct NodeWalk<'a> {
+    tree: &'a BoxTree,
+    stack: ArrayVec<NodeRef, SLOTS>,
+    low: u32,
+    high: u32,
+}
+
+impl<'a> Model for NodeWalk<'a> {
+    ghost use Rattle.box_tree.specs.Walk.{WalkView, walk_of, IsWalk};
+
+    ghost Value = { WalkView };
+
+    ghost view = { λ w. walk_of w.tree.now w.stack.items w.low w.high };
+
+    ghost invariant = { λ w. IsWalk w.tree.now w.stack.items w.low w.high };
+}
+
+impl<'a> NodeWalk<'a> {
+    /// The way over a tree from one of its nodes on, if there is one.
+    pub fn new(tree: &'a BoxTree, first: Option<NodeRef>) -> NodeWalk<'a>
+        requires of { IfSome first (λ node. IsNodeOf tree.now node) }
+        requires whole { IfSome first (λ node. node_square tree.now.narrow node ≡ whole tree.now) }
+        ensures tree { result.tree ≡ tree.now }
+        ensures none { IfNone first (result.pending ≡ []) }
+        ensures pending { IfSome first (λ node. result.pending ≡ whole tree.now ∷ []) }
+        ensures low { result.low ≡ 0 }
+        ensures high { result.high ≡ 0 }
+    {
+        let _ = tree.root(); // says what holds of every tree
+        let mut stack = ArrayVec::new();
+        if let Some(node) = first {
+            stack.push(node);
+        }
+        NodeWalk { tree, stack, low: 0, high: 0 }
+    }
+
+    /// The tree.
+    pub fn tree(&self) -> &'a BoxTree
+        ensures value { result.now ≡ self.now.tree }
+        ensures are { ArePlaces self.now.tree.places }
+    {
+        self.tree
+    }
+
+    /// Takes the next place of the open bucket off.
+    pub fn next_place(&mut self) -> Option<u32>
+        ensures tree { self.new.tree ≡ self.old.tree }
+        ensures none { IfNone result (self.new ≡ self.old) }
+        ensures empty { IfNone result (self.old.high ≤ self.old.low) }
+        ensures within { IfSome result (λ place. place < length self.old.tree.places.codes) }
+        ensures first { IfSome result (λ place. place ≡ self.old.low) }
+        ensures some { IfSome result (λ place. self.old.low < self.old.high) }
+        ensures low { IfSome result (λ place. self.new.low ≡ self.old.low + 1) }
+        ensures high { self.new.high ≡ self.old.high }
+        ensures pending { self.new.pending ≡ self.old.pending }
+    {
+        if self.low < self.high {
+            let place = self.low;
+            self.low += 1;
+            return Some(place);
+        }
+        None
+    }
+
+    /// Takes the next node off.
+    pub fn next_node(&mut self) -> Option<NodeRef>
+        ensures tree { self.new.tree ≡ self.old.tree }
+        ensures low { self.new.low ≡ self.old.low }
+        ensures high { self.new.high ≡ self.old.high }
+        ensures none { IfNone result (self.old.pending ≡ []) }
+        ensures stays { IfNone result (self.new ≡ self.old) }
+        ensures pending { IfSome result (λ node. self.old.pending ≡ node_square self.old.tree.narrow node ∷ self.new.pending) }
+        ensures of { IfSome result (λ node. IsNodeOf self.old.tree node) }
+        ensures room { IfSome result (λ node. self.new.depth + slots (levels_of self.old.tree.narrow node)
+            ≤ slots self.old.tree.places.levels) }
+    {
+        self.stack.pop()
+    }
+
+    /// Opens a node that was taken off, where no bucket is open.
+    pub fn open<L: Ledger>(&mut self, taken: NodeRef, steps: &mut Steps<L>)
+        requires of { IsNodeOf self.old.tree taken }
+        requires room { self.old.depth + slots (levels_of self.old.tree.narrow taken)
+            ≤ slots self.old.tree.places.levels }
+        requires done { self.old.high ≤ self.old.low }
+        ensures tree { self.new.tree ≡ self.old.tree }
+        ensures opened { IsOpened self.old self.new (node_square self.old.tree.narrow taken) }
+        ensures cost { steps.new ≤ steps.old + 1 }
+    {
+        match self.tree.kind(&taken, steps) {
+            Kind::Bucket { low, high } => {
+                self.low = low;
+                self.high = high;
+            }
+            Kind::Branch { end, mask } => {
+                let width = self.tree.width(taken.below);
+                push_children(&mut self.stack, &taken, width, end, mask);
+            }
+        }
+    }
+}
+
+// Pushes the children of a node, of which there are as many as the mask has ones, the last first.
+pub(crate) fn push_children(stack: &mut ArrayVec<NodeRef, SLOTS>, parent: &NodeRef, width: u32, end: u32, mask: u32)
+    requires some { 1 ≤ width }
+    requires few { width ≤ 2 }
+    requires inner { 1 ≤ parent.now.below }
+    requires level { width ≤ parent.now.level }
+    requires small { (parent.now.prefix + 1) * 4 ^ width ≤ code_limit }
+    requires mask { mask < 2 ^ 16 }
+    requires stand { length (digits_in width mask) ≤ end }
+    requires room { length stack.old.items + length (digits_in width mask) ≤ SLOTS }
+    ensures { reverse stack.new.items ≡ child_refs parent.now width (end - length (digits_in width mask))
+        (digits_in width mask) ++ reverse stack.old.items }
+{
+    let fan = fan_of(width);
+    let mut number = end;
+    for digit in (0..fan).rev() {
+        if (mask >> digit) % 2 == 1 {
+            number -= 1;
+            stack.push(NodeRef {
+                node: number,
+                below: parent.below - 1,
+                level: parent.level - width,
+                prefix: u64::from(fan) * parent.prefix + u64::from(digit),
+            });
+        }
+    }
+}
+
+// How many children a square has at most that is split by so many digits.
+pub(crate) fn fan_of(width: u32) -> u32
+    requires some { 1 ≤ width }
+    requires few { width ≤ 2 }
+    ensures value { result ≡ 4 ^ width }
+    ensures few { result ≤ 16 }
+{
+    if width == 1 { 4 } else { 16 }
+}
