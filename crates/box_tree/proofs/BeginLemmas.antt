@@ -10,7 +10,8 @@ use Rattle.list_laws.proofs.FilterLemmas.{sum_by_if}
 use Rattle.k2_tree.specs.Pruning.{place_among}
 use Rattle.k2_tree.specs.Squares.{Node, node}
 use Rattle.box_tree.specs.Levels.{digits, first_in, run, squares_in}
-use Rattle.box_tree.specs.Places.{AreMonotone, ArePlaces, Places, Square, Tests, cell_passes, cell_reads, node_reads, passes, run_of, square, square_count}
+use Rattle.box_tree.specs.Places.{ArePassed, ArePlaces, Places, Square, cell_passes, place_worth, square_worth, passes, run_of, square, square_count}
+use Rattle.box_tree.specs.Tests.{Tests}
 use Rattle.box_tree.specs.Tree.{IsNodeOf, TreeView, node_square, whole}
 use Rattle.box_tree.specs.Walk.{WalkView, node_at, walk_left, walk_reads}
 use Rattle.box_tree.specs.declared.node_ref.NodeRef.{NodeRef}
@@ -41,10 +42,10 @@ run-whole codes n inside =
 -- a walk at its beginning: all places that pass are left, for so many reads
 pub record IsBegun (tests : Tests) (places : Places) (walk : WalkView) : Type 0 where
   pub left : walk_left tests walk ≡ filter (passes tests places) (range_with_len 0 (length places.codes))
-  pub reads : walk_reads tests walk ≤ 51 * square_count tests places
-      + 3 * length (filter (cell_passes tests places) (range_with_len 0 (length places.codes)))
+  pub reads : walk_reads tests.square walk ≤ 51 * square_count tests.square places
+      + 3 * length (filter (cell_passes tests.square places) (range_with_len 0 (length places.codes)))
 
-module _ (tests : Tests) (mono : AreMonotone tests) (tree : TreeView) (are : ArePlaces tree.places) (walk : WalkView)
+module _ (tests : Tests) (mono : ArePassed tests) (tree : TreeView) (are : ArePlaces tree.places) (walk : WalkView)
     (same : walk.tree ≡ tree) (low : walk.low ≡ 0) (high : walk.high ≡ 0) where
   abbrev n : ℕ
   n = digits tree.places.levels
@@ -61,15 +62,15 @@ module _ (tests : Tests) (mono : AreMonotone tests) (tree : TreeView) (are : Are
 
   something : walk.pending ≡ whole tree ∷ [] → 0 < length tree.places.codes → tests.square (node n 0) ≡ true
       → IsBegun tests tree.places walk
-  unfolding node_reads square_count
+  unfolding square_worth square_count
   something pending some holds =
       let few = squares_in-own tests.square tree.places.codes tree.places.levels 0 holds in
       let test : nat_lt 0 (length tree.places.codes) ≡ true = grind (arith, nat_tests) in
-      let one = sum_by-cons (node_reads tests tree.places) (whole tree) [] in
-      let cells : sum_by (cell_reads tests tree.places) (run tree.places.codes n 0)
-          ≡ 3 * length (filter (cell_passes tests tree.places) (range_with_len 0 (length tree.places.codes))) =
-      sum_by_if 3 (cell_passes tests tree.places) (run tree.places.codes n 0)
-      ∙ ap (λ xs. 3 * length (filter (cell_passes tests tree.places) xs)) all in
+      let one = sum_by-cons (square_worth tests.square tree.places) (whole tree) [] in
+      let cells : sum_by (place_worth tests.square tree.places) (run tree.places.codes n 0)
+          ≡ 3 * length (filter (cell_passes tests.square tree.places) (range_with_len 0 (length tree.places.codes))) =
+      sum_by_if 3 (cell_passes tests.square tree.places) (run tree.places.codes n 0)
+      ∙ ap (λ xs. 3 * length (filter (cell_passes tests.square tree.places) xs)) all in
       record {
         left = rw (same, low, high, pending, all) (ap (filter (passes tests tree.places)) (append-nil (range_with_len 0 (length tree.places.codes))));
         reads = rw (same, low, high, pending, test) (omega (arith, one, cells, few));

@@ -11,20 +11,21 @@ use Rattle.track_types.specs.Region.{nearest_cell, squared_distance}
 use Rattle.track_types.specs.declared.cell.Cell.{Cell}
 use Rattle.track_types.specs.declared.cell_box.CellBox.{CellBox}
 use Rattle.k2_tree.specs.Areas.{IsBoxInside}
-use Rattle.box_tree.specs.Places.{Places, Tests, cell_passes, passes, square_count}
+use Rattle.box_tree.specs.Places.{Places, cell_passes, passes, square_count}
+use Rattle.box_tree.specs.Tests.{Tests}
 
 -- the reads of a walk and those for the places that it gives are within 52 for a square and 43 for a place
 pub search-reads : (tests : Tests) (places : Places) (log : ℕ → ℕ) (all : List ℕ)
-    → 51 * square_count tests places + 3 * length (filter (cell_passes tests places) all)
+    → 51 * square_count tests.square places + 3 * length (filter (cell_passes tests.square places) all)
     + sum_by (λ place. 2 + log place) (filter (passes tests places) all)
-    ≤ 52 * square_count tests places + sum_by (λ place. 43 + log place) (filter (cell_passes tests places) all)
+    ≤ 52 * square_count tests.square places + sum_by (λ place. 43 + log place) (filter (cell_passes tests.square places) all)
 unfolding passes
 search-reads tests places log all =
     let given : sum_by (λ place. 2 + log place) (filter (passes tests places) all)
-        ≤ sum_by (λ place. 2 + log place) (filter (cell_passes tests places) all) =
-    sum_by-filter-le (passes tests places) (cell_passes tests places) (λ place. 2 + log place) all
+        ≤ sum_by (λ place. 2 + log place) (filter (cell_passes tests.square places) all) =
+    sum_by-filter-le (passes tests places) (cell_passes tests.square places) (λ place. 2 + log place) all
     (λ k d within both. (and_parts _ _ both).1) in
-    omega (arith, given, sum_by-each log 2 (filter (cell_passes tests places) all), sum_by-each log 43 (filter (cell_passes tests places) all))
+    omega (arith, given, sum_by-each log 2 (filter (cell_passes tests.square places) all), sum_by-each log 43 (filter (cell_passes tests.square places) all))
 
 -- the cell of a box that is nearest to one is no farther in a wider box
 pub nearest-wider : (cell : Cell) (inner outer : CellBox) → IsBoxInside inner outer

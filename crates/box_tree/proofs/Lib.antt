@@ -13,3 +13,4 @@ pub mod MakingLemmas
 pub mod BuiltLemmas
 pub mod QueueLemmas
 pub mod CostLemmas
+pub mod MonotoneLemmas

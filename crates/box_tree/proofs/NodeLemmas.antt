@@ -15,7 +15,8 @@ use Rattle.track_types.specs.declared.limit.TheConstants.{MAX_HEIGHT}
 use Rattle.k2_tree.specs.Areas.{IsBoxInside}
 use Rattle.k2_tree.specs.Squares.{Node, node}
 use Rattle.box_tree.specs.Levels.{children, digits, first_in, run, squares_in}
-use Rattle.box_tree.specs.Places.{Places, Tests, Square, AreMonotone, ArePlaces, Ascends, box_at, cell_passes, cell_reads, node_reads, passes, run_of, square}
+use Rattle.box_tree.specs.Places.{Places, Square, ArePassed, ArePlaces, Ascends, box_at, cell_passes, place_worth, square_worth, passes, run_of, square}
+use Rattle.box_tree.specs.Tests.{Tests}
 use Rattle.box_tree.specs.Held.{IsBucket}
 use Rattle.box_tree.proofs.RunLemmas.{run-children, run-prefix}
 
@@ -31,7 +32,7 @@ fails-by : (a b : Bool) → (a ≡ true → b ≡ true) → b ≡ false → a �
 fails-by true b only fails = absurd (false≢true (sym fails ∙ only refl))
 fails-by false b only fails = refl
 
-module _ (tests : Tests) (mono : AreMonotone tests) (places : Places) where
+module _ (tests : Tests) (mono : ArePassed tests) (places : Places) where
   -- a square that fails has no place that passes
   pub skipped-square : (n prefix : ℕ) → n ≤ MAX_HEIGHT → ArePlaces places → tests.square (node n prefix) ≡ false
       → filter (passes tests places) (run places.codes n prefix) ≡ []
@@ -94,53 +95,53 @@ squares_in-own test codes (level ∷ levels) prefix holds = rw holds (omega arit
 
 module _ (tests : Tests) (places : Places) where
   -- a square that passes pays for its children
-  pub node_reads-branch : (level : ℕ) (levels : List ℕ) (prefix : ℕ) → level ≤ 2
+  pub square_worth-branch : (level : ℕ) (levels : List ℕ) (prefix : ℕ) → level ≤ 2
       → tests.square (node (level + digits levels) prefix) ≡ true
-      → sum_by (node_reads tests places) (map (square levels) (children places.codes (digits levels) level prefix)) + 3
-      ≤ node_reads tests places (square (level ∷ levels) prefix)
-  unfolding node_reads squares_in
-  node_reads-branch level levels prefix low passes =
+      → sum_by (square_worth tests.square places) (map (square levels) (children places.codes (digits levels) level prefix)) + 3
+      ≤ square_worth tests.square places (square (level ∷ levels) prefix)
+  unfolding square_worth squares_in
+  square_worth-branch level levels prefix low passes =
       let n : ℕ = digits levels in
       let codes : List ℕ = places.codes in
       let below : List ℕ = children codes n level prefix in
       let s : ℕ → ℕ = squares_in tests.square codes levels in
-      let r : ℕ → ℕ = λ q. sum_by (cell_reads tests places) (run codes n q) in
-      let mapped : sum_by (node_reads tests places) (map (square levels) below) ≡ sum_by (λ q. 3 + (48 * s q + r q)) below =
-      sum_by-map (node_reads tests places) (square levels) below in
+      let r : ℕ → ℕ = λ q. sum_by (place_worth tests.square places) (run codes n q) in
+      let mapped : sum_by (square_worth tests.square places) (map (square levels) below) ≡ sum_by (λ q. 3 + (48 * s q + r q)) below =
+      sum_by-map (square_worth tests.square places) (square levels) below in
       let summed = sum_by-three s r below in
       let few = few-children codes n level prefix low in
-      let cells : sum_by (cell_reads tests places) (run codes (level + n) prefix) ≡ sum_by r below =
-      ap (sum_by (cell_reads tests places)) (run-children codes n level prefix)
-      ∙ sum_by-flat_map (cell_reads tests places) (run codes n) below in
+      let cells : sum_by (place_worth tests.square places) (run codes (level + n) prefix) ≡ sum_by r below =
+      ap (sum_by (place_worth tests.square places)) (run-children codes n level prefix)
+      ∙ sum_by-flat_map (place_worth tests.square places) (run codes n) below in
       rw passes (omega (arith, mapped, summed, few, cells))
 
   -- and for a bucket of few places
-  pub node_reads-bucket : (levels : List ℕ) (prefix low high : ℕ) → tests.square (node (digits levels) prefix) ≡ true
-      → high ≤ low + 16 → 3 * (high - low) + 3 ≤ node_reads tests places (square levels prefix)
-  unfolding node_reads
-  node_reads-bucket levels prefix low high passes few =
+  pub square_worth-bucket : (levels : List ℕ) (prefix low high : ℕ) → tests.square (node (digits levels) prefix) ≡ true
+      → high ≤ low + 16 → 3 * (high - low) + 3 ≤ square_worth tests.square places (square levels prefix)
+  unfolding square_worth
+  square_worth-bucket levels prefix low high passes few =
       let own = squares_in-own tests.square places.codes levels prefix passes in
       omega (arith, own)
 
   -- in a cell that passes each place pays for itself
-  pub node_reads-cell : (prefix low high : ℕ) → Ascends 0 places.codes → tests.square (node 0 prefix) ≡ true
-      → IsBucket places.codes 0 prefix low high → 3 * (high - low) + 3 ≤ node_reads tests places (square [] prefix)
-  unfolding node_reads run
-  node_reads-cell prefix low high up holds is =
+  pub square_worth-cell : (prefix low high : ℕ) → Ascends 0 places.codes → tests.square (node 0 prefix) ≡ true
+      → IsBucket places.codes 0 prefix low high → 3 * (high - low) + 3 ≤ square_worth tests.square places (square [] prefix)
+  unfolding square_worth run
+  square_worth-cell prefix low high up holds is =
       let places_of : List ℕ = range_with_len low (high - low) in
-      let all : sum_by (cell_reads tests places) (run places.codes 0 prefix) ≡ 3 * length (run places.codes 0 prefix) =
+      let all : sum_by (place_worth tests.square places) (run places.codes 0 prefix) ≡ 3 * length (run places.codes 0 prefix) =
       each (run places.codes 0 prefix) (All-weaker (λ place. (slice_index places.codes place / 4 ^ 0 ≡ prefix) × (place < length places.codes))
-      (λ place. cell_passes tests places place ≡ true)
+      (λ place. cell_passes tests.square places place ≡ true)
       (λ place its. ap (λ c. tests.square (node 0 c)) (sym (div-one (slice_index places.codes place)) ∙ its.0) ∙ holds) (run places.codes 0 prefix) (run-prefix places.codes 0 prefix up)) in
       let long : length (run places.codes 0 prefix) ≡ high - low =
       length-range_with_len (first_in places.codes 0 prefix) (first_in places.codes 0 (prefix + 1) - first_in places.codes 0 prefix)
       ∙ rw (is.low_is, is.high_is) refl in
       omega (arith, all, long)
     where
-      each : (xs : List ℕ) → All (λ place. cell_passes tests places place ≡ true) xs
-          → sum_by (cell_reads tests places) xs ≡ 3 * length xs
+      each : (xs : List ℕ) → All (λ place. cell_passes tests.square places place ≡ true) xs
+          → sum_by (place_worth tests.square places) xs ≡ 3 * length xs
       each [] holds = refl
       each (x ∷ xs) holds =
-          let P : ℕ → Type 0 = λ place. cell_passes tests places place ≡ true in
-          let here : cell_reads tests places x ≡ 3 = rw (All-head P x xs holds) refl in
-          omega (arith, sum_by-cons (cell_reads tests places) x xs, here, each xs (All-tail P x xs holds))
+          let P : ℕ → Type 0 = λ place. cell_passes tests.square places place ≡ true in
+          let here : place_worth tests.square places x ≡ 3 = rw (All-head P x xs holds) refl in
+          omega (arith, sum_by-cons (place_worth tests.square places) x xs, here, each xs (All-tail P x xs holds))

@@ -4,7 +4,8 @@ use Rattle.std.specs.List.{flat_map, range_with_len, sum_by}
 use Rattle.std.proofs.lemmas.List.Elements.{All-append, All-head, All-tail}
 use Rattle.std.proofs.lemmas.List.Sums.{sum_by-append, sum_by-cons}
 use Rattle.list_laws.proofs.FlatLemmas.{sum_by-flat_map}
-use Rattle.box_tree.specs.Places.{Square, Tests, node_reads, run_of}
+use Rattle.box_tree.specs.Places.{Square, square_worth, run_of}
+use Rattle.box_tree.specs.Tests.{Tests}
 use Rattle.box_tree.specs.Queued.{AreQueued, reads_below, weight_below}
 use Rattle.box_tree.specs.Tree.{IsNodeOf, TreeView, node_square}
 use Rattle.box_tree.specs.Walk.{IsGivenWay, node_at}

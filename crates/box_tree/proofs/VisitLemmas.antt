@@ -4,7 +4,8 @@ use Rattle.std.specs.List.{flat_map, range_with_len, sum_by}
 use Rattle.std.proofs.lemmas.List.Elements.{filter-append}
 use Rattle.std.proofs.lemmas.List.Sums.{sum_by-cons}
 use Rattle.box_tree.specs.Levels.{squares_in}
-use Rattle.box_tree.specs.Places.{Places, Square, Tests, node_reads, passes, run_of, square}
+use Rattle.box_tree.specs.Places.{Places, Square, square_worth, passes, run_of, square}
+use Rattle.box_tree.specs.Tests.{Tests}
 use Rattle.box_tree.specs.Walk.{IsVisited, WalkView, turns_in, turns_of, walk_left, walk_reads}
 use Rattle.box_tree.proofs.NodeLemmas.{squares_in-own}
 
@@ -12,7 +13,7 @@ use Rattle.box_tree.proofs.NodeLemmas.{squares_in-own}
 pub skipped : (tests : Tests) (walk : WalkView) (square : Square) (begun steps : ℕ)
     → filter (passes tests walk.tree.places) (run_of walk.tree.places square) ≡ [] → steps ≤ begun + 3
     → IsVisited tests walk walk square begun steps
-unfolding node_reads
+unfolding square_worth
 skipped tests walk square begun steps none paid = record {
   tree = refl;
   left = rw none refl;
@@ -32,9 +33,9 @@ module _ (tests : Tests) (old new : WalkView) (tree : new.tree ≡ old.tree) whe
         let none : old.high - old.low ≡ 0 = omega arith in
         rw (tree, low, high, pending, none) (filter-append (passes tests its) (run_of its next) (flat_map (run_of its) new.pending))
 
-    pub reads-taken : walk_reads tests old ≡ node_reads tests its next + walk_reads tests new
+    pub reads-taken : walk_reads tests.square old ≡ square_worth tests.square its next + walk_reads tests.square new
     reads-taken =
-        rw (tree, low, high, pending) (omega (arith, sum_by-cons (node_reads tests its) next new.pending))
+        rw (tree, low, high, pending) (omega (arith, sum_by-cons (square_worth tests.square its) next new.pending))
 
     pub turns-taken : turns_of old ≡ turns_in its next + turns_of new
     turns-taken = rw (tree, pending) (omega (arith, sum_by-cons (turns_in its) next new.pending))
@@ -50,5 +51,5 @@ module _ (tests : Tests) (old new : WalkView) (tree : new.tree ≡ old.tree) whe
     pub left-passed : passes tests its old.low ≡ false → walk_left tests old ≡ walk_left tests new
     left-passed fails = rw (tree, low, high, pending, more, fails) refl
 
-    pub reads-place : walk_reads tests new + 3 ≡ walk_reads tests old
+    pub reads-place : walk_reads tests.square new + 3 ≡ walk_reads tests.square old
     reads-place = rw (tree, low, high, pending) (omega (arith, more))

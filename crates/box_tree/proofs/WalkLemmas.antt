@@ -14,14 +14,15 @@ use Rattle.k2_tree.specs.Squares.{Node, node}
 use Rattle.k2_tree.specs.TreeBits.{code_limit}
 use Rattle.box_tree.specs.Held.{Held, IsBranch, IsBucket, IsKindFor, IsNode, Nodes, Stand, digits_in}
 use Rattle.box_tree.specs.Levels.{children, digits, first_in, run, squares_in}
-use Rattle.box_tree.specs.Places.{ArePlaces, Ascends, Places, Square, Tests, node_reads, passes, run_of, square}
+use Rattle.box_tree.specs.Places.{ArePlaces, Ascends, Places, Square, square_worth, passes, run_of, square}
+use Rattle.box_tree.specs.Tests.{Tests}
 use Rattle.box_tree.specs.Tree.{IsNodeOf, TreeView, levels_below, levels_of, node_square, slots}
 use Rattle.box_tree.specs.Walk.{Fits, IsGivenWay, IsOpened, IsWalk, WalkView, child_refs, turns_in, walk_left, walk_reads}
 use Rattle.box_tree.specs.declared.kind.Kind.{Kind}
 use Rattle.box_tree.specs.declared.kind.Kind.TheVariants.{Bucket, Branch}
 use Rattle.box_tree.specs.declared.node_ref.NodeRef.{NodeRef}
 use Rattle.box_tree.proofs.DigitsLemmas.{digits_in-small}
-use Rattle.box_tree.proofs.NodeLemmas.{few-children, length-kept, node_reads-branch, node_reads-bucket, node_reads-cell, squares_in-own}
+use Rattle.box_tree.proofs.NodeLemmas.{few-children, length-kept, square_worth-branch, square_worth-bucket, square_worth-cell, squares_in-own}
 use Rattle.box_tree.proofs.RunLemmas.{run-children}
 
 -- what a bucket has
@@ -120,10 +121,10 @@ module _ (tests : Tests) (places : Places) (level : ℕ) (levels : List ℕ) (pr
       ∙ filter-append (passes tests places) (run places.codes (level + digits levels) prefix) (flat_map (run_of places) pending)
 
   pub reads-branch : level ≤ 2 → tests.square (node (level + digits levels) prefix) ≡ true
-      → sum_by (node_reads tests places) (squares ++ pending) + 3
-      ≤ sum_by (node_reads tests places) pending + node_reads tests places (square (level ∷ levels) prefix)
+      → sum_by (square_worth tests.square places) (squares ++ pending) + 3
+      ≤ sum_by (square_worth tests.square places) pending + square_worth tests.square places (square (level ∷ levels) prefix)
   reads-branch low holds =
-      omega (arith, sum_by-append (node_reads tests places) squares pending, node_reads-branch tests places level levels prefix low holds)
+      omega (arith, sum_by-append (square_worth tests.square places) squares pending, square_worth-branch tests places level levels prefix low holds)
 
   pub turns-branch : sum_by (turns_in places) (squares ++ pending)
       < sum_by (turns_in places) pending + turns_in places (square (level ∷ levels) prefix)
@@ -155,11 +156,11 @@ module _ (old new : WalkView) (done : old.high ≤ old.low) (tree : new.tree ≡
   }
     where
       pays : (tests : Tests) → tests.square (node (digits levels) prefix) ≡ true → (levels ≡ []) ⊎ (high ≤ low + 16)
-          → 3 * (high - low) + 3 ≤ node_reads tests its (square levels prefix)
-      pays tests holds (inr few) = node_reads-bucket tests its levels prefix low high holds few
+          → 3 * (high - low) + 3 ≤ square_worth tests.square its (square levels prefix)
+      pays tests holds (inr few) = square_worth-bucket tests its levels prefix low high holds few
       pays tests holds (inl cell) =
-          subst (λ ls. 3 * (high - low) + 3 ≤ node_reads tests its (square ls prefix)) (sym cell)
-          (node_reads-cell tests its prefix low high up (rw cell at holds) (rw cell at is))
+          subst (λ ls. 3 * (high - low) + 3 ≤ square_worth tests.square its (square ls prefix)) (sym cell)
+          (square_worth-cell tests its prefix low high up (rw cell at holds) (rw cell at is))
 
   -- a branch is opened
   pub branch-opened : (level : ℕ) (levels : List ℕ) (prefix : ℕ) → level ≤ 2
@@ -254,10 +255,10 @@ given-way tree parent width end mask old new its split few some is pushed =
       reads = λ tests holds.
           let at : tests.square (node (width + digits lower) parent.prefix) ≡ true =
           ap (λ n. tests.square (node n parent.prefix)) (sym (ap digits split) ∙ its.level) ∙ holds in
-          let paid = node_reads-branch tests tree.places width lower parent.prefix few at in
-          let summed : sum_by (λ child. node_reads tests tree.places (node_square tree.narrow child)) refs ≡ sum_by (node_reads tests tree.places) (map (square lower) cs) =
-          sym (sum_by-map (node_reads tests tree.places) (node_square tree.narrow) refs) ∙ ap (sum_by (node_reads tests tree.places)) squares in
-          subst (λ s. sum_by (λ child. node_reads tests tree.places (node_square tree.narrow child)) refs + 3 ≤ node_reads tests tree.places s) (sym whole)
+          let paid = square_worth-branch tests tree.places width lower parent.prefix few at in
+          let summed : sum_by (λ child. square_worth tests.square tree.places (node_square tree.narrow child)) refs ≡ sum_by (square_worth tests.square tree.places) (map (square lower) cs) =
+          sym (sum_by-map (square_worth tests.square tree.places) (node_square tree.narrow) refs) ∙ ap (sum_by (square_worth tests.square tree.places)) squares in
+          subst (λ s. sum_by (λ child. square_worth tests.square tree.places (node_square tree.narrow child)) refs + 3 ≤ square_worth tests.square tree.places s) (sym whole)
           (omega (arith, paid, summed));
     }
   where

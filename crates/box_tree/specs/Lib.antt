@@ -1,3 +1,5 @@
+pub mod Cost
+pub mod Tests
 pub mod Levels
 pub mod Places
 pub mod Kinds
@@ -8,5 +10,3 @@ pub mod Walk
 pub mod BoxWalk
 pub mod Building
 pub mod Queued
-pub mod Touching
-pub mod Monotone

@@ -1,9 +1,9 @@
 -- What a best-first search keeps: nodes and places that wait, and places that were sought.
-use Rattle.std.specs.Prelude.{◌≡◌, ℕ, ◌+◌, ◌≤◌, true, List, length, All}
+use Rattle.std.specs.Prelude.{◌≡◌, ℕ, ◌+◌, ◌≤◌, Bool, true, List, length, All}
 use Rattle.std.specs.List.{range_with_len, sum_by}
-use Rattle.box_tree.specs.Places.{Square, Tests, cell_reads, node_reads, run_of}
-use Rattle.box_tree.specs.Tree.{TreeView, IsNodeOf, node_square, whole}
-use Rattle.box_tree.specs.Walk.{node_at}
+use Rattle.box_tree.specs.Places.{square_worth, run_of}
+use Rattle.k2_tree.specs.Squares.{Node}
+use Rattle.box_tree.specs.Tree.{TreeView, IsNodeOf, node_at, node_square, whole}
 use Rattle.box_tree.specs.declared.node_ref.NodeRef.{NodeRef}
 
 -- a weight of the places below a node
@@ -11,8 +11,8 @@ abbrev pub weight_below : (ℕ → ℕ) → TreeView → NodeRef → ℕ
 weight_below weight tree ref = sum_by weight (run_of tree.places (node_square tree.narrow ref))
 
 -- the reads that a node is worth
-abbrev pub reads_below : Tests → TreeView → NodeRef → ℕ
-reads_below tests tree ref = node_reads tests tree.places (node_square tree.narrow ref)
+abbrev pub reads_below : (Node → Bool) → TreeView → NodeRef → ℕ
+reads_below test tree ref = square_worth test tree.places (node_square tree.narrow ref)
 
 -- Each place was sought, waits, or lies below one node that waits, each once. Of any test that all nodes which were taken
 -- pass, the reads so far are paid.
@@ -21,5 +21,5 @@ pub record AreQueued (tree : TreeView) (nodes taken : List NodeRef) (waiting sou
   pub parted : (weight : ℕ → ℕ)
       → sum_by weight sought + (sum_by weight waiting + sum_by (weight_below weight tree) nodes)
       ≡ sum_by weight (range_with_len 0 (length tree.places.codes))
-  pub reads : (tests : Tests) → All (λ ref. tests.square (node_at ref) ≡ true) taken
-      → steps + sum_by (reads_below tests tree) nodes ≤ begun + node_reads tests tree.places (whole tree)
+  pub reads : (test : Node → Bool) → All (λ ref. test (node_at ref) ≡ true) taken
+      → steps + sum_by (reads_below test tree) nodes ≤ begun + square_worth test tree.places (whole tree)

@@ -1,11 +1,15 @@
 -- What is left of a walk over the nodes of a tree.
-use Rattle.std.specs.Prelude.{◌≡◌, ℕ, suc, ◌+◌, ◌-◌, ◌*◌, ◌^◌, ◌<◌, ◌≤◌, true, List, [], ◌∷◌, ◌++◌, length, map, filter, reverse, All, Option, option_to_list}
+use Rattle.std.specs.Prelude.{◌≡◌, ℕ, suc, ◌+◌, ◌-◌, ◌*◌, ◌^◌, ◌<◌, ◌≤◌, Bool, true, List, [], ◌∷◌, ◌++◌, length, map, filter, reverse, All, Option, option_to_list}
 use Rattle.std.specs.List.{flat_map, range_with_len, sum_by}
 use Rattle.k2_tree.specs.Squares.{Node, node}
 use Rattle.box_tree.specs.Levels.{digits, squares_in}
-use Rattle.box_tree.specs.Places.{Places, Square, Tests, ArePlaces, node_reads, passes, run_of, square}
-use Rattle.box_tree.specs.Tree.{TreeView, IsNodeOf, levels_of, node_square, slots}
+use Rattle.box_tree.specs.Places.{Places, Square, ArePlaces, square_worth, passes, run_of, square}
+use Rattle.box_tree.specs.Tests.{Tests}
+use Rattle.box_tree.specs.Cost.{node_reads, place_reads}
+use Rattle.box_tree.specs.Tree.{TreeView, IsNodeOf, child_limit, levels_of, node_at, node_square, slots}
 use Rattle.box_tree.specs.declared.node_ref.NodeRef.{NodeRef}
+use Rattle.box_tree.specs.declared.node_ref.TheConstants.{SLOTS}
+use Rattle.k2_tree.specs.Morton.{column_of, row_of}
 
 -- a tree, the squares that are still to be visited, the next one first, the places that are left of an open bucket, and
 -- how many nodes wait
@@ -35,7 +39,7 @@ Fits narrow total (ref ∷ deeper) = (length deeper + slots (levels_of narrow re
 pub record IsWalk (tree : TreeView) (stack : List NodeRef) (low high : ℕ) : Type 0 where
   pub nodes : All (IsNodeOf tree) (reverse stack)
   pub fits : Fits tree.narrow (slots tree.places.levels) (reverse stack)
-  pub few : slots tree.places.levels < 128
+  pub few : slots tree.places.levels < SLOTS
   pub within : high ≤ length tree.places.codes
   pub are : ArePlaces tree.places
 
@@ -45,8 +49,8 @@ walk_left tests walk = filter (passes tests walk.tree.places)
     (range_with_len walk.low (walk.high - walk.low) ++ flat_map (run_of walk.tree.places) walk.pending)
 
 -- the reads that they are worth
-abbrev pub walk_reads : Tests → WalkView → ℕ
-walk_reads tests walk = 3 * (walk.high - walk.low) + sum_by (node_reads tests walk.tree.places) walk.pending
+abbrev pub walk_reads : (Node → Bool) → WalkView → ℕ
+walk_reads test walk = place_reads * (walk.high - walk.low) + sum_by (square_worth test walk.tree.places) walk.pending
 
 -- how many squares are in one that is still to be visited
 abbrev pub turns_in : Places → Square → ℕ
@@ -56,26 +60,23 @@ turns_in places square = squares_in (λ _. true) places.codes square.levels squa
 abbrev pub turns_of : WalkView → ℕ
 turns_of walk = sum_by (turns_in walk.tree.places) walk.pending
 
--- the children of a node, one behind another
+-- the children of a node, one after another
 abbrev pub child_refs : NodeRef → ℕ → ℕ → List ℕ → List NodeRef
 child_refs parent width first [] = []
 child_refs parent width first (digit ∷ digits) = record {
   node = first;
   below = parent.below - 1;
   level = parent.level - width;
-  prefix = 4 ^ width * parent.prefix + digit;
+  column = 2 ^ width * parent.column + column_of width digit;
+  row = 2 ^ width * parent.row + row_of width digit;
 } ∷ child_refs parent width (first + 1) digits
-
--- a node's square, as its numbers' prefix and how many digits are below it
-abbrev pub node_at : NodeRef → Node
-node_at ref = node ref.level ref.prefix
 
 -- a node of a square was opened: its places are left too, and it has paid for itself
 pub record IsOpened (old new : WalkView) (square : Square) : Type 0 where
   pub left : (tests : Tests) → walk_left tests new
       ≡ filter (passes tests old.tree.places) (run_of old.tree.places square) ++ walk_left tests old
-  pub reads : (tests : Tests) → tests.square (node (digits square.levels) square.prefix) ≡ true
-      → walk_reads tests new + 3 ≤ walk_reads tests old + node_reads tests old.tree.places square
+  pub reads : (test : Node → Bool) → test (node (digits square.levels) square.prefix) ≡ true
+      → walk_reads test new + node_reads ≤ walk_reads test old + square_worth test old.tree.places square
   pub turns : turns_of new < turns_of old + turns_in old.tree.places square
 
 -- a node of a square was visited: its places that pass are left too, and it has paid for what was read
@@ -83,7 +84,7 @@ pub record IsVisited (tests : Tests) (old new : WalkView) (square : Square) (beg
   pub tree : new.tree ≡ old.tree
   pub left : walk_left tests new
       ≡ filter (passes tests old.tree.places) (run_of old.tree.places square) ++ walk_left tests old
-  pub reads : steps + walk_reads tests new ≤ begun + walk_reads tests old + node_reads tests old.tree.places square
+  pub reads : steps + walk_reads tests.square new ≤ begun + walk_reads tests.square old + square_worth tests.square old.tree.places square
   pub turns : turns_of new < turns_of old + turns_in old.tree.places square
 
 -- a bucket was gone through as far as its next place that passes
@@ -91,18 +92,20 @@ pub record IsScanned (tests : Tests) (old new : WalkView) (found : Option ℕ) (
   pub tree : new.tree ≡ old.tree
   pub pending : new.pending ≡ old.pending
   pub left : walk_left tests old ≡ option_to_list found ++ walk_left tests new
-  pub reads : steps + walk_reads tests new ≤ begun + walk_reads tests old
+  pub reads : steps + walk_reads tests.square new ≤ begun + walk_reads tests.square old
 
--- a branch gave way to its children: they are nodes of the tree, their places are its places in order, each weight of
--- nodes is paid by the branch, and their squares are the children's
+-- a branch gave way to its children: they are nodes of the tree, one level lower; their places are its places, in order;
+-- the reads that a node is worth pay for theirs and for its own; and there are fewer squares in them
 pub record IsGivenWay (tree : TreeView) (parent : NodeRef) (old new : List NodeRef) : Type 0 where
   pub children : List NodeRef
   pub pushed : new ≡ children ++ old
   pub nodes : All (IsNodeOf tree) children
-  pub few : length children ≤ 16
+  pub few : length children ≤ child_limit (levels_of tree.narrow parent)
   pub places : run_of tree.places (node_square tree.narrow parent)
       ≡ flat_map (λ child. run_of tree.places (node_square tree.narrow child)) children
   pub levels : All (λ child. child.below + 1 ≡ parent.below) children
-  pub reads : (tests : Tests) → tests.square (node_at parent) ≡ true
-      → sum_by (λ child. node_reads tests tree.places (node_square tree.narrow child)) children + 3
-      ≤ node_reads tests tree.places (node_square tree.narrow parent)
+  pub reads : (test : Node → Bool) → test (node_at parent) ≡ true
+      → sum_by (λ child. square_worth test tree.places (node_square tree.narrow child)) children + node_reads
+      ≤ square_worth test tree.places (node_square tree.narrow parent)
+  pub turns : sum_by (λ child. turns_in tree.places (node_square tree.narrow child)) children
+      < turns_in tree.places (node_square tree.narrow parent)

@@ -13,14 +13,13 @@ ghost use Rattle.std.specs.List.{range_with_len};
 ghost use Rattle.k2_tree.specs.Pruning.{place_among};
 ghost use Rattle.k2_tree.specs.TreeBits.{code_limit};
 
-use crate::kind::BUCKET;
+use crate::kind::{BUCKET, BUCKET_LIMIT};
 use crate::node_walk::fan_of;
 use crate::task::Task;
 use std::alloc::Global;
 use track_types::{CellBox, Memory};
 
-// So many places are in a bucket at most, unless they are in one cell.
-const FEW: u32 = 16;
+
 
 // The boxes and the links of nodes.
 #[derive(Drop)]
@@ -135,7 +134,7 @@ fn link_of(codes: &[u64], narrow: u32, task: Task, tasks: &mut Vec<Task>) -> Res
     requires short { length codes.now < 2 ^ 31 }
     ensures ok { IfOk result (λ link. IsMadeLink codes.now narrow task (kind_of link) tasks.old.items tasks.new.items) }
 {
-    if task.below == 0 || task.high - task.low <= FEW {
+    if task.below == 0 || task.high - task.low <= BUCKET_LIMIT {
         return Ok((task.low, BUCKET + task.high));
     }
     let width = width_of(narrow, task.below);

@@ -1,18 +1,22 @@
 ghost use Rattle.std.specs.Prelude.{◌≡◌};
 ghost use Rattle.box_tree.specs.Kinds.{kind_of};
 
-/// What a node is: a bucket of the places from `low` on and before `high`, or a branch whose children stand
-/// one behind another before `end`, for each digit of the mask one.
+/// What a node is: a bucket of the places from `low` on and before `high`, or a branch whose children
+/// stand one after another before `end`, one for each digit that the mask has.
 #[derive(Clone, Copy, Debug)]
 pub enum Kind {
     Bucket { low: u32, high: u32 },
     Branch { end: u32, mask: u32 },
 }
 
-pub const BUCKET: u32 = 1 << 31;
+// A bucket has at most so many places, unless its square is a cell.
+pub(crate) const BUCKET_LIMIT: u32 = 16;
 
-/// The kind that a link tells.
-pub fn kind_of(link: (u32, u32)) -> Kind
+// A bucket's link has this and its end as the second number, a branch's its mask.
+pub(crate) const BUCKET: u32 = 1 << 31;
+
+// The kind that a link tells.
+pub(crate) fn kind_of(link: (u32, u32)) -> Kind
     ensures { result ≡ kind_of link }
 {
     if link.1 < BUCKET {

@@ -1,23 +1,24 @@
 ghost use Rattle.std.specs.Prelude.{◌≡◌, ℕ, ◌+◌, ◌-◌, ◌*◌, ◌^◌, ◌<◌, ◌≤◌, ◌++◌, ◌∷◌, [], length, reverse, IfNone, IfSome};
+ghost use Rattle.track_types.specs.declared.limit.TheConstants.{MAX_HEIGHT};
+ghost use Rattle.box_tree.specs.Boxes.{IsBase};
+ghost use Rattle.box_tree.specs.Cost.{link_reads};
 ghost use Rattle.box_tree.specs.Held.{digits_in};
 ghost use Rattle.box_tree.specs.Tree.{IsNodeOf, levels_of, node_square, slots, whole};
 ghost use Rattle.box_tree.specs.Places.{ArePlaces};
 ghost use Rattle.box_tree.specs.Walk.{child_refs, IsOpened};
-ghost use Rattle.k2_tree.specs.TreeBits.{code_limit};
 
+use crate::grid_square::{digit_column, digit_row};
 use crate::kind::Kind;
-use crate::node_ref::NodeRef;
+use crate::node_ref::{NodeRef, SLOTS};
 use crate::tree::BoxTree;
 use arrayvec::ArrayVec;
 use std::marker::Model;
 use std::sync::ledger::Ledger;
 use step_count::Steps;
 
-pub(crate) const SLOTS: usize = 128;
-
-/// A way over the nodes of a tree.
+// A way over the nodes of a tree: those that wait, and what is left of an open bucket.
 #[derive(Drop)]
-pub struct NodeWalk<'a> {
+pub(crate) struct NodeWalk<'a> {
     tree: &'a BoxTree,
     stack: ArrayVec<NodeRef, SLOTS>,
     low: u32,
@@ -35,8 +36,8 @@ impl<'a> Model for NodeWalk<'a> {
 }
 
 impl<'a> NodeWalk<'a> {
-    /// The way over a tree from one of its nodes on, if there is one.
-    pub fn new(tree: &'a BoxTree, first: Option<NodeRef>) -> NodeWalk<'a>
+    // The way over a tree from one of its nodes on, if there is one.
+    pub(crate) fn new(tree: &'a BoxTree, first: Option<NodeRef>) -> NodeWalk<'a>
         requires of { IfSome first (λ node. IsNodeOf tree.now node) }
         requires whole { IfSome first (λ node. node_square tree.now.narrow node ≡ whole tree.now) }
         ensures tree { result.tree ≡ tree.now }
@@ -53,16 +54,17 @@ impl<'a> NodeWalk<'a> {
         NodeWalk { tree, stack, low: 0, high: 0 }
     }
 
-    /// The tree.
-    pub fn tree(&self) -> &'a BoxTree
+    // The tree.
+    pub(crate) fn tree(&self) -> &'a BoxTree
         ensures value { result.now ≡ self.now.tree }
         ensures are { ArePlaces self.now.tree.places }
+        ensures base { IsBase self.now.tree.base }
     {
         self.tree
     }
 
-    /// Takes the next place of the open bucket off.
-    pub fn next_place(&mut self) -> Option<u32>
+    // Takes the next place of the open bucket off.
+    pub(crate) fn next_place(&mut self) -> Option<u32>
         ensures tree { self.new.tree ≡ self.old.tree }
         ensures none { IfNone result (self.new ≡ self.old) }
         ensures empty { IfNone result (self.old.high ≤ self.old.low) }
@@ -81,8 +83,8 @@ impl<'a> NodeWalk<'a> {
         None
     }
 
-    /// Takes the next node off.
-    pub fn next_node(&mut self) -> Option<NodeRef>
+    // Takes the next node off.
+    pub(crate) fn next_node(&mut self) -> Option<NodeRef>
         ensures tree { self.new.tree ≡ self.old.tree }
         ensures low { self.new.low ≡ self.old.low }
         ensures high { self.new.high ≡ self.old.high }
@@ -96,15 +98,15 @@ impl<'a> NodeWalk<'a> {
         self.stack.pop()
     }
 
-    /// Opens a node that was taken off, where no bucket is open.
-    pub fn open<L: Ledger>(&mut self, taken: NodeRef, steps: &mut Steps<L>)
+    // Opens a node that was taken off, where no bucket is open.
+    pub(crate) fn open<L: Ledger>(&mut self, taken: NodeRef, steps: &mut Steps<L>)
         requires of { IsNodeOf self.old.tree taken }
         requires room { self.old.depth + slots (levels_of self.old.tree.narrow taken)
             ≤ slots self.old.tree.places.levels }
         requires done { self.old.high ≤ self.old.low }
         ensures tree { self.new.tree ≡ self.old.tree }
         ensures opened { IsOpened self.old self.new (node_square self.old.tree.narrow taken) }
-        ensures cost { steps.new ≤ steps.old + 1 }
+        ensures cost { steps.new ≤ steps.old + link_reads }
     {
         match self.tree.kind(&taken, steps) {
             Kind::Bucket { low, high } => {
@@ -112,20 +114,26 @@ impl<'a> NodeWalk<'a> {
                 self.high = high;
             }
             Kind::Branch { end, mask } => {
-                let width = self.tree.width(taken.below);
-                push_children(&mut self.stack, &taken, width, end, mask);
+                self.tree.push_children(&taken, end, mask, &mut self.stack);
             }
         }
     }
 }
 
 // Pushes the children of a node, of which there are as many as the mask has ones, the last first.
-pub(crate) fn push_children(stack: &mut ArrayVec<NodeRef, SLOTS>, parent: &NodeRef, width: u32, end: u32, mask: u32)
+pub(crate) fn push_children(
+    stack: &mut ArrayVec<NodeRef, SLOTS>,
+    parent: &NodeRef,
+    width: u32,
+    end: u32,
+    mask: u32,
+)
     requires some { 1 ≤ width }
     requires few { width ≤ 2 }
     requires inner { 1 ≤ parent.now.below }
     requires level { width ≤ parent.now.level }
-    requires small { (parent.now.prefix + 1) * 4 ^ width ≤ code_limit }
+    requires right { (parent.now.column + 1) * 2 ^ width ≤ 2 ^ MAX_HEIGHT }
+    requires upper { (parent.now.row + 1) * 2 ^ width ≤ 2 ^ MAX_HEIGHT }
     requires mask { mask < 2 ^ 16 }
     requires stand { length (digits_in width mask) ≤ end }
     requires room { length stack.old.items + length (digits_in width mask) ≤ SLOTS }
@@ -141,7 +149,8 @@ pub(crate) fn push_children(stack: &mut ArrayVec<NodeRef, SLOTS>, parent: &NodeR
                 node: number,
                 below: parent.below - 1,
                 level: parent.level - width,
-                prefix: u64::from(fan) * parent.prefix + u64::from(digit),
+                column: (parent.column << width) + digit_column(digit, width),
+                row: (parent.row << width) + digit_row(digit, width),
             });
         }
     }

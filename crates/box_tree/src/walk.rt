@@ -1,9 +1,10 @@
-ghost use Rattle.std.specs.Prelude.{◌≡◌, ◌+◌, ◌*◌, ◌≤◌, ◌<◌, length, filter, true, false, Some, IfNone, IfSome};
-ghost use Rattle.box_tree.specs.Places.{cell_passes, passes, square_count};
-ghost use Rattle.box_tree.specs.Tree.{IsNodeOf, levels_of, node_square, slots};
-ghost use Rattle.box_tree.specs.BoxWalk.{box_left, box_budget};
-ghost use Rattle.std.specs.List.{range_with_len};
-ghost use Rattle.box_tree.specs.Walk.{node_at, IsScanned, IsVisited};
+ghost use Rattle.std.specs.Prelude.{◌≡◌, ◌+◌, ◌≤◌, ◌<◌, ◌⊎◌, [], length, true, false, IfNone, IfSome};
+ghost use Rattle.box_tree.specs.BoxWalk.{asked, box_budget, box_left, found_places, search_reads};
+ghost use Rattle.box_tree.specs.Cost.{place_reads};
+ghost use Rattle.box_tree.specs.Places.{passes};
+ghost use Rattle.box_tree.specs.Tests.{squares_at};
+ghost use Rattle.box_tree.specs.Tree.{grid_node, levels_of, node_square, slots, whole, IsNodeOf};
+ghost use Rattle.box_tree.specs.Walk.{IsScanned, IsVisited};
 
 use crate::node_ref::NodeRef;
 use crate::node_walk::NodeWalk;
@@ -13,7 +14,11 @@ use std::sync::ledger::Ledger;
 use step_count::Steps;
 use track_types::Lazy;
 
-/// The places whose box and whose cell meet what is asked, in order.
+/// The places of a tree whose cell and whose box meet what is asked, in order. An item is the
+/// number of a place.
+///
+/// A square that does not meet it, or with a box that does not, is skipped with all that is in it.
+/// The walk takes no memory.
 #[derive(Drop)]
 pub struct BoxWalk<'a, S> {
     walk: NodeWalk<'a>,
@@ -21,38 +26,38 @@ pub struct BoxWalk<'a, S> {
 }
 
 impl<'a, S: Search> BoxWalk<'a, S> {
-    /// The places of a tree whose box and whose cell meet what is asked, in order. A square whose reach does not
-    /// meet it, or with a box that does not, is skipped with all that is in it.
+    /// The places of a tree that are sought. It reads nothing.
     pub fn new(tree: &'a BoxTree, search: S) -> BoxWalk<'a, S>
-        ensures left { box_left S.tests result ≡ filter (passes (S.tests search) tree.now.places)
-            (range_with_len 0 (length tree.now.places.codes)) }
-        ensures budget { box_budget S.tests result ≤ 51 * square_count (S.tests search) tree.now.places
-            + 3 * length (filter (cell_passes (S.tests search) tree.now.places)
-            (range_with_len 0 (length tree.now.places.codes))) }
+        ensures left { box_left S.squares S.boxes result
+            ≡ found_places (S.squares search) (S.boxes search) tree.now }
+        ensures budget { box_budget S.squares S.boxes result
+            ≤ search_reads (S.squares search) tree.now }
     {
-        let root = wanted(tree.root(), &search);
+        let root = wanted(tree, &search);
         BoxWalk { walk: NodeWalk::new(tree, root), search }
     }
 
-    // Whether a place meets what is asked.
+    // Whether a place is sought.
     fn meets<L: Ledger>(&self, place: u32, steps: &mut Steps<L>) -> bool
         requires { place < length self.now.walk.tree.places.codes }
-        ensures value { result ≡ passes (S.tests self.now.search) self.now.walk.tree.places place }
-        ensures cost { steps.new ≤ steps.old + 3 }
+        ensures value { result
+            ≡ passes (asked S.squares S.boxes self.now) self.now.walk.tree.places place }
+        ensures cost { steps.new ≤ steps.old + place_reads }
     {
         let tree = self.walk.tree();
         let area = tree.place_box(place, steps);
         if !self.search.meets_box(&area) {
             return false;
         }
-        let code = tree.place_code(place, steps);
-        self.search.meets_square(0, code)
+        let cell = tree.place_cell(place, steps);
+        self.search.meets_square(&cell)
     }
 
-    // The next place of the open bucket that meets it.
+    // The next place of the open bucket that is sought.
     fn scan<L: Ledger>(&mut self, steps: &mut Steps<L>) -> Option<u32>
         ensures search { self.new.search ≡ self.old.search }
-        ensures scanned { IsScanned (S.tests self.old.search) self.old.walk self.new.walk result steps.old steps.new }
+        ensures scanned { IsScanned (asked S.squares S.boxes self.old) self.old.walk self.new.walk
+            result steps.old steps.new }
         ensures done { IfNone result (self.new.walk.high ≤ self.new.walk.low) }
     {
         while let Some(place) = self.walk.next_place() {
@@ -63,21 +68,23 @@ impl<'a, S: Search> BoxWalk<'a, S> {
         None
     }
 
-    // Opens a node that was taken off, where its box and its square meet it.
+    // Opens a node that was taken off, where its box and its square meet what is asked.
     fn visit<L: Ledger>(&mut self, taken: NodeRef, steps: &mut Steps<L>)
         requires of { IsNodeOf self.old.walk.tree taken }
         requires room { self.old.walk.depth + slots (levels_of self.old.walk.tree.narrow taken)
             ≤ slots self.old.walk.tree.places.levels }
         requires done { self.old.walk.high ≤ self.old.walk.low }
         ensures search { self.new.search ≡ self.old.search }
-        ensures visited { IsVisited (S.tests self.old.search) self.old.walk self.new.walk
+        ensures visited { IsVisited (asked S.squares S.boxes self.old) self.old.walk self.new.walk
             (node_square self.old.walk.tree.narrow taken) steps.old steps.new }
     {
-        let area = self.walk.tree().area(&taken, steps);
+        let tree = self.walk.tree();
+        let area = tree.area(&taken, steps);
         if !self.search.meets_box(&area) {
             return;
         }
-        if !self.search.meets_square(taken.level, taken.prefix) {
+        let square = tree.square(&taken);
+        if !self.search.meets_square(&square) {
             return;
         }
         self.walk.open(taken, steps);
@@ -87,9 +94,9 @@ impl<'a, S: Search> BoxWalk<'a, S> {
 impl<'a, S: Search> Lazy for BoxWalk<'a, S> {
     type Item = u32;
 
-    ghost left = { box_left S.tests };
+    ghost left = { box_left S.squares S.boxes };
 
-    ghost budget = { box_budget S.tests };
+    ghost budget = { box_budget S.squares S.boxes };
 
     fn draw<L: Ledger>(&mut self, steps: &mut Steps<L>) -> Option<u32> {
         loop {
@@ -104,20 +111,20 @@ impl<'a, S: Search> Lazy for BoxWalk<'a, S> {
     }
 }
 
-// The node, if there is one and its square meets what is asked.
-fn wanted<S: Search>(node: Option<NodeRef>, search: &S) -> Option<NodeRef>
-    ensures none { IfNone result (IfSome node (λ root.
-        (S.tests search.now).square (node_at root) ≡ false)) }
-    ensures some { IfSome result (λ root. (node ≡ Some root) × ((S.tests search.now).square (node_at root) ≡ true)) }
+// The node of the whole grid, where there is a place and the grid meets what is asked.
+fn wanted<S: Search>(tree: &BoxTree, search: &S) -> Option<NodeRef>
+    ensures none { IfNone result ((tree.now.places.codes ≡ [])
+        ⊎ (squares_at tree.now.base (S.squares search.now) (grid_node tree.now) ≡ false)) }
+    ensures node { IfSome result (λ node. IsNodeOf tree.now node) }
+    ensures whole { IfSome result (λ node. node_square tree.now.narrow node ≡ whole tree.now) }
+    ensures some { IfSome result (λ node. 0 < length tree.now.places.codes) }
+    ensures holds { IfSome result (λ node.
+        squares_at tree.now.base (S.squares search.now) (grid_node tree.now) ≡ true) }
 {
-    match node {
-        Some(root) => {
-            if search.meets_square(root.level, root.prefix) {
-                Some(root)
-            } else {
-                None
-            }
-        }
-        None => None,
+    let root = tree.root()?;
+    let square = tree.square(&root);
+    if !search.meets_square(&square) {
+        return None;
     }
+    Some(root)
 }

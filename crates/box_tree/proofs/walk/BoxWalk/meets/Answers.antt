@@ -2,7 +2,8 @@ use Rattle.std.proofs.Common.{◌≡◌, true, false, Bool, refl, sym, ap, ◌�
 use Rattle.std.specs.Prelude.{◌&&◌, slice_index}
 use Rattle.k2_tree.specs.Squares.{Node, node}
 use Rattle.track_types.specs.declared.cell_box.CellBox.{CellBox}
-use Rattle.box_tree.specs.Places.{Tests, box_at, passes}
+use Rattle.box_tree.specs.Places.{box_at, passes}
+use Rattle.box_tree.specs.Tests.{Tests}
 use Rattle.box_tree.specs.Tree.{TreeView}
 use Rattle.box_tree.proofs.walk.BoxWalk.meets.Goals as goal
 

@@ -1,5 +1,6 @@
 use Rattle.std.proofs.Common.{◌≡◌, ◌∷◌, true, false, sym, ap, ◌∙◌, arith}
-use Rattle.box_tree.specs.Places.{Tests, passes}
+use Rattle.box_tree.specs.Places.{passes}
+use Rattle.box_tree.specs.Tests.{Tests}
 use Rattle.box_tree.specs.Tree.{TreeView}
 use Rattle.box_tree.specs.Walk.{WalkView, IsScanned, walk_left}
 use Rattle.box_tree.proofs.VisitLemmas.{left-kept, left-passed, reads-place}

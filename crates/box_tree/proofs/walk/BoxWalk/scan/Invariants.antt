@@ -1,5 +1,5 @@
 use Rattle.std.proofs.Common.{◌≡◌, ℕ, ◌+◌, ◌-◌, ◌≤◌}
-use Rattle.box_tree.specs.Places.{Tests}
+use Rattle.box_tree.specs.Tests.{Tests}
 use Rattle.box_tree.specs.Walk.{WalkView, walk_left, walk_reads}
 use Rattle.box_tree.proofs.walk.BoxWalk.scan.Given as goal
 
@@ -8,7 +8,7 @@ pub record IsScanning (tests : Tests) (old now : WalkView) (begun steps : ℕ) :
   pub tree : now.tree ≡ old.tree
   pub pending : now.pending ≡ old.pending
   pub left : walk_left tests old ≡ walk_left tests now
-  pub reads : steps + walk_reads tests now ≤ begun + walk_reads tests old
+  pub reads : steps + walk_reads tests.square now ≤ begun + walk_reads tests.square old
 
 abbrev pub invariant-loop-place : goal.invariant-loop-place
 invariant-loop-place g l =

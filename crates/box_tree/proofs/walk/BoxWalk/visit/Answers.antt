@@ -2,7 +2,8 @@ use Rattle.std.proofs.Common.{◌≡◌, ℕ, ◌≤◌, List, false, true, All,
 use Rattle.k2_tree.specs.Areas.{IsBoxInside}
 use Rattle.k2_tree.specs.Squares.{node}
 use Rattle.box_tree.specs.Levels.{digits}
-use Rattle.box_tree.specs.Places.{Tests, Places, Square, box_at, run_of}
+use Rattle.box_tree.specs.Places.{Places, Square, box_at, run_of}
+use Rattle.box_tree.specs.Tests.{Tests}
 use Rattle.box_tree.specs.Tree.{TreeView, levels_of, node_square}
 use Rattle.box_tree.specs.Walk.{IsOpened, IsVisited}
 use Rattle.box_tree.proofs.NodeLemmas.{skipped-box, skipped-square}

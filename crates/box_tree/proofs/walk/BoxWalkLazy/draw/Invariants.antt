@@ -1,12 +1,12 @@
 use Rattle.std.proofs.Common.{◌≡◌, ℕ, ◌+◌, ◌≤◌}
-use Rattle.box_tree.specs.Places.{Tests}
+use Rattle.box_tree.specs.Tests.{Tests}
 use Rattle.box_tree.specs.Walk.{WalkView, turns_of, walk_left, walk_reads}
 use Rattle.box_tree.proofs.walk.BoxWalkLazy.draw.Given as goal
 
 -- nodes were visited in which nothing was found: the same is left, for so many reads
 pub record IsDrawing (tests : Tests) (first now : WalkView) (begun steps : ℕ) : Type 0 where
   pub left : walk_left tests first ≡ walk_left tests now
-  pub reads : steps + walk_reads tests now ≤ begun + walk_reads tests first
+  pub reads : steps + walk_reads tests.square now ≤ begun + walk_reads tests.square first
 
 abbrev pub invariant-loop-place : goal.invariant-loop-place
 invariant-loop-place g l =

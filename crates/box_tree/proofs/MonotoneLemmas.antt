@@ -1,5 +1,5 @@
 -- That the tests of a search by reach are monotone.
-use Rattle.std.proofs.Common.{◌≡◌, ℕ, ◌+◌, ◌-◌, ◌*◌, ◌/◌, ◌^◌, ◌<◌, ◌≤◌, ℤ, pos, ◌+ℤ◌, ◌-ℤ◌, ◌≤ℤ◌, true, Bool, refl, sym, ap, ◌∙◌, arith, subst}
+use Rattle.std.proofs.Common.{lit≤, ◌≡◌, ℕ, ◌+◌, ◌-◌, ◌*◌, ◌/◌, ◌^◌, ◌<◌, ◌≤◌, ℤ, pos, ◌+ℤ◌, ◌-ℤ◌, ◌≤ℤ◌, true, Bool, refl, sym, ap, ◌∙◌, arith, subst}
 use Rattle.std.specs.Prelude.{◌&&◌}
 use Rattle.std.proofs.Math.Nat.{div-one}
 use Rattle.std.proofs.lemmas.Int.{ints, clamps}
@@ -17,12 +17,9 @@ use Rattle.k2_tree.specs.Squares.{Node, node}
 use Rattle.k2_tree.specs.TreeBits.{code_limit}
 use Rattle.k2_tree.proofs.AreaLemmas.{in_area}
 use Rattle.k2_tree.proofs.MortonLemmas.{cell_of-inside, morton_of-cell_of}
-use Rattle.box_tree.specs.Places.{AreMonotone, Tests}
+use Rattle.box_tree.specs.Tests.{Tests, AreMonotone}
+use Rattle.box_tree.specs.Tests.{Tests}
 use Rattle.box_tree.specs.Touching.{touching_tests}
-
--- a test is true of a box where it is of one in it
-abbrev pub IsWider : (CellBox → Bool) → Type 0
-IsWider keep = (inner outer : CellBox) → IsBoxInside inner outer → keep inner ≡ true → keep outer ≡ true
 
 -- a cell lies in each square with a prefix of its number
 area-inside : (base : Cell) → IsGrid MAX_HEIGHT base → (n code : ℕ) → n ≤ MAX_HEIGHT → code < code_limit
@@ -44,13 +41,14 @@ area-inside base grid n code deep small =
       above = omega (arith, ints, a.above, b.below);
     }
 
--- so a test of squares by their areas is monotone where it is of boxes
-pub monotone-areas : (base : Cell) → IsGrid MAX_HEIGHT base → (keep may : CellBox → Bool) → IsWider keep → IsWider may
-    → AreMonotone (record { square = λ square. keep (area_at base square); area = may })
-monotone-areas base grid keep may wide wider = record {
+-- so the squares of the grid that pass are those in which a cell passes, where the tests are monotone
+pub passed-areas : (base : Cell) → IsBase base → (squares boxes : CellBox → Bool) → AreMonotone squares boxes
+    → ArePassed (tests_at base squares boxes)
+passed-areas base near squares boxes mono = record {
   square = λ n code deep small holds.
-      wide (area_at base (node 0 code)) (area_at base (node n (code / 4 ^ n))) (area-inside base grid n code deep small) holds;
-  area = wider;
+      mono.squares (area_at base (node 0 code)) (area_at base (node n (code / 4 ^ n)))
+      (area-inside base (record { some = lit≤ tt; limit = omega arith; left = near.left; right = near.right; below = near.below; above = near.above }) n code deep small) holds;
+  area = mono.boxes;
 }
 
 -- the test of a region is
@@ -73,17 +71,3 @@ wider-widened keep width wide inner outer inside holds = wide (widened width inn
   below = omega (arith, ints, inside.below);
   above = omega (arith, ints, inside.above);
 }) holds
-
--- what overlaps a pair of bounds overlaps a wider one
-overlaps-wider : (low high a b c d : ℤ) → c ≤ℤ a → b ≤ℤ d → overlaps low high a b ≡ true → overlaps low high c d ≡ true
-overlaps-wider low high a b c d left right holds = grind (arith, ints, clamps)
-
--- a search by a box alone is monotone
-pub touching-monotone : (area : CellBox) → AreMonotone (touching_tests area)
-touching-monotone area = record {
-  square = λ n code deep small holds. refl;
-  area = λ inner outer inside holds.
-      let axes = and_parts (overlaps area.x1 area.x2 inner.x1 inner.x2) (overlaps area.y1 area.y2 inner.y1 inner.y2) holds in
-      and_from _ _ (overlaps-wider area.x1 area.x2 inner.x1 inner.x2 outer.x1 outer.x2 inside.left inside.right axes.0)
-      (overlaps-wider area.y1 area.y2 inner.y1 inner.y2 outer.y1 outer.y2 inside.below inside.above axes.1);
-}

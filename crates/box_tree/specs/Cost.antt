@@ -1,0 +1,31 @@
+-- How many words each question of a tree reads at most.
+use Rattle.std.specs.Prelude.{ℕ, ◌+◌, ◌*◌}
+use Rattle.box_tree.specs.declared.kind.TheConstants.{BUCKET_LIMIT}
+
+-- a box, of a node or of a place
+abbrev pub box_reads : ℕ
+box_reads = 2
+
+-- what a node is
+abbrev pub link_reads : ℕ
+link_reads = 1
+
+-- a place's cell
+abbrev pub cell_reads : ℕ
+cell_reads = 1
+
+-- all of a place: its box, and its cell
+abbrev pub place_reads : ℕ
+place_reads = box_reads + cell_reads
+
+-- all of a node: its box, and what it is
+abbrev pub node_reads : ℕ
+node_reads = box_reads + link_reads
+
+-- the places of a bucket, or the nodes of a branch's children
+abbrev pub opened_reads : ℕ
+opened_reads = BUCKET_LIMIT * place_reads
+
+-- a square with a node of its own that is opened
+abbrev pub square_reads : ℕ
+square_reads = opened_reads + node_reads
