@@ -10,9 +10,9 @@ abbrev pub IsWider : (CellBox → Bool) → Type 0
 IsWider keep = (inner outer : CellBox) → IsBoxInside inner outer → keep inner ≡ true → keep outer ≡ true
 
 -- so are a test of squares, told by their boxes, and a test of boxes
-pub record AreMonotone (squares boxes : CellBox → Bool) : Type 0 where
-  pub squares : IsWider squares
-  pub boxes : IsWider boxes
+pub record AreMonotone (square area : CellBox → Bool) : Type 0 where
+  pub squares : IsWider square
+  pub boxes : IsWider area
 
 -- what is asked: a test of squares and a test of boxes
 pub record Tests : Type 0 where
