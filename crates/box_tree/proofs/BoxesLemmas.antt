@@ -1,10 +1,13 @@
 -- Boxes as they are kept.
-use Rattle.std.proofs.Common.{◌≡◌, ℕ, zero, suc, List, [], ◌∷◌, ◌++◌, length, refl, sym, ap, ◌∙◌, arith, Some}
+use Rattle.std.proofs.Common.{◌≡◌, ℕ, zero, suc, List, [], ◌∷◌, ◌++◌, length, refl, sym, ap, ◌∙◌, arith, All, Some}
+use Rattle.std.proofs.lemmas.Int.{ints}
+use Rattle.std.proofs.lemmas.List.Elements.{All-weaker}
+use Rattle.track_types.specs.Near.{IsBoxWithin}
 use Rattle.std.specs.Prelude.{slice_get}
 use Rattle.std.proofs.lemmas.Option.{same_Some}
 use Rattle.track_types.specs.declared.cell.Cell.{Cell}
 use Rattle.track_types.specs.declared.cell_box.CellBox.{CellBox}
-use Rattle.box_tree.specs.Boxes.{box_with, boxes_of}
+use Rattle.box_tree.specs.Boxes.{IsBase, IsFrom, box_with, boxes_of}
 
 pub boxes_of-length : (base : Cell) (corners reaches : List (ℕ × ℕ)) → length reaches ≡ length corners
     → length (boxes_of base corners reaches) ≡ length corners
@@ -33,3 +36,15 @@ boxes_of-more base [] (r ∷ reaches) corner reach same = absurd (omega arith)
 boxes_of-more base (c ∷ corners) [] corner reach same = absurd (omega arith)
 boxes_of-more base (c ∷ corners) (r ∷ reaches) corner reach same =
     ap (λ rest. box_with base c r ∷ rest) (boxes_of-more base corners reaches corner reach (omega arith))
+
+-- boxes from a base on are near 0
+pub from-within : (base : Cell) → IsBase base → (boxes : List CellBox) → All (IsFrom base) boxes → All IsBoxWithin boxes
+from-within base near boxes each = All-weaker (IsFrom base) IsBoxWithin within boxes each
+  where
+    within : (area : CellBox) → IsFrom base area → IsBoxWithin area
+    within area from = record {
+      x1 = record { low = omega (arith, ints, near.left, from.left); high = omega (arith, ints, near.right, from.right, area.wide) };
+      y1 = record { low = omega (arith, ints, near.below, from.below); high = omega (arith, ints, near.above, from.above, area.high) };
+      x2 = record { low = omega (arith, ints, near.left, from.left, area.wide); high = omega (arith, ints, near.right, from.right) };
+      y2 = record { low = omega (arith, ints, near.below, from.below, area.high); high = omega (arith, ints, near.above, from.above) };
+    }

@@ -2,7 +2,7 @@
 use Rattle.std.proofs.Common.{◌≡◌, ℕ, zero, suc, ◌+◌, ◌-◌, ◌*◌, ◌/◌, ◌^◌, ◌<◌, ◌≤◌, ◌==◌, ◌||◌, Bool, true, false, List, [], ◌∷◌, length, filter, map, refl, sym, ap, ◌∙◌, arith, All, inl, inr, subst}
 use Rattle.std.specs.Prelude.{nat_lt, if◌then◌else◌}
 use Rattle.std.specs.List.{list_any, range_with_len, sum_by}
-use Rattle.std.proofs.lemmas.Bool.{cases_Bool}
+use Rattle.std.proofs.lemmas.Bool.{cases_Bool, false≢true}
 use Rattle.std.proofs.lemmas.Bool.Decides.{nat_tests}
 use Rattle.std.proofs.lemmas.List.Elements.{filter_agree}
 use Rattle.std.proofs.lemmas.List.Sums.{sum_by-cons}
@@ -18,7 +18,10 @@ use Rattle.k2_tree.specs.TreeBits.{Rises, is_in, longer, prefixes}
 use Rattle.k2_tree.proofs.PrefixLemmas.{any-prefixes, fan_pos, prefixes-top}
 use Rattle.k2_tree.proofs.PruningLemmas.{weight_below-all}
 use Rattle.box_tree.specs.Levels.{children, digits, first_in, is_held, squares_in}
-use Rattle.box_tree.specs.Tree.{levels_below}
+use Rattle.box_tree.specs.Places.{square_count}
+use Rattle.box_tree.specs.Tests.{squares_at}
+use Rattle.box_tree.specs.Tree.{levels_below, places_with}
+use Rattle.box_tree.proofs.TreeLemmas.{digits-narrow}
 
 -- one for each square that passes
 abbrev pub one_of : (Node → Bool) → Node → ℕ
@@ -32,21 +35,26 @@ is_held-any codes n prefix = by_counts codes (4 ^ n) (fan_pos n)
     below : (a b : ℕ) (codes : List ℕ) → a ≤ b → place_among codes a ≤ place_among codes b
     below a b [] up = omega arith
     below a b (x ∷ xs) up = grind (arith, nat_tests, below a b xs up)
+
     within : (size x : ℕ) → 0 < size → (x / size * size ≤ x) × (x < (x / size + 1) * size)
     within size x some =
         let low : size * (x / size) ≤ x = omega arith in
         let high : x < size * (x / size) + size = omega arith in
         (grind (arith, low), grind (arith, high))
+
     inside : (size x : ℕ) → 0 < size → (x / size == prefix) ≡ true → (prefix * size ≤ x) × (x < (prefix + 1) * size)
     inside size x some e =
         let it : x / size ≡ prefix = grind (arith, nat_tests) in
         subst (λ q. (q * size ≤ x) × (x < (q + 1) * size)) it (within size x some)
+
     outside : (size x : ℕ) → 0 < size → (x / size == prefix) ≡ false → prefix * size ≤ x → x < (prefix + 1) * size → ⊥
     outside size x some e low high =
         let it : x / size ≡ prefix = div-eq_of_lt-le size low high in
         absurd (grind (arith, nat_tests, it))
+
     steps : (size : ℕ) → prefix * size ≤ (prefix + 1) * size
     steps size = grind arith
+
     by_counts : (codes : List ℕ) (size : ℕ) → 0 < size
         → nat_lt (place_among codes (prefix * size)) (place_among codes ((prefix + 1) * size)) ≡ list_any (λ code. code / size == prefix) codes
     by_counts [] size some = refl
@@ -59,19 +67,19 @@ is_held-any codes n prefix = by_counts codes (4 ^ n) (fan_pos n)
               let b : nat_lt x ((prefix + 1) * size) ≡ true = grind (arith, nat_tests, it.1) in
               rw (its, a, b) (grind (arith, nat_tests, up))
           | inr not ↦ elim (cases_Bool (nat_lt x (prefix * size))) [
-              | inl less ↦
-                  let l : x < prefix * size = grind (arith, nat_tests) in
-                  let far = steps size in
-                  let b : nat_lt x ((prefix + 1) * size) ≡ true = grind (arith, nat_tests, l, far) in
-                  rw (not, less, b) (shift (place_among xs (prefix * size)) (place_among xs ((prefix + 1) * size)) ∙ rest)
-              | inr from ↦
-                  let l : prefix * size ≤ x = grind (arith, nat_tests) in
-                  let b : nat_lt x ((prefix + 1) * size) ≡ false = elim (cases_Bool (nat_lt x ((prefix + 1) * size))) [
-                    | inl yes' ↦ absurd (outside size x some not l (grind (arith, nat_tests)))
-                    | inr no' ↦ no'
-                  ] in
-                  rw (not, from, b) rest
-            ]
+            | inl less ↦
+                let l : x < prefix * size = grind (arith, nat_tests) in
+                let far = steps size in
+                let b : nat_lt x ((prefix + 1) * size) ≡ true = grind (arith, nat_tests, l, far) in
+                rw (not, less, b) (shift (place_among xs (prefix * size)) (place_among xs ((prefix + 1) * size)) ∙ rest)
+            | inr from ↦
+                let l : prefix * size ≤ x = grind (arith, nat_tests) in
+                let b : nat_lt x ((prefix + 1) * size) ≡ false = elim (cases_Bool (nat_lt x ((prefix + 1) * size))) [
+                  | inl yes' ↦ absurd (outside size x some not l (grind (arith, nat_tests)))
+                  | inr no' ↦ no'
+                ] in
+                rw (not, from, b) rest
+          ]
         ]
       where
         shift : (a b : ℕ) → nat_lt (suc a) (suc b) ≡ nat_lt a b
@@ -89,13 +97,6 @@ module _ (test : Node → Bool) (codes cells : List ℕ) (same : (p : ℕ → Bo
     where
       four : (a : ℕ) → range_with_len a 4 ≡ a ∷ (a + 1) ∷ (a + 2) ∷ (a + 3) ∷ []
       four a = let b : a + 1 + 1 ≡ a + 2 = omega arith in let d : a + 2 + 1 ≡ a + 3 = omega arith in rw (b, d) refl
-
-  digits-narrow : (narrow below : ℕ) → below ≤ narrow → digits (levels_below narrow below) ≡ below
-  unfolding levels_below
-  digits-narrow narrow zero low = refl
-  digits-narrow narrow (suc below) low =
-      let one : nat_lt below narrow ≡ true = grind (arith, nat_tests) in
-      rw one (omega (arith, digits-narrow narrow below (omega arith)))
 
   -- with levels of one digit alone
   squares_in-weights : (narrow below prefix : ℕ) → below ≤ narrow
@@ -126,3 +127,28 @@ module _ (test : Node → Bool) (codes cells : List ℕ) (same : (p : ℕ → Bo
       top (c ∷ cs) height small some =
           ap (sum_by (weight_below (one_of test) (c ∷ cs) height)) (prefixes-top height c cs small)
           ∙ sum_by-cons (weight_below (one_of test) (c ∷ cs) height) 0 [] ∙ omega arith
+
+-- so a tree of boxes over the cells of a k2-tree, each as often as one likes, counts the squares that the k2-tree counts
+pub square_count-tree : (tree : Tree) → IsTree tree → (keep : CellBox → Bool) (codes : List ℕ) (boxes : List CellBox)
+    → ((p : ℕ → Bool) → list_any p codes ≡ list_any p (codes_of tree))
+    → square_count (squares_at tree.base keep) (places_with tree.height tree.height codes boxes) ≡ tree_square_count keep tree
+unfolding square_count prefixes
+square_count-tree tree is keep [] boxes same = sym (none (codes_of tree) is.codes.rising (sym (same (λ _. true))))
+  where
+    none : (cells : List ℕ) → Rises 0 cells → list_any (λ _. true) cells ≡ false
+        → length (filter (on_areas keep tree) (squares_from tree.height cells)) ≡ 0
+    none [] up empty =
+        omega (
+          arith,
+          weight_below-all (one_of (on_areas keep tree)) tree.height [] up,
+          sum_by_if 1 (on_areas keep tree) (squares_from tree.height []),
+        )
+    none (c ∷ cs) up empty = absurd (false≢true (sym empty))
+square_count-tree tree is keep (code ∷ codes) boxes same =
+    let test : nat_lt 0 (length (code ∷ codes)) ≡ true = grind (arith, nat_tests) in
+    rw test (squares-counted (on_areas keep tree) (code ∷ codes) (codes_of tree) same tree.height
+    (some (codes_of tree) (sym (same (λ _. true)))) is.codes.rising is.codes.small)
+  where
+    some : (cells : List ℕ) → list_any (λ _. true) cells ≡ true → 0 < length cells
+    some [] any = absurd (false≢true any)
+    some (c ∷ cs) any = omega arith

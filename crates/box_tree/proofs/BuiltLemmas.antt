@@ -1,12 +1,14 @@
 -- The tree that is built.
-use Rattle.std.proofs.Common.{◌≡◌, ℕ, ◌+◌, ◌*◌, ◌^◌, ◌<◌, ◌≤◌, List, [], ◌∷◌, ◌++◌, length, refl, sym, ap, ◌∙◌, arith, All, subst, lit<}
+use Rattle.std.proofs.Common.{◌≡◌, ℕ, ◌+◌, ◌*◌, ◌^◌, ◌<◌, ◌≤◌, List, [], ◌∷◌, ◌++◌, length, map, refl, sym, ap, ◌∙◌, arith, All, subst, lit<}
 use Rattle.std.proofs.Math.Nat.{pow-le-pow_right}
 use Rattle.track_types.specs.declared.cell_box.CellBox.{CellBox}
 use Rattle.track_types.specs.declared.limit.TheConstants.{MAX_HEIGHT}
 use Rattle.box_tree.specs.Held.{IsBucket, Nodes}
 use Rattle.box_tree.specs.Levels.{digits, first_in}
 use Rattle.box_tree.specs.Places.{ArePlaces, Places}
-use Rattle.box_tree.specs.Tree.{AreLevels, IsTree, levels_below, places_with, tree_of}
+use Rattle.box_tree.specs.Tree.{AreLevels, IsTree, code_at, levels_below, places_with, tree_of}
+use Rattle.box_tree.specs.Boxes.{IsBase}
+use Rattle.track_types.specs.declared.cell.Cell.{Cell}
 use Rattle.box_tree.specs.Building.{BeginsWith, IsMade, IsTask, StandsFor}
 use Rattle.box_tree.specs.declared.task.Task.{Task}
 use Rattle.box_tree.proofs.BeginLemmas.{place_among-all, place_among-zero}
@@ -34,16 +36,21 @@ root-task codes narrow height all level few inside some =
     }
 
 -- nodes that were made of all tasks, beginning with the whole grid's, are a tree
-pub tree-built : (height narrow all : ℕ) (codes : List ℕ) (boxes areas : List CellBox) (links : List (ℕ × ℕ)) (first tasks : List Task)
-    → AreLevels height narrow all → ArePlaces (places_with height narrow codes boxes)
+pub tree-built : (base : Cell) (height narrow all : ℕ) (codes : List ℕ) (cells : List (ℕ × ℕ)) (boxes areas : List CellBox)
+    (links : List (ℕ × ℕ)) (first tasks : List Task)
+    → IsBase base → AreLevels height narrow all → ArePlaces (places_with height narrow codes boxes) → map code_at cells ≡ codes
     → ((number : ℕ) → number < length tasks → IsMade codes boxes narrow tasks areas links number)
     → BeginsWith first tasks → (0 < length codes → StandsFor first height 0 0)
-    → IsTree all (tree_of height narrow 0 codes boxes areas links)
-tree-built height narrow all codes boxes areas links first tasks levels are made begins stands = record {
-  places_are = are;
-  digits_are = levels.digits_are;
-  few = levels.few;
-  room = levels.room;
-  held = λ some. held-made (places_with height narrow codes boxes) narrow tasks (record { areas = areas; links = links }) made height 0 0
-      (subst (λ (all : List Task). StandsFor all height 0 0) (sym begins.is) (stands-more first begins.rest height 0 0 (stands some)));
-}
+    → IsTree all (tree_of base height narrow cells boxes areas links)
+tree-built base height narrow all codes cells boxes areas links first tasks near levels are same made begins stands =
+    let nodes : Nodes = record { areas = areas; links = links } in
+    subst (λ cs. IsTree all (record { base = base; narrow = narrow; places = places_with height narrow cs boxes; nodes = nodes })) (sym same)
+    (record {
+      grid = near;
+      places_are = are;
+      digits_are = levels.digits_are;
+      few = levels.few;
+      room = levels.room;
+      held = λ some. held-made (places_with height narrow codes boxes) narrow tasks nodes made height 0 0
+          (subst (λ (all : List Task). StandsFor all height 0 0) (sym begins.is) (stands-more first begins.rest height 0 0 (stands some)));
+    })

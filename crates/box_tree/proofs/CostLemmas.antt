@@ -1,47 +1,31 @@
--- What a search over the walk reads, and that a wider box is no farther.
-use Rattle.std.proofs.Common.{◌≡◌, ℕ, ◌+◌, ◌*◌, ◌≤◌, ℤ, ◌-ℤ◌, ◌≤ℤ◌, true, Bool, List, length, filter, refl, arith, mul-le-mul_left, mul-le-mul_right, All}
-use Rattle.std.specs.Prelude.{unsigned_abs, ◌&&◌}
-use Rattle.std.specs.List.{range_with_len, sum_by}
-use Rattle.std.specs.Int.{int_max, int_min}
-use Rattle.std.proofs.lemmas.Int.{ints, clamps}
+-- What a search over the walk reads.
+use Rattle.std.proofs.Common.{◌≡◌, ℕ, ◌+◌, ◌*◌, ◌≤◌, Bool, true, List, length, filter, arith, mul-le-mul_right}
+use Rattle.std.specs.List.{sum_by}
 use Rattle.std.proofs.lemmas.Bool.{and_parts}
 use Rattle.list_laws.proofs.FilterLemmas.{sum_by-filter-le}
 use Rattle.list_laws.proofs.SumLemmas.{sum_by-each}
-use Rattle.track_types.specs.Region.{nearest_cell, squared_distance}
-use Rattle.track_types.specs.declared.cell.Cell.{Cell}
 use Rattle.track_types.specs.declared.cell_box.CellBox.{CellBox}
-use Rattle.k2_tree.specs.Areas.{IsBoxInside}
-use Rattle.box_tree.specs.Places.{Places, cell_passes, passes, square_count}
-use Rattle.box_tree.specs.Tests.{Tests}
+use Rattle.box_tree.specs.BoxWalk.{found_places, search_reads}
+use Rattle.box_tree.specs.Cost.{place_reads, square_reads}
+use Rattle.box_tree.specs.Places.{all_places, cell_passes, passes, square_count}
+use Rattle.box_tree.specs.Tests.{squares_at, tests_at}
+use Rattle.box_tree.specs.Tree.{TreeView}
 
--- the reads of a walk and those for the places that it gives are within 52 for a square and 43 for a place
-pub search-reads : (tests : Tests) (places : Places) (log : ℕ → ℕ) (all : List ℕ)
-    → 51 * square_count tests.square places + 3 * length (filter (cell_passes tests.square places) all)
-    + sum_by (λ place. 2 + log place) (filter (passes tests places) all)
-    ≤ 52 * square_count tests.square places + sum_by (λ place. 43 + log place) (filter (cell_passes tests.square places) all)
+-- the reads of a walk, and those of a record and a log for each place that it gives, are paid by the squares that pass
+-- and by the places whose cell passes
+pub search-pays : (squares boxes : CellBox → Bool) (tree : TreeView) (record_reads block : ℕ) (log : ℕ → ℕ)
+    → place_reads + record_reads ≤ block
+    → search_reads squares tree + sum_by (λ place. record_reads + log place) (found_places squares boxes tree)
+    ≤ square_reads * square_count (squares_at tree.base squares) tree.places
+    + sum_by (λ place. block + log place) (filter (cell_passes (squares_at tree.base squares) tree.places) (all_places tree.places))
 unfolding passes
-search-reads tests places log all =
-    let given : sum_by (λ place. 2 + log place) (filter (passes tests places) all)
-        ≤ sum_by (λ place. 2 + log place) (filter (cell_passes tests.square places) all) =
-    sum_by-filter-le (passes tests places) (cell_passes tests.square places) (λ place. 2 + log place) all
-    (λ k d within both. (and_parts _ _ both).1) in
-    omega (arith, given, sum_by-each log 2 (filter (cell_passes tests.square places) all), sum_by-each log 43 (filter (cell_passes tests.square places) all))
-
--- the cell of a box that is nearest to one is no farther in a wider box
-pub nearest-wider : (cell : Cell) (inner outer : CellBox) → IsBoxInside inner outer
-    → squared_distance cell (nearest_cell outer cell) ≤ squared_distance cell (nearest_cell inner cell)
-nearest-wider cell inner outer inside =
-    let across : unsigned_abs (cell.x -ℤ int_max outer.x1 (int_min cell.x outer.x2)) ≤ unsigned_abs (cell.x -ℤ int_max inner.x1 (int_min cell.x inner.x2)) =
-    nearer cell.x outer.x1 outer.x2 inner.x1 inner.x2 inside.left inside.right inner.wide in
-    let along : unsigned_abs (cell.y -ℤ int_max outer.y1 (int_min cell.y outer.y2)) ≤ unsigned_abs (cell.y -ℤ int_max inner.y1 (int_min cell.y inner.y2)) =
-    nearer cell.y outer.y1 outer.y2 inner.y1 inner.y2 inside.below inside.above inner.high in
-    sums _ _ _ _ across along
-  where
-    nearer : (z a b c d : ℤ) → a ≤ℤ c → d ≤ℤ b → c ≤ℤ d
-        → unsigned_abs (z -ℤ int_max a (int_min z b)) ≤ unsigned_abs (z -ℤ int_max c (int_min z d))
-    nearer z a b c d low high wide = omega (arith, ints, clamps)
-    sums : (p q r s : ℕ) → p ≤ r → q ≤ s → p * p + q * q ≤ r * r + s * s
-    sums p q r s a b =
-        let x = mul-le-mul_left p a in let y = mul-le-mul_right r a in
-        let u = mul-le-mul_left q b in let v = mul-le-mul_right s b in
-        omega (arith, x, y, u, v)
+search-pays squares boxes tree record_reads block log enough =
+    let of_cell : ℕ → Bool = cell_passes (squares_at tree.base squares) tree.places in
+    let cells : List ℕ = filter of_cell (all_places tree.places) in
+    let given : sum_by (λ place. record_reads + log place) (found_places squares boxes tree)
+    ≤ sum_by (λ place. record_reads + log place) cells =
+    sum_by-filter-le (passes (tests_at tree.base squares boxes) tree.places) of_cell (λ place. record_reads + log place)
+    (all_places tree.places) (λ k d within both. (and_parts _ _ both).1) in
+    let paid : (place_reads + record_reads) * length cells ≤ block * length cells = mul-le-mul_right (length cells) enough in
+    let parts : (place_reads + record_reads) * length cells ≡ place_reads * length cells + record_reads * length cells = grind arith in
+    omega (arith, given, paid, parts, sum_by-each log record_reads cells, sum_by-each log block cells)

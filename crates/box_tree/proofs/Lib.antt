@@ -1,3 +1,4 @@
+pub mod SquareLemmas
 pub mod RunLemmas
 pub mod NodeLemmas
 pub mod BoxesLemmas
@@ -5,6 +6,7 @@ pub mod TreeLemmas
 pub mod DigitsLemmas
 pub mod WalkLemmas
 pub mod VisitLemmas
+pub mod AskedLemmas
 pub mod BeginLemmas
 pub mod BridgeLemmas
 pub mod BuildingLemmas
@@ -13,4 +15,5 @@ pub mod MakingLemmas
 pub mod BuiltLemmas
 pub mod QueueLemmas
 pub mod CostLemmas
+pub mod NearerLemmas
 pub mod MonotoneLemmas

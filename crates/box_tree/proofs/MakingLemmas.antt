@@ -92,16 +92,17 @@ stand-pushed codes width task front (c ∷ cs) =
     let here : Task = child_task codes width task c in
     let none : length front ≡ length front + 0 = omega arith in
     let next : length (front ++ here ∷ []) ≡ length front + 1 = length-append front (here ∷ []) in
-    let all : (front ++ here ∷ []) ++ rest ≡ front ++ here ∷ rest = append_assoc front (here ∷ []) rest in
-    (record {
-      task = here;
-      stands = ap (slice_get (front ++ here ∷ rest)) none ∙ slice_get-append_add front (here ∷ rest) 0;
-      same_below = refl;
-      same_prefix = refl;
-    },
-    subst (λ (tasks : List Task). Stand (StandsFor tasks (task.below - 1)) (length front + 1) cs) all
-    (subst (λ k. Stand (StandsFor ((front ++ here ∷ []) ++ rest) (task.below - 1)) k cs) next
-    (stand-pushed codes width task (front ++ here ∷ []) cs)))
+    let all : (front ++ here ∷ []) ++ rest ≡ front ++ here ∷ rest = append_assoc front (here ∷ []) rest in (
+      record {
+        task = here;
+        stands = ap (slice_get (front ++ here ∷ rest)) none ∙ slice_get-append_add front (here ∷ rest) 0;
+        same_below = refl;
+        same_prefix = refl;
+      },
+      subst (λ (tasks : List Task). Stand (StandsFor tasks (task.below - 1)) (length front + 1) cs) all
+          (subst (λ k. Stand (StandsFor ((front ++ here ∷ []) ++ rest) (task.below - 1)) k cs) next
+          (stand-pushed codes width task (front ++ here ∷ []) cs)),
+    )
 
 -- the kind that was made of a task, and what came behind the others
 pub kind-made : (codes : List ℕ) (narrow : ℕ) (task : Task) (kind : Kind) (old new : List Task) → IsTask codes narrow task
@@ -117,8 +118,15 @@ kind-made codes narrow task (Branch end mask) old new is its =
     let stand : Stand (StandsFor new (task.below - 1)) (length old) cs =
     subst (λ (tasks : List Task). Stand (StandsFor tasks (task.below - 1)) (length old) cs) (sym into.pushed) (stand-pushed codes width task old cs) in
     let long : length old + length (digits_in width mask) ≡ end =
-    omega (arith, its.3, ap length into.pushed, length-append old (map (child_task codes width task) cs), length-map cs (child_task codes width task),
-    ap length into.told, length-map (digits_in width mask) (λ digit. 4 ^ width * task.prefix + digit)) in
+    omega (
+      arith,
+      its.3,
+      ap length into.pushed,
+      length-append old (map (child_task codes width task) cs),
+      length-map cs (child_task codes width task),
+      ap length into.told,
+      length-map (digits_in width mask) (λ digit. 4 ^ width * task.prefix + digit),
+    ) in
     record {
       width = width;
       lower = task.below - 1;
@@ -174,8 +182,10 @@ children-held codes n level prefix =
   where
     P : ℕ → Type 0
     P q = (first_in codes n q < first_in codes n (q + 1)) × (4 ^ level * prefix ≤ q) × (q < 4 ^ level * prefix + 4 ^ level)
+
     some : (q : ℕ) → is_held codes n q ≡ true → first_in codes n q < first_in codes n (q + 1)
     some q holds = grind (arith, nat_tests)
+
     held : (xs : List ℕ) → All (λ q. (4 ^ level * prefix ≤ q) × (q < 4 ^ level * prefix + 4 ^ level)) xs → All P (filter (is_held codes n) xs)
     held [] each = All-nil P
     held (x ∷ xs) each =
@@ -260,6 +270,7 @@ making-next codes boxes narrow first old new areas links task area link is stand
         → BeginsWith old new
     begins codes narrow task (Bucket low high) old new its = record { rest = []; is = its.3 ∙ sym (append-nil old) }
     begins codes narrow task (Branch end mask) old new its = record { rest = _; is = its.4.pushed }
+
     last : {A : Type 0} (xs : List A) (x : A) → slice_get (xs ++ x ∷ []) (length xs) ≡ Some x
     last xs x = let none : length xs ≡ length xs + 0 = omega arith in ap (slice_get (xs ++ x ∷ [])) none ∙ slice_get-append_add xs (x ∷ []) 0
 

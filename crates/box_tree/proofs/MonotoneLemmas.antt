@@ -17,9 +17,9 @@ use Rattle.k2_tree.specs.Squares.{Node, node}
 use Rattle.k2_tree.specs.TreeBits.{code_limit}
 use Rattle.k2_tree.proofs.AreaLemmas.{in_area}
 use Rattle.k2_tree.proofs.MortonLemmas.{cell_of-inside, morton_of-cell_of}
-use Rattle.box_tree.specs.Tests.{Tests, AreMonotone}
-use Rattle.box_tree.specs.Tests.{Tests}
-use Rattle.box_tree.specs.Touching.{touching_tests}
+use Rattle.box_tree.specs.Tests.{AreMonotone, IsWider, tests_at}
+use Rattle.box_tree.specs.Boxes.{IsBase}
+use Rattle.box_tree.specs.Places.{ArePassed}
 
 -- a cell lies in each square with a prefix of its number
 area-inside : (base : Cell) → IsGrid MAX_HEIGHT base → (n code : ℕ) → n ≤ MAX_HEIGHT → code < code_limit
@@ -56,12 +56,16 @@ pub wider-intersects : (region : Region) → IsWider (intersects_region region)
 wider-intersects region inner outer inside holds =
     let touched : Intersects region inner = (intersects_region-exact region inner).0 holds in
     let b = in_box-bounds inner touched.0 touched.1 in
-    (intersects_region-exact region outer).1 (touched.0, in_box-from outer touched.0 (record {
-      left = omega (arith, ints, b.left, inside.left);
-      right = omega (arith, ints, b.right, inside.right);
-      below = omega (arith, ints, b.below, inside.below);
-      above = omega (arith, ints, b.above, inside.above);
-    }), touched.2)
+    (intersects_region-exact region outer).1 (
+      touched.0,
+      in_box-from outer touched.0 (record {
+        left = omega (arith, ints, b.left, inside.left);
+        right = omega (arith, ints, b.right, inside.right);
+        below = omega (arith, ints, b.below, inside.below);
+        above = omega (arith, ints, b.above, inside.above);
+      }),
+      touched.2,
+    )
 
 -- and stays so where boxes are made wider before
 pub wider-widened : (keep : CellBox → Bool) (width : ℕ) → IsWider keep → IsWider (λ area. keep (widened width area))

@@ -93,55 +93,55 @@ unfolding squares_in
 squares_in-own test codes [] prefix holds = rw holds (omega arith)
 squares_in-own test codes (level ∷ levels) prefix holds = rw holds (omega arith)
 
-module _ (tests : Tests) (places : Places) where
+module _ (test : Node → Bool) (places : Places) where
   -- a square that passes pays for its children
   pub square_worth-branch : (level : ℕ) (levels : List ℕ) (prefix : ℕ) → level ≤ 2
-      → tests.square (node (level + digits levels) prefix) ≡ true
-      → sum_by (square_worth tests.square places) (map (square levels) (children places.codes (digits levels) level prefix)) + 3
-      ≤ square_worth tests.square places (square (level ∷ levels) prefix)
+      → test (node (level + digits levels) prefix) ≡ true
+      → sum_by (square_worth test places) (map (square levels) (children places.codes (digits levels) level prefix)) + 3
+      ≤ square_worth test places (square (level ∷ levels) prefix)
   unfolding square_worth squares_in
   square_worth-branch level levels prefix low passes =
       let n : ℕ = digits levels in
       let codes : List ℕ = places.codes in
       let below : List ℕ = children codes n level prefix in
-      let s : ℕ → ℕ = squares_in tests.square codes levels in
-      let r : ℕ → ℕ = λ q. sum_by (place_worth tests.square places) (run codes n q) in
-      let mapped : sum_by (square_worth tests.square places) (map (square levels) below) ≡ sum_by (λ q. 3 + (48 * s q + r q)) below =
-      sum_by-map (square_worth tests.square places) (square levels) below in
+      let s : ℕ → ℕ = squares_in test codes levels in
+      let r : ℕ → ℕ = λ q. sum_by (place_worth test places) (run codes n q) in
+      let mapped : sum_by (square_worth test places) (map (square levels) below) ≡ sum_by (λ q. 3 + (48 * s q + r q)) below =
+      sum_by-map (square_worth test places) (square levels) below in
       let summed = sum_by-three s r below in
       let few = few-children codes n level prefix low in
-      let cells : sum_by (place_worth tests.square places) (run codes (level + n) prefix) ≡ sum_by r below =
-      ap (sum_by (place_worth tests.square places)) (run-children codes n level prefix)
-      ∙ sum_by-flat_map (place_worth tests.square places) (run codes n) below in
+      let cells : sum_by (place_worth test places) (run codes (level + n) prefix) ≡ sum_by r below =
+      ap (sum_by (place_worth test places)) (run-children codes n level prefix)
+      ∙ sum_by-flat_map (place_worth test places) (run codes n) below in
       rw passes (omega (arith, mapped, summed, few, cells))
 
   -- and for a bucket of few places
-  pub square_worth-bucket : (levels : List ℕ) (prefix low high : ℕ) → tests.square (node (digits levels) prefix) ≡ true
-      → high ≤ low + 16 → 3 * (high - low) + 3 ≤ square_worth tests.square places (square levels prefix)
+  pub square_worth-bucket : (levels : List ℕ) (prefix low high : ℕ) → test (node (digits levels) prefix) ≡ true
+      → high ≤ low + 16 → 3 * (high - low) + 3 ≤ square_worth test places (square levels prefix)
   unfolding square_worth
   square_worth-bucket levels prefix low high passes few =
-      let own = squares_in-own tests.square places.codes levels prefix passes in
+      let own = squares_in-own test places.codes levels prefix passes in
       omega (arith, own)
 
   -- in a cell that passes each place pays for itself
-  pub square_worth-cell : (prefix low high : ℕ) → Ascends 0 places.codes → tests.square (node 0 prefix) ≡ true
-      → IsBucket places.codes 0 prefix low high → 3 * (high - low) + 3 ≤ square_worth tests.square places (square [] prefix)
+  pub square_worth-cell : (prefix low high : ℕ) → Ascends 0 places.codes → test (node 0 prefix) ≡ true
+      → IsBucket places.codes 0 prefix low high → 3 * (high - low) + 3 ≤ square_worth test places (square [] prefix)
   unfolding square_worth run
   square_worth-cell prefix low high up holds is =
       let places_of : List ℕ = range_with_len low (high - low) in
-      let all : sum_by (place_worth tests.square places) (run places.codes 0 prefix) ≡ 3 * length (run places.codes 0 prefix) =
+      let all : sum_by (place_worth test places) (run places.codes 0 prefix) ≡ 3 * length (run places.codes 0 prefix) =
       each (run places.codes 0 prefix) (All-weaker (λ place. (slice_index places.codes place / 4 ^ 0 ≡ prefix) × (place < length places.codes))
-      (λ place. cell_passes tests.square places place ≡ true)
-      (λ place its. ap (λ c. tests.square (node 0 c)) (sym (div-one (slice_index places.codes place)) ∙ its.0) ∙ holds) (run places.codes 0 prefix) (run-prefix places.codes 0 prefix up)) in
+      (λ place. cell_passes test places place ≡ true)
+      (λ place its. ap (λ c. test (node 0 c)) (sym (div-one (slice_index places.codes place)) ∙ its.0) ∙ holds) (run places.codes 0 prefix) (run-prefix places.codes 0 prefix up)) in
       let long : length (run places.codes 0 prefix) ≡ high - low =
       length-range_with_len (first_in places.codes 0 prefix) (first_in places.codes 0 (prefix + 1) - first_in places.codes 0 prefix)
       ∙ rw (is.low_is, is.high_is) refl in
       omega (arith, all, long)
     where
-      each : (xs : List ℕ) → All (λ place. cell_passes tests.square places place ≡ true) xs
-          → sum_by (place_worth tests.square places) xs ≡ 3 * length xs
+      each : (xs : List ℕ) → All (λ place. cell_passes test places place ≡ true) xs
+          → sum_by (place_worth test places) xs ≡ 3 * length xs
       each [] holds = refl
       each (x ∷ xs) holds =
-          let P : ℕ → Type 0 = λ place. cell_passes tests.square places place ≡ true in
-          let here : place_worth tests.square places x ≡ 3 = rw (All-head P x xs holds) refl in
-          omega (arith, sum_by-cons (place_worth tests.square places) x xs, here, each xs (All-tail P x xs holds))
+          let P : ℕ → Type 0 = λ place. cell_passes test places place ≡ true in
+          let here : place_worth test places x ≡ 3 = rw (All-head P x xs holds) refl in
+          omega (arith, sum_by-cons (place_worth test places) x xs, here, each xs (All-tail P x xs holds))

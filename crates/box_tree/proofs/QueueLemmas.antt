@@ -1,20 +1,21 @@
 -- A best-first search over nodes: a branch that is taken gives way to its children, a bucket to its places.
-use Rattle.std.proofs.Common.{◌≡◌, ℕ, ◌+◌, ◌-◌, ◌*◌, ◌≤◌, true, List, [], ◌∷◌, ◌++◌, length, refl, sym, ap, ◌∙◌, arith, All, subst}
+use Rattle.std.proofs.Common.{◌≡◌, ℕ, ◌+◌, ◌-◌, ◌*◌, ◌≤◌, Bool, true, List, [], ◌∷◌, ◌++◌, length, refl, sym, ap, ◌∙◌, arith, All, subst}
 use Rattle.std.specs.List.{flat_map, range_with_len, sum_by}
 use Rattle.std.proofs.lemmas.List.Elements.{All-append, All-head, All-tail}
 use Rattle.std.proofs.lemmas.List.Sums.{sum_by-append, sum_by-cons}
 use Rattle.list_laws.proofs.FlatLemmas.{sum_by-flat_map}
-use Rattle.box_tree.specs.Places.{Square, square_worth, run_of}
-use Rattle.box_tree.specs.Tests.{Tests}
+use Rattle.k2_tree.specs.Squares.{Node}
+use Rattle.box_tree.specs.Cost.{node_reads, place_reads}
+use Rattle.box_tree.specs.Places.{run_of}
 use Rattle.box_tree.specs.Queued.{AreQueued, reads_below, weight_below}
-use Rattle.box_tree.specs.Tree.{IsNodeOf, TreeView, node_square}
-use Rattle.box_tree.specs.Walk.{IsGivenWay, node_at}
+use Rattle.box_tree.specs.Tree.{IsNodeOf, TreeView, node_at, node_square}
+use Rattle.box_tree.specs.Walk.{IsGivenWay}
 use Rattle.box_tree.specs.declared.node_ref.NodeRef.{NodeRef}
 
 module _ (tree : TreeView) (ref : NodeRef) (nodes taken : List NodeRef) (waiting sought : List ℕ) (begun steps steps' : ℕ)
     (is : AreQueued tree (ref ∷ nodes) taken waiting sought begun steps) where
-  -- a branch was taken: one read for its link, two for the box of each child
-  pub queued-branch : (old new : List NodeRef) → (gave : IsGivenWay tree ref old new) → steps' ≤ steps + 3
+  -- a branch was taken: what it is was read, or what it is and its box
+  pub queued-branch : (old new : List NodeRef) → (gave : IsGivenWay tree ref old new) → steps' ≤ steps + node_reads
       → AreQueued tree (gave.children ++ nodes) (ref ∷ taken) waiting sought begun steps'
   queued-branch old new gave paid = record {
     are = All-append (IsNodeOf tree) gave.children nodes gave.nodes (All-tail (IsNodeOf tree) ref nodes is.are);
@@ -25,19 +26,19 @@ module _ (tree : TreeView) (ref : NodeRef) (nodes taken : List NodeRef) (waiting
         let first = sum_by-cons (weight_below weight tree) ref nodes in
         let both = sum_by-append (weight_below weight tree) gave.children nodes in
         omega (arith, its, all, first, both);
-    reads = λ tests pass.
-        let P : NodeRef → Type 0 = λ r. tests.square (node_at r) ≡ true in
-        let less = is.reads tests (All-tail P ref taken pass) in
-        let own = gave.reads tests (All-head P ref taken pass) in
-        let first = sum_by-cons (reads_below tests tree) ref nodes in
-        let both = sum_by-append (reads_below tests tree) gave.children nodes in
+    reads = λ test pass.
+        let P : NodeRef → Type 0 = λ r. test (node_at r) ≡ true in
+        let less = is.reads test (All-tail P ref taken pass) in
+        let own = gave.reads test (All-head P ref taken pass) in
+        let first = sum_by-cons (reads_below test tree) ref nodes in
+        let both = sum_by-append (reads_below test tree) gave.children nodes in
         omega (arith, less, own, first, both, paid);
   }
 
   -- a bucket was taken: its places wait
   pub queued-bucket : (low high : ℕ) → run_of tree.places (node_square tree.narrow ref) ≡ range_with_len low (high - low)
-      → ((tests : Tests) → tests.square (node_at ref) ≡ true → 3 * (high - low) + 3 ≤ reads_below tests tree ref)
-      → steps' ≤ steps + (3 * (high - low) + 3)
+      → ((test : Node → Bool) → test (node_at ref) ≡ true → place_reads * (high - low) + node_reads ≤ reads_below test tree ref)
+      → steps' ≤ steps + (place_reads * (high - low) + node_reads)
       → AreQueued tree nodes (ref ∷ taken) (range_with_len low (high - low) ++ waiting) sought begun steps'
   queued-bucket low high places pays paid = record {
     are = All-tail (IsNodeOf tree) ref nodes is.are;
@@ -47,10 +48,10 @@ module _ (tree : TreeView) (ref : NodeRef) (nodes taken : List NodeRef) (waiting
         let first = sum_by-cons (weight_below weight tree) ref nodes in
         let both = sum_by-append weight (range_with_len low (high - low)) waiting in
         omega (arith, its, all, first, both);
-    reads = λ tests pass.
-        let P : NodeRef → Type 0 = λ r. tests.square (node_at r) ≡ true in
-        let less = is.reads tests (All-tail P ref taken pass) in
-        let own = pays tests (All-head P ref taken pass) in
-        let first = sum_by-cons (reads_below tests tree) ref nodes in
+    reads = λ test pass.
+        let P : NodeRef → Type 0 = λ r. test (node_at r) ≡ true in
+        let less = is.reads test (All-tail P ref taken pass) in
+        let own = pays test (All-head P ref taken pass) in
+        let first = sum_by-cons (reads_below test tree) ref nodes in
         omega (arith, less, own, first, paid);
   }

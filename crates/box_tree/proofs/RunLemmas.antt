@@ -158,11 +158,11 @@ run-prefix codes n prefix up =
     All-range (λ place. (slice_index codes place / 4 ^ n ≡ prefix) × (place < length codes)) (place_among codes (prefix * 4 ^ n))
     (place_among codes ((prefix + 1) * 4 ^ n) - place_among codes (prefix * 4 ^ n))
     (λ j low high.
-      let before : j < place_among codes ((prefix + 1) * 4 ^ n) = omega arith in
-      let within : j < length codes = omega (arith, place_among-le codes ((prefix + 1) * 4 ^ n)) in
-      let least = from-place 0 (prefix * 4 ^ n) j codes up low within in
-      let most = below-place 0 ((prefix + 1) * 4 ^ n) j codes up before in
-      (div-eq_of_lt-le (4 ^ n) least most, within))
+    let before : j < place_among codes ((prefix + 1) * 4 ^ n) = omega arith in
+    let within : j < length codes = omega (arith, place_among-le codes ((prefix + 1) * 4 ^ n)) in
+    let least = from-place 0 (prefix * 4 ^ n) j codes up low within in
+    let most = below-place 0 ((prefix + 1) * 4 ^ n) j codes up before in
+    (div-eq_of_lt-le (4 ^ n) least most, within))
   where
     first_in-up' : (codes : List ℕ) (n prefix : ℕ) → place_among codes (prefix * 4 ^ n) ≤ place_among codes ((prefix + 1) * 4 ^ n)
     first_in-up' codes n prefix = place_among-up codes (prefix * 4 ^ n) ((prefix + 1) * 4 ^ n) (grind arith)

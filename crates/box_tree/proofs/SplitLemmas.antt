@@ -140,6 +140,7 @@ longer-within prefix width level digit deep low =
   where
     back : level ≡ width + (level - width)
     back = omega arith
+
     by_parts : (a b c : ℕ) → c ≡ a * b → digit < a → (a * prefix + digit + 1) * b ≤ (prefix + 1) * c
     by_parts a b c e low =
         let some : (a * prefix + digit + 1) ≤ a * (prefix + 1) = grind arith in

@@ -1,9 +1,9 @@
 -- Walks over nodes: what opening a node changes.
-use Rattle.std.proofs.Common.{◌≡◌, ℕ, zero, suc, ◌+◌, ◌-◌, ◌*◌, ◌^◌, ◌<◌, ◌≤◌, true, false, List, [], ◌∷◌, ◌++◌, length, map, filter, reverse, refl, sym, ap, ◌∙◌, arith, All, subst, pow-add, mul-le-mul_right, length-append, Option, None, Some, IfSome, ◌==◌, ◌⊎◌, inl, inr}
+use Rattle.std.proofs.Common.{◌≡◌, ℕ, zero, suc, ◌+◌, ◌-◌, ◌*◌, ◌^◌, ◌<◌, ◌≤◌, Bool, true, false, List, [], ◌∷◌, ◌++◌, length, map, filter, reverse, refl, sym, ap, ◌∙◌, arith, All, subst, length-append, Option, None, Some, IfSome, ◌==◌, ◌⊎◌, inl, inr}
 use Rattle.std.specs.List.{flat_map, range_with_len, sum_by}
 use Rattle.std.specs.Int.{bit_at}
 use Rattle.std.specs.Option.{option_to_list}
-use Rattle.std.proofs.lemmas.List.{append-nil, length-map, reverse-append, length-reverse}
+use Rattle.std.proofs.lemmas.List.{append-nil, length-map, map-append, reverse-append, length-reverse}
 use Rattle.std.proofs.lemmas.List.FromFn.{length-range_with_len}
 use Rattle.std.proofs.lemmas.Grind.{flat_map-append}
 use Rattle.std.proofs.lemmas.List.Folds.{flat_map-map}
@@ -11,19 +11,22 @@ use Rattle.std.proofs.lemmas.List.Elements.{All-nil, All-cons, All-head, All-tai
 use Rattle.std.proofs.lemmas.List.Sums.{sum_by-append}
 use Rattle.list_laws.proofs.FlatLemmas.{sum_by-map}
 use Rattle.k2_tree.specs.Squares.{Node, node}
-use Rattle.k2_tree.specs.TreeBits.{code_limit}
+use Rattle.k2_tree.specs.Morton.{column_of, row_of}
+use Rattle.k2_tree.proofs.MortonLemmas.{column_of-lt, row_of-lt}
 use Rattle.box_tree.specs.Held.{Held, IsBranch, IsBucket, IsKindFor, IsNode, Nodes, Stand, digits_in}
 use Rattle.box_tree.specs.Levels.{children, digits, first_in, run, squares_in}
 use Rattle.box_tree.specs.Places.{ArePlaces, Ascends, Places, Square, square_worth, passes, run_of, square}
 use Rattle.box_tree.specs.Tests.{Tests}
-use Rattle.box_tree.specs.Tree.{IsNodeOf, TreeView, levels_below, levels_of, node_square, slots}
-use Rattle.box_tree.specs.Walk.{Fits, IsGivenWay, IsOpened, IsWalk, WalkView, child_refs, turns_in, walk_left, walk_reads}
+use Rattle.box_tree.specs.Tree.{IsNodeOf, TreeView, child_limit, levels_below, levels_of, node_square, prefix_of, slots}
+use Rattle.box_tree.specs.Walk.{Fits, IsGivenWay, IsOpened, IsWalk, WalkView, child_refs, turns_in, walk_left, walk_of, walk_reads}
 use Rattle.box_tree.specs.declared.kind.Kind.{Kind}
 use Rattle.box_tree.specs.declared.kind.Kind.TheVariants.{Bucket, Branch}
 use Rattle.box_tree.specs.declared.node_ref.NodeRef.{NodeRef}
 use Rattle.box_tree.proofs.DigitsLemmas.{digits_in-small}
 use Rattle.box_tree.proofs.NodeLemmas.{few-children, length-kept, square_worth-branch, square_worth-bucket, square_worth-cell, squares_in-own}
 use Rattle.box_tree.proofs.RunLemmas.{run-children}
+use Rattle.box_tree.proofs.SquareLemmas.{child-ends, child-fits, child-prefix}
+use Rattle.box_tree.proofs.TreeLemmas.{slots-parts}
 
 -- what a bucket has
 pub bucket-parts : (places : Places) (nodes : Nodes) (levels : List ℕ) (prefix low high : ℕ)
@@ -47,33 +50,49 @@ pub branch-parts : (places : Places) (nodes : Nodes) (level : ℕ) (levels : Lis
 unfolding IsKindFor
 branch-parts places nodes level levels prefix end mask is = is
 
+-- a mask has at most as many digits as there are children
+pub length-digits_in : (level mask : ℕ) → length (digits_in level mask) ≤ 4 ^ level
+unfolding digits_in
+length-digits_in level mask =
+    omega (arith, length-kept (λ d. bit_at mask d == 1) (range_with_len 0 (4 ^ level)), length-range_with_len 0 (4 ^ level))
+
+-- the squares within the children are fewer
+turns-branch : (places : Places) (level : ℕ) (levels : List ℕ) (prefix : ℕ)
+    → sum_by (turns_in places) (map (square levels) (children places.codes (digits levels) level prefix))
+    < turns_in places (square (level ∷ levels) prefix)
+unfolding squares_in
+turns-branch places level levels prefix =
+    omega (arith, sum_by-map (turns_in places) (square levels) (children places.codes (digits levels) level prefix))
+
+-- the children of a node that is split by a level
 module _ (tree : TreeView) (parent : NodeRef) (width : ℕ) (its : IsNodeOf tree parent)
-    (split : levels_of tree.narrow parent ≡ width ∷ levels_below tree.narrow (parent.below - 1)) where
+    (split : levels_of tree.narrow parent ≡ width ∷ levels_below tree.narrow (parent.below - 1)) (some : 1 ≤ width)
+    (few : width ≤ 2) where
   abbrev lower : List ℕ
   lower = levels_below tree.narrow (parent.below - 1)
 
   abbrev longer : ℕ → ℕ
-  longer digit = 4 ^ width * parent.prefix + digit
+  longer digit = 4 ^ width * prefix_of parent + digit
+
+  abbrev child : ℕ → ℕ → NodeRef
+  child number digit = record {
+    node = number;
+    below = parent.below - 1;
+    level = parent.level - width;
+    column = 2 ^ width * parent.column + column_of width digit;
+    row = 2 ^ width * parent.row + row_of width digit;
+  }
 
   level-parts : width + digits lower ≡ parent.level
   level-parts = ap digits (sym split) ∙ its.level
 
-  child-level : digits lower ≡ parent.level - width
-  child-level = omega (arith, level-parts)
+  deep : width ≤ parent.level
+  deep = omega (arith, level-parts)
 
-  -- numbers with a longer prefix are small
-  child-small : (digit : ℕ) → digit < 4 ^ width → (longer digit + 1) * 4 ^ (parent.level - width) ≤ code_limit
-  child-small digit low =
-      by_parts (4 ^ width) (4 ^ (parent.level - width)) (4 ^ parent.level)
-      (ap (λ n. 4 ^ n) (sym level-parts ∙ ap (λ n. width + n) child-level) ∙ pow-add 4 width (parent.level - width)) low its.small
-    where
-      by_parts : (a b c : ℕ) → c ≡ a * b → digit < a → (parent.prefix + 1) * c ≤ code_limit
-          → (a * parent.prefix + digit + 1) * b ≤ code_limit
-      by_parts a b c e low all =
-          let some : (a * parent.prefix + digit + 1) ≤ a * (parent.prefix + 1) = grind arith in
-          let most : (a * parent.prefix + digit + 1) * b ≤ a * (parent.prefix + 1) * b = mul-le-mul_right b some in
-          let same : a * (parent.prefix + 1) * b ≡ (parent.prefix + 1) * c = rw e (grind arith) in
-          omega (arith, most, same)
+  pub child-at : (number digit : ℕ) → digit < 4 ^ width → prefix_of (child number digit) ≡ longer digit
+  child-at number digit low =
+      child-prefix width digit parent.row parent.column some few low
+      (child-fits width parent.level parent.column deep its.right) (child-fits width parent.level parent.row deep its.upper)
 
   -- children that stand are nodes of the tree
   children-nodes : (first : ℕ) (ds : List ℕ) → All (λ d. d < 4 ^ width) ds
@@ -83,62 +102,80 @@ module _ (tree : TreeView) (parent : NodeRef) (width : ℕ) (its : IsNodeOf tree
   children-nodes first [] low stand = All-nil (IsNodeOf tree)
   children-nodes first (d ∷ ds) low stand =
       let P : ℕ → Type 0 = λ d. d < 4 ^ width in
-      All-cons (IsNodeOf tree) _ (child_refs parent width (first + 1) ds)
-      (record { level = child-level; deep = omega (arith, its.deep); small = child-small d (All-head P d ds low); held = stand.0 })
+      All-cons (IsNodeOf tree) (child first d) (child_refs parent width (first + 1) ds)
+      (record {
+        level = omega (arith, level-parts);
+        deep = omega (arith, its.deep);
+        right = child-ends width parent.level parent.column (column_of width d) deep (column_of-lt width d) its.right;
+        upper = child-ends width parent.level parent.row (row_of width d) deep (row_of-lt width d) its.upper;
+        held = subst (λ q. Held tree.places tree.nodes lower q first) (sym (child-at first d (All-head P d ds low))) stand.0;
+      })
       (children-nodes (first + 1) ds (All-tail P d ds low) stand.1)
 
   -- their squares
-  pub children-squares : (first : ℕ) (ds : List ℕ)
+  children-squares : (first : ℕ) (ds : List ℕ) → All (λ d. d < 4 ^ width) ds
       → map (node_square tree.narrow) (child_refs parent width first ds) ≡ map (square lower) (map longer ds)
-  children-squares first [] = refl
-  children-squares first (d ∷ ds) = ap (λ squares. square lower (longer d) ∷ squares) (children-squares (first + 1) ds)
+  children-squares first [] low = refl
+  children-squares first (d ∷ ds) low =
+      let P : ℕ → Type 0 = λ d. d < 4 ^ width in
+      ap (λ q. square lower q ∷ map (node_square tree.narrow) (child_refs parent width (first + 1) ds))
+      (child-at first d (All-head P d ds low))
+      ∙ ap (λ squares. square lower (longer d) ∷ squares) (children-squares (first + 1) ds (All-tail P d ds low))
 
-  -- they fit where there is room for them
-  children-fit : (first total : ℕ) (deeper : List NodeRef) (ds : List ℕ) → Fits tree.narrow total deeper
-      → length deeper + length ds + slots lower ≤ total + 1 → Fits tree.narrow total (child_refs parent width first ds ++ deeper)
-  children-fit first total deeper [] fits room = fits
-  children-fit first total deeper (d ∷ ds) fits room =
-      (omega (arith, length-append (child_refs parent width (first + 1) ds) deeper, length-child_refs (first + 1) ds),
-      children-fit (first + 1) total deeper ds fits (omega arith))
-    where
-      length-child_refs : (first : ℕ) (ds : List ℕ) → length (child_refs parent width first ds) ≡ length ds
-      length-child_refs first [] = refl
-      length-child_refs first (d ∷ ds) = ap suc (length-child_refs (first + 1) ds)
+  -- each is one level lower
+  children-lower : (first : ℕ) (ds : List ℕ) → 1 ≤ parent.below
+      → All (λ (below : NodeRef). below.below + 1 ≡ parent.below) (child_refs parent width first ds)
+  children-lower first [] inner = All-nil (λ (below : NodeRef). below.below + 1 ≡ parent.below)
+  children-lower first (d ∷ ds) inner =
+      All-cons (λ (below : NodeRef). below.below + 1 ≡ parent.below) (child first d) (child_refs parent width (first + 1) ds)
+      (omega arith) (children-lower (first + 1) ds inner)
 
--- what a branch gives way to
-module _ (tests : Tests) (places : Places) (level : ℕ) (levels : List ℕ) (prefix : ℕ) (pending : List Square) where
-  abbrev squares : List Square
-  squares = map (square levels) (children places.codes (digits levels) level prefix)
-
-  pub left-branch : filter (passes tests places) (flat_map (run_of places) (squares ++ pending))
-      ≡ filter (passes tests places) (run_of places (square (level ∷ levels) prefix))
-      ++ filter (passes tests places) (flat_map (run_of places) pending)
-  left-branch =
-      let below : List ℕ = children places.codes (digits levels) level prefix in
-      ap (filter (passes tests places)) (flat_map-append (run_of places) squares pending
-      ∙ ap (λ xs. xs ++ flat_map (run_of places) pending)
-      (flat_map-map (run_of places) (square levels) below ∙ sym (run-children places.codes (digits levels) level prefix)))
-      ∙ filter-append (passes tests places) (run places.codes (level + digits levels) prefix) (flat_map (run_of places) pending)
-
-  pub reads-branch : level ≤ 2 → tests.square (node (level + digits levels) prefix) ≡ true
-      → sum_by (square_worth tests.square places) (squares ++ pending) + 3
-      ≤ sum_by (square_worth tests.square places) pending + square_worth tests.square places (square (level ∷ levels) prefix)
-  reads-branch low holds =
-      omega (arith, sum_by-append (square_worth tests.square places) squares pending, square_worth-branch tests places level levels prefix low holds)
-
-  pub turns-branch : sum_by (turns_in places) (squares ++ pending)
-      < sum_by (turns_in places) pending + turns_in places (square (level ∷ levels) prefix)
-  unfolding squares_in
-  turns-branch =
-      let below : List ℕ = children places.codes (digits levels) level prefix in
-      omega (arith, sum_by-append (turns_in places) squares pending, sum_by-map (turns_in places) (square levels) below)
+  -- the branch gives way to them
+  pub given-way : (end mask : ℕ) (old new : List NodeRef) → 1 ≤ parent.below
+      → IsBranch tree.places.codes (digits lower) width (prefix_of parent) end mask (Held tree.places tree.nodes lower)
+      → new ≡ child_refs parent width (end - length (digits_in width mask)) (digits_in width mask) ++ old
+      → IsGivenWay tree parent old new
+  given-way end mask old new inner is pushed =
+      let ds : List ℕ = digits_in width mask in
+      let sq : NodeRef → Square = node_square tree.narrow in
+      let first : end - length ds ≡ is.first = omega (arith, is.stand) in
+      let refs : List NodeRef = child_refs parent width is.first ds in
+      let cs : List ℕ = children tree.places.codes (digits lower) width (prefix_of parent) in
+      let low = digits_in-small width mask in
+      let stand : Stand (Held tree.places tree.nodes lower) is.first (map longer ds) =
+      subst (Stand (Held tree.places tree.nodes lower) is.first) (sym is.told) is.each in
+      let squares : map sq refs ≡ map (square lower) cs =
+      children-squares is.first ds low ∙ ap (map (square lower)) is.told in
+      let whole : sq parent ≡ square (width ∷ lower) (prefix_of parent) = ap (λ ls. square ls (prefix_of parent)) split in
+      let long : length refs ≡ length ds =
+      sym (length-map refs sq) ∙ ap length squares ∙ length-map cs (square lower) ∙ sym (ap length is.told)
+      ∙ length-map ds longer in
+      record {
+        children = refs;
+        pushed = pushed ∙ ap (λ n. child_refs parent width n ds ++ old) first;
+        nodes = children-nodes is.first ds low stand;
+        few = omega (arith, long, length-digits_in width mask, ap child_limit split);
+        places = ap (run_of tree.places) whole ∙ run-children tree.places.codes (digits lower) width (prefix_of parent)
+            ∙ sym (flat_map-map (run_of tree.places) (square lower) cs) ∙ ap (flat_map (run_of tree.places)) (sym squares)
+            ∙ flat_map-map (run_of tree.places) sq refs;
+        levels = children-lower is.first ds inner;
+        reads = λ test holds.
+            let at : test (node (width + digits lower) (prefix_of parent)) ≡ true =
+            ap (λ n. test (node n (prefix_of parent))) level-parts ∙ holds in
+            let paid = square_worth-branch test tree.places width lower (prefix_of parent) few at in
+            let summed = sym (sum_by-map (square_worth test tree.places) sq refs) ∙ ap (sum_by (square_worth test tree.places)) squares in
+            let own = ap (square_worth test tree.places) whole in
+            omega (arith, paid, summed, own);
+        turns =
+            let fewer = turns-branch tree.places width lower (prefix_of parent) in
+            let summed = sym (sum_by-map (turns_in tree.places) sq refs) ∙ ap (sum_by (turns_in tree.places)) squares in
+            let own = ap (turns_in tree.places) whole in
+            omega (arith, fewer, summed, own);
+      }
 
 module _ (old new : WalkView) (done : old.high ≤ old.low) (tree : new.tree ≡ old.tree) where
   abbrev its : Places
   its = old.tree.places
-
-  abbrev any : Tests
-  any = record { square = λ _. true; area = λ _. true }
 
   none-before : range_with_len old.low (old.high - old.low) ≡ []
   none-before = let none : old.high - old.low ≡ 0 = omega arith in rw none refl
@@ -151,26 +188,76 @@ module _ (old new : WalkView) (done : old.high ≤ old.low) (tree : new.tree ≡
   bucket-opened levels prefix low high up is size pending low_is high_is = record {
     left = λ tests. rw (tree, pending, low_is, high_is, none-before, is.low_is, is.high_is)
         (filter-append (passes tests its) (run its.codes (digits levels) prefix) (flat_map (run_of its) old.pending));
-    reads = λ tests holds. rw (tree, pending, low_is, high_is) (let paid = pays tests holds size in omega arith);
+    reads = λ test holds. rw (tree, pending, low_is, high_is) (let paid = pays test holds size in omega arith);
     turns = rw (tree, pending) (let own = squares_in-own (λ _. true) its.codes levels prefix refl in omega arith);
   }
     where
-      pays : (tests : Tests) → tests.square (node (digits levels) prefix) ≡ true → (levels ≡ []) ⊎ (high ≤ low + 16)
-          → 3 * (high - low) + 3 ≤ square_worth tests.square its (square levels prefix)
-      pays tests holds (inr few) = square_worth-bucket tests its levels prefix low high holds few
-      pays tests holds (inl cell) =
-          subst (λ ls. 3 * (high - low) + 3 ≤ square_worth tests.square its (square ls prefix)) (sym cell)
-          (square_worth-cell tests its prefix low high up (rw cell at holds) (rw cell at is))
+      pays : (test : Node → Bool) → test (node (digits levels) prefix) ≡ true → (levels ≡ []) ⊎ (high ≤ low + 16)
+          → 3 * (high - low) + 3 ≤ square_worth test its (square levels prefix)
+      pays test holds (inr few) = square_worth-bucket test its levels prefix low high holds few
+      pays test holds (inl cell) =
+          subst (λ ls. 3 * (high - low) + 3 ≤ square_worth test its (square ls prefix)) (sym cell)
+          (square_worth-cell test its prefix low high up (rw cell at holds) (rw cell at is))
 
-  -- a branch is opened
-  pub branch-opened : (level : ℕ) (levels : List ℕ) (prefix : ℕ) → level ≤ 2
-      → new.pending ≡ map (square levels) (children its.codes (digits levels) level prefix) ++ old.pending
-      → new.low ≡ old.low → new.high ≡ old.high → IsOpened old new (square (level ∷ levels) prefix)
-  branch-opened level levels prefix few pending low high = record {
-    left = λ tests. rw (tree, pending, low, high, none-before) (left-branch tests its level levels prefix old.pending);
-    reads = λ tests holds. rw (tree, pending, low, high)
-        (let paid = reads-branch tests its level levels prefix old.pending few holds in omega arith);
-    turns = rw (tree, pending) (let fewer = turns-branch any its level levels prefix old.pending in omega arith);
+-- a branch is opened: its children wait in its place
+module _ (tree : TreeView) (low high : ℕ) (stack new : List NodeRef) (parent : NodeRef)
+    (way : IsGivenWay tree parent (reverse stack) (reverse new)) where
+  abbrev before : WalkView
+  before = walk_of tree stack low high
+
+  abbrev after : WalkView
+  after = walk_of tree new low high
+
+  abbrev sq : NodeRef → Square
+  sq = node_square tree.narrow
+
+  waiting : after.pending ≡ map sq way.children ++ before.pending
+  waiting = ap (map sq) way.pushed ∙ map-append sq way.children (reverse stack)
+
+  pub branch-opened : high ≤ low → IsNodeOf tree parent → IsOpened before after (sq parent)
+  branch-opened done its = record {
+    left = λ tests.
+        let none : high - low ≡ 0 = omega arith in
+        rw (none, waiting) (ap (filter (passes tests tree.places)) (flat_map-append (run_of tree.places) (map sq way.children) before.pending
+        ∙ ap (λ run. run ++ flat_map (run_of tree.places) before.pending) (flat_map-map (run_of tree.places) sq way.children ∙ sym way.places))
+        ∙ filter-append (passes tests tree.places) (run_of tree.places (sq parent)) (flat_map (run_of tree.places) before.pending));
+    reads = λ test holds.
+        let paid = way.reads test (ap (λ n. test (node n (prefix_of parent))) (sym its.level) ∙ holds) in
+        let summed = sum_by-map (square_worth test tree.places) sq way.children in
+        let both = ap (sum_by (square_worth test tree.places)) waiting ∙ sum_by-append (square_worth test tree.places) (map sq way.children) before.pending in
+        omega (arith, paid, summed, both);
+    turns =
+        let fewer = way.turns in
+        let summed = sum_by-map (turns_in tree.places) sq way.children in
+        let both = ap (sum_by (turns_in tree.places)) waiting ∙ sum_by-append (turns_in tree.places) (map sq way.children) before.pending in
+        omega (arith, fewer, summed, both);
+  }
+
+  -- children one level lower fit where there is room for them
+  children-fit : (total : ℕ) (deeper cs : List NodeRef) → All (λ child. child.below + 1 ≡ parent.below) cs
+      → Fits tree.narrow total deeper
+      → length deeper + length cs + slots (levels_below tree.narrow (parent.below - 1)) ≤ total + 1
+      → Fits tree.narrow total (cs ++ deeper)
+  children-fit total deeper [] each fits room = fits
+  children-fit total deeper (c ∷ cs) each fits room =
+      let P : NodeRef → Type 0 = λ child. child.below + 1 ≡ parent.below in
+      let below : c.below ≡ parent.below - 1 = omega (arith, All-head P c cs each) in (
+        rw below (omega (arith, length-append cs deeper)),
+        children-fit total deeper cs (All-tail P c cs each) fits (omega arith),
+      )
+
+  pub branch-walk : IsWalk tree stack low high → length stack + slots (levels_of tree.narrow parent) ≤ slots tree.places.levels
+      → 1 ≤ parent.below → IsWalk tree new low high
+  branch-walk walk room inner = record {
+    nodes = subst (All (IsNodeOf tree)) (sym way.pushed)
+        (All-append (IsNodeOf tree) way.children (reverse stack) way.nodes walk.nodes);
+    fits = subst (Fits tree.narrow (slots tree.places.levels)) (sym way.pushed)
+        (children-fit (slots tree.places.levels) (reverse stack) way.children way.levels walk.fits
+        (omega (arith, length-reverse stack, way.few, room, slots-parts tree.narrow parent.below inner)));
+    few = walk.few;
+    within = walk.within;
+    are = walk.are;
+    near = walk.near;
   }
 
 -- a node was taken off a walk's stack
@@ -185,87 +272,8 @@ popped tree low high old new (Some ref) is walk =
       few = walk.few;
       within = walk.within;
       are = walk.are;
+      near = walk.near;
     }
-
--- a mask has at most as many digits as there are children
-pub length-digits_in : (level mask : ℕ) → length (digits_in level mask) ≤ 4 ^ level
-unfolding digits_in
-length-digits_in level mask =
-    omega (arith, length-kept (λ d. bit_at mask d == 1) (range_with_len 0 (4 ^ level)), length-range_with_len 0 (4 ^ level))
-
--- children were pushed
-pub branch-walk : (tree : TreeView) (low high : ℕ) (stack new : List NodeRef) (parent : NodeRef) (width end mask : ℕ)
-    → IsWalk tree stack low high → (its : IsNodeOf tree parent)
-    → (split : levels_of tree.narrow parent ≡ width ∷ levels_below tree.narrow (parent.below - 1))
-    → IsBranch tree.places.codes (digits (levels_below tree.narrow (parent.below - 1))) width parent.prefix end mask
-    (Held tree.places tree.nodes (levels_below tree.narrow (parent.below - 1)))
-    → length stack + slots (levels_of tree.narrow parent) ≤ slots tree.places.levels
-    → reverse new ≡ child_refs parent width (end - length (digits_in width mask)) (digits_in width mask) ++ reverse stack
-    → IsWalk tree new low high
-branch-walk tree low high stack new parent width end mask walk its split is room pushed =
-    let ds : List ℕ = digits_in width mask in
-    let lower : List ℕ = levels_below tree.narrow (parent.below - 1) in
-    let first : end - length ds ≡ is.first = omega (arith, is.stand) in
-    let all : reverse new ≡ child_refs parent width is.first ds ++ reverse stack =
-    pushed ∙ ap (λ n. child_refs parent width n ds ++ reverse stack) first in
-    let stand : Stand (Held tree.places tree.nodes lower) is.first (map (λ digit. 4 ^ width * parent.prefix + digit) ds) =
-    subst (Stand (Held tree.places tree.nodes lower) is.first) (sym is.told) is.each in
-    let wide = ap slots split in
-    let few = length-digits_in width mask in
-    record {
-      nodes = subst (All (IsNodeOf tree)) (sym all) (All-append (IsNodeOf tree) (child_refs parent width is.first ds) (reverse stack)
-          (children-nodes tree parent width its split is.first ds (digits_in-small width mask) stand) walk.nodes);
-      fits = subst (Fits tree.narrow (slots tree.places.levels)) (sym all)
-          (children-fit tree parent width its split is.first (slots tree.places.levels) (reverse stack) ds walk.fits
-          (omega (arith, length-reverse stack)));
-      few = walk.few;
-      within = walk.within;
-      are = walk.are;
-    }
-
--- a branch gave way to its children
-pub given-way : (tree : TreeView) (parent : NodeRef) (width end mask : ℕ) (old new : List NodeRef) → (its : IsNodeOf tree parent)
-    → (split : levels_of tree.narrow parent ≡ width ∷ levels_below tree.narrow (parent.below - 1)) → width ≤ 2 → 1 ≤ parent.below
-    → IsBranch tree.places.codes (digits (levels_below tree.narrow (parent.below - 1))) width parent.prefix end mask
-    (Held tree.places tree.nodes (levels_below tree.narrow (parent.below - 1)))
-    → new ≡ child_refs parent width (end - length (digits_in width mask)) (digits_in width mask) ++ old
-    → IsGivenWay tree parent old new
-given-way tree parent width end mask old new its split few some is pushed =
-    let ds : List ℕ = digits_in width mask in
-    let lower : List ℕ = levels_below tree.narrow (parent.below - 1) in
-    let first : end - length ds ≡ is.first = omega (arith, is.stand) in
-    let refs : List NodeRef = child_refs parent width is.first ds in
-    let cs : List ℕ = children tree.places.codes (digits lower) width parent.prefix in
-    let all : new ≡ refs ++ old = pushed ∙ ap (λ n. child_refs parent width n ds ++ old) first in
-    let stand : Stand (Held tree.places tree.nodes lower) is.first (map (λ digit. 4 ^ width * parent.prefix + digit) ds) =
-    subst (Stand (Held tree.places tree.nodes lower) is.first) (sym is.told) is.each in
-    let squares : map (node_square tree.narrow) refs ≡ map (square lower) cs =
-    children-squares tree parent width its split is.first ds ∙ ap (map (square lower)) is.told in
-    let whole : node_square tree.narrow parent ≡ square (width ∷ lower) parent.prefix = ap (λ ls. square ls parent.prefix) split in
-    let long : length refs ≡ length cs = sym (length-map refs (node_square tree.narrow)) ∙ ap length squares ∙ length-map cs (square lower) in
-    record {
-      children = refs;
-      pushed = all;
-      nodes = children-nodes tree parent width its split is.first ds (digits_in-small width mask) stand;
-      few = omega (arith, long, few-children tree.places.codes (digits lower) width parent.prefix few);
-      places = ap (run_of tree.places) whole ∙ run-children tree.places.codes (digits lower) width parent.prefix
-          ∙ sym (flat_map-map (run_of tree.places) (square lower) cs) ∙ ap (flat_map (run_of tree.places)) (sym squares)
-          ∙ flat_map-map (run_of tree.places) (node_square tree.narrow) refs;
-      levels = below is.first ds;
-      reads = λ tests holds.
-          let at : tests.square (node (width + digits lower) parent.prefix) ≡ true =
-          ap (λ n. tests.square (node n parent.prefix)) (sym (ap digits split) ∙ its.level) ∙ holds in
-          let paid = square_worth-branch tests tree.places width lower parent.prefix few at in
-          let summed : sum_by (λ child. square_worth tests.square tree.places (node_square tree.narrow child)) refs ≡ sum_by (square_worth tests.square tree.places) (map (square lower) cs) =
-          sym (sum_by-map (square_worth tests.square tree.places) (node_square tree.narrow) refs) ∙ ap (sum_by (square_worth tests.square tree.places)) squares in
-          subst (λ s. sum_by (λ child. square_worth tests.square tree.places (node_square tree.narrow child)) refs + 3 ≤ square_worth tests.square tree.places s) (sym whole)
-          (omega (arith, paid, summed));
-    }
-  where
-    below : (first : ℕ) (ds : List ℕ) → All (λ (child : NodeRef). child.below + 1 ≡ parent.below) (child_refs parent width first ds)
-    below first [] = All-nil (λ (child : NodeRef). child.below + 1 ≡ parent.below)
-    below first (d ∷ ds) = All-cons (λ (child : NodeRef). child.below + 1 ≡ parent.below) _ (child_refs parent width (first + 1) ds)
-        (omega arith) (below (first + 1) ds)
 
 -- a node that was taken off is one of the tree's
 pub popped-node : (tree : TreeView) (low high : ℕ) (old new : List NodeRef) (taken : Option NodeRef) → old ≡ new ++ option_to_list taken

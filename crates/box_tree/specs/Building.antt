@@ -14,6 +14,7 @@ use Rattle.box_tree.specs.Levels.{children, digits, first_in, is_held, run, squa
 use Rattle.box_tree.specs.Places.{Places, Square, box_at, square}
 use Rattle.box_tree.specs.Held.{IsBranch, IsBucket, digits_in}
 use Rattle.box_tree.specs.Tree.{levels_below}
+use Rattle.box_tree.specs.Cost.{bucket_limit}
 use Rattle.box_tree.specs.declared.kind.Kind.{Kind}
 use Rattle.box_tree.specs.declared.kind.Kind.TheVariants.{Bucket, Branch}
 use Rattle.box_tree.specs.declared.task.Task.{Task}
@@ -52,7 +53,7 @@ pub record IsSplit (codes : List ℕ) (narrow : ℕ) (tasks : List Task) (task :
 -- what the kind that was made of a task says
 abbrev pub IsMadeKind : List ℕ → ℕ → List Task → Task → Kind → Type 0
 IsMadeKind codes narrow tasks task (Bucket low high) =
-    (low ≡ task.low) × (high ≡ task.high) × ((task.below ≡ 0) ⊎ (high ≤ low + 16))
+    (low ≡ task.low) × (high ≡ task.high) × ((task.below ≡ 0) ⊎ (high ≤ low + bucket_limit))
 IsMadeKind codes narrow tasks task (Branch end mask) = IsSplit codes narrow tasks task end mask
 
 -- the task of a child
@@ -89,7 +90,7 @@ pub record IsSplitInto (codes : List ℕ) (width : ℕ) (task : Task) (mask : �
 -- the kind of a node that is made of a task, and what it puts behind the other tasks
 abbrev pub IsMadeLink : List ℕ → ℕ → Task → Kind → List Task → List Task → Type 0
 IsMadeLink codes narrow task (Bucket low high) old new =
-    (low ≡ task.low) × (high ≡ task.high) × ((task.below ≡ 0) ⊎ (high ≤ low + 16)) × (new ≡ old)
+    (low ≡ task.low) × (high ≡ task.high) × ((task.below ≡ 0) ⊎ (high ≤ low + bucket_limit)) × (new ≡ old)
 IsMadeLink codes narrow task (Branch end mask) old new =
     (width : ℕ) × (1 ≤ task.below) × (levels_below narrow task.below ≡ width ∷ levels_below narrow (task.below - 1))
     × (end ≡ length new) × IsSplitInto codes width task mask old new

@@ -1,6 +1,9 @@
 -- How many words each question of a tree reads at most.
 use Rattle.std.specs.Prelude.{ℕ, ◌+◌, ◌*◌}
-use Rattle.box_tree.specs.declared.kind.TheConstants.{BUCKET_LIMIT}
+
+-- a bucket has at most so many places, unless its square is a cell; a square has at most so many children
+abbrev pub bucket_limit : ℕ
+bucket_limit = 16
 
 -- a box, of a node or of a place
 abbrev pub box_reads : ℕ
@@ -24,7 +27,7 @@ node_reads = box_reads + link_reads
 
 -- the places of a bucket, or the nodes of a branch's children
 abbrev pub opened_reads : ℕ
-opened_reads = BUCKET_LIMIT * place_reads
+opened_reads = bucket_limit * place_reads
 
 -- a square with a node of its own that is opened
 abbrev pub square_reads : ℕ

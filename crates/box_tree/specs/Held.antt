@@ -9,6 +9,7 @@ use Rattle.k2_tree.specs.Squares.{Node, node}
 use Rattle.box_tree.specs.Kinds.{kind_of}
 use Rattle.box_tree.specs.Levels.{children, digits, first_in, run}
 use Rattle.box_tree.specs.Places.{Places, box_at}
+use Rattle.box_tree.specs.Cost.{bucket_limit}
 use Rattle.box_tree.specs.declared.kind.Kind.{Kind}
 use Rattle.box_tree.specs.declared.kind.Kind.TheVariants.{Bucket, Branch}
 
@@ -47,7 +48,7 @@ IsLast codes prefix (Branch end mask) = ⊥
 -- another square is one where it has few places
 abbrev pub IsUpper : List ℕ → ℕ → ℕ → ℕ → (ℕ → ℕ → Type 0) → Kind → Type 0
 IsUpper codes n level prefix held (Bucket low high) =
-    IsBucket codes (level + n) prefix low high × (high ≤ low + 16)
+    IsBucket codes (level + n) prefix low high × (high ≤ low + bucket_limit)
 IsUpper codes n level prefix held (Branch end mask) = IsBranch codes n level prefix end mask held
 
 -- a node stands, and its box has the boxes of all places of its square

@@ -5,6 +5,7 @@ use Rattle.k2_tree.specs.Squares.{Node, node}
 use Rattle.box_tree.specs.Levels.{digits, squares_in}
 use Rattle.box_tree.specs.Places.{Places, Square, ArePlaces, square_worth, passes, run_of, square}
 use Rattle.box_tree.specs.Tests.{Tests}
+use Rattle.box_tree.specs.Boxes.{IsBase}
 use Rattle.box_tree.specs.Cost.{node_reads, place_reads}
 use Rattle.box_tree.specs.Tree.{TreeView, IsNodeOf, child_limit, levels_of, node_at, node_square, slots}
 use Rattle.box_tree.specs.declared.node_ref.NodeRef.{NodeRef}
@@ -42,6 +43,7 @@ pub record IsWalk (tree : TreeView) (stack : List NodeRef) (low high : ℕ) : Ty
   pub few : slots tree.places.levels < SLOTS
   pub within : high ≤ length tree.places.codes
   pub are : ArePlaces tree.places
+  pub near : IsBase tree.base
 
 -- the places that are left
 abbrev pub walk_left : Tests → WalkView → List ℕ

@@ -2,10 +2,10 @@ ghost use Rattle.std.specs.Prelude.{◌≡◌, ◌+◌, ◌≤◌, ◌<◌, leng
 ghost use Rattle.box_tree.specs.Boxes.{IsBase, IsFrom};
 ghost use Rattle.track_types.specs.Near.{IsBoxWithin, IsWithin};
 
+use std::alloc::Global;
 use std::marker::Model;
 use std::sync::ledger::Ledger;
 use step_count::{CountedList, Steps};
-use std::alloc::Global;
 use track_types::{Cell, CellBox, Memory};
 
 /// Boxes, each in two words: its least cell as it lies from a base, and how far it reaches from there.
@@ -42,7 +42,11 @@ impl Boxes {
             corners.push((offset(area.x1, base.x), offset(area.y1, base.y)))?;
             reaches.push((offset(area.x2, area.x1), offset(area.y2, area.y1)))?;
         }
-        Ok(Boxes { base, corners: CountedList::new(corners), reaches: CountedList::new(reaches) })
+        Ok(Boxes {
+            base,
+            corners: CountedList::new(corners),
+            reaches: CountedList::new(reaches),
+        })
     }
 
     /// The box at a place, by two reads.
@@ -56,7 +60,12 @@ impl Boxes {
         let reach = self.reaches.at(place as usize, steps);
         let x = self.base.x + i64::from(corner.0);
         let y = self.base.y + i64::from(corner.1);
-        CellBox { x1: x, y1: y, x2: x + i64::from(reach.0), y2: y + i64::from(reach.1) }
+        CellBox {
+            x1: x,
+            y1: y,
+            x2: x + i64::from(reach.0),
+            y2: y + i64::from(reach.1),
+        }
     }
 }
 

@@ -19,8 +19,6 @@ use crate::task::Task;
 use std::alloc::Global;
 use track_types::{CellBox, Memory};
 
-
-
 // The boxes and the links of nodes.
 #[derive(Drop)]
 pub struct Made {
@@ -41,12 +39,24 @@ pub fn begin(alloc: Global, codes: &[u64], height: u32, all: u32) -> Result<Vec<
     if codes.len() == 0 {
         return Ok(tasks);
     }
-    tasks.push(Task { below: height, level: all, prefix: 0, low: 0, high: codes.len() as u32 })?;
+    tasks.push(Task {
+        below: height,
+        level: all,
+        prefix: 0,
+        low: 0,
+        high: codes.len() as u32,
+    })?;
     Ok(tasks)
 }
 
 // Makes a node of each task, and of those that come behind them.
-pub fn make(alloc: Global, codes: &[u64], boxes: &[CellBox], narrow: u32, tasks: &mut Vec<Task>) -> Result<Made, Memory>
+pub fn make(
+    alloc: Global,
+    codes: &[u64],
+    boxes: &[CellBox],
+    narrow: u32,
+    tasks: &mut Vec<Task>,
+) -> Result<Made, Memory>
     requires ascend { Ascends 0 codes.now }
     requires short { length codes.now < 2 ^ 31 }
     requires same { length boxes.now ≡ length codes.now }
@@ -128,7 +138,12 @@ fn greater(a: i64, b: i64) -> i64
 }
 
 // The link of the node that is made of a task. Where it is a branch, the tasks of its children come behind the others.
-fn link_of(codes: &[u64], narrow: u32, task: Task, tasks: &mut Vec<Task>) -> Result<(u32, u32), Memory>
+fn link_of(
+    codes: &[u64],
+    narrow: u32,
+    task: Task,
+    tasks: &mut Vec<Task>,
+) -> Result<(u32, u32), Memory>
     requires ascend { Ascends 0 codes.now }
     requires is { IsTask codes.now narrow task }
     requires short { length codes.now < 2 ^ 31 }
@@ -177,7 +192,13 @@ fn split(codes: &[u64], width: u32, task: Task, tasks: &mut Vec<Task>) -> Result
     for digit in 0..fan {
         let prefix = first + u64::from(digit);
         let high = end_of(codes, low, task.high, bound_of(prefix + 1, level));
-        let child = Task { below: task.below - 1, level, prefix, low, high };
+        let child = Task {
+            below: task.below - 1,
+            level,
+            prefix,
+            low,
+            high,
+        };
         mask = push_child(tasks, child, digit, mask)?;
         low = high;
     }

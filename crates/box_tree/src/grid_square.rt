@@ -67,14 +67,14 @@ pub(crate) fn cells_of(alloc: Global, codes: &[u64]) -> Result<Vec<(u32, u32)>, 
     Ok(cells)
 }
 
-// The column that the digits of a Morton number tell: every second of its bits.
+// The column that the digits of a Morton number tell: the lower bit of each.
 fn column_in(code: u64) -> u32
     ensures value { result ≡ column_of MAX_HEIGHT code }
     ensures small { result < 2 ^ MAX_HEIGHT }
 {
     let mut column = 0;
     for level in (0..MAX_HEIGHT).rev() {
-        column = 2 * column + ((code >> (2 * level)) % 2) as u32;
+        column = 2 * column + ((code >> (2 * level)) % 4 % 2) as u32;
     }
     column
 }

@@ -20,8 +20,14 @@ pub(crate) fn kind_of(link: (u32, u32)) -> Kind
     ensures { result ≡ kind_of link }
 {
     if link.1 < BUCKET {
-        Kind::Branch { end: link.0, mask: link.1 }
+        Kind::Branch {
+            end: link.0,
+            mask: link.1,
+        }
     } else {
-        Kind::Bucket { low: link.0, high: link.1 - BUCKET }
+        Kind::Bucket {
+            low: link.0,
+            high: link.1 - BUCKET,
+        }
     }
 }

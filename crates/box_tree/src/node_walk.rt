@@ -51,7 +51,12 @@ impl<'a> NodeWalk<'a> {
         if let Some(node) = first {
             stack.push(node);
         }
-        NodeWalk { tree, stack, low: 0, high: 0 }
+        NodeWalk {
+            tree,
+            stack,
+            low: 0,
+            high: 0,
+        }
     }
 
     // The tree.

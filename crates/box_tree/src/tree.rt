@@ -11,7 +11,9 @@ ghost use Rattle.box_tree.specs.declared.kind.Kind.TheVariants.{Branch};
 ghost use Rattle.box_tree.specs.declared.node_ref.TheConstants.{SLOTS};
 ghost use Rattle.box_tree.specs.Tree.{AreLevels, IsNodeOf, child_limit, levels_below, levels_of};
 ghost use Rattle.box_tree.specs.Tree.{node_at, node_square, places_with, prefix_of, slots, whole};
+ghost use Rattle.box_tree.specs.Levels.{digits};
 ghost use Rattle.box_tree.specs.Places.{box_at, run_of, ArePlaces};
+ghost use Rattle.track_types.specs.declared.limit.TheConstants.{MAX_HEIGHT};
 
 use crate::boxes::Boxes;
 use crate::building::{begin, make};
@@ -104,12 +106,19 @@ impl BoxTree {
         ensures some { IfSome result (λ node. 0 < length self.now.places.codes) }
         ensures places { ArePlaces self.now.places }
         ensures base { IsBase self.now.base }
+        ensures deep { digits self.now.places.levels ≤ MAX_HEIGHT }
         ensures room { slots self.now.places.levels < SLOTS }
     {
         if self.cells.len() == 0 {
             return None;
         }
-        Some(NodeRef { node: 0, below: self.height, level: self.digits, column: 0, row: 0 })
+        Some(NodeRef {
+            node: 0,
+            below: self.height,
+            level: self.digits,
+            column: 0,
+            row: 0,
+        })
     }
 
     /// The cells of a node's square, as a box. It reads nothing.

@@ -1,7 +1,10 @@
 ghost use Rattle.std.specs.Prelude.{◌≡◌, ◌+◌, ◌≤◌, ◌<◌, ◌⊎◌, [], length, true, false, IfNone, IfSome};
 ghost use Rattle.box_tree.specs.BoxWalk.{asked, box_budget, box_left, found_places, search_reads};
 ghost use Rattle.box_tree.specs.Cost.{place_reads};
-ghost use Rattle.box_tree.specs.Places.{passes};
+ghost use Rattle.box_tree.specs.Boxes.{IsBase};
+ghost use Rattle.box_tree.specs.Levels.{digits};
+ghost use Rattle.box_tree.specs.Places.{passes, ArePlaces};
+ghost use Rattle.track_types.specs.declared.limit.TheConstants.{MAX_HEIGHT};
 ghost use Rattle.box_tree.specs.Tests.{squares_at};
 ghost use Rattle.box_tree.specs.Tree.{grid_node, levels_of, node_square, slots, whole, IsNodeOf};
 ghost use Rattle.box_tree.specs.Walk.{IsScanned, IsVisited};
@@ -34,7 +37,10 @@ impl<'a, S: Search> BoxWalk<'a, S> {
             ≤ search_reads (S.squares search) tree.now }
     {
         let root = wanted(tree, &search);
-        BoxWalk { walk: NodeWalk::new(tree, root), search }
+        BoxWalk {
+            walk: NodeWalk::new(tree, root),
+            search,
+        }
     }
 
     // Whether a place is sought.
@@ -115,6 +121,9 @@ impl<'a, S: Search> Lazy for BoxWalk<'a, S> {
 fn wanted<S: Search>(tree: &BoxTree, search: &S) -> Option<NodeRef>
     ensures none { IfNone result ((tree.now.places.codes ≡ [])
         ⊎ (squares_at tree.now.base (S.squares search.now) (grid_node tree.now) ≡ false)) }
+    ensures places { ArePlaces tree.now.places }
+    ensures base { IsBase tree.now.base }
+    ensures deep { digits tree.now.places.levels ≤ MAX_HEIGHT }
     ensures node { IfSome result (λ node. IsNodeOf tree.now node) }
     ensures whole { IfSome result (λ node. node_square tree.now.narrow node ≡ whole tree.now) }
     ensures some { IfSome result (λ node. 0 < length tree.now.places.codes) }

@@ -109,8 +109,10 @@ returns c =
     let all : c.loop-digit.digit ≡ 4 ^ c.args.width = omega (arith, c.fan_of-fan.ensures.value) in
     let low : c.loop-digit.digit ≤ 16 = omega (arith, c.fan_of-fan.ensures.few) in
     let most : 2 ^ c.loop-digit.digit ≤ 2 ^ 16 = pow-le-pow_right (lit< tt) low in
-    record { ok = record {
-      few = omega (arith, is.few, most);
-      told = rw all at is.told;
-      pushed = rw all at is.pushed;
-    } }
+    record {
+      ok = record {
+        few = omega (arith, is.few, most);
+        told = rw all at is.told;
+        pushed = rw all at is.pushed;
+      };
+    }

@@ -1,5 +1,8 @@
 use Rattle.std.proofs.Common.{◌≡◌, ℕ, ◌+◌, ◌-◌, ◌*◌, ◌/◌, ◌%◌, ◌^◌, ◌<◌, ◌≤◌, List, [], ◌∷◌, ◌++◌, length, reverse, refl, sym, ap, ◌∙◌, arith, lit<, length-append}
+use Rattle.std.proofs.Math.Nat.{mul_comm}
 use Rattle.std.proofs.lemmas.List.{reverse-append}
+use Rattle.track_types.specs.declared.limit.TheConstants.{MAX_HEIGHT}
+use Rattle.k2_tree.specs.Morton.{column_of, row_of}
 use Rattle.box_tree.specs.Held.{digits_in}
 use Rattle.box_tree.specs.Walk.{child_refs}
 use Rattle.box_tree.specs.declared.node_ref.NodeRef.{NodeRef}
@@ -38,6 +41,12 @@ push-requires c =
     let most = few c.args.width c.args.mask c.loop-digit.digit (omega arith) (omega arith) c.if-mask-digit-eq1.true in
     (lit< tt, omega (arith, c.loop-digit.invariant.long, c.requires.room, most))
 
+-- what stands before a square fits a word
+kept : (count width : ℕ) → (count + 1) * 2 ^ width ≤ 2 ^ MAX_HEIGHT → count * 2 ^ width % 2 ^ 32 ≡ 2 ^ width * count
+kept count width all =
+    let parts : (count + 1) * 2 ^ width ≡ 2 ^ width * count + 2 ^ width = grind arith in
+    omega (arith, all, parts, mul_comm count (2 ^ width))
+
 pub loop-digit-preserved-then-mask-digit-eq1 : goal.loop-digit-preserved-then-mask-digit-eq1
 loop-digit-preserved-then-mask-digit-eq1 c =
     let l = c.loop-digit in
@@ -45,19 +54,23 @@ loop-digit-preserved-then-mask-digit-eq1 c =
     let most = few c.args.width c.args.mask l.digit (omega arith) (omega arith) c.if-mask-digit-eq1.true in
     let parent : NodeRef = c.args.parent.now in
     let ds : List ℕ = digits_from c.args.width c.args.mask l.digit in
-    let made : ℕ → NodeRef = λ k. record { node = l.number - 1; below = parent.below - 1; level = parent.level - c.args.width; prefix = k } in
-    let raw : ℕ = c.from.result * parent.prefix + c.from-then-mask-digit-eq1.result in
-    let told : raw ≡ 4 ^ c.args.width * parent.prefix + (l.digit - 1) = rw (c.from.ensures, c.fan_of-fan.ensures.value, c.from-then-mask-digit-eq1.ensures) refl in
+    let made : ℕ → ℕ → NodeRef = λ x y.
+    record { node = l.number - 1; below = parent.below - 1; level = parent.level - c.args.width; column = x; row = y } in
+    let x : ℕ = parent.column * 2 ^ c.args.width % 2 ^ 32 + c.digit_column.result in
+    let y : ℕ = parent.row * 2 ^ c.args.width % 2 ^ 32 + c.digit_row.result in
+    let column : x ≡ 2 ^ c.args.width * parent.column + column_of c.args.width (l.digit - 1) = omega (arith, c.digit_column.ensures.value, kept parent.column c.args.width c.requires.right) in
+    let row : y ≡ 2 ^ c.args.width * parent.row + row_of c.args.width (l.digit - 1) = omega (arith, c.digit_row.ensures.value, kept parent.row c.args.width c.requires.upper) in
     let some : 1 ≤ l.number = omega (arith, l.invariant.left, c.requires.stand, most) in
     let back : l.number ≡ l.number - 1 + 1 = omega arith in
     record {
-      here = ap reverse c.push.ensures.items ∙ reverse-append l.stack.items (made raw ∷ [])
-          ∙ ap (λ rest. made raw ∷ rest) l.invariant.here
-          ∙ ap (λ k. made k ∷ child_refs parent c.args.width l.number ds ++ reverse c.args.stack.now.items) told
-          ∙ ap (λ n. made (4 ^ c.args.width * parent.prefix + (l.digit - 1)) ∷ child_refs parent c.args.width n ds ++ reverse c.args.stack.now.items) back
+      here = ap reverse c.push.ensures.items ∙ reverse-append l.stack.items (made x y ∷ [])
+          ∙ ap (λ rest. made x y ∷ rest) l.invariant.here
+          ∙ ap (λ k. made k y ∷ child_refs parent c.args.width l.number ds ++ reverse c.args.stack.now.items) column
+          ∙ ap (λ k. made (2 ^ c.args.width * parent.column + column_of c.args.width (l.digit - 1)) k ∷ child_refs parent c.args.width l.number ds ++ reverse c.args.stack.now.items) row
+          ∙ ap (λ n. made (2 ^ c.args.width * parent.column + column_of c.args.width (l.digit - 1)) (2 ^ c.args.width * parent.row + row_of c.args.width (l.digit - 1)) ∷ child_refs parent c.args.width n ds ++ reverse c.args.stack.now.items) back
           ∙ ap (λ all. child_refs parent c.args.width (l.number - 1) all ++ reverse c.args.stack.now.items) (sym first);
       left = omega (arith, l.invariant.left, ap length first);
-      long = omega (arith, l.invariant.long, ap length first, ap length c.push.ensures.items, length-append l.stack.items (made raw ∷ []));
+      long = omega (arith, l.invariant.long, ap length first, ap length c.push.ensures.items, length-append l.stack.items (made x y ∷ []));
     }
 
 pub loop-digit-preserved : goal.loop-digit-preserved

@@ -72,6 +72,12 @@ loop-area-preserved c =
           ∙ ap (λ bs. bs ++ box_with c.args.base corner reach ∷ []) l.invariant.made
           ∙ ap (λ x. take l.area-index c.args.list.now ++ x ∷ []) (its ∙ c.area-item.is)
           ∙ sym (take_more c.args.list.now l.area-index a within);
-      same = omega (arith, l.invariant.same, ap length c.in_ok-push.ensures.items, ap length c.in_ok-push-2.ensures.items,
-          length-append l.corners.items (corner ∷ []), length-append l.reaches.items (reach ∷ []));
+      same = omega (
+        arith,
+        l.invariant.same,
+        ap length c.in_ok-push.ensures.items,
+        ap length c.in_ok-push-2.ensures.items,
+        length-append l.corners.items (corner ∷ []),
+        length-append l.reaches.items (reach ∷ []),
+      );
     }

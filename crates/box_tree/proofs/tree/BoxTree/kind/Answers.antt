@@ -2,7 +2,7 @@ use Rattle.std.proofs.Common.{◌≡◌, slice_get, sym, ap, ◌∙◌, subst}
 use Rattle.std.proofs.lemmas.Option.{same_Some}
 use Rattle.box_tree.specs.Held.{IsKindFor}
 use Rattle.box_tree.specs.Kinds.{kind_of}
-use Rattle.box_tree.specs.Tree.{levels_of, TreeView}
+use Rattle.box_tree.specs.Tree.{levels_of, prefix_of, TreeView}
 use Rattle.box_tree.proofs.tree.BoxTree.kind.Goals as goal
 
 pub returns-clause-kind : goal.returns-clause-kind
@@ -11,5 +11,5 @@ returns-clause-kind g c =
     let held = c.requires.held in
     let same : held.link ≡ c.at.result =
     same_Some held.link c.at.result (sym held.link_is ∙ ap (λ (t : TreeView). slice_get t.nodes.links c.args.node.now.node) (sym c.self.view_is) ∙ c.at.ensures.value) in
-    subst (IsKindFor tree.places tree.nodes (levels_of tree.narrow c.args.node.now) c.args.node.now.prefix)
+    subst (IsKindFor tree.places tree.nodes (levels_of tree.narrow c.args.node.now) (prefix_of c.args.node.now))
     (ap kind_of same ∙ sym c.kind_of.ensures) held.kind

@@ -1,6 +1,7 @@
 use Rattle.std.proofs.Common.{◌≡◌, ◌∷◌, true, false, sym, ap, ◌∙◌, arith}
 use Rattle.box_tree.specs.Places.{passes}
-use Rattle.box_tree.specs.Tests.{Tests}
+use Rattle.box_tree.specs.BoxWalk.{asked}
+use Rattle.box_tree.specs.Tests.{Tests, tests_at}
 use Rattle.box_tree.specs.Tree.{TreeView}
 use Rattle.box_tree.specs.Walk.{WalkView, IsScanned, walk_left}
 use Rattle.box_tree.proofs.VisitLemmas.{left-kept, left-passed, reads-place}
@@ -10,18 +11,24 @@ use Rattle.box_tree.proofs.walk.BoxWalk.scan.Goals.{After-meets}
 
 -- what the test said of the next place
 told : (g : Over) (c : After-meets g)
-    → passes (g.S.Search.tests c.args.self.now.search) c.loop-place.self.walk.tree.places c.loop-place.self.walk.low ≡ c.meets.result
+    → passes (asked g.S.Search.squares g.S.Search.boxes c.args.self.now) c.loop-place.self.walk.tree.places c.loop-place.self.walk.low
+    ≡ c.meets.result
 told g c =
-    let tests : Tests = g.S.Search.tests c.args.self.now.search in
+    let S = g.S.Search in
     let it = c.in-Some.ensures in
+    let first = c.args.self.now in
+    let now : WalkView = c.loop-place.self.walk in
+    let new : WalkView = c.next_place.new.self in
     sym (c.meets.ensures.value
-    ∙ ap (λ s. passes (g.S.Search.tests s) c.next_place.new.self.tree.places c.in-Some.place) c.loop-place.invariant.0
-    ∙ ap (λ (t : TreeView). passes tests t.places c.in-Some.place) it.tree
-    ∙ ap (passes tests c.loop-place.self.walk.tree.places) it.first)
+    ∙ ap (λ s. passes (tests_at new.tree.base (S.squares s) (S.boxes s)) new.tree.places c.in-Some.place) c.loop-place.invariant.0
+    ∙ ap (λ (t : TreeView). passes (tests_at t.base (S.squares first.search) (S.boxes first.search)) t.places c.in-Some.place) it.tree
+    ∙ ap (passes (tests_at now.tree.base (S.squares first.search) (S.boxes first.search)) now.tree.places) it.first
+    ∙ ap (λ (t : TreeView). passes (tests_at t.base (S.squares first.search) (S.boxes first.search)) now.tree.places now.low)
+    c.loop-place.invariant.1.tree)
 
 pub returns-then-meets-clause-scanned : goal.returns-then-meets-clause-scanned
 returns-then-meets-clause-scanned g c =
-    let tests : Tests = g.S.Search.tests c.args.self.now.search in
+    let tests : Tests = asked g.S.Search.squares g.S.Search.boxes c.args.self.now in
     let is = c.loop-place.invariant.1 in
     let it = c.in-Some.ensures in
     let now : WalkView = c.loop-place.self.walk in
@@ -39,17 +46,19 @@ returns-then-meets-clause-scanned g c =
 
 pub loop-place-preserved : goal.loop-place-preserved
 loop-place-preserved g c =
-    let tests : Tests = g.S.Search.tests c.args.self.now.search in
+    let tests : Tests = asked g.S.Search.squares g.S.Search.boxes c.args.self.now in
     let is = c.loop-place.invariant.1 in
     let it = c.in-Some.ensures in
     let now : WalkView = c.loop-place.self.walk in
     let new : WalkView = c.next_place.new.self in
     let fails : passes tests now.tree.places now.low ≡ false =
     told g (goal.at.loop-place-preserved g c).After-meets ∙ c.if-meets.false in
-    let paid = reads-place tests now new it.tree it.some it.low it.high it.pending in
-    (c.loop-place.invariant.0, record {
-      tree = it.tree ∙ is.tree;
-      pending = it.pending ∙ is.pending;
-      left = is.left ∙ left-passed tests now new it.tree it.some it.low it.high it.pending fails;
-      reads = omega (arith, is.reads, paid, c.meets.ensures.cost);
-    })
+    let paid = reads-place tests now new it.tree it.some it.low it.high it.pending in (
+      c.loop-place.invariant.0,
+      record {
+        tree = it.tree ∙ is.tree;
+        pending = it.pending ∙ is.pending;
+        left = is.left ∙ left-passed tests now new it.tree it.some it.low it.high it.pending fails;
+        reads = omega (arith, is.reads, paid, c.meets.ensures.cost);
+      },
+    )

@@ -1,0 +1,127 @@
+-- Squares by column and row: their children, and how they lie in the greatest grid.
+use Rattle.std.proofs.Common.{◌≡◌, ℕ, zero, suc, ◌+◌, ◌-◌, ◌*◌, ◌/◌, ◌%◌, ◌^◌, ◌<◌, ◌≤◌, List, [], ◌∷◌, ◌++◌, map, All, refl, sym, ap, ◌∙◌, arith, lit<, inl, inr, mul-le-mul_left, mul-le-mul_right, pow-add}
+use Rattle.std.proofs.Math.Nat.{pow-le-pow_right}
+use Rattle.std.proofs.lemmas.Bool.{cases_lt}
+use Rattle.std.proofs.lemmas.Nat.{pow_pos}
+use Rattle.track_types.specs.declared.limit.TheConstants.{MAX_HEIGHT}
+use Rattle.k2_tree.specs.Morton.{column_of, interleaved, row_of}
+use Rattle.k2_tree.specs.TreeBits.{code_limit}
+use Rattle.k2_tree.proofs.AreaLemmas.{interleaved-child}
+use Rattle.k2_tree.proofs.MortonLemmas.{interleaved-lt, interleaved-more}
+
+-- the column and the row that one digit tells, and two
+pub column-one : (digit : ℕ) → digit < 4 → column_of 1 digit ≡ digit % 2
+unfolding column_of
+column-one digit small = omega arith
+
+pub row-one : (digit : ℕ) → digit < 4 → row_of 1 digit ≡ digit / 2
+unfolding row_of
+row-one digit small = omega arith
+
+pub column-two : (digit : ℕ) → digit < 16 → column_of 2 digit ≡ 2 * (digit / 4 % 2) + digit % 2
+unfolding column_of
+column-two digit small = omega arith
+
+pub row-two : (digit : ℕ) → digit < 16 → row_of 2 digit ≡ 2 * (digit / 8) + digit / 2 % 2
+unfolding row_of
+row-two digit small = omega arith
+
+-- a level takes one digit or two
+pub by_width : (P : ℕ → Type 0) → P 1 → P 2 → (width : ℕ) → 1 ≤ width → width ≤ 2 → P width
+by_width P one two zero some few = absurd (omega arith)
+by_width P one two (suc zero) some few = one
+by_width P one two (suc (suc zero)) some few = two
+by_width P one two (suc (suc (suc n))) some few = absurd (omega arith)
+
+-- a part of a stretch of numbers ends no later
+part-ends : (a b most count part : ℕ) → part < a → (count + 1) * (a * b) ≤ most → (a * count + part + 1) * b ≤ most
+part-ends a b most count part low all =
+    let some : a * count + part + 1 ≤ (count + 1) * a = grind arith in
+    let less : (a * count + part + 1) * b ≤ (count + 1) * a * b = mul-le-mul_right b some in
+    let same : (count + 1) * a * b ≡ (count + 1) * (a * b) = grind arith in
+    omega (arith, less, same)
+
+-- so a child ends no later than its square
+pub child-ends : (width level count part : ℕ) → width ≤ level → part < 2 ^ width
+    → (count + 1) * 2 ^ level ≤ 2 ^ MAX_HEIGHT → (2 ^ width * count + part + 1) * 2 ^ (level - width) ≤ 2 ^ MAX_HEIGHT
+child-ends width level count part deep low all =
+    let e : width + (level - width) ≡ level = omega arith in
+    let power : 2 ^ level ≡ 2 ^ width * 2 ^ (level - width) = ap (λ n. 2 ^ n) (sym e) ∙ pow-add 2 width (level - width) in
+    part-ends (2 ^ width) (2 ^ (level - width)) (2 ^ MAX_HEIGHT) count part low
+    (omega (arith, all, ap (λ p. (count + 1) * p) power))
+
+-- less is left away
+pub child-fits : (width level count : ℕ) → width ≤ level → (count + 1) * 2 ^ level ≤ 2 ^ MAX_HEIGHT
+    → (count + 1) * 2 ^ width ≤ 2 ^ MAX_HEIGHT
+child-fits width level count deep all =
+    let more : 2 ^ width ≤ 2 ^ level = pow-le-pow_right (lit< tt) deep in
+    let most : (count + 1) * 2 ^ width ≤ (count + 1) * 2 ^ level = mul-le-mul_left (count + 1) more in
+    omega (arith, most, all)
+
+-- a child's prefix has a digit more, or two
+pub child-prefix : (width digit row column : ℕ) → 1 ≤ width → width ≤ 2 → digit < 4 ^ width
+    → (column + 1) * 2 ^ width ≤ 2 ^ MAX_HEIGHT → (row + 1) * 2 ^ width ≤ 2 ^ MAX_HEIGHT
+    → interleaved MAX_HEIGHT (2 ^ width * row + row_of width digit) (2 ^ width * column + column_of width digit)
+    ≡ 4 ^ width * interleaved MAX_HEIGHT row column + digit
+child-prefix width digit row column some few =
+    by_width (λ w. digit < 4 ^ w → (column + 1) * 2 ^ w ≤ 2 ^ MAX_HEIGHT → (row + 1) * 2 ^ w ≤ 2 ^ MAX_HEIGHT
+    → interleaved MAX_HEIGHT (2 ^ w * row + row_of w digit) (2 ^ w * column + column_of w digit)
+    ≡ 4 ^ w * interleaved MAX_HEIGHT row column + digit) one two width some few
+  where
+    one : digit < 4 ^ 1 → (column + 1) * 2 ^ 1 ≤ 2 ^ MAX_HEIGHT → (row + 1) * 2 ^ 1 ≤ 2 ^ MAX_HEIGHT
+        → interleaved MAX_HEIGHT (2 ^ 1 * row + row_of 1 digit) (2 ^ 1 * column + column_of 1 digit)
+        ≡ 4 ^ 1 * interleaved MAX_HEIGHT row column + digit
+    one low right upper =
+        rw (column-one digit low, row-one digit low) (interleaved-child 19 row column digit 1 low (omega arith) right upper)
+
+    two : digit < 4 ^ 2 → (column + 1) * 2 ^ 2 ≤ 2 ^ MAX_HEIGHT → (row + 1) * 2 ^ 2 ≤ 2 ^ MAX_HEIGHT
+        → interleaved MAX_HEIGHT (2 ^ 2 * row + row_of 2 digit) (2 ^ 2 * column + column_of 2 digit)
+        ≡ 4 ^ 2 * interleaved MAX_HEIGHT row column + digit
+    two low right upper =
+        let q : ℕ = digit / 4 in let r : ℕ = digit % 4 in
+        let y : ℕ = 2 * row + q / 2 in let x : ℕ = 2 * column + q % 2 in
+        let a : 4 * row + row_of 2 digit ≡ 2 * y + r / 2 = omega (arith, row-two digit low) in
+        let b : 4 * column + column_of 2 digit ≡ 2 * x + r % 2 = omega (arith, column-two digit low) in
+        let upper' : (row + 1) * 2 ^ 1 ≤ 2 ^ MAX_HEIGHT = omega arith in
+        let right' : (column + 1) * 2 ^ 1 ≤ 2 ^ MAX_HEIGHT = omega arith in
+        let first = interleaved-child 19 row column q 1 (omega arith) (omega arith) right' upper' in
+        let second = interleaved-child 19 y x r 1 (omega arith) (omega arith) (omega arith) (omega arith) in
+        rw (a, b) (second ∙ omega (arith, first))
+
+-- fewer parts that fill no more are fewer
+fewer : (a b count : ℕ) → 0 < b → (count + 1) * b ≤ a * b → count < a
+fewer a b count some all = elim (cases_lt count a) [
+  | inl less ↦ less
+  | inr past ↦
+      let most : (a + 1) * b ≤ (count + 1) * b = mul-le-mul_right b (omega arith) in
+      let more : (a + 1) * b ≡ a * b + b = grind arith in
+      absurd (omega (arith, most, more, all))
+]
+
+-- the numbers of a square of the greatest grid are below the limit of all
+pub small-prefix : (level column row : ℕ) → level ≤ MAX_HEIGHT → (column + 1) * 2 ^ level ≤ 2 ^ MAX_HEIGHT
+    → (row + 1) * 2 ^ level ≤ 2 ^ MAX_HEIGHT → (interleaved MAX_HEIGHT row column + 1) * 4 ^ level ≤ code_limit
+small-prefix level column row low right upper =
+    let rest : ℕ = MAX_HEIGHT - level in
+    let left = within column right in
+    let below = within row upper in
+    let e : rest + level ≡ MAX_HEIGHT = omega arith in
+    let short : interleaved MAX_HEIGHT row column ≡ interleaved rest row column =
+    ap (λ n. interleaved n row column) (sym (omega arith)) ∙ shorter level rest row column below left in
+    let small = interleaved-lt rest row column in
+    let most : (interleaved rest row column + 1) * 4 ^ level ≤ 4 ^ rest * 4 ^ level = mul-le-mul_right (4 ^ level) (omega arith) in
+    let power : 4 ^ rest * 4 ^ level ≡ code_limit = sym (pow-add 4 rest level) ∙ ap (λ n. 4 ^ n) e in
+    rw short (omega (arith, most, power))
+  where
+    within : (count : ℕ) → (count + 1) * 2 ^ level ≤ 2 ^ MAX_HEIGHT → count < 2 ^ (MAX_HEIGHT - level)
+    within count all =
+        let e : (MAX_HEIGHT - level) + level ≡ MAX_HEIGHT = omega arith in
+        let power : 2 ^ MAX_HEIGHT ≡ 2 ^ (MAX_HEIGHT - level) * 2 ^ level = ap (λ n. 2 ^ n) (sym e) ∙ pow-add 2 (MAX_HEIGHT - level) level in
+        fewer (2 ^ (MAX_HEIGHT - level)) (2 ^ level) count (pow_pos level) (omega (arith, all, power))
+
+    shorter : (more n row column : ℕ) → row < 2 ^ n → column < 2 ^ n → interleaved (more + n) row column ≡ interleaved n row column
+    shorter zero n row column low left = ap (λ m. interleaved m row column) (omega arith)
+    shorter (suc more) n row column low left =
+        let wide : 2 ^ n ≤ 2 ^ (more + n) = pow-le-pow_right {n = 2} (lit< tt) (omega arith) in
+        let next : suc more + n ≡ suc (more + n) = omega arith in
+        ap (λ m. interleaved m row column) next ∙ interleaved-more (more + n) row column (omega arith) (omega arith) ∙ shorter more n row column low left
