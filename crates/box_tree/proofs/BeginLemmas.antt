@@ -1,5 +1,6 @@
 -- A walk at its beginning.
-use Rattle.std.proofs.Common.{◌≡◌, ℕ, zero, suc, ◌+◌, ◌-◌, ◌*◌, ◌^◌, ◌<◌, ◌≤◌, Bool, true, false, List, [], ◌∷◌, ◌++◌, length, filter, refl, sym, ap, ◌∙◌, arith, All, Option, None, Some, ◌⊎◌, inl, inr}
+use Rattle.std.proofs.Common.{◌≡◌, ℕ, zero, suc, ◌+◌, ◌-◌, ◌*◌, ◌^◌, ◌<◌, ◌≤◌, Bool, true, false, List, [], ◌∷◌, ◌++◌}
+use Rattle.std.proofs.Common.{length, filter, refl, sym, ap, ◌∙◌, arith, All, Option, None, Some, ◌⊎◌, inl, inr}
 use Rattle.std.specs.Prelude.{nat_lt, IfNone, IfSome}
 use Rattle.std.specs.List.{flat_map, range_with_len, sum_by}
 use Rattle.std.proofs.lemmas.Bool.Decides.{nat_tests}
@@ -10,7 +11,8 @@ use Rattle.list_laws.proofs.FilterLemmas.{sum_by_if}
 use Rattle.k2_tree.specs.Pruning.{place_among}
 use Rattle.k2_tree.specs.Squares.{Node, node}
 use Rattle.box_tree.specs.Levels.{digits, first_in, run, squares_in}
-use Rattle.box_tree.specs.Places.{ArePassed, ArePlaces, Places, all_places, cell_passes, place_worth, square_worth, passes, run_of, square, square_count}
+use Rattle.box_tree.specs.Places.{ArePassed, ArePlaces, Places, all_places, cell_passes, place_worth, square_worth}
+use Rattle.box_tree.specs.Places.{passes, run_of, square, square_count}
 use Rattle.box_tree.specs.Tests.{Tests}
 use Rattle.box_tree.specs.Tree.{TreeView, whole}
 use Rattle.box_tree.specs.Walk.{WalkView, walk_left, walk_reads}
@@ -33,7 +35,8 @@ place_among-zero [] = refl
 place_among-zero (x ∷ xs) = grind (arith, nat_tests, place_among-zero xs)
 
 -- the whole grid has all places
-pub run-whole : (codes : List ℕ) (n : ℕ) → All (λ code. code < 4 ^ n) codes → run codes n 0 ≡ range_with_len 0 (length codes)
+pub run-whole : (codes : List ℕ) (n : ℕ) → All (λ code. code < 4 ^ n) codes
+    → run codes n 0 ≡ range_with_len 0 (length codes)
 unfolding run first_in
 run-whole codes n inside =
     let none : 0 * 4 ^ n ≡ 0 = omega arith in
@@ -75,14 +78,16 @@ module _ (tests : Tests) (mono : ArePassed tests) (tree : TreeView) (are : ArePl
       sum_by_if place_reads (cell_passes tests.square tree.places) (run tree.places.codes n 0)
       ∙ ap (λ xs. place_reads * length (filter (cell_passes tests.square tree.places) xs)) all in
       record {
-        left = rw (same, low, high, pending, all) (ap (filter (passes tests tree.places)) (append-nil (all_places tree.places)));
+        left = rw (same, low, high, pending, all)
+            (ap (filter (passes tests tree.places)) (append-nil (all_places tree.places)));
         reads = rw (same, low, high, pending, test) (omega (arith, one, cells, own));
       }
 
   pub begun : (found : Option NodeRef)
       → IfNone found ((tree.places.codes ≡ []) ⊎ (tests.square (node n 0) ≡ false))
       → IfSome found (λ ref. 0 < length tree.places.codes) → IfSome found (λ ref. tests.square (node n 0) ≡ true)
-      → IfNone found (walk.pending ≡ []) → IfSome found (λ ref. walk.pending ≡ whole tree ∷ []) → IsBegun tests tree.places walk
+      → IfNone found (walk.pending ≡ []) → IfSome found (λ ref. walk.pending ≡ whole tree ∷ [])
+      → IsBegun tests tree.places walk
   begun None (inl empty) some holds none pending =
       nothing none (ap (λ codes. filter (passes tests tree.places) (range_with_len 0 (length codes))) empty)
   begun None (inr fails) some holds none pending =

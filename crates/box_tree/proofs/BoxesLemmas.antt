@@ -25,11 +25,15 @@ boxes_of-at base [] reaches (suc place) corner reach a b = absurd (cc)
 boxes_of-at base (c ∷ corners) [] zero corner reach a b = absurd (cc)
 boxes_of-at base (c ∷ corners) [] (suc place) corner reach a b = absurd (cc)
 boxes_of-at base (c ∷ corners) (r ∷ reaches) zero corner reach a b =
-    ap (λ k. Some (box_with base k r)) (same_Some c corner a) ∙ ap (λ k. Some (box_with base corner k)) (same_Some r reach b)
-boxes_of-at base (c ∷ corners) (r ∷ reaches) (suc place) corner reach a b = boxes_of-at base corners reaches place corner reach a b
+    ap (λ k. Some (box_with base k r)) (same_Some c corner a)
+    ∙ ap (λ k. Some (box_with base corner k)) (same_Some r reach b)
+boxes_of-at base (c ∷ corners) (r ∷ reaches) (suc place) corner reach a b =
+    boxes_of-at base corners reaches place corner reach a b
 
-pub boxes_of-more : (base : Cell) (corners reaches : List (ℕ × ℕ)) (corner reach : ℕ × ℕ) → length reaches ≡ length corners
-    → boxes_of base (corners ++ corner ∷ []) (reaches ++ reach ∷ []) ≡ boxes_of base corners reaches ++ box_with base corner reach ∷ []
+pub boxes_of-more : (base : Cell) (corners reaches : List (ℕ × ℕ)) (corner reach : ℕ × ℕ)
+    → length reaches ≡ length corners
+    → boxes_of base (corners ++ corner ∷ [])
+    (reaches ++ reach ∷ []) ≡ boxes_of base corners reaches ++ box_with base corner reach ∷ []
 unfolding boxes_of
 boxes_of-more base [] [] corner reach same = refl
 boxes_of-more base [] (r ∷ reaches) corner reach same = absurd (omega arith)
@@ -43,8 +47,24 @@ from-within base near boxes each = All-weaker (IsFrom base) IsBoxWithin within b
   where
     within : (area : CellBox) → IsFrom base area → IsBoxWithin area
     within area from = record {
-      x1 = record { low = omega (arith, ints, near.left, from.left); high = omega (arith, ints, near.right, from.right, area.wide) };
-      y1 = record { low = omega (arith, ints, near.below, from.below); high = omega (arith, ints, near.above, from.above, area.high) };
-      x2 = record { low = omega (arith, ints, near.left, from.left, area.wide); high = omega (arith, ints, near.right, from.right) };
-      y2 = record { low = omega (arith, ints, near.below, from.below, area.high); high = omega (arith, ints, near.above, from.above) };
+      x1 = record {
+        low = omega (arith, ints, near.left, from.left);
+        high =
+            omega (arith, ints, near.right, from.right, area.wide);
+      };
+      y1 = record {
+        low = omega (arith, ints, near.below, from.below);
+        high =
+            omega (arith, ints, near.above, from.above, area.high);
+      };
+      x2 = record {
+        low = omega (arith, ints, near.left, from.left, area.wide);
+        high =
+            omega (arith, ints, near.right, from.right);
+      };
+      y2 = record {
+        low = omega (arith, ints, near.below, from.below, area.high);
+        high =
+            omega (arith, ints, near.above, from.above);
+      };
     }

@@ -1,5 +1,6 @@
 -- The squares that are counted here are those of the k2-tree with the same cells.
-use Rattle.std.proofs.Common.{◌≡◌, ℕ, zero, suc, ◌+◌, ◌-◌, ◌*◌, ◌/◌, ◌^◌, ◌<◌, ◌≤◌, ◌==◌, ◌||◌, Bool, true, false, List, [], ◌∷◌, length, filter, map, refl, sym, ap, ◌∙◌, arith, All, inl, inr, subst}
+use Rattle.std.proofs.Common.{◌≡◌, ℕ, zero, suc, ◌+◌, ◌-◌, ◌*◌, ◌/◌, ◌^◌, ◌<◌, ◌≤◌, ◌==◌, ◌||◌, Bool, true, false}
+use Rattle.std.proofs.Common.{List, [], ◌∷◌, length, filter, map, refl, sym, ap, ◌∙◌, arith, All, inl, inr, subst}
 use Rattle.std.specs.Prelude.{nat_lt, if◌then◌else◌}
 use Rattle.std.specs.List.{list_any, range_with_len, sum_by}
 use Rattle.std.proofs.lemmas.Bool.{cases_Bool, false≢true}
@@ -56,7 +57,8 @@ is_held-any codes n prefix = by_counts codes (4 ^ n) (fan_pos n)
     steps size = grind arith
 
     by_counts : (codes : List ℕ) (size : ℕ) → 0 < size
-        → nat_lt (place_among codes (prefix * size)) (place_among codes ((prefix + 1) * size)) ≡ list_any (λ code. code / size == prefix) codes
+        → nat_lt (place_among codes (prefix * size)) (place_among codes ((prefix + 1) * size)) ≡ list_any
+        (λ code. code / size == prefix) codes
     by_counts [] size some = refl
     by_counts (x ∷ xs) size some =
         let rest = by_counts xs size some in
@@ -122,16 +124,18 @@ module _ (test : Node → Bool) (codes cells : List ℕ) (same : (p : ℕ → Bo
       ∙ sum_by_if 1 test (squares_from height cells) ∙ omega arith
     where
       top : (cells : List ℕ) (height : ℕ) → All (λ c. c < 4 ^ height) cells → 0 < length cells
-          → sum_by (weight_below (one_of test) cells height) (prefixes height cells) ≡ weight_below (one_of test) cells height 0
+          → sum_by (weight_below (one_of test) cells height) (prefixes height cells) ≡ weight_below
+          (one_of test) cells height 0
       top [] height small some = absurd (omega arith)
       top (c ∷ cs) height small some =
           ap (sum_by (weight_below (one_of test) (c ∷ cs) height)) (prefixes-top height c cs small)
           ∙ sum_by-cons (weight_below (one_of test) (c ∷ cs) height) 0 [] ∙ omega arith
 
--- so a tree of boxes over the cells of a k2-tree, each as often as one likes, counts the squares that the k2-tree counts
+-- so a tree of boxes over the cells of a k2-tree, each as often as one likes, counts the squares that it counts
 pub square_count-tree : (tree : Tree) → IsTree tree → (keep : CellBox → Bool) (codes : List ℕ) (boxes : List CellBox)
     → ((p : ℕ → Bool) → list_any p codes ≡ list_any p (codes_of tree))
-    → square_count (squares_at tree.base keep) (places_with tree.height tree.height codes boxes) ≡ tree_square_count keep tree
+    → square_count (squares_at tree.base keep)
+    (places_with tree.height tree.height codes boxes) ≡ tree_square_count keep tree
 unfolding square_count prefixes
 square_count-tree tree is keep [] boxes same = sym (none (codes_of tree) is.codes.rising (sym (same (λ _. true))))
   where

@@ -1,5 +1,6 @@
 -- Nodes that were made of all tasks hold their squares.
-use Rattle.std.proofs.Common.{◌≡◌, ℕ, zero, suc, ◌+◌, ◌-◌, ◌*◌, ◌^◌, ◌<◌, ◌≤◌, List, [], ◌∷◌, ◌++◌, length, refl, sym, ap, ◌∙◌, arith, All, subst, inl, inr, Some, ◌⊎◌}
+use Rattle.std.proofs.Common.{◌≡◌, ℕ, zero, suc, ◌+◌, ◌-◌, ◌*◌, ◌^◌, ◌<◌, ◌≤◌, List, [], ◌∷◌, ◌++◌, length, refl, sym}
+use Rattle.std.proofs.Common.{ap, ◌∙◌, arith, All, subst, inl, inr, Some, ◌⊎◌}
 use Rattle.std.specs.Prelude.{slice_get, nat_lt, if◌then◌else◌}
 use Rattle.std.proofs.lemmas.Option.{same_Some, slice_get_within}
 use Rattle.track_types.specs.declared.cell_box.CellBox.{CellBox}
@@ -14,7 +15,7 @@ use Rattle.box_tree.specs.declared.kind.Kind.{Kind}
 use Rattle.box_tree.specs.declared.kind.Kind.TheVariants.{Bucket, Branch}
 use Rattle.box_tree.specs.declared.task.Task.{Task}
 
--- what holds of each node holds of nodes one behind another
+-- what holds of each node holds of nodes one after another
 pub Stand-weaker : (P Q : ℕ → ℕ → Type 0) → ((prefix number : ℕ) → P prefix number → Q prefix number)
     → (first : ℕ) (prefixes : List ℕ) → Stand P first prefixes → Stand Q first prefixes
 unfolding Stand
@@ -23,7 +24,8 @@ Stand-weaker P Q only first (prefix ∷ prefixes) stand =
     (only prefix first stand.0, Stand-weaker P Q only (first + 1) prefixes stand.1)
 
 module _ (places : Places) (narrow : ℕ) (tasks : List Task) (nodes : Nodes)
-    (made : (number : ℕ) → number < length tasks → IsMade places.codes places.boxes narrow tasks nodes.areas nodes.links number) where
+    (made : (number : ℕ) → number < length tasks
+    → IsMade places.codes places.boxes narrow tasks nodes.areas nodes.links number) where
   -- the kind at a cell, and at another square
   kind-last : (task : Task) (kind : Kind) → task.below ≡ 0 → IsBucket places.codes 0 task.prefix task.low task.high
       → IsMadeKind places.codes narrow tasks task kind → IsKindFor places nodes [] task.prefix kind
@@ -33,7 +35,8 @@ module _ (places : Places) (narrow : ℕ) (tasks : List Task) (nodes : Nodes)
 
   kind-upper : (task : Task) (kind : Kind) (width lower : ℕ) → task.below ≡ suc lower
       → levels_below narrow (suc lower) ≡ width ∷ levels_below narrow lower
-      → ((prefix number : ℕ) → StandsFor tasks lower prefix number → Held places nodes (levels_below narrow lower) prefix number)
+      → ((prefix number : ℕ) → StandsFor tasks lower prefix number
+      → Held places nodes (levels_below narrow lower) prefix number)
       → IsBucket places.codes (width + digits (levels_below narrow lower)) task.prefix task.low task.high
       → IsMadeKind places.codes narrow tasks task kind
       → IsKindFor places nodes (width ∷ levels_below narrow lower) task.prefix kind
@@ -47,9 +50,12 @@ module _ (places : Places) (narrow : ℕ) (tasks : List Task) (nodes : Nodes)
   kind-upper task (Branch end mask) width lower deep split below is its =
       let same_lower : its.lower ≡ lower = cc (its.deep, deep) in
       let same_width : its.width ≡ width = cc (its.levels, split, ap (λ k. levels_below narrow (suc k)) same_lower) in
-      let branch : IsBranch places.codes (digits (levels_below narrow lower)) width task.prefix end mask (StandsFor tasks lower) =
-      subst (λ k. IsBranch places.codes (digits (levels_below narrow k)) width task.prefix end mask (StandsFor tasks k)) same_lower
-      (subst (λ w. IsBranch places.codes (digits (levels_below narrow its.lower)) w task.prefix end mask (StandsFor tasks its.lower)) same_width its.branch) in
+      let branch : IsBranch places.codes (digits (levels_below narrow lower)) width task.prefix end mask
+      (StandsFor tasks lower) =
+      subst (λ k. IsBranch places.codes (digits (levels_below narrow k)) width task.prefix end mask
+      (StandsFor tasks k)) same_lower
+      (subst (λ w. IsBranch places.codes (digits (levels_below narrow its.lower)) w task.prefix end mask
+      (StandsFor tasks its.lower)) same_width its.branch) in
       record {
         first = branch.first;
         few = branch.few;
@@ -62,14 +68,16 @@ module _ (places : Places) (narrow : ℕ) (tasks : List Task) (nodes : Nodes)
   -- a node that was made stands for its square, where its kind does
   node-made : (below prefix number : ℕ) → (stands : StandsFor tasks below prefix number)
       → ((task : Task) (kind : Kind) → task.below ≡ below → IsTask places.codes narrow task
-      → IsMadeKind places.codes narrow tasks task kind → IsKindFor places nodes (levels_below narrow below) task.prefix kind)
+      → IsMadeKind places.codes narrow tasks task kind
+      → IsKindFor places nodes (levels_below narrow below) task.prefix kind)
       → Held places nodes (levels_below narrow below) prefix number
   node-made below prefix number stands kinds =
       let it = made number (slice_get_within tasks number stands.task stands.stands) in
       let same : it.task ≡ stands.task = same_Some it.task stands.task (sym it.stands ∙ stands.stands) in
       let flat : it.task.below ≡ below = ap (λ (t : Task). t.below) same ∙ stands.same_below in
       let at : it.task.prefix ≡ prefix = ap (λ (t : Task). t.prefix) same ∙ stands.same_prefix in
-      let level : it.task.level ≡ digits (levels_below narrow below) = sym it.is.level ∙ ap (λ k. digits (levels_below narrow k)) flat in
+      let level : it.task.level ≡ digits (levels_below narrow below) = sym it.is.level
+      ∙ ap (λ k. digits (levels_below narrow k)) flat in
       let P : ℕ → Type 0 = λ place. IsBoxInside (box_at places.boxes place) it.area in
       record {
         area = it.area;

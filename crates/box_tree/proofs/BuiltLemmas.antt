@@ -1,5 +1,6 @@
 -- The tree that is built.
-use Rattle.std.proofs.Common.{◌≡◌, ℕ, ◌+◌, ◌*◌, ◌^◌, ◌<◌, ◌≤◌, List, [], ◌∷◌, ◌++◌, length, map, refl, sym, ap, ◌∙◌, arith, All, subst, lit<}
+use Rattle.std.proofs.Common.{◌≡◌, ℕ, ◌+◌, ◌*◌, ◌^◌, ◌<◌, ◌≤◌, List, [], ◌∷◌, ◌++◌, length, map, refl, sym, ap, ◌∙◌}
+use Rattle.std.proofs.Common.{arith, All, subst, lit<}
 use Rattle.std.proofs.Math.Nat.{pow-le-pow_right}
 use Rattle.track_types.specs.declared.cell_box.CellBox.{CellBox}
 use Rattle.track_types.specs.declared.limit.TheConstants.{MAX_HEIGHT}
@@ -36,15 +37,19 @@ root-task codes narrow height all level few inside some =
     }
 
 -- nodes that were made of all tasks, beginning with the whole grid's, are a tree
-pub tree-built : (base : Cell) (height narrow all : ℕ) (codes : List ℕ) (cells : List (ℕ × ℕ)) (boxes areas : List CellBox)
+pub tree-built : (base : Cell) (height narrow all : ℕ) (codes : List ℕ) (cells : List (ℕ × ℕ))
+    (boxes areas : List CellBox)
     (links : List (ℕ × ℕ)) (first tasks : List Task)
-    → IsBase base → AreLevels height narrow all → ArePlaces (places_with height narrow codes boxes) → map code_at cells ≡ codes
+    → IsBase base → AreLevels height narrow all → ArePlaces (places_with height narrow codes boxes)
+    → map code_at cells ≡ codes
     → ((number : ℕ) → number < length tasks → IsMade codes boxes narrow tasks areas links number)
     → BeginsWith first tasks → (0 < length codes → StandsFor first height 0 0)
     → IsTree all (tree_of base height narrow cells boxes areas links)
 tree-built base height narrow all codes cells boxes areas links first tasks near levels are same made begins stands =
     let nodes : Nodes = record { areas = areas; links = links } in
-    subst (λ cs. IsTree all (record { base = base; narrow = narrow; places = places_with height narrow cs boxes; nodes = nodes })) (sym same)
+    subst (λ cs. IsTree all
+    (record { base = base; narrow = narrow; places = places_with height narrow cs boxes; nodes = nodes }))
+    (sym same)
     (record {
       grid = near;
       places_are = are;
@@ -52,5 +57,6 @@ tree-built base height narrow all codes cells boxes areas links first tasks near
       few = levels.few;
       room = levels.room;
       held = λ some. held-made (places_with height narrow codes boxes) narrow tasks nodes made height 0 0
-          (subst (λ (all : List Task). StandsFor all height 0 0) (sym begins.is) (stands-more first begins.rest height 0 0 (stands some)));
+          (subst (λ (all : List Task). StandsFor all height 0 0) (sym begins.is)
+          (stands-more first begins.rest height 0 0 (stands some)));
     })

@@ -17,7 +17,8 @@ pub search-pays : (squares boxes : CellBox → Bool) (tree : TreeView) (record_r
     → place_reads + record_reads ≤ block
     → search_reads squares tree + sum_by (λ place. record_reads + log place) (found_places squares boxes tree)
     ≤ square_reads * square_count (squares_at tree.base squares) tree.places
-    + sum_by (λ place. block + log place) (filter (cell_passes (squares_at tree.base squares) tree.places) (all_places tree.places))
+    + sum_by (λ place. block + log place)
+    (filter (cell_passes (squares_at tree.base squares) tree.places) (all_places tree.places))
 unfolding passes
 search-pays squares boxes tree record_reads block log enough =
     let of_cell : ℕ → Bool = cell_passes (squares_at tree.base squares) tree.places in
@@ -26,6 +27,8 @@ search-pays squares boxes tree record_reads block log enough =
     ≤ sum_by (λ place. record_reads + log place) cells =
     sum_by-filter-le (passes (tests_at tree.base squares boxes) tree.places) of_cell (λ place. record_reads + log place)
     (all_places tree.places) (λ k d within both. (and_parts _ _ both).1) in
-    let paid : (place_reads + record_reads) * length cells ≤ block * length cells = mul-le-mul_right (length cells) enough in
-    let parts : (place_reads + record_reads) * length cells ≡ place_reads * length cells + record_reads * length cells = grind arith in
+    let paid : (place_reads + record_reads) * length cells ≤ block * length cells =
+    mul-le-mul_right (length cells) enough in
+    let parts : (place_reads + record_reads) * length cells ≡ place_reads * length cells
+    + record_reads * length cells = grind arith in
     omega (arith, given, paid, parts, sum_by-each log record_reads cells, sum_by-each log block cells)

@@ -1,5 +1,6 @@
 -- The digits of a mask, from the last on.
-use Rattle.std.proofs.Common.{◌≡◌, ℕ, zero, suc, ◌+◌, ◌-◌, ◌*◌, ◌/◌, ◌%◌, ◌^◌, ◌<◌, ◌≤◌, ◌==◌, true, false, List, [], ◌∷◌, ◌++◌, length, filter, map, refl, sym, ap, ◌∙◌, arith, length-append, zero-add, All}
+use Rattle.std.proofs.Common.{◌≡◌, ℕ, zero, suc, ◌+◌, ◌-◌, ◌*◌, ◌/◌, ◌%◌, ◌^◌, ◌<◌, ◌≤◌, ◌==◌, true, false, List, []}
+use Rattle.std.proofs.Common.{◌∷◌, ◌++◌, length, filter, map, refl, sym, ap, ◌∙◌, arith, length-append, zero-add, All}
 use Rattle.std.specs.Int.{bit_at}
 use Rattle.std.specs.List.{range_with_len}
 use Rattle.std.proofs.lemmas.Bool.Decides.{nat_tests}
@@ -36,17 +37,26 @@ digits_from-clear level mask digit low clear =
     let fails : (bit_at mask digit == 1) ≡ false = grind (arith, nat_tests) in
     rw (more, fails) refl
 
-pub digits_from-few : (level mask digit : ℕ) → digit ≤ 4 ^ level → length (digits_from level mask digit) ≤ length (digits_in level mask)
+pub digits_from-few : (level mask digit : ℕ) → digit ≤ 4 ^ level
+    → length (digits_from level mask digit) ≤ length (digits_in level mask)
 unfolding digits_from digits_in
 digits_from-few level mask digit low =
     let p = λ (d : ℕ). bit_at mask d == 1 in
-    let parts : range_with_len 0 (digit + (4 ^ level - digit)) ≡ range_with_len 0 digit ++ range_with_len digit (4 ^ level - digit) =
-    range-parts 0 digit (4 ^ level - digit) ∙ ap (λ a. range_with_len 0 digit ++ range_with_len a (4 ^ level - digit)) (zero-add digit) in
+    let parts : range_with_len 0 (digit + (4 ^ level - digit)) ≡ range_with_len 0 digit ++ range_with_len digit
+    (4 ^ level - digit) =
+    range-parts 0 digit (4 ^ level - digit)
+    ∙ ap (λ a. range_with_len 0 digit ++ range_with_len a (4 ^ level - digit)) (zero-add digit) in
     let all : digit + (4 ^ level - digit) ≡ 4 ^ level = omega arith in
-    let split : filter p (range_with_len 0 (4 ^ level)) ≡ filter p (range_with_len 0 digit) ++ filter p (range_with_len digit (4 ^ level - digit)) =
+    let split : filter p (range_with_len 0 (4 ^ level)) ≡ filter p (range_with_len 0 digit) ++ filter p
+    (range_with_len digit (4 ^ level - digit)) =
     ap (λ n. filter p (range_with_len 0 n)) (sym all) ∙ ap (filter p) parts
     ∙ filter-append p (range_with_len 0 digit) (range_with_len digit (4 ^ level - digit)) in
-    omega (arith, ap length split, length-append (filter p (range_with_len 0 digit)) (filter p (range_with_len digit (4 ^ level - digit))))
+    omega (
+      arith,
+      ap length split,
+      length-append (filter p (range_with_len 0 digit))
+          (filter p (range_with_len digit (4 ^ level - digit))),
+    )
 
 pub digits_in-small : (level mask : ℕ) → All (λ d. d < 4 ^ level) (digits_in level mask)
 unfolding digits_in

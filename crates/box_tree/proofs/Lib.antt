@@ -1,19 +1,23 @@
-pub mod SquareLemmas
-pub mod RunLemmas
-pub mod NodeLemmas
-pub mod BoxesLemmas
-pub mod TreeLemmas
-pub mod DigitsLemmas
-pub mod WalkLemmas
-pub mod VisitLemmas
-pub mod AskedLemmas
-pub mod BeginLemmas
-pub mod BridgeLemmas
-pub mod BuildingLemmas
-pub mod SplitLemmas
-pub mod MakingLemmas
-pub mod BuiltLemmas
-pub mod QueueLemmas
-pub mod CostLemmas
-pub mod NearerLemmas
+-- Laws for callers: monotone tests, what the squares are, levels, costs, and a best-first search.
 pub mod MonotoneLemmas
+pub mod BridgeLemmas
+pub mod TreeLemmas
+pub mod CostLemmas
+pub mod QueueLemmas
+pub mod NearerLemmas
+pub mod NodeLemmas
+pub mod WalkLemmas
+-- Squares, their children, and the places in them.
+pub mod SquareLemmas
+mod RunLemmas
+mod DigitsLemmas
+mod BoxesLemmas
+-- Walks.
+mod BeginLemmas
+mod VisitLemmas
+mod AskedLemmas
+-- Building.
+mod SplitLemmas
+mod MakingLemmas
+mod BuildingLemmas
+mod BuiltLemmas

@@ -1,5 +1,7 @@
 -- Making nodes: what was made stays, the children of a square are tasks, and the squares become fewer.
-use Rattle.std.proofs.Common.{◌≡◌, ℕ, zero, suc, ◌+◌, ◌-◌, ◌*◌, ◌^◌, ◌<◌, ◌≤◌, true, List, [], ◌∷◌, ◌++◌, length, map, filter, drop, refl, sym, ap, ◌∙◌, arith, All, subst, inl, inr, Some, ◌⊎◌, append_assoc, length-append, get_or}
+use Rattle.std.proofs.Common.{◌≡◌, ℕ, zero, suc, ◌+◌, ◌-◌, ◌*◌, ◌^◌, ◌<◌, ◌≤◌, true, List, [], ◌∷◌, ◌++◌, length, map}
+use Rattle.std.proofs.Common.{filter, drop, refl, sym, ap, ◌∙◌, arith, All, subst, inl, inr, Some, ◌⊎◌, append_assoc}
+use Rattle.std.proofs.Common.{length-append, get_or}
 use Rattle.std.specs.Prelude.{slice_get, nat_lt}
 use Rattle.std.specs.List.{range_with_len, sum_by}
 use Rattle.std.proofs.lemmas.Option.{same_Some, slice_get_within, slice_get-get_or, get_or_from_slice_get}
@@ -25,7 +27,8 @@ use Rattle.box_tree.specs.Levels.{children, digits, first_in, is_held, run, squa
 use Rattle.box_tree.specs.Places.{box_at}
 use Rattle.box_tree.specs.Held.{IsBranch, Stand, digits_in}
 use Rattle.box_tree.specs.Tree.{levels_below}
-use Rattle.box_tree.specs.Building.{BeginsWith, IsMade, IsMadeKind, IsMadeLink, IsMaking, IsSplit, IsSplitInto, IsTask, StandsFor, child_task, task_levels, turns_left}
+use Rattle.box_tree.specs.Building.{BeginsWith, IsMade, IsMadeKind, IsMadeLink, IsMaking, IsSplit, IsSplitInto}
+use Rattle.box_tree.specs.Building.{IsTask, StandsFor, child_task, task_levels, turns_left}
 use Rattle.box_tree.specs.declared.kind.Kind.{Kind}
 use Rattle.box_tree.specs.declared.kind.Kind.TheVariants.{Bucket, Branch}
 use Rattle.box_tree.specs.declared.task.Task.{Task}
@@ -67,7 +70,8 @@ kind-more codes narrow tasks more task (Branch end mask) is = record {
   };
 }
 
-pub made-more : (codes : List ℕ) (boxes : List CellBox) (narrow : ℕ) (tasks more : List Task) (areas : List CellBox) (area : CellBox)
+pub made-more : (codes : List ℕ) (boxes : List CellBox) (narrow : ℕ) (tasks more : List Task) (areas : List CellBox)
+    (area : CellBox)
     (links : List (ℕ × ℕ)) (link : ℕ × ℕ) (number : ℕ) → IsMade codes boxes narrow tasks areas links number
     → IsMade codes boxes narrow (tasks ++ more) (areas ++ area ∷ []) (links ++ link ∷ []) number
 made-more codes boxes narrow tasks more areas area links link number it = record {
@@ -82,7 +86,7 @@ made-more codes boxes narrow tasks more areas area links link number it = record
   kind = kind-more codes narrow tasks more it.task (kind_of it.link) it.kind;
 }
 
--- children that were put behind others stand there
+-- children that were put after others stand there
 stand-pushed : (codes : List ℕ) (width : ℕ) (task : Task) (front : List Task) (cs : List ℕ)
     → Stand (StandsFor (front ++ map (child_task codes width task) cs) (task.below - 1)) (length front) cs
 unfolding Stand
@@ -104,8 +108,9 @@ stand-pushed codes width task front (c ∷ cs) =
           (stand-pushed codes width task (front ++ here ∷ []) cs)),
     )
 
--- the kind that was made of a task, and what came behind the others
-pub kind-made : (codes : List ℕ) (narrow : ℕ) (task : Task) (kind : Kind) (old new : List Task) → IsTask codes narrow task
+-- the kind that was made of a task, and what came after the others
+pub kind-made : (codes : List ℕ) (narrow : ℕ) (task : Task) (kind : Kind) (old new : List Task)
+    → IsTask codes narrow task
     → IsMadeLink codes narrow task kind old new → IsMadeKind codes narrow new task kind
 kind-made codes narrow task (Bucket low high) old new is its = (its.0, its.1, its.2)
 kind-made codes narrow task (Branch end mask) old new is its =
@@ -116,7 +121,8 @@ kind-made codes narrow task (Branch end mask) old new is its =
     let level : digits lower ≡ task.level - width = let all = ap digits its.2 in omega (arith, is.level, all) in
     let cs : List ℕ = children codes (task.level - width) width task.prefix in
     let stand : Stand (StandsFor new (task.below - 1)) (length old) cs =
-    subst (λ (tasks : List Task). Stand (StandsFor tasks (task.below - 1)) (length old) cs) (sym into.pushed) (stand-pushed codes width task old cs) in
+    subst (λ (tasks : List Task). Stand (StandsFor tasks (task.below - 1)) (length old) cs) (sym into.pushed)
+    (stand-pushed codes width task old cs) in
     let long : length old + length (digits_in width mask) ≡ end =
     omega (
       arith,
@@ -137,7 +143,8 @@ kind-made codes narrow task (Branch end mask) old new is its =
         few = into.few;
         told = into.told ∙ ap (λ n. children codes n width task.prefix) (sym level);
         stand = long;
-        each = subst (λ n. Stand (StandsFor new (task.below - 1)) (length old) (children codes n width task.prefix)) (sym level) stand;
+        each = subst (λ n. Stand (StandsFor new (task.below - 1)) (length old) (children codes n width task.prefix))
+            (sym level) stand;
       };
     }
 
@@ -151,19 +158,28 @@ inside-inside a b c ab bc = record {
 }
 
 pub inside-self : (a : CellBox) → IsBoxInside a a
-inside-self a = record { left = omega (arith, ints); right = omega (arith, ints); below = omega (arith, ints); above = omega (arith, ints) }
+inside-self a = record {
+  left = omega (arith, ints);
+  right = omega (arith, ints);
+  below =
+      omega (arith, ints);
+  above = omega (arith, ints);
+}
 
 -- a box that was read is near 0
-pub box-from : (base : Cell) (boxes : List CellBox) (place : ℕ) (read : CellBox) → place < length boxes → read ≡ get_or boxes place read
+pub box-from : (base : Cell) (boxes : List CellBox) (place : ℕ) (read : CellBox) → place < length boxes
+    → read ≡ get_or boxes place read
     → All (IsFrom base) boxes → IsFrom base read
 box-from base boxes place read within is from = subst (IsFrom base) (sym is) (from place read within)
 
-pub box-near : (boxes : List CellBox) (place : ℕ) (read : CellBox) → place < length boxes → read ≡ get_or boxes place read
+pub box-near : (boxes : List CellBox) (place : ℕ) (read : CellBox) → place < length boxes
+    → read ≡ get_or boxes place read
     → All IsBoxWithin boxes → IsBoxWithin read
 box-near boxes place read within is near = subst IsBoxWithin (sym is) (near place read within)
 
 -- one number more of a range
-pub All-range_more : (P : ℕ → Type 0) (a k : ℕ) → a ≤ k → All P (range_with_len a (k - a)) → P k → All P (range_with_len a (k + 1 - a))
+pub All-range_more : (P : ℕ → Type 0) (a k : ℕ) → a ≤ k → All P (range_with_len a (k - a)) → P k
+    → All P (range_with_len a (k + 1 - a))
 All-range_more P a k low each last =
     let more : k + 1 - a ≡ k - a + 1 = omega arith in
     let at : a + (k - a) ≡ k = omega arith in
@@ -174,19 +190,23 @@ All-range_more P a k low each last =
 
 -- the children of a square that hold a place
 children-held : (codes : List ℕ) (n level prefix : ℕ)
-    → All (λ q. (first_in codes n q < first_in codes n (q + 1)) × (4 ^ level * prefix ≤ q) × (q < 4 ^ level * prefix + 4 ^ level)) (children codes n level prefix)
+    → All (λ q. (first_in codes n q < first_in codes n (q + 1)) × (4 ^ level * prefix ≤ q)
+    × (q < 4 ^ level * prefix + 4 ^ level)) (children codes n level prefix)
 unfolding children is_held
 children-held codes n level prefix =
     held (range_with_len (4 ^ level * prefix) (4 ^ level))
-    (All-range (λ q. (4 ^ level * prefix ≤ q) × (q < 4 ^ level * prefix + 4 ^ level)) (4 ^ level * prefix) (4 ^ level) (λ j low high. (low, high)))
+    (All-range (λ q. (4 ^ level * prefix ≤ q) × (q < 4 ^ level * prefix + 4 ^ level)) (4 ^ level * prefix)
+    (4 ^ level) (λ j low high. (low, high)))
   where
     P : ℕ → Type 0
-    P q = (first_in codes n q < first_in codes n (q + 1)) × (4 ^ level * prefix ≤ q) × (q < 4 ^ level * prefix + 4 ^ level)
+    P q = (first_in codes n q < first_in codes n (q + 1)) × (4 ^ level * prefix ≤ q)
+        × (q < 4 ^ level * prefix + 4 ^ level)
 
     some : (q : ℕ) → is_held codes n q ≡ true → first_in codes n q < first_in codes n (q + 1)
     some q holds = grind (arith, nat_tests)
 
-    held : (xs : List ℕ) → All (λ q. (4 ^ level * prefix ≤ q) × (q < 4 ^ level * prefix + 4 ^ level)) xs → All P (filter (is_held codes n) xs)
+    held : (xs : List ℕ) → All (λ q. (4 ^ level * prefix ≤ q) × (q < 4 ^ level * prefix + 4 ^ level)) xs
+        → All P (filter (is_held codes n) xs)
     held [] each = All-nil P
     held (x ∷ xs) each =
         let Q : ℕ → Type 0 = λ q. (4 ^ level * prefix ≤ q) × (q < 4 ^ level * prefix + 4 ^ level) in
@@ -200,7 +220,8 @@ children-held codes n level prefix =
 -- what is known of a child's task
 child-is : (codes : List ℕ) (narrow width : ℕ) (task : Task) (q : ℕ) → IsTask codes narrow task → 1 ≤ task.below
     → levels_below narrow task.below ≡ width ∷ levels_below narrow (task.below - 1)
-    → (first_in codes (task.level - width) q < first_in codes (task.level - width) (q + 1)) × (4 ^ width * task.prefix ≤ q) × (q < 4 ^ width * task.prefix + 4 ^ width)
+    → (first_in codes (task.level - width) q < first_in codes (task.level - width) (q + 1))
+    × (4 ^ width * task.prefix ≤ q) × (q < 4 ^ width * task.prefix + 4 ^ width)
     → IsTask codes narrow (child_task codes width task q)
 child-is codes narrow width task q is some split its =
     let all : width + digits (levels_below narrow (task.below - 1)) ≡ task.level = ap digits (sym split) ∙ is.level in
@@ -215,7 +236,7 @@ child-is codes narrow width task q is some split its =
       some = its.0;
     }
 
--- tasks that come behind the others are tasks
+-- tasks that come after the others are tasks
 tasks-more : (codes : List ℕ) (narrow : ℕ) (task : Task) (kind : Kind) (old new : List Task) → IsTask codes narrow task
     → IsMadeLink codes narrow task kind old new → All (IsTask codes narrow) old → All (IsTask codes narrow) new
 tasks-more codes narrow task (Bucket low high) old new is its all = subst (All (IsTask codes narrow)) (sym its.3) all
@@ -226,10 +247,12 @@ tasks-more codes narrow task (Branch end mask) old new is its all =
     (All-append (IsTask codes narrow) old (map (child_task codes width task) cs) all
     (All-map (IsTask codes narrow) (child_task codes width task) cs
     (All-weaker _ (λ q. IsTask codes narrow (child_task codes width task q))
-    (λ q. child-is codes narrow width task q is its.1 its.2) cs (children-held codes (task.level - width) width task.prefix))))
+    (λ q. child-is codes narrow width task q is its.1 its.2) cs
+    (children-held codes (task.level - width) width task.prefix))))
 
 -- one node more was made
-pub making-next : (codes : List ℕ) (boxes : List CellBox) (narrow : ℕ) (first old new : List Task) (areas : List CellBox) (links : List (ℕ × ℕ))
+pub making-next : (codes : List ℕ) (boxes : List CellBox) (narrow : ℕ) (first old new : List Task)
+    (areas : List CellBox) (links : List (ℕ × ℕ))
     (task : Task) (area : CellBox) (link : ℕ × ℕ) → IsMaking codes boxes narrow first old areas links
     → slice_get old (length links) ≡ Some task → IsTask codes narrow task
     → All (λ place. IsBoxInside (box_at boxes place) area) (run codes task.level task.prefix)
@@ -240,14 +263,19 @@ making-next codes boxes narrow first old new areas links task area link is stand
     let more = begins codes narrow task (kind_of link) old new made in
     record {
       tasks = tasks-more codes narrow task (kind_of link) old new its made is.tasks;
-      begin = record { rest = is.begin.rest ++ more.rest; is = more.is ∙ ap (λ xs. xs ++ more.rest) is.begin.is ∙ append_assoc first is.begin.rest more.rest };
+      begin = record {
+        rest = is.begin.rest ++ more.rest;
+        is = more.is ∙ ap (λ xs. xs ++ more.rest) is.begin.is
+            ∙ append_assoc first is.begin.rest more.rest;
+      };
       same = omega (arith, is.same, length-append areas (area ∷ []), length-append links (link ∷ []));
       near = All-append IsBoxWithin areas (area ∷ []) is.near (All-cons IsBoxWithin area [] near (All-nil IsBoxWithin));
       from = λ base all. All-append (IsFrom base) areas (area ∷ []) (is.from base all)
           (All-cons (IsFrom base) area [] (from base all) (All-nil (IsFrom base)));
       made = λ number below. elim (cases_lt number (length links)) [
         | inl before ↦
-            subst (λ (tasks : List Task). IsMade codes boxes narrow tasks (areas ++ area ∷ []) (links ++ link ∷ []) number) (sym more.is)
+            subst (λ (tasks : List Task). IsMade codes boxes narrow tasks (areas ++ area ∷ [])
+            (links ++ link ∷ []) number) (sym more.is)
             (made-more codes boxes narrow old more.rest areas area links link number (is.made number before))
         | inr not ↦
             let here : number ≡ length links = omega (arith, below, length-append links (link ∷ [])) in
@@ -256,7 +284,8 @@ making-next codes boxes narrow first old new areas links task area link is stand
               task = task;
               area = area;
               link = link;
-              stands = ap (λ (tasks : List Task). slice_get tasks (length links)) more.is ∙ stays old more.rest (length links) task stands;
+              stands = ap (λ (tasks : List Task). slice_get tasks (length links)) more.is
+                  ∙ stays old more.rest (length links) task stands;
               is = its;
               area_is = ap (slice_get (areas ++ area ∷ [])) (sym is.same) ∙ last areas area;
               link_is = last links link;
@@ -266,16 +295,19 @@ making-next codes boxes narrow first old new areas links task area link is stand
       ];
     }
   where
-    begins : (codes : List ℕ) (narrow : ℕ) (task : Task) (kind : Kind) (old new : List Task) → IsMadeLink codes narrow task kind old new
+    begins : (codes : List ℕ) (narrow : ℕ) (task : Task) (kind : Kind) (old new : List Task)
+        → IsMadeLink codes narrow task kind old new
         → BeginsWith old new
     begins codes narrow task (Bucket low high) old new its = record { rest = []; is = its.3 ∙ sym (append-nil old) }
     begins codes narrow task (Branch end mask) old new its = record { rest = _; is = its.4.pushed }
 
     last : {A : Type 0} (xs : List A) (x : A) → slice_get (xs ++ x ∷ []) (length xs) ≡ Some x
-    last xs x = let none : length xs ≡ length xs + 0 = omega arith in ap (slice_get (xs ++ x ∷ [])) none ∙ slice_get-append_add xs (x ∷ []) 0
+    last xs x = let none : length xs ≡ length xs + 0 = omega arith in ap (slice_get (xs ++ x ∷ [])) none
+        ∙ slice_get-append_add xs (x ∷ []) 0
 
 -- squares become fewer
-turns-split : (codes : List ℕ) (narrow : ℕ) (task : Task) (kind : Kind) (old new : List Task) (k : ℕ) → IsTask codes narrow task
+turns-split : (codes : List ℕ) (narrow : ℕ) (task : Task) (kind : Kind) (old new : List Task) (k : ℕ)
+    → IsTask codes narrow task
     → IsMadeLink codes narrow task kind old new → k + 1 ≤ length old
     → turns_left codes narrow (drop (k + 1) new)
     < turns_left codes narrow (drop (k + 1) old) + squares_in (λ _. true) codes (task_levels narrow task) task.prefix
@@ -294,13 +326,15 @@ turns-split codes narrow task (Branch end mask) old new k is its within =
     let f : Task → ℕ = λ t. squares_in (λ _. true) codes (task_levels narrow t) t.prefix in
     let summed : turns_left codes narrow (drop (k + 1) new) ≡ sum_by f (drop (k + 1) old) + sum_by f made =
     ap (sum_by f) left ∙ sum_by-append f (drop (k + 1) old) made in
-    let below : sum_by f made ≡ sum_by (squares_in (λ _. true) codes lower) cs = sum_by-map f (child_task codes width task) cs in
+    let below : sum_by f made ≡ sum_by (squares_in (λ _. true) codes lower) cs =
+    sum_by-map f (child_task codes width task) cs in
     let own : f task ≡ 1 + sum_by (squares_in (λ _. true) codes lower) cs =
     ap (λ ls. squares_in (λ _. true) codes ls task.prefix) its.2
     ∙ ap (λ n. 1 + sum_by (squares_in (λ _. true) codes lower) (children codes n width task.prefix)) level in
     omega (arith, summed, below, own)
 
-pub turns-next : (codes : List ℕ) (narrow : ℕ) (task : Task) (kind : Kind) (old new : List Task) (k : ℕ) → IsTask codes narrow task
+pub turns-next : (codes : List ℕ) (narrow : ℕ) (task : Task) (kind : Kind) (old new : List Task) (k : ℕ)
+    → IsTask codes narrow task
     → slice_get old k ≡ Some task → IsMadeLink codes narrow task kind old new
     → turns_left codes narrow (drop (k + 1) new) < turns_left codes narrow (drop k old)
 turns-next codes narrow task kind old new k is stands its =
@@ -320,7 +354,8 @@ pub read-task : (tasks : List Task) (place : ℕ) (task : Task) → task ≡ get
     → slice_get tasks place ≡ Some task
 read-task tasks place task is within = slice_get-get_or tasks place task within ∙ ap Some (sym is)
 
-pub is-task : (codes : List ℕ) (narrow : ℕ) (tasks : List Task) (place : ℕ) (task : Task) → task ≡ get_or tasks place task
+pub is-task : (codes : List ℕ) (narrow : ℕ) (tasks : List Task) (place : ℕ) (task : Task)
+    → task ≡ get_or tasks place task
     → place < length tasks → All (IsTask codes narrow) tasks → IsTask codes narrow task
 is-task codes narrow tasks place task is within all = subst (IsTask codes narrow) (sym is) (all place task within)
 

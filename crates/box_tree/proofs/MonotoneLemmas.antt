@@ -1,5 +1,6 @@
 -- That the tests of a search by reach are monotone.
-use Rattle.std.proofs.Common.{lit≤, ◌≡◌, ℕ, ◌+◌, ◌-◌, ◌*◌, ◌/◌, ◌^◌, ◌<◌, ◌≤◌, ℤ, pos, ◌+ℤ◌, ◌-ℤ◌, ◌≤ℤ◌, true, Bool, refl, sym, ap, ◌∙◌, arith, subst}
+use Rattle.std.proofs.Common.{lit≤, ◌≡◌, ℕ, ◌+◌, ◌-◌, ◌*◌, ◌/◌, ◌^◌, ◌<◌, ◌≤◌, ℤ, pos, ◌+ℤ◌, ◌-ℤ◌, ◌≤ℤ◌, true, Bool}
+use Rattle.std.proofs.Common.{refl, sym, ap, ◌∙◌, arith, subst}
 use Rattle.std.specs.Prelude.{◌&&◌}
 use Rattle.std.proofs.Math.Nat.{div-one}
 use Rattle.std.proofs.lemmas.Int.{ints, clamps}
@@ -31,7 +32,8 @@ area-inside base grid n code deep small =
     let outer : in_box (area_at base (node n (code / 4 ^ n))) cell ≡ true =
     subst (λ k. in_box (area_at base (node n (k / 4 ^ n))) cell ≡ true) back (in_area grid inside n deep) in
     let inner : in_box (area_at base (node 0 code)) cell ≡ true =
-    subst (λ k. in_box (area_at base (node 0 k)) cell ≡ true) (ap (λ k. k / 4 ^ 0) back ∙ div-one code) (in_area grid inside 0 (omega arith)) in
+    subst (λ k. in_box (area_at base (node 0 k)) cell ≡ true) (ap (λ k. k / 4 ^ 0) back ∙ div-one code)
+    (in_area grid inside 0 (omega arith)) in
     let a = in_box-bounds (area_at base (node n (code / 4 ^ n))) cell outer in
     let b = in_box-bounds (area_at base (node 0 code)) cell inner in
     record {
@@ -47,7 +49,15 @@ pub passed-areas : (base : Cell) → IsBase base → (squares boxes : CellBox �
 passed-areas base near squares boxes mono = record {
   square = λ n code deep small holds.
       mono.squares (area_at base (node 0 code)) (area_at base (node n (code / 4 ^ n)))
-      (area-inside base (record { some = lit≤ tt; limit = omega arith; left = near.left; right = near.right; below = near.below; above = near.above }) n code deep small) holds;
+      (area-inside base (record {
+        some = lit≤ tt;
+        limit = omega arith;
+        left = near.left;
+        right = near.right;
+        below =
+            near.below;
+        above = near.above;
+      }) n code deep small) holds;
   area = mono.boxes;
 }
 

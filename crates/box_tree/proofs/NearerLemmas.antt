@@ -12,9 +12,11 @@ use Rattle.k2_tree.specs.Areas.{IsBoxInside}
 pub nearest-wider : (cell : Cell) (inner outer : CellBox) → IsBoxInside inner outer
     → squared_distance cell (nearest_cell outer cell) ≤ squared_distance cell (nearest_cell inner cell)
 nearest-wider cell inner outer inside =
-    let across : unsigned_abs (cell.x -ℤ int_max outer.x1 (int_min cell.x outer.x2)) ≤ unsigned_abs (cell.x -ℤ int_max inner.x1 (int_min cell.x inner.x2)) =
+    let across : unsigned_abs (cell.x -ℤ int_max outer.x1 (int_min cell.x outer.x2)) ≤ unsigned_abs
+    (cell.x -ℤ int_max inner.x1 (int_min cell.x inner.x2)) =
     nearer cell.x outer.x1 outer.x2 inner.x1 inner.x2 inside.left inside.right inner.wide in
-    let along : unsigned_abs (cell.y -ℤ int_max outer.y1 (int_min cell.y outer.y2)) ≤ unsigned_abs (cell.y -ℤ int_max inner.y1 (int_min cell.y inner.y2)) =
+    let along : unsigned_abs (cell.y -ℤ int_max outer.y1 (int_min cell.y outer.y2)) ≤ unsigned_abs
+    (cell.y -ℤ int_max inner.y1 (int_min cell.y inner.y2)) =
     nearer cell.y outer.y1 outer.y2 inner.y1 inner.y2 inside.below inside.above inner.high in
     sums _ _ _ _ across along
   where

@@ -1,5 +1,6 @@
 -- What a node is worth: it is skipped, gives way to its children, or to its bucket.
-use Rattle.std.proofs.Common.{◌≡◌, ℕ, zero, suc, ◌+◌, ◌-◌, ◌*◌, ◌/◌, ◌^◌, ◌<◌, ◌≤◌, Bool, true, false, List, [], ◌∷◌, ◌++◌}
+use Rattle.std.proofs.Common.{◌≡◌, ℕ, zero, suc, ◌+◌, ◌-◌, ◌*◌, ◌/◌, ◌^◌, ◌<◌, ◌≤◌, Bool, true, false, List, [], ◌∷◌}
+use Rattle.std.proofs.Common.{◌++◌}
 use Rattle.std.proofs.Common.{length, map, filter, get_or, refl, inl, inr, sym, ap, ◌∙◌, arith, lit≤, All}
 use Rattle.std.specs.Prelude.{nat_lt, slice_index, ◌&&◌, if◌then◌else◌}
 use Rattle.std.specs.List.{flat_map, range_with_len, sum_by}
@@ -15,7 +16,8 @@ use Rattle.track_types.specs.declared.limit.TheConstants.{MAX_HEIGHT}
 use Rattle.k2_tree.specs.Areas.{IsBoxInside}
 use Rattle.k2_tree.specs.Squares.{Node, node}
 use Rattle.box_tree.specs.Levels.{children, digits, first_in, run, squares_in}
-use Rattle.box_tree.specs.Places.{Places, Square, ArePassed, ArePlaces, Ascends, box_at, cell_passes, place_worth, square_worth, passes, run_of, square}
+use Rattle.box_tree.specs.Places.{Places, Square, ArePassed, ArePlaces, Ascends, box_at, cell_passes, place_worth}
+use Rattle.box_tree.specs.Places.{square_worth, passes, run_of, square}
 use Rattle.box_tree.specs.Tests.{Tests}
 use Rattle.box_tree.specs.Held.{IsBucket}
 use Rattle.box_tree.proofs.RunLemmas.{run-children, run-prefix}
@@ -39,9 +41,11 @@ module _ (tests : Tests) (mono : ArePassed tests) (places : Places) where
   unfolding passes
   skipped-square n prefix deep are fails =
       filter-fails (passes tests places) (run places.codes n prefix)
-      (All-weaker (λ place. (slice_index places.codes place / 4 ^ n ≡ prefix) × (place < length places.codes)) (λ place. passes tests places place ≡ false)
+      (All-weaker (λ place. (slice_index places.codes place / 4 ^ n ≡ prefix) × (place < length places.codes))
+      (λ place. passes tests places place ≡ false)
       (λ place its. fails-by (passes tests places place) (tests.square (node n prefix))
-      (λ all. rw its.0 at (mono.square n (slice_index places.codes place) deep (are.small place 0 its.1) (and_parts _ _ all).1)) fails)
+      (λ all. rw its.0 at (mono.square n (slice_index places.codes place) deep (are.small place 0 its.1)
+      (and_parts _ _ all).1)) fails)
       (run places.codes n prefix) (run-prefix places.codes n prefix are.ascend))
 
   -- so has one whose box fails
@@ -76,7 +80,8 @@ length-kept p (x ∷ xs) = grind (arith, length-kept p xs)
 pub few-children : (codes : List ℕ) (n level prefix : ℕ) → level ≤ 2 → length (children codes n level prefix) ≤ 16
 unfolding children
 few-children codes n level prefix low =
-    let kept = length-kept (λ q. nat_lt (first_in codes n q) (first_in codes n (q + 1))) (range_with_len (4 ^ level * prefix) (4 ^ level)) in
+    let kept = length-kept (λ q. nat_lt (first_in codes n q) (first_in codes n (q + 1)))
+    (range_with_len (4 ^ level * prefix) (4 ^ level)) in
     let most : 4 ^ level ≤ 16 = fan-le level low in
     omega (arith, length-kept, length-range_with_len (4 ^ level * prefix) (4 ^ level), most)
   where
@@ -87,7 +92,8 @@ few-children codes n level prefix low =
     fan-le (suc (suc (suc n))) low = absurd (omega arith)
 
 -- a square that passes is one of those that do
-pub squares_in-own : (test : Node → Bool) (codes levels : List ℕ) (prefix : ℕ) → test (node (digits levels) prefix) ≡ true
+pub squares_in-own : (test : Node → Bool) (codes levels : List ℕ) (prefix : ℕ)
+    → test (node (digits levels) prefix) ≡ true
     → 1 ≤ squares_in test codes levels prefix
 unfolding squares_in
 squares_in-own test codes [] prefix holds = rw holds (omega arith)
@@ -106,7 +112,8 @@ module _ (test : Node → Bool) (places : Places) where
       let below : List ℕ = children codes n level prefix in
       let s : ℕ → ℕ = squares_in test codes levels in
       let r : ℕ → ℕ = λ q. sum_by (place_worth test places) (run codes n q) in
-      let mapped : sum_by (square_worth test places) (map (square levels) below) ≡ sum_by (λ q. 3 + (48 * s q + r q)) below =
+      let mapped : sum_by (square_worth test places) (map (square levels) below) ≡ sum_by
+      (λ q. 3 + (48 * s q + r q)) below =
       sum_by-map (square_worth test places) (square levels) below in
       let summed = sum_by-three s r below in
       let few = few-children codes n level prefix low in
@@ -130,11 +137,14 @@ module _ (test : Node → Bool) (places : Places) where
   square_worth-cell prefix low high up holds is =
       let places_of : List ℕ = range_with_len low (high - low) in
       let all : sum_by (place_worth test places) (run places.codes 0 prefix) ≡ 3 * length (run places.codes 0 prefix) =
-      each (run places.codes 0 prefix) (All-weaker (λ place. (slice_index places.codes place / 4 ^ 0 ≡ prefix) × (place < length places.codes))
+      each (run places.codes 0 prefix)
+      (All-weaker (λ place. (slice_index places.codes place / 4 ^ 0 ≡ prefix) × (place < length places.codes))
       (λ place. cell_passes test places place ≡ true)
-      (λ place its. ap (λ c. test (node 0 c)) (sym (div-one (slice_index places.codes place)) ∙ its.0) ∙ holds) (run places.codes 0 prefix) (run-prefix places.codes 0 prefix up)) in
+      (λ place its. ap (λ c. test (node 0 c)) (sym (div-one (slice_index places.codes place)) ∙ its.0) ∙ holds)
+      (run places.codes 0 prefix) (run-prefix places.codes 0 prefix up)) in
       let long : length (run places.codes 0 prefix) ≡ high - low =
-      length-range_with_len (first_in places.codes 0 prefix) (first_in places.codes 0 (prefix + 1) - first_in places.codes 0 prefix)
+      length-range_with_len (first_in places.codes 0 prefix)
+      (first_in places.codes 0 (prefix + 1) - first_in places.codes 0 prefix)
       ∙ rw (is.low_is, is.high_is) refl in
       omega (arith, all, long)
     where

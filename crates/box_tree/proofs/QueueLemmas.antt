@@ -1,5 +1,6 @@
 -- A best-first search over nodes: a branch that is taken gives way to its children, a bucket to its places.
-use Rattle.std.proofs.Common.{◌≡◌, ℕ, ◌+◌, ◌-◌, ◌*◌, ◌≤◌, Bool, true, List, [], ◌∷◌, ◌++◌, length, refl, sym, ap, ◌∙◌, arith, All, subst}
+use Rattle.std.proofs.Common.{◌≡◌, ℕ, ◌+◌, ◌-◌, ◌*◌, ◌≤◌, Bool, true, List, [], ◌∷◌, ◌++◌, length, refl, sym, ap, ◌∙◌}
+use Rattle.std.proofs.Common.{arith, All, subst}
 use Rattle.std.specs.List.{flat_map, range_with_len, sum_by}
 use Rattle.std.proofs.lemmas.List.Elements.{All-append, All-head, All-tail}
 use Rattle.std.proofs.lemmas.List.Sums.{sum_by-append, sum_by-cons}
@@ -12,7 +13,8 @@ use Rattle.box_tree.specs.Tree.{IsNodeOf, TreeView, node_at, node_square}
 use Rattle.box_tree.specs.Walk.{IsGivenWay}
 use Rattle.box_tree.specs.declared.node_ref.NodeRef.{NodeRef}
 
-module _ (tree : TreeView) (ref : NodeRef) (nodes taken : List NodeRef) (waiting sought : List ℕ) (begun steps steps' : ℕ)
+module _ (tree : TreeView) (ref : NodeRef) (nodes taken : List NodeRef) (waiting sought : List ℕ)
+    (begun steps steps' : ℕ)
     (is : AreQueued tree (ref ∷ nodes) taken waiting sought begun steps) where
   -- a branch was taken: what it is was read, or what it is and its box
   pub queued-branch : (old new : List NodeRef) → (gave : IsGivenWay tree ref old new) → steps' ≤ steps + node_reads
@@ -21,7 +23,8 @@ module _ (tree : TreeView) (ref : NodeRef) (nodes taken : List NodeRef) (waiting
     are = All-append (IsNodeOf tree) gave.children nodes gave.nodes (All-tail (IsNodeOf tree) ref nodes is.are);
     parted = λ weight.
         let its : weight_below weight tree ref ≡ sum_by (weight_below weight tree) gave.children =
-        ap (sum_by weight) gave.places ∙ sum_by-flat_map weight (λ child. run_of tree.places (node_square tree.narrow child)) gave.children in
+        ap (sum_by weight) gave.places
+        ∙ sum_by-flat_map weight (λ child. run_of tree.places (node_square tree.narrow child)) gave.children in
         let all = is.parted weight in
         let first = sum_by-cons (weight_below weight tree) ref nodes in
         let both = sum_by-append (weight_below weight tree) gave.children nodes in
@@ -36,14 +39,17 @@ module _ (tree : TreeView) (ref : NodeRef) (nodes taken : List NodeRef) (waiting
   }
 
   -- a bucket was taken: its places wait
-  pub queued-bucket : (low high : ℕ) → run_of tree.places (node_square tree.narrow ref) ≡ range_with_len low (high - low)
-      → ((test : Node → Bool) → test (node_at ref) ≡ true → place_reads * (high - low) + node_reads ≤ reads_below test tree ref)
+  pub queued-bucket : (low high : ℕ)
+      → run_of tree.places (node_square tree.narrow ref) ≡ range_with_len low (high - low)
+      → ((test : Node → Bool) → test (node_at ref) ≡ true
+      → place_reads * (high - low) + node_reads ≤ reads_below test tree ref)
       → steps' ≤ steps + (place_reads * (high - low) + node_reads)
       → AreQueued tree nodes (ref ∷ taken) (range_with_len low (high - low) ++ waiting) sought begun steps'
   queued-bucket low high places pays paid = record {
     are = All-tail (IsNodeOf tree) ref nodes is.are;
     parted = λ weight.
-        let its : weight_below weight tree ref ≡ sum_by weight (range_with_len low (high - low)) = ap (sum_by weight) places in
+        let its : weight_below weight tree ref ≡ sum_by weight (range_with_len low (high - low)) =
+        ap (sum_by weight) places in
         let all = is.parted weight in
         let first = sum_by-cons (weight_below weight tree) ref nodes in
         let both = sum_by-append weight (range_with_len low (high - low)) waiting in

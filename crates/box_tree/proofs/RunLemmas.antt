@@ -1,5 +1,6 @@
 -- The places of a square: those of its children, and numbers with its prefix.
-use Rattle.std.proofs.Common.{◌≡◌, ℕ, zero, suc, ◌+◌, ◌-◌, ◌*◌, ◌/◌, ◌^◌, ◌<◌, ◌≤◌, Bool, true, false, List, [], ◌∷◌, ◌++◌}
+use Rattle.std.proofs.Common.{◌≡◌, ℕ, zero, suc, ◌+◌, ◌-◌, ◌*◌, ◌/◌, ◌^◌, ◌<◌, ◌≤◌, Bool, true, false, List, [], ◌∷◌}
+use Rattle.std.proofs.Common.{◌++◌}
 use Rattle.std.proofs.Common.{length, map, filter, get_or, pow-add, refl, inl, inr, sym, ap, ◌∙◌, arith, All}
 use Rattle.std.specs.Prelude.{nat_lt, slice_index}
 use Rattle.std.specs.List.{flat_map, range_with_len}
@@ -30,7 +31,8 @@ rises-far f up a (suc m) =
 
 -- ranges that begin where the last one ends are one range
 telescope : (f : ℕ → ℕ) → ((k : ℕ) → f k ≤ f (k + 1)) → (a m : ℕ)
-    → flat_map (λ q. range_with_len (f q) (f (q + 1) - f q)) (range_with_len a m) ≡ range_with_len (f a) (f (a + m) - f a)
+    → flat_map (λ q. range_with_len (f q) (f (q + 1) - f q)) (range_with_len a m) ≡ range_with_len (f a)
+    (f (a + m) - f a)
 telescope f up a zero =
     let e : a + 0 ≡ a = omega arith in
     let none : f a - f a ≡ 0 = omega arith in
@@ -52,9 +54,11 @@ unfolding first_in
 first_in-up codes n prefix = place_among-up codes (prefix * 4 ^ n) ((prefix + 1) * 4 ^ n) (grind arith)
 
 -- a square begins where its first child does
-pub first_in-child : (codes : List ℕ) (n level prefix : ℕ) → first_in codes n (4 ^ level * prefix) ≡ first_in codes (level + n) prefix
+pub first_in-child : (codes : List ℕ) (n level prefix : ℕ)
+    → first_in codes n (4 ^ level * prefix) ≡ first_in codes (level + n) prefix
 unfolding first_in
-first_in-child codes n level prefix = ap (place_among codes) (same (4 ^ level) (4 ^ n) (4 ^ (level + n)) (pow-add 4 level n))
+first_in-child codes n level prefix =
+    ap (place_among codes) (same (4 ^ level) (4 ^ n) (4 ^ (level + n)) (pow-add 4 level n))
   where
     same : (a b c : ℕ) → c ≡ a * b → a * prefix * b ≡ prefix * c
     same a b c e = rw e (grind arith)
@@ -126,7 +130,7 @@ place-past b k codes up within less = elim (cases_lt k (place_among codes b)) [
   | inr behind ↦ let least = from-place 0 b k codes up (omega arith) within in absurd (omega arith)
 ]
 
--- and one that is not stands behind it
+-- and one that is not stands after it
 pub place-until : (b k : ℕ) (codes : List ℕ) → Ascends 0 codes → b ≤ slice_index codes k → place_among codes b ≤ k
 place-until b k codes up least = elim (cases_lt k (place_among codes b)) [
   | inl before ↦ let less = below-place 0 b k codes up before in absurd (omega arith)
@@ -155,7 +159,8 @@ pub run-prefix : (codes : List ℕ) (n prefix : ℕ) → Ascends 0 codes
 unfolding run first_in
 run-prefix codes n prefix up =
     let up' = first_in-up' codes n prefix in
-    All-range (λ place. (slice_index codes place / 4 ^ n ≡ prefix) × (place < length codes)) (place_among codes (prefix * 4 ^ n))
+    All-range (λ place. (slice_index codes place / 4 ^ n ≡ prefix) × (place < length codes))
+    (place_among codes (prefix * 4 ^ n))
     (place_among codes ((prefix + 1) * 4 ^ n) - place_among codes (prefix * 4 ^ n))
     (λ j low high.
     let before : j < place_among codes ((prefix + 1) * 4 ^ n) = omega arith in
@@ -164,5 +169,6 @@ run-prefix codes n prefix up =
     let most = below-place 0 ((prefix + 1) * 4 ^ n) j codes up before in
     (div-eq_of_lt-le (4 ^ n) least most, within))
   where
-    first_in-up' : (codes : List ℕ) (n prefix : ℕ) → place_among codes (prefix * 4 ^ n) ≤ place_among codes ((prefix + 1) * 4 ^ n)
+    first_in-up' : (codes : List ℕ) (n prefix : ℕ)
+        → place_among codes (prefix * 4 ^ n) ≤ place_among codes ((prefix + 1) * 4 ^ n)
     first_in-up' codes n prefix = place_among-up codes (prefix * 4 ^ n) ((prefix + 1) * 4 ^ n) (grind arith)

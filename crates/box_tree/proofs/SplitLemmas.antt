@@ -1,5 +1,7 @@
 -- How a square is split: one digit more.
-use Rattle.std.proofs.Common.{◌≡◌, ℕ, zero, suc, ◌+◌, ◌-◌, ◌*◌, ◌/◌, ◌%◌, ◌^◌, ◌<◌, ◌≤◌, ◌==◌, Bool, true, false, List, [], ◌∷◌, ◌++◌, length, map, filter, refl, sym, ap, ◌∙◌, arith, pow-add, append_assoc, zero-add, mul-le-mul_right, mul-le-mul_left, inl, inr, subst}
+use Rattle.std.proofs.Common.{◌≡◌, ℕ, zero, suc, ◌+◌, ◌-◌, ◌*◌, ◌/◌, ◌%◌, ◌^◌, ◌<◌, ◌≤◌, ◌==◌, Bool, true, false}
+use Rattle.std.proofs.Common.{List, [], ◌∷◌, ◌++◌, length, map, filter, refl, sym, ap, ◌∙◌, arith, pow-add}
+use Rattle.std.proofs.Common.{append_assoc, zero-add, mul-le-mul_right, mul-le-mul_left, inl, inr, subst}
 use Rattle.std.specs.Prelude.{nat_lt}
 use Rattle.std.specs.Int.{bit_at}
 use Rattle.std.specs.List.{range_with_len}
@@ -23,7 +25,8 @@ bit-below mask digit d low =
     let parts : digit ≡ k + 1 + d = omega arith in
     let power : 2 ^ digit ≡ 2 ^ (k + 1) * 2 ^ d = ap (λ n. 2 ^ n) parts ∙ pow-add 2 (k + 1) d in
     let twice : 2 ^ (k + 1) ≡ 2 ^ k * 2 = pow-add 2 k 1 in
-    let more : (mask + 2 ^ (k + 1) * 2 ^ d) / 2 ^ d ≡ mask / 2 ^ d + 2 ^ (k + 1) = add-mul-div_right mask (2 ^ (k + 1)) (pow_pos d) in
+    let more : (mask + 2 ^ (k + 1) * 2 ^ d) / 2 ^ d ≡ mask / 2 ^ d + 2 ^ (k + 1) =
+    add-mul-div_right mask (2 ^ (k + 1)) (pow_pos d) in
     ap (λ p. (mask + p) / 2 ^ d % 2) power ∙ ap (λ q. q % 2) more ∙ even (mask / 2 ^ d) (2 ^ k) (2 ^ (k + 1)) twice
   where
     even : (q h p : ℕ) → p ≡ h * 2 → (q + p) % 2 ≡ q % 2
@@ -77,13 +80,15 @@ module _ (codes : List ℕ) (width : ℕ) (task : Task) (digit low high mask : �
 
   -- a child that holds a place
   pub split-held : low < high
-      → IsSplitting codes width task (digit + 1) high (mask + 2 ^ digit) old (now ++ child_task codes width task (from + digit) ∷ [])
+      → IsSplitting codes width task (digit + 1) high (mask + 2 ^ digit) old
+      (now ++ child_task codes width task (from + digit) ∷ [])
   unfolding is_held
   split-held some =
       let held : is_held codes n (from + digit) ≡ true = grind (arith, nat_tests, is.here, next) in
       let twice : 2 ^ (digit + 1) ≡ 2 ^ digit * 2 = pow-add 2 digit 1 in
       let set : bits (mask + 2 ^ digit) (0 + digit) ≡ true = grind (arith, nat_tests, bit-here mask digit is.few) in
-      let before : filter (bits (mask + 2 ^ digit)) (range_with_len 0 digit) ≡ filter (bits mask) (range_with_len 0 digit) =
+      let before : filter (bits (mask + 2 ^ digit)) (range_with_len 0 digit) ≡ filter (bits mask)
+      (range_with_len 0 digit) =
       filter-range (bits (mask + 2 ^ digit)) (bits mask) 0 digit
       (λ j least most. ap (λ b. b == 1) (bit-below mask digit j (omega arith))) in
       record {
@@ -95,8 +100,11 @@ module _ (codes : List ℕ) (width : ℕ) (task : Task) (digit low high mask : �
             ∙ ap (λ k. filter (is_held codes n) (range_with_len from digit) ++ (from + k) ∷ []) (zero-add digit)
             ∙ sym (filter-kept (is_held codes n) from digit held);
         pushed = ap (λ xs. xs ++ child_task codes width task (from + digit) ∷ []) is.pushed
-            ∙ append_assoc old (map (child_task codes width task) (filter (is_held codes n) (range_with_len from digit))) (child_task codes width task (from + digit) ∷ [])
-            ∙ ap (λ xs. old ++ xs) (sym (map-append (child_task codes width task) (filter (is_held codes n) (range_with_len from digit)) ((from + digit) ∷ []))
+            ∙ append_assoc old (map (child_task codes width task)
+            (filter (is_held codes n) (range_with_len from digit))) (child_task codes width task (from + digit) ∷ [])
+            ∙ ap (λ xs. old ++ xs)
+            (sym (map-append (child_task codes width task) (filter (is_held codes n) (range_with_len from digit))
+            ((from + digit) ∷ []))
             ∙ ap (map (child_task codes width task)) (sym (filter-kept (is_held codes n) from digit held)));
         here = next ∙ ap (first_in codes n) (omega arith);
       }
@@ -112,11 +120,12 @@ module _ (codes : List ℕ) (width : ℕ) (task : Task) (digit low high mask : �
         few = omega (arith, is.few, twice);
         told = ap (map (λ d. from + d)) (filter-left (bits mask) 0 digit clear) ∙ is.told
             ∙ sym (filter-left (is_held codes n) from digit not_held);
-        pushed = is.pushed ∙ ap (λ xs. old ++ map (child_task codes width task) xs) (sym (filter-left (is_held codes n) from digit not_held));
+        pushed = is.pushed ∙ ap (λ xs. old ++ map (child_task codes width task) xs)
+            (sym (filter-left (is_held codes n) from digit not_held));
         here = next ∙ ap (first_in codes n) (omega arith);
       }
 
-  -- the child was put behind the others where it holds a place
+  -- the child was put after the others where it holds a place
   pub split-next : (child : Task) (mask' : ℕ) (new : List Task) → child ≡ child_task codes width task (from + digit)
       → child.low ≡ low → child.high ≡ high → IsPushed child digit mask mask' now new
       → IsSplitting codes width task (digit + 1) high mask' old new
@@ -148,7 +157,7 @@ longer-within prefix width level digit deep low =
         let same : a * (prefix + 1) * b ≡ (prefix + 1) * c = rw e (grind arith) in
         omega (arith, most, same)
 
--- a number that stays small when digits are put behind it is small
+-- a number that stays small when digits are put after it is small
 pub small-front : (x k limit : ℕ) → x * 4 ^ k ≤ limit → x ≤ limit
 small-front x k limit small =
     let some = fan_pos k in

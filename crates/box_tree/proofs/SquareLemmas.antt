@@ -1,5 +1,7 @@
 -- Squares by column and row: their children, and how they lie in the greatest grid.
-use Rattle.std.proofs.Common.{◌≡◌, ℕ, zero, suc, ◌+◌, ◌-◌, ◌*◌, ◌/◌, ◌%◌, ◌^◌, ◌<◌, ◌≤◌, List, [], ◌∷◌, ◌++◌, map, All, refl, sym, ap, ◌∙◌, arith, lit<, inl, inr, mul-le-mul_left, mul-le-mul_right, pow-add}
+use Rattle.std.proofs.Common.{◌≡◌, ℕ, zero, suc, ◌+◌, ◌-◌, ◌*◌, ◌/◌, ◌%◌, ◌^◌, ◌<◌, ◌≤◌, List, [], ◌∷◌, ◌++◌, map}
+use Rattle.std.proofs.Common.{All, refl, sym, ap, ◌∙◌, arith, lit<, inl, inr, mul-le-mul_left, mul-le-mul_right}
+use Rattle.std.proofs.Common.{pow-add}
 use Rattle.std.proofs.Math.Nat.{pow-le-pow_right}
 use Rattle.std.proofs.lemmas.Bool.{cases_lt}
 use Rattle.std.proofs.lemmas.Nat.{pow_pos}
@@ -46,7 +48,8 @@ pub child-ends : (width level count part : ℕ) → width ≤ level → part < 2
     → (count + 1) * 2 ^ level ≤ 2 ^ MAX_HEIGHT → (2 ^ width * count + part + 1) * 2 ^ (level - width) ≤ 2 ^ MAX_HEIGHT
 child-ends width level count part deep low all =
     let e : width + (level - width) ≡ level = omega arith in
-    let power : 2 ^ level ≡ 2 ^ width * 2 ^ (level - width) = ap (λ n. 2 ^ n) (sym e) ∙ pow-add 2 width (level - width) in
+    let power : 2 ^ level ≡ 2 ^ width * 2 ^ (level - width) = ap (λ n. 2 ^ n) (sym e)
+    ∙ pow-add 2 width (level - width) in
     part-ends (2 ^ width) (2 ^ (level - width)) (2 ^ MAX_HEIGHT) count part low
     (omega (arith, all, ap (λ p. (count + 1) * p) power))
 
@@ -72,7 +75,8 @@ child-prefix width digit row column some few =
         → interleaved MAX_HEIGHT (2 ^ 1 * row + row_of 1 digit) (2 ^ 1 * column + column_of 1 digit)
         ≡ 4 ^ 1 * interleaved MAX_HEIGHT row column + digit
     one low right upper =
-        rw (column-one digit low, row-one digit low) (interleaved-child 19 row column digit 1 low (omega arith) right upper)
+        rw (column-one digit low, row-one digit low)
+        (interleaved-child 19 row column digit 1 low (omega arith) right upper)
 
     two : digit < 4 ^ 2 → (column + 1) * 2 ^ 2 ≤ 2 ^ MAX_HEIGHT → (row + 1) * 2 ^ 2 ≤ 2 ^ MAX_HEIGHT
         → interleaved MAX_HEIGHT (2 ^ 2 * row + row_of 2 digit) (2 ^ 2 * column + column_of 2 digit)
@@ -109,19 +113,23 @@ small-prefix level column row low right upper =
     let short : interleaved MAX_HEIGHT row column ≡ interleaved rest row column =
     ap (λ n. interleaved n row column) (sym (omega arith)) ∙ shorter level rest row column below left in
     let small = interleaved-lt rest row column in
-    let most : (interleaved rest row column + 1) * 4 ^ level ≤ 4 ^ rest * 4 ^ level = mul-le-mul_right (4 ^ level) (omega arith) in
+    let most : (interleaved rest row column + 1) * 4 ^ level ≤ 4 ^ rest * 4 ^ level =
+    mul-le-mul_right (4 ^ level) (omega arith) in
     let power : 4 ^ rest * 4 ^ level ≡ code_limit = sym (pow-add 4 rest level) ∙ ap (λ n. 4 ^ n) e in
     rw short (omega (arith, most, power))
   where
     within : (count : ℕ) → (count + 1) * 2 ^ level ≤ 2 ^ MAX_HEIGHT → count < 2 ^ (MAX_HEIGHT - level)
     within count all =
         let e : (MAX_HEIGHT - level) + level ≡ MAX_HEIGHT = omega arith in
-        let power : 2 ^ MAX_HEIGHT ≡ 2 ^ (MAX_HEIGHT - level) * 2 ^ level = ap (λ n. 2 ^ n) (sym e) ∙ pow-add 2 (MAX_HEIGHT - level) level in
+        let power : 2 ^ MAX_HEIGHT ≡ 2 ^ (MAX_HEIGHT - level) * 2 ^ level = ap (λ n. 2 ^ n) (sym e)
+        ∙ pow-add 2 (MAX_HEIGHT - level) level in
         fewer (2 ^ (MAX_HEIGHT - level)) (2 ^ level) count (pow_pos level) (omega (arith, all, power))
 
-    shorter : (more n row column : ℕ) → row < 2 ^ n → column < 2 ^ n → interleaved (more + n) row column ≡ interleaved n row column
+    shorter : (more n row column : ℕ) → row < 2 ^ n → column < 2 ^ n
+        → interleaved (more + n) row column ≡ interleaved n row column
     shorter zero n row column low left = ap (λ m. interleaved m row column) (omega arith)
     shorter (suc more) n row column low left =
         let wide : 2 ^ n ≤ 2 ^ (more + n) = pow-le-pow_right {n = 2} (lit< tt) (omega arith) in
         let next : suc more + n ≡ suc (more + n) = omega arith in
-        ap (λ m. interleaved m row column) next ∙ interleaved-more (more + n) row column (omega arith) (omega arith) ∙ shorter more n row column low left
+        ap (λ m. interleaved m row column) next ∙ interleaved-more (more + n) row column (omega arith) (omega arith)
+        ∙ shorter more n row column low left

@@ -1,5 +1,6 @@
 -- Levels of a tree.
-use Rattle.std.proofs.Common.{◌≡◌, ℕ, zero, suc, ◌+◌, ◌-◌, ◌*◌, ◌^◌, ◌<◌, ◌≤◌, true, false, List, [], ◌∷◌, length, refl, sym, ap, ◌∙◌, arith}
+use Rattle.std.proofs.Common.{◌≡◌, ℕ, zero, suc, ◌+◌, ◌-◌, ◌*◌, ◌^◌, ◌<◌, ◌≤◌, true, false, List, [], ◌∷◌, length}
+use Rattle.std.proofs.Common.{refl, sym, ap, ◌∙◌, arith}
 use Rattle.std.specs.Prelude.{nat_lt, if◌then◌else◌}
 use Rattle.std.proofs.Common.{inl, inr, lit≤, pow-suc}
 use Rattle.std.proofs.lemmas.Bool.{cases_Bool}
@@ -9,14 +10,16 @@ use Rattle.box_tree.specs.Levels.{digits}
 use Rattle.box_tree.specs.Tree.{AreLevels, child_limit, levels_below, slots}
 use Rattle.box_tree.specs.declared.node_ref.TheConstants.{SLOTS}
 
-pub width-narrow : (narrow below : ℕ) → 1 ≤ below → below ≤ narrow → levels_below narrow below ≡ 1 ∷ levels_below narrow (below - 1)
+pub width-narrow : (narrow below : ℕ) → 1 ≤ below → below ≤ narrow
+    → levels_below narrow below ≡ 1 ∷ levels_below narrow (below - 1)
 unfolding levels_below
 width-narrow narrow zero some low = absurd (omega arith)
 width-narrow narrow (suc below) some low =
     let e : suc below - 1 ≡ below = omega arith in
     let test : nat_lt below narrow ≡ true = grind (arith, nat_tests) in rw (e, test) refl
 
-pub width-wide : (narrow below : ℕ) → 1 ≤ below → narrow < below → levels_below narrow below ≡ 2 ∷ levels_below narrow (below - 1)
+pub width-wide : (narrow below : ℕ) → 1 ≤ below → narrow < below
+    → levels_below narrow below ≡ 2 ∷ levels_below narrow (below - 1)
 unfolding levels_below
 width-wide narrow zero some high = absurd (omega arith)
 width-wide narrow (suc below) some high =
@@ -25,7 +28,8 @@ width-wide narrow (suc below) some high =
 
 -- the room that a square with these levels takes is that of its children, and of the levels below
 pub slots-parts : (narrow below : ℕ) → 1 ≤ below
-    → slots (levels_below narrow below) + 1 ≡ child_limit (levels_below narrow below) + slots (levels_below narrow (below - 1))
+    → slots (levels_below narrow below) + 1 ≡ child_limit (levels_below narrow below) + slots
+    (levels_below narrow (below - 1))
 unfolding levels_below
 slots-parts narrow zero some = absurd (omega arith)
 slots-parts narrow (suc below) some =

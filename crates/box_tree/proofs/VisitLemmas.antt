@@ -1,5 +1,6 @@
 -- Walks over places: what a node that is visited, and a place that is looked at, change.
-use Rattle.std.proofs.Common.{◌≡◌, ℕ, suc, ◌+◌, ◌-◌, ◌*◌, ◌<◌, ◌≤◌, true, false, List, [], ◌∷◌, ◌++◌, filter, refl, sym, ap, ◌∙◌, arith}
+use Rattle.std.proofs.Common.{◌≡◌, ℕ, suc, ◌+◌, ◌-◌, ◌*◌, ◌<◌, ◌≤◌, true, false, List, [], ◌∷◌, ◌++◌, filter, refl}
+use Rattle.std.proofs.Common.{sym, ap, ◌∙◌, arith}
 use Rattle.std.specs.List.{flat_map, range_with_len, sum_by}
 use Rattle.std.proofs.lemmas.List.Elements.{filter-append}
 use Rattle.std.proofs.lemmas.List.Sums.{sum_by-cons}
@@ -26,12 +27,14 @@ module _ (tests : Tests) (old new : WalkView) (tree : new.tree ≡ old.tree) whe
   its = old.tree.places
 
   -- the next node is taken off
-  module _ (next : Square) (pending : old.pending ≡ next ∷ new.pending) (low : new.low ≡ old.low) (high : new.high ≡ old.high) where
+  module _ (next : Square) (pending : old.pending ≡ next ∷ new.pending) (low : new.low ≡ old.low)
+      (high : new.high ≡ old.high) where
     pub left-taken : old.high ≤ old.low
         → walk_left tests old ≡ filter (passes tests its) (run_of its next) ++ walk_left tests new
     left-taken done =
         let none : old.high - old.low ≡ 0 = omega arith in
-        rw (tree, low, high, pending, none) (filter-append (passes tests its) (run_of its next) (flat_map (run_of its) new.pending))
+        rw (tree, low, high, pending, none)
+        (filter-append (passes tests its) (run_of its next) (flat_map (run_of its) new.pending))
 
     pub reads-taken : walk_reads tests.square old ≡ square_worth tests.square its next + walk_reads tests.square new
     reads-taken =
@@ -41,7 +44,8 @@ module _ (tests : Tests) (old new : WalkView) (tree : new.tree ≡ old.tree) whe
     turns-taken = rw (tree, pending) (omega (arith, sum_by-cons (turns_in its) next new.pending))
 
   -- the next place of the bucket is taken off
-  module _ (some : old.low < old.high) (low : new.low ≡ old.low + 1) (high : new.high ≡ old.high) (pending : new.pending ≡ old.pending) where
+  module _ (some : old.low < old.high) (low : new.low ≡ old.low + 1) (high : new.high ≡ old.high)
+      (pending : new.pending ≡ old.pending) where
     more : old.high - old.low ≡ suc (old.high - (old.low + 1))
     more = omega arith
 

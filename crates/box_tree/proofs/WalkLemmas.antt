@@ -1,5 +1,7 @@
 -- Walks over nodes: what opening a node changes.
-use Rattle.std.proofs.Common.{◌≡◌, ℕ, zero, suc, ◌+◌, ◌-◌, ◌*◌, ◌^◌, ◌<◌, ◌≤◌, Bool, true, false, List, [], ◌∷◌, ◌++◌, length, map, filter, reverse, refl, sym, ap, ◌∙◌, arith, All, subst, length-append, Option, None, Some, IfSome, ◌==◌, ◌⊎◌, inl, inr}
+use Rattle.std.proofs.Common.{◌≡◌, ℕ, zero, suc, ◌+◌, ◌-◌, ◌*◌, ◌^◌, ◌<◌, ◌≤◌, Bool, true, false, List, [], ◌∷◌, ◌++◌}
+use Rattle.std.proofs.Common.{length, map, filter, reverse, refl, sym, ap, ◌∙◌, arith, All, subst, length-append}
+use Rattle.std.proofs.Common.{Option, None, Some, IfSome, ◌==◌, ◌⊎◌, inl, inr}
 use Rattle.std.specs.List.{flat_map, range_with_len, sum_by}
 use Rattle.std.specs.Int.{bit_at}
 use Rattle.std.specs.Option.{option_to_list}
@@ -18,12 +20,14 @@ use Rattle.box_tree.specs.Levels.{children, digits, first_in, run, squares_in}
 use Rattle.box_tree.specs.Places.{ArePlaces, Ascends, Places, Square, square_worth, passes, run_of, square}
 use Rattle.box_tree.specs.Tests.{Tests}
 use Rattle.box_tree.specs.Tree.{IsNodeOf, TreeView, child_limit, levels_below, levels_of, node_square, prefix_of, slots}
-use Rattle.box_tree.specs.Walk.{Fits, IsGivenWay, IsOpened, IsWalk, WalkView, child_refs, turns_in, walk_left, walk_of, walk_reads}
+use Rattle.box_tree.specs.Walk.{Fits, IsGivenWay, IsOpened, IsWalk, WalkView, child_refs, turns_in, walk_left}
+use Rattle.box_tree.specs.Walk.{walk_of, walk_reads}
 use Rattle.box_tree.specs.declared.kind.Kind.{Kind}
 use Rattle.box_tree.specs.declared.kind.Kind.TheVariants.{Bucket, Branch}
 use Rattle.box_tree.specs.declared.node_ref.NodeRef.{NodeRef}
 use Rattle.box_tree.proofs.DigitsLemmas.{digits_in-small}
-use Rattle.box_tree.proofs.NodeLemmas.{few-children, length-kept, square_worth-branch, square_worth-bucket, square_worth-cell, squares_in-own}
+use Rattle.box_tree.proofs.NodeLemmas.{few-children, length-kept, square_worth-branch, square_worth-bucket}
+use Rattle.box_tree.proofs.NodeLemmas.{square_worth-cell, squares_in-own}
 use Rattle.box_tree.proofs.RunLemmas.{run-children}
 use Rattle.box_tree.proofs.SquareLemmas.{child-ends, child-fits, child-prefix}
 use Rattle.box_tree.proofs.TreeLemmas.{slots-parts}
@@ -54,7 +58,12 @@ branch-parts places nodes level levels prefix end mask is = is
 pub length-digits_in : (level mask : ℕ) → length (digits_in level mask) ≤ 4 ^ level
 unfolding digits_in
 length-digits_in level mask =
-    omega (arith, length-kept (λ d. bit_at mask d == 1) (range_with_len 0 (4 ^ level)), length-range_with_len 0 (4 ^ level))
+    omega (
+      arith,
+      length-kept (λ d. bit_at mask d == 1) (range_with_len 0 (4 ^ level)),
+      length-range_with_len 0
+          (4 ^ level),
+    )
 
 -- the squares within the children are fewer
 turns-branch : (places : Places) (level : ℕ) (levels : List ℕ) (prefix : ℕ)
@@ -92,7 +101,8 @@ module _ (tree : TreeView) (parent : NodeRef) (width : ℕ) (its : IsNodeOf tree
   pub child-at : (number digit : ℕ) → digit < 4 ^ width → prefix_of (child number digit) ≡ longer digit
   child-at number digit low =
       child-prefix width digit parent.row parent.column some few low
-      (child-fits width parent.level parent.column deep its.right) (child-fits width parent.level parent.row deep its.upper)
+      (child-fits width parent.level parent.column deep its.right)
+      (child-fits width parent.level parent.row deep its.upper)
 
   -- children that stand are nodes of the tree
   children-nodes : (first : ℕ) (ds : List ℕ) → All (λ d. d < 4 ^ width) ds
@@ -108,7 +118,8 @@ module _ (tree : TreeView) (parent : NodeRef) (width : ℕ) (its : IsNodeOf tree
         deep = omega (arith, its.deep);
         right = child-ends width parent.level parent.column (column_of width d) deep (column_of-lt width d) its.right;
         upper = child-ends width parent.level parent.row (row_of width d) deep (row_of-lt width d) its.upper;
-        held = subst (λ q. Held tree.places tree.nodes lower q first) (sym (child-at first d (All-head P d ds low))) stand.0;
+        held = subst (λ q. Held tree.places tree.nodes lower q first)
+            (sym (child-at first d (All-head P d ds low))) stand.0;
       })
       (children-nodes (first + 1) ds (All-tail P d ds low) stand.1)
 
@@ -127,7 +138,8 @@ module _ (tree : TreeView) (parent : NodeRef) (width : ℕ) (its : IsNodeOf tree
       → All (λ (below : NodeRef). below.below + 1 ≡ parent.below) (child_refs parent width first ds)
   children-lower first [] inner = All-nil (λ (below : NodeRef). below.below + 1 ≡ parent.below)
   children-lower first (d ∷ ds) inner =
-      All-cons (λ (below : NodeRef). below.below + 1 ≡ parent.below) (child first d) (child_refs parent width (first + 1) ds)
+      All-cons (λ (below : NodeRef). below.below + 1 ≡ parent.below) (child first d)
+      (child_refs parent width (first + 1) ds)
       (omega arith) (children-lower (first + 1) ds inner)
 
   -- the branch gives way to them
@@ -146,7 +158,8 @@ module _ (tree : TreeView) (parent : NodeRef) (width : ℕ) (its : IsNodeOf tree
       subst (Stand (Held tree.places tree.nodes lower) is.first) (sym is.told) is.each in
       let squares : map sq refs ≡ map (square lower) cs =
       children-squares is.first ds low ∙ ap (map (square lower)) is.told in
-      let whole : sq parent ≡ square (width ∷ lower) (prefix_of parent) = ap (λ ls. square ls (prefix_of parent)) split in
+      let whole : sq parent ≡ square (width ∷ lower) (prefix_of parent) =
+      ap (λ ls. square ls (prefix_of parent)) split in
       let long : length refs ≡ length ds =
       sym (length-map refs sq) ∙ ap length squares ∙ length-map cs (square lower) ∙ sym (ap length is.told)
       ∙ length-map ds longer in
@@ -156,14 +169,16 @@ module _ (tree : TreeView) (parent : NodeRef) (width : ℕ) (its : IsNodeOf tree
         nodes = children-nodes is.first ds low stand;
         few = omega (arith, long, length-digits_in width mask, ap child_limit split);
         places = ap (run_of tree.places) whole ∙ run-children tree.places.codes (digits lower) width (prefix_of parent)
-            ∙ sym (flat_map-map (run_of tree.places) (square lower) cs) ∙ ap (flat_map (run_of tree.places)) (sym squares)
+            ∙ sym (flat_map-map (run_of tree.places) (square lower) cs)
+            ∙ ap (flat_map (run_of tree.places)) (sym squares)
             ∙ flat_map-map (run_of tree.places) sq refs;
         levels = children-lower is.first ds inner;
         reads = λ test holds.
             let at : test (node (width + digits lower) (prefix_of parent)) ≡ true =
             ap (λ n. test (node n (prefix_of parent))) level-parts ∙ holds in
             let paid = square_worth-branch test tree.places width lower (prefix_of parent) few at in
-            let summed = sym (sum_by-map (square_worth test tree.places) sq refs) ∙ ap (sum_by (square_worth test tree.places)) squares in
+            let summed = sym (sum_by-map (square_worth test tree.places) sq refs)
+            ∙ ap (sum_by (square_worth test tree.places)) squares in
             let own = ap (square_worth test tree.places) whole in
             omega (arith, paid, summed, own);
         turns =
@@ -218,18 +233,23 @@ module _ (tree : TreeView) (low high : ℕ) (stack new : List NodeRef) (parent :
   branch-opened done its = record {
     left = λ tests.
         let none : high - low ≡ 0 = omega arith in
-        rw (none, waiting) (ap (filter (passes tests tree.places)) (flat_map-append (run_of tree.places) (map sq way.children) before.pending
-        ∙ ap (λ run. run ++ flat_map (run_of tree.places) before.pending) (flat_map-map (run_of tree.places) sq way.children ∙ sym way.places))
-        ∙ filter-append (passes tests tree.places) (run_of tree.places (sq parent)) (flat_map (run_of tree.places) before.pending));
+        rw (none, waiting) (ap (filter (passes tests tree.places))
+        (flat_map-append (run_of tree.places) (map sq way.children) before.pending
+        ∙ ap (λ run. run ++ flat_map (run_of tree.places) before.pending)
+        (flat_map-map (run_of tree.places) sq way.children ∙ sym way.places))
+        ∙ filter-append (passes tests tree.places) (run_of tree.places (sq parent))
+        (flat_map (run_of tree.places) before.pending));
     reads = λ test holds.
         let paid = way.reads test (ap (λ n. test (node n (prefix_of parent))) (sym its.level) ∙ holds) in
         let summed = sum_by-map (square_worth test tree.places) sq way.children in
-        let both = ap (sum_by (square_worth test tree.places)) waiting ∙ sum_by-append (square_worth test tree.places) (map sq way.children) before.pending in
+        let both = ap (sum_by (square_worth test tree.places)) waiting
+        ∙ sum_by-append (square_worth test tree.places) (map sq way.children) before.pending in
         omega (arith, paid, summed, both);
     turns =
         let fewer = way.turns in
         let summed = sum_by-map (turns_in tree.places) sq way.children in
-        let both = ap (sum_by (turns_in tree.places)) waiting ∙ sum_by-append (turns_in tree.places) (map sq way.children) before.pending in
+        let both = ap (sum_by (turns_in tree.places)) waiting
+        ∙ sum_by-append (turns_in tree.places) (map sq way.children) before.pending in
         omega (arith, fewer, summed, both);
   }
 
@@ -246,7 +266,8 @@ module _ (tree : TreeView) (low high : ℕ) (stack new : List NodeRef) (parent :
         children-fit total deeper cs (All-tail P c cs each) fits (omega arith),
       )
 
-  pub branch-walk : IsWalk tree stack low high → length stack + slots (levels_of tree.narrow parent) ≤ slots tree.places.levels
+  pub branch-walk : IsWalk tree stack low high
+      → length stack + slots (levels_of tree.narrow parent) ≤ slots tree.places.levels
       → 1 ≤ parent.below → IsWalk tree new low high
   branch-walk walk room inner = record {
     nodes = subst (All (IsNodeOf tree)) (sym way.pushed)
@@ -261,7 +282,8 @@ module _ (tree : TreeView) (low high : ℕ) (stack new : List NodeRef) (parent :
   }
 
 -- a node was taken off a walk's stack
-pub popped : (tree : TreeView) (low high : ℕ) (old new : List NodeRef) (taken : Option NodeRef) → old ≡ new ++ option_to_list taken
+pub popped : (tree : TreeView) (low high : ℕ) (old new : List NodeRef) (taken : Option NodeRef)
+    → old ≡ new ++ option_to_list taken
     → IsWalk tree old low high → IsWalk tree new low high
 popped tree low high old new None is walk = rw (is ∙ append-nil new) at walk
 popped tree low high old new (Some ref) is walk =
@@ -276,7 +298,8 @@ popped tree low high old new (Some ref) is walk =
     }
 
 -- a node that was taken off is one of the tree's
-pub popped-node : (tree : TreeView) (low high : ℕ) (old new : List NodeRef) (taken : Option NodeRef) → old ≡ new ++ option_to_list taken
+pub popped-node : (tree : TreeView) (low high : ℕ) (old new : List NodeRef) (taken : Option NodeRef)
+    → old ≡ new ++ option_to_list taken
     → IsWalk tree old low high → IfSome taken (λ ref. IsNodeOf tree ref)
 popped-node tree low high old new None is walk = tt
 popped-node tree low high old new (Some ref) is walk =

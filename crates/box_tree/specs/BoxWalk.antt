@@ -10,7 +10,8 @@ use Rattle.box_tree.specs.declared.walk.BoxWalk.{BoxWalk}
 
 -- the places of a tree whose cell passes the first test and whose box passes the second, in order
 abbrev pub found_places : (CellBox → Bool) → (CellBox → Bool) → TreeView → List ℕ
-found_places squares boxes tree = filter (passes (tests_at tree.base squares boxes) tree.places) (all_places tree.places)
+found_places squares boxes tree =
+    filter (passes (tests_at tree.base squares boxes) tree.places) (all_places tree.places)
 
 -- at most so many reads find them: some for each square that holds a place and passes, and some for each place whose
 -- cell passes
@@ -18,6 +19,10 @@ abbrev pub search_reads : (CellBox → Bool) → TreeView → ℕ
 search_reads squares tree =
     square_reads * square_count (squares_at tree.base squares) tree.places
     + place_reads * length (filter (cell_passes (squares_at tree.base squares) tree.places) (all_places tree.places))
+
+-- the tree that a walk goes over
+abbrev pub walked_tree : {S : Type 0} → BoxWalk S → TreeView
+walked_tree walk = walk.walk.tree
 
 module _ {S : Type 0} (squares boxes : S → CellBox → Bool) where
   -- what a walk asks of the nodes of its tree

@@ -1,5 +1,6 @@
 -- How the nodes of a tree are made: a list of squares that grows while it is gone through.
-use Rattle.std.specs.Prelude.{◌≡◌, ℕ, suc, ◌+◌, ◌-◌, ◌*◌, ◌^◌, ◌<◌, ◌≤◌, ◌==◌, ◌⊎◌, true, filter, List, [], ◌∷◌, ◌++◌, length, map, All, slice_get, Some}
+use Rattle.std.specs.Prelude.{◌≡◌, ℕ, suc, ◌+◌, ◌-◌, ◌*◌, ◌^◌, ◌<◌, ◌≤◌, ◌==◌, ◌⊎◌, true, filter, List, [], ◌∷◌, ◌++◌}
+use Rattle.std.specs.Prelude.{length, map, All, slice_get, Some}
 use Rattle.track_types.specs.declared.cell_box.CellBox.{CellBox}
 use Rattle.k2_tree.specs.Areas.{IsBoxInside}
 use Rattle.track_types.specs.declared.limit.TheConstants.{MAX_HEIGHT}
@@ -66,13 +67,14 @@ child_task codes width task prefix = record {
   high = first_in codes (task.level - width) (prefix + 1);
 }
 
--- the task of a child was put behind the others where it holds a place, and its digit into the mask
+-- the task of a child was put after the others where it holds a place, and its digit into the mask
 pub record IsPushed (child : Task) (digit mask now : ℕ) (old new : List Task) : Type 0 where
   pub held : child.low < child.high → (new ≡ old ++ child ∷ []) × (now ≡ mask + 2 ^ digit)
   pub empty : child.high ≤ child.low → (new ≡ old) × (now ≡ mask)
 
 -- the children before a digit were looked at
-pub record IsSplitting (codes : List ℕ) (width : ℕ) (task : Task) (digit low mask : ℕ) (old now : List Task) : Type 0 where
+pub record IsSplitting (codes : List ℕ) (width : ℕ) (task : Task) (digit low mask : ℕ)
+    (old now : List Task) : Type 0 where
   pub few : mask < 2 ^ digit
   pub told : map (λ d. 4 ^ width * task.prefix + d) (filter (λ d. bit_at mask d == 1) (range_with_len 0 digit))
       ≡ filter (is_held codes (task.level - width)) (range_with_len (4 ^ width * task.prefix) digit)
@@ -80,14 +82,14 @@ pub record IsSplitting (codes : List ℕ) (width : ℕ) (task : Task) (digit low
       (filter (is_held codes (task.level - width)) (range_with_len (4 ^ width * task.prefix) digit))
   pub here : low ≡ first_in codes (task.level - width) (4 ^ width * task.prefix + digit)
 
--- the children of a square that hold a place came behind the other tasks
+-- the children of a square that hold a place came after the other tasks
 pub record IsSplitInto (codes : List ℕ) (width : ℕ) (task : Task) (mask : ℕ) (old new : List Task) : Type 0 where
   pub few : mask < 2 ^ 16
   pub told : map (λ digit. 4 ^ width * task.prefix + digit) (digits_in width mask)
       ≡ children codes (task.level - width) width task.prefix
   pub pushed : new ≡ old ++ map (child_task codes width task) (children codes (task.level - width) width task.prefix)
 
--- the kind of a node that is made of a task, and what it puts behind the other tasks
+-- the kind of a node that is made of a task, and what it puts after the other tasks
 abbrev pub IsMadeLink : List ℕ → ℕ → Task → Kind → List Task → List Task → Type 0
 IsMadeLink codes narrow task (Bucket low high) old new =
     (low ≡ task.low) × (high ≡ task.high) × ((task.below ≡ 0) ⊎ (high ≤ low + bucket_limit)) × (new ≡ old)
@@ -96,7 +98,8 @@ IsMadeLink codes narrow task (Branch end mask) old new =
     × (end ≡ length new) × IsSplitInto codes width task mask old new
 
 -- a node was made of the task at its place
-pub record IsMade (codes : List ℕ) (boxes : List CellBox) (narrow : ℕ) (tasks : List Task) (areas : List CellBox) (links : List (ℕ × ℕ)) (number : ℕ) : Type 0 where
+pub record IsMade (codes : List ℕ) (boxes : List CellBox) (narrow : ℕ) (tasks : List Task) (areas : List CellBox)
+    (links : List (ℕ × ℕ)) (number : ℕ) : Type 0 where
   pub task : Task
   pub area : CellBox
   pub link : ℕ × ℕ
@@ -114,7 +117,8 @@ pub record BeginsWith {A : Type 0} (front all : List A) : Type 0 where
 
 -- how many squares are in those of tasks
 abbrev pub turns_left : List ℕ → ℕ → List Task → ℕ
-turns_left codes narrow tasks = sum_by (λ (task : Task). squares_in (λ _. true) codes (task_levels narrow task) task.prefix) tasks
+turns_left codes narrow tasks =
+    sum_by (λ (task : Task). squares_in (λ _. true) codes (task_levels narrow task) task.prefix) tasks
 
 -- nodes were made of the first tasks
 pub record IsMaking (codes : List ℕ) (boxes : List CellBox) (narrow : ℕ) (first now : List Task) (areas : List CellBox)

@@ -1,5 +1,6 @@
 -- Nodes, and what they hold.
-use Rattle.std.specs.Prelude.{◌≡◌, ℕ, ◌+◌, ◌*◌, ◌^◌, ◌<◌, ◌≤◌, ◌==◌, Bool, true, false, List, [], ◌∷◌, length, map, filter, All}
+use Rattle.std.specs.Prelude.{◌≡◌, ℕ, ◌+◌, ◌*◌, ◌^◌, ◌<◌, ◌≤◌, ◌==◌, Bool, true, false, List, [], ◌∷◌, length, map}
+use Rattle.std.specs.Prelude.{filter, All}
 use Rattle.std.specs.Prelude.{slice_get, Some}
 use Rattle.std.specs.Int.{bit_at}
 use Rattle.std.specs.List.{enumerate_from, range_with_len, sum_by}
@@ -27,12 +28,12 @@ pub record IsBucket (codes : List ℕ) (n prefix low high : ℕ) : Type 0 where
   pub low_is : low ≡ first_in codes n prefix
   pub high_is : high ≡ first_in codes n (prefix + 1)
 
--- nodes one behind another are of these prefixes
+-- nodes one after another are of these prefixes
 unfoldable pub Stand : (ℕ → ℕ → Type 0) → ℕ → List ℕ → Type 0
 Stand held first [] = Unit {0}
 Stand held first (prefix ∷ prefixes) = held prefix first × Stand held (first + 1) prefixes
 
--- it is a branch, and its children are those that hold a number, one node behind another
+-- it is a branch, and its children are those that hold a number, one node after another
 pub record IsBranch (codes : List ℕ) (n level prefix end mask : ℕ) (held : ℕ → ℕ → Type 0) : Type 0 where
   pub first : ℕ
   pub few : mask < 2 ^ 16

@@ -1,5 +1,6 @@
--- Levels of squares. A level is told by the number of digits to base 4 that it takes: 1 where a square has two columns and
--- two rows of children, 2 where it has four of each. A list of levels goes from the one below a square down to the cells.
+-- Levels of squares. A level is told by the number of digits to base 4 that it takes: 1 where a square has two columns
+-- and two rows of children, 2 where it has four of each. A list of levels goes from the one below a square down to the
+-- cells.
 use Rattle.std.specs.Prelude.{ℕ, ◌+◌, ◌-◌, ◌*◌, ◌^◌, Bool, nat_lt, if◌then◌else◌, List, [], ◌∷◌, filter}
 use Rattle.std.specs.List.{range_with_len, sum_by}
 use Rattle.k2_tree.specs.Pruning.{place_among}

@@ -1,5 +1,6 @@
 -- What a tree of boxes stands for: places in Morton order, each with the number of its cell and a box.
-use Rattle.std.specs.Prelude.{◌≡◌, ℕ, ◌+◌, ◌*◌, ◌/◌, ◌^◌, ◌<◌, ◌≤◌, Bool, true, ◌&&◌, if◌then◌else◌, List, [], ◌∷◌, length, pos, All}
+use Rattle.std.specs.Prelude.{◌≡◌, ℕ, ◌+◌, ◌*◌, ◌/◌, ◌^◌, ◌<◌, ◌≤◌, Bool, true, ◌&&◌, if◌then◌else◌, List, [], ◌∷◌}
+use Rattle.std.specs.Prelude.{length, pos, All}
 use Rattle.std.specs.Prelude.{slice_index, slice_index_or, nat_lt}
 use Rattle.std.specs.List.{range_with_len, sum_by}
 use Rattle.track_types.specs.declared.cell_box.CellBox.{CellBox}
@@ -48,7 +49,8 @@ passes tests places place = tests.area (box_at places.boxes place) && cell_passe
 
 -- a square of the grid passes where a cell in it does, and a box where one in it does
 pub record ArePassed (tests : Tests) : Type 0 where
-  pub square : (n code : ℕ) → n ≤ MAX_HEIGHT → code < code_limit → tests.square (node 0 code) ≡ true → tests.square (node n (code / 4 ^ n)) ≡ true
+  pub square : (n code : ℕ) → n ≤ MAX_HEIGHT → code < code_limit → tests.square (node 0 code) ≡ true
+      → tests.square (node n (code / 4 ^ n)) ≡ true
   pub area : (inner outer : CellBox) → IsBoxInside inner outer → tests.area inner ≡ true → tests.area outer ≡ true
 
 -- a square as a walk knows it: the levels below it, and the prefix of its numbers

@@ -14,9 +14,10 @@ weight_below weight tree ref = sum_by weight (run_of tree.places (node_square tr
 abbrev pub reads_below : (Node → Bool) → TreeView → NodeRef → ℕ
 reads_below test tree ref = square_worth test tree.places (node_square tree.narrow ref)
 
--- Each place was sought, waits, or lies below one node that waits, each once. Of any test that all nodes which were taken
--- pass, the reads so far are paid.
-pub record AreQueued (tree : TreeView) (nodes taken : List NodeRef) (waiting sought : List ℕ) (begun steps : ℕ) : Type 0 where
+-- Each place was sought, waits, or lies below one node that waits, each once. Of any test that all nodes which were
+-- taken pass, the reads so far are paid.
+pub record AreQueued (tree : TreeView) (nodes taken : List NodeRef) (waiting sought : List ℕ)
+    (begun steps : ℕ) : Type 0 where
   pub are : All (IsNodeOf tree) nodes
   pub parted : (weight : ℕ → ℕ)
       → sum_by weight sought + (sum_by weight waiting + sum_by (weight_below weight tree) nodes)

@@ -1,5 +1,6 @@
 -- What is left of a walk over the nodes of a tree.
-use Rattle.std.specs.Prelude.{◌≡◌, ℕ, suc, ◌+◌, ◌-◌, ◌*◌, ◌^◌, ◌<◌, ◌≤◌, Bool, true, List, [], ◌∷◌, ◌++◌, length, map, filter, reverse, All, Option, option_to_list}
+use Rattle.std.specs.Prelude.{◌≡◌, ℕ, suc, ◌+◌, ◌-◌, ◌*◌, ◌^◌, ◌<◌, ◌≤◌, Bool, true, List, [], ◌∷◌, ◌++◌, length, map}
+use Rattle.std.specs.Prelude.{filter, reverse, All, Option, option_to_list}
 use Rattle.std.specs.List.{flat_map, range_with_len, sum_by}
 use Rattle.k2_tree.specs.Squares.{Node, node}
 use Rattle.box_tree.specs.Levels.{digits, squares_in}
@@ -86,7 +87,8 @@ pub record IsVisited (tests : Tests) (old new : WalkView) (square : Square) (beg
   pub tree : new.tree ≡ old.tree
   pub left : walk_left tests new
       ≡ filter (passes tests old.tree.places) (run_of old.tree.places square) ++ walk_left tests old
-  pub reads : steps + walk_reads tests.square new ≤ begun + walk_reads tests.square old + square_worth tests.square old.tree.places square
+  pub reads : steps + walk_reads tests.square new ≤ begun + walk_reads tests.square old
+      + square_worth tests.square old.tree.places square
   pub turns : turns_of new < turns_of old + turns_in old.tree.places square
 
 -- a bucket was gone through as far as its next place that passes
@@ -96,8 +98,8 @@ pub record IsScanned (tests : Tests) (old new : WalkView) (found : Option ℕ) (
   pub left : walk_left tests old ≡ option_to_list found ++ walk_left tests new
   pub reads : steps + walk_reads tests.square new ≤ begun + walk_reads tests.square old
 
--- a branch gave way to its children: they are nodes of the tree, one level lower; their places are its places, in order;
--- the reads that a node is worth pay for theirs and for its own; and there are fewer squares in them
+-- a branch gave way to its children: they are nodes of the tree, one level lower; their places are its places, in
+-- order; the reads that a node is worth pay for theirs and for its own; and there are fewer squares in them
 pub record IsGivenWay (tree : TreeView) (parent : NodeRef) (old new : List NodeRef) : Type 0 where
   pub children : List NodeRef
   pub pushed : new ≡ children ++ old

@@ -1,4 +1,5 @@
-ghost use Rattle.std.specs.Prelude.{◌≡◌, ◌+◌, ◌≤◌, ◌<◌, length, ◌-◌, ◌^◌, slice_get, Some, IfOk, All, pos, ◌+ℤ◌, ◌≤ℤ◌};
+ghost use Rattle.std.specs.Prelude.{◌≡◌, ◌+◌, ◌≤◌, ◌<◌, length, ◌-◌, ◌^◌, slice_get, Some, IfOk};
+ghost use Rattle.std.specs.Prelude.{All, pos, ◌+ℤ◌, ◌≤ℤ◌};
 ghost use Rattle.box_tree.specs.Boxes.{IsBase, IsFrom};
 ghost use Rattle.track_types.specs.Near.{IsBoxWithin, IsWithin};
 
@@ -8,7 +9,8 @@ use std::sync::ledger::Ledger;
 use step_count::{CountedList, Steps};
 use track_types::{Cell, CellBox, Memory};
 
-/// Boxes, each in two words: its least cell as it lies from a base, and how far it reaches from there.
+/// Boxes, each in two words: its least cell as it lies from a base, and how far it reaches from
+/// there.
 #[derive(Drop)]
 pub struct Boxes {
     base: Cell,

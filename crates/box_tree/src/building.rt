@@ -1,5 +1,7 @@
-ghost use Rattle.std.specs.Prelude.{◌≡◌, ℕ, suc, ◌+◌, ◌-◌, ◌*◌, ◌^◌, ◌<◌, ◌≤◌, ◌++◌, ◌∷◌, length, map, All, IfOk, OnOk, slice_index, ◌≤ℤ◌, ℤ};
-ghost use Rattle.box_tree.specs.Building.{child_task, BeginsWith, StandsFor, IsMade, IsMadeLink, IsPushed, IsSplitInto, IsTask, task_levels};
+ghost use Rattle.std.specs.Prelude.{◌≡◌, ℕ, suc, ◌+◌, ◌-◌, ◌*◌, ◌^◌, ◌<◌, ◌≤◌, ◌++◌, ◌∷◌, length};
+ghost use Rattle.std.specs.Prelude.{map, All, IfOk, OnOk, slice_index, ◌≤ℤ◌, ℤ};
+ghost use Rattle.box_tree.specs.Building.{child_task, BeginsWith, StandsFor, IsMade, IsMadeLink};
+ghost use Rattle.box_tree.specs.Building.{IsPushed, IsSplitInto, IsTask, task_levels};
 ghost use Rattle.box_tree.specs.Boxes.{IsFrom};
 ghost use Rattle.track_types.specs.declared.cell.Cell.{Cell};
 ghost use Rattle.box_tree.specs.Kinds.{kind_of};
@@ -49,7 +51,7 @@ pub fn begin(alloc: Global, codes: &[u64], height: u32, all: u32) -> Result<Vec<
     Ok(tasks)
 }
 
-// Makes a node of each task, and of those that come behind them.
+// Makes a node of each task, and of those that come after them.
 pub fn make(
     alloc: Global,
     codes: &[u64],
@@ -63,7 +65,8 @@ pub fn make(
     requires near { All IsBoxWithin boxes.now }
     requires tasks { All (IsTask codes.now narrow) tasks.old.items }
     ensures made { IfOk result (λ made. (number : ℕ) → number < length tasks.new.items
-        → IsMade codes.now boxes.now narrow tasks.new.items made.areas.items made.links.items number) }
+        → IsMade codes.now boxes.now narrow tasks.new.items made.areas.items made.links.items
+        number) }
     ensures near { IfOk result (λ made. All IsBoxWithin made.areas.items) }
     ensures from { IfOk result (λ made. (base : Cell) → All (IsFrom base) boxes.now
         → All (IsFrom base) made.areas.items) }
@@ -85,7 +88,8 @@ fn round(boxes: &[CellBox], low: u32, high: u32) -> CellBox
     requires some { low < high }
     requires within { high ≤ length boxes.now }
     requires near { All IsBoxWithin boxes.now }
-    ensures covers { All (λ place. IsBoxInside (box_at boxes.now place) result) (range_with_len low (high - low)) }
+    ensures covers { All (λ place. IsBoxInside (box_at boxes.now place) result)
+        (range_with_len low (high - low)) }
     ensures from { (base : Cell) → All (IsFrom base) boxes.now → IsFrom base result }
     ensures within { IsBoxWithin result }
 {
@@ -101,7 +105,8 @@ fn join(first: &CellBox, second: &CellBox) -> CellBox
     requires first { IsBoxWithin first.now }
     requires second { IsBoxWithin second.now }
     ensures within { IsBoxWithin result }
-    ensures from { (base : Cell) → IsFrom base first.now → IsFrom base second.now → IsFrom base result }
+    ensures from { (base : Cell) → IsFrom base first.now → IsFrom base second.now
+        → IsFrom base result }
     ensures first { IsBoxInside first.now result }
     ensures second { IsBoxInside second.now result }
 {
@@ -137,7 +142,8 @@ fn greater(a: i64, b: i64) -> i64
     if a < b { b } else { a }
 }
 
-// The link of the node that is made of a task. Where it is a branch, the tasks of its children come behind the others.
+// The link of the node that is made of a task. Where it is a branch, the tasks of its children
+// come after the others.
 fn link_of(
     codes: &[u64],
     narrow: u32,
@@ -147,7 +153,8 @@ fn link_of(
     requires ascend { Ascends 0 codes.now }
     requires is { IsTask codes.now narrow task }
     requires short { length codes.now < 2 ^ 31 }
-    ensures ok { IfOk result (λ link. IsMadeLink codes.now narrow task (kind_of link) tasks.old.items tasks.new.items) }
+    ensures ok { IfOk result (λ link.
+        IsMadeLink codes.now narrow task (kind_of link) tasks.old.items tasks.new.items) }
 {
     if task.below == 0 || task.high - task.low <= BUCKET_LIMIT {
         return Ok((task.low, BUCKET + task.high));
@@ -170,7 +177,8 @@ fn width_of(narrow: u32, below: u32) -> u32
     if below <= narrow { 1 } else { 2 }
 }
 
-// Puts the tasks of the children of a square that hold a place behind the others, and answers which digits these have.
+// Puts the tasks of those children of a square that hold a place after the others, and answers
+// which digits these have.
 fn split(codes: &[u64], width: u32, task: Task, tasks: &mut Vec<Task>) -> Result<u32, Memory>
     requires ascend { Ascends 0 codes.now }
     requires short { length codes.now < 2 ^ 31 }
@@ -182,7 +190,8 @@ fn split(codes: &[u64], width: u32, task: Task, tasks: &mut Vec<Task>) -> Result
     requires small { (task.prefix + 1) * 4 ^ task.level ≤ code_limit }
     requires low { task.low ≡ first_in codes.now task.level task.prefix }
     requires high { task.high ≡ first_in codes.now task.level (task.prefix + 1) }
-    ensures ok { IfOk result (λ mask. IsSplitInto codes.now width task mask tasks.old.items tasks.new.items) }
+    ensures ok { IfOk result (λ mask.
+        IsSplitInto codes.now width task mask tasks.old.items tasks.new.items) }
 {
     let fan = fan_of(width);
     let level = task.level - width;
@@ -205,11 +214,13 @@ fn split(codes: &[u64], width: u32, task: Task, tasks: &mut Vec<Task>) -> Result
     Ok(mask)
 }
 
-// Puts the task of a child behind the others where it holds a place, and answers the mask with its digit.
+// Puts the task of a child after the others where it holds a place, and answers the mask with its
+// digit.
 fn push_child(tasks: &mut Vec<Task>, child: Task, digit: u32, mask: u32) -> Result<u32, Memory>
     requires digit { digit < 16 }
     requires small { mask < 2 ^ digit }
-    ensures ok { IfOk result (λ now. IsPushed child digit mask now tasks.old.items tasks.new.items) }
+    ensures ok { IfOk result (λ now.
+        IsPushed child digit mask now tasks.old.items tasks.new.items) }
 {
     if child.low < child.high {
         tasks.push(child)?;

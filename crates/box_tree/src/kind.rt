@@ -1,8 +1,8 @@
 ghost use Rattle.std.specs.Prelude.{◌≡◌};
 ghost use Rattle.box_tree.specs.Kinds.{kind_of};
 
-/// What a node is: a bucket of the places from `low` on and before `high`, or a branch whose children
-/// stand one after another before `end`, one for each digit that the mask has.
+/// What a node is: a bucket of the places from `low` on and before `high`, or a branch whose
+/// children stand one after another before `end`, one for each digit that the mask has.
 #[derive(Clone, Copy, Debug)]
 pub enum Kind {
     Bucket { low: u32, high: u32 },

@@ -1,4 +1,5 @@
-ghost use Rattle.std.specs.Prelude.{◌≡◌, ℕ, ◌+◌, ◌-◌, ◌*◌, ◌^◌, ◌<◌, ◌≤◌, ◌++◌, ◌∷◌, [], length, reverse, IfNone, IfSome};
+ghost use Rattle.std.specs.Prelude.{◌≡◌, ℕ, ◌+◌, ◌-◌, ◌*◌, ◌^◌, ◌<◌, ◌≤◌, ◌++◌, ◌∷◌, [], length};
+ghost use Rattle.std.specs.Prelude.{reverse, IfNone, IfSome};
 ghost use Rattle.track_types.specs.declared.limit.TheConstants.{MAX_HEIGHT};
 ghost use Rattle.box_tree.specs.Boxes.{IsBase};
 ghost use Rattle.box_tree.specs.Cost.{link_reads};
@@ -95,9 +96,11 @@ impl<'a> NodeWalk<'a> {
         ensures high { self.new.high ≡ self.old.high }
         ensures none { IfNone result (self.old.pending ≡ []) }
         ensures stays { IfNone result (self.new ≡ self.old) }
-        ensures pending { IfSome result (λ node. self.old.pending ≡ node_square self.old.tree.narrow node ∷ self.new.pending) }
+        ensures pending { IfSome result (λ node.
+            self.old.pending ≡ node_square self.old.tree.narrow node ∷ self.new.pending) }
         ensures of { IfSome result (λ node. IsNodeOf self.old.tree node) }
-        ensures room { IfSome result (λ node. self.new.depth + slots (levels_of self.old.tree.narrow node)
+        ensures room { IfSome result (λ node.
+            self.new.depth + slots (levels_of self.old.tree.narrow node)
             ≤ slots self.old.tree.places.levels) }
     {
         self.stack.pop()
@@ -142,8 +145,9 @@ pub(crate) fn push_children(
     requires mask { mask < 2 ^ 16 }
     requires stand { length (digits_in width mask) ≤ end }
     requires room { length stack.old.items + length (digits_in width mask) ≤ SLOTS }
-    ensures { reverse stack.new.items ≡ child_refs parent.now width (end - length (digits_in width mask))
-        (digits_in width mask) ++ reverse stack.old.items }
+    ensures { reverse stack.new.items
+        ≡ child_refs parent.now width (end - length (digits_in width mask)) (digits_in width mask)
+        ++ reverse stack.old.items }
 {
     let fan = fan_of(width);
     let mut number = end;

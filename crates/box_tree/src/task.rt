@@ -6,7 +6,7 @@ pub struct Task {
     pub level: u32,
     // The prefix of its numbers.
     pub prefix: u64,
-    // Its places, from the first to the one behind the last.
+    // Its places, from the first to the one after the last.
     pub low: u32,
     pub high: u32,
 }

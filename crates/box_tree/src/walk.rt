@@ -1,5 +1,7 @@
-ghost use Rattle.std.specs.Prelude.{◌≡◌, ◌+◌, ◌≤◌, ◌<◌, ◌⊎◌, [], length, true, false, IfNone, IfSome};
+ghost use Rattle.std.specs.Prelude.{◌≡◌, ◌+◌, ◌++◌, ◌≤◌, ◌<◌, ◌⊎◌, [], length, option_to_list};
+ghost use Rattle.std.specs.Prelude.{true, false, IfNone, IfSome};
 ghost use Rattle.box_tree.specs.BoxWalk.{asked, box_budget, box_left, found_places, search_reads};
+ghost use Rattle.box_tree.specs.BoxWalk.{walked_tree};
 ghost use Rattle.box_tree.specs.Cost.{place_reads};
 ghost use Rattle.box_tree.specs.Boxes.{IsBase};
 ghost use Rattle.box_tree.specs.Levels.{digits};
@@ -35,6 +37,7 @@ impl<'a, S: Search> BoxWalk<'a, S> {
             ≡ found_places (S.squares search) (S.boxes search) tree.now }
         ensures budget { box_budget S.squares S.boxes result
             ≤ search_reads (S.squares search) tree.now }
+        ensures tree { walked_tree result ≡ tree.now }
     {
         let root = wanted(tree, &search);
         BoxWalk {
@@ -64,6 +67,7 @@ impl<'a, S: Search> BoxWalk<'a, S> {
         ensures search { self.new.search ≡ self.old.search }
         ensures scanned { IsScanned (asked S.squares S.boxes self.old) self.old.walk self.new.walk
             result steps.old steps.new }
+        ensures within { IfSome result (λ place. place < length self.old.walk.tree.places.codes) }
         ensures done { IfNone result (self.new.walk.high ≤ self.new.walk.low) }
     {
         while let Some(place) = self.walk.next_place() {
@@ -104,7 +108,15 @@ impl<'a, S: Search> Lazy for BoxWalk<'a, S> {
 
     ghost budget = { box_budget S.squares S.boxes };
 
-    fn draw<L: Ledger>(&mut self, steps: &mut Steps<L>) -> Option<u32> {
+    fn draw<L: Ledger>(&mut self, steps: &mut Steps<L>) -> Option<u32>
+        ensures found { box_left S.squares S.boxes self.old
+            ≡ option_to_list result ++ box_left S.squares S.boxes self.new }
+        ensures none { IfNone result (box_left S.squares S.boxes self.old ≡ []) }
+        ensures cost { steps.new + box_budget S.squares S.boxes self.new
+            ≤ steps.old + box_budget S.squares S.boxes self.old }
+        ensures tree { walked_tree self.new ≡ walked_tree self.old }
+        ensures within { IfSome result (λ place. place < length (walked_tree self.old).places.codes) }
+    {
         loop {
             if let Some(place) = self.scan(steps) {
                 return Some(place);

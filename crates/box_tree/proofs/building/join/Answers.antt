@@ -28,10 +28,34 @@ returns-clause-first c =
     let f = c.args.first.now in
     let its = c.requires.first in
     record {
-      left = omega (arith, ints, word_kept c.lesser.result c.lesser.ensures.within, word_kept f.x1 its.x1, c.lesser.ensures.first);
-      right = omega (arith, ints, word_kept c.greater.result c.greater.ensures.within, word_kept f.x2 its.x2, c.greater.ensures.first);
-      below = omega (arith, ints, word_kept c.lesser-2.result c.lesser-2.ensures.within, word_kept f.y1 its.y1, c.lesser-2.ensures.first);
-      above = omega (arith, ints, word_kept c.greater-2.result c.greater-2.ensures.within, word_kept f.y2 its.y2, c.greater-2.ensures.first);
+      left = omega (
+        arith,
+        ints,
+        word_kept c.lesser.result c.lesser.ensures.within,
+        word_kept f.x1 its.x1,
+        c.lesser.ensures.first,
+      );
+      right = omega (
+        arith,
+        ints,
+        word_kept c.greater.result c.greater.ensures.within,
+        word_kept f.x2 its.x2,
+        c.greater.ensures.first,
+      );
+      below = omega (
+        arith,
+        ints,
+        word_kept c.lesser-2.result c.lesser-2.ensures.within,
+        word_kept f.y1 its.y1,
+        c.lesser-2.ensures.first,
+      );
+      above = omega (
+        arith,
+        ints,
+        word_kept c.greater-2.result c.greater-2.ensures.within,
+        word_kept f.y2 its.y2,
+        c.greater-2.ensures.first,
+      );
     }
 
 pub returns-clause-second : goal.returns-clause-second
@@ -39,16 +63,70 @@ returns-clause-second c =
     let f = c.args.second.now in
     let its = c.requires.second in
     record {
-      left = omega (arith, ints, word_kept c.lesser.result c.lesser.ensures.within, word_kept f.x1 its.x1, c.lesser.ensures.second);
-      right = omega (arith, ints, word_kept c.greater.result c.greater.ensures.within, word_kept f.x2 its.x2, c.greater.ensures.second);
-      below = omega (arith, ints, word_kept c.lesser-2.result c.lesser-2.ensures.within, word_kept f.y1 its.y1, c.lesser-2.ensures.second);
-      above = omega (arith, ints, word_kept c.greater-2.result c.greater-2.ensures.within, word_kept f.y2 its.y2, c.greater-2.ensures.second);
+      left = omega (
+        arith,
+        ints,
+        word_kept c.lesser.result c.lesser.ensures.within,
+        word_kept f.x1 its.x1,
+        c.lesser.ensures.second,
+      );
+      right = omega (
+        arith,
+        ints,
+        word_kept c.greater.result c.greater.ensures.within,
+        word_kept f.x2 its.x2,
+        c.greater.ensures.second,
+      );
+      below = omega (
+        arith,
+        ints,
+        word_kept c.lesser-2.result c.lesser-2.ensures.within,
+        word_kept f.y1 its.y1,
+        c.lesser-2.ensures.second,
+      );
+      above = omega (
+        arith,
+        ints,
+        word_kept c.greater-2.result c.greater-2.ensures.within,
+        word_kept f.y2 its.y2,
+        c.greater-2.ensures.second,
+      );
     }
 
 pub returns-clause-from : goal.returns-clause-from
 returns-clause-from c = λ base first second. record {
-  left = omega (arith, ints, word_kept c.lesser.result c.lesser.ensures.within, c.lesser.ensures.least base.x (omega (arith, ints, first.left, word_kept c.args.first.now.x1 c.requires.first.x1)) (omega (arith, ints, second.left, word_kept c.args.second.now.x1 c.requires.second.x1)));
-  right = omega (arith, ints, word_kept c.greater.result c.greater.ensures.within, c.greater.ensures.most (base.x +ℤ pos (2 ^ 32 - 1)) (omega (arith, ints, first.right, word_kept c.args.first.now.x2 c.requires.first.x2)) (omega (arith, ints, second.right, word_kept c.args.second.now.x2 c.requires.second.x2)));
-  below = omega (arith, ints, word_kept c.lesser-2.result c.lesser-2.ensures.within, c.lesser-2.ensures.least base.y (omega (arith, ints, first.below, word_kept c.args.first.now.y1 c.requires.first.y1)) (omega (arith, ints, second.below, word_kept c.args.second.now.y1 c.requires.second.y1)));
-  above = omega (arith, ints, word_kept c.greater-2.result c.greater-2.ensures.within, c.greater-2.ensures.most (base.y +ℤ pos (2 ^ 32 - 1)) (omega (arith, ints, first.above, word_kept c.args.first.now.y2 c.requires.first.y2)) (omega (arith, ints, second.above, word_kept c.args.second.now.y2 c.requires.second.y2)));
+  left = omega (
+    arith,
+    ints,
+    word_kept c.lesser.result c.lesser.ensures.within,
+    c.lesser.ensures.least base.x
+        (omega (arith, ints, first.left, word_kept c.args.first.now.x1 c.requires.first.x1))
+        (omega (arith, ints, second.left, word_kept c.args.second.now.x1 c.requires.second.x1)),
+  );
+  right = omega (
+    arith,
+    ints,
+    word_kept c.greater.result c.greater.ensures.within,
+    c.greater.ensures.most
+        (base.x +ℤ pos (2 ^ 32 - 1))
+        (omega (arith, ints, first.right, word_kept c.args.first.now.x2 c.requires.first.x2))
+        (omega (arith, ints, second.right, word_kept c.args.second.now.x2 c.requires.second.x2)),
+  );
+  below = omega (
+    arith,
+    ints,
+    word_kept c.lesser-2.result c.lesser-2.ensures.within,
+    c.lesser-2.ensures.least base.y
+        (omega (arith, ints, first.below, word_kept c.args.first.now.y1 c.requires.first.y1))
+        (omega (arith, ints, second.below, word_kept c.args.second.now.y1 c.requires.second.y1)),
+  );
+  above = omega (
+    arith,
+    ints,
+    word_kept c.greater-2.result c.greater-2.ensures.within,
+    c.greater-2.ensures.most
+        (base.y +ℤ pos (2 ^ 32 - 1))
+        (omega (arith, ints, first.above, word_kept c.args.first.now.y2 c.requires.first.y2))
+        (omega (arith, ints, second.above, word_kept c.args.second.now.y2 c.requires.second.y2)),
+  );
 }

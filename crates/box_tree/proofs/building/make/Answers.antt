@@ -1,4 +1,5 @@
-use Rattle.std.proofs.Common.{◌≡◌, ℕ, ◌+◌, ◌-◌, ◌<◌, ◌≤◌, List, [], ◌∷◌, ◌++◌, length, drop, All, arith, sym, ap, ◌∙◌, subst, get_or, length-append}
+use Rattle.std.proofs.Common.{◌≡◌, ℕ, ◌+◌, ◌-◌, ◌<◌, ◌≤◌, List, [], ◌∷◌, ◌++◌, length, drop, All, arith, sym, ap, ◌∙◌}
+use Rattle.std.proofs.Common.{subst, get_or, length-append}
 use Rattle.std.specs.Prelude.{slice_get, Some}
 use Rattle.std.specs.List.{range_with_len}
 use Rattle.k2_tree.specs.Areas.{IsBoxInside}
@@ -15,14 +16,17 @@ use Rattle.box_tree.proofs.building.make.Goals.{After-index-task}
 place : (c : After-index-task) → c.len-in-loop-tasks-2.result ≡ length c.loop-tasks.links.items
 place c = omega (arith, c.loop-tasks.links.ok.0)
 
-next : (c : After-index-task) → c.index-task.result.now ≡ get_or c.loop-tasks.tasks.items (length c.loop-tasks.links.items) c.index-task.result.now
+next : (c : After-index-task)
+    → c.index-task.result.now ≡ get_or c.loop-tasks.tasks.items
+    (length c.loop-tasks.links.items) c.index-task.result.now
 next c = c.index-task.ensures ∙ ap (λ k. get_or c.loop-tasks.tasks.items k c.index-task.result.now) (place c)
 
 before : (c : After-index-task) → length c.loop-tasks.links.items < length c.loop-tasks.tasks.items
 before c = omega (arith, c.loop-tasks.links.ok.0, c.loop-tasks.tasks.ok.0)
 
 its : (c : After-index-task) → IsTask c.args.codes.now c.args.narrow c.index-task.result.now
-its c = is-task c.args.codes.now c.args.narrow c.loop-tasks.tasks.items (length c.loop-tasks.links.items) c.index-task.result.now (next c) (before c) c.loop-tasks.invariant.tasks
+its c = is-task c.args.codes.now c.args.narrow c.loop-tasks.tasks.items
+    (length c.loop-tasks.links.items) c.index-task.result.now (next c) (before c) c.loop-tasks.invariant.tasks
 
 pub round-requires-clause-within : goal.round-requires-clause-within
 round-requires-clause-within c =
@@ -44,11 +48,16 @@ loop-tasks-preserved c =
     let task : Task = c.index-task.result.now in
     let codes : List ℕ = c.args.codes.now in
     let boxes = c.args.boxes.now in
-    let covers = subst (All (λ place. IsBoxInside (box_at boxes place) c.round.result)) (sym (task-run codes c.args.narrow task (its at))) c.round.ensures.covers in
-    subst (IsMaking codes boxes c.args.narrow c.args.tasks.now.items c.link_of.new.tasks.items c.push.new.self.items) (sym c.in_ok-push-2.ensures.items)
-    (subst (λ areas. IsMaking codes boxes c.args.narrow c.args.tasks.now.items c.link_of.new.tasks.items areas (l.links.items ++ c.in_ok-link.link ∷ [])) (sym c.in_ok-push.ensures.items)
-    (making-next codes boxes c.args.narrow c.args.tasks.now.items l.tasks.items c.link_of.new.tasks.items l.areas.items l.links.items task c.round.result c.in_ok-link.link
-    l.invariant (read-task l.tasks.items (length l.links.items) task (next at) (before at)) (its at) covers c.round.ensures.within c.round.ensures.from c.in_ok-link.ensures.ok))
+    let covers = subst (All (λ place. IsBoxInside (box_at boxes place) c.round.result))
+    (sym (task-run codes c.args.narrow task (its at))) c.round.ensures.covers in
+    subst (IsMaking codes boxes c.args.narrow c.args.tasks.now.items c.link_of.new.tasks.items c.push.new.self.items)
+    (sym c.in_ok-push-2.ensures.items)
+    (subst (λ areas. IsMaking codes boxes c.args.narrow c.args.tasks.now.items c.link_of.new.tasks.items areas
+    (l.links.items ++ c.in_ok-link.link ∷ [])) (sym c.in_ok-push.ensures.items)
+    (making-next codes boxes c.args.narrow c.args.tasks.now.items l.tasks.items c.link_of.new.tasks.items
+    l.areas.items l.links.items task c.round.result c.in_ok-link.link
+    l.invariant (read-task l.tasks.items (length l.links.items) task (next at) (before at))
+    (its at) covers c.round.ensures.within c.round.ensures.from c.in_ok-link.ensures.ok))
 
 pub loop-tasks-smaller : goal.loop-tasks-smaller
 loop-tasks-smaller c =
@@ -58,6 +67,8 @@ loop-tasks-smaller c =
     let codes : List ℕ = c.args.codes.now in
     let long : length c.push-in-loop-tasks.new.self.items ≡ length l.links.items + 1 =
     ap length c.in_ok-push-2.ensures.items ∙ length-append l.links.items (c.in_ok-link.link ∷ []) in
-    let fewer = turns-next codes c.args.narrow task (kind_of c.in_ok-link.link) l.tasks.items c.link_of.new.tasks.items (length l.links.items) (its at)
+    let fewer = turns-next codes c.args.narrow task
+    (kind_of c.in_ok-link.link) l.tasks.items c.link_of.new.tasks.items (length l.links.items) (its at)
     (read-task l.tasks.items (length l.links.items) task (next at) (before at)) c.in_ok-link.ensures.ok in
-    subst (λ k. turns_left codes c.args.narrow (drop k c.link_of.new.tasks.items) < turns_left codes c.args.narrow (drop (length l.links.items) l.tasks.items)) (sym long) fewer
+    subst (λ k. turns_left codes c.args.narrow (drop k c.link_of.new.tasks.items) < turns_left codes c.args.narrow
+    (drop (length l.links.items) l.tasks.items)) (sym long) fewer

@@ -17,7 +17,9 @@ loop-place-init c =
     let same : box_at c.args.boxes.now low ≡ c.index-boxes-low.result =
     get_or_default c.args.boxes.now low no_box c.index-boxes-low.result within ∙ sym c.index-boxes-low.is in
     record {
-      covers = All-range_more (λ place. IsBoxInside (box_at c.args.boxes.now place) c.index-boxes-low.result) low low (omega arith) (rw none (All-nil (λ place. IsBoxInside (box_at c.args.boxes.now place) c.index-boxes-low.result)))
+      covers = All-range_more (λ place. IsBoxInside (box_at c.args.boxes.now place) c.index-boxes-low.result) low low
+          (omega arith) (rw none
+          (All-nil (λ place. IsBoxInside (box_at c.args.boxes.now place) c.index-boxes-low.result)))
           (subst (λ b. IsBoxInside b c.index-boxes-low.result) (sym same) (inside-self c.index-boxes-low.result));
       within = box-near c.args.boxes.now low c.index-boxes-low.result within c.index-boxes-low.is c.requires.near;
       from = λ base all. box-from base c.args.boxes.now low c.index-boxes-low.result within c.index-boxes-low.is all;
@@ -25,7 +27,8 @@ loop-place-init c =
 
 pub join-area-requires-clause-second : goal.join-area-requires-clause-second
 join-area-requires-clause-second c =
-    box-near c.args.boxes.now c.loop-place.place c.index-boxes-place.result (omega arith) c.index-boxes-place.is c.requires.near
+    box-near c.args.boxes.now c.loop-place.place c.index-boxes-place.result
+    (omega arith) c.index-boxes-place.is c.requires.near
 
 pub loop-place-preserved : goal.loop-place-preserved
 loop-place-preserved c =
@@ -34,9 +37,12 @@ loop-place-preserved c =
     let same : box_at c.args.boxes.now place ≡ c.index-boxes-place.result =
     get_or_default c.args.boxes.now place no_box c.index-boxes-place.result within ∙ sym c.index-boxes-place.is in
     record {
-      covers = All-range_more (λ p. IsBoxInside (box_at c.args.boxes.now p) c.join-area.result) c.args.low place (omega arith)
-          (All-weaker (λ p. IsBoxInside (box_at c.args.boxes.now p) c.loop-place.area) (λ p. IsBoxInside (box_at c.args.boxes.now p) c.join-area.result)
-          (λ p its. inside-inside (box_at c.args.boxes.now p) c.loop-place.area c.join-area.result its c.join-area.ensures.first)
+      covers = All-range_more (λ p. IsBoxInside (box_at c.args.boxes.now p) c.join-area.result) c.args.low place
+          (omega arith)
+          (All-weaker (λ p. IsBoxInside (box_at c.args.boxes.now p) c.loop-place.area)
+          (λ p. IsBoxInside (box_at c.args.boxes.now p) c.join-area.result)
+          (λ p its. inside-inside
+          (box_at c.args.boxes.now p) c.loop-place.area c.join-area.result its c.join-area.ensures.first)
           (range_with_len c.args.low (place - c.args.low)) c.loop-place.invariant.covers)
           (subst (λ b. IsBoxInside b c.join-area.result) (sym same) c.join-area.ensures.second);
       within = c.join-area.ensures.within;

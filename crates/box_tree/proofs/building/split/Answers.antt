@@ -1,4 +1,5 @@
-use Rattle.std.proofs.Common.{◌≡◌, ℕ, ◌+◌, ◌-◌, ◌*◌, ◌^◌, ◌<◌, ◌≤◌, List, [], length, map, filter, refl, sym, ap, ◌∙◌, arith, pow-add, append-nil, lit<}
+use Rattle.std.proofs.Common.{◌≡◌, ℕ, ◌+◌, ◌-◌, ◌*◌, ◌^◌, ◌<◌, ◌≤◌, List, [], length, map, filter, refl, sym, ap, ◌∙◌}
+use Rattle.std.proofs.Common.{arith, pow-add, append-nil, lit<}
 use Rattle.std.proofs.Math.Nat.{pow-le-pow_right}
 use Rattle.k2_tree.proofs.PrefixLemmas.{fan_pos}
 use Rattle.std.specs.List.{range_with_len}
@@ -15,7 +16,8 @@ use Rattle.box_tree.proofs.building.split.Goals.{After-from-in-loop-digit, After
 
 -- the child's prefix
 prefix : (c : After-from-in-loop-digit)
-    → c.from.result * c.args.task.prefix + c.from-in-loop-digit.result ≡ 4 ^ c.args.width * c.args.task.prefix + c.loop-digit.digit
+    → c.from.result * c.args.task.prefix + c.from-in-loop-digit.result ≡ 4 ^ c.args.width * c.args.task.prefix
+    + c.loop-digit.digit
 prefix c = rw (c.from.ensures, c.fan_of-fan.ensures.value, c.from-in-loop-digit.ensures) refl
 
 -- it ends within the square
@@ -23,19 +25,24 @@ ends : (c : After-from-in-loop-digit)
     → (c.from.result * c.args.task.prefix + c.from-in-loop-digit.result + 1) * 4 ^ (c.args.task.level - c.args.width)
     ≤ (c.args.task.prefix + 1) * 4 ^ c.args.task.level
 ends c =
-    rw (prefix c) (longer-within c.args.task.prefix c.args.width c.args.task.level c.loop-digit.digit c.requires.level (omega arith))
+    rw (prefix c) (longer-within c.args.task.prefix c.args.width c.args.task.level c.loop-digit.digit
+    c.requires.level (omega arith))
 
-small : (c : After-from-in-loop-digit) → c.from.result * c.args.task.prefix + c.from-in-loop-digit.result + 1 ≤ code_limit
+small : (c : After-from-in-loop-digit)
+    → c.from.result * c.args.task.prefix + c.from-in-loop-digit.result + 1 ≤ code_limit
 small c =
     let all = ends c in
-    small-front (c.from.result * c.args.task.prefix + c.from-in-loop-digit.result + 1) (c.args.task.level - c.args.width) code_limit (omega (arith, all, c.requires.small))
+    small-front (c.from.result * c.args.task.prefix + c.from-in-loop-digit.result + 1)
+    (c.args.task.level - c.args.width) code_limit (omega (arith, all, c.requires.small))
 
 pub overflow_mul-first : goal.overflow_mul-first
 overflow_mul-first c =
     let some = fan_pos c.args.width in
     let all = longer-within c.args.task.prefix c.args.width c.args.task.level 0 c.requires.level some in
-    let few = small-front (4 ^ c.args.width * c.args.task.prefix + 0 + 1) (c.args.task.level - c.args.width) code_limit (omega (arith, all, c.requires.small)) in
-    let same : c.from.result * c.args.task.prefix ≡ 4 ^ c.args.width * c.args.task.prefix = rw (c.from.ensures, c.fan_of-fan.ensures.value) refl in
+    let few = small-front (4 ^ c.args.width * c.args.task.prefix + 0 + 1)
+    (c.args.task.level - c.args.width) code_limit (omega (arith, all, c.requires.small)) in
+    let same : c.from.result * c.args.task.prefix ≡ 4 ^ c.args.width * c.args.task.prefix =
+    rw (c.from.ensures, c.fan_of-fan.ensures.value) refl in
     omega (arith, few, same)
 
 pub loop-digit-init : goal.loop-digit-init
@@ -49,7 +56,8 @@ loop-digit-init c =
       told = refl;
       pushed = sym (append-nil c.args.tasks.now.items);
       here = c.requires.low ∙ ap (λ m. first_in c.args.codes.now m c.args.task.prefix) (sym back)
-          ∙ sym (first_in-child c.args.codes.now n c.args.width c.args.task.prefix) ∙ ap (first_in c.args.codes.now n) (sym flat);
+          ∙ sym (first_in-child c.args.codes.now n c.args.width c.args.task.prefix)
+          ∙ ap (first_in c.args.codes.now n) (sym flat);
     }
 
 pub overflow_add-prefix : goal.overflow_add-prefix
@@ -67,8 +75,10 @@ end_of-high-requires-clause-low c =
     let at = (goal.at.end_of-high-requires-clause-low c) in
     let n : ℕ = c.args.task.level - c.args.width in
     let q : ℕ = 4 ^ c.args.width * c.args.task.prefix + c.loop-digit.digit in
-    let up : place_among c.args.codes.now (q * 4 ^ n) ≤ place_among c.args.codes.now ((q + 1) * 4 ^ n) = first_in-up c.args.codes.now n q in
-    let bound : c.bound_of.result ≡ (q + 1) * 4 ^ n = c.bound_of.ensures ∙ ap (λ k. (k + 1) * 4 ^ n) (prefix at.After-from-in-loop-digit) in
+    let up : place_among c.args.codes.now (q * 4 ^ n) ≤ place_among c.args.codes.now ((q + 1) * 4 ^ n) =
+    first_in-up c.args.codes.now n q in
+    let bound : c.bound_of.result ≡ (q + 1) * 4 ^ n = c.bound_of.ensures
+    ∙ ap (λ k. (k + 1) * 4 ^ n) (prefix at.After-from-in-loop-digit) in
     rw bound (omega (arith, up, c.loop-digit.invariant.here))
 
 pub end_of-high-requires-clause-high : goal.end_of-high-requires-clause-high
@@ -81,7 +91,8 @@ end_of-high-requires-clause-high c =
 
 pub end_of-high-requires-clause-within : goal.end_of-high-requires-clause-within
 end_of-high-requires-clause-within c =
-    let most = first_in-le c.args.codes.now c.args.task.level (c.args.task.prefix + 1) in omega (arith, c.requires.high, most)
+    let most = first_in-le c.args.codes.now c.args.task.level (c.args.task.prefix + 1) in
+    omega (arith, c.requires.high, most)
 
 pub loop-digit-preserved : goal.loop-digit-preserved
 unfolding first_in
@@ -94,12 +105,21 @@ loop-digit-preserved c =
     let same : raw ≡ q = prefix at.After-from-in-loop-digit in
     let next : c.end_of-high.result ≡ first_in c.args.codes.now n (q + 1) =
     c.end_of-high.ensures ∙ ap (place_among c.args.codes.now) (c.bound_of.ensures ∙ ap (λ k. (k + 1) * 4 ^ n) same) in
-    let child : Task = record { below = c.args.task.below - 1; level = n; prefix = raw; low = l.low; high = c.end_of-high.result } in
-    let made : ℕ → ℕ → ℕ → Task = λ k low high. record { below = c.args.task.below - 1; level = n; prefix = k; low = low; high = high } in
+    let child : Task = record {
+      below = c.args.task.below - 1;
+      level = n;
+      prefix = raw;
+      low = l.low;
+      high =
+          c.end_of-high.result;
+    } in
+    let made : ℕ → ℕ → ℕ → Task =
+    λ k low high. record { below = c.args.task.below - 1; level = n; prefix = k; low = low; high = high } in
     let its : child ≡ child_task c.args.codes.now c.args.width c.args.task q =
     ap (λ k. made k l.low c.end_of-high.result) same ∙ ap (λ a. made q a c.end_of-high.result) l.invariant.here
     ∙ ap (made q (first_in c.args.codes.now n q)) next in
-    split-next c.args.codes.now c.args.width c.args.task l.digit l.low c.end_of-high.result l.mask c.args.tasks.now.items l.tasks.items
+    split-next c.args.codes.now c.args.width c.args.task l.digit l.low c.end_of-high.result l.mask
+    c.args.tasks.now.items l.tasks.items
     l.invariant next child c.in_ok-mask.mask c.push_child.new.tasks.items its refl refl c.in_ok-mask.ensures.ok
 
 pub returns : goal.returns

@@ -1,4 +1,5 @@
-use Rattle.std.proofs.Common.{◌≡◌, ℕ, ◌+◌, ◌-◌, ◌*◌, ◌/◌, ◌%◌, ◌^◌, ◌<◌, ◌≤◌, List, [], ◌∷◌, ◌++◌, length, reverse, refl, sym, ap, ◌∙◌, arith, lit<, length-append}
+use Rattle.std.proofs.Common.{◌≡◌, ℕ, ◌+◌, ◌-◌, ◌*◌, ◌/◌, ◌%◌, ◌^◌, ◌<◌, ◌≤◌, List, [], ◌∷◌, ◌++◌, length, reverse}
+use Rattle.std.proofs.Common.{refl, sym, ap, ◌∙◌, arith, lit<, length-append}
 use Rattle.std.proofs.Math.Nat.{mul_comm}
 use Rattle.std.proofs.lemmas.List.{reverse-append}
 use Rattle.track_types.specs.declared.limit.TheConstants.{MAX_HEIGHT}
@@ -6,7 +7,8 @@ use Rattle.k2_tree.specs.Morton.{column_of, row_of}
 use Rattle.box_tree.specs.Held.{digits_in}
 use Rattle.box_tree.specs.Walk.{child_refs}
 use Rattle.box_tree.specs.declared.node_ref.NodeRef.{NodeRef}
-use Rattle.box_tree.proofs.DigitsLemmas.{digits_from, digits_from-clear, digits_from-end, digits_from-few, digits_from-set, digits_from-zero}
+use Rattle.box_tree.proofs.DigitsLemmas.{digits_from, digits_from-clear, digits_from-end, digits_from-few}
+use Rattle.box_tree.proofs.DigitsLemmas.{digits_from-set, digits_from-zero}
 use Rattle.box_tree.proofs.node_walk.push_children.Goals as goal
 use Rattle.box_tree.proofs.node_walk.push_children.Invariants.{ArePushed}
 
@@ -34,7 +36,9 @@ few width mask digit some low set =
     omega (arith, ap length (cut width mask digit some low set), most)
 
 pub overflow_sub-number : goal.overflow_sub-number
-overflow_sub-number c = let most = few c.args.width c.args.mask c.loop-digit.digit (omega arith) (omega arith) c.if-mask-digit-eq1.true in omega (arith, c.loop-digit.invariant.left, c.requires.stand, most)
+overflow_sub-number c = let most =
+    few c.args.width c.args.mask c.loop-digit.digit (omega arith) (omega arith) c.if-mask-digit-eq1.true in
+    omega (arith, c.loop-digit.invariant.left, c.requires.stand, most)
 
 pub push-requires : goal.push-requires
 push-requires c =
@@ -55,28 +59,47 @@ loop-digit-preserved-then-mask-digit-eq1 c =
     let parent : NodeRef = c.args.parent.now in
     let ds : List ℕ = digits_from c.args.width c.args.mask l.digit in
     let made : ℕ → ℕ → NodeRef = λ x y.
-    record { node = l.number - 1; below = parent.below - 1; level = parent.level - c.args.width; column = x; row = y } in
+    record {
+      node = l.number - 1;
+      below = parent.below - 1;
+      level = parent.level - c.args.width;
+      column = x;
+      row =
+          y;
+    } in
     let x : ℕ = parent.column * 2 ^ c.args.width % 2 ^ 32 + c.digit_column.result in
     let y : ℕ = parent.row * 2 ^ c.args.width % 2 ^ 32 + c.digit_row.result in
-    let column : x ≡ 2 ^ c.args.width * parent.column + column_of c.args.width (l.digit - 1) = omega (arith, c.digit_column.ensures.value, kept parent.column c.args.width c.requires.right) in
-    let row : y ≡ 2 ^ c.args.width * parent.row + row_of c.args.width (l.digit - 1) = omega (arith, c.digit_row.ensures.value, kept parent.row c.args.width c.requires.upper) in
+    let column : x ≡ 2 ^ c.args.width * parent.column + column_of c.args.width (l.digit - 1) =
+    omega (arith, c.digit_column.ensures.value, kept parent.column c.args.width c.requires.right) in
+    let row : y ≡ 2 ^ c.args.width * parent.row + row_of c.args.width (l.digit - 1) =
+    omega (arith, c.digit_row.ensures.value, kept parent.row c.args.width c.requires.upper) in
     let some : 1 ≤ l.number = omega (arith, l.invariant.left, c.requires.stand, most) in
     let back : l.number ≡ l.number - 1 + 1 = omega arith in
     record {
       here = ap reverse c.push.ensures.items ∙ reverse-append l.stack.items (made x y ∷ [])
           ∙ ap (λ rest. made x y ∷ rest) l.invariant.here
           ∙ ap (λ k. made k y ∷ child_refs parent c.args.width l.number ds ++ reverse c.args.stack.now.items) column
-          ∙ ap (λ k. made (2 ^ c.args.width * parent.column + column_of c.args.width (l.digit - 1)) k ∷ child_refs parent c.args.width l.number ds ++ reverse c.args.stack.now.items) row
-          ∙ ap (λ n. made (2 ^ c.args.width * parent.column + column_of c.args.width (l.digit - 1)) (2 ^ c.args.width * parent.row + row_of c.args.width (l.digit - 1)) ∷ child_refs parent c.args.width n ds ++ reverse c.args.stack.now.items) back
+          ∙ ap (λ k. made (2 ^ c.args.width * parent.column + column_of c.args.width
+          (l.digit - 1)) k ∷ child_refs parent c.args.width l.number ds ++ reverse c.args.stack.now.items) row
+          ∙ ap (λ n. made (2 ^ c.args.width * parent.column + column_of c.args.width (l.digit - 1))
+          (2 ^ c.args.width * parent.row + row_of c.args.width (l.digit - 1)) ∷ child_refs parent c.args.width n ds
+          ++ reverse c.args.stack.now.items) back
           ∙ ap (λ all. child_refs parent c.args.width (l.number - 1) all ++ reverse c.args.stack.now.items) (sym first);
       left = omega (arith, l.invariant.left, ap length first);
-      long = omega (arith, l.invariant.long, ap length first, ap length c.push.ensures.items, length-append l.stack.items (made x y ∷ []));
+      long = omega (
+        arith,
+        l.invariant.long,
+        ap length first,
+        ap length c.push.ensures.items,
+        length-append l.stack.items (made x y ∷ []),
+      );
     }
 
 pub loop-digit-preserved : goal.loop-digit-preserved
 loop-digit-preserved c =
     let l = c.loop-digit in
-    let same : digits_from c.args.width c.args.mask (l.digit - 1) ≡ digits_from c.args.width c.args.mask (l.digit - 1 + 1) =
+    let same : digits_from c.args.width c.args.mask (l.digit - 1) ≡ digits_from c.args.width c.args.mask
+    (l.digit - 1 + 1) =
     digits_from-clear c.args.width c.args.mask (l.digit - 1) (omega arith) (c.if-mask-digit-eq1.false) in
     let back : l.digit - 1 + 1 ≡ l.digit = omega arith in
     record {
@@ -91,6 +114,9 @@ returns c =
     let end : l.digit ≡ 0 = omega arith in
     let all : digits_from c.args.width c.args.mask l.digit ≡ digits_in c.args.width c.args.mask =
     ap (digits_from c.args.width c.args.mask) end ∙ digits_from-zero c.args.width c.args.mask in
-    let number : l.number ≡ c.args.end - length (digits_in c.args.width c.args.mask) = omega (arith, l.invariant.left, ap length all) in
-    l.invariant.here ∙ ap (λ ds. child_refs c.args.parent.now c.args.width l.number ds ++ reverse c.args.stack.now.items) all
-    ∙ ap (λ n. child_refs c.args.parent.now c.args.width n (digits_in c.args.width c.args.mask) ++ reverse c.args.stack.now.items) number
+    let number : l.number ≡ c.args.end - length (digits_in c.args.width c.args.mask) =
+    omega (arith, l.invariant.left, ap length all) in
+    l.invariant.here ∙ ap
+    (λ ds. child_refs c.args.parent.now c.args.width l.number ds ++ reverse c.args.stack.now.items) all
+    ∙ ap (λ n. child_refs c.args.parent.now c.args.width n
+    (digits_in c.args.width c.args.mask) ++ reverse c.args.stack.now.items) number

@@ -5,7 +5,8 @@ use Rattle.box_tree.proofs.DigitsLemmas.{digits_from}
 use Rattle.box_tree.proofs.node_walk.push_children.Given as goal
 
 -- the children from a digit on were pushed
-pub record ArePushed (first : List NodeRef) (parent : NodeRef) (width mask end digit number : ℕ) (stack : List NodeRef) : Type 0 where
+pub record ArePushed (first : List NodeRef) (parent : NodeRef) (width mask end digit number : ℕ)
+    (stack : List NodeRef) : Type 0 where
   pub here : reverse stack ≡ child_refs parent width number (digits_from width mask digit) ++ reverse first
   pub left : number + length (digits_from width mask digit) ≡ end
   pub long : length stack ≡ length first + length (digits_from width mask digit)

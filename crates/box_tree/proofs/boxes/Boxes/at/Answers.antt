@@ -12,13 +12,19 @@ at-corner-requires g c =
 pub at-reach-requires : goal.at-reach-requires
 at-reach-requires g c =
     let b = c.self.inside in
-    omega (arith, ap length c.self.view_is, boxes_of-length b.base b.corners b.reaches c.self.invariant.same, c.self.invariant.same)
+    omega (
+      arith,
+      ap length c.self.view_is,
+      boxes_of-length b.base b.corners b.reaches c.self.invariant.same,
+      c.self.invariant.same,
+    )
 
 pub returns-clause-value : goal.returns-clause-value
 returns-clause-value g c =
     let b = c.self.inside in
     ap (λ bs. slice_get bs c.args.place) (sym c.self.view_is)
-    ∙ boxes_of-at b.base b.corners b.reaches c.args.place c.at-corner.result c.at-reach.result c.at-corner.ensures.value c.at-reach.ensures.value
+    ∙ boxes_of-at b.base b.corners b.reaches c.args.place c.at-corner.result c.at-reach.result
+    c.at-corner.ensures.value c.at-reach.ensures.value
     ∙ ap Some (same_box _ _ (omega (arith, ints)) (omega (arith, ints)) (omega (arith, ints)) (omega (arith, ints)))
 
 pub returns-clause-within : goal.returns-clause-within

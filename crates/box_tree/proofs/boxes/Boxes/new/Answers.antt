@@ -1,4 +1,5 @@
-use Rattle.std.proofs.Common.{◌≡◌, ℕ, ◌+◌, ◌-◌, ◌^◌, ◌<◌, List, [], ◌∷◌, ◌++◌, length, take, pos, ◌+ℤ◌, ℤ, refl, sym, ap, ◌∙◌, arith, length-append}
+use Rattle.std.proofs.Common.{◌≡◌, ℕ, ◌+◌, ◌-◌, ◌^◌, ◌<◌, List, [], ◌∷◌, ◌++◌, length, take, pos, ◌+ℤ◌, ℤ, refl, sym}
+use Rattle.std.proofs.Common.{ap, ◌∙◌, arith, length-append}
 use Rattle.std.proofs.lemmas.Int.{ints}
 use Rattle.std.proofs.lemmas.List.{take_more}
 use Rattle.track_types.specs.Near.{IsBoxWithin}
@@ -22,7 +23,8 @@ near : (c : After-area-item) → IsBoxWithin c.area-item.result
 near c = box-near c.args.list.now c.loop-area.area-index c.area-item.result (omega arith) c.area-item.is c.requires.near
 
 from : (c : After-area-item) → IsFrom c.args.base c.area-item.result
-from c = box-from c.args.base c.args.list.now c.loop-area.area-index c.area-item.result (omega arith) c.area-item.is c.requires.from
+from c = box-from c.args.base c.args.list.now c.loop-area.area-index c.area-item.result
+    (omega arith) c.area-item.is c.requires.from
 
 -- what the coordinates are as words
 pub offset-requires-in-loop-area-clause-high : goal.offset-requires-in-loop-area-clause-high
@@ -30,7 +32,14 @@ offset-requires-in-loop-area-clause-high c =
     let at = (goal.at.offset-requires-in-loop-area-clause-high c).After-area-item in
     let a = c.area-item.result in
     let n = near at in let f = from at in let b = c.requires.base in
-    omega (arith, ints, word_kept a.y1 n.y1, word_kept c.args.base.y (base_within c.args.base.y b.below b.above), f.above, a.high)
+    omega (
+      arith,
+      ints,
+      word_kept a.y1 n.y1,
+      word_kept c.args.base.y (base_within c.args.base.y b.below b.above),
+      f.above,
+      a.high,
+    )
 
 pub offset-requires-in-loop-area-2-clause-high : goal.offset-requires-in-loop-area-2-clause-high
 offset-requires-in-loop-area-2-clause-high c =
@@ -57,8 +66,10 @@ loop-area-preserved c =
     let by' = word_kept c.args.base.y (base_within c.args.base.y b.below b.above) in
     let corner : ℕ × ℕ = (c.offset.result, c.offset-in-loop-area.result) in
     let reach : ℕ × ℕ = (c.offset-in-loop-area-2.result, c.offset-in-loop-area-3.result) in
-    let x1 : c.args.base.x +ℤ pos c.offset.result ≡ a.x1 = omega (arith, ints, bx, word_kept a.x1 n.x1, c.offset.ensures) in
-    let y1 : c.args.base.y +ℤ pos c.offset-in-loop-area.result ≡ a.y1 = omega (arith, ints, by', word_kept a.y1 n.y1, c.offset-in-loop-area.ensures) in
+    let x1 : c.args.base.x +ℤ pos c.offset.result ≡ a.x1 =
+    omega (arith, ints, bx, word_kept a.x1 n.x1, c.offset.ensures) in
+    let y1 : c.args.base.y +ℤ pos c.offset-in-loop-area.result ≡ a.y1 =
+    omega (arith, ints, by', word_kept a.y1 n.y1, c.offset-in-loop-area.ensures) in
     let x2 : c.args.base.x +ℤ pos c.offset.result +ℤ pos c.offset-in-loop-area-2.result ≡ a.x2 =
     omega (arith, ints, x1, word_kept a.x1 n.x1, word_kept a.x2 n.x2, c.offset-in-loop-area-2.ensures) in
     let y2 : c.args.base.y +ℤ pos c.offset-in-loop-area.result +ℤ pos c.offset-in-loop-area-3.result ≡ a.y2 =

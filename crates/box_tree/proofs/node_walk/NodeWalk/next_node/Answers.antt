@@ -14,4 +14,5 @@ pub returns-clause-of : goal.returns-clause-of
 returns-clause-of c =
     let w = c.self.inside in
     subst (λ (t : TreeView). IfSome c.pop.result (λ ref. IsNodeOf t ref)) (ap (λ (v : WalkView). v.tree) c.self.view_is)
-    (popped-node w.tree.now w.low w.high w.stack.items c.pop.new.self.items c.pop.result c.pop.ensures.items c.self.invariant)
+    (popped-node w.tree.now w.low w.high w.stack.items c.pop.new.self.items c.pop.result c.pop.ensures.items
+    c.self.invariant)

@@ -15,7 +15,8 @@ invariant_of-self g c =
     let tree : TreeView = c.self.inside.tree.now in
     let levels : List ℕ = levels_of tree.narrow c.args.taken in
     let prefix : ℕ = prefix_of c.args.taken in
-    let is = (bucket-parts tree.places tree.nodes levels prefix c.in-Bucket.low c.in-Bucket.high c.in-Bucket.ensures.kind).0 in
+    let is = (bucket-parts tree.places tree.nodes levels prefix c.in-Bucket.low c.in-Bucket.high
+    c.in-Bucket.ensures.kind).0 in
     let most = first_in-le tree.places.codes (digits levels) (prefix + 1) in
     record {
       nodes = c.self.invariant.nodes;
@@ -28,8 +29,10 @@ invariant_of-self g c =
 
 -- there is room for what comes in the node's place
 room : (g : Over) (c : In-Branch g)
-    → length c.self.inside.stack.items + slots (levels_of c.self.inside.tree.now.narrow c.args.taken) ≤ slots c.self.inside.tree.now.places.levels
-room g c = subst (λ (w : WalkView). w.depth + slots (levels_of w.tree.narrow c.args.taken) ≤ slots w.tree.places.levels) (sym c.self.view_is) c.requires.room
+    → length c.self.inside.stack.items + slots
+    (levels_of c.self.inside.tree.now.narrow c.args.taken) ≤ slots c.self.inside.tree.now.places.levels
+room g c = subst (λ (w : WalkView). w.depth + slots
+    (levels_of w.tree.narrow c.args.taken) ≤ slots w.tree.places.levels) (sym c.self.view_is) c.requires.room
 
 pub push_children-requires-clause-room : goal.push_children-requires-clause-room
 push_children-requires-clause-room g c =
@@ -40,9 +43,11 @@ pub invariant_of-self-in-Branch : goal.invariant_of-self-in-Branch
 invariant_of-self-in-Branch g c =
     let w = c.self.inside in
     let tree : TreeView = w.tree.now in
-    branch-walk tree w.low w.high w.stack.items c.push_children.new.stack.items c.args.taken c.push_children.ensures.pushed
+    branch-walk tree w.low w.high w.stack.items c.push_children.new.stack.items c.args.taken
+    c.push_children.ensures.pushed
     c.self.invariant (room g (goal.at.invariant_of-self-in-Branch g c).In-Branch)
-    (branch-some tree.places tree.nodes tree.narrow c.args.taken.below (prefix_of c.args.taken) c.in-Branch.end c.in-Branch.mask c.in-Branch.ensures.kind)
+    (branch-some tree.places tree.nodes tree.narrow c.args.taken.below
+    (prefix_of c.args.taken) c.in-Branch.end c.in-Branch.mask c.in-Branch.ensures.kind)
 
 pub returns-in-Bucket-clause-opened : goal.returns-in-Bucket-clause-opened
 returns-in-Bucket-clause-opened g c =
@@ -50,10 +55,13 @@ returns-in-Bucket-clause-opened g c =
     let tree : TreeView = w.tree.now in
     let levels : List ℕ = levels_of tree.narrow c.args.taken in
     let prefix : ℕ = prefix_of c.args.taken in
-    let is = bucket-parts tree.places tree.nodes levels prefix c.in-Bucket.low c.in-Bucket.high c.in-Bucket.ensures.kind in
+    let is = bucket-parts tree.places tree.nodes levels prefix c.in-Bucket.low c.in-Bucket.high
+    c.in-Bucket.ensures.kind in
     let new : WalkView = walk_of tree w.stack.items c.in-Bucket.low c.in-Bucket.high in
-    subst (λ (old : WalkView). old.high ≤ old.low → IsOpened old new (node_square old.tree.narrow c.args.taken)) c.self.view_is
-    (λ done. bucket-opened (walk_of tree w.stack.items w.low w.high) new done refl levels prefix c.in-Bucket.low c.in-Bucket.high
+    subst (λ (old : WalkView). old.high ≤ old.low
+    → IsOpened old new (node_square old.tree.narrow c.args.taken)) c.self.view_is
+    (λ done. bucket-opened
+    (walk_of tree w.stack.items w.low w.high) new done refl levels prefix c.in-Bucket.low c.in-Bucket.high
     c.self.invariant.are.ascend is.0 is.1 refl refl refl) c.requires.done
 
 pub returns-in-Branch-clause-opened : goal.returns-in-Branch-clause-opened
@@ -61,8 +69,11 @@ returns-in-Branch-clause-opened g c =
     let w = c.self.inside in
     let tree : TreeView = w.tree.now in
     let its : IsNodeOf tree c.args.taken =
-    subst (λ (t : TreeView). IsNodeOf t c.args.taken) (sym (ap (λ (w : WalkView). w.tree) c.self.view_is)) c.requires.of in
+    subst (λ (t : TreeView). IsNodeOf t c.args.taken)
+    (sym (ap (λ (w : WalkView). w.tree) c.self.view_is)) c.requires.of in
     let new : WalkView = walk_of tree c.push_children.new.stack.items w.low w.high in
-    subst (λ (old : WalkView). old.high ≤ old.low → IsOpened old new (node_square old.tree.narrow c.args.taken)) c.self.view_is
-    (λ done. branch-opened tree w.low w.high w.stack.items c.push_children.new.stack.items c.args.taken c.push_children.ensures.pushed done its)
+    subst (λ (old : WalkView). old.high ≤ old.low
+    → IsOpened old new (node_square old.tree.narrow c.args.taken)) c.self.view_is
+    (λ done. branch-opened tree w.low w.high w.stack.items c.push_children.new.stack.items c.args.taken
+    c.push_children.ensures.pushed done its)
     c.requires.done

@@ -21,7 +21,9 @@ invariant_of-result c =
     let areas : c.in_ok-areas.areas ≡ made.areas.items = c.in_ok-areas.ensures.ok ∙ c.as_slice.ensures.value in
     rw (c.new-3.ensures, own, areas, c.new-4.ensures) (
       c.in_ok-cells.ensures.small,
-      tree-built a.base a.height a.narrow a.digits a.codes.now c.in_ok-cells.cells.items a.boxes.now made.areas.items made.links.items
-          c.in_ok-tasks.tasks.items c.make.new.tasks.items c.requires.base c.requires.levels c.requires.places c.in_ok-cells.ensures.codes
+      tree-built a.base a.height a.narrow a.digits a.codes.now c.in_ok-cells.cells.items a.boxes.now
+          made.areas.items made.links.items
+          c.in_ok-tasks.tasks.items c.make.new.tasks.items c.requires.base c.requires.levels c.requires.places
+          c.in_ok-cells.ensures.codes
           c.in_ok-made.ensures.made c.in_ok-made.ensures.begin c.in_ok-tasks.ensures.first,
     )

@@ -10,6 +10,8 @@ returns-clause-kind g c =
     let tree = c.args.self.now in
     let held = c.requires.held in
     let same : held.link ≡ c.at.result =
-    same_Some held.link c.at.result (sym held.link_is ∙ ap (λ (t : TreeView). slice_get t.nodes.links c.args.node.now.node) (sym c.self.view_is) ∙ c.at.ensures.value) in
+    same_Some held.link c.at.result
+    (sym held.link_is ∙ ap (λ (t : TreeView). slice_get t.nodes.links c.args.node.now.node) (sym c.self.view_is)
+    ∙ c.at.ensures.value) in
     subst (IsKindFor tree.places tree.nodes (levels_of tree.narrow c.args.node.now) (prefix_of c.args.node.now))
     (ap kind_of same ∙ sym c.kind_of.ensures) held.kind

@@ -11,16 +11,21 @@ use Rattle.box_tree.proofs.tree.BoxTree.push_children.Goals.{After-width-width}
 pub width-width-requires : goal.width-width-requires
 width-width-requires c =
     let tree : TreeView = c.args.self.now in
-    branch-some tree.places tree.nodes tree.narrow c.args.node.now.below (prefix_of c.args.node.now) c.args.end c.args.mask c.requires.kind
+    branch-some tree.places tree.nodes tree.narrow c.args.node.now.below
+    (prefix_of c.args.node.now) c.args.end c.args.mask c.requires.kind
 
 branch : (c : After-width-width) → IsBranch c.args.self.now.places.codes
-    (digits (levels_below c.args.self.now.narrow (c.args.node.now.below - 1))) c.width-width.result (prefix_of c.args.node.now) c.args.end c.args.mask
-    (Held c.args.self.now.places c.args.self.now.nodes (levels_below c.args.self.now.narrow (c.args.node.now.below - 1)))
+    (digits (levels_below c.args.self.now.narrow (c.args.node.now.below - 1))) c.width-width.result
+    (prefix_of c.args.node.now) c.args.end c.args.mask
+    (Held c.args.self.now.places c.args.self.now.nodes
+    (levels_below c.args.self.now.narrow (c.args.node.now.below - 1)))
 branch c =
     let tree : TreeView = c.args.self.now in
     let node = c.args.node.now in
-    branch-parts tree.places tree.nodes c.width-width.result (levels_below tree.narrow (node.below - 1)) (prefix_of node) c.args.end c.args.mask
-    (subst (λ ls. IsKindFor tree.places tree.nodes ls (prefix_of node) (Branch c.args.end c.args.mask)) c.width-width.ensures.value c.requires.kind)
+    branch-parts tree.places tree.nodes c.width-width.result (levels_below tree.narrow (node.below - 1))
+    (prefix_of node) c.args.end c.args.mask
+    (subst (λ ls. IsKindFor tree.places tree.nodes ls (prefix_of node)
+    (Branch c.args.end c.args.mask)) c.width-width.ensures.value c.requires.kind)
 
 -- the level is one of the node's
 deep : (c : After-width-width) → c.width-width.result ≤ c.args.node.now.level
@@ -45,11 +50,17 @@ pub push_children-requires-clause-mask : goal.push_children-requires-clause-mask
 push_children-requires-clause-mask c = (branch (goal.at.push_children-requires-clause-mask c).After-width-width).few
 
 pub push_children-requires-clause-stand : goal.push_children-requires-clause-stand
-push_children-requires-clause-stand c = let is = branch (goal.at.push_children-requires-clause-stand c).After-width-width in omega (arith, is.stand)
+push_children-requires-clause-stand c = let is =
+    branch (goal.at.push_children-requires-clause-stand c).After-width-width in omega (arith, is.stand)
 
 pub push_children-requires-clause-room : goal.push_children-requires-clause-room
 push_children-requires-clause-room c =
-    omega (arith, length-digits_in c.width-width.result c.args.mask, ap child_limit c.width-width.ensures.value, c.requires.room)
+    omega (
+      arith,
+      length-digits_in c.width-width.result c.args.mask,
+      ap child_limit c.width-width.ensures.value,
+      c.requires.room,
+    )
 
 pub returns : goal.returns
 returns c =
@@ -59,6 +70,7 @@ returns c =
     record {
       pushed = given-way tree node c.width-width.result c.requires.of w.value w.some w.few c.args.end c.args.mask
           (reverse c.args.stack.now.items) (reverse c.push_children.new.stack.items)
-          (branch-some tree.places tree.nodes tree.narrow node.below (prefix_of node) c.args.end c.args.mask c.requires.kind)
+          (branch-some tree.places tree.nodes tree.narrow node.below
+          (prefix_of node) c.args.end c.args.mask c.requires.kind)
           (branch (goal.at.returns c).After-width-width) c.push_children.ensures;
     }

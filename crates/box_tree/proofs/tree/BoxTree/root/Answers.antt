@@ -21,7 +21,8 @@ returns-clause-node c =
     let tree : TreeView = tree_of t.base t.height t.narrow t.cells t.boxes t.areas t.links in
     let some : 0 < length tree.places.codes = omega (arith, length-map t.cells code_at) in
     let most : 2 ^ t.digits ≤ 2 ^ MAX_HEIGHT = pow-le-pow_right (lit< tt) is.few in
-    subst (λ (tree : TreeView). IsNodeOf tree (record { node = 0; below = t.height; level = t.digits; column = 0; row = 0 }))
+    subst (λ (tree : TreeView). IsNodeOf tree
+    (record { node = 0; below = t.height; level = t.digits; column = 0; row = 0 }))
     c.self.view_is (record {
       level = is.digits_are;
       deep = is.few;

@@ -11,7 +11,8 @@ use Rattle.box_tree.proofs.walk.BoxWalk.scan.Goals.{After-meets}
 
 -- what the test said of the next place
 told : (g : Over) (c : After-meets g)
-    → passes (asked g.S.Search.squares g.S.Search.boxes c.args.self.now) c.loop-place.self.walk.tree.places c.loop-place.self.walk.low
+    → passes (asked g.S.Search.squares g.S.Search.boxes c.args.self.now) c.loop-place.self.walk.tree.places
+    c.loop-place.self.walk.low
     ≡ c.meets.result
 told g c =
     let S = g.S.Search in
@@ -20,10 +21,13 @@ told g c =
     let now : WalkView = c.loop-place.self.walk in
     let new : WalkView = c.next_place.new.self in
     sym (c.meets.ensures.value
-    ∙ ap (λ s. passes (tests_at new.tree.base (S.squares s) (S.boxes s)) new.tree.places c.in-Some.place) c.loop-place.invariant.0
-    ∙ ap (λ (t : TreeView). passes (tests_at t.base (S.squares first.search) (S.boxes first.search)) t.places c.in-Some.place) it.tree
+    ∙ ap (λ s. passes (tests_at new.tree.base (S.squares s)
+    (S.boxes s)) new.tree.places c.in-Some.place) c.loop-place.invariant.0
+    ∙ ap (λ (t : TreeView). passes
+    (tests_at t.base (S.squares first.search) (S.boxes first.search)) t.places c.in-Some.place) it.tree
     ∙ ap (passes (tests_at now.tree.base (S.squares first.search) (S.boxes first.search)) now.tree.places) it.first
-    ∙ ap (λ (t : TreeView). passes (tests_at t.base (S.squares first.search) (S.boxes first.search)) now.tree.places now.low)
+    ∙ ap (λ (t : TreeView). passes
+    (tests_at t.base (S.squares first.search) (S.boxes first.search)) now.tree.places now.low)
     c.loop-place.invariant.1.tree)
 
 pub returns-then-meets-clause-scanned : goal.returns-then-meets-clause-scanned

@@ -18,7 +18,8 @@ use Rattle.box_tree.proofs.walk.BoxWalk.visit.Goals.{After-square-square, After-
 mono : (g : Over) (c : After-tree-tree g) → ArePassed (asked g.S.Search.squares g.S.Search.boxes c.args.self.now)
 mono g c =
     let walk = c.args.self.now in
-    passed-areas walk.walk.tree.base c.tree-tree.ensures.base (g.S.Search.squares walk.search) (g.S.Search.boxes walk.search)
+    passed-areas walk.walk.tree.base c.tree-tree.ensures.base (g.S.Search.squares walk.search)
+    (g.S.Search.boxes walk.search)
     (g.met.S.Search.monotone walk.search)
 
 -- what the test of its square is
@@ -30,7 +31,8 @@ told g c =
     let squares = g.S.Search.squares c.args.self.now.search in
     let tree : TreeView = c.args.self.now.walk.tree in
     ap (λ n. squares (area_at tree.base (node n (prefix_of c.args.taken)))) c.requires.of.level
-    ∙ ap squares (ap (λ (t : TreeView). area_at t.base (node_at c.args.taken)) (sym c.tree-tree.ensures.value) ∙ sym c.square-square.ensures.value)
+    ∙ ap squares (ap (λ (t : TreeView). area_at t.base (node_at c.args.taken)) (sym c.tree-tree.ensures.value)
+    ∙ sym c.square-square.ensures.value)
 
 pub returns-then-not-meets_box-clause-visited : goal.returns-then-not-meets_box-clause-visited
 returns-then-not-meets_box-clause-visited g c =
@@ -40,8 +42,10 @@ returns-then-not-meets_box-clause-visited g c =
     let covers = subst (λ (t : TreeView). All (λ place. IsBoxInside (box_at t.places.boxes place) c.area-area.result)
     (run_of t.places (node_square t.narrow c.args.taken))) c.tree-tree.ensures.value c.area-area.ensures.covers in
     skipped tests c.args.self.now.walk square c.args.steps.now c.area-area.new.steps
-    (skipped-box tests (mono g (goal.at.returns-then-not-meets_box-clause-visited g c).After-tree-tree) tree.places (run_of tree.places square)
-    c.area-area.result covers (sym c.meets_box.ensures ∙ c.if-not-meets_box.true)) (omega (arith, c.area-area.ensures.cost))
+    (skipped-box tests (mono g (goal.at.returns-then-not-meets_box-clause-visited g c).After-tree-tree) tree.places
+    (run_of tree.places square)
+    c.area-area.result covers (sym c.meets_box.ensures ∙ c.if-not-meets_box.true))
+    (omega (arith, c.area-area.ensures.cost))
 
 pub returns-then-not-meets_square-clause-visited : goal.returns-then-not-meets_square-clause-visited
 returns-then-not-meets_square-clause-visited g c =
@@ -53,14 +57,16 @@ returns-then-not-meets_square-clause-visited g c =
     told g at.After-square-square ∙ sym c.meets_square.ensures ∙ c.if-not-meets_square.true in
     skipped tests c.args.self.now.walk square c.args.steps.now c.area-area.new.steps
     (skipped-square tests (mono g at.After-tree-tree) tree.places (digits square.levels) square.prefix
-    (omega (arith, c.requires.of.level, c.requires.of.deep)) c.tree-tree.ensures.are fails) (omega (arith, c.area-area.ensures.cost))
+    (omega (arith, c.requires.of.level, c.requires.of.deep)) c.tree-tree.ensures.are fails)
+    (omega (arith, c.area-area.ensures.cost))
 
 pub returns-clause-visited : goal.returns-clause-visited
 returns-clause-visited g c =
     let tests : Tests = asked g.S.Search.squares g.S.Search.boxes c.args.self.now in
     let square : Square = node_square c.args.self.now.walk.tree.narrow c.args.taken in
     let holds : tests.square (node (digits square.levels) square.prefix) ≡ true =
-    told g (goal.at.returns-clause-visited g c).After-square-square ∙ sym c.meets_square.ensures ∙ c.if-not-meets_square.false in
+    told g (goal.at.returns-clause-visited g c).After-square-square ∙ sym c.meets_square.ensures
+    ∙ c.if-not-meets_square.false in
     let paid = c.open.ensures.opened.reads tests.square holds in
     record {
       tree = c.open.ensures.tree;
