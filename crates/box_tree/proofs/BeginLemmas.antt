@@ -83,6 +83,7 @@ module _ (tests : Tests) (mono : ArePassed tests) (tree : TreeView) (are : ArePl
         reads = rw (same, low, high, pending, test) (omega (arith, one, cells, own));
       }
 
+  -- a walk whose first node is the grid's, where there is a place and the grid passes, is at its beginning
   pub begun : (found : Option NodeRef)
       → IfNone found ((tree.places.codes ≡ []) ⊎ (tests.square (node n 0) ≡ false))
       → IfSome found (λ ref. 0 < length tree.places.codes) → IfSome found (λ ref. tests.square (node n 0) ≡ true)

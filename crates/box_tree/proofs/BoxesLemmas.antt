@@ -9,6 +9,7 @@ use Rattle.track_types.specs.declared.cell.Cell.{Cell}
 use Rattle.track_types.specs.declared.cell_box.CellBox.{CellBox}
 use Rattle.box_tree.specs.Boxes.{IsBase, IsFrom, box_with, boxes_of}
 
+-- there are as many boxes as corners
 pub boxes_of-length : (base : Cell) (corners reaches : List (ℕ × ℕ)) → length reaches ≡ length corners
     → length (boxes_of base corners reaches) ≡ length corners
 unfolding boxes_of
@@ -16,6 +17,7 @@ boxes_of-length base [] reaches same = refl
 boxes_of-length base (c ∷ corners) [] same = absurd (omega arith)
 boxes_of-length base (c ∷ corners) (r ∷ reaches) same = ap suc (boxes_of-length base corners reaches (omega arith))
 
+-- the box at a place is that of the corner and the reach there
 pub boxes_of-at : (base : Cell) (corners reaches : List (ℕ × ℕ)) (place : ℕ) (corner reach : ℕ × ℕ)
     → slice_get corners place ≡ Some corner → slice_get reaches place ≡ Some reach
     → slice_get (boxes_of base corners reaches) place ≡ Some (box_with base corner reach)
@@ -30,6 +32,7 @@ boxes_of-at base (c ∷ corners) (r ∷ reaches) zero corner reach a b =
 boxes_of-at base (c ∷ corners) (r ∷ reaches) (suc place) corner reach a b =
     boxes_of-at base corners reaches place corner reach a b
 
+-- one box more
 pub boxes_of-more : (base : Cell) (corners reaches : List (ℕ × ℕ)) (corner reach : ℕ × ℕ)
     → length reaches ≡ length corners
     → boxes_of base (corners ++ corner ∷ [])

@@ -13,14 +13,17 @@ use Rattle.box_tree.proofs.RunLemmas.{All-range}
 unfoldable pub digits_from : ℕ → ℕ → ℕ → List ℕ
 digits_from level mask digit = filter (λ d. bit_at mask d == 1) (range_with_len digit (4 ^ level - digit))
 
+-- there are none after the last child
 pub digits_from-end : (level mask digit : ℕ) → 4 ^ level ≤ digit → digits_from level mask digit ≡ []
 unfolding digits_from
 digits_from-end level mask digit past = let none : 4 ^ level - digit ≡ 0 = omega arith in rw none refl
 
+-- from 0 on they are all
 pub digits_from-zero : (level mask : ℕ) → digits_from level mask 0 ≡ digits_in level mask
 unfolding digits_from digits_in
 digits_from-zero level mask = let all : 4 ^ level - 0 ≡ 4 ^ level = omega arith in rw all refl
 
+-- a digit whose bit is set is the first of them
 pub digits_from-set : (level mask digit : ℕ) → digit < 4 ^ level → mask / 2 ^ digit % 2 ≡ 1
     → digits_from level mask digit ≡ digit ∷ digits_from level mask (digit + 1)
 unfolding digits_from
@@ -29,6 +32,7 @@ digits_from-set level mask digit low set =
     let holds : (bit_at mask digit == 1) ≡ true = grind (arith, nat_tests) in
     rw (more, holds) refl
 
+-- and one whose bit is not is none
 pub digits_from-clear : (level mask digit : ℕ) → digit < 4 ^ level → (mask / 2 ^ digit % 2 ≡ 1 → ⊥)
     → digits_from level mask digit ≡ digits_from level mask (digit + 1)
 unfolding digits_from
@@ -37,6 +41,7 @@ digits_from-clear level mask digit low clear =
     let fails : (bit_at mask digit == 1) ≡ false = grind (arith, nat_tests) in
     rw (more, fails) refl
 
+-- they are at most as many as all
 pub digits_from-few : (level mask digit : ℕ) → digit ≤ 4 ^ level
     → length (digits_from level mask digit) ≤ length (digits_in level mask)
 unfolding digits_from digits_in
@@ -58,6 +63,7 @@ digits_from-few level mask digit low =
           (filter p (range_with_len digit (4 ^ level - digit))),
     )
 
+-- each is the digit of a child
 pub digits_in-small : (level mask : ℕ) → All (λ d. d < 4 ^ level) (digits_in level mask)
 unfolding digits_in
 digits_in-small level mask =

@@ -70,6 +70,7 @@ kind-more codes narrow tasks more task (Branch end mask) is = record {
   };
 }
 
+-- a node that was made stays so where tasks come after the others
 pub made-more : (codes : List ℕ) (boxes : List CellBox) (narrow : ℕ) (tasks more : List Task) (areas : List CellBox)
     (area : CellBox)
     (links : List (ℕ × ℕ)) (link : ℕ × ℕ) (number : ℕ) → IsMade codes boxes narrow tasks areas links number
@@ -157,6 +158,7 @@ inside-inside a b c ab bc = record {
   above = omega (arith, ints, ab.above, bc.above);
 }
 
+-- a box lies within itself
 pub inside-self : (a : CellBox) → IsBoxInside a a
 inside-self a = record {
   left = omega (arith, ints);
@@ -172,6 +174,7 @@ pub box-from : (base : Cell) (boxes : List CellBox) (place : ℕ) (read : CellBo
     → All (IsFrom base) boxes → IsFrom base read
 box-from base boxes place read within is from = subst (IsFrom base) (sym is) (from place read within)
 
+-- a box of a list near 0 is near 0
 pub box-near : (boxes : List CellBox) (place : ℕ) (read : CellBox) → place < length boxes
     → read ≡ get_or boxes place read
     → All IsBoxWithin boxes → IsBoxWithin read
@@ -333,6 +336,7 @@ turns-split codes narrow task (Branch end mask) old new k is its within =
     ∙ ap (λ n. 1 + sum_by (squares_in (λ _. true) codes lower) (children codes n width task.prefix)) level in
     omega (arith, summed, below, own)
 
+-- fewer squares are left after a task
 pub turns-next : (codes : List ℕ) (narrow : ℕ) (task : Task) (kind : Kind) (old new : List Task) (k : ℕ)
     → IsTask codes narrow task
     → slice_get old k ≡ Some task → IsMadeLink codes narrow task kind old new
@@ -354,6 +358,7 @@ pub read-task : (tasks : List Task) (place : ℕ) (task : Task) → task ≡ get
     → slice_get tasks place ≡ Some task
 read-task tasks place task is within = slice_get-get_or tasks place task within ∙ ap Some (sym is)
 
+-- what is read from a list of tasks is one
 pub is-task : (codes : List ℕ) (narrow : ℕ) (tasks : List Task) (place : ℕ) (task : Task)
     → task ≡ get_or tasks place task
     → place < length tasks → All (IsTask codes narrow) tasks → IsTask codes narrow task

@@ -144,6 +144,7 @@ All-range P a (suc m) each =
     All-cons P a (range_with_len (a + 1) m) (each a (omega arith) (omega arith))
     (All-range P (a + 1) m (λ j low high. each j (omega arith) (omega arith)))
 
+-- at most all are below a number
 pub place_among-le : (codes : List ℕ) (b : ℕ) → place_among codes b ≤ length codes
 place_among-le [] b = omega arith
 place_among-le (x ∷ xs) b = grind (arith, nat_tests, place_among-le xs b)

@@ -11,19 +11,22 @@ use Rattle.k2_tree.specs.TreeBits.{code_limit}
 use Rattle.k2_tree.proofs.AreaLemmas.{interleaved-child}
 use Rattle.k2_tree.proofs.MortonLemmas.{interleaved-lt, interleaved-more}
 
--- the column and the row that one digit tells, and two
+-- the column that one digit tells
 pub column-one : (digit : ℕ) → digit < 4 → column_of 1 digit ≡ digit % 2
 unfolding column_of
 column-one digit small = omega arith
 
+-- and its row
 pub row-one : (digit : ℕ) → digit < 4 → row_of 1 digit ≡ digit / 2
 unfolding row_of
 row-one digit small = omega arith
 
+-- the column that two digits tell
 pub column-two : (digit : ℕ) → digit < 16 → column_of 2 digit ≡ 2 * (digit / 4 % 2) + digit % 2
 unfolding column_of
 column-two digit small = omega arith
 
+-- and their row
 pub row-two : (digit : ℕ) → digit < 16 → row_of 2 digit ≡ 2 * (digit / 8) + digit / 2 % 2
 unfolding row_of
 row-two digit small = omega arith

@@ -10,6 +10,7 @@ use Rattle.box_tree.specs.Levels.{digits}
 use Rattle.box_tree.specs.Tree.{AreLevels, child_limit, levels_below, slots}
 use Rattle.box_tree.specs.declared.node_ref.TheConstants.{SLOTS}
 
+-- a low level takes one digit
 pub width-narrow : (narrow below : ℕ) → 1 ≤ below → below ≤ narrow
     → levels_below narrow below ≡ 1 ∷ levels_below narrow (below - 1)
 unfolding levels_below
@@ -18,6 +19,7 @@ width-narrow narrow (suc below) some low =
     let e : suc below - 1 ≡ below = omega arith in
     let test : nat_lt below narrow ≡ true = grind (arith, nat_tests) in rw (e, test) refl
 
+-- one above takes two
 pub width-wide : (narrow below : ℕ) → 1 ≤ below → narrow < below
     → levels_below narrow below ≡ 2 ∷ levels_below narrow (below - 1)
 unfolding levels_below
@@ -71,6 +73,7 @@ slots-narrow narrow (suc below) low =
     let one : nat_lt below narrow ≡ true = grind (arith, nat_tests) in
     rw one (omega (arith, slots-narrow narrow below (omega arith)))
 
+-- so they are levels of a tree
 pub levels-narrow : (height : ℕ) → height ≤ MAX_HEIGHT → AreLevels height height height
 levels-narrow height low = record {
   digits_are = digits-narrow height height (omega arith);

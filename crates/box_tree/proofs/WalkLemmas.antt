@@ -98,6 +98,7 @@ module _ (tree : TreeView) (parent : NodeRef) (width : ℕ) (its : IsNodeOf tree
   deep : width ≤ parent.level
   deep = omega (arith, level-parts)
 
+  -- a child's prefix has its digit last
   pub child-at : (number digit : ℕ) → digit < 4 ^ width → prefix_of (child number digit) ≡ longer digit
   child-at number digit low =
       child-prefix width digit parent.row parent.column some few low
@@ -229,6 +230,7 @@ module _ (tree : TreeView) (low high : ℕ) (stack new : List NodeRef) (parent :
   waiting : after.pending ≡ map sq way.children ++ before.pending
   waiting = ap (map sq) way.pushed ∙ map-append sq way.children (reverse stack)
 
+  -- its places are left, and the reads that it is worth pay for theirs
   pub branch-opened : high ≤ low → IsNodeOf tree parent → IsOpened before after (sq parent)
   branch-opened done its = record {
     left = λ tests.
@@ -266,6 +268,7 @@ module _ (tree : TreeView) (low high : ℕ) (stack new : List NodeRef) (parent :
         children-fit total deeper cs (All-tail P c cs each) fits (omega arith),
       )
 
+  -- the parts of the walk still belong together
   pub branch-walk : IsWalk tree stack low high
       → length stack + slots (levels_of tree.narrow parent) ≤ slots tree.places.levels
       → 1 ≤ parent.below → IsWalk tree new low high

@@ -61,13 +61,14 @@ pub record IsNode (places : Places) (nodes : Nodes) (n prefix number : ℕ) (IsK
   pub covers : All (λ place. IsBoxInside (box_at places.boxes place) area) (run places.codes n prefix)
   pub kind : IsKind (kind_of link)
 
--- what the kind of a node says of it, and that a node holds the places of a square
+-- what the kind of a node says of it, by descent on the levels below its square
 unfoldable pub IsKindFor : Places → Nodes → List ℕ → ℕ → Kind → Type 0
 IsKindFor places nodes [] prefix = IsLast places.codes prefix
 IsKindFor places nodes (level ∷ levels) prefix =
     IsUpper places.codes (digits levels) level prefix
     (λ child number. IsNode places nodes (digits levels) child number (IsKindFor places nodes levels child))
 
+-- a node holds the places of a square: it stands, its box has theirs, and its kind is right
 abbrev pub Held : Places → Nodes → List ℕ → ℕ → ℕ → Type 0
 Held places nodes levels prefix number =
     IsNode places nodes (digits levels) prefix number (IsKindFor places nodes levels prefix)

@@ -79,7 +79,8 @@ fn column_in(code: u64) -> u32
     column
 }
 
-// The column of a child with a digit in a square of a side of one, or of two, digits.
+// The column of the child with a digit among those of its square, where the level takes so many
+// digits.
 pub(crate) fn digit_column(digit: u32, width: u32) -> u32
     requires some { 1 ≤ width }
     requires few { width ≤ 2 }
