@@ -21,3 +21,5 @@ mod SplitLemmas
 mod MakingLemmas
 mod BuildingLemmas
 mod BuiltLemmas
+-- Tests.
+mod MadeLemmas

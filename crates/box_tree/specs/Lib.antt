@@ -10,3 +10,4 @@ pub mod Walk
 pub mod BoxWalk
 pub mod Building
 pub mod Queued
+pub mod Touching
