@@ -47,7 +47,7 @@ length-starts_of start lengths =
     ∙ length-range_with_len 0 (length lengths)
 
 -- blocks with the same fields are the same
-same_block : (a b : Anchored) → a.index ≡ b.index → a.offset ≡ b.offset → a.cell ≡ b.cell → a.from ≡ b.from
+pub same_block : (a b : Anchored) → a.index ≡ b.index → a.offset ≡ b.offset → a.cell ≡ b.cell → a.from ≡ b.from
     → a.len ≡ b.len → a ≡ b
 same_block a b index offset cell from len =
     ap (λ i. with_fields i a.offset a.cell a.from a.len) index

@@ -1,9 +1,11 @@
 -- The snapshots of an index, judged one after the other by period.
-use Rattle.std.proofs.Common.{◌≡◌, ℕ, ◌+◌, ◌<◌, ◌≤◌, List, [], ◌∷◌, ◌++◌, length, get_or, map, take, None, inl, inr, ap, sym, ◌∙◌, arith, subst}
+use Rattle.std.proofs.Common.{◌≡◌, ℕ, ◌+◌, ◌<◌, ◌≤◌, List, [], ◌∷◌, ◌++◌, length, get_or, map, take, None, Option, inl, inr, ap, sym, ◌∙◌, arith, subst}
 use Rattle.std.specs.Prelude.{sum}
 use Rattle.std.specs.List.{range_with_len, sum_by}
 use Rattle.std.proofs.lemmas.Bool.{cases_lt}
-use Rattle.std.proofs.lemmas.List.{map-id, take_all}
+use Rattle.std.specs.Global.{Box}
+use Rattle.std.proofs.Math.Seq.{get_or-append_seam}
+use Rattle.std.proofs.lemmas.List.{get_or_append_left, length-append, map-id, take_all}
 use Rattle.std.proofs.lemmas.List.Sums.{sum_by_more, sum_by_more_le}
 use Rattle.std.proofs.lemmas.List.FromFn.{length-map-range_with_len, map-range_with_len_more}
 use Rattle.std.proofs.lemmas.List.FromFn.{sum_by-map-range_with_len_more}
@@ -18,7 +20,10 @@ use Rattle.snapshots.specs.JoinFlaws.{blocks_flaw, join_flaw, logs_flaw}
 use Rattle.snapshots.specs.Parts.{no_period, rules_in, snapshot_in, start_in, symbols_of}
 use Rattle.snapshots.specs.Sound.{IsSnapshot}
 use Rattle.snapshots.specs.Speed.{blocks_speed, speed_of}
-use Rattle.snapshots.specs.Stores.{AreOf}
+use Rattle.snapshots.specs.Stores.{AreOf, AreTracks}
+use Rattle.snapshots.specs.Tracks.{blocks_by_leaf}
+use Rattle.snapshots.specs.TrackTree.{IsKept}
+use Rattle.snapshots.specs.declared.track_tree.TrackTree.{TrackTree}
 use Rattle.snapshots.proofs.GetterLemmas.{snapshot-at}
 use Rattle.snapshots.specs.View.{SnapshotView}
 use Rattle.snapshots.specs.declared.fault.SnapFault.{SnapFault}
@@ -169,6 +174,30 @@ module _ (parts : Parts) (rules : RulesView) (snaps : List SnapshotView) (number
       found ∙ ap (λ r. blocks_speed r item) turn.of.rules_are ∙ ap (blocks_speed (rules_in parts)) turn.item_is in
       ap (λ xs. xs ++ speed ∷ []) so_far ∙ ap (λ n. map (speed_of parts) (range_with_len 0 number) ++ n ∷ []) here
       ∙ sym (map-range_with_len_more (speed_of parts) 0 number number (omega arith))
+
+  -- and what is kept of its tracks is one more
+  pub turn-tracks : (tracks : List (Option (Box TrackTree))) (kept : Option (Box TrackTree))
+      → AreTracks parts number tracks
+      → IsKept item.frame rules (blocks_by_leaf item) kept → AreTracks parts (number + 1) (tracks ++ kept ∷ [])
+  turn-tracks tracks kept are its =
+      let here : IsKept parts.frame (rules_in parts) (blocks_by_leaf (snapshot_in parts number)) kept =
+      subst (λ (view : SnapshotView). IsKept view.frame (rules_in parts) (blocks_by_leaf view) kept) turn.item_is
+      (subst (λ r. IsKept item.frame r (blocks_by_leaf item) kept) turn.of.rules_are its) in
+      record {
+        long = omega (arith, length-append tracks (kept ∷ []), are.long);
+        kept = λ k below. elim (cases_lt k number) [
+          | inl less ↦
+              subst (IsKept parts.frame (rules_in parts) (blocks_by_leaf (snapshot_in parts k)))
+              (sym (get_or_append_left tracks (kept ∷ []) None k (omega (arith, are.long)))) (are.kept k less)
+          | inr most ↦
+              let same : number ≡ k = omega arith in
+              let last : get_or (tracks ++ kept ∷ []) k None ≡ kept =
+              ap (λ n. get_or (tracks ++ kept ∷ []) n None) (sym same ∙ sym are.long)
+              ∙ get_or-append_seam tracks kept [] None in
+              subst (IsKept parts.frame (rules_in parts) (blocks_by_leaf (snapshot_in parts k))) (sym last)
+              (subst (λ n. IsKept parts.frame (rules_in parts) (blocks_by_leaf (snapshot_in parts n)) kept) same here)
+        ];
+      }
 
   module _ (before steps : ℕ) (is : IsJoining parts number before steps) where
     -- its flaw is the first

@@ -22,6 +22,10 @@ mod JudgingLemmas
 pub mod JoinLemmas
 pub mod SoundPartsLemmas
 pub mod ReachLemmas
+pub mod TrackLemmas
+pub mod LeafOrderLemmas
+pub mod KeptLemmas
+pub mod TracksLemmas
 pub mod NoFlawLemmas
 mod Examples
 pub mod GetterLemmas

@@ -88,7 +88,7 @@ present-from cell values =
     ap (λ start. present_in (cells_along start values)) same ∙ present-moved (cell.x, cell.y) origin values
 
 -- each of them is in the values' box, moved to the start
-covered-along : (cell : Cell) (values : List ℕ) (hull : CellBox) → Some hull ≡ bounding_box_of values
+pub covered-along : (cell : Cell) (values : List ℕ) (hull : CellBox) → Some hull ≡ bounding_box_of values
     → All (IsCovered cell hull) (present_in (cells_along cell values))
 unfolding bounding_box_of
 covered-along cell values hull is =
@@ -104,14 +104,15 @@ covered-along cell values hull is =
     }) cells (covered hull cells is)))
 
 -- there is none where the values have no box
-present-none : (cell : Cell) (values : List ℕ) → None ≡ bounding_box_of values → present_in (cells_along cell values) ≡ []
+pub present-none : (cell : Cell) (values : List ℕ) → None ≡ bounding_box_of values
+    → present_in (cells_along cell values) ≡ []
 unfolding bounding_box_of
 present-none cell values none =
     present-from cell values
     ∙ ap (map (λ c. moved c (cell.x, cell.y))) (box_round-none (present_in (cells_along origin values)) none)
 
 -- what holds of each cell at all instants from one on holds of each stop
-All-stops_from : (P : Stop → Type 0) (start instant : ℤ) (cells : List (Option Cell)) → start ≤ℤ instant
+pub All-stops_from : (P : Stop → Type 0) (start instant : ℤ) (cells : List (Option Cell)) → start ≤ℤ instant
     → All (λ cell. (at : ℤ) → start ≤ℤ at → P (stop_at at cell)) (present_in cells) → All P (stops_from instant cells)
 unfolding stops_from
 All-stops_from P start instant [] late each = All-nil P
@@ -135,7 +136,8 @@ far-within far before speed elapsed slow late =
     (mul-le (div_ceil far (before + 1)) (before + 1) speed elapsed slow late)
 
 -- the box of an entry is that of its symbol's values
-hull_of-entry : (rules : RulesView) (symbol : ℕ) → (entry_of rules symbol).hull ≡ bounding_box_of (values_of rules symbol)
+pub hull_of-entry : (rules : RulesView) (symbol : ℕ)
+    → (entry_of rules symbol).hull ≡ bounding_box_of (values_of rules symbol)
 unfolding entry_of
 hull_of-entry rules symbol = refl
 

@@ -25,7 +25,9 @@ use Rattle.snapshots.specs.JoinFlaws.{instants_after, is_along, is_off_grid, las
 use Rattle.snapshots.specs.Parts.{log_at, numbers_in, rules_in, snapshot_in}
 use Rattle.snapshots.specs.SoundParts.{AreSoundLogs, AreSoundRules, IsBoxInReach, IsPlaced, IsSound, IsSoundLog}
 use Rattle.snapshots.specs.Speed.{speed_of}
-use Rattle.snapshots.specs.Stores.{AreOf, AreStores}
+use Rattle.snapshots.specs.declared.track_tree.TrackTree.{TrackTree}
+use Rattle.std.specs.Global.{Box}
+use Rattle.snapshots.specs.Stores.{AreTracks, AreOf, AreStores}
 use Rattle.snapshots.specs.View.{SnapshotView, all_blocks, rank_in}
 use Rattle.snapshots.specs.declared.anchored.Anchored.{Anchored}
 use Rattle.snapshots.proofs.JoinLemmas.{IsJoining}
@@ -122,12 +124,13 @@ IsSound-joined parts rules snaps before steps of are is = record {
 }
 
 pub AreStores-joined : (parts : Parts) (rules : RulesView) (snaps : List SnapshotView) (speeds : List ℕ)
-    (before steps : ℕ) → AreOf parts rules snaps → AreRules rules
+    (tracks : List (Option (Box TrackTree))) (before steps : ℕ) → AreOf parts rules snaps → AreRules rules
     → IsJoining parts (periods_of parts.frame) before steps → speeds ≡ map (speed_of parts) (numbers_in parts.frame)
-    → AreStores parts rules snaps speeds
-AreStores-joined parts rules snaps speeds before steps of are is found = record {
+    → AreTracks parts (periods_of parts.frame) tracks → AreStores parts rules snaps speeds tracks
+AreStores-joined parts rules snaps speeds tracks before steps of are is found kept = record {
   valid = record { shaped = of.shaped; sound = IsSound-joined parts rules snaps before steps of are is };
   rules_are = of.rules_are;
   snaps_are = of.snaps_are;
   speeds_are = found;
+  tracks_are = kept;
 }

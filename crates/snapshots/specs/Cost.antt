@@ -20,3 +20,7 @@ first_reads = select_reads
 -- `objects_in`: a square that passes the test, which is opened or is a leaf whose first block is looked for
 abbrev pub square_reads : ℕ
 square_reads = child_reads + first_reads
+
+-- a block by its record: its cell, where it begins, and its log
+abbrev pub record_reads : ℕ
+record_reads = 3

@@ -10,5 +10,8 @@ pub mod Parts
 pub mod JoinFlaws
 pub mod Speed
 pub mod SoundParts
+pub mod Tracks
+pub mod TrackTree
+pub mod TrackWalk
 pub mod IndexCost
 pub mod Stores

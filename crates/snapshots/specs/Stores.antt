@@ -1,5 +1,6 @@
 -- What the stores of an index hold: its parts.
-use Rattle.std.specs.Prelude.{◌≡◌, ℕ, List, length, map}
+use Rattle.std.specs.Prelude.{◌≡◌, ℕ, ◌<◌, List, length, map, slice_index_or, Option, None}
+use Rattle.std.specs.Global.{Box}
 use Rattle.track_types.specs.Frame.{periods_of}
 use Rattle.track_types.specs.Shape.{IsShaped}
 use Rattle.track_types.specs.declared.frame.Frame.{Frame}
@@ -10,6 +11,9 @@ use Rattle.snapshots.specs.View.{SnapshotView}
 use Rattle.snapshots.specs.Parts.{numbers_in, rules_in, snapshot_in, start_in}
 use Rattle.snapshots.specs.SoundParts.{IsValid}
 use Rattle.snapshots.specs.Speed.{speed_of}
+use Rattle.snapshots.specs.Tracks.{blocks_by_leaf}
+use Rattle.snapshots.specs.TrackTree.{IsKept}
+use Rattle.snapshots.specs.declared.track_tree.TrackTree.{TrackTree}
 
 -- the parts of a snapshot
 abbrev pub parts_of : SnapshotView → PeriodParts
@@ -37,9 +41,17 @@ pub record AreOf (parts : Parts) (rules : RulesView) (snaps : List SnapshotView)
   pub snaps_are : snaps ≡ snapshots_in parts
   pub total : start_in parts (periods_of parts.frame) ≡ length parts.symbols
 
--- what holds of all stores: the parts are valid, and rules, snapshots and speeds are theirs
-pub record AreStores (parts : Parts) (rules : RulesView) (snaps : List SnapshotView) (speeds : List ℕ) : Type 0 where
+-- what is kept of the tracks of the periods' blocks
+pub record AreTracks (parts : Parts) (count : ℕ) (tracks : List (Option (Box TrackTree))) : Type 0 where
+  pub long : length tracks ≡ count
+  pub kept : (number : ℕ) → number < count → IsKept parts.frame (rules_in parts)
+      (blocks_by_leaf (snapshot_in parts number)) (slice_index_or tracks number None)
+
+-- what holds of all stores: the parts are valid, and rules, snapshots, speeds and tracks are theirs
+pub record AreStores (parts : Parts) (rules : RulesView) (snaps : List SnapshotView) (speeds : List ℕ)
+    (tracks : List (Option (Box TrackTree))) : Type 0 where
   pub valid : IsValid parts
   pub rules_are : rules ≡ rules_in parts
   pub snaps_are : snaps ≡ snapshots_in parts
   pub speeds_are : speeds ≡ map (speed_of parts) (numbers_in parts.frame)
+  pub tracks_are : AreTracks parts (periods_of parts.frame) tracks

@@ -2,24 +2,31 @@
 //!
 //! A `Snapshot` is checked from the parts of a period. `find` leads from an object to its block in
 //! a bounded number of reads, and `objects_in` gives the blocks whose anchors lie in squares that
-//! pass a test. The crate stands on `k2_tree`, `object_perm`, `bit_rank`, `rule_store`,
-//! `track_types`, `packed_bits`, `spiral_code`, `step_count` and `list_laws`.
+//! pass a test. `Stores` join the snapshots of an index with its rules; their `tracks` are the blocks
+//! of a period that a search may want, told by the boxes of their tracks. The crate stands on
+//! `k2_tree`, `box_tree`, `object_perm`, `bit_rank`, `rule_store`, `track_types`, `packed_bits`,
+//! `spiral_code`, `step_count` and `list_laws`.
 #![tactic(auto)]
 
 mod anchored;
 mod blocks;
-mod by_object;
 mod checking;
 mod everywhere;
 mod fault;
+mod finding;
+mod keeping;
+mod kept_walk;
 mod logs;
 mod members;
 mod next;
 mod objects_in;
+mod placing;
 mod snapshot;
 mod stores;
 #[cfg(test)]
 mod tests;
+mod track_tree;
+mod tracks;
 
 pub use anchored::Anchored;
 pub use fault::SnapFault;
@@ -27,3 +34,4 @@ pub use members::Members;
 pub use objects_in::ObjectsIn;
 pub use snapshot::Snapshot;
 pub use stores::Stores;
+pub use tracks::Tracks;

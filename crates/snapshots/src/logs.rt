@@ -1,5 +1,5 @@
 ghost use Rattle.std.specs.Prelude.{◌≡◌, ◌+◌, ◌<◌, ◌≤◌, ◌^◌, None, Some, length, IfErr, IfOk, OnOk};
-ghost use Rattle.std.specs.Prelude.{max, sum, pos, ◌+ℤ◌, ◌≤ℤ◌, IfSome};
+ghost use Rattle.std.specs.Prelude.{map, max, sum, slice_index_or, All, pos, ◌+ℤ◌, ◌≤ℤ◌, IfSome};
 ghost use Rattle.track_types.specs.Frame.{instants_in, periods_of, IsFrame};
 ghost use Rattle.track_types.specs.Near.{IsBoxWithin, IsCellWithin, IsNear, IsWithin};
 ghost use Rattle.snapshots.specs.Flaws.{IsFaultFor};
@@ -8,18 +8,23 @@ ghost use Rattle.snapshots.specs.Sound.{IsSnapshot};
 ghost use Rattle.snapshots.specs.IndexCost.{blocks_reads};
 ghost use Rattle.snapshots.specs.JoinFlaws.{blocks_flaw, has_columns, has_lines, is_along, lasting, log_flaw};
 ghost use Rattle.snapshots.specs.JoinFlaws.{off_grid_at, passes_grid, IsReachable};
+ghost use Rattle.snapshots.specs.TrackTree.{IsKept};
+ghost use Rattle.box_tree.specs.Places.{no_box};
+ghost use Rattle.snapshots.specs.Tracks.{blocks_by_leaf, track_box};
 ghost use Rattle.snapshots.specs.Speed.{block_speed, blocks_speed, far_of, gap, hull_speed};
 
 use crate::anchored::Anchored;
-use crate::by_object::blocks_by_object;
 use crate::checking::{flaw, instants_in};
 use crate::fault::SnapFault;
+use crate::finding::find_blocks;
+use crate::placing::{cell_box, no_box, with_hull};
 use crate::snapshot::Snapshot;
+use crate::track_tree::TrackTree;
 use rule_store::RuleStore;
 use std::alloc::Global;
 use std::sync::ledger::Ledger;
 use step_count::Steps;
-use track_types::{Cell, CellBox, Frame, Kind, Section};
+use track_types::{Cell, CellBox, Frame, Kind, Memory, Section};
 
 /// What the symbols of a log that stays in the grid tell of its block.
 #[derive(Clone, Copy)]
@@ -28,42 +33,73 @@ pub struct LogSummary {
     pub duration: u64,
     /// How many cells an instant its object gets away from its anchor at most.
     pub speed: u64,
+    /// The box of its track.
+    pub area: CellBox,
 }
 
-/// Judges the logs of all blocks of a snapshot, by object, and answers the first flaw, or the greatest
-/// speed of a block, in cells an instant. It reads each symbol of these logs once, and what leads to
-/// the blocks.
+/// What the logs of a period's blocks tell, where all of them stay in the grid to the period's end.
+#[derive(Drop)]
+pub struct Judged {
+    /// The greatest speed of a block, in cells an instant.
+    pub speed: u64,
+    /// What is kept of the blocks for searches, where there is one.
+    pub tracks: Option<Box<TrackTree>>,
+}
+
+/// Judges the logs of all blocks of a snapshot, by object, and answers the first flaw, or what they
+/// tell. It reads each symbol of these logs once, and what leads to the blocks.
 pub fn judge_snapshot<L: Ledger>(
     alloc: Global,
     rules: &RuleStore,
     snapshot: &Snapshot,
     steps: &mut Steps<L>,
-) -> Result<u64, SnapFault>
+) -> Result<Judged, SnapFault>
     requires symbols { snapshot.now.start + sum snapshot.now.parts.lengths
         ≤ length rules.now.symbols }
     ensures exact { OnOk result (blocks_flaw rules.now snapshot.now ≡ None) }
     ensures snapshot { OnOk result (IsSnapshot snapshot.now) }
-    ensures speed { IfOk result (λ speed. speed ≡ blocks_speed rules.now snapshot.now) }
+    ensures speed { IfOk result (λ judged. judged.speed ≡ blocks_speed rules.now snapshot.now) }
+    ensures tracks { IfOk result (λ judged.
+        IsKept snapshot.now.frame rules.now (blocks_by_leaf snapshot.now) judged.tracks) }
     ensures flaw { IfErr result (λ fault. IsFaultFor (blocks_flaw rules.now snapshot.now) fault) }
     ensures cost { steps.new
         ≤ steps.old + (blocks_reads snapshot.now + sum snapshot.now.parts.lengths) }
 {
-    let blocks = blocks_by_object(alloc, snapshot, steps)?;
+    let found = find_blocks(alloc, snapshot, steps)?;
     let (frame, number) = (snapshot.frame(), snapshot.number());
     let mut rank = 0;
     let mut speed = 0u64;
-    for slot in &blocks {
+    let mut areas = Vec::with_capacity(alloc, snapshot.objects() as usize)?;
+    for slot in &found.by_object {
+        let mut area = no_box();
         if let Some(block) = slot {
-            let log_speed = judge_log(rules, frame, number, rank, block, steps)?;
-            speed = speed.max(log_speed);
+            let log = judge_log(rules, frame, number, rank, block, steps)?;
+            speed = speed.max(log.speed);
+            area = log.area;
             rank += 1;
         }
+        areas.push_reserved(area);
     }
-    Ok(speed)
+    let boxes = by_leaf(alloc, &found.by_leaf, &areas)?;
+    let tracks = TrackTree::store(alloc, frame, &found.by_leaf, &boxes)?;
+    Ok(Judged { speed, tracks })
 }
 
-// Judges the log of a block, which has this place among those of the period with this number: its speed,
-// or its first flaw, where a placed box that passes the grid comes before a wrong duration.
+// The areas of blocks in their order, from those of all objects.
+fn by_leaf(alloc: Global, blocks: &[Anchored], areas: &[CellBox]) -> Result<Vec<CellBox>, Memory>
+    requires { All (λ block. block.index < length areas.now) blocks.now }
+    ensures { IfOk result (λ boxes. boxes.items
+        ≡ map (λ block. slice_index_or areas.now block.index no_box) blocks.now) }
+{
+    let mut boxes = Vec::with_capacity(alloc, blocks.len())?;
+    for block in blocks {
+        boxes.push(areas[block.index as usize])?;
+    }
+    Ok(boxes)
+}
+
+// Judges the log of a block, which has this place among those of the period with this number: what
+// it tells, or its first flaw, where a placed box that passes the grid comes before a wrong duration.
 fn judge_log<L: Ledger>(
     rules: &RuleStore,
     frame: &Frame,
@@ -71,7 +107,7 @@ fn judge_log<L: Ledger>(
     rank: u32,
     block: &Anchored,
     steps: &mut Steps<L>,
-) -> Result<u64, SnapFault>
+) -> Result<LogSummary, SnapFault>
     requires header { IsFrame frame.now }
     requires period { number < periods_of frame.now }
     requires offset { block.now.offset < instants_in frame.now number }
@@ -81,7 +117,8 @@ fn judge_log<L: Ledger>(
     ensures exact { OnOk result (log_flaw frame.now rules.now number rank block.now ≡ None) }
     ensures flaw { IfErr result (λ fault.
         IsFaultFor (log_flaw frame.now rules.now number rank block.now) fault) }
-    ensures speed { IfOk result (λ speed. speed ≡ block_speed rules.now block.now) }
+    ensures speed { IfOk result (λ log. log.speed ≡ block_speed rules.now block.now) }
+    ensures area { IfOk result (λ log. log.area ≡ track_box rules.now block.now) }
     ensures cost { steps.new ≤ steps.old + block.now.len }
 {
     match read_log(rules, frame, block, steps) {
@@ -89,7 +126,7 @@ fn judge_log<L: Ledger>(
         Ok(summary) => {
             let lasting = instants_in(frame, number) - 1 - block.offset;
             if summary.duration == u64::from(lasting) {
-                Ok(summary.speed)
+                Ok(summary)
             } else {
                 Err(flaw(number, Section::Lengths, Kind::Duration, rank))
             }
@@ -114,6 +151,7 @@ fn read_log<L: Ledger>(
     ensures ok { IfOk result (λ summary.
         summary.duration ≡ lasting rules.now (log_at rules.now block.now)) }
     ensures speed { IfOk result (λ summary. summary.speed ≡ block_speed rules.now block.now) }
+    ensures area { IfOk result (λ summary. summary.area ≡ track_box rules.now block.now) }
     ensures err { IfErr result (λ place.
         off_grid_at frame.now rules.now block.now.cell (log_at rules.now block.now) ≡ Some place) }
     ensures within { IfErr result (λ place. place < block.now.len) }
@@ -123,19 +161,25 @@ fn read_log<L: Ledger>(
     let mut cell = block.cell;
     let mut duration = 0;
     let mut speed = 0u64;
+    let mut area = cell_box(block.cell);
     for place in 0..block.len {
         let entry = log.entry(place, steps);
         if passes_grid(frame, cell, &entry.hull) {
             return Err(place);
         }
         speed = speed.max(hull_speed(block.cell, cell, duration, &entry.hull));
+        area = with_hull(area, cell, &entry.hull);
         cell = Cell {
             x: cell.x + entry.dx,
             y: cell.y + entry.dy,
         };
         duration += u64::from(entry.duration);
     }
-    Ok(LogSummary { duration, speed })
+    Ok(LogSummary {
+        duration,
+        speed,
+        area,
+    })
 }
 
 // The speed at which an object gets from a cell to the farthest cell of a box, which is moved to another

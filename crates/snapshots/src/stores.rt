@@ -1,4 +1,4 @@
-ghost use Rattle.std.specs.Prelude.{◌≡◌, ◌+◌, ◌<◌, ◌≤◌, None, length, slice_get, IfErr, IfOk, OnOk, Some};
+ghost use Rattle.std.specs.Prelude.{◌≡◌, ℕ, ◌+◌, ◌<◌, ◌≤◌, None, length, slice_get, IfErr, IfOk, OnOk, Some};
 ghost use Rattle.track_types.specs.Frame.{periods_of};
 ghost use Rattle.track_types.specs.Shape.{IsShaped};
 ghost use Rattle.snapshots.specs.Flaws.{IsFaultFor};
@@ -8,10 +8,22 @@ ghost use Rattle.snapshots.specs.Parts.{index_in, period_in, rules_in, snapshot_
 ghost use Rattle.snapshots.specs.SoundParts.{IsSound, IsValid};
 ghost use Rattle.snapshots.specs.Speed.{speed_of, IsWithinReach};
 ghost use Rattle.snapshots.specs.Stores.{join_of, AreOf};
+ghost use Rattle.std.specs.Prelude.{◌*◌, filter, All};
+ghost use Rattle.k2_tree.specs.Pruning.{square_count};
+ghost use Rattle.snapshots.specs.Cost.{block_reads, square_reads};
+ghost use Rattle.snapshots.specs.Objects.{WeighSame};
+ghost use Rattle.snapshots.specs.Sound.{IsBlock};
+ghost use Rattle.snapshots.specs.TrackWalk.{tracks_budget, tracks_left};
+ghost use Rattle.snapshots.specs.Tracks.{blocks_by_leaf, cell_box, may_hold, AreOnTracks};
+ghost use Rattle.snapshots.specs.View.{all_blocks, tree_in};
 
 use crate::fault::SnapFault;
+use crate::kept_walk::KeptWalk;
 use crate::logs::judge_snapshot;
 use crate::snapshot::Snapshot;
+use crate::track_tree::TrackTree;
+use crate::tracks::Tracks;
+use box_tree::Search;
 use rule_store::RuleStore;
 use std::alloc::Global;
 use std::marker::Model;
@@ -31,6 +43,8 @@ pub struct Stores {
     snaps: Vec<Snapshot>,
     // For each period, in cells an instant.
     speeds: Vec<u64>,
+    // For each period. An index may have 2^22 of them, most of them without a block.
+    tracks: Vec<Option<Box<TrackTree>>>,
 }
 
 impl Model for Stores {
@@ -42,7 +56,7 @@ impl Model for Stores {
     ghost view = { λ s. join_of s.frame s.objects s.rules s.snaps.items };
 
     ghost invariant = { λ s. AreStores (join_of s.frame s.objects s.rules s.snaps.items)
-        s.rules s.snaps.items s.speeds.items };
+        s.rules s.snaps.items s.speeds.items s.tracks.items };
 }
 
 impl Stores {
@@ -57,8 +71,9 @@ impl Stores {
     /// The objects ascend, the height and the period of the rules are those of the header, the
     /// snapshots are those of its periods in order, and their logs stand one after the other to the
     /// end of the symbols. It reads each stored symbol once, and what leads to the blocks of each
-    /// snapshot. In the same pass it finds the speed of each period. Memory is taken for the speeds, and
-    /// for the blocks of a period while the call runs.
+    /// snapshot. In the same pass it finds the speed of each period, and the box of each block's
+    /// track, which `tracks` goes through. Memory is taken for these, and for the blocks of a period
+    /// while the call runs.
     pub fn join<L: Ledger>(
         alloc: Global,
         frame: Frame,
@@ -72,13 +87,18 @@ impl Stores {
         ensures exact { OnOk result (logs_flaw (join_of frame objects rules snaps.items) ≡ None) }
         ensures sound { OnOk result (IsSound (join_of frame objects rules snaps.items)) }
         ensures within { OnOk result (IsWithinReach (join_of frame objects rules snaps.items)) }
+        ensures tracks { OnOk result ((number : ℕ) → number < periods_of frame
+            → AreOnTracks (join_of frame objects rules snaps.items) number) }
         ensures flaw { IfErr result (λ fault.
             IsFaultFor (logs_flaw (join_of frame objects rules snaps.items)) fault) }
         ensures cost { steps.new ≤ steps.old + open_cost (join_of frame objects rules snaps.items) }
     {
         let mut speeds = Vec::with_capacity(alloc, snaps.len())?;
+        let mut tracks = Vec::with_capacity(alloc, snaps.len())?;
         for snapshot in &snaps {
-            speeds.push_reserved(judge_snapshot(alloc, &rules, snapshot, steps)?);
+            let judged = judge_snapshot(alloc, &rules, snapshot, steps)?;
+            speeds.push_reserved(judged.speed);
+            tracks.push_reserved(judged.tracks);
         }
         let _ = rules.sizes(); // says that the rules are sound
         Ok(Stores {
@@ -87,6 +107,7 @@ impl Stores {
             rules,
             snaps,
             speeds,
+            tracks,
         })
     }
 
@@ -149,6 +170,31 @@ impl Stores {
         ensures value { result.now ≡ snapshot_in self.now period }
     {
         &self.snaps[period as usize]
+    }
+
+    /// The blocks of a period, which is one of the header's, that may hold what is sought, in leaf
+    /// order: those whose anchor's cell passes the search's test of squares, and whose track's box
+    /// passes its test of boxes. The box of a track has the cells of all stops of its block. It takes
+    /// no memory, and reads nothing until it is drawn from.
+    pub fn tracks<S: Search + Drop>(&self, period: u32, search: S) -> Tracks<'_, S>
+        requires { period < periods_of self.now.frame }
+        ensures left { tracks_left S.squares S.boxes result
+            ≡ filter (may_hold (S.squares search) (S.boxes search) (rules_in self.now))
+            (blocks_by_leaf (snapshot_in self.now period)) }
+        ensures blocks { All (IsBlock (snapshot_in self.now period))
+            (tracks_left S.squares S.boxes result) }
+        ensures weights { WeighSame (blocks_by_leaf (snapshot_in self.now period))
+            (all_blocks (snapshot_in self.now period)) }
+        ensures budget { tracks_budget S.squares S.boxes result
+            ≤ square_reads * square_count (S.squares search) (tree_in (snapshot_in self.now period))
+            + block_reads * length (filter (λ block. S.squares search (cell_box block.cell))
+            (all_blocks (snapshot_in self.now period))) }
+        ensures on_tracks { AreOnTracks self.now period }
+    {
+        match &self.tracks[period as usize] {
+            Some(kept) => Tracks::new(Some(KeptWalk::new(kept, search))),
+            None => Tracks::new(None),
+        }
     }
 
     /// The speed of a period, which is one of the header's, in cells an instant: at so many instants

@@ -1,4 +1,4 @@
-use Rattle.std.proofs.Common.{◌≡◌, ◌<◌, ◌≤◌, ◌+◌, ◌^◌, None, Some, arith, ap, refl, subst, sym, take, ◌∙◌}
+use Rattle.std.proofs.Common.{◌≡◌, ◌<◌, ◌≤◌, ◌+◌, ◌^◌, None, Some, arith, ap, refl, subst, sym, take, All, map, ◌∙◌}
 use Rattle.std.specs.Prelude.{sum}
 use Rattle.packed_bits.proofs.OnesLemmas.{ones_of-le-length}
 use Rattle.std.proofs.lemmas.Result.{err_from_is_err_and}
@@ -6,27 +6,34 @@ use Rattle.list_laws.proofs.FirstLemmas.{made_first}
 use Rattle.snapshots.specs.Flaws.{IsFaultFor}
 use Rattle.snapshots.specs.JoinFlaws.{block_flaw, log_flaw}
 use Rattle.snapshots.specs.Sound.{IsBlock}
+use Rattle.snapshots.specs.Tracks.{blocks_by_leaf, track_box}
 use Rattle.snapshots.specs.View.{block_of, rank_in}
 use Rattle.snapshots.proofs.BlockFactsLemmas.{IsBlock-from_block_of}
 use Rattle.snapshots.proofs.JudgingLemmas.{blocks_flaw-at, blocks_flaw-none, cell-within, has-at, long-as, none-more}
 use Rattle.snapshots.proofs.JudgingLemmas.{passed_over, rank_in-zero, taken, IsTaken}
 use Rattle.snapshots.proofs.SpeedLemmas.{blocks_speed-all, blocks_speed-block, blocks_speed-none}
+use Rattle.snapshots.proofs.TrackLemmas.{box_in, boxes_before-more, boxes_before-picked, boxes_before-within}
+use Rattle.track_types.specs.declared.frame.Frame.{Frame}
+use Rattle.snapshots.specs.TrackTree.{IsKept}
+use Rattle.snapshots.proofs.KeptLemmas.{IsStorable-judged}
+use Rattle.snapshots.proofs.SoundPartsLemmas.{AreSoundLogs-flawless}
+use Rattle.snapshots.proofs.LeafOrderLemmas.{by_leaf-are}
 use Rattle.snapshots.proofs.logs.judge_snapshot.Given.{Over}
 use Rattle.snapshots.proofs.logs.judge_snapshot.Goals as goal
-use Rattle.snapshots.proofs.logs.judge_snapshot.Goals.{in-Some+in_ok-log_speed, in_default, In-Some}
+use Rattle.snapshots.proofs.logs.judge_snapshot.Goals.{After-deref-4, in-Some+in_ok-log, in_default, In-Some}
 
 -- the place is one of the objects'
 within : (g : Over) (c : In-Some g) → c.loop-slot.slot-index < c.args.snapshot.now.objects
 within g c =
-    let long = long-as c.args.snapshot.now c.deref-slot-items.result.now c.in_ok-blocks.blocks.items
-    c.deref-slot-items.ensures.value c.in_ok-blocks.ensures.ok in
+    let long = long-as c.args.snapshot.now c.deref-slot-items.result.now c.in_ok-found.found.by_object.items
+    c.deref-slot-items.ensures.value c.in_ok-found.ensures.by_object in
     omega (arith, c.loop-slot-test.true, long)
 
 -- the object has the block that is read
 has : (g : Over) (c : In-Some g) → block_of c.args.snapshot.now c.loop-slot.slot-index ≡ Some c.in-Some.block
 has g c =
-    has-at c.args.snapshot.now c.deref-slot-items.result.now c.in_ok-blocks.blocks.items c.loop-slot.slot-index
-    (Some c.in-Some.block) c.deref-slot-items.ensures.value c.in_ok-blocks.ensures.ok (within g c) c.in-Some.is
+    has-at c.args.snapshot.now c.deref-slot-items.result.now c.in_ok-found.found.by_object.items c.loop-slot.slot-index
+    (Some c.in-Some.block) c.deref-slot-items.ensures.value c.in_ok-found.ensures.by_object (within g c) c.in-Some.is
 
 its : (g : Over) (c : In-Some g) → IsBlock c.args.snapshot.now c.in-Some.block
 its g c =
@@ -42,7 +49,10 @@ loop-slot-init g c = record {
   none = λ j below. absurd (omega arith);
   rank = rank_in-zero c.args.snapshot.now;
   fastest = refl;
-  reads = omega (arith, c.blocks_by_object.ensures.cost);
+  areas = c.in_ok-areas.ensures.items;
+  filled = c.in_ok-areas.ensures.len;
+  room = omega (arith, c.in_ok-areas.ensures.capacity, c.objects.ensures.value);
+  reads = omega (arith, c.find_blocks.ensures.cost);
 }
 
 pub judge_log-requires-clause-offset : goal.judge_log-requires-clause-offset
@@ -74,20 +84,20 @@ same_flaw g c =
     c.loop-slot.invariant.rank ∙ ap (rank_in c.args.snapshot.now) (sym (takes g c).index_is) in
     rw (c.frame-frame.ensures.value, c.number-number.ensures.value, rank) refl
 
-pub returns-in_err-log_speed-clause-flaw : goal.returns-in_err-log_speed-clause-flaw
-returns-in_err-log_speed-clause-flaw g c =
-    let at = (goal.at.returns-in_err-log_speed-clause-flaw g c).In-Some in
-    let found = c.in_err-log_speed.field-0.0 in
+pub returns-in_err-log-clause-flaw : goal.returns-in_err-log-clause-flaw
+returns-in_err-log-clause-flaw g c =
+    let at = (goal.at.returns-in_err-log-clause-flaw g c).In-Some in
+    let found = c.in_err-log.field-0.0 in
     let known = blocks_flaw-at c.args.rules.now c.args.snapshot.now c.loop-slot.slot-index c.in-Some.block found
     (within g at) c.loop-slot.invariant.none (has g at)
-    (subst (λ first. IsFaultFor first found) (same_flaw g at) c.in_err-log_speed.ensures.flaw) in
-    let given = err_from_is_err_and c.from_residual-in_err-log_speed.result
-    c.from_residual-in_err-log_speed.ensures.1 in
+    (subst (λ first. IsFaultFor first found) (same_flaw g at) c.in_err-log.ensures.flaw) in
+    let given = err_from_is_err_and c.from_residual-in_err-log.result
+    c.from_residual-in_err-log.ensures.1 in
     rw (given.1, given.2) known
 
-pub returns-in_err-log_speed-clause-cost : goal.returns-in_err-log_speed-clause-cost
-returns-in_err-log_speed-clause-cost g c =
-    let takes = takes g (goal.at.returns-in_err-log_speed-clause-cost g c).In-Some in
+pub returns-in_err-log-clause-cost : goal.returns-in_err-log-clause-cost
+returns-in_err-log-clause-cost g c =
+    let takes = takes g (goal.at.returns-in_err-log-clause-cost g c).In-Some in
     let log : c.in-Some.block.len + sum (take c.loop-slot.rank c.args.snapshot.now.parts.lengths)
     ≤ sum c.args.snapshot.now.parts.lengths =
     subst (λ r. c.in-Some.block.len + sum (take r c.args.snapshot.now.parts.lengths)
@@ -112,15 +122,15 @@ overflow_add-rank g c =
 
 pub returns-clause-exact : goal.returns-clause-exact
 returns-clause-exact g c =
-    let long = long-as c.args.snapshot.now c.deref-slot-items.result.now c.in_ok-blocks.blocks.items
-    c.deref-slot-items.ensures.value c.in_ok-blocks.ensures.ok in
+    let long = long-as c.args.snapshot.now c.deref-slot-items.result.now c.in_ok-found.found.by_object.items
+    c.deref-slot-items.ensures.value c.in_ok-found.ensures.by_object in
     blocks_flaw-none c.args.rules.now c.args.snapshot.now
     (λ j below. c.loop-slot.invariant.none j (omega (arith, long, c.loop-slot-test.false)))
 
 pub returns-clause-speed : goal.returns-clause-speed
 returns-clause-speed g c =
-    let long = long-as c.args.snapshot.now c.deref-slot-items.result.now c.in_ok-blocks.blocks.items
-    c.deref-slot-items.ensures.value c.in_ok-blocks.ensures.ok in
+    let long = long-as c.args.snapshot.now c.deref-slot-items.result.now c.in_ok-found.found.by_object.items
+    c.deref-slot-items.ensures.value c.in_ok-found.ensures.by_object in
     c.loop-slot.invariant.fastest
     ∙ blocks_speed-all c.args.rules.now c.args.snapshot.now c.loop-slot.slot-index
     (omega (arith, long, c.loop-slot-test.false))
@@ -130,16 +140,17 @@ loop-slot-preserved g c =
     let view = c.args.snapshot.now in
     let index = c.loop-slot.slot-index in
     let items = c.deref-slot-items.result.now in
-    let blocks = c.in_ok-blocks.blocks.items in
+    let blocks = c.in_ok-found.found.by_object.items in
     let same = c.deref-slot-items.ensures.value in
     let is = c.frame-frame.ensures.snapshot in
     let before = c.loop-slot.invariant in
     let below : index < view.objects =
-    omega (arith, c.loop-slot-test.true, long-as view items blocks same c.in_ok-blocks.ensures.ok) in
+    omega (arith, c.loop-slot-test.true, long-as view items blocks same c.in_ok-found.ensures.by_object) in
     elim c.match-slot.branch [
-      | in-Some+in_ok-log_speed w ↦
+      | in-Some+in_ok-log w ↦
           let block = w.in-Some.block in
-          let has = has-at view items blocks index (Some block) same c.in_ok-blocks.ensures.ok below w.in-Some.is in
+          let has = has-at view items blocks index (Some block) same c.in_ok-found.ensures.by_object below w.in-Some.is
+          in
           let takes = taken view is index block has in
           let rank : c.loop-slot.rank ≡ rank_in view block.index =
           before.rank ∙ ap (rank_in view) (sym takes.index_is) in
@@ -152,15 +163,21 @@ loop-slot-preserved g c =
           let new = ap (λ r. sum (take r view.parts.lengths)) next in
           record {
             none = none-more c.args.rules.now view index before.none
-                (ap (made_first (block_flaw c.args.rules.now view)) has ∙ sym flaw ∙ w.in_ok-log_speed.ensures.exact);
+                (ap (made_first (block_flaw c.args.rules.now view)) has ∙ sym flaw ∙ w.in_ok-log.ensures.exact);
             rank = next ∙ sym takes.next;
             fastest = blocks_speed-block c.args.rules.now view index block c.loop-slot.speed
-                w.in_ok-log_speed.log_speed c.match-slot.speed has (w.speed-is ∙ w.max-speed.ensures) before.fastest
-                w.in_ok-log_speed.ensures.speed;
+                w.in_ok-log.log.speed c.match-slot.speed has (w.speed-is ∙ w.max-speed.ensures) before.fastest
+                w.in_ok-log.ensures.speed;
+            areas = c.push_reserved.ensures.items ∙ boxes_before-more c.args.rules.now view index
+                c.loop-slot.areas.items
+                c.match-slot.area before.areas (w.area-is ∙ w.in_ok-log.ensures.area
+                ∙ sym (ap (box_in c.args.rules.now) has));
+            filled = omega (arith, c.push_reserved.ensures.len, before.filled);
+            room = omega (arith, c.push_reserved.ensures.capacity, before.room);
             reads = omega (arith, w.steps-is, w.judge_log.ensures.cost, before.reads, log, old, new);
           }
       | in_default w ↦
-          let none = has-at view items blocks index None same c.in_ok-blocks.ensures.ok below w.in_default.is in
+          let none = has-at view items blocks index None same c.in_ok-found.ensures.by_object below w.in_default.is in
           let rank : c.match-slot.rank ≡ c.loop-slot.rank = w.rank-is in
           let kept = ap (λ r. sum (take r view.parts.lengths)) rank in
           record {
@@ -168,6 +185,70 @@ loop-slot-preserved g c =
                 (ap (made_first (block_flaw c.args.rules.now view)) none);
             rank = rank ∙ before.rank ∙ sym (passed_over view is index none below);
             fastest = w.speed-is ∙ blocks_speed-none c.args.rules.now view index c.loop-slot.speed none before.fastest;
+            areas = c.push_reserved.ensures.items ∙ boxes_before-more c.args.rules.now view index
+                c.loop-slot.areas.items
+                c.match-slot.area before.areas (w.area-is ∙ c.no_box-area.ensures
+                ∙ sym (ap (box_in c.args.rules.now) none));
+            filled = omega (arith, c.push_reserved.ensures.len, before.filled);
+            room = omega (arith, c.push_reserved.ensures.capacity, before.room);
             reads = omega (arith, w.steps-is, before.reads, kept);
           }
     ]
+
+pub push_reserved-requires : goal.push_reserved-requires
+push_reserved-requires g c =
+    let long = long-as c.args.snapshot.now c.deref-slot-items.result.now c.in_ok-found.found.by_object.items
+    c.deref-slot-items.ensures.value c.in_ok-found.ensures.by_object in
+    omega (arith, c.loop-slot.invariant.filled, c.loop-slot.invariant.room, c.loop-slot-test.true, long)
+
+pub by_leaf-requires : goal.by_leaf-requires
+by_leaf-requires g c =
+    let view = c.args.snapshot.now in
+    let is = c.frame-frame.ensures.snapshot in
+    let long = long-as view c.deref-slot-items.result.now c.in_ok-found.found.by_object.items
+    c.deref-slot-items.ensures.value
+    c.in_ok-found.ensures.by_object in
+    boxes_before-within c.args.rules.now view c.deref-2.result.now c.deref.result.now c.loop-slot.slot-index
+    (c.deref-2.ensures.value ∙ c.loop-slot.invariant.areas) (omega (arith, long, c.loop-slot-test.false)) is
+    (subst (All (IsBlock view)) (sym (c.deref.ensures.value ∙ c.in_ok-found.ensures.by_leaf)) (by_leaf-are view is))
+
+-- the boxes are those of the blocks in leaf order
+stored : (g : Over) (c : After-deref-4 g)
+    → (c.deref-3.result.now ≡ blocks_by_leaf c.args.snapshot.now)
+    × (c.deref-4.result.now ≡ map (track_box c.args.rules.now) (blocks_by_leaf c.args.snapshot.now))
+stored g c =
+    let view = c.args.snapshot.now in
+    let is = c.frame-frame.ensures.snapshot in
+    let long = long-as view c.deref-slot-items.result.now c.in_ok-found.found.by_object.items
+    c.deref-slot-items.ensures.value
+    c.in_ok-found.ensures.by_object in
+    let blocks : c.deref.result.now ≡ blocks_by_leaf view = c.deref.ensures.value ∙ c.in_ok-found.ensures.by_leaf in (
+      c.deref-3.ensures.value ∙ c.in_ok-found.ensures.by_leaf,
+      c.deref-4.ensures.value ∙ c.in_ok-boxes.ensures
+          ∙ boxes_before-picked c.args.rules.now view c.deref-2.result.now c.deref.result.now c.loop-slot.slot-index
+          (c.deref-2.ensures.value ∙ c.loop-slot.invariant.areas) (omega (arith, long, c.loop-slot-test.false)) is
+          (subst (All (IsBlock view)) (sym blocks) (by_leaf-are view is))
+          ∙ ap (map (track_box c.args.rules.now)) blocks,
+    )
+
+pub store-requires : goal.store-requires
+store-requires g c =
+    let view = c.args.snapshot.now in
+    let long = long-as view c.deref-slot-items.result.now c.in_ok-found.found.by_object.items
+    c.deref-slot-items.ensures.value
+    c.in_ok-found.ensures.by_object in
+    let none = blocks_flaw-none c.args.rules.now view
+    (λ j below. c.loop-slot.invariant.none j (omega (arith, long, c.loop-slot-test.false))) in
+    let both = stored g (goal.at.store-requires g c).After-deref-4 in
+    let its = IsStorable-judged view c.args.rules.now c.frame-frame.result.now c.deref-3.result.now c.deref-4.result.now
+    c.frame-frame.ensures.snapshot (AreSoundLogs-flawless c.args.rules.now view none) c.frame-frame.ensures.value
+    both.0 both.1 in
+    record { header = its.header; places = its.places; inside = its.inside; from = its.from; few = its.few }
+
+pub returns-clause-tracks : goal.returns-clause-tracks
+returns-clause-tracks g c =
+    let rules = c.args.rules.now in
+    let both = stored g (goal.at.returns-clause-tracks g c).After-deref-4 in
+    subst (λ bs. IsKept c.args.snapshot.now.frame rules bs c.in_ok-tracks.tracks) both.0
+    (subst (λ (f : Frame). IsKept f rules c.deref-3.result.now c.in_ok-tracks.tracks) c.frame-frame.ensures.value
+    (c.in_ok-tracks.ensures rules (both.1 ∙ ap (map (track_box rules)) (sym both.0))))

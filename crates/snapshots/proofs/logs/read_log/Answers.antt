@@ -4,6 +4,7 @@ use Rattle.snapshots.specs.Parts.{log_at}
 use Rattle.snapshots.proofs.LogsLemmas.{entry-at, length-log_at, off_grid-found, off_grid-none, reading-more}
 use Rattle.snapshots.proofs.LogsLemmas.{reading-none, IsReading}
 use Rattle.snapshots.proofs.SpeedLemmas.{speed-here, speed_before-all, speed_before-more}
+use Rattle.snapshots.proofs.TrackLemmas.{box_before-all, box_before-more}
 use Rattle.snapshots.proofs.logs.read_log.Goals as goal
 
 pub loop-place-init : goal.loop-place-init
@@ -11,6 +12,7 @@ loop-place-init g c = record {
   reading = reading-none c.args.frame.now c.args.rules.now c.args.block.now.cell
       (log_at c.args.rules.now c.args.block.now) c.requires.cell;
   fastest = refl;
+  boxed = c.cell_box-area.ensures;
   reads = omega arith;
 }
 
@@ -47,6 +49,9 @@ loop-place-preserved g c =
           c.max-speed.result c.max-speed.ensures place.invariant.fastest
           (speed-here c.args.rules.now block.cell log place.place place.cell place.duration entry c.hull_speed.result
           c.hull_speed.ensures place.invariant.reading.stands place.invariant.reading.lasted its);
+      boxed = box_before-more c.args.rules.now block.cell log place.place place.cell entry place.area
+          c.with_hull-area.result
+          c.with_hull-area.ensures place.invariant.boxed place.invariant.reading.stands its;
       reads = omega (arith, c.entry-entry.ensures.cost, place.invariant.reads);
     }
 
@@ -67,3 +72,11 @@ returns-clause-speed g c =
     let last : c.loop-place.place ≡ length log =
     omega (arith, c.loop-place-test.false, length-log_at c.args.rules.now block c.requires.log) in
     c.loop-place.invariant.fastest ∙ speed_before-all c.args.rules.now block.cell log c.loop-place.place last
+
+pub returns-clause-area : goal.returns-clause-area
+returns-clause-area g c =
+    let block = c.args.block.now in
+    let log : List ℕ = log_at c.args.rules.now block in
+    let last : c.loop-place.place ≡ length log =
+    omega (arith, c.loop-place-test.false, length-log_at c.args.rules.now block c.requires.log) in
+    c.loop-place.invariant.boxed ∙ box_before-all c.args.rules.now block.cell log c.loop-place.place last

@@ -1,14 +1,15 @@
-use Rattle.std.proofs.Common.{◌≡◌, arith, ap, length, map, subst, ◌∙◌}
+use Rattle.std.proofs.Common.{◌≡◌, ◌+◌, arith, ap, length, map, subst, sym, ◌∙◌}
 use Rattle.std.specs.List.{range_with_len}
 use Rattle.std.proofs.lemmas.Result.{err_from_is_err_and}
 use Rattle.track_types.specs.Frame.{periods_of}
 use Rattle.track_types.specs.declared.parts.Parts.{Parts}
 use Rattle.snapshots.specs.Speed.{speed_of}
-use Rattle.snapshots.specs.Stores.{join_of}
+use Rattle.snapshots.specs.Stores.{join_of, AreTracks}
 use Rattle.snapshots.proofs.JoinLemmas.{length-snaps, logs_flaw-none, reads-within, turn-flaw, turn-more, turn-reads}
-use Rattle.snapshots.proofs.JoinLemmas.{turn-speeds, turn-symbols, IsJoining, IsTurn, IsTurn-read}
+use Rattle.snapshots.proofs.JoinLemmas.{turn-speeds, turn-symbols, turn-tracks, IsJoining, IsTurn, IsTurn-read}
 use Rattle.snapshots.proofs.SoundPartsLemmas.{AreStores-joined, IsSound-joined}
 use Rattle.snapshots.proofs.ReachLemmas.{within-reach}
+use Rattle.snapshots.proofs.TrackLemmas.{on-tracks}
 use Rattle.snapshots.proofs.stores.Stores.join.Given.{Over}
 use Rattle.snapshots.proofs.stores.Stores.join.Goals as goal
 use Rattle.snapshots.proofs.stores.Stores.join.Goals.{After-judge_snapshot-arg-1, After-sizes}
@@ -26,6 +27,7 @@ all_joined : (g : Over) (c : After-sizes g)
     → let parts : Parts = join_of c.args.frame c.args.objects c.args.rules c.args.snaps.items in
     IsJoining parts (periods_of parts.frame) c.args.steps.now c.loop-snapshot.steps
     × (c.loop-snapshot.speeds.items ≡ map (speed_of parts) (range_with_len 0 (periods_of parts.frame)))
+    × AreTracks parts (periods_of parts.frame) c.loop-snapshot.tracks.items
 all_joined g c =
     let parts : Parts = join_of c.args.frame c.args.objects c.args.rules c.args.snaps.items in
     let last : c.loop-snapshot.snapshot-index ≡ periods_of parts.frame =
@@ -36,25 +38,26 @@ all_joined g c =
       length-snaps parts c.args.rules c.args.snaps.items c.requires,
     ) in
     subst (λ n. IsJoining parts n c.args.steps.now c.loop-snapshot.steps
-    × (c.loop-snapshot.speeds.items ≡ map (speed_of parts) (range_with_len 0 n))) last
-    (c.loop-snapshot.invariant.joining, c.loop-snapshot.invariant.speeds)
+    × (c.loop-snapshot.speeds.items ≡ map (speed_of parts) (range_with_len 0 n))
+    × AreTracks parts n c.loop-snapshot.tracks.items) last
+    (c.loop-snapshot.invariant.joining, c.loop-snapshot.invariant.speeds, c.loop-snapshot.invariant.tracks)
 
 pub judge_snapshot-requires : goal.judge_snapshot-requires
 judge_snapshot-requires g c = record {
   symbols = turn-symbols _ _ _ _ _ (turn_of g (goal.at.judge_snapshot-requires g c).After-judge_snapshot-arg-1);
 }
 
-pub returns-in_err-judge_snapshot-clause-flaw : goal.returns-in_err-judge_snapshot-clause-flaw
-returns-in_err-judge_snapshot-clause-flaw g c =
-    let turn = turn_of g (goal.at.returns-in_err-judge_snapshot-clause-flaw g c).After-judge_snapshot-arg-1 in
+pub returns-in_err-judged-clause-flaw : goal.returns-in_err-judged-clause-flaw
+returns-in_err-judged-clause-flaw g c =
+    let turn = turn_of g (goal.at.returns-in_err-judged-clause-flaw g c).After-judge_snapshot-arg-1 in
     let known = turn-flaw _ _ _ _ _ turn c.args.steps.now c.loop-snapshot.steps c.loop-snapshot.invariant.joining
-    c.in_err-judge_snapshot.field-0.0 c.in_err-judge_snapshot.ensures.flaw in
-    let given = err_from_is_err_and c.from_residual-in_err-judge_snapshot.result c.from_residual-in_err-judge_snapshot.ensures.1 in
+    c.in_err-judged.field-0.0 c.in_err-judged.ensures.flaw in
+    let given = err_from_is_err_and c.from_residual-in_err-judged.result c.from_residual-in_err-judged.ensures.1 in
     rw (given.1, given.2) known
 
-pub returns-in_err-judge_snapshot-clause-cost : goal.returns-in_err-judge_snapshot-clause-cost
-returns-in_err-judge_snapshot-clause-cost g c =
-    turn-reads _ _ _ _ _ (turn_of g (goal.at.returns-in_err-judge_snapshot-clause-cost g c).After-judge_snapshot-arg-1)
+pub returns-in_err-judged-clause-cost : goal.returns-in_err-judged-clause-cost
+returns-in_err-judged-clause-cost g c =
+    turn-reads _ _ _ _ _ (turn_of g (goal.at.returns-in_err-judged-clause-cost g c).After-judge_snapshot-arg-1)
     c.args.steps.now c.loop-snapshot.steps c.loop-snapshot.invariant.joining c.judge_snapshot.new.steps
     c.judge_snapshot.ensures.cost
 
@@ -68,25 +71,41 @@ push_reserved-requires g c =
       ap length c.deref-snapshot-items.ensures.value,
     )
 
+pub push_reserved-requires-in-loop-snapshot : goal.push_reserved-requires-in-loop-snapshot
+push_reserved-requires-in-loop-snapshot g c =
+    omega (
+      arith,
+      c.loop-snapshot.invariant.tracks_filled,
+      c.loop-snapshot.invariant.tracks_room,
+      c.loop-snapshot-test.true,
+      ap length c.deref-snapshot-items.ensures.value,
+    )
+
 pub loop-snapshot-preserved : goal.loop-snapshot-preserved
 loop-snapshot-preserved g c =
     let turn = turn_of g (goal.at.loop-snapshot-preserved g c).After-judge_snapshot-arg-1 in
     let so_far = c.loop-snapshot.invariant in
     record {
       joining = turn-more _ _ _ _ _ turn c.args.steps.now c.loop-snapshot.steps so_far.joining
-          c.judge_snapshot.new.steps c.judge_snapshot.ensures.cost c.in_ok-judge_snapshot.ensures.snapshot
-          c.in_ok-judge_snapshot.ensures.exact;
+          c.judge_snapshot.new.steps c.judge_snapshot.ensures.cost c.in_ok-judged.ensures.snapshot
+          c.in_ok-judged.ensures.exact;
       speeds = c.push_reserved.ensures.items ∙ turn-speeds _ _ _ _ _ turn c.loop-snapshot.speeds.items
-          c.in_ok-judge_snapshot.field-0 so_far.speeds c.in_ok-judge_snapshot.ensures.speed;
+          c.in_ok-judged.judged.speed so_far.speeds c.in_ok-judged.ensures.speed;
       filled = omega (arith, c.push_reserved.ensures.len, so_far.filled);
       room = c.push_reserved.ensures.capacity ∙ so_far.room;
+      tracks = subst (AreTracks _ (c.loop-snapshot.snapshot-index + 1))
+          (sym c.push_reserved-in-loop-snapshot.ensures.items)
+          (turn-tracks _ _ _ _ _ turn c.loop-snapshot.tracks.items c.in_ok-judged.judged.tracks so_far.tracks
+          c.in_ok-judged.ensures.tracks);
+      tracks_filled = omega (arith, c.push_reserved-in-loop-snapshot.ensures.len, so_far.tracks_filled);
+      tracks_room = omega (arith, c.push_reserved-in-loop-snapshot.ensures.capacity, so_far.tracks_room);
     }
 
 pub invariant_of-result : goal.invariant_of-result
 invariant_of-result g c =
     let all = all_joined g (goal.at.invariant_of-result g c).After-sizes in
-    AreStores-joined _ c.args.rules c.args.snaps.items c.loop-snapshot.speeds.items c.args.steps.now
-    c.loop-snapshot.steps c.requires c.sizes.ensures.sound all.0 all.1
+    AreStores-joined _ c.args.rules c.args.snaps.items c.loop-snapshot.speeds.items c.loop-snapshot.tracks.items
+    c.args.steps.now c.loop-snapshot.steps c.requires c.sizes.ensures.sound all.0 all.1 all.2
 
 pub returns-clause-exact : goal.returns-clause-exact
 returns-clause-exact g c =
@@ -108,6 +127,9 @@ returns-clause-within g c =
       sound = IsSound-joined parts c.args.rules c.args.snaps.items c.args.steps.now c.loop-snapshot.steps c.requires
           c.sizes.ensures.sound all.0;
     })
+
+pub returns-clause-tracks : goal.returns-clause-tracks
+returns-clause-tracks g c = λ number within. on-tracks _ number
 
 pub returns-clause-cost : goal.returns-clause-cost
 returns-clause-cost g c =

@@ -1,0 +1,309 @@
+-- The blocks of a period as places of a tree of boxes: their Morton numbers ascend, and are those of the tree of
+-- anchors.
+use Rattle.std.proofs.Common.{◌≡◌, ℕ, zero, suc, ◌+◌, ◌-◌, ◌*◌, ◌^◌, ◌<◌, ◌≤◌, ◌||◌, ℤ, pos, ◌+ℤ◌, Bool, true, false, List, [], ◌∷◌, length, get_or, map, All, Option, None, Some, IfSome, inl, inr, refl, ap, sym, subst, ◌∙◌, arith}
+use Rattle.std.specs.Prelude.{fold, slice_index, nat_lt}
+use Rattle.std.specs.List.{list_any, range_with_len}
+use Rattle.std.specs.Option.{option_map}
+use Rattle.std.proofs.lemmas.Bool.{cases_Bool, false≢true}
+use Rattle.std.proofs.lemmas.Bool.Decides.{nat_tests}
+use Rattle.std.proofs.lemmas.Int.{clamps, ints}
+use Rattle.std.proofs.lemmas.List.{get_or-map, length-map}
+use Rattle.std.proofs.lemmas.List.Elements.{All-cons, All-head, All-map, All-nil, All-tail}
+use Rattle.std.proofs.lemmas.List.Folds.{list_any_at}
+use Rattle.std.proofs.lemmas.List.FromFn.{get_or-range_with_len, get_or-map-range_with_len, length-map-range_with_len, length-range_with_len}
+use Rattle.std.proofs.lemmas.Option.{none-some, same_Some, slice_get_within}
+use Rattle.std.proofs.lemmas.Simd.{map-map}
+use Rattle.std.proofs.Math.Nat.{pow-le-pow_right}
+use Rattle.std.proofs.lemmas.Nat.{pow_pos}
+use Rattle.list_laws.proofs.OptionLemmas.{All-made}
+use Rattle.list_laws.proofs.RangeLemmas.{All-from_filter_map}
+use Rattle.packed_bits.proofs.OnesLemmas.{ones_of-le-length}
+use Rattle.bit_rank.specs.Bits.{ones_of, rank_of, select_of, IsSelected}
+use Rattle.bit_rank.proofs.RankLemmas.{rank_of-le, IsSelected-select_of}
+use Rattle.track_types.specs.Frame.{IsFrame}
+use Rattle.track_types.specs.declared.cell.Cell.{Cell}
+use Rattle.track_types.specs.declared.cell_box.CellBox.{CellBox}
+use Rattle.track_types.specs.declared.frame.Frame.{Frame}
+use Rattle.track_types.specs.declared.limit.TheConstants.{MAX_HEIGHT}
+use Rattle.k2_tree.specs.Areas.{box_from, IsBoxInside}
+use Rattle.k2_tree.specs.Morton.{morton_of, IsInGrid}
+use Rattle.k2_tree.specs.Tree.{Tree, codes_of}
+use Rattle.k2_tree.specs.TreeBits.{code_limit, Rises}
+use Rattle.k2_tree.proofs.MortonLemmas.{morton_of-lt}
+use Rattle.k2_tree.proofs.RisingLemmas.{Rises-place}
+use Rattle.box_tree.specs.Boxes.{IsBase, IsFrom}
+use Rattle.box_tree.specs.Levels.{digits}
+use Rattle.box_tree.specs.Places.{Ascends, ArePlaces}
+use Rattle.box_tree.specs.Tree.{levels_below, places_with, slots, AreLevels}
+use Rattle.box_tree.specs.declared.node_ref.TheConstants.{SLOTS}
+use Rattle.rule_store.specs.View.{RulesView}
+use Rattle.rule_store.specs.Entry.{entry_of}
+use Rattle.snapshots.specs.JoinFlaws.{cell_before}
+use Rattle.snapshots.specs.Parts.{log_at}
+use Rattle.snapshots.specs.Sound.{IsBlock, IsSnapshot}
+use Rattle.snapshots.specs.SoundParts.{AreSoundLogs, IsPlaced, IsSoundLog}
+use Rattle.snapshots.specs.Tracks.{blocks_by_leaf, cell_box, joined, log_box, moved_box, placed_box, placed_boxes, track_box}
+use Rattle.snapshots.specs.TrackTree.{code_of, places_of}
+use Rattle.snapshots.specs.View.{SnapshotView, all_blocks, block_at, block_of, leaf_at, tree_in}
+use Rattle.snapshots.specs.declared.anchored.Anchored.{Anchored}
+use Rattle.snapshots.proofs.BlockLemmas.{leaf_known}
+use Rattle.snapshots.proofs.BlocksLemmas.{block_at-is_block}
+use Rattle.snapshots.proofs.LeafOrderLemmas.{by_leaf-are}
+
+-- levels of one digit each
+one_level : (narrow below : ℕ) → below < narrow → levels_below narrow (suc below) ≡ 1 ∷ levels_below narrow below
+unfolding levels_below
+one_level narrow below low = let one : nat_lt below narrow ≡ true = grind (arith, nat_tests) in rw one refl
+
+-- how many digits they have, and how many nodes wait at most
+record AreNarrow (below : ℕ) (levels : List ℕ) : Type 0 where
+  pub digits_are : digits levels ≡ below
+  pub slots_are : slots levels ≡ 3 * below
+  pub narrow : All (λ level. level ≤ 2) levels
+
+levels_narrow : (narrow below : ℕ) → below ≤ narrow → AreNarrow below (levels_below narrow below)
+unfolding levels_below
+levels_narrow narrow zero low = record { digits_are = refl; slots_are = refl; narrow = All-nil (λ level. level ≤ 2) }
+levels_narrow narrow (suc below) low =
+    let rest = levels_narrow narrow below (omega arith) in
+    subst (AreNarrow (suc below)) (sym (one_level narrow below (omega arith))) (record {
+      digits_are = omega (arith, rest.digits_are);
+      slots_are = omega (arith, rest.slots_are);
+      narrow = All-cons (λ level. level ≤ 2) 1 (levels_below narrow below) (omega arith) rest.narrow;
+    })
+
+pub are_levels : (height : ℕ) → height ≤ MAX_HEIGHT → AreLevels height height height
+are_levels height low =
+    let its = levels_narrow height height (omega arith) in
+    let few : height ≤ 20 = low in
+    let room : SLOTS ≡ 128 = refl in
+    record { digits_are = its.digits_are; few = low; room = omega (arith, its.slots_are, few, room) }
+
+-- numbers that are made of a range ascend where each is at most the next
+ascends-range : (f : ℕ → ℕ) (a n low : ℕ) → (0 < n → low ≤ f a) → ((p : ℕ) → a ≤ p → p + 1 < a + n → f p ≤ f (p + 1))
+    → Ascends low (map f (range_with_len a n))
+ascends-range f a zero low first grows = tt
+ascends-range f a (suc n) low first grows = (
+  first (omega arith),
+  ascends-range f (a + 1) n (f a) (λ some. grows a (omega arith) (omega arith))
+      (λ p from to. grows p (omega arith) (omega arith)),
+)
+
+-- what stands at a place of a rising list is at most what stands at a later one
+rises-le : (n i j : ℕ) (xs : List ℕ) → Rises n xs → i ≤ j → j < length xs → get_or xs i 0 ≤ get_or xs j 0
+rises-le n i j [] up low within = absurd (omega arith)
+rises-le n zero zero (x ∷ xs) up low within = omega arith
+rises-le n zero (suc j) (x ∷ xs) up low within =
+    let later = Rises-place (suc x) j xs up.1 (omega arith) in omega (arith, later)
+rises-le n (suc i) zero (x ∷ xs) up low within = absurd (omega arith)
+rises-le n (suc i) (suc j) (x ∷ xs) up low within = rises-le (suc x) i j xs up.1 (omega arith) (omega arith)
+
+-- what some element of one list passes, some of another does that has each of them
+any-within : (p : ℕ → Bool) (xs ys : List ℕ)
+    → ((k : ℕ) → k < length xs → (j : ℕ) × (j < length ys) × (get_or ys j 0 ≡ get_or xs k 0))
+    → list_any p xs ≡ true → list_any p ys ≡ true
+any-within p [] ys each any = absurd (false≢true any)
+any-within p (x ∷ xs) ys each any = elim (cases_Bool (p x)) [
+  | inl here ↦
+      let at = each 0 (omega arith) in
+      list_any_at p ys at.0 0 at.1 (ap p at.2 ∙ here)
+  | inr not ↦ any-within p xs ys (λ k within. each (suc k) (omega arith)) (grind (arith, not, any))
+]
+
+both-any : (a b : Bool) → (a ≡ true → b ≡ true) → (b ≡ true → a ≡ true) → a ≡ b
+both-any true b to from = sym (to refl)
+both-any false true to from = from refl
+both-any false false to from = refl
+
+module _ (view : SnapshotView) (is : IsSnapshot view) where
+  -- the Morton number at a place is that of its leaf
+  code-at : (place : ℕ) → place < length view.parts.perm
+      → code_of view.frame (block_at view place) ≡ get_or (codes_of (tree_in view)) (leaf_at view place) 0
+  code-at place within =
+      sym (get_or-map (morton_of view.frame.height view.frame.base) (tree_in view).cells
+      (leaf_at view place) view.frame.base 0
+      (leaf_known view place is within))
+
+  codes_made : map (code_of view.frame) (blocks_by_leaf view)
+      ≡ map (λ place. code_of view.frame (block_at view place)) (range_with_len 0 (length view.parts.perm))
+  codes_made = map-map (code_of view.frame) (block_at view) (range_with_len 0 (length view.parts.perm))
+
+  codes-ascend : Ascends 0 (map (code_of view.frame) (blocks_by_leaf view))
+  codes-ascend =
+      subst (Ascends 0) (sym codes_made)
+      (ascends-range (λ place. code_of view.frame (block_at view place)) 0 (length view.parts.perm) 0
+      (λ some. omega arith)
+      (λ p from to.
+      let a = code-at p (omega arith) in
+      let b = code-at (p + 1) (omega arith) in
+      let long : length (codes_of (tree_in view)) ≡ length (tree_in view).cells =
+      length-map (tree_in view).cells (morton_of view.frame.height view.frame.base) in
+      rw (a, b) (rises-le 0 (leaf_at view p) (leaf_at view (p + 1))
+      (codes_of (tree_in view)) is.sound.tree.is_tree.codes.rising
+      (rank_of-le view.parts.lasts p (p + 1) (omega arith))
+      (omega (arith, long, leaf_known view (p + 1) is (omega arith))))))
+
+  -- the blocks are places of a tree of boxes
+  pub are_places : (rules : RulesView) → ArePlaces (places_of view.frame rules (blocks_by_leaf view))
+  are_places rules =
+      let frame : Frame = view.frame in
+      let blocks : List Anchored = blocks_by_leaf view in
+      let levels = levels_narrow frame.height frame.height (omega arith) in
+      let limit : 4 ^ frame.height ≤ 4 ^ 20 = pow-le-pow_right (omega arith) is.shaped.header.limit in
+      record {
+        ascend = codes-ascend;
+        same = length-map blocks (track_box rules) ∙ sym (length-map blocks (code_of frame));
+        small = All-map (λ code. code < code_limit) (code_of frame) blocks
+            (λ k d within. omega (arith, limit, morton_of-lt frame.height frame.base (get_or blocks k d).cell));
+        inside = All-map (λ code. code < 4 ^ digits (levels_below frame.height frame.height)) (code_of frame) blocks
+            (λ k d within. rw levels.digits_are (morton_of-lt frame.height frame.base (get_or blocks k d).cell));
+        narrow = levels.narrow;
+      }
+
+  -- their numbers are those of the tree of anchors
+  pub same_codes : (p : ℕ → Bool) → list_any p (map (code_of view.frame) (blocks_by_leaf view))
+      ≡ list_any p (codes_of (tree_in view))
+  same_codes p =
+      let n : ℕ = length view.parts.perm in
+      let made : List ℕ = map (λ place. code_of view.frame (block_at view place)) (range_with_len 0 n) in
+      let codes : List ℕ = codes_of (tree_in view) in
+      let long : length codes ≡ length (tree_in view).cells =
+      length-map (tree_in view).cells (morton_of view.frame.height view.frame.base) in
+      let count = length-map-range_with_len (λ place. code_of view.frame (block_at view place)) 0 n in
+      let read : (place : ℕ) → place < n → get_or made place 0 ≡ get_or codes (leaf_at view place) 0 =
+      λ place within. get_or-map-range_with_len (λ k. code_of view.frame (block_at view k)) 0 n place place 0 within
+      (omega arith)
+      ∙ code-at place within in
+      ap (list_any p) codes_made ∙ both-any (list_any p made) (list_any p codes)
+      (any-within p made codes (λ k within.
+      let inside : k < n = omega (arith, count) in
+      (leaf_at view k, omega (arith, long, leaf_known view k is inside), sym (read k inside))))
+      (any-within p codes made (λ leaf within.
+      let selected = IsSelected-select_of view.parts.lasts (leaf + 1) (omega arith)
+      (omega (arith, is.sound.cells, long)) in
+      let place : ℕ = select_of view.parts.lasts (leaf + 1) in
+      let inside : place < n =
+      omega (arith, slice_get_within view.parts.lasts place true selected.one, is.shaped.lasts, is.shaped.perm) in
+      let its : leaf_at view place ≡ leaf = omega (arith, selected.rank) in
+      (place, omega (arith, count), read place inside ∙ ap (λ l. get_or codes l 0) its)))
+
+  -- what holds of all blocks holds of them in leaf order
+  pub All-by_leaf : (P : Anchored → Type 0) → All P (all_blocks view) → All P (blocks_by_leaf view)
+  unfolding all_blocks
+  All-by_leaf P all = λ k d within.
+      let block : Anchored = get_or (blocks_by_leaf view) k d in
+      let its = by_leaf-are view is k d within in
+      let inside : block.index < view.objects =
+      omega (arith, slice_get_within view.parts.present block.index true its.present, is.shaped.presence) in
+      subst (λ found. IfSome found P) its.its
+      (All-from_filter_map P (block_of view) 0 view.objects all block.index (omega arith) (omega arith))
+
+-- the box of all cells of a grid
+abbrev pub grid_box : Frame → CellBox
+grid_box frame = box_from frame.base.x frame.base.y (2 ^ frame.height - 1)
+
+-- boxes in one are, and so is the least box with all of them
+fold-within : (whole area : CellBox) (areas : List CellBox) → IsBoxInside area whole
+    → All (λ other. IsBoxInside other whole) areas
+    → IsBoxInside (fold joined area areas) whole
+fold-within whole area [] own each = own
+fold-within whole area (other ∷ areas) own each =
+    let first : IsBoxInside other whole = All-head (λ b. IsBoxInside b whole) other areas each in
+    fold-within whole (joined area other) areas (record {
+      left = omega (arith, ints, clamps, own.left, first.left);
+      right = omega (arith, ints, clamps, own.right, first.right);
+      below = omega (arith, ints, clamps, own.below, first.below);
+      above = omega (arith, ints, clamps, own.above, first.above);
+    }) (All-tail (λ b. IsBoxInside b whole) other areas each)
+
+-- a placed box is in the grid
+placed-inside : (frame : Frame) (cell : Cell) (hull : Option CellBox) (area : CellBox)
+    → IfSome hull (IsPlaced frame cell)
+    → option_map (moved_box cell) hull ≡ Some area → IsBoxInside area (grid_box frame)
+placed-inside frame cell None area placed is = absurd (none-some area is)
+placed-inside frame cell (Some hull) area placed is =
+    let some : 1 ≤ 2 ^ frame.height = pow_pos frame.height in
+    subst (λ a. IsBoxInside a (grid_box frame)) (same_Some (moved_box cell hull) area is) (record {
+      left = placed.left;
+      right = omega (arith, ints, placed.right, some);
+      below = placed.below;
+      above = omega (arith, ints, placed.above, some);
+    })
+
+-- the track of a block whose log is sound lies in the grid
+pub track-inside : (view : SnapshotView) (rules : RulesView) (block : Anchored) → IsBlock view block
+    → IsSoundLog view.frame rules view.number block → IsBoxInside (track_box rules block) (grid_box view.frame)
+unfolding log_box
+track-inside view rules block its sound =
+    let frame : Frame = view.frame in
+    let log : List ℕ = log_at rules block in
+    let some : 1 ≤ 2 ^ frame.height = pow_pos frame.height in
+    fold-within (grid_box frame) (cell_box block.cell) (placed_boxes rules block.cell log (length log)) (record {
+      left = its.cell.left;
+      right = omega (arith, ints, its.cell.left, its.cell.right, some);
+      below = its.cell.below;
+      above = omega (arith, ints, its.cell.below, its.cell.above, some);
+    }) (All-made (placed_box rules block.cell log) (λ place. place < length log) (λ b. IsBoxInside b (grid_box frame))
+    (λ place area within made. placed-inside frame (cell_before rules block.cell log place)
+    (entry_of rules (slice_index log place)).hull area (sound.placed place within) made)
+    (range_with_len 0 (length log)) (λ k d within.
+    let inside : k < length log = omega (arith, length-range_with_len 0 (length log)) in
+    omega (arith, get_or-range_with_len 0 (length log) k d inside)))
+
+-- so it lies from the grid's base on
+pub track-from : (view : SnapshotView) (rules : RulesView) → IsSnapshot view
+    → All (IsSoundLog view.frame rules view.number) (all_blocks view)
+    → All (IsFrom view.frame.base) (map (track_box rules) (blocks_by_leaf view))
+track-from view rules is sound =
+    let blocks : List Anchored = blocks_by_leaf view in
+    let frame : Frame = view.frame in
+    let side : 2 ^ frame.height ≤ 2 ^ 20 = pow-le-pow_right (omega arith) is.shaped.header.limit in
+    All-map (IsFrom frame.base) (track_box rules) blocks (λ k d within.
+    let inside = track-inside view rules (get_or blocks k d) (by_leaf-are view is k d within)
+    (All-by_leaf view is (IsSoundLog frame rules view.number) sound k d within) in
+    record {
+      left = inside.left;
+      right = omega (arith, ints, inside.right, side);
+      below = inside.below;
+      above = omega (arith, ints, inside.above, side);
+    })
+
+-- the cells of blocks are in the grid
+pub by_leaf-inside : (view : SnapshotView) → IsSnapshot view
+    → All (λ block. IsInGrid view.frame.height view.frame.base block.cell) (blocks_by_leaf view)
+by_leaf-inside view is = λ k d within. (by_leaf-are view is k d within).cell
+
+-- there are few of them
+pub length-by_leaf : (view : SnapshotView) → length (blocks_by_leaf view) ≡ length view.parts.perm
+length-by_leaf view = length-map-range_with_len (block_at view) 0 (length view.parts.perm)
+
+-- what it takes that they are kept
+pub record IsStorable (frame : Frame) (blocks : List Anchored) (boxes : List CellBox) : Type 0 where
+  pub header : IsFrame frame
+  pub places : ArePlaces (places_with frame.height frame.height (map (code_of frame) blocks) boxes)
+  pub inside : All (λ block. IsInGrid frame.height frame.base block.cell) blocks
+  pub from : All (IsFrom frame.base) boxes
+  pub few : length blocks < 2 ^ 31
+
+pub IsStorable-judged : (view : SnapshotView) (rules : RulesView) (frame : Frame) (blocks : List Anchored)
+    (boxes : List CellBox)
+    → IsSnapshot view → AreSoundLogs rules view → frame ≡ view.frame → blocks ≡ blocks_by_leaf view
+    → boxes ≡ map (track_box rules) (blocks_by_leaf view) → IsStorable frame blocks boxes
+IsStorable-judged view rules frame blocks boxes is sound same blocks_are boxes_are =
+    let few : view.objects ≤ 2 ^ 16 = is.shaped.few in
+    subst (λ (f : Frame). IsStorable f blocks boxes) (sym same)
+    (subst (λ bs. IsStorable view.frame bs boxes) (sym blocks_are)
+    (subst (IsStorable view.frame (blocks_by_leaf view)) (sym boxes_are) (record {
+      header = is.shaped.header;
+      places = are_places view is rules;
+      inside = by_leaf-inside view is;
+      from = track-from view rules is sound;
+      few = omega (
+        arith,
+        few,
+        length-by_leaf view,
+        is.shaped.perm,
+        is.shaped.presence,
+        ones_of-le-length view.parts.present,
+      );
+    })))

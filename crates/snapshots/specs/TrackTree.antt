@@ -1,0 +1,40 @@
+-- What is kept of the tracks of a period's blocks, in leaf order.
+use Rattle.std.specs.Prelude.{◌≡◌, ℕ, List, [], map, Option, None, Some}
+use Rattle.std.specs.Global.{Box}
+use Rattle.track_types.specs.declared.frame.Frame.{Frame}
+use Rattle.k2_tree.specs.Morton.{morton_of}
+use Rattle.box_tree.specs.Places.{Places}
+use Rattle.box_tree.specs.Tree.{places_with}
+use Rattle.rule_store.specs.View.{RulesView}
+use Rattle.snapshots.specs.Tracks.{track_box}
+use Rattle.snapshots.specs.declared.anchored.Anchored.{Anchored}
+use Rattle.snapshots.specs.declared.track_tree.TrackTree.{TrackTree}
+
+-- the Morton number of a block's cell
+abbrev pub code_of : Frame → Anchored → ℕ
+code_of frame block = morton_of frame.height frame.base block.cell
+
+-- how many instants after the period's first a block begins, and where its log does
+abbrev pub begin_of : Anchored → ℕ × ℕ
+begin_of block = (block.offset, block.from)
+
+-- how long its log is, and of which object
+abbrev pub log_of : Anchored → ℕ × ℕ
+log_of block = (block.len, block.index)
+
+-- blocks as places of a tree of boxes: their cells, and the boxes of their tracks
+abbrev pub places_of : Frame → RulesView → List Anchored → Places
+places_of frame rules blocks =
+    places_with frame.height frame.height (map (code_of frame) blocks) (map (track_box rules) blocks)
+
+-- these blocks are kept
+pub record AreKept (frame : Frame) (rules : RulesView) (blocks : List Anchored) (kept : TrackTree) : Type 0 where
+  pub base : kept.tree.base ≡ frame.base
+  pub places : kept.tree.places ≡ places_of frame rules blocks
+  pub begins : kept.begins ≡ map begin_of blocks
+  pub logs : kept.logs ≡ map log_of blocks
+
+-- where nothing is kept, there is no block
+abbrev pub IsKept : Frame → RulesView → List Anchored → Option (Box TrackTree) → Type 0
+IsKept frame rules blocks None = blocks ≡ []
+IsKept frame rules blocks (Some kept) = AreKept frame rules blocks kept.value

@@ -1,0 +1,109 @@
+ghost use Rattle.std.specs.Prelude.{◌≡◌, ◌+◌, ◌^◌, ◌<◌, ◌≤◌, length, map, All, IfOk};
+ghost use Rattle.track_types.specs.Frame.{IsFrame};
+ghost use Rattle.k2_tree.specs.Morton.{IsInGrid};
+ghost use Rattle.box_tree.specs.Boxes.{IsFrom};
+ghost use Rattle.box_tree.specs.Places.{ArePlaces};
+ghost use Rattle.box_tree.specs.Tree.{places_with};
+ghost use Rattle.rule_store.specs.View.{RulesView};
+ghost use Rattle.snapshots.specs.Cost.{record_reads};
+ghost use Rattle.snapshots.specs.TrackTree.{begin_of, code_of, log_of, IsKept};
+ghost use Rattle.snapshots.specs.TrackWalk.{block_kept};
+ghost use Rattle.snapshots.specs.Tracks.{track_box};
+
+use crate::anchored::Anchored;
+use crate::track_tree::TrackTree;
+use box_tree::BoxTree;
+use k2_tree::morton;
+use std::alloc::Global;
+use std::sync::ledger::Ledger;
+use step_count::{CountedList, Steps};
+use track_types::{Cell, CellBox, Frame, Memory};
+
+impl TrackTree {
+    /// Keeps blocks in leaf order with the boxes of their tracks, and nothing where there is none.
+    pub fn store(
+        alloc: Global,
+        frame: &Frame,
+        blocks: &[Anchored],
+        boxes: &[CellBox],
+    ) -> Result<Option<Box<TrackTree>>, Memory>
+        requires header { IsFrame frame.now }
+        requires places { ArePlaces (places_with frame.now.height frame.now.height
+            (map (code_of frame.now) blocks.now) boxes.now) }
+        requires inside { All
+            (λ block. IsInGrid frame.now.height frame.now.base block.cell) blocks.now }
+        requires from { All (IsFrom frame.now.base) boxes.now }
+        requires few { length blocks.now < 2 ^ 31 }
+        ensures { IfOk result (λ kept. (rules : RulesView)
+            → boxes.now ≡ map (track_box rules) blocks.now
+            → IsKept frame.now rules blocks.now kept) }
+    {
+        if blocks.is_empty() {
+            return Ok(None);
+        }
+        let height = frame.height;
+        let codes = codes_of(alloc, frame, blocks)?;
+        let tree = BoxTree::build(alloc, height, height, height, frame.base, &codes, boxes)?;
+        let begins = CountedList::new(begins_of(alloc, blocks)?);
+        let logs = CountedList::new(logs_of(alloc, blocks)?);
+        let kept = TrackTree { tree, begins, logs };
+        Ok(Some(Box::new(alloc, kept)?))
+    }
+
+    /// The block at a place.
+    pub fn block<L: Ledger>(&self, place: u32, steps: &mut Steps<L>) -> Anchored
+        requires { place < length self.now.tree.places.codes }
+        ensures value { result ≡ block_kept self.now place }
+        ensures cost { steps.new ≤ steps.old + record_reads }
+    {
+        let cell = self.tree.place_cell(place, steps);
+        let (offset, from) = self.begins.at(place as usize, steps);
+        let (len, index) = self.logs.at(place as usize, steps);
+        Anchored {
+            index,
+            offset,
+            cell: Cell {
+                x: cell.x1,
+                y: cell.y1,
+            },
+            from,
+            len,
+        }
+    }
+}
+
+// The Morton numbers of the blocks' cells.
+fn codes_of(alloc: Global, frame: &Frame, blocks: &[Anchored]) -> Result<Vec<u64>, Memory>
+    requires header { IsFrame frame.now }
+    requires inside { All
+        (λ block. IsInGrid frame.now.height frame.now.base block.cell) blocks.now }
+    ensures { IfOk result (λ codes. codes.items ≡ map (code_of frame.now) blocks.now) }
+{
+    let mut codes = Vec::with_capacity(alloc, blocks.len())?;
+    for block in blocks {
+        codes.push(morton(block.cell, frame.height, frame.base))?;
+    }
+    Ok(codes)
+}
+
+// Where the blocks and their logs begin.
+fn begins_of(alloc: Global, blocks: &[Anchored]) -> Result<Vec<(u32, u32)>, Memory>
+    ensures { IfOk result (λ begins. begins.items ≡ map begin_of blocks.now) }
+{
+    let mut begins = Vec::with_capacity(alloc, blocks.len())?;
+    for block in blocks {
+        begins.push((block.offset, block.from))?;
+    }
+    Ok(begins)
+}
+
+// How long their logs are, and of which objects.
+fn logs_of(alloc: Global, blocks: &[Anchored]) -> Result<Vec<(u32, u32)>, Memory>
+    ensures { IfOk result (λ logs. logs.items ≡ map log_of blocks.now) }
+{
+    let mut logs = Vec::with_capacity(alloc, blocks.len())?;
+    for block in blocks {
+        logs.push((block.len, block.index))?;
+    }
+    Ok(logs)
+}
