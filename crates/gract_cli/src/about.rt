@@ -19,7 +19,8 @@ object,instant,x,y is skipped.
   CELL    how many units of x and y a cell is wide, from 1 to 1073741824
   TICK    how many units of time an instant lasts, from 1 to 1073741824
   PERIOD  how many instants there are from one snapshot of all places to the
-          next, from 1 to 4194304; it changes no reply, only size and speed
+          next, from 1 to 4194304; it changes size and speed, and of the
+          replies only that to info
 
 Each row counts for the cell and the instant that it lies in, and of an object's
 rows in one instant the last in the file counts. Questions name cells and
