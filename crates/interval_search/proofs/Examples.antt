@@ -6,7 +6,7 @@ use Rattle.track_types.specs.declared.hit.Hit.{Hit}
 use Rattle.track_types.specs.declared.region.Region.{Region}
 use Rattle.track_types.specs.declared.region.Region.TheVariants.{Rect}
 use Rattle.track_types.specs.declared.row.Row.{Row}
-use Rattle.interval_search.specs.Finding.{hit_in}
+use Rattle.interval_search.specs.FirstHits.{hit_in}
 
 row : ℕ → ℤ → ℤ → Row
 row object instant x = record { object = object; instant = instant; cell = record { x = x; y = pos 0 } }

@@ -27,7 +27,7 @@ use Rattle.track_types.specs.Row.{IsAscending, row_order}
 use Rattle.track_types.specs.declared.region.Region.{Region}
 use Rattle.track_types.specs.declared.row.Row.{Row}
 use Rattle.track_types.specs.declared.stop.Stop.{Stop}
-use Rattle.interval_search.specs.Finding.{hit_at, hit_in}
+use Rattle.interval_search.specs.FirstHits.{hit_at, hit_in}
 
 -- a row of an object
 abbrev is_of : ℕ → Row → Bool

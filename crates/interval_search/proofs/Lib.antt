@@ -1,5 +1,7 @@
--- The hits of rows, object by object.
+-- The hits of rows, object by object, and the search for them.
 mod HitLemmas
 mod ListingLemmas
-mod FindingLemmas
+mod FirstLemmas
+mod OrderLemmas
+mod CostLemmas
 mod Examples

@@ -1,2 +1,3 @@
+-- In reading order.
 pub mod Cost
-pub mod Finding
+pub mod FirstHits

@@ -5,10 +5,10 @@ ghost use Rattle.track_types.specs.Region.{IsRegionAsked};
 ghost use Rattle.snapshots.specs.Parts.{chart_in};
 ghost use Rattle.interval_search.specs.Cost.{interval_cost};
 
-use crate::finding::{Window, first_in_periods};
-use log_cursor::BlockWalk;
+use crate::first_hits::FirstHits;
 use object_track::Periods;
 use region_test::RegionTest;
+use slice_search::{Sought, meets_grid};
 use snapshots::Stores;
 use std::alloc::Global;
 use std::sync::ledger::Ledger;
@@ -19,7 +19,8 @@ use track_types::{Hit, Memory};
 /// first such instant and its cell there, by object.
 ///
 /// The instants and the region's coordinates are at most 2^41 away from 0, and its radius is at most
-/// 2^42. `Memory` is the only refusal: memory is taken for one walk over a block and for the answer.
+/// 2^42. `Memory` is the only refusal: memory is taken for the answer and for a bool for each object.
+/// Where the region has no cell of the grid, no period is gone through.
 pub fn interval<L: Ledger>(
     alloc: Global,
     stores: &Stores,
@@ -35,25 +36,22 @@ pub fn interval<L: Ledger>(
         found.items ≡ hits_of (chart_in stores.now).rows from to test.now.region) }
     ensures cost { steps.new ≤ steps.old + interval_cost stores.now from to test.now.region }
 {
-    let _ = stores.frame(); // says that the parts are valid
-    let periods = Periods::met(stores, from, to);
-    let window = Window {
-        stores,
-        from,
-        to,
-        test,
-    };
-    let mut walk = BlockWalk::new(alloc, stores.rules())?;
-    let mut found = Vec::new(alloc);
-    for place in 0..stores.objects() {
-        if let Some(stop) = first_in_periods(&window, place, periods, &mut walk, steps) {
-            let hit = Hit {
-                object: stores.object_at(place),
-                instant: stop.instant,
-                cell: stop.cell,
-            };
-            found.push(hit)?;
-        }
+    let _ = stores.frame(); // says what holds of every index
+    if !meets_grid(stores, test) {
+        return Ok(Vec::new(alloc));
     }
-    Ok(found)
+    let mut hits = FirstHits::none(alloc, stores.objects())?;
+    let periods = Periods::met(stores, from, to);
+    for period in periods.next..periods.behind {
+        let sought = Sought {
+            stores,
+            period,
+            from,
+            to,
+            test,
+        };
+        let mut blocks = sought.blocks();
+        hits.look(alloc, &sought, &mut blocks, steps)?;
+    }
+    Ok(hits.in_order())
 }

@@ -5,7 +5,7 @@ use Rattle.track_types.specs.declared.cell_box.CellBox.{CellBox}
 use Rattle.track_types.specs.declared.region.Region.{Region}
 use Rattle.track_types.specs.declared.region.Region.TheVariants.{Disc, Rect}
 use Rattle.k2_tree.specs.Areas.{box_from}
-use Rattle.slice_search.specs.Cost.{cell_box}
+use Rattle.snapshots.specs.Tracks.{cell_box}
 use Rattle.slice_search.specs.Reach.{cut, may_reach}
 use Rattle.slice_search.proofs.ReachLemmas.{may_reach-beside}
 

@@ -1,8 +1,8 @@
 -- Boxes within reach, and sightings.
 mod ReachLemmas
+pub mod SoughtLemmas
 mod SightingLemmas
 mod SliceLemmas
 mod HitLemmas
-mod CostLemmas
 mod WalkLemmas
 mod Examples

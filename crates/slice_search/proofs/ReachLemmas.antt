@@ -1,5 +1,5 @@
--- Which boxes are within reach, where they are cut to the grid: each that is, is within reach uncut, and each that holds the
--- anchor of a block which is seen.
+-- Which boxes are within reach, where they are cut to the grid: each that is, is within reach uncut, and the cell of an anchor
+-- is where a cell of the region is near it.
 use Rattle.std.proofs.Common.{◌≡◌, ℕ, ◌^◌, ◌≤◌, ℤ, pos, ◌+ℤ◌, ◌-ℤ◌, ◌≤ℤ◌, true, Bool, refl, sym}
 use Rattle.std.proofs.Common.{false, inl, inr, ap, ◌∙◌, arith}
 use Rattle.std.specs.Prelude.{min, ◌&&◌}
@@ -15,11 +15,11 @@ use Rattle.track_types.specs.declared.parts.Parts.{Parts}
 use Rattle.track_types.specs.declared.region.Region.{Region}
 use Rattle.track_types.proofs.RegionLemmas.{in_box-bounds, in_box-from, intersects_region-exact, is_between-from}
 use Rattle.track_types.proofs.WideningLemmas.{in_box-wider}
-use Rattle.k2_tree.specs.Areas.{IsBoxInside}
 use Rattle.k2_tree.specs.Morton.{IsInGrid}
-use Rattle.k2_tree.specs.Pruning.{IsKeptFor, IsWeaker}
+use Rattle.k2_tree.specs.Pruning.{IsWeaker}
 use Rattle.snapshots.specs.Speed.{gap, width_at}
-use Rattle.slice_search.specs.Cost.{cell_box, is_within_reach}
+use Rattle.snapshots.specs.Tracks.{cell_box}
+use Rattle.slice_search.specs.Cost.{is_within_reach}
 use Rattle.slice_search.specs.Reach.{cut, cut_box, grid_of, may_reach, may_reach_in, meets, short_width}
 
 -- what both tests say, from the first
@@ -66,12 +66,6 @@ in_box-cut grid area cell both =
     let along = is_between-cut grid.y1 grid.y2 area.y1 area.y2 cell.y held.1 box.1 in
     (and_from _ _ across.0 along.0, and_from _ _ across.1 along.1)
 
--- the box of a cell is inside of each box that holds it
-cell_box-inside : (area : CellBox) (at : Cell) → in_box area at ≡ true → IsBoxInside (cell_box at) area
-cell_box-inside area at held =
-    let box = in_box-bounds area at held in
-    record { left = box.left; right = omega (arith, ints, box.right); below = box.below; above = omega (arith, ints, box.above) }
-
 -- a cell of an index's grid is in its box
 pub in_box-grid : (frame : Frame) (cell : Cell) → IsInGrid frame.height frame.base cell
     → in_box (grid_of frame) cell ≡ true
@@ -116,26 +110,13 @@ module _ (region : Region) (grid : CellBox) where
       ((intersects_region-exact region (cut_box grid (widened n area))).1 (is.cell, both.1, is.held))
 
   -- where the region is within reach of a cut box, it is within reach of the box itself
-  may_reach-uncut : (n m : ℕ) (area : CellBox) → n ≤ m → may_reach region grid n area ≡ true
+  pub may_reach-uncut : (n m : ℕ) (area : CellBox) → n ≤ m → may_reach region grid n area ≡ true
       → intersects_region region (widened m area) ≡ true
   may_reach-uncut n m area more kept =
       let is = may_reach-cell n area kept in
       let same : (z : ℤ) → z ≤ℤ z = λ z. omega (arith, ints) in
       (intersects_region-exact region (widened m area)).1
       (is.cell, in_box-wider area area n m is.cell more (same area.x1) (same area.x2) (same area.y1) (same area.y2) is.near, is.held)
-
-  -- a box is within reach where a cell of it is
-  pub IsKeptFor-may_reach : (n : ℕ)
-      → IsKeptFor (may_reach region grid n) (λ cell. may_reach region grid n (cell_box cell))
-  IsKeptFor-may_reach n = λ area at near held wanted.
-      let is = may_reach-cell n (cell_box at) wanted in
-      let inside = cell_box-inside area at held in
-      may_reach-from n area (record {
-        cell = is.cell;
-        grid_has = is.grid_has;
-        near = in_box-wider (cell_box at) area n n is.cell (omega arith) inside.left inside.right inside.below inside.above is.near;
-        held = is.held;
-      })
 
   -- an anchor is within reach where a cell of the region in the grid is near it
   pub may_reach-near : (n : ℕ) (at cell : Cell) → IsCellAsked at → IsCellAsked cell → in_box grid cell ≡ true

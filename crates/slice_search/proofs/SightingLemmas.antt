@@ -32,6 +32,7 @@ use Rattle.snapshots.specs.declared.anchored.Anchored.{Anchored}
 use Rattle.snapshots.proofs.ByObjectLemmas.{index-from_block_of}
 use Rattle.object_track.proofs.InstantLemmas.{rows_at-instant, stops_at-few}
 use Rattle.slice_search.specs.Sightings.{seen_at, sighting_in}
+use Rattle.slice_search.specs.Sought.{first_stop_in}
 
 -- a window of one instant
 is_between-one : (instant z : ℤ) → is_between instant instant z ≡ int_eq instant z
@@ -89,9 +90,9 @@ module _ (parts : Parts) (valid : IsValid parts) (instant : ℤ) (number : ℕ) 
 
   -- what is sighted of an object is what is found in its block
   sighted-block : (index : ℕ) → sighted index
-      ≡ made_of (sighting_in parts number instant region) (block_of (snapshot_in parts number))
+      ≡ made_of (sighting_in parts number instant instant region) (block_of (snapshot_in parts number))
       (block_of (snapshot_in parts number) index)
-  unfolding sighted sighting_in first_hit_of stops_in
+  unfolding sighted sighting_in first_stop_in first_hit_of stops_in
   sighted-block index =
       by_block (block_of (snapshot_in parts number) index) refl (stops_at-few parts valid instant index number within)
     where
@@ -102,7 +103,7 @@ module _ (parts : Parts) (valid : IsValid parts) (instant : ℤ) (number : ℕ) 
           → length (filter (is_stop_at instant) (stops_in_block parts number found)) ≤ 1
           → map sighting_of (filter (is_row_in region)
           (map (row_of object) (filter (is_stop_at instant) (stops_in_block parts number found))))
-          ≡ made_of (sighting_in parts number instant region) (block_of (snapshot_in parts number)) found
+          ≡ made_of (sighting_in parts number instant instant region) (block_of (snapshot_in parts number)) found
       by_block None has few = refl
       by_block (Some block) has few =
           let stops : List Stop = stops_in_block parts number (Some block) in
@@ -116,7 +117,7 @@ module _ (parts : Parts) (valid : IsValid parts) (instant : ℤ) (number : ℕ) 
   -- the sightings of the chart are those of the period's blocks
   pub sightings_of-blocks : period_in parts.frame instant ≡ Some number
       → sightings_of (chart_in parts).rows instant region
-      ≡ filter_map (sighting_in parts number instant region) (all_blocks (snapshot_in parts number))
+      ≡ filter_map (sighting_in parts number instant instant region) (all_blocks (snapshot_in parts number))
   unfolding sightings_of all_blocks sighted
   sightings_of-blocks when =
       let indices : List ℕ = range_with_len 0 (length parts.objects) in
@@ -126,6 +127,6 @@ module _ (parts : Parts) (valid : IsValid parts) (instant : ℤ) (number : ℕ) 
       ∙ ap (filter (is_row_in region)) (rows_at-instant parts valid instant number when)
       ∙ filter-flat_map (is_row_in region) rows indices)
       ∙ map-flat_map sighting_of (λ index. filter (is_row_in region) (rows index)) indices
-      ∙ flat_map_agree sighted (λ index. made_of (sighting_in parts number instant region)
+      ∙ flat_map_agree sighted (λ index. made_of (sighting_in parts number instant instant region)
       (block_of (snapshot_in parts number)) (block_of (snapshot_in parts number) index)) sighted-block indices
-      ∙ flat_map-made (sighting_in parts number instant region) (block_of (snapshot_in parts number)) indices
+      ∙ flat_map-made (sighting_in parts number instant instant region) (block_of (snapshot_in parts number)) indices

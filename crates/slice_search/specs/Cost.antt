@@ -2,23 +2,18 @@
 use Rattle.std.specs.Prelude.{ℕ, ◌+◌, ◌*◌, ℤ, Bool, filter, Option, None, Some}
 use Rattle.std.specs.List.{sum_by}
 use Rattle.track_types.specs.Region.{intersects_region}
-use Rattle.track_types.specs.declared.cell.Cell.{Cell}
 use Rattle.track_types.specs.declared.cell_box.CellBox.{CellBox}
 use Rattle.track_types.specs.declared.parts.Parts.{Parts}
 use Rattle.track_types.specs.declared.region.Region.{Region}
 use Rattle.k2_tree.specs.Pruning.{square_count}
-use Rattle.k2_tree.specs.Areas.{box_from}
 use Rattle.log_cursor.specs.Start.{start_at}
 use Rattle.log_cursor.specs.Touching.{touching_count}
 use Rattle.snapshots.specs.View.{all_blocks, tree_in}
 use Rattle.snapshots.specs.Cost.{block_reads, square_reads}
 use Rattle.snapshots.specs.Parts.{anchored_at, log_in, period_in, rules_in, snapshot_in}
 use Rattle.snapshots.specs.Speed.{reach_of}
+use Rattle.snapshots.specs.Tracks.{cell_box}
 use Rattle.snapshots.specs.declared.anchored.Anchored.{Anchored}
-
--- the box of one cell
-abbrev pub cell_box : Cell → CellBox
-cell_box cell = box_from cell.x cell.y 0
 
 -- whether an object with its anchor in a box of a period may be in a region at an instant
 abbrev pub is_within_reach : Parts → ℕ → ℤ → Region → CellBox → Bool

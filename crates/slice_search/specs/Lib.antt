@@ -1,4 +1,7 @@
 -- In reading order.
 pub mod Cost
-pub mod Reach
+pub mod Sought
 pub mod Sightings
+pub mod Reach
+pub mod Monotone
+pub mod Walk

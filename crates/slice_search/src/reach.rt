@@ -1,12 +1,13 @@
 ghost use Rattle.std.specs.Prelude.{◌≡◌, ◌<◌, ◌≤◌, ◌^◌};
-ghost use Rattle.track_types.specs.Frame.{periods_of, IsFrame};
+ghost use Rattle.track_types.specs.Frame.{instants_in, periods_of, IsFrame};
 ghost use Rattle.track_types.specs.Near.{IsBoxWithin};
-ghost use Rattle.track_types.specs.Region.{overlaps};
+ghost use Rattle.track_types.specs.Region.{intersects_region, overlaps};
 ghost use Rattle.track_types.specs.Widening.{widened};
-ghost use Rattle.snapshots.specs.Parts.{first_in};
+ghost use Rattle.snapshots.specs.Parts.{end_in, first_in};
 ghost use Rattle.slice_search.specs.Reach.{cut_box, grid_of, may_reach, meets, short_width};
+ghost use Rattle.slice_search.specs.Sought.{latest_in};
 
-use k2_tree::Keep;
+use box_tree::Search;
 use region_test::RegionTest;
 use snapshots::Stores;
 use track_types::{CellBox, Frame};
@@ -14,12 +15,14 @@ use track_types::{CellBox, Frame};
 // No box is made wider by more columns or lines, since all cells of a grid are nearer to each other.
 const MAX_WIDTH: u64 = 1 << 42;
 
-// The squares from which an object of a period may get into a region by an instant.
+/// The reach of a period at an instant, as a search tells it: the squares from which an object may get
+/// into a region by then, and the boxes that the region touches.
 #[derive(Drop)]
 pub struct Reach<'a> {
     test: &'a RegionTest,
     // All cells of the index's grid; no object is outside it.
     grid: CellBox,
+    // By how many cells a square is made wider on each side.
     width: u64,
     ghost near: { IsBoxWithin grid },
     ghost narrow: { width ≤ 2 ^ 42 },
@@ -27,7 +30,7 @@ pub struct Reach<'a> {
 
 impl<'a> Reach<'a> {
     // The reach of a period at an instant.
-    pub fn new(stores: &Stores, period: u32, instant: i64, test: &'a RegionTest) -> Reach<'a>
+    pub(crate) fn new(stores: &Stores, period: u32, instant: i64, test: &'a RegionTest) -> Reach<'a>
         requires { period < periods_of stores.now.frame }
         ensures region { result.test.now.region ≡ test.now.region }
         ensures grid { result.grid ≡ grid_of stores.now.frame }
@@ -44,13 +47,57 @@ impl<'a> Reach<'a> {
     }
 }
 
-impl Keep for Reach<'_> {
-    ghost keeps = { λ r area. may_reach r.test.now.region r.grid r.width area };
+impl<'a> Search for Reach<'a> {
+    ghost use Rattle.slice_search.specs.Monotone.{monotone-reach};
 
-    fn keep(&self, area: &CellBox) -> bool {
+    ghost squares = { λ r. may_reach r.test.now.region r.grid r.width };
+
+    ghost boxes = { λ r. intersects_region r.test.now.region };
+
+    ghost monotone = { λ r. monotone-reach r.test.now.region r.grid r.width };
+
+    fn meets_square(&self, area: &CellBox) -> bool {
         let wide = wider(area, self.width);
         meets(&self.grid, &wide) && self.test.may(&cut(&self.grid, &wide))
     }
+
+    fn meets_box(&self, area: &CellBox) -> bool {
+        self.test.may(area)
+    }
+}
+
+/// Whether the region of a test has a cell of an index's grid. Where it has none, nothing is in it.
+pub fn meets_grid(stores: &Stores, test: &RegionTest) -> bool
+    ensures { result ≡ intersects_region test.now.region (grid_of stores.now.frame) }
+{
+    test.may(&grid_of(stores.frame()))
+}
+
+// The last instant of a window in a period, or of the period where the window ends after it.
+pub(crate) fn latest_of(frame: &Frame, period: u32, to: i64) -> i64
+    requires header { IsFrame frame.now }
+    requires period { period < periods_of frame.now }
+    ensures { result ≡ latest_in frame.now period to }
+{
+    to.min(end_of(frame, period))
+}
+
+// The last instant of a period.
+fn end_of(frame: &Frame, period: u32) -> i64
+    requires header { IsFrame frame.now }
+    requires period { period < periods_of frame.now }
+    ensures { result ≡ end_in frame.now period }
+{
+    first_of(frame, period) + i64::from(instants_in(frame, period) - 1)
+}
+
+// How many instants a period has.
+fn instants_in(frame: &Frame, period: u32) -> u32
+    requires header { IsFrame frame.now }
+    requires period { period < periods_of frame.now }
+    ensures { result ≡ instants_in frame.now period }
+{
+    frame.period.min(frame.span - period * frame.period)
 }
 
 // The first instant of a period.

@@ -5,6 +5,7 @@ ghost use Rattle.track_types.specs.Region.{IsRegionAsked};
 ghost use Rattle.snapshots.specs.Parts.{chart_in};
 ghost use Rattle.slice_search.specs.Cost.{slice_cost};
 
+use crate::sightings::sightings;
 use crate::sought::Sought;
 use region_test::RegionTest;
 use snapshots::Stores;
@@ -38,10 +39,12 @@ pub fn slice<L: Ledger>(
     let sought = Sought {
         stores,
         period,
-        instant,
+        from: instant,
+        to: instant,
         test,
     };
-    let mut found = sought.sightings(alloc, steps)?;
+    let mut blocks = sought.blocks();
+    let mut found = sightings(alloc, &sought, &mut blocks, steps)?;
     found.sort_unstable_by_key(|sighting| sighting.object);
     Ok(found)
 }

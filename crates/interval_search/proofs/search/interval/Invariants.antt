@@ -1,7 +1,14 @@
-use Rattle.interval_search.specs.Finding.{IsListing}
+use Rattle.std.proofs.Common.{◌+◌, ◌-◌, ◌≤◌}
+use Rattle.std.specs.List.{range_with_len, sum_by}
+use Rattle.interval_search.specs.Cost.{interval_cost, window_cost}
+use Rattle.interval_search.specs.FirstHits.{AreFirst}
 use Rattle.interval_search.proofs.search.interval.Given as goal
 
-abbrev pub invariant-loop-place : goal.invariant-loop-place
-invariant-loop-place g l =
-    IsListing l.window.stores.now l.window.test.now.region l.fn.from l.fn.to l.fn.steps l.place l.found.items l.walk.rules
-    l.steps
+abbrev pub invariant-loop-period : goal.invariant-loop-period
+invariant-loop-period g l = record {
+  most : l.period ≤ l.period-end;
+  first : AreFirst l.fn.stores l.fn.from l.fn.to l.fn.test.region l.period l.hits.known.items l.hits.found.items;
+  reads : l.steps + sum_by (window_cost l.fn.stores l.fn.from l.fn.to l.fn.test.region)
+      (range_with_len l.period (l.period-end - l.period)) ≤ l.fn.steps
+      + interval_cost l.fn.stores l.fn.from l.fn.to l.fn.test.region;
+}

@@ -4,10 +4,10 @@ use Rattle.std.proofs.lemmas.List.Sorted.{IsNonDecreasingBy-from_sort_by_key}
 use Rattle.track_types.specs.Frame.{periods_of}
 use Rattle.snapshots.specs.Parts.{period_in}
 use Rattle.snapshots.specs.SoundParts.{IsValid}
-use Rattle.snapshots.proofs.ReachLemmas.{within-reach}
 use Rattle.object_track.proofs.MetLemmas.{period_in-some}
 use Rattle.slice_search.specs.Cost.{period_search_cost, slice_cost}
 use Rattle.slice_search.specs.Sightings.{AreSightings}
+use Rattle.slice_search.specs.Sought.{latest_in}
 use Rattle.slice_search.proofs.SliceLemmas.{object_of, sightings_of-outside, slice_cost-some, slice-sorted}
 use Rattle.slice_search.proofs.search.slice.Given.{Over}
 use Rattle.slice_search.proofs.search.slice.Goals as goal
@@ -34,11 +34,13 @@ reads g c =
     let same : to_z w64 (of_z w64 c.args.instant) ≡ c.args.instant = omega (arith, ints) in
     let is : period_in parts.frame c.args.instant ≡ Some c.in-Some.period =
     sym (c.in-Some.ensures.value ∙ ap (period_in parts.frame) same) in
-    let most : c.sightings.new.steps
-    ≤ c.args.steps.now + period_search_cost parts c.in-Some.period c.args.instant c.args.instant region c.args.instant =
-    subst (λ z. c.sightings.new.steps ≤ c.args.steps.now + period_search_cost parts c.in-Some.period z z region z) same
-    c.sightings.ensures.cost in
-    omega (arith, most, slice_cost-some parts c.args.instant region c.in-Some.period is)
+    omega (
+      arith,
+      c.sightings.ensures.cost,
+      c.blocks-blocks.ensures.cost,
+      ap (λ z. period_search_cost parts c.in-Some.period z z region (latest_in parts.frame c.in-Some.period z)) same,
+      slice_cost-some parts c.frame.ensures.shaped.header c.args.instant region c.in-Some.period is,
+    )
 
 pub returns-in_err-found-clause-cost : goal.returns-in_err-found-clause-cost
 returns-in_err-found-clause-cost g c = reads g (goal.at.returns-in_err-found-clause-cost g c).After-sightings
@@ -62,10 +64,14 @@ returns-clause-ok g c =
     let valid : IsValid parts = record { shaped = c.frame.ensures.shaped; sound = c.frame.ensures.sound } in
     let at = (goal.at.returns-clause-ok g c).In-Some in
     let same : to_z w64 (of_z w64 c.args.instant) ≡ c.args.instant = omega (arith, ints) in
-    let are : AreSightings parts c.in-Some.period c.args.instant region c.in_ok-found.found.items =
-    subst (λ z. AreSightings parts c.in-Some.period z region c.in_ok-found.found.items) same
-    c.in_ok-found.ensures.ok in
-    slice-sorted parts valid c.args.instant c.in-Some.period (within g at) region (within-reach parts valid)
-    c.in_ok-found.found.items c.sort_unstable_by_key.new.self.items (when g at) are
+    let are : AreSightings parts c.in-Some.period (to_z w64 (of_z w64 c.args.instant)) region c.in_ok-found.found.items =
+    record {
+      blocks = _;
+      their = c.in_ok-found.ensures.ok;
+      sought = c.blocks-blocks.ensures.sought;
+    } in
+    slice-sorted parts valid c.args.instant c.in-Some.period (within g at) region
+    c.in_ok-found.found.items c.sort_unstable_by_key.new.self.items (when g at)
+    (subst (λ z. AreSightings parts c.in-Some.period z region c.in_ok-found.found.items) same are)
     c.sort_unstable_by_key.ensures.permutation
     (IsNonDecreasingBy-from_sort_by_key object_of _ c.sort_unstable_by_key.ensures.sorted (λ a r q k. search rules))

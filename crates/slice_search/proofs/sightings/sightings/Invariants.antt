@@ -1,17 +1,17 @@
 use Rattle.std.proofs.Common.{◌+◌, ◌≤◌, length}
 use Rattle.std.specs.List.{sum_by}
-use Rattle.slice_search.specs.Sightings.{log_reads}
+use Rattle.slice_search.specs.Sought.{log_reads}
 use Rattle.slice_search.proofs.WalkLemmas.{IsWalking}
-use Rattle.slice_search.proofs.sought.Sought.found_in.Given as goal
+use Rattle.slice_search.proofs.sightings.sightings.Given as goal
 
 abbrev pub invariant-loop-block : goal.invariant-loop-block
 invariant-loop-block g l = record {
-  walking : IsWalking l.fn.self.stores.now l.fn.self.period l.fn.self.instant l.fn.self.test.now.region
+  walking : IsWalking l.fn.sought.stores.now l.fn.sought.period l.fn.sought.from l.fn.sought.to l.fn.sought.test.now.region
       (g.W.Lazy.left l.fn.blocks) (g.W.Lazy.left l.blocks) l.found.items;
   reads : l.steps + (g.W.Lazy.budget l.blocks + sum_by
-      (log_reads l.fn.self.stores.now l.fn.self.period l.fn.self.instant l.fn.self.test.now.region)
+      (log_reads l.fn.sought.stores.now l.fn.sought.period l.fn.sought.from l.fn.sought.to l.fn.sought.test.now.region)
       (g.W.Lazy.left l.blocks)) ≤ l.fn.steps + (g.W.Lazy.budget l.fn.blocks + sum_by
-      (log_reads l.fn.self.stores.now l.fn.self.period l.fn.self.instant l.fn.self.test.now.region)
+      (log_reads l.fn.sought.stores.now l.fn.sought.period l.fn.sought.from l.fn.sought.to l.fn.sought.test.now.region)
       (g.W.Lazy.left l.fn.blocks));
 }
 

@@ -4,7 +4,7 @@ use Rattle.track_types.specs.Widening.{widened}
 use Rattle.track_types.specs.declared.cell_box.CellBox.{CellBox}
 use Rattle.slice_search.specs.Reach.{cut_box, may_reach, meets}
 use Rattle.slice_search.proofs.ReachLemmas.{both-hold, one-fails}
-use Rattle.slice_search.proofs.reach.ReachKeep.keep.Goals as goal
+use Rattle.slice_search.proofs.reach.ReachSearch.meets_square.Goals as goal
 
 pub returns-then-meets : goal.returns-then-meets
 unfolding may_reach

@@ -1,0 +1,38 @@
+use Rattle.std.proofs.Common.{◌≡◌, w64, to_z, of_z, ◌∙◌, arith}
+use Rattle.std.proofs.lemmas.Int.{ints}
+use Rattle.std.proofs.lemmas.Result.{IfOk-weaker}
+use Rattle.snapshots.specs.SoundParts.{IsValid}
+use Rattle.object_track.proofs.BlockLemmas.{block-known}
+use Rattle.rule_store.specs.Log.{log_of}
+use Rattle.slice_search.specs.Sought.{first_stop_in}
+use Rattle.slice_search.proofs.HitLemmas.{first_stop-found, log_reads-found}
+use Rattle.slice_search.proofs.sought.Sought.first_stop.Goals as goal
+
+pub returns-clause-value : goal.returns-clause-value
+returns-clause-value g c =
+    let self = c.args.self.now in
+    let placed = c.new-placed.ensures in
+    let low : to_z w64 (of_z w64 self.from) ≡ self.from = omega (arith, ints) in
+    let high : to_z w64 (of_z w64 self.to) ≡ self.to = omega (arith, ints) in
+    let same = first_stop-found self.stores.now self.period self.from self.to _ _ low high self.test.now.region
+    c.args.block.now c.new-placed.result.log.rules.now (log_of c.new-placed.result.log) c.new-placed.result.start
+    placed.rules placed.log placed.start in
+    IfOk-weaker c.first_hit.result _ (λ found. found ≡ first_stop_in self.stores.now self.period self.from self.to
+    self.test.now.region c.args.block.now) (λ found is. is ∙ same) c.first_hit.ensures.value
+
+pub returns-clause-object : goal.returns-clause-object
+returns-clause-object g c =
+    let self = c.args.self.now in
+    let valid : IsValid self.stores.now = record { shaped = c.frame.ensures.shaped; sound = c.frame.ensures.sound } in
+    block-known self.stores.now valid self.period self.known c.args.block.now c.requires
+
+pub returns-clause-cost : goal.returns-clause-cost
+returns-clause-cost g c =
+    let self = c.args.self.now in
+    let placed = c.new-placed.ensures in
+    let low : to_z w64 (of_z w64 self.from) ≡ self.from = omega (arith, ints) in
+    let high : to_z w64 (of_z w64 self.to) ≡ self.to = omega (arith, ints) in
+    let most = log_reads-found self.stores.now self.period self.from self.to _ _ low high self.test.now.region
+    c.args.block.now c.new-placed.result.log.rules.now (log_of c.new-placed.result.log) c.new-placed.result.start
+    placed.rules placed.log placed.start in
+    omega (arith, most, c.first_hit.ensures.cost)
