@@ -1,18 +1,18 @@
 -- A walk at its beginning.
-use Rattle.std.proofs.Common.{◌≡◌, ℕ, zero, suc, ◌+◌, ◌-◌, ◌*◌, ◌^◌, ◌<◌, ◌≤◌, Bool, true, false, List, [], ◌∷◌, ◌++◌}
+use Rattle.std.proofs.Common.{◌≡◌, ℕ, ◌+◌, ◌-◌, ◌*◌, ◌^◌, ◌<◌, ◌≤◌, true, false, List, [], ◌∷◌}
 use Rattle.std.proofs.Common.{length, filter, refl, sym, ap, ◌∙◌, arith, All, Option, None, Some, ◌⊎◌, inl, inr}
 use Rattle.std.specs.Prelude.{nat_lt, IfNone, IfSome}
-use Rattle.std.specs.List.{flat_map, range_with_len, sum_by}
+use Rattle.std.specs.List.{range_with_len, sum_by}
 use Rattle.std.proofs.lemmas.Bool.Decides.{nat_tests}
 use Rattle.std.proofs.lemmas.List.{append-nil}
 use Rattle.std.proofs.lemmas.List.Elements.{All-head, All-tail}
 use Rattle.std.proofs.lemmas.List.Sums.{sum_by-cons}
 use Rattle.list_laws.proofs.FilterLemmas.{sum_by_if}
 use Rattle.k2_tree.specs.Pruning.{place_among}
-use Rattle.k2_tree.specs.Squares.{Node, node}
-use Rattle.box_tree.specs.Levels.{digits, first_in, run, squares_in}
+use Rattle.k2_tree.specs.Squares.{node}
+use Rattle.box_tree.specs.Levels.{digits, first_in, run}
 use Rattle.box_tree.specs.Places.{ArePassed, ArePlaces, Places, all_places, cell_passes, place_worth, square_worth}
-use Rattle.box_tree.specs.Places.{passes, run_of, square, square_count}
+use Rattle.box_tree.specs.Places.{passes, square_count}
 use Rattle.box_tree.specs.Tests.{Tests}
 use Rattle.box_tree.specs.Tree.{TreeView, whole}
 use Rattle.box_tree.specs.Walk.{WalkView, walk_left, walk_reads}

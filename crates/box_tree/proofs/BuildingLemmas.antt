@@ -1,16 +1,15 @@
 -- Nodes that were made of all tasks hold their squares.
-use Rattle.std.proofs.Common.{◌≡◌, ℕ, zero, suc, ◌+◌, ◌-◌, ◌*◌, ◌^◌, ◌<◌, ◌≤◌, List, [], ◌∷◌, ◌++◌, length, refl, sym}
-use Rattle.std.proofs.Common.{ap, ◌∙◌, arith, All, subst, inl, inr, Some, ◌⊎◌}
-use Rattle.std.specs.Prelude.{slice_get, nat_lt, if◌then◌else◌}
+use Rattle.std.proofs.Common.{◌≡◌, ℕ, zero, suc, ◌+◌, ◌<◌, ◌≤◌, List, [], ◌∷◌, length, refl, sym}
+use Rattle.std.proofs.Common.{ap, ◌∙◌, arith, All, subst, inl, inr, ◌⊎◌}
+use Rattle.std.specs.Prelude.{nat_lt, if◌then◌else◌}
 use Rattle.std.proofs.lemmas.Option.{same_Some, slice_get_within}
-use Rattle.track_types.specs.declared.cell_box.CellBox.{CellBox}
 use Rattle.box_tree.specs.Kinds.{kind_of}
-use Rattle.box_tree.specs.Levels.{children, digits, first_in, run}
+use Rattle.box_tree.specs.Levels.{children, digits, run}
 use Rattle.k2_tree.specs.Areas.{IsBoxInside}
 use Rattle.box_tree.specs.Places.{Places, box_at}
-use Rattle.box_tree.specs.Held.{Held, IsBranch, IsBucket, IsKindFor, IsNode, Nodes, Stand}
+use Rattle.box_tree.specs.Held.{Held, IsBranch, IsBucket, IsKindFor, Nodes, Stand}
 use Rattle.box_tree.specs.Tree.{levels_below}
-use Rattle.box_tree.specs.Building.{IsMade, IsMadeKind, IsSplit, IsTask, StandsFor, task_levels}
+use Rattle.box_tree.specs.Building.{IsMade, IsMadeKind, IsTask, StandsFor}
 use Rattle.box_tree.specs.declared.kind.Kind.{Kind}
 use Rattle.box_tree.specs.declared.kind.Kind.TheVariants.{Bucket, Branch}
 use Rattle.box_tree.specs.declared.task.Task.{Task}

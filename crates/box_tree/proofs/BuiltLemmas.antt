@@ -1,12 +1,12 @@
 -- The tree that is built.
-use Rattle.std.proofs.Common.{◌≡◌, ℕ, ◌+◌, ◌*◌, ◌^◌, ◌<◌, ◌≤◌, List, [], ◌∷◌, ◌++◌, length, map, refl, sym, ap, ◌∙◌}
+use Rattle.std.proofs.Common.{◌≡◌, ℕ, ◌+◌, ◌*◌, ◌^◌, ◌<◌, ◌≤◌, List, length, map, refl, sym}
 use Rattle.std.proofs.Common.{arith, All, subst, lit<}
 use Rattle.std.proofs.Math.Nat.{pow-le-pow_right}
 use Rattle.track_types.specs.declared.cell_box.CellBox.{CellBox}
 use Rattle.track_types.specs.declared.limit.TheConstants.{MAX_HEIGHT}
-use Rattle.box_tree.specs.Held.{IsBucket, Nodes}
+use Rattle.box_tree.specs.Held.{Nodes}
 use Rattle.box_tree.specs.Levels.{digits, first_in}
-use Rattle.box_tree.specs.Places.{ArePlaces, Places}
+use Rattle.box_tree.specs.Places.{ArePlaces}
 use Rattle.box_tree.specs.Tree.{AreLevels, IsTree, code_at, levels_below, places_with, tree_of}
 use Rattle.box_tree.specs.Boxes.{IsBase}
 use Rattle.track_types.specs.declared.cell.Cell.{Cell}

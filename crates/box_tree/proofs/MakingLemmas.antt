@@ -1,10 +1,10 @@
 -- Making nodes: what was made stays, the children of a square are tasks, and the squares become fewer.
-use Rattle.std.proofs.Common.{◌≡◌, ℕ, zero, suc, ◌+◌, ◌-◌, ◌*◌, ◌^◌, ◌<◌, ◌≤◌, true, List, [], ◌∷◌, ◌++◌, length, map}
-use Rattle.std.proofs.Common.{filter, drop, refl, sym, ap, ◌∙◌, arith, All, subst, inl, inr, Some, ◌⊎◌, append_assoc}
+use Rattle.std.proofs.Common.{◌≡◌, ℕ, suc, ◌+◌, ◌-◌, ◌*◌, ◌^◌, ◌<◌, ◌≤◌, true, List, [], ◌∷◌, ◌++◌, length, map}
+use Rattle.std.proofs.Common.{filter, drop, refl, sym, ap, ◌∙◌, arith, All, subst, inl, inr, Some, append_assoc}
 use Rattle.std.proofs.Common.{length-append, get_or}
-use Rattle.std.specs.Prelude.{slice_get, nat_lt}
+use Rattle.std.specs.Prelude.{slice_get}
 use Rattle.std.specs.List.{range_with_len, sum_by}
-use Rattle.std.proofs.lemmas.Option.{same_Some, slice_get_within, slice_get-get_or, get_or_from_slice_get}
+use Rattle.std.proofs.lemmas.Option.{slice_get_within, slice_get-get_or, get_or_from_slice_get}
 use Rattle.std.proofs.lemmas.List.{length-map, append-nil, drop-append-le}
 use Rattle.std.proofs.Math.Seq.{drop-cons}
 use Rattle.track_types.specs.Near.{IsBoxWithin}
@@ -25,9 +25,9 @@ use Rattle.box_tree.specs.Boxes.{IsFrom}
 use Rattle.box_tree.specs.Kinds.{kind_of}
 use Rattle.box_tree.specs.Levels.{children, digits, first_in, is_held, run, squares_in}
 use Rattle.box_tree.specs.Places.{box_at}
-use Rattle.box_tree.specs.Held.{IsBranch, Stand, digits_in}
+use Rattle.box_tree.specs.Held.{Stand, digits_in}
 use Rattle.box_tree.specs.Tree.{levels_below}
-use Rattle.box_tree.specs.Building.{BeginsWith, IsMade, IsMadeKind, IsMadeLink, IsMaking, IsSplit, IsSplitInto}
+use Rattle.box_tree.specs.Building.{BeginsWith, IsMade, IsMadeKind, IsMadeLink, IsMaking}
 use Rattle.box_tree.specs.Building.{IsTask, StandsFor, child_task, task_levels, turns_left}
 use Rattle.box_tree.specs.declared.kind.Kind.{Kind}
 use Rattle.box_tree.specs.declared.kind.Kind.TheVariants.{Bucket, Branch}

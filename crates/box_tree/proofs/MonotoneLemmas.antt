@@ -1,20 +1,18 @@
 -- That the tests of a search by reach are monotone.
-use Rattle.std.proofs.Common.{lit≤, ◌≡◌, ℕ, ◌+◌, ◌-◌, ◌*◌, ◌/◌, ◌^◌, ◌<◌, ◌≤◌, ℤ, pos, ◌+ℤ◌, ◌-ℤ◌, ◌≤ℤ◌, true, Bool}
-use Rattle.std.proofs.Common.{refl, sym, ap, ◌∙◌, arith, subst}
-use Rattle.std.specs.Prelude.{◌&&◌}
+use Rattle.std.proofs.Common.{lit≤, ◌≡◌, ℕ, ◌/◌, ◌^◌, ◌<◌, ◌≤◌, true, Bool}
+use Rattle.std.proofs.Common.{ap, ◌∙◌, arith, subst}
 use Rattle.std.proofs.Math.Nat.{div-one}
-use Rattle.std.proofs.lemmas.Int.{ints, clamps}
-use Rattle.std.proofs.lemmas.Bool.{and_from, and_parts}
-use Rattle.track_types.specs.Region.{in_box, intersects_region, overlaps, Intersects}
+use Rattle.std.proofs.lemmas.Int.{ints}
+use Rattle.track_types.specs.Region.{in_box, intersects_region, Intersects}
 use Rattle.track_types.specs.Widening.{widened}
 use Rattle.track_types.specs.declared.cell.Cell.{Cell}
 use Rattle.track_types.specs.declared.cell_box.CellBox.{CellBox}
 use Rattle.track_types.specs.declared.limit.TheConstants.{MAX_HEIGHT}
 use Rattle.track_types.specs.declared.region.Region.{Region}
 use Rattle.track_types.proofs.RegionLemmas.{in_box-bounds, in_box-from, intersects_region-exact}
-use Rattle.k2_tree.specs.Areas.{area_at, box_from, IsBoxInside}
+use Rattle.k2_tree.specs.Areas.{area_at, IsBoxInside}
 use Rattle.k2_tree.specs.Morton.{cell_of, morton_of, IsGrid, IsInGrid}
-use Rattle.k2_tree.specs.Squares.{Node, node}
+use Rattle.k2_tree.specs.Squares.{node}
 use Rattle.k2_tree.specs.TreeBits.{code_limit}
 use Rattle.k2_tree.proofs.AreaLemmas.{in_area}
 use Rattle.k2_tree.proofs.MortonLemmas.{cell_of-inside, morton_of-cell_of}

@@ -1,6 +1,6 @@
 -- A wider box is no farther.
-use Rattle.std.proofs.Common.{◌≡◌, ℕ, ◌+◌, ◌*◌, ◌≤◌, ℤ, ◌-ℤ◌, ◌≤ℤ◌, arith, mul-le-mul_left, mul-le-mul_right}
-use Rattle.std.specs.Prelude.{unsigned_abs, ◌&&◌}
+use Rattle.std.proofs.Common.{ℕ, ◌+◌, ◌*◌, ◌≤◌, ℤ, ◌-ℤ◌, ◌≤ℤ◌, arith, mul-le-mul_left, mul-le-mul_right}
+use Rattle.std.specs.Prelude.{unsigned_abs}
 use Rattle.std.specs.Int.{int_max, int_min}
 use Rattle.std.proofs.lemmas.Int.{ints, clamps}
 use Rattle.track_types.specs.Region.{nearest_cell, squared_distance}

@@ -1,13 +1,11 @@
 -- What a node is worth: it is skipped, gives way to its children, or to its bucket.
 use Rattle.std.proofs.Common.{◌≡◌, ℕ, zero, suc, ◌+◌, ◌-◌, ◌*◌, ◌/◌, ◌^◌, ◌<◌, ◌≤◌, Bool, true, false, List, [], ◌∷◌}
-use Rattle.std.proofs.Common.{◌++◌}
-use Rattle.std.proofs.Common.{length, map, filter, get_or, refl, inl, inr, sym, ap, ◌∙◌, arith, lit≤, All}
-use Rattle.std.specs.Prelude.{nat_lt, slice_index, ◌&&◌, if◌then◌else◌}
-use Rattle.std.specs.List.{flat_map, range_with_len, sum_by}
-use Rattle.std.proofs.lemmas.Bool.{cases_Bool, and_parts, false≢true}
+use Rattle.std.proofs.Common.{length, map, filter, refl, sym, ap, ◌∙◌, arith, lit≤, All}
+use Rattle.std.specs.Prelude.{nat_lt, slice_index}
+use Rattle.std.specs.List.{range_with_len, sum_by}
+use Rattle.std.proofs.lemmas.Bool.{and_parts, false≢true}
 use Rattle.std.proofs.Math.Nat.{div-one}
-use Rattle.std.proofs.lemmas.Bool.Decides.{nat_tests}
-use Rattle.std.proofs.lemmas.List.Elements.{All-nil, All-cons, All-head, All-tail, All-weaker}
+use Rattle.std.proofs.lemmas.List.Elements.{All-head, All-tail, All-weaker}
 use Rattle.std.proofs.lemmas.List.Sums.{sum_by-cons}
 use Rattle.std.proofs.lemmas.List.FromFn.{length-range_with_len}
 use Rattle.list_laws.proofs.FlatLemmas.{sum_by-flat_map, sum_by-map}
@@ -16,8 +14,8 @@ use Rattle.track_types.specs.declared.limit.TheConstants.{MAX_HEIGHT}
 use Rattle.k2_tree.specs.Areas.{IsBoxInside}
 use Rattle.k2_tree.specs.Squares.{Node, node}
 use Rattle.box_tree.specs.Levels.{children, digits, first_in, run, squares_in}
-use Rattle.box_tree.specs.Places.{Places, Square, ArePassed, ArePlaces, Ascends, box_at, cell_passes, place_worth}
-use Rattle.box_tree.specs.Places.{square_worth, passes, run_of, square}
+use Rattle.box_tree.specs.Places.{Places, ArePassed, ArePlaces, Ascends, box_at, cell_passes, place_worth}
+use Rattle.box_tree.specs.Places.{square_worth, passes, square}
 use Rattle.box_tree.specs.Tests.{Tests}
 use Rattle.box_tree.specs.Held.{IsBucket}
 use Rattle.box_tree.proofs.RunLemmas.{run-children, run-prefix}

@@ -1,14 +1,13 @@
 -- The places of a square: those of its children, and numbers with its prefix.
-use Rattle.std.proofs.Common.{◌≡◌, ℕ, zero, suc, ◌+◌, ◌-◌, ◌*◌, ◌/◌, ◌^◌, ◌<◌, ◌≤◌, Bool, true, false, List, [], ◌∷◌}
+use Rattle.std.proofs.Common.{◌≡◌, ℕ, zero, suc, ◌+◌, ◌-◌, ◌*◌, ◌/◌, ◌^◌, ◌<◌, ◌≤◌, false, List, [], ◌∷◌}
 use Rattle.std.proofs.Common.{◌++◌}
-use Rattle.std.proofs.Common.{length, map, filter, get_or, pow-add, refl, inl, inr, sym, ap, ◌∙◌, arith, All}
+use Rattle.std.proofs.Common.{length, pow-add, refl, inl, inr, sym, ap, ◌∙◌, arith, All}
 use Rattle.std.specs.Prelude.{nat_lt, slice_index}
 use Rattle.std.specs.List.{flat_map, range_with_len}
 use Rattle.std.proofs.lemmas.Bool.{cases_Bool, cases_lt}
 use Rattle.std.proofs.lemmas.Bool.Decides.{nat_tests}
 use Rattle.std.proofs.Math.Nat.{div-eq_of_lt-le}
-use Rattle.std.proofs.lemmas.List.Elements.{All-nil, All-cons, All-weaker}
-use Rattle.list_laws.proofs.FilterLemmas.{length-filter-le}
+use Rattle.std.proofs.lemmas.List.Elements.{All-nil, All-cons}
 use Rattle.list_laws.proofs.FlatLemmas.{flat_map-filter}
 use Rattle.list_laws.proofs.RangeLemmas.{range-parts}
 use Rattle.k2_tree.specs.Pruning.{place_among}

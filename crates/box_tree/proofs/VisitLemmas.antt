@@ -1,10 +1,9 @@
 -- Walks over places: what a node that is visited, and a place that is looked at, change.
-use Rattle.std.proofs.Common.{◌≡◌, ℕ, suc, ◌+◌, ◌-◌, ◌*◌, ◌<◌, ◌≤◌, true, false, List, [], ◌∷◌, ◌++◌, filter, refl}
-use Rattle.std.proofs.Common.{sym, ap, ◌∙◌, arith}
-use Rattle.std.specs.List.{flat_map, range_with_len, sum_by}
+use Rattle.std.proofs.Common.{◌≡◌, ℕ, suc, ◌+◌, ◌-◌, ◌<◌, ◌≤◌, true, false, [], ◌∷◌, ◌++◌, filter, refl}
+use Rattle.std.proofs.Common.{arith}
+use Rattle.std.specs.List.{flat_map}
 use Rattle.std.proofs.lemmas.List.Elements.{filter-append}
 use Rattle.std.proofs.lemmas.List.Sums.{sum_by-cons}
-use Rattle.box_tree.specs.Levels.{squares_in}
 use Rattle.box_tree.specs.Places.{Places, Square, square_worth, passes, run_of, square}
 use Rattle.box_tree.specs.Tests.{Tests}
 use Rattle.box_tree.specs.Walk.{IsVisited, WalkView, turns_in, turns_of, walk_left, walk_reads}

@@ -1,5 +1,5 @@
 -- Walks over nodes: what opening a node changes.
-use Rattle.std.proofs.Common.{◌≡◌, ℕ, zero, suc, ◌+◌, ◌-◌, ◌*◌, ◌^◌, ◌<◌, ◌≤◌, Bool, true, false, List, [], ◌∷◌, ◌++◌}
+use Rattle.std.proofs.Common.{◌≡◌, ℕ, zero, suc, ◌+◌, ◌-◌, ◌*◌, ◌^◌, ◌<◌, ◌≤◌, Bool, true, List, [], ◌∷◌, ◌++◌}
 use Rattle.std.proofs.Common.{length, map, filter, reverse, refl, sym, ap, ◌∙◌, arith, All, subst, length-append}
 use Rattle.std.proofs.Common.{Option, None, Some, IfSome, ◌==◌, ◌⊎◌, inl, inr}
 use Rattle.std.specs.List.{flat_map, range_with_len, sum_by}
@@ -15,18 +15,16 @@ use Rattle.list_laws.proofs.FlatLemmas.{sum_by-map}
 use Rattle.k2_tree.specs.Squares.{Node, node}
 use Rattle.k2_tree.specs.Morton.{column_of, row_of}
 use Rattle.k2_tree.proofs.MortonLemmas.{column_of-lt, row_of-lt}
-use Rattle.box_tree.specs.Held.{Held, IsBranch, IsBucket, IsKindFor, IsNode, Nodes, Stand, digits_in}
-use Rattle.box_tree.specs.Levels.{children, digits, first_in, run, squares_in}
-use Rattle.box_tree.specs.Places.{ArePlaces, Ascends, Places, Square, square_worth, passes, run_of, square}
-use Rattle.box_tree.specs.Tests.{Tests}
+use Rattle.box_tree.specs.Held.{Held, IsBranch, IsBucket, IsKindFor, Nodes, Stand, digits_in}
+use Rattle.box_tree.specs.Levels.{children, digits, run, squares_in}
+use Rattle.box_tree.specs.Places.{Ascends, Places, Square, square_worth, passes, run_of, square}
 use Rattle.box_tree.specs.Tree.{IsNodeOf, TreeView, child_limit, levels_below, levels_of, node_square, prefix_of, slots}
-use Rattle.box_tree.specs.Walk.{Fits, IsGivenWay, IsOpened, IsWalk, WalkView, child_refs, turns_in, walk_left}
-use Rattle.box_tree.specs.Walk.{walk_of, walk_reads}
-use Rattle.box_tree.specs.declared.kind.Kind.{Kind}
+use Rattle.box_tree.specs.Walk.{Fits, IsGivenWay, IsOpened, IsWalk, WalkView, child_refs, turns_in}
+use Rattle.box_tree.specs.Walk.{walk_of}
 use Rattle.box_tree.specs.declared.kind.Kind.TheVariants.{Bucket, Branch}
 use Rattle.box_tree.specs.declared.node_ref.NodeRef.{NodeRef}
 use Rattle.box_tree.proofs.DigitsLemmas.{digits_in-small}
-use Rattle.box_tree.proofs.NodeLemmas.{few-children, length-kept, square_worth-branch, square_worth-bucket}
+use Rattle.box_tree.proofs.NodeLemmas.{length-kept, square_worth-branch, square_worth-bucket}
 use Rattle.box_tree.proofs.NodeLemmas.{square_worth-cell, squares_in-own}
 use Rattle.box_tree.proofs.RunLemmas.{run-children}
 use Rattle.box_tree.proofs.SquareLemmas.{child-ends, child-fits, child-prefix}

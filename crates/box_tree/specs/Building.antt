@@ -12,7 +12,7 @@ use Rattle.box_tree.specs.Kinds.{kind_of}
 use Rattle.std.specs.Int.{bit_at}
 use Rattle.std.specs.List.{range_with_len, sum_by}
 use Rattle.box_tree.specs.Levels.{children, digits, first_in, is_held, run, squares_in}
-use Rattle.box_tree.specs.Places.{Places, Square, box_at, square}
+use Rattle.box_tree.specs.Places.{Square, box_at, square}
 use Rattle.box_tree.specs.Held.{IsBranch, IsBucket, digits_in}
 use Rattle.box_tree.specs.Tree.{levels_below}
 use Rattle.box_tree.specs.Cost.{bucket_limit}

@@ -1,12 +1,11 @@
 -- Nodes, and what they hold.
-use Rattle.std.specs.Prelude.{◌≡◌, ℕ, ◌+◌, ◌*◌, ◌^◌, ◌<◌, ◌≤◌, ◌==◌, Bool, true, false, List, [], ◌∷◌, length, map}
+use Rattle.std.specs.Prelude.{◌≡◌, ℕ, ◌+◌, ◌*◌, ◌^◌, ◌<◌, ◌≤◌, ◌==◌, List, [], ◌∷◌, length, map}
 use Rattle.std.specs.Prelude.{filter, All}
 use Rattle.std.specs.Prelude.{slice_get, Some}
 use Rattle.std.specs.Int.{bit_at}
-use Rattle.std.specs.List.{enumerate_from, range_with_len, sum_by}
+use Rattle.std.specs.List.{range_with_len}
 use Rattle.track_types.specs.declared.cell_box.CellBox.{CellBox}
 use Rattle.k2_tree.specs.Areas.{IsBoxInside}
-use Rattle.k2_tree.specs.Squares.{Node, node}
 use Rattle.box_tree.specs.Kinds.{kind_of}
 use Rattle.box_tree.specs.Levels.{children, digits, first_in, run}
 use Rattle.box_tree.specs.Places.{Places, box_at}

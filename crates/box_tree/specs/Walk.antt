@@ -1,5 +1,5 @@
 -- What is left of a walk over the nodes of a tree.
-use Rattle.std.specs.Prelude.{◌≡◌, ℕ, suc, ◌+◌, ◌-◌, ◌*◌, ◌^◌, ◌<◌, ◌≤◌, Bool, true, List, [], ◌∷◌, ◌++◌, length, map}
+use Rattle.std.specs.Prelude.{◌≡◌, ℕ, ◌+◌, ◌-◌, ◌*◌, ◌^◌, ◌<◌, ◌≤◌, Bool, true, List, [], ◌∷◌, ◌++◌, length, map}
 use Rattle.std.specs.Prelude.{filter, reverse, All, Option, option_to_list}
 use Rattle.std.specs.List.{flat_map, range_with_len, sum_by}
 use Rattle.k2_tree.specs.Squares.{Node, node}

@@ -1,7 +1,7 @@
-use Rattle.std.proofs.Common.{◌≡◌, ℕ, ◌<◌, List, [], ◌∷◌, ◌++◌, length, arith, subst, sym, ap, ◌∙◌, refl, All}
-use Rattle.std.specs.Prelude.{slice_get, Some}
+use Rattle.std.proofs.Common.{◌≡◌, [], ◌∷◌, ◌++◌, length, arith, subst, sym, ap, ◌∙◌, refl, All}
+use Rattle.std.specs.Prelude.{slice_get}
 use Rattle.std.proofs.lemmas.List.Elements.{All-nil, All-cons}
-use Rattle.box_tree.specs.Building.{IsTask, StandsFor}
+use Rattle.box_tree.specs.Building.{IsTask}
 use Rattle.box_tree.specs.declared.task.Task.{Task}
 use Rattle.box_tree.proofs.BuiltLemmas.{root-task}
 use Rattle.box_tree.proofs.building.begin.Goals as goal

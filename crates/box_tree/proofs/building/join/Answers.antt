@@ -1,4 +1,4 @@
-use Rattle.std.proofs.Common.{◌≡◌, ℕ, ◌-◌, ◌^◌, pos, ◌+ℤ◌, arith, subst, sym}
+use Rattle.std.proofs.Common.{◌-◌, ◌^◌, pos, ◌+ℤ◌, arith, subst, sym}
 use Rattle.std.proofs.lemmas.Int.{ints}
 use Rattle.track_types.specs.Near.{IsWithin}
 use Rattle.k2_tree.proofs.AreaLemmas.{word_kept}

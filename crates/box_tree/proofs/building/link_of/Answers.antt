@@ -1,8 +1,4 @@
-use Rattle.std.proofs.Common.{◌≡◌, ℕ, ◌+◌, ◌-◌, ◌^◌, ◌<◌, ◌≤◌, List, length, false, true, refl, sym, ap, ◌∙◌, arith}
-use Rattle.std.proofs.Common.{inl, inr, subst}
-use Rattle.box_tree.specs.Kinds.{kind_of}
-use Rattle.box_tree.specs.Building.{IsMadeLink}
-use Rattle.box_tree.specs.Levels.{digits}
+use Rattle.std.proofs.Common.{◌+◌, ◌^◌, ◌<◌, arith}
 use Rattle.box_tree.proofs.RunLemmas.{first_in-le, first_in-up}
 use Rattle.box_tree.proofs.building.link_of.Goals as goal
 

@@ -1,13 +1,11 @@
-use Rattle.std.proofs.Common.{◌≡◌, ℕ, ◌+◌, ◌-◌, ◌<◌, ◌≤◌, List, [], ◌∷◌, ◌++◌, length, drop, All, arith, sym, ap, ◌∙◌}
+use Rattle.std.proofs.Common.{◌≡◌, ℕ, ◌+◌, ◌<◌, List, [], ◌∷◌, ◌++◌, length, drop, All, arith, sym, ap, ◌∙◌}
 use Rattle.std.proofs.Common.{subst, get_or, length-append}
-use Rattle.std.specs.Prelude.{slice_get, Some}
-use Rattle.std.specs.List.{range_with_len}
 use Rattle.k2_tree.specs.Areas.{IsBoxInside}
 use Rattle.box_tree.specs.Building.{IsMaking, IsTask, turns_left}
 use Rattle.box_tree.specs.Kinds.{kind_of}
 use Rattle.box_tree.specs.Places.{box_at}
 use Rattle.box_tree.specs.declared.task.Task.{Task}
-use Rattle.box_tree.proofs.RunLemmas.{first_in-le, first_in-up}
+use Rattle.box_tree.proofs.RunLemmas.{first_in-le}
 use Rattle.box_tree.proofs.MakingLemmas.{is-task, making-next, read-task, task-run, turns-next}
 use Rattle.box_tree.proofs.building.make.Goals as goal
 use Rattle.box_tree.proofs.building.make.Goals.{After-index-task}

@@ -1,9 +1,7 @@
-use Rattle.std.proofs.Common.{◌≡◌, ℕ, ◌+◌, ◌-◌, ◌<◌, ◌≤◌, All, length, arith, sym, ap, ◌∙◌, subst}
+use Rattle.std.proofs.Common.{◌≡◌, ℕ, ◌-◌, ◌<◌, length, arith, sym, ◌∙◌, subst}
 use Rattle.std.specs.List.{range_with_len}
 use Rattle.std.proofs.lemmas.List.Elements.{All-nil, All-weaker}
 use Rattle.std.proofs.lemmas.List.{get_or_default}
-use Rattle.std.proofs.lemmas.Int.{ints}
-use Rattle.track_types.specs.declared.cell_box.CellBox.{CellBox}
 use Rattle.k2_tree.specs.Areas.{IsBoxInside}
 use Rattle.box_tree.specs.Places.{box_at, no_box}
 use Rattle.box_tree.proofs.MakingLemmas.{All-range_more, box-from, box-near, inside-inside, inside-self}

@@ -1,11 +1,10 @@
-use Rattle.std.proofs.Common.{◌≡◌, ℕ, ◌+◌, ◌-◌, ◌*◌, ◌^◌, ◌<◌, ◌≤◌, List, [], length, map, filter, refl, sym, ap, ◌∙◌}
-use Rattle.std.proofs.Common.{arith, pow-add, append-nil, lit<}
+use Rattle.std.proofs.Common.{◌≡◌, ℕ, ◌+◌, ◌-◌, ◌*◌, ◌^◌, ◌≤◌, refl, sym, ap, ◌∙◌}
+use Rattle.std.proofs.Common.{arith, append-nil, lit<}
 use Rattle.std.proofs.Math.Nat.{pow-le-pow_right}
 use Rattle.k2_tree.proofs.PrefixLemmas.{fan_pos}
-use Rattle.std.specs.List.{range_with_len}
 use Rattle.k2_tree.specs.Pruning.{place_among}
 use Rattle.k2_tree.specs.TreeBits.{code_limit}
-use Rattle.box_tree.specs.Building.{IsSplitting, child_task}
+use Rattle.box_tree.specs.Building.{child_task}
 use Rattle.box_tree.specs.Held.{digits_in}
 use Rattle.box_tree.specs.Levels.{children, first_in, is_held}
 use Rattle.box_tree.specs.declared.task.Task.{Task}

@@ -1,4 +1,3 @@
-use Rattle.std.proofs.Common.{arith}
 use Rattle.box_tree.proofs.TreeLemmas.{width-narrow, width-wide}
 use Rattle.box_tree.proofs.building.width_of.Goals as goal
 

@@ -1,8 +1,8 @@
-use Rattle.std.proofs.Common.{ℕ, ◌*◌, ◌-◌, ◌^◌, ℤ, pos, ◌+ℤ◌, arith, subst, sym}
+use Rattle.std.proofs.Common.{ℕ, ◌*◌, ◌-◌, ◌^◌, ℤ, pos, ◌+ℤ◌, arith}
 use Rattle.track_types.specs.Near.{IsWithin}
 use Rattle.track_types.specs.declared.limit.TheConstants.{MAX_HEIGHT}
 use Rattle.track_types.proofs.BoxLemmas.{same_box}
-use Rattle.k2_tree.proofs.AreaLemmas.{base_within, before-lt, moved_is, word_kept}
+use Rattle.k2_tree.proofs.AreaLemmas.{base_within, before-lt, moved_is}
 use Rattle.k2_tree.proofs.MortonLemmas.{ends_back}
 use Rattle.box_tree.proofs.grid_square.square_area.Goals as goal
 

@@ -10,7 +10,6 @@ use Rattle.box_tree.specs.declared.node_ref.NodeRef.{NodeRef}
 use Rattle.box_tree.proofs.DigitsLemmas.{digits_from, digits_from-clear, digits_from-end, digits_from-few}
 use Rattle.box_tree.proofs.DigitsLemmas.{digits_from-set, digits_from-zero}
 use Rattle.box_tree.proofs.node_walk.push_children.Goals as goal
-use Rattle.box_tree.proofs.node_walk.push_children.Invariants.{ArePushed}
 
 pub loop-digit-init : goal.loop-digit-init
 loop-digit-init c =

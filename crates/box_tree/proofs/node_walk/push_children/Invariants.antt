@@ -1,4 +1,4 @@
-use Rattle.std.proofs.Common.{◌≡◌, ℕ, ◌+◌, ◌-◌, ◌*◌, ◌≤◌, List, ◌++◌, length, reverse}
+use Rattle.std.proofs.Common.{◌≡◌, ℕ, ◌+◌, List, ◌++◌, length, reverse}
 use Rattle.box_tree.specs.Walk.{child_refs}
 use Rattle.box_tree.specs.declared.node_ref.NodeRef.{NodeRef}
 use Rattle.box_tree.proofs.DigitsLemmas.{digits_from}

@@ -1,4 +1,4 @@
-use Rattle.std.proofs.Common.{◌≡◌, ℕ, ◌^◌, ◌<◌, List, All, subst, sym}
+use Rattle.std.proofs.Common.{◌<◌, All, subst}
 use Rattle.box_tree.proofs.tests.make_places.Goals as goal
 
 pub tree_of-requires-clause-inside : goal.tree_of-requires-clause-inside

@@ -1,4 +1,4 @@
-use Rattle.std.proofs.Common.{◌≡◌, ℕ, ◌^◌, ◌<◌, ◌≤◌, All, arith, lit<, subst, sym}
+use Rattle.std.proofs.Common.{◌^◌, ◌<◌, ◌≤◌, All, arith, lit<, subst, sym}
 use Rattle.std.proofs.Math.Nat.{pow-le-pow_right}
 use Rattle.std.proofs.lemmas.List.Elements.{All-weaker}
 use Rattle.track_types.specs.declared.limit.TheConstants.{MAX_HEIGHT}

@@ -1,4 +1,4 @@
-use Rattle.std.proofs.Common.{◌≡◌, ℤ, pos, ◌+ℤ◌, length, slice_get, arith, sym, ap, ◌∙◌, Some}
+use Rattle.std.proofs.Common.{length, slice_get, arith, sym, ap, ◌∙◌, Some}
 use Rattle.std.proofs.lemmas.Int.{ints}
 use Rattle.track_types.proofs.BoxLemmas.{same_box}
 use Rattle.box_tree.proofs.BoxesLemmas.{boxes_of-at, boxes_of-length}

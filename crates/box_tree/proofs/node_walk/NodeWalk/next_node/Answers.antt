@@ -1,4 +1,4 @@
-use Rattle.std.proofs.Common.{◌≡◌, ap, subst}
+use Rattle.std.proofs.Common.{ap, subst}
 use Rattle.std.specs.Prelude.{IfSome}
 use Rattle.box_tree.specs.Tree.{IsNodeOf, TreeView}
 use Rattle.box_tree.specs.Walk.{WalkView}

@@ -1,8 +1,7 @@
-use Rattle.std.proofs.Common.{◌≡◌, ℕ, ◌+◌, ◌≤◌, List, length, refl, sym, ap, arith, subst}
-use Rattle.box_tree.specs.Held.{IsKindFor}
+use Rattle.std.proofs.Common.{ℕ, ◌+◌, ◌≤◌, List, length, refl, sym, ap, arith, subst}
 use Rattle.box_tree.specs.Levels.{digits}
 use Rattle.box_tree.specs.Tree.{IsNodeOf, TreeView, levels_of, node_square, prefix_of, slots}
-use Rattle.box_tree.specs.Walk.{WalkView, IsGivenWay, IsOpened, IsWalk, walk_of}
+use Rattle.box_tree.specs.Walk.{WalkView, IsOpened, walk_of}
 use Rattle.box_tree.proofs.RunLemmas.{first_in-le}
 use Rattle.box_tree.proofs.TreeLemmas.{child_limit-le}
 use Rattle.box_tree.proofs.WalkLemmas.{branch-opened, branch-some, branch-walk, bucket-opened, bucket-parts}

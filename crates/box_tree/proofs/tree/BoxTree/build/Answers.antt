@@ -1,5 +1,4 @@
-use Rattle.std.proofs.Common.{◌≡◌, ℕ, List, arith, ap, ◌∙◌}
-use Rattle.track_types.specs.declared.cell_box.CellBox.{CellBox}
+use Rattle.std.proofs.Common.{◌≡◌, ◌∙◌}
 use Rattle.box_tree.proofs.BoxesLemmas.{from-within}
 use Rattle.box_tree.proofs.BuiltLemmas.{tree-built}
 use Rattle.box_tree.proofs.tree.BoxTree.build.Goals as goal

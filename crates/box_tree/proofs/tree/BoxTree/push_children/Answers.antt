@@ -1,4 +1,4 @@
-use Rattle.std.proofs.Common.{◌≡◌, ℕ, ◌+◌, ◌-◌, ◌*◌, ◌^◌, ◌≤◌, List, ◌∷◌, arith, subst, sym, ap, ◌∙◌, reverse}
+use Rattle.std.proofs.Common.{◌-◌, ◌≤◌, arith, subst, ap, reverse}
 use Rattle.box_tree.specs.Held.{Held, IsBranch, IsKindFor}
 use Rattle.box_tree.specs.Levels.{digits}
 use Rattle.box_tree.specs.Tree.{TreeView, child_limit, levels_below, prefix_of}

@@ -1,5 +1,5 @@
-use Rattle.std.proofs.Common.{◌≡◌, arith, sym, ap, ◌∙◌}
-use Rattle.box_tree.specs.Tree.{TreeView, levels_below}
+use Rattle.std.proofs.Common.{arith, ap}
+use Rattle.box_tree.specs.Tree.{TreeView}
 use Rattle.box_tree.proofs.TreeLemmas.{width-narrow, width-wide}
 use Rattle.box_tree.proofs.tree.BoxTree.width.Goals as goal
 

@@ -1,4 +1,4 @@
-use Rattle.std.proofs.Common.{◌≡◌, ◌≤◌, ap, subst, sym, ◌∙◌}
+use Rattle.std.proofs.Common.{◌≤◌, ap, subst, sym, ◌∙◌}
 use Rattle.box_tree.specs.BoxWalk.{search_reads}
 use Rattle.box_tree.specs.Tests.{squares_at, tests_at}
 use Rattle.box_tree.specs.Tree.{TreeView}

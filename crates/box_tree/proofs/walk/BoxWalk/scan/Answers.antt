@@ -3,7 +3,7 @@ use Rattle.box_tree.specs.Places.{passes}
 use Rattle.box_tree.specs.BoxWalk.{asked}
 use Rattle.box_tree.specs.Tests.{Tests, tests_at}
 use Rattle.box_tree.specs.Tree.{TreeView}
-use Rattle.box_tree.specs.Walk.{WalkView, IsScanned, walk_left}
+use Rattle.box_tree.specs.Walk.{WalkView, walk_left}
 use Rattle.box_tree.proofs.VisitLemmas.{left-kept, left-passed, reads-place}
 use Rattle.box_tree.proofs.walk.BoxWalk.scan.Goals as goal
 use Rattle.box_tree.proofs.walk.BoxWalk.scan.Given.{Over}

@@ -1,12 +1,11 @@
-use Rattle.std.proofs.Common.{◌≡◌, ℕ, ◌≤◌, List, false, true, All, subst, sym, ap, ◌∙◌, arith}
+use Rattle.std.proofs.Common.{◌≡◌, false, true, All, subst, sym, ap, ◌∙◌, arith}
 use Rattle.k2_tree.specs.Areas.{area_at, IsBoxInside}
 use Rattle.k2_tree.specs.Squares.{node}
 use Rattle.box_tree.specs.BoxWalk.{asked}
 use Rattle.box_tree.specs.Levels.{digits}
-use Rattle.box_tree.specs.Places.{ArePassed, Places, Square, box_at, run_of}
+use Rattle.box_tree.specs.Places.{ArePassed, Square, box_at, run_of}
 use Rattle.box_tree.specs.Tests.{Tests}
 use Rattle.box_tree.specs.Tree.{TreeView, levels_of, node_at, node_square, prefix_of}
-use Rattle.box_tree.specs.Walk.{IsOpened, IsVisited}
 use Rattle.box_tree.proofs.MonotoneLemmas.{passed-areas}
 use Rattle.box_tree.proofs.NodeLemmas.{skipped-box, skipped-square}
 use Rattle.box_tree.proofs.VisitLemmas.{skipped}
