@@ -4,7 +4,6 @@ mod ReceivingLemmas
 pub mod OutcomeLemmas
 pub mod EndsLemmas
 pub mod SummaryLemmas
-pub mod InfoLemmas
 pub mod SamplingLemmas
 pub mod CompletenessLemmas
 mod Examples

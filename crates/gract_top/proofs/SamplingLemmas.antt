@@ -19,8 +19,8 @@ use Rattle.gract_top.specs.Summary.{summary_cost, summary_of}
 use Rattle.gract_top.specs.declared.outcome.Outcome.{Outcome}
 use Rattle.gract_top.specs.declared.outcome.Outcome.TheVariants as outcome
 use Rattle.gract_top.specs.declared.request.SampleSettings.{SampleSettings}
-use Rattle.gract_top.specs.declared.summarizing.SummaryFault.{SummaryFault}
-use Rattle.gract_top.specs.declared.summarizing.SummaryFault.TheVariants as fault
+use Rattle.question_shell.specs.declared.turn_fault.TurnFault.{TurnFault}
+use Rattle.question_shell.specs.declared.turn_fault.TurnFault.TheVariants as fault
 
 module _ (result : Outcome) (instants : ℕ) (before now : Speech) where
   -- the summary of an index that was opened was said
@@ -62,7 +62,7 @@ module _ (result : Outcome) (settings : SampleSettings) (unsaid : Type 0) (befor
       }
 
 -- what an outcome tells of a summary that was said, or why it was not
-pub Told-after : (said : Result (Unit {0}) SummaryFault) (result : Outcome) (text : List ℕ) (before now : Option (List ℕ)) →
+pub Told-after : (said : Result (Unit {0}) TurnFault) (result : Outcome) (text : List ℕ) (before now : Option (List ℕ)) →
     IfOk said (λ _. result ≡ outcome.Done) → (said ≡ Err fault.Say → result ≡ outcome.SayFailed) →
     (said ≡ Err fault.Memory → result ≡ outcome.Memory) → OnOk said (Appends before now text) →
     OnErr said (SaysFront before now text) → Told result text before now

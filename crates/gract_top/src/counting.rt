@@ -1,10 +1,7 @@
-ghost use Rattle.std.specs.Prelude.{◌≡◌, ◌+◌, ◌<◌, ◌≤◌, ◌^◌, pos, All, IfOk, length};
-ghost use Rattle.gract_top.specs.Summary.{IsCounted, counted_questions, found_count};
+ghost use Rattle.std.specs.Prelude.{◌≡◌, ◌≤◌, All};
+ghost use Rattle.gract_top.specs.Summary.{IsCounted, counted_questions};
 
-use std::alloc::Global;
-use std::sync::ledger::Ledger;
-use step_count::Steps;
-use track_types::{Answerer, Cell, Lazy, Memory, Question, Region, Stop};
+use track_types::{Cell, Question, Region};
 
 /// The lower left quarter of a sample's grid, whose side is 1,024.
 const LOWER_QUARTER: Region = Region::Rect {
@@ -55,58 +52,4 @@ pub(crate) fn counted_questions(instants: u32) -> [Question; 5]
             cell: Cell { x: 512, y: 512 },
         },
     ]
-}
-
-// How many items a question finds, none of which is kept.
-pub(crate) fn count_found<A: Answerer, L: Ledger>(
-    alloc: Global,
-    answerer: A,
-    question: Question,
-    steps: &mut Steps<L>,
-) -> Result<u64, Memory>
-    requires { IsCounted question }
-    ensures ok { IfOk result (λ count. count ≡ found_count (A.chart answerer) question) }
-    ensures within { IfOk result (λ count. count < 2 ^ 64) }
-    ensures cost { steps.new ≤ steps.old + A.cost answerer question }
-{
-    match question {
-        Question::Position { object, instant } => {
-            Ok(u64::from(answerer.position(object, instant, steps).is_some()))
-        }
-        Question::Path { object, from, to } => {
-            let _ = answerer.facts(); // says that the path is no longer than its window
-            let mut walk = answerer.walk(alloc, object, from, to)?;
-            Ok(count_stops(&mut walk, steps))
-        }
-        Question::Slice { instant, region } => {
-            let found = answerer.slice(alloc, instant, &region, steps)?;
-            Ok(found.len() as u64)
-        }
-        Question::Interval { from, to, region } => {
-            let found = answerer.interval(alloc, from, to, &region, steps)?;
-            Ok(found.len() as u64)
-        }
-        Question::Nearest {
-            count,
-            instant,
-            cell,
-        } => {
-            let found = answerer.nearest(alloc, count, instant, cell, steps)?;
-            Ok(found.len() as u64)
-        }
-        _ => Ok(0), // no other question finds anything
-    }
-}
-
-// How many stops are left of a walk, which are drawn one by one.
-fn count_stops<W: Lazy<Item = Stop>, L: Ledger>(walk: &mut W, steps: &mut Steps<L>) -> u64
-    requires { length (W.left walk.old) ≤ 2 ^ 43 }
-    ensures count { result ≡ length (W.left walk.old) }
-    ensures cost { steps.new ≤ steps.old + W.budget walk.old }
-{
-    let mut count = 0u64;
-    while walk.draw(steps).is_some() {
-        count += 1;
-    }
-    count
 }

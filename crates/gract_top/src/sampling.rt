@@ -7,15 +7,16 @@ ghost use Rattle.gract_top.specs.Refusal.{is_refusal};
 ghost use Rattle.gract_top.specs.Request.{AreSampleSettings};
 ghost use Rattle.gract_top.specs.Sampling.{EndsSample, EndsSummed, EndsSummedOver};
 ghost use Rattle.gract_top.specs.Sampling.{sample_chart, sample_refusal, speech};
-ghost use Rattle.gract_top.specs.declared.summarizing.SummaryFault.TheVariants as fault;
+ghost use Rattle.question_shell.specs.declared.turn_fault.TurnFault.TheVariants as fault;
 
 use crate::chart_writing::index_bytes;
 use crate::outcome::Outcome;
 use crate::request::SampleSettings;
-use crate::summarizing::{SummaryFault, say_summary};
+use crate::summarizing::say_summary;
 use gridding::{GridFault, grid};
 use host_ports::{Files, Sink};
 use index_format::FormatFault;
+use question_shell::TurnFault;
 use sample_rows::sample_rows;
 use std::alloc::Global;
 use std::sync::ledger::Ledger;
@@ -113,7 +114,7 @@ fn sum_bytes<K: Sink, L: Ledger>(
 }
 
 // The outcome once a summary was said, or why it was not.
-fn outcome_of(said: Result<(), SummaryFault>) -> Outcome
+fn outcome_of(said: Result<(), TurnFault>) -> Outcome
     ensures done { IfOk said (λ _. result ≡ Outcome.Done) }
     ensures say { said ≡ Err fault.Say → result ≡ Outcome.SayFailed }
     ensures memory { said ≡ Err fault.Memory → result ≡ Outcome.Memory }
@@ -121,7 +122,7 @@ fn outcome_of(said: Result<(), SummaryFault>) -> Outcome
 {
     match said {
         Ok(()) => Outcome::Done,
-        Err(SummaryFault::Say) => Outcome::SayFailed,
-        Err(SummaryFault::Memory) => Outcome::Memory,
+        Err(TurnFault::Say) => Outcome::SayFailed,
+        Err(TurnFault::Memory) => Outcome::Memory,
     }
 }

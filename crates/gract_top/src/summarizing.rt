@@ -2,33 +2,21 @@ ghost use Rattle.std.specs.Prelude.{◌≡◌, ◌≢◌, ◌+◌, ◌≤◌, Al
 ghost use Rattle.std.specs.Io.KnownBytes.{Appends};
 ghost use Rattle.std.specs.List.{sum_by};
 ghost use Rattle.host_ports.specs.Faults.{Rose};
+ghost use Rattle.question_shell.specs.Desk.{budget_of, empty_desk, held_of};
 ghost use Rattle.question_shell.specs.Reply.{ok_line};
-ghost use Rattle.track_types.specs.declared.question.Question.TheVariants as asked;
+ghost use Rattle.question_shell.specs.declared.turn_fault.TurnFault.TheVariants as fault;
 ghost use Rattle.gract_top.specs.Sampling.{SaysFront};
-ghost use Rattle.gract_top.specs.Summary.{IsCounted, counts_of, reply_to, summary_cost, summary_of};
-ghost use Rattle.gract_top.specs.declared.summarizing.SummaryFault.TheVariants as fault;
+ghost use Rattle.gract_top.specs.Summary.{IsCounted, counts_of, summary_cost, summary_of};
 
-use crate::counting::{count_found, counted_questions};
+use crate::counting::counted_questions;
 use arrayvec::ArrayString;
-use host_ports::{CalmSource, Cut, Sink};
+use host_ports::{Cut, Sink};
 use itoa::Buffer;
-use question_shell::{Desk, ShellFault, run};
+use question_shell::{Desk, TurnFault, count_found, say_reply};
 use std::alloc::Global;
 use std::sync::ledger::Ledger;
 use step_count::Steps;
 use track_types::{Answerer, Question};
-
-/// Why a summary was not said whole.
-#[derive(Clone, Copy, Debug, PartialEq, Eq)]
-pub(crate) enum SummaryFault {
-    /// The sink failed.
-    Say,
-    /// Memory was refused.
-    Memory,
-}
-
-/// The first question of a summary.
-const INFO: &[u8] = b"info";
 
 // Says the summary of a sample of so many instants: all of the reply to `info`, and of the other
 // replies the last lines.
@@ -38,7 +26,7 @@ pub(crate) fn say_summary<A: Answerer, K: Sink, L: Ledger>(
     instants: u32,
     sink: &mut K,
     steps: &mut Steps<L>,
-) -> Result<(), SummaryFault>
+) -> Result<(), TurnFault>
     requires { 1 ≤ instants }
     ensures ok { OnOk result (Appends (K.said sink.old) (K.said sink.new)
         (summary_of (A.chart answerer) (A.facts answerer) instants)) }
@@ -48,41 +36,12 @@ pub(crate) fn say_summary<A: Answerer, K: Sink, L: Ledger>(
     ensures cause { result ≡ Err fault.Say → Rose (K.faults sink.old) (K.faults sink.new) }
     ensures untouched { result ≢ Err fault.Say → K.faults sink.new ≡ K.faults sink.old }
 {
-    say_info(alloc, answerer, sink, steps)?;
-    say_counts(alloc, answerer, &counted_questions(instants), sink, steps)
-}
-
-// Says the reply to `info`.
-fn say_info<A: Answerer, K: Sink, L: Ledger>(
-    alloc: Global,
-    answerer: A,
-    sink: &mut K,
-    steps: &mut Steps<L>,
-) -> Result<(), SummaryFault>
-    ensures ok { OnOk result (Appends (K.said sink.old) (K.said sink.new)
-        (reply_to (A.chart answerer) (A.facts answerer) asked.Info)) }
-    ensures err { OnErr result (SaysFront (K.said sink.old) (K.said sink.new)
-        (reply_to (A.chart answerer) (A.facts answerer) asked.Info)) }
-    ensures cost { steps.new ≤ steps.old }
-    ensures cause { result ≡ Err fault.Say → Rose (K.faults sink.old) (K.faults sink.new) }
-    ensures untouched { result ≢ Err fault.Say → K.faults sink.new ≡ K.faults sink.old }
-    ensures faults { K.faults sink.old ≤ K.faults sink.new }
-{
-    let Ok(line) = Vec::from_slice(alloc, INFO) else {
-        return Err(SummaryFault::Memory);
-    };
     let Ok(mut desk) = Desk::new(alloc) else {
-        return Err(SummaryFault::Memory);
+        return Err(TurnFault::Memory);
     };
-    let mut source = CalmSource::new(line);
-    match run(alloc, answerer, &mut desk, &mut source, sink, steps) {
-        Ok(()) => Ok(()),
-        Err(ShellFault::Say) => Err(SummaryFault::Say),
-        // This source does not fail, and its one line is short and takes no memory.
-        Err(ShellFault::Listen) => unreachable!(),
-        Err(ShellFault::Limit { .. }) => unreachable!(),
-        Err(ShellFault::Memory) => unreachable!(),
-    }
+    say_reply(alloc, answerer, Question::Info, &mut desk, sink, steps)?;
+    let questions = counted_questions(instants);
+    say_counts(alloc, answerer, &questions, &mut desk, sink, steps)
 }
 
 // Says the last line of the reply to each question.
@@ -90,24 +49,27 @@ fn say_counts<A: Answerer, K: Sink, L: Ledger>(
     alloc: Global,
     answerer: A,
     questions: &[Question],
+    desk: &mut Desk<A::Walk>,
     sink: &mut K,
     steps: &mut Steps<L>,
-) -> Result<(), SummaryFault>
-    requires { All IsCounted questions.now }
+) -> Result<(), TurnFault>
+    requires counted { All IsCounted questions.now }
+    requires empty { held_of desk.old ≡ held_of empty_desk }
     ensures ok { OnOk result (Appends (K.said sink.old) (K.said sink.new)
         (counts_of (A.chart answerer) (A.facts answerer) questions.now)) }
     ensures err { OnErr result (SaysFront (K.said sink.old) (K.said sink.new)
         (counts_of (A.chart answerer) (A.facts answerer) questions.now)) }
-    ensures cost { steps.new ≤ steps.old + sum_by (A.cost answerer) questions.now }
+    ensures cost { steps.new + budget_of desk.new
+        ≤ steps.old + budget_of desk.old + sum_by (A.cost answerer) questions.now }
     ensures cause { result ≡ Err fault.Say → Rose (K.faults sink.old) (K.faults sink.new) }
     ensures untouched { result ≢ Err fault.Say → K.faults sink.new ≡ K.faults sink.old }
 {
     for question in questions {
-        let Ok(count) = count_found(alloc, answerer, *question, steps) else {
-            return Err(SummaryFault::Memory);
+        let Ok(count) = count_found(alloc, answerer, *question, desk, steps) else {
+            return Err(TurnFault::Memory);
         };
         let Ok(()) = say_count(count, sink) else {
-            return Err(SummaryFault::Say);
+            return Err(TurnFault::Say);
         };
     }
     Ok(())

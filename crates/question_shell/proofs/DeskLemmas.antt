@@ -4,11 +4,11 @@ use Rattle.std.proofs.Common.{refl, ap, ◌∙◌, arith, inl, inr}
 use Rattle.std.specs.Prelude.{Option, Some, None, is_some, option_map}
 use Rattle.std.specs.Option.{option_map_or}
 use Rattle.std.proofs.lemmas.Bool.{cases_lt}
-use Rattle.std.proofs.lemmas.List.{get_or-map, get_or-set_same, length-map, map-set, set-get_or, set-set}
+use Rattle.std.proofs.lemmas.List.{get_or-map, get_or-set_same, length-map, map-set, set-get_or}
 use Rattle.std.proofs.lemmas.List.Sums.{sum_by-set}
 use Rattle.track_types.specs.declared.stop.Stop.{Stop}
 use Rattle.question_shell.specs.Desk.{DeskView, Draws, budget_in, budget_of, held_of, is_held_in, place_of, stops_in}
-use Rattle.question_shell.specs.Reply.{stops_at}
+use Rattle.question_shell.specs.Items.{stops_at}
 
 -- a desk by its places, of which each shows what is seen of its walk
 module _ {W : Type 0} (seen : W → List Stop × ℕ) (places : List (Option W)) (desk : DeskView) (slot : ℕ)
@@ -85,17 +85,19 @@ module _ (desk : DeskView) (slot : ℕ) (place : Option (List Stop × ℕ)) wher
       ≡ budget_of desk + option_map_or (λ walk. walk.1) place 0
   budget_of-set below = sum_by-set (λ place. option_map_or (λ walk. walk.1) place 0) desk slot place None below
 
+-- a place past the last
+set_beyond : (desk : DeskView) (slot : ℕ) (place : Option (List Stop × ℕ)) → length desk ≤ slot → set desk slot place ≡ desk
+set_beyond [] slot place beyond = refl
+set_beyond (other ∷ desk) zero place beyond = absurd (omega (arith, beyond))
+set_beyond (other ∷ desk) (suc slot) place beyond =
+    ap (λ desk. other ∷ desk) (set_beyond desk slot place (omega (arith, beyond)))
+
 -- a place that is emptied may read nothing more
 pub budget_of-emptied : (desk : DeskView) (slot : ℕ) → budget_of (set desk slot None) ≤ budget_of desk
 budget_of-emptied desk slot = elim (cases_lt slot (length desk)) [
   | inl below ↦ omega (arith, budget_of-set desk slot None below)
-  | inr beyond ↦ omega (arith, ap budget_of (set_beyond desk slot beyond))
+  | inr beyond ↦ omega (arith, ap budget_of (set_beyond desk slot None beyond))
 ]
-  where
-    set_beyond : (desk : DeskView) (slot : ℕ) → length desk ≤ slot → set desk slot None ≡ desk
-    set_beyond [] slot beyond = refl
-    set_beyond (place ∷ desk) zero beyond = absurd (omega (arith, beyond))
-    set_beyond (place ∷ desk) (suc slot) beyond = ap (λ desk. place ∷ desk) (set_beyond desk slot (omega (arith, beyond)))
 
 -- nothing was drawn
 pub draws-nothing : (desk : DeskView) (slot steps : ℕ) → Draws desk desk slot steps steps
@@ -104,20 +106,15 @@ draws-nothing desk slot steps =
 
 module _ (before between : DeskView) (slot start here : ℕ) (draws : Draws before between slot start here) where
   -- what the desk may read falls by what was read
-  pub draws-due : slot < length before → here + budget_of between ≤ start + budget_of before
-  draws-due below = omega (
-    arith,
-    draws.cost,
-    budget_of-set before slot (place_of between slot) below,
-    ap budget_of draws.others,
-  )
-
-  -- more was drawn
-  pub draws-more : (now : DeskView) (end : ℕ) → Draws between now slot here end → Draws before now slot start end
-  draws-more now end more = record {
-    held = more.held ∙ draws.held;
-    others = more.others
-        ∙ (ap (λ desk. set desk slot (place_of now slot)) draws.others
-        ∙ set-set before slot (place_of between slot) (place_of now slot));
-    cost = omega (arith, draws.cost, more.cost);
-  }
+  pub draws-due : here + budget_of between ≤ start + budget_of before
+  draws-due = elim (cases_lt slot (length before)) [
+    | inl below ↦ omega (
+      arith,
+      draws.cost,
+      budget_of-set before slot (place_of between slot) below,
+      ap budget_of draws.others,
+    )
+    | inr beyond ↦
+        let same : between ≡ before = draws.others ∙ set_beyond before slot (place_of between slot) beyond in
+        omega (arith, draws.cost, ap budget_of same, ap (λ desk. budget_in desk slot) same)
+  ]

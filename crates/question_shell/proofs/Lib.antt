@@ -2,11 +2,10 @@ pub mod LineLemmas
 pub mod KeptLemmas
 pub mod GrammarLemmas
 pub mod SaysLemmas
-pub mod ListingLemmas
 pub mod TurnLemmas
 pub mod CountLemmas
 pub mod DeskLemmas
-pub mod CursorLemmas
+pub mod DrawingLemmas
 pub mod SlotLemmas
 pub mod SessionLemmas
 pub mod RunLemmas

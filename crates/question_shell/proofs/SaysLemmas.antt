@@ -1,10 +1,8 @@
 -- Saying one text after another, while some is held back.
 use Rattle.std.proofs.Common.{◌≡◌, ℕ, List, [], ◌++◌, refl, sym, ap, ◌∙◌, append_assoc, append-nil, Option, Some, None}
-use Rattle.std.proofs.Common.{length, take, drop, subst, Result, Ok, Err, OnErr}
+use Rattle.std.proofs.Common.{take, drop, subst, Result, Ok, Err, OnErr}
 use Rattle.std.proofs.lemmas.List.{take-append-drop}
 use Rattle.std.specs.Io.KnownBytes.{Appends}
-use Rattle.std.specs.List.{flat_map}
-use Rattle.question_shell.specs.Reply.{listed, ok_line}
 use Rattle.question_shell.specs.Says.{Cuts, PutTold, Says, Voice, voice}
 
 -- a text said after another
@@ -100,18 +98,3 @@ told-after before between now first line text (Ok value) whole says told =
     subst (λ (all : List ℕ). Says before now all) whole (says-append before between now first line says told)
 told-after before between now first line text (Err fault) whole says told =
     subst (λ (all : List ℕ). Cuts before now.said all) whole (cuts-append before between now.said first line says told)
-
--- the lines of a reply and their count
-pub listed-is : {A : Type 0} (line : A → List ℕ) (items : List A) →
-    listed line items ≡ flat_map line items ++ ok_line (length items)
-unfolding listed
-listed-is line items = refl
-
--- the lines of a reply, and then a line with their count
-pub told-listed : {A T E : Type 0} (line : A → List ℕ) (items : List A) (before between now : Voice) (last : List ℕ)
-    (result : Result T E) →
-    last ≡ ok_line (length items) → Says before between (flat_map line items) → PutTold between now last result →
-    PutTold before now (listed line items) result
-told-listed line items before between now last result is =
-    told-after before between now (flat_map line items) last (listed line items) result
-    (ap (λ text. flat_map line items ++ text) is ∙ sym (listed-is line items))

@@ -4,15 +4,15 @@ use Rattle.std.proofs.Common.{Option, Some, None, Result, Ok, Err, inl, inr, ari
 use mathlib.Core.Bool.{false≢true}
 use Rattle.std.proofs.lemmas.Bool.{cases_Bool, cases_lt, eqb-false, eqb-true}
 use Rattle.std.proofs.lemmas.List.{get_or-set_other, get_or-set_same, get_or_past, length-set}
-use Rattle.track_types.specs.ByFilter.{path_of}
 use Rattle.track_types.specs.Chart.{ChartView}
 use Rattle.track_types.specs.declared.facts.Facts.{Facts}
 use Rattle.track_types.specs.declared.question.Question.{Question}
 use Rattle.track_types.specs.declared.question.Question.TheVariants as question
 use Rattle.track_types.specs.declared.stop.Stop.{Stop}
 use Rattle.question_shell.specs.Grammar.{question_of}
+use Rattle.question_shell.specs.Items.{stops_at}
 use Rattle.question_shell.specs.Replies.{turn_of}
-use Rattle.question_shell.specs.Reply.{Turn, asked_turn, free_turn, hold_turn, more_turn, stops_at}
+use Rattle.question_shell.specs.Reply.{Turn, asked_turn}
 use Rattle.question_shell.specs.Session.{AreIndependent, Meaning}
 use Rattle.question_shell.specs.Slots.{asks_slot, lines_of_slot, replies_to_each, replies_to_slot}
 use Rattle.question_shell.specs.declared.bad.Bad.{Bad}
@@ -51,37 +51,6 @@ module _ (slot : ℕ) where
     ];
   }
 
-  -- what each of the three lines brings to a place
-  hold-other : (desk : List (Option (List Stop))) (held : ℕ) (stops : List Stop) (place : Option (List Stop)) →
-      (held == slot) ≡ false → AreAlike slot (hold_turn desk held stops place).desk desk
-  hold-other desk held stops None differs = alike-other desk held (Some stops) differs
-  hold-other desk held stops (Some walk) differs = record { as_many = refl; same = refl }
-
-  more-other : (desk : List (Option (List Stop))) (held count : ℕ) (place : Option (List Stop)) →
-      (held == slot) ≡ false → AreAlike slot (more_turn desk held count place).desk desk
-  more-other desk held count None differs = record { as_many = refl; same = refl }
-  more-other desk held count (Some walk) differs = alike-other desk held _ differs
-
-  free-other : (desk : List (Option (List Stop))) (held : ℕ) (place : Option (List Stop)) → (held == slot) ≡ false →
-      AreAlike slot (free_turn desk held place).desk desk
-  free-other desk held None differs = record { as_many = refl; same = refl }
-  free-other desk held (Some walk) differs = alike-other desk held None differs
-
-  hold-alike : (desk other : List (Option (List Stop))) (stops : List Stop) (place : Option (List Stop)) →
-      AreAlike slot desk other → TurnAlike slot (hold_turn desk slot stops place) (hold_turn other slot stops place)
-  hold-alike desk other stops None alike = record { text = refl; desk = alike-set desk other (Some stops) alike }
-  hold-alike desk other stops (Some walk) alike = record { text = refl; desk = alike }
-
-  more-alike : (desk other : List (Option (List Stop))) (count : ℕ) (place : Option (List Stop)) →
-      AreAlike slot desk other → TurnAlike slot (more_turn desk slot count place) (more_turn other slot count place)
-  more-alike desk other count None alike = record { text = refl; desk = alike }
-  more-alike desk other count (Some walk) alike = record { text = refl; desk = alike-set desk other _ alike }
-
-  free-alike : (desk other : List (Option (List Stop))) (place : Option (List Stop)) → AreAlike slot desk other →
-      TurnAlike slot (free_turn desk slot place) (free_turn other slot place)
-  free-alike desk other None alike = record { text = refl; desk = alike }
-  free-alike desk other (Some walk) alike = record { text = refl; desk = alike-set desk other None alike }
-
 module _ (chart : ChartView) (facts : Facts) (slot : ℕ) where
   -- a line that asks nothing of the slot leaves its place as it is
   turn-other : (desk : List (Option (List Stop))) (asked : Result (Option Question) Bad) →
@@ -93,11 +62,9 @@ module _ (chart : ChartView) (facts : Facts) (slot : ℕ) where
   turn-other desk (Ok (Some (question.Interval from to region))) differs = record { as_many = refl; same = refl }
   turn-other desk (Ok (Some (question.Nearest count instant cell))) differs = record { as_many = refl; same = refl }
   turn-other desk (Ok (Some question.Info)) differs = record { as_many = refl; same = refl }
-  turn-other desk (Ok (Some (question.Hold held object from to))) differs =
-      hold-other slot desk held (path_of chart.rows object from to) (stops_at desk held) differs
-  turn-other desk (Ok (Some (question.More held count))) differs =
-      more-other slot desk held count (stops_at desk held) differs
-  turn-other desk (Ok (Some (question.Free held))) differs = free-other slot desk held (stops_at desk held) differs
+  turn-other desk (Ok (Some (question.Hold held object from to))) differs = alike-other slot desk held _ differs
+  turn-other desk (Ok (Some (question.More held count))) differs = alike-other slot desk held _ differs
+  turn-other desk (Ok (Some (question.Free held))) differs = alike-other slot desk held _ differs
   turn-other desk (Err bad) differs = record { as_many = refl; same = refl }
 
   -- a line that asks something of the slot brings the same to desks that hold the same there
@@ -112,12 +79,11 @@ module _ (chart : ChartView) (facts : Facts) (slot : ℕ) where
   turn-alike desk other (Ok (Some (question.Nearest count instant cell))) asks alike = absurd (false≢true asks)
   turn-alike desk other (Ok (Some question.Info)) asks alike = absurd (false≢true asks)
   turn-alike desk other (Ok (Some (question.Hold held object from to))) asks alike =
-      rw (eqb-true held slot asks, alike.same)
-      (hold-alike slot desk other (path_of chart.rows object from to) (stops_at other slot) alike)
+      rw (eqb-true held slot asks, alike.same) (record { text = refl; desk = alike-set slot desk other _ alike })
   turn-alike desk other (Ok (Some (question.More held count))) asks alike =
-      rw (eqb-true held slot asks, alike.same) (more-alike slot desk other count (stops_at other slot) alike)
+      rw (eqb-true held slot asks, alike.same) (record { text = refl; desk = alike-set slot desk other _ alike })
   turn-alike desk other (Ok (Some (question.Free held))) asks alike =
-      rw (eqb-true held slot asks, alike.same) (free-alike slot desk other (stops_at other slot) alike)
+      rw (eqb-true held slot asks, alike.same) (record { text = refl; desk = alike-set slot desk other _ alike })
   turn-alike desk other (Err bad) asks alike = absurd (false≢true asks)
 
   -- over two desks that hold the same in the slot's place

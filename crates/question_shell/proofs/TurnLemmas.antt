@@ -5,13 +5,14 @@ use Rattle.track_types.specs.Chart.{ChartView}
 use Rattle.track_types.specs.declared.facts.Facts.{Facts}
 use Rattle.track_types.specs.declared.question.Question.{Question}
 use Rattle.track_types.specs.declared.stop.Stop.{Stop}
+use Rattle.question_shell.specs.Desk.{DeskView}
 use Rattle.question_shell.specs.Grammar.{question_of}
 use Rattle.question_shell.specs.Replies.{costs_of, desk_after, replies_of, turn_of}
-use Rattle.question_shell.specs.Reply.{asked_cost, only_text}
-use Rattle.question_shell.specs.Says.{Cuts, Says}
+use Rattle.question_shell.specs.Reply.{asked_cost}
+use Rattle.question_shell.specs.Says.{Cuts, Says, Voice, voice}
 use Rattle.question_shell.specs.Session.{Meaning, costs_by, desk_by, replies_by, takes_memory}
-use Rattle.question_shell.specs.Turns.{AnswerTold, LineTold, Moment, Refused, ReplyTold, Takes, TakesFront, Turns}
-use Rattle.question_shell.specs.Turns.{TurnsBefore, TurnsFront, turn_by}
+use Rattle.question_shell.specs.Turns.{AnswerTold, LineTold, Moment, Refused, Takes, TakesFront, Turns}
+use Rattle.question_shell.specs.Turns.{TurnsBefore, TurnsFront, moment, turn_by}
 use Rattle.question_shell.specs.declared.bad.Bad.{Bad}
 use Rattle.question_shell.specs.declared.turn_fault.TurnFault.{TurnFault}
 use Rattle.question_shell.specs.declared.turn_fault.TurnFault.TheVariants as fault
@@ -234,17 +235,6 @@ module _ (meaning : Meaning) (before : Moment) where
     );
   }
 
-  -- what is told of a reply is told of the answer to a question that it answers and that may take memory
-  pub told-reply : (now : Moment) (asked : Result (Option Question) Bad) (text : List ℕ)
-      (result : Result Unit TurnFault) → turn_by meaning before asked ≡ only_text before.desk text →
-      takes_memory before.desk asked ≡ true → now.desk ≡ before.desk → now.due ≤ before.due + asked_cost meaning.cost before.desk asked →
-      ReplyTold before.voice now.voice text result → AnswerTold meaning before now asked result
-  told-reply now asked text (Ok done) turn takes desk reads told =
-      record { said = rw turn told; desk = rw turn desk; reads = reads }
-  told-reply now asked text (Err fault.Say) turn takes desk reads told = record { said = rw turn told; reads = reads }
-  told-reply now asked text (Err fault.Memory) turn takes desk reads told =
-      record { takes = takes; voice = told; desk = desk; reads = reads }
-
   -- what is told of a reply of one line is told of the answer to a question that it answers
   pub told-line : (now : Moment) (asked : Result (Option Question) Bad) (text : List ℕ)
       (result : Result Unit TurnFault) → turn_by meaning before asked ≡ record { text = text; desk = now.desk } →
@@ -253,3 +243,39 @@ module _ (meaning : Meaning) (before : Moment) where
   told-line now asked text (Ok done) turn reads told = record { said = rw turn told; desk = rw turn refl; reads = reads }
   told-line now asked text (Err fault.Say) turn reads told = record { said = rw turn told; reads = reads }
   told-line now asked text (Err fault.Memory) turn reads told = absurd told
+
+-- an answer to a question alone, of which what is held back is said too
+module _ (meaning : Meaning) (said0 said : Option (List ℕ)) (text : List ℕ) (desk0 desk : DeskView) (steps0 steps : ℕ)
+    (asked : Result (Option Question) Bad)
+  where
+    abbrev first : Moment
+    first = moment said0 [] desk0 steps0
+
+    pub alone-err : (refused : TurnFault) → AnswerTold meaning first (moment said text desk steps) asked (Err refused) →
+        AnswerTold meaning first (moment said [] desk steps) asked (Err refused)
+    alone-err fault.Say told = record { said = told.said; reads = told.reads }
+    alone-err fault.Memory told = record {
+      takes = told.takes;
+      voice = ap (λ (here : Voice). voice here.said []) told.voice;
+      desk = told.desk;
+      reads = told.reads;
+    }
+
+    pub alone-said : (now : Option (List ℕ)) → Takes meaning first (moment said text desk steps) asked →
+        Says (voice said text) (voice now []) [] → Takes meaning first (moment now [] desk steps) asked
+    alone-said now takes says = record {
+      said = subst (λ (all : List ℕ). Says (voice said0 []) (voice now []) all)
+          (append-nil (turn_by meaning first asked).text)
+          (says-append (voice said0 []) (voice said text) (voice now []) _ [] takes.said says);
+      desk = takes.desk;
+      reads = takes.reads;
+    }
+
+    pub alone-cut : (now : Option (List ℕ)) → Takes meaning first (moment said text desk steps) asked →
+        Cuts (voice said text) now [] → TakesFront meaning first (moment now [] desk steps) asked
+    alone-cut now takes cuts = record {
+      said = subst (λ (all : List ℕ). Cuts (voice said0 []) now all)
+          (append-nil (turn_by meaning first asked).text)
+          (cuts-append (voice said0 []) (voice said text) now _ [] takes.said cuts);
+      reads = takes.reads;
+    }

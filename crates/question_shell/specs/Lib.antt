@@ -1,10 +1,12 @@
 pub mod Lines
 pub mod Grammar
 pub mod Desk
+pub mod Items
 pub mod Reply
 pub mod Replies
 pub mod Slots
 pub mod Session
+pub mod Drawing
 pub mod Says
 pub mod LineKept
 pub mod Turns

@@ -1,81 +1,30 @@
 -- What is said for each line.
-use Rattle.std.specs.Prelude.{ℕ, ℤ, pos, List, [], ◌∷◌, ◌++◌, drop, length, take, codes, Option, Some, None, Result, Ok, Err}
-use Rattle.std.specs.Prelude.{option_to_list, slice_index_or, slice_set}
+use Rattle.std.specs.Prelude.{ℕ, List, [], ◌++◌, drop, length, codes, Option, Some, None, Result, Ok, Err}
+use Rattle.std.specs.Prelude.{if◌then◌else◌, is_some, option_map, slice_set, unwrap_or}
 use Rattle.std.specs.List.{flat_map}
-use Rattle.std.specs.Fmt.{decimal, signed_decimal}
-use Rattle.track_types.specs.ByFilter.{cell_at, hits_of, nears_of, path_of, sightings_of}
+use Rattle.std.specs.Fmt.{decimal}
+use Rattle.track_types.specs.ByFilter.{path_of}
 use Rattle.track_types.specs.Chart.{ChartView}
-use Rattle.track_types.specs.declared.cell.Cell.{Cell}
 use Rattle.track_types.specs.declared.facts.Facts.{Facts}
-use Rattle.track_types.specs.declared.hit.Hit.{Hit}
-use Rattle.track_types.specs.declared.near.Near.{Near}
 use Rattle.track_types.specs.declared.question.Question.{Question}
 use Rattle.track_types.specs.declared.question.Question.TheVariants as question
-use Rattle.track_types.specs.declared.sighting.Sighting.{Sighting}
 use Rattle.track_types.specs.declared.stop.Stop.{Stop}
+use Rattle.question_shell.specs.Items.{items_of, line_of, said_line, stops_at}
 use Rattle.question_shell.specs.declared.bad.Bad.{Bad}
 use Rattle.question_shell.specs.declared.bad.Bad.TheVariants as bad
-
--- a text with its line feed
-abbrev pub said_line : List ℕ → List ℕ
-said_line text = text ++ 10 ∷ []
-
--- X Y
-abbrev pub cell_line : Cell → List ℕ
-cell_line cell = said_line (signed_decimal cell.x ++ codes " " ++ signed_decimal cell.y)
-
--- T X Y
-abbrev pub stop_line : Stop → List ℕ
-stop_line stop = signed_decimal stop.instant ++ codes " " ++ cell_line stop.cell
-
--- O X Y
-abbrev pub sighting_line : Sighting → List ℕ
-sighting_line sighting = decimal sighting.object ++ codes " " ++ cell_line sighting.cell
-
--- O T X Y
-abbrev pub hit_line : Hit → List ℕ
-hit_line hit =
-    decimal hit.object ++ codes " " ++ signed_decimal hit.instant ++ codes " " ++ cell_line hit.cell
-
--- O X Y D2
-abbrev pub near_line : Near → List ℕ
-near_line near = said_line (
-    decimal near.object
-    ++ codes " "
-    ++ signed_decimal near.cell.x
-    ++ codes " "
-    ++ signed_decimal near.cell.y
-    ++ codes " "
-    ++ decimal near.dist2
-    )
-
--- what `info` tells of each fact: its name and its number
-abbrev pub named_facts : Facts → List (List ℕ × ℤ)
-named_facts facts =
-    (codes "objects", pos facts.objects)
-    ∷ (codes "first", facts.first)
-    ∷ (codes "last", facts.last)
-    ∷ (codes "period", pos facts.period)
-    ∷ (codes "cell", pos facts.cell)
-    ∷ (codes "tick", pos facts.tick)
-    ∷ (codes "height", pos facts.height)
-    ∷ (codes "alphabet", pos facts.alphabet)
-    ∷ (codes "rules", pos facts.rules)
-    ∷ (codes "log", pos facts.entries)
-    ∷ (codes "depth", pos facts.depth)
-    ∷ []
-
--- NAME N
-abbrev pub fact_line : List ℕ × ℤ → List ℕ
-fact_line fact = said_line (fact.0 ++ codes " " ++ signed_decimal fact.1)
+use Rattle.question_shell.specs.declared.item.Item.{Item}
 
 -- ok N, where N is how many lines come before in the reply
 abbrev pub ok_line : ℕ → List ℕ
 ok_line count = said_line (codes "ok " ++ decimal count)
 
--- a line for each item, and how many there were
-unfoldable pub listed : {A : Type 0} → (A → List ℕ) → List A → List ℕ
-listed line items = flat_map line items ++ ok_line (length items)
+-- the last line of a reply: how many lines come before it, or why nothing was done
+abbrev pub last_line : Option (List ℕ) → ℕ → List ℕ
+last_line refusal count = unwrap_or refusal (ok_line count)
+
+-- a line for each item, and the last line
+unfoldable pub listed : List Item → Option (List ℕ) → List ℕ
+listed items refusal = flat_map line_of items ++ last_line refusal (length items)
 
 -- the cause that a bad line has
 abbrev pub cause_of : Bad → List ℕ
@@ -106,45 +55,28 @@ held_line = said_line (codes "bad held")
 abbrev pub free_line : List ℕ
 free_line = said_line (codes "bad free")
 
--- what is brought by holding stops in a slot, where its place holds this
-abbrev pub hold_turn : List (Option (List Stop)) → ℕ → List Stop → Option (List Stop) → Turn
-hold_turn desk slot stops None = record { text = ok_line 0; desk = slice_set desk slot (Some stops) }
-hold_turn desk slot stops (Some held) = only_text desk held_line
+-- why a question does nothing, by what its slot holds: it would hold a held one, or draw from an empty one or empty it
+abbrev pub refusal_of : List (Option (List Stop)) → Question → Option (List ℕ)
+refusal_of desk (question.Hold slot object from to) = if is_some (stops_at desk slot) then Some held_line else None
+refusal_of desk (question.More slot count) = if is_some (stops_at desk slot) then None else Some free_line
+refusal_of desk (question.Free slot) = if is_some (stops_at desk slot) then None else Some free_line
+refusal_of desk other = None
 
--- what is brought by drawing so many stops from a slot, where its place holds this
-abbrev pub more_turn : List (Option (List Stop)) → ℕ → ℕ → Option (List Stop) → Turn
-more_turn desk slot count None = only_text desk free_line
-more_turn desk slot count (Some held) = record {
-  text = listed stop_line (take count held);
-  desk = slice_set desk slot (Some (drop count held));
-}
-
--- what is brought by emptying a slot, where its place holds this
-abbrev pub free_turn : List (Option (List Stop)) → ℕ → Option (List Stop) → Turn
-free_turn desk slot None = only_text desk free_line
-free_turn desk slot (Some held) = record { text = ok_line 0; desk = slice_set desk slot None }
-
--- what the place of a slot holds; nothing where it is empty
-abbrev pub stops_at : List (Option (List Stop)) → ℕ → Option (List Stop)
-stops_at desk slot = slice_index_or desk slot None
+-- the desk after a question: an empty slot holds the path that it should hold, what is drawn from a slot is taken off,
+-- and a slot that should be free is empty
+abbrev pub desk_of : ChartView → List (Option (List Stop)) → Question → List (Option (List Stop))
+desk_of chart desk (question.Hold slot object from to) =
+    slice_set desk slot (Some (unwrap_or (stops_at desk slot) (path_of chart.rows object from to)))
+desk_of chart desk (question.More slot count) = slice_set desk slot (option_map (drop count) (stops_at desk slot))
+desk_of chart desk (question.Free slot) = slice_set desk slot None
+desk_of chart desk other = desk
 
 -- what a question brings
 abbrev pub question_turn : ChartView → Facts → List (Option (List Stop)) → Question → Turn
-question_turn chart facts desk (question.Position object instant) =
-    only_text desk (listed cell_line (option_to_list (cell_at chart.rows object instant)))
-question_turn chart facts desk (question.Path object from to) =
-    only_text desk (listed stop_line (path_of chart.rows object from to))
-question_turn chart facts desk (question.Slice instant region) =
-    only_text desk (listed sighting_line (sightings_of chart.rows instant region))
-question_turn chart facts desk (question.Interval from to region) =
-    only_text desk (listed hit_line (hits_of chart.rows from to region))
-question_turn chart facts desk (question.Nearest count instant cell) =
-    only_text desk (listed near_line (nears_of chart.rows count instant cell))
-question_turn chart facts desk question.Info = only_text desk (listed fact_line (named_facts facts))
-question_turn chart facts desk (question.Hold slot object from to) =
-    hold_turn desk slot (path_of chart.rows object from to) (stops_at desk slot)
-question_turn chart facts desk (question.More slot count) = more_turn desk slot count (stops_at desk slot)
-question_turn chart facts desk (question.Free slot) = free_turn desk slot (stops_at desk slot)
+question_turn chart facts desk asked = record {
+  text = listed (items_of chart facts desk asked) (refusal_of desk asked);
+  desk = desk_of chart desk asked;
+}
 
 -- what is brought by what a line asks: nothing for a blank line
 abbrev pub asked_turn : ChartView → Facts → List (Option (List Stop)) → Result (Option Question) Bad → Turn

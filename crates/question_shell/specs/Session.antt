@@ -14,7 +14,7 @@ use Rattle.question_shell.specs.Desk.{DeskView, budget_of, held_of}
 use Rattle.question_shell.specs.Grammar.{question_of}
 use Rattle.question_shell.specs.Lines.{lines_of, whole_lines}
 use Rattle.question_shell.specs.Replies.{costs_of, desk_after, replies_of}
-use Rattle.question_shell.specs.Reply.{stops_at}
+use Rattle.question_shell.specs.Items.{stops_at}
 use Rattle.question_shell.specs.Slots.{lines_of_slot, replies_to_each, replies_to_slot}
 use Rattle.question_shell.specs.declared.bad.Bad.{Bad}
 use Rattle.question_shell.specs.declared.shell_fault.ShellFault.{ShellFault}

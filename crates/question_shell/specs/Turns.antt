@@ -75,12 +75,6 @@ AnswerTold meaning before now asked (Ok done) = Takes meaning before now asked
 AnswerTold meaning before now asked (Err fault.Say) = TakesFront meaning before now asked
 AnswerTold meaning before now asked (Err fault.Memory) = Refused meaning before now asked
 
--- What is told of a reply that takes memory: it was said, or a front of it, or memory was refused and nothing was said.
-abbrev pub ReplyTold : Voice → Voice → List ℕ → Result Unit TurnFault → Type 0
-ReplyTold before now text (Ok done) = Says before now text
-ReplyTold before now text (Err fault.Say) = Cuts before now.said text
-ReplyTold before now text (Err fault.Memory) = now ≡ before
-
 -- What is told of a reply of one line: it was said, or a front of it.
 abbrev pub LineTold : Voice → Voice → List ℕ → Result Unit TurnFault → Type 0
 LineTold before now line (Ok done) = Says before now line

@@ -6,13 +6,17 @@
 //! host_ports, step_count, arrayvec and itoa.
 #![tactic(auto)]
 
+mod answer;
 mod answering;
+mod asking;
 mod bad;
-mod cursors;
+mod counting;
 mod desk;
 mod form;
+mod found;
 mod grammar;
 mod held_text;
+mod item;
 mod line_buffer;
 mod listening;
 mod named_fact;
@@ -25,8 +29,11 @@ mod tests;
 mod turn_fault;
 mod words;
 
+pub use answering::say_reply;
 pub use bad::Bad;
+pub use counting::count_found;
 pub use desk::Desk;
 pub use grammar::read_question;
 pub use shell::run;
 pub use shell_fault::ShellFault;
+pub use turn_fault::TurnFault;

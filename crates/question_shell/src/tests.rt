@@ -5,8 +5,9 @@ ghost use Rattle.track_types.specs.Region.{is_between};
 ghost use Rattle.question_shell.specs.Session.{NamesNoDevice};
 
 use super::{Desk, ShellFault, run};
+use crate::answer::Answer;
 use crate::held_text::HeldText;
-use crate::saying::say_path;
+use crate::saying::say_answer;
 use host_ports::{CalmSource, Cut, MemSink, MemSource, NullSink, Sink, Source};
 use std::alloc::{AllocError, Global};
 use std::marker::Brand;
@@ -403,7 +404,11 @@ fn say_alike<L: Ledger>(rt: &HostRuntime, sink: &mut MemSink, blank: Blank) -> R
 {
     let mut steps = Steps::<L>::new(rt, blank);
     let mut text = HeldText::new();
-    say_path(&mut Alike { left: 600 }, &mut text, sink, &mut steps)?;
+    let Ok(mut desk) = Desk::new(rt.alloc()) else {
+        return Err(Cut { sent: 0 });
+    };
+    let mut answer = Answer::Path(Alike { left: 600 });
+    say_answer(&mut answer, &mut desk, &mut text, sink, &mut steps)?;
     text.say(sink)
 }
 

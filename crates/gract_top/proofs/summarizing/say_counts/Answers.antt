@@ -1,15 +1,48 @@
-use Rattle.std.proofs.Common.{◌∙◌, pos, get_or, refl, drop, arith}
+use Rattle.std.proofs.Common.{◌≡◌, ◌∙◌, ◌+◌, ◌≤◌, List, Option, ap, length, pos, get_or, refl, drop, arith, sym}
 use Rattle.std.proofs.lemmas.List.{drop_all, drop_more}
+use Rattle.std.proofs.lemmas.List.Sums.{sum_by-cons}
+use Rattle.std.specs.List.{sum_by}
 use Rattle.track_types.specs.declared.question.Question.TheVariants as question
+use Rattle.track_types.specs.declared.stop.Stop.{Stop}
+use Rattle.question_shell.specs.Desk.{budget_of, held_of}
+use Rattle.question_shell.specs.Items.{items_of}
+use Rattle.question_shell.specs.Reply.{ok_line}
 use Rattle.gract_top.specs.Sampling.{speech}
-use Rattle.gract_top.proofs.SummaryLemmas.{IsCounting-begun, IsCounting-cut, IsCounting-done, IsCounting-next, last_line-counted}
+use Rattle.gract_top.specs.Summary.{IsCounted, count_line}
+use Rattle.gract_top.proofs.SummaryLemmas.{IsCounting-begun, IsCounting-cut, IsCounting-done, IsCounting-next, IsCounting-read, counted-cost, counted-desk}
+use Rattle.gract_top.proofs.summarizing.say_counts.Given.{Over}
 use Rattle.gract_top.proofs.summarizing.say_counts.Goals as goal
+use Rattle.gract_top.proofs.summarizing.say_counts.Goals.{After-count_found}
+
+-- what one question more reads
+read : (g : Over) (c : After-count_found g) →
+    c.count_found.new.steps + budget_of c.count_found.new.desk
+    ≤ c.args.steps.now + budget_of c.args.desk.now + sum_by (g.A.Answerer.cost c.args.answerer) c.args.questions.now
+read g c =
+    let cost = g.A.Answerer.cost c.args.answerer in
+    let all = c.args.questions.now in
+    let index = c.loop-question.question-index in
+    let first = question.Position 0 (pos 0) in
+    let asked = get_or all index first in
+    let counted : IsCounted asked = c.requires.counted index first c.loop-question-test.true in
+    IsCounting-read (g.A.Answerer.chart c.args.answerer) (g.A.Answerer.facts c.args.answerer) cost all (drop index all)
+    (drop (index + 1) all) asked (speech (g.K.Sink.said c.args.sink.now) (c.args.steps.now + budget_of c.args.desk.now))
+    (speech (g.K.Sink.said c.loop-question.sink) (c.loop-question.steps + budget_of c.loop-question.desk)) _
+    c.loop-question.invariant.counting (drop_more all index first c.loop-question-test.true)
+    (omega (arith, c.count_found.ensures.cost, counted-cost cost (held_of c.loop-question.desk) asked counted))
+
+pub returns-in_default-clause-cost : goal.returns-in_default-clause-cost
+returns-in_default-clause-cost g c = read g (goal.at.returns-in_default-clause-cost g c).After-count_found
+
+pub returns-in_default-say_count-clause-cost : goal.returns-in_default-say_count-clause-cost
+returns-in_default-say_count-clause-cost g c = read g (goal.at.returns-in_default-say_count-clause-cost g c).After-count_found
 
 pub loop-question-init : goal.loop-question-init
 loop-question-init g c = record {
   counting = IsCounting-begun (g.A.Answerer.chart c.args.answerer) (g.A.Answerer.facts c.args.answerer)
       (g.A.Answerer.cost c.args.answerer) c.args.questions.now
-      (speech (g.K.Sink.said c.args.sink.now) c.args.steps.now);
+      (speech (g.K.Sink.said c.args.sink.now) (c.args.steps.now + budget_of c.args.desk.now));
+  empty = c.requires.empty;
   faults = refl;
 }
 
@@ -17,17 +50,21 @@ pub loop-question-preserved : goal.loop-question-preserved
 loop-question-preserved g c =
     let chart = g.A.Answerer.chart c.args.answerer in
     let facts = g.A.Answerer.facts c.args.answerer in
+    let cost = g.A.Answerer.cost c.args.answerer in
     let all = c.args.questions.now in
     let index = c.loop-question.question-index in
     let first = question.Position 0 (pos 0) in
     let asked = get_or all index first in
+    let counted : IsCounted asked = c.requires.counted index first c.loop-question-test.true in
+    let held = held_of c.loop-question.desk in
+    let line : count_line chart facts asked ≡ ok_line c.in-Ok.count =
+    ap ok_line (sym (c.in-Ok.ensures.ok ∙ ap (λ desk. length (items_of chart facts desk asked)) c.loop-question.invariant.empty)) in
     record {
-      counting = IsCounting-next chart facts (g.A.Answerer.cost c.args.answerer) c.in-Ok.count
-          c.loop-question.invariant.counting (drop_more all index first c.loop-question-test.true)
-          (last_line-counted chart facts asked c.in-Ok.count (c.requires index first c.loop-question-test.true)
-          c.in-Ok.ensures.within c.in-Ok.ensures.ok)
-          (speech (g.K.Sink.said c.say_count.new.sink) c.count_found.new.steps) c.in-Ok.ensures.cost
-          c.in-Ok-say_count.ensures.ok;
+      counting = IsCounting-next chart facts cost c.in-Ok.count c.loop-question.invariant.counting
+          (drop_more all index first c.loop-question-test.true) line
+          (speech (g.K.Sink.said c.say_count.new.sink) (c.count_found.new.steps + budget_of c.count_found.new.desk))
+          (omega (arith, c.in-Ok.ensures.cost, counted-cost cost held asked counted)) c.in-Ok-say_count.ensures.ok;
+      empty = c.in-Ok.ensures.desk ∙ (counted-desk chart held asked counted ∙ c.loop-question.invariant.empty);
       faults = c.in-Ok-say_count.ensures.untouched ∙ c.loop-question.invariant.faults;
     }
 
@@ -39,10 +76,10 @@ returns-in_default-say_count-clause-err g c =
     let index = c.loop-question.question-index in
     let first = question.Position 0 (pos 0) in
     let asked = get_or all index first in
+    let line : count_line chart facts asked ≡ ok_line c.in-Ok.count =
+    ap ok_line (sym (c.in-Ok.ensures.ok ∙ ap (λ desk. length (items_of chart facts desk asked)) c.loop-question.invariant.empty)) in
     IsCounting-cut chart facts (g.A.Answerer.cost c.args.answerer) c.in-Ok.count
-    c.loop-question.invariant.counting (drop_more all index first c.loop-question-test.true)
-    (last_line-counted chart facts asked c.in-Ok.count (c.requires index first c.loop-question-test.true)
-    c.in-Ok.ensures.within c.in-Ok.ensures.ok)
+    c.loop-question.invariant.counting (drop_more all index first c.loop-question-test.true) line
     (g.K.Sink.said c.say_count.new.sink) c.in_default-say_count.ensures.err
 
 pub returns-clause-ok : goal.returns-clause-ok
@@ -51,6 +88,7 @@ returns-clause-ok g c =
     let index = c.loop-question.question-index in
     IsCounting-done (g.A.Answerer.chart c.args.answerer) (g.A.Answerer.facts c.args.answerer)
     (g.A.Answerer.cost c.args.answerer) all (drop index all)
-    (speech (g.K.Sink.said c.args.sink.now) c.args.steps.now)
-    (speech (g.K.Sink.said c.loop-question.sink) c.loop-question.steps) c.loop-question.invariant.counting
+    (speech (g.K.Sink.said c.args.sink.now) (c.args.steps.now + budget_of c.args.desk.now))
+    (speech (g.K.Sink.said c.loop-question.sink) (c.loop-question.steps + budget_of c.loop-question.desk))
+    c.loop-question.invariant.counting
     (drop_all index all (omega (arith, c.loop-question-test.false)))

@@ -1,0 +1,19 @@
+use Rattle.std.proofs.Common.{◌∷◌, [], ◌++◌, refl, arith, length-append}
+use Rattle.question_shell.proofs.DrawingLemmas.{gives-more, gives-nothing}
+use Rattle.question_shell.proofs.counting.count_left.Goals as goal
+
+pub items-init : goal.items-init
+items-init g c = record {
+  done = [];
+  gives = gives-nothing c.args.answer.now c.args.desk.now c.args.steps.now c.requires.slot;
+  count = refl;
+}
+
+pub items-preserved : goal.items-preserved
+items-preserved g c =
+    let read = c.items.invariant in
+    record {
+      done = read.done ++ c.in-Some.field-0 ∷ [];
+      gives = gives-more read.gives c.in-Some.ensures.gives;
+      count = omega (arith, read.count, length-append read.done (c.in-Some.field-0 ∷ []));
+    }

@@ -1,0 +1,97 @@
+ghost use Rattle.std.specs.Prelude.{◌≡◌, ◌<◌, ◌++◌, [], IfNone, drop, option_to_list, take};
+ghost use Rattle.question_shell.specs.Desk.{Draws, stops_in};
+ghost use Rattle.question_shell.specs.Drawing.{Gives, IsDrawn, IsOfDesk, refusal_left};
+ghost use Rattle.question_shell.specs.Reply.{last_line};
+
+use crate::desk::Desk;
+use crate::found::Found;
+use crate::item::Item;
+use crate::named_fact::NamedFacts;
+use crate::reply::{ReplyLine, free_line, held_line, ok_line};
+use std::sync::ledger::Ledger;
+use step_count::Steps;
+use track_types::{Cell, Hit, Lazy, Near, Sighting, Stop};
+
+/// An answer to a question, of which one item after another is drawn.
+#[derive(Drop)]
+pub enum Answer<W> {
+    /// The cell of an object, where it is present.
+    Position(Option<Cell>),
+    /// The stops of an object.
+    Path(W),
+    /// The rows of an instant in a region.
+    Slice(Found<Sighting>),
+    /// The first row of each object in a window and a region.
+    Interval(Found<Hit>),
+    /// The rows of an instant that are nearest to a cell.
+    Nearest(Found<Near>),
+    /// The facts.
+    Info(NamedFacts),
+    /// At most so many stops of the walk that a slot holds.
+    More { slot: u8, count: u32 },
+    /// Nothing: a slot was held or emptied.
+    Done,
+    /// Nothing: the slot is held that should be empty.
+    Held,
+    /// Nothing: the slot is empty that should be held.
+    Free,
+}
+
+impl<W: Lazy<Item = Stop> + Drop> Answer<W> {
+    // Takes the first item off. What is read is taken from the budget of the walk that it is of.
+    pub(crate) fn draw<L: Ledger>(
+        &mut self,
+        desk: &mut Desk<W>,
+        steps: &mut Steps<L>,
+    ) -> Option<Item>
+        requires { IsOfDesk self.old }
+        ensures gives { Gives W.left W.budget self.old self.new desk.old desk.new steps.old steps.new
+            (option_to_list result) }
+        ensures none { IfNone result (IsDrawn W.left W.budget self.new desk.new) }
+    {
+        match self {
+            Answer::Position(cell) => Some(Item::Cell(cell.take()?)),
+            Answer::Path(walk) => Some(Item::Stop(walk.draw(steps)?)),
+            Answer::Slice(found) => Some(Item::Sighting(found.draw()?)),
+            Answer::Interval(found) => Some(Item::Hit(found.draw()?)),
+            Answer::Nearest(found) => Some(Item::Near(found.draw()?)),
+            Answer::Info(facts) => Some(Item::Fact(facts.draw()?)),
+            Answer::More { slot, count } => Some(Item::Stop(draw_more(desk, *slot, count, steps)?)),
+            Answer::Done | Answer::Held | Answer::Free => None,
+        }
+    }
+
+    // The last line of its reply, which has so many lines before it.
+    pub(crate) fn last_line(&self, count: u64) -> ReplyLine
+        ensures { result.bytes ≡ last_line (refusal_left self.now) count }
+    {
+        match self {
+            Answer::Held => held_line(),
+            Answer::Free => free_line(),
+            _ => ok_line(count),
+        }
+    }
+}
+
+// Takes the first stop off the walk in a slot, of which at most so many are drawn.
+fn draw_more<W: Lazy<Item = Stop> + Drop, L: Ledger>(
+    desk: &mut Desk<W>,
+    slot: u8,
+    count: &mut u32,
+    steps: &mut Steps<L>,
+) -> Option<Stop>
+    requires { slot < 16 }
+    ensures found { take count.old (stops_in desk.old slot)
+        ≡ option_to_list result ++ take count.new (stops_in desk.new slot) }
+    ensures left { drop count.new (stops_in desk.new slot)
+        ≡ drop count.old (stops_in desk.old slot) }
+    ensures none { IfNone result (take count.new (stops_in desk.new slot) ≡ []) }
+    ensures draws { Draws desk.old desk.new slot steps.old steps.new }
+{
+    if *count == 0 {
+        return None;
+    }
+    let stop = desk.draw(slot, steps)?;
+    *count -= 1;
+    Some(stop)
+}

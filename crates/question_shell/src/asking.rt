@@ -1,0 +1,103 @@
+ghost use Rattle.std.specs.Prelude.{◌≡◌, ℕ, ◌+◌, ◌<◌, ◌≤◌, IfOk, OnErr, Ok, Some, true};
+ghost use Rattle.track_types.specs.declared.question.Question.TheVariants as question;
+ghost use Rattle.question_shell.specs.Desk.{held_of};
+ghost use Rattle.question_shell.specs.Drawing.{IsAnswer};
+ghost use Rattle.question_shell.specs.Grammar.{AreAsked};
+ghost use Rattle.question_shell.specs.Reply.{asked_cost};
+ghost use Rattle.question_shell.specs.Session.{Meaning, meaning_of, takes_memory};
+
+use crate::answer::Answer;
+use crate::desk::Desk;
+use crate::found::Found;
+use crate::named_fact::NamedFacts;
+use std::alloc::Global;
+use std::sync::ledger::Ledger;
+use step_count::Steps;
+use track_types::{Answerer, Lazy, Memory, Question, Stop};
+
+// Asks a question. Walks and lists take memory, and are made before anything changes.
+pub(crate) fn ask<A: Answerer, L: Ledger>(
+    alloc: Global,
+    answerer: A,
+    question: Question,
+    desk: &mut Desk<A::Walk>,
+    steps: &mut Steps<L>,
+) -> Result<Answer<A::Walk>, Memory>
+    requires { AreAsked question }
+    ensures ok { IfOk result (λ answer. IsAnswer A.Walk.left A.Walk.budget
+        (meaning_of (A.chart answerer) (A.facts answerer) (A.cost answerer))
+        question desk.old steps.old answer desk.new steps.new) }
+    ensures takes { OnErr result (takes_memory (held_of desk.old) (Ok (Some question)) ≡ true) }
+    ensures desk { OnErr result (desk.new ≡ desk.old) }
+    ensures reads { OnErr result (steps.new
+        ≤ steps.old + asked_cost (A.cost answerer) (held_of desk.old) (Ok (Some question))) }
+{
+    // The rows of what has facts ascend, so that a count of stops fits.
+    let facts = answerer.facts();
+    match question {
+        Question::Position { object, instant } => {
+            Ok(Answer::Position(answerer.position(object, instant, steps)))
+        }
+        Question::Path { object, from, to } => {
+            let stops = answerer.walk(alloc, object, from, to)?;
+            Ok(Answer::Path(stops))
+        }
+        Question::Slice { instant, region } => {
+            let found = answerer.slice(alloc, instant, &region, steps)?;
+            Ok(Answer::Slice(Found::new(found)))
+        }
+        Question::Interval { from, to, region } => {
+            let found = answerer.interval(alloc, from, to, &region, steps)?;
+            Ok(Answer::Interval(Found::new(found)))
+        }
+        Question::Nearest {
+            count,
+            instant,
+            cell,
+        } => {
+            let found = answerer.nearest(alloc, count, instant, cell, steps)?;
+            Ok(Answer::Nearest(Found::new(found)))
+        }
+        Question::Info => Ok(Answer::Info(NamedFacts::new(facts))),
+        Question::Hold {
+            slot,
+            object,
+            from,
+            to,
+        } => {
+            if desk.is_held(slot) {
+                return Ok(Answer::Held);
+            }
+            let walk = answerer.walk(alloc, object, from, to)?;
+            desk.hold(slot, walk);
+            Ok(Answer::Done)
+        }
+        Question::More { slot, count } => Ok(more(desk, slot, count)),
+        Question::Free { slot } => Ok(free(desk, slot)),
+    }
+}
+
+// The next stops of a slot.
+fn more<W: Lazy<Item = Stop> + Drop>(desk: &Desk<W>, slot: u8, count: u32) -> Answer<W>
+    requires { slot < 16 }
+    ensures { (meaning : Meaning) → (steps : ℕ) → IsAnswer W.left W.budget meaning
+        (question.More slot count) desk.now steps result desk.now steps }
+{
+    if desk.is_held(slot) {
+        Answer::More { slot, count }
+    } else {
+        Answer::Free
+    }
+}
+
+// Empties a slot.
+fn free<W: Lazy<Item = Stop> + Drop>(desk: &mut Desk<W>, slot: u8) -> Answer<W>
+    requires { slot < 16 }
+    ensures { (meaning : Meaning) → (steps : ℕ) → IsAnswer W.left W.budget meaning
+        (question.Free slot) desk.old steps result desk.new steps }
+{
+    let Some(_) = desk.release(slot) else {
+        return Answer::Free;
+    };
+    Answer::Done
+}

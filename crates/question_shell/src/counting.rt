@@ -1,0 +1,57 @@
+ghost use Rattle.std.specs.Prelude.{◌≡◌, ◌+◌, ◌<◌, ◌^◌, ◌≤◌, IfOk, OnOk, OnErr, Ok, Some, length};
+ghost use Rattle.question_shell.specs.Desk.{budget_of, held_of};
+ghost use Rattle.question_shell.specs.Drawing.{IsOfDesk, desk_left, items_left, reads_left};
+ghost use Rattle.question_shell.specs.Grammar.{AreAsked};
+ghost use Rattle.question_shell.specs.Items.{items_of};
+ghost use Rattle.question_shell.specs.Reply.{asked_cost, desk_of};
+
+use crate::answer::Answer;
+use crate::asking::ask;
+use crate::desk::Desk;
+use std::alloc::Global;
+use std::sync::ledger::Ledger;
+use step_count::Steps;
+use track_types::{Answerer, Lazy, Memory, Question, Stop};
+
+/// How many items a question finds, which are drawn as for its reply and not said.
+///
+/// Where memory is refused, the desk is as it was.
+pub fn count_found<A: Answerer, L: Ledger>(
+    alloc: Global,
+    answerer: A,
+    question: Question,
+    desk: &mut Desk<A::Walk>,
+    steps: &mut Steps<L>,
+) -> Result<u64, Memory>
+    requires { AreAsked question }
+    ensures ok { IfOk result (λ count. count
+        ≡ length (items_of (A.chart answerer) (A.facts answerer) (held_of desk.old) question)) }
+    ensures desk { OnOk result (
+        held_of desk.new ≡ desk_of (A.chart answerer) (held_of desk.old) question) }
+    ensures untouched { OnErr result (desk.new ≡ desk.old) }
+    ensures cost { steps.new + budget_of desk.new ≤ steps.old + budget_of desk.old
+        + asked_cost (A.cost answerer) (held_of desk.old) (Ok (Some question)) }
+{
+    let mut answer = ask(alloc, answerer, question, desk, steps)?;
+    Ok(count_left(&mut answer, desk, steps))
+}
+
+// How many items are left of an answer.
+fn count_left<W: Lazy<Item = Stop> + Drop, L: Ledger>(
+    answer: &mut Answer<W>,
+    desk: &mut Desk<W>,
+    steps: &mut Steps<L>,
+) -> u64
+    requires slot { IsOfDesk answer.old }
+    requires few { length (items_left W.left W.budget answer.old desk.old) < 2 ^ 64 }
+    ensures count { result ≡ length (items_left W.left W.budget answer.old desk.old) }
+    ensures desk { held_of desk.new ≡ desk_left W.left W.budget answer.old desk.old }
+    ensures reads { steps.new + budget_of desk.new
+        ≤ steps.old + reads_left W.left W.budget answer.old desk.old }
+{
+    let mut count = 0u64;
+    'items: while let Some(_) = answer.draw(desk, steps) {
+        count += 1;
+    }
+    count
+}

@@ -1,0 +1,103 @@
+ghost use Rattle.std.specs.Prelude.{◌≡◌, ◌≤◌, length};
+ghost use Rattle.question_shell.specs.Items.{cell_line, fact_line, line_of, stop_line};
+ghost use Rattle.question_shell.specs.declared.item.Item.TheVariants as item;
+
+use crate::named_fact::NamedFact;
+use crate::reply::ReplyLine;
+use arrayvec::ArrayString;
+use itoa::Buffer;
+use track_types::{Cell, Hit, Near, Sighting, Stop};
+
+/// What a question finds, of which its reply has a line for each.
+#[derive(Drop)]
+pub enum Item {
+    Cell(Cell),
+    Stop(Stop),
+    Sighting(Sighting),
+    Hit(Hit),
+    Near(Near),
+    Fact(NamedFact),
+}
+
+impl Item {
+    // Its line of the reply.
+    pub(crate) fn line(&self) -> ReplyLine
+        ensures { result.bytes ≡ line_of self.now }
+    {
+        match self {
+            Item::Cell(cell) => cell_line(*cell),
+            Item::Stop(stop) => stop_line(*stop),
+            Item::Sighting(sighting) => sighting_line(*sighting),
+            Item::Hit(hit) => hit_line(*hit),
+            Item::Near(near) => near_line(*near),
+            Item::Fact(fact) => fact.line(),
+        }
+    }
+}
+
+// X Y
+fn cell_line(cell: Cell) -> ReplyLine
+    ensures value { result.bytes ≡ cell_line cell }
+    ensures short { length result.bytes ≤ 42 }
+{
+    let mut line = ArrayString::new();
+    let mut digits = Buffer::new();
+    line.push_str(digits.format(cell.x));
+    line.push_str(" ");
+    line.push_str(digits.format(cell.y));
+    line.push_str("\n");
+    line
+}
+
+// T X Y
+fn stop_line(stop: Stop) -> ReplyLine
+    ensures { result.bytes ≡ stop_line stop }
+{
+    let mut line = ArrayString::new();
+    line.push_str(Buffer::new().format(stop.instant));
+    line.push_str(" ");
+    line.push_str(cell_line(stop.cell).as_str());
+    line
+}
+
+// O X Y
+fn sighting_line(sighting: Sighting) -> ReplyLine
+    ensures { result.bytes ≡ line_of (item.Sighting sighting) }
+{
+    let mut line = ArrayString::new();
+    line.push_str(Buffer::new().format(sighting.object));
+    line.push_str(" ");
+    line.push_str(cell_line(sighting.cell).as_str());
+    line
+}
+
+// O T X Y
+fn hit_line(hit: Hit) -> ReplyLine
+    ensures { result.bytes ≡ line_of (item.Hit hit) }
+{
+    let mut line = ArrayString::new();
+    let mut digits = Buffer::new();
+    line.push_str(digits.format(hit.object));
+    line.push_str(" ");
+    line.push_str(digits.format(hit.instant));
+    line.push_str(" ");
+    line.push_str(cell_line(hit.cell).as_str());
+    line
+}
+
+// O X Y D2
+fn near_line(near: Near) -> ReplyLine
+    ensures { result.bytes ≡ line_of (item.Near near) }
+{
+    let mut line = ArrayString::new();
+    let mut digits = Buffer::new();
+    line.push_str(digits.format(near.object));
+    line.push_str(" ");
+    line.push_str(digits.format(near.cell.x));
+    line.push_str(" ");
+    line.push_str(digits.format(near.cell.y));
+    line.push_str(" ");
+    line.push_str(digits.format(near.dist2));
+    line.push_str("\n");
+    line
+}
