@@ -22,5 +22,6 @@ wider-touches area inner outer inside holds =
     and_from _ _ (overlaps-wider area.x1 area.x2 inner.x1 inner.x2 outer.x1 outer.x2 inside.left inside.right axes.0)
     (overlaps-wider area.y1 area.y2 inner.y1 inner.y2 outer.y1 outer.y2 inside.below inside.above axes.1)
 
+-- what touches a box touches each box round it, so both tests are monotone
 pub touching-monotone : (square area : CellBox) → AreMonotone (touches square) (touches area)
 touching-monotone square area = record { squares = wider-touches square; boxes = wider-touches area }

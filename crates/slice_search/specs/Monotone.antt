@@ -65,6 +65,7 @@ wider-may_reach region grid width inner outer inside holds =
     (overlaps-wider grid.y1 grid.y2 a.y1 a.y2 b.y1 b.y2 wide.below wide.above axes.1))
     (wider-intersects region (cut_box grid a) (cut_box grid b) (cut-inside grid a b wide) tests.1)
 
+-- so both tests of a reach are monotone
 pub monotone-reach : (region : Region) (grid : CellBox) (width : ℕ)
     → AreMonotone (may_reach region grid width) (intersects_region region)
 monotone-reach region grid width = record {
