@@ -1,12 +1,13 @@
 -- Anchors of rows in order: a row is its block's anchor where the row before it is of another block.
-use Rattle.std.proofs.Common.{◌≡◌, ℕ, ℤ, ◌+◌, ◌≤◌, ◌<◌, Bool, true, false, List, eq-eqb, length, refl, sym, ap, arith, inl, inr}
-use Rattle.std.specs.Prelude.{◌==◌, ◌&&◌, not, ◌<ℤ◌, ◌≤ℤ◌}
+use Rattle.std.proofs.Common.{◌≡◌, ℕ, ℤ, ◌+◌, ◌-◌, ◌*◌, ◌/◌, ◌≤◌, ◌<◌, Bool, true, false, List, eq-eqb, length, refl, sym, ap, arith, inl, inr}
+use Rattle.std.specs.Prelude.{◌==◌, ◌&&◌, not, ◌<ℤ◌, ◌≤ℤ◌, nat_lt}
 use Rattle.std.specs.Int.Signed.{lt_z}
 use Rattle.std.specs.List.{list_any}
 use Rattle.std.proofs.lemmas.Bool.Decides.{nat_tests}
 use Rattle.std.proofs.lemmas.Bool.{and_parts, cases_Bool, cases_lt}
 use Rattle.std.proofs.lemmas.Int.{ints}
 use Rattle.std.proofs.lemmas.List.Folds.{list_any_at}
+use Rattle.std.proofs.Math.Nat.{div-lt_iff_lt-mul}
 use Rattle.list_laws.proofs.NumberLemmas.{div-le}
 use Rattle.list_laws.proofs.PlaceLemmas.{list_any-none_at}
 use Rattle.track_types.specs.Quantities.{elapsed, is_anchor, is_same_block, period_of}
@@ -14,6 +15,16 @@ use Rattle.track_types.specs.Row.{IsAscending}
 use Rattle.track_types.specs.declared.row.Row.{Row}
 use Rattle.movement_log.specs.Blocks.{no_row, row_at}
 use Rattle.movement_log.proofs.RowLemmas.{instant_rises, object_rises}
+
+-- a number that is no smaller has the same quotient if and only if it is below the next multiple
+pub same_quotient : (k a b : ℕ) → 0 < k → a ≤ b → b < (a / k + 1) * k → a / k ≡ b / k
+same_quotient k a b some le below =
+    let up = div-le k a b some le in
+    let low : b / k < a / k + 1 = (div-lt_iff_lt-mul some).1 below in
+    omega arith
+
+pub below_next : (k a b : ℕ) → 0 < k → a / k ≡ b / k → b < (a / k + 1) * k
+below_next k a b some same = let low : b / k < a / k + 1 = omega arith in (div-lt_iff_lt-mul some).0 low
 
 module _ (first : ℤ) (period : ℕ) where
   pub same_parts : (a b : Row) → is_same_block first period a b ≡ true →
@@ -26,6 +37,24 @@ module _ (first : ℤ) (period : ℕ) where
       is_same_block first period a b ≡ true
   same_from_parts a b objects periods =
       rw (eq-eqb a.object b.object objects, eq-eqb (period_of first period a) (period_of first period b) periods) refl
+
+  -- a row no earlier than another of its object is of that one's block if and only if it comes before its period's end
+  pub same_until : (a b : Row) (end : ℕ) → 0 < period → a.object ≡ b.object → elapsed first a ≤ elapsed first b →
+      end ≡ (period_of first period a + 1) * period → nat_lt (elapsed first b) end ≡ is_same_block first period a b
+  same_until a b end some objects later is = elim (cases_lt (elapsed first b) end) [
+    | inl below ↦
+        let same = same_from_parts a b objects (same_quotient period (elapsed first a) (elapsed first b) some later (rw is at below)) in
+        let test : nat_lt (elapsed first b) end ≡ true = grind (arith, nat_tests) in rw same test
+    | inr past ↦
+        let test : nat_lt (elapsed first b) end ≡ false = grind (arith, nat_tests) in
+        let other : is_same_block first period a b ≡ false = elim (cases_Bool (is_same_block first period a b)) [
+          | inl same ↦
+              let next = below_next period (elapsed first a) (elapsed first b) some (same_parts a b same).1 in
+              absurd (omega (arith, past, next, is))
+          | inr differ ↦ differ
+        ] in
+        rw other test
+  ]
 
   -- later instants have no smaller periods
   pub period_mono : (a b : Row) → 0 < period → first ≤ℤ a.instant → a.instant ≤ℤ b.instant →
@@ -114,3 +143,15 @@ module _ (first : ℤ) (period : ℕ) where
                     absurd (cc)
               ]
             ]
+
+    -- a row that is no anchor is in the period of the row before it
+    pub period_kept : 0 < period → ((k : ℕ) → k < length rows → first ≤ℤ (row_at rows k).instant) → (at : ℕ) → 0 < at →
+        at < length rows → is_anchor first period rows (row_at rows at) ≡ false →
+        period_of first period (row_at rows (at - 1)) ≡ period_of first period (row_at rows at)
+    period_kept some begins at later within is =
+        let back : at - 1 + 1 ≡ at = omega arith in
+        let next = rw back at (is_anchor-next (at - 1) (omega arith) some begins) in
+        elim (cases_Bool (is_same_block first period (row_at rows (at - 1)) (row_at rows at))) [
+          | inl same ↦ (same_parts (row_at rows (at - 1)) (row_at rows at) same).1
+          | inr differ ↦ let anchor = rw differ at next in absurd (cc)
+        ]

@@ -1,8 +1,8 @@
 -- Blocks on the way: a header beside the place of its anchor among the rows.
-use Rattle.std.specs.Prelude.{◌≡◌, ℕ, ◌<◌, pos, ◌-ℤ◌, unsigned_abs, Bool, ◌&&◌, ◌==◌, nat_le, All, List, length, map, slice_index_or}
+use Rattle.std.specs.Prelude.{◌≡◌, ℕ, ◌+◌, ◌*◌, ◌<◌, pos, ◌-ℤ◌, unsigned_abs, Bool, ◌&&◌, ◌==◌, nat_le, All, List, length, map, slice_index_or}
 use Rattle.std.specs.List.{position_or_len}
 use Rattle.track_types.specs.Chart.{ChartView}
-use Rattle.track_types.specs.Quantities.{anchors_of, first_of, log_length, objects_of, span_of}
+use Rattle.track_types.specs.Quantities.{anchors_of, first_of, log_length, objects_of, period_of, span_of}
 use Rattle.track_types.specs.declared.row.Row.{Row}
 use Rattle.movement_log.specs.Logs.{head_of}
 use Rattle.movement_log.specs.declared.blocks.Block.{Block}
@@ -34,6 +34,10 @@ anchors_by_object chart = anchors_of (first_of chart.rows) chart.period chart.ro
 -- how many terminals the log of an anchor's block has
 abbrev pub log_length_of : ChartView → Row → ℕ
 log_length_of chart anchor = log_length (first_of chart.rows) (span_of chart.rows) chart.period anchor
+
+-- how many instants come before the end of a row's period, from the first on
+abbrev pub period_end_of : ChartView → Row → ℕ
+period_end_of chart row = (period_of (first_of chart.rows) chart.period row + 1) * chart.period
 
 -- whether a later row is of an anchor's object, and among so many instants after the anchor's
 abbrev pub is_in_log : ℕ → Row → Row → Bool

@@ -1,9 +1,9 @@
-ghost use Rattle.std.specs.Prelude.{◌≡◌, ◌-◌, ◌<◌, ◌≤◌, IfOk, OnOk, length, sum_by};
-ghost use Rattle.movement_log.specs.Blocks.{AreBlocks, anchors_by_object, log_length_of, object_place, place_of_object, row_at};
+ghost use Rattle.std.specs.Prelude.{◌≡◌, ◌+◌, ◌-◌, ◌*◌, ◌<◌, ◌≤◌, IfOk, OnOk, length, sum_by};
+ghost use Rattle.movement_log.specs.Blocks.{AreBlocks, anchors_by_object, log_length_of, object_place, period_end_of, place_of_object, row_at};
 ghost use Rattle.movement_log.specs.Logs.{block_anchors, head_of};
 ghost use Rattle.track_types.specs.Chart.{IsChart};
 ghost use Rattle.track_types.specs.Limits.{limit_of};
-ghost use Rattle.track_types.specs.Quantities.{elapsed, first_of, is_anchor, is_same_block, object_count, period_of, span_of};
+ghost use Rattle.track_types.specs.Quantities.{elapsed, first_of, is_anchor, is_same_block, object_count, span_of};
 ghost use Rattle.track_types.specs.Row.{IsAscending};
 
 use crate::head::Head;
@@ -36,10 +36,13 @@ fn blocks_by_object(alloc: Global, chart: &Chart) -> Result<Vec<Block>, AllocErr
     let rows = chart.rows();
     let mut blocks = Vec::new(alloc);
     let mut index = 0;
+    let mut period_end = 0;
     for at in 0..rows.len() {
         index = object_index(rows, at, index);
-        if is_anchor(chart, at) {
+        if is_anchor(chart, at, period_end) {
             let head = head_of(chart, &rows[at], index);
+            // The block's later rows are compared with this, and take no division.
+            period_end = end_of_period(chart, head.period);
             blocks.push(Block { head, at })?;
         }
     }
@@ -62,12 +65,14 @@ fn object_index(rows: &[Row], at: usize, before: u32) -> u32
 }
 
 // Whether a row is its block's anchor: the row before it, if there is one, is of another block.
-fn is_anchor(chart: &Chart, at: usize) -> bool
-    requires { at < length chart.now.rows }
+// That row's period ends after `period_end` instants from the chart's first on.
+fn is_anchor(chart: &Chart, at: usize, period_end: u64) -> bool
+    requires within { at < length chart.now.rows }
+    requires end { 0 < at → period_end ≡ period_end_of chart.now (row_at chart.now.rows (at - 1)) }
     ensures { result ≡ is_anchor (first_of chart.now.rows) chart.now.period chart.now.rows (row_at chart.now.rows at) }
 {
     let rows = chart.rows();
-    at == 0 || !is_same_block(chart, &rows[at - 1], &rows[at])
+    at == 0 || !is_same_block(chart, &rows[at - 1], &rows[at], period_end)
 }
 
 // The header of an anchor's block.
@@ -85,17 +90,29 @@ fn head_of(chart: &Chart, anchor: &Row, index: u32) -> Head
     }
 }
 
-fn is_same_block(chart: &Chart, a: &Row, b: &Row) -> bool
-    ensures { result ≡ is_same_block (first_of chart.now.rows) chart.now.period a.now b.now }
+// Whether a row is of the block of an earlier one. Periods follow each other, so that it is of the
+// same period if and only if it comes before that period's end.
+fn is_same_block(chart: &Chart, before: &Row, row: &Row, period_end: u64) -> bool
+    requires period { 0 < chart.now.period }
+    requires end { period_end ≡ period_end_of chart.now before.now }
+    requires later { before.now.object ≡ row.now.object → elapsed (first_of chart.now.rows) before.now ≤ elapsed (first_of chart.now.rows) row.now }
+    ensures { result ≡ is_same_block (first_of chart.now.rows) chart.now.period before.now row.now }
 {
-    a.object == b.object && period_of(chart, a) == period_of(chart, b)
+    before.object == row.object && elapsed(chart, row) < period_end
 }
 
-// The period of a row, from 0.
-fn period_of(chart: &Chart, row: &Row) -> u64
-    ensures { result ≡ period_of (first_of chart.now.rows) chart.now.period row.now }
+// How many instants come before a row's, from the chart's first on.
+fn elapsed(chart: &Chart, row: &Row) -> u64
+    ensures { result ≡ elapsed (first_of chart.now.rows) row.now }
 {
-    row.instant.abs_diff(chart.first()) / u64::from(chart.period())
+    row.instant.abs_diff(chart.first())
+}
+
+// How many instants come before the end of a period, from the chart's first on.
+fn end_of_period(chart: &Chart, period: u32) -> u64
+    ensures { result ≡ (period + 1) * chart.now.period }
+{
+    (u64::from(period) + 1) * u64::from(chart.period())
 }
 
 /// How many terminals a block's log has: one for each later instant of its period, of which the

@@ -1,11 +1,31 @@
-use Rattle.std.proofs.Common.{◌≡◌, ◌+◌, ◌-◌, arith, sym, subst, ◌∙◌, ap}
-use Rattle.track_types.proofs.QuantityLemmas.{elapsed-span}
-use Rattle.movement_log.specs.Blocks.{no_row, object_place, place_of_object, row_at}
+use Rattle.std.proofs.Common.{◌≡◌, ℕ, ◌+◌, ◌-◌, ◌*◌, ◌<◌, false, length, arith, inl, inr, sym, subst, ◌∙◌, ap}
+use Rattle.std.proofs.lemmas.Bool.{cases_lt}
+use Rattle.track_types.specs.Chart.{ChartView, IsChart}
+use Rattle.track_types.specs.Quantities.{first_of, is_anchor}
+use Rattle.track_types.proofs.QuantityLemmas.{elapsed-span, first_of-below}
+use Rattle.movement_log.specs.Blocks.{no_row, object_place, period_end_of, place_of_object, row_at}
 use Rattle.movement_log.specs.Logs.{head_of}
+use Rattle.movement_log.proofs.AnchorLemmas.{is_anchor-first, period_kept}
 use Rattle.movement_log.proofs.BlockLemmas.{AreFirst, first_all, first_kept, first_more, first_none}
 use Rattle.movement_log.proofs.ObjectLemmas.{object_place-first}
 use Rattle.movement_log.proofs.blocks.blocks_by_object.Goals as goal
 use Rattle.movement_log.proofs.blocks.blocks_by_object.Goals.{then-is_anchor+in_ok-push, else-is_anchor}
+
+-- the period of a row that is no anchor ends where that of the row before does
+kept : {chart : ChartView} → IsChart chart → (at : ℕ) → at < length chart.rows → (end : ℕ) →
+    (0 < at → end ≡ period_end_of chart (row_at chart.rows (at - 1))) →
+    is_anchor (first_of chart.rows) chart.period chart.rows (row_at chart.rows at) ≡ false →
+    end ≡ period_end_of chart (row_at chart.rows at)
+kept {chart = chart} holds at within end before is = elim (cases_lt 0 at) [
+  | inl later ↦
+      let same = period_kept (first_of chart.rows) chart.period chart.rows holds.ascending holds.period.some
+      (λ k below. first_of-below chart.rows k no_row below) at later within is in
+      before later ∙ ap (λ number. (number + 1) * chart.period) same
+  | inr not ↦
+      let none : at ≡ 0 = omega arith in
+      let anchor = is_anchor-first (first_of chart.rows) chart.period chart.rows holds.ascending holds.some in
+      let here = rw none at is in absurd (cc)
+]
 
 pub loop-at-init : goal.loop-at-init
 loop-at-init c =
@@ -13,6 +33,7 @@ loop-at-init c =
     record {
       blocks = subst (AreFirst chart 0) (sym c.new-blocks.ensures.items) (first_none chart);
       index = sym (object_place-first chart.rows c.rows-rows.ensures.chart.ascending);
+      end = λ some. absurd (omega arith);
     }
 
 pub head_of-head-requires : goal.head_of-head-requires
@@ -35,6 +56,15 @@ loop-at-preserved c =
     c.object_index-index.ensures ∙ ap (λ all. object_place all at) c.rows-rows.ensures.value in
     record {
       index = index ∙ ap (object_place rows) (sym back);
+      end = λ some. rw back (elim c.if-is_anchor.branch [
+        | then-is_anchor+in_ok-push w ↦
+            let head : w.head_of-head.result ≡ head_of chart (row_at rows at) =
+            w.head_of-head.ensures ∙ ap (λ all. head_of chart (row_at all at)) c.rows-rows.ensures.value in
+            w.period_end-is ∙ w.end_of_period-period_end.ensures ∙ ap (λ head. (head.period + 1) * chart.period) head
+        | else-is_anchor w ↦
+            let is = sym c.is_anchor.ensures ∙ w.if-is_anchor.false in
+            w.period_end-is ∙ kept c.rows-rows.ensures.chart at within c.loop-at.period_end c.loop-at.invariant.end is
+      ]);
       blocks = elim c.if-is_anchor.branch [
         | then-is_anchor+in_ok-push w ↦
             let is = sym c.is_anchor.ensures ∙ w.if-is_anchor.true in
