@@ -298,7 +298,10 @@ fn hit<L: Ledger>(
     let index = open(rt.alloc(), bytes, &mut steps)?;
     let region = rect(bounds);
     let from = i64::from(from);
-    match index.view().interval(rt.alloc(), from, 4194303, &region, &mut steps) {
+    match index
+        .view()
+        .interval(rt.alloc(), from, 4194303, &region, &mut steps)
+    {
         Ok(found) => Ok(found),
         Err(Memory) => Err(FormatFault::Memory),
     }
