@@ -76,6 +76,18 @@ def files_below(file):
     return found
 
 
+def about(name):
+    """A text of the program about itself: what `gract --help` or `gract --version` prints."""
+    text = (folder("gract_cli") / "src" / "about.rt").read_text()
+    found = re.search(rf'^const {name}: &str = "((?:[^"\\]|\\.)*)";$', text, re.MULTILINE | re.DOTALL)
+    return found.group(1).replace("\\\n", "").replace("\\n", "\n").replace('\\"', '"')
+
+
+def version():
+    """The version, as the program tells it."""
+    return about("VERSION").split()[1]
+
+
 def edits(crate):
     """The names of a crate's wrong bodies."""
     return sorted(file.name for file in (folder(crate) / "must-fail").glob("*.edit"))
