@@ -31,8 +31,8 @@ abbrev reads : List (ℕ × ℕ)
 reads =
     -- a slice within reach
     (slice_cost path (pos 1) (Rect (pos 9) (pos 9) (pos 12) (pos 12)), 201) ∷
-    -- an interval: as much as the paths of all objects
-    (interval_cost path (pos 0) (pos 9) (Rect (pos 0) (pos 0) (pos 12) (pos 12)), 136) ∷
+    -- an interval of one period, which costs what a slice of its last instant does
+    (interval_cost path (pos 0) (pos 9) (Rect (pos 0) (pos 0) (pos 12) (pos 12)), 201) ∷
     -- the nearest: as much as the positions of all objects
     (nearest_cost path 5 (pos 1) (record { x = pos 0; y = pos 0 }), 136) ∷
     -- a slice round an absence
@@ -45,8 +45,8 @@ reads =
     (slice_cost repeated (pos 3) (Rect (pos 1) (pos 1) (pos 1) (pos 1)), 253) ∷
     -- a slice that opens a rule
     (slice_cost repeated (pos 1) (Disc (pos 0) (pos 0) 2), 254) ∷
-    -- an interval of one rule
-    (interval_cost repeated (pos 0) (pos 5) (Rect (pos 5) (pos 5) (pos 6) (pos 6)), 179) ∷
+    -- an interval that opens no rule
+    (interval_cost repeated (pos 0) (pos 5) (Rect (pos 5) (pos 5) (pos 6) (pos 6)), 253) ∷
     -- the nearest of one
     (nearest_cost repeated 2 (pos 3) (record { x = pos 100; y = pos 0 }), 178) ∷
     []
