@@ -9,7 +9,7 @@ use std::marker::Brand;
 use std::sync::ledger::{Blank, Ledger};
 use std::test::Fail;
 use step_count::Steps;
-use track_types::{Answerer, Cell, Chart, Flaw, Hit, Kind, Lazy, Memory, Section, Sighting, Stop};
+use track_types::{Answerer, Cell, Chart, Flaw, Kind, Lazy, Memory, Section, Sighting, Stop};
 
 mod charts;
 mod files;
@@ -279,48 +279,6 @@ fn seen<L: Ledger>(
     }
 }
 
-// The first hits in a rect from an instant to the last, asked of the index that bytes are opened as.
-fn hit<L: Ledger>(
-    rt: &HostRuntime,
-    bytes: &[u8],
-    bounds: Bounds,
-    from: i32,
-    blank: Blank,
-) -> Result<Vec<Hit>, FormatFault>
-    requires name { blank.name ≡ L.name }
-    requires parts { blank.parts ≡ L.parts }
-    requires some { 0 < L.parts }
-{
-    if bytes.len() > 1 << 30 {
-        return Err(FormatFault::Memory);
-    }
-    let mut steps = Steps::<L>::new(rt, blank);
-    let index = open(rt.alloc(), bytes, &mut steps)?;
-    let region = rect(bounds);
-    let from = i64::from(from);
-    match index
-        .view()
-        .interval(rt.alloc(), from, 4194303, &region, &mut steps)
-    {
-        Ok(found) => Ok(found),
-        Err(Memory) => Err(FormatFault::Memory),
-    }
-}
-
-// A thousand first hits at an instant, all at (0, 0).
-fn thousand_hits(alloc: Global, instant: i64) -> Result<Vec<Hit>, Memory> {
-    let mut all = Vec::new(alloc);
-    for object in 0..1000u32 {
-        let cell = Cell { x: 0, y: 0 };
-        all.push(Hit {
-            object,
-            instant,
-            cell,
-        })?;
-    }
-    Ok(all)
-}
-
 // A thousand objects, all at (0, 0).
 fn thousand(alloc: Global) -> Result<Vec<Sighting>, Memory> {
     let mut all = Vec::new(alloc);
@@ -349,10 +307,6 @@ fn a_file_for_four_billion_rows_opens(rt: HostRuntime) -> Result<(), Fail> {
     assert!(rt; found == thousand(rt.alloc())?);
     let none = seen::<Brand>(&rt, bytes.as_slice(), (5, 5, 6, 6), 4194303, Blank::new(1))?;
     assert!(rt; none.is_empty());
-    let hits = hit::<Brand>(&rt, bytes.as_slice(), (0, 0, 0, 0), 5, Blank::new(1))?;
-    assert!(rt; hits == thousand_hits(rt.alloc(), 5)?);
-    let beside = hit::<Brand>(&rt, bytes.as_slice(), (5, 5, 6, 6), 0, Blank::new(1))?;
-    assert!(rt; beside.is_empty());
     let doubled = four_billion_rows(rt.alloc(), 22)?;
     let too_long = flaw(Section::Rules, 21, Kind::Rule);
     assert_eq!(rt; flaw_of(&rt, doubled.as_slice()), too_long);
