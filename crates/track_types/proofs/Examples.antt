@@ -2,7 +2,8 @@
 use Rattle.std.proofs.Common.{◌≡◌, ℕ, ℤ, pos, negsuc, List, [], ◌∷◌, ◌++◌, map, Some, None, refl}
 use Rattle.track_types.specs.ByFilter.{cell_at, hits_of, nearest_among, nears_at, nears_of, sightings_of}
 use Rattle.list_laws.specs.Ordered.{ordered, placed}
-use Rattle.track_types.specs.Frame.{periods_of, instants_in}
+use Rattle.track_types.specs.Frame.{periods_of, instants_in, wide_of}
+use Rattle.track_types.specs.Shape.{width_for}
 use Rattle.track_types.specs.declared.frame.Frame.{Frame}
 use Rattle.track_types.specs.Quantities.{anchors_of, block_count, distinct, extent_of, first_of, last_of, object_count, objects_of, period_count, span_of, symbol_count}
 use Rattle.track_types.specs.declared.cell.Cell.{Cell}
@@ -65,6 +66,7 @@ absent = refl
 -- five instants in periods of two: the last period has one
 abbrev five : Frame
 five = record {
+  version = 1;
   first = pos 0;
   span = 5;
   period = 2;
@@ -76,6 +78,28 @@ five = record {
 
 five_periods : periods_of five ∷ instants_in five 0 ∷ instants_in five 1 ∷ instants_in five 2 ∷ [] ≡ 3 ∷ 2 ∷ 2 ∷ 1 ∷ []
 five_periods = refl
+
+-- the same header in version 2, of trees of a height
+abbrev tall : ℕ → Frame
+tall height = record {
+  version = 2;
+  first = pos 0;
+  span = 5;
+  period = 2;
+  height = height;
+  base = record { x = pos 0; y = pos 0 };
+  cell = 1;
+  tick = 1;
+}
+
+-- in version 1 no level is wide, in version 2 one of four, rounded down
+wide_levels : map wide_of (five ∷ tall 3 ∷ tall 4 ∷ tall 7 ∷ tall 24 ∷ []) ≡ 0 ∷ 0 ∷ 1 ∷ 1 ∷ 6 ∷ []
+wide_levels = refl
+
+-- one bit for no symbol, one and two; two for three and four, three for five
+widths : map width_for (0 ∷ 1 ∷ 2 ∷ 3 ∷ 4 ∷ 5 ∷ 256 ∷ 257 ∷ []) ≡ 1 ∷ 1 ∷ 1 ∷ 2 ∷ 2 ∷ 3 ∷ 8 ∷ 9 ∷ []
+unfolding width_for
+widths = refl
 
 -- two objects are equally far from (0, 0), and a third is farther
 tied : List Row

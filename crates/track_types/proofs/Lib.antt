@@ -7,7 +7,9 @@ pub mod RowLemmas
 pub mod RegionLemmas
 pub mod BoxLemmas
 pub mod WideningLemmas
+pub mod AskedLemmas
 pub mod LazyLemmas
 mod Examples
 mod NumeralExamples
 mod RegionExamples
+mod MeetingExamples

@@ -5,7 +5,8 @@ use Rattle.track_types.specs.Region.{in_box, in_region, nearest_cell, squared_di
 use Rattle.track_types.specs.Widening.{widened}
 use Rattle.track_types.specs.declared.cell.Cell.{Cell}
 use Rattle.track_types.specs.declared.cell_box.CellBox.{CellBox}
-use Rattle.track_types.specs.declared.region.Region.TheVariants.{Rect, Disc}
+use Rattle.track_types.specs.declared.region.Region.TheVariants.{Any, Rect, Disc}
+use Rattle.track_types.specs.declared.shape.Shape.TheVariants as shape
 
 abbrev at : ℤ → ℤ → Cell
 at x y = record { x = x; y = y }
@@ -29,6 +30,12 @@ a_disc = refl
 a_disc_of_one_cell : map (in_region (Disc (pos 7) (pos 7) 0)) (at (pos 7) (pos 7) ∷ at (pos 7) (pos 8) ∷ []) ≡ true ∷ false ∷ []
 a_disc_of_one_cell = refl
 
+-- the cells of any of two shapes
+some_of_two : map (in_region (Any (shape.Rect (pos 2) (pos 0) (pos 2) (pos 0) ∷ shape.Disc (pos 0) (pos 3) 0 ∷ [])))
+    (at (pos 2) (pos 0) ∷ at (pos 0) (pos 3) ∷ at (negsuc 1) (pos 0) ∷ [])
+    ≡ true ∷ true ∷ false ∷ []
+some_of_two = refl
+
 -- the cells -10 to 10 each way
 wide : CellBox
 wide = record { x1 = negsuc 9; y1 = negsuc 9; x2 = pos 10; y2 = pos 10; wide = le_z_yes tt; high = le_z_yes tt }
@@ -51,6 +58,13 @@ touched_by_a_corner = refl
 touched_by_a_rect : map (λ region. intersects_region region near) (Rect (pos 0) (pos 4) (pos 9) (pos 4) ∷ Rect (pos 5) (pos 4) (pos 4) (pos 4) ∷ []) ≡ true ∷ false ∷ []
 unfolding near
 touched_by_a_rect = refl
+
+-- shapes touch a box where some of them does
+touched_by_the_second : map (λ region. intersects_region region near)
+    (Any (shape.Disc (pos 0) (pos 0) 4 ∷ shape.Rect (pos 0) (pos 4) (pos 9) (pos 4) ∷ []) ∷ Any (shape.Disc (pos 0) (pos 0) 4 ∷ []) ∷ [])
+    ≡ true ∷ false ∷ []
+unfolding near
+touched_by_the_second = refl
 
 -- two cells more on each side of the box reach to 1 and to 7
 a_widened_box : map (in_box (widened 2 near)) (at (pos 1) (pos 7) ∷ at (pos 0) (pos 4) ∷ at (pos 4) (pos 8) ∷ []) ≡ true ∷ false ∷ false ∷ []

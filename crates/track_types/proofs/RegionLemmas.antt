@@ -1,16 +1,23 @@
 -- The bounds between which the cells of a box lie, boxes that a region touches, and the cell of a box that is nearest to a cell.
-use Rattle.std.proofs.Common.{◌≡◌, ◌↔◌, ◌*◌, ◌≤◌, ℤ, true, IsTrue, arith, ◌≤ℤ◌, ◌-ℤ◌}
+use Rattle.std.proofs.Common.{◌≡◌, ◌↔◌, ◌*◌, ◌≤◌, ℤ, true, IsTrue, arith, ◌≤ℤ◌, ◌-ℤ◌, List, [], ◌∷◌, refl, inl, inr}
+use Rattle.std.specs.List.{list_any}
+use Rattle.std.proofs.lemmas.Bool.{cases_Bool}
+use Rattle.std.proofs.Math.Bool.{or-true}
+use mathlib.Core.Bool.{false≢true}
 use Rattle.std.specs.Prelude.{unsigned_abs}
 use Rattle.std.specs.Int.{int_max, int_min}
 use Rattle.std.specs.Int.Signed.{le_z}
 use Rattle.std.proofs.Math.Nat.{mul-le-mul}
 use Rattle.std.proofs.lemmas.Bool.{and_from, and_parts, le-leb, leb-true}
 use Rattle.std.proofs.lemmas.Int.{clamps, ints}
-use Rattle.track_types.specs.Region.{Intersects, in_box, in_region, is_between, nearest_cell, overlaps, squared_distance, squared_gap, intersects_region}
+use Rattle.track_types.specs.Region.{Intersects, in_box, in_region, in_shape, is_between, nearest_cell, overlaps, squared_distance, squared_gap, intersects_region}
+use Rattle.track_types.specs.Region.{intersects_shape}
 use Rattle.track_types.specs.declared.cell.Cell.{Cell}
 use Rattle.track_types.specs.declared.cell_box.CellBox.{CellBox}
 use Rattle.track_types.specs.declared.region.Region.{Region}
-use Rattle.track_types.specs.declared.region.Region.TheVariants.{Rect, Disc}
+use Rattle.track_types.specs.declared.region.Region.TheVariants as region
+use Rattle.track_types.specs.declared.shape.Shape.{Shape}
+use Rattle.track_types.specs.declared.shape.Shape.TheVariants.{Rect, Disc}
 
 -- the test for a number between two others, and what it says
 pub is_between-bounds : (low high z : ℤ) → is_between low high z ≡ true → (low ≤ℤ z) × (z ≤ℤ high)
@@ -80,29 +87,68 @@ squared_distance-nearest area cell other inside =
     let along = squared_gap-nearest area.y1 area.y2 cell.y other.y box.below box.above in
     omega arith
 
--- where a cell of the box is in the region, the test passes
-intersects_region-from_cell : (region : Region) (area : CellBox) (cell : Cell) →
-    in_box area cell ≡ true → in_region region cell ≡ true → intersects_region region area ≡ true
-intersects_region-from_cell (Rect x1 y1 x2 y2) area cell inside held =
+-- where a cell of the box is in a shape, the test passes
+intersects_shape-from_cell : (shape : Shape) (area : CellBox) (cell : Cell) →
+    in_box area cell ≡ true → in_shape shape cell ≡ true → intersects_shape shape area ≡ true
+intersects_shape-from_cell (Rect x1 y1 x2 y2) area cell inside held =
     let box = and_parts (is_between area.x1 area.x2 cell.x) (is_between area.y1 area.y2 cell.y) inside in
     let rect = and_parts (is_between x1 x2 cell.x) (is_between y1 y2 cell.y) held in
     and_from _ _ (overlaps-from x1 x2 area.x1 area.x2 cell.x box.0 rect.0) (overlaps-from y1 y2 area.y1 area.y2 cell.y box.1 rect.1)
-intersects_region-from_cell (Disc x y r) area cell inside held =
+intersects_shape-from_cell (Disc x y r) area cell inside held =
     let centre : Cell = record { x = x; y = y } in
     let nearer = squared_distance-nearest area centre cell inside in
     let within : squared_distance centre cell ≤ r * r = leb-true _ _ held in
     le-leb _ _ (omega arith)
 
--- where the test passes, a cell of the box is in the region
-intersects_region-cell : (region : Region) (area : CellBox) → intersects_region region area ≡ true → Intersects region area
-intersects_region-cell (Rect x1 y1 x2 y2) area held =
+-- where the test passes, a cell of the box is in the shape
+intersects_shape-cell : (shape : Shape) (area : CellBox) → intersects_shape shape area ≡ true →
+    (cell : Cell) × IsTrue (in_box area cell) × IsTrue (in_shape shape cell)
+intersects_shape-cell (Rect x1 y1 x2 y2) area held =
     let parts = and_parts (overlaps x1 x2 area.x1 area.x2) (overlaps y1 y2 area.y1 area.y2) held in
     let across = overlaps-shared x1 x2 area.x1 area.x2 area.wide parts.0 in
     let along = overlaps-shared y1 y2 area.y1 area.y2 area.high parts.1 in
     (record { x = int_max x1 area.x1; y = int_max y1 area.y1 }, and_from _ _ across.0 along.0, and_from _ _ across.1 along.1)
-intersects_region-cell (Disc x y r) area held =
+intersects_shape-cell (Disc x y r) area held =
     let centre : Cell = record { x = x; y = y } in
     (nearest_cell area centre, nearest_cell-in_box area centre, held)
+
+-- where a cell of the box is in some of the shapes, the test passes
+intersects_any-from_cell : (shapes : List Shape) (area : CellBox) (cell : Cell) → in_box area cell ≡ true →
+    list_any (λ shape. in_shape shape cell) shapes ≡ true →
+    list_any (λ shape. intersects_shape shape area) shapes ≡ true
+intersects_any-from_cell [] area cell inside held = held
+intersects_any-from_cell (shape ∷ shapes) area cell inside held = elim (cases_Bool (in_shape shape cell)) [
+  | inl here ↦ rw (intersects_shape-from_cell shape area cell inside here) refl
+  | inr not_here ↦
+      rw (intersects_any-from_cell shapes area cell inside (rw not_here at held)) (or-true (intersects_shape shape area))
+]
+
+-- where the test passes, a cell of the box is in some of the shapes
+intersects_any-cell : (shapes : List Shape) (area : CellBox) →
+    list_any (λ shape. intersects_shape shape area) shapes ≡ true →
+    (cell : Cell) × IsTrue (in_box area cell) × IsTrue (list_any (λ shape. in_shape shape cell) shapes)
+intersects_any-cell [] area held = absurd (false≢true held)
+intersects_any-cell (shape ∷ shapes) area held = elim (cases_Bool (intersects_shape shape area)) [
+  | inl here ↦
+      let found = intersects_shape-cell shape area here in
+      (found.0, found.1, rw found.2 refl)
+  | inr not_here ↦
+      let found = intersects_any-cell shapes area (rw not_here at held) in
+      (found.0, found.1, rw found.2 (or-true (in_shape shape found.0)))
+]
+
+-- where a cell of the box is in the region, the test passes
+intersects_region-from_cell : (region : Region) (area : CellBox) (cell : Cell) →
+    in_box area cell ≡ true → in_region region cell ≡ true → intersects_region region area ≡ true
+intersects_region-from_cell (region.Rect x1 y1 x2 y2) area cell = intersects_shape-from_cell (Rect x1 y1 x2 y2) area cell
+intersects_region-from_cell (region.Disc x y r) area cell = intersects_shape-from_cell (Disc x y r) area cell
+intersects_region-from_cell (region.Any shapes) area cell = intersects_any-from_cell shapes area cell
+
+-- where the test passes, a cell of the box is in the region
+intersects_region-cell : (region : Region) (area : CellBox) → intersects_region region area ≡ true → Intersects region area
+intersects_region-cell (region.Rect x1 y1 x2 y2) area = intersects_shape-cell (Rect x1 y1 x2 y2) area
+intersects_region-cell (region.Disc x y r) area = intersects_shape-cell (Disc x y r) area
+intersects_region-cell (region.Any shapes) area = intersects_any-cell shapes area
 
 -- the test decides
 pub intersects_region-exact : (region : Region) (area : CellBox) → IsTrue (intersects_region region area) ↔ Intersects region area

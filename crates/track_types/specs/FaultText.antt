@@ -6,6 +6,8 @@ use Rattle.track_types.specs.declared.limit.LimitKind.{LimitKind}
 use Rattle.track_types.specs.declared.limit.LimitKind.TheVariants as limit
 use Rattle.track_types.specs.declared.raw_row.RowFault.{RowFault}
 use Rattle.track_types.specs.declared.raw_row.RowFault.TheVariants as row
+use Rattle.track_types.specs.declared.setting.Setting.{Setting}
+use Rattle.track_types.specs.declared.setting.Setting.TheVariants as setting
 
 -- the text of a word that is no numeral within two bounds
 abbrev pub number_fault_text : NumberFault → List ℕ
@@ -29,3 +31,10 @@ limit_name limit.Blocks = codes "blocks"
 limit_name limit.Symbols = codes "symbols"
 limit_name limit.Index = codes "index"
 limit_name limit.Questions = codes "questions"
+limit_name limit.Base = codes "base"
+
+-- the name of a setting in a text
+abbrev pub setting_name : Setting → List ℕ
+setting_name setting.Cell = codes "cell"
+setting_name setting.Tick = codes "tick"
+setting_name setting.Period = codes "period"

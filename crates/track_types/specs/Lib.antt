@@ -5,6 +5,8 @@ pub mod Row
 pub mod Quantities
 pub mod Chart
 pub mod ByFilter
+pub mod Meeting
+pub mod Shapes
 pub mod Region
 pub mod Widening
 pub mod Lazy

@@ -1,5 +1,6 @@
 -- When the parts of an index have the form of one.
-use Rattle.std.specs.Prelude.{◌≡◌, ℕ, ◌*◌, ◌^◌, ◌<◌, ◌≤◌, List, length, All}
+use Rattle.std.specs.Prelude.{◌≡◌, ℕ, suc, ◌+◌, ◌*◌, ◌^◌, ◌<◌, ◌≤◌, nat_le, List, length, All}
+use Rattle.std.specs.List.{position_or_len, range_with_len}
 use Rattle.std.specs.List.Sorted.{IsStrictlyIncreasing}
 use Rattle.packed_bits.specs.Bits.{ones_of}
 use Rattle.track_types.specs.Frame.{IsFrame, periods_of}
@@ -19,6 +20,14 @@ AreLong numbers = All (λ n. n < 2 ^ 64) numbers
 -- both numbers of each pair are below 2^32
 abbrev pub AreShortPairs : List (ℕ × ℕ) → Type 0
 AreShortPairs pairs = All (λ pair. (pair.0 < 2 ^ 32) × (pair.1 < 2 ^ 32)) pairs
+
+-- the least number of bits, from 1 on, in which so many symbols can be told apart; there are at most 2^26 of them
+unfoldable pub width_for : ℕ → ℕ
+width_for symbols = suc (position_or_len (λ width. nat_le symbols (2 ^ width)) (range_with_len 1 26))
+
+-- how many bits of the log section a symbol of an index of version 2 takes
+abbrev pub width_of : Parts → ℕ
+width_of parts = width_for (length parts.alphabet + length parts.rules)
 
 -- a period's lists are as long as its presence bits say, of which there is one for each object
 pub record IsShapedPeriod (objects : ℕ) (period : PeriodParts) : Type 0 where
@@ -49,3 +58,4 @@ pub record IsShaped (parts : Parts) : Type 0 where
   pub each : All (IsShapedPeriod (length parts.objects)) parts.periods
   pub few_symbols : length parts.symbols ≤ limit_of Symbols
   pub short_symbols : AreShort parts.symbols
+  pub narrow_symbols : 2 ≤ parts.frame.version → All (λ symbol. symbol < 2 ^ width_of parts) parts.symbols

@@ -1,3 +1,6 @@
+ghost use Rattle.std.specs.Prelude.{◌≡◌};
+ghost use Rattle.track_types.specs.Frame.{wide_of};
+
 use crate::cell::Cell;
 
 /// The header of an index: where its instants and its cells begin, how far they reach, and how they
@@ -7,13 +10,16 @@ use crate::cell::Cell;
 /// blocks an index may have, objects times periods, is no part of them.
 #[derive(Clone, Copy, Debug, PartialEq, Eq)]
 pub struct Frame {
+    /// The version of the format that the index is written in: 1 to `MAX_VERSION`.
+    pub version: u32,
     /// The first instant: -2^40 to 2^40, and so is the last one.
     pub first: i64,
     /// Instants from the first to the last, both counted: 1 to 2^22.
     pub span: u32,
     /// Instants of a period: 1 to 2^22. The last period ends with the span.
     pub period: u32,
-    /// The grid of cells has the side 2^height: 1 to `MAX_HEIGHT`.
+    /// The grid of cells has the side 2^height: 1 to `MAX_HEIGHT`, in version 1 to
+    /// `MAX_NARROW_HEIGHT`.
     pub height: u32,
     /// The least cell of the grid. Its coordinates are -2^40 to 2^40.
     pub base: Cell,
@@ -21,4 +27,14 @@ pub struct Frame {
     pub cell: u64,
     /// Units of an instant: 1 to 2^30.
     pub tick: u64,
+}
+
+impl Frame {
+    /// How many levels of a period's tree, from the top, split a square in sixteen. The others split
+    /// it in four. It takes no memory.
+    pub fn wide_levels(&self) -> u32
+        ensures { result ≡ wide_of self.now }
+    {
+        if self.version < 2 { 0 } else { self.height / 4 }
+    }
 }

@@ -21,6 +21,8 @@ mod hit;
 mod lazy;
 mod limit;
 mod lists;
+mod meeting;
+mod meets;
 mod memory;
 mod near;
 mod numeral;
@@ -30,6 +32,9 @@ mod question;
 mod raw_row;
 mod region;
 mod row;
+mod setting;
+mod shape;
+mod shapes;
 mod sighting;
 mod stop;
 
@@ -45,10 +50,13 @@ pub use hit::Hit;
 pub use lazy::drawn_items::Drawn;
 pub use lazy::{Lazy, drawn};
 pub use limit::{
-    LimitKind, MAX_BLOCKS, MAX_CSV, MAX_EXTENT, MAX_HEIGHT, MAX_INDEX, MAX_OBJECTS, MAX_PERIOD,
-    MAX_PLACE, MAX_QUESTIONS, MAX_RESOLUTION, MAX_ROWS, MAX_SPAN, MAX_SYMBOLS,
+    LimitKind, MAX_BLOCKS, MAX_CSV, MAX_EXTENT, MAX_HEIGHT, MAX_INDEX, MAX_NARROW_HEIGHT,
+    MAX_OBJECTS, MAX_PERIOD, MAX_PLACE, MAX_QUESTIONS, MAX_RESOLUTION, MAX_ROWS, MAX_SPAN,
+    MAX_SYMBOLS, MAX_VERSION,
 };
 pub use lists::{List32, List64, Lists32, PairList, PeriodList};
+pub use meeting::Meeting;
+pub use meets::Meets;
 pub use memory::Memory;
 pub use near::Near;
 pub use numeral::{Numeral, number};
@@ -57,7 +65,10 @@ pub use parts::Parts;
 pub use period_parts::PeriodParts;
 pub use question::Question;
 pub use raw_row::{RawRow, RowFault};
-pub use region::{Region, dist2};
+pub use region::Region;
 pub use row::Row;
+pub use setting::Setting;
+pub use shape::{Shape, dist2};
+pub use shapes::Shapes;
 pub use sighting::Sighting;
 pub use stop::Stop;

@@ -14,8 +14,8 @@ pub const MAX_OBJECTS: u64 = 65_536;
 /// The greatest count of instants from the first to the last, both counted, 2^22.
 pub const MAX_SPAN: u64 = 4_194_304;
 
-/// The greatest extent: cells from the least to the greatest of an axis, both counted.
-pub const MAX_EXTENT: u64 = 1_048_576;
+/// The greatest extent: cells from the least to the greatest of an axis, both counted, 2^24.
+pub const MAX_EXTENT: u64 = 16_777_216;
 
 /// The greatest count of blocks, objects times periods, 2^24.
 pub const MAX_BLOCKS: u64 = 16_777_216;
@@ -30,7 +30,13 @@ pub const MAX_INDEX: u64 = 1_073_741_824;
 pub const MAX_QUESTIONS: u64 = 4_294_967_296;
 
 /// The greatest height of a tree over cells, whose grid has a side of 2^height cells.
-pub const MAX_HEIGHT: u32 = 20;
+pub const MAX_HEIGHT: u32 = 24;
+
+/// The greatest height of a tree in an index of version 1.
+pub const MAX_NARROW_HEIGHT: u32 = 20;
+
+/// The newest version of the format of an index.
+pub const MAX_VERSION: u32 = 2;
 
 /// The greatest resolution, 2^30: units of a cell, or units of time of an instant.
 pub const MAX_RESOLUTION: u64 = 1_073_741_824;
@@ -62,6 +68,8 @@ pub enum LimitKind {
     Index,
     /// Bytes of question input.
     Questions,
+    /// Cells that a cell of an index lies away from 0, along either axis.
+    Base,
 }
 
 impl LimitKind {
@@ -79,6 +87,7 @@ impl LimitKind {
             LimitKind::Symbols => MAX_SYMBOLS,
             LimitKind::Index => MAX_INDEX,
             LimitKind::Questions => MAX_QUESTIONS,
+            LimitKind::Base => MAX_PLACE,
         }
     }
 
@@ -97,6 +106,7 @@ impl LimitKind {
             LimitKind::Symbols => "symbols",
             LimitKind::Index => "index",
             LimitKind::Questions => "questions",
+            LimitKind::Base => "base",
         }
     }
 }

@@ -34,6 +34,14 @@ pub enum Question {
         instant: i64,
         cell: Cell,
     },
+    /// When two objects were first within `reach` cells of each other in the window (an encounter).
+    Meet {
+        left: u32,
+        right: u32,
+        from: i64,
+        to: i64,
+        reach: u64,
+    },
     /// The facts.
     Info,
     /// To hold a cursor over a path in a slot, 0 to 15.

@@ -1,9 +1,12 @@
-ghost use Rattle.std.specs.Prelude.{◌≡◌, ◌↔◌, ◌*◌, ◌≤◌, ◌^◌, IsTrue};
+ghost use Rattle.std.specs.Prelude.{◌≡◌, ◌↔◌, All, IsTrue};
+ghost use Rattle.std.specs.List.{list_any};
 ghost use Rattle.track_types.specs.Near.{IsBoxWithin, IsCellWithin};
-ghost use Rattle.track_types.specs.Region.{IsRegionWithin, Intersects, in_region, is_between, nearest_cell, overlaps, squared_distance, intersects_region};
+ghost use Rattle.track_types.specs.Region.{IsRegionWithin, IsShapeWithin, Intersects, in_region, in_shape, intersects_region, intersects_shape};
 
 use crate::cell::Cell;
 use crate::cell_box::CellBox;
+use crate::shape::Shape;
+use crate::shapes::Shapes;
 
 #[cfg(test)]
 mod tests;
@@ -16,27 +19,28 @@ pub enum Region {
     Rect { x1: i64, y1: i64, x2: i64, y2: i64 },
     /// The cells whose squared distance from (x, y) is at most `r * r`.
     Disc { x: i64, y: i64, r: u64 },
+    /// The cells of any of these shapes.
+    Any { shapes: Shapes },
 }
 
 impl Region {
-    /// Whether a cell is in the region. All coordinates are at most 2^42 away from 0, and so is a
-    /// disc's radius. It takes no memory.
+    /// Whether a cell is in the region. All coordinates are at most 2^42 away from 0, and so are
+    /// radii. It takes no memory.
     pub fn contains(&self, cell: Cell) -> bool
         requires region { IsRegionWithin self.now }
         requires near { IsCellWithin cell }
         ensures { result ≡ in_region self.now cell }
     {
         match *self {
-            Region::Rect { x1, y1, x2, y2 } => {
-                is_between(x1, x2, cell.x) && is_between(y1, y2, cell.y)
-            }
-            Region::Disc { x, y, r } => dist2(Cell { x, y }, cell) <= square(r),
+            Region::Rect { x1, y1, x2, y2 } => Shape::Rect { x1, y1, x2, y2 }.contains(cell),
+            Region::Disc { x, y, r } => Shape::Disc { x, y, r }.contains(cell),
+            Region::Any { shapes } => any_contains(shapes.as_slice(), cell),
         }
     }
 
     /// Whether any cell of the box is in the region. Elsewhere this is called "intersects", and
-    /// "touches" is said of borders alone. All coordinates are at most 2^42 away from 0, and so is a
-    /// disc's radius. It takes no memory.
+    /// "touches" is said of borders alone. All coordinates are at most 2^42 away from 0, and so are
+    /// radii. It takes no memory.
     pub fn touches(&self, area: &CellBox) -> bool
         requires region { IsRegionWithin self.now }
         requires near { IsBoxWithin area.now }
@@ -52,56 +56,37 @@ impl Region {
         ensures { result ≡ intersects_region self.now area.now }
     {
         match *self {
-            Region::Rect { x1, y1, x2, y2 } => {
-                overlaps(x1, x2, area.x1, area.x2) && overlaps(y1, y2, area.y1, area.y2)
-            }
-            Region::Disc { x, y, r } => {
-                let centre = Cell { x, y };
-                dist2(centre, nearest(area, centre)) <= square(r)
-            }
+            Region::Rect { x1, y1, x2, y2 } => Shape::Rect { x1, y1, x2, y2 }.intersects(area),
+            Region::Disc { x, y, r } => Shape::Disc { x, y, r }.intersects(area),
+            Region::Any { shapes } => any_intersects(shapes.as_slice(), area),
         }
     }
 }
 
-/// The squared Euclidean distance of two cells, whose coordinates are at most 2^42 away from 0.
-pub fn dist2(a: Cell, b: Cell) -> u128
-    requires first { IsCellWithin a }
-    requires second { IsCellWithin b }
-    ensures { result ≡ squared_distance a b }
+// Whether a cell is in some of the shapes.
+fn any_contains(shapes: &[Shape], cell: Cell) -> bool
+    requires shapes { All IsShapeWithin shapes.now }
+    requires near { IsCellWithin cell }
+    ensures { result ≡ list_any (λ shape. in_shape shape cell) shapes.now }
 {
-    square(a.x.abs_diff(b.x)) + square(a.y.abs_diff(b.y))
-}
-
-// The square of a length.
-fn square(length: u64) -> u128
-    requires { length ≤ 2 ^ 43 }
-    ensures exact { result ≡ length * length }
-    ensures within { result ≤ 2 ^ 86 }
-{
-    u128::from(length) * u128::from(length)
-}
-
-fn is_between(low: i64, high: i64, value: i64) -> bool
-    ensures { result ≡ is_between low high value }
-{
-    low <= value && value <= high
-}
-
-// Whether some number is from `low` to `high` and from `first` to `last`.
-fn overlaps(low: i64, high: i64, first: i64, last: i64) -> bool
-    ensures { result ≡ overlaps low high first last }
-{
-    low.max(first) <= high.min(last)
-}
-
-// The cell of the box that is nearest to a cell.
-fn nearest(area: &CellBox, cell: Cell) -> Cell
-    requires near { IsBoxWithin area.now }
-    ensures value { result ≡ nearest_cell area.now cell }
-    ensures within { IsCellWithin result }
-{
-    Cell {
-        x: cell.x.clamp(area.x1, area.x2),
-        y: cell.y.clamp(area.y1, area.y2),
+    for shape in shapes {
+        if shape.contains(cell) {
+            return true;
+        }
     }
+    false
+}
+
+// Whether a cell of the box is in some of the shapes.
+fn any_intersects(shapes: &[Shape], area: &CellBox) -> bool
+    requires shapes { All IsShapeWithin shapes.now }
+    requires near { IsBoxWithin area.now }
+    ensures { result ≡ list_any (λ shape. intersects_shape shape area.now) shapes.now }
+{
+    for shape in shapes {
+        if shape.intersects(area) {
+            return true;
+        }
+    }
+    false
 }

@@ -1,6 +1,8 @@
-use super::{Region, dist2};
+use super::Region;
 use crate::cell::Cell;
 use crate::cell_box::CellBox;
+use crate::shape::{Shape, dist2};
+use crate::shapes::Shapes;
 use std::test::Fail;
 
 const FAR: i64 = 0x400_0000_0000;
@@ -55,6 +57,23 @@ fn regions_and_distances_at_their_edges(rt: HostRuntime) -> Result<(), Fail> {
     assert!(rt; across.touches(&near));
     assert!(rt; !beside.touches(&near));
     assert!(rt; !inverted.touches(&near));
+
+    // A cell, and a disc of one cell, with a gap between them.
+    let mut shapes = Shapes::new(Shape::Rect {
+        x1: 2,
+        y1: 0,
+        x2: 2,
+        y2: 0,
+    });
+    assert_eq!(rt; shapes.len(), 1);
+    shapes.add(Shape::Disc { x: 0, y: 3, r: 0 });
+    assert_eq!(rt; shapes.len(), 2);
+    assert_eq!(rt; shapes.at(1), Shape::Disc { x: 0, y: 3, r: 0 });
+    let two = Region::Any { shapes };
+    assert!(rt; two.contains(Cell { x: 2, y: 0 }));
+    assert!(rt; two.contains(Cell { x: 0, y: 3 }));
+    assert!(rt; !two.contains(Cell { x: -2, y: 0 }));
+    assert!(rt; !two.touches(&near));
 
     let low = Cell { x: -FAR, y: -FAR };
     let high = Cell { x: FAR, y: FAR };

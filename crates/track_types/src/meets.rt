@@ -1,0 +1,36 @@
+ghost use Rattle.std.specs.Prelude.{◌≡◌, ◌+◌, ◌≤◌, ◌^◌, IfOk};
+ghost use Rattle.track_types.specs.Meeting.{meeting_of};
+ghost use Rattle.track_types.specs.Near.{IsAsked};
+ghost use Rattle.track_types.specs.declared.question.Question.TheVariants as asked;
+
+use crate::answerer::Answerer;
+use crate::meeting::Meeting;
+use crate::memory::Memory;
+use std::alloc::Global;
+use std::sync::ledger::Ledger;
+use step_count::Steps;
+
+/// An answerer that also tells when two objects first met.
+pub trait Meets: Answerer {
+    /// The first instant from one to another, both counted, at which two objects have a row within
+    /// `reach` cells of each other, and their cells; `None` exactly where there is none, as for an
+    /// unknown object. A distance is that of the centres of cells: its square is at most the square
+    /// of `reach`. One object with itself is its first row in the window.
+    fn meet<L: Ledger>(
+        self,
+        alloc: Global,
+        left: u32,
+        right: u32,
+        from: i64,
+        to: i64,
+        reach: u64,
+        steps: &mut Steps<L>,
+    ) -> Result<Option<Meeting>, Memory>
+        requires from { IsAsked from }
+        requires to { IsAsked to }
+        requires reach { reach ≤ 2 ^ 42 }
+        ensures ok { IfOk result (λ found. found
+            ≡ meeting_of (Self.chart self).rows left right from to reach) }
+        ensures cost { steps.new
+            ≤ steps.old + Self.cost self (asked.Meet left right from to reach) };
+}
