@@ -1,13 +1,14 @@
 -- The definitions, run on rows that were worked out by hand.
 use Rattle.std.proofs.Common.{◌≡◌, ℕ, ℤ, pos, negsuc, List, [], ◌∷◌, Some, None, refl}
 use Rattle.track_types.specs.Quantities.{anchors_of, distinct, symbol_count}
-use Rattle.track_types.specs.declared.limit.LimitKind.TheVariants.{Span, Extent, Blocks}
+use Rattle.track_types.specs.declared.limit.LimitKind.TheVariants.{Base, Span, Extent, Blocks}
 use Rattle.track_types.specs.declared.raw_row.RawRow.{RawRow}
 use Rattle.track_types.specs.declared.row.Row.{Row}
 use Rattle.list_laws.specs.Ordered.{ordered, placed}
 use Rattle.gridding.specs.ChartOf.{chart_rows, kept}
 use Rattle.gridding.specs.Floor.{floor_div}
-use Rattle.gridding.specs.GridLimit.{grid_limit}
+use Rattle.gridding.specs.GridLimit.{chart_fault, grid_limit}
+use Rattle.gridding.specs.declared.fault.GridFault.TheVariants.{Empty, Limit}
 
 raw : ℕ → ℤ → ℤ → ℤ → RawRow
 raw object time x y = record { object = object; time = time; x = x; y = y }
@@ -35,12 +36,12 @@ late_anchor : symbol_count (chart_rows (raw 1 (pos 0) (pos 0) (pos 0) ∷ raw 1 
 unfolding chart_rows kept ordered placed raw anchors_of
 late_anchor = refl
 
--- an extent of 2^20 cells, and one cell more
-widest : grid_limit (raw 1 (pos 0) (pos 0) (pos 0) ∷ raw 1 (pos 1) (pos 1048575) (pos 0) ∷ []) 1 1 4 ≡ None
+-- an extent of 2^24 cells, and one cell more
+widest : grid_limit (raw 1 (pos 0) (pos 0) (pos 0) ∷ raw 1 (pos 1) (pos 16777215) (pos 0) ∷ []) 1 1 4 ≡ None
 unfolding chart_rows kept ordered placed raw distinct anchors_of
 widest = refl
 
-too_wide : grid_limit (raw 1 (pos 0) (pos 0) (pos 0) ∷ raw 1 (pos 1) (pos 1048576) (pos 0) ∷ []) 1 1 4 ≡ Some (Extent, 1048577)
+too_wide : grid_limit (raw 1 (pos 0) (pos 0) (pos 0) ∷ raw 1 (pos 1) (pos 16777216) (pos 0) ∷ []) 1 1 4 ≡ Some (Extent, 16777217)
 unfolding chart_rows kept ordered placed raw distinct anchors_of
 too_wide = refl
 
@@ -59,6 +60,19 @@ blocks_in_limit : grid_limit fleet 1 1 4194304 ≡ None
 unfolding chart_rows kept ordered placed raw fleet distinct anchors_of
 blocks_in_limit = refl
 
-too_long : grid_limit (raw 1 (pos 0) (pos 0) (pos 0) ∷ raw 1 (pos 4194304) (pos 1048576) (pos 0) ∷ []) 1 1 1 ≡ Some (Span, 4194305)
+too_long : grid_limit (raw 1 (pos 0) (pos 0) (pos 0) ∷ raw 1 (pos 4194304) (pos 16777216) (pos 0) ∷ []) 1 1 1 ≡ Some (Span, 4194305)
 unfolding chart_rows kept ordered placed raw distinct anchors_of
 too_long = refl
+
+-- rows that are gridded already: none, one that is too far away and also too late, and one that is as far as it may be
+no_rows : chart_fault [] 4 ≡ Some Empty
+unfolding chart_fault
+no_rows = refl
+
+too_far : chart_fault (row 1 (pos 0) (pos 0) (negsuc 1099511627776) ∷ row 1 (pos 4194304) (pos 5) (pos 0) ∷ []) 4 ≡ Some (Limit Base 1099511627777)
+unfolding chart_fault row
+too_far = refl
+
+farthest : chart_fault (row 1 (pos 0) (negsuc 1099511627775) (pos 0) ∷ []) 4 ≡ None
+unfolding chart_fault row distinct anchors_of
+farthest = refl

@@ -10,4 +10,5 @@ mod DivisorLemmas
 mod ExtentLemmas
 mod SurveyLemmas
 mod LimitLemmas
+mod BaseLemmas
 mod Examples

@@ -1,9 +1,10 @@
 -- Which quantity of a chart passes its limit.
-use Rattle.std.specs.Prelude.{◌≡◌, ◌≢◌, ℕ, Bool, nat_lt, List, [], ◌∷◌, find, Option, Some}
+use Rattle.std.specs.Prelude.{◌≡◌, ◌≢◌, ⊤, ℕ, max, unsigned_abs, Bool, nat_lt, List, [], ◌∷◌, map, fold, find, Option, Some}
+use Rattle.std.specs.Option.{option_map}
 use Rattle.track_types.specs.Limits.{limit_of}
 use Rattle.track_types.specs.Quantities.{block_count, extent_of, object_count, span_of, symbol_count}
 use Rattle.track_types.specs.declared.limit.LimitKind.{LimitKind}
-use Rattle.track_types.specs.declared.limit.LimitKind.TheVariants.{Objects, Span, Extent, Blocks, Symbols}
+use Rattle.track_types.specs.declared.limit.LimitKind.TheVariants.{Base, Objects, Span, Extent, Blocks, Symbols}
 use Rattle.track_types.specs.declared.raw_row.RawRow.{RawRow}
 use Rattle.track_types.specs.declared.row.Row.{Row}
 use Rattle.gridding.specs.ChartOf.{chart_rows}
@@ -38,3 +39,31 @@ abbrev pub IsFaultOf : List RawRow → ℕ → ℕ → ℕ → GridFault → Typ
 IsFaultOf raws cell tick period Memory = Unit {0}
 IsFaultOf raws cell tick period Empty = raws ≡ []
 IsFaultOf raws cell tick period (Limit kind value) = (raws ≢ []) × (grid_limit raws cell tick period ≡ Some (kind, value))
+
+-- how many cells a row's cell is away from 0, along the axis along which it is farther
+abbrev pub distance_of : Row → ℕ
+distance_of row = max (unsigned_abs row.cell.x) (unsigned_abs row.cell.y)
+
+-- how many cells the farthest cell is away from 0
+abbrev pub base_of : List Row → ℕ
+base_of rows = fold max 0 (map distance_of rows)
+
+-- the first quantity past its limit in the chart of rows that are gridded already: their cells may be too far from 0,
+-- which those of raw rows never are
+abbrev pub chart_limit : List Row → ℕ → Option (LimitKind × ℕ)
+chart_limit rows period = find is_past ((Base, base_of rows) ∷ quantities_of rows period)
+
+-- the fault that tells a quantity
+abbrev pub limit_fault : LimitKind × ℕ → GridFault
+limit_fault (kind, value) = Limit kind value
+
+-- the first cause for which rows that are gridded already have no chart
+unfoldable pub chart_fault : List Row → ℕ → Option GridFault
+chart_fault [] period = Some Empty
+chart_fault (row ∷ rows) period = option_map limit_fault (chart_limit (row ∷ rows) period)
+
+-- a fault is this one, or memory was refused
+abbrev pub IsFaultFor : Option GridFault → GridFault → Type 0
+IsFaultFor first Memory = ⊤
+IsFaultFor first Empty = first ≡ Some Empty
+IsFaultFor first (Limit kind value) = first ≡ Some (Limit kind value)

@@ -2,7 +2,8 @@
 //! instant the last.
 //!
 //! `grid` is exact: it answers the chart of the rows, or that there is no row, or the first quantity
-//! that passes its limit. `GriddedRows` take rows piece by piece, and answer the same.
+//! that passes its limit. `GriddedRows` take rows piece by piece, and answer the same. `chart` takes rows
+//! that are gridded already, and judges them by the same limits.
 #![tactic(auto)]
 
 mod chart_making;
@@ -21,6 +22,6 @@ mod survey;
 mod tests;
 mod track_blocks;
 
-pub use chart_making::grid;
+pub use chart_making::{chart, grid};
 pub use fault::GridFault;
 pub use gridded_rows::GriddedRows;

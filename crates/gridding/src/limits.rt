@@ -1,6 +1,6 @@
 ghost use Rattle.std.specs.Prelude.{◌≡◌, ◌+◌, ◌^◌, ◌<◌, ◌≤◌, ◌-ℤ◌, max, unsigned_abs};
 ghost use Rattle.std.specs.Prelude.{All, IfErr, None, OnOk, false, length, true};
-ghost use Rattle.gridding.specs.GridLimit.{IsRefusal, first_past, is_past};
+ghost use Rattle.gridding.specs.GridLimit.{base_of, IsRefusal, first_past, is_past};
 ghost use Rattle.gridding.specs.Survey.{IsMeasureOf};
 ghost use Rattle.track_types.specs.Limits.{IsPeriod, limit_of};
 ghost use Rattle.track_types.specs.Near.{IsNear, IsRowInRange};
@@ -10,7 +10,28 @@ use crate::counts::symbol_count;
 use crate::extents::Extent;
 use crate::fault::GridFault;
 use crate::survey::Survey;
-use track_types::{LimitKind, Row};
+use track_types::{Cell, LimitKind, Row};
+
+/// Refuses the greatest absolute coordinate of the rows' cells where it passes its limit. It is asked of rows that are
+/// gridded already: the cells of raw rows are within it.
+pub fn check_base(rows: &[Row]) -> Result<(), GridFault>
+    ensures ok { OnOk result (is_past (LimitKind.Base, base_of rows.now) ≡ false) }
+    ensures err { IfErr result (λ fault. (fault ≡ GridFault.Limit LimitKind.Base (base_of rows.now))
+        × (is_past (LimitKind.Base, base_of rows.now) ≡ true)) }
+{
+    let mut farthest = 0;
+    for row in rows {
+        farthest = farthest.max(distance(row.cell));
+    }
+    within(LimitKind::Base, farthest)
+}
+
+// How many cells a cell is away from 0, along the axis along which it is farther.
+fn distance(cell: Cell) -> u64
+    ensures { result ≡ max (unsigned_abs cell.x) (unsigned_abs cell.y) }
+{
+    cell.x.unsigned_abs().max(cell.y.unsigned_abs())
+}
 
 /// Refuses the first quantity of rows in order that passes its limit. `survey` is what was found of them.
 pub fn check_limits(rows: &[Row], survey: Survey, period: u32) -> Result<(), GridFault>

@@ -3,7 +3,7 @@ ghost use Rattle.gridding.specs.Origin.{IsCounted, IsOrigin};
 ghost use Rattle.gridding.specs.declared.packed_place.TheConstants.{INSTANTS};
 ghost use Rattle.track_types.specs.Near.{IsNear, IsRowInRange, IsWithin};
 
-use track_types::{Cell, MAX_EXTENT, MAX_SPAN, Row};
+use track_types::{Cell, MAX_SPAN, Row};
 
 /// How many instants places tell apart: as many as a chart may have.
 pub const INSTANTS: u64 = MAX_SPAN;
@@ -11,12 +11,12 @@ pub const INSTANTS: u64 = MAX_SPAN;
 /// How many of these come before the first row's. Most files begin with an early row.
 const INSTANTS_BEFORE: i64 = INSTANTS as i64 / 32;
 
-/// How many cells places tell apart along each axis: as many before the first row's as a chart may have, and as many
-/// from it on.
-const CELLS: u64 = 2 * MAX_EXTENT;
+/// How many cells places tell apart along each axis, 2^21: as many as 64 bits have room for beside the instants. A
+/// chart may have more of them.
+const CELLS: u64 = 2_097_152;
 
 /// How many of these come before the first row's.
-const CELLS_BEFORE: i64 = MAX_EXTENT as i64;
+const CELLS_BEFORE: i64 = CELLS as i64 / 2;
 
 /// An instant and a cell in 8 bytes, counted from an origin.
 #[derive(Clone, Copy, Default)]

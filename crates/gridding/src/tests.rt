@@ -133,18 +133,30 @@ fn judged(rt: &impl Abort, alloc: Global, cases: &[Case<'_>]) -> Result<(), Fail
     Ok(())
 }
 
-fn extents_up_to_2_to_the_20(rt: &impl Abort, alloc: Global) -> Result<(), Fail> {
+fn extents_up_to_2_to_the_24(rt: &impl Abort, alloc: Global) -> Result<(), Fail> {
     let cases = [
-        ("columns", 1, (0, 1, 1048575, 0), 4, None),
-        ("one column more", 1, (0, 1, 1048576, 0), 4, extent(1048577)),
-        ("lines to the left", 1, (0, 1, 0, -1048575), 4, None),
-        ("one line more", 1, (0, 1, 0, -1048576), 4, extent(1048577)),
+        ("columns", 1, (0, 1, 16777215, 0), 4, None),
+        (
+            "one column more",
+            1,
+            (0, 1, 16777216, 0),
+            4,
+            extent(16777217),
+        ),
+        ("lines to the left", 1, (0, 1, 0, -16777215), 4, None),
+        (
+            "one line more",
+            1,
+            (0, 1, 0, -16777216),
+            4,
+            extent(16777217),
+        ),
         (
             "the greater axis",
             1,
-            (0, 1, 1048578, 1048577),
+            (0, 1, 16777218, 16777217),
             4,
-            extent(1048579),
+            extent(16777219),
         ),
     ];
     judged(rt, alloc, &cases)
@@ -160,23 +172,23 @@ fn limits_before_blocks(rt: &impl Abort, alloc: Global) -> Result<(), Fail> {
         (
             "objects before span",
             65537,
-            (0, end + 1, 1048576, 0),
+            (0, end + 1, 16777216, 0),
             1,
             objects,
         ),
         (
             "span before extent",
             65536,
-            (0, end + 1, 1048576, 0),
+            (0, end + 1, 16777216, 0),
             1,
             span,
         ),
         (
             "extent before blocks",
             65536,
-            (0, end, 1048576, 0),
+            (0, end, 16777216, 0),
             1,
-            extent(1048577),
+            extent(16777217),
         ),
     ];
     judged(rt, alloc, &cases)
@@ -224,7 +236,7 @@ fn limits_are_judged_in_order(rt: HostRuntime) -> Result<(), Fail> {
         limit(LimitKind::Objects, 70_000),
         "rows without a block"
     );
-    extents_up_to_2_to_the_20(&rt, rt.alloc())?;
+    extents_up_to_2_to_the_24(&rt, rt.alloc())?;
     limits_before_blocks(&rt, rt.alloc())?;
     blocks_and_symbols(&rt, rt.alloc())
 }
