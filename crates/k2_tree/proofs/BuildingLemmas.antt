@@ -1,27 +1,33 @@
--- Building: what one number more behind ascending ones changes in a level's bits, and the levels one by one.
+-- Building: what one number more behind ascending ones changes in a level's bits, whatever its fan.
 use Rattle.std.proofs.Common.{◌≡◌, ℕ, zero, suc, ◌+◌, ◌-◌, ◌*◌, ◌/◌, ◌%◌, ◌^◌, ◌<◌, ◌≤◌, ◌==◌, ◌||◌, Bool, true, false}
-use Rattle.std.proofs.Common.{List, [], ◌∷◌, ◌++◌, length, map, take, get_or, refl, sym, ap, ◌∙◌, inl, inr, arith, subst}
+use Rattle.std.proofs.Common.{List, [], ◌∷◌, ◌++◌, length, map, take, get_or, refl, sym, ap, ◌∙◌, inl, inr, arith}
+use Rattle.std.proofs.Common.{subst, replicate}
 use Rattle.std.proofs.Common.{length-append, append_assoc, append-nil}
+use Rattle.std.specs.List.{range_with_len}
+use Rattle.std.proofs.Math.Nat.{div-add-mod, mod-lt}
+use Rattle.std.proofs.lemmas.Nat.{div-mul-add}
+use Rattle.std.proofs.lemmas.Grind.{flat_map-append}
 use Rattle.std.proofs.Math.ListN.{set}
 use Rattle.std.proofs.Math.Seq.{take-suc}
 use Rattle.std.proofs.lemmas.List.{length-map, map-append, set-append_right}
 use Rattle.std.proofs.lemmas.Bool.Decides.{nat_tests}
 use Rattle.std.proofs.lemmas.List.Folds.{list_any-append}
-use Rattle.k2_tree.specs.TreeBits.{is_in, prefixes, level_bits, longer, morton_bits, Rises}
-use Rattle.k2_tree.specs.Building.{room}
-use Rattle.k2_tree.proofs.MortonLemmas.{digit_more, two_bits}
+use Rattle.k2_tree.specs.Widths.{fan_of, digits_in}
+use Rattle.k2_tree.specs.TreeBits.{is_in, prefixes, Rises, level_bits, longer, morton_bits}
+use Rattle.k2_tree.specs.Building.{levels_bits, room}
+use Rattle.k2_tree.specs.Groups.{upper_squares}
+use Rattle.k2_tree.specs.Widths.{levels_with, widths_of}
+use Rattle.k2_tree.proofs.LevelLemmas.{bits_above-same, length-levels_bits, morton_bits-parted}
+use Rattle.k2_tree.proofs.WidthLemmas.{digits_in-levels_with}
+use Rattle.k2_tree.proofs.MortonLemmas.{two_bits}
 use Rattle.k2_tree.proofs.RisingLemmas.{Rises-place}
-use Rattle.k2_tree.proofs.PrefixLemmas.{any-prefixes, by_test, longer-rises, once_from, prefixes-rise, prefixes-shorter}
-use Rattle.k2_tree.proofs.NavigationLemmas.{length-longer, get_or-longer}
+use Rattle.k2_tree.proofs.PrefixLemmas.{any-prefixes, by_test, once_from, prefixes-rise, fan_pos}
+use Rattle.k2_tree.proofs.LongerLemmas.{div-pow_add, length-longer, get_or-longer, longer-rises, prefixes-shorter}
 
 -- the last of a number and those behind it
 abbrev last_of : ℕ → List ℕ → ℕ
 last_of k [] = k
 last_of k (x ∷ xs) = last_of x xs
-
--- four places that hold nothing
-abbrev four : List Bool
-four = false ∷ false ∷ false ∷ false ∷ []
 
 -- the same number again changes nothing
 once_from-same : (k y : ℕ) (xs : List ℕ) → y ≡ last_of k xs → once_from k (xs ++ y ∷ []) ≡ once_from k xs
@@ -106,28 +112,53 @@ mark f g p more n (suc i) (x ∷ xs) up within here =
     let same : g x ≡ f x = grind (arith, nat_tests, more x, later, here) in
     rw same (ap (λ ys. f x ∷ ys) (mark f g p more (suc x) i xs up.1 (omega arith) here))
 
--- one number more sets one bit in the last group
-level_more : (n c : ℕ) (xs : List ℕ) (grown : List Bool) → Rises 0 (xs ++ c ∷ [])
-    → grown ≡ map (is_in (prefixes n xs)) (longer (prefixes (suc n) (xs ++ c ∷ [])))
-    → (4 ≤ length grown) × (level_bits n (xs ++ c ∷ []) ≡ set grown (length grown - 4 + c / 4 ^ n % 4) true)
-unfolding level_bits
-level_more n c xs grown up is =
-    let above : List ℕ = prefixes (suc n) (xs ++ c ∷ []) in
-    let last = prefixes-last (suc n) c xs in
-    let long : length grown ≡ 4 * length above = ap length is ∙ (simp length-map) ∙ length-longer above in
-    let place : length grown - 4 + c / 4 ^ n % 4 ≡ 4 * (length above - 1) + c / 4 ^ n % 4 = omega (arith, last.0) in
-    let here : get_or (longer above) (4 * (length above - 1) + c / 4 ^ n % 4) 0 ≡ c / 4 ^ n =
-    get_or-longer above (length above - 1) (c / 4 ^ n % 4) (omega (arith, last.0)) (omega arith)
-    ∙ ap (λ q. 4 * q + c / 4 ^ n % 4) last.1 ∙ digit_more c n in
-    let up' : Rises 0 (longer above) = longer-rises 0 above (prefixes-rise (suc n) (xs ++ c ∷ []) up) in
-    let inside : 4 * (length above - 1) + c / 4 ^ n % 4 < length (longer above) =
-    omega (arith, last.0, length-longer above) in (
-      omega (arith, last.0),
-      mark (is_in (prefixes n xs)) (is_in (prefixes n (xs ++ c ∷ []))) (c / 4 ^ n) (λ z. is_in-more n c z xs)
-          0 (4 * (length above - 1) + c / 4 ^ n % 4) (longer above) up' inside here
-          ∙ ap (λ ys. set ys (4 * (length above - 1) + c / 4 ^ n % 4) true) (sym is)
-          ∙ ap (λ k. set grown k true) (sym place),
+-- one number more sets one bit in the last group: given the prefixes of the level above, and that the last is the
+-- number's
+level_more : (w n c : ℕ) (above : List ℕ) (f g : ℕ → Bool) (grown : List Bool) → Rises 0 above → 0 < length above
+    → get_or above (length above - 1) 0 ≡ c / 4 ^ (w + n) → ((z : ℕ) → g z ≡ (f z || (c / 4 ^ n == z)))
+    → grown ≡ map f (longer (fan_of w) above)
+    → (fan_of w ≤ length grown)
+    × (map g (longer (fan_of w) above) ≡ set grown (length grown - fan_of w + c / 4 ^ n % fan_of w) true)
+level_more w n c above f g grown up some last more is =
+    let k : ℕ = fan_of w in
+    let m : ℕ = length above - 1 in
+    let d : ℕ = c / 4 ^ n % k in
+    let small : d < k = mod-lt (c / 4 ^ n) (fan_pos w) in
+    let count : length above ≡ suc m = omega arith in
+    let long : length grown ≡ k * suc m =
+    ap length is ∙ length-map (longer k above) f ∙ length-longer k above ∙ ap (λ x. k * x) count in
+    let place : length grown - k + d ≡ k * m + d = omega (arith, long) in
+    let here : get_or (longer k above) (k * m + d) 0 ≡ c / 4 ^ n =
+    get_or-longer k above m d (omega arith) small ∙ ap (λ q. k * q + d) (last ∙ sym (div-pow_add c n w))
+    ∙ div-add-mod (c / 4 ^ n) k in
+    let none : k * 0 ≡ 0 = omega arith in
+    let up' : Rises 0 (longer k above) = rw none at (longer-rises k 0 above up) in
+    let inside : k * m + d < length (longer k above) =
+    omega (arith, length-longer k above, ap (λ x. k * x) count) in (
+      omega (arith, long),
+      mark f g (c / 4 ^ n) more 0 (k * m + d) (longer k above) up' inside here
+          ∙ ap (λ ys. set ys (k * m + d) true) (sym is) ∙ ap (λ j. set grown j true) (sym place),
     )
+
+-- what fails on all children of a square gives a group of zeros
+fresh : (size q : ℕ) (f : ℕ → Bool) (start m : ℕ) → 0 < size → size * q ≤ start → start + m ≤ size * q + size
+    → ((z : ℕ) → z / size ≡ q → f z ≡ false) → map f (range_with_len start m) ≡ replicate m false
+fresh size q f start zero some low high none = refl
+fresh size q f start (suc m) some low high none =
+    let quotient : start / size ≡ q =
+    let d : ℕ = start - size * q in
+    let e : start ≡ q * size + d = omega arith in
+    ap (λ x. x / size) e ∙ div-mul-add q size d (omega arith) in
+    rw (none start quotient) (ap (λ bs. false ∷ bs)
+    (fresh size q f (start + 1) m some (omega arith) (omega arith) none))
+
+-- the longer prefixes of one prefix more
+pub longer-snoc : (size : ℕ) (xs : List ℕ) (q : ℕ)
+    → longer size (xs ++ q ∷ []) ≡ longer size xs ++ range_with_len (size * q) size
+unfolding longer
+longer-snoc size xs q =
+    flat_map-append (λ p. range_with_len (size * p) size) xs (q ∷ [])
+    ∙ ap (λ ys. longer size xs ++ ys) (append-nil (range_with_len (size * q) size))
 
 -- what rises behind a list is not in it
 absent_last : (n q : ℕ) (xs : List ℕ) → Rises n (xs ++ q ∷ []) → (is_in xs q ≡ false) × (n ≤ q)
@@ -137,34 +168,6 @@ absent_last n q (x ∷ xs) up =
     let low : suc x ≤ q = rest.1 in
     let first : n ≤ x = up.0 in
     (grind (arith, nat_tests, rest.0), omega arith)
-
-longer-snoc : (xs : List ℕ) (q : ℕ)
-    → longer (xs ++ q ∷ []) ≡ longer xs ++ (4 * q ∷ (4 * q + 1) ∷ (4 * q + 2) ∷ (4 * q + 3) ∷ [])
-unfolding longer
-longer-snoc [] q = refl
-longer-snoc (x ∷ xs) q = ap (λ ys. 4 * x ∷ (4 * x + 1) ∷ (4 * x + 2) ∷ (4 * x + 3) ∷ ys) (longer-snoc xs q)
-
--- another number opens a group in which nothing was
-grown_new : (n c x : ℕ) (xs : List ℕ) → Rises 0 (x ∷ xs ++ c ∷ []) → (c / 4 ^ suc n ≡ last_of x xs / 4 ^ suc n → ⊥)
-    → level_bits n (x ∷ xs) ++ four ≡ map (is_in (prefixes n (x ∷ xs))) (longer (prefixes (suc n) (x ∷ xs ++ c ∷ [])))
-unfolding level_bits
-grown_new n c x xs up differ =
-    let old : List ℕ = prefixes (suc n) (x ∷ xs) in
-    let q : ℕ = c / 4 ^ suc n in
-    let f : ℕ → Bool = is_in (prefixes n (x ∷ xs)) in
-    let new : prefixes (suc n) (x ∷ xs ++ c ∷ []) ≡ old ++ q ∷ [] = prefixes-new (suc n) c x xs differ in
-    let rises : Rises 0 (old ++ q ∷ []) = subst (Rises 0) new (prefixes-rise (suc n) (x ∷ xs ++ c ∷ []) up) in
-    let none : (z : ℕ) → z / 4 ≡ q → f z ≡ false =
-    λ z parent.
-    grind (arith, prefixes-shorter n (x ∷ xs) z, ap (is_in old) parent ∙ (absent_last 0 q old rises).0) in
-    let group : List ℕ = 4 * q ∷ (4 * q + 1) ∷ (4 * q + 2) ∷ (4 * q + 3) ∷ [] in
-    let one = none (4 * q) (omega arith) in
-    let two = none (4 * q + 1) (omega arith) in
-    let three = none (4 * q + 2) (omega arith) in
-    let fresh : map f group ≡ four = (rw (one, two, three, none (4 * q + 3) (omega arith)) refl) in
-    sym (ap (λ ps. map f (longer ps)) new ∙ ap (map f) (longer-snoc old q)
-    ∙ map-append f (longer old) group
-    ∙ ap (λ bs. map f (longer old) ++ bs) fresh)
 
 Rises-take : (n i : ℕ) (xs : List ℕ) → Rises n xs → Rises n (take i xs)
 Rises-take n zero xs up = tt
@@ -176,81 +179,158 @@ last_of-take x zero xs within = refl
 last_of-take x (suc j) [] within = absurd (omega arith)
 last_of-take x (suc j) (y ∷ ys) within = last_of-take y j ys (omega arith)
 
--- the bits by which a number leaves away a digit more
-one_digit_more : (n : ℕ) → 2 ^ (2 * n + 2) ≡ 4 ^ suc n
-one_digit_more n = let e : 2 * n + 2 ≡ 2 * suc n = omega arith in ap (λ k. 2 ^ k) e ∙ two_bits (suc n)
+-- another number opens a group in which nothing was
+grown_new : (w n c x : ℕ) (xs : List ℕ) → Rises 0 (x ∷ xs ++ c ∷ [])
+    → (c / 4 ^ (w + n) ≡ last_of x xs / 4 ^ (w + n) → ⊥)
+    → level_bits w n (x ∷ xs) ++ replicate (fan_of w) false
+    ≡ map (is_in (prefixes n (x ∷ xs))) (longer (fan_of w) (prefixes (w + n) (x ∷ xs ++ c ∷ [])))
+unfolding level_bits
+grown_new w n c x xs up differ =
+    let old : List ℕ = prefixes (w + n) (x ∷ xs) in
+    let q : ℕ = c / 4 ^ (w + n) in
+    let f : ℕ → Bool = is_in (prefixes n (x ∷ xs)) in
+    let k : ℕ = fan_of w in
+    let group : List ℕ = range_with_len (k * q) k in
+    let new : prefixes (w + n) (x ∷ xs ++ c ∷ []) ≡ old ++ q ∷ [] = prefixes-new (w + n) c x xs differ in
+    let rises : Rises 0 (old ++ q ∷ []) = subst (Rises 0) new (prefixes-rise (w + n) (x ∷ xs ++ c ∷ []) up) in
+    let none : (z : ℕ) → z / k ≡ q → f z ≡ false =
+    λ z parent.
+    grind (arith, prefixes-shorter w n (x ∷ xs) z, ap (is_in old) parent ∙ (absent_last 0 q old rises).0) in
+    let zeros : map f group ≡ replicate k false = fresh k q f (k * q) k (fan_pos w) (omega arith) (omega arith) none in
+    sym (ap (λ ps. map f (longer k ps)) new ∙ ap (map f) (longer-snoc k old q)
+    ∙ map-append f (longer k old) group
+    ∙ ap (λ bits. map f (longer k old) ++ bits) zeros)
 
 -- with the room for the next number, the level has the groups of that number too
-grown : (n i : ℕ) (codes : List ℕ) → i < length codes → Rises 0 (take i codes ++ get_or codes i 0 ∷ [])
-    → level_bits n (take i codes) ++ room codes i n
-    ≡ map (is_in (prefixes n (take i codes))) (longer (prefixes (suc n) (take i codes ++ get_or codes i 0 ∷ [])))
+grown : (w n i : ℕ) (codes : List ℕ) → i < length codes → Rises 0 (take i codes ++ get_or codes i 0 ∷ [])
+    → level_bits w n (take i codes) ++ room (fan_of w) (w + n) codes i
+    ≡ map (is_in (prefixes n (take i codes)))
+    (longer (fan_of w) (prefixes (w + n) (take i codes ++ get_or codes i 0 ∷ [])))
 unfolding level_bits prefixes longer
-grown n zero codes within up = refl
-grown n (suc j) [] within up = absurd (omega arith)
-grown n (suc j) (x ∷ rest) within up =
+grown w n zero codes within up =
+    let c : ℕ = get_or codes 0 0 in
+    let k : ℕ = fan_of w in
+    let q : ℕ = c / 4 ^ (w + n) in
+    let one : prefixes (w + n) (c ∷ []) ≡ q ∷ [] = only (w + n) c in
+    let f : ℕ → Bool = is_in (prefixes n []) in
+    let zeros : map f (range_with_len (k * q) k) ≡ replicate k false =
+    fresh k q f (k * q) k (fan_pos w) (omega arith) (omega arith) (λ z parent. nothing n z) in
+    empty w n (replicate k false) ∙ sym (ap (λ ps. map f (longer k ps)) one ∙ ap (map f) (longer-snoc k [] q)
+    ∙ map-append f (longer k []) (range_with_len (k * q) k) ∙ ap (λ bits. map f (longer k []) ++ bits) zeros
+    ∙ none_longer k f (replicate k false))
+  where
+    only : (m c : ℕ) → prefixes m (c ∷ []) ≡ c / 4 ^ m ∷ []
+    only m c = refl
+
+    nothing : (n z : ℕ) → is_in (prefixes n []) z ≡ false
+    nothing n z = refl
+
+    empty : (w n : ℕ) (bits : List Bool) → map (is_in (prefixes n [])) (longer (fan_of w) (prefixes (w + n) [])) ++ bits
+        ≡ bits
+    empty w n bits = refl
+
+    none_longer : (k : ℕ) (f : ℕ → Bool) (bits : List Bool) → map f (longer k []) ++ bits ≡ bits
+    none_longer k f bits = refl
+grown w n (suc j) [] within up = absurd (omega arith)
+grown w n (suc j) (x ∷ rest) within up =
     let c : ℕ = get_or (x ∷ rest) (suc j) 0 in
     let before : ℕ = get_or (x ∷ rest) j 0 in
     let last : last_of x (take j rest) ≡ before = last_of-take x j rest (omega arith) in
-    let p : 2 ^ (2 * n + 2) ≡ 4 ^ suc n = one_digit_more n in
-    rw p (elim (by_test (before / 4 ^ suc n) (c / 4 ^ suc n)) [
+    let p : 2 ^ (2 * (w + n)) ≡ 4 ^ (w + n) = two_bits (w + n) in
+    rw p (elim (by_test (before / 4 ^ (w + n)) (c / 4 ^ (w + n))) [
       | inl same ↦
-          let old = prefixes-same (suc n) c x (take j rest) (sym same.0 ∙ ap (λ z. z / 4 ^ suc n) (sym last)) in
-          rw (same.1, old) (append-nil (level_bits n (x ∷ take j rest)))
+          let old = prefixes-same (w + n) c x (take j rest) (sym same.0 ∙ ap (λ z. z / 4 ^ (w + n)) (sym last)) in
+          rw (same.1, old) (append-nil (level_bits w n (x ∷ take j rest)))
       | inr differ ↦
-          rw differ.1 (grown_new n c x (take j rest) up
-          (λ e. differ.0 (ap (λ z. z / 4 ^ suc n) (sym last) ∙ sym e)))
+          rw differ.1 (grown_new w n c x (take j rest) up
+          (λ e. differ.0 (ap (λ z. z / 4 ^ (w + n)) (sym last) ∙ sym e)))
     ])
 
 -- one number more
-pub level_step : (n i : ℕ) (codes : List ℕ) (front old : List Bool) → Rises 0 codes → i < length codes
-    → old ≡ front ++ level_bits n (take i codes)
-    → (4 ≤ length (old ++ room codes i n))
-    × (set (old ++ room codes i n) (length (old ++ room codes i n) - 4 + get_or codes i 0 / 2 ^ (2 * n) % 4) true
-    ≡ front ++ level_bits n (take (i + 1) codes))
-level_step n i codes front old up within is =
+pub level_step : (w n i : ℕ) (codes : List ℕ) (front old : List Bool) → Rises 0 codes → i < length codes
+    → old ≡ front ++ level_bits w n (take i codes)
+    → (fan_of w ≤ length (old ++ room (fan_of w) (w + n) codes i))
+    × (set (old ++ room (fan_of w) (w + n) codes i)
+    (length (old ++ room (fan_of w) (w + n) codes i) - fan_of w + get_or codes i 0 / 4 ^ n % fan_of w) true
+    ≡ front ++ level_bits w n (take (i + 1) codes))
+unfolding level_bits
+level_step w n i codes front old up within is =
+    let k : ℕ = fan_of w in
     let c : ℕ = get_or codes i 0 in
     let xs : List ℕ = take i codes in
-    let level : List Bool = level_bits n xs ++ room codes i n in
+    let r : List Bool = room k (w + n) codes i in
+    let level : List Bool = level_bits w n xs ++ r in
     let e : i + 1 ≡ suc i = omega arith in
     let snoc : take (i + 1) codes ≡ xs ++ c ∷ [] = ap (λ m. take m codes) e ∙ take-suc codes i 0 within in
     let up' : Rises 0 (xs ++ c ∷ []) = subst (Rises 0) snoc (Rises-take 0 (i + 1) codes up) in
-    let more = level_more n c xs level up' (grown n i codes within up') in
-    let enough : 4 ≤ length level = more.0 in
-    let whole : old ++ room codes i n ≡ front ++ level =
-    ap (λ bs. bs ++ room codes i n) is ∙ append_assoc front (level_bits n xs) (room codes i n) in
-    let long : length (old ++ room codes i n) ≡ length front + length level =
-    ap length whole ∙ length-append front level in
-    let digit : c / 2 ^ (2 * n) % 4 ≡ c / 4 ^ n % 4 = ap (λ k. c / k % 4) (two_bits n) in
-    let k : ℕ = length (old ++ room codes i n) - 4 + c / 2 ^ (2 * n) % 4 in
-    let place : k - length front ≡ length level - 4 + c / 4 ^ n % 4 = omega arith in
-    let behind : length front ≤ k = omega arith in (
+    let above : List ℕ = prefixes (w + n) (xs ++ c ∷ []) in
+    let last = prefixes-last (w + n) c xs in
+    let more = level_more w n c above (is_in (prefixes n xs)) (is_in (prefixes n (xs ++ c ∷ []))) level
+    (prefixes-rise (w + n) (xs ++ c ∷ []) up') last.0 last.1 (λ z. is_in-more n c z xs) (grown w n i codes within up')
+    in
+    let enough : k ≤ length level = more.0 in
+    let whole : old ++ r ≡ front ++ level = ap (λ bs. bs ++ r) is ∙ append_assoc front (level_bits w n xs) r in
+    let long : length (old ++ r) ≡ length front + length level = ap length whole ∙ length-append front level in
+    let d : ℕ = c / 4 ^ n % k in
+    let j : ℕ = length (old ++ r) - k + d in
+    let place : j - length front ≡ length level - k + d = omega arith in
+    let behind : length front ≤ j = omega arith in (
       omega arith,
-      ap (λ bs. set bs k true) whole
-          ∙ set-append_right front level (length front) k true refl behind
+      ap (λ bs. set bs j true) whole
+          ∙ set-append_right front level (length front) j true refl behind
           ∙ ap (λ m. front ++ set level m true) place ∙ ap (λ bs. front ++ bs) (sym more.1)
-          ∙ ap (λ ys. front ++ level_bits n ys) (sym snoc),
+          ∙ ap (λ ys. front ++ level_bits w n ys) (sym snoc),
     )
 
 -- no number, no bits
-pub level_bits-none : (n : ℕ) → level_bits n [] ≡ []
+pub level_bits-none : (w n : ℕ) → level_bits w n [] ≡ []
 unfolding level_bits prefixes longer
-level_bits-none n = refl
+level_bits-none w n = refl
 
 -- one level more
-pub levels_step : (level : ℕ) (codes : List ℕ) (bits done all : List Bool) → 0 < level
-    → bits ++ morton_bits level codes ≡ all → done ≡ bits ++ level_bits (level - 1) codes
-    → done ++ morton_bits (level - 1) codes ≡ all
-unfolding morton_bits
-levels_step zero codes bits done all some is made = absurd (omega arith)
-levels_step (suc n) codes bits done all some is made =
-    let e : suc n - 1 ≡ n = omega arith in
-    let made' : done ≡ bits ++ level_bits n codes = made ∙ ap (λ m. bits ++ level_bits m codes) e in
-    ap (λ m. done ++ morton_bits m codes) e ∙ ap (λ bs. bs ++ morton_bits n codes) made'
-    ∙ append_assoc bits (level_bits n codes) (morton_bits n codes) ∙ is
+pub levels_step : (w level below : ℕ) (codes : List ℕ) (bits done all : List Bool) → 0 < level
+    → bits ++ levels_bits (levels_with w level) below codes ≡ all
+    → done ≡ bits ++ level_bits w (w * (level - 1) + below) codes
+    → done ++ levels_bits (levels_with w (level - 1)) below codes ≡ all
+unfolding levels_bits levels_with
+levels_step w zero below codes bits done all some is made = absurd (omega arith)
+levels_step w (suc k) below codes bits done all some is made =
+    let e : suc k - 1 ≡ k = omega arith in
+    let n : ℕ = w * k + below in
+    let ws : List ℕ = levels_with w k in
+    let digits : digits_in ws + below ≡ n = omega (arith, digits_in-levels_with w k) in
+    let made' : done ≡ bits ++ level_bits w n codes = made ∙ ap (λ m. bits ++ level_bits w (w * m + below) codes) e in
+    ap (λ m. done ++ levels_bits (levels_with w m) below codes) e
+    ∙ ap (λ bs. bs ++ levels_bits ws below codes) made'
+    ∙ append_assoc bits (level_bits w n codes) (levels_bits ws below codes)
+    ∙ ap (λ m. bits ++ (level_bits w m codes ++ levels_bits ws below codes)) (sym digits) ∙ is
 
 -- after the last level
-pub levels_end : (level : ℕ) (codes : List ℕ) (bits all : List Bool) → level ≡ 0
-    → bits ++ morton_bits level codes ≡ all → bits ≡ all
-unfolding morton_bits
-levels_end zero codes bits all last is = sym (append-nil bits) ∙ is
-levels_end (suc n) codes bits all last is = absurd (omega arith)
+pub levels_end : (w level below : ℕ) (codes : List ℕ) (bits all : List Bool) → level ≡ 0
+    → bits ++ levels_bits (levels_with w level) below codes ≡ all → bits ≡ all
+unfolding levels_bits levels_with
+levels_end w zero below codes bits all last is = sym (append-nil bits) ∙ is
+levels_end w (suc level) below codes bits all last is = absurd (omega arith)
+
+-- the wide levels and the others are a tree's
+pub levels_joined : (height wide : ℕ) (codes : List ℕ)
+    → levels_bits (levels_with 2 wide) (height - 2 * wide) codes
+    ++ levels_bits (levels_with 1 (height - 2 * wide)) 0 codes ≡ morton_bits (widths_of height wide) codes
+unfolding morton_bits levels_with levels_bits digits_in
+levels_joined height wide codes =
+    let low : ℕ = height - 2 * wide in
+    let ones : List ℕ = levels_with 1 low in
+    let digits : digits_in ones ≡ low = omega (arith, digits_in-levels_with 1 low) in
+    let lower : morton_bits ones codes ≡ levels_bits ones 0 codes =
+    ap (λ ws. morton_bits ws codes) (sym (append-nil ones)) ∙ morton_bits-parted ones [] codes
+    ∙ append-nil (levels_bits ones 0 codes) in
+    sym (morton_bits-parted (levels_with 2 wide) ones codes
+    ∙ ap (λ n. levels_bits (levels_with 2 wide) n codes ++ morton_bits ones codes) digits
+    ∙ ap (λ bits. levels_bits (levels_with 2 wide) low codes ++ bits) lower)
+
+-- the wide levels have sixteen bits for each square that they split
+pub upper_bits : (height wide : ℕ) (codes : List ℕ)
+    → length (levels_bits (levels_with 2 wide) (height - 2 * wide) codes) ≡ 16 * upper_squares height wide codes
+upper_bits height wide codes =
+    length-levels_bits (levels_with 2 wide) (height - 2 * wide) codes
+    ∙ bits_above-same 2 wide (height - 2 * wide) codes ∙ omega arith

@@ -1,52 +1,34 @@
 -- The first flaw of bits, a group and a level at a time.
-use Rattle.std.proofs.Common.{◌≡◌, ℕ, zero, suc, ◌+◌, ◌-◌, ◌*◌, ◌<◌, ◌≤◌, nat_le, Bool, true, false, cond, List, [], ◌∷◌}
+use Rattle.std.proofs.Common.{◌≡◌, ℕ, suc, ◌+◌, ◌-◌, ◌*◌, ◌/◌, ◌<◌, ◌≤◌, nat_le, Bool, true, false, cond, List, [], ◌∷◌}
 use Rattle.std.proofs.Common.{length, take, drop, get_or, refl, sym, ap, ◌∙◌, inl, inr, arith, Option, None, Some}
 use Rattle.std.proofs.Common.{length-drop, length-take}
 use Rattle.std.specs.Prelude.{slice_get}
 use Rattle.std.specs.List.{list_any}
 use Rattle.std.specs.Option.{option_or}
 use Rattle.std.proofs.Math.Seq.{take-add}
-use Rattle.std.proofs.lemmas.Bool.{and_parts, cases_Bool, le-leb, leb-true, lt-leb}
+use Rattle.std.proofs.lemmas.Bool.{le-leb, lt-leb}
 use Rattle.std.proofs.lemmas.List.{drop-drop, drop_all, get_or-drop}
 use Rattle.std.proofs.lemmas.Option.{get_or_from_slice_get, none-some}
 use Rattle.list_laws.proofs.FirstLemmas.{map-none}
 use Rattle.packed_bits.specs.Bits.{ones_of}
 use Rattle.bit_rank.specs.Bits.{rank_of}
 use Rattle.bit_rank.proofs.RankLemmas.{ones_of-append, ones_of-cons, ones_of-le-length, ones_of-nil, rank_of-step}
+use Rattle.k2_tree.specs.Widths.{fan_of, width_below, widths_under}
+use Rattle.k2_tree.specs.Groups.{upper_in}
 use Rattle.k2_tree.specs.Flaws.{has_group, group_flaw, level_flaw, tree_flaw}
 use Rattle.k2_tree.specs.Checking.{flaw_from, group_ones, IsLevel}
-
--- a group at the front is whole, and has a one
-pub has_group-parts : (bits : List Bool) → has_group bits ≡ true
-    → (4 ≤ length bits) × (list_any (λ bit. bit) (take 4 bits) ≡ true)
-has_group-parts bits has =
-    let parts = and_parts (nat_le 4 (length bits)) (list_any (λ bit. bit) (take 4 bits)) has in
-    (leb-true 4 (length bits) parts.0, parts.1)
-
--- the group at the front of those without a flaw is there, and those behind it have no flaw
-pub group_flaw-none : (groups : ℕ) (bits : List Bool) → group_flaw (suc groups) bits ≡ None
-    → (has_group bits ≡ true) × (group_flaw groups (drop 4 bits) ≡ None)
-unfolding group_flaw
-group_flaw-none groups bits none = elim (cases_Bool (has_group bits)) [
-  | inl has ↦ (has, map-none (λ place. 4 + place) (group_flaw groups (drop 4 bits)) (rw has at none))
-  | inr lacks ↦ absurd (none-some 0 (sym (rw lacks at none)))
-]
-
--- groups without a flaw are all there
-pub group_flaw-within : (groups : ℕ) (bits : List Bool) → group_flaw groups bits ≡ None → 4 * groups ≤ length bits
-group_flaw-within zero bits none = omega arith
-group_flaw-within (suc groups) bits none =
-    let parts = group_flaw-none groups bits none in
-    let rest = group_flaw-within groups (drop 4 bits) parts.1 in
-    omega (arith, (has_group-parts bits parts.0).0, rest, length-drop 4 bits)
+use Rattle.k2_tree.proofs.WidthLemmas.{widths_under-opened, widths_under-none}
+use Rattle.k2_tree.proofs.FlawedLemmas.{has_group-parts}
+use Rattle.std.proofs.lemmas.Bool.{cases_lt, lt-ltb, le-ltb}
 
 -- the ones of a group that is whole
-pub group_ones-whole : (bits : List Bool) → 4 ≤ length bits → group_ones bits ≡ ones_of (take 4 bits)
-group_ones-whole bits long = rw (le-leb 4 (length bits) long) refl
+pub group_ones-whole : (size : ℕ) (bits : List Bool) → size ≤ length bits → group_ones size bits
+    ≡ ones_of (take size bits)
+group_ones-whole size bits long = rw (le-leb size (length bits) long) refl
 
 -- there is a group where it has ones
-has_group-ones : (bits : List Bool) → has_group bits ≡ nat_le 1 (group_ones bits)
-has_group-ones bits = grind (arith, any-ones (take 4 bits))
+has_group-ones : (size : ℕ) (bits : List Bool) → has_group size bits ≡ nat_le 1 (group_ones size bits)
+has_group-ones size bits = grind (arith, any-ones (take size bits))
   where
     any-ones : (bits : List Bool) → list_any (λ bit. bit) bits ≡ nat_le 1 (ones_of bits)
     any-ones [] = rw ones_of-nil refl
@@ -72,93 +54,98 @@ flaw_from-twice a b None = refl
 flaw_from-twice a b (Some p) = ap Some (omega arith)
 
 -- a level of which so many groups are done: what is left tells its flaw
-pub record IsWalk (bits : List Bool) (start groups done place ones : ℕ) : Type 0 where
-  pub along : place ≡ start + 4 * done
+pub record IsWalk (size : ℕ) (bits : List Bool) (start groups done place ones : ℕ) : Type 0 where
+  pub along : place ≡ start + size * done
   pub within : place ≤ length bits
-  pub counted : ones ≡ ones_of (take (4 * done) (drop start bits))
-  pub left : flaw_from start (group_flaw groups (drop start bits))
-      ≡ flaw_from place (group_flaw (groups - done) (drop place bits))
+  pub counted : ones ≡ ones_of (take (size * done) (drop start bits))
+  pub left : flaw_from start (group_flaw size groups (drop start bits))
+      ≡ flaw_from place (group_flaw size (groups - done) (drop place bits))
 
 -- at its beginning
-pub walk_starts : (bits : List Bool) (start groups : ℕ) → start ≤ length bits → IsWalk bits start groups 0 start 0
-walk_starts bits start groups within =
+pub walk_starts : (size : ℕ) (bits : List Bool) (start groups : ℕ) → start ≤ length bits
+    → IsWalk size bits start groups 0 start 0
+walk_starts size bits start groups within =
     let e : groups - 0 ≡ groups = omega arith in
-    record { along = omega arith; within = within; counted = sym ones_of-nil; left = rw e refl }
+    let none : size * 0 ≡ 0 = omega arith in
+    record { along = omega arith; within = within; counted = rw none (sym ones_of-nil); left = rw e refl }
 
 -- the ones of one group more
-ones_of-more : (bits : List Bool) (start done place : ℕ) → place ≡ start + 4 * done
-    → ones_of (take (4 * (done + 1)) (drop start bits))
-    ≡ ones_of (take (4 * done) (drop start bits)) + ones_of (take 4 (drop place bits))
-ones_of-more bits start done place along =
-    let e : 4 * (done + 1) ≡ 4 * done + 4 = omega arith in
-    rw (e, along, ← drop-drop (4 * done) start bits) (ap ones_of (take-add (4 * done) 4 (drop start bits))
-    ∙ ones_of-append (take (4 * done) (drop start bits)) (take 4 (drop (4 * done) (drop start bits))))
+ones_of-more : (size : ℕ) (bits : List Bool) (start done place : ℕ) → place ≡ start + size * done
+    → ones_of (take (size * (done + 1)) (drop start bits))
+    ≡ ones_of (take (size * done) (drop start bits)) + ones_of (take size (drop place bits))
+ones_of-more size bits start done place along =
+    let e : size * (done + 1) ≡ size * done + size = omega arith in
+    rw (e, along, ← drop-drop (size * done) start bits) (ap ones_of (take-add (size * done) size (drop start bits))
+    ∙ ones_of-append (take (size * done) (drop start bits)) (take size (drop (size * done) (drop start bits))))
 
-module _ {bits : List Bool} {start groups done place ones : ℕ} (walk : IsWalk bits start groups done place ones) where
+module _ {size : ℕ} {bits : List Bool} {start groups done place ones : ℕ}
+    (walk : IsWalk size bits start groups done place ones) where
   -- there are few ones
-  pub walk_few : ones ≤ 4 * done
+  pub walk_few : ones ≤ size * done
   walk_few =
-      let seen : List Bool = take (4 * done) (drop start bits) in
-      omega (arith, walk.counted, ones_of-le-length seen, length-take (4 * done) (drop start bits))
+      let seen : List Bool = take (size * done) (drop start bits) in
+      omega (arith, walk.counted, ones_of-le-length seen, length-take (size * done) (drop start bits))
 
   -- a level that is done
-  pub walk_ends : done ≡ groups → IsLevel bits start groups ones
+  pub walk_ends : done ≡ groups → IsLevel size bits start groups ones
   unfolding group_flaw
   walk_ends end =
       let e : groups - done ≡ 0 = omega arith in
       record {
-        whole = omega (arith, walk.along, walk.within);
-        flawless = map-none (λ p. start + p) (group_flaw groups (drop start bits)) (walk.left ∙ (rw e refl));
+        whole = omega (arith, walk.along, walk.within, ap (λ k. size * k) end);
+        flawless = map-none (λ p. start + p) (group_flaw size groups (drop start bits)) (walk.left ∙ (rw e refl));
         counted = rw end at walk.counted;
       }
 
-  module _ {found : ℕ} (more : done < groups) (is : found ≡ group_ones (drop place bits)) where
+  module _ {found : ℕ} (more : done < groups) (is : found ≡ group_ones size (drop place bits)) where
     next : groups - done ≡ suc (groups - (done + 1))
     next = omega (arith, more)
 
     -- one group further
-    pub walk_goes_on : (found ≡ 0 → ⊥) → IsWalk bits start groups (done + 1) (place + 4) (ones + found)
+    pub walk_goes_on : (found ≡ 0 → ⊥) → IsWalk size bits start groups (done + 1) (place + size) (ones + found)
     unfolding group_flaw
     walk_goes_on some =
         let rest : List Bool = drop place bits in
-        let has : has_group rest ≡ true = has_group-ones rest ∙ le-leb 1 (group_ones rest) (omega arith) in
-        let long : 4 ≤ length rest = (has_group-parts rest has).0 in
-        let counted : found ≡ ones_of (take 4 rest) = is ∙ group_ones-whole rest long in
-        let grown = ones_of-more bits start done place walk.along in
+        let has : has_group size rest ≡ true =
+        has_group-ones size rest ∙ le-leb 1 (group_ones size rest) (omega arith) in
+        let long : size ≤ length rest = (has_group-parts size rest has).0 in
+        let counted : found ≡ ones_of (take size rest) = is ∙ group_ones-whole size rest long in
+        let grown = ones_of-more size bits start done place walk.along in
         record {
           along = omega (arith, walk.along);
           within = omega (arith, length-drop place bits);
           counted = omega (arith, walk.counted);
-          left = walk.left ∙ (rw (next, has, ← drop-drop 4 place bits)
-              (flaw_from-twice place 4 (group_flaw (groups - (done + 1)) (drop 4 rest))));
+          left = walk.left ∙ (rw (next, has, ← drop-drop size place bits)
+              (flaw_from-twice place size (group_flaw size (groups - (done + 1)) (drop size rest))));
         }
 
     -- a group without a one is the flaw
-    pub walk_fails : found ≡ 0 → flaw_from start (group_flaw groups (drop start bits)) ≡ Some place
+    pub walk_fails : found ≡ 0 → flaw_from start (group_flaw size groups (drop start bits)) ≡ Some place
     unfolding group_flaw
     walk_fails none =
         let rest : List Bool = drop place bits in
-        let lacks : has_group rest ≡ false = has_group-ones rest ∙ lt-leb 1 (group_ones rest) (omega arith) in
+        let lacks : has_group size rest ≡ false =
+        has_group-ones size rest ∙ lt-leb 1 (group_ones size rest) (omega arith) in
         walk.left ∙ (rw (next, lacks) (ap Some (omega arith)))
 
--- levels of which so many are done: what is left tells the flaw
-pub record IsPassed (height : ℕ) (bits : List Bool) (done start groups : ℕ) : Type 0 where
+-- levels of which so many are left: what is left tells the flaw
+pub record IsPassed (low height : ℕ) (bits : List Bool) (level start groups : ℕ) : Type 0 where
   pub within : start ≤ length bits
-  pub left : tree_flaw height bits ≡ flaw_from start (level_flaw (height - done) groups (drop start bits))
+  pub left : tree_flaw (widths_under low height) bits
+      ≡ flaw_from start (level_flaw (widths_under low level) groups (drop start bits))
 
 -- no bits have no flaw
-pub no_bits : (height : ℕ) (bits : List Bool) → length bits ≡ 0 → tree_flaw height bits ≡ None
+pub no_bits : (widths : List ℕ) (bits : List Bool) → length bits ≡ 0 → tree_flaw widths bits ≡ None
 unfolding tree_flaw
-no_bits height [] none = refl
-no_bits height (bit ∷ bits) none = absurd (omega arith)
+no_bits widths [] none = refl
+no_bits widths (bit ∷ bits) none = absurd (omega arith)
 
 -- at the top
-pub levels_start : (height : ℕ) (bits : List Bool) → (length bits ≡ 0 → ⊥) → IsPassed height bits 0 0 1
+pub levels_start : (low height : ℕ) (bits : List Bool) → (length bits ≡ 0 → ⊥) → IsPassed low height bits height 0 1
 unfolding tree_flaw
-levels_start height [] some = absurd (some refl)
-levels_start height (bit ∷ bits) some =
-    let e : height - 0 ≡ height = omega arith in
-    record { within = omega arith; left = rw e (sym (from_zero (level_flaw height 1 (bit ∷ bits)))) }
+levels_start low height [] some = absurd (some refl)
+levels_start low height (bit ∷ bits) some =
+    record { within = omega arith; left = sym (from_zero (level_flaw (widths_under low height) 1 (bit ∷ bits))) }
   where
     from_zero : (flaw : Option ℕ) → flaw_from 0 flaw ≡ flaw
     from_zero None = refl
@@ -170,43 +157,98 @@ first : (start place : ℕ) (x y : Option ℕ) → flaw_from start x ≡ Some pl
 first start place None y e = absurd (none-some place e)
 first start place (Some p) y e = e
 
-module _ {height : ℕ} {bits : List Bool} {done start groups : ℕ} (passed : IsPassed height bits done start groups) where
+module _ {low height : ℕ} {bits : List Bool} {level start groups : ℕ}
+    (passed : IsPassed low height bits level start groups) where
+  abbrev w : ℕ
+  w = width_below low level
+
   -- one level further
-  pub levels_go_on : {ones : ℕ} → done < height → IsLevel bits start groups ones
-      → IsPassed height bits (done + 1) (start + 4 * groups) ones
+  pub levels_go_on : {ones : ℕ} → 0 < level → IsLevel (fan_of w) bits start groups ones
+      → IsPassed low height bits (level - w) (start + fan_of w * groups) ones
   unfolding level_flaw
-  levels_go_on {ones} more level =
-      let next : height - done ≡ suc (height - (done + 1)) = omega arith in
+  levels_go_on {ones} more found =
+      let k : ℕ = fan_of w in
       record {
-        within = omega (arith, level.whole);
-        left = passed.left ∙ (rw (next, level.flawless, ← level.counted, drop-drop (4 * groups) start bits)
-            (flaw_from-twice start (4 * groups)
-            (level_flaw (height - (done + 1)) ones (drop (start + 4 * groups) bits))));
+        within = omega (arith, found.whole);
+        left = passed.left ∙ (rw
+            (widths_under-opened low level more, found.flawless, ← found.counted, drop-drop (k * groups) start bits)
+            (flaw_from-twice start (k * groups)
+            (level_flaw (widths_under low (level - w)) ones (drop (start + k * groups) bits))));
       }
 
   -- the flaw of a level is the tree's
-  pub level_fails : {place : ℕ} → done < height → flaw_from start (group_flaw groups (drop start bits)) ≡ Some place
-      → tree_flaw height bits ≡ Some place
+  pub level_fails : {place : ℕ} → 0 < level → flaw_from start (group_flaw (fan_of w) groups (drop start bits))
+      ≡ Some place
+      → tree_flaw (widths_under low height) bits ≡ Some place
   unfolding level_flaw
   level_fails {place} more fails =
-      let next : height - done ≡ suc (height - (done + 1)) = omega arith in
-      passed.left ∙ (rw next (first start place (group_flaw groups (drop start bits)) _ fails))
+      passed.left ∙ (rw (widths_under-opened low level more)
+      (first start place (group_flaw (fan_of w) groups (drop start bits)) _ fails))
 
   -- behind the last level what remains is the flaw
-  module _ (end : done ≡ height) where
-    none_left : height - done ≡ 0
-    none_left = omega (arith, end)
+  module _ (end : level ≡ 0) where
+    none_left : widths_under low level ≡ []
+    none_left = ap (widths_under low) end ∙ widths_under-none low
 
-    pub some_remain : start < length bits → tree_flaw height bits ≡ Some start
+    pub some_remain : start < length bits → tree_flaw (widths_under low height) bits ≡ Some start
     unfolding level_flaw
     some_remain more =
         passed.left ∙ (rw none_left (by_rest (drop start bits) (omega (arith, length-drop start bits))))
       where
-        by_rest : (rest : List Bool) → 0 < length rest → flaw_from start (level_flaw 0 groups rest) ≡ Some start
+        by_rest : (rest : List Bool) → 0 < length rest → flaw_from start (level_flaw [] groups rest) ≡ Some start
         by_rest [] some = absurd (omega arith)
         by_rest (bit ∷ rest) some = ap Some (omega arith)
 
     -- where nothing remains, there is none
-    pub none_remain : length bits ≤ start → tree_flaw height bits ≡ None
+    pub none_remain : length bits ≤ start → tree_flaw (widths_under low height) bits ≡ None
     unfolding level_flaw
     none_remain past = passed.left ∙ (rw (none_left, drop_all start bits past) refl)
+
+-- the upper squares of levels of which so many are left
+pub record IsCounted (low wide : ℕ) (bits : List Bool) (level start groups upper : ℕ) : Type 0 where
+  pub few : 16 * upper ≤ start
+  pub all : upper + upper_in ((level - low) / 2) groups (drop start bits) ≡ upper_in wide 1 bits
+
+pub counted_starts : (height wide : ℕ) (bits : List Bool) → 2 * wide ≤ height
+    → IsCounted (height - 2 * wide) wide bits height 0 1 0
+counted_starts height wide bits fits =
+    let e : (height - (height - 2 * wide)) / 2 ≡ wide = omega arith in
+    record { few = omega arith; all = rw e (omega arith) }
+
+module _ {low wide : ℕ} {bits : List Bool} {level start groups upper : ℕ}
+    (counted : IsCounted low wide bits level start groups upper) where
+  pub counted_goes_on : {ones more : ℕ} → 0 < level → IsLevel (fan_of (width_below low level)) bits start groups ones
+      → (width_below low level ≡ 2 → more ≡ groups) → (width_below low level ≡ 1 → more ≡ 0)
+      → IsCounted low wide bits (level - width_below low level) (start + fan_of (width_below low level) * groups) ones
+      (upper + more)
+  unfolding upper_in
+  counted_goes_on {ones} {more} some found two one = elim (cases_lt (low + 1) level) [
+    | inl wide_level ↦
+        let on = lt-ltb (low + 1) level wide_level in
+        let w : width_below low level ≡ 2 = rw on refl in
+        let found' : IsLevel 16 bits start groups ones = rw w at found in
+        let here : more ≡ groups = two w in
+        let a : (level - low) / 2 ≡ suc ((level - 2 - low) / 2) = omega arith in
+        let left : upper + (groups + upper_in ((level - 2 - low) / 2) ones (drop (start + 16 * groups) bits))
+        ≡ upper_in wide 1 bits =
+        ap (λ k. upper + (groups + upper_in ((level - 2 - low) / 2) k (drop (start + 16 * groups) bits))) found'.counted
+        ∙ ap (λ bs. upper + (groups + upper_in ((level - 2 - low) / 2) (ones_of (take (16 * groups) (drop start bits)))
+        bs)) (sym (drop-drop (16 * groups) start bits))
+        ∙ (rw a at counted.all) in
+        rw (w, here) (record { few = omega (arith, counted.few); all = omega (arith, left) })
+    | inr narrow ↦
+        let off = le-ltb (low + 1) level narrow in
+        let w : width_below low level ≡ 1 = rw off refl in
+        let here : more ≡ 0 = one w in
+        let a : (level - low) / 2 ≡ 0 = omega arith in
+        let b : (level - 1 - low) / 2 ≡ 0 = omega arith in
+        let all : upper + 0 ≡ upper_in wide 1 bits = rw a at counted.all in
+        rw (w, here) (record { few = omega (arith, counted.few); all = rw b (omega (arith, all)) })
+  ]
+
+  pub counted_ends : level ≡ 0 → upper ≡ upper_in wide 1 bits
+  unfolding upper_in
+  counted_ends end =
+      let a : (level - low) / 2 ≡ 0 = omega arith in
+      let all : upper + 0 ≡ upper_in wide 1 bits = rw a at counted.all in
+      omega (arith, all)

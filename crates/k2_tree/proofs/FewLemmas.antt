@@ -1,5 +1,5 @@
 -- A test of boxes keeps at most as many leaves as squares.
-use Rattle.std.proofs.Common.{◌≡◌, ℕ, zero, suc, ◌+◌, ◌≤◌, Bool, true, List, [], ◌∷◌, length, map, filter}
+use Rattle.std.proofs.Common.{◌≡◌, ℕ, ◌+◌, ◌≤◌, Bool, true, List, [], ◌∷◌, length, map, filter}
 use Rattle.std.proofs.Common.{sym, ap, ◌∙◌, arith}
 use Rattle.std.proofs.lemmas.Bool.{and_parts}
 use Rattle.std.proofs.lemmas.List.{length-append}
@@ -9,39 +9,40 @@ use Rattle.track_types.specs.declared.cell_box.CellBox.{CellBox}
 use Rattle.std.specs.List.{enumerate_from}
 use Rattle.std.proofs.Math.Nat.{div-one}
 use Rattle.k2_tree.specs.Morton.{morton_of}
+use Rattle.k2_tree.specs.Widths.{digits_in}
 use Rattle.k2_tree.specs.TreeBits.{prefixes}
 use Rattle.k2_tree.specs.Squares.{Node, node, squares_from}
-use Rattle.k2_tree.specs.Tree.{Tree, IsTree, codes_of}
-use Rattle.k2_tree.specs.Pruning.{kept_leaves, on_areas, passes, passes_at, square_count}
+use Rattle.k2_tree.specs.Tree.{Tree, IsTree, codes_of, tree_widths}
+use Rattle.k2_tree.specs.Pruning.{digits_left, kept_leaves, on_areas, passes, passes_at, square_count}
 use Rattle.k2_tree.proofs.PrefixLemmas.{prefixes-zero}
-use Rattle.k2_tree.proofs.SquareLemmas.{squares_from-zero}
 
 -- where each square of a number passes, its own does
-passes-own : (test : Node → Bool) (n code : ℕ) → passes test n code ≡ true → test (node 0 code) ≡ true
-unfolding passes
-passes-own test zero code e = ap (λ c. test (node 0 c)) (sym (div-one code)) ∙ (and_parts _ _ e).0
-passes-own test (suc n) code e = passes-own test n code (and_parts _ _ e).1
+passes-own : (test : Node → Bool) (widths : List ℕ) (code : ℕ) → passes test widths code ≡ true → test (node 0 code)
+    ≡ true
+unfolding passes digits_left
+passes-own test [] code e = ap (λ c. test (node 0 c)) (sym (div-one code)) ∙ (and_parts _ _ e).0
+passes-own test (w ∷ ws) code e = passes-own test ws code (and_parts _ _ e).1
 
 -- of cells at most as many pass as have an own square that does
-few-cells : (test : Node → Bool) (height : ℕ) (base : Cell) (k : ℕ) (cells : List Cell)
-    → length (filter (λ leaf. passes test height (morton_of height base leaf.1)) (enumerate_from k cells))
+few-cells : (test : Node → Bool) (widths : List ℕ) (height : ℕ) (base : Cell) (k : ℕ) (cells : List Cell)
+    → length (filter (λ leaf. passes test widths (morton_of height base leaf.1)) (enumerate_from k cells))
     ≤ length (filter test (map (node 0) (map (morton_of height base) cells)))
-few-cells test height base k [] = omega arith
-few-cells test height base k (cell ∷ cells) =
-    let own = passes-own test height (morton_of height base cell) in
-    grind (arith, own, few-cells test height base (k + 1) cells)
+few-cells test widths height base k [] = omega arith
+few-cells test widths height base k (cell ∷ cells) =
+    let own = passes-own test widths (morton_of height base cell) in
+    grind (arith, own, few-cells test widths height base (k + 1) cells)
 
 -- the squares of the lowest level are among those from a level down
-few-squares : (test : Node → Bool) (n : ℕ) (codes : List ℕ)
-    → length (filter test (map (node 0) (prefixes 0 codes))) ≤ length (filter test (squares_from n codes))
+few-squares : (test : Node → Bool) (widths codes : List ℕ)
+    → length (filter test (map (node 0) (prefixes 0 codes))) ≤ length (filter test (squares_from widths codes))
 unfolding squares_from
-few-squares test zero codes = let e = ap (λ xs. length (filter test xs)) (squares_from-zero codes) in omega (arith, e)
-few-squares test (suc n) codes =
-    let here : List Node = map (node (suc n)) (prefixes (suc n) codes) in
-    let parts = ap length (filter-append test here (squares_from n codes))
-    ∙ length-append (filter test here) (filter test (squares_from n codes)) in
-    let rest = few-squares test n codes in
-    omega (arith, parts, rest)
+few-squares test [] codes = omega arith
+few-squares test (w ∷ ws) codes =
+    let n : ℕ = w + digits_in ws in
+    let here : List Node = map (node n) (prefixes n codes) in
+    let parts = ap length (filter-append test here (squares_from ws codes))
+    ∙ length-append (filter test here) (filter test (squares_from ws codes)) in
+    omega (arith, parts, few-squares test ws codes)
 
 -- a test keeps at most as many leaves of a tree as squares
 pub kept_leaves-few : (keep : CellBox → Bool) (tree : Tree) → IsTree tree
@@ -50,7 +51,7 @@ unfolding passes_at
 kept_leaves-few keep tree is =
     let test : Node → Bool = on_areas keep tree in
     let all : prefixes 0 (codes_of tree) ≡ codes_of tree = prefixes-zero (codes_of tree) is.codes.rising in
-    let cells = few-cells test tree.height tree.base 0 tree.cells in
-    let squares = few-squares test tree.height (codes_of tree) in
+    let cells = few-cells test (tree_widths tree) tree.height tree.base 0 tree.cells in
+    let squares = few-squares test (tree_widths tree) (codes_of tree) in
     let lowest = ap (λ codes. length (filter test (map (node 0) codes))) all in
     omega (arith, cells, squares, lowest)

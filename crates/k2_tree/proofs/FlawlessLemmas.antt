@@ -1,5 +1,5 @@
 -- Bits without a flaw are those of the Morton numbers that they tell.
-use Rattle.std.proofs.Common.{◌≡◌, ℕ, zero, suc, ◌+◌, ◌*◌, ◌/◌, ◌^◌, ◌<◌, ◌≤◌, ◌==◌, ◌&&◌, ◌||◌, Bool, true, false}
+use Rattle.std.proofs.Common.{◌≡◌, ℕ, suc, ◌+◌, ◌*◌, ◌/◌, ◌^◌, ◌<◌, ◌≤◌, ◌==◌, Bool, true, false}
 use Rattle.std.proofs.Common.{List, [], ◌∷◌, length, map, take, drop, get_or, refl, sym, ap, ◌∙◌, arith}
 use Rattle.std.proofs.Common.{Option, None, All}
 use Rattle.std.specs.List.{list_any}
@@ -12,18 +12,16 @@ use Rattle.std.proofs.lemmas.Option.{none-some}
 use Rattle.list_laws.proofs.FirstLemmas.{map-none, or-none}
 use Rattle.packed_bits.specs.Bits.{ones_of}
 use Rattle.packed_bits.proofs.OnesLemmas.{ones_of-nil, ones_of-cons}
-use Rattle.track_types.specs.declared.cell.Cell.{Cell}
-use Rattle.k2_tree.specs.Morton.{IsGrid}
-use Rattle.k2_tree.specs.TreeBits.{is_in, prefixes, longer, level_bits, morton_bits, Rises}
-use Rattle.k2_tree.specs.Tree.{picked, codes_below, codes_in, tree_of, AreTreeBits, IsStored}
-use Rattle.k2_tree.specs.Flaws.{group_flaw, level_flaw, tree_flaw, StandsFor}
+use Rattle.k2_tree.specs.Widths.{digits_in, fan_of, widths_of}
+use Rattle.k2_tree.specs.TreeBits.{is_in, prefixes, Rises, longer, level_bits, morton_bits}
+use Rattle.k2_tree.specs.Tree.{picked, codes_below, codes_in, AreTreeBits}
+use Rattle.k2_tree.specs.Flaws.{group_flaw, level_flaw, tree_flaw}
 use Rattle.k2_tree.proofs.RisingLemmas.{Rises-weaker, is_in-below, is_in-first, is_in-other, same_from_rising, by_place}
-use Rattle.k2_tree.proofs.PrefixLemmas.{is_in-parents, prefixes-rise, prefixes-zero, prefixes-of, longer-rises, fan_pos}
-use Rattle.k2_tree.proofs.NavigationLemmas.{length-longer}
-use Rattle.k2_tree.proofs.DescentLemmas.{morton_bits-none}
-use Rattle.k2_tree.proofs.CellLemmas.{IsTree-stored}
-use Rattle.k2_tree.proofs.BuiltLemmas.{given_back}
-use Rattle.k2_tree.proofs.CheckingLemmas.{group_flaw-none, group_flaw-within, has_group-parts}
+use Rattle.k2_tree.proofs.PrefixLemmas.{prefixes-rise, prefixes-zero, prefixes-of, fan_pos}
+use Rattle.k2_tree.proofs.LongerLemmas.{is_in-parents, length-longer, longer-rises}
+use Rattle.k2_tree.proofs.WidthLemmas.{digits_in-widths_of}
+use Rattle.k2_tree.proofs.FlawedLemmas.{group_flaw-within, parents-picked}
+use Rattle.k2_tree.proofs.ToldLemmas.{morton_bits-none}
 
 -- what is picked rises
 Rises-picked : (n : ℕ) (bits : List Bool) (codes : List ℕ) → Rises n codes → Rises n (picked bits codes)
@@ -73,104 +71,79 @@ map-picked n (false ∷ bits) (code ∷ codes) up within =
     ap (λ b. b ∷ map (is_in kept) codes) (is_in-below (suc code) kept code above (omega arith))
     ∙ ap (λ bs. false ∷ bs) (map-picked (suc code) bits codes up.1 (omega arith))
 
--- the parents of what one bit more picks
-parent : (bit : Bool) (bits : List Bool) (code p : ℕ) (codes : List ℕ) (c : ℕ) → code / 4 ≡ p
-    → list_any (λ x. x / 4 == c) (picked (bit ∷ bits) (code ∷ codes))
-    ≡ ((bit && (p == c)) || list_any (λ x. x / 4 == c) (picked bits codes))
-unfolding picked
-parent true bits code p codes c e = ap (λ z. (z == c) || list_any (λ x. x / 4 == c) (picked bits codes)) e
-parent false bits code p codes c e = refl
-
--- one true bit of four is enough
-one_of_four : (b0 b1 b2 b3 t r : Bool) → (b0 || (b1 || (b2 || (b3 || false)))) ≡ true
-    → ((b0 && t) || ((b1 && t) || ((b2 && t) || ((b3 && t) || r)))) ≡ (t || r)
-one_of_four b0 b1 b2 b3 t r some = grind arith
-
--- where each group has a one, the parents of what is picked are all of the prefixes
-parents-picked : (prefixes : List ℕ) (bits : List Bool) (c : ℕ) → group_flaw (length prefixes) bits ≡ None
-    → list_any (λ x. x / 4 == c) (picked bits (longer prefixes)) ≡ is_in prefixes c
-unfolding picked longer
-parents-picked [] [] c none = refl
-parents-picked [] (bit ∷ bits) c none = refl
-parents-picked (p ∷ ps) (b0 ∷ b1 ∷ b2 ∷ b3 ∷ bits) c none =
-    let parts = group_flaw-none (length ps) (b0 ∷ b1 ∷ b2 ∷ b3 ∷ bits) none in
-    let some : (b0 || (b1 || (b2 || (b3 || false)))) ≡ true = (has_group-parts (b0 ∷ b1 ∷ b2 ∷ b3 ∷ bits) parts.0).1 in
-    let l3 : List ℕ = (4 * p + 3) ∷ longer ps in
-    let l2 : List ℕ = (4 * p + 2) ∷ l3 in
-    let l1 : List ℕ = (4 * p + 1) ∷ l2 in
-    parent b0 (b1 ∷ b2 ∷ b3 ∷ bits) (4 * p) p l1 c (omega arith)
-    ∙ ap (λ r. (b0 && (p == c)) || r)
-    (parent b1 (b2 ∷ b3 ∷ bits) (4 * p + 1) p l2 c (omega arith)
-    ∙ ap (λ r. (b1 && (p == c)) || r)
-    (parent b2 (b3 ∷ bits) (4 * p + 2) p l3 c (omega arith)
-    ∙ ap (λ r. (b2 && (p == c)) || r) (parent b3 bits (4 * p + 3) p (longer ps) c (omega arith))))
-    ∙ one_of_four b0 b1 b2 b3 (p == c) (list_any (λ x. x / 4 == c) (picked bits (longer ps))) some
-    ∙ ap (λ r. (p == c) || r) (parents-picked ps bits c parts.1)
-parents-picked (p ∷ ps) bits c none =
-    absurd (omega (arith, (has_group-parts bits (group_flaw-none (length ps) bits none).0).0))
-
 -- numbers that rise, have these prefixes and have these bits
-record AreBelow (n : ℕ) (above : List ℕ) (bits : List Bool) (codes : List ℕ) : Type 0 where
+record AreBelow (widths above : List ℕ) (bits : List Bool) (codes : List ℕ) : Type 0 where
   pub rising : Rises 0 codes
-  pub parents : prefixes n codes ≡ above
-  pub exact : morton_bits n codes ≡ bits
+  pub parents : prefixes (digits_in widths) codes ≡ above
+  pub exact : morton_bits widths codes ≡ bits
 
 -- one level more, where the prefixes that its bits pick are those of the numbers
-module _ (n : ℕ) (above : List ℕ) (bits : List Bool) (codes : List ℕ) (up : Rises 0 above)
-    (none : group_flaw (length above) bits ≡ None)
-    (below : AreBelow n (picked bits (longer above)) (drop (4 * length above) bits) codes) where
-  same_parents : prefixes (suc n) codes ≡ above
-  same_parents =
-      same_from_rising 0 (prefixes (suc n) codes) above (prefixes-rise (suc n) codes below.rising) up
-      (λ c. is_in-parents n codes c ∙ ap (list_any (λ x. x / 4 == c)) below.parents ∙ parents-picked above bits c none)
+module _ (w : ℕ) (ws above : List ℕ) (bits : List Bool) (codes : List ℕ) (up : Rises 0 above)
+    (none : group_flaw (fan_of w) (length above) bits ≡ None)
+    (below : AreBelow ws (picked bits (longer (fan_of w) above)) (drop (fan_of w * length above) bits) codes) where
+  abbrev n : ℕ
+  n = digits_in ws
 
-  same_level : level_bits n codes ≡ take (4 * length above) bits
+  rises_below : Rises 0 (longer (fan_of w) above)
+  rises_below = let e : fan_of w * 0 ≡ 0 = omega arith in rw e at (longer-rises (fan_of w) 0 above up)
+
+  same_parents : prefixes (w + n) codes ≡ above
+  same_parents =
+      same_from_rising 0 (prefixes (w + n) codes) above (prefixes-rise (w + n) codes below.rising) up
+      (λ c. is_in-parents w n codes c ∙ ap (list_any (λ x. x / 4 ^ w == c)) below.parents
+      ∙ parents-picked (fan_of w) above bits c (fan_pos w) none)
+
+  same_level : level_bits w n codes ≡ take (fan_of w * length above) bits
   unfolding level_bits
   same_level =
-      let within : length (longer above) ≤ length bits =
-      omega (arith, group_flaw-within (length above) bits none, length-longer above) in
-      rw (below.parents, same_parents) (map-picked 0 bits (longer above) (longer-rises 0 above up) within
-      ∙ ap (λ k. take k bits) (length-longer above))
+      let within : length (longer (fan_of w) above) ≤ length bits =
+      omega (arith, group_flaw-within (fan_of w) (length above) bits none, length-longer (fan_of w) above) in
+      rw (below.parents, same_parents) (map-picked 0 bits (longer (fan_of w) above) rises_below within
+      ∙ ap (λ k. take k bits) (length-longer (fan_of w) above))
 
-  level_more : AreBelow (suc n) above bits codes
-  unfolding morton_bits
+  level_more : AreBelow (w ∷ ws) above bits codes
+  unfolding morton_bits digits_in
   level_more = record {
     rising = below.rising;
     parents = same_parents;
-    exact = rw (same_level, below.exact) (take-append-drop (4 * length above) bits);
+    exact = rw (same_level, below.exact) (take-append-drop (fan_of w * length above) bits);
   }
 
 -- where nothing is flawed behind the last level, nothing is there
-behind : (groups : ℕ) (bits : List Bool) → level_flaw zero groups bits ≡ None → [] ≡ bits
+behind : (groups : ℕ) (bits : List Bool) → level_flaw [] groups bits ≡ None → [] ≡ bits
 unfolding level_flaw
 behind groups [] none = refl
 behind groups (bit ∷ bits) none = absurd (none-some 0 (sym none))
 
 -- a level without a flaw, and those below it
-level_flaw-none : (n groups : ℕ) (bits : List Bool) → level_flaw (suc n) groups bits ≡ None
-    → (group_flaw groups bits ≡ None)
-    × (level_flaw n (ones_of (take (4 * groups) bits)) (drop (4 * groups) bits) ≡ None)
+level_flaw-none : (w : ℕ) (ws : List ℕ) (groups : ℕ) (bits : List Bool) → level_flaw (w ∷ ws) groups bits ≡ None
+    → (group_flaw (fan_of w) groups bits ≡ None)
+    × (level_flaw ws (ones_of (take (fan_of w * groups) bits)) (drop (fan_of w * groups) bits) ≡ None)
 unfolding level_flaw
-level_flaw-none n groups bits none =
-    let rest : Option ℕ = level_flaw n (ones_of (take (4 * groups) bits)) (drop (4 * groups) bits) in
-    let parts = or-none (group_flaw groups bits) (option_map (λ place. 4 * groups + place) rest) none in
-    (parts.0, map-none (λ place. 4 * groups + place) rest parts.1)
+level_flaw-none w ws groups bits none =
+    let rest : Option ℕ = level_flaw ws (ones_of (take (fan_of w * groups) bits)) (drop (fan_of w * groups) bits) in
+    let parts = or-none (group_flaw (fan_of w) groups bits) (option_map (λ place. fan_of w * groups + place) rest) none
+    in
+    (parts.0, map-none (λ place. fan_of w * groups + place) rest parts.1)
 
 -- levels without a flaw are those of the numbers that they tell
-AreBelow-codes_below : (n : ℕ) (above : List ℕ) (bits : List Bool) → Rises 0 above
-    → level_flaw n (length above) bits ≡ None → AreBelow n above bits (codes_below n above bits)
-unfolding codes_below morton_bits
-AreBelow-codes_below zero above bits up none =
+AreBelow-codes_below : (widths above : List ℕ) (bits : List Bool) → Rises 0 above
+    → level_flaw widths (length above) bits ≡ None → AreBelow widths above bits (codes_below widths above bits)
+unfolding codes_below morton_bits digits_in
+AreBelow-codes_below [] above bits up none =
     record { rising = up; parents = prefixes-zero above up; exact = behind (length above) bits none }
-AreBelow-codes_below (suc n) above bits up none =
-    let parts = level_flaw-none n (length above) bits none in
-    let kept : List ℕ = picked bits (longer above) in
-    let rest : List Bool = drop (4 * length above) bits in
-    let ones : ones_of (take (4 * length above) bits) ≡ length kept =
-    sym (length-picked bits (longer above) ∙ ap (λ k. ones_of (take k bits)) (length-longer above)) in
-    let none' : level_flaw n (length kept) rest ≡ None = ap (λ k. level_flaw n k rest) (sym ones) ∙ parts.1 in
-    level_more n above bits (codes_below n kept rest) up parts.0
-    (AreBelow-codes_below n kept rest (Rises-picked 0 bits (longer above) (longer-rises 0 above up)) none')
+AreBelow-codes_below (w ∷ ws) above bits up none =
+    let parts = level_flaw-none w ws (length above) bits none in
+    let kept : List ℕ = picked bits (longer (fan_of w) above) in
+    let rest : List Bool = drop (fan_of w * length above) bits in
+    let ones : ones_of (take (fan_of w * length above) bits) ≡ length kept =
+    sym (length-picked bits (longer (fan_of w) above)
+    ∙ ap (λ k. ones_of (take k bits)) (length-longer (fan_of w) above)) in
+    let none' : level_flaw ws (length kept) rest ≡ None = ap (λ k. level_flaw ws k rest) (sym ones) ∙ parts.1 in
+    let e : fan_of w * 0 ≡ 0 = omega arith in
+    let up' : Rises 0 (longer (fan_of w) above) = rw e at (longer-rises (fan_of w) 0 above up) in
+    level_more w ws above bits (codes_below ws kept rest) up parts.0
+    (AreBelow-codes_below ws kept rest (Rises-picked 0 bits (longer (fan_of w) above) up') none')
 
 -- a number whose prefix is 0 is small
 small_prefix : (n code : ℕ) → is_in (0 ∷ []) (code / 4 ^ n) ≡ true → code < 4 ^ n
@@ -186,32 +159,23 @@ small_from_top n codes top k d within =
     small_prefix n code (rw top at there)
 
 -- bits without a flaw are a tree's
-pub AreTreeBits-flawless : (height : ℕ) (bits : List Bool) → length bits ≤ 2 ^ 31
-    → tree_flaw height bits ≡ None → AreTreeBits height bits
+pub AreTreeBits-flawless : (height wide : ℕ) (bits : List Bool) → 2 * wide ≤ height → length bits ≤ 2 ^ 31
+    → tree_flaw (widths_of height wide) bits ≡ None → AreTreeBits height wide bits
 unfolding tree_flaw codes_in
-AreTreeBits-flawless height [] few none = record {
+AreTreeBits-flawless height wide [] fits few none = record {
+  fits = fits;
   codes = record { rising = tt; small = All-nil (λ code. code < 4 ^ height) };
-  exact = sym (morton_bits-none height);
+  exact = sym (morton_bits-none (widths_of height wide));
   few = few;
 }
-AreTreeBits-flawless height (bit ∷ bits) few none =
-    let codes : List ℕ = codes_below height (0 ∷ []) (bit ∷ bits) in
-    let below = AreBelow-codes_below height (0 ∷ []) (bit ∷ bits) (omega arith, tt) none in
+AreTreeBits-flawless height wide (bit ∷ bits) fits few none =
+    let all : List ℕ = widths_of height wide in
+    let codes : List ℕ = codes_below all (0 ∷ []) (bit ∷ bits) in
+    let below = AreBelow-codes_below all (0 ∷ []) (bit ∷ bits) (omega arith, tt) none in
+    let top : prefixes height codes ≡ 0 ∷ [] = rw (digits_in-widths_of height wide fits) at below.parents in
     record {
-      codes = record { rising = below.rising; small = small_from_top height codes below.parents };
+      fits = fits;
+      codes = record { rising = below.rising; small = small_from_top height codes top };
       exact = sym below.exact;
       few = few;
-    }
-
--- and what is stored stands for them
-pub StandsFor-flawless : {height : ℕ} {base : Cell} {bits : List Bool} → IsGrid height base → length bits ≤ 2 ^ 31
-    → tree_flaw height bits ≡ None → StandsFor height base bits (tree_of height base bits)
-StandsFor-flawless {height} {base} {bits} grid few none =
-    let stored : IsStored height base bits =
-    record { grid = grid; tree = AreTreeBits-flawless height bits few none } in
-    record {
-      high = refl;
-      from = refl;
-      is_tree = IsTree-stored height base bits stored;
-      same = sym (given_back stored);
     }

@@ -1,6 +1,6 @@
 -- What tests of boxes keep of a tree: nothing wanted is lost, and a stronger test keeps fewer squares and leaves.
-use Rattle.std.proofs.Common.{◌≡◌, ℕ, zero, suc, ◌+◌, ◌/◌, ◌^◌, ◌≤◌, ◌==◌, Bool, true, List, [], ◌∷◌, length, filter}
-use Rattle.std.proofs.Common.{map, refl, sym, subst, arith, All}
+use Rattle.std.proofs.Common.{◌≡◌, ℕ, ◌+◌, ◌/◌, ◌^◌, ◌≤◌, ◌==◌, Bool, true, List, [], ◌∷◌, length, filter}
+use Rattle.std.proofs.Common.{map, refl, arith, All}
 use Rattle.std.specs.List.{enumerate_from}
 use Rattle.std.proofs.lemmas.Bool.{and_from, and_parts}
 use Rattle.std.proofs.lemmas.List.Elements.{All-append, All-nil, All-cons, All-head, All-map, All-tail, All-weaker}
@@ -10,32 +10,34 @@ use Rattle.track_types.specs.Near.{IsBoxWithin}
 use Rattle.track_types.specs.declared.cell.Cell.{Cell}
 use Rattle.track_types.specs.declared.cell_box.CellBox.{CellBox}
 use Rattle.k2_tree.specs.Morton.{morton_of, IsInGrid}
-use Rattle.k2_tree.specs.TreeBits.{fan, prefixes}
+use Rattle.k2_tree.specs.Widths.{digits_in, fan}
+use Rattle.k2_tree.specs.TreeBits.{prefixes}
 use Rattle.k2_tree.specs.Squares.{Node, node, level_squares, squares_from}
 use Rattle.k2_tree.specs.Areas.{area_at}
-use Rattle.k2_tree.specs.Tree.{Tree, codes_of, IsTree}
+use Rattle.k2_tree.specs.Tree.{Tree, codes_of, tree_widths, IsTree}
 use Rattle.k2_tree.specs.TreeSquares.{squares_of}
-use Rattle.k2_tree.specs.Pruning.{kept_leaves, leaves_of, on_areas, passes, passes_at, square_count, IsKeptFor, IsWeaker}
+use Rattle.k2_tree.specs.Pruning.{digits_left, kept_leaves, leaves_of, on_areas, passes, passes_at, square_count}
+use Rattle.k2_tree.specs.Pruning.{IsKeptFor, IsWeaker}
+use Rattle.k2_tree.proofs.WidthLemmas.{digits_in-widths_of}
 use Rattle.k2_tree.proofs.AreaLemmas.{area_within, in_area}
-use Rattle.k2_tree.proofs.SquareLemmas.{squares_from-zero}
 
 -- a test that is true on each square from a level down passes
-pub passes-from_each : (test : Node → Bool) (n code : ℕ)
-    → ((m : ℕ) → m ≤ n → test (node m (code / 4 ^ m)) ≡ true) → passes test n code ≡ true
-unfolding passes
-passes-from_each test zero code each = and_from _ _ (each 0 (omega arith)) refl
-passes-from_each test (suc n) code each =
-    and_from _ _ (each (suc n) (omega arith)) (passes-from_each test n code (λ m low. each m (omega arith)))
+pub passes-from_each : (test : Node → Bool) (widths : List ℕ) (code : ℕ)
+    → ((m : ℕ) → m ≤ digits_in widths → test (node m (code / 4 ^ m)) ≡ true) → passes test widths code ≡ true
+unfolding passes digits_left digits_in
+passes-from_each test [] code each = and_from _ _ (each 0 (omega arith)) refl
+passes-from_each test (w ∷ ws) code each =
+    and_from _ _ (each (w + digits_in ws) (omega arith)) (passes-from_each test ws code (λ m low. each m (omega arith)))
 
 -- what passes a test passes another that is true on each square where it is
-pub passes-weaker : (a b : Node → Bool) (n code : ℕ)
-    → ((m : ℕ) → m ≤ n → a (node m (code / 4 ^ m)) ≡ true → b (node m (code / 4 ^ m)) ≡ true)
-    → passes a n code ≡ true → passes b n code ≡ true
-unfolding passes
-passes-weaker a b zero code only e = and_from _ _ (only 0 (omega arith) (and_parts _ _ e).0) refl
-passes-weaker a b (suc n) code only e =
-    and_from _ _ (only (suc n) (omega arith) (and_parts _ _ e).0)
-    (passes-weaker a b n code (λ m low. only m (omega arith)) (and_parts _ _ e).1)
+pub passes-weaker : (a b : Node → Bool) (widths : List ℕ) (code : ℕ)
+    → ((m : ℕ) → m ≤ digits_in widths → a (node m (code / 4 ^ m)) ≡ true → b (node m (code / 4 ^ m)) ≡ true)
+    → passes a widths code ≡ true → passes b widths code ≡ true
+unfolding passes digits_left digits_in
+passes-weaker a b [] code only e = and_from _ _ (only 0 (omega arith) (and_parts _ _ e).0) refl
+passes-weaker a b (w ∷ ws) code only e =
+    and_from _ _ (only (w + digits_in ws) (omega arith) (and_parts _ _ e).0)
+    (passes-weaker a b ws code (λ m low. only m (omega arith)) (and_parts _ _ e).1)
 
 -- what holds of all cells holds of them with their numbers
 pub All-enumerate_from : (P : Cell → Type 0) (k : ℕ) (cells : List Cell) → All P cells
@@ -45,15 +47,20 @@ All-enumerate_from P k (cell ∷ cells) each =
     All-cons (λ (leaf : ℕ × Cell). P leaf.1) (k, cell) (enumerate_from (k + 1) cells) (All-head P cell cells each)
     (All-enumerate_from P (k + 1) cells (All-tail P cell cells each))
 
+-- a tree's levels have as many digits as its height
+in_height : (tree : Tree) → IsTree tree → (m : ℕ) → m ≤ digits_in (tree_widths tree) → m ≤ tree.height
+in_height tree is m low = omega (arith, low, digits_in-widths_of tree.height tree.wide is.fits)
+
 -- a test of boxes is true on each square of a wanted cell
 pub passes-wanted : (keep : CellBox → Bool) (wanted : Cell → Bool) (tree : Tree) → IsTree tree
     → IsKeptFor keep wanted → (cell : Cell) → IsInGrid tree.height tree.base cell → wanted cell ≡ true
     → passes_at keep tree cell ≡ true
 unfolding passes_at
 passes-wanted keep wanted tree is only cell inside want =
-    passes-from_each (on_areas keep tree) tree.height (morton_of tree.height tree.base cell)
-    (λ m low. only (area_at tree.base (node m (morton_of tree.height tree.base cell / 4 ^ m))) cell
-    (area_within is.grid inside m low) (in_area is.grid inside m low) want)
+    passes-from_each (on_areas keep tree) (tree_widths tree) (morton_of tree.height tree.base cell)
+    (λ m low. let high : m ≤ tree.height = in_height tree is m low in
+    only (area_at tree.base (node m (morton_of tree.height tree.base cell / 4 ^ m))) cell
+    (area_within is.grid inside m high) (in_area is.grid inside m high) want)
 
 -- of the leaves that a test keeps the wanted ones are all that the tree has
 pub kept_leaves-wanted : (keep : CellBox → Bool) (wanted : Cell → Bool) (tree : Tree) → IsTree tree
@@ -74,27 +81,26 @@ All-level P n codes each =
     (map (λ code. code / fan ^ n) codes) (All-map (λ prefix. P (node n prefix)) (λ code. code / fan ^ n) codes each))
 
 -- what holds of the square of each level in which each cell lies holds of all squares
-pub All-squares_from : (P : Node → Type 0) (n : ℕ) (codes : List ℕ)
-    → ((level : ℕ) → level ≤ n → All (λ code. P (node level (code / fan ^ level))) codes)
-    → All P (squares_from n codes)
-unfolding squares_from
-All-squares_from P zero codes each =
-    subst (All P) (sym (squares_from-zero codes)) (All-level P 0 codes (each 0 (omega arith)))
-All-squares_from P (suc n) codes each =
-    All-append P (level_squares (suc n) codes) (squares_from n codes)
-    (All-level P (suc n) codes (each (suc n) (omega arith)))
-    (All-squares_from P n codes (λ level low. each level (omega arith)))
+pub All-squares_from : (P : Node → Type 0) (widths codes : List ℕ)
+    → ((level : ℕ) → level ≤ digits_in widths → All (λ code. P (node level (code / fan ^ level))) codes)
+    → All P (squares_from widths codes)
+unfolding squares_from digits_in
+All-squares_from P [] codes each = All-level P 0 codes (each 0 (omega arith))
+All-squares_from P (w ∷ ws) codes each =
+    All-append P (level_squares (w + digits_in ws) codes) (squares_from ws codes)
+    (All-level P (w + digits_in ws) codes (each (w + digits_in ws) (omega arith)))
+    (All-squares_from P ws codes (λ level low. each level (omega arith)))
 
 module _ (tree : Tree) (is : IsTree tree) where
   -- the area of each square of a tree is near 0
   pub areas_within : All (λ square. IsBoxWithin (area_at tree.base square)) (squares_of tree)
   areas_within =
-      All-squares_from (λ square. IsBoxWithin (area_at tree.base square)) tree.height (codes_of tree)
+      All-squares_from (λ square. IsBoxWithin (area_at tree.base square)) (tree_widths tree) (codes_of tree)
       (λ level low. All-map (λ code. IsBoxWithin (area_at tree.base (node level (code / fan ^ level))))
       (morton_of tree.height tree.base) tree.cells
       (All-weaker (IsInGrid tree.height tree.base)
       (λ cell. IsBoxWithin (area_at tree.base (node level (morton_of tree.height tree.base cell / fan ^ level))))
-      (λ cell inside. area_within is.grid inside level low) tree.cells is.inside))
+      (λ cell inside. area_within is.grid inside level (in_height tree is level low)) tree.cells is.inside))
 
   module _ (weak strong : CellBox → Bool) (only : IsWeaker weak strong) where
     -- fewer squares pass the stronger test
@@ -110,9 +116,10 @@ module _ (tree : Tree) (is : IsTree tree) where
         → passes_at weak tree cell ≡ true
     unfolding passes_at
     passes_at-weaker cell inside =
-        passes-weaker (on_areas strong tree) (on_areas weak tree) tree.height (morton_of tree.height tree.base cell)
+        passes-weaker (on_areas strong tree) (on_areas weak tree) (tree_widths tree)
+        (morton_of tree.height tree.base cell)
         (λ m low. only (area_at tree.base (node m (morton_of tree.height tree.base cell / fan ^ m)))
-        (area_within is.grid inside m low))
+        (area_within is.grid inside m (in_height tree is m low)))
 
     -- fewer leaves pass it
     pub kept_leaves-le : length (kept_leaves strong tree) ≤ length (kept_leaves weak tree)

@@ -1,9 +1,13 @@
--- Laws for callers: cells and numbers, ascending numbers and their prefixes, squares, areas, walks, flaws, and how many bits.
+-- Laws for callers: cells and numbers, ascending numbers and their prefixes, levels and groups, squares, areas, walks,
+-- flaws, and how many bits.
 pub mod MortonLemmas
 pub mod CellLemmas
 pub mod RisingLemmas
 pub mod PrefixLemmas
-pub mod NavigationLemmas
+pub mod LongerLemmas
+pub mod LevelLemmas
+pub mod WidthLemmas
+pub mod GroupLemmas
 pub mod SquareLemmas
 pub mod AreaLemmas
 pub mod PruningLemmas
@@ -13,13 +17,20 @@ pub mod FlawlessLemmas
 pub mod FlawedLemmas
 pub mod BuiltLemmas
 -- A tree's bits: where squares stand in them, and what they tell.
-mod DescentLemmas
+pub mod ToldLemmas
+mod ChildLemmas
+mod ParentLemmas
+mod OnLemmas
+mod WayLemmas
+mod ClimbLemmas
 -- Building.
 mod BuildingLemmas
 -- Checking.
 mod CheckingLemmas
+mod UpperLemmas
 -- Squares, and walks over them.
 mod StoredLemmas
+mod LowestLemmas
 mod WalkLemmas
 mod PrunedLemmas
 mod Examples

@@ -6,16 +6,12 @@ use Rattle.std.proofs.lemmas.Int.{ints}
 use Rattle.std.specs.Int.RustNames.{unsigned_abs}
 use Rattle.track_types.specs.declared.cell.Cell.{Cell}
 use Rattle.track_types.specs.declared.limit.TheConstants.{MAX_HEIGHT}
-use Rattle.k2_tree.specs.TreeBits.{code_limit}
 use Rattle.k2_tree.specs.Morton.{interleaved, row_of, column_of, morton_of, cell_of, IsInGrid}
+use Rattle.k2_tree.specs.TreeBits.{code_limit}
 
 -- a digit less
 pub div-pow_suc : (k x n : ℕ) → x / k ^ n / k ≡ x / k ^ suc n
 div-pow_suc k x n = div-div-eq-div-mul x (k ^ n) k ∙ ap (λ p. x / p) (sym (pow-suc k n))
-
--- and a digit more
-pub digit_more : (code n : ℕ) → 4 * (code / 4 ^ suc n) + code / 4 ^ n % 4 ≡ code / 4 ^ n
-digit_more code n = omega (arith, div-pow_suc 4 code n)
 
 -- two bits are a digit to base 4
 pub two_bits : (n : ℕ) → 2 ^ (2 * n) ≡ 4 ^ n

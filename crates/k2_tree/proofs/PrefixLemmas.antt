@@ -1,15 +1,14 @@
 -- Prefixes of ascending numbers: what they hold, and which of the longer ones occur.
-use Rattle.std.proofs.Common.{◌≡◌, ℕ, zero, suc, ◌+◌, ◌*◌, ◌/◌, ◌^◌, ◌<◌, ◌≤◌, ◌==◌, ◌||◌, ◌&&◌, ◌⊎◌}
+use Rattle.std.proofs.Common.{◌≡◌, ℕ, zero, suc, ◌/◌, ◌^◌, ◌<◌, ◌≤◌, ◌==◌, ◌||◌, ◌&&◌, ◌⊎◌}
 use Rattle.std.proofs.Common.{Bool, true, false, List, [], ◌∷◌, map, filter, All}
-use Rattle.std.proofs.Common.{refl, sym, ap, ◌∙◌, inl, inr, arith, lit<, subst}
+use Rattle.std.proofs.Common.{refl, ap, ◌∙◌, inl, inr, arith, lit<, subst}
 use Rattle.std.proofs.lemmas.Bool.{cases_Bool}
 use Rattle.std.proofs.lemmas.Bool.Decides.{nat_tests}
 use Rattle.std.proofs.Math.Nat.{div-one, pow-suc, div-eq_of_lt}
 use Rattle.std.specs.List.{dedup_from, list_any}
 use Rattle.list_laws.proofs.NumberLemmas.{div-le}
-use Rattle.k2_tree.specs.TreeBits.{is_in, prefixes, longer, Rises}
-use Rattle.k2_tree.proofs.MortonLemmas.{div-pow_suc}
-use Rattle.k2_tree.proofs.RisingLemmas.{Climbs, Rises-weaker, other_test, same_from_rising}
+use Rattle.k2_tree.specs.TreeBits.{is_in, prefixes, Rises}
+use Rattle.k2_tree.proofs.RisingLemmas.{Climbs, Rises-weaker, other_test}
 
 -- each number once
 abbrev pub once_from : ℕ → List ℕ → List ℕ
@@ -71,28 +70,13 @@ any-prefixes p n (c ∷ cs) = once (c / 4 ^ n) cs
     once k (x ∷ xs) = grind (arith, nat_tests, once k xs, once (x / 4 ^ n) xs)
 
 -- a member's image is among the images
-any-image : (f : ℕ → ℕ) (xs : List ℕ) (c : ℕ) → is_in xs c ≡ true → list_any (λ x. f x == f c) xs ≡ true
+pub any-image : (f : ℕ → ℕ) (xs : List ℕ) (c : ℕ) → is_in xs c ≡ true → list_any (λ x. f x == f c) xs ≡ true
 any-image f [] c is = is
 any-image f (x ∷ xs) c is = grind (arith, nat_tests, any-image f xs c)
 
 -- a number's prefix occurs
 pub prefixes-of : (n : ℕ) (codes : List ℕ) (c : ℕ) → is_in codes c ≡ true → is_in (prefixes n codes) (c / 4 ^ n) ≡ true
 prefixes-of n codes c is = any-prefixes (λ o. o == c / 4 ^ n) n codes ∙ any-image (λ x. x / 4 ^ n) codes c is
-
--- the prefixes one digit shorter are the parents of these
-pub is_in-parents : (n : ℕ) (codes : List ℕ) (c : ℕ)
-    → is_in (prefixes (suc n) codes) c ≡ list_any (λ x. x / 4 == c) (prefixes n codes)
-is_in-parents n codes c =
-    any-prefixes (λ o. o == c) (suc n) codes ∙ same codes ∙ sym (any-prefixes (λ x. x / 4 == c) n codes)
-  where
-    same : (xs : List ℕ) → list_any (λ x. x / 4 ^ suc n == c) xs ≡ list_any (λ x. x / 4 ^ n / 4 == c) xs
-    same [] = refl
-    same (x ∷ xs) = rw (div-pow_suc 4 x n) (ap (λ b. (x / 4 ^ suc n == c) || b) (same xs))
-
--- where a prefix occurs, the one without its last digit does
-pub prefixes-shorter : (n : ℕ) (codes : List ℕ) (c : ℕ)
-    → is_in (prefixes n codes) c ≡ true → is_in (prefixes (suc n) codes) (c / 4) ≡ true
-prefixes-shorter n codes c is = is_in-parents n codes (c / 4) ∙ any-image (λ x. x / 4) (prefixes n codes) c is
 
 -- the prefixes that leave no digit away are the numbers
 pub prefixes-zero : (codes : List ℕ) → Rises 0 codes → prefixes 0 codes ≡ codes
@@ -126,7 +110,7 @@ prefixes-top n code codes small =
         rw none (zeros cs (λ k d h. small (suc k) d (omega arith)))
 
 -- a filter keeps the order
-Rises-filter : (n : ℕ) (p : ℕ → Bool) (xs : List ℕ) → Rises n xs → Rises n (filter p xs)
+pub Rises-filter : (n : ℕ) (p : ℕ → Bool) (xs : List ℕ) → Rises n xs → Rises n (filter p xs)
 Rises-filter n p [] up = tt
 Rises-filter n p (x ∷ xs) up =
     let rest = Rises-filter (suc x) p xs up.1 in
@@ -137,36 +121,6 @@ Rises-filter n p (x ∷ xs) up =
     ]
 
 -- what a filter holds
-is_in-filter : (p : ℕ → Bool) (xs : List ℕ) (c : ℕ) → is_in (filter p xs) c ≡ (p c && is_in xs c)
+pub is_in-filter : (p : ℕ → Bool) (xs : List ℕ) (c : ℕ) → is_in (filter p xs) c ≡ (p c && is_in xs c)
 is_in-filter p [] c = grind arith
 is_in-filter p (x ∷ xs) c = grind (arith, nat_tests, is_in-filter p xs c)
-
--- longer prefixes rise
-pub longer-rises : (n : ℕ) (xs : List ℕ) → Rises n xs → Rises (4 * n) (longer xs)
-unfolding longer
-longer-rises n [] up = tt
-longer-rises n (x ∷ xs) up =
-    let low : n ≤ x = up.0 in
-    let later = Rises-weaker (suc (4 * x + 3)) (4 * suc x) (longer xs) (omega arith) (longer-rises (suc x) xs up.1) in
-    (omega arith, (omega arith, (omega arith, (omega arith, later))))
-
--- a prefix without its last digit tells whether it is a longer one
-pub is_in-longer : (xs : List ℕ) (c : ℕ) → is_in (longer xs) c ≡ is_in xs (c / 4)
-unfolding longer
-is_in-longer [] c = refl
-is_in-longer (x ∷ xs) c = grind (arith, nat_tests, is_in-longer xs c)
-
--- the prefixes of one level are those that occur among the longer prefixes of the level above
-pub prefixes-from_longer : (n : ℕ) (codes : List ℕ) → Rises 0 codes
-    → filter (is_in (prefixes n codes)) (longer (prefixes (suc n) codes)) ≡ prefixes n codes
-prefixes-from_longer n codes up =
-    let test : ℕ → Bool = is_in (prefixes n codes) in
-    let all : List ℕ = longer (prefixes (suc n) codes) in
-    let rises = longer-rises 0 (prefixes (suc n) codes) (prefixes-rise (suc n) codes up) in
-    same_from_rising 0 (filter test all) (prefixes n codes) (Rises-filter 0 test all rises) (prefixes-rise n codes up)
-    (λ c. grind (
-      arith,
-      is_in-filter test all c,
-      is_in-longer (prefixes (suc n) codes) c,
-      prefixes-shorter n codes c,
-    ))

@@ -1,5 +1,5 @@
 -- Pruned walks: what a square that is visited changes, and walks over a whole tree.
-use Rattle.std.proofs.Common.{◌≡◌, ℕ, zero, suc, ◌+◌, ◌-◌, ◌*◌, ◌<◌, ◌≤◌, Bool, true, false}
+use Rattle.std.proofs.Common.{◌≡◌, ℕ, ◌+◌, ◌-◌, ◌*◌, ◌<◌, ◌≤◌, Bool, true, false}
 use Rattle.std.proofs.Common.{List, [], ◌∷◌, ◌++◌, map, filter, refl, sym, ap, ◌∙◌, arith}
 use Rattle.std.specs.List.{enumerate_from, flat_map, sum_by}
 use Rattle.std.proofs.lemmas.Grind.{flat_map-append}
@@ -9,55 +9,88 @@ use Rattle.list_laws.proofs.FilterLemmas.{sum_by_if}
 use Rattle.list_laws.proofs.FlatLemmas.{sum_by-map}
 use Rattle.track_types.specs.declared.cell.Cell.{Cell}
 use Rattle.track_types.specs.declared.cell_box.CellBox.{CellBox}
-use Rattle.k2_tree.specs.Cost.{child_reads}
 use Rattle.k2_tree.specs.Morton.{morton_of}
+use Rattle.k2_tree.specs.Widths.{digits_in, width_below, widths_under}
 use Rattle.k2_tree.specs.TreeBits.{prefixes}
 use Rattle.k2_tree.specs.Squares.{Node, node, squares_from}
-use Rattle.k2_tree.specs.Tree.{Tree, codes_of, IsTree}
-use Rattle.k2_tree.specs.Pruning.{child_nodes, children, kept_below, kept_leaves, leaf_of, on_areas, passes, passes_at}
-use Rattle.k2_tree.specs.Pruning.{square_count, weight_below}
-use Rattle.k2_tree.specs.Pruned.{kept_in, reads_of, walk_budget, walk_left, weight_in}
+use Rattle.k2_tree.specs.Tree.{Tree, codes_of, tree_widths, IsTree}
 use Rattle.k2_tree.specs.SquareWalk.{WalkView, top_nodes}
+use Rattle.k2_tree.specs.Pruning.{child_nodes, children, kept_below, passes, weight_below, leaf_of, kept_leaves}
+use Rattle.k2_tree.specs.Pruning.{on_areas, passes_at, square_count}
+use Rattle.k2_tree.specs.Pruned.{kept_in, reads_of, walk_budget, walk_left, weight_in}
+use Rattle.k2_tree.specs.Cost.{child_reads}
 use Rattle.k2_tree.proofs.CellLemmas.{cells_back}
-use Rattle.k2_tree.proofs.PruningLemmas.{kept_below-all, leaves-enumerated, weight_below-all}
+use Rattle.k2_tree.proofs.WidthLemmas.{digits_in-widths_under, digits_in-widths_of, widths_under-none}
+use Rattle.k2_tree.proofs.WidthLemmas.{widths_under-opened, widths_under-top, width_below-within}
+use Rattle.k2_tree.proofs.PruningLemmas.{leaves-enumerated, kept_below-all, weight_below-all}
 
 -- what a test keeps of a square: nothing where it fails, the own number of a cell, else what it keeps of the children
 module _ (test : Node → Bool) (tree : Tree) where
+  abbrev low : ℕ
+  low = tree.height - 2 * tree.wide
+
   kept_in-failed : (level prefix : ℕ) → test (node level prefix) ≡ false → kept_in test tree (node level prefix) ≡ []
-  unfolding kept_below
-  kept_in-failed zero prefix fails = rw fails refl
-  kept_in-failed (suc level) prefix fails = rw fails refl
+  unfolding kept_below digits_in
+  kept_in-failed level prefix fails =
+      by_widths (widths_under low level) (ap (λ n. test (node n prefix)) (digits_in-widths_under low level) ∙ fails)
+    where
+      by_widths : (ws : List ℕ) → test (node (digits_in ws) prefix) ≡ false → kept_below test (codes_of tree) ws prefix
+          ≡ []
+      by_widths [] off = rw off refl
+      by_widths (w ∷ ws) off = rw off refl
 
   kept_in-cell : (level prefix : ℕ) → level ≡ 0 → test (node level prefix) ≡ true
       → kept_in test tree (node level prefix) ≡ prefix ∷ []
   unfolding kept_below
-  kept_in-cell zero prefix cell holds = rw holds refl
-  kept_in-cell (suc level) prefix cell holds = absurd (omega arith)
+  kept_in-cell level prefix cell holds =
+      let none : widths_under low level ≡ [] = ap (widths_under low) cell ∙ widths_under-none low in
+      let on : test (node 0 prefix) ≡ true = ap (λ n. test (node n prefix)) (sym cell) ∙ holds in
+      rw none (own on)
+    where
+      own : test (node 0 prefix) ≡ true → kept_below test (codes_of tree) [] prefix ≡ prefix ∷ []
+      own on = rw on refl
 
   kept_in-opened : (level prefix : ℕ) → 1 ≤ level → test (node level prefix) ≡ true
       → kept_in test tree (node level prefix) ≡ flat_map (kept_in test tree) (child_nodes tree (node level prefix))
   unfolding kept_below
-  kept_in-opened zero prefix some holds = absurd (omega arith)
-  kept_in-opened (suc level) prefix some holds =
-      let e : suc level - 1 ≡ level = omega arith in
-      rw (e, holds) (sym (flat_map-map (kept_in test tree) (node level) (children level (codes_of tree) prefix)))
+  kept_in-opened level prefix some holds =
+      let w : ℕ = width_below low level in
+      let n : ℕ = level - w in
+      let digits : digits_in (widths_under low n) ≡ n = digits_in-widths_under low n in
+      let whole : w + n ≡ level = omega (arith, (width_below-within low level some).1) in
+      rw (widths_under-opened low level some, digits, whole, holds)
+      (sym (flat_map-map (kept_in test tree) (node n) (children w n (codes_of tree) prefix)))
 
 -- the weights of a square are its own and those of its children
 module _ (weight : Node → ℕ) (tree : Tree) where
+  abbrev low_of : ℕ
+  low_of = tree.height - 2 * tree.wide
+
   weight_in-opened : (level prefix : ℕ) → 1 ≤ level
       → weight_in weight tree (node level prefix)
       ≡ weight (node level prefix) + sum_by (weight_in weight tree) (child_nodes tree (node level prefix))
   unfolding weight_below
-  weight_in-opened zero prefix some = absurd (omega arith)
-  weight_in-opened (suc level) prefix some =
-      let e : suc level - 1 ≡ level = omega arith in
-      rw e (ap (λ k. weight (node (suc level) prefix) + k)
-      (sym (sum_by-map (weight_in weight tree) (node level) (children level (codes_of tree) prefix))))
+  weight_in-opened level prefix some =
+      let w : ℕ = width_below low_of level in
+      let n : ℕ = level - w in
+      let digits : digits_in (widths_under low_of n) ≡ n = digits_in-widths_under low_of n in
+      let whole : w + n ≡ level = omega (arith, (width_below-within low_of level some).1) in
+      rw (widths_under-opened low_of level some, digits, whole)
+      (ap (λ k. weight (node level prefix) + k)
+      (sym (sum_by-map (weight_in weight tree) (node n) (children w n (codes_of tree) prefix))))
 
   weight_in-least : (level prefix : ℕ) → weight (node level prefix) ≤ weight_in weight tree (node level prefix)
-  unfolding weight_below
-  weight_in-least zero prefix = omega arith
-  weight_in-least (suc level) prefix = omega arith
+  unfolding weight_below digits_in
+  weight_in-least level prefix =
+      omega (
+        arith,
+        by_widths (widths_under low_of level),
+        ap (λ n. weight (node n prefix)) (digits_in-widths_under low_of level),
+      )
+    where
+      by_widths : (ws : List ℕ) → weight (node (digits_in ws) prefix) ≤ weight_below weight (codes_of tree) ws prefix
+      by_widths [] = omega arith
+      by_widths (w ∷ ws) = omega arith
 
 -- how many squares are still to be visited, those below them too
 abbrev pub turns_of : WalkView → ℕ
@@ -98,7 +131,8 @@ module _ {keep : CellBox → Bool} {old new : WalkView} {square : Node} {answer 
       }
 
   -- a cell that passes is found
-  pub yielded : square.level ≡ 0 → answer ≡ true → walk_left keep old ≡ leaf_of old.tree square.prefix ∷ walk_left keep new
+  pub yielded : square.level ≡ 0 → answer ≡ true → walk_left keep old
+      ≡ leaf_of old.tree square.prefix ∷ walk_left keep new
   yielded cell holds =
       let one = kept_in-cell test old.tree square.level square.prefix cell (visit.told ∙ holds) in
       rw (visit.tree, visit.pending, one) refl
@@ -137,19 +171,33 @@ module _ (keep : CellBox → Bool) {tree : Tree} (walk : WalkView) (is : IsTree 
   abbrev test_of : Node → Bool
   test_of = on_areas keep tree
 
+  same_levels : (widths_under (tree.height - 2 * tree.wide) tree.height ≡ tree_widths tree) ×
+      (digits_in (tree_widths tree) ≡ tree.height)
+  same_levels = (widths_under-top tree.height tree.wide is.fits, digits_in-widths_of tree.height tree.wide is.fits)
+
   pub left_whole : walk_left keep walk ≡ kept_leaves keep tree
   unfolding passes_at
   left_whole =
-      let kept : flat_map (kept_in test_of tree) (top_nodes tree) ≡ filter (passes test_of tree.height) codes =
+      let e = same_levels in
+      let whole : flat_map (kept_below test_of codes (tree_widths tree)) (prefixes tree.height codes)
+      ≡ filter (passes test_of (tree_widths tree)) codes =
+      ap (λ n. flat_map (kept_below test_of codes (tree_widths tree)) (prefixes n codes)) (sym e.1)
+      ∙ kept_below-all test_of (tree_widths tree) codes is.codes.rising in
+      let kept : flat_map (kept_in test_of tree) (top_nodes tree) ≡ filter (passes test_of (tree_widths tree)) codes =
       flat_map-map (kept_in test_of tree) (node tree.height) (prefixes tree.height codes)
-      ∙ kept_below-all test_of tree.height codes is.codes.rising in
+      ∙ ap (λ ws. flat_map (kept_below test_of codes ws) (prefixes tree.height codes)) e.0 ∙ whole in
       rw (top, same) (ap (map (leaf_of tree)) kept
-      ∙ leaves-enumerated tree.height tree.base (passes test_of tree.height) codes is.codes
-      ∙ ap (λ cells. filter (λ (leaf : ℕ × Cell). passes test_of tree.height (morton_of tree.height tree.base leaf.1))
+      ∙ leaves-enumerated tree.height tree.base (passes test_of (tree_widths tree)) codes
+      (record { rising = is.codes.rising; small = is.codes.small })
+      ∙ ap (λ cells. filter
+      (λ (leaf : ℕ × Cell). passes test_of (tree_widths tree) (morton_of tree.height tree.base leaf.1))
       (enumerate_from 0 cells)) (cells_back tree.height tree.base tree.cells is.inside))
 
   pub budget_whole : walk_budget keep walk ≡ child_reads * square_count keep tree
   budget_whole =
+      let e = same_levels in
       rw (top, same) (sum_by-map (weight_in (reads_of test_of) tree) (node tree.height) (prefixes tree.height codes)
-      ∙ weight_below-all (reads_of test_of) tree.height codes is.codes.rising
-      ∙ sum_by_if child_reads test_of (squares_from tree.height codes))
+      ∙ ap (λ ws. sum_by (weight_below (reads_of test_of) codes ws) (prefixes tree.height codes)) e.0
+      ∙ ap (λ n. sum_by (weight_below (reads_of test_of) codes (tree_widths tree)) (prefixes n codes)) (sym e.1)
+      ∙ weight_below-all (reads_of test_of) (tree_widths tree) codes is.codes.rising
+      ∙ sum_by_if child_reads test_of (squares_from (tree_widths tree) codes))

@@ -1,65 +1,32 @@
 -- Walks over the squares of a tree: children that are still to be visited, open squares, the beginning, and leaves.
-use Rattle.std.proofs.Common.{◌≡◌, ℕ, suc, ◌+◌, ◌-◌, ◌^◌, ◌<◌, ◌≤◌, true, List, [], ◌∷◌, ◌++◌, length, map}
-use Rattle.std.proofs.Common.{get_or, Option, None, Some, IfNone, IfSome, refl, sym, ap, ◌∙◌, arith, subst, bit_and, Bool, false, ◌&&◌, ◌||◌}
+use Rattle.std.proofs.Common.{◌≡◌, ℕ, suc, ◌+◌, ◌-◌, ◌*◌, ◌^◌, ◌<◌, ◌≤◌, true, List, [], ◌∷◌, ◌++◌, length, map}
+use Rattle.std.proofs.Common.{get_or, Option, None, Some, IfNone, IfSome, refl, sym, ap, ◌∙◌, arith, subst}
 use Rattle.std.proofs.Common.{append_assoc, append-nil, length-append}
 use Rattle.std.specs.Prelude.{slice_get}
-use Rattle.std.specs.Int.Count.{count_trailing_zeros}
-use Rattle.std.specs.List.{range_with_len}
 use Rattle.std.specs.Option.{is_none, option_map}
-use Rattle.std.specs.Cmp.Lexicographic.{pointwise, same_text}
-use Rattle.std.specs.Prelude.{nat_eq}
-use Rattle.std.proofs.Math.Dec.{eqb, ltb}
-use Rattle.std.proofs.lemmas.Bool.{and_parts, false≢true, ltb-true}
-use Rattle.std.proofs.lemmas.Bool.Decides.{nat_tests}
-use Rattle.std.proofs.lemmas.List.Sums.{AllPass-from_list_all}
-use Rattle.std.proofs.lemmas.List.FromFn.{get_or-range_with_len}
+use Rattle.std.proofs.lemmas.Bool.{false≢true}
 use Rattle.std.proofs.lemmas.Option.{slice_get-map, slice_get_within, get_or_from_slice_get}
 use Rattle.track_types.specs.declared.cell.Cell.{Cell}
 use Rattle.track_types.specs.declared.limit.TheConstants.{MAX_HEIGHT}
-use Rattle.k2_tree.specs.Digits.{digits_of}
 use Rattle.k2_tree.specs.Morton.{morton_of}
-use Rattle.k2_tree.specs.Squares.{Node, node, IsSquare}
+use Rattle.k2_tree.specs.Widths.{digits_in, widths_under}
+use Rattle.k2_tree.specs.TreeBits.{prefixes, Rises}
+use Rattle.k2_tree.specs.Squares.{Node, node}
 use Rattle.k2_tree.specs.Tree.{Tree, codes_of, IsTree}
-use Rattle.k2_tree.specs.TreeSquares.{corner_of, level_of, node_of, prefix_of, square_number, squares_of, IsSquareOf}
-use Rattle.k2_tree.specs.Pending.{nodes_of, IsNextOf, StandsAt}
-use Rattle.k2_tree.specs.Pruning.{leaf_of, place_among}
+use Rattle.k2_tree.specs.TreeSquares.{squares_of, corner_of, level_of, node_of, prefix_of, square_number, IsSquareOf}
+use Rattle.k2_tree.specs.Pending.{StandsAt, nodes_of, IsNextOf}
 use Rattle.k2_tree.specs.SquareWalk.{AreOpen, IsOpen, IsTaken, IsWalk, found_nodes, open_nodes, top_nodes}
-use Rattle.k2_tree.specs.declared.square.Square.{Square}
-use Rattle.k2_tree.specs.declared.pending.Pending.{Pending}
+use Rattle.k2_tree.specs.Pruning.{leaf_of, place_among}
 use Rattle.k2_tree.proofs.MortonLemmas.{morton_of-cell_of}
 use Rattle.k2_tree.proofs.RisingLemmas.{place_among-at}
-use Rattle.k2_tree.proofs.PrefixLemmas.{prefixes-none}
-use Rattle.k2_tree.proofs.NavigationLemmas.{one_top}
-use Rattle.k2_tree.proofs.SquareLemmas.{bottom, IsSquare-from_list}
+use Rattle.k2_tree.proofs.PrefixLemmas.{prefixes-none, prefixes-zero}
+use Rattle.k2_tree.proofs.WidthLemmas.{digits_in-widths_under}
+use Rattle.k2_tree.proofs.SquareLemmas.{IsOn-from_list}
+use Rattle.k2_tree.proofs.ChildLemmas.{one_top}
+use Rattle.k2_tree.proofs.OnLemmas.{IsOn}
 use Rattle.k2_tree.proofs.StoredLemmas.{corner_is}
-
--- the lowest bit that is set is the first digit, and without it the others are left
-pub record IsLowest (bits : ℕ) : Type 0 where
-  pub small : count_trailing_zeros 32 bits < 4
-  pub first : digits_of bits ≡ count_trailing_zeros 32 bits ∷ digits_of (bit_and bits (bits - 1))
-  pub four : bit_and bits (bits - 1) < 16
-
--- whether they are
-abbrev is_lowest : ℕ → Bool
-is_lowest bits =
-    ltb (count_trailing_zeros 32 bits) 4 && (pointwise nat_eq (digits_of bits)
-    (count_trailing_zeros 32 bits ∷ digits_of (bit_and bits (bits - 1))) && ltb (bit_and bits (bits - 1)) 16)
-
-pub lowest : (bits : ℕ) → bits < 16 → (bits ≡ 0 → ⊥) → IsLowest bits
-unfolding digits_of count_trailing_zeros
-lowest bits four some =
-    let test : ℕ → Bool = λ n. eqb n 0 || is_lowest n in
-    let same : get_or (range_with_len 0 16) bits 0 ≡ bits = get_or-range_with_len 0 16 bits 0 four ∙ omega arith in
-    let all = AllPass-from_list_all test (range_with_len 0 16) refl bits 0 four in
-    let other : eqb bits 0 ≡ false = grind (arith, nat_tests) in
-    let parts = and_parts _ _ (rw other at (ap test (sym same) ∙ all)) in
-    let rest = and_parts _ _ parts.1 in
-    record { small = ltb-true _ _ parts.0; first = same_text _ _ (sym rest.0); four = ltb-true _ _ rest.1 }
-
--- no bit, no digit
-pub digits_of-zero : digits_of 0 ≡ []
-unfolding digits_of
-digits_of-zero = refl
+use Rattle.k2_tree.specs.declared.square.Square.{Square}
+use Rattle.k2_tree.specs.declared.pending.Pending.{Pending}
 
 -- the square opened last comes first
 pub open_nodes-append : (front : List Pending) (last : Pending)
@@ -115,7 +82,7 @@ module _ (squares : List Node) (base : Cell) where
         stands = ap (slice_get squares) next.number ∙ all.0;
         depth = omega (arith, length-append front (new ∷ []), last.high, old.inner, next.level);
         rest = AreOpen-append level front new both.0 (record {
-          high = ap (λ (s : Square). level_of s) square ∙ last.high;
+          high = omega (arith, ap (λ (s : Square). level_of s) square, last.high);
           same = ap (λ (s : Square). s.base) square ∙ last.same;
           stands = subst (λ j. StandsAt squares j (nodes_of new)) number all.1;
         });
@@ -130,14 +97,14 @@ length-walk {tree} {whole} {stack} walk =
 -- a square of the tree is opened
 pub opened : {tree : Tree} (whole : Option Square) (stack : List Pending) (pending : Pending) {square : Square}
     → IsWalk tree whole stack → is_none whole ≡ true → IsSquareOf tree square
-    → level_of square + length stack ≡ tree.height → pending.square ≡ square
+    → level_of square + length stack ≤ tree.height → pending.square ≡ square
     → StandsAt (squares_of tree) pending.number (nodes_of pending) → IsWalk tree whole (stack ++ pending ∷ [])
 opened (Some whole) stack pending walk begun of depth same stands = absurd (false≢true begun)
 opened {tree} None stack pending walk begun of depth same stands = record {
   low = walk.low;
   first = tt;
   later = AreOpen-append (squares_of tree) tree.base tree.height stack pending walk.later (record {
-    high = ap (λ (s : Square). level_of s) same ∙ omega arith;
+    high = omega (arith, ap (λ (s : Square). level_of s) same);
     same = ap (λ (s : Square). s.base) same ∙ of.base;
     stands = stands;
   });
@@ -163,10 +130,20 @@ pub whole_nodes : {tree : Tree} (whole : Option Square) → IsTree tree → IfNo
     → found_nodes whole ≡ top_nodes tree
 whole_nodes {tree} None is none of top = rw (none, prefixes-none tree.height) refl
 whole_nodes {tree} (Some square) is none of top =
-    let here : IsSquare tree.height (codes_of tree) tree.height 0 (square_number square) =
-    IsSquare-from_list (of.stands ∙ ap Some top) in
-    let one = one_top tree.height (codes_of tree) is.codes tree.height (omega (arith, here.within)) in
+    let here : IsOn tree.height tree.wide (codes_of tree) tree.height 0 (square_number square) =
+    IsOn-from_list is.fits (of.stands ∙ ap Some top) in
+    let digits = ap (λ n. length (prefixes n (codes_of tree)))
+    (digits_in-widths_under (tree.height - 2 * tree.wide) tree.height) in
+    let one = one_top tree.height (codes_of tree) is.codes tree.height (omega (arith, here.square.within, digits)) in
     ap (λ n. n ∷ []) top ∙ ap (map (node tree.height)) (sym one)
+
+-- a square of the lowest level is one of the numbers
+own_number : {height wide : ℕ} {codes : List ℕ} {q j : ℕ} → Rises 0 codes → IsOn height wide codes 0 q j
+    → (i : ℕ) × (i < length codes) × (get_or codes i 0 ≡ q)
+own_number {height} {wide} {codes} up on =
+    let all : prefixes (digits_in (widths_under (height - 2 * wide) 0)) codes ≡ codes =
+    ap (λ n. prefixes n codes) (digits_in-widths_under (height - 2 * wide) 0) ∙ prefixes-zero codes up in
+    (on.square.place, (rw all at on.square.within), (rw all at on.square.stands))
 
 -- the leaf of a square that is a cell
 pub leaf_is : {tree : Tree} {s : Square} {leaf : ℕ} → IsTree tree → IsSquareOf tree s → level_of s ≡ 0
@@ -174,8 +151,8 @@ pub leaf_is : {tree : Tree} {s : Square} {leaf : ℕ} → IsTree tree → IsSqua
 leaf_is {tree} {s} {leaf} is of end found =
     let codes : List ℕ = codes_of tree in
     let q : ℕ = prefix_of s in
-    let square = bottom is.codes.rising
-    (subst (λ n. IsSquare tree.height codes n q (square_number s)) end (IsSquare-from_list of.stands)) in
+    let square = own_number is.codes.rising
+    (subst (λ n. IsOn tree.height tree.wide codes n q (square_number s)) end (IsOn-from_list is.fits of.stands)) in
     let small : q < 4 ^ tree.height = rw square.2 at (is.codes.small square.0 0 square.1) in
     let corner = corner_is tree.height s end of.base is.grid.limit small in
     let number : slice_get codes leaf ≡ Some q =

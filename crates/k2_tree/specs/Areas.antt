@@ -6,7 +6,7 @@ use Rattle.track_types.specs.declared.cell.Cell.{Cell}
 use Rattle.track_types.specs.declared.cell_box.CellBox.{CellBox}
 use Rattle.track_types.specs.declared.limit.TheConstants.{MAX_HEIGHT}
 use Rattle.k2_tree.specs.Morton.{column_of, row_of}
-use Rattle.k2_tree.specs.TreeBits.{side}
+use Rattle.k2_tree.specs.Widths.{side}
 use Rattle.k2_tree.specs.Squares.{Node}
 
 -- a number is at most itself and some more

@@ -3,19 +3,18 @@ use Rattle.std.specs.Prelude.{◌≡◌, ℕ, ◌+◌, ◌*◌, ◌≤◌, nat_l
 use Rattle.std.specs.Prelude.{Option, None}
 use Rattle.std.specs.Option.{option_map}
 use Rattle.packed_bits.specs.Bits.{ones_of}
-use Rattle.k2_tree.specs.TreeBits.{fan}
 use Rattle.k2_tree.specs.Flaws.{group_flaw}
 
--- how many ones the group at the front has, and none where it is not whole
-abbrev pub group_ones : List Bool → ℕ
-group_ones bits = if nat_le fan (length bits) then ones_of (take fan bits) else 0
+-- how many ones the group of so many bits at the front has, and none where it is not whole
+abbrev pub group_ones : ℕ → List Bool → ℕ
+group_ones size bits = if nat_le size (length bits) then ones_of (take size bits) else 0
 
 -- a flaw's place, where it was counted from a place on
 abbrev pub flaw_from : ℕ → Option ℕ → Option ℕ
 flaw_from start flaw = option_map (λ place. start + place) flaw
 
 -- from a place on stand so many whole groups, each with a one, and they have so many ones
-pub record IsLevel (bits : List Bool) (start groups ones : ℕ) : Type 0 where
-  pub whole : start + fan * groups ≤ length bits
-  pub flawless : group_flaw groups (drop start bits) ≡ None
-  pub counted : ones ≡ ones_of (take (fan * groups) (drop start bits))
+pub record IsLevel (size : ℕ) (bits : List Bool) (start groups ones : ℕ) : Type 0 where
+  pub whole : start + size * groups ≤ length bits
+  pub flawless : group_flaw size groups (drop start bits) ≡ None
+  pub counted : ones ≡ ones_of (take (size * groups) (drop start bits))

@@ -2,14 +2,14 @@
 use Rattle.std.specs.Prelude.{ℕ, ◌+◌, ◌*◌}
 use Rattle.bit_rank.specs.Cost.{rank_reads, select_reads, window_reads}
 
--- `child`, and what a walk reads for a square that it opens: one window and one rank
+-- `child` and `children`, and what a walk reads for a square that it opens: one window and one rank
 abbrev pub child_reads : ℕ
 child_reads = window_reads + rank_reads
 
--- `leaf_cell`: one select for each level
+-- `leaf_cell`: one select for each level, of which there are at most as many as digits
 abbrev pub climb_reads : ℕ → ℕ
 climb_reads height = select_reads * height
 
--- `leaf_of`: one child for each level
+-- `leaf_of`: one child for each level, of which there are at most as many as digits
 abbrev pub descent_reads : ℕ → ℕ
 descent_reads height = child_reads * height

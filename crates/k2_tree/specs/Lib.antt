@@ -1,8 +1,10 @@
 -- In reading order.
 pub mod Morton
+pub mod Widths
 pub mod TreeBits
 pub mod Squares
 pub mod Areas
+pub mod Groups
 pub mod Tree
 pub mod TreeSquares
 pub mod Digits

@@ -1,5 +1,6 @@
 -- The children of a square that are still to be visited.
 use Rattle.std.specs.Prelude.{◌≡◌, ℕ, suc, ◌+◌, Some, List, [], ◌∷◌, map, slice_get}
+use Rattle.k2_tree.specs.Widths.{fan_of}
 use Rattle.k2_tree.specs.Squares.{Node}
 use Rattle.k2_tree.specs.TreeSquares.{child_at, level_of, node_of, square_number}
 use Rattle.k2_tree.specs.Digits.{digits_of}
@@ -8,7 +9,8 @@ use Rattle.k2_tree.specs.declared.pending.Pending.{Pending}
 
 -- those children, in order
 abbrev pub nodes_of : Pending → List Node
-nodes_of pending = map (child_at (node_of pending.square)) (digits_of pending.digits)
+nodes_of pending =
+    map (child_at pending.width (node_of pending.square)) (digits_of (fan_of pending.width) pending.digits)
 
 -- the child is the first of them, with the first of their numbers, and the others are left
 pub record IsNextOf (old : Pending) (child : Square) (new : Pending) : Type 0 where
@@ -16,7 +18,7 @@ pub record IsNextOf (old : Pending) (child : Square) (new : Pending) : Type 0 wh
   pub number : square_number child ≡ old.number
   pub later : new.number ≡ old.number + 1
   pub base : child.base ≡ old.square.base
-  pub level : level_of child + 1 ≡ level_of old.square
+  pub level : level_of child + old.width ≡ level_of old.square
 
 -- the squares stand in a list one behind another, the first of them at this place
 abbrev pub StandsAt : List Node → ℕ → List Node → Type 0

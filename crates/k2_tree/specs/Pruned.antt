@@ -1,22 +1,27 @@
 -- What is left of a walk over the leaves that pass a test, and what it may still read.
-use Rattle.std.specs.Prelude.{ℕ, Bool, if◌then◌else◌, List, map}
+use Rattle.std.specs.Prelude.{ℕ, ◌-◌, ◌*◌, Bool, if◌then◌else◌, List, map}
 use Rattle.std.specs.List.{flat_map, sum_by}
 use Rattle.track_types.specs.declared.cell.Cell.{Cell}
 use Rattle.track_types.specs.declared.cell_box.CellBox.{CellBox}
-use Rattle.k2_tree.specs.Cost.{child_reads}
+use Rattle.k2_tree.specs.Widths.{widths_under}
 use Rattle.k2_tree.specs.Squares.{Node}
 use Rattle.k2_tree.specs.Tree.{Tree, codes_of}
-use Rattle.k2_tree.specs.Pruning.{kept_below, leaf_of, on_areas, weight_below}
 use Rattle.k2_tree.specs.SquareWalk.{WalkView}
+use Rattle.k2_tree.specs.Pruning.{kept_below, leaf_of, on_areas, weight_below}
+use Rattle.k2_tree.specs.Cost.{child_reads}
 use Rattle.k2_tree.specs.declared.pruned.Pruned.{Pruned}
+
+-- the widths of the levels below a square
+abbrev pub widths_at : Tree → Node → List ℕ
+widths_at tree square = widths_under (tree.height - 2 * tree.wide) square.level
 
 -- the numbers in a square for which a test is true on each square from this one down
 abbrev pub kept_in : (Node → Bool) → Tree → Node → List ℕ
-kept_in test tree square = kept_below test (codes_of tree) square.level square.prefix
+kept_in test tree square = kept_below test (codes_of tree) (widths_at tree square) square.prefix
 
 -- the weights of a square and of all squares below it together
 abbrev pub weight_in : (Node → ℕ) → Tree → Node → ℕ
-weight_in weight tree square = weight_below weight (codes_of tree) square.level square.prefix
+weight_in weight tree square = weight_below weight (codes_of tree) (widths_at tree square) square.prefix
 
 -- one window and one rank for each square that passes a test
 abbrev pub reads_of : (Node → Bool) → Node → ℕ

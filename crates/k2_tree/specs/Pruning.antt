@@ -1,5 +1,5 @@
 -- The leaves all of whose squares pass a test, and how many squares do.
-use Rattle.std.specs.Prelude.{◌≡◌, ℕ, zero, suc, ◌+◌, ◌-◌, ◌/◌, ◌^◌, Bool, nat_lt, if◌then◌else◌, IsTrue}
+use Rattle.std.specs.Prelude.{◌≡◌, ℕ, ◌+◌, ◌-◌, ◌/◌, ◌^◌, Bool, nat_lt, if◌then◌else◌, IsTrue}
 use Rattle.std.specs.Prelude.{Some, slice_get, List, [], ◌∷◌, length, map, filter}
 use Rattle.std.specs.List.{enumerate_from, flat_map, list_all, sum_by}
 use Rattle.track_types.specs.declared.cell.Cell.{Cell}
@@ -7,11 +7,12 @@ use Rattle.track_types.specs.declared.cell_box.CellBox.{CellBox}
 use Rattle.track_types.specs.Near.{IsBoxWithin}
 use Rattle.track_types.specs.Region.{in_box}
 use Rattle.k2_tree.specs.Morton.{morton_of, cell_of}
-use Rattle.k2_tree.specs.TreeBits.{fan, is_in, levels_below, longer, prefixes}
+use Rattle.k2_tree.specs.Widths.{digits_in, fan, fan_of}
+use Rattle.k2_tree.specs.TreeBits.{is_in, longer, prefixes}
 use Rattle.k2_tree.specs.Squares.{Node, node}
 use Rattle.k2_tree.specs.Areas.{area_at}
-use Rattle.k2_tree.specs.Tree.{Tree, codes_of}
-use Rattle.k2_tree.specs.TreeSquares.{squares_of}
+use Rattle.k2_tree.specs.Tree.{Tree, codes_of, tree_widths}
+use Rattle.k2_tree.specs.TreeSquares.{squares_of, width_of}
 
 -- how many of the numbers are below one, which is its place among ascending ones
 abbrev pub place_among : List ℕ → ℕ → ℕ
@@ -29,9 +30,14 @@ leaf_of tree code = leaf_with tree.height tree.base (codes_of tree) code
 abbrev pub IsLeafOf : Tree → ℕ × Cell → Type 0
 IsLeafOf tree leaf = slice_get tree.cells leaf.0 ≡ Some leaf.1
 
--- whether a test is true on each square that holds a Morton number, from the one of a level down to its own
-unfoldable pub passes : (Node → Bool) → ℕ → ℕ → Bool
-passes test n code = list_all (λ level. test (node level (code / fan ^ level))) (levels_below (suc n))
+-- how many digits are left away of the prefixes of the top, and of each of these levels down to the cells
+unfoldable pub digits_left : List ℕ → List ℕ
+digits_left [] = 0 ∷ []
+digits_left (width ∷ widths) = (width + digits_in widths) ∷ digits_left widths
+
+-- whether a test is true on each square that holds a Morton number, from the one above these levels down to its own
+unfoldable pub passes : (Node → Bool) → List ℕ → ℕ → Bool
+passes test widths code = list_all (λ level. test (node level (code / fan ^ level))) (digits_left widths)
 
 -- a test of boxes as one of the tree's squares
 abbrev pub on_areas : (CellBox → Bool) → Tree → Node → Bool
@@ -39,7 +45,7 @@ on_areas keep tree square = keep (area_at tree.base square)
 
 -- whether a test is true on each square of a tree from the whole grid to this cell
 unfoldable pub passes_at : (CellBox → Bool) → Tree → Cell → Bool
-passes_at keep tree cell = passes (on_areas keep tree) tree.height (morton_of tree.height tree.base cell)
+passes_at keep tree cell = passes (on_areas keep tree) (tree_widths tree) (morton_of tree.height tree.base cell)
 
 -- a tree's leaves: its cells with their numbers
 abbrev pub leaves_of : Tree → List (ℕ × Cell)
@@ -66,23 +72,26 @@ wanted_of wanted leaves = filter (λ leaf. wanted leaf.1) leaves
 abbrev pub square_count : (CellBox → Bool) → Tree → ℕ
 square_count keep tree = length (filter (on_areas keep tree) (squares_of tree))
 
--- the children that hold a number of the square with this prefix, themselves of level n
-unfoldable pub children : ℕ → List ℕ → ℕ → List ℕ
-children n codes prefix = filter (is_in (prefixes n codes)) (longer (prefix ∷ []))
+-- the children that hold a number of the square with this prefix: a level of this width, with n digits below it
+unfoldable pub children : ℕ → ℕ → List ℕ → ℕ → List ℕ
+children width n codes prefix = filter (is_in (prefixes n codes)) (longer (fan_of width) (prefix ∷ []))
 
 -- those children of a square of a tree
 abbrev pub child_nodes : Tree → Node → List Node
 child_nodes tree square =
-    map (node (square.level - 1)) (children (square.level - 1) (codes_of tree) square.prefix)
+    map (node (square.level - width_of tree square))
+    (children (width_of tree square) (square.level - width_of tree square) (codes_of tree) square.prefix)
 
--- the numbers below a square for which a test is true on each square from this one down
-unfoldable pub kept_below : (Node → Bool) → List ℕ → ℕ → ℕ → List ℕ
-kept_below test codes zero prefix = if test (node 0 prefix) then prefix ∷ [] else []
-kept_below test codes (suc n) prefix =
-    if test (node (suc n) prefix) then flat_map (kept_below test codes n) (children n codes prefix) else []
+-- the numbers below a square with levels of these widths for which a test is true on each square from this one down
+unfoldable pub kept_below : (Node → Bool) → List ℕ → List ℕ → ℕ → List ℕ
+kept_below test codes [] prefix = if test (node 0 prefix) then prefix ∷ [] else []
+kept_below test codes (width ∷ widths) prefix =
+    if test (node (width + digits_in widths) prefix)
+    then flat_map (kept_below test codes widths) (children width (digits_in widths) codes prefix) else []
 
 -- the weights of a square and of all squares below it together
-unfoldable pub weight_below : (Node → ℕ) → List ℕ → ℕ → ℕ → ℕ
-weight_below weight codes zero prefix = weight (node 0 prefix)
-weight_below weight codes (suc n) prefix =
-    weight (node (suc n) prefix) + sum_by (weight_below weight codes n) (children n codes prefix)
+unfoldable pub weight_below : (Node → ℕ) → List ℕ → List ℕ → ℕ → ℕ
+weight_below weight codes [] prefix = weight (node 0 prefix)
+weight_below weight codes (width ∷ widths) prefix =
+    weight (node (width + digits_in widths) prefix)
+    + sum_by (weight_below weight codes widths) (children width (digits_in widths) codes prefix)

@@ -41,13 +41,13 @@ walk_of tree whole stack = record {
   depth = length stack;
 }
 
--- an open square is of this level, and its pending children stand among the squares
+-- an open square is of this level or of one below it, and its pending children stand among the squares
 pub record IsOpen (squares : List Node) (base : Cell) (level : ℕ) (pending : Pending) : Type 0 where
-  pub high : level_of pending.square ≡ level
+  pub high : level_of pending.square ≤ level
   pub same : pending.square.base ≡ base
   pub stands : StandsAt squares pending.number (nodes_of pending)
 
--- so are all open squares, one of each level from this one downwards
+-- so are all open squares, each of a lower level than the one before
 abbrev pub AreOpen : List Node → Cell → ℕ → List Pending → Type 0
 AreOpen squares base level [] = Unit {0}
 AreOpen squares base level (pending ∷ later) =
@@ -58,7 +58,7 @@ pub record IsTaken (squares : List Node) (base : Cell) (level : ℕ) (square : S
     (stack : List Pending) : Type 0 where
   pub same : square.base ≡ base
   pub stands : slice_get squares (square_number square) ≡ Some (node_of square)
-  pub depth : level_of square + length stack ≡ level
+  pub depth : level_of square + length stack ≤ level
   pub rest : AreOpen squares base level stack
 
 -- where the whole grid is still to be visited, nothing is open yet

@@ -1,6 +1,7 @@
 -- The squares of a k2-tree: the prefixes of its cells' Morton numbers, numbered level by level from 0.
-use Rattle.std.specs.Prelude.{◌≡◌, ℕ, zero, suc, ◌+◌, ◌<◌, List, length, map, flat_map, slice_index}
-use Rattle.k2_tree.specs.TreeBits.{prefixes, levels_below}
+use Rattle.std.specs.Prelude.{◌≡◌, ℕ, ◌+◌, ◌*◌, ◌<◌, List, [], ◌∷◌, ◌++◌, length, map, slice_index}
+use Rattle.k2_tree.specs.Widths.{digits_in, fan_of}
+use Rattle.k2_tree.specs.TreeBits.{prefixes}
 
 -- a square: how many digits are left away of the Morton numbers of its cells, and the prefix that is left
 pub record Node : Type 0 where
@@ -15,20 +16,26 @@ node level prefix = record { level = level; prefix = prefix }
 abbrev pub level_squares : ℕ → List ℕ → List Node
 level_squares n codes = map (node n) (prefixes n codes)
 
--- the squares of this level and of those below it that hold a number, level by level from the top
-unfoldable pub squares_from : ℕ → List ℕ → List Node
-squares_from n codes = flat_map (λ level. level_squares level codes) (levels_below (suc n))
+-- the squares that hold a number, of the top and of each of these levels down to the cells
+unfoldable pub squares_from : List ℕ → List ℕ → List Node
+squares_from [] codes = level_squares 0 codes
+squares_from (width ∷ widths) codes = level_squares (width + digits_in widths) codes ++ squares_from widths codes
 
--- how many squares the k levels above have, where a square of this level has n digits below it
-unfoldable pub squares_above : ℕ → ℕ → List ℕ → ℕ
-squares_above zero n codes = 0
-squares_above (suc k) n codes = squares_above k (suc n) codes + length (prefixes (suc n) codes)
+-- how many squares stand above those with n digits below them, where these levels lie between the top and them
+unfoldable pub squares_above : List ℕ → ℕ → List ℕ → ℕ
+squares_above [] n codes = 0
+squares_above (width ∷ widths) n codes =
+    length (prefixes (width + (digits_in widths + n)) codes) + squares_above widths n codes
 
--- the square of a prefix has this number: as many squares stand in the levels above and before it in its own
-pub record IsSquare (height : ℕ) (codes : List ℕ) (n prefix number : ℕ) : Type 0 where
-  pub above : ℕ
+-- how many bits these levels have
+unfoldable pub bits_above : List ℕ → ℕ → List ℕ → ℕ
+bits_above [] n codes = 0
+bits_above (width ∷ widths) n codes =
+    fan_of width * length (prefixes (width + (digits_in widths + n)) codes) + bits_above widths n codes
+
+-- the square of a prefix, with levels above and below it, has this number: so many stand above and before it
+pub record IsSquare (above below codes : List ℕ) (prefix number : ℕ) : Type 0 where
   pub place : ℕ
-  pub high : above + n ≡ height
-  pub within : place < length (prefixes n codes)
-  pub stands : slice_index (prefixes n codes) place ≡ prefix
-  pub counted : number ≡ squares_above above n codes + place
+  pub within : place < length (prefixes (digits_in below) codes)
+  pub stands : slice_index (prefixes (digits_in below) codes) place ≡ prefix
+  pub counted : number ≡ squares_above above (digits_in below) codes + place

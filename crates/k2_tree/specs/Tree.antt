@@ -1,19 +1,26 @@
--- A k2-tree: a set of cells, and how it stands in bits.
-use Rattle.std.specs.Prelude.{◌≡◌, ℕ, zero, suc, ◌*◌, ◌^◌, ◌≤◌, Bool}
+-- A k2-tree: a set of cells, how many of its upper levels are wide, and how it stands in bits.
+use Rattle.std.specs.Prelude.{◌≡◌, ℕ, ◌*◌, ◌^◌, ◌≤◌, Bool}
 use Rattle.std.specs.Prelude.{true, false, List, [], ◌∷◌, length, map, drop, All}
 use Rattle.track_types.specs.declared.cell.Cell.{Cell}
 use Rattle.k2_tree.specs.Morton.{morton_of, cell_of, IsGrid, IsInGrid}
-use Rattle.k2_tree.specs.TreeBits.{fan, longer, morton_bits, AreCodes}
+use Rattle.k2_tree.specs.Widths.{fan_of, widths_of}
+use Rattle.k2_tree.specs.TreeBits.{longer, morton_bits, AreCodes}
+use Rattle.k2_tree.specs.Groups.{upper_squares}
 
--- a set of cells of the grid of side 2 ^ height from the base, in Morton order
+-- a set of cells of the grid of side 2 ^ height from the base, in Morton order, over so many wide levels
 pub record Tree : Type 0 where
   pub height : ℕ
+  pub wide : ℕ
   pub base : Cell
   pub cells : List Cell
 
 -- the tree of these cells
-abbrev pub tree_with : ℕ → Cell → List Cell → Tree
-tree_with height base cells = record { height = height; base = base; cells = cells }
+abbrev pub tree_with : ℕ → ℕ → Cell → List Cell → Tree
+tree_with height wide base cells = record { height = height; wide = wide; base = base; cells = cells }
+
+-- the widths of a tree's levels
+abbrev pub tree_widths : Tree → List ℕ
+tree_widths tree = widths_of tree.height tree.wide
 
 -- the Morton numbers of a tree's cells
 abbrev pub codes_of : Tree → List ℕ
@@ -21,11 +28,12 @@ codes_of tree = map (morton_of tree.height tree.base) tree.cells
 
 -- a tree's bits
 unfoldable pub tree_bits : Tree → List Bool
-tree_bits tree = morton_bits tree.height (codes_of tree)
+tree_bits tree = morton_bits (tree_widths tree) (codes_of tree)
 
 -- what holds of every tree
 pub record IsTree (tree : Tree) : Type 0 where
   pub grid : IsGrid tree.height tree.base
+  pub fits : 2 * tree.wide ≤ tree.height
   pub inside : All (IsInGrid tree.height tree.base) tree.cells
   pub codes : AreCodes tree.height (codes_of tree)
 
@@ -36,29 +44,31 @@ picked (bit ∷ bits) [] = []
 picked (true ∷ bits) (code ∷ codes) = code ∷ picked bits codes
 picked (false ∷ bits) (code ∷ codes) = picked bits codes
 
--- the numbers that the bits of n levels tell below these prefixes
-unfoldable pub codes_below : ℕ → List ℕ → List Bool → List ℕ
-codes_below zero prefixes bits = prefixes
-codes_below (suc n) prefixes bits =
-    codes_below n (picked bits (longer prefixes)) (drop (fan * length prefixes) bits)
+-- the numbers that the bits of levels of these widths tell below these prefixes
+unfoldable pub codes_below : List ℕ → List ℕ → List Bool → List ℕ
+codes_below [] prefixes bits = prefixes
+codes_below (width ∷ widths) prefixes bits =
+    codes_below widths (picked bits (longer (fan_of width) prefixes)) (drop (fan_of width * length prefixes) bits)
 
 -- the Morton numbers that a tree's bits tell
-unfoldable pub codes_in : ℕ → List Bool → List ℕ
-codes_in height [] = []
-codes_in height (bit ∷ bits) = codes_below height (0 ∷ []) (bit ∷ bits)
+unfoldable pub codes_in : List ℕ → List Bool → List ℕ
+codes_in widths [] = []
+codes_in widths (bit ∷ bits) = codes_below widths (0 ∷ []) (bit ∷ bits)
 
 -- the tree that has these bits
-abbrev pub tree_of : ℕ → Cell → List Bool → Tree
-tree_of height base bits =
-    record { height = height; base = base; cells = map (cell_of height base) (codes_in height bits) }
+abbrev pub tree_of : ℕ → ℕ → Cell → List Bool → Tree
+tree_of height wide base bits =
+    tree_with height wide base (map (cell_of height base) (codes_in (widths_of height wide) bits))
 
 -- the bits are those of the Morton numbers that they tell
-pub record AreTreeBits (height : ℕ) (bits : List Bool) : Type 0 where
-  pub codes : AreCodes height (codes_in height bits)
-  pub exact : bits ≡ morton_bits height (codes_in height bits)
+pub record AreTreeBits (height wide : ℕ) (bits : List Bool) : Type 0 where
+  pub fits : 2 * wide ≤ height
+  pub codes : AreCodes height (codes_in (widths_of height wide) bits)
+  pub exact : bits ≡ morton_bits (widths_of height wide) (codes_in (widths_of height wide) bits)
   pub few : length bits ≤ 2 ^ 31
 
 -- a tree of these parts
-pub record IsStored (height : ℕ) (base : Cell) (bits : List Bool) : Type 0 where
+pub record IsStored (height wide : ℕ) (base : Cell) (bits : List Bool) (upper : ℕ) : Type 0 where
   pub grid : IsGrid height base
-  pub tree : AreTreeBits height bits
+  pub tree : AreTreeBits height wide bits
+  pub upper_is : upper ≡ upper_squares height wide (codes_in (widths_of height wide) bits)

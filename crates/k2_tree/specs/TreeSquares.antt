@@ -4,17 +4,18 @@ use Rattle.track_types.specs.declared.cell.Cell.{Cell}
 use Rattle.track_types.specs.declared.cell_box.CellBox.{CellBox}
 use Rattle.track_types.specs.declared.limit.TheConstants.{MAX_HEIGHT}
 use Rattle.k2_tree.specs.Morton.{interleaved}
-use Rattle.k2_tree.specs.TreeBits.{fan, is_in, prefixes}
+use Rattle.k2_tree.specs.Widths.{fan_of, width_below}
+use Rattle.k2_tree.specs.TreeBits.{is_in, prefixes}
 use Rattle.k2_tree.specs.Squares.{Node, node, squares_from}
 use Rattle.k2_tree.specs.Areas.{area_at}
-use Rattle.k2_tree.specs.Tree.{Tree, codes_of}
+use Rattle.k2_tree.specs.Tree.{Tree, codes_of, tree_widths}
 use Rattle.k2_tree.specs.declared.square.Square.{Square}
 
--- how many levels stand below the square, of which the last are the cells
+-- how many digits to base 4 are left away of the Morton numbers of its cells
 abbrev pub level_of : Square → ℕ
 level_of square = square.level
 
--- the prefix of the Morton numbers of its cells
+-- the prefix of these numbers that is left
 abbrev pub prefix_of : Square → ℕ
 prefix_of square = interleaved MAX_HEIGHT square.row square.column
 
@@ -36,16 +37,20 @@ corner_of square = record { x = (area_of square).x1; y = (area_of square).y1 }
 
 -- the squares of a tree that hold a cell, level by level from the top
 abbrev pub squares_of : Tree → List Node
-squares_of tree = squares_from tree.height (codes_of tree)
+squares_of tree = squares_from (tree_widths tree) (codes_of tree)
 
 -- the square is one of the tree's: it holds a cell, and its number is its place among those that do
 pub record IsSquareOf (tree : Tree) (square : Square) : Type 0 where
   pub base : square.base ≡ tree.base
   pub stands : slice_get (squares_of tree) square.number ≡ Some (node_of square)
 
--- a child of a square, whether it holds a cell or not
-abbrev pub child_at : Node → ℕ → Node
-child_at square digit = node (square.level - 1) (fan * square.prefix + digit)
+-- the width of the level below a square of a tree
+abbrev pub width_of : Tree → Node → ℕ
+width_of tree square = width_below (tree.height - 2 * tree.wide) square.level
+
+-- a child of a square by a level of this width, whether it holds a cell or not
+abbrev pub child_at : ℕ → Node → ℕ → Node
+child_at width square digit = node (square.level - width) (fan_of width * square.prefix + digit)
 
 -- whether a square holds a cell of the tree
 abbrev pub holds_cell : Tree → Node → Bool

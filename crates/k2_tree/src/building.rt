@@ -1,51 +1,93 @@
-ghost use Rattle.std.specs.Prelude.{◌≡◌, ◌+◌, ◌*◌, ◌/◌, ◌%◌, ◌^◌, ◌<◌, ◌≤◌, ◌++◌, length, slice_index, IfOk, OnOk};
-ghost use Rattle.k2_tree.specs.TreeBits.{level_bits, morton_bits, Rises};
-ghost use Rattle.k2_tree.specs.Building.{room, with_digit};
+ghost use Rattle.std.specs.Prelude.{◌≡◌, ◌+◌, ◌-◌, ◌*◌, ◌/◌, ◌%◌, ◌^◌, ◌<◌, ◌≤◌, ◌++◌, length, slice_index, IfOk, OnOk};
+ghost use Rattle.k2_tree.specs.Widths.{levels_with, widths_of};
+ghost use Rattle.k2_tree.specs.TreeBits.{Rises, level_bits, morton_bits};
+ghost use Rattle.k2_tree.specs.Groups.{upper_squares};
+ghost use Rattle.k2_tree.specs.Building.{levels_bits, room};
 ghost use Rattle.track_types.specs.declared.limit.TheConstants.{MAX_HEIGHT};
 
-use crate::level::FAN;
+use crate::groups::fan_of;
 use std::alloc::Global;
 use track_types::Memory;
 
-/// The tree bits of ascending Morton numbers of `height` digits, level by level from the top. Each
-/// level takes one pass over the numbers.
-pub fn bits_of_codes(alloc: Global, codes: &[u64], height: u32) -> Result<Vec<bool>, Memory>
+/// The tree bits of ascending Morton numbers of `height` digits, level by level from the top, of
+/// which the `wide` upper ones take two digits each, and how many squares these split. Each level
+/// takes one pass over the numbers.
+pub fn bits_of_codes(
+    alloc: Global,
+    codes: &[u64],
+    height: u32,
+    wide: u32,
+) -> Result<(Vec<bool>, u32), Memory>
     requires ascending { Rises 0 codes.now }
+    requires few { length codes.now ≤ 2 ^ 16 }
     requires low { height ≤ MAX_HEIGHT }
-    ensures ok { IfOk result (λ bits. bits.items ≡ morton_bits height codes.now) }
+    requires fits { 2 * wide ≤ height }
+    ensures bits { IfOk result (λ made. made.0.items ≡ morton_bits (widths_of height wide) codes.now) }
+    ensures upper { IfOk result (λ made. made.1 ≡ upper_squares height wide codes.now) }
 {
+    let low = height - 2 * wide;
     let mut bits = Vec::new(alloc);
-    for level in (0..height).rev() {
-        push_level(&mut bits, codes, level)?;
-    }
-    Ok(bits)
+    push_levels(&mut bits, codes, 2, wide, low)?;
+    let upper = bits.len() / 16;
+    push_levels(&mut bits, codes, 1, low, 0)?;
+    Ok((bits, upper as u32))
 }
 
-// Pushes the level whose squares have `level` digits below them.
-fn push_level(bits: &mut Vec<bool>, codes: &[u64], level: u32) -> Result<(), Memory>
+// Pushes so many levels of one width. The squares of the last have `below` digits below them.
+fn push_levels(
+    bits: &mut Vec<bool>,
+    codes: &[u64],
+    width: u32,
+    levels: u32,
+    below: u32,
+) -> Result<(), Memory>
     requires ascending { Rises 0 codes.now }
-    requires low { level < MAX_HEIGHT }
-    ensures ok { OnOk result (bits.new.items ≡ bits.old.items ++ level_bits level codes.now) }
+    requires low { width * levels + below ≤ MAX_HEIGHT }
+    requires some { 1 ≤ width }
+    requires narrow { width ≤ 2 }
+    ensures ok { OnOk result (bits.new.items
+        ≡ bits.old.items ++ levels_bits (levels_with width levels) below codes.now) }
 {
+    for level in (0..levels).rev() {
+        push_level(bits, codes, width, width * level + below)?;
+    }
+    Ok(())
+}
+
+// Pushes the level of this width whose squares have `level` digits below them.
+fn push_level(bits: &mut Vec<bool>, codes: &[u64], width: u32, level: u32) -> Result<(), Memory>
+    requires ascending { Rises 0 codes.now }
+    requires low { width + level ≤ MAX_HEIGHT }
+    requires narrow { width ≤ 2 }
+    ensures ok { OnOk result (bits.new.items ≡ bits.old.items ++ level_bits width level codes.now) }
+{
+    let fan = fan_of(width);
     for i in 0..codes.len() {
-        make_room(bits, codes, i, level)?;
-        let digit = (codes[i] >> (2 * level)) % FAN as u64;
-        let place = bits.len() - FAN as usize + digit as usize;
+        make_room(bits, codes, i, width + level, fan)?;
+        let digit = (codes[i] >> (2 * level)) % u64::from(fan);
+        let place = bits.len() - fan as usize + digit as usize;
         bits[place] = true;
     }
     Ok(())
 }
 
-// Pushes the four bits of a square where the number at a place is the first of it.
-fn make_room(bits: &mut Vec<bool>, codes: &[u64], i: usize, level: u32) -> Result<(), Memory>
+// Pushes the group of a square, which leaves `above` digits away, where the number at a place is the
+// first of it.
+fn make_room(
+    bits: &mut Vec<bool>,
+    codes: &[u64],
+    i: usize,
+    above: u32,
+    fan: u32,
+) -> Result<(), Memory>
     requires within { i < length codes.now }
-    requires low { level < MAX_HEIGHT }
-    ensures ok { OnOk result (bits.new.items ≡ bits.old.items ++ room codes.now i level) }
+    requires low { above ≤ MAX_HEIGHT }
+    ensures ok { OnOk result (bits.new.items ≡ bits.old.items ++ room fan above codes.now i) }
 {
-    let above = 2 * level + 2;
-    if i > 0 && codes[i - 1] >> above == codes[i] >> above {
+    let digits = 2 * above;
+    if i > 0 && codes[i - 1] >> digits == codes[i] >> digits {
         return Ok(());
     }
-    bits.extend_from_slice(&[false; FAN as usize])?;
+    bits.resize(bits.len() + fan as usize, false)?;
     Ok(())
 }

@@ -1,27 +1,32 @@
 ghost use Rattle.std.specs.Prelude.{◌≡◌, ◌+◌, ◌^◌, ◌<◌, ◌≤◌, length};
-ghost use Rattle.k2_tree.specs.TreeSquares.{level_of};
+ghost use Rattle.k2_tree.specs.Widths.{fan_of};
+ghost use Rattle.k2_tree.specs.Areas.{IsBoxInside};
+ghost use Rattle.k2_tree.specs.TreeSquares.{area_of, level_of};
 ghost use Rattle.k2_tree.specs.Digits.{digits_of};
 
 use crate::square::Square;
-use track_types::Cell;
 
 /// The children of a square that are still to be visited.
 #[derive(Clone, Copy)]
 pub struct Pending {
     square: Square,
+    // The width of their level.
+    width: u32,
     // A bit for each child, the first child's lowest, where it holds a cell and is still to come.
     digits: u32,
     // The number of the next of them. The others have the numbers behind it.
     number: u32,
-    ghost inner: { 1 ≤ level_of square },
-    ghost four: { digits < 16 },
-    ghost room: { number + length (digits_of digits) < 2 ^ 32 },
+    ghost some: { 1 ≤ width },
+    ghost narrow: { width ≤ 2 },
+    ghost inner: { width ≤ level_of square },
+    ghost few: { digits < 2 ^ fan_of width },
+    ghost room: { number + length (digits_of (fan_of width) digits) < 2 ^ 32 },
 }
 
 impl Default for Pending {
     // None, as in the unused places of a stack.
     fn default() -> Self {
-        Pending::new(Square::whole(Cell { x: 0, y: 0 }, 1), 0, 0)
+        Pending::new(Square::default(), 1, 0, 0)
     }
 }
 
@@ -29,18 +34,23 @@ impl Pending {
     ghost use Rattle.std.specs.Prelude.{[], IfNone, IfSome};
     ghost use Rattle.k2_tree.specs.Pending.{nodes_of, IsNextOf};
 
-    /// Of a square that is no cell the children whose bits are set, with numbers from this one on.
-    /// Only the lowest four bits may be set, and all of the numbers fit 32 bits.
-    pub fn new(square: Square, digits: u32, number: u32) -> Pending
-        requires inner { 1 ≤ level_of square }
-        requires four { digits < 16 }
-        requires room { number + length (digits_of digits) < 2 ^ 32 }
+    /// Of a square that is no cell the children whose bits are set, with numbers from this one on,
+    /// by the width of their level. Only bits below the level's fan may be set, and all of the
+    /// numbers fit 32 bits.
+    pub fn new(square: Square, width: u32, digits: u32, number: u32) -> Pending
+        requires some { 1 ≤ width }
+        requires narrow { width ≤ 2 }
+        requires inner { width ≤ level_of square }
+        requires few { digits < 2 ^ fan_of width }
+        requires room { number + length (digits_of (fan_of width) digits) < 2 ^ 32 }
         ensures square { result.square ≡ square }
+        ensures width { result.width ≡ width }
         ensures digits { result.digits ≡ digits }
         ensures number { result.number ≡ number }
     {
         Pending {
             square,
+            width,
             digits,
             number,
         }
@@ -50,12 +60,16 @@ impl Pending {
     pub fn next(&mut self) -> Option<Square>
         ensures none { IfNone result (nodes_of self.old ≡ []) }
         ensures found { IfSome result (λ child. IsNextOf self.old child self.new) }
+        ensures inside { IfSome result (λ child.
+            IsBoxInside (area_of child) (area_of self.old.square)) }
         ensures square { self.new.square ≡ self.old.square }
     {
         if self.digits == 0 {
             return None;
         }
-        let child = self.square.child(self.digits.trailing_zeros(), self.number);
+        let child = self
+            .square
+            .child(self.width, self.digits.trailing_zeros(), self.number);
         self.digits &= self.digits - 1;
         self.number += 1;
         Some(child)

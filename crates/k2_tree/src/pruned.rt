@@ -38,8 +38,8 @@ impl<'a, F: Keep> Pruned<'a, F> {
 }
 
 impl<'a, F: Keep> Lazy for Pruned<'a, F> {
-    ghost use Rattle.k2_tree.specs.Pruned.{pruned_budget, pruned_left, pruned_tree};
     ghost use Rattle.k2_tree.specs.Pruning.{IsLeafOf};
+    ghost use Rattle.k2_tree.specs.Pruned.{pruned_budget, pruned_left, pruned_tree};
 
     type Item = (u32, Cell);
 

@@ -5,17 +5,17 @@ ghost use Rattle.track_types.specs.declared.limit.TheConstants.{MAX_HEIGHT};
 
 use track_types::{Cell, CellBox};
 
-/// A square of a tree that holds a cell: the whole grid, one of the four squares that a square of
-/// the tree is split in, and so on down to a cell.
+/// A square of a tree that holds a cell: the whole grid, one of the four or sixteen squares that a
+/// square of the tree is split in, and so on down to a cell.
 ///
 /// It is a node of the k2-tree. It knows its place in the grid and its number among the squares
 /// that hold a cell, level by level from the top.
 #[derive(Clone, Copy, Debug)]
 pub struct Square {
     base: Cell,
-    // How many levels stand below it: its side is 2^level.
+    // How many digits its cells' Morton numbers have more: its side is 2^level.
     level: u32,
-    // How many squares of its level stand to the left of it and below it in the grid.
+    // How many squares of its size stand to the left of it and below it in the grid.
     column: u32,
     row: u32,
     number: u32,
@@ -28,12 +28,22 @@ pub struct Square {
     ghost north: { base.y ≤ℤ pos (2 ^ 41) },
 }
 
+impl Default for Square {
+    ghost use Rattle.k2_tree.specs.TreeSquares.{level_of};
+
+    // The whole of the least grid, as in the unused places of a list.
+    fn default() -> Self
+        ensures { level_of result ≡ 1 }
+    {
+        Square::whole(Cell { x: 0, y: 0 }, 1)
+    }
+}
+
 impl Square {
-    ghost use Rattle.k2_tree.specs.TreeSquares.{area_of, child_at, corner_of, level_of, node_of};
-    ghost use Rattle.k2_tree.specs.TreeSquares.{square_number};
-    ghost use Rattle.k2_tree.specs.Areas.{IsBoxInside};
+    ghost use Rattle.k2_tree.specs.Widths.{fan, fan_of};
     ghost use Rattle.k2_tree.specs.Squares.{node};
-    ghost use Rattle.k2_tree.specs.TreeBits.{fan};
+    ghost use Rattle.k2_tree.specs.Areas.{IsBoxInside};
+    ghost use Rattle.k2_tree.specs.TreeSquares.{area_of, child_at, corner_of, level_of, node_of, square_number};
 
     /// The cells of the square, whether the tree has them or not. All of its bounds are within 2^42
     /// of 0. It takes no memory.
@@ -72,12 +82,30 @@ impl Square {
         }
     }
 
-    // The child with a digit, which has this number.
-    pub(crate) fn child(&self, digit: u32, number: u32) -> Square
+    // The child with a digit by a level of this width, which has this number. A wide level's digit
+    // is two to base 4, the upper one first.
+    pub(crate) fn child(&self, width: u32, digit: u32, number: u32) -> Square
+        requires some { 1 ≤ width }
+        requires narrow { width ≤ 2 }
+        requires inner { width ≤ level_of self.now }
+        requires small { digit < fan_of width }
+        ensures base { result.base ≡ self.now.base }
+        ensures node { node_of result ≡ child_at width (node_of self.now) digit }
+        ensures number { square_number result ≡ number }
+        ensures inside { IsBoxInside (area_of result) (area_of self.now) }
+    {
+        if width == 1 {
+            return self.quarter(digit, number);
+        }
+        self.quarter(digit / 4, 0).quarter(digit % 4, number)
+    }
+
+    // The quarter of the square with a digit to base 4, which has this number.
+    fn quarter(&self, digit: u32, number: u32) -> Square
         requires inner { 1 ≤ level_of self.now }
         requires small { digit < fan }
         ensures base { result.base ≡ self.now.base }
-        ensures node { node_of result ≡ child_at (node_of self.now) digit }
+        ensures node { node_of result ≡ child_at 1 (node_of self.now) digit }
         ensures number { square_number result ≡ number }
         ensures inside { IsBoxInside (area_of result) (area_of self.now) }
     {
@@ -99,6 +127,14 @@ impl Square {
             x: area.x1,
             y: area.y1,
         }
+    }
+
+    // How many digits its cells' Morton numbers have more.
+    pub(crate) fn level(&self) -> u32
+        ensures value { result ≡ level_of self.now }
+        ensures within { result ≤ MAX_HEIGHT }
+    {
+        self.level
     }
 
     // The square's number.

@@ -1,11 +1,11 @@
 ghost use Rattle.std.specs.Prelude.{◌≡◌, ◌+◌, ◌≤◌, ◌++◌, [], ℕ, List, IfNone, IfSome, length, true};
 ghost use Rattle.track_types.specs.declared.cell.Cell.{Cell};
-ghost use Rattle.k2_tree.specs.Cost.{child_reads};
-ghost use Rattle.k2_tree.specs.Pruning.{child_nodes, leaf_of, IsLeafOf};
 ghost use Rattle.k2_tree.specs.Squares.{Node};
-ghost use Rattle.k2_tree.specs.SquareWalk.{AreOpen, IsTaken, found_nodes, open_nodes, top_nodes};
 ghost use Rattle.k2_tree.specs.Tree.{Tree, IsTree};
 ghost use Rattle.k2_tree.specs.TreeSquares.{level_of, node_of, prefix_of, IsSquareOf};
+ghost use Rattle.k2_tree.specs.SquareWalk.{AreOpen, IsTaken, found_nodes, open_nodes, top_nodes};
+ghost use Rattle.k2_tree.specs.Pruning.{child_nodes, leaf_of, IsLeafOf};
+ghost use Rattle.k2_tree.specs.Cost.{child_reads};
 
 use crate::pending::Pending;
 use crate::square::Square;
@@ -64,7 +64,7 @@ impl<'a> SquareWalk<'a> {
         ensures of { IfSome result (λ square. IsSquareOf self.old.tree square) }
         ensures begun { self.new.begun ≡ true }
         ensures depth { IfSome result (λ square.
-            level_of square + self.new.depth ≡ self.old.tree.height) }
+            level_of square + self.new.depth ≤ self.old.tree.height) }
     {
         if let Some(whole) = self.whole.take() {
             return Some(whole);
@@ -76,14 +76,14 @@ impl<'a> SquareWalk<'a> {
     pub fn open<L: Ledger>(&mut self, square: Square, steps: &mut Steps<L>)
         requires of { IsSquareOf self.old.tree square }
         requires inner { 1 ≤ level_of square }
-        requires depth { level_of square + self.old.depth ≡ self.old.tree.height }
+        requires depth { level_of square + self.old.depth ≤ self.old.tree.height }
         requires begun { self.old.begun ≡ true }
         ensures tree { self.new.tree ≡ self.old.tree }
         ensures pending { self.new.pending
             ≡ child_nodes self.old.tree (node_of square) ++ self.old.pending }
         ensures cost { steps.new ≤ steps.old + child_reads }
     {
-        self.stack.push(self.tree.children_of(square, steps));
+        self.stack.push(self.tree.pending_children(square, steps));
     }
 
     /// The leaf that a square is, and its cell. It reads nothing that is counted.

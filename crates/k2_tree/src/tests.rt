@@ -1,4 +1,4 @@
-ghost use Rattle.std.specs.Prelude.{◌≡◌, ◌^◌, ◌<◌, ◌≤◌, [], ◌∷◌, length, map, IfOk};
+ghost use Rattle.std.specs.Prelude.{◌≡◌, ◌*◌, ◌^◌, ◌<◌, ◌≤◌, [], ◌∷◌, length, map, IfOk};
 ghost use Rattle.k2_tree.specs.Morton.{cell_of};
 ghost use Rattle.k2_tree.specs.Tree.{tree_with};
 ghost use Rattle.track_types.specs.declared.limit.TheConstants.{MAX_HEIGHT};
@@ -34,14 +34,14 @@ fn at(x: i64, y: i64) -> Cell {
 
 // The tree of three cells of a grid of side 4.
 fn three_cells(alloc: Global) -> Result<K2Tree, Memory>
-    ensures ok { IfOk result (λ t. t ≡ tree_with 2 BASE (map (cell_of 2 BASE) (0 ∷ 3 ∷ 5 ∷ []))) }
+    ensures ok { IfOk result (λ t. t ≡ tree_with 2 0 BASE (map (cell_of 2 BASE) (0 ∷ 3 ∷ 5 ∷ []))) }
 {
     let cells = [
         Cell { x: 10, y: -20 },
         Cell { x: 11, y: -19 },
         Cell { x: 13, y: -20 },
     ];
-    K2Tree::build(alloc, cells.as_slice(), 2, BASE)
+    K2Tree::build(alloc, cells.as_slice(), 2, 0, BASE)
 }
 
 // The leaves of three cells, and the ways back from their cells.
@@ -85,16 +85,17 @@ fn list_of(alloc: Global, bits: &[bool]) -> Result<BitList, Memory>
     Ok(BitList::pack(alloc, bits)?)
 }
 
-// The first flaw of bits as a tree of this height, if they have one.
-fn flaw_of(alloc: Global, bits: &[bool], height: u32) -> Result<Option<u32>, TreeFault>
+// The first flaw of bits as a tree of this height with so many wide levels, if they have one.
+fn flaw_of(alloc: Global, bits: &[bool], height: u32, wide: u32) -> Result<Option<u32>, TreeFault>
     requires few { length bits.now ≤ 2 ^ 31 }
     requires some { 1 ≤ height }
     requires low { height ≤ MAX_HEIGHT }
+    requires fits { 2 * wide ≤ height }
 {
     let Ok(list) = list_of(alloc, bits) else {
         return Err(TreeFault::Memory);
     };
-    match K2Tree::check(alloc, list, height, BASE) {
+    match K2Tree::check(alloc, list, height, wide, BASE) {
         Ok(_tree) => Ok(None),
         Err(TreeFault::Flaw { place }) => Ok(Some(place)),
         Err(TreeFault::Memory) => Err(TreeFault::Memory),
@@ -103,30 +104,42 @@ fn flaw_of(alloc: Global, bits: &[bool], height: u32) -> Result<Option<u32>, Tre
 
 // Bits are a tree, or have their first flaw.
 fn flaws_are_first(rt: &impl Abort, alloc: Global) -> Result<(), Fail> {
-    for (what, bits, height, flaw) in [
-        ("a group is missing", [O, I, O, O].as_slice(), 2, Some(4)),
+    for (what, bits, (height, wide), flaw) in [
+        (
+            "a group is missing",
+            [O, I, O, O].as_slice(),
+            (2, 0),
+            Some(4),
+        ),
         (
             "an empty group",
             [O, I, O, O, O, O, O, O].as_slice(),
-            2,
+            (2, 0),
             Some(4),
         ),
         (
             "a group too many",
             [O, I, O, O, O, I, O, O, I, O, O, O].as_slice(),
-            2,
+            (2, 0),
             Some(8),
         ),
-        ("an empty root", [O, O, O, O].as_slice(), 1, Some(0)),
+        ("an empty root", [O, O, O, O].as_slice(), (1, 0), Some(0)),
         (
             "three cells",
             [I, I, O, O, I, O, O, I, O, I, O, O].as_slice(),
-            2,
+            (2, 0),
             None,
         ),
-        ("no bits", [].as_slice(), 2, None),
+        ("no bits", [].as_slice(), (2, 0), None),
+        ("an empty wide root", [O; 16].as_slice(), (4, 1), Some(0)),
+        (
+            "a wide root alone",
+            [O, I, O, O, O, O, O, O, O, O, O, O, O, O, O, O].as_slice(),
+            (4, 1),
+            Some(16),
+        ),
     ] {
-        assert_eq!(rt; flaw_of(alloc, bits, height)?, flaw, "{what}");
+        assert_eq!(rt; flaw_of(alloc, bits, height, wide)?, flaw, "{what}");
     }
     assert_eq!(rt;
         format!(in alloc; "{}", TreeFault::Flaw { place: 4 })?.as_str(),
@@ -138,7 +151,7 @@ fn flaws_are_first(rt: &impl Abort, alloc: Global) -> Result<(), Fail> {
 // The bits of three cells are those of the tree that they are checked as.
 fn checked_bits_stay(rt: &impl Abort, alloc: Global) -> Result<(), Fail> {
     let list = list_of(alloc, [I, I, O, O, I, O, O, I, O, I, O, O].as_slice())?;
-    let tree = K2Tree::check(alloc, list, 2, BASE)?;
+    let tree = K2Tree::check(alloc, list, 2, 0, BASE)?;
     bits_are(
         rt,
         "checked bits",
@@ -169,12 +182,22 @@ fn sets_have_their_bits_and_bits_their_first_flaw(rt: HostRuntime) -> Result<(),
         [0b0010_1001_0011].as_slice(),
     );
     let corner = [Cell { x: 3, y: 0 }];
-    let tree = K2Tree::build(rt.alloc(), corner.as_slice(), 2, ORIGIN)?;
+    let tree = K2Tree::build(rt.alloc(), corner.as_slice(), 2, 0, ORIGIN)?;
     bits_are(&rt, "a corner", tree, 1, 8, [0b0010_0010].as_slice());
     let diagonal = [ORIGIN, Cell { x: 1, y: 1 }];
-    let tree = K2Tree::build(rt.alloc(), diagonal.as_slice(), 1, ORIGIN)?;
+    let tree = K2Tree::build(rt.alloc(), diagonal.as_slice(), 1, 0, ORIGIN)?;
     bits_are(&rt, "a diagonal", tree, 2, 4, [0b1001].as_slice());
-    let tree = K2Tree::build(rt.alloc(), [].as_slice(), 2, BASE)?;
+    let fifth = [Cell { x: 5, y: 0 }];
+    let tree = K2Tree::build(rt.alloc(), fifth.as_slice(), 4, 1, ORIGIN)?;
+    bits_are(
+        &rt,
+        "a wide level",
+        tree,
+        1,
+        24,
+        [0b0010_0001_0000_0000_0000_0010].as_slice(),
+    );
+    let tree = K2Tree::build(rt.alloc(), [].as_slice(), 2, 0, BASE)?;
     bits_are(&rt, "no cell", tree, 0, 0, [].as_slice());
     flaws_are_first(&rt, rt.alloc())?;
     checked_bits_stay(&rt, rt.alloc())

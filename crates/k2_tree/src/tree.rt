@@ -1,31 +1,32 @@
-ghost use Rattle.std.specs.Prelude.{◌≡◌, ◌+◌, ◌*◌, ◌^◌, ◌<◌, ◌≤◌, length, map, All, Bool, Contains, [], false, IfErr, IfNone, IfOk, IfSome, OnOk, MatchOption, None, Some, slice_get, ℕ, if◌then◌else◌};
+ghost use Rattle.std.specs.Prelude.{◌≡◌, ◌+◌, ◌*◌, ◌^◌, ◌<◌, ◌≤◌, length, map, All, Contains, [], false, IfErr, IfNone, IfOk, IfSome, OnOk, MatchOption, None, Some, slice_get, ℕ, Bool, if◌then◌else◌};
 ghost use Rattle.std.specs.List.{sum_by};
 ghost use Rattle.std.specs.List.Sorted.{IsStrictlyIncreasing};
-ghost use Rattle.k2_tree.specs.Areas.{IsBoxInside};
-ghost use Rattle.k2_tree.specs.Cost.{child_reads, climb_reads, descent_reads};
 ghost use Rattle.k2_tree.specs.Morton.{morton_of, IsGrid, IsInGrid};
-ghost use Rattle.k2_tree.specs.TreeBits.{fan};
+ghost use Rattle.k2_tree.specs.Widths.{widths_of, fan_of};
 ghost use Rattle.k2_tree.specs.Squares.{node};
+ghost use Rattle.k2_tree.specs.Areas.{IsBoxInside};
 ghost use Rattle.k2_tree.specs.Tree.{tree_bits, tree_with, IsTree};
-ghost use Rattle.k2_tree.specs.TreeSquares.{area_of, child_at, corner_of, holds_cell, level_of, node_of, squares_of, IsSquareOf};
-ghost use Rattle.k2_tree.specs.Pending.{nodes_of, StandsAt};
-ghost use Rattle.k2_tree.specs.Pruned.{pruned_budget, pruned_left, pruned_tree};
+ghost use Rattle.k2_tree.specs.TreeSquares.{holds_cell, squares_of, width_of, area_of, child_at, corner_of, level_of, node_of, IsSquareOf};
+ghost use Rattle.k2_tree.specs.Pending.{StandsAt, nodes_of};
+ghost use Rattle.k2_tree.specs.Flaws.{tree_flaw, StandsFor, IsFaultOf};
 ghost use Rattle.k2_tree.specs.Pruning.{child_nodes, kept_leaves, leaves_of, passes_at, square_count, wanted_of, IsKeptFor};
-ghost use Rattle.k2_tree.specs.Flaws.{tree_flaw, IsFaultOf, StandsFor};
+ghost use Rattle.k2_tree.specs.Pruned.{pruned_budget, pruned_left, pruned_tree};
 ghost use Rattle.track_types.specs.declared.cell.Cell.{Cell};
+ghost use Rattle.k2_tree.specs.Cost.{child_reads, climb_reads, descent_reads};
 
 use crate::building::bits_of_codes;
-use crate::checking::first_flaw;
+use crate::checking::upper_of;
 use crate::climb::code_of_leaf;
-use crate::descent::{child_of, find_leaf};
+use crate::descent::{child_at, find_leaf};
 use crate::fault::TreeFault;
+use crate::groups::{fan_of, group_start, square_at, width_below};
 use crate::keep::Keep;
-use crate::level::FAN;
 use crate::morton_code::{cell_at, codes_of_cells, is_in_grid, morton};
 use crate::pending::Pending;
 use crate::pruned::Pruned;
 use crate::square::Square;
 use crate::square_walk::SquareWalk;
+use arrayvec::ArrayVec;
 use bit_rank::{Bits, NoRoom};
 use std::alloc::Global;
 use std::marker::Model;
@@ -33,15 +34,24 @@ use std::sync::ledger::Ledger;
 use step_count::Steps;
 use track_types::{BitList, Cell, Memory};
 
+// A square is split in at most so many.
+const MOST_CHILDREN: usize = 16;
+
 /// A set of cells in the grid of side `2^height` whose least corner is a base cell.
 ///
 /// The bits are those of a k2-tree (Brisaboa, Ladra and Navarro, "Compact representation of web
-/// graphs with extended functionality", 2014): level by level from the top, four bits for each
-/// square that holds a cell. The cells are its leaves, numbered from 0 in Morton order.
+/// graphs with extended functionality", 2014): level by level from the top, a group of bits for
+/// each square that holds a cell, a bit for each of its children. The upper levels may be wide: they
+/// split a square in sixteen, the others in four. The cells are the tree's leaves, numbered from 0
+/// in Morton order, whatever the levels.
 #[derive(Drop)]
 pub struct K2Tree {
     bits: Bits,
     height: u32,
+    // How many levels are wide: they stand at the top, and take two binary digits of a coordinate.
+    wide: u32,
+    // How many squares these levels split.
+    upper: u32,
     base: Cell,
 }
 
@@ -50,51 +60,78 @@ impl Model for K2Tree {
 
     ghost Value = { Tree };
 
-    ghost view = { λ t. tree_of t.height t.base t.bits };
+    ghost view = { λ t. tree_of t.height t.wide t.base t.bits };
 
-    ghost invariant = { λ t. IsStored t.height t.base t.bits };
+    ghost invariant = { λ t. IsStored t.height t.wide t.base t.bits t.upper };
 }
 
 impl K2Tree {
     /// The tree of a set of cells, in one pass over them for each level.
     ///
     /// The cells ascend in Morton order, so that none stands twice, and there are at most 2^16. The
-    /// height is 1 to 20, and the base's coordinates are within 2^41 of 0. Memory is taken for the
-    /// Morton numbers, the bits and their directory.
-    pub fn build(alloc: Global, cells: &[Cell], height: u32, base: Cell) -> Result<K2Tree, Memory>
+    /// height is from 1 to `MAX_HEIGHT`, and the base's coordinates are within 2^41 of 0. The
+    /// `wide` upper levels split a square in sixteen; each takes two of the height. Memory is taken
+    /// for the Morton numbers, the bits and their directory.
+    pub fn build(
+        alloc: Global,
+        cells: &[Cell],
+        height: u32,
+        wide: u32,
+        base: Cell,
+    ) -> Result<K2Tree, Memory>
         requires grid { IsGrid height base }
+        requires fits { 2 * wide ≤ height }
         requires few { length cells.now ≤ 2 ^ 16 }
         requires inside { All (IsInGrid height base) cells.now }
         requires ascending { IsStrictlyIncreasing (map (morton_of height base) cells.now) }
-        ensures ok { IfOk result (λ t. t ≡ tree_with height base cells.now) }
+        ensures ok { IfOk result (λ t. t ≡ tree_with height wide base cells.now) }
     {
         let codes = codes_of_cells(alloc, cells, height, base)?;
-        let bits = bits_of_codes(alloc, codes.as_slice(), height)?;
+        let (bits, upper) = bits_of_codes(alloc, codes.as_slice(), height, wide)?;
         let list = BitList::pack(alloc, bits.as_slice())?;
         match Bits::from_list(alloc, list) {
-            Ok(bits) => Ok(K2Tree { bits, height, base }),
+            Ok(bits) => Ok(K2Tree {
+                bits,
+                height,
+                wide,
+                upper,
+                base,
+            }),
             Err(NoRoom) => Err(Memory),
         }
     }
 
-    /// Takes bits as a tree, in one pass over them.
+    /// Takes bits as a tree with `wide` wide levels, in one pass over them.
     ///
-    /// There are at most 2^31 bits. The height is 1 to 20, and the base's coordinates are within
-    /// 2^41 of 0. `Flaw` says at which place the bits first fail to be a tree's of this height.
-    /// Memory is taken for the directory alone.
-    pub fn check(alloc: Global, bits: BitList, height: u32, base: Cell) -> Result<K2Tree, TreeFault>
+    /// There are at most 2^31 bits. The height is from 1 to `MAX_HEIGHT`, each wide level takes two
+    /// of it, and the base's coordinates are within 2^41 of 0. `Flaw` says at which place the bits
+    /// first fail to be such a tree's. Memory is taken for the directory alone.
+    pub fn check(
+        alloc: Global,
+        bits: BitList,
+        height: u32,
+        wide: u32,
+        base: Cell,
+    ) -> Result<K2Tree, TreeFault>
         requires grid { IsGrid height base }
+        requires fits { 2 * wide ≤ height }
         requires few { length bits ≤ 2 ^ 31 }
-        ensures ok { IfOk result (λ t. StandsFor height base bits t) }
-        ensures exact { OnOk result (tree_flaw height bits ≡ None) }
-        ensures flaw { IfErr result (λ fault. IsFaultOf height bits fault) }
+        ensures ok { IfOk result (λ t. StandsFor height wide base bits t) }
+        ensures exact { OnOk result (tree_flaw (widths_of height wide) bits ≡ None) }
+        ensures flaw { IfErr result (λ fault. IsFaultOf height wide bits fault) }
     {
-        if let Some(place) = first_flaw(&bits, height) {
-            return Err(TreeFault::Flaw { place });
-        }
-        match Bits::from_list(alloc, bits) {
-            Ok(bits) => Ok(K2Tree { bits, height, base }),
-            Err(NoRoom) => Err(TreeFault::Memory),
+        match upper_of(&bits, height, wide) {
+            Err(place) => Err(TreeFault::Flaw { place }),
+            Ok(upper) => match Bits::from_list(alloc, bits) {
+                Ok(bits) => Ok(K2Tree {
+                    bits,
+                    height,
+                    wide,
+                    upper,
+                    base,
+                }),
+                Err(NoRoom) => Err(TreeFault::Memory),
+            },
         }
     }
 
@@ -114,7 +151,7 @@ impl K2Tree {
         if self.bits.len() == 0 {
             return 0;
         }
-        self.bits.ones() + 1 - self.bits.len() / FAN
+        self.bits.ones() + 1 - square_at(self.upper, self.bits.len())
     }
 
     /// The cell of a leaf, which is one of this tree's. It climbs to the top by one `select1` for
@@ -124,7 +161,7 @@ impl K2Tree {
         ensures value { slice_get self.now.cells leaf ≡ Some result }
         ensures cost { steps.new ≤ steps.old + climb_reads self.now.height }
     {
-        let code = code_of_leaf(&self.bits, self.height, leaf, steps);
+        let code = code_of_leaf(&self.bits, self.height, self.wide, self.upper, leaf, steps);
         cell_at(code, self.height, self.base)
     }
 
@@ -143,7 +180,7 @@ impl K2Tree {
             return None;
         }
         let code = morton(cell, self.height, self.base);
-        find_leaf(&self.bits, self.height, code, steps)
+        find_leaf(&self.bits, self.height, self.wide, self.upper, code, steps)
     }
 
     /// The square of the whole grid, if the set has a cell. It reads nothing that is counted.
@@ -159,9 +196,10 @@ impl K2Tree {
         Some(Square::whole(self.base, self.height))
     }
 
-    /// The child of a square, by its digit: twice the bit of the row and that of the column. `None`
-    /// exactly where it holds no cell of the set. Its cells lie within the square, which is one of
-    /// this tree's and no cell. The digit is below 4.
+    /// The child of a square, by its digit: the last digit to base 4 of its Morton number, or the
+    /// last two where the square is split in sixteen. `None` exactly where it holds no cell of the
+    /// set. Its cells lie within the square, which is one of this tree's and no cell. The digit is
+    /// below `fan`.
     pub fn child<L: Ledger>(
         &self,
         square: &Square,
@@ -170,20 +208,45 @@ impl K2Tree {
     ) -> Option<Square>
         requires of { IsSquareOf self.now square.now }
         requires inner { 1 ≤ level_of square.now }
-        requires small { digit < fan }
+        requires small { digit < fan_of (width_of self.now (node_of square.now)) }
         ensures none { IfNone result (holds_cell self.now
-            (child_at (node_of square.now) digit) ≡ false) }
+            (child_at (width_of self.now (node_of square.now)) (node_of square.now) digit) ≡ false) }
         ensures found { IfSome result (λ child. IsSquareOf self.now child) }
         ensures node { IfSome result (λ child.
-            node_of child ≡ child_at (node_of square.now) digit) }
+            node_of child ≡ child_at (width_of self.now (node_of square.now)) (node_of square.now) digit) }
         ensures inside { IfSome result (λ child.
             IsBoxInside (area_of child) (area_of square.now)) }
         ensures cost { steps.new ≤ steps.old + child_reads }
     {
-        let Some(number) = child_of(&self.bits, square.number(), digit, steps) else {
+        let place = group_start(self.upper, square.number()) + digit;
+        let Some(number) = child_at(&self.bits, place, steps) else {
             return None;
         };
-        Some(square.child(digit, number))
+        Some(square.child(self.width(square), digit, number))
+    }
+
+    /// The children of a square that hold a cell, by digit: at most 16, in Morton order. Their cells
+    /// lie within the square, which is one of this tree's and no cell. One window of the bits and
+    /// one rank tell all of them, and no memory is taken.
+    pub fn children<L: Ledger>(
+        &self,
+        square: &Square,
+        steps: &mut Steps<L>,
+    ) -> ArrayVec<Square, MOST_CHILDREN>
+        requires of { IsSquareOf self.now square.now }
+        requires inner { 1 ≤ level_of square.now }
+        ensures nodes { map node_of result.items ≡ child_nodes self.now (node_of square.now) }
+        ensures found { All (IsSquareOf self.now) result.items }
+        ensures inside { All (λ child.
+            IsBoxInside (area_of child) (area_of square.now)) result.items }
+        ensures cost { steps.new ≤ steps.old + child_reads }
+    {
+        let mut pending = self.pending_children(*square, steps);
+        let mut children = ArrayVec::new();
+        while let Some(child) = pending.next() {
+            children.push(child);
+        }
+        children
     }
 
     /// The number of the leaf that a square is, which is one of this tree's. It reads nothing that
@@ -195,7 +258,26 @@ impl K2Tree {
         ensures tree { IsTree self.now }
         ensures cost { steps.new ≤ steps.old }
     {
-        square.number() - self.bits.len() / FAN
+        square.number() - square_at(self.upper, self.bits.len())
+    }
+
+    /// How many children a square is split in that is no cell: 4 or 16. It reads nothing.
+    pub fn fan(&self, square: &Square) -> u32
+        requires { 1 ≤ level_of square.now }
+        ensures { result ≡ fan_of (width_of self.now (node_of square.now)) }
+    {
+        fan_of(self.width(square))
+    }
+
+    // The width of the level below a square.
+    fn width(&self, square: &Square) -> u32
+        requires { 1 ≤ level_of square.now }
+        ensures value { result ≡ width_of self.now (node_of square.now) }
+        ensures some { 1 ≤ result }
+        ensures narrow { result ≤ 2 }
+        ensures inner { result ≤ level_of square.now }
+    {
+        width_below(self.height - 2 * self.wide, square.level())
     }
 
     /// The leaves for which `keep` is true on every square from the whole grid to the cell itself,
@@ -219,7 +301,11 @@ impl K2Tree {
 
     // The children that hold a cell of a square of this tree that is no cell, in order: one window
     // tells which there are, and one rank their numbers.
-    pub(crate) fn children_of<L: Ledger>(&self, square: Square, steps: &mut Steps<L>) -> Pending
+    pub(crate) fn pending_children<L: Ledger>(
+        &self,
+        square: Square,
+        steps: &mut Steps<L>,
+    ) -> Pending
         requires of { IsSquareOf self.now square }
         requires inner { 1 ≤ level_of square }
         ensures square { result.square ≡ square }
@@ -228,9 +314,10 @@ impl K2Tree {
         ensures cost { steps.new ≤ steps.old + child_reads }
     {
         let bits = &self.bits;
-        let place = FAN * square.number();
-        let digits = bits.window(place, FAN, steps);
+        let width = self.width(&square);
+        let place = group_start(self.upper, square.number());
+        let digits = bits.window(place, fan_of(width), steps);
         let number = bits.rank1(place, steps) + 1;
-        Pending::new(square, digits, number)
+        Pending::new(square, width, digits, number)
     }
 }

@@ -167,14 +167,15 @@ fn all_agree<L: Ledger>(
 
 #[test]
 fn walks_and_leaves_agree_with_a_plain_list(rt: HostRuntime) -> Result<(), Fail> {
-    for (height, seed, one_in, least, far) in [
-        (6, 1, 13, 250, 66),
-        (6, 2026, 4, 900, 66),
-        (9, 7, 3, CELLS, 2),
+    for (height, wide, seed, one_in, least, far) in [
+        (6, 0, 1, 13, 250, 66),
+        (6, 2, 2026, 4, 900, 66),
+        (7, 3, 5, 40, 250, 130),
+        (9, 0, 7, 3, CELLS, 2),
     ] {
         let cells = random_cells(rt.alloc(), height, seed, one_in)?;
         assert!(rt; least <= cells.len(), "of {one_in}");
-        let tree = K2Tree::build(rt.alloc(), cells.as_slice(), height, BASE)?;
+        let tree = K2Tree::build(rt.alloc(), cells.as_slice(), height, wide, BASE)?;
         all_agree::<Brand>(&rt, &rt, &tree, cells.as_slice(), far, Blank::new(1));
     }
     Ok(())

@@ -1,7 +1,7 @@
 ghost use Rattle.std.specs.Prelude.{◌≡◌, ◌<◌, ◌≤◌, None, IfOk};
 
 use super::touching::Touching;
-use super::{BASE, at, three_cells};
+use super::{BASE, ORIGIN, at, three_cells};
 use crate::{K2Tree, Square};
 use std::alloc::{AllocError, Global};
 use std::marker::Brand;
@@ -72,6 +72,51 @@ fn led_to_a_leaf<L: Ledger>(rt: &impl Abort, tree: &K2Tree, steps: &mut Steps<L>
     assert_eq!(rt; tree.leaf_number(&cell, steps), 1);
 }
 
+// The children of a root that is split in sixteen, and those of one of them, which is split in four.
+fn children_of_a_wide_root<L: Ledger>(rt: &impl Abort, tree: &K2Tree, steps: &mut Steps<L>) {
+    let Some(whole) = tree.root() else {
+        panic!(rt; "no root");
+    };
+    assert!(rt; !whole.is_leaf());
+    assert_eq!(rt; tree.fan(&whole), 16);
+    let children = tree.children(&whole, steps);
+    assert_eq!(rt; children.len(), 3);
+    for (i, area) in [(0, (0, 0, 3, 3)), (1, (4, 0, 7, 3)), (2, (12, 12, 15, 15))] {
+        let child = children.as_slice().get(i).map(bounds);
+        assert_eq!(rt; child, Some(area), "child {i}");
+    }
+    let Some(second) = tree.child(&whole, 1, steps) else {
+        panic!(rt; "no second child");
+    };
+    assert_eq!(rt; bounds(&second), (4, 0, 7, 3));
+    assert!(rt; !second.is_leaf());
+    assert_eq!(rt; tree.fan(&second), 4);
+    let children = tree.children(&second, steps);
+    assert_eq!(rt; children.len(), 1);
+    assert_eq!(rt; children.as_slice().get(0).map(bounds), Some((4, 0, 5, 1)));
+}
+
+// The same over a tree and steps of its own.
+fn wide_root_walked<L: Ledger>(
+    rt: &impl Abort,
+    host: &HostRuntime,
+    blank: Blank,
+) -> Result<(), Fail>
+    requires name { blank.name ≡ L.name }
+    requires parts { blank.parts ≡ L.parts }
+    requires some { 0 < L.parts }
+{
+    let mut steps = Steps::<L>::new(host, blank);
+    let cells = [
+        Cell { x: 3, y: 2 },
+        Cell { x: 5, y: 0 },
+        Cell { x: 15, y: 15 },
+    ];
+    let tree = K2Tree::build(host.alloc(), cells.as_slice(), 4, 1, ORIGIN)?;
+    children_of_a_wide_root(rt, &tree, &mut steps);
+    Ok(())
+}
+
 // All of these over steps of its own.
 fn walked<L: Ledger>(
     rt: &impl Abort,
@@ -98,7 +143,7 @@ fn walked<L: Ledger>(
 fn three_cells_are_walked_square_by_square(rt: HostRuntime) -> Result<(), Fail> {
     let tree = three_cells(rt.alloc())?;
     walked::<Brand>(&rt, &rt, &tree, Blank::new(1))?;
-    let empty = K2Tree::build(rt.alloc(), [].as_slice(), 2, BASE)?;
+    let empty = K2Tree::build(rt.alloc(), [].as_slice(), 2, 0, BASE)?;
     assert!(rt; empty.root().is_none());
-    Ok(())
+    wide_root_walked::<Brand>(&rt, &rt, Blank::new(1))
 }

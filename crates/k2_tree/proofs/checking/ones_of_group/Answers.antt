@@ -27,6 +27,6 @@ loop-i-preserved c =
 pub returns : goal.returns
 returns c =
     let seen = drop c.args.place c.args.bits.now in
-    let e : c.loop-i.i - c.args.place ≡ 4 = omega arith in
+    let e : c.loop-i.i - c.args.place ≡ c.args.fan = omega arith in
     c.loop-i.invariant ∙ ap (λ n. ones_of (take n seen)) e
-    ∙ sym (group_ones-whole seen (omega (arith, length-drop c.args.place c.args.bits.now, c.len.ensures)))
+    ∙ sym (group_ones-whole c.args.fan seen (omega (arith, length-drop c.args.place c.args.bits.now, c.len.ensures)))

@@ -3,7 +3,7 @@ use Rattle.k2_tree.proofs.CheckingLemmas.{walk_starts, walk_few, walk_goes_on, w
 use Rattle.k2_tree.proofs.checking.ones_of_level.Goals as goal
 
 pub loop-init : goal.loop-init
-loop-init c = walk_starts c.args.bits.now c.args.start c.args.groups c.requires.within
+loop-init c = walk_starts c.args.fan c.args.bits.now c.args.start c.args.groups c.requires.within
 
 pub returns-then-found-eq0-clause-flaw : goal.returns-then-found-eq0-clause-flaw
 returns-then-found-eq0-clause-flaw c =

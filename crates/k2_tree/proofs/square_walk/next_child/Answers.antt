@@ -1,9 +1,9 @@
 use Rattle.std.proofs.Common.{◌≡◌, ◌<◌, List, refl, ◌∷◌, [], ◌++◌, length, arith, ap, sym, ◌∙◌, subst, length-append}
 use Rattle.std.proofs.lemmas.Bool.{false≢true}
 use Rattle.k2_tree.specs.TreeSquares.{node_of}
-use Rattle.k2_tree.specs.declared.pending.Pending.{Pending}
 use Rattle.k2_tree.specs.SquareWalk.{AreOpen, IsTaken, open_nodes}
 use Rattle.k2_tree.proofs.WalkLemmas.{open_nodes-append, open_nodes-nil, AreOpen-parted, taken}
+use Rattle.k2_tree.specs.declared.pending.Pending.{Pending}
 use Rattle.k2_tree.proofs.square_walk.next_child.Goals as goal
 
 nothing : (stack : List Pending) → (0 < length stack → ⊥) → stack ≡ []

@@ -1,9 +1,9 @@
 use Rattle.std.proofs.Common.{◌≡◌, ℕ, ◌+◌, ◌≤◌, Bool, refl, sym, ◌∙◌, arith}
 use Rattle.std.proofs.lemmas.Bool.{false≢true}
 use Rattle.track_types.specs.declared.cell_box.CellBox.{CellBox}
-use Rattle.k2_tree.specs.Cost.{child_reads}
-use Rattle.k2_tree.specs.SquareWalk.{WalkView}
 use Rattle.k2_tree.specs.TreeSquares.{level_of, node_of}
+use Rattle.k2_tree.specs.SquareWalk.{WalkView}
+use Rattle.k2_tree.specs.Cost.{child_reads}
 use Rattle.k2_tree.proofs.PrunedLemmas.{given_way, skipped, yielded, IsFurther, IsVisited}
 use Rattle.k2_tree.proofs.pruned.PrunedLazy.draw.Goals as goal
 use Rattle.k2_tree.proofs.pruned.PrunedLazy.draw.Given.{Over}

@@ -1,7 +1,7 @@
 use Rattle.std.proofs.Common.{◌≡◌, ℕ, ◌+◌, ◌≤◌, Bool}
 use Rattle.track_types.specs.declared.cell_box.CellBox.{CellBox}
-use Rattle.k2_tree.specs.Pruned.{walk_budget, walk_left}
 use Rattle.k2_tree.specs.SquareWalk.{WalkView}
+use Rattle.k2_tree.specs.Pruned.{walk_budget, walk_left}
 use Rattle.k2_tree.proofs.PrunedLemmas.{turns_of}
 use Rattle.k2_tree.proofs.pruned.PrunedLazy.draw.Given as goal
 

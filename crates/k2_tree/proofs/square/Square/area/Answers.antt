@@ -2,8 +2,8 @@ use Rattle.std.proofs.Common.{ℕ, ◌*◌, ◌-◌, ◌^◌, ℤ, pos, ◌+ℤ�
 use Rattle.track_types.specs.Near.{IsWithin}
 use Rattle.track_types.specs.declared.limit.TheConstants.{MAX_HEIGHT}
 use Rattle.track_types.proofs.BoxLemmas.{same_box}
-use Rattle.k2_tree.proofs.AreaLemmas.{base_within, before-lt, moved_is, word_kept}
 use Rattle.k2_tree.proofs.MortonLemmas.{ends_back}
+use Rattle.k2_tree.proofs.AreaLemmas.{base_within, before-lt, moved_is, word_kept}
 use Rattle.k2_tree.proofs.square.Square.area.Goals as goal
 
 pub returns-clause-value : goal.returns-clause-value

@@ -1,17 +1,33 @@
-use Rattle.std.proofs.Common.{ap, ◌-◌}
-use Rattle.track_types.specs.declared.limit.TheConstants.{MAX_HEIGHT}
+use Rattle.std.proofs.Common.{◌≡◌, ℕ, ◌+◌, ◌-◌, ◌*◌, ◌/◌, ◌%◌, ◌^◌, refl, ap, ◌∙◌, arith}
+use Rattle.std.proofs.lemmas.Int.{ints}
+use Rattle.track_types.specs.declared.cell_box.CellBox.{CellBox}
 use Rattle.k2_tree.specs.Squares.{node}
-use Rattle.k2_tree.proofs.AreaLemmas.{child_inside_square, interleaved-child}
+use Rattle.k2_tree.specs.Areas.{IsBoxInside}
+use Rattle.k2_tree.specs.TreeSquares.{child_at, node_of}
 use Rattle.k2_tree.proofs.square.Square.child.Goals as goal
+
+-- two quarters are a sixteenth
+twice : (level p d w : ℕ) → w ≡ 2 → node (level - 1 - 1) (4 * (4 * p + d / 4) + d % 4)
+    ≡ node (level - w) (4 ^ w * p + d)
+twice level p d w two =
+    let a : level - 1 - 1 ≡ level - 2 = omega arith in
+    let b : 4 * (4 * p + d / 4) + d % 4 ≡ 16 * p + d = omega arith in
+    rw (two, a, b) refl
 
 pub returns-clause-node : goal.returns-clause-node
 returns-clause-node c =
-    let s = c.args.self.now in
-    ap (node (s.level - 1))
-    (interleaved-child (MAX_HEIGHT - 1) s.row s.column c.args.digit s.level c.requires.small c.requires.inner
-    s.right s.upper)
+    let two : c.args.width ≡ 2 = omega (arith, c.requires.some, c.requires.narrow, c.if-width-eq1.false) in
+    let s = node_of c.args.self.now in
+    c.quarter-3.ensures.node ∙ ap (λ n. child_at 1 n (c.args.digit % 4)) c.quarter-2.ensures.node
+    ∙ twice s.level s.prefix c.args.digit c.args.width two
+
+inside_twice : (a b c : CellBox) → IsBoxInside a b → IsBoxInside b c → IsBoxInside a c
+inside_twice a b c ab bc = record {
+  left = omega (arith, ints, ab.left, bc.left);
+  right = omega (arith, ints, ab.right, bc.right);
+  below = omega (arith, ints, ab.below, bc.below);
+  above = omega (arith, ints, ab.above, bc.above);
+}
 
 pub returns-clause-inside : goal.returns-clause-inside
-returns-clause-inside c =
-    let s = c.args.self.now in
-    child_inside_square s.base s.row s.column c.args.digit s.level c.requires.inner c.requires.small s.right s.upper
+returns-clause-inside c = inside_twice _ _ _ c.quarter-3.ensures.inside c.quarter-2.ensures.inside

@@ -5,28 +5,29 @@ use Rattle.track_types.specs.declared.cell.Cell.{Cell}
 use Rattle.track_types.specs.declared.region.Region.{Region}
 use Rattle.track_types.specs.declared.region.Region.TheVariants.{Rect}
 use Rattle.k2_tree.specs.Morton.{morton_of, interleaved, cell_of, row_of, column_of}
+use Rattle.k2_tree.specs.Widths.{digits_in, levels_with}
 use Rattle.k2_tree.specs.TreeBits.{prefixes}
 use Rattle.k2_tree.specs.Squares.{squares_from}
 use Rattle.k2_tree.specs.Tree.{Tree, tree_with}
-use Rattle.k2_tree.specs.Pruning.{passes, passes_at, kept_leaves, square_count}
+use Rattle.k2_tree.specs.Pruning.{digits_left, passes, passes_at, kept_leaves, square_count}
 use Rattle.k2_tree.proofs.tests.walks.far_leaf.Goals as goal
 
 abbrev base : Cell
 base = record { x = pos 10; y = negsuc 19 }
 
 abbrev three : Tree
-three = tree_with 2 base (map (cell_of 2 base) (0 ∷ 3 ∷ 5 ∷ []))
+three = tree_with 2 0 base (map (cell_of 2 base) (0 ∷ 3 ∷ 5 ∷ []))
 
 abbrev far : Region
 far = Rect (pos 15) (negsuc 14) (pos 16) (negsuc 13)
 
 no_leaf : (tree : Tree) (region : Region) → tree ≡ three → region ≡ far
     → kept_leaves (intersects_region region) tree ≡ []
-unfolding passes_at passes morton_of interleaved cell_of row_of column_of
+unfolding passes_at passes digits_left digits_in levels_with morton_of interleaved cell_of row_of column_of
 no_leaf tree region t r = rw (t, r) refl
 
 none_of_three : square_count (intersects_region far) three ≡ 0
-unfolding squares_from prefixes morton_of interleaved cell_of row_of column_of
+unfolding squares_from digits_in levels_with prefixes morton_of interleaved cell_of row_of column_of
 none_of_three = refl
 
 no_square : (tree : Tree) (region : Region) → tree ≡ three → region ≡ far

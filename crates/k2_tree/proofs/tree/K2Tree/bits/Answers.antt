@@ -1,5 +1,5 @@
 use Rattle.std.proofs.Common.{◌∙◌}
-use Rattle.k2_tree.proofs.BuiltLemmas.{given_back}
+use Rattle.k2_tree.proofs.CellLemmas.{given_back}
 use Rattle.k2_tree.proofs.tree.K2Tree.bits.Goals as goal
 
 pub returns : goal.returns

@@ -1,9 +1,9 @@
 use Rattle.std.proofs.Common.{◌≡◌, ap, ◌∙◌}
 use Rattle.std.specs.List.{sum_by}
 use Rattle.list_laws.proofs.FilterLemmas.{sum_by-filter}
-use Rattle.k2_tree.specs.Pruned.{walk_budget, walk_left}
-use Rattle.k2_tree.specs.Pruning.{kept_leaves, leaves_of, passes_at, wanted_of}
 use Rattle.k2_tree.specs.SquareWalk.{WalkView}
+use Rattle.k2_tree.specs.Pruning.{kept_leaves, leaves_of, passes_at, wanted_of}
+use Rattle.k2_tree.specs.Pruned.{walk_budget, walk_left}
 use Rattle.k2_tree.proofs.KeptLemmas.{kept_leaves-wanted}
 use Rattle.k2_tree.proofs.PrunedLemmas.{budget_whole, left_whole}
 use Rattle.k2_tree.proofs.tree.K2Tree.pruned.Goals as goal
