@@ -1,6 +1,6 @@
 -- The squares that are counted here are those of the k2-tree with the same cells.
-use Rattle.std.proofs.Common.{◌≡◌, ℕ, zero, suc, ◌+◌, ◌*◌, ◌/◌, ◌^◌, ◌<◌, ◌≤◌, ◌==◌, Bool, true, false}
-use Rattle.std.proofs.Common.{List, [], ◌∷◌, length, filter, refl, sym, ap, ◌∙◌, arith, All, inl, inr, subst}
+use Rattle.std.proofs.Common.{◌≡◌, ℕ, zero, suc, ◌+◌, ◌-◌, ◌*◌, ◌/◌, ◌^◌, ◌<◌, ◌≤◌, ◌==◌, Bool, true, false}
+use Rattle.std.proofs.Common.{List, [], ◌∷◌, ◌++◌, length, filter, refl, sym, ap, ◌∙◌, arith, All, append-nil, inl, inr, subst}
 use Rattle.std.specs.Prelude.{nat_lt, if◌then◌else◌}
 use Rattle.std.specs.List.{list_any, range_with_len, sum_by}
 use Rattle.std.proofs.lemmas.Bool.{cases_Bool, false≢true}
@@ -14,15 +14,16 @@ use Rattle.track_types.specs.declared.cell_box.CellBox.{CellBox}
 use Rattle.k2_tree.specs.Pruning.{on_areas, place_among, weight_below}
 use Rattle.k2_tree.specs.Pruning.{square_count as tree_square_count, children as tree_children}
 use Rattle.k2_tree.specs.Squares.{Node, node, squares_from}
-use Rattle.k2_tree.specs.Tree.{Tree, IsTree, codes_of}
+use Rattle.k2_tree.specs.Tree.{Tree, IsTree, codes_of, tree_widths}
+use Rattle.k2_tree.specs.Widths.{digits_in, levels_with, widths_of}
 use Rattle.k2_tree.specs.TreeBits.{Rises, is_in, longer, prefixes}
 use Rattle.k2_tree.proofs.PrefixLemmas.{any-prefixes, fan_pos, prefixes-top}
 use Rattle.k2_tree.proofs.PruningLemmas.{weight_below-all}
+use Rattle.k2_tree.proofs.WidthLemmas.{digits_in-widths_of}
 use Rattle.box_tree.specs.Levels.{children, digits, first_in, is_held, squares_in}
 use Rattle.box_tree.specs.Places.{square_count}
 use Rattle.box_tree.specs.Tests.{squares_at}
 use Rattle.box_tree.specs.Tree.{levels_below, places_with}
-use Rattle.box_tree.proofs.TreeLemmas.{digits-narrow}
 
 -- one for each square that passes
 abbrev pub one_of : (Node → Bool) → Node → ℕ
@@ -87,71 +88,99 @@ is_held-any codes n prefix = by_counts codes (4 ^ n) (fan_pos n)
         shift : (a b : ℕ) → nat_lt (suc a) (suc b) ≡ nat_lt a b
         shift a b = grind (arith, nat_tests)
 
+-- the digits of levels
+digits-same : (levels : List ℕ) → digits levels ≡ digits_in levels
+unfolding digits_in
+digits-same [] = refl
+digits-same (level ∷ levels) = ap (λ n. level + n) (digits-same levels)
+
 module _ (test : Node → Bool) (codes cells : List ℕ) (same : (p : ℕ → Bool) → list_any p codes ≡ list_any p cells) where
   held-in : (n q : ℕ) → is_held codes n q ≡ is_in (prefixes n cells) q
   held-in n q = is_held-any codes n q ∙ same (λ code. code / 4 ^ n == q) ∙ sym (any-prefixes (λ o. o == q) n cells)
 
-  children-are : (n prefix : ℕ) → children codes n 1 prefix ≡ tree_children n cells prefix
+  children-are : (n width prefix : ℕ) → children codes n width prefix ≡ tree_children width n cells prefix
   unfolding children longer tree_children
-  children-are n prefix =
-      filter_agree (is_held codes n) (is_in (prefixes n cells)) (held-in n) (range_with_len (4 ^ 1 * prefix) (4 ^ 1))
-      ∙ ap (filter (is_in (prefixes n cells))) (four (4 * prefix))
-    where
-      four : (a : ℕ) → range_with_len a 4 ≡ a ∷ (a + 1) ∷ (a + 2) ∷ (a + 3) ∷ []
-      four a = let b : a + 1 + 1 ≡ a + 2 = omega arith in let d : a + 2 + 1 ≡ a + 3 = omega arith in rw (b, d) refl
+  children-are n width prefix =
+      let all : List ℕ = range_with_len (4 ^ width * prefix) (4 ^ width) in
+      filter_agree (is_held codes n) (is_in (prefixes n cells)) (held-in n) all
+      ∙ ap (filter (is_in (prefixes n cells))) (sym (append-nil all))
 
-  -- with levels of one digit alone
-  squares_in-weights : (narrow below prefix : ℕ) → below ≤ narrow
-      → squares_in test codes (levels_below narrow below) prefix ≡ weight_below (one_of test) cells below prefix
-  unfolding squares_in weight_below levels_below
-  squares_in-weights narrow zero prefix low = refl
-  squares_in-weights narrow (suc below) prefix low =
-      let one : nat_lt below narrow ≡ true = grind (arith, nat_tests) in
-      let n : digits (levels_below narrow below) ≡ below = digits-narrow narrow below (omega arith) in
-      let top : 1 + below ≡ suc below = omega arith in
-      rw (one, n, top, children-are below prefix)
-      (ap (λ k. one_of test (node (suc below) prefix) + k)
-      (sum_by-agree (squares_in test codes (levels_below narrow below)) (weight_below (one_of test) cells below)
-      (λ q. squares_in-weights narrow below q (omega arith)) (tree_children below cells prefix)))
+  squares_in-weights : (levels : List ℕ) (prefix : ℕ)
+      → squares_in test codes levels prefix ≡ weight_below (one_of test) cells levels prefix
+  unfolding squares_in weight_below
+  squares_in-weights [] prefix = refl
+  squares_in-weights (level ∷ levels) prefix =
+      let n : ℕ = digits_in levels in
+      rw (digits-same levels, children-are n level prefix)
+      (ap (λ k. one_of test (node (level + n) prefix) + k)
+      (sum_by-agree (squares_in test codes levels) (weight_below (one_of test) cells levels)
+      (squares_in-weights levels) (tree_children level n cells prefix)))
 
   -- the squares of a tree that pass
-  pub squares-counted : (height : ℕ) → 0 < length cells → Rises 0 cells → All (λ c. c < 4 ^ height) cells
-      → squares_in test codes (levels_below height height) 0 ≡ length (filter test (squares_from height cells))
-  squares-counted height some up small =
-      squares_in-weights height height 0 (omega arith)
-      ∙ sym (top cells height small some)
-      ∙ weight_below-all (one_of test) height cells up
-      ∙ sum_by_if 1 test (squares_from height cells) ∙ omega arith
+  pub squares-counted : (levels : List ℕ) → 0 < length cells → Rises 0 cells
+      → All (λ c. c < 4 ^ digits_in levels) cells
+      → squares_in test codes levels 0 ≡ length (filter test (squares_from levels cells))
+  squares-counted levels some up small =
+      squares_in-weights levels 0
+      ∙ sym (top cells small some)
+      ∙ weight_below-all (one_of test) levels cells up
+      ∙ sum_by_if 1 test (squares_from levels cells) ∙ omega arith
     where
-      top : (cells : List ℕ) (height : ℕ) → All (λ c. c < 4 ^ height) cells → 0 < length cells
-          → sum_by (weight_below (one_of test) cells height) (prefixes height cells) ≡ weight_below
-          (one_of test) cells height 0
-      top [] height small some = absurd (omega arith)
-      top (c ∷ cs) height small some =
-          ap (sum_by (weight_below (one_of test) (c ∷ cs) height)) (prefixes-top height c cs small)
-          ∙ sum_by-cons (weight_below (one_of test) (c ∷ cs) height) 0 [] ∙ omega arith
+      top : (cells : List ℕ) → All (λ c. c < 4 ^ digits_in levels) cells → 0 < length cells
+          → sum_by (weight_below (one_of test) cells levels) (prefixes (digits_in levels) cells) ≡ weight_below
+          (one_of test) cells levels 0
+      top [] small some = absurd (omega arith)
+      top (c ∷ cs) small some =
+          ap (sum_by (weight_below (one_of test) (c ∷ cs) levels)) (prefixes-top (digits_in levels) c cs small)
+          ∙ sum_by-cons (weight_below (one_of test) (c ∷ cs) levels) 0 [] ∙ omega arith
+
+-- levels of one digit, and those of two above them, are levels of a k2-tree
+narrow-levels : (narrow below : ℕ) → below ≤ narrow → levels_below narrow below ≡ levels_with 1 below
+unfolding levels_below levels_with
+narrow-levels narrow zero low = refl
+narrow-levels narrow (suc below) low =
+    let one : nat_lt below narrow ≡ true = grind (arith, nat_tests) in
+    rw one (ap (λ levels. 1 ∷ levels) (narrow-levels narrow below (omega arith)))
+
+mixed-levels : (narrow wide : ℕ) → levels_below narrow (narrow + wide) ≡ levels_with 2 wide ++ levels_with 1 narrow
+unfolding levels_below levels_with
+mixed-levels narrow zero =
+    let none : narrow + 0 ≡ narrow = omega arith in
+    ap (levels_below narrow) none ∙ narrow-levels narrow narrow (omega arith)
+mixed-levels narrow (suc wide) =
+    let more : narrow + suc wide ≡ suc (narrow + wide) = omega arith in
+    let two : nat_lt (narrow + wide) narrow ≡ false = grind (arith, nat_tests) in
+    ap (levels_below narrow) more ∙ rw two (ap (λ levels. 2 ∷ levels) (mixed-levels narrow wide))
+
+pub levels-widths : (height wide : ℕ) → 2 * wide ≤ height
+    → levels_below (height - 2 * wide) (height - wide) ≡ widths_of height wide
+levels-widths height wide fits =
+    let all : height - wide ≡ (height - 2 * wide) + wide = omega arith in
+    ap (levels_below (height - 2 * wide)) all ∙ mixed-levels (height - 2 * wide) wide
 
 -- so a tree of boxes over the cells of a k2-tree, each as often as one likes, counts the squares that it counts
 pub square_count-tree : (tree : Tree) → IsTree tree → (keep : CellBox → Bool) (codes : List ℕ) (boxes : List CellBox)
     → ((p : ℕ → Bool) → list_any p codes ≡ list_any p (codes_of tree))
     → square_count (squares_at tree.base keep)
-    (places_with tree.height tree.height codes boxes) ≡ tree_square_count keep tree
+    (places_with (tree.height - tree.wide) (tree.height - 2 * tree.wide) codes boxes) ≡ tree_square_count keep tree
 unfolding square_count prefixes
 square_count-tree tree is keep [] boxes same = sym (none (codes_of tree) is.codes.rising (sym (same (λ _. true))))
   where
     none : (cells : List ℕ) → Rises 0 cells → list_any (λ _. true) cells ≡ false
-        → length (filter (on_areas keep tree) (squares_from tree.height cells)) ≡ 0
+        → length (filter (on_areas keep tree) (squares_from (tree_widths tree) cells)) ≡ 0
     none [] up empty =
         omega (
           arith,
-          weight_below-all (one_of (on_areas keep tree)) tree.height [] up,
-          sum_by_if 1 (on_areas keep tree) (squares_from tree.height []),
+          weight_below-all (one_of (on_areas keep tree)) (tree_widths tree) [] up,
+          sum_by_if 1 (on_areas keep tree) (squares_from (tree_widths tree) []),
         )
     none (c ∷ cs) up empty = absurd (false≢true (sym empty))
 square_count-tree tree is keep (code ∷ codes) boxes same =
     let test : nat_lt 0 (length (code ∷ codes)) ≡ true = grind (arith, nat_tests) in
-    rw test (squares-counted (on_areas keep tree) (code ∷ codes) (codes_of tree) same tree.height
-    (some (codes_of tree) (sym (same (λ _. true)))) is.codes.rising is.codes.small)
+    let all : digits_in (tree_widths tree) ≡ tree.height = digits_in-widths_of tree.height tree.wide is.fits in
+    rw (test, levels-widths tree.height tree.wide is.fits)
+    (squares-counted (on_areas keep tree) (code ∷ codes) (codes_of tree) same (tree_widths tree)
+    (some (codes_of tree) (sym (same (λ _. true)))) is.codes.rising (rw all is.codes.small))
   where
     some : (cells : List ℕ) → list_any (λ _. true) cells ≡ true → 0 < length cells
     some [] any = absurd (false≢true any)

@@ -24,7 +24,7 @@ unfolding first_in
 root-task codes narrow height all level few inside some =
     let none : 0 * 4 ^ all ≡ 0 = omega arith in
     let one : (0 + 1) * 4 ^ all ≡ 4 ^ all = omega arith in
-    let most : 4 ^ all ≤ 4 ^ 20 = pow-le-pow_right (lit< tt) few in
+    let most : 4 ^ all ≤ 4 ^ MAX_HEIGHT = pow-le-pow_right (lit< tt) few in
     record {
       level = level;
       deep = few;

@@ -79,7 +79,7 @@ child-prefix width digit row column some few =
         ≡ 4 ^ 1 * interleaved MAX_HEIGHT row column + digit
     one low right upper =
         rw (column-one digit low, row-one digit low)
-        (interleaved-child 19 row column digit 1 low (omega arith) right upper)
+        (interleaved-child (MAX_HEIGHT - 1) row column digit 1 low (omega arith) right upper)
 
     two : digit < 4 ^ 2 → (column + 1) * 2 ^ 2 ≤ 2 ^ MAX_HEIGHT → (row + 1) * 2 ^ 2 ≤ 2 ^ MAX_HEIGHT
         → interleaved MAX_HEIGHT (2 ^ 2 * row + row_of 2 digit) (2 ^ 2 * column + column_of 2 digit)
@@ -91,8 +91,8 @@ child-prefix width digit row column some few =
         let b : 4 * column + column_of 2 digit ≡ 2 * x + r % 2 = omega (arith, column-two digit low) in
         let upper' : (row + 1) * 2 ^ 1 ≤ 2 ^ MAX_HEIGHT = omega arith in
         let right' : (column + 1) * 2 ^ 1 ≤ 2 ^ MAX_HEIGHT = omega arith in
-        let first = interleaved-child 19 row column q 1 (omega arith) (omega arith) right' upper' in
-        let second = interleaved-child 19 y x r 1 (omega arith) (omega arith) (omega arith) (omega arith) in
+        let first = interleaved-child (MAX_HEIGHT - 1) row column q 1 (omega arith) (omega arith) right' upper' in
+        let second = interleaved-child (MAX_HEIGHT - 1) y x r 1 (omega arith) (omega arith) (omega arith) (omega arith) in
         rw (a, b) (second ∙ omega (arith, first))
 
 -- fewer parts that fill no more are fewer

@@ -79,3 +79,34 @@ levels-narrow height low = record {
   few = low;
   room = omega (arith, slots-narrow height height (omega arith));
 }
+
+-- levels below some that take two digits each
+pub digits-wide : (narrow wide : ℕ) → digits (levels_below narrow (narrow + wide)) ≡ narrow + 2 * wide
+unfolding levels_below
+digits-wide narrow zero =
+    let all : narrow + 0 ≡ narrow = omega arith in rw all (omega (arith, digits-narrow narrow narrow (omega arith)))
+digits-wide narrow (suc wide) =
+    let more : narrow + suc wide ≡ suc (narrow + wide) = omega arith in
+    let two : nat_lt (narrow + wide) narrow ≡ false = grind (arith, nat_tests) in
+    rw (more, two) (omega (arith, digits-wide narrow wide))
+
+slots-wide : (narrow wide : ℕ) → slots (levels_below narrow (narrow + wide)) ≡ 3 * narrow + 15 * wide
+unfolding levels_below
+slots-wide narrow zero =
+    let all : narrow + 0 ≡ narrow = omega arith in rw all (omega (arith, slots-narrow narrow narrow (omega arith)))
+slots-wide narrow (suc wide) =
+    let more : narrow + suc wide ≡ suc (narrow + wide) = omega arith in
+    let two : nat_lt (narrow + wide) narrow ≡ false = grind (arith, nat_tests) in
+    rw (more, two) (omega (arith, slots-wide narrow wide))
+
+-- so the levels of a tree of this height are levels, where at most half of its digits stand in those
+pub levels-wide : (height wide : ℕ) → height ≤ MAX_HEIGHT → 4 * wide ≤ height
+    → AreLevels (height - wide) (height - 2 * wide) height
+levels-wide height wide low few =
+    let narrow : ℕ = height - 2 * wide in
+    let levels : height - wide ≡ narrow + wide = omega (arith, few) in
+    rw levels (record {
+      digits_are = omega (arith, digits-wide narrow wide, few);
+      few = low;
+      room = omega (arith, slots-wide narrow wide, few, low);
+    })
