@@ -6,7 +6,7 @@ use super::RegionTest;
 use std::alloc::Global;
 use std::process::Abort;
 use std::test::Fail;
-use track_types::{Cell, CellBox, Memory, Region};
+use track_types::{Cell, CellBox, Memory, Region, Shape, Shapes};
 
 // A cell, and whether it is in the region.
 type CellRow = (i8, i8, bool);
@@ -86,7 +86,7 @@ fn ask_of(
 }
 
 #[test]
-fn a_rect_and_a_disc_are_asked_through_their_closures(rt: HostRuntime) -> Result<(), Fail> {
+fn regions_are_asked_through_their_closures(rt: HostRuntime) -> Result<(), Fail> {
     let rect = Region::Rect {
         x1: -2,
         y1: 0,
@@ -130,5 +130,23 @@ fn a_rect_and_a_disc_are_asked_through_their_closures(rt: HostRuntime) -> Result
         (6, -9, 3, 18, false),
     ];
     ask_of(&rt, rt.alloc(), disc, &cells, &boxes)?;
+
+    // One cell, and another one apart from it.
+    let mut shapes = Shapes::new(Shape::Rect {
+        x1: 2,
+        y1: 0,
+        x2: 2,
+        y2: 0,
+    });
+    shapes.add(Shape::Disc { x: 0, y: 3, r: 0 });
+    let cells = [(2, 0, true), (0, 3, true), (-2, 0, false), (2, 3, false)];
+    let boxes = [
+        (2, 0, 0, 0, true),
+        (0, 0, 1, 2, false),
+        (-1, 3, 2, 2, true),
+        (0, 0, 9, 9, true),
+        (3, 0, 9, 9, false),
+    ];
+    ask_of(&rt, rt.alloc(), Region::Any { shapes }, &cells, &boxes)?;
     Ok(())
 }
