@@ -6,6 +6,7 @@ use Rattle.std.proofs.lemmas.Bool.{and_parts, and_right, cases_Bool, cases_lt, l
 use Rattle.spiral_code.specs.Spiral.{move_of, ring_of, square}
 use Rattle.spiral_code.proofs.SpiralLemmas.{move_of-below}
 use Rattle.track_types.specs.declared.cell_box.CellBox.{CellBox}
+use Rattle.track_types.specs.declared.limit.TheConstants.{MAX_HEIGHT}
 use Rattle.list_laws.proofs.FindLemmas.{find_in_range-all, find_in_range-first, find_in_range-none}
 use Rattle.list_laws.proofs.FirstLemmas.{map-none, or-none}
 use Rattle.rule_store.specs.View.{RulesView, symbols_in}
@@ -48,9 +49,9 @@ reach_limit-is height =
     let some : 1 ≤ 2 ^ height = one-le-pow height 2 (omega arith) in
     omega arith
 
-pub reach_limit-high : (height : ℕ) → height ≤ 20 → reach_limit height < 2 ^ 20
+pub reach_limit-high : (height : ℕ) → height ≤ MAX_HEIGHT → reach_limit height < 2 ^ MAX_HEIGHT
 reach_limit-high height high =
-    let some : 2 ^ height ≤ 2 ^ 20 = pow-le-pow_right (omega arith) high in
+    let some : 2 ^ height ≤ 2 ^ MAX_HEIGHT = pow-le-pow_right (omega arith) high in
     omega (arith, reach_limit-is height)
 
 -- a value is long exactly where it is above the square of all codes of movements within reach
@@ -129,14 +130,14 @@ near_entry height period entry near =
     record { duration = ltb-false _ _ first.0; displacement = ltb-false _ _ second.0; hull = second.1 }
 
 -- a box that stays within the reach of a grid stays within that of each higher one
-pub box_passes-higher : (height : ℕ) (hull : Option CellBox) → height ≤ 20 → box_passes height hull ≡ false →
-    box_passes 20 hull ≡ false
+pub box_passes-higher : (height : ℕ) (hull : Option CellBox) → height ≤ MAX_HEIGHT → box_passes height hull ≡ false →
+    box_passes MAX_HEIGHT hull ≡ false
 box_passes-higher height None high near = refl
 box_passes-higher height (Some area) high near =
     let both = box_passes-false height area near in
     let more = reach_limit-high height high in
-    let first : nat_lt (reach_limit 20) (ring_of area.x1 area.y1) ≡ false = le-ltb _ _ (omega (arith, both.0)) in
-    let second : nat_lt (reach_limit 20) (ring_of area.x2 area.y2) ≡ false = le-ltb _ _ (omega (arith, both.1)) in
+    let first : nat_lt (reach_limit MAX_HEIGHT) (ring_of area.x1 area.y1) ≡ false = le-ltb _ _ (omega (arith, both.0)) in
+    let second : nat_lt (reach_limit MAX_HEIGHT) (ring_of area.x2 area.y2) ≡ false = le-ltb _ _ (omega (arith, both.1)) in
     rw (first, second) refl
 
 -- the first place of each kind, and that there is none

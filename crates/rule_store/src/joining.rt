@@ -1,10 +1,12 @@
-ghost use Rattle.std.specs.Prelude.{◌≡◌, ℕ, List, ◌++◌, ◌∷◌, [], ◌^◌, ◌-◌, ◌≤◌, map, IfSome};
+ghost use Rattle.std.specs.Prelude.{◌≡◌, ℕ, List, ◌++◌, ◌∷◌, [], ◌+◌, ◌*◌, ◌≤◌, map, IfSome};
 ghost use Rattle.spiral_code.specs.Spiral.{square};
 ghost use Rattle.track_types.specs.Near.{IsBoxWithin, IsWithin};
 ghost use Rattle.track_types.specs.declared.cell.Cell.{Cell};
+ghost use Rattle.track_types.specs.declared.limit.TheConstants.{MAX_HEIGHT};
 ghost use Rattle.rule_store.specs.Cells.{moved};
 ghost use Rattle.rule_store.specs.Boxes.{box_round};
 ghost use Rattle.rule_store.specs.Entry.{entry_with};
+ghost use Rattle.rule_store.specs.Flaws.{reach_limit};
 ghost use Rattle.rule_store.specs.Stored.{IsPacked};
 
 use crate::entry::Entry;
@@ -14,7 +16,7 @@ use track_types::CellBox;
 
 /// The entry of a terminal: an absence, or the movement of a code.
 pub(crate) fn terminal_entry(symbol: u32, value: u64) -> Entry
-    requires { value ≤ square (2 ^ 21 - 1) }
+    requires { value ≤ square (2 * reach_limit MAX_HEIGHT + 1) }
     ensures { result ≡ entry_with symbol (value ∷ []) }
 {
     if value == 0 {

@@ -27,7 +27,7 @@ impl PackedEntry {
     pub(crate) fn pack(entry: Entry, depth: u32) -> PackedEntry
         requires short { entry.duration ≤ 2 ^ 22 }
         requires shallow { depth ≤ 2 ^ 26 }
-        requires near { ring_of entry.dx entry.dy < 2 ^ 20 }
+        requires near { ring_of entry.dx entry.dy < 2 ^ MAX_HEIGHT }
         requires within { box_passes MAX_HEIGHT entry.hull ≡ false }
         ensures packed { (symbol : ℕ) (values : List ℕ) → entry ≡ entry_with symbol values
             → IsPacked values result }

@@ -1,6 +1,7 @@
 ghost use Rattle.std.specs.Prelude.{◌≡◌, ◌+◌, ◌^◌, ◌<◌, ◌≤◌, None, true, false, length, IfOk};
 ghost use Rattle.std.specs.Prelude.{MatchOption};
 ghost use Rattle.spiral_code.specs.Spiral.{ring_of};
+ghost use Rattle.track_types.specs.declared.limit.TheConstants.{MAX_HEIGHT};
 
 use crate::entry::Entry;
 use crate::joining::{join, terminal_entry};
@@ -19,7 +20,7 @@ pub(crate) struct RawRules<'a> {
     ghost alphabet_fits: { length alphabet.now ≤ 2 ^ 25 },
     ghost rules_fit: { length rules.now ≤ 2 ^ 25 },
     ghost symbols_fit: { length symbols.now ≤ 2 ^ 25 },
-    ghost height_fits: { height ≤ 20 },
+    ghost height_fits: { height ≤ MAX_HEIGHT },
     ghost some: { 0 < period },
     ghost period_fits: { period ≤ 2 ^ 22 },
 }
@@ -33,7 +34,7 @@ impl RawRules<'_> {
     // How far apart two cells of the grid may be in each axis.
     fn reach_limit(&self) -> u64
         ensures value { result ≡ reach_limit self.now.height }
-        ensures within { result < 2 ^ 20 }
+        ensures within { result < 2 ^ MAX_HEIGHT }
     {
         (1 << self.height) - 1
     }

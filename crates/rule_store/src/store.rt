@@ -56,8 +56,8 @@ impl RuleStore {
     /// judged before a later one sums it, so that no sum leaves its type.
     ///
     /// The alphabet ascends; it, the rules and the symbols have at most 2^25 members each; `height`
-    /// is 1 to 20 and `period` 1 to 2^22. Memory is taken for the entries, 32 bytes for each symbol
-    /// of the grammar.
+    /// is 1 to `MAX_HEIGHT` and `period` 1 to 2^22. Memory is taken for the entries, 32 bytes for
+    /// each symbol of the grammar.
     pub fn check(
         alloc: Global,
         alphabet: List64,
@@ -176,6 +176,19 @@ impl RuleStore {
     {
         let _ = &self.symbols; // opens the invariant, which bounds their number
         LogView::new(self, from, len)
+    }
+
+    /// Gives back the alphabet, the rules and the stored symbols that the store was checked from, and
+    /// the store is gone. It takes no memory.
+    pub fn into_lists(self) -> (List64, PairList, List32)
+        ensures alphabet { result.0 ≡ self.alphabet }
+        ensures rules { result.1 ≡ self.rules }
+        ensures symbols { result.2 ≡ self.symbols }
+    {
+        let alphabet = List64::new(self.alphabet.into_vec());
+        let rules = PairList::new(self.rules.into_vec());
+        let symbols = List32::new(self.symbols.into_vec());
+        (alphabet, rules, symbols)
     }
 
     // The stored symbol at a place, by one read.

@@ -1,6 +1,7 @@
 use Rattle.std.proofs.Common.{◌+◌, ◌-◌, ◌*◌, ◌^◌, ◌<◌, ◌≤◌, ◌∷◌, [], length, get_or, arith, sym, ◌∙◌, ap, mul-le-mul}
 use Rattle.std.proofs.lemmas.List.{length-append}
 use Rattle.spiral_code.specs.Spiral.{ring_of, square}
+use Rattle.track_types.specs.declared.limit.TheConstants.{MAX_HEIGHT}
 use Rattle.rule_store.specs.Flaws.{reach_limit}
 use Rattle.rule_store.specs.Stored.{IsEntryOf, IsPacked, view_of}
 use Rattle.rule_store.proofs.ExpansionLemmas.{depth_of-terminal, values_of-terminal}
@@ -12,9 +13,9 @@ pub terminal_entry-entry-requires : goal.terminal_entry-entry-requires
 terminal_entry-entry-requires c =
     let height = c.args.self.now.height in
     let below = value-short height c.args.self.now.alphabet.now c.loop-symbol.symbol c.requires c.loop-symbol-test.true in
-    let far : reach_limit height < 2 ^ 20 = reach_limit-high height c.args.self.now.height_fits in
-    let side : 2 * reach_limit height + 1 ≤ 2 ^ 21 - 1 = omega arith in
-    let squared : square (2 * reach_limit height + 1) ≤ square (2 ^ 21 - 1) = mul-le-mul side side in
+    let far = reach_limit-high height c.args.self.now.height_fits in
+    let side : 2 * reach_limit height + 1 ≤ 2 * reach_limit MAX_HEIGHT + 1 = omega (arith, far) in
+    let squared : square (2 * reach_limit height + 1) ≤ square (2 * reach_limit MAX_HEIGHT + 1) = mul-le-mul side side in
     omega arith
 
 pub pack-requires-clause-near : goal.pack-requires-clause-near
