@@ -34,7 +34,7 @@ use Rattle.log_cursor.proofs.WalkLemmas.{stops_left-terminal}
 use Rattle.log_cursor.proofs.WayLemmas.{box_round-bounded}
 
 -- the box of values, placed at a cell, is the least round the cells along them from there
-placed-round : (cell : Cell) (values : List ℕ) (hull : Option CellBox) → hull ≡ bounding_box_of values →
+pub placed-round : (cell : Cell) (values : List ℕ) (hull : Option CellBox) → hull ≡ bounding_box_of values →
     option_map (placed_box cell) hull ≡ box_round (present_in (cells_along cell values))
 unfolding bounding_box_of
 placed-round cell values hull is =

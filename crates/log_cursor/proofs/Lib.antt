@@ -4,8 +4,8 @@ pub mod WayLemmas
 pub mod HullLemmas
 mod StackLemmas
 mod WalkLemmas
-mod TouchLemmas
-mod HitLemmas
+pub mod TouchLemmas
+pub mod HitLemmas
 mod SearchLemmas
 mod SeekLemmas
 mod Examples

@@ -23,7 +23,7 @@ use Rattle.log_cursor.specs.declared.start.Start.{Start}
 use Rattle.log_cursor.proofs.RuleLemmas.{nodes_in-parts}
 
 -- the cell to which values lead, one list after the other
-moved-displaced : (cell : Cell) (xs ys : List ℕ) →
+pub moved-displaced : (cell : Cell) (xs ys : List ℕ) →
     moved cell (displacement_of (xs ++ ys)) ≡ moved (moved cell (displacement_of xs)) (displacement_of ys)
 moved-displaced cell xs ys =
     let columns = displacement_of-columns xs ys in

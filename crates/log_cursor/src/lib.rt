@@ -14,7 +14,8 @@ mod start;
 mod tests;
 mod walk;
 
-pub use searching::first_hit;
+pub use pending::Pending;
+pub use searching::{first_hit, placed};
 pub use seeking::seek;
 pub use start::Start;
 pub use walk::BlockWalk;

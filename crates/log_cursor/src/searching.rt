@@ -112,8 +112,8 @@ fn touches(cell: Cell, hull: Option<CellBox>, test: &RegionTest) -> bool
     }
 }
 
-// A box that is moved from (0, 0) to a cell.
-fn placed(cell: Cell, hull: CellBox) -> CellBox
+/// A symbol's box, moved from (0, 0) to the cell where the symbol begins.
+pub fn placed(cell: Cell, hull: CellBox) -> CellBox
     requires { IsBoxAsked cell hull }
     ensures value { result ≡ placed_box cell hull }
     ensures within { IsBoxWithin result }

@@ -14,8 +14,8 @@ pub struct Start {
 impl Start {
     ghost use Rattle.log_cursor.specs.Start.{IsStart, start_after};
 
-    // Where a symbol leads from here.
-    pub(crate) fn after(self, entry: &Entry) -> Start
+    /// Where a symbol leads from here, by its entry.
+    pub fn after(self, entry: &Entry) -> Start
         requires { IsStart (start_after self entry.now) }
         ensures { result ≡ start_after self entry.now }
     {

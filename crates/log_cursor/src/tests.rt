@@ -15,7 +15,7 @@ use std::marker::Brand;
 use std::sync::ledger::{Blank, Ledger};
 use std::test::Fail;
 use step_count::Steps;
-use track_types::{Cell, CellBox, Lazy, List32, List64, Memory, PairList, Stop};
+use track_types::{Cell, CellBox, Lazy, List32, List64, MAX_HEIGHT, Memory, PairList, Stop};
 
 // The movements of the values 1 to 9.
 const MOVES: [(i64, i64); 9] = [
@@ -42,7 +42,7 @@ fn ascends(numbers: &[u64]) -> bool
     true
 }
 
-// A store of these lists, on a grid of height 20 and with the longest period; `Memory` where they are
+// A store of these lists, on the greatest grid and with the longest period; `Memory` where they are
 // no lists to be judged.
 fn store_of(
     alloc: Global,
@@ -58,7 +58,7 @@ fn store_of(
         List64::new(alphabet.to_vec(alloc).map_err(Memory::from)?),
         PairList::new(rules.to_vec(alloc).map_err(Memory::from)?),
         List32::new(symbols.to_vec(alloc).map_err(Memory::from)?),
-        20,
+        MAX_HEIGHT,
         4194304,
     )
 }

@@ -9,7 +9,7 @@ use rule_store::RuleStore;
 use std::marker::Brand;
 use std::sync::ledger::{Blank, Ledger};
 use step_count::Steps;
-use track_types::{Cell, CellBox, Memory, Region, Stop};
+use track_types::{Cell, CellBox, Memory, Region, Shape, Stop};
 
 // How many symbols the log of a block has.
 const LEN: u32 = 12;
@@ -53,12 +53,27 @@ fn hits_of_block(
 }
 
 // Whether a cell is in a region.
-fn is_in(region: Region, cell: Cell) -> bool {
-    match region {
-        Region::Rect { x1, y1, x2, y2 } => {
+fn is_in(region: &Region, cell: Cell) -> bool {
+    match *region {
+        Region::Rect { x1, y1, x2, y2 } => is_in_shape(Shape::Rect { x1, y1, x2, y2 }, cell),
+        Region::Disc { x, y, r } => is_in_shape(Shape::Disc { x, y, r }, cell),
+        Region::Any { shapes } => {
+            let mut found = false;
+            for index in 0..shapes.len() {
+                found |= is_in_shape(shapes.at(index), cell);
+            }
+            found
+        }
+    }
+}
+
+// Whether a cell is in a shape.
+fn is_in_shape(shape: Shape, cell: Cell) -> bool {
+    match shape {
+        Shape::Rect { x1, y1, x2, y2 } => {
             x1 <= cell.x && cell.x <= x2 && y1 <= cell.y && cell.y <= y2
         }
-        Region::Disc { x, y, r } => {
+        Shape::Disc { x, y, r } => {
             let dx = cell.x.wrapping_sub(x);
             let dy = cell.y.wrapping_sub(y);
             let squares = dx.wrapping_mul(dx).wrapping_add(dy.wrapping_mul(dy));
@@ -68,7 +83,7 @@ fn is_in(region: Region, cell: Cell) -> bool {
 }
 
 // The first of some stops in a region.
-fn first_in(region: Region, stops: &[Stop]) -> Option<Stop> {
+fn first_in(region: &Region, stops: &[Stop]) -> Option<Stop> {
     for stop in stops {
         if is_in(region, stop.cell) {
             return Some(*stop);
@@ -90,7 +105,7 @@ fn agrees(
         return Ok(false);
     }
     for (hit, list) in hits.iter().zip(stops.iter()) {
-        if *hit != first_in(*test.region(), list.as_slice()) {
+        if *hit != first_in(test.region(), list.as_slice()) {
             return Ok(false);
         }
     }
@@ -103,27 +118,30 @@ fn agrees_in(
     store: &RuleStore,
     windows: &[(i64, i64)],
     stops: &[Vec<Stop>],
-    region: Region,
+    region: &Region,
 ) -> Result<bool, Memory>
-    requires { IsRegionWithin region }
+    requires { IsRegionWithin region.now }
 {
+    // Each closure has a region of its own, since what one takes is gone for the others.
+    let held = *region;
+    let touched = *region;
     let contains = Box::new(
         rt.alloc(),
         move |cell: Cell| -> bool
-            requires region { IsRegionWithin region }
+            requires region { IsRegionWithin held }
             requires near { IsCellWithin cell }
-            ensures { result ≡ in_region region cell }
-        { region.contains(cell) },
+            ensures { result ≡ in_region held cell }
+        { held.contains(cell) },
     )?;
     let may_touch = Box::new(
         rt.alloc(),
         move |area: &CellBox| -> bool
-            requires region { IsRegionWithin region }
+            requires region { IsRegionWithin touched }
             requires near { IsBoxWithin area.now }
-            ensures { result ≡ intersects_region region area.now }
-        { region.touches(area) },
+            ensures { result ≡ intersects_region touched area.now }
+        { touched.touches(area) },
     )?;
-    let test = RegionTest::new(region, contains, may_touch);
+    let test = RegionTest::new(*region, contains, may_touch);
     agrees(rt, store, windows, stops, &test)
 }
 
@@ -158,16 +176,16 @@ pub fn regions_that_agree(
         r: 5,
     };
     let mut many = 0;
-    if agrees_in(rt, store, windows, stops, anchor)? {
+    if agrees_in(rt, store, windows, stops, &anchor)? {
         many += 1;
     }
-    if agrees_in(rt, store, windows, stops, beside)? {
+    if agrees_in(rt, store, windows, stops, &beside)? {
         many += 1;
     }
-    if agrees_in(rt, store, windows, stops, disc)? {
+    if agrees_in(rt, store, windows, stops, &disc)? {
         many += 1;
     }
-    if agrees_in(rt, store, windows, stops, far)? {
+    if agrees_in(rt, store, windows, stops, &far)? {
         many += 1;
     }
     Ok(many)
