@@ -10,8 +10,10 @@ use Rattle.std.proofs.lemmas.List.{length-map, map-append, take_all}
 use Rattle.std.proofs.lemmas.List.FromFn.{length-map-range_with_len, map-range_with_len_more}
 use Rattle.list_laws.proofs.RangeLemmas.{range-parts}
 use Rattle.spiral_code.specs.Spiral.{ring_of}
+use Rattle.track_types.specs.Limits.{limit_of}
 use Rattle.track_types.specs.Quantities.{extent_of, greatest, least, width_of}
 use Rattle.track_types.specs.Row.{IsAscending}
+use Rattle.track_types.specs.declared.limit.LimitKind.TheVariants.{Extent}
 use Rattle.track_types.specs.declared.row.Row.{Row}
 use Rattle.movement_log.specs.Blocks.{is_in_log, no_row, row_at}
 use Rattle.movement_log.specs.Values.{move_value, value_at}
@@ -160,7 +162,7 @@ module _ (f : Row → ℤ) (rows : List Row) where
       grind (arith, ints)
 
 -- so a movement between two rows of a chart has a code
-pub ring_of-extent : (rows : List Row) (j k : ℕ) → j < length rows → k < length rows → extent_of rows ≤ 2 ^ 20 →
+pub ring_of-extent : (rows : List Row) (j k : ℕ) → j < length rows → k < length rows → extent_of rows ≤ limit_of Extent →
     ring_of ((row_at rows k).cell.x -ℤ (row_at rows j).cell.x) ((row_at rows k).cell.y -ℤ (row_at rows j).cell.y) < 2 ^ 24
 ring_of-extent rows j k low high extent =
     let columns = apart-width (λ row. row.cell.x) rows j k low high in

@@ -97,6 +97,14 @@ impl Perm {
         }
     }
 
+    /// Gives the list back that the permutation was checked from, and the permutation is gone. It
+    /// takes no memory.
+    pub fn into_list(self) -> List32
+        ensures { result ≡ self }
+    {
+        List32::new(self.values.into_vec())
+    }
+
     // The place at which `v` stands, by a walk from a place that is at most 16 moves before it.
     fn walk_to<L: Ledger>(&self, v: u32, from: u32, steps: &mut Steps<L>) -> u32
         requires within { from < length self.now }
