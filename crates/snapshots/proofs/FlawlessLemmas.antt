@@ -11,13 +11,13 @@ use Rattle.bit_rank.proofs.RankLemmas.{rank_of-step, rank_of-le, rank_of-le-ones
 use Rattle.object_perm.specs.Permutation.{first_flaw}
 use Rattle.track_types.specs.Frame.{instants_in}
 use Rattle.k2_tree.specs.Flaws.{tree_flaw}
-use Rattle.snapshots.specs.View.{SnapshotView, tree_in}
+use Rattle.snapshots.specs.View.{SnapshotView, tree_in, widths_in}
 use Rattle.snapshots.specs.Flaws.{flaw_of, have_cells, offset_flaw, order_flaw}
 
 -- none of the five flaws is there
 pub record IsFlawless (view : SnapshotView) : Type 0 where
   pub offsets : offset_flaw (instants_in view.frame view.number) view.parts.offsets ≡ None
-  pub tree : tree_flaw view.frame.height view.parts.tree ≡ None
+  pub tree : tree_flaw (widths_in view.frame) view.parts.tree ≡ None
   pub cells : have_cells view.parts.lasts (length (tree_in view).cells) ≡ true
   pub perm : first_flaw view.parts.perm ≡ None
   pub order : order_flaw view.parts.lasts view.parts.perm ≡ None

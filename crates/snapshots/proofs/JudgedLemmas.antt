@@ -1,7 +1,7 @@
 -- The first flaw of a period, from those of its parts; and parts without one, which are stored.
 use Rattle.std.proofs.Common.{◌≡◌, ℕ, Bool, true, false, List, length, Option, None, Some, refl, ap, sym, subst, ◌∙◌}
 use Rattle.std.specs.Global.{Box}
-use Rattle.track_types.specs.Frame.{instants_in}
+use Rattle.track_types.specs.Frame.{instants_in, wide_of}
 use Rattle.track_types.specs.declared.flaw.Section.TheVariants.{Lasts}
 use Rattle.track_types.specs.declared.flaw.Kind.TheVariants.{Cells}
 use Rattle.track_types.specs.declared.period_parts.PeriodParts.{PeriodParts}
@@ -17,21 +17,21 @@ use Rattle.snapshots.proofs.SoundLemmas.{IsSound-flawless}
 -- the anchors and the tree have no flaw, and it is known whether the last objects fit the leaves
 pub record IsBegun (view : SnapshotView) (fit : Bool) : Type 0 where
   pub late : offset_flaw (instants_in view.frame view.number) view.parts.offsets ≡ None
-  pub bits : bits_flaw view.number view.frame.height view.parts.tree ≡ None
+  pub bits : bits_flaw view.number view.frame view.parts.tree ≡ None
   pub cells : have_cells view.parts.lasts (length (tree_in view).cells) ≡ fit
 
 -- what was found of the anchors and the tree
 pub IsBegun-found : (view : SnapshotView) (tree : Tree) (instants leaves : ℕ) (offsets : List ℕ) (fit : Bool)
     → offsets ≡ view.parts.offsets → instants ≡ instants_in view.frame view.number → None ≡ offset_flaw instants offsets
-    → bits_flaw view.number view.frame.height view.parts.tree ≡ None
-    → StandsFor view.frame.height view.frame.base view.parts.tree tree → leaves ≡ length tree.cells
+    → bits_flaw view.number view.frame view.parts.tree ≡ None
+    → StandsFor view.frame.height (wide_of view.frame) view.frame.base view.parts.tree tree → leaves ≡ length tree.cells
     → fit ≡ have_cells view.parts.lasts leaves → IsBegun view fit
 IsBegun-found view tree instants leaves offsets fit a b late bits stands count cells = record {
   late = sym (ap (offset_flaw (instants_in view.frame view.number)) a) ∙ sym (ap (λ n. offset_flaw n offsets) b)
       ∙ sym late;
   bits = bits;
   cells = ap (λ t. have_cells view.parts.lasts (length t.cells))
-      (tree_of-StandsFor view.frame.height view.frame.base view.parts.tree tree stands)
+      (tree_of-StandsFor view.frame.height (wide_of view.frame) view.frame.base view.parts.tree tree stands)
       ∙ ap (have_cells view.parts.lasts) (sym count) ∙ sym cells;
 }
 
@@ -58,7 +58,7 @@ with_perm parts perm = record {
 
 -- what is stored of parts without a flaw
 module _ (view : SnapshotView) (tree : Tree) (blocks : Option (Box Blocks))
-    (stands : StandsFor view.frame.height view.frame.base view.parts.tree tree)
+    (stands : StandsFor view.frame.height (wide_of view.frame) view.frame.base view.parts.tree tree)
     (told : parts_with view.objects view.parts.tree blocks ≡ view.parts) where
   -- tells them
   pub view_of-parts : view_of view.frame view.number view.objects view.start tree blocks ≡ view
@@ -72,6 +72,6 @@ module _ (view : SnapshotView) (tree : Tree) (blocks : Option (Box Blocks))
       → IsStored (view_of view.frame view.number view.objects view.start tree blocks) tree (starts_in blocks)
   IsStored-flawless shaped none begin = subst (λ v. IsStored v tree (starts_in blocks)) (sym view_of-parts) (record {
     is = record { shaped = shaped; sound = IsSound-flawless view shaped none };
-    tree_is = tree_of-StandsFor view.frame.height view.frame.base view.parts.tree tree stands;
+    tree_is = tree_of-StandsFor view.frame.height (wide_of view.frame) view.frame.base view.parts.tree tree stands;
     begin = begin;
   })

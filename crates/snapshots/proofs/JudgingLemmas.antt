@@ -18,6 +18,7 @@ use Rattle.bit_rank.specs.Bits.{ones_of, rank_of}
 use Rattle.bit_rank.proofs.RankLemmas.{rank_of-step}
 use Rattle.list_laws.proofs.FirstLemmas.{first_of-filter_map, first_of_range-at, first_of_range-none, made_first}
 use Rattle.track_types.specs.declared.flaw.Flaw.{Flaw}
+use Rattle.track_types.specs.declared.limit.TheConstants.{MAX_HEIGHT}
 use Rattle.rule_store.specs.View.{RulesView}
 use Rattle.snapshots.specs.Flaws.{IsFaultFor}
 use Rattle.snapshots.specs.JoinFlaws.{block_flaw, blocks_flaw}
@@ -135,7 +136,7 @@ long-as view items blocks same are =
 pub cell-within : (frame : Frame) (cell : Cell) → IsFrame frame → IsInGrid frame.height frame.base cell
     → IsCellWithin cell
 cell-within frame cell is inside =
-    let side : 2 ^ frame.height ≤ 2 ^ 20 = pow-le-pow_right (omega arith) is.limit in
+    let side : 2 ^ frame.height ≤ 2 ^ MAX_HEIGHT = pow-le-pow_right (omega arith) is.limit in
     record {
       x = record {
         low = omega (arith, ints, is.columns.low, inside.left);

@@ -1,7 +1,7 @@
 -- The blocks of a period as places of a tree of boxes: their Morton numbers ascend, and are those of the tree of
 -- anchors.
 use Rattle.std.proofs.Common.{◌≡◌, ℕ, zero, suc, ◌+◌, ◌-◌, ◌*◌, ◌^◌, ◌<◌, ◌≤◌, ◌||◌, ℤ, pos, ◌+ℤ◌, Bool, true, false, List, [], ◌∷◌, length, get_or, map, All, Option, None, Some, IfSome, inl, inr, refl, ap, sym, subst, ◌∙◌, arith}
-use Rattle.std.specs.Prelude.{fold, slice_index, nat_lt}
+use Rattle.std.specs.Prelude.{fold, if◌then◌else◌, slice_index, nat_lt}
 use Rattle.std.specs.List.{list_any, range_with_len}
 use Rattle.std.specs.Option.{option_map}
 use Rattle.std.proofs.lemmas.Bool.{cases_Bool, false≢true}
@@ -20,7 +20,7 @@ use Rattle.list_laws.proofs.RangeLemmas.{All-from_filter_map}
 use Rattle.packed_bits.proofs.OnesLemmas.{ones_of-le-length}
 use Rattle.bit_rank.specs.Bits.{ones_of, rank_of, select_of, IsSelected}
 use Rattle.bit_rank.proofs.RankLemmas.{rank_of-le, IsSelected-select_of}
-use Rattle.track_types.specs.Frame.{IsFrame}
+use Rattle.track_types.specs.Frame.{wide_of, IsFrame}
 use Rattle.track_types.specs.declared.cell.Cell.{Cell}
 use Rattle.track_types.specs.declared.cell_box.CellBox.{CellBox}
 use Rattle.track_types.specs.declared.frame.Frame.{Frame}
@@ -43,41 +43,69 @@ use Rattle.snapshots.specs.Parts.{log_at}
 use Rattle.snapshots.specs.Sound.{IsBlock, IsSnapshot}
 use Rattle.snapshots.specs.SoundParts.{AreSoundLogs, IsPlaced, IsSoundLog}
 use Rattle.snapshots.specs.Tracks.{blocks_by_leaf, cell_box, joined, log_box, moved_box, placed_box, placed_boxes, track_box}
-use Rattle.snapshots.specs.TrackTree.{code_of, places_of}
+use Rattle.snapshots.specs.TrackTree.{code_of, level_count, narrow_count, places_of}
 use Rattle.snapshots.specs.View.{SnapshotView, all_blocks, block_at, block_of, leaf_at, tree_in}
 use Rattle.snapshots.specs.declared.anchored.Anchored.{Anchored}
 use Rattle.snapshots.proofs.BlockLemmas.{leaf_known}
 use Rattle.snapshots.proofs.BlocksLemmas.{block_at-is_block}
 use Rattle.snapshots.proofs.LeafOrderLemmas.{by_leaf-are}
+use Rattle.snapshots.proofs.SoundLemmas.{wide_of-few, wide_of-fits}
 
--- levels of one digit each
-one_level : (narrow below : ℕ) → below < narrow → levels_below narrow (suc below) ≡ 1 ∷ levels_below narrow below
-unfolding levels_below
-one_level narrow below low = let one : nat_lt below narrow ≡ true = grind (arith, nat_tests) in rw one refl
-
--- how many digits they have, and how many nodes wait at most
-record AreNarrow (below : ℕ) (levels : List ℕ) : Type 0 where
-  pub digits_are : digits levels ≡ below
-  pub slots_are : slots levels ≡ 3 * below
+-- how many digits levels have, of which so many take one each and so many two, and how many nodes wait at most
+record AreMixed (ones twos : ℕ) (levels : List ℕ) : Type 0 where
+  pub digits_are : digits levels ≡ ones + 2 * twos
+  pub slots_are : slots levels ≡ 3 * ones + 15 * twos
   pub narrow : All (λ level. level ≤ 2) levels
 
-levels_narrow : (narrow below : ℕ) → below ≤ narrow → AreNarrow below (levels_below narrow below)
+-- the levels of a tree, the lowest of which take one digit
+levels_narrow : (narrow below : ℕ) → below ≤ narrow → AreMixed below 0 (levels_below narrow below)
 unfolding levels_below
 levels_narrow narrow zero low = record { digits_are = refl; slots_are = refl; narrow = All-nil (λ level. level ≤ 2) }
 levels_narrow narrow (suc below) low =
     let rest = levels_narrow narrow below (omega arith) in
-    subst (AreNarrow (suc below)) (sym (one_level narrow below (omega arith))) (record {
+    let low_test : nat_lt below narrow ≡ true = grind (arith, nat_tests) in
+    let one : (if nat_lt below narrow then 1 else 2) ≡ 1 = rw low_test refl in
+    subst (λ level. AreMixed (suc below) 0 (level ∷ levels_below narrow below)) (sym one) (record {
       digits_are = omega (arith, rest.digits_are);
       slots_are = omega (arith, rest.slots_are);
       narrow = All-cons (λ level. level ≤ 2) 1 (levels_below narrow below) (omega arith) rest.narrow;
     })
 
-pub are_levels : (height : ℕ) → height ≤ MAX_HEIGHT → AreLevels height height height
-are_levels height low =
-    let its = levels_narrow height height (omega arith) in
-    let few : height ≤ 20 = low in
+levels_mixed : (narrow wide : ℕ) → AreMixed narrow wide (levels_below narrow (narrow + wide))
+unfolding levels_below
+levels_mixed narrow zero =
+    let none : narrow ≡ narrow + 0 = omega arith in
+    subst (λ n. AreMixed narrow 0 (levels_below narrow n)) none (levels_narrow narrow narrow (omega arith))
+levels_mixed narrow (suc wide) =
+    let rest = levels_mixed narrow wide in
+    let more : suc (narrow + wide) ≡ narrow + suc wide = omega arith in
+    let high : nat_lt (narrow + wide) narrow ≡ false = grind (arith, nat_tests) in
+    let two : (if nat_lt (narrow + wide) narrow then 1 else 2) ≡ 2 = rw high refl in
+    subst (λ n. AreMixed narrow (suc wide) (levels_below narrow n)) more
+    (subst (λ level. AreMixed narrow (suc wide) (level ∷ levels_below narrow (narrow + wide))) (sym two) (record {
+      digits_are = omega (arith, rest.digits_are);
+      slots_are = omega (arith, rest.slots_are);
+      narrow = All-cons (λ level. level ≤ 2) 2 (levels_below narrow (narrow + wide)) (omega arith) rest.narrow;
+    }))
+
+-- those of a header's trees
+levels_in : (frame : Frame) → AreMixed (narrow_count frame) (wide_of frame) (levels_below (narrow_count frame) (level_count frame))
+levels_in frame =
+    let all : narrow_count frame + wide_of frame ≡ level_count frame = omega (arith, wide_of-fits frame) in
+    subst (λ n. AreMixed (narrow_count frame) (wide_of frame) (levels_below (narrow_count frame) n)) all
+    (levels_mixed (narrow_count frame) (wide_of frame))
+
+digits_in_frame : (frame : Frame) → digits (levels_below (narrow_count frame) (level_count frame)) ≡ frame.height
+digits_in_frame frame = omega (arith, (levels_in frame).digits_are, wide_of-fits frame)
+
+pub are_levels : (frame : Frame) → IsFrame frame → AreLevels (level_count frame) (narrow_count frame) frame.height
+are_levels frame is =
     let room : SLOTS ≡ 128 = refl in
-    record { digits_are = its.digits_are; few = low; room = omega (arith, its.slots_are, few, room) }
+    record {
+      digits_are = digits_in_frame frame;
+      few = is.limit;
+      room = omega (arith, (levels_in frame).slots_are, is.limit, wide_of-few frame, wide_of-fits frame, room);
+    }
 
 -- numbers that are made of a range ascend where each is at most the next
 ascends-range : (f : ℕ → ℕ) (a n low : ℕ) → (0 < n → low ≤ f a) → ((p : ℕ) → a ≤ p → p + 1 < a + n → f p ≤ f (p + 1))
@@ -148,15 +176,16 @@ module _ (view : SnapshotView) (is : IsSnapshot view) where
   are_places rules =
       let frame : Frame = view.frame in
       let blocks : List Anchored = blocks_by_leaf view in
-      let levels = levels_narrow frame.height frame.height (omega arith) in
-      let limit : 4 ^ frame.height ≤ 4 ^ 20 = pow-le-pow_right (omega arith) is.shaped.header.limit in
+      let levels = levels_in frame in
+      let limit : 4 ^ frame.height ≤ 4 ^ MAX_HEIGHT = pow-le-pow_right (omega arith) is.shaped.header.limit in
       record {
         ascend = codes-ascend;
         same = length-map blocks (track_box rules) ∙ sym (length-map blocks (code_of frame));
         small = All-map (λ code. code < code_limit) (code_of frame) blocks
             (λ k d within. omega (arith, limit, morton_of-lt frame.height frame.base (get_or blocks k d).cell));
-        inside = All-map (λ code. code < 4 ^ digits (levels_below frame.height frame.height)) (code_of frame) blocks
-            (λ k d within. rw levels.digits_are (morton_of-lt frame.height frame.base (get_or blocks k d).cell));
+        inside = All-map (λ code. code < 4 ^ digits (levels_below (narrow_count frame) (level_count frame)))
+            (code_of frame) blocks
+            (λ k d within. rw (digits_in_frame frame) (morton_of-lt frame.height frame.base (get_or blocks k d).cell));
         narrow = levels.narrow;
       }
 
@@ -257,7 +286,7 @@ pub track-from : (view : SnapshotView) (rules : RulesView) → IsSnapshot view
 track-from view rules is sound =
     let blocks : List Anchored = blocks_by_leaf view in
     let frame : Frame = view.frame in
-    let side : 2 ^ frame.height ≤ 2 ^ 20 = pow-le-pow_right (omega arith) is.shaped.header.limit in
+    let side : 2 ^ frame.height ≤ 2 ^ MAX_HEIGHT = pow-le-pow_right (omega arith) is.shaped.header.limit in
     All-map (IsFrom frame.base) (track_box rules) blocks (λ k d within.
     let inside = track-inside view rules (get_or blocks k d) (by_leaf-are view is k d within)
     (All-by_leaf view is (IsSoundLog frame rules view.number) sound k d within) in
@@ -280,7 +309,7 @@ length-by_leaf view = length-map-range_with_len (block_at view) 0 (length view.p
 -- what it takes that they are kept
 pub record IsStorable (frame : Frame) (blocks : List Anchored) (boxes : List CellBox) : Type 0 where
   pub header : IsFrame frame
-  pub places : ArePlaces (places_with frame.height frame.height (map (code_of frame) blocks) boxes)
+  pub places : ArePlaces (places_with (level_count frame) (narrow_count frame) (map (code_of frame) blocks) boxes)
   pub inside : All (λ block. IsInGrid frame.height frame.base block.cell) blocks
   pub from : All (IsFrom frame.base) boxes
   pub few : length blocks < 2 ^ 31

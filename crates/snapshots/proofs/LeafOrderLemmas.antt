@@ -10,8 +10,8 @@ use Rattle.list_laws.proofs.KeyRangeLemmas.{by_key-sorted}
 use Rattle.list_laws.proofs.MapLemmas.{map-flat_map}
 use Rattle.bit_rank.proofs.RankLemmas.{rank_of-le}
 use Rattle.track_types.specs.declared.cell.Cell.{Cell}
-use Rattle.k2_tree.specs.Pruning.{kept_leaves, leaves_of, passes, passes_at}
-use Rattle.k2_tree.specs.TreeBits.{levels_below}
+use Rattle.k2_tree.specs.Tree.{tree_widths}
+use Rattle.k2_tree.specs.Pruning.{digits_left, kept_leaves, leaves_of, passes, passes_at}
 use Rattle.snapshots.specs.IndexCost.{everywhere}
 use Rattle.snapshots.specs.Objects.{blocks_of, passing_blocks, WeighSame}
 use Rattle.snapshots.specs.Sound.{IsBlock, IsSnapshot}
@@ -28,11 +28,11 @@ list_all-true [] = refl
 list_all-true (x ∷ xs) = grind (arith, list_all-true xs)
 
 -- each leaf is kept where each square is
-all_kept : (view : SnapshotView) → kept_leaves everywhere (tree_in view) ≡ leaves_of (tree_in view)
+pub all_kept : (view : SnapshotView) → kept_leaves everywhere (tree_in view) ≡ leaves_of (tree_in view)
 unfolding passes passes_at
 all_kept view =
     filter-all (λ leaf. passes_at everywhere (tree_in view) leaf.1) (leaves_of (tree_in view))
-    (λ k d within. list_all-true (levels_below (suc (tree_in view).height)))
+    (λ k d within. list_all-true (digits_left (tree_widths (tree_in view))))
 
 -- leaves are told by their numbers
 numbered : (view : SnapshotView) (first : ℕ) (cells : List Cell)
@@ -83,7 +83,7 @@ module _ (view : SnapshotView) (is : IsSnapshot view) where
       let all : List Anchored = all_blocks view in
       let kept : passing_blocks everywhere view ≡ all =
       filter-all (λ (block : Anchored). passes_at everywhere (tree_in view) block.cell) all
-      (λ k d within. list_all-true (levels_below (suc (tree_in view).height))) in
+      (λ k d within. list_all-true (digits_left (tree_widths (tree_in view)))) in
       subst (λ xs. WeighSame xs all)
       (sym (blocks_of-objects view (kept_leaves everywhere (tree_in view)) is) ∙ by_leaf-all)
       (subst (WeighSame _) kept (WeighSame-objects_of view everywhere is))

@@ -25,6 +25,8 @@ pub mod ReachLemmas
 pub mod TrackLemmas
 pub mod LeafOrderLemmas
 pub mod KeptLemmas
+pub mod UpgradeLemmas
+pub mod UpgradeLawLemmas
 pub mod TracksLemmas
 pub mod NoFlawLemmas
 mod Examples

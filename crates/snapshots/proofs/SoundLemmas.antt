@@ -2,7 +2,7 @@
 use Rattle.std.proofs.Common.{◌≡◌, ℕ, zero, suc, ◌+◌, ◌-◌, ◌^◌, ◌<◌, ◌≤◌, Bool, true, false, leb, cond, List, length}
 use Rattle.std.proofs.Common.{get_or}
 use Rattle.std.proofs.Common.{Option, None, Some, inl, inr, refl, sym, ap, ◌∙◌, arith}
-use Rattle.std.specs.Prelude.{◌==◌, ◌&&◌, ◌||◌, not}
+use Rattle.std.specs.Prelude.{◌*◌, ◌==◌, ◌&&◌, ◌||◌, not, nat_lt}
 use Rattle.std.proofs.lemmas.Bool.{and_from, cases_Bool, cases_lt, eq-eqb, leb-false, lt-leb}
 use Rattle.std.proofs.lemmas.Bool.Decides.{nat_tests}
 use Rattle.std.proofs.lemmas.Int.{ints}
@@ -12,17 +12,19 @@ use Rattle.bit_rank.specs.Bits.{rank_of}
 use Rattle.bit_rank.proofs.RankLemmas.{rank_of-le, rank_of-step}
 use Rattle.list_laws.proofs.FindLemmas.{find_in_range-all, find_in_range-none}
 use Rattle.object_perm.proofs.FlawLemmas.{first_flaw-permutes, permutes-from_none}
-use Rattle.track_types.specs.Frame.{instants_in, IsFrame}
+use Rattle.track_types.specs.Frame.{instants_in, wide_of, IsFrame}
 use Rattle.track_types.specs.declared.cell.Cell.{Cell}
 use Rattle.track_types.specs.declared.frame.Frame.{Frame}
 use Rattle.k2_tree.specs.Morton.{IsGrid}
-use Rattle.k2_tree.specs.Tree.{codes_of, tree_bits, tree_of}
+use Rattle.k2_tree.specs.Groups.{upper_squares}
+use Rattle.k2_tree.specs.Tree.{codes_in, codes_of, tree_bits, tree_of, IsStored}
 use Rattle.k2_tree.specs.TreeBits.{morton_bits}
+use Rattle.k2_tree.specs.Widths.{widths_of}
 use Rattle.k2_tree.specs.Flaws.{tree_flaw, StandsFor}
 use Rattle.k2_tree.proofs.CellLemmas.{codes_back, IsTree-stored}
 use Rattle.k2_tree.proofs.FlawlessLemmas.{AreTreeBits-flawless}
 use Rattle.k2_tree.proofs.FlawedLemmas.{AreNoTree-flawed}
-use Rattle.snapshots.specs.View.{SnapshotView, leaf_at, tree_in}
+use Rattle.snapshots.specs.View.{SnapshotView, leaf_at, tree_in, widths_in}
 use Rattle.snapshots.specs.Flaws.{flaw_of, have_cells, is_disordered, offset_flaw, order_flaw, IsShaped}
 use Rattle.snapshots.specs.Sound.{IsSound}
 use Rattle.snapshots.proofs.FlawlessLemmas.{cells_from, IsFlawless-from_none}
@@ -79,17 +81,32 @@ IsGrid-frame frame is = record {
   above = omega (arith, ints, is.lines.high);
 }
 
+-- at most one level of four is wide, in any version
+pub wide_of-few : (frame : Frame) → 4 * wide_of frame ≤ frame.height
+wide_of-few frame = elim (cases_Bool (nat_lt frame.version 2)) [
+  | inl old ↦ rw old (omega arith)
+  | inr new ↦ rw new (omega arith)
+]
+
+-- so they take no more digits than there are
+pub wide_of-fits : (frame : Frame) → 2 * wide_of frame ≤ frame.height
+wide_of-fits frame = omega (arith, wide_of-few frame)
+
 -- bits without a flaw are those of the tree that they tell
-stands : (height : ℕ) (base : Cell) (bits : List Bool) → IsGrid height base → length bits ≤ 2 ^ 31
-    → tree_flaw height bits ≡ None → StandsFor height base bits (tree_of height base bits)
+stands : (height wide : ℕ) (base : Cell) (bits : List Bool) → IsGrid height base → 2 * wide ≤ height
+    → length bits ≤ 2 ^ 31 → tree_flaw (widths_of height wide) bits ≡ None
+    → StandsFor height wide base bits (tree_of height wide base bits)
 unfolding tree_bits
-stands height base bits grid few none =
-    let are = AreTreeBits-flawless height bits few none in
+stands height wide base bits grid fits few none =
+    let are = AreTreeBits-flawless height wide bits fits few none in
+    let stored : IsStored height wide base bits (upper_squares height wide (codes_in (widths_of height wide) bits)) =
+    record { grid = grid; tree = are; upper_is = refl } in
     record {
       high = refl;
+      levels = refl;
       from = refl;
-      is_tree = IsTree-stored height base bits (record { grid = grid; tree = are });
-      same = ap (morton_bits height) (codes_back height base _ are.codes.small) ∙ sym are.exact;
+      is_tree = IsTree-stored stored;
+      same = ap (morton_bits (widths_of height wide)) (codes_back height base _ are.codes.small) ∙ sym are.exact;
     }
 
 -- parts without a flaw are sound
@@ -100,8 +117,8 @@ IsSound-flawless view shaped none =
     record {
       offsets = All-from_get_or (λ x. x < instants_in view.frame view.number) view.parts.offsets 0 (λ i within.
           leb-false _ _ (find_in_range-all _ 0 (length view.parts.offsets) flawless.offsets i (omega arith) (omega arith)));
-      tree = stands view.frame.height view.frame.base view.parts.tree (IsGrid-frame view.frame shaped.header) shaped.bits
-          flawless.tree;
+      tree = stands view.frame.height (wide_of view.frame) view.frame.base view.parts.tree
+          (IsGrid-frame view.frame shaped.header) (wide_of-fits view.frame) shaped.bits flawless.tree;
       cells = cells.0;
       last = cells.1;
       permutes = permutes-from_none view.parts.perm flawless.perm;
@@ -116,15 +133,16 @@ module _ (view : SnapshotView) (shaped : IsShaped view) (sound : IsSound view) w
       lt-leb (instants_in view.frame view.number) (get_or view.parts.offsets i 0)
       (All-get_or (λ x. x < instants_in view.frame view.number) view.parts.offsets i 0 (omega arith) sound.offsets))
 
-  no_tree_flaw : tree_flaw view.frame.height view.parts.tree ≡ None
+  no_tree_flaw : tree_flaw (widths_in view.frame) view.parts.tree ≡ None
   unfolding tree_bits
   no_tree_flaw =
-      let stands = sound.tree in by_flaw (tree_flaw view.frame.height view.parts.tree) refl
+      let stands = sound.tree in by_flaw (tree_flaw (widths_in view.frame) view.parts.tree) refl
     where
-      by_flaw : (first : Option ℕ) → tree_flaw view.frame.height view.parts.tree ≡ first → first ≡ None
+      by_flaw : (first : Option ℕ) → tree_flaw (widths_in view.frame) view.parts.tree ≡ first → first ≡ None
       by_flaw None e = refl
       by_flaw (Some place) e =
-          absurd (AreNoTree-flawed view.frame.height view.parts.tree place e (codes_of (tree_in view))
+          absurd (AreNoTree-flawed view.frame.height (wide_of view.frame) view.parts.tree place
+          (wide_of-fits view.frame) e (codes_of (tree_in view))
           sound.tree.is_tree.codes sound.tree.same)
 
   have : have_cells view.parts.lasts (length (tree_in view).cells) ≡ true

@@ -78,12 +78,12 @@ length-weighs p xs ys same = omega (arith, sum_by_if 1 p xs, sum_by_if 1 p ys, s
 module _ (view : SnapshotView) (is : IsSnapshot view) (rules : RulesView) (kept : TrackTree)
     (are : AreKept view.frame rules (blocks_by_leaf view) kept) where
   -- what is kept at a place is the block there
-  record IsKeptAt (k : ℕ) (block : Anchored) : Type 0 where
+  pub record IsKeptAt (k : ℕ) (block : Anchored) : Type 0 where
     pub box : box_at kept.tree.places.boxes k ≡ track_box rules block
     pub area : area_at kept.tree.base (node 0 (slice_index kept.tree.places.codes k)) ≡ cell_box block.cell
     pub same : block_kept kept k ≡ block
 
-  kept-at : (k : ℕ) (d : Anchored) → k < length (blocks_by_leaf view) → IsKeptAt k (get_or (blocks_by_leaf view) k d)
+  pub kept-at : (k : ℕ) (d : Anchored) → k < length (blocks_by_leaf view) → IsKeptAt k (get_or (blocks_by_leaf view) k d)
   kept-at k d within =
       let frame : Frame = view.frame in
       let blocks : List Anchored = blocks_by_leaf view in
@@ -105,11 +105,11 @@ module _ (view : SnapshotView) (is : IsSnapshot view) (rules : RulesView) (kept 
       }
 
   -- there are as many places
-  count_is : length kept.tree.places.codes ≡ length (blocks_by_leaf view)
+  pub count_is : length kept.tree.places.codes ≡ length (blocks_by_leaf view)
   count_is = ap (λ (p : Places). length p.codes) are.places ∙ length-map (blocks_by_leaf view) (code_of view.frame)
 
   -- all of them are the blocks
-  all-kept : map (block_kept kept) (range_with_len 0 (length kept.tree.places.codes)) ≡ blocks_by_leaf view
+  pub all-kept : map (block_kept kept) (range_with_len 0 (length kept.tree.places.codes)) ≡ blocks_by_leaf view
   all-kept =
       let n : ℕ = length kept.tree.places.codes in
       let long = length-map-range_with_len (block_kept kept) 0 n in
@@ -119,7 +119,7 @@ module _ (view : SnapshotView) (is : IsSnapshot view) (rules : RulesView) (kept 
       ∙ (kept-at k d (omega (arith, inside, count_is))).same)
 
   -- a test of places is one of blocks
-  tested : (p : ℕ → Bool) (q : Anchored → Bool)
+  pub tested : (p : ℕ → Bool) (q : Anchored → Bool)
       → ((k : ℕ) (block : Anchored) → IsKeptAt k block → p k ≡ q block)
       → map (block_kept kept) (filter p (range_with_len 0 (length kept.tree.places.codes)))
       ≡ filter q (blocks_by_leaf view)
@@ -155,7 +155,7 @@ module _ (view : SnapshotView) (is : IsSnapshot view) (rules : RulesView) (kept 
         ∙ length-weighs q (blocks_by_leaf view) (all_blocks view) (by_leaf-weighs view is)
 
     -- as many squares pass as of the tree of anchors
-    squares_pass : held_square_count (squares_at kept.tree.base squares) kept.tree.places
+    pub squares_pass : held_square_count (squares_at kept.tree.base squares) kept.tree.places
         ≡ square_count squares (tree_in view)
     squares_pass =
         ap (λ b. held_square_count (squares_at b squares) kept.tree.places) are.base

@@ -10,12 +10,13 @@ use Rattle.track_types.specs.Frame.{IsFrame, instants_in, periods_of}
 use Rattle.track_types.specs.Limits.{limit_of}
 use Rattle.track_types.specs.declared.limit.LimitKind.TheVariants.{Objects, Symbols}
 use Rattle.track_types.specs.declared.flaw.Flaw.{Flaw}
+use Rattle.track_types.specs.declared.frame.Frame.{Frame}
 use Rattle.track_types.specs.declared.flaw.Section.{Section}
 use Rattle.track_types.specs.declared.flaw.Section.TheVariants.{Offsets, Tree, Lasts, Perm}
 use Rattle.track_types.specs.declared.flaw.Kind.{Kind}
 use Rattle.track_types.specs.declared.flaw.Kind.TheVariants as kind
 use Rattle.k2_tree.specs.Flaws.{tree_flaw}
-use Rattle.snapshots.specs.View.{SnapshotView, tree_in}
+use Rattle.snapshots.specs.View.{SnapshotView, tree_in, widths_in}
 use Rattle.snapshots.specs.declared.fault.SnapFault.{SnapFault}
 use Rattle.snapshots.specs.declared.fault.SnapFault.TheVariants as fault
 
@@ -55,9 +56,9 @@ order_flaw lasts perm = find (is_disordered lasts perm) (range_with_len 1 (lengt
 abbrev pub flaw_in : ℕ → Section → Kind → ℕ → Flaw
 flaw_in number section kind index = record { section = section; period = number; index = index; kind = kind }
 
--- the first flaw of bits that are no tree's of this height
-abbrev pub bits_flaw : ℕ → ℕ → List Bool → Option Flaw
-bits_flaw number height bits = option_map (flaw_in number Tree kind.Tree) (tree_flaw height bits)
+-- the first flaw of bits that are no tree's of this header
+abbrev pub bits_flaw : ℕ → Frame → List Bool → Option Flaw
+bits_flaw number frame bits = option_map (flaw_in number Tree kind.Tree) (tree_flaw (widths_in frame) bits)
 
 -- the first flaw of a list that is no permutation, or does not ascend in each cell
 abbrev pub perm_flaw : ℕ → List Bool → List ℕ → Option Flaw
@@ -69,7 +70,7 @@ abbrev pub flaw_of : SnapshotView → Option Flaw
 flaw_of view =
     option_or (option_map (flaw_in view.number Offsets kind.Offset)
     (offset_flaw (instants_in view.frame view.number) view.parts.offsets))
-    (option_or (bits_flaw view.number view.frame.height view.parts.tree)
+    (option_or (bits_flaw view.number view.frame view.parts.tree)
     (option_or (if have_cells view.parts.lasts (length (tree_in view).cells) then None
     else Some (flaw_in view.number Lasts kind.Cells (length view.parts.lasts)))
     (perm_flaw view.number view.parts.lasts view.parts.perm)))

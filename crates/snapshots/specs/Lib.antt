@@ -15,3 +15,4 @@ pub mod TrackTree
 pub mod TrackWalk
 pub mod IndexCost
 pub mod Stores
+pub mod Upgrade

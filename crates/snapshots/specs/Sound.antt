@@ -2,7 +2,7 @@
 use Rattle.std.specs.Prelude.{◌≡◌, ℕ, ◌+◌, ◌-◌, ◌<◌, ◌≤◌, true, All, length, sum, slice_get, slice_index, Some}
 use Rattle.packed_bits.specs.Bits.{ones_of}
 use Rattle.object_perm.specs.Permutation.{PermutesPlaces}
-use Rattle.track_types.specs.Frame.{instants_in}
+use Rattle.track_types.specs.Frame.{instants_in, wide_of}
 use Rattle.k2_tree.specs.Morton.{IsInGrid}
 use Rattle.k2_tree.specs.Flaws.{StandsFor}
 use Rattle.snapshots.specs.View.{SnapshotView, block_of, leaf_at, tree_in}
@@ -14,7 +14,7 @@ use Rattle.snapshots.specs.declared.anchored.Anchored.{Anchored}
 -- objects, and those of one cell ascend in it
 pub record IsSound (view : SnapshotView) : Type 0 where
   pub offsets : All (λ offset. offset < instants_in view.frame view.number) view.parts.offsets
-  pub tree : StandsFor view.frame.height view.frame.base view.parts.tree (tree_in view)
+  pub tree : StandsFor view.frame.height (wide_of view.frame) view.frame.base view.parts.tree (tree_in view)
   pub cells : ones_of view.parts.lasts ≡ length (tree_in view).cells
   pub last : 0 < length view.parts.lasts → slice_get view.parts.lasts (length view.parts.lasts - 1) ≡ Some true
   pub permutes : PermutesPlaces view.parts.perm

@@ -13,6 +13,17 @@ use Rattle.snapshots.specs.declared.blocks.Blocks.{Blocks}
 abbrev pub starts_of : ℕ → List ℕ → List ℕ
 starts_of start lengths = map (λ rank. start + sum (take rank lengths)) (range_with_len 0 (length lengths))
 
+-- the parts of blocks and of a tree's bits
+abbrev pub parts_of_blocks : List Bool → Blocks → PeriodParts
+parts_of_blocks tree blocks = record {
+  present = blocks.present;
+  offsets = blocks.offsets;
+  tree = tree;
+  lasts = blocks.lasts;
+  perm = blocks.perm;
+  lengths = blocks.lengths;
+}
+
 -- the parts of so many objects that are stored: where nothing is stored of blocks, no object is present
 abbrev pub parts_with : ℕ → List Bool → Option (Box Blocks) → PeriodParts
 parts_with objects tree None = record {
@@ -23,14 +34,7 @@ parts_with objects tree None = record {
   perm = [];
   lengths = [];
 }
-parts_with objects tree (Some blocks) = record {
-  present = blocks.value.present;
-  offsets = blocks.value.offsets;
-  tree = tree;
-  lasts = blocks.value.lasts;
-  perm = blocks.value.perm;
-  lengths = blocks.value.lengths;
-}
+parts_with objects tree (Some blocks) = parts_of_blocks tree blocks.value
 
 -- where the logs are stored to begin
 abbrev pub starts_in : Option (Box Blocks) → List ℕ

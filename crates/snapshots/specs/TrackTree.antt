@@ -1,6 +1,7 @@
 -- What is kept of the tracks of a period's blocks, in leaf order.
-use Rattle.std.specs.Prelude.{◌≡◌, ℕ, List, [], map, Option, None, Some}
+use Rattle.std.specs.Prelude.{◌≡◌, ℕ, ◌-◌, ◌*◌, List, [], map, Option, None, Some}
 use Rattle.std.specs.Global.{Box}
+use Rattle.track_types.specs.Frame.{wide_of}
 use Rattle.track_types.specs.declared.frame.Frame.{Frame}
 use Rattle.k2_tree.specs.Morton.{morton_of}
 use Rattle.box_tree.specs.Places.{Places}
@@ -22,10 +23,18 @@ begin_of block = (block.offset, block.from)
 abbrev pub log_of : Anchored → ℕ × ℕ
 log_of block = (block.len, block.index)
 
+-- how many levels a period's tree has, of which the upper ones take two digits of the Morton numbers each
+abbrev pub level_count : Frame → ℕ
+level_count frame = frame.height - wide_of frame
+
+-- how many of them, the lowest, take one digit each
+abbrev pub narrow_count : Frame → ℕ
+narrow_count frame = frame.height - 2 * wide_of frame
+
 -- blocks as places of a tree of boxes: their cells, and the boxes of their tracks
 abbrev pub places_of : Frame → RulesView → List Anchored → Places
-places_of frame rules blocks =
-    places_with frame.height frame.height (map (code_of frame) blocks) (map (track_box rules) blocks)
+places_of frame rules blocks = places_with (level_count frame) (narrow_count frame) (map (code_of frame) blocks)
+    (map (track_box rules) blocks)
 
 -- these blocks are kept
 pub record AreKept (frame : Frame) (rules : RulesView) (blocks : List Anchored) (kept : TrackTree) : Type 0 where

@@ -4,9 +4,11 @@ use Rattle.std.specs.Prelude.{slice_index, slice_index_or, Option, None, Some}
 use Rattle.std.specs.List.{filter_map, range_with_len}
 use Rattle.bit_rank.specs.Bits.{rank_of, select_of}
 use Rattle.object_perm.specs.Permutation.{inverse_of}
+use Rattle.track_types.specs.Frame.{wide_of}
 use Rattle.track_types.specs.declared.frame.Frame.{Frame}
 use Rattle.track_types.specs.declared.period_parts.PeriodParts.{PeriodParts}
 use Rattle.k2_tree.specs.Tree.{Tree, tree_of}
+use Rattle.k2_tree.specs.Widths.{widths_of}
 use Rattle.snapshots.specs.declared.anchored.Anchored.{Anchored}
 
 -- the parts of a period, with the header, the period's number, how many objects there are, and where its logs begin
@@ -22,9 +24,13 @@ abbrev pub view_with : Frame → ℕ → ℕ → ℕ → PeriodParts → Snapsho
 view_with frame number objects start parts =
     record { frame = frame; number = number; objects = objects; start = start; parts = parts }
 
+-- the widths of the levels of a header's trees
+abbrev pub widths_in : Frame → List ℕ
+widths_in frame = widths_of frame.height (wide_of frame)
+
 -- the tree of the anchors' cells
 abbrev pub tree_in : SnapshotView → Tree
-tree_in view = tree_of view.frame.height view.frame.base view.parts.tree
+tree_in view = tree_of view.frame.height (wide_of view.frame) view.frame.base view.parts.tree
 
 -- the leaf of a place in leaf order
 abbrev pub leaf_at : SnapshotView → ℕ → ℕ

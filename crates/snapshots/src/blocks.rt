@@ -1,12 +1,13 @@
 ghost use Rattle.std.specs.Prelude.{◌≡◌, ◌+◌, ◌^◌, ◌≤◌, Bool, List, length, sum, IfOk};
 ghost use Rattle.packed_bits.specs.Bits.{ones_of};
-ghost use Rattle.snapshots.specs.Stored.{parts_with, starts_in, starts_of};
+ghost use Rattle.std.specs.Prelude.{None};
+ghost use Rattle.snapshots.specs.Stored.{parts_of_blocks, parts_with, starts_in, starts_of};
 
 use crate::checking::{indexed, starts_of};
 use bit_rank::Bits;
 use object_perm::Perm;
 use std::alloc::Global;
-use track_types::{BitList, List32, Memory};
+use track_types::{BitList, List32, Memory, PeriodParts};
 
 /// What is stored of a period's blocks: its parts but for the tree, and where each log begins.
 #[derive(Drop)]
@@ -68,4 +69,42 @@ impl Blocks {
         };
         Ok(Some(Box::new(alloc, blocks)?))
     }
+
+    /// The parts of the blocks and of a tree's bits. The blocks are given up, and no memory is taken.
+    pub fn into_parts(self, tree: BitList) -> PeriodParts
+        ensures { result ≡ parts_of_blocks tree self }
+    {
+        let Blocks {
+            present,
+            offsets,
+            lasts,
+            perm,
+            lengths,
+            ..
+        } = self;
+        PeriodParts {
+            present: present.into_list(),
+            offsets,
+            tree,
+            lasts: lasts.into_list(),
+            perm: perm.into_list(),
+            lengths,
+        }
+    }
+}
+
+/// The parts of a period in which none of so many objects has a block. Memory is taken for their
+/// presence bits.
+pub fn without_blocks(alloc: Global, objects: u32, tree: BitList) -> Result<PeriodParts, Memory>
+    ensures { IfOk result (λ parts. parts ≡ parts_with objects tree None) }
+{
+    let absent = vec![in alloc; false; objects as usize]?;
+    Ok(PeriodParts {
+        present: BitList::pack(alloc, absent.as_slice())?,
+        offsets: List32::new(Vec::new(alloc)),
+        tree,
+        lasts: BitList::pack(alloc, &[])?,
+        perm: List32::new(Vec::new(alloc)),
+        lengths: List32::new(Vec::new(alloc)),
+    })
 }

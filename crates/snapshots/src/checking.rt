@@ -1,6 +1,6 @@
 ghost use Rattle.std.specs.Prelude.{◌≡◌, ◌+◌, ◌^◌, ◌<◌, ◌≤◌, None, length, sum, IfErr, IfOk, OnOk};
 ghost use Rattle.object_perm.specs.Permutation.{PermutesPlaces};
-ghost use Rattle.track_types.specs.Frame.{instants_in, periods_of, IsFrame};
+ghost use Rattle.track_types.specs.Frame.{instants_in, periods_of, wide_of, IsFrame};
 ghost use Rattle.k2_tree.specs.Flaws.{StandsFor};
 ghost use Rattle.snapshots.specs.Flaws.{bits_flaw, flaw_in, have_cells, offset_flaw, order_flaw, perm_flaw, IsFaultFor};
 ghost use Rattle.snapshots.specs.Stored.{starts_of};
@@ -86,12 +86,13 @@ pub fn check_tree(
 ) -> Result<K2Tree, SnapFault>
     requires header { IsFrame frame.now }
     requires few { length bits ≤ 2 ^ 31 }
-    ensures ok { IfOk result (λ tree. StandsFor frame.now.height frame.now.base bits tree) }
-    ensures exact { OnOk result (bits_flaw number frame.now.height bits ≡ None) }
+    ensures ok { IfOk result (λ tree. StandsFor frame.now.height (wide_of frame.now) frame.now.base
+        bits tree) }
+    ensures exact { OnOk result (bits_flaw number frame.now bits ≡ None) }
     ensures flaw { IfErr result (λ fault.
-        IsFaultFor (bits_flaw number frame.now.height bits) fault) }
+        IsFaultFor (bits_flaw number frame.now bits) fault) }
 {
-    match K2Tree::check(alloc, bits, frame.height, frame.base) {
+    match K2Tree::check(alloc, bits, frame.height, frame.wide_levels(), frame.base) {
         Ok(tree) => Ok(tree),
         Err(TreeFault::Flaw { place }) => Err(flaw(number, Section::Tree, Kind::Tree, place)),
         Err(TreeFault::Memory) => Err(SnapFault::Memory),

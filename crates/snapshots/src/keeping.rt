@@ -6,7 +6,7 @@ ghost use Rattle.box_tree.specs.Places.{ArePlaces};
 ghost use Rattle.box_tree.specs.Tree.{places_with};
 ghost use Rattle.rule_store.specs.View.{RulesView};
 ghost use Rattle.snapshots.specs.Cost.{record_reads};
-ghost use Rattle.snapshots.specs.TrackTree.{begin_of, code_of, log_of, IsKept};
+ghost use Rattle.snapshots.specs.TrackTree.{begin_of, code_of, level_count, log_of, narrow_count, IsKept};
 ghost use Rattle.snapshots.specs.TrackWalk.{block_kept};
 ghost use Rattle.snapshots.specs.Tracks.{track_box};
 
@@ -28,7 +28,7 @@ impl TrackTree {
         boxes: &[CellBox],
     ) -> Result<Option<Box<TrackTree>>, Memory>
         requires header { IsFrame frame.now }
-        requires places { ArePlaces (places_with frame.now.height frame.now.height
+        requires places { ArePlaces (places_with (level_count frame.now) (narrow_count frame.now)
             (map (code_of frame.now) blocks.now) boxes.now) }
         requires inside { All
             (λ block. IsInGrid frame.now.height frame.now.base block.cell) blocks.now }
@@ -42,8 +42,11 @@ impl TrackTree {
             return Ok(None);
         }
         let height = frame.height;
+        let wide = frame.wide_levels();
+        let levels = height - wide;
+        let narrow = height - 2 * wide;
         let codes = codes_of(alloc, frame, blocks)?;
-        let tree = BoxTree::build(alloc, height, height, height, frame.base, &codes, boxes)?;
+        let tree = BoxTree::build(alloc, levels, narrow, height, frame.base, &codes, boxes)?;
         let begins = CountedList::new(begins_of(alloc, blocks)?);
         let logs = CountedList::new(logs_of(alloc, blocks)?);
         let kept = TrackTree { tree, begins, logs };

@@ -27,6 +27,7 @@ mod stores;
 mod tests;
 mod track_tree;
 mod tracks;
+mod upgrading;
 
 pub use anchored::Anchored;
 pub use fault::SnapFault;
@@ -34,4 +35,5 @@ pub use members::Members;
 pub use objects_in::ObjectsIn;
 pub use snapshot::Snapshot;
 pub use stores::Stores;
+pub use track_tree::TrackTree;
 pub use tracks::Tracks;

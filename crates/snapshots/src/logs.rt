@@ -2,6 +2,7 @@ ghost use Rattle.std.specs.Prelude.{◌≡◌, ◌+◌, ◌<◌, ◌≤◌, ◌^
 ghost use Rattle.std.specs.Prelude.{map, max, sum, slice_index_or, All, pos, ◌+ℤ◌, ◌≤ℤ◌, IfSome};
 ghost use Rattle.track_types.specs.Frame.{instants_in, periods_of, IsFrame};
 ghost use Rattle.track_types.specs.Near.{IsBoxWithin, IsCellWithin, IsNear, IsWithin};
+ghost use Rattle.track_types.specs.declared.limit.TheConstants.{MAX_HEIGHT};
 ghost use Rattle.snapshots.specs.Flaws.{IsFaultFor};
 ghost use Rattle.snapshots.specs.Parts.{log_at};
 ghost use Rattle.snapshots.specs.Sound.{IsSnapshot};
@@ -283,7 +284,7 @@ fn is_along(frame: &Frame, least: i64, amount: i64, first: i64, last: i64) -> bo
 fn side_of(frame: &Frame) -> i64
     requires { IsFrame frame.now }
     ensures value { result ≡ pos (2 ^ frame.now.height) }
-    ensures within { result ≤ℤ pos (2 ^ 20) }
+    ensures within { result ≤ℤ pos (2 ^ MAX_HEIGHT) }
 {
     i64::from(1u32 << frame.height)
 }

@@ -16,7 +16,7 @@ ghost use Rattle.snapshots.specs.Cost.{block_reads, find_reads, first_reads, squ
 ghost use Rattle.snapshots.specs.declared.next.Next.TheVariants.{End, Place};
 
 use crate::anchored::Anchored;
-use crate::blocks::Blocks;
+use crate::blocks::{Blocks, without_blocks};
 use crate::checking::{check_perm, check_tree, find_late, flaw, has_cells, instants_in};
 use crate::fault::SnapFault;
 use crate::members::Members;
@@ -26,7 +26,7 @@ use std::alloc::Global;
 use std::marker::Model;
 use std::sync::ledger::Ledger;
 use step_count::Steps;
-use track_types::{Cell, Frame, Kind, PeriodParts, Section};
+use track_types::{Cell, Frame, Kind, Memory, PeriodParts, Section};
 
 /// A period of an index: which objects have a block in it, and where each of them stands first.
 ///
@@ -205,6 +205,24 @@ impl Snapshot {
             + block_reads * length (objects_left F.keeps result) }
     {
         ObjectsIn::new(self, self.tree().pruned(keep))
+    }
+
+    /// Gives back the parts that the snapshot was checked from, and the snapshot is gone. Memory is
+    /// taken where the period has no block, for its presence bits, which are not kept there.
+    pub fn into_parts(self, alloc: Global) -> Result<PeriodParts, Memory>
+        ensures { IfOk result (λ parts. parts ≡ self.parts) }
+    {
+        let Snapshot {
+            objects,
+            tree,
+            blocks,
+            ..
+        } = self;
+        let tree = tree.bits();
+        match blocks {
+            Some(blocks) => Ok(Box::into_inner(blocks).into_parts(tree)),
+            None => without_blocks(alloc, objects, tree),
+        }
     }
 
     // The first place of a leaf in leaf order.

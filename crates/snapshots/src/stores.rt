@@ -1,18 +1,21 @@
-ghost use Rattle.std.specs.Prelude.{◌≡◌, ℕ, ◌+◌, ◌<◌, ◌≤◌, None, length, slice_get, IfErr, IfOk, OnOk, Some};
+ghost use Rattle.std.specs.Prelude.{◌≡◌, ℕ, ◌+◌, ◌<◌, ◌≤◌, [], None, length, slice_get, IfErr, IfNone, IfOk, IfSome, OnOk, Some};
 ghost use Rattle.track_types.specs.Frame.{periods_of};
 ghost use Rattle.track_types.specs.Shape.{IsShaped};
 ghost use Rattle.snapshots.specs.Flaws.{IsFaultFor};
 ghost use Rattle.snapshots.specs.IndexCost.{open_cost};
 ghost use Rattle.snapshots.specs.JoinFlaws.{logs_flaw};
-ghost use Rattle.snapshots.specs.Parts.{index_in, period_in, rules_in, snapshot_in};
+ghost use Rattle.snapshots.specs.Parts.{chart_in, index_in, period_in, rules_in, snapshot_in};
 ghost use Rattle.snapshots.specs.SoundParts.{IsSound, IsValid};
 ghost use Rattle.snapshots.specs.Speed.{speed_of, IsWithinReach};
 ghost use Rattle.snapshots.specs.Stores.{join_of, AreOf};
-ghost use Rattle.std.specs.Prelude.{◌*◌, filter, All};
+ghost use Rattle.std.specs.Prelude.{◌*◌, filter, map, All};
+ghost use Rattle.std.specs.List.{sum_by};
+ghost use Rattle.snapshots.specs.Upgrade.{tree_reads, upgrade_of, upgraded_parts};
 ghost use Rattle.k2_tree.specs.Pruning.{square_count};
 ghost use Rattle.snapshots.specs.Cost.{block_reads, square_reads};
 ghost use Rattle.snapshots.specs.Objects.{WeighSame};
 ghost use Rattle.snapshots.specs.Sound.{IsBlock};
+ghost use Rattle.snapshots.specs.TrackTree.{AreKept};
 ghost use Rattle.snapshots.specs.TrackWalk.{tracks_budget, tracks_left};
 ghost use Rattle.snapshots.specs.Tracks.{blocks_by_leaf, cell_box, may_hold, AreOnTracks};
 ghost use Rattle.snapshots.specs.View.{all_blocks, tree_in};
@@ -23,13 +26,14 @@ use crate::logs::judge_snapshot;
 use crate::snapshot::Snapshot;
 use crate::track_tree::TrackTree;
 use crate::tracks::Tracks;
+use crate::upgrading::{newest, upgraded};
 use box_tree::Search;
 use rule_store::RuleStore;
 use std::alloc::Global;
 use std::marker::Model;
 use std::sync::ledger::Ledger;
 use step_count::Steps;
-use track_types::{Frame, List32};
+use track_types::{Frame, List32, Memory, Parts, PeriodList};
 
 /// All that an index keeps: its header, its objects, its rules with the symbols of all logs, and a
 /// snapshot and the speed of each period.
@@ -197,6 +201,20 @@ impl Stores {
         }
     }
 
+    /// What is kept of the blocks of a period, which is one of the header's, in leaf order, for
+    /// searches that go another way over them than `tracks`. `None` exactly where it has no block.
+    pub fn kept(&self, period: u32) -> Option<&TrackTree>
+        requires { period < periods_of self.now.frame }
+        ensures none { IfNone result (blocks_by_leaf (snapshot_in self.now period) ≡ []) }
+        ensures kept { IfSome result (λ kept. AreKept self.now.frame (rules_in self.now)
+            (blocks_by_leaf (snapshot_in self.now period)) kept.now) }
+    {
+        match &self.tracks[period as usize] {
+            Some(kept) => Some(kept),
+            None => None,
+        }
+    }
+
     /// The speed of a period, which is one of the header's, in cells an instant: at so many instants
     /// after the period's first, each object that has a block in the period is at most so many times
     /// the speed away from its anchor, by columns and by lines alike.
@@ -210,4 +228,55 @@ impl Stores {
     {
         self.speeds[period as usize]
     }
+
+    /// Gives back the parts of the index in the newest version of the format, and the stores are
+    /// gone. The header has that version, the trees are made anew from their cells, and all else
+    /// stays. The parts are valid, and have the same chart.
+    ///
+    /// It makes no more reads than opening. Memory is taken for the list of periods, for the trees
+    /// and their cells, and for the presence bits of periods without a block.
+    pub fn into_upgraded<L: Ledger>(
+        self,
+        alloc: Global,
+        steps: &mut Steps<L>,
+    ) -> Result<Parts, Memory>
+        ensures ok { IfOk result (λ parts. parts ≡ upgrade_of self) }
+        ensures valid { IfOk result IsValid }
+        ensures chart { IfOk result (λ parts. chart_in parts ≡ chart_in self) }
+        ensures cost { steps.new ≤ steps.old + open_cost self }
+    {
+        let Stores {
+            frame,
+            objects,
+            rules,
+            snaps,
+            ..
+        } = self;
+        let periods = upgraded_periods(alloc, snaps, steps)?;
+        let (alphabet, rules, symbols) = rules.into_lists();
+        Ok(Parts {
+            frame: newest(&frame),
+            objects,
+            alphabet,
+            rules,
+            periods,
+            symbols,
+        })
+    }
+}
+
+// The parts of all periods, whose snapshots are given up, in the newest version.
+fn upgraded_periods<L: Ledger>(
+    alloc: Global,
+    snaps: Vec<Snapshot>,
+    steps: &mut Steps<L>,
+) -> Result<PeriodList, Memory>
+    ensures ok { IfOk result (λ periods. periods ≡ map upgraded_parts snaps.items) }
+    ensures cost { steps.new ≤ steps.old + sum_by tree_reads snaps.items }
+{
+    let mut periods = Vec::with_capacity(alloc, snaps.len())?;
+    for snapshot in snaps {
+        periods.push(upgraded(alloc, snapshot, steps)?)?;
+    }
+    Ok(PeriodList::new(periods))
 }

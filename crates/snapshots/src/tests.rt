@@ -23,6 +23,7 @@ use touching::Touching;
 
 // The header of an index of one period of four instants, with a grid of side 4 from (0, 0).
 const ONE_PERIOD: Frame = Frame {
+    version: 1,
     first: 0,
     span: 4,
     period: 4,
@@ -34,6 +35,7 @@ const ONE_PERIOD: Frame = Frame {
 
 // That of an index whose second period has two instants, with a grid far from (0, 0).
 const TWO_PERIODS: Frame = Frame {
+    version: 1,
     first: 0,
     span: 6,
     period: 4,

@@ -8,6 +8,9 @@ use Rattle.snapshots.proofs.tests.checked.Goals as goal
 
 IsFrame-ONE_PERIOD : IsFrame ONE_PERIOD
 IsFrame-ONE_PERIOD = record {
+  known = omega arith;
+  newest = omega arith;
+  narrow = λ _. omega arith;
   periods = record { some = omega arith; limit = omega arith };
   some = omega arith;
   limit = omega arith;
@@ -23,6 +26,9 @@ IsFrame-ONE_PERIOD = record {
 
 IsFrame-TWO_PERIODS : IsFrame TWO_PERIODS
 IsFrame-TWO_PERIODS = record {
+  known = omega arith;
+  newest = omega arith;
+  narrow = λ _. omega arith;
   periods = record { some = omega arith; limit = omega arith };
   some = omega arith;
   limit = omega arith;

@@ -1,5 +1,21 @@
+use Rattle.std.proofs.Common.{◌≡◌, ◌∙◌, map, arith}
+use Rattle.snapshots.specs.TrackTree.{code_of}
 use Rattle.snapshots.proofs.KeptLemmas.{are_levels}
+use Rattle.snapshots.proofs.SoundLemmas.{wide_of-fits}
 use Rattle.snapshots.proofs.track_tree.TrackTree.store.Goals as goal
 
+pub overflow_sub-levels : goal.overflow_sub-levels
+overflow_sub-levels c = omega (arith, c.wide_levels-wide.ensures, wide_of-fits c.args.frame.now)
+
+pub overflow_sub-narrow : goal.overflow_sub-narrow
+overflow_sub-narrow c = omega (arith, c.wide_levels-wide.ensures, wide_of-fits c.args.frame.now)
+
 pub build-requires-clause-levels : goal.build-requires-clause-levels
-build-requires-clause-levels c = are_levels c.args.frame.now.height c.requires.header.limit
+build-requires-clause-levels c =
+    rw c.wide_levels-wide.ensures (are_levels c.args.frame.now c.requires.header)
+
+pub build-requires-clause-places : goal.build-requires-clause-places
+build-requires-clause-places c =
+    let codes : c.deref.result.now ≡ map (code_of c.args.frame.now) c.args.blocks.now =
+    c.deref.ensures.value ∙ c.in_ok-codes.ensures in
+    rw (c.wide_levels-wide.ensures, codes) c.requires.places

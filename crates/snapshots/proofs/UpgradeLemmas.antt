@@ -1,0 +1,96 @@
+-- A period's tree in the newest version: it is made of the same cells, which are few and ascend.
+use Rattle.std.proofs.Common.{◌≡◌, ℕ, zero, suc, ◌+◌, ◌^◌, ◌<◌, ◌≤◌, List, [], ◌∷◌, length, map, refl, ap, ◌∙◌, arith}
+use Rattle.std.specs.Prelude.{slice_index}
+use Rattle.std.specs.List.{enumerate_from, sum_by}
+use Rattle.std.proofs.lemmas.List.Sums.{sum_by-le-sum_by}
+use Rattle.list_laws.proofs.FlatLemmas.{sum_by-map}
+use Rattle.packed_bits.proofs.OnesLemmas.{ones_of-le-length}
+use Rattle.track_types.specs.declared.cell.Cell.{Cell}
+use Rattle.track_types.specs.declared.frame.Frame.{Frame}
+use Rattle.track_types.specs.declared.parts.Parts.{Parts}
+use Rattle.track_types.specs.declared.period_parts.PeriodParts.{PeriodParts}
+use Rattle.k2_tree.specs.Pruning.{kept_leaves}
+use Rattle.k2_tree.specs.TreeBits.{Rises}
+use Rattle.snapshots.specs.IndexCost.{blocks_reads, everywhere, open_cost}
+use Rattle.snapshots.specs.Parts.{numbers_in, snapshot_in}
+use Rattle.snapshots.specs.Sound.{IsSnapshot}
+use Rattle.snapshots.specs.Stores.{parts_of, snapshots_in}
+use Rattle.snapshots.specs.Upgrade.{newest, tree_reads, upgrade_of, upgraded_parts, upgraded_period}
+use Rattle.snapshots.specs.View.{SnapshotView, tree_in}
+use Rattle.snapshots.proofs.LeafOrderLemmas.{all_kept}
+
+-- numbers that rise ascend
+pub increasing-rises : (n : ℕ) (xs : List ℕ) → Rises n xs → (k : ℕ) → k + 1 < length xs
+    → slice_index xs k < slice_index xs (k + 1)
+increasing-rises n [] up k within = absurd (omega arith)
+increasing-rises n (x ∷ []) up k within = absurd (omega arith)
+increasing-rises n (x ∷ y ∷ ys) up zero within = up.1.0
+increasing-rises n (x ∷ y ∷ ys) up (suc k) within =
+    let e : suc k + 1 ≡ suc (k + 1) = omega arith in
+    rw e (increasing-rises (suc x) (y ∷ ys) up.1 k (omega arith))
+
+-- a set of cells has few of them, since each is the cell of an object
+pub few_cells : (view : SnapshotView) → IsSnapshot view → length (tree_in view).cells ≤ 2 ^ 16
+few_cells view is =
+    omega (
+      arith,
+      is.sound.cells,
+      ones_of-le-length view.parts.lasts,
+      is.shaped.lasts,
+      ones_of-le-length view.parts.present,
+      is.shaped.presence,
+      is.shaped.few,
+    )
+
+-- the cells of numbered cells
+cells-numbered : (first : ℕ) (cells : List Cell) → map (λ leaf. leaf.1) (enumerate_from first cells) ≡ cells
+cells-numbered first [] = refl
+cells-numbered first (cell ∷ cells) = ap (λ rest. cell ∷ rest) (cells-numbered (first + 1) cells)
+
+-- a walk over all squares comes by each cell
+pub cells-kept : (view : SnapshotView)
+    → map (λ leaf. leaf.1) (kept_leaves everywhere (tree_in view)) ≡ (tree_in view).cells
+cells-kept view = ap (map (λ leaf. leaf.1)) (all_kept view) ∙ cells-numbered 0 (tree_in view).cells
+
+-- the parts of snapshots of one index change by its header
+pub periods-upgraded : (parts : Parts) (numbers : List ℕ) → map upgraded_parts (map (snapshot_in parts) numbers)
+    ≡ map (upgraded_period parts.frame) (map parts_of (map (snapshot_in parts) numbers))
+periods-upgraded parts [] = refl
+periods-upgraded parts (number ∷ numbers) =
+    ap (λ rest. upgraded_parts (snapshot_in parts number) ∷ rest) (periods-upgraded parts numbers)
+
+-- a walk over all squares reads no more than what finds all blocks
+reads-blocks : (view : SnapshotView) → tree_reads view ≤ blocks_reads view
+unfolding blocks_reads
+reads-blocks view = omega arith
+
+-- all of them read no more than opening
+pub reads-opening : (parts : Parts) → sum_by tree_reads (snapshots_in parts) ≤ open_cost parts
+unfolding open_cost
+reads-opening parts =
+    let numbers : List ℕ = numbers_in parts.frame in
+    omega (
+      arith,
+      sum_by-map tree_reads (snapshot_in parts) numbers,
+      sum_by-le-sum_by (λ number. tree_reads (snapshot_in parts number))
+          (λ number. blocks_reads (snapshot_in parts number)) numbers (λ number. reads-blocks (snapshot_in parts number)),
+    )
+
+abbrev pub joined_of : List ℕ → Frame → List ℕ → List ℕ → List (ℕ × ℕ) → List PeriodParts → Parts
+joined_of objects frame alphabet symbols rules periods = record {
+  frame = frame;
+  objects = objects;
+  alphabet = alphabet;
+  rules = rules;
+  periods = periods;
+  symbols = symbols;
+}
+
+-- what is put together of an index's lists
+pub upgrade-joined : (parts : Parts) (frame : Frame) (alphabet symbols : List ℕ) (rules : List (ℕ × ℕ))
+    (periods : List PeriodParts) → frame ≡ newest parts.frame → alphabet ≡ parts.alphabet → rules ≡ parts.rules
+    → periods ≡ map (upgraded_period parts.frame) parts.periods → symbols ≡ parts.symbols
+    → joined_of parts.objects frame alphabet symbols rules periods ≡ upgrade_of parts
+unfolding upgrade_of
+upgrade-joined parts frame alphabet symbols rules periods header values pairs trees logs =
+    rw (header, values, pairs, trees, logs) refl
