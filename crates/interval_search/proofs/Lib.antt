@@ -1,5 +1,5 @@
 -- The hits of rows, object by object, and the search for them.
-mod HitLemmas
+pub mod HitLemmas
 mod ListingLemmas
 mod FirstLemmas
 mod OrderLemmas

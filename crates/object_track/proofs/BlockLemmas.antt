@@ -13,6 +13,7 @@ use Rattle.track_types.specs.Near.{IsCellAsked}
 use Rattle.track_types.specs.declared.cell.Cell.{Cell}
 use Rattle.track_types.specs.declared.cell_box.CellBox.{CellBox}
 use Rattle.track_types.specs.declared.frame.Frame.{Frame}
+use Rattle.track_types.specs.declared.limit.TheConstants.{MAX_HEIGHT}
 use Rattle.track_types.specs.declared.parts.Parts.{Parts}
 use Rattle.k2_tree.specs.Morton.{IsInGrid}
 use Rattle.rule_store.specs.View.{RulesView}
@@ -31,12 +32,11 @@ use Rattle.snapshots.specs.declared.anchored.Anchored.{Anchored}
 use Rattle.snapshots.proofs.JoinLemmas.{start_in-within}
 use Rattle.object_track.proofs.MetLemmas.{period-ends}
 
--- the grid is at most 2^20 cells wide
-grid-width : (frame : Frame) → IsFrame frame → 2 ^ frame.height ≤ 2 ^ 20
+-- no grid is wider than the highest
+grid-width : (frame : Frame) → IsFrame frame → 2 ^ frame.height ≤ 2 ^ MAX_HEIGHT
 grid-width frame header =
     let some : 0 < 2 = omega arith in
-    let low : frame.height ≤ 20 = omega (arith, header.limit) in
-    pow-le-pow_right {n = 2} some {i = frame.height} {j = 20} low
+    pow-le-pow_right {n = 2} some {i = frame.height} {j = MAX_HEIGHT} header.limit
 
 -- a box in the grid is near
 IsHullAsked-placed : (frame : Frame) → IsFrame frame → (cell : Cell) (hull : Option CellBox)
