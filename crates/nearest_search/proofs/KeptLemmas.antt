@@ -1,7 +1,8 @@
 -- The kept entries in order: a new one is put in its place, and the last one gives way.
 use Rattle.std.proofs.Common.{◌≡◌, ℕ, zero, suc, ◌+◌, ◌≤◌, ◌<◌, true, false, List, [], ◌∷◌, ◌++◌, length, map, take, Ordering, Option, None, Some, ◌-◌}
 use Rattle.std.proofs.Common.{refl, sym, ◌∙◌, ap, arith}
-use Rattle.std.specs.Prelude.{slice_get, IfSome, IsSome}
+use Rattle.std.specs.Prelude.{nat_le, slice_get, IfSome, IsSome}
+use Rattle.std.specs.Option.{option_map}
 use Rattle.std.specs.BTreeMap.{insert_entry}
 use Rattle.std.specs.Cmp.{IsTotalOrder}
 use Rattle.std.specs.List.{AllByRecursion, list_any}
@@ -9,7 +10,7 @@ use Rattle.std.specs.Ordering.{eq_by_cmp, is_eq, is_lt, nat_cmp, ordering_revers
 use Rattle.std.specs.declared.cmp.Ordering.TheVariants.{Less, Equal, Greater}
 use Rattle.std.proofs.lemmas.Bool.{or_parts}
 use Rattle.std.proofs.lemmas.Cmp.{nat_cmp_total, on_total, then_total}
-use Rattle.std.proofs.lemmas.Option.{slice_get_within}
+use Rattle.std.proofs.lemmas.Option.{slice_get_within, slice_get_past, slice_get-map}
 use Rattle.std.proofs.lemmas.List.{length-append, length-map, map-append, nil_from_length, take_all, take_at}
 use Rattle.std.proofs.lemmas.List.MinMax.{ranks_by}
 use Rattle.std.proofs.lemmas.List.Sorted.{length_permutation}
@@ -21,6 +22,7 @@ use Rattle.list_laws.proofs.SliceLemmas.{slice_get-last}
 use Rattle.track_types.specs.ByFilter.{near_order}
 use Rattle.track_types.specs.declared.cell.Cell.{Cell}
 use Rattle.track_types.specs.declared.near.Near.{Near}
+use Rattle.nearest_search.specs.Cost.{is_no_farther, last_of}
 use Rattle.nearest_search.specs.Kept.{entry_near, kept_nears}
 
 -- the order of ranks
@@ -170,3 +172,28 @@ all-before near last (entry ∷ entries) after up apart =
       one_before near_order near_order_total near (entry_near entry) alone.0 not_before,
       all-before near last entries after up.1 alone.1,
     )
+
+-- fewer are kept than are wanted, so that each has room
+pub room-few : (wanted dist2 : ℕ) (entries : List ((ℕ × ℕ) × Cell)) → length entries < wanted
+    → is_no_farther (last_of wanted (kept_nears entries)) dist2 ≡ true
+room-few wanted dist2 entries few =
+    ap (λ o. is_no_farther o dist2) (slice_get_past (kept_nears entries) (wanted - 1)
+    (omega (arith, few, length-map entries entry_near)))
+
+-- none is kept
+pub room-none : (wanted dist2 : ℕ) (entries : List ((ℕ × ℕ) × Cell)) → length entries ≤ 0
+    → is_no_farther (last_of wanted (kept_nears entries)) dist2 ≡ true
+room-none wanted dist2 entries none =
+    ap (λ o. is_no_farther o dist2) (slice_get_past (kept_nears entries) (wanted - 1)
+    (omega (arith, none, length-map entries entry_near)))
+
+-- as many are kept, and this is the last of them
+pub room-last : (wanted dist2 : ℕ) (entries : List ((ℕ × ℕ) × Cell)) (rank : ℕ × ℕ) (cell : Cell)
+    → wanted ≤ length entries → length entries ≤ wanted
+    → slice_get entries (length entries - 1) ≡ Some (rank, cell)
+    → is_no_farther (last_of wanted (kept_nears entries)) dist2 ≡ nat_le dist2 rank.0
+room-last wanted dist2 entries rank cell full few last =
+    let same : wanted ≡ length entries = omega (arith, full, few) in
+    ap (λ o. is_no_farther o dist2)
+    (ap (λ n. slice_get (kept_nears entries) (n - 1)) same
+    ∙ slice_get-map entry_near entries (length entries - 1) ∙ ap (option_map entry_near) last)

@@ -1,2 +1,14 @@
+-- Nears in order.
 mod KeptLemmas
+mod NearsLemmas
 mod FoundLemmas
+mod OnceLemmas
+-- What waits.
+mod PlacesLemmas
+mod ElementLemmas
+mod OpenedLemmas
+-- The search.
+mod SeekingLemmas
+mod CostLemmas
+mod SearchLemmas
+mod OutsideLemmas

@@ -3,6 +3,7 @@ ghost use Rattle.std.specs.List.{list_any};
 ghost use Rattle.std.specs.Ordering.{eq_by_cmp};
 ghost use Rattle.list_laws.specs.Ordered.{placed};
 ghost use Rattle.track_types.specs.ByFilter.{near_order};
+ghost use Rattle.nearest_search.specs.Cost.{is_no_farther, last_of};
 
 use std::alloc::Global;
 use std::collections::BTreeMap;
@@ -59,6 +60,20 @@ impl Closest {
         }
         self.kept.insert(rank, near.cell)?;
         Ok(())
+    }
+
+    /// Whether one at a squared distance may belong to the nearest: fewer are kept than are wanted, or
+    /// the last of them is as far, since of two that are as far the lesser object comes first.
+    pub(crate) fn has_room_for(&self, dist2: u128) -> bool
+        ensures { result ≡ is_no_farther (last_of self.now.wanted self.now.nears) dist2 }
+    {
+        if self.kept.len() < self.wanted as usize {
+            return true;
+        }
+        match self.kept.last_key_value() {
+            Some((last, _)) => dist2 <= last.0,
+            None => true,
+        }
     }
 
     /// The kept ones in order.

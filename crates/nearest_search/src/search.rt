@@ -1,22 +1,26 @@
-ghost use Rattle.std.specs.Prelude.{◌≡◌, ◌+◌, ◌≤◌, IfOk};
+ghost use Rattle.std.specs.Prelude.{◌≡◌, ◌+◌, ◌<◌, ◌≤◌, ℕ, IfOk};
 ghost use Rattle.track_types.specs.ByFilter.{nears_of};
 ghost use Rattle.track_types.specs.Near.{IsAsked, IsCellAsked};
 ghost use Rattle.snapshots.specs.Parts.{chart_in};
-ghost use Rattle.nearest_search.specs.Cost.{nearest_cost};
+ghost use Rattle.nearest_search.specs.Cost.{nearest_cost, period_near_cost};
+ghost use Rattle.nearest_search.specs.Seeking.{IsSearch};
 
 use crate::closest::Closest;
-use object_track::cell_in;
+use crate::reach::Reach;
+use crate::sought::Sought;
+use crate::waiting::Waiting;
 use snapshots::Stores;
 use std::alloc::Global;
 use std::sync::ledger::Ledger;
 use step_count::Steps;
-use track_types::{Cell, Memory, Near, dist2};
+use track_types::{Cell, Memory, Near};
 
 /// The objects that are nearest to a cell at an instant, at most `count` of them, by squared distance,
 /// then by object.
 ///
 /// An instant outside the index has none. The instant and the cell's coordinates are at most 2^41 away
-/// from 0. `Memory` is the only refusal: no more than `count` objects are kept at any time.
+/// from 0. `Memory` is the only refusal: no more than `count` objects are kept at any time, and what
+/// waits is taken before what is farther.
 pub fn nearest<L: Ledger>(
     alloc: Global,
     stores: &Stores,
@@ -32,18 +36,55 @@ pub fn nearest<L: Ledger>(
     ensures cost { steps.new ≤ steps.old + nearest_cost stores.now count instant cell }
 {
     let _ = stores.frame(); // says what holds of every index
+    if count == 0 {
+        return Ok(Vec::new(alloc));
+    }
     let Some(period) = stores.period_of(instant) else {
         return Ok(Vec::new(alloc));
     };
-    let mut closest = Closest::new(alloc, count);
-    for place in 0..stores.objects() {
-        if let Some(found) = cell_in(stores, place, period, instant, steps) {
-            closest.offer(Near {
-                object: stores.object_at(place),
-                cell: found,
-                dist2: dist2(cell, found),
-            })?;
+    let Some(kept) = stores.kept(period) else {
+        return Ok(Vec::new(alloc));
+    };
+    let sought = Sought {
+        stores,
+        period,
+        kept,
+        instant,
+        reach: Reach::new(stores, period, instant, cell),
+    };
+    sought.nearest(alloc, count, steps)
+}
+
+impl<'a> Sought<'a> {
+    // The nearest, at most `count` of them, of which there is one at least to be found.
+    fn nearest<L: Ledger>(
+        &self,
+        alloc: Global,
+        count: u32,
+        steps: &mut Steps<L>,
+    ) -> Result<Vec<Near>, Memory>
+        requires search { IsSearch self.now }
+        requires some { 0 < count }
+        ensures ok { IfOk result (λ found. found.items
+            ≡ nears_of (chart_in self.now.stores.now).rows count self.now.instant self.now.reach.cell) }
+        ensures cost { steps.new ≤ steps.old + period_near_cost self.now.stores.now count
+            self.now.period self.now.instant self.now.reach.cell }
+    {
+        let mut closest = Closest::new(alloc, count);
+        let mut queue = self.begin(alloc, steps)?;
+        while let Some(taken) = queue.take() {
+            if !closest.has_room_for(taken.key) {
+                return closest.into_vec(alloc);
+            }
+            match taken.waiting {
+                Waiting::Node(node) => self.open(node, &mut queue, steps)?,
+                Waiting::Place(place) => {
+                    if let Some(near) = self.near(place, steps) {
+                        closest.offer(near)?;
+                    }
+                }
+            }
         }
+        closest.into_vec(alloc)
     }
-    closest.into_vec(alloc)
 }

@@ -1,0 +1,34 @@
+use Rattle.std.proofs.Common.{◌≡◌, ◌∙◌, w64, to_z, of_z, arith, ap, sym}
+use Rattle.std.proofs.lemmas.Int.{ints}
+use Rattle.rule_store.specs.Log.{log_of}
+use Rattle.log_cursor.specs.Seek.{cell_among}
+use Rattle.snapshots.specs.Parts.{stops_of}
+use Rattle.nearest_search.proofs.FoundLemmas.{cell-sought, cell-within, seek-paid}
+use Rattle.nearest_search.proofs.sought.Sought.cell_of.Goals as goal
+
+pub returns-clause-value : goal.returns-clause-value
+returns-clause-value g c =
+    let sought = c.args.self.now in
+    let is = c.requires.search.is in
+    let same : to_z w64 (of_z w64 sought.instant) ≡ sought.instant = omega (arith, ints) in
+    c.seek.ensures.value
+    ∙ cell-sought sought.stores.now is.valid sought.period is.within sought.instant sought.reach.cell c.args.block.now
+    c.new-placed.result.log.rules.now (log_of c.new-placed.result.log) c.new-placed.result.start
+    c.new-placed.ensures.rules c.new-placed.ensures.log c.new-placed.ensures.start _
+    ∙ ap (cell_among (stops_of sought.stores.now sought.period c.args.block.now)) same
+
+pub returns-clause-within : goal.returns-clause-within
+returns-clause-within g c =
+    let sought = c.args.self.now in
+    let is = c.requires.search.is in
+    cell-within sought.stores.now is.valid sought.period is.within sought.instant sought.reach.cell c.args.block.now
+    c.requires.block c.seek.result (returns-clause-value g c)
+
+pub returns-clause-cost : goal.returns-clause-cost
+returns-clause-cost g c =
+    let sought = c.args.self.now in
+    let is = c.requires.search.is in
+    let paid = seek-paid sought.stores.now is.valid sought.period is.within sought.instant sought.reach.cell c.args.block.now
+    c.new-placed.result.log.rules.now (log_of c.new-placed.result.log) c.new-placed.result.start
+    c.new-placed.ensures.rules c.new-placed.ensures.log c.new-placed.ensures.start in
+    omega (arith, paid, c.seek.ensures.cost)
