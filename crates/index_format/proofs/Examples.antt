@@ -1,22 +1,24 @@
--- The file of 123 bytes, and what is said of damaged ones.
-use Rattle.std.proofs.Common.{◌≡◌, ℕ, pos, true, false, List, [], ◌∷◌, ◌++◌, length, take, drop, ◌==◌, Ok, Err, refl}
-use Rattle.track_types.specs.declared.flaw.Kind.TheVariants.{Short, Magic, Extra, Pad}
+-- The file of 123 bytes, the same parts in the 116 bytes of version 2, and what is said of damaged ones.
+use Rattle.std.proofs.Common.{◌≡◌, ℕ, ◌+◌, pos, true, false, List, [], ◌∷◌, ◌++◌, length, take, Ok, Err, refl}
+use Rattle.track_types.specs.Shape.{width_for}
+use Rattle.track_types.specs.declared.flaw.Kind.TheVariants.{Short, Magic, Field, Extra, Pad}
 use Rattle.track_types.specs.declared.flaw.Section.TheVariants.{Header, Presence, Log, End}
 use Rattle.track_types.specs.declared.parts.Parts.{Parts}
 use Rattle.packed_bits.specs.Bits.{number_of, ones_of}
 use Rattle.packed_bits.specs.Words.{low_bits}
-use Rattle.index_format.specs.Spelling.{bytes_of_parts, short_bytes, long_bytes, signed_bytes, rule_bytes, bits_in, bytes_filled, bit_bytes, period_bytes, size_bytes, header_bytes}
-use Rattle.index_format.specs.Fields.{flaw_at, number_at, items_at, short_at, rising_at, rule_at, bits_at}
-use Rattle.index_format.specs.Reading.{after_magic, field_at, signed_at, sizes_at, header_at, tree_length_at, period_at, parts_in}
+use Rattle.index_format.specs.Spelling.{bytes_of_parts, short_bytes, long_bytes, signed_bytes, rule_bytes, bits_in, bits_with, bytes_filled, bit_bytes, log_bytes, period_bytes, size_bytes, header_bytes}
+use Rattle.index_format.specs.Fields.{flaw_at, number_at, items_at, short_at, rising_at, rule_at, bits_at, numbers_in, packed_at, log_at}
+use Rattle.index_format.specs.Reading.{version_at, field_at, signed_at, sizes_at, header_at, tree_length_at, period_at, parts_in}
 
 -- object 7 at three instants, in one period
-abbrev whole : Parts
-whole = record {
+abbrev whole : ℕ → ℕ → Parts
+whole version height = record {
   frame = record {
+    version = version;
     first = pos 0;
     span = 3;
     period = 4;
-    height = 2;
+    height = height;
     base = record { x = pos 10; y = pos 10 };
     cell = 1;
     tick = 1;
@@ -36,51 +38,73 @@ whole = record {
 }
 
 -- the first 84 bytes of its file: header, objects, alphabet
-abbrev front : List ℕ
-front =
-    71 ∷ 82 ∷ 65 ∷ 67 ∷ 84 ∷ 48 ∷ 48 ∷ 49 ∷ 4 ∷ 0 ∷ 0 ∷ 0 ∷ 2 ∷ 0 ∷ 0 ∷ 0 ∷ 1 ∷ 0 ∷ 0 ∷ 0 ∷ 3 ∷ 0 ∷ 0 ∷ 0
+abbrev front : ℕ → ℕ → List ℕ
+front version height =
+    71 ∷ 82 ∷ 65 ∷ 67 ∷ 84 ∷ 48 ∷ 48 ∷ (48 + version) ∷ 4 ∷ 0 ∷ 0 ∷ 0 ∷ height ∷ 0 ∷ 0 ∷ 0 ∷ 1 ∷ 0 ∷ 0 ∷ 0 ∷ 3 ∷ 0 ∷ 0 ∷ 0
     ∷ 2 ∷ 0 ∷ 0 ∷ 0 ∷ 0 ∷ 0 ∷ 0 ∷ 0 ∷ 2 ∷ 0 ∷ 0 ∷ 0 ∷ 0 ∷ 0 ∷ 0 ∷ 0 ∷ 0 ∷ 0 ∷ 0 ∷ 0
     ∷ 10 ∷ 0 ∷ 0 ∷ 0 ∷ 0 ∷ 0 ∷ 0 ∷ 0 ∷ 10 ∷ 0 ∷ 0 ∷ 0 ∷ 0 ∷ 0 ∷ 0 ∷ 0
     ∷ 1 ∷ 0 ∷ 0 ∷ 0 ∷ 0 ∷ 0 ∷ 0 ∷ 0 ∷ 1 ∷ 0 ∷ 0 ∷ 0 ∷ 0 ∷ 0 ∷ 0 ∷ 0
     ∷ 7 ∷ 0 ∷ 0 ∷ 0 ∷ 2 ∷ 0 ∷ 0 ∷ 0 ∷ 0 ∷ 0 ∷ 0 ∷ 0 ∷ 3 ∷ 0 ∷ 0 ∷ 0 ∷ 0 ∷ 0 ∷ 0 ∷ 0 ∷ []
 
--- what follows its presence bits
-abbrev back : List ℕ
-back =
-    0 ∷ 0 ∷ 0 ∷ 0 ∷ 8 ∷ 0 ∷ 0 ∷ 0 ∷ 17 ∷ 1 ∷ 0 ∷ 0 ∷ 0 ∷ 0 ∷ 2 ∷ 0 ∷ 0 ∷ 0
-    ∷ 0 ∷ 0 ∷ 0 ∷ 0 ∷ 1 ∷ 0 ∷ 0 ∷ 0 ∷ []
+-- what stands between its presence bits and its log
+abbrev middle : List ℕ
+middle = 0 ∷ 0 ∷ 0 ∷ 0 ∷ 8 ∷ 0 ∷ 0 ∷ 0 ∷ 17 ∷ 1 ∷ 0 ∷ 0 ∷ 0 ∷ 0 ∷ 2 ∷ 0 ∷ 0 ∷ 0 ∷ []
 
--- the file with these presence bits
-abbrev file : ℕ → List ℕ
-file presence = front ++ presence ∷ back
+-- the file of version 1 with this height and these presence bits
+abbrev file : ℕ → ℕ → List ℕ
+file height presence = front 1 height ++ presence ∷ middle ++ 0 ∷ 0 ∷ 0 ∷ 0 ∷ 1 ∷ 0 ∷ 0 ∷ 0 ∷ []
 
-is_long : (length (file 1) == 123) ≡ true
-is_long = refl
+-- that of version 2 with this height, whose log is one byte
+abbrev packed_file : ℕ → ℕ → List ℕ
+packed_file height log = front 2 height ++ 1 ∷ middle ++ log ∷ []
 
-is_written : bytes_of_parts whole ≡ file 1
-unfolding bytes_of_parts short_bytes long_bytes signed_bytes rule_bytes bytes_filled bit_bytes period_bytes size_bytes header_bytes number_of
-is_written = refl
+are_long : (length (file 2 1) ∷ length (packed_file 2 2) ∷ []) ≡ 123 ∷ 116 ∷ []
+are_long = refl
 
-is_read : parts_in (file 1) ≡ Ok whole
-unfolding number_at items_at short_at rising_at rule_at bits_at after_magic field_at signed_at sizes_at header_at tree_length_at period_at parts_in bits_in low_bits ones_of
+are_written : (bytes_of_parts (whole 1 2) ≡ file 2 1) × (bytes_of_parts (whole 2 2) ≡ packed_file 2 2)
+unfolding bytes_of_parts short_bytes long_bytes signed_bytes rule_bytes bits_with bytes_filled bit_bytes log_bytes period_bytes size_bytes header_bytes number_of low_bits width_for
+are_written = (refl, refl)
+
+is_read : parts_in (file 2 1) ≡ Ok (whole 1 2)
+unfolding number_at items_at short_at rising_at rule_at bits_at numbers_in packed_at log_at version_at field_at signed_at sizes_at header_at tree_length_at period_at parts_in bits_in low_bits number_of ones_of width_for
 is_read = refl
 
-is_cut : parts_in (take 122 (file 1)) ≡ Err (flaw_at Log 0 1 Short)
-unfolding number_at items_at short_at rising_at rule_at bits_at after_magic field_at signed_at sizes_at header_at tree_length_at period_at parts_in bits_in low_bits ones_of
+packed_is_read : parts_in (packed_file 2 2) ≡ Ok (whole 2 2)
+unfolding number_at items_at short_at rising_at rule_at bits_at numbers_in packed_at log_at version_at field_at signed_at sizes_at header_at tree_length_at period_at parts_in bits_in low_bits number_of ones_of width_for
+packed_is_read = refl
+
+is_cut : parts_in (take 122 (file 2 1)) ≡ Err (flaw_at Log 0 1 Short)
+unfolding number_at items_at short_at rising_at rule_at bits_at numbers_in packed_at log_at version_at field_at signed_at sizes_at header_at tree_length_at period_at parts_in bits_in low_bits number_of ones_of width_for
 is_cut = refl
 
+packed_is_cut : parts_in (take 115 (packed_file 2 2)) ≡ Err (flaw_at Log 0 0 Short)
+unfolding number_at items_at short_at rising_at rule_at bits_at numbers_in packed_at log_at version_at field_at signed_at sizes_at header_at tree_length_at period_at parts_in bits_in low_bits number_of ones_of width_for
+packed_is_cut = refl
+
+packed_is_padded : parts_in (packed_file 2 6) ≡ Err (flaw_at Log 0 0 Pad)
+unfolding number_at items_at short_at rising_at rule_at bits_at numbers_in packed_at log_at version_at field_at signed_at sizes_at header_at tree_length_at period_at parts_in bits_in low_bits number_of ones_of width_for
+packed_is_padded = refl
+
+is_high : parts_in (file 21 1) ≡ Err (flaw_at Header 0 2 Field)
+unfolding number_at items_at short_at rising_at rule_at bits_at numbers_in packed_at log_at version_at field_at signed_at sizes_at header_at tree_length_at period_at parts_in bits_in low_bits number_of ones_of width_for
+is_high = refl
+
+packed_is_high : parts_in (packed_file 21 2) ≡ Ok (whole 2 21)
+unfolding number_at items_at short_at rising_at rule_at bits_at numbers_in packed_at log_at version_at field_at signed_at sizes_at header_at tree_length_at period_at parts_in bits_in low_bits number_of ones_of width_for
+packed_is_high = refl
+
 is_empty : parts_in [] ≡ Err (flaw_at Header 0 0 Short)
-unfolding after_magic header_at parts_in
+unfolding version_at header_at parts_in
 is_empty = refl
 
-is_longer : parts_in (file 1 ++ 0 ∷ []) ≡ Err (flaw_at End 0 0 Extra)
-unfolding number_at items_at short_at rising_at rule_at bits_at after_magic field_at signed_at sizes_at header_at tree_length_at period_at parts_in bits_in low_bits ones_of
+is_longer : parts_in (file 2 1 ++ 0 ∷ []) ≡ Err (flaw_at End 0 0 Extra)
+unfolding number_at items_at short_at rising_at rule_at bits_at numbers_in packed_at log_at version_at field_at signed_at sizes_at header_at tree_length_at period_at parts_in bits_in low_bits number_of ones_of width_for
 is_longer = refl
 
-is_padded : parts_in (file 3) ≡ Err (flaw_at Presence 0 0 Pad)
-unfolding number_at items_at short_at rising_at rule_at bits_at after_magic field_at signed_at sizes_at header_at tree_length_at period_at parts_in bits_in low_bits ones_of
+is_padded : parts_in (file 2 3) ≡ Err (flaw_at Presence 0 0 Pad)
+unfolding number_at items_at short_at rising_at rule_at bits_at numbers_in packed_at log_at version_at field_at signed_at sizes_at header_at tree_length_at period_at parts_in bits_in low_bits number_of ones_of width_for
 is_padded = refl
 
-is_other : parts_in (88 ∷ drop 1 (file 1)) ≡ Err (flaw_at Header 0 0 Magic)
-unfolding after_magic header_at parts_in
+is_other : parts_in (front 3 2) ≡ Err (flaw_at Header 0 0 Magic)
+unfolding version_at header_at parts_in
 is_other = refl

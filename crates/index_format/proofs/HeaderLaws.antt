@@ -1,10 +1,10 @@
 -- The header: what is read is spelled so and in its ranges, and what is in its ranges is read again.
-use Rattle.std.proofs.Common.{◌≡◌, ℕ, ℤ, pos, ◌-◌, ◌*◌, ◌^◌, ◌<◌, ◌≤◌, Bool, true, false, ltb, List, ◌++◌, length, take, drop, Ok, refl, sym, ap, FitsSigned, ◌∙◌, append_assoc, arith}
+use Rattle.std.proofs.Common.{◌≡◌, ℕ, ℤ, pos, ◌-◌, ◌*◌, ◌^◌, ◌<◌, ◌≤◌, Bool, true, false, ltb, List, ◌++◌, length, take, drop, zero, suc, inl, inr, Ok, refl, sym, ap, FitsSigned, ◌∙◌, append_assoc, arith}
 use Rattle.std.specs.Prelude.{IfOk, nat_le, neg_ℤ, ◌≤ℤ◌, ◌+ℤ◌}
 use Rattle.std.specs.Int.{Width, w32, w64, cast_signed, cast_unsigned, div_ceil}
 use Rattle.std.specs.Int.Signed.{le_z}
 use Rattle.std.specs.Str.{bytes_eq}
-use Rattle.std.proofs.lemmas.Bool.{le-ltb, and_parts, and_from}
+use Rattle.std.proofs.lemmas.Bool.{cases_lt, lt-ltb, le-ltb, and_parts, and_from}
 use Rattle.std.proofs.lemmas.Bool.Decides.{nat_tests}
 use Rattle.std.proofs.lemmas.Int.{ints, of_z-to_z, to_z-of_z, fits_signed_from_abs}
 use Rattle.std.proofs.Math.Facts.{Fits-of_z}
@@ -12,18 +12,19 @@ use Rattle.std.proofs.lemmas.List.{take-append-drop}
 use Rattle.std.proofs.lemmas.Slice.Eq.{bytes_eq-Decides}
 use Rattle.track_types.specs.Frame.{IsFrame}
 use Rattle.track_types.specs.Near.{IsNear}
+use Rattle.track_types.specs.declared.frame.Frame.{Frame}
 use Rattle.track_types.specs.Limits.{limit_of}
 use Rattle.track_types.specs.declared.limit.LimitKind.TheVariants as limits
-use Rattle.track_types.specs.declared.limit.TheConstants.{MAX_HEIGHT}
+use Rattle.track_types.specs.declared.limit.TheConstants.{MAX_HEIGHT, MAX_NARROW_HEIGHT, MAX_VERSION}
 use Rattle.track_types.specs.declared.flaw.Kind.TheVariants.{Short}
 use Rattle.track_types.proofs.RegionLemmas.{le_z-from, le_z-is}
 use Rattle.index_format.specs.declared.header.Header.{Header}
 use Rattle.index_format.specs.declared.header.Sizes.{Sizes}
 use Rattle.index_format.specs.Spelling.{magic, short_bytes, long_bytes, signed_bytes, size_bytes, header_bytes, sizes_of}
 use Rattle.index_format.specs.Fields.{number_at}
-use Rattle.index_format.specs.Reading.{header_flaw, is_between, is_span, is_first, is_near, far, after_magic, field_at, signed_at, sizes_at, header_at}
+use Rattle.index_format.specs.Reading.{header_flaw, is_between, is_span, is_first, is_near, far, greatest_height, version_at, field_at, signed_at, sizes_at, header_at}
 use Rattle.index_format.proofs.BitLemmas.{IsBytes, IsBytes-drop}
-use Rattle.index_format.proofs.Laws.{Takes, Takes-then, Takes-text, then_ok, test_ok, guard_ok, IsWide, wide32, wide64, number_at-takes, number_at-again}
+use Rattle.index_format.proofs.Laws.{Takes, Takes-then, Takes-text, then_ok, test_ok, guard_ok, else_ok, IsWide, wide32, wide64, number_at-takes, number_at-again}
 
 -- the tests of a range
 
@@ -72,24 +73,52 @@ module _ (index : ℕ) (passes : ℤ → Bool) where
       rw (read, back, good) refl
 
 -- the eight bytes at the front
-after_magic-takes : (bytes : List ℕ) → IsBytes bytes → IfOk (after_magic bytes) (Takes bytes magic)
-unfolding after_magic
-after_magic-takes bytes fits =
+version_at-takes : (bytes : List ℕ) → IsBytes bytes
+    → IfOk (version_at bytes) (λ v. Takes bytes (magic v.0) v.1 × (1 ≤ v.0) × (v.0 ≤ MAX_VERSION))
+unfolding version_at
+version_at-takes bytes fits =
     guard_ok _ _ _ (ltb (length bytes) 8) (λ enough.
-    test_ok _ _ _ (bytes_eq (take 8 bytes) magic) (λ same.
-    let front : take 8 bytes ≡ magic = (bytes_eq-Decides (take 8 bytes) magic).0 same in
-    record { parts = sym (take-append-drop 8 bytes) ∙ ap (λ text. text ++ drop 8 bytes) front; fits = IsBytes-drop 8 bytes fits }))
+    else_ok _ _ _ (bytes_eq (take 8 bytes) (magic 1)) (λ same. (named 1 same, omega arith, omega arith))
+    (test_ok _ _ _ (bytes_eq (take 8 bytes) (magic 2)) (λ same. (named 2 same, omega arith, omega arith))))
+  where
+    named : (version : ℕ) → bytes_eq (take 8 bytes) (magic version) ≡ true → Takes bytes (magic version) (drop 8 bytes)
+    named version same =
+        let front : take 8 bytes ≡ magic version = (bytes_eq-Decides (take 8 bytes) (magic version)).0 same in
+        record { parts = sym (take-append-drop 8 bytes) ∙ ap (λ text. text ++ drop 8 bytes) front; fits = IsBytes-drop 8 bytes fits }
 
-after_magic-again : (rest : List ℕ) → after_magic (magic ++ rest) ≡ Ok rest
-unfolding after_magic
-after_magic-again rest =
-    let enough : ltb (length (magic ++ rest)) 8 ≡ false = le-ltb (length (magic ++ rest)) 8 (omega arith) in
+version_at-again : (version : ℕ) (rest : List ℕ) → 1 ≤ version → version ≤ MAX_VERSION → version_at (magic version ++ rest) ≡ Ok (version, rest)
+unfolding version_at
+version_at-again zero rest known newest = absurd (omega arith)
+version_at-again (suc zero) rest known newest =
+    let enough : ltb (length (magic 1 ++ rest)) 8 ≡ false = le-ltb (length (magic 1 ++ rest)) 8 (omega arith) in
     rw enough refl
+version_at-again (suc (suc zero)) rest known newest =
+    let enough : ltb (length (magic 2 ++ rest)) 8 ≡ false = le-ltb (length (magic 2 ++ rest)) 8 (omega arith) in
+    rw enough refl
+version_at-again (suc (suc (suc more))) rest known newest = absurd (omega arith)
+
+-- the greatest height of any version
+height_limit : (version height : ℕ) → height ≤ greatest_height version → height ≤ MAX_HEIGHT
+height_limit version height low = elim (cases_lt version 2) [
+  | inl first ↦ let limit = rw (lt-ltb version 2 first) at low in omega (arith, limit)
+  | inr later ↦ rw (le-ltb version 2 later) at low
+]
+
+-- that of version 1
+height_narrow : (version height : ℕ) → height ≤ greatest_height version → version ≡ 1 → height ≤ MAX_NARROW_HEIGHT
+height_narrow version height low first = rw first at low
+
+-- a header's height is that of its version
+pub height_within : (frame : Frame) → IsFrame frame → frame.height ≤ greatest_height frame.version
+height_within frame is = elim (cases_lt frame.version 2) [
+  | inl first ↦ rw (lt-ltb frame.version 2 first) (is.narrow (omega (arith, is.known)))
+  | inr later ↦ rw (le-ltb frame.version 2 later) is.limit
+]
 
 -- the numbers of four bytes are in their ranges
-pub record AreSizes (sizes : Sizes) : Type 0 where
+pub record AreSizes (version : ℕ) (sizes : Sizes) : Type 0 where
   pub period : (1 ≤ sizes.period) × (sizes.period ≤ 2 ^ 22)
-  pub height : (1 ≤ sizes.height) × (sizes.height ≤ MAX_HEIGHT)
+  pub height : (1 ≤ sizes.height) × (sizes.height ≤ greatest_height version)
   pub objects : (1 ≤ sizes.objects) × (sizes.objects ≤ limit_of limits.Objects)
   pub span : (1 ≤ sizes.span) × (sizes.span ≤ limit_of limits.Span)
   pub blocks : sizes.objects * div_ceil sizes.span sizes.period ≤ limit_of limits.Blocks
@@ -98,12 +127,14 @@ pub record AreSizes (sizes : Sizes) : Type 0 where
   pub symbols : sizes.symbols ≤ limit_of limits.Symbols
 
 -- sizes that were read are spelled so
-sizes_at-takes : (bytes : List ℕ) → IsBytes bytes → IfOk (sizes_at bytes) (λ s. Takes bytes (size_bytes s.0) s.1 × AreSizes s.0)
+sizes_at-takes : (version : ℕ) (bytes : List ℕ) → IsBytes bytes
+    → IfOk (sizes_at version bytes) (λ s. Takes bytes (size_bytes s.0) s.1 × AreSizes version s.0)
 unfolding sizes_at size_bytes
-sizes_at-takes bytes fits =
+sizes_at-takes version bytes fits =
+    let high = greatest_height version in
     let many = limit_of limits.Symbols in
     then_ok _ _ (field_at w32 1 (is_between 1 (2 ^ 22)) bytes) (field_at-takes wide32 1 (is_between 1 (2 ^ 22)) bytes fits) (λ period t1.
-    then_ok _ _ (field_at w32 2 (is_between 1 MAX_HEIGHT) period.1) (field_at-takes wide32 2 (is_between 1 MAX_HEIGHT) period.1 t1.0.fits) (λ height t2.
+    then_ok _ _ (field_at w32 2 (is_between 1 high) period.1) (field_at-takes wide32 2 (is_between 1 high) period.1 t1.0.fits) (λ height t2.
     then_ok _ _ (field_at w32 3 (is_between 1 (limit_of limits.Objects)) height.1) (field_at-takes wide32 3 (is_between 1 (limit_of limits.Objects)) height.1 t2.0.fits) (λ objects t3.
     then_ok _ _ (field_at w32 4 (is_span objects.0 period.0) objects.1) (field_at-takes wide32 4 (is_span objects.0 period.0) objects.1 t3.0.fits) (λ span t4.
     then_ok _ _ (field_at w32 5 (is_between 0 many) span.1) (field_at-takes wide32 5 (is_between 0 many) span.1 t4.0.fits) (λ alphabet t5.
@@ -115,7 +146,7 @@ sizes_at-takes bytes fits =
           (Takes-then t1.0 (Takes-then t2.0 (Takes-then t3.0 (Takes-then t4.0 (Takes-then t5.0 (Takes-then t6.0 t7.0)))))),
       record {
         period = between 1 (2 ^ 22) period.0 t1.2;
-        height = between 1 MAX_HEIGHT height.0 t2.2;
+        height = between 1 high height.0 t2.2;
         objects = between 1 (limit_of limits.Objects) objects.0 t3.2;
         span = between 1 (limit_of limits.Span) span.0 both.0;
         blocks = grind (arith, nat_tests, both.1);
@@ -126,9 +157,11 @@ sizes_at-takes bytes fits =
     ))))))))
 
 -- sizes that are spelled so are read
-sizes_at-again : (sizes : Sizes) (rest : List ℕ) → AreSizes sizes → sizes_at (size_bytes sizes ++ rest) ≡ Ok (sizes, rest)
+sizes_at-again : (version : ℕ) (sizes : Sizes) (rest : List ℕ) → AreSizes version sizes
+    → sizes_at version (size_bytes sizes ++ rest) ≡ Ok (sizes, rest)
 unfolding sizes_at size_bytes
-sizes_at-again sizes rest are =
+sizes_at-again version sizes rest are =
+    let high = greatest_height version in
     let many = limit_of limits.Symbols in
     let r7 = short_bytes sizes.symbols ++ rest in
     let r6 = short_bytes sizes.rules ++ r7 in
@@ -141,11 +174,11 @@ sizes_at-again sizes rest are =
     let few : nat_le blocks (limit_of limits.Blocks) ≡ true = grind (arith, nat_tests, are.blocks) in
     let span = and_from (is_between 1 (limit_of limits.Span) sizes.span) (nat_le blocks (limit_of limits.Blocks))
     (is_between-true 1 (limit_of limits.Span) sizes.span are.span.0 are.span.1) few in
-    ap sizes_at text ∙ rw (
+    ap (sizes_at version) text ∙ rw (
       field_at-again wide32 1 (is_between 1 (2 ^ 22)) sizes.period r2 (omega (arith, are.period.1))
           (is_between-true 1 (2 ^ 22) sizes.period are.period.0 are.period.1),
-      field_at-again wide32 2 (is_between 1 MAX_HEIGHT) sizes.height r3 (omega (arith, are.height.1))
-          (is_between-true 1 MAX_HEIGHT sizes.height are.height.0 are.height.1),
+      field_at-again wide32 2 (is_between 1 high) sizes.height r3 (omega (arith, height_limit version sizes.height are.height.1))
+          (is_between-true 1 high sizes.height are.height.0 are.height.1),
       field_at-again wide32 3 (is_between 1 (limit_of limits.Objects)) sizes.objects r4 (omega (arith, are.objects.1))
           (is_between-true 1 (limit_of limits.Objects) sizes.objects are.objects.0 are.objects.1),
       field_at-again wide32 4 (is_span sizes.objects sizes.period) sizes.span r5 (omega (arith, are.span.1)) span,
@@ -160,7 +193,7 @@ sizes_at-again sizes rest are =
 -- a header in its ranges
 pub record IsHeader (header : Header) : Type 0 where
   pub frame : IsFrame header.frame
-  pub sizes : AreSizes (sizes_of header)
+  pub sizes : AreSizes header.frame.version (sizes_of header)
 
 -- a number at most 2^40 from 0 fits in eight bytes
 near_fits : (z : ℤ) → neg_ℤ far ≤ℤ z → z ≤ℤ far → FitsSigned w64 z
@@ -183,8 +216,8 @@ pub header_at-takes : (bytes : List ℕ) → IsBytes bytes → IfOk (header_at b
 unfolding header_at header_bytes
 header_at-takes bytes fits =
     let units = is_between 1 (2 ^ 30) in
-    then_ok _ _ (after_magic bytes) (after_magic-takes bytes fits) (λ rest t0.
-    then_ok _ _ (sizes_at rest) (sizes_at-takes rest t0.fits) (λ sizes t1.
+    then_ok _ _ (version_at bytes) (version_at-takes bytes fits) (λ version t0.
+    then_ok _ _ (sizes_at version.0 version.1) (sizes_at-takes version.0 version.1 t0.0.fits) (λ sizes t1.
     then_ok _ _ (signed_at 8 (is_first sizes.0.span) sizes.1) (signed_at-takes 8 (is_first sizes.0.span) sizes.1 t1.0.fits) (λ first t2.
     then_ok _ _ (signed_at 9 is_near first.1) (signed_at-takes 9 is_near first.1 t2.0.fits) (λ x t3.
     then_ok _ _ (signed_at 10 is_near x.1) (signed_at-takes 10 is_near x.1 t3.0.fits) (λ y t4.
@@ -195,12 +228,15 @@ header_at-takes bytes fits =
     let ticks = between 1 (2 ^ 30) tick.0 t6.2 in
     let are = t1.1 in (
       Takes-text _ (simp append_assoc refl)
-          (Takes-then t0 (Takes-then t1.0 (Takes-then t2.0 (Takes-then t3.0 (Takes-then t4.0 (Takes-then t5.0 t6.0)))))),
+          (Takes-then t0.0 (Takes-then t1.0 (Takes-then t2.0 (Takes-then t3.0 (Takes-then t4.0 (Takes-then t5.0 t6.0)))))),
       record {
         frame = record {
           periods = record { some = are.period.0; limit = are.period.1 };
+          known = t0.1;
+          newest = t0.2;
           some = are.height.0;
-          limit = are.height.1;
+          limit = height_limit version.0 sizes.0.height are.height.1;
+          narrow = height_narrow version.0 sizes.0.height are.height.1;
           long = are.span.0;
           short = are.span.1;
           begins = le_z-is (neg_ℤ far) first.0 begin.0;
@@ -226,13 +262,13 @@ header_at-again header rest is =
     let r3 = signed_bytes frame.base.x ++ r4 in
     let r2 = signed_bytes frame.first ++ r3 in
     let r1 = size_bytes (sizes_of header) ++ r2 in
-    let text : header_bytes header ++ rest ≡ magic ++ r1 = simp append_assoc refl in
+    let text : header_bytes header ++ rest ≡ magic frame.version ++ r1 = simp append_assoc refl in
     let begins = and_from (le_z (neg_ℤ far) frame.first) (le_z (frame.first +ℤ pos (frame.span - 1)) far)
     (le_z-from (neg_ℤ far) frame.first is.frame.begins)
     (le_z-from (frame.first +ℤ pos (frame.span - 1)) far is.frame.ends) in
     ap header_at text ∙ rw (
-      after_magic-again r1,
-      sizes_at-again (sizes_of header) r2 is.sizes,
+      version_at-again frame.version r1 is.frame.known is.frame.newest,
+      sizes_at-again frame.version (sizes_of header) r2 is.sizes,
       signed_at-again 8 (is_first frame.span) frame.first r3
           (near_fits frame.first is.frame.begins (first_before frame.first (frame.span - 1) is.frame.ends)) begins,
       signed_at-again 9 is_near frame.base.x r4 (near_fits frame.base.x is.frame.columns.low is.frame.columns.high)

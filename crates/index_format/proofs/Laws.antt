@@ -56,6 +56,12 @@ pub guard_ok : {A : Type 0} (Q : A → Type 0) (read : Result A Flaw) (flaw : Fl
 guard_ok Q read flaw true held = tt
 guard_ok Q read flaw false held = held refl
 
+-- a test whose answer stands before others
+pub else_ok : {A : Type 0} (Q : A → Type 0) (a : A) (other : Result A Flaw) (test : Bool)
+    → (test ≡ true → Q a) → IfOk other Q → IfOk (cond test (Ok a) other) Q
+else_ok Q a other true held rest = held refl
+else_ok Q a other false held rest = rest
+
 -- numbers of a width: their bytes, and back
 pub record IsWide (w : Width) (limit : ℕ) (spell : ℕ → List ℕ) : Type 0 where
   pub long : (n : ℕ) → length (spell n) ≡ byte_len w

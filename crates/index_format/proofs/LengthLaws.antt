@@ -1,14 +1,20 @@
 -- How many bytes the parts of an index take.
-use Rattle.std.proofs.Common.{◌≡◌, ℕ, ◌+◌, ◌*◌, List, length, refl, arith}
+use Rattle.std.proofs.Common.{◌≡◌, ℕ, ◌+◌, ◌*◌, ◌≤◌, List, length, refl, ap, ◌∙◌, inl, inr, arith}
+use Rattle.std.specs.Prelude.{nat_lt, if◌then◌else◌}
+use Rattle.std.proofs.Math.Nat.{mul-le-mul_right}
+use Rattle.std.proofs.lemmas.Bool.{cases_lt, lt-ltb, le-ltb}
 use Rattle.std.specs.List.{flat_map}
 use Rattle.std.proofs.lemmas.List.{length-append}
 use Rattle.list_laws.proofs.LengthLemmas.{length-flat_map-alike}
 use Rattle.track_types.specs.declared.parts.Parts.{Parts}
 use Rattle.track_types.specs.declared.period_parts.PeriodParts.{PeriodParts}
 use Rattle.index_format.specs.declared.header.Header.{Header}
-use Rattle.index_format.specs.Spelling.{bytes_for, bytes_of_parts, header_bytes, long_bytes}
+use Rattle.track_types.specs.Shape.{width_for, width_of}
+use Rattle.index_format.specs.Spelling.{bits_with, bytes_for, bytes_of_parts, header_bytes, log_bytes, long_bytes}
 use Rattle.index_format.specs.Spelling.{period_bytes, rule_bytes, short_bytes, signed_bytes, size_bytes}
 use Rattle.index_format.proofs.BitLemmas.{length-bit_bytes}
+use Rattle.index_format.proofs.WidthLemmas.{width_for-narrow}
+use Rattle.index_format.proofs.SymbolLemmas.{length-bits_with}
 use Rattle.index_format.proofs.Laws.{wide32, wide64}
 
 -- numbers of four bytes
@@ -50,11 +56,34 @@ length-period_bytes period = simp (
   wide32.long,
 ) (omega arith)
 
+-- how many bytes so many symbols take, of so many bits each from version 2 on
+abbrev pub log_length : ℕ → ℕ → ℕ → ℕ
+log_length version width count = if nat_lt version 2 then 4 * count else bytes_for (width * count)
+
+-- these are as many
+pub length-log_bytes : (version width : ℕ) (symbols : List ℕ)
+    → length (log_bytes version width symbols) ≡ log_length version width (length symbols)
+unfolding log_bytes
+length-log_bytes version width symbols = elim (cases_lt version 2) [
+  | inl first ↦ rw (lt-ltb version 2 first) (length-shorts symbols)
+  | inr later ↦ rw (le-ltb version 2 later) (length-bit_bytes (bits_with width symbols) ∙ ap bytes_for (length-bits_with width symbols))
+]
+
+-- in every version a symbol takes at most four bytes
+pub log_length-short : (version symbols count : ℕ) → log_length version (width_for symbols) count ≤ 4 * count
+log_length-short version symbols count = elim (cases_lt version 2) [
+  | inl first ↦ rw (lt-ltb version 2 first) (omega arith)
+  | inr later ↦
+      let most : width_for symbols * count ≤ 27 * count = mul-le-mul_right count (width_for-narrow symbols) in
+      rw (le-ltb version 2 later) (omega (arith, most))
+]
+
 -- how many bytes the parts take
 pub length-bytes_of_parts : (parts : Parts)
     → length (bytes_of_parts parts)
     ≡ 76 + 4 * length parts.objects + 8 * length parts.alphabet + 8 * length parts.rules
-    + length (flat_map period_bytes parts.periods) + 4 * length parts.symbols
+    + length (flat_map period_bytes parts.periods)
+    + log_length parts.frame.version (width_of parts) (length parts.symbols)
 unfolding bytes_of_parts
 length-bytes_of_parts parts = simp (
   length-append,
@@ -62,4 +91,16 @@ length-bytes_of_parts parts = simp (
   length-shorts,
   length-longs,
   length-rules,
+  length-log_bytes,
 ) (omega arith)
+
+-- no more than with four bytes for each symbol
+pub length-bytes_of_parts-most : (parts : Parts)
+    → length (bytes_of_parts parts)
+    ≤ 76 + 4 * length parts.objects + 8 * length parts.alphabet + 8 * length parts.rules
+    + length (flat_map period_bytes parts.periods) + 4 * length parts.symbols
+length-bytes_of_parts-most parts = omega (
+  arith,
+  length-bytes_of_parts parts,
+  log_length-short parts.frame.version (length parts.alphabet + length parts.rules) (length parts.symbols),
+)

@@ -1,7 +1,11 @@
 mod ItemLemmas
 pub mod BitLemmas
+mod SymbolLemmas
+mod PackingLemmas
+mod WidthLemmas
 mod Laws
 mod ListLaws
+mod LogLaws
 mod PeriodLaws
 mod HeaderLaws
 pub mod PartsLaws

@@ -1,12 +1,12 @@
 -- Reading from the front: what is taken and the bytes after it, or the first flaw that is met.
-use Rattle.std.specs.Prelude.{ℕ, zero, suc, ◌-◌, Bool, ◌||◌, List, [], ◌∷◌, ◌++◌, length, take, drop, Result, Ok, Err, nat_lt, ◌==◌, if◌then◌else◌, slice_index}
+use Rattle.std.specs.Prelude.{ℕ, zero, suc, ◌-◌, ◌*◌, Bool, ◌||◌, List, [], ◌∷◌, ◌++◌, length, take, drop, Result, Ok, Err, nat_lt, ◌==◌, if◌then◌else◌, slice_index}
 use Rattle.std.specs.Int.{Width, w32, byte_len, from_le_bytes}
-use Rattle.packed_bits.specs.Bits.{ones_of}
+use Rattle.packed_bits.specs.Bits.{number_of, ones_of}
 use Rattle.track_types.specs.declared.flaw.Flaw.{Flaw}
 use Rattle.track_types.specs.declared.flaw.Section.{Section}
 use Rattle.track_types.specs.declared.flaw.Kind.{Kind}
 use Rattle.track_types.specs.declared.flaw.Kind.TheVariants.{Short, Order, Pad}
-use Rattle.track_types.specs.declared.flaw.Section.TheVariants.{Rules}
+use Rattle.track_types.specs.declared.flaw.Section.TheVariants.{Rules, Log}
 use Rattle.index_format.specs.Spelling.{bits_in, bytes_for}
 
 -- what is taken from the front, and the bytes after it; or a flaw
@@ -68,3 +68,19 @@ bits_at section period count bytes =
     else if has_spare count (take (bytes_for count) bytes)
     then Err (flaw_at section period (bytes_for count - 1) Pad)
     else Ok (take count (bits_in (take (bytes_for count) bytes)), drop (bytes_for count) bytes)
+
+-- so many numbers of so many bits each, from the front of the bits
+unfoldable pub numbers_in : ℕ → ℕ → List Bool → List ℕ
+numbers_in width zero bits = []
+numbers_in width (suc n) bits = number_of (take width bits) ∷ numbers_in width n (drop width bits)
+
+-- numbers of so many bits each, whose bytes are the elements of the log
+unfoldable pub packed_at : ℕ → ℕ → List ℕ → Taken (List ℕ)
+packed_at width count bytes = do
+  bits ← bits_at Log 0 (width * count) bytes
+  Ok (numbers_in width count bits.0, bits.1)
+
+-- the symbols of all logs: of four bytes each in version 1, after it of so many bits each
+unfoldable pub log_at : ℕ → ℕ → ℕ → List ℕ → Taken (List ℕ)
+log_at version width count bytes =
+    if nat_lt version 2 then items_at (short_at Log 0) count [] bytes else packed_at width count bytes

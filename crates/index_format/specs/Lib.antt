@@ -3,3 +3,4 @@ pub mod Spelling
 pub mod Fields
 pub mod Reading
 pub mod Answers
+pub mod Packing

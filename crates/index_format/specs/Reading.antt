@@ -1,22 +1,23 @@
 -- The parts that the bytes of an index hold, or the first flaw.
-use Rattle.std.specs.Prelude.{bytes_eq, ℕ, ℤ, pos, neg_ℤ, ◌+ℤ◌, ◌-◌, ◌*◌, ◌^◌, Bool, ◌&&◌, List, [], length, take, drop, Result, Ok, Err, nat_lt, nat_le, ◌==◌, if◌then◌else◌}
+use Rattle.std.specs.Prelude.{bytes_eq, ℕ, ℤ, pos, neg_ℤ, ◌+ℤ◌, ◌+◌, ◌-◌, ◌*◌, ◌^◌, Bool, ◌&&◌, List, [], length, take, drop, Result, Ok, Err, nat_lt, nat_le, ◌==◌, if◌then◌else◌}
 use Rattle.std.specs.Int.{Width, w32, w64, div_ceil, cast_signed}
 use Rattle.std.specs.Int.Signed.{le_z}
 use Rattle.packed_bits.specs.Bits.{ones_of}
 use Rattle.track_types.specs.Frame.{periods_of}
+use Rattle.track_types.specs.Shape.{width_for}
 use Rattle.track_types.specs.Limits.{limit_of}
 use Rattle.track_types.specs.declared.limit.LimitKind.TheVariants as limits
-use Rattle.track_types.specs.declared.limit.TheConstants.{MAX_HEIGHT}
+use Rattle.track_types.specs.declared.limit.TheConstants.{MAX_HEIGHT, MAX_NARROW_HEIGHT}
 use Rattle.track_types.specs.declared.flaw.Flaw.{Flaw}
 use Rattle.track_types.specs.declared.flaw.Kind.{Kind}
 use Rattle.track_types.specs.declared.flaw.Kind.TheVariants.{Short, Magic, Field, Extra}
-use Rattle.track_types.specs.declared.flaw.Section.TheVariants.{Header, Objects, Alphabet, Presence, Offsets, TreeLen, Tree, Lasts, Perm, Lengths, Log, End}
+use Rattle.track_types.specs.declared.flaw.Section.TheVariants.{Header, Objects, Alphabet, Presence, Offsets, TreeLen, Tree, Lasts, Perm, Lengths, End}
 use Rattle.track_types.specs.declared.parts.Parts.{Parts}
 use Rattle.track_types.specs.declared.period_parts.PeriodParts.{PeriodParts}
 use Rattle.index_format.specs.declared.header.Sizes.{Sizes}
 use Rattle.index_format.specs.declared.header.Header as headers
 use Rattle.index_format.specs.Spelling.{magic}
-use Rattle.index_format.specs.Fields.{◌>>=◌, Taken, flaw_at, number_at, items_at, short_at, rising_at, rule_at, bits_at}
+use Rattle.index_format.specs.Fields.{◌>>=◌, Taken, flaw_at, number_at, items_at, short_at, rising_at, rule_at, bits_at, log_at}
 
 -- a field of the header is out of its range
 abbrev pub header_flaw : ℕ → Kind → Flaw
@@ -43,11 +44,17 @@ is_span objects period span =
 abbrev pub is_first : ℕ → ℤ → Bool
 is_first span first = le_z (neg_ℤ far) first && le_z (first +ℤ pos (span - 1)) far
 
--- the eight bytes at the front are those of the format
-unfoldable pub after_magic : List ℕ → Result (List ℕ) Flaw
-after_magic bytes =
+-- the version that the eight bytes at the front name
+unfoldable pub version_at : List ℕ → Taken ℕ
+version_at bytes =
     if nat_lt (length bytes) 8 then Err (header_flaw 0 Short)
-    else if bytes_eq (take 8 bytes) magic then Ok (drop 8 bytes) else Err (header_flaw 0 Magic)
+    else if bytes_eq (take 8 bytes) (magic 1) then Ok (1, drop 8 bytes)
+    else if bytes_eq (take 8 bytes) (magic 2) then Ok (2, drop 8 bytes)
+    else Err (header_flaw 0 Magic)
+
+-- the greatest height of a version
+abbrev pub greatest_height : ℕ → ℕ
+greatest_height version = if nat_lt version 2 then MAX_NARROW_HEIGHT else MAX_HEIGHT
 
 -- a field of the header that passes a test
 unfoldable pub field_at : Width → ℕ → (ℕ → Bool) → List ℕ → Taken ℕ
@@ -61,11 +68,11 @@ signed_at index passes bytes = do
   n ← number_at w64 (header_flaw index Short) bytes
   if passes (cast_signed w64 n.0) then Ok (cast_signed w64 n.0, n.1) else Err (header_flaw index Field)
 
--- the header's numbers of four bytes
-unfoldable pub sizes_at : List ℕ → Taken Sizes
-sizes_at bytes = do
+-- the header's numbers of four bytes, in a version
+unfoldable pub sizes_at : ℕ → List ℕ → Taken Sizes
+sizes_at version bytes = do
   period ← field_at w32 1 (is_between 1 (2 ^ 22)) bytes
-  height ← field_at w32 2 (is_between 1 MAX_HEIGHT) period.1
+  height ← field_at w32 2 (is_between 1 (greatest_height version)) period.1
   objects ← field_at w32 3 (is_between 1 (limit_of limits.Objects)) height.1
   span ← field_at w32 4 (is_span objects.0 period.0) objects.1
   alphabet ← field_at w32 5 (is_between 0 (limit_of limits.Symbols)) span.1
@@ -87,8 +94,8 @@ sizes_at bytes = do
 -- the header
 unfoldable pub header_at : List ℕ → Taken headers.Header
 header_at bytes = do
-  rest ← after_magic bytes
-  sizes ← sizes_at rest
+  version ← version_at bytes
+  sizes ← sizes_at version.0 version.1
   first ← signed_at 8 (is_first sizes.0.span) sizes.1
   x ← signed_at 9 is_near first.1
   y ← signed_at 10 is_near x.1
@@ -97,6 +104,7 @@ header_at bytes = do
   Ok (
     record {
       frame = record {
+        version = version.0;
         first = first.0;
         span = sizes.0.span;
         period = sizes.0.period;
@@ -153,7 +161,7 @@ parts_in bytes = do
   alphabet ← items_at (rising_at w64 Alphabet) header.0.alphabet [] objects.1
   rules ← items_at rule_at header.0.rules [] alphabet.1
   periods ← items_at (period_at header.0.objects) (periods_of header.0.frame) [] rules.1
-  symbols ← items_at (short_at Log 0) header.0.symbols [] periods.1
+  symbols ← log_at header.0.frame.version (width_for (header.0.alphabet + header.0.rules)) header.0.symbols periods.1
   ended symbols.1 (record {
     frame = header.0.frame;
     objects = objects.0;

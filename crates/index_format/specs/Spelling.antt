@@ -1,11 +1,12 @@
 -- How the parts of an index stand in its bytes: numbers lowest byte first, bits from the lowest of a byte.
-use Rattle.std.specs.Prelude.{ℕ, ℤ, zero, suc, ◌+◌, ◌/◌, Bool, List, [], ◌∷◌, ◌++◌, length, take, drop}
+use Rattle.std.specs.Prelude.{ℕ, ℤ, zero, suc, ◌+◌, ◌/◌, nat_lt, Bool, if◌then◌else◌, List, [], ◌∷◌, ◌++◌, length, take, drop}
 use Rattle.std.specs.List.{flat_map}
 use Rattle.std.specs.Int.{w32, w64, to_le_bytes, cast_unsigned}
 use Rattle.packed_bits.specs.Bits.{number_of}
 use Rattle.packed_bits.specs.Words.{low_bits}
 use Rattle.index_format.specs.declared.header.Header.{Header}
 use Rattle.index_format.specs.declared.header.Sizes.{Sizes}
+use Rattle.track_types.specs.Shape.{width_of}
 use Rattle.track_types.specs.declared.parts.Parts.{Parts}
 use Rattle.track_types.specs.declared.period_parts.PeriodParts.{PeriodParts}
 
@@ -31,9 +32,9 @@ header_of parts = record {
   symbols = length parts.symbols;
 }
 
--- the eight bytes that an index begins with: GRACT001
-abbrev pub magic : List ℕ
-magic = 71 ∷ 82 ∷ 65 ∷ 67 ∷ 84 ∷ 48 ∷ 48 ∷ 49 ∷ []
+-- the eight bytes that an index of a version begins with: GRACT001, GRACT002
+abbrev pub magic : ℕ → List ℕ
+magic version = 71 ∷ 82 ∷ 65 ∷ 67 ∷ 84 ∷ 48 ∷ 48 ∷ (48 + version) ∷ []
 
 -- a number below 2^32 as four bytes
 unfoldable pub short_bytes : ℕ → List ℕ
@@ -68,6 +69,15 @@ bytes_for bits = (bits + 7) / 8
 unfoldable pub bit_bytes : List Bool → List ℕ
 bit_bytes bits = bytes_filled (bytes_for (length bits)) bits
 
+-- the bits of numbers of so many bits, each number's lowest first
+unfoldable pub bits_with : ℕ → List ℕ → List Bool
+bits_with width numbers = flat_map (low_bits width) numbers
+
+-- the symbols of all logs: of four bytes each in version 1, after it of so many bits each
+unfoldable pub log_bytes : ℕ → ℕ → List ℕ → List ℕ
+log_bytes version width symbols =
+    if nat_lt version 2 then flat_map short_bytes symbols else bit_bytes (bits_with width symbols)
+
 -- what an index holds of a period
 unfoldable pub period_bytes : PeriodParts → List ℕ
 period_bytes period =
@@ -84,7 +94,7 @@ size_bytes sizes =
 -- the header: the eight bytes, the numbers of four bytes and those of eight
 unfoldable pub header_bytes : Header → List ℕ
 header_bytes header =
-    magic ++ size_bytes (sizes_of header)
+    magic header.frame.version ++ size_bytes (sizes_of header)
     ++ signed_bytes header.frame.first ++ signed_bytes header.frame.base.x ++ signed_bytes header.frame.base.y
     ++ long_bytes header.frame.cell ++ long_bytes header.frame.tick
 
@@ -94,4 +104,4 @@ bytes_of_parts parts =
     header_bytes (header_of parts)
     ++ flat_map short_bytes parts.objects ++ flat_map long_bytes parts.alphabet
     ++ flat_map rule_bytes parts.rules ++ flat_map period_bytes parts.periods
-    ++ flat_map short_bytes parts.symbols
+    ++ log_bytes parts.frame.version (width_of parts) parts.symbols

@@ -7,7 +7,8 @@ ghost use Rattle.index_format.specs.Spelling.{bytes_of_parts};
 
 use crate::fault::FormatFault;
 use crate::header::header_of;
-use crate::lists::{alphabet_of, objects_of, rules_of, shorts_of};
+use crate::lists::{alphabet_of, objects_of, rules_of};
+use crate::log::log_of;
 use crate::periods::periods_of;
 use crate::place::Place;
 use std::alloc::Global;
@@ -24,7 +25,7 @@ fn parts_of(alloc: Global, bytes: &[u8]) -> Result<Parts, FormatFault>
     let (rules, rest) = rules_of(alloc, header.rules, rest)?;
     let count = header.frame.span.div_ceil(header.frame.period);
     let (periods, rest) = periods_of(alloc, header.objects, count, rest)?;
-    let (symbols, rest) = shorts_of(alloc, Place::of(Section::Log, 0), header.symbols, rest)?;
+    let (symbols, rest) = log_of(alloc, header, rest)?;
     if !rest.is_empty() {
         return Err(FormatFault::Flaw(Place::of(Section::End, 0).flaw(0, Kind::Extra)));
     }

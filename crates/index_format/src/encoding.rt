@@ -1,10 +1,12 @@
 ghost use Rattle.std.specs.Prelude.{◌≡◌, ◌<◌, ◌≤◌, ◌^◌, ◌++◌, length, [], ◌∷◌, IfOk, OnOk};
 ghost use Rattle.std.specs.Int.{w64, cast_unsigned};
 ghost use Rattle.track_types.specs.Shape.{IsShaped};
+ghost use Rattle.track_types.specs.declared.limit.TheConstants.{MAX_VERSION};
 ghost use Rattle.index_format.specs.Spelling.{header_bytes, period_bytes, header_of, bytes_of_parts};
 
-use crate::header::{Header, MAGIC};
+use crate::header::{Header, magic};
 use crate::lengths::parts_len;
+use crate::log::put_log;
 use crate::putting::{put_bits, put_longs, put_rules, put_short, put_shorts};
 use std::alloc::Global;
 use track_types::{Memory, Parts, PeriodParts};
@@ -38,6 +40,7 @@ fn places_of(first: i64, x: i64, y: i64, cell: u64, tick: u64) -> [u64; 5]
 
 /// Appends the header.
 fn put_header(out: &mut Vec<u8>, header: &Header) -> Result<(), Memory>
+    requires { header.now.frame.version ≤ MAX_VERSION }
     ensures { OnOk result (out.new.items ≡ out.old.items ++ header_bytes header.now) }
 {
     let Header {
@@ -47,7 +50,7 @@ fn put_header(out: &mut Vec<u8>, header: &Header) -> Result<(), Memory>
         rules,
         symbols,
     } = *header;
-    out.extend_from_slice(&MAGIC)?;
+    out.extend_from_slice(&magic(frame.version))?;
     put_shorts(
         out,
         &[
@@ -101,6 +104,6 @@ pub fn encode(alloc: Global, parts: &Parts) -> Result<Vec<u8>, Memory>
     for period in parts.periods.as_slice() {
         put_period(&mut out, period)?;
     }
-    put_shorts(&mut out, parts.symbols.as_slice())?;
+    put_log(&mut out, parts)?;
     Ok(out)
 }

@@ -1,16 +1,35 @@
-ghost use Rattle.std.specs.Prelude.{◌≡◌, ◌≤◌, ◌^◌, IfOk, pos};
+ghost use Rattle.std.specs.Prelude.{◌≡◌, ◌≤◌, ◌+◌, ◌^◌, IfOk, pos};
 ghost use Rattle.std.specs.Int.{w32, w64};
+ghost use Rattle.track_types.specs.declared.limit.TheConstants.{MAX_VERSION};
 ghost use Rattle.index_format.specs.Answers.{Gives};
-ghost use Rattle.index_format.specs.Reading.{header_flaw, is_between, is_span, is_first, is_near, after_magic, field_at, signed_at, sizes_at, header_at};
+ghost use Rattle.index_format.specs.Spelling.{magic};
+ghost use Rattle.index_format.specs.Reading.{header_flaw, is_between, is_span, is_first, is_near, greatest_height, version_at, field_at, signed_at, sizes_at, header_at};
 
 use crate::fault::FormatFault;
 use crate::fields::{long_of, short_of};
 use crate::limits::{FAR, MAX_BLOCKS, MAX_OBJECTS, MAX_SPAN, MAX_SYMBOLS, MAX_UNITS};
 use crate::place::Place;
-use track_types::{Cell, Flaw, Frame, Kind, MAX_HEIGHT, Section};
+use track_types::{Cell, Flaw, Frame, Kind, MAX_HEIGHT, MAX_NARROW_HEIGHT, Section};
 
-/// The eight bytes that an index begins with.
-pub const MAGIC: [u8; 8] = *b"GRACT001";
+/// How many bytes name the format and its version.
+const MAGIC_LEN: usize = 8;
+
+/// The eight bytes that an index of a version begins with: `GRACT001`, `GRACT002`.
+pub fn magic(version: u32) -> [u8; 8]
+    requires { version ≤ MAX_VERSION }
+    ensures { result ≡ magic version }
+{
+    [
+        b'G',
+        b'R',
+        b'A',
+        b'C',
+        b'T',
+        b'0',
+        b'0',
+        b'0' + version as u8,
+    ]
+}
 
 /// The numbers of four bytes in a header.
 #[derive(Clone, Copy)]
@@ -40,19 +59,33 @@ fn header_flaw(index: usize, kind: Kind) -> Flaw
     Place::of(Section::Header, 0).flaw(index, kind)
 }
 
-/// The bytes after the eight of the format.
-#[tactic(auto, unfolding(crate::specs::Reading::after_magic))]
-fn magic_of(bytes: &[u8]) -> Result<&[u8], FormatFault>
-    ensures { Gives (λ rest. rest.now) result (after_magic bytes.now) }
+/// The version that the eight bytes at the front name.
+#[tactic(auto, unfolding(crate::specs::Reading::version_at))]
+fn version_of(bytes: &[u8]) -> Result<(u32, &[u8]), FormatFault>
+    ensures exact { Gives (λ x. (x.0, x.1.now)) result (version_at bytes.now) }
 {
-    if bytes.len() < MAGIC.len() {
+    if bytes.len() < MAGIC_LEN {
         return Err(FormatFault::Flaw(header_flaw(0, Kind::Short)));
     }
-    let (front, rest) = bytes.split_at(MAGIC.len());
-    if front != MAGIC.as_slice() {
-        return Err(FormatFault::Flaw(header_flaw(0, Kind::Magic)));
+    let (front, rest) = bytes.split_at(MAGIC_LEN);
+    if front == magic(1).as_slice() {
+        return Ok((1, rest));
     }
-    Ok(rest)
+    if front == magic(2).as_slice() {
+        return Ok((2, rest));
+    }
+    Err(FormatFault::Flaw(header_flaw(0, Kind::Magic)))
+}
+
+/// The greatest height of a version.
+fn greatest_height(version: u32) -> u32
+    ensures { result ≡ greatest_height version }
+{
+    if version < 2 {
+        MAX_NARROW_HEIGHT
+    } else {
+        MAX_HEIGHT
+    }
 }
 
 /// A field of four bytes in its range.
@@ -64,7 +97,7 @@ fn field_of(
     greatest: u32,
 ) -> Result<(u32, &[u8]), FormatFault>
     ensures exact { Gives (λ x. (x.0, x.1.now)) result (field_at w32 index (is_between least greatest) bytes.now) }
-    ensures within { IfOk result (λ x. least ≤ x.0) }
+    ensures within { IfOk result (λ x. (least ≤ x.0) × (x.0 ≤ greatest)) }
 {
     let (number, rest) = short_of(bytes, header_flaw(index, Kind::Short))?;
     if number < least || number > greatest {
@@ -127,15 +160,17 @@ fn coordinate_of(bytes: &[u8], index: usize) -> Result<(i64, &[u8]), FormatFault
     Ok((coordinate, rest))
 }
 
-/// The header's numbers of four bytes.
+/// The header's numbers of four bytes, in a version.
 #[tactic(auto, unfolding(crate::specs::Reading::sizes_at))]
-fn sizes_of(bytes: &[u8]) -> Result<(Sizes, &[u8]), FormatFault>
-    ensures exact { Gives (λ x. (x.0, x.1.now)) result (sizes_at bytes.now) }
+fn sizes_of(version: u32, bytes: &[u8]) -> Result<(Sizes, &[u8]), FormatFault>
+    ensures exact { Gives (λ x. (x.0, x.1.now)) result (sizes_at version bytes.now) }
     ensures within { IfOk result (λ x. 1 ≤ x.0.span) }
     ensures some { IfOk result (λ x. 1 ≤ x.0.period) }
+    ensures told { IfOk result (λ x. x.0.alphabet + x.0.rules ≤ 2 ^ 26) }
+    ensures few { IfOk result (λ x. x.0.symbols ≤ 2 ^ 25) }
 {
     let (period, rest) = field_of(bytes, 1, 1, MAX_SPAN)?;
-    let (height, rest) = field_of(rest, 2, 1, MAX_HEIGHT)?;
+    let (height, rest) = field_of(rest, 2, 1, greatest_height(version))?;
     let (objects, rest) = field_of(rest, 3, 1, MAX_OBJECTS)?;
     let (span, rest) = span_of(rest, objects, period)?;
     let (alphabet, rest) = field_of(rest, 5, 0, MAX_SYMBOLS)?;
@@ -160,9 +195,11 @@ fn sizes_of(bytes: &[u8]) -> Result<(Sizes, &[u8]), FormatFault>
 pub fn header_of(bytes: &[u8]) -> Result<(Header, &[u8]), FormatFault>
     ensures exact { Gives (λ x. (x.0, x.1.now)) result (header_at bytes.now) }
     ensures within { IfOk result (λ x. 1 ≤ x.0.frame.period) }
+    ensures told { IfOk result (λ x. x.0.alphabet + x.0.rules ≤ 2 ^ 26) }
+    ensures few { IfOk result (λ x. x.0.symbols ≤ 2 ^ 25) }
 {
-    let rest = magic_of(bytes)?;
-    let (sizes, rest) = sizes_of(rest)?;
+    let (version, rest) = version_of(bytes)?;
+    let (sizes, rest) = sizes_of(version, rest)?;
     let Sizes {
         period,
         height,
@@ -178,6 +215,7 @@ pub fn header_of(bytes: &[u8]) -> Result<(Header, &[u8]), FormatFault>
     let (cell, rest) = units_of(rest, 11)?;
     let (tick, rest) = units_of(rest, 12)?;
     let frame = Frame {
+        version,
         first,
         span,
         period,

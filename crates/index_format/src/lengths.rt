@@ -2,6 +2,7 @@ ghost use Rattle.std.specs.Prelude.{◌≡◌, ◌≤◌, ◌<◌, ◌^◌, leng
 ghost use Rattle.track_types.specs.Shape.{IsShaped, IsShapedPeriod};
 ghost use Rattle.index_format.specs.Spelling.{bytes_for, bytes_of_parts, period_bytes};
 
+use crate::log::log_len;
 use track_types::{BitList, Parts, PeriodParts};
 
 /// How many bytes a header has.
@@ -38,7 +39,7 @@ pub fn parts_len(parts: &Parts) -> usize
     for period in parts.periods.as_slice() {
         periods += period_len(period);
     }
-    let shorts = parts.objects.as_slice().len() + parts.symbols.as_slice().len();
+    let objects = parts.objects.as_slice().len();
     let longs = parts.alphabet.as_slice().len() + parts.rules.as_slice().len();
-    HEADER_LEN + 4 * shorts + 8 * longs + periods
+    HEADER_LEN + 4 * objects + 8 * longs + periods + log_len(parts)
 }

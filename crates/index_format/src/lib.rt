@@ -1,4 +1,4 @@
-//! The bytes of an index file: `encode` writes the parts of an index, and `decode` reads them again
+//! The bytes of an index file, in two versions: `encode` writes the parts of an index, and `decode` reads them again
 //! or names the first flaw by its section, period, index and kind.
 //!
 //! Parts that are shaped have one spelling, and bytes are read exactly where they are the spelling of
@@ -13,12 +13,16 @@ mod header;
 mod lengths;
 mod limits;
 mod lists;
+mod log;
 mod packed;
+mod packing;
 mod periods;
 mod place;
 mod putting;
 #[cfg(test)]
 mod tests;
+mod unpacking;
+mod width;
 
 pub use decoding::decode;
 pub use encoding::encode;

@@ -11,8 +11,7 @@ returns c =
     (rw (sym c.as_slice-period-items.ensures) c.loop-period-test.false) in
     record {
       ok = rw (
-        c.in_ok-put_shorts-2.ensures,
-        c.as_slice-4.ensures,
+        c.in_ok-put_log.ensures,
         c.loop-period.invariant,
         whole,
         c.in_ok-put_rules.ensures,

@@ -7,7 +7,7 @@ use Rattle.index_format.proofs.encoding.put_header.Goals as goal
 
 -- the three pieces are the header
 pieces : (out : List ℕ) (h : Header)
-    → ((out ++ magic)
+    → ((out ++ magic h.frame.version)
     ++ flat_map short_bytes (h.frame.period ∷ h.frame.height ∷ h.objects ∷ h.frame.span ∷ h.alphabet ∷ h.rules ∷ h.symbols ∷ []))
     ++ flat_map long_bytes (cast_unsigned w64 h.frame.first ∷ cast_unsigned w64 h.frame.base.x
     ∷ cast_unsigned w64 h.frame.base.y ∷ h.frame.cell ∷ h.frame.tick ∷ [])
@@ -20,5 +20,5 @@ returns c =
     let places : c.places_of.result ≡ cast_unsigned w64 c.args.header.now.frame.first
     ∷ cast_unsigned w64 c.args.header.now.frame.base.x ∷ cast_unsigned w64 c.args.header.now.frame.base.y
     ∷ c.args.header.now.frame.cell ∷ c.args.header.now.frame.tick ∷ [] = search rules in
-    rw (c.in_ok-put_longs.ensures, places, c.in_ok-put_shorts.ensures, c.in_ok-extend_from_slice.ensures.items)
+    rw (c.in_ok-put_longs.ensures, places, c.in_ok-put_shorts.ensures, c.in_ok-extend_from_slice.ensures.items, c.magic.ensures)
     (pieces c.args.out.now.items c.args.header.now)
