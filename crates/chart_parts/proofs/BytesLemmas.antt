@@ -1,5 +1,5 @@
 -- The parts of a chart take few bytes, so that an index of them may be opened.
-use Rattle.std.proofs.Common.{◌≡◌, ℕ, ◌*◌, ◌^◌, ◌<◌, ◌≤◌, List, length, ap, arith}
+use Rattle.std.proofs.Common.{◌≡◌, ℕ, ◌+◌, ◌*◌, ◌^◌, ◌<◌, ◌≤◌, List, length, ap, arith}
 use Rattle.std.specs.List.{flat_map}
 use Rattle.std.proofs.Math.Nat.{mul-le-mul_right}
 use Rattle.std.proofs.lemmas.List.Concat.{length-flat_map}
@@ -7,15 +7,18 @@ use Rattle.std.proofs.lemmas.List.FromFn.{length-map-range_with_len}
 use Rattle.packed_bits.proofs.OnesLemmas.{ones_of-le-length}
 use Rattle.list_laws.proofs.LengthLemmas.{length-flat_map-within}
 use Rattle.track_types.specs.Chart.{ChartView, IsChart}
-use Rattle.track_types.specs.Frame.{periods_of}
+use Rattle.track_types.specs.Frame.{periods_of, wide_of}
 use Rattle.track_types.specs.Limits.{limit_of}
 use Rattle.track_types.specs.Quantities.{objects_of}
 use Rattle.track_types.specs.Shape.{IsShapedPeriod}
 use Rattle.track_types.specs.declared.limit.LimitKind.TheVariants.{Blocks}
+use Rattle.track_types.specs.declared.frame.Frame.{Frame}
 use Rattle.track_types.specs.declared.period_parts.PeriodParts.{PeriodParts}
-use Rattle.k2_tree.proofs.BuiltLemmas.{length-morton_bits}
+use Rattle.k2_tree.proofs.BuiltLemmas.{length-morton_bits, path_bits, path_bits-widths_of}
+use Rattle.snapshots.specs.View.{widths_in}
+use Rattle.snapshots.proofs.SoundLemmas.{wide_of-few, wide_of-fits}
 use Rattle.index_format.specs.Spelling.{bytes_of_parts, period_bytes}
-use Rattle.index_format.proofs.LengthLaws.{length-bytes_of_parts, length-period_bytes}
+use Rattle.index_format.proofs.LengthLaws.{length-bytes_of_parts, length-period_bytes, log_length-short}
 use Rattle.chart_parts.specs.Header.{frame_of}
 use Rattle.chart_parts.specs.LeafOrder.{distinct_codes}
 use Rattle.chart_parts.specs.PartsOf.{anchor_codes, grammar_of, parts_of, period_of_chart}
@@ -25,9 +28,9 @@ use Rattle.chart_parts.proofs.ObjectLemmas.{objects_of-some}
 use Rattle.chart_parts.proofs.PeriodShapeLemmas.{All-periods, IsShapedPeriod-own, few_distinct}
 use Rattle.chart_parts.proofs.ShapeLemmas.{few_values}
 
--- a period with few bits in its tree takes at most 29 bytes for each object
+-- a period with few bits in its tree takes at most 37 bytes for each object
 period-short : (objects : ℕ) (period : PeriodParts) → IsShapedPeriod objects period → 1 ≤ objects →
-    length period.tree ≤ 80 * objects → length (period_bytes period) ≤ 29 * objects
+    length period.tree ≤ 144 * objects → length (period_bytes period) ≤ 37 * objects
 period-short objects period shaped some few =
     let present = shaped.presence in
     let ones = ones_of-le-length period.present in
@@ -44,36 +47,37 @@ module _ (chart : ChartView) (is : IsChart chart) where
   abbrev objects : ℕ
   objects = length (objects_of chart.rows)
 
-  -- a tree has at most 80 bits for each object
+  -- a tree has at most 144 bits for each object: a path through 6 levels of 16 bits and 12 of 4
   few_bits : (number : ℕ) → number < periods_of (frame_of chart) →
-      length (period_of_chart chart number).tree ≤ 80 * objects
+      length (period_of_chart chart number).tree ≤ 144 * objects
   unfolding period_of_chart
   few_bits number below =
       let codes : List ℕ = distinct_codes (anchor_codes chart number) in
-      let height : ℕ = (frame_of chart).height in
-      let low : height * (4 * length codes) ≤ 20 * (4 * length codes) =
-      mul-le-mul_right (4 * length codes) (IsFrame-frame_of chart is).limit in
-      omega (arith, length-morton_bits height codes, few_distinct chart is number below)
+      let frame : Frame = frame_of chart in
+      let path = path_bits-widths_of frame.height (wide_of frame) (wide_of-fits frame) in
+      let low : path_bits (widths_in frame) * length codes ≤ 144 * length codes =
+      mul-le-mul_right (length codes) (omega (arith, path, wide_of-few frame, (IsFrame-frame_of chart is).limit)) in
+      omega (arith, low, length-morton_bits (widths_in frame) codes, few_distinct chart is number below)
 
   -- there is a period for each number
   length-periods : length (parts_of chart).periods ≡ periods_of (frame_of chart)
   unfolding parts_of
   length-periods = length-map-range_with_len (period_of_chart chart) 0 (periods_of (frame_of chart))
 
-  -- the periods take at most 29 bytes for each block that there may be
-  periods-short : length (flat_map period_bytes (parts_of chart).periods) ≤ 29 * limit_of Blocks
+  -- the periods take at most 37 bytes for each block that there may be
+  periods-short : length (flat_map period_bytes (parts_of chart).periods) ≤ 37 * limit_of Blocks
   periods-short =
       let count : ℕ = periods_of (frame_of chart) in
-      let all : length (flat_map period_bytes (parts_of chart).periods) ≤ 29 * objects * length (parts_of chart).periods =
-      length-flat_map-within period_bytes (29 * objects) (parts_of chart).periods
-      (All-periods chart (λ period. length (period_bytes period) ≤ 29 * objects)
+      let all : length (flat_map period_bytes (parts_of chart).periods) ≤ 37 * objects * length (parts_of chart).periods =
+      length-flat_map-within period_bytes (37 * objects) (parts_of chart).periods
+      (All-periods chart (λ period. length (period_bytes period) ≤ 37 * objects)
       (λ number below.
       period-short objects (period_of_chart chart number) (IsShapedPeriod-own chart is number below)
       (objects_of-some chart.rows is.some) (few_bits number below))) in
-      let blocks : 29 * (objects * count) ≤ 29 * limit_of Blocks = omega (arith, blocks-frame_of chart is) in
-      let same : 29 * objects * count ≡ 29 * (objects * count) = grind arith in
-      let counted : 29 * objects * length (parts_of chart).periods ≡ 29 * objects * count =
-      ap (λ n. 29 * objects * n) length-periods in
+      let blocks : 37 * (objects * count) ≤ 37 * limit_of Blocks = omega (arith, blocks-frame_of chart is) in
+      let same : 37 * objects * count ≡ 37 * (objects * count) = grind arith in
+      let counted : 37 * objects * length (parts_of chart).periods ≡ 37 * objects * count =
+      ap (λ n. 37 * objects * n) length-periods in
       omega (arith, all, blocks, same, counted)
 
   -- the parts of a chart take fewer bytes than an index may have
@@ -83,6 +87,8 @@ module _ (chart : ChartView) (is : IsChart chart) where
       omega (
         arith,
         length-bytes_of_parts (parts_of chart),
+        log_length-short (parts_of chart).frame.version
+            (length (parts_of chart).alphabet + length (parts_of chart).rules) (length (parts_of chart).symbols),
         is.objects,
         few_values chart is,
         periods-short,

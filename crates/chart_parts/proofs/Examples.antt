@@ -6,6 +6,7 @@ use Rattle.track_types.specs.declared.row.Row.{Row}
 use Rattle.list_laws.specs.Ordered.{ordered, placed}
 use Rattle.spiral_code.specs.Spiral.{code_of}
 use Rattle.k2_tree.specs.Morton.{interleaved, morton_of}
+use Rattle.k2_tree.specs.Widths.{digits_in, levels_with}
 use Rattle.k2_tree.specs.TreeBits.{level_bits, longer, morton_bits, prefixes}
 use Rattle.movement_log.specs.Values.{value_at}
 use Rattle.movement_log.specs.Logs.{alphabet_of, ascending_of, block_anchors, logged_values, logs_of}
@@ -23,7 +24,7 @@ path = chart_with (row 7 (pos 0) (pos 10) (pos 10) ∷ row 7 (pos 1) (pos 11) (p
     (pos 11) ∷ []) 1 1 4
 
 path_parts : parts_of path ≡ record {
-  frame = record { first = pos 0; span = 3; period = 4; height = 2; base = record { x = pos 10; y = pos 10 }; cell = 1; tick = 1 };
+  frame = record { version = 2; first = pos 0; span = 3; period = 4; height = 2; base = record { x = pos 10; y = pos 10 }; cell = 1; tick = 1 };
   objects = 7 ∷ [];
   alphabet = 2 ∷ 3 ∷ [];
   rules = [];
@@ -38,7 +39,7 @@ path_parts : parts_of path ≡ record {
   symbols = 0 ∷ 1 ∷ [];
 }
 unfolding parts_of frame_of period_of_chart anchor_codes grammar_of logged_anchors logs_in leaf_order leaf_codes distinct_codes ends_of
-    ordered placed morton_of interleaved morton_bits level_bits longer prefixes
+    ordered placed morton_of interleaved levels_with digits_in morton_bits level_bits longer prefixes
     logs_of alphabet_of ascending_of block_anchors logged_values value_at code_of anchors_of distinct
     after_round first_key is_first_of key_order keys_of met pair_count pairs_in re_pair replaced rounds
 path_parts = refl

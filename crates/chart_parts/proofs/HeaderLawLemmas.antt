@@ -10,7 +10,7 @@ use Rattle.std.proofs.lemmas.List.{get_or_default, length-map}
 use Rattle.std.proofs.lemmas.List.Elements.{Contains-get_or, All-contains, All-head, All-map, All-tail, All-weaker}
 use Rattle.std.proofs.lemmas.List.FromFn.{get_or-range_with_len, length-range_with_len}
 use Rattle.std.proofs.lemmas.List.Sums.{fails_before_first, passes_at_first}
-use Rattle.k2_tree.specs.Morton.{IsGrid, IsInGrid}
+use Rattle.k2_tree.specs.Morton.{IsInGrid}
 use Rattle.movement_log.specs.Blocks.{no_row, row_at}
 use Rattle.movement_log.proofs.LogLemmas.{bounded}
 use Rattle.snapshots.specs.Parts.{last_in}
@@ -19,29 +19,38 @@ use Rattle.track_types.specs.Frame.{IsFrame, periods_of}
 use Rattle.track_types.specs.Limits.{limit_of}
 use Rattle.track_types.specs.Near.{IsNear, IsRowInRange}
 use Rattle.track_types.specs.Quantities.{columns_of, extent_of, first_of, greatest, instants_of, last_of, least, lines_of, objects_of}
-use Rattle.track_types.specs.declared.frame.Frame.{Frame}
-use Rattle.track_types.specs.declared.limit.LimitKind.TheVariants.{Blocks}
+use Rattle.track_types.specs.declared.limit.LimitKind.TheVariants.{Blocks, Extent}
+use Rattle.track_types.specs.declared.limit.TheConstants.{MAX_HEIGHT}
 use Rattle.track_types.specs.declared.row.Row.{Row}
 use Rattle.chart_parts.specs.Header.{frame_of, height_for}
 
--- the grid is as wide as what it is made for, and no greater than a header may say
-height_for-wide : (extent : ℕ) → extent ≤ 2 ^ 20 → (height_for extent ≤ 20) × (extent ≤ 2 ^ height_for extent)
-height_for-wide extent short =
-    let heights : List ℕ = range_with_len 1 20 in
-    let place : ℕ = position_or_len (λ height. nat_le extent (2 ^ height)) heights in
-    let long : length heights ≡ 20 = length-range_with_len 1 20 in
-    let within : place < 20 = elim (cases_lt 19 place) [
+-- the least power of two, from 2 on, that is as great as a number, among so many
+pub least_power : (most number : ℕ) → 1 ≤ most → number ≤ 2 ^ most
+    → let power = suc (position_or_len (λ power. nat_le number (2 ^ power)) (range_with_len 1 most)) in
+    (power ≤ most) × (number ≤ 2 ^ power)
+least_power most number some short =
+    let powers : List ℕ = range_with_len 1 most in
+    let place : ℕ = position_or_len (λ power. nat_le number (2 ^ power)) powers in
+    let long : length powers ≡ most = length-range_with_len 1 most in
+    let within : place < most = elim (cases_lt (most - 1) place) [
       | inl past ↦
-          let fails : nat_le extent (2 ^ 20) ≡ false =
-          fails_before_first (λ height. nat_le extent (2 ^ height)) heights 19 0 past in
-          let above : 2 ^ 20 < extent = grind (arith, nat_tests) in
+          let last : get_or powers (most - 1) 0 ≡ most =
+          get_or-range_with_len 1 most (most - 1) 0 (omega arith) ∙ omega arith in
+          let fails = fails_before_first (λ power. nat_le number (2 ^ power)) powers (most - 1) 0 past in
+          let fails' : nat_le number (2 ^ most) ≡ false = rw last at fails in
+          let above : 2 ^ most < number = grind (arith, nat_tests) in
           absurd (omega arith)
       | inr not ↦ omega arith
     ] in
-    let passes = passes_at_first (λ height. nat_le extent (2 ^ height)) heights 0 (omega arith) in
-    let at : get_or heights place 0 ≡ suc place = get_or-range_with_len 1 20 place 0 within ∙ omega arith in
-    let holds : nat_le extent (2 ^ suc place) ≡ true = rw at at passes in
+    let passes = passes_at_first (λ power. nat_le number (2 ^ power)) powers 0 (omega arith) in
+    let at : get_or powers place 0 ≡ suc place = get_or-range_with_len 1 most place 0 within ∙ omega arith in
+    let holds : nat_le number (2 ^ suc place) ≡ true = rw at at passes in
     (omega arith, grind (arith, nat_tests))
+
+-- the grid is as wide as what it is made for, and no greater than a header may say
+height_for-wide : (extent : ℕ) → extent ≤ limit_of Extent
+    → (height_for extent ≤ MAX_HEIGHT) × (extent ≤ 2 ^ height_for extent)
+height_for-wide extent short = least_power MAX_HEIGHT extent (omega arith) short
 
 -- what holds of all numbers holds of the least and of the greatest
 least_keeps : (P : ℤ → Type 0) (zs : List ℤ) → 0 < length zs → All P zs → P (least zs)
@@ -113,6 +122,9 @@ IsFrame-frame_of chart is =
     let last_near = greatest_keeps IsNear (instants_of rows) (there (λ row. row.instant))
     (near (λ row. row.instant) (λ row range. range.instant)) in
     record {
+      known = omega arith;
+      newest = omega arith;
+      narrow = λ old. absurd (omega (arith, old));
       periods = is.period;
       some = omega arith;
       limit = (height_for-wide (extent_of rows) (omega arith)).0;

@@ -1,5 +1,5 @@
 -- The objects of a chart: they ascend, and its rows are those of each object.
-use Rattle.std.proofs.Common.{◌≡◌, ℕ, suc, ◌^◌, ◌<◌, ◌≤◌, true, false, List, [], ◌∷◌, length, map, get_or, All, arith, inl, inr, subst}
+use Rattle.std.proofs.Common.{◌≡◌, ℕ, suc, ◌<◌, ◌≤◌, true, false, List, [], ◌∷◌, length, map, get_or, arith, inl, inr, subst}
 use Rattle.std.specs.Prelude.{◌==◌}
 use Rattle.std.specs.List.{Contains, list_any}
 use Rattle.std.specs.List.Sorted.{IsNonDecreasingBy, IsStrictlyIncreasing, IsStrictlySortedBy}
@@ -8,15 +8,14 @@ use Rattle.std.specs.declared.cmp.Ordering.TheVariants.{Less}
 use Rattle.std.proofs.lemmas.Bool.{cases_Bool}
 use Rattle.std.proofs.lemmas.Bool.Decides.{nat_tests}
 use Rattle.std.proofs.lemmas.List.{get_or-map, length-map}
-use Rattle.std.proofs.lemmas.List.Elements.{All-contains, Contains-get_or, recursion_from_All}
+use Rattle.std.proofs.lemmas.List.Elements.{Contains-get_or, recursion_from_All}
 use Rattle.std.proofs.lemmas.List.Folds.{Any-from_list_any}
 use Rattle.std.proofs.lemmas.List.Sorted.{IsNonDecreasingBy-from_default}
 use Rattle.std.proofs.lemmas.Map.Keys.{IsStrictlyIncreasing-from_sorted}
 use Rattle.list_laws.proofs.KeyedLemmas.{keyed, keyed-sorted}
-use Rattle.list_laws.proofs.MemberLemmas.{Contains-map, first_member, later_member, member_cases, member_of_map, none_from_list_any}
+use Rattle.list_laws.proofs.MemberLemmas.{Contains-map, first_member, later_member, member_cases, none_from_list_any}
 use Rattle.track_types.specs.Quantities.{distinct, objects_of}
 use Rattle.track_types.specs.Row.{IsAscending}
-use Rattle.track_types.specs.Shape.{AreShort}
 use Rattle.track_types.specs.declared.row.Row.{Row}
 use Rattle.movement_log.specs.Blocks.{no_row, row_at}
 use Rattle.movement_log.proofs.RowLemmas.{object_rises}
@@ -113,16 +112,3 @@ objects_of-some rows some =
     let inside = Contains-objects_of rows (row_at rows 0) (Contains-get_or rows 0 no_row some) in
     let place : inside.0 < length (objects_of rows) = inside.1 in
     omega arith
-
--- what holds of each row's object holds of all objects
-pub All-objects_of : (P : ℕ → Type 0) (rows : List Row) → All (λ row. P row.object) rows → All P (objects_of rows)
-All-objects_of P rows each k d below =
-    let object : ℕ = get_or (objects_of rows) k d in
-    let inside = Contains-get_or (objects_of rows) k d below in
-    let among = Contains-from_distinct (map (λ row. row.object) rows) object inside in
-    let from = member_of_map (λ row. row.object) rows object among in
-    subst P from.2 (All-contains (λ row. P row.object) rows from.0 each from.1)
-
--- the objects are short where those of the rows are
-pub AreShort-objects_of : (rows : List Row) → All (λ row. row.object < 2 ^ 32) rows → AreShort (objects_of rows)
-AreShort-objects_of rows short = All-objects_of (λ object. object < 2 ^ 32) rows short

@@ -1,32 +1,22 @@
 -- The parts of a period, by the leaves of its blocks.
 use Rattle.std.proofs.Common.{◌≡◌, ℕ, suc, ◌<◌, List, [], ◌∷◌, length, map, refl, ap, arith}
 use Rattle.std.specs.Prelude.{All, slice_index}
-use Rattle.std.specs.List.{flat_map}
 use Rattle.std.proofs.lemmas.List.{length-map}
 use Rattle.list_laws.specs.Ordered.{ordered}
 use Rattle.track_types.specs.declared.frame.Frame.{Frame}
 use Rattle.k2_tree.specs.Morton.{morton_of}
-use Rattle.k2_tree.specs.TreeBits.{level_bits, levels_below, longer, morton_bits, prefixes}
+use Rattle.k2_tree.proofs.ToldLemmas.{morton_bits-none}
 use Rattle.movement_log.specs.declared.head.Head.{Head}
+use Rattle.snapshots.specs.View.{widths_in}
 use Rattle.chart_parts.specs.LeafOrder.{distinct_codes, ends_of, leaf_codes, leaf_order}
 use Rattle.chart_parts.specs.PeriodWith.{codes_of_heads, leaf_at, period_with, presence_of, without_blocks}
 use Rattle.chart_parts.proofs.LeafListLemmas.{All-leaf_order, code-at}
-
-none_of_levels : (levels : List ℕ) → flat_map (λ n. level_bits n []) levels ≡ []
-unfolding level_bits longer prefixes
-none_of_levels [] = refl
-none_of_levels (level ∷ levels) = none_of_levels levels
-
--- no number has no bits
-pub morton_bits-none : (height : ℕ) → morton_bits height [] ≡ []
-unfolding morton_bits
-morton_bits-none height = none_of_levels (levels_below height)
 
 -- a period without a header has presence bits alone
 pub period_with-none : (frame : Frame) (objects : ℕ) (heads : List Head) (logs : List (List ℕ)) → length heads ≡ 0 →
     length logs ≡ length heads → without_blocks (presence_of objects heads) ≡ period_with frame objects heads logs
 unfolding leaf_order leaf_codes distinct_codes ends_of ordered
-period_with-none frame objects [] [] none same = rw (morton_bits-none frame.height) refl
+period_with-none frame objects [] [] none same = rw (morton_bits-none (widths_in frame)) refl
 period_with-none frame objects [] (log ∷ logs) none same = absurd (omega arith)
 period_with-none frame objects (head ∷ heads) logs none same = absurd (omega arith)
 

@@ -10,12 +10,13 @@ use Rattle.std.proofs.lemmas.List.Sums.{sum_by_more_le}
 use Rattle.list_laws.proofs.FlatLemmas.{sum_by-flat_map}
 use Rattle.bit_rank.proofs.RankLemmas.{ones_of-le-length}
 use Rattle.track_types.specs.Chart.{ChartView, IsChart}
-use Rattle.track_types.specs.Frame.{instants_in, periods_of}
+use Rattle.track_types.specs.Frame.{instants_in, periods_of, wide_of}
 use Rattle.track_types.specs.Quantities.{objects_of, period_count}
 use Rattle.track_types.specs.Shape.{AreShort, IsShapedPeriod}
 use Rattle.track_types.specs.declared.period_parts.PeriodParts.{PeriodParts}
 use Rattle.k2_tree.proofs.BuiltLemmas.{few_bits}
 use Rattle.snapshots.specs.Parts.{numbers_in}
+use Rattle.snapshots.proofs.SoundLemmas.{wide_of-fits}
 use Rattle.movement_log.specs.Logs.{anchors_in}
 use Rattle.chart_parts.specs.Header.{frame_of}
 use Rattle.chart_parts.specs.LeafOrder.{distinct_codes, ends_of, leaf_codes, leaf_order}
@@ -91,7 +92,8 @@ module _ (chart : ChartView) (is : IsChart chart) (number : ℕ) (below : number
       record {
         presence = length-map (objects_of chart.rows) (is_present chart number);
         offsets = length-map (anchors_in chart number) _ ∙ sym ones;
-        bits = few_bits (frame_of chart).height (distinct_codes codes) (IsFrame-frame_of chart is).limit
+        bits = few_bits (frame_of chart).height (wide_of (frame_of chart)) (distinct_codes codes)
+            (IsFrame-frame_of chart is).limit (wide_of-fits (frame_of chart))
             (let few = is.objects in omega (arith, few_distinct));
         lasts = length-ends_of (leaf_codes codes) ∙ length-leaf_codes codes ∙ length-anchor_codes chart number
             ∙ sym ones;

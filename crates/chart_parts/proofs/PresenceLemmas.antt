@@ -1,5 +1,5 @@
 -- The presence bits of a period: a one for each object that has an anchor in it, whose rank is the anchor's place.
-use Rattle.std.proofs.Common.{◌≡◌, ℕ, ◌<◌, Bool, true, false, List, [], ◌∷◌, length, filter}
+use Rattle.std.proofs.Common.{◌≡◌, ℕ, ◌<◌, true, false, List, length, filter}
 use Rattle.std.proofs.Common.{get_or, map, take, Some, None}
 use Rattle.std.proofs.Common.{sym, ap, ◌∙◌, arith, subst}
 use Rattle.std.specs.Prelude.{◌==◌, slice_index}

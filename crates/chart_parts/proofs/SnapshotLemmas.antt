@@ -1,5 +1,5 @@
 -- The period of a chart's parts is a sound snapshot.
-use Rattle.std.proofs.Common.{All, ◌≡◌, ℕ, ◌+◌, ◌-◌, ◌*◌, ◌/◌, ◌%◌, ◌^◌, ◌<◌, List, length, map, get_or}
+use Rattle.std.proofs.Common.{All, ◌≡◌, ℕ, ◌+◌, ◌-◌, ◌*◌, ◌/◌, ◌%◌, ◌^◌, ◌<◌, ◌≤◌, List, length, map, get_or}
 use Rattle.std.proofs.Common.{refl, sym, ap, ◌∙◌, arith, subst}
 use Rattle.std.specs.Prelude.{min, slice_index}
 use Rattle.std.specs.List.{Contains}
@@ -7,7 +7,7 @@ use Rattle.std.proofs.Math.Nat.{div-add-mod}
 use Rattle.std.proofs.lemmas.List.{length-map}
 use Rattle.std.proofs.lemmas.List.Elements.{All-contains, All-contains_itself, All-map, All-weaker}
 use Rattle.track_types.specs.Chart.{ChartView, IsChart}
-use Rattle.track_types.specs.Frame.{instants_in, periods_of}
+use Rattle.track_types.specs.Frame.{instants_in, periods_of, wide_of}
 use Rattle.track_types.specs.Quantities.{elapsed, first_of, span_of}
 use Rattle.track_types.specs.declared.cell.Cell.{Cell}
 use Rattle.track_types.specs.declared.frame.Frame.{Frame}
@@ -15,17 +15,18 @@ use Rattle.track_types.proofs.QuantityLemmas.{elapsed-span}
 use Rattle.k2_tree.specs.Flaws.{StandsFor}
 use Rattle.k2_tree.specs.Morton.{IsGrid, IsInGrid, cell_of, morton_of}
 use Rattle.k2_tree.specs.Tree.{Tree, codes_of, tree_bits, tree_of, tree_with}
-use Rattle.k2_tree.specs.TreeBits.{AreCodes, fan, morton_bits}
+use Rattle.k2_tree.specs.Widths.{fan, widths_of}
+use Rattle.k2_tree.specs.TreeBits.{AreCodes, morton_bits}
 use Rattle.k2_tree.proofs.CellLemmas.{codes_back, tree_of-StandsFor}
 use Rattle.k2_tree.proofs.MortonLemmas.{cell_of-inside, morton_of-lt}
-use Rattle.snapshots.specs.View.{SnapshotView, view_with}
+use Rattle.snapshots.specs.View.{SnapshotView, view_with, widths_in}
 use Rattle.snapshots.specs.Sound.{IsSound}
 use Rattle.snapshots.specs.Parts.{snapshot_in, start_in}
 use Rattle.movement_log.specs.Logs.{anchors_in}
 use Rattle.chart_parts.specs.Header.{frame_of}
 use Rattle.chart_parts.specs.LeafOrder.{distinct_codes, leaf_codes, leaf_order}
 use Rattle.chart_parts.specs.PartsOf.{anchor_codes, parts_of, period_of_chart}
-use Rattle.snapshots.proofs.SoundLemmas.{IsGrid-frame}
+use Rattle.snapshots.proofs.SoundLemmas.{IsGrid-frame, wide_of-fits}
 use Rattle.chart_parts.proofs.HeaderLawLemmas.{IsFrame-frame_of}
 use Rattle.chart_parts.proofs.LeafEndLemmas.{All-distinct_codes, Rises-distinct_codes, distinct_codes-at_rank}
 use Rattle.chart_parts.proofs.LeafEndLemmas.{ends_of-last, ones_of-leaf_ends}
@@ -41,35 +42,40 @@ offset_below before period span number some is within =
     let times : period * number + before % period ≡ before = rw is at parts in
     omega arith
 
-module _ (height : ℕ) (base : Cell) (codes : List ℕ) (grid : IsGrid height base) (are : AreCodes height codes) where
+module _ (height wide : ℕ) (base : Cell) (codes : List ℕ) (grid : IsGrid height base) (fits : 2 * wide ≤ height)
+    (are : AreCodes height codes) where
   abbrev own_tree : Tree
-  own_tree = tree_with height base (map (cell_of height base) codes)
+  own_tree = tree_with height wide base (map (cell_of height base) codes)
 
   own_codes : codes_of own_tree ≡ codes
   own_codes = codes_back height base codes are.small
 
-  stands_for : StandsFor height base (morton_bits height codes) own_tree
+  stands_for : StandsFor height wide base (morton_bits (widths_of height wide) codes) own_tree
   unfolding tree_bits
   stands_for = record {
     high = refl;
+    levels = refl;
     from = refl;
     is_tree = record {
       grid = grid;
+      fits = fits;
       inside =
           All-map (IsInGrid height base) (cell_of height base) codes
           (λ k d within. cell_of-inside height base (get_or codes k d));
       codes = subst (AreCodes height) (sym own_codes) are;
     };
-    same = ap (morton_bits height) own_codes;
+    same = ap (morton_bits (widths_of height wide)) own_codes;
   }
 
   -- the bits of numbers are those of a tree of their cells
-  pub tree_of-morton_bits : tree_of height base (morton_bits height codes) ≡ own_tree
-  tree_of-morton_bits = tree_of-StandsFor height base (morton_bits height codes) own_tree stands_for
+  pub tree_of-morton_bits : tree_of height wide base (morton_bits (widths_of height wide) codes) ≡ own_tree
+  tree_of-morton_bits = tree_of-StandsFor height wide base (morton_bits (widths_of height wide) codes) own_tree stands_for
 
   pub StandsFor-morton_bits :
-      StandsFor height base (morton_bits height codes) (tree_of height base (morton_bits height codes))
-  StandsFor-morton_bits = subst (StandsFor height base (morton_bits height codes)) (sym tree_of-morton_bits) stands_for
+      StandsFor height wide base (morton_bits (widths_of height wide) codes)
+      (tree_of height wide base (morton_bits (widths_of height wide) codes))
+  StandsFor-morton_bits =
+      subst (StandsFor height wide base (morton_bits (widths_of height wide) codes)) (sym tree_of-morton_bits) stands_for
 
 -- each anchor of a period has a number
 pub length-anchor_codes : (chart : ChartView) (number : ℕ) →
@@ -109,11 +115,12 @@ module _ (chart : ChartView) (is : IsChart chart) (number : ℕ) where
   }
 
   -- the tree of a period has the cells of these numbers
-  pub tree_in-own : tree_of frame.height frame.base (morton_bits frame.height (distinct_codes codes))
-      ≡ tree_with frame.height frame.base (map (cell_of frame.height frame.base) (distinct_codes codes))
+  pub tree_in-own : tree_of frame.height (wide_of frame) frame.base (morton_bits (widths_in frame) (distinct_codes codes))
+      ≡ tree_with frame.height (wide_of frame) frame.base
+      (map (cell_of frame.height frame.base) (distinct_codes codes))
   tree_in-own =
-      tree_of-morton_bits frame.height frame.base (distinct_codes codes)
-      (IsGrid-frame frame (IsFrame-frame_of chart is)) AreCodes-distinct_codes
+      tree_of-morton_bits frame.height (wide_of frame) frame.base (distinct_codes codes)
+      (IsGrid-frame frame (IsFrame-frame_of chart is)) (wide_of-fits frame) AreCodes-distinct_codes
 
   offsets-own : All (λ offset. offset < instants_in frame number)
       (map (λ anchor. elapsed (first_of chart.rows) anchor % chart.period) (anchors_in chart number))
@@ -136,8 +143,8 @@ module _ (chart : ChartView) (is : IsChart chart) (number : ℕ) where
   IsSound-own = record {
     offsets = offsets-own;
     tree =
-        StandsFor-morton_bits frame.height frame.base (distinct_codes codes)
-        (IsGrid-frame frame (IsFrame-frame_of chart is)) AreCodes-distinct_codes;
+        StandsFor-morton_bits frame.height (wide_of frame) frame.base (distinct_codes codes)
+        (IsGrid-frame frame (IsFrame-frame_of chart is)) (wide_of-fits frame) AreCodes-distinct_codes;
     cells =
         ones_of-leaf_ends codes ∙ sym (length-map (distinct_codes codes) (cell_of frame.height frame.base))
         ∙ ap (λ (tree : Tree). length tree.cells) (sym tree_in-own);

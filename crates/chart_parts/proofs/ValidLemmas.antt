@@ -17,7 +17,7 @@ use Rattle.chart_parts.proofs.ObjectLemmas.{IsStrictlyIncreasing-objects_of, obj
 use Rattle.chart_parts.proofs.PeriodBlockLemmas.{All-all_blocks, IsAnchored}
 use Rattle.chart_parts.proofs.PeriodShapeLemmas.{shaped-periods}
 use Rattle.chart_parts.proofs.RuleLemmas.{AreSoundRules-parts_of}
-use Rattle.chart_parts.proofs.ShapeLemmas.{AreLong-alphabet, AreShort-symbols, AreShortPairs-rules}
+use Rattle.chart_parts.proofs.ShapeLemmas.{AreLong-alphabet, AreShort-symbols, AreShortPairs-rules, narrow_symbols}
 use Rattle.chart_parts.proofs.ShapeLemmas.{IsStrictlyIncreasing-alphabet, few_rules, few_symbols, few_values}
 use Rattle.chart_parts.proofs.SnapshotLemmas.{IsSound-period}
 use Rattle.chart_parts.proofs.SoundLogLemmas.{IsSoundLog-block}
@@ -66,6 +66,7 @@ module _ (chart : ChartView) (is : IsChart chart) where
         each = shaped-periods chart is;
         few_symbols = few_symbols chart is;
         short_symbols = AreShort-symbols chart is;
+        narrow_symbols = λ new. narrow_symbols chart is;
       }
 
   -- and are those of an index

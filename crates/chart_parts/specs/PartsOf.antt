@@ -12,6 +12,7 @@ use Rattle.movement_log.specs.Logs.{anchors_in, block_anchors, logs_of}
 use Rattle.repair_grammar.specs.RePair.{re_pair}
 use Rattle.repair_grammar.specs.declared.grammar.Grammar.{Grammar}
 use Rattle.snapshots.specs.Parts.{numbers_in}
+use Rattle.snapshots.specs.View.{widths_in}
 use Rattle.chart_parts.specs.Header.{frame_of}
 use Rattle.chart_parts.specs.LeafOrder.{distinct_codes, ends_of, leaf_codes, leaf_order}
 
@@ -42,7 +43,7 @@ unfoldable pub period_of_chart : ChartView → ℕ → PeriodParts
 period_of_chart chart number = record {
   present = map (is_present chart number) (objects_of chart.rows);
   offsets = map (λ anchor. elapsed (first_of chart.rows) anchor % chart.period) (anchors_in chart number);
-  tree = morton_bits (frame_of chart).height (distinct_codes (anchor_codes chart number));
+  tree = morton_bits (widths_in (frame_of chart)) (distinct_codes (anchor_codes chart number));
   lasts = ends_of (leaf_codes (anchor_codes chart number));
   perm = leaf_order (anchor_codes chart number);
   lengths = map length (logs_in chart number);

@@ -9,6 +9,7 @@ use Rattle.track_types.specs.declared.period_parts.PeriodParts.{PeriodParts}
 use Rattle.k2_tree.specs.Morton.{IsGrid, IsInGrid, morton_of}
 use Rattle.k2_tree.specs.TreeBits.{morton_bits}
 use Rattle.movement_log.specs.Logs.{logs_of}
+use Rattle.snapshots.specs.View.{widths_in}
 use Rattle.movement_log.specs.declared.head.Head.{Head}
 use Rattle.chart_parts.specs.LeafOrder.{distinct_codes, ends_of, leaf_codes, leaf_order}
 use Rattle.chart_parts.specs.PartsOf.{grammar_of}
@@ -37,7 +38,7 @@ abbrev pub period_with : Frame → ℕ → List Head → List (List ℕ) → Per
 period_with frame objects heads logs = record {
   present = presence_of objects heads;
   offsets = map (λ head. head.offset) heads;
-  tree = morton_bits frame.height (distinct_codes (codes_of_heads frame heads));
+  tree = morton_bits (widths_in frame) (distinct_codes (codes_of_heads frame heads));
   lasts = ends_of (leaf_codes (codes_of_heads frame heads));
   perm = leaf_order (codes_of_heads frame heads);
   lengths = map length logs;

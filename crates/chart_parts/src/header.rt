@@ -4,15 +4,16 @@ ghost use Rattle.chart_parts.specs.Header.{frame_of, height_for};
 ghost use Rattle.track_types.specs.Limits.{limit_of};
 ghost use Rattle.track_types.specs.Quantities.{columns_of, extent_of, greatest, least, lines_of};
 
-use track_types::{Cell, Chart, Frame, LimitKind, MAX_HEIGHT, Row};
+use track_types::{Cell, Chart, Frame, LimitKind, MAX_HEIGHT, MAX_VERSION, Row};
 
-/// The header of a chart's index. The grid's base is the least column and the least line of the
+/// The header of a chart's index, in the newest version of the format. The grid's base is the least column and the least line of the
 /// chart's cells, and its height the least whose grid holds them all.
 pub(crate) fn frame_of(chart: &Chart) -> Frame
     ensures { result ≡ frame_of chart.now }
 {
     let corners = corners_of(chart.rows());
     Frame {
+        version: MAX_VERSION,
         first: chart.first(),
         span: (chart.last().abs_diff(chart.first()) + 1) as u32,
         period: chart.period(),

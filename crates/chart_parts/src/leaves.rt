@@ -4,6 +4,7 @@ ghost use Rattle.std.specs.List.Sorted.{IsSorted};
 ghost use Rattle.std.specs.Ordering.{nat_cmp};
 ghost use Rattle.chart_parts.specs.LeafOrder.{ends_of, leaf_order};
 ghost use Rattle.chart_parts.specs.PeriodWith.{ArePlaced, IsLeafIn, codes_of_heads, is_end, leaf_at};
+ghost use Rattle.snapshots.specs.View.{widths_in};
 ghost use Rattle.k2_tree.specs.Morton.{IsGrid};
 ghost use Rattle.k2_tree.specs.TreeBits.{morton_bits};
 
@@ -94,12 +95,13 @@ pub(crate) fn tree_of(alloc: Global, frame: Frame, leaves: Vec<Leaf>) -> Result<
     requires each { All (IsLeafIn frame) leaves.items }
     requires sorted { IsSorted nat_cmp (map (λ leaf. leaf.code) leaves.items) }
     ensures ok { IfOk result (λ bits. bits
-        ≡ morton_bits frame.height (dedup (λ a b. a == b) (map (λ leaf. leaf.code) leaves.items))) }
+        ≡ morton_bits (widths_in frame) (dedup (λ a b. a == b) (map (λ leaf. leaf.code) leaves.items))) }
 {
     let mut leaves = leaves;
     leaves.dedup_by_key(|leaf| leaf.code);
     let cells = cells_of(alloc, leaves.as_slice())?;
-    let tree = K2Tree::build(alloc, cells.as_slice(), frame.height, frame.base)?;
+    let wide = frame.wide_levels();
+    let tree = K2Tree::build(alloc, cells.as_slice(), frame.height, wide, frame.base)?;
     Ok(tree.bits())
 }
 

@@ -99,6 +99,7 @@ fn are_periods(parts: &Parts, expected: &[Expected]) -> bool {
 // The header of a chart of cells and instants of one unit, from instant 0 on.
 fn frame(span: u32, period: u32, height: u32, x: i64, y: i64) -> Frame {
     Frame {
+        version: 2,
         first: 0,
         span,
         period,
@@ -170,8 +171,29 @@ fn is_sparse(parts: &Parts) -> bool {
         && are_periods(parts, &[shared, empty, second, third])
 }
 
+// Two objects at the corners of a grid of side 16: one level of sixteen, and two of four.
+fn is_wide(parts: &Parts) -> bool {
+    let whole = Expected {
+        present: &[1, 1],
+        offsets: &[0, 0],
+        tree: &[
+            1, 0, 0, 0, 0, 0, 0, 0, 0, 0, 0, 0, 0, 0, 0, 1, 1, 0, 0, 0, 0, 0, 0, 1, 1, 0, 0, 0, 0,
+            0, 0, 1,
+        ],
+        lasts: &[1, 1],
+        perm: &[0, 1],
+        lengths: &[0, 0],
+    };
+    parts.frame == frame(1, 4, 4, 0, 0)
+        && has_numbers(&parts.objects, &[1, 2])
+        && parts.alphabet.as_slice().is_empty()
+        && parts.rules.as_slice().is_empty()
+        && has_numbers(&parts.symbols, &NONE)
+        && are_periods(parts, &[whole])
+}
+
 #[test]
-fn a_path_and_a_sparse_chart_are_written(rt: HostRuntime) -> Result<(), Fail> {
+fn charts_are_written_as_parts(rt: HostRuntime) -> Result<(), Fail> {
     let alloc = rt.alloc();
     let path = [(7, 0, 10, 10), (7, 1, 11, 10), (7, 2, 12, 11)];
     let parts = parts_of(alloc, &chart_of(alloc, &path, 4)?)?;
@@ -185,5 +207,8 @@ fn a_path_and_a_sparse_chart_are_written(rt: HostRuntime) -> Result<(), Fail> {
     ];
     let parts = parts_of(alloc, &chart_of(alloc, &sparse, 2)?)?;
     assert!(rt; is_sparse(&parts));
+    let wide = [(1, 0, 0, 0), (2, 0, 15, 15)];
+    let parts = parts_of(alloc, &chart_of(alloc, &wide, 4)?)?;
+    assert!(rt; is_wide(&parts));
     Ok(())
 }

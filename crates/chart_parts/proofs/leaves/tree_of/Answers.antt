@@ -5,6 +5,8 @@ use Rattle.std.proofs.lemmas.Map.Keys.{IsStrictlyIncreasing-dedup}
 use Rattle.k2_tree.specs.Morton.{morton_of}
 use Rattle.k2_tree.specs.Tree.{tree_bits}
 use Rattle.k2_tree.specs.TreeBits.{morton_bits}
+use Rattle.snapshots.specs.View.{widths_in}
+use Rattle.snapshots.proofs.SoundLemmas.{wide_of-fits}
 use Rattle.chart_parts.specs.declared.leaves.Leaf.{Leaf}
 use Rattle.chart_parts.proofs.TreeLemmas.{codes-of_cells, inside-of_cells, once}
 use Rattle.chart_parts.proofs.leaves.tree_of.Goals as goal
@@ -18,6 +20,9 @@ cells_are c =
     (λ x y b f' x' y' k. search rules) _ _ c.dedup_by_key.ensures.filtered in
     c.as_slice-2.ensures.value ∙ c.in_ok-cells.ensures
     ∙ ap (map (λ leaf. leaf.cell)) (c.as_slice.ensures.value ∙ kept)
+
+pub build-requires-clause-fits : goal.build-requires-clause-fits
+build-requires-clause-fits c = rw c.wide_levels-wide.ensures (wide_of-fits c.args.frame)
 
 pub build-requires-clause-inside : goal.build-requires-clause-inside
 build-requires-clause-inside c =
@@ -37,7 +42,7 @@ returns c =
     let cells = cells_are (goal.at.returns c).After-as_slice-2 in
     record {
       ok =
-          c.bits.ensures ∙ ap tree_bits c.in_ok-tree.ensures.ok
-          ∙ ap (λ all. morton_bits frame.height (map (morton_of frame.height frame.base) all)) cells
-          ∙ ap (morton_bits frame.height) (codes-of_cells frame c.args.leaves.items c.requires.each);
+          c.bits.ensures ∙ ap tree_bits (rw c.wide_levels-wide.ensures at c.in_ok-tree.ensures.ok)
+          ∙ ap (λ all. morton_bits (widths_in frame) (map (morton_of frame.height frame.base) all)) cells
+          ∙ ap (morton_bits (widths_in frame)) (codes-of_cells frame c.args.leaves.items c.requires.each);
     }

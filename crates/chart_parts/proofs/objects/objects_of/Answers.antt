@@ -1,11 +1,24 @@
-use Rattle.std.proofs.Common.{◌≡◌, ◌∙◌, ap, eqb, map, rules}
-use Rattle.std.specs.List.{dedup}
-use Rattle.std.proofs.lemmas.List.Filters.{dedup_is}
-use Rattle.chart_parts.proofs.ObjectListLemmas.{objects_of-dedup}
+use Rattle.std.proofs.Common.{◌++◌, ◌∷◌, [], ◌∙◌, List, get_or, ap, sym, arith, pos, rules}
+use Rattle.std.proofs.lemmas.List.{append_assoc, append-nil}
+use Rattle.track_types.specs.declared.row.Row.{Row}
+use Rattle.chart_parts.proofs.ObjectListLemmas.{IsAscending-drop, no_objects, objects_of-first}
 use Rattle.chart_parts.proofs.objects.objects_of.Goals as goal
+
+pub loop-left-preserved : goal.loop-left-preserved
+loop-left-preserved c =
+    let left : List Row = c.loop-left.left.now in
+    let none : Row = record { object = 0; instant = pos 0; cell = record { x = pos 0; y = pos 0 } } in
+    rw (c.after_object-left.ensures, c.in_ok-push.ensures.items) record {
+      so_far = append_assoc c.loop-left.objects.items ((get_or left 0 none).object ∷ []) _
+          ∙ ap (λ after. c.loop-left.objects.items ++ after)
+          (sym (objects_of-first left none (omega arith) c.loop-left.invariant.ascending))
+          ∙ c.loop-left.invariant.so_far;
+      short = search rules;
+      ascending = IsAscending-drop _ left c.loop-left.invariant.ascending;
+    }
 
 pub returns-clause-ok : goal.returns-clause-ok
 returns-clause-ok c =
-    let all : c.in_ok-objects.objects.items ≡ map (λ row. row.object) c.args.rows.now = search rules in
-    dedup_is eqb c.in_ok-objects.objects.items c.dedup.new.self.items c.dedup.ensures.filtered
-    ∙ ap (dedup eqb) all ∙ objects_of-dedup c.args.rows.now c.requires
+    sym (append-nil c.loop-left.objects.items)
+    ∙ ap (λ after. c.loop-left.objects.items ++ after) (sym (no_objects c.loop-left.left.now (omega arith)))
+    ∙ c.loop-left.invariant.so_far

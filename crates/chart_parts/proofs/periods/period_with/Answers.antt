@@ -2,6 +2,7 @@ use Rattle.std.proofs.Common.{◌≡◌, ◌∙◌, ap, length, map, refl, rules
 use Rattle.std.specs.Prelude.{◌==◌}
 use Rattle.std.specs.List.{dedup}
 use Rattle.k2_tree.specs.TreeBits.{morton_bits}
+use Rattle.snapshots.specs.View.{widths_in}
 use Rattle.chart_parts.specs.LeafOrder.{distinct_codes, ends_of, leaf_codes, leaf_order}
 use Rattle.chart_parts.specs.PeriodWith.{codes_of_heads, without_blocks}
 use Rattle.chart_parts.proofs.PeriodPartLemmas.{codes-leaves, period_with-none, places-leaves}
@@ -29,9 +30,9 @@ returns c =
     c.new-2.ensures ∙ c.in_ok-places_of.ensures ∙ ap (map (λ leaf. leaf.place)) (c.as_slice-2.ensures.value ∙ leaves)
     ∙ places-leaves frame heads (leaf_order codes) in
     let lengths : c.new-3.result ≡ map length c.args.logs.now = c.new-3.ensures ∙ c.in_ok-lengths_of.ensures in
-    let tree : c.in_ok-tree_of.field-0 ≡ morton_bits frame.height (distinct_codes codes) =
+    let tree : c.in_ok-tree_of.field-0 ≡ morton_bits (widths_in frame) (distinct_codes codes) =
     c.in_ok-tree_of.ensures.ok
-    ∙ ap (λ all. morton_bits frame.height (dedup (λ a b. a == b) (map (λ leaf. leaf.code) all))) leaves
-    ∙ ap (λ all. morton_bits frame.height (dedup (λ a b. a == b) all)) (codes-leaves frame heads) in
+    ∙ ap (λ all. morton_bits (widths_in frame) (dedup (λ a b. a == b) (map (λ leaf. leaf.code) all))) leaves
+    ∙ ap (λ all. morton_bits (widths_in frame) (dedup (λ a b. a == b) all)) (codes-leaves frame heads) in
     let present = c.present.view_is ∙ c.in_ok-present.ensures in
     rw (present, offsets, tree, lasts, perm, lengths) refl

@@ -7,7 +7,6 @@ use Rattle.snapshots.specs.Parts.{chart_in, numbers_in}
 use Rattle.chart_parts.specs.Header.{frame_of}
 use Rattle.chart_parts.specs.PartsOf.{grammar_of, parts_of, period_of_chart}
 use Rattle.chart_parts.proofs.BytesLemmas.{bytes-short}
-use Rattle.chart_parts.proofs.ObjectLemmas.{AreShort-objects_of}
 use Rattle.chart_parts.proofs.OwnBlockLemmas.{AreBlocksOf-own}
 use Rattle.chart_parts.proofs.OwnPeriodLemmas.{as_many-logs, periods_are}
 use Rattle.chart_parts.proofs.BlockStopLemmas.{chart_in-chart}
@@ -61,7 +60,6 @@ returns c =
     let periods : c.new-2.result ≡ map (period_of_chart chart) (numbers_in (frame_of chart)) =
     c.new-2.ensures ∙ made ∙ periods_are chart c.rows.ensures.chart in
     let is = c.rows.ensures.chart in
-    let short = rw c.rows.ensures.value at c.in_ok-objects.ensures.short in
     let parts : Parts = record {
       frame = c.frame_of-frame.result;
       objects = c.new.result;
@@ -74,7 +72,7 @@ returns c =
     rw (c.frame_of-frame.ensures, objects, alphabet, rules, periods, symbols) refl in
     record {
       ok = exact;
-      valid = rw exact (IsValid-parts_of chart is (AreShort-objects_of chart.rows short));
+      valid = rw exact (IsValid-parts_of chart is (rw listed at c.in_ok-objects.ensures.short));
       reads_back = ap chart_in exact ∙ chart_in-chart chart is;
       short = rw exact (bytes-short chart is);
     }
