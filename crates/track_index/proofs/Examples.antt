@@ -6,6 +6,7 @@ use Rattle.k2_tree.specs.Morton.{cell_of, column_of, row_of}
 use Rattle.k2_tree.specs.Squares.{squares_above, squares_from}
 use Rattle.k2_tree.specs.Tree.{codes_below, codes_in, picked}
 use Rattle.k2_tree.specs.TreeBits.{longer, prefixes}
+use Rattle.k2_tree.specs.Widths.{digits_in, levels_with}
 use Rattle.list_laws.specs.First.{first_of}
 use Rattle.list_laws.specs.Grown.{grown}
 use Rattle.packed_bits.specs.Bits.{ones_of}
@@ -32,6 +33,7 @@ use Rattle.track_index.specs.CheckFlaws.{check_flaw, grammar_flaw, lengths_flaw,
 -- a header of three instants, whose grid has side 4 and begins at (10, 10)
 abbrev pub frame : Frame
 frame = record {
+  version = 1;
   first = pos 0;
   span = 3;
   period = 4;
@@ -74,6 +76,7 @@ path = with frame (2 ∷ 3 ∷ []) [] (block 0 (corner 2) 2 ∷ []) (0 ∷ 1 ∷
 -- two periods of two instants
 abbrev halves : Frame
 halves = record {
+  version = 1;
   first = pos 0;
   span = 4;
   period = 2;
@@ -87,6 +90,7 @@ halves = record {
 abbrev pub absent : Parts
 absent = record {
   frame = record {
+    version = 1;
     first = pos 0;
     span = 3;
     period = 4;
@@ -106,6 +110,7 @@ absent = record {
 abbrev pub repeated : Parts
 repeated = record {
   frame = record {
+    version = 1;
     first = pos 0;
     span = 5;
     period = 8;
@@ -187,12 +192,12 @@ each_is_told : map (λ row. check_flaw row.0) told ≡ map (λ row. row.1) told
 unfolding check_flaw grammar_flaw lengths_flaw snapshots_flaw first_of logs_flaw blocks_flaw all_blocks log_flaw
     off_grid_at is_off_grid cell_after lasting start_in code_flaw rule_flaw symbol_flaw is_rule_flawed entry_of values_of
     expansion_of grown displacement_of bounding_box_of box_round cells_along duration_of move_of ring_moves ring_of_code
-    side_moves row_of column_of cell_of picked codes_below codes_in longer rank_of ones_of group_flaw level_flaw tree_flaw
+    side_moves row_of column_of cell_of picked codes_below codes_in levels_with digits_in longer rank_of ones_of group_flaw level_flaw tree_flaw
 each_is_told = refl
 
 -- what opening reads
 opening_reads : map open_cost (path ∷ absent ∷ repeated ∷ []) ≡ 201 ∷ 149 ∷ 253 ∷ []
-unfolding open_cost blocks_reads all_blocks squares_above squares_from prefixes picked codes_below codes_in longer
+unfolding open_cost blocks_reads all_blocks squares_above squares_from prefixes picked codes_below codes_in levels_with digits_in longer
     row_of column_of cell_of rank_of ones_of start_in
 opening_reads = refl
 
@@ -216,7 +221,7 @@ reads =
     []
 
 each_reads_so : map (λ row. row.0) reads ≡ map (λ row. row.1) reads
-unfolding position_cost path_cost depth_in grown all_blocks picked codes_below codes_in longer row_of column_of cell_of
+unfolding position_cost path_cost depth_in grown all_blocks picked codes_below codes_in levels_with digits_in longer row_of column_of cell_of
     rank_of ones_of start_in block_budget nodes_in opened_count parsed values_of expansion_of bounding_box_of box_round
     cells_along move_of ring_moves ring_of_code side_moves
 each_reads_so = refl

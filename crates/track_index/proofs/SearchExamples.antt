@@ -5,24 +5,28 @@ use Rattle.k2_tree.specs.Morton.{cell_of, column_of, interleaved, morton_of, row
 use Rattle.k2_tree.specs.Squares.{squares_above, squares_from}
 use Rattle.k2_tree.specs.Tree.{codes_below, codes_in, picked}
 use Rattle.k2_tree.specs.TreeBits.{longer, prefixes}
+use Rattle.k2_tree.specs.Widths.{digits_in, levels_with}
 use Rattle.list_laws.specs.Grown.{grown}
+use Rattle.list_laws.specs.Ordered.{ordered, placed}
 use Rattle.log_cursor.specs.Touching.{touching_count}
 use Rattle.packed_bits.specs.Bits.{ones_of}
 use Rattle.spiral_code.specs.Spiral.{move_of, ring_moves, ring_of_code, side_moves}
+use Rattle.track_types.specs.ByFilter.{nearest_among, nears_at, nears_of}
 use Rattle.track_types.specs.declared.parts.Parts.{Parts}
 use Rattle.track_types.specs.declared.region.Region.TheVariants.{Disc, Rect}
 use Rattle.rule_store.specs.Boxes.{bounding_box_of, box_round}
 use Rattle.rule_store.specs.Cells.{cells_along, displacement_of}
 use Rattle.rule_store.specs.Entry.{duration_of, entry_of}
 use Rattle.rule_store.specs.Expansion.{depth_in, expansion_of, values_of}
+use Rattle.rule_store.specs.Log.{block_stops, log_values, stops_after, stops_from}
 use Rattle.rule_store.specs.Nodes.{block_budget, nodes_in, opened_count, parsed}
 use Rattle.snapshots.specs.IndexCost.{path_cost, position_cost}
 use Rattle.snapshots.specs.JoinFlaws.{cell_after, lasting}
-use Rattle.snapshots.specs.Parts.{start_in}
+use Rattle.snapshots.specs.Parts.{chart_in, rows_in, start_in, stops_in}
 use Rattle.snapshots.specs.Speed.{blocks_speed, log_speed}
 use Rattle.snapshots.specs.View.{all_blocks}
 use Rattle.interval_search.specs.Cost.{interval_cost}
-use Rattle.nearest_search.specs.Cost.{nearest_cost}
+use Rattle.nearest_search.specs.Cost.{is_near_enough, nearest_cost, period_near_cost}
 use Rattle.slice_search.specs.Cost.{period_search_cost, slice_cost}
 use Rattle.track_index.proofs.Examples.{absent, block, corner, path, repeated}
 
@@ -33,8 +37,10 @@ reads =
     (slice_cost path (pos 1) (Rect (pos 9) (pos 9) (pos 12) (pos 12)), 201) ∷
     -- an interval of one period, which costs what a slice of its last instant does
     (interval_cost path (pos 0) (pos 9) (Rect (pos 0) (pos 0) (pos 12) (pos 12)), 201) ∷
-    -- the nearest: as much as the positions of all objects
-    (nearest_cost path 5 (pos 1) (record { x = pos 0; y = pos 0 }), 136) ∷
+    -- the nearest, of fewer than are wanted: all squares and blocks
+    (nearest_cost path 5 (pos 1) (record { x = pos 0; y = pos 0 }), 201) ∷
+    -- none of them
+    (nearest_cost path 0 (pos 1) (record { x = pos 0; y = pos 0 }), 0) ∷
     -- a slice round an absence
     (slice_cost absent (pos 2) (Rect (neg_ℤ (pos 9)) (neg_ℤ (pos 9)) (pos 20) (pos 20)), 149) ∷
     -- a slice of the grid alone: only the reach of the whole grid touches this region
@@ -47,13 +53,14 @@ reads =
     (slice_cost repeated (pos 1) (Disc (pos 0) (pos 0) 2), 254) ∷
     -- an interval that opens no rule
     (interval_cost repeated (pos 0) (pos 5) (Rect (pos 5) (pos 5) (pos 6) (pos 6)), 253) ∷
-    -- the nearest of one
-    (nearest_cost repeated 2 (pos 3) (record { x = pos 100; y = pos 0 }), 178) ∷
+    -- the nearest of one, whose block's reach has the answer
+    (nearest_cost repeated 1 (pos 3) (record { x = pos 100; y = pos 0 }), 254) ∷
     []
 
 each_reads_so : map (λ row. row.0) reads ≡ map (λ row. row.1) reads
 unfolding slice_cost period_search_cost touching_count blocks_speed log_speed cell_after lasting duration_of entry_of
-    interval_cost nearest_cost position_cost path_cost depth_in grown all_blocks squares_above squares_from prefixes picked
-    codes_below codes_in longer row_of column_of cell_of morton_of interleaved rank_of ones_of start_in block_budget nodes_in opened_count parsed
+    interval_cost nearest_cost period_near_cost is_near_enough nears_of nearest_among nears_at ordered placed chart_in rows_in
+    stops_in block_stops stops_after stops_from log_values position_cost path_cost depth_in grown all_blocks squares_above squares_from prefixes picked
+    codes_below codes_in levels_with digits_in longer row_of column_of cell_of morton_of interleaved rank_of ones_of start_in block_budget nodes_in opened_count parsed
     values_of expansion_of bounding_box_of box_round displacement_of cells_along move_of ring_moves ring_of_code side_moves
 each_reads_so = refl

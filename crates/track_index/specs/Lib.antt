@@ -1,5 +1,6 @@
 -- In reading order.
 pub mod Facts
+pub mod Listed
 pub mod Cost
 pub mod CheckFlaws
 pub mod Opening

@@ -1,5 +1,6 @@
-ghost use Rattle.std.specs.Prelude.{◌≡◌};
+ghost use Rattle.std.specs.Prelude.{◌≡◌, ◌<◌, length, slice_index};
 ghost use Rattle.snapshots.specs.SoundParts.{IsValid};
+ghost use Rattle.track_index.specs.Listed.{is_listed};
 
 use snapshots::Stores;
 use std::marker::Model;
@@ -42,4 +43,22 @@ impl Index {
 #[derive(Clone, Copy)]
 pub struct IndexRef<'a> {
     pub index: &'a Index,
+}
+
+impl<'a> IndexRef<'a> {
+    /// The object at a place among those that are listed, which ascend; the place is in range. It takes
+    /// no memory and makes no read.
+    pub fn object_at(self, i: u32) -> u32
+        requires { i < length (self.index.now).objects }
+        ensures { result ≡ slice_index (self.entry.index.now).objects i }
+    {
+        self.index.stores().object_at(i)
+    }
+
+    /// Whether an object is listed, by a binary search. It takes no memory and makes no read.
+    pub fn lists(self, object: u32) -> bool
+        ensures { result ≡ is_listed object self.entry.index.now.objects }
+    {
+        self.index.stores().index_of(object).is_some()
+    }
 }

@@ -16,7 +16,9 @@ mod path_walk;
 mod searching;
 #[cfg(test)]
 mod tests;
+mod upgrading;
 
 pub use index::{Index, IndexRef};
 pub use opening::open;
 pub use path_walk::PathWalk;
+pub use upgrading::upgraded;

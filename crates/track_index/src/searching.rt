@@ -33,24 +33,26 @@ pub(crate) fn slice_of<L: Ledger>(
         found.items ≡ sightings_of (chart_in stores.now).rows instant region.now) }
     ensures cost { steps.new ≤ steps.old + slice_cost stores.now instant region.now }
 {
-    let asked = near_region(region);
+    // Each closure has a region of its own, since what one takes is gone for the others.
+    let held = near_region(region);
     let contains = Box::new(
         alloc,
         move |cell: Cell| -> bool
-            requires region { IsRegionWithin asked }
+            requires region { IsRegionWithin held }
             requires near { IsCellWithin cell }
-            ensures { result ≡ in_region asked cell }
-        { asked.contains(cell) },
+            ensures { result ≡ in_region held cell }
+        { held.contains(cell) },
     )?;
+    let touched = near_region(region);
     let may_touch = Box::new(
         alloc,
         move |area: &CellBox| -> bool
-            requires region { IsRegionWithin asked }
+            requires region { IsRegionWithin touched }
             requires near { IsBoxWithin area.now }
-            ensures { result ≡ intersects_region asked area.now }
-        { asked.touches(area) },
+            ensures { result ≡ intersects_region touched area.now }
+        { touched.touches(area) },
     )?;
-    let test = RegionTest::new(asked, contains, may_touch);
+    let test = RegionTest::new(near_region(region), contains, may_touch);
     slice(alloc, stores, instant, &test, steps)
 }
 
@@ -70,24 +72,26 @@ pub(crate) fn interval_of<L: Ledger>(
     ensures cost { steps.new
         ≤ steps.old + interval_cost stores.now window.0 window.1 region.now }
 {
-    let asked = near_region(region);
+    // Each closure has a region of its own, since what one takes is gone for the others.
+    let held = near_region(region);
     let contains = Box::new(
         alloc,
         move |cell: Cell| -> bool
-            requires region { IsRegionWithin asked }
+            requires region { IsRegionWithin held }
             requires near { IsCellWithin cell }
-            ensures { result ≡ in_region asked cell }
-        { asked.contains(cell) },
+            ensures { result ≡ in_region held cell }
+        { held.contains(cell) },
     )?;
+    let touched = near_region(region);
     let may_touch = Box::new(
         alloc,
         move |area: &CellBox| -> bool
-            requires region { IsRegionWithin asked }
+            requires region { IsRegionWithin touched }
             requires near { IsBoxWithin area.now }
-            ensures { result ≡ intersects_region asked area.now }
-        { asked.touches(area) },
+            ensures { result ≡ intersects_region touched area.now }
+        { touched.touches(area) },
     )?;
-    let test = RegionTest::new(asked, contains, may_touch);
+    let test = RegionTest::new(near_region(region), contains, may_touch);
     interval(alloc, stores, window.0, window.1, &test, steps)
 }
 

@@ -2,7 +2,7 @@ ghost use Rattle.track_types.specs.Region.{IsRegionAsked};
 
 use super::charts::{Place, cell};
 use std::alloc::Global;
-use track_types::{Hit, Memory, Region, Sighting};
+use track_types::{Hit, Memory, Region, Shape, Sighting};
 
 // The bounds of a rect: its columns, then its lines.
 pub(super) type Bounds = (i8, i8, i8, i8);
@@ -71,13 +71,28 @@ fn square_of_distance(x: i64, y: i64, place: Place) -> u128 {
 
 // Whether the cell of a row is in a region.
 fn is_in(region: &Region, place: Place) -> bool {
-    let (_, _, column, line) = place;
     match *region {
-        Region::Rect { x1, y1, x2, y2 } => {
+        Region::Rect { x1, y1, x2, y2 } => is_in_shape(Shape::Rect { x1, y1, x2, y2 }, place),
+        Region::Disc { x, y, r } => is_in_shape(Shape::Disc { x, y, r }, place),
+        Region::Any { shapes } => {
+            let mut found = false;
+            for index in 0..shapes.len() {
+                found |= is_in_shape(shapes.at(index), place);
+            }
+            found
+        }
+    }
+}
+
+// Whether the cell of a row is in a shape.
+fn is_in_shape(shape: Shape, place: Place) -> bool {
+    let (_, _, column, line) = place;
+    match shape {
+        Shape::Rect { x1, y1, x2, y2 } => {
             let (x, y) = (i64::from(column), i64::from(line));
             x1 <= x && x <= x2 && y1 <= y && y <= y2
         }
-        Region::Disc { x, y, r } => {
+        Shape::Disc { x, y, r } => {
             square_of_distance(x, y, place) <= u128::from(r).wrapping_mul(u128::from(r))
         }
     }
