@@ -1,0 +1,14 @@
+pub mod UnionLemmas
+pub mod MergeLemmas
+pub mod CutLemmas
+pub mod WalkLemmas
+pub mod SearchLemmas
+pub mod ObjectLemmas
+pub mod RangeLemmas
+pub mod JoinLemmas
+pub mod InstantLemmas
+pub mod HitLemmas
+pub mod NearLemmas
+pub mod FewLemmas
+pub mod FactsLemmas
+mod Examples

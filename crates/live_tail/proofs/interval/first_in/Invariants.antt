@@ -1,0 +1,15 @@
+use Rattle.std.proofs.Common.{◌≡◌, ◌+◌, ◌≤◌, All, length}
+use Rattle.log_cursor.specs.Touching.{first_among}
+use Rattle.track_types.specs.Near.{IsCellWithin}
+use Rattle.track_types.specs.declared.stop.Stop.{Stop}
+use Rattle.live_tail.proofs.interval.first_in.Given as goal
+
+abbrev pub invariant-loop-stop : goal.invariant-loop-stop
+invariant-loop-stop g l = record {
+  first : first_among l.region (g.W.Lazy.left l.walk) ≡ first_among l.region (g.W.Lazy.left l.fn.walk);
+  near : All (λ (stop : Stop). IsCellWithin stop.cell) (g.W.Lazy.left l.walk);
+  reads : l.steps + g.W.Lazy.budget l.walk ≤ l.fn.steps + g.W.Lazy.budget l.fn.walk;
+}
+
+abbrev pub decreases-loop-stop : goal.decreases-loop-stop
+decreases-loop-stop g l = length (g.W.Lazy.left l.walk)

@@ -1,0 +1,8 @@
+-- In reading order.
+pub mod Join
+pub mod View
+pub mod Facts
+pub mod Cost
+pub mod ByInstant
+pub mod Merge
+pub mod Walk

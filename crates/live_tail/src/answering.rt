@@ -1,0 +1,105 @@
+ghost use Rattle.std.specs.Prelude.{◌≡◌};
+
+use crate::interval::interval;
+use crate::nearest::nearest;
+use crate::slice::slice;
+use crate::tail_walk::TailWalk;
+use crate::tailed::TailRef;
+use std::alloc::Global;
+use std::sync::ledger::Ledger;
+use step_count::Steps;
+use track_index::PathWalk;
+use track_types::{Answerer, Cell, Facts, Hit, Memory, Near, Region, Sighting};
+
+impl<'a> Answerer for TailRef<'a> {
+    ghost use Rattle.snapshots.specs.Parts.{chart_in};
+    ghost use Rattle.live_tail.specs.Cost.{cost_with};
+    ghost use Rattle.live_tail.specs.Facts.{facts_with};
+    ghost use Rattle.live_tail.specs.Join.{chart_with};
+
+    type Walk = TailWalk<'a, PathWalk<'a>>;
+
+    ghost chart = { λ a. chart_with (chart_in a.tailed.now.parts) a.tailed.now.tail };
+
+    ghost facts = { λ a. facts_with a.tailed.now.parts a.tailed.now.tail };
+
+    ghost cost = { λ a. cost_with a.tailed.now.parts a.tailed.now.tail };
+
+    fn facts(self) -> Facts {
+        let facts = self.tailed.index().view().facts();
+        let objects = self.tailed.objects();
+        let Some(chart) = self.tailed.tail().chart() else {
+            return Facts { objects, ..facts };
+        };
+        Facts {
+            objects,
+            first: facts.first.min(chart.first()),
+            last: facts.last.max(chart.last()),
+            ..facts
+        }
+    }
+
+    fn position<L: Ledger>(self, object: u32, instant: i64, steps: &mut Steps<L>) -> Option<Cell> {
+        let index = self.tailed.index().view();
+        let _ = index.facts(); // says that its chart is a table
+        match self.tailed.tail().cell_at(object, instant) {
+            Some(cell) => Some(cell),
+            None => index.position(object, instant, steps),
+        }
+    }
+
+    fn walk(
+        self,
+        alloc: Global,
+        object: u32,
+        from: i64,
+        to: i64,
+    ) -> Result<TailWalk<'a, PathWalk<'a>>, Memory> {
+        let index = self.tailed.index().view();
+        let _ = index.facts(); // says that its chart is a table
+        let tail = self.tailed.tail();
+        let _ = tail.rows(); // says that these ascend
+        let walk = index.walk(alloc, object, from, to)?;
+        Ok(TailWalk::new(walk, tail.track(object, from, to)))
+    }
+
+    fn slice<L: Ledger>(
+        self,
+        alloc: Global,
+        instant: i64,
+        region: &Region,
+        steps: &mut Steps<L>,
+    ) -> Result<Vec<Sighting>, Memory> {
+        let index = self.tailed.index().view();
+        let _ = index.facts(); // says that its chart is a table
+        slice(alloc, index, self.tailed.tail(), instant, region, steps)
+    }
+
+    fn interval<L: Ledger>(
+        self,
+        alloc: Global,
+        from: i64,
+        to: i64,
+        region: &Region,
+        steps: &mut Steps<L>,
+    ) -> Result<Vec<Hit>, Memory> {
+        let index = self.tailed.index().view();
+        let _ = index.facts(); // says that its chart is a table
+        interval(alloc, index, self.tailed.tail(), from, to, region, steps)
+    }
+
+    fn nearest<L: Ledger>(
+        self,
+        alloc: Global,
+        count: u32,
+        instant: i64,
+        cell: Cell,
+        steps: &mut Steps<L>,
+    ) -> Result<Vec<Near>, Memory> {
+        let index = self.tailed.index();
+        let _ = index.stores(); // says that its parts are valid
+        let view = index.view();
+        let _ = view.facts(); // says that its chart is a table
+        nearest(alloc, view, self.tailed.tail(), count, instant, cell, steps)
+    }
+}

@@ -1,0 +1,73 @@
+ghost use Rattle.std.specs.Prelude.{◌≡◌, ◌++◌, ◌+◌, ◌-◌, ◌^◌, ◌≤◌, All, IfOk, OnOk, filter, length, map, min};
+ghost use Rattle.track_types.specs.ByFilter.{is_row_at, near_of, nears_of};
+ghost use Rattle.track_types.specs.Near.{IsAsked, IsCellAsked, IsCellWithin};
+ghost use Rattle.track_types.specs.declared.row.Row.{Row as RowView};
+ghost use Rattle.live_tail.specs.Cost.{nearest_cost_beside};
+ghost use Rattle.live_tail.specs.Join.{rows_of_tail, rows_with};
+
+use crate::objects::has_object;
+use crate::tail::Tail;
+use std::alloc::Global;
+use std::sync::ledger::Ledger;
+use step_count::Steps;
+use track_types::{Answerer, Cell, Memory, Near, Row, dist2};
+
+/// The rows of an instant that are nearest to a cell, of an answerer's chart with a tail: those before
+/// which fewer than `count` others come, in order.
+///
+/// The answerer is asked for `count` and as many more as the tail has rows of the instant, since so
+/// many of those that it finds may give way to the tail's. `Memory` is the only refusal.
+pub fn nearest<A: Answerer, L: Ledger>(
+    alloc: Global,
+    answerer: A,
+    tail: &Tail,
+    count: u32,
+    instant: i64,
+    cell: Cell,
+    steps: &mut Steps<L>,
+) -> Result<Vec<Near>, Memory>
+    requires instant { IsAsked instant }
+    requires cell { IsCellAsked cell }
+    requires few { length (filter (is_row_at instant) (A.chart answerer).rows) ≤ 2 ^ 32 - 1 }
+    ensures ok { IfOk result (λ found. found.items ≡ nears_of
+        (rows_with (A.chart answerer).rows (rows_of_tail tail.now)) count instant cell) }
+    ensures cost { steps.new ≤ steps.old
+        + nearest_cost_beside (A.cost answerer) (rows_of_tail tail.now) count instant cell }
+{
+    if count == 0 {
+        return Ok(Vec::new(alloc));
+    }
+    let _ = answerer.facts(); // says that the chart is a table
+    let _ = tail.rows(); // says that these ascend
+    let own = tail.rows_at(instant);
+    let raised = raised_count(count, own.len());
+    let mut found = answerer.nearest(alloc, raised, instant, cell, steps)?;
+    found.retain(|near| !has_object(own, near.object));
+    push_nears(&mut found, own, cell)?;
+    found.sort_unstable_by_key(|near| (near.dist2, near.object));
+    found.truncate(count as usize);
+    Ok(found)
+}
+
+// A count and so many more, or the greatest count there is.
+fn raised_count(count: u32, more: usize) -> u32
+    ensures { result ≡ min (count + more) (2 ^ 32 - 1) }
+{
+    count.saturating_add(u32::try_from(more).unwrap_or(u32::MAX))
+}
+
+// Puts how near rows are to a cell behind what was found.
+fn push_nears(found: &mut Vec<Near>, rows: &[Row], cell: Cell) -> Result<(), Memory>
+    requires cell { IsCellWithin cell }
+    requires near { All (λ (row : RowView). IsCellWithin row.cell) rows.now }
+    ensures { OnOk result (found.new.items ≡ found.old.items ++ map (near_of cell) rows.now) }
+{
+    for row in rows {
+        found.push(Near {
+            object: row.object,
+            cell: row.cell,
+            dist2: dist2(cell, row.cell),
+        })?;
+    }
+    Ok(())
+}

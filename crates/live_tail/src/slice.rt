@@ -1,0 +1,60 @@
+ghost use Rattle.std.specs.Prelude.{◌≡◌, ◌++◌, ◌+◌, ◌≤◌, All, IfOk, OnOk, filter, map};
+ghost use Rattle.track_types.specs.ByFilter.{sighting_of, sightings_of};
+ghost use Rattle.track_types.specs.Near.{IsAsked, IsCellWithin};
+ghost use Rattle.track_types.specs.Region.{IsRegionAsked, IsRegionWithin, in_region};
+ghost use Rattle.track_types.specs.declared.question.Question.TheVariants as asked;
+ghost use Rattle.track_types.specs.declared.row.Row.{Row as RowView};
+ghost use Rattle.live_tail.specs.Join.{rows_of_tail, rows_with};
+
+use crate::objects::has_object;
+use crate::tail::Tail;
+use std::alloc::Global;
+use std::sync::ledger::Ledger;
+use step_count::Steps;
+use track_types::{Answerer, Memory, Region, Row, Sighting};
+
+/// The rows of an instant in a region, by object, of an answerer's chart with a tail.
+///
+/// What the answerer finds gives way where the tail has a row of the object at the instant, be that
+/// in the region or not. `Memory` is the only refusal.
+pub fn slice<A: Answerer, L: Ledger>(
+    alloc: Global,
+    answerer: A,
+    tail: &Tail,
+    instant: i64,
+    region: &Region,
+    steps: &mut Steps<L>,
+) -> Result<Vec<Sighting>, Memory>
+    requires instant { IsAsked instant }
+    requires region { IsRegionAsked region.now }
+    ensures ok { IfOk result (λ found. found.items ≡ sightings_of
+        (rows_with (A.chart answerer).rows (rows_of_tail tail.now)) instant region.now) }
+    ensures cost { steps.new ≤ steps.old + A.cost answerer (asked.Slice instant region.now) }
+{
+    let _ = answerer.facts(); // says that the chart is a table
+    let _ = tail.rows(); // says that these ascend
+    let own = tail.rows_at(instant);
+    let mut found = answerer.slice(alloc, instant, region, steps)?;
+    found.retain(|sighting| !has_object(own, sighting.object));
+    push_seen(&mut found, own, region)?;
+    found.sort_unstable_by_key(|sighting| sighting.object);
+    Ok(found)
+}
+
+// Puts the rows in a region behind what was found.
+fn push_seen(found: &mut Vec<Sighting>, rows: &[Row], region: &Region) -> Result<(), Memory>
+    requires region { IsRegionWithin region.now }
+    requires near { All (λ (row : RowView). IsCellWithin row.cell) rows.now }
+    ensures { OnOk result (found.new.items ≡ found.old.items
+        ++ map sighting_of (filter (λ (row : RowView). in_region region.now row.cell) rows.now)) }
+{
+    for row in rows {
+        if region.contains(row.cell) {
+            found.push(Sighting {
+                object: row.object,
+                cell: row.cell,
+            })?;
+        }
+    }
+    Ok(())
+}
