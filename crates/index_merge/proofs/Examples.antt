@@ -1,0 +1,71 @@
+-- The definitions, run on small indexes.
+use Rattle.std.proofs.Common.{◌≡◌, ℕ, ℤ, pos, negsuc, [], ◌∷◌, None, Some, refl}
+use Rattle.list_laws.specs.Ordered.{ordered, placed}
+use Rattle.track_types.specs.Chart.{ChartView, chart_with}
+use Rattle.track_types.specs.declared.frame.Frame.{Frame}
+use Rattle.track_types.specs.declared.limit.LimitKind.TheVariants.{Rows}
+use Rattle.track_types.specs.declared.row.Row.{Row}
+use Rattle.track_types.specs.declared.setting.Setting.TheVariants as setting
+use Rattle.index_merge.specs.MergeFault.{common_fault, count_fault, settings_fault}
+use Rattle.index_merge.specs.Union.{rows_of_both, union_of}
+use Rattle.index_merge.specs.declared.fault.MergeFault.TheVariants as fault
+
+row : ℕ → ℤ → ℤ → ℤ → Row
+row object instant x y = record { object = object; instant = instant; cell = record { x = x; y = y } }
+
+-- objects 7 and 9, and object 8, which is there before both
+abbrev some : ChartView
+some = chart_with (row 7 (pos 0) (pos 10) (pos 10) ∷ row 7 (pos 1) (pos 11) (pos 10) ∷ row 9 (pos 0) (pos 4) (pos 4) ∷ []) 2 3 4
+
+abbrev other : ChartView
+other = chart_with (row 8 (negsuc 0) (pos 5) (pos 4) ∷ []) 2 3 4
+
+-- the union begins with the first instant of the second chart
+union_of_some : union_of some other
+    ≡ record {
+      rows = row 7 (pos 0) (pos 10) (pos 10) ∷ row 7 (pos 1) (pos 11) (pos 10) ∷ row 8 (negsuc 0) (pos 5) (pos 4) ∷ row 9 (pos 0) (pos 4) (pos 4) ∷ [];
+      first = negsuc 0;
+      last = pos 1;
+      period = 4;
+      cell = 2;
+      tick = 3;
+    }
+unfolding rows_of_both ordered placed row
+union_of_some = refl
+
+-- headers with these settings
+abbrev header : ℕ → ℕ → ℕ → Frame
+header cell tick period = record {
+  version = 2;
+  first = pos 0;
+  span = 1;
+  period = period;
+  height = 1;
+  base = record { x = pos 0; y = pos 0 };
+  cell = cell;
+  tick = tick;
+}
+
+-- of two that differ the first is told
+tick_differs : settings_fault (header 1 60 4) (header 1 61 8) ≡ Some (fault.Settings setting.Tick 60 61)
+tick_differs = refl
+
+none_differs : settings_fault (header 1 60 4) (header 1 60 4) ≡ None
+none_differs = refl
+
+-- the least of two objects that are in both
+least_common : common_fault (1 ∷ 3 ∷ 5 ∷ 9 ∷ []) (2 ∷ 3 ∷ 9 ∷ []) ≡ Some (fault.Common 3)
+least_common = refl
+
+none_common : common_fault (1 ∷ 3 ∷ []) (2 ∷ 4 ∷ []) ≡ None
+none_common = refl
+
+-- one row too many, and four billion
+one_more : count_fault 16777217 ≡ Some (fault.Limit Rows 16777217)
+one_more = refl
+
+many_more : count_fault 4194304000 ≡ Some (fault.Limit Rows 16777217)
+many_more = refl
+
+enough : count_fault 16777216 ≡ None
+enough = refl

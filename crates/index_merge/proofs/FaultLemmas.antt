@@ -1,0 +1,178 @@
+-- The first cause in the order in which causes are looked for.
+use Rattle.std.proofs.Common.{◌≡◌, ℕ, zero, suc, ◌+◌, ◌<◌, ◌≤◌, Bool, true, false, eqb, List, [], ◌∷◌, Option, None, Some, length, drop, inl, inr, refl, ap, sym, ◌∙◌, arith}
+use Rattle.std.specs.Prelude.{slice_get, slice_index, find, nat_lt}
+use Rattle.std.specs.Option.{is_some, option_map, option_or}
+use Rattle.std.proofs.lemmas.Bool.{cases_Bool, eq-eqb}
+use Rattle.std.proofs.lemmas.Bool.Decides.{nat_tests}
+use Rattle.std.proofs.Math.Seq.{drop-cons}
+use Rattle.std.proofs.lemmas.Option.{get_or_from_slice_get, slice_get_within}
+use Rattle.list_laws.proofs.FindLemmas.{find_in_range-all, find-passed_over}
+use Rattle.track_types.specs.Limits.{limit_of}
+use Rattle.track_types.specs.declared.frame.Frame.{Frame}
+use Rattle.track_types.specs.declared.limit.LimitKind.TheVariants.{Rows}
+use Rattle.track_types.specs.declared.parts.Parts.{Parts}
+use Rattle.track_types.specs.declared.row.Row.{Row}
+use Rattle.gridding.specs.GridLimit.{chart_fault}
+use Rattle.gridding.specs.GridLimit.{IsFaultFor as IsGridFaultFor}
+use Rattle.gridding.specs.declared.fault.GridFault.{GridFault}
+use Rattle.gridding.specs.declared.fault.GridFault.TheVariants as gridding
+use Rattle.snapshots.specs.Parts.{chart_in, index_in}
+use Rattle.index_merge.specs.MergeFault.{common_fault, count_fault, is_listed, merge_fault, merge_fault_of, rows_fault, settings_fault, IsFaultFor}
+use Rattle.index_merge.specs.Union.{rows_of_both}
+use Rattle.index_merge.specs.declared.fault.MergeFault.{MergeFault}
+use Rattle.index_merge.specs.declared.fault.MergeFault.TheVariants as fault
+
+-- what is the fault is a fault for it
+pub IsFaultFor-is : (first : Option MergeFault) (told : MergeFault) → first ≡ Some told → IsFaultFor first told
+IsFaultFor-is first fault.Memory is = tt
+IsFaultFor-is first fault.Empty is = is
+IsFaultFor-is first (fault.Common object) is = is
+IsFaultFor-is first (fault.Limit kind value) is = is
+IsFaultFor-is first (fault.Settings which left right) is = is
+
+-- where one cause is another, so are their faults
+pub IsFaultFor-from : (first whole : Option MergeFault) (told : MergeFault)
+    → (first ≡ Some told → whole ≡ Some told) → IsFaultFor first told → IsFaultFor whole told
+IsFaultFor-from first whole fault.Memory into is = tt
+IsFaultFor-from first whole fault.Empty into is = into is
+IsFaultFor-from first whole (fault.Common object) into is = into is
+IsFaultFor-from first whole (fault.Limit kind value) into is = into is
+IsFaultFor-from first whole (fault.Settings which left right) into is = into is
+
+-- so many rows are not too many
+pub count_fault-few : (rows : ℕ) → rows ≤ limit_of Rows → count_fault rows ≡ None
+count_fault-few rows few = let within : nat_lt (limit_of Rows) rows ≡ false = grind (arith, nat_tests) in rw within refl
+
+pub count_fault-many : (rows : ℕ) → limit_of Rows < rows → count_fault rows ≡ Some (fault.Limit Rows (limit_of Rows + 1))
+count_fault-many rows many = let past : nat_lt (limit_of Rows) rows ≡ true = grind (arith, nat_tests) in rw past refl
+
+-- where some are too many, more are
+pub count_fault-more : (some more : ℕ) (told : MergeFault) → some ≤ more → IsFaultFor (count_fault some) told
+    → IsFaultFor (count_fault more) told
+count_fault-more some more told least is = IsFaultFor-from (count_fault some) (count_fault more) told
+    (λ past. elim (cases_Bool (nat_lt (limit_of Rows) some)) [
+      | inl many ↦ count_fault-many more (grind (arith, nat_tests)) ∙ sym (rw many refl) ∙ past
+      | inr few ↦ let never : None ≡ Some told = sym (rw few refl) ∙ past in absurd (cc)
+    ]) is
+
+-- headers and objects of what is the same have the same faults
+pub settings_fault-alike : (left right one other : Parts) (frame also : Frame) → one ≡ left → other ≡ right
+    → frame ≡ one.frame → also ≡ other.frame → settings_fault left.frame right.frame ≡ settings_fault frame also
+settings_fault-alike left right one other frame also one_is other_is frame_is also_is =
+    sym (ap (λ (f : Frame). settings_fault f also) (frame_is ∙ ap (λ (p : Parts). p.frame) one_is)
+    ∙ ap (λ (f : Frame). settings_fault left.frame f) (also_is ∙ ap (λ (p : Parts). p.frame) other_is))
+
+pub common_fault-alike : (left right one other : Parts) → one ≡ left → other ≡ right
+    → common_fault left.objects right.objects ≡ common_fault one.objects other.objects
+common_fault-alike left right one other one_is other_is =
+    sym (ap (λ (p : Parts). common_fault p.objects other.objects) one_is
+    ∙ ap (λ (p : Parts). common_fault left.objects p.objects) other_is)
+
+module _ (left right : Parts) where
+  -- a setting differs
+  pub merge_fault-settings : (told : MergeFault) → settings_fault left.frame right.frame ≡ Some told
+      → merge_fault left right ≡ Some told
+  unfolding merge_fault
+  merge_fault-settings told is =
+      ap (λ first. option_or first (option_or (common_fault left.objects right.objects)
+      (rows_fault (rows_of_both (chart_in left) (chart_in right)) left.frame.period))) is
+
+  module _ (same : settings_fault left.frame right.frame ≡ None) where
+    -- none does
+    merge_fault-same : merge_fault left right ≡ option_or (common_fault left.objects right.objects)
+        (rows_fault (rows_of_both (chart_in left) (chart_in right)) left.frame.period)
+    unfolding merge_fault
+    merge_fault-same =
+        ap (λ first. option_or first (option_or (common_fault left.objects right.objects)
+        (rows_fault (rows_of_both (chart_in left) (chart_in right)) left.frame.period))) same
+
+    -- an object is in both
+    pub merge_fault-common : (told : MergeFault) → common_fault left.objects right.objects ≡ Some told
+        → merge_fault left right ≡ Some told
+    merge_fault-common told is =
+        merge_fault-same
+        ∙ ap (λ first. option_or first (rows_fault (rows_of_both (chart_in left) (chart_in right)) left.frame.period)) is
+
+    module _ (apart : common_fault left.objects right.objects ≡ None) where
+      -- none is
+      merge_fault-apart : merge_fault left right ≡ rows_fault (rows_of_both (chart_in left) (chart_in right)) left.frame.period
+      merge_fault-apart =
+          merge_fault-same
+          ∙ ap (λ first. option_or first (rows_fault (rows_of_both (chart_in left) (chart_in right)) left.frame.period)) apart
+
+      -- there are too many rows
+      pub merge_fault-count : (told : MergeFault)
+          → IsFaultFor (count_fault (length (rows_of_both (chart_in left) (chart_in right)))) told
+          → IsFaultFor (merge_fault left right) told
+      merge_fault-count told =
+          IsFaultFor-from (count_fault (length (rows_of_both (chart_in left) (chart_in right)))) (merge_fault left right) told
+          (λ is. merge_fault-apart
+          ∙ ap (λ first. option_or first (option_map merge_fault_of
+          (chart_fault (rows_of_both (chart_in left) (chart_in right)) left.frame.period))) is)
+
+      module _ (rows : List Row) (are : rows ≡ rows_of_both (chart_in left) (chart_in right)) (few : length rows ≤ limit_of Rows) where
+        -- there are not
+        merge_fault-few : merge_fault left right ≡ option_map merge_fault_of (chart_fault rows left.frame.period)
+        merge_fault-few =
+            merge_fault-apart ∙ ap (λ xs. rows_fault xs left.frame.period) (sym are)
+            ∙ ap (λ first. option_or first (option_map merge_fault_of (chart_fault rows left.frame.period)))
+            (count_fault-few (length rows) few)
+
+        -- nothing is refused
+        pub merge_fault-none : chart_fault rows left.frame.period ≡ None → merge_fault left right ≡ None
+        merge_fault-none none = merge_fault-few ∙ ap (option_map merge_fault_of) none
+
+        -- the chart of the rows is
+        pub merge_fault-chart : (told : GridFault) → IsGridFaultFor (chart_fault rows left.frame.period) told
+            → IsFaultFor (merge_fault left right) (merge_fault_of told)
+        merge_fault-chart gridding.Memory is = tt
+        merge_fault-chart gridding.Empty is = merge_fault-few ∙ ap (option_map merge_fault_of) is
+        merge_fault-chart (gridding.Limit kind value) is = merge_fault-few ∙ ap (option_map merge_fault_of) is
+
+-- a search that finds none finds none at any place
+find-at : (p : ℕ → Bool) (xs : List ℕ) (place : ℕ) → find p xs ≡ None → place < length xs → p (slice_index xs place) ≡ false
+find-at p [] place none within = absurd (omega arith)
+find-at p (x ∷ xs) zero none within = (find-passed_over p x xs none).0
+find-at p (x ∷ xs) (suc place) none within = find-at p xs place (find-passed_over p x xs none).1 (omega arith)
+
+-- a search among those from a place on, of which the first is at hand
+module _ (left right : List ℕ) (place object : ℕ)
+    (so_far : find (is_listed right) left ≡ find (is_listed right) (drop place left))
+    (here : slice_get left place ≡ Some object) where
+  found-from : find (is_listed right) left ≡ find (is_listed right) (object ∷ drop (suc place) left)
+  found-from =
+      so_far ∙ ap (find (is_listed right)) (drop-cons left place 0 (slice_get_within left place object here)
+      ∙ ap (λ x. x ∷ drop (suc place) left) (get_or_from_slice_get left place object 0 here))
+
+  -- it is in both
+  pub common-here : is_some (index_in right object) ≡ true → common_fault left right ≡ Some (fault.Common object)
+  common-here listed =
+      let found : find (is_listed right) left ≡ Some object = found-from ∙ rw listed refl in
+      ap (option_map fault.Common) found
+
+  -- it is not
+  pub common-next : is_some (index_in right object) ≡ false
+      → find (is_listed right) left ≡ find (is_listed right) (drop (place + 1) left)
+  common-next unlisted =
+      let next : place + 1 ≡ suc place = omega arith in
+      found-from ∙ rw (unlisted, next) refl
+
+not_mapped : {X Y : Type 0} (f : X → Y) (found : Option X) → option_map f found ≡ None → found ≡ None
+not_mapped f None is = refl
+not_mapped f (Some x) is = absurd (cc)
+
+not_some : {X : Type 0} (found : Option X) → is_some found ≡ false → found ≡ None
+not_some None is = refl
+not_some (Some x) is = absurd (cc)
+
+-- where no object is in both, two objects differ
+pub objects-apart : (left right : List ℕ) (i j : ℕ) → common_fault left right ≡ None → i < length left → j < length right
+    → slice_index left i ≡ slice_index right j → ⊥
+objects-apart left right i j apart in_left in_right same =
+    let one : ℕ = slice_index left i in
+    let none : find (is_listed right) left ≡ None = not_mapped fault.Common (find (is_listed right) left) apart in
+    let unknown : index_in right one ≡ None = not_some (index_in right one) (find-at (is_listed right) left i none in_left) in
+    let differs : eqb (slice_index right j) one ≡ false =
+    find_in_range-all (λ k. eqb (slice_index right k) one) 0 (length right) unknown j (omega arith) (omega (arith, in_right)) in
+    let equal : eqb (slice_index right j) one ≡ true = eq-eqb (slice_index right j) one (sym same) in
+    cc

@@ -1,0 +1,6 @@
+mod OrderLemmas
+mod PathLemmas
+mod UnionLemmas
+mod FaultLemmas
+mod DrawingLemmas
+mod Examples

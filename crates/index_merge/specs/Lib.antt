@@ -1,0 +1,5 @@
+-- In reading order.
+pub mod Union
+pub mod MergeFault
+pub mod Cost
+pub mod Drawing
