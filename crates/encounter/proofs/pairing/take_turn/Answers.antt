@@ -1,0 +1,120 @@
+use Rattle.std.proofs.Common.{◌≡◌, Bool, ◌≤ℤ◌, to_z, of_z, w64, true, false, refl, sym, ◌∙◌, ap, arith}
+use Rattle.std.proofs.lemmas.Int.{ints}
+use Rattle.rule_store.specs.Log.{stop_at}
+use Rattle.encounter.specs.Span.{is_close, Span}
+use Rattle.encounter.specs.NodeSpan.{span_of_node}
+use Rattle.encounter.specs.declared.block_node.BlockNode.{BlockNode}
+use Rattle.encounter.proofs.TurnLemmas.{ended-left, ended-right, found-both, opened-left, opened-right, over-left, over-right, passed-left, passed-right}
+use Rattle.encounter.proofs.pairing.take_turn.Given.{Over}
+use Rattle.encounter.proofs.pairing.take_turn.Goals as goal
+use Rattle.encounter.proofs.pairing.take_turn.Goals.{After-may_meet, else-one-other, then-one-other, then-window-one-via-else-window-one+then-window-other, then-window-one-via-then-window-one}
+
+same_span : (part : BlockNode) (top : Span) → part.begin ≡ top.begin → part.end ≡ top.end → part.area ≡ top.area →
+    span_of_node part ≡ top
+same_span part top begin end area = rw (begin, end, area) refl
+
+-- what the test for two nodes says of the two blocks
+close_is : (g : Over) (c : After-may_meet g) → c.may_meet.result
+    ≡ is_close c.args.window.now.from c.args.window.now.to c.args.window.now.reach c.args.left.now.top c.args.right.now.top
+close_is g c =
+    c.may_meet.ensures
+    ∙ ap (λ s. is_close c.args.window.now.from c.args.window.now.to c.args.window.now.reach s (span_of_node
+    c.node-other.result)) (same_span c.node-one.result c.args.left.now.top c.node-one.ensures.begin c.node-one.ensures.end
+    c.node-one.ensures.area)
+    ∙ ap (is_close c.args.window.now.from c.args.window.now.to c.args.window.now.reach c.args.left.now.top)
+    (same_span c.node-other.result c.args.right.now.top c.node-other.ensures.begin c.node-other.ensures.end
+    c.node-other.ensures.area)
+
+neither : (one other : Bool) → (one ≡ true → other ≡ true) → other ≡ false → one ≡ false
+neither true true more less = less
+neither true false more less = sym (more refl)
+neither false other more less = refl
+
+pub open-requires : goal.open-requires
+open-requires g c = sym c.node-one.ensures.opens ∙ c.opens_first.ensures.yes c.if-opens_first.true
+
+pub returns-then-window-one : goal.returns-then-window-one
+returns-then-window-one g c =
+    let tells = c.node-one.ensures.tells in
+    let told = c.node-other.ensures.tells in
+    let to : to_z w64 (of_z w64 c.args.window.now.to) ≡ c.args.window.now.to = omega (arith, ints) in
+    elim c.then-window-one.branch [
+      | then-window-one-via-then-window-one w ↦
+          let over : c.args.window.now.to ≤ℤ c.args.left.now.top.begin =
+          omega (arith, ints, w.if-window-one.true, c.node-one.ensures.begin) in
+          over-left _ _ _ _ _ tells told _ over _ (omega arith)
+      | then-window-one-via-else-window-one+then-window-other w ↦
+          let over : c.args.window.now.to ≤ℤ c.args.right.now.top.begin =
+          omega (arith, ints, w.if-window-other.true, c.node-other.ensures.begin) in
+          over-right _ _ _ _ _ tells told _ over _ (omega arith)
+    ]
+
+pub returns-then-more : goal.returns-then-more
+returns-then-more g c =
+    let apart = sym (close_is g (goal.at.returns-then-more g c).After-may_meet) ∙ c.if-not-may_meet.true in
+    let tells = c.node-one.ensures.tells in
+    let told = c.node-other.ensures.tells in
+    elim c.if-one-other.branch [
+      | then-one-other w ↦
+          let sooner : c.args.left.now.top.end ≤ℤ c.args.right.now.top.end =
+          omega (arith, ints, w.if-one-other.true, c.node-one.ensures.end, c.node-other.ensures.end) in
+          rw (w.left-is, w.right-is, w.steps-is)
+          (passed-left _ _ _ _ _ tells told _ apart sooner _ _ (w.pass-more.ensures.more (sym w.more-is ∙ c.if-more.true))
+          w.pass-more.ensures.cost)
+      | else-one-other w ↦
+          let sooner : c.args.right.now.top.end ≤ℤ c.args.left.now.top.end =
+          omega (arith, ints, w.if-one-other.false, c.node-one.ensures.end, c.node-other.ensures.end) in
+          rw (w.left-is, w.right-is, w.steps-is)
+          (passed-right _ _ _ _ _ tells told _ apart sooner _ _
+          (w.pass-more-else-one-other.ensures.more (sym w.more-is ∙ c.if-more.true))
+          w.pass-more-else-one-other.ensures.cost)
+    ]
+
+pub returns-else-more : goal.returns-else-more
+returns-else-more g c =
+    let apart = sym (close_is g (goal.at.returns-else-more g c).After-may_meet) ∙ c.if-not-may_meet.true in
+    let tells = c.node-one.ensures.tells in
+    let told = c.node-other.ensures.tells in
+    elim c.if-one-other.branch [
+      | then-one-other w ↦
+          let sooner : c.args.left.now.top.end ≤ℤ c.args.right.now.top.end =
+          omega (arith, ints, w.if-one-other.true, c.node-one.ensures.end, c.node-other.ensures.end) in
+          rw (w.left-is, w.right-is, w.steps-is)
+          (ended-left _ _ _ _ _ tells told _ apart sooner _ _ (w.pass-more.ensures.end (sym w.more-is ∙ c.if-more.false))
+          w.pass-more.ensures.cost)
+      | else-one-other w ↦
+          let sooner : c.args.right.now.top.end ≤ℤ c.args.left.now.top.end =
+          omega (arith, ints, w.if-one-other.false, c.node-one.ensures.end, c.node-other.ensures.end) in
+          rw (w.left-is, w.right-is, w.steps-is)
+          (ended-right _ _ _ _ _ tells told _ apart sooner _ _
+          (w.pass-more-else-one-other.ensures.end (sym w.more-is ∙ c.if-more.false))
+          w.pass-more-else-one-other.ensures.cost)
+    ]
+
+pub returns-then-opens_first : goal.returns-then-opens_first
+returns-then-opens_first g c =
+    let close = sym (close_is g (goal.at.returns-then-opens_first g c).After-may_meet) ∙ c.if-not-may_meet.false in
+    opened-left _ _ _ _ _ c.node-one.ensures.tells c.node-other.ensures.tells _ close _ _ c.open.ensures.opened
+    c.open.ensures.cost
+
+pub returns-then-other : goal.returns-then-other
+returns-then-other g c =
+    let close = sym (close_is g (goal.at.returns-then-other g c).After-may_meet) ∙ c.if-not-may_meet.false in
+    opened-right _ _ _ _ _ c.node-one.ensures.tells c.node-other.ensures.tells _ close _ _ c.open-then-other.ensures.opened
+    c.open-then-other.ensures.cost
+
+pub returns : goal.returns
+returns g c =
+    let close = sym (close_is g (goal.at.returns g c).After-may_meet) ∙ c.if-not-may_meet.false in
+    let right : c.args.right.now.opens ≡ false = sym c.node-other.ensures.opens ∙ c.if-other.false in
+    let left : c.args.left.now.opens ≡ false = sym c.node-one.ensures.opens
+    ∙ neither _ _ (c.opens_first.ensures.no c.if-opens_first.false) c.if-other.false in
+    let end : to_z w64 (of_z w64 c.node-one.result.end) ≡ c.args.left.now.top.end =
+    omega (arith, ints, c.node-one.ensures.end) in (
+      (
+        stop_at c.args.left.now.top.end c.args.left.now.cell,
+        stop_at c.args.right.now.top.end c.args.right.now.cell,
+      ),
+      rw (end, c.node-one.ensures.cell, c.node-other.ensures.cell) refl,
+      found-both _ _ _ _ _ c.node-one.ensures.tells c.node-other.ensures.tells _ close left right _ (omega arith),
+    )

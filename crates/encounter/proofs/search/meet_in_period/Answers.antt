@@ -1,0 +1,45 @@
+use Rattle.std.proofs.Common.{List, sym, ap, ◌∙◌}
+use Rattle.std.specs.Option.{option_map}
+use Rattle.track_types.specs.Meeting.{meeting_at}
+use Rattle.track_types.specs.declared.stop.Stop.{Stop}
+use Rattle.rule_store.specs.Log.{log_of}
+use Rattle.snapshots.specs.Parts.{stops_in}
+use Rattle.encounter.specs.Side.{remaining}
+use Rattle.encounter.specs.Window.{meeting_among}
+use Rattle.encounter.proofs.SeekingLemmas.{meeting_among-left, meeting_among-right, stops-absent, stops-present}
+use Rattle.encounter.proofs.search.meet_in_period.Goals as goal
+
+pub returns-in_default-clause-ok : goal.returns-in_default-clause-ok
+returns-in_default-clause-ok g c =
+    let window = c.args.window.now in
+    let rights = stops_in c.args.stores.now c.args.places.right c.args.period in
+    sym (ap (option_map meeting_at) (ap (λ stops. meeting_among window.from window.to window.reach stops rights)
+    (stops-absent c.args.stores.now c.args.period c.args.places.left c.snapshot-snapshot.result.now c.snapshot-snapshot.ensures.value
+    c.in_default.ensures.value) ∙ meeting_among-left window.from window.to window.reach rights))
+
+pub returns-in_default-find-clause-ok : goal.returns-in_default-find-clause-ok
+returns-in_default-find-clause-ok g c =
+    let window = c.args.window.now in
+    let lefts = stops_in c.args.stores.now c.args.places.left c.args.period in
+    sym (ap (option_map meeting_at) (ap (meeting_among window.from window.to window.reach lefts)
+    (stops-absent c.args.stores.now c.args.period c.args.places.right c.snapshot-snapshot.result.now c.snapshot-snapshot.ensures.value
+    c.in_default-find.ensures.value) ∙ meeting_among-right window.from window.to window.reach lefts))
+
+pub returns-clause-ok : goal.returns-clause-ok
+returns-clause-ok g c =
+    let window = c.args.window.now in
+    let mine = c.new-mine.ensures in
+    let theirs = c.new-theirs.ensures in
+    let one = stops-present c.args.stores.now c.args.period c.args.places.left c.snapshot-snapshot.result.now
+    c.snapshot-snapshot.ensures.value c.in-Some.one c.new-mine.result.log.rules.now (log_of c.new-mine.result.log)
+    c.new-mine.result.start (remaining c.in_ok-left.left) c.in-Some.ensures.value mine.rules mine.log mine.start
+    c.in_ok-left.ensures.rest in
+    let other = stops-present c.args.stores.now c.args.period c.args.places.right c.snapshot-snapshot.result.now
+    c.snapshot-snapshot.ensures.value c.in-Some-find.other c.new-theirs.result.log.rules.now (log_of c.new-theirs.result.log)
+    c.new-theirs.result.start (remaining c.in_ok-right.right) c.in-Some-find.ensures.value theirs.rules theirs.log
+    theirs.start c.in_ok-right.ensures.rest in
+    c.first_meeting.ensures.value
+    ∙ ap (λ (stops : List Stop). option_map meeting_at (meeting_among window.from window.to window.reach stops
+    (remaining c.in_ok-right.right).stops)) one
+    ∙ ap (λ stops. option_map meeting_at (meeting_among window.from window.to window.reach
+    (stops_in c.args.stores.now c.args.places.left c.args.period) stops)) other

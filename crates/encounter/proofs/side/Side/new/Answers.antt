@@ -1,0 +1,30 @@
+use Rattle.std.proofs.Common.{◌≡◌, subst, sym, ap, ◌∙◌}
+use Rattle.rule_store.specs.Flaws.{AreRules}
+use Rattle.rule_store.specs.Log.{block_stops, log_of}
+use Rattle.log_cursor.specs.Start.{IsWayOf}
+use Rattle.log_cursor.proofs.WayLemmas.{IsWayOf-placed, length-log_of}
+use Rattle.encounter.specs.Span.{tree_of}
+use Rattle.encounter.proofs.side.Side.new.Goals as goal
+
+pub invariant_of-result : goal.invariant_of-result
+invariant_of-result c =
+    let now = c.begin.new.self in
+    let rules = c.args.view.rules.now in
+    let log = log_of c.args.view in
+    let same : now.rules ≡ rules = c.begin.ensures.rules ∙ c.in_ok-pending.ensures.rules ∙ c.rules.ensures in
+    let sound : AreRules rules = subst AreRules same c.begin.ensures.sound in
+    let way = IsWayOf-placed rules c.args.start log sound (length-log_of c.args.view sound) c.requires in
+    record {
+      sound = c.begin.ensures.sound;
+      way = subst (λ r. IsWayOf r c.args.start now.symbols) (sym same)
+          (subst (IsWayOf rules c.args.start) (sym c.begin.ensures.symbols) way);
+      top_is = tt;
+    }
+
+pub returns-clause-rest : goal.returns-clause-rest
+unfolding block_stops
+returns-clause-rest c =
+    let now = c.begin.new.self in
+    let same : now.rules ≡ c.args.view.rules.now = c.begin.ensures.rules ∙ c.in_ok-pending.ensures.rules ∙ c.rules.ensures in
+    ap (λ r. tree_of r c.args.start now.symbols) same
+    ∙ ap (tree_of c.args.view.rules.now c.args.start) c.begin.ensures.symbols

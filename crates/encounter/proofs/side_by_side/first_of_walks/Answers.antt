@@ -1,0 +1,61 @@
+use Rattle.std.proofs.Common.{◌≡◌, ◌≤ℤ◌, ◌<ℤ◌, to_z, of_z, w64, ◌∙◌, ap, sym, arith}
+use Rattle.std.specs.Option.{option_map}
+use Rattle.std.proofs.lemmas.Int.{ints}
+use Rattle.std.proofs.lemmas.List.Elements.{All-head}
+use Rattle.track_types.specs.Near.{IsCellWithin}
+use Rattle.track_types.specs.declared.stop.Stop.{Stop}
+use Rattle.track_types.specs.Meeting.{first_together, meeting_at}
+use Rattle.encounter.proofs.WalkedLemmas.{drawn-found, drawn-left, drawn-right, ended-left, ended-right, none-left, none-right}
+use Rattle.encounter.proofs.side_by_side.first_of_walks.Goals as goal
+
+pub returns-in_err-here-clause-value : goal.returns-in_err-here-clause-value
+returns-in_err-here-clause-value g c =
+    c.from_residual.ensures
+    ∙ sym (ap (option_map meeting_at) (ap (λ stops. first_together c.args.reach stops (g.W.Lazy.left c.args.other.now))
+    c.in_err-here.ensures.none ∙ none-left c.args.reach (g.W.Lazy.left c.args.other.now)))
+
+pub returns-in_err-there-clause-value : goal.returns-in_err-there-clause-value
+returns-in_err-there-clause-value g c =
+    c.from_residual-in_err-there.ensures
+    ∙ sym (ap (option_map meeting_at) (ap (first_together c.args.reach (g.W.Lazy.left c.args.one.now))
+    c.in_err-there.ensures.none ∙ none-right c.args.reach (g.W.Lazy.left c.args.one.now)))
+
+pub returns-in_err-there-2-clause-value : goal.returns-in_err-there-2-clause-value
+returns-in_err-there-2-clause-value g c =
+    let early : c.drawn.there.instant <ℤ c.drawn.here.instant = omega (arith, ints, c.if-there-here.true) in
+    c.from_residual-in_err-there-2.ensures
+    ∙ sym (ap (option_map meeting_at) (ended-right _ _ _ _ _ _ _ _ _ _ c.drawn.invariant early c.in_err-there-2.ensures.none))
+
+pub drawn-preserved-then-there-here : goal.drawn-preserved-then-there-here
+drawn-preserved-then-there-here g c =
+    let early : c.drawn.there.instant <ℤ c.drawn.here.instant = omega (arith, ints, c.if-there-here.true) in
+    drawn-right _ _ _ _ _ _ _ _ _ _ c.drawn.invariant early _ _ _ _ c.in_ok-there-2.ensures.found
+    (omega (arith, c.draw-then-there-here.ensures.cost))
+
+pub are_together-requires-clause-here : goal.are_together-requires-clause-here
+are_together-requires-clause-here g c =
+    All-head (λ (s : Stop). IsCellWithin s.cell) c.drawn.here (g.W.Lazy.left c.drawn.one) c.drawn.invariant.left_is.near
+
+pub are_together-requires-clause-there : goal.are_together-requires-clause-there
+are_together-requires-clause-there g c =
+    All-head (λ (s : Stop). IsCellWithin s.cell) c.drawn.there (g.W.Lazy.left c.drawn.other)
+    c.drawn.invariant.right_is.near
+
+pub returns-then-are_together-clause-value : goal.returns-then-are_together-clause-value
+returns-then-are_together-clause-value g c =
+    let kept : to_z w64 (of_z w64 c.drawn.here.instant) ≡ c.drawn.here.instant = omega (arith, ints) in
+    rw kept (sym (ap (option_map meeting_at) (drawn-found _ _ _ _ _ _ _ _ _ _ c.drawn.invariant
+    (sym c.are_together.ensures ∙ c.if-are_together.true))))
+
+pub returns-in_err-here-2-clause-value : goal.returns-in_err-here-2-clause-value
+returns-in_err-here-2-clause-value g c =
+    let early : c.drawn.here.instant ≤ℤ c.drawn.there.instant = omega (arith, ints, c.if-there-here.false) in
+    c.from_residual-in_err-here-2.ensures
+    ∙ sym (ap (option_map meeting_at) (ended-left _ _ _ _ _ _ _ _ _ _ c.drawn.invariant early
+    (sym c.are_together.ensures ∙ c.if-are_together.false) c.in_err-here-2.ensures.none))
+
+pub drawn-preserved : goal.drawn-preserved
+drawn-preserved g c =
+    let early : c.drawn.here.instant ≤ℤ c.drawn.there.instant = omega (arith, ints, c.if-there-here.false) in
+    drawn-left _ _ _ _ _ _ _ _ _ _ c.drawn.invariant early (sym c.are_together.ensures ∙ c.if-are_together.false) _ _ _ _
+    c.in_ok-here-2.ensures.found (omega (arith, c.draw-in-drawn.ensures.cost))

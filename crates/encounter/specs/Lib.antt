@@ -1,0 +1,11 @@
+pub mod Earliest
+pub mod Walked
+pub mod WalkedCost
+pub mod Window
+pub mod Span
+pub mod Side
+pub mod NodeSpan
+pub mod Turn
+pub mod MeetCost
+pub mod IndexCost
+pub mod Seeking

@@ -1,0 +1,43 @@
+-- How many reads it takes at most to find in an index when two objects first met.
+use Rattle.std.specs.Prelude.{ℕ, ◌+◌, ◌*◌, ℤ, filter, Option, Some, None}
+use Rattle.std.specs.List.{sum_by}
+use Rattle.track_types.specs.declared.parts.Parts.{Parts}
+use Rattle.log_cursor.specs.Start.{start_at}
+use Rattle.snapshots.specs.Cost.{find_reads}
+use Rattle.snapshots.specs.IndexCost.{is_met}
+use Rattle.snapshots.specs.Parts.{anchored_at, index_in, log_in, numbers_in, rules_in, snapshot_in}
+use Rattle.snapshots.specs.View.{block_of}
+use Rattle.snapshots.specs.declared.anchored.Anchored.{Anchored}
+use Rattle.encounter.specs.Span.{Tree, close_count, tree_of}
+
+-- the parse trees of a block of a period
+abbrev pub block_tree : Parts → ℕ → Anchored → Tree
+block_tree parts number block =
+    tree_of (rules_in parts) (start_at (anchored_at parts.frame number block) block.cell) (log_in parts block)
+
+-- going through two blocks of a period: both stored lengths, and the rules that are close to a node of the other block
+abbrev pub pair_cost : Parts → ℤ → ℤ → ℕ → ℕ → Option Anchored → Option Anchored → ℕ
+pair_cost parts from to reach number None right = 0
+pair_cost parts from to reach number (Some left) None = 0
+pair_cost parts from to reach number (Some left) (Some right) =
+    (left.len + right.len) + close_count from to reach (block_tree parts number left) (block_tree parts number right)
+
+-- a period, in which both blocks are looked for
+abbrev pub period_meet_cost : Parts → ℕ → ℕ → ℤ → ℤ → ℕ → ℕ → ℕ
+period_meet_cost parts left right from to reach number =
+    2 * find_reads parts.frame.height
+    + pair_cost parts from to reach number (block_of (snapshot_in parts number) left)
+    (block_of (snapshot_in parts number) right)
+
+-- two objects, by their places: each period that the window meets, and nothing where one is unknown
+abbrev pub meet_cost_of : Parts → Option ℕ → Option ℕ → ℤ → ℤ → ℕ → ℕ
+meet_cost_of parts None right from to reach = 0
+meet_cost_of parts (Some left) None from to reach = 0
+meet_cost_of parts (Some left) (Some right) from to reach =
+    sum_by (period_meet_cost parts left right from to reach)
+    (filter (is_met parts.frame from to) (numbers_in parts.frame))
+
+-- two objects
+unfoldable pub meet_cost : Parts → ℕ → ℕ → ℤ → ℤ → ℕ → ℕ
+meet_cost parts left right from to reach =
+    meet_cost_of parts (index_in parts.objects left) (index_in parts.objects right) from to reach

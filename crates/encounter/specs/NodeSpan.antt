@@ -1,0 +1,7 @@
+-- The span of a node as code sees it.
+use Rattle.encounter.specs.Span.{Span}
+use Rattle.encounter.specs.declared.block_node.BlockNode.{BlockNode}
+
+-- its instants and its box
+abbrev pub span_of_node : BlockNode → Span
+span_of_node part = record { begin = part.begin; end = part.end; area = part.area }

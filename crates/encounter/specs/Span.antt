@@ -1,0 +1,103 @@
+-- The nodes of a block's parse trees, each with its instants and its placed box, and which of them may be opened where two
+-- blocks are gone through together.
+use Rattle.std.specs.Prelude.{ℕ, ◌+◌, ◌*◌, ℤ, pos, ◌+ℤ◌, ◌-ℤ◌, unsigned_abs, Bool, false, ◌&&◌, nat_le, List, [], ◌∷◌, ◌++◌, length, map, filter, Option, Some, None}
+use Rattle.std.specs.Int.{int_max, int_min}
+use Rattle.std.specs.Int.Signed.{le_z}
+use Rattle.std.specs.List.{list_any}
+use Rattle.track_types.specs.declared.cell_box.CellBox.{CellBox}
+use Rattle.track_types.specs.declared.stop.Stop.{Stop}
+use Rattle.rule_store.specs.View.{RulesView}
+use Rattle.rule_store.specs.Boxes.{box_round}
+use Rattle.rule_store.specs.Cells.{cells_along, displacement_of, moved, present_in}
+use Rattle.rule_store.specs.Log.{block_stops}
+use Rattle.rule_store.specs.Nodes.{Node, nodes_in}
+use Rattle.log_cursor.specs.Touching.{terminal_values}
+use Rattle.log_cursor.specs.declared.start.Start.{Start}
+
+-- a node: the instant before its first, its last instant, and the least box round the cells in which the object is present
+pub record Span : Type 0 where
+  pub begin : ℤ
+  pub end : ℤ
+  pub area : Option CellBox
+
+-- the span of values that are walked from a place
+abbrev pub span_along : Start → List ℕ → Span
+span_along start values = record {
+  begin = start.instant;
+  end = start.instant +ℤ pos (length values);
+  area = box_round (present_in (cells_along start.cell values));
+}
+
+-- where a list of terminals leads
+abbrev pub start_beyond : RulesView → Start → List ℕ → Start
+start_beyond rules start terminals = record {
+  instant = start.instant +ℤ pos (length terminals);
+  cell = moved start.cell (displacement_of (terminal_values rules terminals));
+}
+
+-- the span of a rule's node
+abbrev pub span_of : RulesView → Start → Node → Span
+span_of rules start node =
+    span_along (start_beyond rules start node.before) (terminal_values rules node.inside)
+
+-- the rule nodes of a log's parse trees
+unfoldable pub spans_in : RulesView → Start → List ℕ → List Span
+spans_in rules start log = map (span_of rules start) (nodes_in rules log)
+
+-- a stop is a node of one instant and one cell: the anchor, or a terminal
+abbrev pub span_at : Stop → Span
+span_at stop = record {
+  begin = stop.instant -ℤ pos 1;
+  end = stop.instant;
+  area = box_round (stop.cell ∷ []);
+}
+
+-- how far two ranges of numbers are apart
+abbrev pub gap_of : ℤ → ℤ → ℤ → ℤ → ℕ
+gap_of low high first last = unsigned_abs (int_max (pos 0) (int_max (first -ℤ high) (low -ℤ last)))
+
+-- the least squared distance of a cell of one box and a cell of another
+abbrev pub box_distance : CellBox → CellBox → ℕ
+box_distance a b = gap_of a.x1 a.x2 b.x1 b.x2 * gap_of a.x1 a.x2 b.x1 b.x2
+    + gap_of a.y1 a.y2 b.y1 b.y2 * gap_of a.y1 a.y2 b.y1 b.y2
+
+-- whether there are two boxes, within a distance of each other
+abbrev pub are_near : ℕ → Option CellBox → Option CellBox → Bool
+are_near reach None other = false
+are_near reach (Some area) None = false
+are_near reach (Some area) (Some other) = nat_le (box_distance area other) (reach * reach)
+
+-- whether two nodes have an instant of the window in common
+abbrev pub are_common : ℤ → ℤ → Span → Span → Bool
+are_common from to a b =
+    le_z (int_max from (int_max a.begin b.begin +ℤ pos 1)) (int_min to (int_min a.end b.end))
+
+-- whether two nodes are close: they may have a meeting
+abbrev pub is_close : ℤ → ℤ → ℕ → Span → Span → Bool
+is_close from to reach a b = are_common from to a b && are_near reach a.area b.area
+
+-- a block, or what remains of it: its stops and its rule nodes
+pub record Tree : Type 0 where
+  pub stops : List Stop
+  pub rules : List Span
+
+-- all its nodes: the anchor and the terminals with a cell are its stops
+abbrev pub nodes_of : Tree → List Span
+nodes_of tree = map span_at tree.stops ++ tree.rules
+
+-- how many of some nodes pass a test with some of others
+unfoldable pub count_with : (Span → Span → Bool) → List Span → List Span → ℕ
+count_with test nodes others = length (filter (λ node. list_any (test node) others) nodes)
+
+-- the rule nodes of either that are close to some node of the other
+unfoldable pub close_count : ℤ → ℤ → ℕ → Tree → Tree → ℕ
+close_count from to reach left right =
+    count_with (is_close from to reach) left.rules (nodes_of right)
+    + count_with (λ node other. is_close from to reach other node) right.rules (nodes_of left)
+
+-- the parse trees of a block
+abbrev pub tree_of : RulesView → Start → List ℕ → Tree
+tree_of rules start log = record {
+  stops = block_stops rules start.instant start.cell log;
+  rules = spans_in rules start log;
+}

@@ -1,0 +1,99 @@
+ghost use Rattle.std.specs.Prelude.{◌≡◌};
+
+use crate::search::meet;
+use crate::window::Window;
+use std::alloc::Global;
+use std::sync::ledger::Ledger;
+use step_count::Steps;
+use track_index::{Index, IndexRef, PathWalk};
+use track_types::{Answerer, Cell, Facts, Hit, Meeting, Meets, Memory, Near, Region, Sighting};
+
+/// An index, which also tells meetings: by going through two blocks of each period together. Its
+/// chart, facts, walks and other costs are those of the index.
+#[derive(Clone, Copy)]
+pub struct IndexMeets<'a> {
+    pub view: IndexRef<'a>,
+}
+
+impl<'a> IndexMeets<'a> {
+    /// This index, with meetings. It takes no memory.
+    pub fn new(index: &'a Index) -> IndexMeets<'a>
+        ensures { result.view.index.now ≡ index.now }
+    {
+        IndexMeets { view: index.view() }
+    }
+}
+
+impl<'a> Answerer for IndexMeets<'a> {
+    ghost use Rattle.encounter.specs.IndexCost.{meets_cost};
+    ghost use Rattle.snapshots.specs.Parts.{chart_in};
+    ghost use Rattle.track_index.specs.Facts.{facts_of};
+
+    type Walk = PathWalk<'a>;
+
+    ghost chart = { λ m. chart_in m.view.index.now };
+
+    ghost facts = { λ m. facts_of m.view.index.now };
+
+    ghost cost = { λ m. meets_cost m.view.index.now };
+
+    fn facts(self) -> Facts {
+        self.view.facts()
+    }
+
+    fn position<L: Ledger>(self, object: u32, instant: i64, steps: &mut Steps<L>) -> Option<Cell> {
+        self.view.position(object, instant, steps)
+    }
+
+    fn walk(self, alloc: Global, object: u32, from: i64, to: i64) -> Result<PathWalk<'a>, Memory> {
+        self.view.walk(alloc, object, from, to)
+    }
+
+    fn slice<L: Ledger>(
+        self,
+        alloc: Global,
+        instant: i64,
+        region: &Region,
+        steps: &mut Steps<L>,
+    ) -> Result<Vec<Sighting>, Memory> {
+        self.view.slice(alloc, instant, region, steps)
+    }
+
+    fn interval<L: Ledger>(
+        self,
+        alloc: Global,
+        from: i64,
+        to: i64,
+        region: &Region,
+        steps: &mut Steps<L>,
+    ) -> Result<Vec<Hit>, Memory> {
+        self.view.interval(alloc, from, to, region, steps)
+    }
+
+    fn nearest<L: Ledger>(
+        self,
+        alloc: Global,
+        count: u32,
+        instant: i64,
+        cell: Cell,
+        steps: &mut Steps<L>,
+    ) -> Result<Vec<Near>, Memory> {
+        self.view.nearest(alloc, count, instant, cell, steps)
+    }
+}
+
+impl<'a> Meets for IndexMeets<'a> {
+    fn meet<L: Ledger>(
+        self,
+        alloc: Global,
+        left: u32,
+        right: u32,
+        from: i64,
+        to: i64,
+        reach: u64,
+        steps: &mut Steps<L>,
+    ) -> Result<Option<Meeting>, Memory> {
+        let window = Window { from, to, reach };
+        meet(alloc, self.view.index.stores(), left, right, &window, steps)
+    }
+}

@@ -1,0 +1,90 @@
+ghost use Rattle.std.specs.Prelude.{◌≡◌, ◌+◌, ◌≤◌, ◌^◌, option_map, true, false};
+ghost use Rattle.track_types.specs.Meeting.{meeting_at};
+ghost use Rattle.encounter.specs.Turn.{IsTurned, meeting_ahead, moment, reads_ahead};
+
+use crate::block_node::BlockNode;
+use crate::side::Side;
+use crate::window::Window;
+use std::sync::ledger::Ledger;
+use step_count::Steps;
+use track_types::Meeting;
+
+/// What a turn came to: something is passed or opened, there is no meeting, or this is the first.
+#[derive(Clone, Copy)]
+pub enum Turn {
+    GoesOn,
+    Ends,
+    Meets(Meeting),
+}
+
+/// The first meeting of two blocks. It reads the symbols of both logs, and rules that are close to a
+/// node of the other block.
+pub fn first_meeting<L: Ledger>(
+    left: &mut Side<'_>,
+    right: &mut Side<'_>,
+    window: &Window,
+    steps: &mut Steps<L>,
+) -> Option<Meeting>
+    requires { window.now.reach ≤ 2 ^ 42 }
+    ensures value { result ≡ option_map meeting_at (meeting_ahead
+        window.now.from window.now.to window.now.reach left.old right.old) }
+    ensures cost { steps.new ≤ steps.old + reads_ahead
+        window.now.from window.now.to window.now.reach left.old right.old }
+{
+    loop {
+        match take_turn(left, right, window, steps) {
+            Turn::GoesOn => {}
+            Turn::Ends => return None,
+            Turn::Meets(meeting) => return Some(meeting),
+        }
+    }
+}
+
+// Where the next nodes can't meet, the one that ends first is passed; the left at a tie. Else a rule
+// among them is opened, and two stops are a meeting.
+fn take_turn<L: Ledger>(
+    left: &mut Side<'_>,
+    right: &mut Side<'_>,
+    window: &Window,
+    steps: &mut Steps<L>,
+) -> Turn
+    requires { window.now.reach ≤ 2 ^ 42 }
+    ensures { IsTurned window.now.from window.now.to window.now.reach
+        (moment left.old right.old steps.old) (moment left.new right.new steps.new) result }
+{
+    let one = left.node();
+    let other = right.node();
+    if window.to <= one.begin || window.to <= other.begin {
+        return Turn::Ends;
+    }
+    if !window.may_meet(&one, &other) {
+        let more = if one.end <= other.end {
+            left.pass(steps)
+        } else {
+            right.pass(steps)
+        };
+        return if more { Turn::GoesOn } else { Turn::Ends };
+    }
+    if opens_first(&one, &other) {
+        left.open(steps);
+        return Turn::GoesOn;
+    }
+    if other.opens {
+        right.open(steps);
+        return Turn::GoesOn;
+    }
+    Turn::Meets(Meeting {
+        instant: one.end,
+        left: one.cell,
+        right: other.cell,
+    })
+}
+
+// Whether the first of two nodes is opened, and not the second: the rule that ends last, and the
+// first at a tie.
+fn opens_first(one: &BlockNode, other: &BlockNode) -> bool
+    ensures yes { result ≡ true → one.now.opens ≡ true }
+    ensures no { result ≡ false → one.now.opens ≡ true → other.now.opens ≡ true }
+{
+    one.opens && (!other.opens || other.end <= one.end)
+}

@@ -1,0 +1,121 @@
+ghost use Rattle.std.specs.Prelude.{◌≡◌, ◌+◌, ◌<◌, ◌≤◌, ◌^◌, length, option_map, IfOk};
+ghost use Rattle.track_types.specs.Frame.{periods_of};
+ghost use Rattle.track_types.specs.Meeting.{meeting_at, meeting_of};
+ghost use Rattle.snapshots.specs.Parts.{chart_in, stops_in};
+ghost use Rattle.encounter.specs.MeetCost.{meet_cost, period_meet_cost};
+ghost use Rattle.encounter.specs.Seeking.{meet_cost_between, meeting_between};
+ghost use Rattle.encounter.specs.Window.{meeting_among};
+
+use crate::pairing::first_meeting;
+use crate::side::Side;
+use crate::window::Window;
+use object_track::{Periods, Placed};
+use snapshots::Stores;
+use std::alloc::Global;
+use std::sync::ledger::Ledger;
+use step_count::Steps;
+use track_types::{Meeting, Memory};
+
+/// The first instant of a window, whose ends count, at which two objects have a row within its
+/// distance, and their cells; `None` exactly where there is none, as for an unknown object.
+///
+/// The distance is at most 2^42. Both blocks of each period that the window meets are gone through
+/// together, up to the meeting. `Memory` is the only refusal: memory is taken where the grammar is
+/// deep, for the parts of rules.
+pub fn meet<L: Ledger>(
+    alloc: Global,
+    stores: &Stores,
+    left: u32,
+    right: u32,
+    window: &Window,
+    steps: &mut Steps<L>,
+) -> Result<Option<Meeting>, Memory>
+    requires { window.now.reach ≤ 2 ^ 42 }
+    ensures ok { IfOk result (λ found. found ≡ meeting_of (chart_in stores.now).rows left right
+        window.now.from window.now.to window.now.reach) }
+    ensures cost { steps.new ≤ steps.old + meet_cost stores.now left right
+        window.now.from window.now.to window.now.reach }
+{
+    let _ = stores.frame(); // says what holds of every index
+    let Some(one) = stores.index_of(left) else {
+        return Ok(None);
+    };
+    let Some(other) = stores.index_of(right) else {
+        return Ok(None);
+    };
+    let places = Places {
+        left: one,
+        right: other,
+    };
+    let periods = Periods::met(stores, window.from, window.to);
+    meet_in_periods(alloc, stores, places, window, periods, steps)
+}
+
+// Two objects, by their places among all objects.
+#[derive(Clone, Copy)]
+struct Places {
+    left: u32,
+    right: u32,
+}
+
+// The first meeting in some periods.
+fn meet_in_periods<L: Ledger>(
+    alloc: Global,
+    stores: &Stores,
+    places: Places,
+    window: &Window,
+    periods: Periods,
+    steps: &mut Steps<L>,
+) -> Result<Option<Meeting>, Memory>
+    requires reach { window.now.reach ≤ 2 ^ 42 }
+    requires left { places.left < length stores.now.objects }
+    requires right { places.right < length stores.now.objects }
+    requires periods { periods.behind ≤ periods_of stores.now.frame }
+    ensures ok { IfOk result (λ found. found ≡ option_map meeting_at (meeting_between stores.now
+        places.left places.right window.now.from window.now.to window.now.reach
+        periods.next periods.behind)) }
+    ensures cost { steps.new ≤ steps.old + meet_cost_between stores.now places.left places.right
+        window.now.from window.now.to window.now.reach periods.next periods.behind }
+{
+    let _ = stores.frame(); // says what holds of every index
+    for period in periods.next..periods.behind {
+        let found = meet_in_period(alloc, stores, places, window, period, steps)?;
+        if let Some(meeting) = found {
+            return Ok(Some(meeting));
+        }
+    }
+    Ok(None)
+}
+
+// The first meeting in one period: both blocks are looked for, and gone through together.
+fn meet_in_period<L: Ledger>(
+    alloc: Global,
+    stores: &Stores,
+    places: Places,
+    window: &Window,
+    period: u32,
+    steps: &mut Steps<L>,
+) -> Result<Option<Meeting>, Memory>
+    requires reach { window.now.reach ≤ 2 ^ 42 }
+    requires left { places.left < length stores.now.objects }
+    requires right { places.right < length stores.now.objects }
+    requires period { period < periods_of stores.now.frame }
+    ensures ok { IfOk result (λ found. found ≡ option_map meeting_at (meeting_among
+        window.now.from window.now.to window.now.reach
+        (stops_in stores.now places.left period) (stops_in stores.now places.right period))) }
+    ensures cost { steps.new ≤ steps.old + period_meet_cost stores.now places.left places.right
+        window.now.from window.now.to window.now.reach period }
+{
+    let snapshot = stores.snapshot(period);
+    let Some(one) = snapshot.find(places.left, steps) else {
+        return Ok(None);
+    };
+    let Some(other) = snapshot.find(places.right, steps) else {
+        return Ok(None);
+    };
+    let mine = Placed::new(stores, period, &one);
+    let theirs = Placed::new(stores, period, &other);
+    let mut left = Side::new(alloc, mine.log, mine.start)?;
+    let mut right = Side::new(alloc, theirs.log, theirs.start)?;
+    Ok(first_meeting(&mut left, &mut right, window, steps))
+}

@@ -1,0 +1,52 @@
+ghost use Rattle.std.specs.Prelude.{◌≡◌, ◌+◌, ◌*◌, ◌≤◌, ◌^◌, option_map};
+ghost use Rattle.track_types.specs.Near.{IsCellWithin};
+ghost use Rattle.track_types.specs.Meeting.{are_together, first_together, meeting_at};
+ghost use Rattle.encounter.specs.Walked.{IsTrack};
+
+use std::sync::ledger::Ledger;
+use step_count::Steps;
+use track_types::{Lazy, Meeting, Stop, dist2};
+
+/// The first meeting of two walks, each over the stops of one object. The walk that is at the
+/// earlier instant is drawn from, until both are at one instant within the distance.
+pub fn first_of_walks<W: Lazy<Item = Stop>, L: Ledger>(
+    one: &mut W,
+    other: &mut W,
+    reach: u64,
+    steps: &mut Steps<L>,
+) -> Option<Meeting>
+    requires reach { reach ≤ 2 ^ 42 }
+    requires one { IsTrack (W.left one.old) }
+    requires other { IsTrack (W.left other.old) }
+    ensures value { result
+        ≡ option_map meeting_at (first_together reach (W.left one.old) (W.left other.old)) }
+    ensures cost { steps.new ≤ steps.old + (W.budget one.old + W.budget other.old) }
+{
+    let mut here = one.draw(steps)?;
+    let mut there = other.draw(steps)?;
+    'drawn: loop {
+        if there.instant < here.instant {
+            there = other.draw(steps)?;
+            continue;
+        }
+        if are_together(here, there, reach) {
+            return Some(Meeting {
+                instant: here.instant,
+                left: here.cell,
+                right: there.cell,
+            });
+        }
+        here = one.draw(steps)?;
+    }
+}
+
+// Whether two stops are at one instant, within a distance of each other.
+fn are_together(here: Stop, there: Stop, reach: u64) -> bool
+    requires reach { reach ≤ 2 ^ 42 }
+    requires here { IsCellWithin here.cell }
+    requires there { IsCellWithin there.cell }
+    ensures { result ≡ are_together reach here there }
+{
+    here.instant == there.instant
+        && dist2(here.cell, there.cell) <= u128::from(reach) * u128::from(reach)
+}

@@ -1,0 +1,97 @@
+ghost use Rattle.std.specs.Prelude.{◌≡◌, ◌+◌, ◌≤◌, IfOk};
+
+use crate::side_by_side::first_of_walks;
+use std::alloc::Global;
+use std::sync::ledger::Ledger;
+use step_count::Steps;
+use track_types::{Answerer, Cell, Facts, Hit, Meeting, Meets, Memory, Near, Region, Sighting};
+
+/// Any answerer, which also tells meetings: by two paths that are drawn side by side. Its chart,
+/// facts, costs and walks are those of the answerer.
+#[derive(Clone, Copy)]
+pub struct Walked<A: Answerer> {
+    answerer: A,
+}
+
+impl<A: Answerer> Walked<A> {
+    /// This answerer, with meetings. It takes no memory.
+    pub fn new(answerer: A) -> Walked<A>
+        ensures { result.answerer ≡ answerer }
+    {
+        Walked { answerer }
+    }
+}
+
+impl<A: Answerer> Answerer for Walked<A> {
+    ghost use Rattle.encounter.specs.WalkedCost.{walked_cost};
+
+    type Walk = A::Walk;
+
+    ghost chart = { λ w. A.chart w.answerer };
+
+    ghost facts = { λ w. A.facts w.answerer };
+
+    ghost cost = { λ w. walked_cost (A.cost w.answerer) };
+
+    fn facts(self) -> Facts {
+        self.answerer.facts()
+    }
+
+    fn position<L: Ledger>(self, object: u32, instant: i64, steps: &mut Steps<L>) -> Option<Cell> {
+        self.answerer.position(object, instant, steps)
+    }
+
+    fn walk(self, alloc: Global, object: u32, from: i64, to: i64) -> Result<A::Walk, Memory> {
+        self.answerer.walk(alloc, object, from, to)
+    }
+
+    fn slice<L: Ledger>(
+        self,
+        alloc: Global,
+        instant: i64,
+        region: &Region,
+        steps: &mut Steps<L>,
+    ) -> Result<Vec<Sighting>, Memory> {
+        self.answerer.slice(alloc, instant, region, steps)
+    }
+
+    fn interval<L: Ledger>(
+        self,
+        alloc: Global,
+        from: i64,
+        to: i64,
+        region: &Region,
+        steps: &mut Steps<L>,
+    ) -> Result<Vec<Hit>, Memory> {
+        self.answerer.interval(alloc, from, to, region, steps)
+    }
+
+    fn nearest<L: Ledger>(
+        self,
+        alloc: Global,
+        count: u32,
+        instant: i64,
+        cell: Cell,
+        steps: &mut Steps<L>,
+    ) -> Result<Vec<Near>, Memory> {
+        self.answerer.nearest(alloc, count, instant, cell, steps)
+    }
+}
+
+impl<A: Answerer> Meets for Walked<A> {
+    fn meet<L: Ledger>(
+        self,
+        alloc: Global,
+        left: u32,
+        right: u32,
+        from: i64,
+        to: i64,
+        reach: u64,
+        steps: &mut Steps<L>,
+    ) -> Result<Option<Meeting>, Memory> {
+        let _ = self.answerer.facts(); // says that the chart is a table
+        let mut one = self.answerer.walk(alloc, left, from, to)?;
+        let mut other = self.answerer.walk(alloc, right, from, to)?;
+        Ok(first_of_walks(&mut one, &mut other, reach, steps))
+    }
+}
