@@ -1,6 +1,6 @@
 -- The answers over the one row of the tests.
 use Rattle.std.proofs.Common.{◌≡◌, ℕ, ℤ, pos, negsuc, ◌&&◌, if◌then◌else◌, nat_lt, [], ◌∷◌, refl}
-use Rattle.std.proofs.Common.{false, inl, inr, arith}
+use Rattle.std.proofs.Common.{true, false, inl, inr, arith, ◌*◌, nat_le, ◌==◌, Some, None}
 use Rattle.std.proofs.lemmas.Bool.{cases_Bool}
 use Rattle.std.proofs.lemmas.Bool.Decides.{nat_tests}
 use Rattle.std.proofs.lemmas.Int.{ints}
@@ -8,9 +8,11 @@ use Rattle.std.specs.Ordering.{int_eq, is_lt, nat_cmp, ordering_then}
 use Rattle.host_ports.specs.Faults.{Rose}
 use Rattle.list_laws.specs.Ordered.{ordered, placed}
 use Rattle.track_types.specs.ByFilter.{hits_of, nearest_among, nears_at, nears_of, sightings_of}
+use Rattle.track_types.specs.Meeting.{first_together, meeting_of, pairs_of}
 use Rattle.track_types.specs.Region.{in_region, is_between, squared_distance}
 use Rattle.track_types.specs.declared.cell.Cell.{Cell}
 use Rattle.track_types.specs.declared.hit.Hit.{Hit}
+use Rattle.track_types.specs.declared.meeting.Meeting.{Meeting}
 use Rattle.track_types.specs.declared.near.Near.{Near}
 use Rattle.track_types.specs.declared.region.Region.{Region}
 use Rattle.track_types.specs.declared.row.Row.{Row}
@@ -61,6 +63,32 @@ one-near count instant cell = elim (cases_Bool (int_eq instant (pos 2))) [
   ]
   | inr fails ↦ rw fails refl
 ]
+
+abbrev pub buoy_meeting : Meeting
+buoy_meeting = record { instant = pos 2; left = buoy_cell; right = buoy_cell }
+
+pub one-meeting : (left right : ℕ) (from to : ℤ) (reach : ℕ) →
+    (if (left == 7 && right == 7) && is_between from to (pos 2) then Some buoy_meeting else None)
+    ≡ meeting_of (buoy_row ∷ []) left right from to reach
+unfolding meeting_of first_together pairs_of
+one-meeting left right from to reach =
+    let near : nat_le 0 (reach * reach) ≡ true = grind (arith, nat_tests) in
+    elim (cases_Bool (is_between from to (pos 2))) [
+      | inl within ↦ elim (cases_Bool (left == 7)) [
+        | inl one ↦ elim (cases_Bool (right == 7)) [
+          | inl other ↦ rw (one, other, within, near) refl
+          | inr other ↦ rw (one, other, within) refl
+        ]
+        | inr one ↦ rw one refl
+      ]
+      | inr outside ↦ elim (cases_Bool (left == 7)) [
+        | inl one ↦ elim (cases_Bool (right == 7)) [
+          | inl other ↦ rw (one, other, outside) refl
+          | inr other ↦ rw (one, other, outside) refl
+        ]
+        | inr one ↦ rw one refl
+      ]
+    ]
 
 -- a count of faults that stays at 0 did not rise
 pub calm : Rose 0 0 → ⊥

@@ -4,10 +4,13 @@ use Rattle.std.specs.Fmt.{digits}
 use Rattle.list_laws.specs.Ordered.{ordered, placed}
 use Rattle.track_types.specs.ByFilter.{hits_of, nearest_among, nears_at, nears_of, sightings_of}
 use Rattle.track_types.specs.Chart.{ChartView}
+use Rattle.track_types.specs.Meeting.{first_together, meeting_of, pairs_of}
 use Rattle.track_types.specs.declared.facts.Facts.{Facts}
 use Rattle.track_types.specs.declared.question.Question.TheVariants as question
 use Rattle.track_types.specs.declared.region.Region.TheVariants as region
 use Rattle.question_shell.specs.Grammar.{question_of}
+use Rattle.track_types.specs.declared.shape.Shape.TheVariants as shape
+use Rattle.question_shell.specs.RegionWords.{shapes_fault, shapes_of}
 use Rattle.question_shell.specs.Lines.{lines_of, unended_line, whole_lines, words_of}
 use Rattle.question_shell.specs.Replies.{costs_of, desk_after, replies_of}
 use Rattle.question_shell.specs.Reply.{listed}
@@ -75,36 +78,74 @@ instant_above = refl
 
 slice_question : question_of (codes "slice -2 rect 0 1 2 3")
     ≡ Ok (Some (question.Slice (negsuc 1) (region.Rect (pos 0) (pos 1) (pos 2) (pos 3))))
+unfolding shapes_fault
 slice_question = refl
 
 interval_question : question_of (codes "interval 1 2 disc -3 4 4398046511104")
     ≡ Ok (Some (question.Interval (pos 1) (pos 2) (region.Disc (negsuc 2) (pos 4) 4398046511104)))
+unfolding shapes_fault
 interval_question = refl
 
 nearest_question : question_of (codes "nearest 3 2 0 -1")
     ≡ Ok (Some (question.Nearest 3 (pos 2) (record { x = pos 0; y = negsuc 0 })))
 nearest_question = refl
 
+meet_question : question_of (codes "meet 1 4294967295 -9 9 4398046511104")
+    ≡ Ok (Some (question.Meet 1 4294967295 (negsuc 8) (pos 9) 4398046511104))
+meet_question = refl
+
+distance_missing : question_of (codes "meet 1 2 0 9") ≡ Err bad.Count
+distance_missing = refl
+
+distance_below : question_of (codes "meet 1 2 0 9 -1") ≡ Err (bad.Range 6)
+distance_below = refl
+
+distance_above : question_of (codes "meet 1 2 0 9 4398046511105") ≡ Err (bad.Range 6)
+distance_above = refl
+
+zone_question : question_of (codes "slice 0 any 2 rect 2 0 2 0 disc 0 3 0")
+    ≡ Ok (Some (question.Slice (pos 0) (region.Any (shape.Rect (pos 2) (pos 0) (pos 2) (pos 0) ∷ shape.Disc (pos 0) (pos 3) 0 ∷ []))))
+unfolding shapes_fault shapes_of
+zone_question = refl
+
+-- after `any` their number is judged first, and then the names and the number of the words of all shapes
+too_many_shapes : question_of (codes "slice x any 17 ring") ≡ Err (bad.Range 4)
+too_many_shapes = refl
+
+name_in_zone : question_of (codes "slice x any 2 disc 0 0 y ring") ≡ Err bad.Word
+unfolding shapes_fault
+name_in_zone = refl
+
+number_in_zone : question_of (codes "slice 0 any 2 disc 0 0 1 rect 0 0 y 1") ≡ Err (bad.Number 12)
+unfolding shapes_fault shapes_of
+number_in_zone = refl
+
 -- the word of a region's shape is judged before the number of words, and that before the numbers
 other_shape : question_of (codes "slice x ring") ≡ Err bad.Word
+unfolding shapes_fault
 other_shape = refl
 
 number_as_shape : question_of (codes "interval 0 rect 1 1 2 2") ≡ Err bad.Word
+unfolding shapes_fault
 number_as_shape = refl
 
 shape_missing : question_of (codes "slice x") ≡ Err bad.Count
 shape_missing = refl
 
 side_missing : question_of (codes "slice x rect 1 2 3") ≡ Err bad.Count
+unfolding shapes_fault
 side_missing = refl
 
 instant_bad : question_of (codes "slice x disc y 2 -3") ≡ Err (bad.Number 2)
+unfolding shapes_fault
 instant_bad = refl
 
 radius_below : question_of (codes "slice 0 disc 0 0 -1") ≡ Err (bad.Range 6)
+unfolding shapes_fault
 radius_below = refl
 
 radius_above : question_of (codes "slice 0 disc 0 0 4398046511105") ≡ Err (bad.Range 6)
+unfolding shapes_fault
 radius_above = refl
 
 hold_question : question_of (codes "hold 15 7 -1 2") ≡ Ok (Some (question.Hold 15 7 (negsuc 0) (pos 2)))
@@ -157,8 +198,34 @@ replies_to_regions : (facts : Facts) →
     ≡ codes "7 12 11\nok 1\nok 0\n7 0 10 -10\nok 1\n7 10 -10 25\nok 1\n"
 unfolding
     chart digits replies_of listed whole_lines unended_line sightings_of hits_of nears_of nears_at nearest_among
-    ordered placed
+    ordered placed shapes_fault
 replies_to_regions facts = refl
+
+-- objects 1 and 2 come towards each other, and are in one cell in the end
+meeting_chart : ChartView
+meeting_chart = record {
+  rows = record { object = 1; instant = pos 0; cell = record { x = pos 0; y = pos 0 } }
+      ∷ record { object = 1; instant = pos 1; cell = record { x = pos 1; y = pos 0 } }
+      ∷ record { object = 1; instant = pos 2; cell = record { x = pos 2; y = pos 0 } }
+      ∷ record { object = 1; instant = pos 3; cell = record { x = pos 2; y = pos 0 } }
+      ∷ record { object = 2; instant = pos 0; cell = record { x = pos 9; y = pos 0 } }
+      ∷ record { object = 2; instant = pos 1; cell = record { x = pos 8; y = pos 0 } }
+      ∷ record { object = 2; instant = pos 2; cell = record { x = pos 5; y = pos 0 } }
+      ∷ record { object = 2; instant = pos 3; cell = record { x = pos 2; y = pos 0 } } ∷ [];
+  first = pos 0;
+  last = pos 3;
+  period = 4;
+  cell = 1;
+  tick = 1;
+}
+
+replies_to_meetings : (facts : Facts) →
+    replies_of meeting_chart facts [] (lines_of
+    (codes "meet 1 2 0 9 3\nmeet 1 2 0 9 2\nmeet 1 2 0 1 3\nmeet 1 9 0 9 3\nmeet 1 1 1 9 0\nmeet 2 1 3 3 0\n"))
+    ≡ codes "2 2 0 5 0\nok 1\n3 2 0 2 0\nok 1\nok 0\nok 0\n1 1 0 1 0\nok 1\n3 2 0 2 0\nok 1\n"
+unfolding
+    meeting_chart digits replies_of listed whole_lines unended_line meeting_of first_together pairs_of
+replies_to_meetings facts = refl
 
 -- the eleven facts of two objects over four instants
 facts_of_two : Facts

@@ -1,50 +1,24 @@
 -- Number words, one after another.
-use Rattle.std.proofs.Common.{◌≡◌, ℕ, suc, ◌+◌, ◌-◌, ◌<◌, List, [], ◌∷◌, ◌++◌, length, take, drop, get_or, refl, ap, ◌∙◌, arith, subst}
-use Rattle.std.proofs.Common.{ℤ, pos, to_z, of_z, w64, Some, None, Ok, drop-cons, inl, inr, add-one, length-append, append_assoc}
-use Rattle.std.proofs.lemmas.Bool.{cases_lt}
-use Rattle.std.proofs.lemmas.Int.{ints, to_z-of_z}
-use Rattle.std.proofs.lemmas.List.{get_or_at, get_or_append_left, get_or-append-add, get_or-drop, length-drop}
-use Rattle.list_laws.proofs.SliceLemmas.{take-rest}
+use Rattle.std.proofs.Common.{◌≡◌, ◌≤◌, ℕ, ℤ, List, [], ◌∷◌, length, drop, get_or, nat_lt, nat_eq, false, arith, refl, sym, ap, take, take_all, inl, inr, Ok, Err, Result, ◌<◌}
+use Rattle.std.proofs.lemmas.Bool.Decides.{nat_tests}
+use denote.Ref.{Bor}
 use Rattle.track_types.specs.Bounds.{number_within, value_within}
 use Rattle.track_types.specs.Numeral.{numeral_of}
 use Rattle.track_types.specs.declared.numeral.Numeral.{Numeral}
 use Rattle.track_types.specs.declared.numeral.Numeral.TheVariants.{Value, Large, Not}
-use Rattle.question_shell.specs.Grammar.{AreInRange, place_word}
-use Rattle.question_shell.specs.Grammar.{IsInRange, first_fault, fault_or, number_at, number_of, numbers_of}
-use Rattle.question_shell.specs.Grammar.{value_of, word_fault}
+use Rattle.question_shell.specs.NumberWords.{first_fault, number_of, value_of}
+use Rattle.question_shell.specs.Lines.{texts}
+use Rattle.question_shell.specs.Grammar.{form_of, form_question, form_words, question_in, some_question}
+use Rattle.question_shell.specs.Grammar.{worded_question}
 use Rattle.question_shell.specs.declared.bad.Bad.{Bad}
-use Rattle.question_shell.specs.declared.form.FormWord.{FormWord}
-use Rattle.question_shell.specs.declared.form.FormWord.TheVariants.{Shape}
-
--- numbers after others are in the ranges of the words after others
-pub ranges-behind : (front wanted : List FormWord) (n : ℕ) (numbers : List ℤ) → length front ≡ n →
-    AreInRange (front ++ wanted) numbers → AreInRange wanted (take (length numbers - n) (drop n numbers))
-ranges-behind front wanted n numbers few ranges = rw (take-rest n numbers) (record {
-  as_many = omega (arith, ranges.as_many, length-drop n numbers, length-append front wanted);
-  each = each;
-})
-  where
-    each : (k : ℕ) → k < length wanted → IsInRange (get_or wanted k Shape) (number_at (drop n numbers) k)
-    each k less =
-        let below : length front + k < length (front ++ wanted) = omega (arith, less, length-append front wanted) in
-        let here = ranges.each (length front + k) below in
-        rw (get_or-drop n numbers k (pos 0), ← few) (rw (get_or-append-add front wanted k Shape) at here)
-
--- an instant or a coordinate fits a word
-pub place_kept : (wanted : List FormWord) (numbers : List ℤ) (k : ℕ) → AreInRange wanted numbers → k < length wanted →
-    get_or wanted k Shape ≡ place_word → to_z w64 (of_z w64 (number_at numbers k)) ≡ number_at numbers k
-place_kept wanted numbers k ranges less is =
-    let here : IsInRange place_word (number_at numbers k) =
-    subst (λ (word : FormWord). IsInRange word (number_at numbers k)) is (ranges.each k less) in
-    to_z-of_z w64 (number_at numbers k) (omega (arith, ints, here.0, here.1))
-
--- What the words of a line are, where this many of them were read and those are left.
-pub record AreReading (wanted : List FormWord) (words left : List (List ℕ)) (k : ℕ) (numbers : List ℤ) : Type 0 where
-  pub count : length left + k ≡ length wanted
-  pub few : length numbers ≡ k
-  pub fault : first_fault wanted 2 words ≡ first_fault (drop k wanted) (k + 2) left
-  pub value : numbers_of wanted words ≡ numbers ++ numbers_of (drop k wanted) left
-  pub each : (j : ℕ) → j < k → IsInRange (get_or wanted j Shape) (number_at numbers j)
+use Rattle.question_shell.specs.declared.form.Form.{Form}
+use Rattle.question_shell.specs.declared.form.Form.TheVariants.{Position, Path, Slice, Interval, Nearest, Meet, Info, Hold, More}
+use Rattle.question_shell.specs.declared.form.Form.TheVariants.{Free}
+use Rattle.track_types.specs.declared.question.Question.TheVariants as question
+use Rattle.std.proofs.lemmas.Bool.{cases_lt}
+use Rattle.std.proofs.lemmas.List.{length-take}
+use Rattle.question_shell.proofs.FrontLemmas.{laid-front}
+use Rattle.question_shell.proofs.LineLemmas.{length-texts}
 
 -- a word that is a number within its bounds is a numeral with that value
 pub value_of-within : (least greatest : ℤ) (word : List ℕ) (number : ℤ) →
@@ -57,38 +31,76 @@ value_of-within least greatest word number within = by_numeral (numeral_of word)
     by_numeral Large within = cc
     by_numeral Not within = cc
 
--- the next word
-module _ (wanted : List FormWord) (words left after : List (List ℕ)) (word : List ℕ) (k : ℕ) (numbers : List ℤ)
-    (reading : AreReading wanted words left k numbers) (cut : left ≡ word ∷ after) (below : k < length wanted)
-  where
-    pub fault-next : first_fault wanted 2 words
-        ≡ fault_or (word_fault (get_or wanted k Shape) (k + 2) word)
-        (first_fault (drop (suc k) wanted) (k + 2 + 1) after)
-    fault-next = reading.fault ∙ (rw (cut, drop-cons wanted k Shape below) refl)
+-- enough words are not too few
+pub texts-enough : (words : List (Bor (List ℕ))) (count : ℕ) → count ≤ length words → nat_lt (length (texts words)) count ≡ false
+texts-enough words count enough = grind (arith, nat_tests, length-texts words)
 
-    pub fault-here : (fault : Bad) → word_fault (get_or wanted k Shape) (k + 2) word ≡ Some fault →
-        first_fault wanted 2 words ≡ Some fault
-    fault-here fault is = fault-next ∙ rw is refl
+-- three words, and those after them
+pub texts-three : (words : List (Bor (List ℕ))) (none : Bor (List ℕ)) → 3 ≤ length words →
+    texts words ≡ (get_or words 0 none).now ∷ (get_or words 1 none).now ∷ (get_or words 2 none).now
+    ∷ texts (drop 3 words)
+texts-three [] none count = absurd (omega (arith, count))
+texts-three (a ∷ []) none count = absurd (omega (arith, count))
+texts-three (a ∷ b ∷ []) none count = absurd (omega (arith, count))
+texts-three (a ∷ b ∷ c ∷ words) none count = refl
 
-    pub reading-next : (number : ℤ) → word_fault (get_or wanted k Shape) (k + 2) word ≡ None →
-        number ≡ number_of (get_or wanted k Shape) word → IsInRange (get_or wanted k Shape) number →
-        AreReading wanted words after (k + 1) (numbers ++ number ∷ [])
-    reading-next number none is range = record {
-      count = omega (arith, reading.count, ap length cut);
-      few = omega (arith, reading.few, length-append numbers (number ∷ []));
-      fault = let e : k + 2 + 1 ≡ k + 1 + 2 = omega arith in fault-next ∙ rw (none, ← e, add-one k) refl;
-      value = reading.value
-          ∙ rw (cut, drop-cons wanted k Shape below, add-one k) (rw (append_assoc numbers (number ∷ []) (numbers_of (drop (suc k) wanted) after), is) refl);
-      each = next;
-    }
-      where
-        next : (j : ℕ) → j < k + 1 → IsInRange (get_or wanted j Shape) (number_at (numbers ++ number ∷ []) j)
-        next j less = elim (cases_lt j k) [
-          | inl before ↦
-              rw (get_or_append_left numbers (number ∷ []) (pos 0) j (omega (arith, reading.few)))
-              (reading.each j before)
-          | inr at ↦
-              let here : k ≡ j = omega arith in
-              let few : length numbers ≡ j = omega (arith, reading.few) in
-              rw (get_or_at numbers number [] (pos 0) j few, ← here) range
-        ]
+-- four words, and those after them
+pub texts-four : (words : List (Bor (List ℕ))) (none : Bor (List ℕ)) → 4 ≤ length words →
+    texts words ≡ (get_or words 0 none).now ∷ (get_or words 1 none).now ∷ (get_or words 2 none).now
+    ∷ (get_or words 3 none).now ∷ texts (drop 4 words)
+texts-four [] none count = absurd (omega (arith, count))
+texts-four (a ∷ []) none count = absurd (omega (arith, count))
+texts-four (a ∷ b ∷ []) none count = absurd (omega (arith, count))
+texts-four (a ∷ b ∷ c ∷ []) none count = absurd (omega (arith, count))
+texts-four (a ∷ b ∷ c ∷ d ∷ words) none count = refl
+
+-- a question about a region is told by the words that are kept
+slice-kept : (words : List (List ℕ)) → form_question Slice (take 85 words) ≡ form_question Slice words
+slice-kept [] = refl
+slice-kept (instant ∷ words) = laid-front 82 (omega arith) (first_fault (form_words Slice) 2 (instant ∷ []))
+    (question.Slice (number_of instant)) 3 words
+
+interval-kept : (words : List (List ℕ)) → form_question Interval (take 85 words) ≡ form_question Interval words
+interval-kept [] = refl
+interval-kept (from ∷ []) = refl
+interval-kept (from ∷ to ∷ words) = laid-front 81 (omega arith) (first_fault (form_words Interval) 2 (from ∷ to ∷ []))
+    (question.Interval (number_of from) (number_of to)) 4 words
+
+-- a question without a region has fewer words than are kept
+module _ (words : List (List ℕ)) (long : 85 < length words) where
+  other : (count : ℕ) → count < 85 → (nat_eq (length (take 85 words)) count ≡ false) × (nat_eq (length words) count ≡ false)
+  other count few = (grind (arith, nat_tests, length-take 85 words), grind (arith, nat_tests))
+
+  long-kept : (form : Form) → form_question form (take 85 words) ≡ form_question form words
+  long-kept Position = rw ((other 2 (omega arith)).0, (other 2 (omega arith)).1) refl
+  long-kept Path = rw ((other 3 (omega arith)).0, (other 3 (omega arith)).1) refl
+  long-kept Slice = slice-kept words
+  long-kept Interval = interval-kept words
+  long-kept Nearest = rw ((other 4 (omega arith)).0, (other 4 (omega arith)).1) refl
+  long-kept Meet = rw ((other 5 (omega arith)).0, (other 5 (omega arith)).1) refl
+  long-kept Info = rw ((other 0 (omega arith)).0, (other 0 (omega arith)).1) refl
+  long-kept Hold = rw ((other 4 (omega arith)).0, (other 4 (omega arith)).1) refl
+  long-kept More = rw ((other 2 (omega arith)).0, (other 2 (omega arith)).1) refl
+  long-kept Free = rw ((other 1 (omega arith)).0, (other 1 (omega arith)).1) refl
+
+form_question-kept : (form : Form) (words : List (List ℕ)) → form_question form (take 85 words) ≡ form_question form words
+form_question-kept form words = elim (cases_lt 85 (length words)) [
+  | inl long ↦ long-kept words long form
+  | inr short ↦ rw (take_all 85 words (omega (arith, short))) refl
+]
+
+worded-kept : (form : Result Form Bad) (words : List (List ℕ)) →
+    worded_question form (take 85 words) ≡ worded_question form words
+worded-kept (Ok form) words = ap some_question (form_question-kept form words)
+worded-kept (Err fault) words = refl
+
+-- what a line asks, by the first of its words that are kept and those after it
+pub question_in-kept : (words : List (List ℕ)) (kept : List (Bor (List ℕ))) (none : Bor (List ℕ)) → 1 ≤ length kept →
+    texts kept ≡ take 86 words →
+    question_in false words ≡ worded_question (form_of (get_or kept 0 none).now) (texts (drop 1 kept))
+question_in-kept words [] none some is = absurd (omega (arith, some))
+question_in-kept [] (first ∷ rest) none some is = absurd (omega (arith, ap length is))
+question_in-kept (word ∷ words) (first ∷ rest) none some is =
+    let here : first.now ≡ word = ap (λ (l : List (List ℕ)). get_or l 0 []) is in
+    let after : texts rest ≡ take 85 words = ap (drop 1) is in
+    rw (here, after) (sym (worded-kept (form_of word) words))

@@ -11,7 +11,9 @@ use Rattle.std.specs.List.{count_by, onto_first, slice_split}
 use Rattle.std.proofs.lemmas.List.Splits.{length-slice_split}
 use Rattle.std.proofs.Math.Seq.{take-append_seam, get_or-append_seam}
 use Rattle.question_shell.specs.Lines.{is_gap, is_line_feed, BeginsWord, EndsWord, has_byte}
-use Rattle.question_shell.specs.Lines.{words_of, whole_lines, unended_line}
+use Rattle.question_shell.specs.Lines.{texts, words_of, whole_lines, unended_line}
+use denote.Ref.{Bor}
+use Rattle.std.proofs.lemmas.List.{length-map}
 
 -- What a text is separated into: the pieces that an end byte ends, and what follows the last end byte.
 pub record Pieces : Type 0 where
@@ -200,3 +202,7 @@ separated-byte is_end text byte inside =
     let whole : IsPiece is_end (left ++ byte ∷ []) = piece-push is_end left byte (piece-left is_end text) inside in
     let after = separated-unended is_end (left ++ byte ∷ []) whole in
     rw (separated-append is_end text (byte ∷ []), after, append-nil (separated is_end text).ended) refl
+
+-- there is a text for each word
+pub length-texts : (words : List (Bor (List ℕ))) → length (texts words) ≡ length words
+length-texts words = length-map words (λ word. word.now)

@@ -61,6 +61,7 @@ module _ (chart : ChartView) (facts : Facts) (slot : ℕ) where
   turn-other desk (Ok (Some (question.Slice instant region))) differs = record { as_many = refl; same = refl }
   turn-other desk (Ok (Some (question.Interval from to region))) differs = record { as_many = refl; same = refl }
   turn-other desk (Ok (Some (question.Nearest count instant cell))) differs = record { as_many = refl; same = refl }
+  turn-other desk (Ok (Some (question.Meet left right from to reach))) differs = record { as_many = refl; same = refl }
   turn-other desk (Ok (Some question.Info)) differs = record { as_many = refl; same = refl }
   turn-other desk (Ok (Some (question.Hold held object from to))) differs = alike-other slot desk held _ differs
   turn-other desk (Ok (Some (question.More held count))) differs = alike-other slot desk held _ differs
@@ -77,6 +78,7 @@ module _ (chart : ChartView) (facts : Facts) (slot : ℕ) where
   turn-alike desk other (Ok (Some (question.Slice instant region))) asks alike = absurd (false≢true asks)
   turn-alike desk other (Ok (Some (question.Interval from to region))) asks alike = absurd (false≢true asks)
   turn-alike desk other (Ok (Some (question.Nearest count instant cell))) asks alike = absurd (false≢true asks)
+  turn-alike desk other (Ok (Some (question.Meet left right from to reach))) asks alike = absurd (false≢true asks)
   turn-alike desk other (Ok (Some question.Info)) asks alike = absurd (false≢true asks)
   turn-alike desk other (Ok (Some (question.Hold held object from to))) asks alike =
       rw (eqb-true held slot asks, alike.same) (record { text = refl; desk = alike-set slot desk other _ alike })

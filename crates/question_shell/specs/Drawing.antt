@@ -31,6 +31,7 @@ module _ {W : Type 0} (left : W → List Stop) (budget : W → ℕ) where
   items_left (answer.Slice found) desk = map item.Sighting found
   items_left (answer.Interval found) desk = map item.Hit found
   items_left (answer.Nearest found) desk = map item.Near found
+  items_left (answer.Meet found) desk = map item.Meeting (option_to_list found)
   items_left (answer.Info facts) desk = map item.Fact facts
   items_left (answer.More slot count) desk = map item.Stop (take count (stops_in desk slot))
   items_left other desk = []

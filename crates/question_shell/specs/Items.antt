@@ -4,6 +4,7 @@ use Rattle.std.specs.Prelude.{slice_index_or}
 use Rattle.std.specs.Fmt.{decimal, signed_decimal}
 use Rattle.track_types.specs.ByFilter.{cell_at, hits_of, nears_of, path_of, sightings_of}
 use Rattle.track_types.specs.Chart.{ChartView}
+use Rattle.track_types.specs.Meeting.{meeting_of}
 use Rattle.track_types.specs.declared.cell.Cell.{Cell}
 use Rattle.track_types.specs.declared.facts.Facts.{Facts}
 use Rattle.track_types.specs.declared.question.Question.{Question}
@@ -45,7 +46,7 @@ abbrev pub fact_line : List ℕ × ℤ → List ℕ
 fact_line fact = said_line (fact.0 ++ codes " " ++ signed_decimal fact.1)
 
 -- the line of an item: of a cell X Y, of a stop T X Y, of a sighting O X Y, of a hit O T X Y, of a near object O X Y D2,
--- and of a fact NAME N
+-- of a meeting T XA YA XB YB, and of a fact NAME N
 abbrev pub line_of : Item → List ℕ
 line_of (item.Cell cell) = cell_line cell
 line_of (item.Stop stop) = stop_line stop
@@ -61,6 +62,14 @@ line_of (item.Near near) = said_line (
     ++ codes " "
     ++ decimal near.dist2
     )
+line_of (item.Meeting meeting) =
+    signed_decimal meeting.instant
+    ++ codes " "
+    ++ signed_decimal meeting.left.x
+    ++ codes " "
+    ++ signed_decimal meeting.left.y
+    ++ codes " "
+    ++ cell_line meeting.right
 line_of (item.Fact fact) = fact_line fact
 
 -- what the place of a slot holds; nothing where it is empty
@@ -76,6 +85,8 @@ items_of chart facts desk (question.Slice instant region) = map item.Sighting (s
 items_of chart facts desk (question.Interval from to region) = map item.Hit (hits_of chart.rows from to region)
 items_of chart facts desk (question.Nearest count instant cell) =
     map item.Near (nears_of chart.rows count instant cell)
+items_of chart facts desk (question.Meet left right from to reach) =
+    map item.Meeting (option_to_list (meeting_of chart.rows left right from to reach))
 items_of chart facts desk question.Info = map item.Fact (named_facts facts)
 items_of chart facts desk (question.More slot count) = map item.Stop (take count (unwrap_or (stops_at desk slot) []))
 items_of chart facts desk other = []

@@ -1,4 +1,6 @@
 pub mod Lines
+pub mod NumberWords
+pub mod RegionWords
 pub mod Grammar
 pub mod Desk
 pub mod Items

@@ -115,6 +115,7 @@ takes_memory desk (Ok (Some (question.Path object from to))) = true
 takes_memory desk (Ok (Some (question.Slice instant region))) = true
 takes_memory desk (Ok (Some (question.Interval from to region))) = true
 takes_memory desk (Ok (Some (question.Nearest count instant cell))) = true
+takes_memory desk (Ok (Some (question.Meet left right from to reach))) = true
 takes_memory desk (Ok (Some question.Info)) = false
 takes_memory desk (Ok (Some (question.Hold slot object from to))) = is_none (stops_at desk slot)
 takes_memory desk (Ok (Some (question.More slot count))) = false

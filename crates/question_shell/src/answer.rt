@@ -10,7 +10,7 @@ use crate::named_fact::NamedFacts;
 use crate::reply::{ReplyLine, free_line, held_line, ok_line};
 use std::sync::ledger::Ledger;
 use step_count::Steps;
-use track_types::{Cell, Hit, Lazy, Near, Sighting, Stop};
+use track_types::{Cell, Hit, Lazy, Meeting, Near, Sighting, Stop};
 
 /// An answer to a question, of which one item after another is drawn.
 #[derive(Drop)]
@@ -25,6 +25,8 @@ pub enum Answer<W> {
     Interval(Found<Hit>),
     /// The rows of an instant that are nearest to a cell.
     Nearest(Found<Near>),
+    /// The first meeting of two objects, where they meet.
+    Meet(Option<Meeting>),
     /// The facts.
     Info(NamedFacts),
     /// At most so many stops of the walk that a slot holds.
@@ -55,6 +57,7 @@ impl<W: Lazy<Item = Stop> + Drop> Answer<W> {
             Answer::Slice(found) => Some(Item::Sighting(found.draw()?)),
             Answer::Interval(found) => Some(Item::Hit(found.draw()?)),
             Answer::Nearest(found) => Some(Item::Near(found.draw()?)),
+            Answer::Meet(found) => Some(Item::Meeting(found.take()?)),
             Answer::Info(facts) => Some(Item::Fact(facts.draw()?)),
             Answer::More { slot, count } => Some(Item::Stop(draw_more(desk, *slot, count, steps)?)),
             Answer::Done | Answer::Held | Answer::Free => None,

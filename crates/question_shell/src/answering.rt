@@ -16,10 +16,10 @@ use host_ports::Sink;
 use std::alloc::Global;
 use std::sync::ledger::Ledger;
 use step_count::Steps;
-use track_types::{Answerer, Question};
+use track_types::{Meets, Question};
 
 // Answers what a line asks. Walks and lists take memory, and are made before anything is said.
-pub(crate) fn answer<A: Answerer, K: Sink, L: Ledger>(
+pub(crate) fn answer<A: Meets, K: Sink, L: Ledger>(
     alloc: Global,
     answerer: A,
     asked: Result<Option<Question>, Bad>,
@@ -50,7 +50,7 @@ pub(crate) fn answer<A: Answerer, K: Sink, L: Ledger>(
 /// `Say` comes only where the sink failed, and then a front of the reply was said. At `Memory`
 /// nothing was said, and the desk is as it was. The count of faults is what it was, unless the answer
 /// is `Say`.
-pub fn say_reply<A: Answerer, K: Sink, L: Ledger>(
+pub fn say_reply<A: Meets, K: Sink, L: Ledger>(
     alloc: Global,
     answerer: A,
     question: Question,
@@ -75,7 +75,7 @@ pub fn say_reply<A: Answerer, K: Sink, L: Ledger>(
 }
 
 // Answers a question.
-fn answer_question<A: Answerer, K: Sink, L: Ledger>(
+fn answer_question<A: Meets, K: Sink, L: Ledger>(
     alloc: Global,
     answerer: A,
     question: Question,

@@ -13,10 +13,10 @@ use crate::named_fact::NamedFacts;
 use std::alloc::Global;
 use std::sync::ledger::Ledger;
 use step_count::Steps;
-use track_types::{Answerer, Lazy, Memory, Question, Stop};
+use track_types::{Lazy, Meets, Memory, Question, Stop};
 
 // Asks a question. Walks and lists take memory, and are made before anything changes.
-pub(crate) fn ask<A: Answerer, L: Ledger>(
+pub(crate) fn ask<A: Meets, L: Ledger>(
     alloc: Global,
     answerer: A,
     question: Question,
@@ -57,6 +57,16 @@ pub(crate) fn ask<A: Answerer, L: Ledger>(
         } => {
             let found = answerer.nearest(alloc, count, instant, cell, steps)?;
             Ok(Answer::Nearest(Found::new(found)))
+        }
+        Question::Meet {
+            left,
+            right,
+            from,
+            to,
+            reach,
+        } => {
+            let found = answerer.meet(alloc, left, right, from, to, reach, steps)?;
+            Ok(Answer::Meet(found))
         }
         Question::Info => Ok(Answer::Info(NamedFacts::new(facts))),
         Question::Hold {

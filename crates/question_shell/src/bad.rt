@@ -1,13 +1,14 @@
 use std::error::Error;
 use std::fmt::{self, Display, Formatter, Write};
 
-/// What is wrong with a question line: the first cause in the order of these variants, and of
-/// number words the first bad one from the left.
+/// What is wrong with a question line: the first cause that comes. Its length is judged first, then
+/// its first word, how a region's words are laid out, the number of words, and the number words from
+/// the left.
 #[derive(Clone, Copy, Debug, PartialEq, Eq)]
 pub enum Bad {
     /// The line has a word, and more than 1,024 bytes.
     Long,
-    /// The first word names no question, or a region's first word names no shape.
+    /// The first word names no question, or a word of a region that should name a shape does not.
     Word,
     /// The question has another number of words.
     Count,

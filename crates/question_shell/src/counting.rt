@@ -11,12 +11,12 @@ use crate::desk::Desk;
 use std::alloc::Global;
 use std::sync::ledger::Ledger;
 use step_count::Steps;
-use track_types::{Answerer, Lazy, Memory, Question, Stop};
+use track_types::{Lazy, Meets, Memory, Question, Stop};
 
 /// How many items a question finds, which are drawn as for its reply and not said.
 ///
 /// Where memory is refused, the desk is as it was.
-pub fn count_found<A: Answerer, L: Ledger>(
+pub fn count_found<A: Meets, L: Ledger>(
     alloc: Global,
     answerer: A,
     question: Question,

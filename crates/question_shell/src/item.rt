@@ -6,7 +6,7 @@ use crate::named_fact::NamedFact;
 use crate::reply::ReplyLine;
 use arrayvec::ArrayString;
 use itoa::Buffer;
-use track_types::{Cell, Hit, Near, Sighting, Stop};
+use track_types::{Cell, Hit, Meeting, Near, Sighting, Stop};
 
 /// What a question finds, of which its reply has a line for each.
 #[derive(Drop)]
@@ -16,6 +16,7 @@ pub enum Item {
     Sighting(Sighting),
     Hit(Hit),
     Near(Near),
+    Meeting(Meeting),
     Fact(NamedFact),
 }
 
@@ -30,6 +31,7 @@ impl Item {
             Item::Sighting(sighting) => sighting_line(*sighting),
             Item::Hit(hit) => hit_line(*hit),
             Item::Near(near) => near_line(*near),
+            Item::Meeting(meeting) => meeting_line(*meeting),
             Item::Fact(fact) => fact.line(),
         }
     }
@@ -99,5 +101,21 @@ fn near_line(near: Near) -> ReplyLine
     line.push_str(" ");
     line.push_str(digits.format(near.dist2));
     line.push_str("\n");
+    line
+}
+
+// T XA YA XB YB
+fn meeting_line(meeting: Meeting) -> ReplyLine
+    ensures { result.bytes ≡ line_of (item.Meeting meeting) }
+{
+    let mut line = ArrayString::new();
+    let mut digits = Buffer::new();
+    line.push_str(digits.format(meeting.instant));
+    line.push_str(" ");
+    line.push_str(digits.format(meeting.left.x));
+    line.push_str(" ");
+    line.push_str(digits.format(meeting.left.y));
+    line.push_str(" ");
+    line.push_str(cell_line(meeting.right).as_str());
     line
 }

@@ -17,11 +17,15 @@ mod found;
 mod grammar;
 mod held_text;
 mod item;
+mod layout;
 mod line_buffer;
 mod listening;
 mod named_fact;
+mod number_word;
+mod reading;
 mod reply;
 mod saying;
+mod shape_reading;
 mod shell;
 mod shell_fault;
 #[cfg(test)]

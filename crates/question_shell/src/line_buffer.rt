@@ -3,7 +3,7 @@ ghost use Rattle.question_shell.specs.Grammar.{AreAsked, question_of};
 ghost use Rattle.question_shell.specs.LineKept.{LineKept, kept_of};
 
 use crate::bad::Bad;
-use crate::grammar::{LONGEST_LINE, read_question};
+use crate::grammar::read_question;
 use crate::words::is_gap_byte;
 use arrayvec::ArrayVec;
 use std::marker::Model;
@@ -55,12 +55,11 @@ impl LineBuffer {
         ensures value { (line : List ℕ) → self.now ≡ kept_of line → result ≡ question_of line }
         ensures asked { IfOk result (λ asked. IfSome asked AreAsked) }
     {
-        if self.front.len() <= LONGEST_LINE {
-            read_question(self.front.as_slice())
-        } else if self.has_word {
-            Err(Bad::Long)
-        } else {
-            Ok(None)
+        let asked = read_question(self.front.as_slice())?;
+        // A line with a word whose front has none is longer than its front, so it is too long.
+        if asked.is_none() && self.has_word {
+            return Err(Bad::Long);
         }
+        Ok(asked)
     }
 }

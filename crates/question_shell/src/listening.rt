@@ -17,7 +17,7 @@ use host_ports::Sink;
 use std::alloc::Global;
 use std::sync::ledger::Ledger;
 use step_count::Steps;
-use track_types::Answerer;
+use track_types::Meets;
 
 /// The line that is coming, and the text of replies that is held back.
 #[derive(Drop)]
@@ -39,7 +39,7 @@ impl Talk {
 }
 
 // Answers a piece more of question input, and says all that was held back.
-pub(crate) fn take_piece<A: Answerer, K: Sink, L: Ledger>(
+pub(crate) fn take_piece<A: Meets, K: Sink, L: Ledger>(
     alloc: Global,
     answerer: A,
     talk: &mut Talk,
@@ -61,7 +61,7 @@ pub(crate) fn take_piece<A: Answerer, K: Sink, L: Ledger>(
 }
 
 // Answers bytes more of question input.
-fn take_bytes<A: Answerer, K: Sink, L: Ledger>(
+fn take_bytes<A: Meets, K: Sink, L: Ledger>(
     alloc: Global,
     answerer: A,
     talk: &mut Talk,
@@ -84,7 +84,7 @@ fn take_bytes<A: Answerer, K: Sink, L: Ledger>(
 }
 
 // Answers one byte more of question input: a line is answered as its line feed comes.
-fn take_byte<A: Answerer, K: Sink, L: Ledger>(
+fn take_byte<A: Meets, K: Sink, L: Ledger>(
     alloc: Global,
     answerer: A,
     talk: &mut Talk,
@@ -110,7 +110,7 @@ fn take_byte<A: Answerer, K: Sink, L: Ledger>(
 }
 
 // Answers a last line that no line feed ends, and says all that was held back.
-pub(crate) fn take_end<A: Answerer, K: Sink, L: Ledger>(
+pub(crate) fn take_end<A: Meets, K: Sink, L: Ledger>(
     alloc: Global,
     answerer: A,
     talk: &mut Talk,

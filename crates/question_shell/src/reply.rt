@@ -7,8 +7,8 @@ use crate::bad::Bad;
 use arrayvec::ArrayString;
 use itoa::Buffer;
 
-/// A line of a reply, with its line feed. The longest is that of `nearest`, of 93 bytes.
-pub(crate) type ReplyLine = ArrayString<96>;
+/// A line of a reply, with its line feed. The longest is that of `meet`, of 105 bytes.
+pub(crate) type ReplyLine = ArrayString<112>;
 
 // ok N
 pub(crate) fn ok_line(count: u64) -> ReplyLine

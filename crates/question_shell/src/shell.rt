@@ -14,7 +14,7 @@ use host_ports::{Sink, Source};
 use std::alloc::Global;
 use std::sync::ledger::Ledger;
 use step_count::Steps;
-use track_types::{Answerer, LimitKind, MAX_QUESTIONS};
+use track_types::{LimitKind, MAX_QUESTIONS, Meets};
 
 /// How many bytes question input may have.
 const LONGEST_INPUT: usize = MAX_QUESTIONS as usize;
@@ -26,15 +26,16 @@ const PIECE: usize = 4096;
 ///
 /// Every whole line that came is answered before more is listened to. At most 2^32 bytes are
 /// answered, and one byte more is listened to, in pieces of at most 4,096. Memory is taken for the
-/// lines `path`, `slice`, `interval` and `nearest` alone, and for a `hold` whose slot is empty.
+/// lines `path`, `slice`, `interval`, `nearest` and `meet` alone, and for a `hold` whose slot is
+/// empty.
 ///
 /// `Listen` comes only where the source failed, and then the whole lines that came were answered.
 /// `Say` comes only where the sink failed, and then a front of the replies was said and nothing
 /// more was listened to. `Limit` comes where more than 2^32 bytes came, and then the whole lines
-/// among the first 2^32 were answered. After `Memory` exactly the lines before one of these five were
+/// among the first 2^32 were answered. After `Memory` exactly the lines before one of these six were
 /// answered. The count of faults of a device that the answer does not name is what it was, so that
 /// devices without a fault have `Ok`, `Limit` or `Memory`.
-pub fn run<A: Answerer, S: Source, K: Sink, L: Ledger>(
+pub fn run<A: Meets, S: Source, K: Sink, L: Ledger>(
     alloc: Global,
     answerer: A,
     desk: &mut Desk<A::Walk>,

@@ -1,9 +1,8 @@
-ghost use Rattle.std.specs.Prelude.{◌≡◌, ◌<◌, ◌∷◌, [], IfOk, if◌then◌else◌, pos};
-ghost use Rattle.std.specs.Ordering.{int_eq};
+ghost use Rattle.std.specs.Prelude.{◌≡◌, ◌<◌, IfOk};
 ghost use Rattle.host_ports.specs.Faults.{Rose};
-ghost use Rattle.track_types.specs.Region.{is_between};
 ghost use Rattle.question_shell.specs.Session.{NamesNoDevice};
 
+use self::buoy::{Buoy, CELL};
 use super::{Desk, ShellFault, run};
 use crate::answer::Answer;
 use crate::held_text::HeldText;
@@ -14,187 +13,9 @@ use std::marker::Brand;
 use std::sync::ledger::{Blank, Ledger};
 use std::test::Fail;
 use step_count::Steps;
-use track_types::{Answerer, Cell, Facts, Hit, Lazy, Memory, Near, Region, Sighting, Stop, dist2};
+use track_types::{Lazy, Memory, Stop};
 
-/// A buoy, object 7, that was seen once: at instant 2 in the cell (12, -11). For a walk of object 8
-/// it has no memory. Its facts are those of a chart with two objects.
-#[derive(Clone, Copy)]
-struct Buoy;
-
-/// The one stop, or none.
-#[derive(Drop)]
-struct Seen {
-    stop: Option<Stop>,
-}
-
-const CELL: Cell = Cell { x: 12, y: -11 };
-
-impl Lazy for Seen {
-    type Item = Stop;
-
-    ghost use Rattle.std.specs.Prelude.{length, option_to_list};
-
-    ghost left = { λ s. option_to_list s.stop };
-
-    ghost budget = { λ s. length (option_to_list s.stop) };
-
-    fn draw<L: Ledger>(&mut self, steps: &mut Steps<L>) -> Option<Stop> {
-        let stop = self.stop.take()?;
-        steps.tick();
-        Some(stop)
-    }
-}
-
-impl Answerer for Buoy {
-    type Walk = Seen;
-
-    ghost use Rattle.std.specs.Prelude.{pos, negsuc, ◌∷◌, []};
-
-    ghost chart = { λ _. record {
-      rows = record {
-        object = 7;
-        instant = pos 2;
-        cell = record { x = pos 12; y = negsuc 10 };
-      } ∷ [];
-      first = pos 2;
-      last = pos 2;
-      period = 1;
-      cell = 1;
-      tick = 1;
-    } };
-
-    ghost facts = { λ _. record {
-      objects = 2;
-      first = pos 0;
-      last = pos 3;
-      period = 4;
-      cell = 1;
-      tick = 1;
-      height = 2;
-      alphabet = 2;
-      rules = 0;
-      entries = 3;
-      depth = 0;
-    } };
-
-    ghost cost = { λ _ _. 1 };
-
-    fn facts(self) -> Facts {
-        Facts {
-            objects: 2,
-            first: 0,
-            last: 3,
-            period: 4,
-            cell: 1,
-            tick: 1,
-            height: 2,
-            alphabet: 2,
-            rules: 0,
-            entries: 3,
-            depth: 0,
-        }
-    }
-
-    fn position<L: Ledger>(self, object: u32, instant: i64, steps: &mut Steps<L>) -> Option<Cell> {
-        steps.tick();
-        if object == 7 && instant == 2 {
-            Some(CELL)
-        } else {
-            None
-        }
-    }
-
-    fn walk(self, _alloc: Global, object: u32, from: i64, to: i64) -> Result<Seen, Memory> {
-        if object == 8 {
-            return Err(Memory);
-        }
-        if object == 7 && from <= 2 && 2 <= to {
-            Ok(Seen {
-                stop: Some(Stop {
-                    instant: 2,
-                    cell: CELL,
-                }),
-            })
-        } else {
-            Ok(Seen { stop: None })
-        }
-    }
-
-    fn slice<L: Ledger>(
-        self,
-        alloc: Global,
-        instant: i64,
-        region: &Region,
-        steps: &mut Steps<L>,
-    ) -> Result<Vec<Sighting>, Memory> {
-        steps.tick();
-        let sighting = Sighting {
-            object: 7,
-            cell: CELL,
-        };
-        one_if(alloc, is_at(instant) & region.contains(CELL), sighting)
-    }
-
-    fn interval<L: Ledger>(
-        self,
-        alloc: Global,
-        from: i64,
-        to: i64,
-        region: &Region,
-        steps: &mut Steps<L>,
-    ) -> Result<Vec<Hit>, Memory> {
-        steps.tick();
-        let hit = Hit {
-            object: 7,
-            instant: 2,
-            cell: CELL,
-        };
-        one_if(alloc, is_in(from, to) & region.contains(CELL), hit)
-    }
-
-    fn nearest<L: Ledger>(
-        self,
-        alloc: Global,
-        count: u32,
-        instant: i64,
-        cell: Cell,
-        steps: &mut Steps<L>,
-    ) -> Result<Vec<Near>, Memory> {
-        steps.tick();
-        let near = Near {
-            object: 7,
-            cell: CELL,
-            dist2: dist2(cell, CELL),
-        };
-        one_if(alloc, is_at(instant) & (0 < count), near)
-    }
-}
-
-/// Whether the buoy was seen at this instant.
-fn is_at(instant: i64) -> bool
-    ensures { result ≡ int_eq instant (pos 2) }
-{
-    instant == 2
-}
-
-/// Whether it was seen from one instant to another.
-fn is_in(from: i64, to: i64) -> bool
-    ensures { result ≡ is_between from to (pos 2) }
-{
-    from <= 2 && 2 <= to
-}
-
-/// The item alone, or nothing.
-fn one_if<T: Drop>(alloc: Global, is_found: bool, item: T) -> Result<Vec<T>, Memory>
-    ensures { IfOk result (λ found. found.items ≡ (if is_found then item ∷ [] else [])) }
-{
-    let mut found = Vec::new(alloc);
-    if !is_found {
-        return Ok(found);
-    }
-    found.push(item)?;
-    Ok(found)
-}
+mod buoy;
 
 /// A walk with so many stops left, all alike.
 #[derive(Drop)]
@@ -266,7 +87,7 @@ fn answer(rt: &HostRuntime, outside: &mut Outside) -> Result<Result<(), ShellFau
 
 #[test]
 fn each_line_has_its_reply(rt: HostRuntime) -> Result<(), Fail> {
-    let cases: [(&[u8], &[u8]); 18] = [
+    let cases: [(&[u8], &[u8]); 21] = [
         (b"position 7 2\n", b"12 -11\nok 1\n"),
         (b"position 7 1\nposition 9 2", b"ok 0\nok 0\n"),
         (b"path 7 2 2\n", b"2 12 -11\nok 1\n"),
@@ -289,16 +110,29 @@ fn each_line_has_its_reply(rt: HostRuntime) -> Result<(), Fail> {
             b"7 12 -11 265\nok 1\nok 0\n",
         ),
         (
+            b"meet 7 7 0 9 0\nmeet 7 9 0 9 4398046511104\nmeet 7 7 3 9 0\n",
+            b"2 12 -11 12 -11\nok 1\nok 0\nok 0\n",
+        ),
+        (
+            b"meet 1 2 0 9\nmeet 1 2 0 9 3 0\nmeet a 2 0 9 -1\nmeet 1 2 0 9 -1\nmeet 1 2 0 9 4398046511105\nmeet 1 4294967296 0 9 3\n",
+            b"bad count\nbad count\nbad number 2\nbad range 6\nbad range 6\nbad range 3\n",
+        ),
+        (
             b"Position 7 2\nslice 0 ring 1 2 3\nslice x ring\ninterval 0 rect 1 1 2 2\n",
             b"bad word\nbad word\nbad word\nbad word\n",
         ),
         (
-            b"slice 0\nslice 0 rect 1 2 3\nnearest 1 0 0\nslice x disc 0 0\n",
-            b"bad count\nbad count\nbad count\nbad count\n",
+            b"slice 0\nslice 0 rect 1 2 3\nnearest 1 0 0\nslice x disc 0 0\nposition 7\npath 7 2\nposition 7 2 1\ninfo x\n",
+            b"bad count\nbad count\nbad count\nbad count\nbad count\nbad count\nbad count\nbad count\n",
         ),
         (
-            b"position 7\npath 7 2\nposition 7 2 1\ninfo x\n",
-            b"bad count\nbad count\nbad count\nbad count\n",
+            b"slice 2 any 2 rect 13 -11 99 99 disc 12 -11 0\nslice 2 any 1 rect 13 -11 99 99\ninterval 0 9 any 2 disc 0 0 16 rect 12 -11 12 -11\nslice 0 any 0\nslice 0 any 17\nslice 0 any x\nslice x any 0\ninterval 0 1 any 17\nslice 0 any 1 disc 0 0 -1\nslice 0 any\nslice 0 any 2 rect 0 0 1 1\nslice 0 any 1 rect 0 0 1 1 5\nslice 0 any 2 rect 0 0 1 disc 0 0 1\nslice 0 any 1 ring 1\nslice 0 any 1 any 1\nslice x any 2 disc 0 0 y ring\nslice 0 any 2 disc 0 0 1 rect 0 0 y 1\n",
+            b"7 12 -11\nok 1\nok 0\n7 2 12 -11\nok 1\nbad range 4\nbad range 4\nbad number 4\nbad range 4\nbad range 5\nbad range 8\nbad count\nbad count\nbad count\nbad word\nbad word\nbad word\nbad word\nbad number 12\n",
+        ),
+        // Sixteen shapes are 85 words, and one word more is one too many.
+        (
+            b"interval 0 9 any 16 rect 0 0 1 1 rect 0 0 1 1 rect 0 0 1 1 rect 0 0 1 1 rect 0 0 1 1 rect 0 0 1 1 rect 0 0 1 1 rect 0 0 1 1 rect 0 0 1 1 rect 0 0 1 1 rect 0 0 1 1 rect 0 0 1 1 rect 0 0 1 1 rect 0 0 1 1 rect 0 0 1 1 rect 12 -11 12 -11\ninterval 0 9 any 16 rect 0 0 1 1 rect 0 0 1 1 rect 0 0 1 1 rect 0 0 1 1 rect 0 0 1 1 rect 0 0 1 1 rect 0 0 1 1 rect 0 0 1 1 rect 0 0 1 1 rect 0 0 1 1 rect 0 0 1 1 rect 0 0 1 1 rect 0 0 1 1 rect 0 0 1 1 rect 0 0 1 1 rect 12 -11 12 -11 1\n",
+            b"7 2 12 -11\nok 1\nbad count\n",
         ),
         (
             b"position a 2\npath 7 2 --1\npath 7 2x 2x\nnearest a 0 0 0\n",
@@ -489,5 +323,9 @@ fn a_refusal_says_what_came_before(rt: HostRuntime) -> Result<(), Fail> {
         Ok(())
     );
     assert_eq!(rt; answer_calm(&rt, b"path 8 0 4\n")?, Err(ShellFault::Memory));
+    assert_eq!(rt;
+        answer_calm(&rt, b"meet 8 7 0 4 1\n")?,
+        Err(ShellFault::Memory)
+    );
     Ok(())
 }

@@ -1,10 +1,35 @@
-ghost use Rattle.std.specs.Prelude.{◌≡◌, ℕ, ◌+◌, ◌<◌, ◌≤◌, ◌∷◌, [], true, false, not, length, take};
+ghost use Rattle.std.specs.Prelude.{◌≡◌, ℕ, ◌≤◌, ◌∷◌, [], true, false, not, length, take};
 ghost use Rattle.std.specs.Prelude.{drop, slice_index, IfSome, IfNone};
 ghost use Rattle.std.specs.List.{list_all};
-ghost use Rattle.question_shell.specs.Lines.{BeginsWord, EndsWord, is_gap, words_of};
+ghost use Rattle.question_shell.specs.Lines.{BeginsWord, EndsWord, is_gap, texts, words_of};
+
+use arrayvec::ArrayVec;
+
+/// How many words of a line are kept. No question has as many, so that these tell all that it asks,
+/// and whether it has too many.
+pub(crate) const KEPT_WORDS: usize = 86;
+
+/// The first words of a line.
+pub(crate) type Words<'a> = ArrayVec<&'a [u8], KEPT_WORDS>;
+
+// The first words of a line, cut off it one after another.
+pub(crate) fn split_words<'a>(line: &'a [u8]) -> Words<'a>
+    ensures { texts result.items ≡ take KEPT_WORDS (words_of line.now) }
+{
+    let mut words = Words::new();
+    let mut rest = line;
+    for _ in 0..KEPT_WORDS {
+        let Some((word, after)) = next_word(rest) else {
+            return words;
+        };
+        words.push(word);
+        rest = after;
+    }
+    words
+}
 
 // Cuts the first word off a line.
-pub(crate) fn next_word(line: &[u8]) -> Option<(&[u8], &[u8])>
+fn next_word(line: &[u8]) -> Option<(&[u8], &[u8])>
     ensures none { IfNone result (words_of line.now ≡ []) }
     ensures some { IfSome result (λ cut. words_of line.now ≡ cut.0.now ∷ words_of cut.1.now) }
 {
@@ -13,23 +38,6 @@ pub(crate) fn next_word(line: &[u8]) -> Option<(&[u8], &[u8])>
         return None;
     }
     Some(rest.split_at(word_length(rest)))
-}
-
-// What comes after so many words of a line.
-pub(crate) fn skip_words(line: &[u8], count: usize) -> Option<&[u8]>
-    ensures none { IfNone result (length (words_of line.now) < count) }
-    ensures some { IfSome result (λ rest. words_of rest.now ≡ drop count (words_of line.now)) }
-    ensures length { IfSome result (λ rest.
-        length (words_of line.now) ≡ count + length (words_of rest.now)) }
-{
-    let mut rest = line;
-    for _ in 0..count {
-        let Some((_, after)) = next_word(rest) else {
-            return None;
-        };
-        rest = after;
-    }
-    Some(rest)
 }
 
 // The line from its first byte that is no gap.

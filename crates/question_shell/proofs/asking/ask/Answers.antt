@@ -1,12 +1,14 @@
-use Rattle.std.proofs.Common.{◌≡◌, ◌<◌, ◌∙◌, ap, arith, length, map, refl}
+use Rattle.std.proofs.Common.{◌≡◌, ◌<◌, ◌≤◌, ◌^◌, ◌∙◌, ap, arith, length, map, refl}
+use Rattle.std.specs.Prelude.{option_to_list}
 use Rattle.std.proofs.lemmas.List.{length-map}
 use Rattle.track_types.specs.ByFilter.{hits_of, nears_of, path_of, sightings_of}
+use Rattle.track_types.specs.Meeting.{meeting_of}
 use Rattle.track_types.specs.Near.{IsAsked, IsCellAsked}
 use Rattle.track_types.specs.Region.{IsRegionAsked}
 use Rattle.track_types.specs.declared.question.Question.TheVariants as question
 use Rattle.question_shell.specs.Session.{meaning_of}
 use Rattle.question_shell.specs.declared.item.Item.TheVariants as item
-use Rattle.question_shell.proofs.CountLemmas.{asked_kept, length-path_of}
+use Rattle.question_shell.proofs.CountLemmas.{asked_kept, few-meeting, length-path_of}
 use Rattle.question_shell.proofs.DrawingLemmas.{answer-hold}
 use Rattle.question_shell.proofs.asking.ask.Goals as goal
 
@@ -76,6 +78,24 @@ returns-in_ok-found-in-Nearest-clause-ok g c =
       slot = tt;
       items = ap (map item.Near) (c.new-in-Nearest.ensures.items ∙ found);
       few = omega (arith, c.new-in-Nearest.ensures.few, length-map c.new-in-Nearest.result item.Near);
+      refusal = refl;
+      held = refl;
+      reads = omega (arith, cost);
+    })
+
+pub returns-in_ok-found-in-Meet-clause-ok : goal.returns-in_ok-found-in-Meet-clause-ok
+returns-in_ok-found-in-Meet-clause-ok g c =
+    let arm = c.in-Meet in
+    let asked : c.args.question ≡ question.Meet arm.left arm.right arm.from arm.to arm.reach = arm.is in
+    let near : IsAsked arm.from × IsAsked arm.to × (arm.reach ≤ 2 ^ 42) = rw asked at c.requires in
+    let rows = (g.A.Answerer.chart c.args.answerer).rows in
+    let found : c.in_ok-found-in-Meet.found ≡ meeting_of rows arm.left arm.right arm.from arm.to arm.reach =
+    simp (asked_kept arm.from near.0, asked_kept arm.to near.1) at c.in_ok-found-in-Meet.ensures.ok in
+    let cost = simp (asked_kept arm.from near.0, asked_kept arm.to near.1) at c.meet.ensures.cost in
+    rw asked (record {
+      slot = tt;
+      items = ap (λ found. map item.Meeting (option_to_list found)) found;
+      few = few-meeting c.in_ok-found-in-Meet.found;
       refusal = refl;
       held = refl;
       reads = omega (arith, cost);
