@@ -12,16 +12,21 @@ use Rattle.track_types.specs.Limits.{limit_of}
 use Rattle.track_types.specs.declared.flaw.Flaw.{Flaw}
 use Rattle.track_types.specs.declared.limit.LimitKind.{LimitKind}
 use Rattle.track_types.specs.declared.limit.LimitKind.TheVariants as limit
+use Rattle.track_types.specs.declared.setting.Setting.{Setting}
 use Rattle.track_index.specs.Opening.{first_flaw}
 use Rattle.track_index.proofs.DecidingLemmas.{first_flaw-file}
 use Rattle.gract_top.specs.Completeness.{HasAccepted, HasIndex, HasQuestions}
-use Rattle.gract_top.specs.Ends.{AnswersChart, AnswersFile, EndsAsk, EndsBuild, EndsOnce, Moment, Saved, written}
+use Rattle.gract_top.specs.Beginning.{NotLoaded}
+use Rattle.gract_top.specs.Ends.{AnswersChart, AnswersFile, EndsAsk, EndsBuild, EndsOnce, EndsUpgrade, Moment}
+use Rattle.gract_top.specs.Ends.{Saved, written}
 use Rattle.gract_top.specs.Loading.{FileCame}
 use Rattle.gract_top.specs.Outcome.{EndsOpened, Talk}
 use Rattle.gract_top.specs.Refusal.{IsIndexRefused, IsRefused, file_refusal, is_late, is_refusal, length_refusal}
 use Rattle.gract_top.proofs.LoadingLemmas.{length_refusal-short}
 use Rattle.gract_top.specs.Sampling.{EndsSample, Speech, SumsNothing, SumsSample, Told, sample_chart, sample_refusal}
 use Rattle.gract_top.specs.Summary.{summary_of}
+use Rattle.gract_top.specs.Upgrading.{NotUpgraded, upgrade_bytes}
+use Rattle.gract_top.proofs.UpgradingLemmas.{IsFile-one}
 use Rattle.chart_parts.specs.PartsOf.{parts_of}
 use Rattle.snapshots.specs.Parts.{chart_in}
 use Rattle.track_index.specs.Facts.{facts_of}
@@ -44,31 +49,40 @@ limit-either limit.Extent value = inl refl
 limit-either limit.Blocks value = inl refl
 limit-either limit.Symbols value = inl refl
 limit-either limit.Index value = inl refl
+limit-either limit.Base value = inl refl
 limit-either limit.Questions value = inr refl
 
 -- the causes that are left out by the devices and the words, and that lead to the others
-by_cause : (result : Outcome) → ((place : ℕ) → result ≢ outcome.Words place) → (result ≢ outcome.LoadFailed) →
+pub by_cause : (result : Outcome) → ((place : ℕ) → result ≢ outcome.Words place) → (result ≢ outcome.LoadFailed) →
     (result ≢ outcome.SaveFailed) → (result ≢ outcome.ListenFailed) → (result ≢ outcome.SayFailed) →
     (is_refusal result ≡ true → ⊥) → ((flaw : Flaw) → result ≢ outcome.Flaw flaw) →
-    ((value : ℕ) → result ≢ outcome.Limit limit.Questions value) → IsGood result
-by_cause outcome.Done words load save listen say refused flawed long = inl refl
-by_cause (outcome.Words place) words load save listen say refused flawed long = absurd (words place refl)
-by_cause outcome.LoadFailed words load save listen say refused flawed long = absurd (load refl)
-by_cause (outcome.Limit kind value) words load save listen say refused flawed long =
+    ((value : ℕ) → result ≢ outcome.Limit limit.Questions value) →
+    ((setting : Setting) (left right : ℕ) → result ≢ outcome.Settings setting left right) →
+    ((object : ℕ) → result ≢ outcome.Common object) → IsGood result
+by_cause outcome.Done words load save listen say refused flawed long settings common = inl refl
+by_cause (outcome.Words place) words load save listen say refused flawed long settings common =
+    absurd (words place refl)
+by_cause outcome.LoadFailed words load save listen say refused flawed long settings common = absurd (load refl)
+by_cause (outcome.Limit kind value) words load save listen say refused flawed long settings common =
     elim (limit-either kind value) [
       | inl refusal ↦ absurd (refused refusal)
       | inr questions ↦ absurd (long value (ap (λ other. outcome.Limit other value) questions))
     ]
-by_cause (outcome.Row nth field fault) words load save listen say refused flawed long = absurd (refused refl)
-by_cause outcome.Empty words load save listen say refused flawed long = absurd (refused refl)
-by_cause (outcome.Flaw flaw) words load save listen say refused flawed long = absurd (flawed flaw refl)
-by_cause outcome.SaveFailed words load save listen say refused flawed long = absurd (save refl)
-by_cause outcome.ListenFailed words load save listen say refused flawed long = absurd (listen refl)
-by_cause outcome.SayFailed words load save listen say refused flawed long = absurd (say refl)
-by_cause outcome.Memory words load save listen say refused flawed long = inr refl
+by_cause (outcome.Row nth field fault) words load save listen say refused flawed long settings common =
+    absurd (refused refl)
+by_cause outcome.Empty words load save listen say refused flawed long settings common = absurd (refused refl)
+by_cause (outcome.Flaw flaw) words load save listen say refused flawed long settings common = absurd (flawed flaw refl)
+by_cause (outcome.Settings setting left right) words load save listen say refused flawed long settings common =
+    absurd (settings setting left right refl)
+by_cause (outcome.Common object) words load save listen say refused flawed long settings common =
+    absurd (common object refl)
+by_cause outcome.SaveFailed words load save listen say refused flawed long settings common = absurd (save refl)
+by_cause outcome.ListenFailed words load save listen say refused flawed long settings common = absurd (listen refl)
+by_cause outcome.SayFailed words load save listen say refused flawed long settings common = absurd (say refl)
+by_cause outcome.Memory words load save listen say refused flawed long settings common = inr refl
 
 -- a file that is held is not missing
-held-found : (map : Option FileMap) (files : FileMap) (name bytes : List ℕ) → map ≡ Some files →
+pub held-found : (map : Option FileMap) (files : FileMap) (name bytes : List ℕ) → map ≡ Some files →
     held files name ≡ Some bytes → IsMissing map name → ⊥
 held-found None files name bytes told holds missing = missing
 held-found (Some others) files name bytes told holds missing =
@@ -77,7 +91,7 @@ held-found (Some others) files name bytes told holds missing =
     absurd (cc)
 
 -- what came of a file that is not too long is all of it
-came-whole : (map : Option FileMap) (files : FileMap) (taken : ℕ) (name whole : List ℕ) (most : ℕ) (bytes : List ℕ) →
+pub came-whole : (map : Option FileMap) (files : FileMap) (taken : ℕ) (name whole : List ℕ) (most : ℕ) (bytes : List ℕ) →
     map ≡ Some files → held files name ≡ Some whole → length whole ≤ most → FileCame map taken name most bytes →
     bytes ≡ whole
 came-whole None files taken name whole most bytes told holds short came = absurd (cc)
@@ -108,7 +122,7 @@ accepted-kept map taken csv settings cause ready refused =
     absurd (cc)
 
 -- an index file that is not too long is not refused
-index-kept : (map : Option FileMap) (taken : ℕ) (index : List ℕ) (cause : Outcome) → HasIndex map index →
+pub index-kept : (map : Option FileMap) (taken : ℕ) (index : List ℕ) (cause : Outcome) → HasIndex map index →
     IsIndexRefused map taken index cause → ⊥
 index-kept map taken index cause ready refused =
     let same : refused.bytes ≡ ready.bytes =
@@ -119,7 +133,7 @@ index-kept map taken index cause ready refused =
     absurd (cc)
 
 -- no more questions come than are told
-questions-short : (told now : Option (List ℕ)) (bytes : List ℕ) → HasQuestions told → Consumes told now bytes →
+pub questions-short : (told now : Option (List ℕ)) (bytes : List ℕ) → HasQuestions told → Consumes told now bytes →
     length bytes ≡ limit_of limit.Questions + 1 → ⊥
 questions-short None now bytes ready came past = absurd (let none = ready.told in cc)
 questions-short (Some lines) None bytes ready came past = came
@@ -138,6 +152,17 @@ module _ (untouched : Type 0) (before now : Talk) (ready : HasQuestions before.r
       let first = ends.answers.answers.answered.1 in
       questions-short before.rest now.rest first.bytes ready first.came.consumed first.past
 
+module _ (untouched : Type 0) (before now : Talk) where
+  -- what is answered from bytes that were opened is no refusal of a union
+  opened-settings : (setting : Setting) (left right : ℕ) (bytes : List ℕ) →
+      EndsOpened (outcome.Settings setting left right) bytes untouched before now → ⊥
+  opened-settings setting left right bytes (inl unopened) = unopened
+  opened-settings setting left right bytes (inr ends) = ends.answers.answers.answered
+
+  opened-common : (object : ℕ) (bytes : List ℕ) → EndsOpened (outcome.Common object) bytes untouched before now → ⊥
+  opened-common object bytes (inl unopened) = unopened
+  opened-common object bytes (inr ends) = ends.answers.answers.answered
+
 -- a call of `once`
 pub once-good : (result : Outcome) (csv : List ℕ) (settings : Settings) (untouched : Type 0) (before now : Moment) →
     EndsOnce result csv settings untouched before now → HasAccepted before.files.map csv settings →
@@ -146,7 +171,7 @@ pub once-good : (result : Outcome) (csv : List ℕ) (settings : Settings) (untou
     (Rose before.files.load_faults now.files.load_faults → ⊥) → IsGood result
 once-good result csv settings untouched before now ends ready lines plain words save listen say calm =
     by_cause result words
-    (λ failed. elim (ends.loading.load_failed failed) [
+    (λ failed. elim (ends.loading.one.load_failed failed) [
       | inl rose ↦ calm rose
       | inr missing ↦ held-found before.files.map ready.files csv ready.bytes ready.told ready.holds missing
     ])
@@ -165,6 +190,12 @@ once-good result csv settings untouched before now ends ready lines plain words 
     let late : is_late result ≡ true = ap is_late is in
     let answers = subst Over is (ends.late late) in
     opened-long untouched before.talk now.talk lines _ value answers.ended)
+    (λ setting left right is.
+    let Over : Outcome → Type 0 = λ other. AnswersChart other csv settings untouched before now in
+    opened-settings untouched before.talk now.talk setting left right _ (subst Over is (ends.late (ap is_late is))).ended)
+    (λ object is.
+    let Over : Outcome → Type 0 = λ other. AnswersChart other csv settings untouched before now in
+    opened-common untouched before.talk now.talk object _ (subst Over is (ends.late (ap is_late is))).ended)
 
 -- a call of `ask`
 pub ask-good : (result : Outcome) (index : List ℕ) (untouched : Type 0) (before now : Moment) →
@@ -173,7 +204,7 @@ pub ask-good : (result : Outcome) (index : List ℕ) (untouched : Type 0) (befor
     (result ≢ outcome.SayFailed) → (Rose before.files.load_faults now.files.load_faults → ⊥) → IsGood result
 ask-good result index untouched before now ends ready lines words save listen say calm =
     by_cause result words
-    (λ failed. elim (ends.loading.load_failed failed) [
+    (λ failed. elim (ends.loading.one.load_failed failed) [
       | inl rose ↦ calm rose
       | inr missing ↦ held-found before.files.map ready.files index ready.bytes ready.told ready.holds missing
     ])
@@ -196,6 +227,12 @@ ask-good result index untouched before now ends ready lines words save listen sa
     let late : is_late result ≡ true = ap is_late is in
     let answers = subst Over is (ends.late late) in
     opened-long untouched before.talk now.talk lines answers.bytes value answers.ended)
+    (λ setting left right is.
+    let Over : Outcome → Type 0 = λ other. AnswersFile other index untouched before now in
+    opened-settings untouched before.talk now.talk setting left right _ (subst Over is (ends.late (ap is_late is))).ended)
+    (λ object is.
+    let Over : Outcome → Type 0 = λ other. AnswersFile other index untouched before now in
+    opened-common untouched before.talk now.talk object _ (subst Over is (ends.late (ap is_late is))).ended)
 
 -- a call of `build`
 pub build-good : (result : Outcome) (csv index : List ℕ) (settings : Settings) (before now : FilesState) →
@@ -204,7 +241,7 @@ pub build-good : (result : Outcome) (csv index : List ℕ) (settings : Settings)
     (result ≢ outcome.SayFailed) → (Rose before.load_faults now.load_faults → ⊥) → IsGood result
 build-good result csv index settings before now ends ready words save listen say calm =
     by_cause result words
-    (λ failed. elim (ends.loading.load_failed failed) [
+    (λ failed. elim (ends.loading.one.load_failed failed) [
       | inl rose ↦ calm rose
       | inr missing ↦ held-found before.map ready.files csv ready.bytes ready.told ready.holds missing
     ])
@@ -216,6 +253,90 @@ build-good result csv index settings before now ends ready words save listen say
     (λ value is. let late : is_late result ≡ true = ap is_late is in
     let Saves : Outcome → Type 0 = λ other. Saved other index (written (ends.late late).chart) before now in
     subst Saves is (ends.late late).saved)
+    (λ setting left right is. let late : is_late result ≡ true = ap is_late is in
+    let Saves : Outcome → Type 0 = λ other. Saved other index (written (ends.late late).chart) before now in
+    subst Saves is (ends.late late).saved)
+    (λ object is. let late : is_late result ≡ true = ap is_late is in
+    let Saves : Outcome → Type 0 = λ other. Saved other index (written (ends.late late).chart) before now in
+    subst Saves is (ends.late late).saved)
+
+module _ (index name : List ℕ) (before now : FilesState) (steps_before steps_now : ℕ) (ready : HasIndex before.map index)
+  where
+    -- such a file ends in no outcome that only its length or its bytes could tell
+    upgrade-none : (result : Outcome) → EndsUpgrade result index name before now steps_before steps_now →
+        (NotLoaded result limit.Index index before now → IsIndexRefused before.map now.taken index result) →
+        (NotUpgraded result ready.bytes → ⊥) → ((newest : List ℕ) → Saved result name newest before now → ⊥) → ⊥
+    upgrade-none result ends refused unwritten unsaved = elim ends.ended [
+      | inl unloaded ↦ index-kept before.map now.taken index result ready (refused unloaded.0)
+      | inr file ↦ elim file.ended [
+        | inl left ↦
+            let same : file.bytes ≡ ready.bytes = came-whole before.map ready.files now.taken index ready.bytes
+            (limit_of limit.Index) file.bytes ready.told ready.holds ready.short file.loaded.came in
+            unwritten (subst (NotUpgraded result) same left.0)
+        | inr saves ↦ unsaved saves.newest saves.saved
+      ]
+    ]
+
+    -- what is no outcome of an upgrade
+    upgrade-other : (result : Outcome) → EndsUpgrade result index name before now steps_before steps_now →
+        (NotLoaded result limit.Index index before now → IsIndexRefused before.map now.taken index result) →
+        (NotUpgraded result ready.bytes → ⊥) → ((newest : List ℕ) → Saved result name newest before now → ⊥) → IsGood result
+    upgrade-other result ends refused unwritten unsaved = absurd (upgrade-none result ends refused unwritten unsaved)
+
+    -- a call of `upgrade`
+    pub upgrade-good : (result : Outcome) → EndsUpgrade result index name before now steps_before steps_now →
+        length (upgrade_bytes ready.parts) ≤ limit_of limit.Index → (result ≢ outcome.SaveFailed) →
+        (Rose before.load_faults now.load_faults → ⊥) → IsGood result
+    upgrade-good outcome.Done ends short save calm = inl refl
+    upgrade-good outcome.Memory ends short save calm = inr refl
+    upgrade-good outcome.SaveFailed ends short save calm = absurd (save refl)
+    upgrade-good outcome.LoadFailed ends short save calm = elim (ends.loading.load_failed refl) [
+      | inl rose ↦ absurd (calm rose)
+      | inr missing ↦ absurd (held-found before.map ready.files index ready.bytes ready.told ready.holds missing)
+    ]
+    upgrade-good (outcome.Flaw flaw) ends short save calm = upgrade-other _ ends (λ refused. refused)
+        (λ flawed. let both : Some flaw ≡ None = sym flawed ∙ first_flaw-file ready.bytes ready.parts ready.file in cc)
+        (λ newest none. none)
+    upgrade-good (outcome.Limit limit.Index size) ends short save calm = upgrade-other _ ends (λ refused. refused)
+        (λ (newest, upgrade, counted, above).
+        let same : upgrade.parts ≡ ready.parts =
+        IsFile-one ready.bytes upgrade.parts ready.parts upgrade.file ready.file in
+        let lengths : length newest ≡ length (upgrade_bytes ready.parts) =
+        ap length (upgrade.spelled ∙ ap upgrade_bytes same) in
+        omega (arith, lengths, counted, above, short))
+        (λ newest none. none)
+    upgrade-good (outcome.Words place) ends short save calm =
+        upgrade-other _ ends (λ refused. refused) (λ none. none) (λ newest none. none)
+    upgrade-good (outcome.Limit limit.Csv size) ends short save calm =
+        upgrade-other _ ends (λ refused. refused) (λ none. none) (λ newest none. none)
+    upgrade-good (outcome.Limit limit.Base size) ends short save calm =
+        upgrade-other _ ends (λ refused. refused) (λ none. none) (λ newest none. none)
+    upgrade-good (outcome.Limit limit.Rows size) ends short save calm =
+        upgrade-other _ ends (λ refused. refused) (λ none. none) (λ newest none. none)
+    upgrade-good (outcome.Limit limit.Objects size) ends short save calm =
+        upgrade-other _ ends (λ refused. refused) (λ none. none) (λ newest none. none)
+    upgrade-good (outcome.Limit limit.Span size) ends short save calm =
+        upgrade-other _ ends (λ refused. refused) (λ none. none) (λ newest none. none)
+    upgrade-good (outcome.Limit limit.Extent size) ends short save calm =
+        upgrade-other _ ends (λ refused. refused) (λ none. none) (λ newest none. none)
+    upgrade-good (outcome.Limit limit.Blocks size) ends short save calm =
+        upgrade-other _ ends (λ refused. refused) (λ none. none) (λ newest none. none)
+    upgrade-good (outcome.Limit limit.Symbols size) ends short save calm =
+        upgrade-other _ ends (λ refused. refused) (λ none. none) (λ newest none. none)
+    upgrade-good (outcome.Limit limit.Questions size) ends short save calm =
+        upgrade-other _ ends (λ refused. refused) (λ none. none) (λ newest none. none)
+    upgrade-good (outcome.Settings setting left right) ends short save calm =
+        upgrade-other _ ends (λ refused. refused) (λ none. none) (λ newest none. none)
+    upgrade-good (outcome.Common object) ends short save calm =
+        upgrade-other _ ends (λ refused. refused) (λ none. none) (λ newest none. none)
+    upgrade-good (outcome.Row nth field fault) ends short save calm =
+        upgrade-other _ ends (λ refused. refused) (λ none. none) (λ newest none. none)
+    upgrade-good outcome.Empty ends short save calm =
+        upgrade-other _ ends (λ refused. refused) (λ none. none) (λ newest none. none)
+    upgrade-good outcome.ListenFailed ends short save calm =
+        upgrade-other _ ends (λ refused. refused) (λ none. none) (λ newest none. none)
+    upgrade-good outcome.SayFailed ends short save calm =
+        upgrade-other _ ends (λ refused. refused) (λ none. none) (λ newest none. none)
 
 module _ (result : Outcome) (settings : SampleSettings) (unsaid : Type 0) (given : List ℕ → List ℕ) (before now : Speech)
     (plain : IsPlain given)
@@ -244,4 +365,8 @@ module _ (result : Outcome) (settings : SampleSettings) (unsaid : Type 0) (given
         (λ refusal. let both : Some result ≡ None = sym (ends.refused refusal).0 ∙ accepted in cc)
         (λ flaw is. sums-none (outcome.Flaw flaw) (λ memory. cc) (λ text told. told) is (ends.accepted (ap is_refusal is)))
         (λ value is. sums-none (outcome.Limit limit.Questions value) (λ memory. cc) (λ text told. told) is
+        (ends.accepted (ap is_refusal is)))
+        (λ setting left right is. sums-none (outcome.Settings setting left right) (λ memory. cc) (λ text told. told) is
+        (ends.accepted (ap is_refusal is)))
+        (λ object is. sums-none (outcome.Common object) (λ memory. cc) (λ text told. told) is
         (ends.accepted (ap is_refusal is)))

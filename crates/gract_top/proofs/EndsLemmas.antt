@@ -13,15 +13,15 @@ use Rattle.track_types.specs.declared.parts.Parts.{Parts}
 use Rattle.chart_parts.specs.PartsOf.{parts_of}
 use Rattle.track_index.specs.Opening.{IsFile}
 use Rattle.gract_top.specs.Outcome.{EndsOpened, EndsOver, Talk}
-use Rattle.gract_top.specs.Ends.{AnswersChart, EndsBuild, EndsLoading, EndsOnce, Moment}
-use Rattle.gract_top.specs.Ends.{Saved, SavesChart, SavesNothing, written}
+use Rattle.gract_top.specs.Beginning.{EndsLoading, SavesNothing}
+use Rattle.gract_top.specs.Ends.{AnswersChart, EndsBuild, EndsOnce, Moment, Saved, SavesChart, written}
 use Rattle.gract_top.specs.Refusal.{IsAccepted, is_early, is_refusal}
 use Rattle.gract_top.specs.declared.outcome.Outcome.{Outcome}
 use Rattle.gract_top.specs.declared.outcome.Outcome.TheVariants as outcome
 use Rattle.gract_top.specs.declared.request.Settings.{Settings}
 
 -- what the file's bytes decide comes before a question
-is_early-refusal : (result : Outcome) → is_refusal result ≡ true → is_early result ≡ true
+pub is_early-refusal : (result : Outcome) → is_refusal result ≡ true → is_early result ≡ true
 is_early-refusal outcome.Done refusal = refusal
 is_early-refusal (outcome.Words place) refusal = refl
 is_early-refusal outcome.LoadFailed refusal = refl
@@ -29,6 +29,8 @@ is_early-refusal (outcome.Limit kind value) refusal = refusal
 is_early-refusal (outcome.Row nth field fault) refusal = refl
 is_early-refusal outcome.Empty refusal = refl
 is_early-refusal (outcome.Flaw flaw) refusal = refusal
+is_early-refusal (outcome.Settings setting left right) refusal = refusal
+is_early-refusal (outcome.Common object) refusal = refusal
 is_early-refusal outcome.SaveFailed refusal = refusal
 is_early-refusal outcome.ListenFailed refusal = refusal
 is_early-refusal outcome.SayFailed refusal = refusal
@@ -41,11 +43,13 @@ pub EndsLoading-loaded : {T : Type 0} (loaded : Result T Outcome) (value : T) (r
     now.begins ≡ raised before.begins → is_early result ≡ false →
     ((size : ℕ) → is_early (outcome.Limit kind size) ≡ true) → EndsLoading result name kind before now
 EndsLoading-loaded loaded value result name kind before now is missing taken begins later early = record {
-  load_failed = λ failed. absurd (false≢true (sym later ∙ ap is_early failed));
-  missing = λ none. let failed = missing none in absurd (cc);
-  taken = taken;
+  one = record {
+    load_failed = λ failed. absurd (false≢true (sym later ∙ ap is_early failed));
+    missing = λ none. let failed = missing none in absurd (cc);
+    taken = taken;
+    begins = begins;
+  };
   too_long = λ size long. absurd (false≢true (sym later ∙ ap is_early long ∙ early size));
-  begins = begins;
 }
 
 module _ (result : Outcome) (csv : List ℕ) (settings : Settings) (untouched : Type 0) (before now : Moment) where
@@ -94,20 +98,27 @@ EndsOpened-unsaved result bytes untouched before now ended is =
     ]
 
 module _ (index bytes : List ℕ) (before now : FilesState) where
+  -- a save that does not fail is done
+  pub Saved-done : (result : Outcome) → Saved result index bytes before now → result ≢ outcome.SaveFailed →
+      result ≡ outcome.Done
+  Saved-done outcome.Done saved unsaved = refl
+  Saved-done (outcome.Words place) saved unsaved = absurd (saved)
+  Saved-done outcome.LoadFailed saved unsaved = absurd (saved)
+  Saved-done (outcome.Limit kind value) saved unsaved = absurd (saved)
+  Saved-done (outcome.Row nth field fault) saved unsaved = absurd (saved)
+  Saved-done outcome.Empty saved unsaved = absurd (saved)
+  Saved-done (outcome.Flaw flaw) saved unsaved = absurd (saved)
+  Saved-done (outcome.Settings setting left right) saved unsaved = absurd (saved)
+  Saved-done (outcome.Common object) saved unsaved = absurd (saved)
+  Saved-done outcome.SaveFailed saved unsaved = absurd (unsaved refl)
+  Saved-done outcome.ListenFailed saved unsaved = absurd (saved)
+  Saved-done outcome.SayFailed saved unsaved = absurd (saved)
+  Saved-done outcome.Memory saved unsaved = absurd (saved)
+
   -- a save ends in one of two ways
   Saved-either : (result : Outcome) → Saved result index bytes before now →
       result ≢ outcome.Done → result ≢ outcome.SaveFailed → SavesNothing before now
-  Saved-either outcome.Done saved undone unsaved = absurd (undone refl)
-  Saved-either (outcome.Words place) saved undone unsaved = absurd (saved)
-  Saved-either outcome.LoadFailed saved undone unsaved = absurd (saved)
-  Saved-either (outcome.Limit kind value) saved undone unsaved = absurd (saved)
-  Saved-either (outcome.Row nth field fault) saved undone unsaved = absurd (saved)
-  Saved-either outcome.Empty saved undone unsaved = absurd (saved)
-  Saved-either (outcome.Flaw flaw) saved undone unsaved = absurd (saved)
-  Saved-either outcome.SaveFailed saved undone unsaved = absurd (unsaved refl)
-  Saved-either outcome.ListenFailed saved undone unsaved = absurd (saved)
-  Saved-either outcome.SayFailed saved undone unsaved = absurd (saved)
-  Saved-either outcome.Memory saved undone unsaved = absurd (saved)
+  Saved-either result saved undone unsaved = absurd (undone (Saved-done result saved unsaved))
 
 -- the bytes of a chart's index were saved, or the save failed
 pub EndsBuild-late : (result : Outcome) (csv index : List ℕ) (settings : Settings) (before now : FilesState) →
@@ -132,6 +143,8 @@ Saved-loaded (outcome.Limit kind value) index bytes spelled before loaded now sa
 Saved-loaded (outcome.Row nth field fault) index bytes spelled before loaded now saved map saves is = absurd (saved)
 Saved-loaded outcome.Empty index bytes spelled before loaded now saved map saves is = absurd (saved)
 Saved-loaded (outcome.Flaw flaw) index bytes spelled before loaded now saved map saves is = absurd (saved)
+Saved-loaded (outcome.Settings setting left right) index bytes spelled before loaded now saved map saves is = absurd (saved)
+Saved-loaded (outcome.Common object) index bytes spelled before loaded now saved map saves is = absurd (saved)
 Saved-loaded outcome.ListenFailed index bytes spelled before loaded now saved map saves is = absurd (saved)
 Saved-loaded outcome.SayFailed index bytes spelled before loaded now saved map saves is = absurd (saved)
 Saved-loaded outcome.Memory index bytes spelled before loaded now saved map saves is = absurd (saved)

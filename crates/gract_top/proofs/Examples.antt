@@ -1,11 +1,13 @@
 -- The definitions, run on inputs that were worked out by hand.
 use Rattle.std.proofs.Common.{◌≡◌, ℕ, List, [], ◌∷◌, codes, refl, Bor, map, Ok, Some}
 use Rattle.std.specs.Fmt.{digits}
+use Rattle.question_shell.specs.RegionWords.{shapes_fault}
 use Rattle.question_shell.specs.Grammar.{question_of}
 use Rattle.track_types.specs.declared.limit.LimitKind.TheVariants as limit
 use Rattle.track_types.specs.declared.raw_row.RowFault.TheVariants as fault
+use Rattle.track_types.specs.declared.setting.Setting.TheVariants as setting
 use Rattle.gract_top.specs.OutcomeText.{text_of}
-use Rattle.gract_top.specs.Request.{request_of}
+use Rattle.gract_top.specs.Request.{request_of, values_of}
 use Rattle.gract_top.specs.Summary.{counted_questions}
 use Rattle.gract_top.specs.declared.outcome.Outcome.TheVariants as outcome
 use Rattle.gract_top.specs.declared.request.Request.TheVariants as request
@@ -21,6 +23,7 @@ words texts = map word texts
 -- command words
 form_once : request_of (words (codes "once" ∷ codes "t.csv" ∷ codes "+10" ∷ codes " 60" ∷ codes "4" ∷ []))
     ≡ request.Once (word (codes "t.csv")) (record { cell = 10; tick = 60; period = 4 })
+unfolding values_of
 form_once = refl
 
 no_words : request_of [] ≡ request.Refused 1
@@ -30,31 +33,72 @@ unknown_command : request_of (words (codes "fetch" ∷ [])) ≡ request.Refused 
 unknown_command = refl
 
 empty_name : request_of (words (codes "once" ∷ codes "" ∷ codes "1" ∷ codes "1" ∷ codes "4" ∷ [])) ≡ request.Refused 2
+unfolding values_of
 empty_name = refl
 
 cell_below : request_of (words (codes "once" ∷ codes "t.csv" ∷ codes "0" ∷ codes "x" ∷ codes "4" ∷ [])) ≡ request.Refused 3
+unfolding values_of
 cell_below = refl
 
 period_missing : request_of (words (codes "once" ∷ codes "t.csv" ∷ codes "1" ∷ codes "1" ∷ [])) ≡ request.Refused 5
+unfolding values_of
 period_missing = refl
 
 period_above : request_of (words (codes "once" ∷ codes "t.csv" ∷ codes "1" ∷ codes "1" ∷ codes "4194305" ∷ []))
     ≡ request.Refused 5
+unfolding values_of
 period_above = refl
 
 one_word_more : request_of (words (codes "once" ∷ codes "t.csv" ∷ codes "1" ∷ codes "1" ∷ codes "4" ∷ codes "x" ∷ []))
     ≡ request.Refused 6
+unfolding values_of
 one_word_more = refl
+
+form_ask : request_of (words (codes "ask" ∷ codes "t.idx" ∷ [])) ≡ request.Ask (word (codes "t.idx"))
+unfolding values_of
+form_ask = refl
+
+form_ask_tail : request_of (words (codes "ask" ∷ codes "t.idx" ∷ codes "t.csv" ∷ []))
+    ≡ request.AskTail (word (codes "t.idx")) (word (codes "t.csv"))
+unfolding values_of
+form_ask_tail = refl
+
+empty_tail : request_of (words (codes "ask" ∷ codes "t.idx" ∷ codes "" ∷ [])) ≡ request.Refused 3
+unfolding values_of
+empty_tail = refl
+
+behind_a_tail : request_of (words (codes "ask" ∷ codes "t.idx" ∷ codes "t.csv" ∷ codes "x" ∷ [])) ≡ request.Refused 4
+unfolding values_of
+behind_a_tail = refl
+
+form_upgrade : request_of (words (codes "upgrade" ∷ codes "t.idx" ∷ codes " " ∷ []))
+    ≡ request.Upgrade (word (codes "t.idx")) (word (codes " "))
+unfolding values_of
+form_upgrade = refl
+
+new_missing : request_of (words (codes "upgrade" ∷ codes "t.idx" ∷ [])) ≡ request.Refused 3
+unfolding values_of
+new_missing = refl
+
+form_merge : request_of (words (codes "merge" ∷ codes "t.idx" ∷ codes "u.idx" ∷ codes "t.idx" ∷ []))
+    ≡ request.Merge (word (codes "t.idx")) (word (codes "u.idx")) (word (codes "t.idx"))
+unfolding values_of
+form_merge = refl
+
+out_missing : request_of (words (codes "merge" ∷ codes "t.idx" ∷ codes "u.idx" ∷ [])) ≡ request.Refused 4
+unfolding values_of
+out_missing = refl
 
 -- the lines that ask for a summary of 64 instants
 summary_lines : map question_of
     (codes "position 0 32" ∷ codes "path 0 0 63" ∷ codes "slice 32 rect 0 0 511 511"
     ∷ codes "interval 0 63 disc 512 512 100" ∷ codes "nearest 5 63 512 512" ∷ [])
     ≡ map (λ asked. Ok (Some asked)) (counted_questions 64)
+unfolding shapes_fault
 summary_lines = refl
 
 -- texts
-limit_line : text_of (outcome.Limit limit.Extent 1048577) ≡ codes "gract: limit extent passed at 1048577"
+limit_line : text_of (outcome.Limit limit.Extent 16777217) ≡ codes "gract: limit extent passed at 16777217"
 unfolding digits
 limit_line = refl
 
@@ -65,3 +109,11 @@ count_line = refl
 word_line : text_of (outcome.Words 3) ≡ codes "gract: word 3 is not as expected"
 unfolding digits
 word_line = refl
+
+settings_line : text_of (outcome.Settings setting.Period 4 8) ≡ codes "gract: the files differ in period: 4 and 8"
+unfolding digits
+settings_line = refl
+
+common_line : text_of (outcome.Common 7) ≡ codes "gract: object 7 is in both files"
+unfolding digits
+common_line = refl

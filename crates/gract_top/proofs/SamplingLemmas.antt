@@ -9,9 +9,9 @@ use Rattle.chart_parts.specs.PartsOf.{parts_of}
 use Rattle.index_format.specs.Spelling.{bytes_of_parts}
 use Rattle.snapshots.specs.IndexCost.{open_cost}
 use Rattle.snapshots.specs.Parts.{chart_in}
-use Rattle.track_index.specs.Cost.{cost_of}
 use Rattle.track_index.specs.Facts.{facts_of}
 use Rattle.track_index.specs.Opening.{IsFile}
+use Rattle.gract_top.specs.Cost.{question_cost}
 use Rattle.gract_top.specs.Refusal.{is_refusal}
 use Rattle.gract_top.specs.Sampling.{EndsSample, EndsSummed, EndsSummedOver, SaysFront, Speech, SumsOver}
 use Rattle.gract_top.specs.Sampling.{SumsSample, Told, sample_chart, sample_refusal}
@@ -26,11 +26,11 @@ module _ (result : Outcome) (instants : ℕ) (before now : Speech) where
   -- the summary of an index that was opened was said
   pub SumsOver-opened : (asked index : Parts) (opened : ℕ) → asked ≡ index → opened ≤ before.steps + open_cost index →
       Told result (summary_of (chart_in asked) (facts_of asked) instants) before.said now.said →
-      now.steps ≤ opened + summary_cost (cost_of asked) instants → SumsOver result index instants before now
+      now.steps ≤ opened + summary_cost (question_cost asked) instants → SumsOver result index instants before now
   SumsOver-opened asked index opened same cost told reads =
       let P : Parts → Type 0 = λ these.
       Told result (summary_of (chart_in these) (facts_of these) instants) before.said now.said in
-      let costs = ap (λ these. summary_cost (cost_of these) instants) same in
+      let costs = ap (λ these. summary_cost (question_cost these) instants) same in
       record { told = subst P same told; cost = omega (arith, cost, reads, costs) }
 
   -- what holds of parts holds of parts that are the same
@@ -129,6 +129,10 @@ module _ (bytes : List ℕ) (instants : ℕ) (unsaid : Type 0) (before now : Spe
   EndsSummed-late (outcome.Row nth field fault) (inr sums) = absurd (sums.sums.told)
   EndsSummed-late outcome.Empty (inl unopened) = absurd unopened
   EndsSummed-late outcome.Empty (inr sums) = absurd (sums.sums.told)
+  EndsSummed-late (outcome.Settings setting left right) (inl unopened) = absurd unopened
+  EndsSummed-late (outcome.Settings setting left right) (inr sums) = absurd (sums.sums.told)
+  EndsSummed-late (outcome.Common object) (inl unopened) = absurd unopened
+  EndsSummed-late (outcome.Common object) (inr sums) = absurd (sums.sums.told)
   EndsSummed-late outcome.SaveFailed (inl unopened) = absurd unopened
   EndsSummed-late outcome.SaveFailed (inr sums) = absurd (sums.sums.told)
   EndsSummed-late outcome.ListenFailed (inl unopened) = absurd unopened

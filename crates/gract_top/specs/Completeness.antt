@@ -1,5 +1,5 @@
 -- When a call does all that was asked of it, unless it is out of memory.
-use Rattle.std.specs.Prelude.{◌≡◌, ℕ, ◌≤◌, List, length, Option, Some, None}
+use Rattle.std.specs.Prelude.{◌≡◌, ℕ, ◌≤◌, List, length, Option, Some, None, ◌⊎◌}
 use Rattle.host_ports.specs.FileMap.{FileMap, held}
 use Rattle.host_ports.specs.FilesState.{IsPlain}
 use Rattle.host_ports.specs.Faults.{Rose}
@@ -10,6 +10,10 @@ use Rattle.track_index.specs.Opening.{IsFile}
 use Rattle.gract_top.specs.Ends.{Moment}
 use Rattle.gract_top.specs.Refusal.{file_refusal}
 use Rattle.gract_top.specs.Sampling.{sample_refusal}
+use Rattle.gract_top.specs.TailAsking.{settings_in}
+use Rattle.gract_top.specs.Upgrading.{upgrade_bytes}
+use Rattle.index_merge.specs.MergeFault.{merge_fault}
+use Rattle.gract_top.specs.declared.outcome.Outcome.TheVariants as outcome
 use Rattle.gract_top.specs.declared.request.Request.{Request}
 use Rattle.gract_top.specs.declared.request.Request.TheVariants as request
 use Rattle.gract_top.specs.declared.request.Settings.{Settings}
@@ -21,6 +25,14 @@ pub record HasAccepted (map : Option FileMap) (csv : List ℕ) (settings : Setti
   pub bytes : List ℕ
   pub holds : held files csv ≡ Some bytes
   pub accepted : file_refusal bytes settings ≡ None
+
+-- The files are told, and that name holds a CSV file that is accepted, or one without a data row.
+pub record HasTail (map : Option FileMap) (csv : List ℕ) (settings : Settings) : Type 0 where
+  pub files : FileMap
+  pub told : map ≡ Some files
+  pub bytes : List ℕ
+  pub holds : held files csv ≡ Some bytes
+  pub accepted : (file_refusal bytes settings ≡ None) ⊎ (file_refusal bytes settings ≡ Some outcome.Empty)
 
 -- The files are told, and that name holds an index file that is not too long.
 pub record HasIndex (map : Option FileMap) (index : List ℕ) : Type 0 where
@@ -38,14 +50,23 @@ pub record HasQuestions (rest : Option (List ℕ)) : Type 0 where
   pub told : rest ≡ Some bytes
   pub short : length bytes ≤ limit_of limit.Questions
 
--- What a request needs is there: a form, the file that it loads, questions that are not too many where it asks any, and
--- files that give what they are handed where it opens what it wrote.
+-- What a request needs is there: a form, the files that it loads, questions that are not too many where it asks any, files
+-- that give what they are handed where it opens what it wrote, an upgrade that is not too long where it saves one, and two
+-- indexes that have a union where it merges them.
 abbrev pub IsReady : Request → Moment → Type 0
 IsReady (request.Once csv settings) before =
     HasAccepted before.files.map csv.now settings × HasQuestions before.talk.rest × IsPlain before.given
 IsReady (request.Build csv index settings) before = HasAccepted before.files.map csv.now settings
 IsReady (request.Ask index) before = HasIndex before.files.map index.now × HasQuestions before.talk.rest
+IsReady (request.AskTail index tail) before =
+    (ready : HasIndex before.files.map index.now)
+    × (HasTail before.files.map tail.now (settings_in ready.parts) × HasQuestions before.talk.rest)
 IsReady (request.Sample settings) before = (sample_refusal settings ≡ None) × IsPlain before.given
+IsReady (request.Upgrade old new) before =
+    (ready : HasIndex before.files.map old.now) × (length (upgrade_bytes ready.parts) ≤ limit_of limit.Index)
+IsReady (request.Merge left right out) before =
+    (first : HasIndex before.files.map left.now) × (second : HasIndex before.files.map right.now)
+    × (merge_fault first.parts second.parts ≡ None)
 IsReady (request.Refused place) before = ⊥
 
 -- No count of faults rose, and none has reached the greatest number that it can reach.

@@ -1,18 +1,25 @@
 -- How a call ends, by its command: what came of the file that it loads, what was saved, and what was answered.
-use Rattle.std.specs.Prelude.{◌≡◌, ◌≢◌, ℕ, ◌+◌, ◌≤◌, ⊤, true, List, ◌⊎◌}
-use Rattle.host_ports.specs.FileMap.{IsMissing, IsSaved, KeepsOthers}
+use Rattle.std.specs.Prelude.{◌≡◌, ◌≢◌, ℕ, ◌+◌, ◌*◌, ◌≤◌, ⊤, true, List, length, None, ◌⊎◌}
+use Rattle.host_ports.specs.FileMap.{IsSaved, KeepsOthers}
 use Rattle.host_ports.specs.FilesState.{FilesState, IsPlain}
-use Rattle.host_ports.specs.Faults.{Rose}
 use Rattle.host_ports.specs.NumberedCalls.{raised}
 use Rattle.track_types.specs.Chart.{ChartView}
 use Rattle.track_types.specs.Limits.{limit_of}
-use Rattle.track_types.specs.declared.limit.LimitKind.{LimitKind}
 use Rattle.track_types.specs.declared.limit.LimitKind.TheVariants as limit
+use Rattle.track_types.specs.declared.parts.Parts.{Parts}
 use Rattle.chart_parts.specs.PartsOf.{parts_of}
 use Rattle.index_format.specs.Spelling.{bytes_of_parts}
+use Rattle.track_index.specs.Opening.{bytes_cost}
+use Rattle.index_merge.specs.Cost.{union_cost}
+use Rattle.index_merge.specs.MergeFault.{merge_fault}
+use Rattle.gract_top.specs.Beginning.{BeginsFirst, BeginsOne, EndsLoading, NotLoaded, Progress, SavesNothing, progress}
+use Rattle.gract_top.specs.Merging.{NotMerged, union_bytes}
 use Rattle.gract_top.specs.Outcome.{EndsOpened, EndsOver, Talk}
-use Rattle.gract_top.specs.Refusal.{IsAccepted, IsIndexLoaded, IsIndexRefused, IsRefused, is_early, is_late, is_refusal}
+use Rattle.gract_top.specs.Refusal.{IsAccepted, IsIndexLoaded, IsIndexRefused, IsRefused, is_early}
+use Rattle.gract_top.specs.Refusal.{is_late, is_refusal}
 use Rattle.gract_top.specs.Sampling.{EndsSample, speech}
+use Rattle.gract_top.specs.TailAsking.{EndsAskTail}
+use Rattle.gract_top.specs.Upgrading.{IsUpgrade, NotUpgraded}
 use Rattle.gract_top.specs.declared.outcome.Outcome.{Outcome}
 use Rattle.gract_top.specs.declared.outcome.Outcome.TheVariants as outcome
 use Rattle.gract_top.specs.declared.request.Settings.{Settings}
@@ -32,23 +39,6 @@ moment files given talk = record { files = files; given = given; talk = talk }
 -- the bytes that the index of a chart is written as
 abbrev pub written : ChartView → List ℕ
 written chart = bytes_of_parts (parts_of chart)
-
--- What a call tells of the file that it loads, whose length has a limit: no other file is begun.
-pub record EndsLoading (result : Outcome) (name : List ℕ) (kind : LimitKind) (before now : FilesState) : Type 0 where
-  -- the file was not loaded: its device failed, or there is none
-  pub load_failed : result ≡ outcome.LoadFailed →
-      Rose before.load_faults now.load_faults ⊎ IsMissing before.map name
-  pub missing : IsMissing before.map name → result ≡ outcome.LoadFailed
-  -- no byte of the file beyond its limit and one is asked for
-  pub taken : now.taken ≤ limit_of kind + 1
-  pub too_long : (value : ℕ) → result ≡ outcome.Limit kind value →
-      (value ≡ limit_of kind + 1) × (now.taken ≡ value)
-  pub begins : now.begins ≡ raised before.begins
-
--- Nothing was saved.
-pub record SavesNothing (before now : FilesState) : Type 0 where
-  pub map : now.map ≡ before.map
-  pub saves : now.saves ≡ before.saves
 
 -- Source and sink are as they were, and nothing was read of an index.
 abbrev pub StaysSilent : Type 0 → Moment → Moment → Type 0
@@ -122,6 +112,51 @@ pub record EndsAsk (result : Outcome) (index : List ℕ) (untouched : Type 0) (b
   pub memory : result ≡ outcome.Memory →
       StaysSilent untouched before now ⊎ AnswersFile result index untouched before now
 
+-- The upgrade of bytes was saved, or the save failed.
+pub record SavesUpgrade (result : Outcome) (bytes name : List ℕ) (before now : FilesState) : Type 0 where
+  pub newest : List ℕ
+  pub upgrade : IsUpgrade bytes newest
+  pub short : length newest ≤ limit_of limit.Index
+  pub saved : Saved result name newest before now
+
+-- The index file was loaded, and its upgrade was saved or not, within the reads of two openings.
+pub record UpgradesFile (result : Outcome) (index name : List ℕ) (before now : FilesState) (steps_before steps_now : ℕ) :
+    Type 0 where
+  pub bytes : List ℕ
+  pub loaded : IsIndexLoaded before.map now.taken index bytes
+  pub ended : (NotUpgraded result bytes × SavesNothing before now) ⊎ SavesUpgrade result bytes name before now
+  pub cost : steps_now ≤ steps_before + 2 * bytes_cost bytes
+
+-- How a call of `upgrade` ends.
+pub record EndsUpgrade (result : Outcome) (index name : List ℕ) (before now : FilesState) (steps_before steps_now : ℕ) :
+    Type 0 where
+  pub loading : BeginsOne result index limit.Index before now
+  pub ended : (NotLoaded result limit.Index index before now × SavesNothing before now × (steps_now ≡ steps_before))
+      ⊎ UpgradesFile result index name before now steps_before steps_now
+
+-- The union of what two indexes hold was saved, or the save failed.
+pub record SavesUnion (result : Outcome) (left right : Parts) (name : List ℕ) (before now : FilesState) : Type 0 where
+  pub merged : merge_fault left right ≡ None
+  pub saved : Saved result name (union_bytes left right) before now
+
+-- Two index files were opened as these parts, and their union was saved or not, within the reads of making it. No file
+-- was begun after them, and none was saved before.
+pub record MergesParts (result : Outcome) (left right : Parts) (name : List ℕ) (before : FilesState)
+    (opened now : Progress) : Type 0 where
+  pub ended : (NotMerged result left right × SavesNothing before now.files)
+      ⊎ SavesUnion result left right name before now.files
+  pub cost : now.steps ≤ opened.steps + union_cost left right
+  pub taken : now.files.taken ≡ opened.files.taken
+  pub begins : now.files.begins ≡ opened.files.begins
+
+-- How a call of `merge` ends: at the first file, else at the second, else over what both hold. The second file is begun
+-- where the first one was opened.
+abbrev pub EndsMerge : Outcome → List ℕ → List ℕ → List ℕ → Progress → Progress → Type 0
+EndsMerge result left right name before now =
+    BeginsFirst result left before now (λ first between.
+    BeginsFirst result right between now (λ second opened.
+    MergesParts result first second name before.files opened now))
+
 -- How the call that a request asks for ends, where it is not refused. `unheard` says that the source is as it was, and
 -- `unsaid` that the sink is.
 abbrev pub Ends : Request → Outcome → Type 0 → Type 0 → Moment → Moment → Type 0
@@ -131,7 +166,17 @@ Ends (request.Build csv index settings) result unheard unsaid before now =
     EndsBuild result csv.now index.now settings before.files now.files
     × (StaysSilent (unheard × unsaid) before now × (now.given ≡ before.given))
 Ends (request.Ask index) result unheard unsaid before now = EndsAsk result index.now (unheard × unsaid) before now
+Ends (request.AskTail index tail) result unheard unsaid before now =
+    EndsAskTail result index.now tail.now (unheard × unsaid) before.files now.files before.talk now.talk
+    × (now.given ≡ before.given)
 Ends (request.Sample settings) result unheard unsaid before now =
     unheard × EndsSample result settings unsaid before.files now.files before.given
     (speech before.talk.said before.talk.steps) (speech now.talk.said now.talk.steps)
+Ends (request.Upgrade old new) result unheard unsaid before now =
+    EndsUpgrade result old.now new.now before.files now.files before.talk.steps now.talk.steps
+    × ((unheard × unsaid) × (now.given ≡ before.given))
+Ends (request.Merge left right out) result unheard unsaid before now =
+    EndsMerge result left.now right.now out.now (progress before.files before.talk.steps)
+    (progress now.files now.talk.steps)
+    × ((unheard × unsaid) × (now.given ≡ before.given))
 Ends (request.Refused place) result unheard unsaid before now = ⊤

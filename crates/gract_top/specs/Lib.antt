@@ -2,9 +2,14 @@ pub mod Request
 pub mod Loading
 pub mod Refusal
 pub mod Receiving
+pub mod Cost
 pub mod Outcome
 pub mod Summary
 pub mod Sampling
+pub mod Upgrading
+pub mod Beginning
+pub mod Merging
+pub mod TailAsking
 pub mod Ends
 pub mod Completeness
 pub mod OutcomeText

@@ -7,10 +7,10 @@ use Rattle.question_shell.specs.Session.{AnswersAll, AnswersBefore, AnswersFirst
 use Rattle.question_shell.specs.Session.{Meaning, Run, meaning_of, run_of}
 use Rattle.snapshots.specs.IndexCost.{open_cost}
 use Rattle.snapshots.specs.Parts.{chart_in}
-use Rattle.track_index.specs.Cost.{cost_of}
 use Rattle.track_index.specs.Facts.{facts_of}
 use Rattle.track_index.specs.Opening.{bytes_cost, first_flaw, IsFile}
 use Rattle.track_types.specs.declared.parts.Parts.{Parts}
+use Rattle.gract_top.specs.Cost.{question_cost}
 use Rattle.gract_top.specs.declared.outcome.Outcome.{Outcome}
 use Rattle.gract_top.specs.declared.outcome.Outcome.TheVariants as outcome
 
@@ -49,7 +49,7 @@ pub record Answers (result : Outcome) (untouched : Type 0) (meaning : Meaning) (
 
 -- what an index of these parts means
 abbrev pub index_meaning : Parts → Meaning
-index_meaning parts = meaning_of (chart_in parts) (facts_of parts) (cost_of parts)
+index_meaning parts = meaning_of (chart_in parts) (facts_of parts) (question_cost parts)
 
 -- Bytes were opened as these parts within their cost, and the lines were answered over the chart that they hold.
 pub record AnswersOver (result : Outcome) (parts : Parts) (untouched : Type 0) (before now : Talk) : Type 0 where

@@ -1,6 +1,6 @@
 -- The status and the line that a program ends with.
 use Rattle.std.specs.Prelude.{ℕ, List, [], ◌++◌, codes, decimal}
-use Rattle.track_types.specs.FaultText.{limit_name}
+use Rattle.track_types.specs.FaultText.{limit_name, setting_name}
 use Rattle.track_types.specs.FlawText.{flaw_text}
 use Rattle.track_types.specs.declared.raw_row.RowFault.{RowFault}
 use Rattle.track_types.specs.declared.raw_row.RowFault.TheVariants as fault
@@ -16,6 +16,8 @@ status_of (outcome.Limit kind value) = 4
 status_of (outcome.Row nth field fault) = 3
 status_of outcome.Empty = 3
 status_of (outcome.Flaw flaw) = 5
+status_of (outcome.Settings setting left right) = 8
+status_of (outcome.Common object) = 9
 status_of outcome.SaveFailed = 6
 status_of outcome.ListenFailed = 6
 status_of outcome.SayFailed = 6
@@ -43,6 +45,9 @@ text_of (outcome.Row nth field fault) =
     codes "gract: record " ++ decimal nth ++ before_field fault ++ decimal field ++ behind_field fault
 text_of outcome.Empty = codes "gract: no rows"
 text_of (outcome.Flaw flaw) = codes "gract: " ++ flaw_text flaw
+text_of (outcome.Settings setting left right) =
+    codes "gract: the files differ in " ++ setting_name setting ++ codes ": " ++ decimal left ++ codes " and " ++ decimal right
+text_of (outcome.Common object) = codes "gract: object " ++ decimal object ++ codes " is in both files"
 text_of outcome.SaveFailed = codes "gract: the index could not be saved"
 text_of outcome.ListenFailed = codes "gract: the questions could not be read"
 text_of outcome.SayFailed = codes "gract: the answers could not be written"

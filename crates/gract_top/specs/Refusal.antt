@@ -91,6 +91,8 @@ is_early other = is_refusal other
 abbrev pub is_late : Outcome → Bool
 is_late outcome.Done = true
 is_late (outcome.Flaw flaw) = true
+is_late (outcome.Settings setting left right) = true
+is_late (outcome.Common object) = true
 is_late outcome.SaveFailed = true
 is_late outcome.ListenFailed = true
 is_late outcome.SayFailed = true

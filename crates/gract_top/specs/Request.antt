@@ -1,126 +1,162 @@
 -- What the command words ask for.
-use Rattle.std.specs.Prelude.{⊤, ℕ, ◌+◌, ◌^◌, ◌<◌, ◌≤◌, pos, Bool, if◌then◌else◌, List, [], ◌∷◌, codes, Option, Some, is_ok}
-use Rattle.std.specs.Prelude.{None, map}
+use Rattle.std.specs.Prelude.{⊤, ℕ, ◌+◌, ◌^◌, ◌<◌, ◌≤◌, ℤ, pos, Bool, true, false, if◌then◌else◌, List, [], ◌∷◌, codes}
+use Rattle.std.specs.Prelude.{Option, Some, None, Result, Ok, Err}
 use denote.Ref.{Bor}
 use Rattle.std.specs.Int.RustNames.{unsigned_abs}
 use Rattle.std.specs.Str.{bytes_eq}
 use Rattle.question_shell.specs.Lines.{has_byte}
 use Rattle.track_types.specs.Limits.{IsPeriod, IsResolution}
 use Rattle.track_types.specs.Bounds.{number_within}
+use Rattle.track_types.specs.declared.bounds.NumberFault.{NumberFault}
 use Rattle.track_types.specs.declared.limit.TheConstants.{MAX_OBJECTS, MAX_PERIOD, MAX_RESOLUTION, MAX_SPAN}
-use Rattle.row_reader.specs.Row.{value_of}
-use Rattle.gract_top.specs.declared.request.WordKind.{WordKind}
-use Rattle.gract_top.specs.declared.request.WordKind.TheVariants.{File, Number}
 use Rattle.gract_top.specs.declared.request.Request.{Request}
-use Rattle.gract_top.specs.declared.request.Request.TheVariants.{Ask, Build, Once, Refused, Sample}
+use Rattle.gract_top.specs.declared.request.Request.TheVariants.{Ask, AskTail, Build, Merge, Once, Refused, Sample, Upgrade}
 use Rattle.gract_top.specs.declared.request.SampleSettings.{SampleSettings}
 use Rattle.gract_top.specs.declared.request.Settings.{Settings}
 
--- a file word is any text that is not empty, a number word a numeral in its range
-abbrev pub fits_word : WordKind → List ℕ → Bool
-fits_word File word = has_byte word
-fits_word (Number least greatest) word = is_ok (number_within least greatest word)
+-- What is wanted at a place: the name of a file, which is any text that is not empty, or such a name unless there is no
+-- word at all, or a numeral from one number to another.
+pub data WordKind : Type 0 where
+  File : WordKind
+  OptionalFile : WordKind
+  Number : ℕ → ℕ → WordKind
 
--- The place of the first word that does not fit, of the first that is missing, or of the first too many.
-abbrev pub first_bad : List WordKind → List (List ℕ) → ℕ → Option ℕ
-first_bad [] [] place = None
-first_bad [] (word ∷ words) place = Some place
-first_bad (kind ∷ kinds) [] place = Some place
-first_bad (kind ∷ kinds) (word ∷ words) place =
-    if fits_word kind word then first_bad kinds words (place + 1) else Some place
+-- what a word of a kind is worth: the text itself, if there has to be none, or the number
+abbrev pub Value : WordKind → Type 0
+Value File = Bor (List ℕ)
+Value OptionalFile = Option (Bor (List ℕ))
+Value (Number least greatest) = ℕ
 
--- the words for settings: CELL TICK PERIOD
-abbrev pub settings_words : List WordKind
-settings_words = Number (pos 1) (pos MAX_RESOLUTION) ∷ Number (pos 1) (pos MAX_RESOLUTION) ∷ Number (pos 1) (pos MAX_PERIOD) ∷ []
+-- the value of a number that is not refused
+abbrev pub natural_of : Result ℤ NumberFault → Option ℕ
+natural_of (Ok value) = Some (unsigned_abs value)
+natural_of (Err fault) = None
 
--- the words after `once`: CSV CELL TICK PERIOD
-abbrev pub once_words : List WordKind
-once_words = File ∷ settings_words
+-- the value of a word, where it is of this kind
+abbrev pub value_of : (kind : WordKind) → Bor (List ℕ) → Option (Value kind)
+value_of File word = if has_byte word.now then Some word else None
+value_of OptionalFile word = if has_byte word.now then Some (Some word) else None
+value_of (Number least greatest) word = natural_of (number_within (pos least) (pos greatest) word.now)
 
--- the words after `build`: CSV INDEX CELL TICK PERIOD
-abbrev pub build_words : List WordKind
-build_words = File ∷ File ∷ settings_words
+-- the values of words of these kinds
+abbrev pub Values : List WordKind → Type 0
+Values [] = ⊤
+Values (kind ∷ kinds) = Value kind × Values kinds
 
--- the words after `ask`: INDEX
-abbrev pub ask_words : List WordKind
-ask_words = File ∷ []
+-- a value before others, unless these are refused
+abbrev pub joined : {A B : Type 0} → A → Result B ℕ → Result (A × B) ℕ
+joined value (Ok others) = Ok (value, others)
+joined value (Err place) = Err place
 
--- the words after `sample`: OBJECTS INSTANTS SEED PERIOD
-abbrev pub sample_words : List WordKind
-sample_words = Number (pos 1) (pos MAX_OBJECTS) ∷ Number (pos 1) (pos MAX_SPAN) ∷ Number (pos 0) (pos (2 ^ 62)) ∷ Number (pos 1) (pos MAX_PERIOD) ∷ []
+-- a value, where there is one, before others; else its place is refused
+abbrev pub joined_or : {A B : Type 0} → Option A → ℕ → Result B ℕ → Result (A × B) ℕ
+joined_or (Some value) place others = joined value others
+joined_or None place others = Err place
 
--- the value of a number word that fits
-abbrev pub natural_value : List ℕ → ℕ
-natural_value word = unsigned_abs (value_of word)
+-- The values of words of these kinds, or the place of the first word that is not of its kind, of the first that is missing,
+-- or of the first too many.
+unfoldable pub values_of : (kinds : List WordKind) → List (Bor (List ℕ)) → ℕ → Result (Values kinds) ℕ
+values_of [] [] place = Ok tt
+values_of [] (word ∷ words) place = Err place
+values_of (OptionalFile ∷ kinds) [] place = joined None (values_of kinds [] place)
+values_of (kind ∷ kinds) [] place = Err place
+values_of (kind ∷ kinds) (word ∷ words) place = joined_or (value_of kind word) place (values_of kinds words (place + 1))
 
--- the settings of three number words
-abbrev pub settings_of : List ℕ → List ℕ → List ℕ → Settings
-settings_of cell tick period =
-    record { cell = natural_value cell; tick = natural_value tick; period = natural_value period }
+-- A form of words: the name of a command, what is wanted after it, and what these values ask for.
+pub record Form : Type 0 where
+  pub name : List ℕ
+  pub kinds : List WordKind
+  pub asks : Values kinds → Request
 
--- the settings of a sample, of four number words
-abbrev pub sample_settings_of : List ℕ → List ℕ → List ℕ → List ℕ → SampleSettings
-sample_settings_of objects instants seed period = record {
-  objects = natural_value objects;
-  instants = natural_value instants;
-  seed = natural_value seed;
-  period = natural_value period;
+-- a word for CELL or TICK
+abbrev pub resolution : WordKind
+resolution = Number 1 MAX_RESOLUTION
+
+-- a word for PERIOD
+abbrev pub period : WordKind
+period = Number 1 MAX_PERIOD
+
+-- the settings of these numbers
+abbrev pub settings_of : ℕ → ℕ → ℕ → Settings
+settings_of cell tick period = record { cell = cell; tick = tick; period = period }
+
+-- once CSV CELL TICK PERIOD
+abbrev pub once_form : Form
+once_form = record {
+  name = codes "once";
+  kinds = File ∷ resolution ∷ resolution ∷ period ∷ [];
+  asks = λ (csv, (cell, (tick, (period, end)))). Once csv (settings_of cell tick period);
 }
 
--- the texts that words are
-abbrev pub texts : List (Bor (List ℕ)) → List (List ℕ)
-texts words = map (λ word. word.now) words
+-- build CSV INDEX CELL TICK PERIOD
+abbrev pub build_form : Form
+build_form = record {
+  name = codes "build";
+  kinds = File ∷ File ∷ resolution ∷ resolution ∷ period ∷ [];
+  asks = λ (csv, (index, (cell, (tick, (period, end))))). Build csv index (settings_of cell tick period);
+}
 
--- what words after `once` ask for, unless the word at some place is bad
-abbrev pub once_or : Option ℕ → List (Bor (List ℕ)) → Request
-once_or (Some place) words = Refused place
-once_or None (csv ∷ cell ∷ tick ∷ period ∷ []) = Once csv (settings_of cell.now tick.now period.now)
-once_or None other = Refused 2
+-- what an index is asked for, with a tail or without one
+abbrev pub ask_with : Bor (List ℕ) → Option (Bor (List ℕ)) → Request
+ask_with index None = Ask index
+ask_with index (Some tail) = AskTail index tail
 
--- what words after `build` ask for, unless the word at some place is bad
-abbrev pub build_or : Option ℕ → List (Bor (List ℕ)) → Request
-build_or (Some place) words = Refused place
-build_or None (csv ∷ index ∷ cell ∷ tick ∷ period ∷ []) = Build csv index (settings_of cell.now tick.now period.now)
-build_or None other = Refused 2
+-- ask INDEX, or ask INDEX TAIL
+abbrev pub ask_form : Form
+ask_form = record {
+  name = codes "ask";
+  kinds = File ∷ OptionalFile ∷ [];
+  asks = λ (index, (tail, end)). ask_with index tail;
+}
 
--- what words after `ask` ask for, unless the word at some place is bad
-abbrev pub ask_or : Option ℕ → List (Bor (List ℕ)) → Request
-ask_or (Some place) words = Refused place
-ask_or None (index ∷ []) = Ask index
-ask_or None other = Refused 2
+-- sample OBJECTS INSTANTS SEED PERIOD
+abbrev pub sample_form : Form
+sample_form = record {
+  name = codes "sample";
+  kinds = Number 1 MAX_OBJECTS ∷ Number 1 MAX_SPAN ∷ Number 0 (2 ^ 62) ∷ period ∷ [];
+  asks = λ (objects, (instants, (seed, (period, end)))).
+      Sample (record { objects = objects; instants = instants; seed = seed; period = period });
+}
 
--- what words after `sample` ask for, unless the word at some place is bad
-abbrev pub sample_or : Option ℕ → List (Bor (List ℕ)) → Request
-sample_or (Some place) words = Refused place
-sample_or None (objects ∷ instants ∷ seed ∷ period ∷ []) =
-    Sample (sample_settings_of objects.now instants.now seed.now period.now)
-sample_or None other = Refused 2
+-- upgrade OLD NEW
+abbrev pub upgrade_form : Form
+upgrade_form = record {
+  name = codes "upgrade";
+  kinds = File ∷ File ∷ [];
+  asks = λ (old, (new, end)). Upgrade old new;
+}
 
--- what the words after `once` ask for
-abbrev pub once_of : List (Bor (List ℕ)) → Request
-once_of words = once_or (first_bad once_words (texts words) 2) words
+-- merge A B OUT
+abbrev pub merge_form : Form
+merge_form = record {
+  name = codes "merge";
+  kinds = File ∷ File ∷ File ∷ [];
+  asks = λ (left, (right, (out, end))). Merge left right out;
+}
 
--- what the words after `build` ask for
-abbrev pub build_of : List (Bor (List ℕ)) → Request
-build_of words = build_or (first_bad build_words (texts words) 2) words
+-- the forms
+abbrev pub forms : List Form
+forms = once_form ∷ build_form ∷ ask_form ∷ sample_form ∷ upgrade_form ∷ merge_form ∷ []
 
--- what the words after `ask` ask for
-abbrev pub ask_of : List (Bor (List ℕ)) → Request
-ask_of words = ask_or (first_bad ask_words (texts words) 2) words
+-- what values ask for by a form, or the place that is refused
+abbrev pub asked_by : (form : Form) → Result (Values form.kinds) ℕ → Request
+asked_by form (Ok values) = form.asks values
+asked_by form (Err place) = Refused place
 
--- what the words after `sample` ask for
-abbrev pub sample_of : List (Bor (List ℕ)) → Request
-sample_of words = sample_or (first_bad sample_words (texts words) 2) words
+-- what words after a command's name ask for by its form, where the first of them stands at a place
+abbrev pub asked : Form → List (Bor (List ℕ)) → ℕ → Request
+asked form words place = asked_by form (values_of form.kinds words place)
+
+-- what words after a name ask for, by the form among these that it names
+abbrev pub asked_among : List Form → List ℕ → List (Bor (List ℕ)) → Request
+asked_among [] name words = Refused 1
+asked_among (form ∷ forms) name words =
+    if bytes_eq name form.name then asked form words 2 else asked_among forms name words
 
 -- What the words ask for: one of the forms with its values, or the place of the first bad word, counted from 1.
 abbrev pub request_of : List (Bor (List ℕ)) → Request
 request_of [] = Refused 1
-request_of (name ∷ words) =
-    if bytes_eq name.now (codes "once") then once_of words
-    else if bytes_eq name.now (codes "build") then build_of words
-    else if bytes_eq name.now (codes "ask") then ask_of words
-    else if bytes_eq name.now (codes "sample") then sample_of words
-    else Refused 1
+request_of (name ∷ words) = asked_among forms name.now words
 
 -- numbers are in the ranges of settings
 abbrev pub AreSettings : Settings → Type 0
@@ -139,5 +175,8 @@ abbrev pub AreInRange : Request → Type 0
 AreInRange (Once csv settings) = AreSettings settings
 AreInRange (Build csv index settings) = AreSettings settings
 AreInRange (Ask index) = ⊤
+AreInRange (AskTail index tail) = ⊤
 AreInRange (Sample settings) = AreSampleSettings settings
+AreInRange (Upgrade old new) = ⊤
+AreInRange (Merge left right out) = ⊤
 AreInRange (Refused place) = ⊤

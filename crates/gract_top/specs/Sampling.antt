@@ -13,9 +13,9 @@ use Rattle.chart_parts.specs.PartsOf.{parts_of}
 use Rattle.index_format.specs.Spelling.{bytes_of_parts}
 use Rattle.snapshots.specs.IndexCost.{open_cost}
 use Rattle.snapshots.specs.Parts.{chart_in}
-use Rattle.track_index.specs.Cost.{cost_of}
 use Rattle.track_index.specs.Facts.{facts_of}
 use Rattle.track_index.specs.Opening.{IsFile}
+use Rattle.gract_top.specs.Cost.{question_cost}
 use Rattle.gract_top.specs.Outcome.{OpensOnly, Unopened}
 use Rattle.gract_top.specs.Refusal.{grid_refusal, is_refusal}
 use Rattle.gract_top.specs.Summary.{summary_cost, summary_of}
@@ -60,7 +60,7 @@ Told other text before now = ⊥
 -- Bytes were opened as these parts within their cost, and the summary of the chart that they hold was said.
 pub record SumsOver (result : Outcome) (parts : Parts) (instants : ℕ) (before now : Speech) : Type 0 where
   pub told : Told result (summary_of (chart_in parts) (facts_of parts) instants) before.said now.said
-  pub cost : now.steps ≤ before.steps + open_cost parts + summary_cost (cost_of parts) instants
+  pub cost : now.steps ≤ before.steps + open_cost parts + summary_cost (question_cost parts) instants
 
 -- The bytes are those of an index file, and the summary is of what it holds.
 pub record SumsBytes (result : Outcome) (bytes : List ℕ) (instants : ℕ) (before now : Speech) : Type 0 where

@@ -8,6 +8,7 @@ ghost use Rattle.gract_top.specs.Outcome.{Answers, EndsOpened, EndsOver, talk};
 ghost use Rattle.gract_top.specs.Refusal.{is_early};
 
 use crate::outcome::Outcome;
+use encounter::IndexMeets;
 use host_ports::{Sink, Source};
 use index_format::FormatFault;
 use question_shell::{Desk, ShellFault, run};
@@ -15,7 +16,7 @@ use std::alloc::Global;
 use std::sync::ledger::Ledger;
 use step_count::Steps;
 use track_index::open;
-use track_types::{Answerer, LimitKind};
+use track_types::{LimitKind, Meets};
 
 // Opens the bytes of an index file, and answers the source's lines from the index.
 pub(crate) fn answer_bytes<S: Source, K: Sink, L: Ledger>(
@@ -49,11 +50,11 @@ pub(crate) fn answer_bytes<S: Source, K: Sink, L: Ledger>(
         Err(FormatFault::Memory) => return Outcome::Memory,
     };
     drop(bytes);
-    answer_with(alloc, index.view(), source, sink, steps)
+    answer_with(alloc, IndexMeets::new(&index), source, sink, steps)
 }
 
 // Answers the source's lines from an empty desk, over whatever answers questions.
-pub(crate) fn answer_with<A: Answerer, S: Source, K: Sink, L: Ledger>(
+pub(crate) fn answer_with<A: Meets, S: Source, K: Sink, L: Ledger>(
     alloc: Global,
     answerer: A,
     source: &mut S,

@@ -48,7 +48,7 @@ pub(crate) fn build<F: Files>(
 }
 
 // Saves bytes under a name, once.
-fn save_as<F: Files>(files: &mut F, index: &str, bytes: &[u8]) -> Outcome
+pub(crate) fn save_as<F: Files>(files: &mut F, index: &str, bytes: &[u8]) -> Outcome
     ensures saved { Saved result index.now bytes.now
         (state_of (F.map files.old) (F.rest files.old) (F.taken files.old) (F.load_faults files.old)
         (F.save_faults files.old) (F.saves files.old) (F.begins files.old))

@@ -9,9 +9,12 @@ ghost use Rattle.gract_top.specs.Request.{request_of};
 
 use crate::asking::{ask, once};
 use crate::building::build;
+use crate::merging::merge;
 use crate::outcome::Outcome;
 use crate::request::{Request, read_request};
 use crate::sampling::sample;
+use crate::tail_asking::ask_tail;
+use crate::upgrading::upgrade;
 use host_ports::{Files, Sink, Source};
 use std::alloc::Global;
 use std::sync::ledger::Ledger;
@@ -25,10 +28,17 @@ use track_types::LimitKind;
 ///   opens what the files give for its bytes, and answers the source's lines from that;
 /// - `build CSV INDEX CELL TICK PERIOD` saves the bytes of that index under INDEX;
 /// - `ask INDEX` loads and opens an index file, and answers the source's lines from it;
+/// - `ask INDEX TAIL` opens it, then loads the CSV file TAIL and grids its rows as those of the index were,
+///   and answers the source's lines from both: where both have a row of an object and an instant, TAIL's
+///   counts. TAIL may have no row;
 /// - `sample OBJECTS INSTANTS SEED PERIOD` makes rows from a number, grids them with CELL and TICK 1,
 ///   writes the index of their chart, opens what the files give for its bytes, and says a summary of it:
 ///   the reply to `info`, and the last line of the reply to each of five questions more. Files and
-///   source are left alone.
+///   source are left alone;
+/// - `upgrade OLD NEW` loads and opens an index file, and saves the bytes of the same index in the
+///   newest version of the format under NEW;
+/// - `merge A B OUT` loads and opens two index files, A and then B, and saves the bytes of the index of
+///   the union of what they hold under OUT.
 ///
 /// Each outcome comes for its cause alone, which its clause states. `Memory` may come to any words
 /// that have a form: before the first question is listened to, or at a line that takes memory.
@@ -96,6 +106,11 @@ pub fn gract<F: Files, S: Source, K: Sink, L: Ledger>(
             settings,
         } => build(alloc, csv, index, settings, files),
         Request::Ask { index } => ask(alloc, index, files, source, sink, steps),
+        Request::AskTail { index, tail } => {
+            ask_tail(alloc, index, tail, files, source, sink, steps)
+        }
         Request::Sample { settings } => sample(alloc, settings, files, sink, steps),
+        Request::Upgrade { old, new } => upgrade(alloc, old, new, files, steps),
+        Request::Merge { left, right, out } => merge(alloc, left, right, out, files, steps),
     }
 }

@@ -1,11 +1,14 @@
 //! The whole program as one call: command words in, an outcome out.
 //!
 //! `gract` loads a CSV file, grids its rows and writes the index of their chart, or loads an index
-//! file; it saves the index, or opens it and says for each line of its source the reply that
-//! filtering the chart gives. Or it makes a sample's rows and says a summary of their index. Files, source
-//! and sink are handed in, so the call's contract can speak of all that came, was saved and was said.
+//! file; it saves the index, also in the newest version of the format or merged with another, or opens
+//! it, also with a CSV file of later rows, and says for each line of its source the reply that filtering
+//! the chart gives. Or it makes a sample's rows and says a summary of their index. Files, source and
+//! sink are handed in, so the call's contract can speak of all that came, was saved and was said.
 //! The crate stands on row_reader, gridding, sample_rows, chart_parts, snapshots, index_format,
-//! track_index, question_shell, host_ports, track_types, step_count, list_laws, arrayvec and itoa.
+//! track_index, live_tail, index_merge, encounter, question_shell, host_ports, track_types, step_count,
+//! list_laws,
+//! arrayvec and itoa.
 #![tactic(auto)]
 
 mod answering;
@@ -13,9 +16,12 @@ mod asking;
 mod building;
 mod chart_loading;
 mod chart_writing;
+mod command_words;
 mod commands;
 mod counting;
+mod index_opening;
 mod loading;
+mod merging;
 mod outcome;
 mod outcome_text;
 mod receiver;
@@ -23,8 +29,10 @@ mod request;
 mod rows_receiver;
 mod sampling;
 mod summarizing;
+mod tail_asking;
 #[cfg(test)]
 mod tests;
+mod upgrading;
 
 pub use commands::gract;
 pub use outcome::Outcome;

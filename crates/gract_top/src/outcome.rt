@@ -1,4 +1,4 @@
-use track_types::{Flaw, LimitKind, RowFault};
+use track_types::{Flaw, LimitKind, RowFault, Setting};
 
 /// How a call of the program ended.
 #[derive(Clone, Copy, Debug, PartialEq, Eq)]
@@ -22,10 +22,20 @@ pub enum Outcome {
         field: u32,
         fault: RowFault,
     },
-    /// The CSV file has no data row.
+    /// The CSV file has no data row, or two index files have no row.
     Empty,
     /// The bytes that were opened are not those of an index file; this is their first flaw.
     Flaw(Flaw),
+    /// Two index files differ in a setting, in which they must agree to become one.
+    Settings {
+        setting: Setting,
+        left: u64,
+        right: u64,
+    },
+    /// This object is the least that is listed in both of two index files.
+    Common {
+        object: u32,
+    },
     /// The index could not be saved, and its name may hold anything.
     SaveFailed,
     /// The questions could not be read.

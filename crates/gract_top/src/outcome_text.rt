@@ -6,7 +6,7 @@ ghost use Rattle.track_types.specs.FlawText.{kind_name, section_name};
 use crate::outcome::Outcome;
 use arrayvec::ArrayString;
 use itoa::Buffer;
-use track_types::{Flaw, Kind, LimitKind, RowFault, Section};
+use track_types::{Flaw, Kind, LimitKind, RowFault, Section, Setting};
 
 /// The line that a program ends with.
 type Text = ArrayString<160>;
@@ -27,6 +27,8 @@ impl Outcome {
             | Outcome::ListenFailed
             | Outcome::SayFailed => 6,
             Outcome::Memory => 7,
+            Outcome::Settings { .. } => 8,
+            Outcome::Common { .. } => 9,
         }
     }
 
@@ -43,6 +45,12 @@ impl Outcome {
             Outcome::Row { nth, field, fault } => record_text(nth, field, fault),
             Outcome::Empty => plain_text("gract: no rows"),
             Outcome::Flaw(flaw) => flaw_line(flaw),
+            Outcome::Settings {
+                setting,
+                left,
+                right,
+            } => settings_text(setting, left, right),
+            Outcome::Common { object } => common_text(object),
             Outcome::SaveFailed => plain_text("gract: the index could not be saved"),
             Outcome::ListenFailed => plain_text("gract: the questions could not be read"),
             Outcome::SayFailed => plain_text("gract: the answers could not be written"),
@@ -105,6 +113,29 @@ fn flaw_line(flaw: Flaw) -> ArrayString<160>
     text.push_str(digits.format(flaw.index));
     text.push_str(": ");
     text.push_str(kind_word(flaw.kind));
+    text
+}
+
+fn settings_text(setting: Setting, left: u64, right: u64) -> ArrayString<160>
+    ensures { result.bytes ≡ text_of (Outcome.Settings setting left right) }
+{
+    let mut digits = Buffer::new();
+    let mut text = plain_text("gract: the files differ in ");
+    text.push_str(setting.name());
+    text.push_str(": ");
+    text.push_str(digits.format(left));
+    text.push_str(" and ");
+    text.push_str(digits.format(right));
+    text
+}
+
+fn common_text(object: u32) -> ArrayString<160>
+    ensures { result.bytes ≡ text_of (Outcome.Common object) }
+{
+    let mut digits = Buffer::new();
+    let mut text = plain_text("gract: object ");
+    text.push_str(digits.format(object));
+    text.push_str(" is in both files");
     text
 }
 

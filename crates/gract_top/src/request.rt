@@ -1,19 +1,10 @@
-ghost use Rattle.std.specs.Prelude.{◌≡◌, ◌+◌, ◌^◌, ◌≤◌, ◌≤ℤ◌, pos, true, length, [], ◌∷◌, None};
-ghost use Rattle.gract_top.specs.Request.{AreInRange, AreSettings, ask_of, build_of, first_bad};
-ghost use Rattle.gract_top.specs.Request.{fits_word, natural_value, once_of, request_of};
-ghost use Rattle.gract_top.specs.Request.{settings_of, settings_words, texts};
-ghost use Rattle.gract_top.specs.Request.{AreSampleSettings, sample_of, sample_settings_of, sample_words};
+ghost use Rattle.std.specs.Prelude.{◌≡◌, IfOk, IfErr};
+ghost use Rattle.gract_top.specs.Request.{AreInRange, ask_form, asked, build_form, once_form, request_of, sample_form};
+ghost use Rattle.gract_top.specs.Request.{merge_form, upgrade_form};
+ghost use Rattle.gract_top.specs.declared.request.Request.TheVariants.{Refused};
 
-use track_types::{MAX_OBJECTS, MAX_PERIOD, MAX_RESOLUTION, MAX_SPAN, number_within};
-
-/// What a command wants at a place.
-#[derive(Clone, Copy, Debug, PartialEq, Eq)]
-pub enum WordKind {
-    /// The name of a file: any text that is not empty.
-    File,
-    /// A numeral whose value is from `least` to `greatest`.
-    Number { least: i64, greatest: i64 },
-}
+use crate::command_words::CommandWords;
+use track_types::{MAX_OBJECTS, MAX_PERIOD, MAX_RESOLUTION, MAX_SPAN};
 
 /// What the command words ask for.
 #[derive(Clone, Copy, Debug, PartialEq, Eq)]
@@ -33,9 +24,27 @@ pub enum Request<'a> {
     Ask {
         index: &'a str,
     },
+    /// To answer the source's lines from the index file of one name and the later rows of the CSV file
+    /// of another, its tail.
+    AskTail {
+        index: &'a str,
+        tail: &'a str,
+    },
     /// To say the summary of a sample.
     Sample {
         settings: SampleSettings,
+    },
+    /// To save the index file of one name in the newest version of the format, under another, which may
+    /// be the same.
+    Upgrade {
+        old: &'a str,
+        new: &'a str,
+    },
+    /// To save the union of the index files of two names under a third, which may be either of these.
+    Merge {
+        left: &'a str,
+        right: &'a str,
+        out: &'a str,
     },
     /// Nothing: the first bad word stands at this place, counted from 1.
     Refused {
@@ -67,225 +76,140 @@ pub struct SampleSettings {
     pub period: u32,
 }
 
-/// The greatest CELL and TICK.
-const RESOLUTION: i64 = MAX_RESOLUTION as i64;
-
-/// The greatest PERIOD.
-const PERIOD: i64 = MAX_PERIOD as i64;
-
 /// The greatest SEED, 2^62.
-const SEED: i64 = 4_611_686_018_427_387_904;
-
-/// A word for CELL or TICK.
-const RESOLUTION_WORD: WordKind = WordKind::Number {
-    least: 1,
-    greatest: RESOLUTION,
-};
-
-/// A word for PERIOD.
-const PERIOD_WORD: WordKind = WordKind::Number {
-    least: 1,
-    greatest: PERIOD,
-};
-
-/// The words after `once`: CSV CELL TICK PERIOD.
-const ONCE: [WordKind; 4] = [
-    WordKind::File,
-    RESOLUTION_WORD,
-    RESOLUTION_WORD,
-    PERIOD_WORD,
-];
-
-/// The words after `build`: CSV INDEX CELL TICK PERIOD.
-const BUILD: [WordKind; 5] = [
-    WordKind::File,
-    WordKind::File,
-    RESOLUTION_WORD,
-    RESOLUTION_WORD,
-    PERIOD_WORD,
-];
-
-/// The words after `ask`: INDEX.
-const ASK: [WordKind; 1] = [WordKind::File];
-
-/// The words after `sample`: OBJECTS INSTANTS SEED PERIOD.
-const SAMPLE: [WordKind; 4] = [
-    WordKind::Number {
-        least: 1,
-        greatest: MAX_OBJECTS as i64,
-    },
-    WordKind::Number {
-        least: 1,
-        greatest: MAX_SPAN as i64,
-    },
-    WordKind::Number {
-        least: 0,
-        greatest: SEED,
-    },
-    PERIOD_WORD,
-];
+const MAX_SEED: u64 = 4_611_686_018_427_387_904;
 
 // Reads the command words.
-pub(crate) fn read_request<'a>(words: &[&'a str]) -> Request<'a>
+pub(crate) fn read_request<'a>(words: &'a [&'a str]) -> Request<'a>
     ensures value { result ≡ request_of words.now }
     ensures ranges { AreInRange result }
 {
-    match words {
-        [] => Request::Refused { place: 1 },
-        [name, rest @ ..] => {
-            if *name == "once" {
-                read_once(rest)
-            } else if *name == "build" {
-                read_build(rest)
-            } else if *name == "ask" {
-                read_ask(rest)
-            } else if *name == "sample" {
-                read_sample(rest)
-            } else {
-                Request::Refused { place: 1 }
-            }
-        }
+    match read_form(words) {
+        Ok(request) => request,
+        Err(place) => Request::Refused { place },
     }
 }
 
-fn read_once<'a>(words: &[&'a str]) -> Request<'a>
-    ensures value { result ≡ once_of words.now }
-    ensures ranges { AreInRange result }
+// Reads them by the form that the first one names, or answers the place of the first bad one.
+fn read_form<'a>(words: &'a [&'a str]) -> Result<Request<'a>, u32>
+    ensures ok { IfOk result (λ request. request_of words.now ≡ request) }
+    ensures err { IfErr result (λ place. request_of words.now ≡ Refused place) }
+    ensures ranges { IfOk result AreInRange }
 {
-    if let Some(place) = first_bad_place(&ONCE, words, 2) {
-        return Request::Refused { place };
-    }
-    match words {
-        [csv, cell, tick, period] => Request::Once {
-            csv: *csv,
-            settings: settings_of(cell, tick, period),
-        },
-        _ => Request::Refused { place: 2 }, // no other number of words has the form
+    let [name, rest @ ..] = words else {
+        return Err(1);
+    };
+    let words = CommandWords { rest, place: 2 };
+    match *name {
+        "once" => read_once(words),
+        "build" => read_build(words),
+        "ask" => read_ask(words),
+        "sample" => read_sample(words),
+        "upgrade" => read_upgrade(words),
+        "merge" => read_merge(words),
+        _ => Err(1),
     }
 }
 
-fn read_build<'a>(words: &[&'a str]) -> Request<'a>
-    ensures value { result ≡ build_of words.now }
-    ensures ranges { AreInRange result }
+// once CSV CELL TICK PERIOD
+fn read_once<'a>(mut words: CommandWords<'a>) -> Result<Request<'a>, u32>
+    requires { words.place ≡ 2 }
+    ensures ok { IfOk result (λ request.
+        asked once_form words.entry.rest.now words.entry.place ≡ request) }
+    ensures err { IfErr result (λ place.
+        asked once_form words.entry.rest.now words.entry.place ≡ Refused place) }
+    ensures ranges { IfOk result AreInRange }
 {
-    if let Some(place) = first_bad_place(&BUILD, words, 2) {
-        return Request::Refused { place };
-    }
-    match words {
-        [csv, index, cell, tick, period] => Request::Build {
-            csv: *csv,
-            index: *index,
-            settings: settings_of(cell, tick, period),
-        },
-        _ => Request::Refused { place: 2 }, // no other number of words has the form
+    let csv = words.file()?;
+    let settings = words.settings()?;
+    words.end()?;
+    Ok(Request::Once { csv, settings })
+}
+
+// build CSV INDEX CELL TICK PERIOD
+fn read_build<'a>(mut words: CommandWords<'a>) -> Result<Request<'a>, u32>
+    requires { words.place ≡ 2 }
+    ensures ok { IfOk result (λ request.
+        asked build_form words.entry.rest.now words.entry.place ≡ request) }
+    ensures err { IfErr result (λ place.
+        asked build_form words.entry.rest.now words.entry.place ≡ Refused place) }
+    ensures ranges { IfOk result AreInRange }
+{
+    let csv = words.file()?;
+    let index = words.file()?;
+    let settings = words.settings()?;
+    words.end()?;
+    Ok(Request::Build {
+        csv,
+        index,
+        settings,
+    })
+}
+
+// ask INDEX, or ask INDEX TAIL
+fn read_ask<'a>(mut words: CommandWords<'a>) -> Result<Request<'a>, u32>
+    requires { words.place ≡ 2 }
+    ensures ok { IfOk result (λ request.
+        asked ask_form words.entry.rest.now words.entry.place ≡ request) }
+    ensures err { IfErr result (λ place.
+        asked ask_form words.entry.rest.now words.entry.place ≡ Refused place) }
+    ensures ranges { IfOk result AreInRange }
+{
+    let index = words.file()?;
+    let tail = words.optional_file()?;
+    words.end()?;
+    match tail {
+        None => Ok(Request::Ask { index }),
+        Some(tail) => Ok(Request::AskTail { index, tail }),
     }
 }
 
-fn read_ask<'a>(words: &[&'a str]) -> Request<'a>
-    ensures value { result ≡ ask_of words.now }
-    ensures ranges { AreInRange result }
+// sample OBJECTS INSTANTS SEED PERIOD
+fn read_sample<'a>(mut words: CommandWords<'a>) -> Result<Request<'a>, u32>
+    requires { words.place ≡ 2 }
+    ensures ok { IfOk result (λ request.
+        asked sample_form words.entry.rest.now words.entry.place ≡ request) }
+    ensures err { IfErr result (λ place.
+        asked sample_form words.entry.rest.now words.entry.place ≡ Refused place) }
+    ensures ranges { IfOk result AreInRange }
 {
-    if let Some(place) = first_bad_place(&ASK, words, 2) {
-        return Request::Refused { place };
-    }
-    match words {
-        [index] => Request::Ask { index: *index },
-        _ => Request::Refused { place: 2 }, // no other number of words has the form
-    }
+    let settings = SampleSettings {
+        objects: words.number(1, MAX_OBJECTS)? as u32,
+        instants: words.number(1, MAX_SPAN)? as u32,
+        seed: words.number(0, MAX_SEED)?,
+        period: words.number(1, MAX_PERIOD)? as u32,
+    };
+    words.end()?;
+    Ok(Request::Sample { settings })
 }
 
-fn read_sample<'a>(words: &[&'a str]) -> Request<'a>
-    ensures value { result ≡ sample_of words.now }
-    ensures ranges { AreInRange result }
+// upgrade OLD NEW
+fn read_upgrade<'a>(mut words: CommandWords<'a>) -> Result<Request<'a>, u32>
+    requires { words.place ≡ 2 }
+    ensures ok { IfOk result (λ request.
+        asked upgrade_form words.entry.rest.now words.entry.place ≡ request) }
+    ensures err { IfErr result (λ place.
+        asked upgrade_form words.entry.rest.now words.entry.place ≡ Refused place) }
+    ensures ranges { IfOk result AreInRange }
 {
-    if let Some(place) = first_bad_place(&SAMPLE, words, 2) {
-        return Request::Refused { place };
-    }
-    match words {
-        [objects, instants, seed, period] => Request::Sample {
-            settings: sample_settings_of(objects, instants, seed, period),
-        },
-        _ => Request::Refused { place: 2 }, // no other number of words has the form
-    }
+    let old = words.file()?;
+    let new = words.file()?;
+    words.end()?;
+    Ok(Request::Upgrade { old, new })
 }
 
-// The settings of a sample, of four number words that fit.
-fn sample_settings_of(objects: &str, instants: &str, seed: &str, period: &str) -> SampleSettings
-    requires fit { first_bad sample_words
-        (objects.now ∷ instants.now ∷ seed.now ∷ period.now ∷ []) 0 ≡ None }
-    ensures value { result ≡ sample_settings_of objects.now instants.now seed.now period.now }
-    ensures ranges { AreSampleSettings result }
+// merge A B OUT
+fn read_merge<'a>(mut words: CommandWords<'a>) -> Result<Request<'a>, u32>
+    requires { words.place ≡ 2 }
+    ensures ok { IfOk result (λ request.
+        asked merge_form words.entry.rest.now words.entry.place ≡ request) }
+    ensures err { IfErr result (λ place.
+        asked merge_form words.entry.rest.now words.entry.place ≡ Refused place) }
+    ensures ranges { IfOk result AreInRange }
 {
-    SampleSettings {
-        objects: natural(objects, MAX_OBJECTS as i64) as u32,
-        instants: natural(instants, MAX_SPAN as i64) as u32,
-        seed: seed_of(seed),
-        period: natural(period, PERIOD) as u32,
-    }
-}
-
-// The settings of three number words that fit.
-fn settings_of(cell: &str, tick: &str, period: &str) -> Settings
-    requires fit { first_bad settings_words (cell.now ∷ tick.now ∷ period.now ∷ []) 0 ≡ None }
-    ensures value { result ≡ settings_of cell.now tick.now period.now }
-    ensures ranges { AreSettings result }
-{
-    Settings {
-        cell: natural(cell, RESOLUTION),
-        tick: natural(tick, RESOLUTION),
-        period: natural(period, PERIOD) as u32,
-    }
-}
-
-// The place of the first word that does not fit, is missing or is one too many; the first word
-// stands at `place`.
-fn first_bad_place(kinds: &[WordKind], words: &[&str], place: u32) -> Option<u32>
-    requires { place + length kinds.now ≤ 2 ^ 31 }
-    ensures { result ≡ first_bad kinds.now (texts words.now) place }
-{
-    match kinds {
-        [] => { if words.is_empty() { None } else { Some(place) } }
-        [kind, kinds @ ..] => match words {
-            [] => Some(place),
-            [word, words @ ..] => {
-                if fits(*kind, word) {
-                    first_bad_place(kinds, words, place + 1)
-                } else {
-                    Some(place)
-                }
-            }
-        },
-    }
-}
-
-fn fits(kind: WordKind, word: &str) -> bool
-    ensures { result ≡ fits_word kind word.now }
-{
-    match kind {
-        WordKind::File => !word.is_empty(),
-        WordKind::Number { least, greatest } => {
-            number_within(word.as_bytes(), least, greatest).is_ok()
-        }
-    }
-}
-
-// The value of a number word that fits.
-fn natural(word: &str, greatest: i64) -> u64
-    requires { fits_word (WordKind.Number (pos 1) greatest) word.now ≡ true }
-    ensures value { result ≡ natural_value word.now }
-    ensures within { (1 ≤ result) × (pos result ≤ℤ greatest) }
-{
-    number_within(word.as_bytes(), 1, greatest)
-        .unwrap()
-        .unsigned_abs()
-}
-
-// The value of a word for SEED that fits.
-fn seed_of(word: &str) -> u64
-    requires { fits_word (WordKind.Number (pos 0) (pos (2 ^ 62))) word.now ≡ true }
-    ensures { result ≡ natural_value word.now }
-{
-    number_within(word.as_bytes(), 0, SEED)
-        .unwrap()
-        .unsigned_abs()
+    let left = words.file()?;
+    let right = words.file()?;
+    let out = words.file()?;
+    words.end()?;
+    Ok(Request::Merge { left, right, out })
 }

@@ -13,6 +13,7 @@ use crate::chart_writing::index_bytes;
 use crate::outcome::Outcome;
 use crate::request::SampleSettings;
 use crate::summarizing::say_summary;
+use encounter::IndexMeets;
 use gridding::{GridFault, grid};
 use host_ports::{Files, Sink};
 use index_format::FormatFault;
@@ -110,7 +111,8 @@ fn sum_bytes<K: Sink, L: Ledger>(
         Err(FormatFault::Memory) => return Outcome::Memory,
     };
     drop(bytes);
-    outcome_of(say_summary(alloc, index.view(), instants, sink, steps))
+    let answerer = IndexMeets::new(&index);
+    outcome_of(say_summary(alloc, answerer, instants, sink, steps))
 }
 
 // The outcome once a summary was said, or why it was not.

@@ -16,11 +16,11 @@ use question_shell::{Desk, TurnFault, count_found, say_reply};
 use std::alloc::Global;
 use std::sync::ledger::Ledger;
 use step_count::Steps;
-use track_types::{Answerer, Question};
+use track_types::{Meets, Question};
 
 // Says the summary of a sample of so many instants: all of the reply to `info`, and of the other
 // replies the last lines.
-pub(crate) fn say_summary<A: Answerer, K: Sink, L: Ledger>(
+pub(crate) fn say_summary<A: Meets, K: Sink, L: Ledger>(
     alloc: Global,
     answerer: A,
     instants: u32,
@@ -45,7 +45,7 @@ pub(crate) fn say_summary<A: Answerer, K: Sink, L: Ledger>(
 }
 
 // Says the last line of the reply to each question.
-fn say_counts<A: Answerer, K: Sink, L: Ledger>(
+fn say_counts<A: Meets, K: Sink, L: Ledger>(
     alloc: Global,
     answerer: A,
     questions: &[Question],

@@ -9,6 +9,11 @@ use std::test::Fail;
 use step_count::Steps;
 use track_types::{Flaw, Kind, LimitKind, Memory, RowFault, Section};
 
+mod merging;
+mod tails;
+
+use tails::check_tails;
+
 /// What is handed to a call, by default a file of no row, no question and devices that do not fail.
 #[derive(Drop)]
 struct Outside {
@@ -96,7 +101,13 @@ fn run(rt: &HostRuntime, command: &str, outside: &mut Outside) -> Result<Outcome
 const PATH: &[u8] = b"7,0,10,10\n7,1,11,10\n7,2,12,10\n7,2,12,11\n";
 
 /// The index of `PATH` under CELL 1, TICK 1 and PERIOD 4.
-const INDEX: &[u8] = b"GRACT001\x04\0\0\0\x02\0\0\0\x01\0\0\0\x03\0\0\0\x02\0\0\0\0\0\0\0\x02\0\0\0\
+const INDEX: &[u8] = b"GRACT002\x04\0\0\0\x02\0\0\0\x01\0\0\0\x03\0\0\0\x02\0\0\0\0\0\0\0\x02\0\0\0\
+\0\0\0\0\0\0\0\0\x0a\0\0\0\0\0\0\0\x0a\0\0\0\0\0\0\0\x01\0\0\0\0\0\0\0\x01\0\0\0\0\0\0\0\
+\x07\0\0\0\x02\0\0\0\0\0\0\0\x03\0\0\0\0\0\0\0\x01\0\0\0\0\x08\0\0\0\x11\x01\0\0\0\0\x02\0\0\0\x02";
+
+/// The same index in version 1 of the format.
+const OLD_INDEX: &[u8] =
+    b"GRACT001\x04\0\0\0\x02\0\0\0\x01\0\0\0\x03\0\0\0\x02\0\0\0\0\0\0\0\x02\0\0\0\
 \0\0\0\0\0\0\0\0\x0a\0\0\0\0\0\0\0\x0a\0\0\0\0\0\0\0\x01\0\0\0\0\0\0\0\x01\0\0\0\0\0\0\0\
 \x07\0\0\0\x02\0\0\0\0\0\0\0\x03\0\0\0\0\0\0\0\x01\0\0\0\0\x08\0\0\0\x11\x01\0\0\0\0\x02\0\0\0\
 \0\0\0\0\x01\0\0\0";
@@ -212,6 +223,9 @@ fn lines_have_their_replies(rt: HostRuntime) -> Result<(), Fail> {
         }
     }
     assert!(rt; check_build(&rt)?);
+    assert!(rt; check_upgrade(&rt, OLD_INDEX)?);
+    assert!(rt; check_upgrade(&rt, INDEX)?);
+    assert!(rt; check_tails(&rt)?);
     Ok(())
 }
 
@@ -226,7 +240,7 @@ fn a_call_is_refused_for_its_cause(rt: HostRuntime) -> Result<(), Fail> {
         index: 0,
         kind,
     });
-    let cases: [(&[u8], &str, Outcome); 29] = [
+    let cases: [(&[u8], &str, Outcome); 31] = [
         (b"", "once t.csv 1 1 1", Outcome::Empty),
         (b"object,instant,x,y\n", "once t.csv 1 1 1", Outcome::Empty),
         (
@@ -250,9 +264,9 @@ fn a_call_is_refused_for_its_cause(rt: HostRuntime) -> Result<(), Fail> {
             row(1, 3, RowFault::Range),
         ),
         (
-            b"1,0,0,0\n1,1,1048576,0\n",
+            b"1,0,0,0\n1,1,16777216,0\n",
             "once t.csv 1 1 1",
-            limit(LimitKind::Extent, 1_048_577),
+            limit(LimitKind::Extent, 16_777_217),
         ),
         (
             b"1,0,0,0\n2,0,0,0\n3,0,0,0\n4,0,0,0\n5,0,0,0\n1,4194303,0,0\n",
@@ -279,6 +293,8 @@ fn a_call_is_refused_for_its_cause(rt: HostRuntime) -> Result<(), Fail> {
         (PATH, "sample 1 1 4611686018427387905 4", words(4)),
         (PATH, "sample 1 1 -1 4", words(4)),
         (PATH, "sample 1 1 0 4 x", words(6)),
+        (PATH, "upgrade t.idx", words(3)),
+        (PATH, "upgrade t.csv t.idx", header(Kind::Magic)),
         (
             PATH,
             "sample 4097 4096 0 4",
@@ -323,6 +339,16 @@ fn check_build(rt: &HostRuntime) -> Result<bool, Memory> {
     let kept = holds(&mut outside.files, "t.csv", PATH);
     let asked = is_asked(rt, &mut outside)?;
     Ok(built && saved && kept && asked && free_places(&mut outside.files) == 15)
+}
+
+// Whether an index of either version is saved in the newest one, without a question or a reply.
+fn check_upgrade(rt: &HostRuntime, old: &[u8]) -> Result<bool, Memory> {
+    let mut outside = make_outside(rt.alloc(), old, b"position 7 2\n", 4096)?;
+    let upgraded = run(rt, "upgrade t.csv t.idx", &mut outside)? == Outcome::Done;
+    let quiet = is_quiet(&outside);
+    let saved = holds(&mut outside.files, "t.idx", INDEX);
+    let kept = holds(&mut outside.files, "t.csv", old);
+    Ok(upgraded && quiet && saved && kept && free_places(&mut outside.files) == 15)
 }
 
 fn check_full(rt: &HostRuntime) -> Result<bool, Memory> {

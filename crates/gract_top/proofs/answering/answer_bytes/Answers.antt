@@ -9,8 +9,8 @@ returns-clause-ended g c =
     inr (record {
       parts = c.in-Ok.index;
       file = subst P c.deref.ensures.value c.in-Ok.ensures.ok;
-      answers = AnswersOver-opened _ _ _ c.answer_with.result c.view.result.index.now c.in-Ok.index c.open.new.steps
-          (omega (arith, c.in-Ok.ensures.cost, c.in-Ok.ensures.cost_opened)) c.view.ensures c.answer_with.ensures.answers;
+      answers = AnswersOver-opened _ _ _ c.answer_with.result c.new.result.view.index.now c.in-Ok.index c.open.new.steps
+          (omega (arith, c.in-Ok.ensures.cost, c.in-Ok.ensures.cost_opened)) c.new.ensures c.answer_with.ensures.answers;
     })
 
 pub returns-clause-decides : goal.returns-clause-decides
@@ -19,5 +19,5 @@ returns-clause-decides g c = λ parts file.
     let is = c.in-Ok.ensures.decides parts (subst P (sym c.deref.ensures.value) file) in
     let same : c.in-Ok.index ≡ parts = cc in
     inr (AnswersOver-same _ _ _ c.answer_with.result c.in-Ok.index parts same
-    (AnswersOver-opened _ _ _ c.answer_with.result c.view.result.index.now c.in-Ok.index c.open.new.steps
-    (omega (arith, c.in-Ok.ensures.cost, c.in-Ok.ensures.cost_opened)) c.view.ensures c.answer_with.ensures.answers))
+    (AnswersOver-opened _ _ _ c.answer_with.result c.new.result.view.index.now c.in-Ok.index c.open.new.steps
+    (omega (arith, c.in-Ok.ensures.cost, c.in-Ok.ensures.cost_opened)) c.new.ensures c.answer_with.ensures.answers))

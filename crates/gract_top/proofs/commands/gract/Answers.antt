@@ -1,7 +1,9 @@
 use Rattle.std.proofs.Common.{◌≡◌, ◌∙◌, sym}
 use Rattle.gract_top.specs.Request.{request_of}
 use Rattle.gract_top.specs.declared.request.Request.TheVariants as request
-use Rattle.gract_top.proofs.CompletenessLemmas.{ask-good, build-good, once-good, sample-good}
+use Rattle.gract_top.proofs.CompletenessLemmas.{ask-good, build-good, once-good, sample-good, upgrade-good}
+use Rattle.gract_top.proofs.MergingLemmas.{merge-good}
+use Rattle.gract_top.proofs.TailAskingLemmas.{ask_tail-good}
 use Rattle.gract_top.proofs.commands.gract.Goals as goal
 
 pub returns-in-Once-clause-complete : goal.returns-in-Once-clause-complete
@@ -30,6 +32,15 @@ returns-in-Ask-clause-complete g c = λ ready calm.
     c.ask.ensures.unsaved (λ is. calm.listen (c.ask.ensures.listen_cause is))
     (λ is. calm.say (c.ask.ensures.say_cause is)) calm.load
 
+pub returns-in-AskTail-clause-complete : goal.returns-in-AskTail-clause-complete
+returns-in-AskTail-clause-complete g c = λ ready calm.
+    let asked : request_of c.args.words.now ≡ request.AskTail c.in-AskTail.index c.in-AskTail.tail =
+    sym c.read_request.ensures.value ∙ c.in-AskTail.is in
+    let needs = rw asked at ready in
+    ask_tail-good c.ask_tail.result c.in-AskTail.index.now c.in-AskTail.tail.now _ _ _ _ _ needs.0 needs.1.0 needs.1.1
+    c.ask_tail.ensures.words c.ask_tail.ensures.unsaved (λ is. calm.listen (c.ask_tail.ensures.listen_cause is))
+    (λ is. calm.say (c.ask_tail.ensures.say_cause is)) calm.load c.ask_tail.ensures.ends
+
 pub returns-in-Sample-clause-complete : goal.returns-in-Sample-clause-complete
 returns-in-Sample-clause-complete g c = λ ready calm.
     let asked : request_of c.args.words.now ≡ request.Sample c.in-Sample.settings =
@@ -38,6 +49,22 @@ returns-in-Sample-clause-complete g c = λ ready calm.
     sample-good c.sample.result c.in-Sample.settings _ _ _ _ needs.1 _ _ c.sample.ensures.ends needs.0
     c.sample.ensures.words c.sample.ensures.unloaded c.sample.ensures.unsaved c.sample.ensures.unheard
     (λ is. calm.say (c.sample.ensures.say_cause is))
+
+pub returns-in-Upgrade-clause-complete : goal.returns-in-Upgrade-clause-complete
+returns-in-Upgrade-clause-complete g c = λ ready calm.
+    let asked : request_of c.args.words.now ≡ request.Upgrade c.in-Upgrade.old c.in-Upgrade.new =
+    sym c.read_request.ensures.value ∙ c.in-Upgrade.is in
+    let needs = rw asked at ready in
+    upgrade-good c.in-Upgrade.old.now c.in-Upgrade.new.now _ _ _ _ needs.0 c.upgrade.result c.upgrade.ensures.ends needs.1
+    (λ is. calm.save (c.upgrade.ensures.save_cause is)) calm.load
+
+pub returns-in-Merge-clause-complete : goal.returns-in-Merge-clause-complete
+returns-in-Merge-clause-complete g c = λ ready calm.
+    let asked : request_of c.args.words.now ≡ request.Merge c.in-Merge.left c.in-Merge.right c.in-Merge.out =
+    sym c.read_request.ensures.value ∙ c.in-Merge.is in
+    let needs = rw asked at ready in
+    merge-good c.merge.result c.in-Merge.left.now c.in-Merge.right.now c.in-Merge.out.now _ _ c.merge.ensures.ends needs.0
+    needs.1 needs.2 (λ is. calm.save (c.merge.ensures.save_cause is)) calm.load
 
 pub returns-in-Refused-clause-complete : goal.returns-in-Refused-clause-complete
 returns-in-Refused-clause-complete g c = λ ready calm.

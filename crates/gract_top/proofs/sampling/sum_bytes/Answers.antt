@@ -12,12 +12,12 @@ returns-clause-ended g c =
     let File : List ℕ → Type 0 = λ bytes. IsFile bytes c.in-Ok.index in
     let before = speech (g.K.Sink.said c.args.sink.now) c.args.steps.now in
     let now = speech (g.K.Sink.said c.say_summary.new.sink) c.say_summary.new.steps in
-    let asked = c.view.result.index.now in
+    let asked = c.new-answerer.result.view.index.now in
     inr (record {
       parts = c.in-Ok.index;
       file = subst File c.deref.ensures.value c.in-Ok.ensures.ok;
       sums = SumsOver-opened c.outcome_of.result c.args.instants before now asked c.in-Ok.index c.open.new.steps
-          c.view.ensures (omega (arith, c.in-Ok.ensures.cost, c.in-Ok.ensures.cost_opened))
+          c.new-answerer.ensures (omega (arith, c.in-Ok.ensures.cost, c.in-Ok.ensures.cost_opened))
           (Told-after c.say_summary.result c.outcome_of.result (summary_of (chart_in asked) (facts_of asked) c.args.instants)
           before.said now.said c.outcome_of.ensures.done c.outcome_of.ensures.say c.outcome_of.ensures.memory
           c.say_summary.ensures.ok c.say_summary.ensures.err)
@@ -31,10 +31,10 @@ returns-clause-decides g c = λ parts file.
     let same : c.in-Ok.index ≡ parts = cc in
     let before = speech (g.K.Sink.said c.args.sink.now) c.args.steps.now in
     let now = speech (g.K.Sink.said c.say_summary.new.sink) c.say_summary.new.steps in
-    let asked = c.view.result.index.now in
+    let asked = c.new-answerer.result.view.index.now in
     inr (SumsOver-same c.outcome_of.result c.args.instants before now c.in-Ok.index parts same
     (SumsOver-opened c.outcome_of.result c.args.instants before now asked c.in-Ok.index c.open.new.steps
-    c.view.ensures (omega (arith, c.in-Ok.ensures.cost, c.in-Ok.ensures.cost_opened))
+    c.new-answerer.ensures (omega (arith, c.in-Ok.ensures.cost, c.in-Ok.ensures.cost_opened))
     (Told-after c.say_summary.result c.outcome_of.result (summary_of (chart_in asked) (facts_of asked) c.args.instants)
     before.said now.said c.outcome_of.ensures.done c.outcome_of.ensures.say c.outcome_of.ensures.memory
     c.say_summary.ensures.ok c.say_summary.ensures.err)

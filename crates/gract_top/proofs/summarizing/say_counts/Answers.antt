@@ -1,8 +1,8 @@
-use Rattle.std.proofs.Common.{◌≡◌, ◌∙◌, ◌+◌, ◌≤◌, List, Option, ap, length, pos, get_or, refl, drop, arith, sym}
+use Rattle.std.proofs.Common.{◌≡◌, ◌∙◌, ◌∷◌, ◌+◌, ◌≤◌, ℕ, List, Option, ap, length, get_or, refl, drop, arith, subst, sym}
 use Rattle.std.proofs.lemmas.List.{drop_all, drop_more}
 use Rattle.std.proofs.lemmas.List.Sums.{sum_by-cons}
 use Rattle.std.specs.List.{sum_by}
-use Rattle.track_types.specs.declared.question.Question.TheVariants as question
+use Rattle.track_types.specs.declared.question.Question.{Question}
 use Rattle.track_types.specs.declared.stop.Stop.{Stop}
 use Rattle.question_shell.specs.Desk.{budget_of, held_of}
 use Rattle.question_shell.specs.Items.{items_of}
@@ -14,6 +14,22 @@ use Rattle.gract_top.proofs.summarizing.say_counts.Given.{Over}
 use Rattle.gract_top.proofs.summarizing.say_counts.Goals as goal
 use Rattle.gract_top.proofs.summarizing.say_counts.Goals.{After-count_found}
 
+-- the question of a turn is counted, and the first of those that are left
+record Drawn (all : List Question) (index : ℕ) (asked : Question) : Type 0 where
+  counted : IsCounted asked
+  more : drop index all ≡ asked ∷ drop (index + 1) all
+
+drawn : (g : Over) (c : After-count_found g) → Drawn c.args.questions.now c.loop-question.question-index c.question-item.result
+drawn g c =
+    let all = c.args.questions.now in
+    let index = c.loop-question.question-index in
+    let asked = c.question-item.result in
+    let same : get_or all index asked ≡ asked = sym c.question-item.is in
+    record {
+      counted = subst IsCounted same (c.requires.counted index asked c.loop-question-test.true);
+      more = drop_more all index asked c.loop-question-test.true ∙ ap (λ first. first ∷ drop (index + 1) all) same;
+    }
+
 -- what one question more reads
 read : (g : Over) (c : After-count_found g) →
     c.count_found.new.steps + budget_of c.count_found.new.desk
@@ -22,14 +38,13 @@ read g c =
     let cost = g.A.Answerer.cost c.args.answerer in
     let all = c.args.questions.now in
     let index = c.loop-question.question-index in
-    let first = question.Position 0 (pos 0) in
-    let asked = get_or all index first in
-    let counted : IsCounted asked = c.requires.counted index first c.loop-question-test.true in
+    let asked = c.question-item.result in
+    let turn = drawn g c in
     IsCounting-read (g.A.Answerer.chart c.args.answerer) (g.A.Answerer.facts c.args.answerer) cost all (drop index all)
     (drop (index + 1) all) asked (speech (g.K.Sink.said c.args.sink.now) (c.args.steps.now + budget_of c.args.desk.now))
     (speech (g.K.Sink.said c.loop-question.sink) (c.loop-question.steps + budget_of c.loop-question.desk)) _
-    c.loop-question.invariant.counting (drop_more all index first c.loop-question-test.true)
-    (omega (arith, c.count_found.ensures.cost, counted-cost cost (held_of c.loop-question.desk) asked counted))
+    c.loop-question.invariant.counting turn.more
+    (omega (arith, c.count_found.ensures.cost, counted-cost cost (held_of c.loop-question.desk) asked turn.counted))
 
 pub returns-in_default-clause-cost : goal.returns-in_default-clause-cost
 returns-in_default-clause-cost g c = read g (goal.at.returns-in_default-clause-cost g c).After-count_found
@@ -51,20 +66,17 @@ loop-question-preserved g c =
     let chart = g.A.Answerer.chart c.args.answerer in
     let facts = g.A.Answerer.facts c.args.answerer in
     let cost = g.A.Answerer.cost c.args.answerer in
-    let all = c.args.questions.now in
-    let index = c.loop-question.question-index in
-    let first = question.Position 0 (pos 0) in
-    let asked = get_or all index first in
-    let counted : IsCounted asked = c.requires.counted index first c.loop-question-test.true in
+    let asked = c.question-item.result in
+    let turn = drawn g (goal.at.loop-question-preserved g c).After-count_found in
     let held = held_of c.loop-question.desk in
     let line : count_line chart facts asked ≡ ok_line c.in-Ok.count =
     ap ok_line (sym (c.in-Ok.ensures.ok ∙ ap (λ desk. length (items_of chart facts desk asked)) c.loop-question.invariant.empty)) in
     record {
       counting = IsCounting-next chart facts cost c.in-Ok.count c.loop-question.invariant.counting
-          (drop_more all index first c.loop-question-test.true) line
+          turn.more line
           (speech (g.K.Sink.said c.say_count.new.sink) (c.count_found.new.steps + budget_of c.count_found.new.desk))
-          (omega (arith, c.in-Ok.ensures.cost, counted-cost cost held asked counted)) c.in-Ok-say_count.ensures.ok;
-      empty = c.in-Ok.ensures.desk ∙ (counted-desk chart held asked counted ∙ c.loop-question.invariant.empty);
+          (omega (arith, c.in-Ok.ensures.cost, counted-cost cost held asked turn.counted)) c.in-Ok-say_count.ensures.ok;
+      empty = c.in-Ok.ensures.desk ∙ (counted-desk chart held asked turn.counted ∙ c.loop-question.invariant.empty);
       faults = c.in-Ok-say_count.ensures.untouched ∙ c.loop-question.invariant.faults;
     }
 
@@ -72,14 +84,12 @@ pub returns-in_default-say_count-clause-err : goal.returns-in_default-say_count-
 returns-in_default-say_count-clause-err g c =
     let chart = g.A.Answerer.chart c.args.answerer in
     let facts = g.A.Answerer.facts c.args.answerer in
-    let all = c.args.questions.now in
-    let index = c.loop-question.question-index in
-    let first = question.Position 0 (pos 0) in
-    let asked = get_or all index first in
+    let asked = c.question-item.result in
+    let turn = drawn g (goal.at.returns-in_default-say_count-clause-err g c).After-count_found in
     let line : count_line chart facts asked ≡ ok_line c.in-Ok.count =
     ap ok_line (sym (c.in-Ok.ensures.ok ∙ ap (λ desk. length (items_of chart facts desk asked)) c.loop-question.invariant.empty)) in
     IsCounting-cut chart facts (g.A.Answerer.cost c.args.answerer) c.in-Ok.count
-    c.loop-question.invariant.counting (drop_more all index first c.loop-question-test.true) line
+    c.loop-question.invariant.counting turn.more line
     (g.K.Sink.said c.say_count.new.sink) c.in_default-say_count.ensures.err
 
 pub returns-clause-ok : goal.returns-clause-ok

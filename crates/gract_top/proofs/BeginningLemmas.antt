@@ -1,0 +1,66 @@
+-- What a call came to at an index file that is there, where no device fails.
+use Rattle.std.proofs.Common.{◌≡◌, ◌≢◌, ℕ, List, Option, Some, None, inl, inr, refl, sym, ap, ◌∙◌, subst}
+use Rattle.host_ports.specs.FilesState.{FilesState}
+use Rattle.host_ports.specs.Faults.{Rose}
+use Rattle.track_types.specs.Limits.{limit_of}
+use Rattle.track_types.specs.declared.flaw.Flaw.{Flaw}
+use Rattle.track_types.specs.declared.limit.LimitKind.{LimitKind}
+use Rattle.track_types.specs.declared.limit.LimitKind.TheVariants as limit
+use Rattle.track_types.specs.declared.parts.Parts.{Parts}
+use Rattle.track_index.specs.Opening.{first_flaw, IsFile}
+use Rattle.track_index.proofs.DecidingLemmas.{first_flaw-file}
+use Rattle.gract_top.specs.Beginning.{NotLoaded, OpensFile, Progress, StopsAt}
+use Rattle.gract_top.specs.Completeness.{HasIndex}
+use Rattle.gract_top.specs.Refusal.{IsLengthRefused}
+use Rattle.gract_top.proofs.CompletenessLemmas.{came-whole, held-found, index-kept}
+use Rattle.gract_top.proofs.UpgradingLemmas.{IsFile-one}
+use Rattle.gract_top.specs.declared.outcome.Outcome.{Outcome}
+use Rattle.gract_top.specs.declared.outcome.Outcome.TheVariants as outcome
+
+module _ (kind : LimitKind) (name : List ℕ) (before now : FilesState) where
+  -- a file that is there and not too long is not loaded only out of memory
+  NotLoaded-memory : (result : Outcome) → NotLoaded result kind name before now → result ≢ outcome.LoadFailed →
+      (IsLengthRefused kind before.map now.taken name result → ⊥) → result ≡ outcome.Memory
+  NotLoaded-memory outcome.Done is load refused = absurd (refused is)
+  NotLoaded-memory (outcome.Words place) is load refused = absurd (refused is)
+  NotLoaded-memory outcome.LoadFailed is load refused = absurd (load refl)
+  NotLoaded-memory (outcome.Limit kind value) is load refused = absurd (refused is)
+  NotLoaded-memory (outcome.Row nth field fault) is load refused = absurd (refused is)
+  NotLoaded-memory outcome.Empty is load refused = absurd (refused is)
+  NotLoaded-memory (outcome.Flaw flaw) is load refused = absurd (refused is)
+  NotLoaded-memory (outcome.Settings setting left right) is load refused = absurd (refused is)
+  NotLoaded-memory (outcome.Common object) is load refused = absurd (refused is)
+  NotLoaded-memory outcome.SaveFailed is load refused = absurd (refused is)
+  NotLoaded-memory outcome.ListenFailed is load refused = absurd (refused is)
+  NotLoaded-memory outcome.SayFailed is load refused = absurd (refused is)
+  NotLoaded-memory outcome.Memory is load refused = refl
+
+module _ (name : List ℕ) (before now : Progress) (ready : HasIndex before.files.map name) where
+  -- a call that stops at an index file that is there, where no device fails, is out of memory
+  pub StopsAt-memory : (result : Outcome) → StopsAt result name before now →
+      (Rose before.files.load_faults now.files.load_faults → ⊥) → result ≡ outcome.Memory
+  StopsAt-memory result stops calm = elim stops.ended [
+    | inl unloaded ↦ NotLoaded-memory limit.Index name before.files now.files result unloaded.0
+        (λ failed. elim (stops.one.load_failed failed) [
+          | inl rose ↦ calm rose
+          | inr missing ↦
+              held-found before.files.map ready.files name ready.bytes ready.told ready.holds missing
+        ])
+        (index-kept before.files.map now.files.taken name result ready)
+    | inr unopened ↦ elim unopened.unopened [
+      | inl memory ↦ memory
+      | inr flawed ↦
+          let same : unopened.bytes ≡ ready.bytes = came-whole before.files.map ready.files now.files.taken name ready.bytes
+          (limit_of limit.Index) unopened.bytes ready.told ready.holds ready.short unopened.loaded.came in
+          let none : first_flaw unopened.bytes ≡ None =
+          ap first_flaw same ∙ first_flaw-file ready.bytes ready.parts ready.file in
+          absurd (let both : Some flawed.0 ≡ None = sym flawed.1 ∙ none in cc)
+    ]
+  ]
+
+  -- an index file that is there is opened as its parts
+  pub OpensFile-parts : (parts : Parts) → OpensFile name parts before now → parts ≡ ready.parts
+  OpensFile-parts parts opens =
+      let same : opens.bytes ≡ ready.bytes = came-whole before.files.map ready.files now.files.taken name ready.bytes
+      (limit_of limit.Index) opens.bytes ready.told ready.holds ready.short opens.loaded.came in
+      IsFile-one ready.bytes parts ready.parts (rw same at opens.file) ready.file

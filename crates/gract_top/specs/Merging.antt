@@ -1,0 +1,30 @@
+-- What two index files are as one, or why they are not.
+use Rattle.std.specs.Prelude.{◌≡◌, ℕ, List, Option, Some, None, ◌⊎◌}
+use Rattle.track_types.specs.declared.parts.Parts.{Parts}
+use Rattle.chart_parts.specs.PartsOf.{parts_of}
+use Rattle.index_format.specs.Spelling.{bytes_of_parts}
+use Rattle.index_merge.specs.Union.{union_of}
+use Rattle.index_merge.specs.MergeFault.{merge_fault}
+use Rattle.index_merge.specs.declared.fault.MergeFault.{MergeFault}
+use Rattle.index_merge.specs.declared.fault.MergeFault.TheVariants as fault
+use Rattle.snapshots.specs.Parts.{chart_in}
+use Rattle.gract_top.specs.declared.outcome.Outcome.{Outcome}
+use Rattle.gract_top.specs.declared.outcome.Outcome.TheVariants as outcome
+
+-- the outcome of two indexes that have no union
+abbrev pub merge_outcome : MergeFault → Outcome
+merge_outcome (fault.Settings setting left right) = outcome.Settings setting left right
+merge_outcome (fault.Common object) = outcome.Common object
+merge_outcome (fault.Limit kind value) = outcome.Limit kind value
+merge_outcome fault.Empty = outcome.Empty
+merge_outcome fault.Memory = outcome.Memory
+
+-- the bytes of the index file of the union of what two indexes hold
+abbrev pub union_bytes : Parts → Parts → List ℕ
+union_bytes left right = bytes_of_parts (parts_of (union_of (chart_in left) (chart_in right)))
+
+-- Why two indexes were not merged: they have no union, for that fault, or out of memory.
+abbrev pub NotMerged : Outcome → Parts → Parts → Type 0
+NotMerged result left right =
+    (result ≡ outcome.Memory)
+    ⊎ ((found : MergeFault) × (merge_fault left right ≡ Some found) × (result ≡ merge_outcome found))

@@ -1,0 +1,142 @@
+ghost use Rattle.std.specs.Prelude.{◌≡◌, ◌≢◌, ℕ, ◌+◌, ◌≤◌, ◌<◌, ◌^◌, ◌⊎◌, None, length, IfOk, IfErr, OnOk};
+ghost use Rattle.host_ports.specs.Faults.{Rose};
+ghost use Rattle.host_ports.specs.FilesState.{state_of};
+ghost use Rattle.index_merge.specs.Cost.{union_cost};
+ghost use Rattle.index_merge.specs.MergeFault.{IsFaultFor, merge_fault};
+ghost use Rattle.gract_top.specs.Beginning.{SavesNothing, progress};
+ghost use Rattle.gract_top.specs.Ends.{EndsMerge, SavesUnion};
+ghost use Rattle.gract_top.specs.Merging.{NotMerged, merge_outcome, union_bytes};
+
+use crate::building::save_as;
+use crate::chart_writing::index_bytes;
+use crate::index_opening::open_file;
+use crate::outcome::Outcome;
+use host_ports::Files;
+use index_merge::{MergeFault, union};
+use std::alloc::Global;
+use std::sync::ledger::Ledger;
+use step_count::Steps;
+use track_index::Index;
+
+// Saves the union of the index files of two names under a third. The second file is begun where the first one was opened.
+pub(crate) fn merge<F: Files, L: Ledger>(
+    alloc: Global,
+    left: &str,
+    right: &str,
+    out: &str,
+    files: &mut F,
+    steps: &mut Steps<L>,
+) -> Outcome
+    ensures ends { EndsMerge result left.now right.now out.now
+        (progress (state_of (F.map files.old) (F.rest files.old) (F.taken files.old)
+        (F.load_faults files.old) (F.save_faults files.old) (F.saves files.old) (F.begins files.old))
+        steps.old)
+        (progress (state_of (F.map files.new) (F.rest files.new) (F.taken files.new)
+        (F.load_faults files.new) (F.save_faults files.new) (F.saves files.new) (F.begins files.new))
+        steps.new) }
+    ensures words { (place : ℕ) → result ≢ Outcome.Words place }
+    ensures unheard { result ≢ Outcome.ListenFailed }
+    ensures unsaid { result ≢ Outcome.SayFailed }
+    ensures load_untouched { result ≢ Outcome.LoadFailed →
+        F.load_faults files.new ≡ F.load_faults files.old }
+    ensures save_cause { result ≡ Outcome.SaveFailed →
+        Rose (F.save_faults files.old) (F.save_faults files.new) }
+    ensures save_untouched { result ≢ Outcome.SaveFailed →
+        F.save_faults files.new ≡ F.save_faults files.old }
+    ensures given { F.given files.new ≡ F.given files.old }
+{
+    let first = match open_file(alloc, left, files, steps) {
+        Ok(index) => index,
+        Err(outcome) => return outcome,
+    };
+    match open_file(alloc, right, files, steps) {
+        Ok(second) => save_union(alloc, first, second, out, files, steps),
+        Err(outcome) => outcome,
+    }
+}
+
+// Saves the index of the union of what two indexes hold under a name.
+fn save_union<F: Files, L: Ledger>(
+    alloc: Global,
+    left: Index,
+    right: Index,
+    out: &str,
+    files: &mut F,
+    steps: &mut Steps<L>,
+) -> Outcome
+    ensures ended { (NotMerged result left right × SavesNothing
+        (state_of (F.map files.old) (F.rest files.old) (F.taken files.old) (F.load_faults files.old)
+        (F.save_faults files.old) (F.saves files.old) (F.begins files.old))
+        (state_of (F.map files.new) (F.rest files.new) (F.taken files.new) (F.load_faults files.new)
+        (F.save_faults files.new) (F.saves files.new) (F.begins files.new)))
+        ⊎ SavesUnion result left right out.now
+        (state_of (F.map files.old) (F.rest files.old) (F.taken files.old) (F.load_faults files.old)
+        (F.save_faults files.old) (F.saves files.old) (F.begins files.old))
+        (state_of (F.map files.new) (F.rest files.new) (F.taken files.new) (F.load_faults files.new)
+        (F.save_faults files.new) (F.saves files.new) (F.begins files.new)) }
+    ensures cost { steps.new ≤ steps.old + union_cost left right }
+    ensures words { (place : ℕ) → result ≢ Outcome.Words place }
+    ensures unheard { result ≢ Outcome.ListenFailed }
+    ensures unsaid { result ≢ Outcome.SayFailed }
+    ensures loaded { result ≢ Outcome.LoadFailed }
+    ensures cause { result ≡ Outcome.SaveFailed →
+        Rose (F.save_faults files.old) (F.save_faults files.new) }
+    ensures untouched { result ≢ Outcome.SaveFailed →
+        F.save_faults files.new ≡ F.save_faults files.old }
+    ensures taken { F.taken files.new ≡ F.taken files.old }
+    ensures load_faults { F.load_faults files.new ≡ F.load_faults files.old }
+    ensures begins { F.begins files.new ≡ F.begins files.old }
+    ensures given { F.given files.new ≡ F.given files.old }
+{
+    match index_of_union(alloc, left, right, steps) {
+        Ok(bytes) => save_as(files, out, &bytes),
+        Err(fault) => outcome_of(fault),
+    }
+}
+
+// The bytes of the index file of the union of what two indexes hold, which are let go once there is a chart.
+fn index_of_union<L: Ledger>(
+    alloc: Global,
+    left: Index,
+    right: Index,
+    steps: &mut Steps<L>,
+) -> Result<Vec<u8>, MergeFault>
+    ensures ok { IfOk result (λ bytes. bytes.items ≡ union_bytes left right) }
+    ensures exact { OnOk result (merge_fault left right ≡ None) }
+    ensures fault { IfErr result (IsFaultFor (merge_fault left right)) }
+    ensures cost { steps.new ≤ steps.old + union_cost left right }
+{
+    let chart = union(alloc, &left, &right, steps)?;
+    drop(left);
+    drop(right);
+    match index_bytes(alloc, chart) {
+        Ok(bytes) => Ok(bytes),
+        Err(_) => Err(MergeFault::Memory),
+    }
+}
+
+// The outcome of two indexes that have no union.
+fn outcome_of(fault: MergeFault) -> Outcome
+    ensures value { result ≡ merge_outcome fault }
+    ensures words { (place : ℕ) → result ≢ Outcome.Words place }
+    ensures loaded { result ≢ Outcome.LoadFailed }
+    ensures saved { result ≢ Outcome.SaveFailed }
+    ensures heard { result ≢ Outcome.ListenFailed }
+    ensures said { result ≢ Outcome.SayFailed }
+{
+    match fault {
+        MergeFault::Settings {
+            setting,
+            left,
+            right,
+        } => Outcome::Settings {
+            setting,
+            left,
+            right,
+        },
+        MergeFault::Common { object } => Outcome::Common { object },
+        MergeFault::Limit { kind, value } => Outcome::Limit { kind, value },
+        MergeFault::Empty => Outcome::Empty,
+        MergeFault::Memory => Outcome::Memory,
+    }
+}

@@ -1,0 +1,137 @@
+ghost use Rattle.std.specs.Prelude.{◌≡◌, ◌≢◌, ℕ, ◌+◌, ◌*◌, ◌≤◌, ◌^◌, ◌⊎◌, length, IfOk, IfErr};
+ghost use Rattle.host_ports.specs.Faults.{Rose};
+ghost use Rattle.host_ports.specs.FilesState.{state_of};
+ghost use Rattle.snapshots.specs.SoundParts.{IsValid};
+ghost use Rattle.track_index.specs.CheckFlaws.{IsFaultFor};
+ghost use Rattle.track_index.specs.Opening.{bytes_cost, first_flaw, IsFile};
+ghost use Rattle.snapshots.specs.Upgrade.{upgrade_of};
+ghost use Rattle.track_types.specs.Limits.{limit_of};
+ghost use Rattle.track_types.specs.declared.parts.Parts.{Parts as WholeParts};
+ghost use Rattle.gract_top.specs.Beginning.{SavesNothing};
+ghost use Rattle.gract_top.specs.Ends.{EndsUpgrade, SavesUpgrade};
+ghost use Rattle.gract_top.specs.Upgrading.{IsUpgrade, NotUpgraded};
+
+use crate::building::save_as;
+use crate::loading::load;
+use crate::outcome::Outcome;
+use host_ports::Files;
+use index_format::{FormatFault, decode, encode};
+use std::alloc::Global;
+use std::sync::ledger::Ledger;
+use step_count::Steps;
+use track_index::upgraded;
+use track_types::{LimitKind, MAX_INDEX, Parts};
+
+// Saves the index file of one name in the newest version of the format, under another.
+pub(crate) fn upgrade<F: Files, L: Ledger>(
+    alloc: Global,
+    old: &str,
+    new: &str,
+    files: &mut F,
+    steps: &mut Steps<L>,
+) -> Outcome
+    ensures ends { EndsUpgrade result old.now new.now
+        (state_of (F.map files.old) (F.rest files.old) (F.taken files.old) (F.load_faults files.old)
+        (F.save_faults files.old) (F.saves files.old) (F.begins files.old))
+        (state_of (F.map files.new) (F.rest files.new) (F.taken files.new) (F.load_faults files.new)
+        (F.save_faults files.new) (F.saves files.new) (F.begins files.new)) steps.old steps.new }
+    ensures words { (place : ℕ) → result ≢ Outcome.Words place }
+    ensures unheard { result ≢ Outcome.ListenFailed }
+    ensures unsaid { result ≢ Outcome.SayFailed }
+    ensures load_untouched { result ≢ Outcome.LoadFailed →
+        F.load_faults files.new ≡ F.load_faults files.old }
+    ensures save_cause { result ≡ Outcome.SaveFailed →
+        Rose (F.save_faults files.old) (F.save_faults files.new) }
+    ensures save_untouched { result ≢ Outcome.SaveFailed →
+        F.save_faults files.new ≡ F.save_faults files.old }
+    ensures given { F.given files.new ≡ F.given files.old }
+{
+    let mut bytes = Vec::new(alloc);
+    match load(files, old, LimitKind::Index, &mut bytes) {
+        Ok(()) => save_upgraded(alloc, bytes, new, files, steps),
+        Err(outcome) => outcome,
+    }
+}
+
+// Saves the upgrade of an index file's bytes under a name.
+fn save_upgraded<F: Files, L: Ledger>(
+    alloc: Global,
+    bytes: Vec<u8>,
+    new: &str,
+    files: &mut F,
+    steps: &mut Steps<L>,
+) -> Outcome
+    requires { length bytes.items ≤ 2 ^ 30 }
+    ensures ended { (NotUpgraded result bytes.items × SavesNothing
+        (state_of (F.map files.old) (F.rest files.old) (F.taken files.old) (F.load_faults files.old)
+        (F.save_faults files.old) (F.saves files.old) (F.begins files.old))
+        (state_of (F.map files.new) (F.rest files.new) (F.taken files.new) (F.load_faults files.new)
+        (F.save_faults files.new) (F.saves files.new) (F.begins files.new)))
+        ⊎ SavesUpgrade result bytes.items new.now
+        (state_of (F.map files.old) (F.rest files.old) (F.taken files.old) (F.load_faults files.old)
+        (F.save_faults files.old) (F.saves files.old) (F.begins files.old))
+        (state_of (F.map files.new) (F.rest files.new) (F.taken files.new) (F.load_faults files.new)
+        (F.save_faults files.new) (F.saves files.new) (F.begins files.new)) }
+    ensures cost { steps.new ≤ steps.old + 2 * bytes_cost bytes.items }
+    ensures cause { result ≡ Outcome.SaveFailed →
+        Rose (F.save_faults files.old) (F.save_faults files.new) }
+    ensures untouched { result ≢ Outcome.SaveFailed →
+        F.save_faults files.new ≡ F.save_faults files.old }
+    ensures taken { F.taken files.new ≡ F.taken files.old }
+    ensures load_faults { F.load_faults files.new ≡ F.load_faults files.old }
+    ensures begins { F.begins files.new ≡ F.begins files.old }
+    ensures given { F.given files.new ≡ F.given files.old }
+{
+    match upgraded_bytes(alloc, bytes, steps) {
+        Ok(newest) => save_as(files, new, &newest),
+        Err(outcome) => outcome,
+    }
+}
+
+// The bytes of the upgrade of an index file, or the outcome that its bytes decide.
+fn upgraded_bytes<L: Ledger>(
+    alloc: Global,
+    bytes: Vec<u8>,
+    steps: &mut Steps<L>,
+) -> Result<Vec<u8>, Outcome>
+    requires { length bytes.items ≤ 2 ^ 30 }
+    ensures ok { IfOk result (λ newest. IsUpgrade bytes.items newest.items) }
+    ensures short { IfOk result (λ newest. length newest.items ≤ limit_of LimitKind.Index) }
+    ensures err { IfErr result (λ outcome. NotUpgraded outcome bytes.items) }
+    ensures cost { steps.new ≤ steps.old + 2 * bytes_cost bytes.items }
+{
+    let parts = match upgraded_parts(alloc, bytes, steps) {
+        Ok(parts) => parts,
+        Err(FormatFault::Flaw(flaw)) => return Err(Outcome::Flaw(flaw)),
+        Err(FormatFault::Memory) => return Err(Outcome::Memory),
+    };
+    let Ok(newest) = encode(alloc, &parts) else {
+        return Err(Outcome::Memory);
+    };
+    let size = newest.len() as u64;
+    if size > MAX_INDEX {
+        return Err(Outcome::Limit {
+            kind: LimitKind::Index,
+            value: size,
+        });
+    }
+    Ok(newest)
+}
+
+// The parts of the upgrade of an index file, whose bytes are let go once they are read.
+fn upgraded_parts<L: Ledger>(
+    alloc: Global,
+    bytes: Vec<u8>,
+    steps: &mut Steps<L>,
+) -> Result<Parts, FormatFault>
+    requires { length bytes.items ≤ 2 ^ 30 }
+    ensures ok { IfOk result (λ newest.
+        (parts : WholeParts) × IsFile bytes.items parts × (newest ≡ upgrade_of parts)) }
+    ensures valid { IfOk result IsValid }
+    ensures flaw { IfErr result (λ fault. IsFaultFor (first_flaw bytes.items) fault) }
+    ensures cost { steps.new ≤ steps.old + 2 * bytes_cost bytes.items }
+{
+    let parts = decode(alloc, &bytes)?;
+    drop(bytes);
+    upgraded(alloc, parts, steps)
+}
