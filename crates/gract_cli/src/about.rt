@@ -9,8 +9,14 @@ Commands
   gract once CSV CELL TICK PERIOD         answers questions about a CSV file
   gract build CSV INDEX CELL TICK PERIOD  saves the index of a CSV file as INDEX
   gract ask INDEX                         answers questions from an index
+  gract ask INDEX TAIL                    answers them from an index and a CSV
+                                          file of later rows
   gract sample OBJECTS INSTANTS SEED PERIOD
                                           sums up an index of made-up rows
+  gract upgrade OLD NEW                   saves an index OLD as NEW, in the
+                                          newest version of its format
+  gract merge A B OUT                     saves the index of the rows of two
+                                          indexes A and B as OUT
   gract --help, gract --version           print this text, and the version
 
 CSV has a row OBJECT,TIME,X,Y in each line, in whole numbers. A first line
@@ -32,14 +38,15 @@ Questions, each a line of standard input, and the lines of their replies
   slice INSTANT REGION       OBJECT X Y: who was in the region
   interval FROM TO REGION    OBJECT T X Y: who was in it, and where first
   nearest COUNT INSTANT X Y  OBJECT X Y D: who was nearest, by squared distance
+  meet A B FROM TO D         T XA YA XB YB: when A and B were first within D
   info                       NAME N: facts of the index
   hold SLOT OBJECT FROM TO   holds a path in a slot from 0 to 15
   more SLOT COUNT            T X Y: the next so many places of a held path
   free SLOT                  lets a held path go
 
-REGION is rect X1 Y1 X2 Y2, with all its borders, or disc X Y R. A reply ends
-with ok N, where N lines came before. A line that is no question is answered by
-bad and its fault.
+REGION is rect X1 Y1 X2 Y2, with all its borders, or disc X Y R, or any N and
+then N of these, at most 16. A reply ends with ok N, where N lines came before.
+A line that is no question is answered by bad and its fault.
 
 Where a limit is passed
   csv, rows  cut the file into parts, such as months, and index each
@@ -49,11 +56,14 @@ Where a limit is passed
   blocks     take a greater PERIOD or TICK
   symbols    take a greater TICK, or cut the file into parts; a smaller PERIOD
              helps where objects are often away
-  index      the file is none that build has saved
+  index      the file is none that build has saved; of upgrade, index parts of
+             the rows apart
   questions  ask in several runs
+  base       an index is none that build has saved
 
 Statuses: 0 done, 2 a faulty command line, 3 a faulty CSV file, 4 a limit,
-5 no index file, 6 a file or a stream that failed, 7 no memory.
+5 no index file, 6 a file or a stream that failed, 7 no memory, 8 two indexes
+that differ in CELL, TICK or PERIOD, 9 two that have an object in common.
 ";
 
 /// The text that the command words ask for, if they are `--help` or `--version` alone.
