@@ -6,8 +6,11 @@ from dataclasses import dataclass
 import tracks
 
 # How many numbers a line of the reply to each kind of question has.
-WIDTHS = {"position": 2, "path": 3, "more": 3, "slice": 3, "interval": 4, "nearest": 4}
+WIDTHS = {"position": 2, "path": 3, "more": 3, "slice": 3, "interval": 4, "nearest": 4, "meet": 5}
 KINDS = (*WIDTHS, "info", "hold", "free")
+
+# How many numbers follow the word of a shape.
+SHAPES = {"rect": 4, "disc": 3}
 
 
 @dataclass
@@ -44,7 +47,7 @@ class Region:
 
 @dataclass
 class Hit:
-    """A row that was found: by a position, a slice, an interval or a nearest. It tells its own instant where `dated`."""
+    """A row that was found: by any question but a path. It tells its own instant where `dated`."""
 
     kind: str
     number: int
@@ -80,6 +83,18 @@ def numbers_in(line, width, question):
     if len(numbers) != width:
         raise tracks.Refused(f"the replies are not those to the questions: {line!r} stands for {question!r}")
     return numbers
+
+
+def regions_in(words, first, last):
+    """The shapes of a region, each as a region of its own: one shape, or those that follow `any N`."""
+    rest, shapes = words[2:] if words[0] == "any" else words, []
+    while rest:
+        past = 1 + SHAPES.get(rest[0], 0)
+        if past == 1 or len(rest) < past:
+            raise tracks.Refused(f"the replies are not those to the questions: {' '.join(words)[:60]!r} is no region")
+        shapes.append(Region(rest[0], [int(word) for word in rest[1:past]], first, last))
+        rest = rest[past:]
+    return shapes
 
 
 def pairs(questions, replies):
@@ -134,11 +149,15 @@ class Answers:
             self.told += [Hit(kind, int(words[1]), int(words[2]), x, y, True) for x, y in rows]
         elif kind == "slice":
             instant = int(words[1])
-            self.told.append(Region(words[2], [int(word) for word in words[3:]], instant, instant))
+            self.told += regions_in(words[2:], instant, instant)
             self.told += [Hit(kind, number, instant, x, y) for number, x, y in rows]
         elif kind == "interval":
-            self.told.append(Region(words[3], [int(word) for word in words[4:]], int(words[1]), int(words[2])))
+            self.told += regions_in(words[3:], int(words[1]), int(words[2]))
             self.told += [Hit(kind, number, instant, x, y, True) for number, instant, x, y in rows]
+        elif kind == "meet":
+            for instant, *cells in rows:
+                both = (words[1], cells[:2]), (words[2], cells[2:])
+                self.told += [Hit(kind, int(number), instant, x, y, True) for number, (x, y) in both]
         else:
             instant = int(words[2])
             self.told.append(Target(int(words[3]), int(words[4]), instant))

@@ -4,8 +4,9 @@
     examples/answers_to.py geojson --middle 55 QUESTIONS REPLIES > map.geojson
 
 The tracks of each `path` and `more` become LineStrings, or segments of a GPX track. They are cut where an instant has no row, and where
-they cross longitude 180; a row between two absences is a point. What `position`, `slice`, `interval` and `nearest` found are points, or
-waypoints, and the regions are polygons (not in GPX and CSV). Each has the object's number and name, and its time or times.
+they cross longitude 180; a row between two absences is a point. What `position`, `slice`, `interval`, `nearest` and `meet` found are points,
+or waypoints, and the regions are polygons, of a zone each shape (not in GPX and CSV). Each has the object's number and name, and its
+time or times.
 Places are the middles of cells, in degrees, so the plane of the rows has to be told: --middle LATITUDE or --per-degree N.
 With --points each row of a track is a point too. Lines of QUESTIONS that begin with # are notes.
 """

@@ -76,11 +76,15 @@ def shapes_of(name, window):
 def geojson(name):
     """The polygons and lines of a GeoJSON file."""
     with readers.bytes_of(name) as raw:
-        try:
-            said = json.load(raw)
-            yield from parts_of(said)
-        except (ValueError, TypeError, KeyError, AttributeError, RecursionError):
-            raise tracks.Refused(f"{name} is no GeoJSON") from None
+        yield from shapes_in(name, raw)
+
+
+def shapes_in(name, raw):
+    """The polygons and lines of GeoJSON that is read from a file of that name."""
+    try:
+        yield from parts_of(json.load(raw))
+    except (ValueError, TypeError, KeyError, AttributeError, RecursionError):
+        raise tracks.Refused(f"{name} is no GeoJSON") from None
 
 
 def parts_of(said):

@@ -59,6 +59,11 @@ class Reader:
         return [data[p // 8] >> p % 8 & 1 for p in range(count)]
 
 
+# The versions of the format by their first eight bytes, and the greatest height of each.
+VERSIONS = {b"GRACT001": 1, b"GRACT002": 2}
+HEIGHTS = {1: 20, 2: 24}
+
+
 class Index:
     """The parts of a file, as they are parsed."""
 
@@ -66,11 +71,12 @@ class Index:
         r = Reader(data)
         if len(data) < 8:
             raise Flaw("header", 0, 0, "short")
-        if data[:8] != b"GRACT001":
+        if bytes(data[:8]) not in VERSIONS:
             raise Flaw("header", 0, 0, "magic")
+        self.version = VERSIONS[bytes(data[:8])]
         r.at = 8
         self.period = r.field(4, 1, 1, 2**22)
-        self.height = r.field(4, 2, 1, 20)
+        self.height = r.field(4, 2, 1, HEIGHTS[self.version])
         objects = r.field(4, 3, 1, 2**16)
         self.span = r.field(4, 4, 1, 2**22)
         self.count = -(-self.span // self.period)
@@ -84,10 +90,26 @@ class Index:
         self.alphabet = r.numbers(alphabet, "alphabet", size=8, rising=True)
         self.rules = r.rules(rules)
         self.periods = [self.read_period(r, b) for b in range(self.count)]
-        self.symbols = r.numbers(symbols, "log")
+        self.symbols = self.read_log(r, symbols)
         if r.at < len(data):
             raise Flaw("end", 0, 0, "extra")
         self.check()
+
+    def read_log(self, r, count):
+        if self.version == 1:
+            return r.numbers(count, "log")
+        width = self.symbol_width()
+        bits = r.bits(width * count, "log", 0)
+        return [sum(bit << place for place, bit in enumerate(bits[at:at + width])) for at in range(0, width * count, width)]
+
+    def symbol_width(self):
+        """In how many bits version 2 keeps a symbol: the least, from 1 on, that tell all symbols apart."""
+        return max(1, (len(self.alphabet) + len(self.rules) - 1).bit_length())
+
+    def level_widths(self):
+        """How many digits of a Morton number each level of a tree takes, from the top."""
+        wide = self.height // 4 if self.version == 2 else 0
+        return [2] * wide + [1] * (self.height - 2 * wide)
 
     def read_period(self, r, b):
         present = r.bits(len(self.objects), "presence", b)
@@ -163,14 +185,14 @@ class Index:
         if not bits:
             return []
         squares, at = [(0, 0)], 0
-        for _level in range(self.height):
-            children = []
-            for x, y in squares:
-                group = bits[at:at + 4]
-                if len(group) < 4 or not any(group):
+        for width in self.level_widths():
+            fan, children = 4**width, []
+            for square in squares:
+                group = bits[at:at + fan]
+                if len(group) < fan or not any(group):
                     raise Flaw("tree", b, at, "tree")
-                children += [(2 * x + digit % 2, 2 * y + digit // 2) for digit in range(4) if group[digit]]
-                at += 4
+                children += [child_of(square, digit, width) for digit in range(fan) if group[digit]]
+                at += fan
             squares = children
         if at < len(bits):
             raise Flaw("tree", b, at, "tree")
@@ -211,6 +233,15 @@ class Index:
                 dx, dy = move_of(value - 1)
                 x, y = x + dx, y + dy
                 yield p["objects"][place], instant, x, y
+
+
+def child_of(square, digit, width):
+    """The child of a square, by one digit or by two, the higher one first."""
+    for place in reversed(range(width)):
+        x, y = square
+        quarter = digit >> 2 * place & 3
+        square = 2 * x + quarter % 2, 2 * y + quarter // 2
+    return square
 
 
 def move_of(code):
