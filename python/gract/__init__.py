@@ -9,7 +9,7 @@ It is tested against the program, whose answers are.
 """
 
 from . import questions
-from .answers import Answers, Cell, Facts, Hit, Last, Life, Near, Sighting, Stop, Visit
+from .answers import Answers, Cell, Facts, Hit, Last, Life, Meeting, Near, Sighting, Stop, Visit
 from .building import build
 from .errors import (
     ArgumentError,
@@ -18,6 +18,7 @@ from .errors import (
     ChildDied,
     ClosedError,
     DeviceError,
+    DistributedMissing,
     EmptyError,
     FormatError,
     GractError,
@@ -25,9 +26,12 @@ from .errors import (
     LimitError,
     ListenError,
     LoadError,
+    ManifestError,
     MemoryRefused,
+    OtherFileError,
     OverwriteError,
     PandasMissing,
+    PartsError,
     ProgramError,
     ProgramNotFound,
     ReplyError,
@@ -36,19 +40,21 @@ from .errors import (
     SayError,
     SlotsError,
     WordsError,
+    WorkerLost,
 )
-from .grid import Circle, Grid, Place, RawRow
+from .grid import Circle, Grid, Place, RawRow, Reach
 from .index import Cursor, Index, open
 from .planes import Degrees, Metres
 from .program import find_program
-from .questions import Disc, Rect, disc, rect
+from .questions import Disc, Rect, Zone, disc, rect, zone
 
 __version__ = "0.1.0"
 
 __all__ = [
-    "Answers", "ArgumentError", "BadQuestion", "Cell", "ChangedError", "ChildDied", "Circle", "ClosedError", "Cursor", "Degrees", "DeviceError",
-    "Disc", "EmptyError", "Facts", "FormatError", "GractError", "Grid", "GridError", "Hit", "Index", "Last", "Life", "LimitError",
-    "ListenError", "LoadError", "MemoryRefused", "Metres", "Near", "OverwriteError", "PandasMissing", "Place", "ProgramError",
-    "ProgramNotFound", "RawRow", "Rect", "ReplyError", "RowError", "SaveError", "SayError", "Sighting", "SlotsError", "Stop", "Visit",
-    "WordsError", "build", "disc", "find_program", "open", "questions", "rect",
+    "Answers", "ArgumentError", "BadQuestion", "Cell", "ChangedError", "ChildDied", "Circle", "ClosedError", "Cursor", "Degrees",
+    "DeviceError", "Disc", "DistributedMissing", "EmptyError", "Facts", "FormatError", "GractError", "Grid", "GridError", "Hit", "Index",
+    "Last", "Life", "LimitError", "ListenError", "LoadError", "ManifestError", "Meeting", "MemoryRefused", "Metres", "Near",
+    "OtherFileError", "OverwriteError", "PandasMissing", "PartsError", "Place", "ProgramError", "ProgramNotFound", "RawRow", "Reach",
+    "Rect", "ReplyError", "RowError", "SaveError", "SayError", "Sighting", "SlotsError", "Stop", "Visit", "WordsError", "WorkerLost", "Zone",
+    "build", "disc", "find_program", "open", "questions", "rect", "zone",
 ]

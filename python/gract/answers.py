@@ -47,6 +47,16 @@ class Near(NamedTuple):
     squared: int
 
 
+class Meeting(NamedTuple):
+    """Two objects near each other at an instant, and the cell of each."""
+
+    instant: int
+    left_x: int
+    left_y: int
+    right_x: int
+    right_y: int
+
+
 class Facts(NamedTuple):
     """What `info` tells of an index; docs/QUESTIONS.md says what each is."""
 
@@ -107,7 +117,12 @@ CELLS = {
     "exit_": ("exit_longitude", "exit_latitude"),
     "first_": ("first_longitude", "first_latitude"),
     "last_": ("last_longitude", "last_latitude"),
+    "left_": ("left_longitude", "left_latitude"),
+    "right_": ("right_longitude", "right_latitude"),
 }
+
+# The columns that are an object, with that of its name.
+OBJECTS = {"object": "name", "left": "left_name", "right": "right_name"}
 
 # Five digits are a metre.
 DIGITS = 5
@@ -158,8 +173,8 @@ def record_of(row: Dict[str, Any], grid: Optional[Grid]) -> Dict[str, Any]:
     told: Dict[str, Any] = {}
     for column, value in row.items():
         told[column] = value
-        if column == "object" and grid.names:
-            told["name"] = grid.name(value) or ""
+        if column in OBJECTS and grid.names:
+            told[OBJECTS[column]] = grid.name(value) or ""
         elif column in INSTANTS:
             told[INSTANTS[column]] = grid.time_text(value)
         elif column.endswith("y") and grid.plane is not None and column[:-1] in CELLS:

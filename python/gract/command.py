@@ -6,6 +6,7 @@ import sys
 from typing import Any, Dict, List, Optional, Sequence
 
 from . import building, output, wording
+from .answers import OBJECTS
 from .errors import GractError
 from .grid import Grid
 from .index import Index
@@ -169,8 +170,9 @@ class Completion:
         """All completions of a word after those before it."""
         if not before:
             return [f"{word} " for word in (*wording.ASKED, "help", "quit") if word.startswith(text)]
-        if text.startswith("object="):
-            words = (f"object={quoted(name)} " for name in self.names)
+        argument = text.partition("=")[0]
+        if "=" in text and argument in OBJECTS:
+            words = (f"{argument}={quoted(name)} " for name in self.names)
             return [word for word in words if word.startswith(text)]
         return [f"{name}=" for name in wording.ASKED.get(before[0], ()) if f"{name}=".startswith(text)]
 

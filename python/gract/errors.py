@@ -4,11 +4,23 @@
 too. What the program refuses has the fields that the program tells; docs/QUESTIONS.md has its outcomes.
 """
 
-from typing import Dict, NamedTuple, Optional, Sequence
+from typing import Any, Dict, Mapping, NamedTuple, Optional, Sequence, Tuple, Type
 
 
 class GractError(Exception):
-    """Anything that this package or the program refuses."""
+    """Anything that this package or the program refuses. It can be copied, and sent from one process to another."""
+
+    def __reduce__(self) -> Tuple[Any, ...]:
+        return again, (type(self), self.args, self.__dict__)
+
+
+def again(kind: Type[GractError], args: Tuple[Any, ...], fields: Dict[str, Any]) -> GractError:
+    """A refusal with the sentence and the fields that another one had."""
+    # And not by its own `__new__`: that of `MemoryRefused` is MemoryError's, which does not make what is laid out otherwise.
+    refusal: GractError = kind.__base__.__new__(kind, *args)  # type: ignore[union-attr]
+    refusal.args = args
+    refusal.__dict__.update(fields)
+    return refusal
 
 
 class ArgumentError(GractError, ValueError):
@@ -51,6 +63,46 @@ class PandasMissing(GractError, ImportError):
 
     def __init__(self) -> None:
         super().__init__("pandas is not installed: use the named tuples, or records(), which has the same columns")
+
+
+class DistributedMissing(GractError, ImportError):
+    """Shards were asked for, and Dask's distributed scheduler is not there."""
+
+    def __init__(self) -> None:
+        super().__init__("distributed is not installed: Debian has it as python3-distributed. gract.days asks without it")
+
+
+class ManifestError(GractError, ValueError):
+    """A folder that is no folder of parts. `file` is its list of parts."""
+
+    def __init__(self, file: str, why: str):
+        super().__init__(f"{file} could not be read as a list of parts: {why}")
+        self.file = file
+
+
+class OtherFileError(GractError):
+    """The index file of a part is not the one that was built. `file` is its name."""
+
+    def __init__(self, file: str):
+        super().__init__(f"{file} is an index, and not the one that was built: it has another sha256. Copy that one, or build anew")
+        self.file = file
+
+
+class PartsError(GractError):
+    """Parts that cannot be asked. `parts` has the refusal of each, by its number."""
+
+    def __init__(self, parts: Mapping[int, GractError], count: int):
+        told = "; ".join(f"part {number}: {refusal}" for number, refusal in sorted(parts.items()))
+        super().__init__(f"{len(parts)} of {count} parts cannot be asked: {told}. With partial=True the others answer what they can")
+        self.parts = dict(parts)
+
+
+class WorkerLost(GractError):
+    """The workers that asked a part died, one after the other. `file` is the part's index."""
+
+    def __init__(self, file: str):
+        super().__init__(f"{file}: one worker after the other died while it was asked. Is there memory enough?")
+        self.file = file
 
 
 class ProgramNotFound(GractError, FileNotFoundError):
@@ -173,7 +225,7 @@ LIMITS: Dict[str, Limit] = {
     "rows": Limit(2**24, "rows", PARTS),
     "objects": Limit(2**16, "different objects", "make parts by groups of objects, each with its own index"),
     "span": Limit(2**22, "instants from the first row to the last", f"take a greater tick, or {PARTS}; is a time wrong?"),
-    "extent": Limit(2**20, "cells along x or y", "take a greater cell, or make parts by region; is a position wrong?"),
+    "extent": Limit(2**24, "cells along x or y", "take a greater cell, or make parts by region; is a position wrong?"),
     "blocks": Limit(2**24, "objects times periods", f"take a greater period, or {PARTS}"),
     "symbols": Limit(2**25, "instants after the first row of each object in each period",
                      f"take a smaller period, where objects are seldom there, or a greater tick, or {PARTS}"),

@@ -32,6 +32,14 @@ class RawRow(NamedTuple):
     y: int
 
 
+class Reach(NamedTuple):
+    """A distance in cells that the cells of any two rows within some metres of each other are not beyond. No two rows whose cells are
+    that near are `metres` apart or more."""
+
+    cells: int
+    metres: float
+
+
 class Circle(NamedTuple):
     """The disc of cells that has every row within some metres of a place. No row of the disc is `reach` metres away or more."""
 
@@ -171,20 +179,30 @@ class Grid:
         """The disc that has every row within so many metres of a place on the ground (a globe of the earth's mean radius), rounded
         outwards. Refuses a circle that has a pole in it, or crosses the longitude at which the plane is cut."""
         longitude, latitude = self._longitude(argument, longitude), self._latitude(argument, latitude)
-        metres, plane = real("metres", metres, 0, planes.RADIUS), self._plane()
-        furthest = abs(float(latitude)) + metres / planes.METRES_A_DEGREE
-        if furthest >= 89.9:
-            raise ArgumentError(argument, f"{metres} metres from latitude {latitude} reach a pole")
-        units = metres * planes.most_units(plane, furthest)
-        east = float(planes.turned(longitude, self.west))
-        if not self.west <= east - units / plane.east <= east + units / plane.east < self.west + 360:
+        reach, east = self.reach(metres, latitude, latitude, argument), float(planes.turned(longitude, self.west))
+        far = self._units(metres, latitude, latitude, argument) / self._plane().east
+        if not self.west <= east - far <= east + far < self.west + 360:
             raise ArgumentError(argument, f"the circle crosses longitude {self.west}, at which the plane is cut: ask for boxes")
+        return Circle(*self.cell_of(longitude, latitude), *reach)
+
+    def reach(self, metres: Degree, south: Degree, north: Degree, argument: str = "metres") -> Reach:
+        """The distance in cells for a distance on the ground (a globe of the earth's mean radius) of two rows, one of which is between
+        two latitudes: rounded up, so that no row is lost. Refuses what reaches a pole."""
+        units, plane = self._units(metres, south, north, argument), self._plane()
         # Either end is anywhere in its cell, so that two cells are up to a diagonal further from each other than what is in them. What
         # is added besides is more than the rounding of all products, here and where rows were made.
-        radius = math.ceil(units / self.cell * (1 + 1e-12) + math.sqrt(2) + 1e-6)
-        within = (radius + math.sqrt(2)) * self.cell
-        nearest = max(0.0, abs(float(latitude)) - within / plane.north)
-        return Circle(*self.cell_of(longitude, latitude), radius, within / planes.least_units(plane, nearest))
+        cells = math.ceil(units / self.cell * (1 + 1e-12) + math.sqrt(2) + 1e-6)
+        within = (cells + math.sqrt(2)) * self.cell
+        least = 0.0 if south <= 0 <= north else min(abs(float(south)), abs(float(north)))
+        return Reach(cells, within / planes.least_units(plane, max(0.0, least - within / plane.north)))
+
+    def _units(self, metres: Degree, south: Degree, north: Degree, argument: str) -> float:
+        """How many units of the plane a way of so many metres has at most that begins between two latitudes."""
+        metres = real("metres", metres, 0, planes.RADIUS)
+        furthest = max(abs(float(south)), abs(float(north))) + metres / planes.METRES_A_DEGREE
+        if furthest >= 89.9:
+            raise ArgumentError(argument, f"{metres} metres from latitude {max(south, north, key=abs)} reach a pole")
+        return metres * planes.most_units(self._plane(), furthest)
 
     # Objects.
 

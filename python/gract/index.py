@@ -1,28 +1,18 @@
 """`Index`: an index that is asked, and `Cursor`: a path that is drawn row by row."""
 
-import datetime
-import itertools
 import os
 import stat
 from types import TracebackType
-from typing import Any, Iterable, Iterator, List, Optional, Sequence, Set, Tuple, Type, Union
+from typing import Any, List, Optional, Sequence, Set, Tuple, Type
 
-from . import derived, questions
-from .answers import Answers, Cell, Facts, Hit, Last, Life, Near, Sighting, Stop, Visit
+from . import questions
+from .answers import Facts, Stop
+from .asking import Asked, Instant, Object
 from .child import Child, Reply
-from .errors import ArgumentError, BadQuestion, ChangedError, ClosedError, GridError, ReplyError, SlotsError
-from .grid import Grid, grid_file, whole
-from .planes import Degree
+from .errors import ArgumentError, ChangedError, ClosedError, GridError, SlotsError
+from .grid import Grid, grid_file
 from .program import Name, file_word, find_program
-from .questions import INSTANT, KINDS, OBJECT, SLOT, SLOT_KINDS, Disc, Question, Rect, Region
-from .times import Duration, Time
-
-Instant = Union[int, Time]
-Object = Union[int, str]
-
-# A batch of questions is doubled up to so many while their replies have fewer than `MOST_ROWS` rows together, and halved above.
-MOST_BATCH = 1 << 15
-MOST_ROWS = 1 << 16
+from .questions import SLOT
 
 # How many rows a cursor draws at once.
 DRAWN = 512
@@ -31,18 +21,14 @@ DRAWN = 512
 SLOT_LINES = 1024
 
 
-class Index:
+class Index(Asked):
     """An index file that is asked, through one child `gract ask`. It is a context manager; `close` ends the child, and so does the
-    end of the last reference to it.
+    end of the last reference to it. `Asked` says what arguments may be, and has its questions.
 
-    Instants are whole numbers; with a grid also times, as texts or datetimes (UTC, where they have no offset). Objects are numbers;
-    with a grid that has names also names. A region is `rect(..)` or `disc(..)` in cells, or with a grid `box=(west, south, east,
-    north)` in degrees, or `around=(longitude, latitude)` with `metres=`; without one it is everywhere. Degrees and metres are rounded
-    outwards, so that no row is lost, and the answer's `notes` say how.
-
-    Each method refuses a wrong argument by `ArgumentError` before the child is asked, and raises the program's own refusals. After
-    one of these the next question begins a new child; where the file was written meanwhile it is a `ChangedError`.
+    After a refusal of the program the next question begins a new child; where the file was written meanwhile it is a `ChangedError`.
     """
+
+    facts: Facts
 
     def __init__(self, path: Name, *, program: Optional[Name] = None, grid: Optional[Grid] = None):
         self.file = file_word("path", path)
@@ -92,19 +78,8 @@ class Index:
     def _exchange(self, lines: Sequence[bytes]) -> List[Reply]:
         return self._begin(sum(map(len, lines))).exchange(lines)
 
-    def _answer(self, question: Question) -> Any:
-        return self._read(type(question), self._exchange([question.line.encode() + b"\n"])[0])
-
-    def _read(self, kind: Type[Question], reply: Reply) -> Any:
-        """The answer of a reply. Refuses one whose count of lines or whose lines are not those of a question of that kind."""
-        lines, last = reply
-        try:
-            if last == b"ok %d" % len(lines):
-                return kind.read(lines)
-        except (ValueError, TypeError):
-            pass
-        self._drop()
-        raise ReplyError(self.program, (lines[0] if lines else last).decode(errors="replace"))
+    def _no_grid(self) -> str:
+        return f"give grid=, or save one as {grid_file(self.file)}"
 
     def _drop(self) -> None:
         if self._child is not None:
@@ -132,163 +107,15 @@ class Index:
         state = "closed" if self._closed else f"{self.facts.objects} objects, instants {self.facts.first} to {self.facts.last}"
         return f"<Index {self.file}: {state}>"
 
-    # Arguments.
-
-    def _needs_grid(self, argument: str, value: Any) -> Grid:
-        if self.grid is None:
-            raise ArgumentError(argument, f"{value!r} wants a grid, and there is none: give grid=, or save one as {grid_file(self.file)}")
-        return self.grid
-
-    def instant(self, value: Instant, argument: str = "at") -> int:
-        """The instant that an argument means."""
-        if isinstance(value, (str, datetime.datetime)):
-            value = self._needs_grid(argument, value).instant(value, argument)
-        return whole(argument, value, *INSTANT)
-
-    def number(self, value: Object, argument: str = "object") -> int:
-        """The object's number that an argument means."""
-        if isinstance(value, str):
-            value = self._needs_grid(argument, value).number(value, argument)
-        return whole(argument, value, *OBJECT)
-
-    def window(self, since: Optional[Instant], until: Optional[Instant]) -> Tuple[int, int]:
-        """The first and the last instant of a window; those of the chart where none is given."""
-        return (
-            self.facts.first if since is None else self.instant(since, "since"),
-            self.facts.last if until is None else self.instant(until, "until"),
-        )
-
-    def instants(self, value: Union[int, Duration], argument: str = "within") -> int:
-        """The length of time that an argument means, in instants."""
-        if isinstance(value, (str, datetime.timedelta)):
-            value = self._needs_grid(argument, value).instants(value, argument)
-        return whole(argument, value, 0, 2 * INSTANT[1])
-
-    def region(self, region: Optional[Region] = None, box: Optional[Sequence[Degree]] = None,
-               around: Optional[Sequence[Degree]] = None, metres: Optional[Degree] = None) -> Tuple[Region, List[str]]:
-        """The region that arguments mean, and notes on how it was rounded. Refuses more than one, and metres without a place."""
-        given = [name for name, value in (("region", region), ("box", box), ("around", around)) if value is not None]
-        if len(given) > 1:
-            raise ArgumentError(given[1], f"there is {given[0]} already, and one region is asked for")
-        if (around is None) != (metres is None):
-            raise ArgumentError("metres" if around is not None else "around", "around=(longitude, latitude) and metres= go together")
-        if box is not None:
-            grid, edges = self._needs_grid("box", box), numbers_of("box", box, ("west", "south", "east", "north"))
-            found: Region = questions.checked_region("box", Rect(*grid.box(*edges)))
-            return found, [f"the box {box_text(box)} is asked as {questions.region_words(found)}, every cell that it touches"]
-        if around is not None and metres is not None:
-            grid, place = self._needs_grid("around", around), numbers_of("around", around, ("longitude", "latitude"))
-            circle = grid.circle(*place, metres)
-            found = questions.checked_region("around", Disc(circle.x, circle.y, circle.radius))
-            return found, [
-                f"{metres} metres around {box_text(around)} are asked as {questions.region_words(found)}, a radius in cells that "
-                f"leaves no row out; rows up to {int(circle.reach) + 1} metres away may be among those found"
-            ]
-        return (questions.EVERYWHERE if region is None else questions.checked_region("region", region)), []
-
-    def _rows(self, question: Question, notes: Sequence[str] = ()) -> "Answers[Any]":
-        return Answers(self._answer(question), question.row, grid=self.grid, asked=question.asked, notes=notes)
-
-    # One question each.
-
     def info(self) -> Facts:
         """Facts of the index. One line."""
-        return self._answer(questions.Info())
-
-    def position(self, object: Object, at: Instant) -> Optional[Cell]:
-        """The cell of an object at an instant, or None where it has no row there. One line."""
-        return self._answer(questions.Position(self.number(object), self.instant(at)))
-
-    def path(self, object: Object, since: Optional[Instant] = None, until: Optional[Instant] = None) -> "Answers[Stop]":
-        """All rows of an object in a window, by time. One line."""
-        return self._rows(questions.Path(self.number(object), *self.window(since, until)))
-
-    def slice(self, at: Instant, region: Optional[Region] = None, *, box: Optional[Sequence[Degree]] = None,
-              around: Optional[Sequence[Degree]] = None, metres: Optional[Degree] = None) -> "Answers[Sighting]":
-        """Who was in a region at an instant, by object. One line."""
-        found, notes = self.region(region, box, around, metres)
-        return self._rows(questions.Slice(self.instant(at), found), notes)
-
-    def interval(self, since: Optional[Instant] = None, until: Optional[Instant] = None, region: Optional[Region] = None, *,
-                 box: Optional[Sequence[Degree]] = None, around: Optional[Sequence[Degree]] = None,
-                 metres: Optional[Degree] = None) -> "Answers[Hit]":
-        """Who was in a region at some instant of a window, each with its first row there, by object. One line."""
-        found, notes = self.region(region, box, around, metres)
-        return self._rows(questions.Interval(*self.window(since, until), found), notes)
-
-    def nearest(self, count: int, at: Instant, cell: Optional[Sequence[int]] = None, *,
-                place: Optional[Sequence[Degree]] = None) -> "Answers[Near]":
-        """The `count` objects nearest to a cell (x, y), or to the cell of a place (longitude, latitude), at an instant, by the squared
-        distance of the cells, then by object. One line."""
-        if (cell is None) == (place is None):
-            raise ArgumentError("cell" if cell is None else "place", "either cell=(x, y) or place=(longitude, latitude) is needed")
-        if place is not None:
-            cell = self._needs_grid("place", place).cell_of(*numbers_of("place", place, ("longitude", "latitude")))
-        x, y = numbers_of("cell", cell, ("x", "y"))
-        return self._rows(questions.Nearest(count, self.instant(at), x, y))
-
-    # Many questions at once.
-
-    def ask(self, asked: Iterable[Union[Question, str]]) -> Iterator[Any]:
-        """The answer to each question, in their order, as they are drawn: of `gract.questions`, or lines as docs/QUESTIONS.md has
-        them. Rows are lists of named tuples here; `position` has a cell or None, and `info` has facts. Writing and reading go on
-        at the same time. Refuses, by `ArgumentError`, a line with no word, with an end of line in it, or of a slot; a line that
-        the program calls bad is a `BadQuestion`, in its turn."""
-        if isinstance(asked, (str, Question)) or not hasattr(asked, "__iter__"):
-            raise ArgumentError("asked", f"{asked!r} is not a list of questions, nor anything else that gives them one by one")
-        return self._ask(iter(asked))
-
-    def _ask(self, waiting: Iterator[Union[Question, str]]) -> Iterator[Any]:
-        batch, first = 1, 1
-        while True:
-            taken = list(itertools.islice(waiting, batch))
-            if not taken:
-                return
-            replies = self._exchange([line_of(question, first + place) for place, question in enumerate(taken)])
-            for question, reply in zip(taken, replies):
-                yield self._read(type(question), reply) if isinstance(question, Question) else self._read_line(question, reply)
-            first += len(taken)
-            rows = sum(len(lines) for lines, _ in replies)
-            batch = min(2 * batch, MOST_BATCH) if rows < MOST_ROWS else max(batch // 2, 1)
-
-    def _read_line(self, line: str, reply: Reply) -> Any:
-        if reply[1].startswith(b"bad "):
-            cause, *place = reply[1][4:].decode(errors="replace").split()
-            raise BadQuestion(line, cause, int(place[0]) if place and place[0].isdigit() else None)
-        return self._read(KINDS.get(line.split(None, 1)[0], questions.Other), reply)
+        facts: Facts = self._answer(questions.Info())
+        return facts
 
     def held(self, object: Object, since: Optional[Instant] = None, until: Optional[Instant] = None) -> "Cursor":
         """A cursor over an object's path in a window. It holds one of sixteen slots from its first row to its last, or until it is
         closed; refuses, by `SlotsError`, a seventeenth. One line to hold it, one for each 512 rows, one to free it."""
         return Cursor(self, self.number(object), *self.window(since, until))
-
-    # Questions of several lines; derived.py says what each is and what it costs.
-
-    def last_known(self, at: Instant, within: Union[int, Duration], region: Optional[Region] = None, *,
-                   box: Optional[Sequence[Degree]] = None, around: Optional[Sequence[Degree]] = None,
-                   metres: Optional[Degree] = None) -> "Answers[Last]":
-        """Of each object its last row at or before an instant that is not older than `within` (instants, a timedelta, or a text as
-        `90 min`), where that row is in the region, by object. It is what 'who is in port now' means where reports come at mixed
-        rates. One line `interval`, and one line `path` for each object that was in the region in that time."""
-        found, notes = self.region(region, box, around, metres)
-        rows = derived.last_known(self, self.instant(at), self.instants(within), found)
-        return Answers(rows, Last, grid=self.grid, notes=notes)
-
-    def visits(self, region: Optional[Region] = None, since: Optional[Instant] = None, until: Optional[Instant] = None, *,
-               gap: Union[None, int, Duration] = None, box: Optional[Sequence[Degree]] = None,
-               around: Optional[Sequence[Degree]] = None, metres: Optional[Degree] = None) -> "Answers[Visit]":
-        """All stays in a region within a window, by object, then by time: each is as many rows of an object as follow one another
-        in the region. With `gap` (as `within` above) a stay also ends where no row follows for longer than that. One line
-        `interval`, and one line `path` for each object that was there."""
-        found, notes = self.region(region, box, around, metres)
-        most = None if gap is None else self.instants(gap, "gap")
-        rows = derived.visits(self, found, *self.window(since, until), most)
-        return Answers(rows, Visit, grid=self.grid, notes=notes)
-
-    def objects(self) -> "Answers[Life]":
-        """The first and the last row of each object, by object. One line `interval`, and for each object one to six lines `path`,
-        whose replies together are at most its rows: windows that reach back 16, 256, 4,096 .. instants from the last."""
-        return Answers(derived.objects(self), Life, grid=self.grid)
 
     # Slots.
 
@@ -386,36 +213,6 @@ def stamp_of(file: str) -> Optional[Tuple[int, ...]]:
     except OSError:
         return None
     return (found.st_dev, found.st_ino, found.st_size, found.st_mtime_ns) if stat.S_ISREG(found.st_mode) else None
-
-
-def line_of(question: Union[Question, str], nth: int) -> bytes:
-    """The line of a question with its end. Refuses what is none, by its place among the questions."""
-    argument = f"asked: question {nth}"
-    if isinstance(question, Question):
-        word, line = question.word, question.line
-    elif isinstance(question, str):
-        words = question.split(None, 1)
-        if not words or "\n" in question:
-            raise ArgumentError(argument, f"{question!r} is no line with a word")
-        word, line = words[0], question
-    else:
-        raise ArgumentError(argument, f"{question!r} is neither a question of gract.questions nor a line")
-    if word in SLOT_KINDS:
-        raise ArgumentError(argument, f"{word} is asked by Index.held alone, which keeps the slots")
-    return line.encode("utf-8", "surrogateescape") + b"\n"
-
-
-def numbers_of(argument: str, value: Any, names: Sequence[str]) -> List[Any]:
-    """The numbers of a sequence that has one for each name. Refuses anything else, by the name of the argument."""
-    numbers = list(value) if isinstance(value, (tuple, list)) or hasattr(value, "__array__") else None
-    if numbers is None or len(numbers) != len(names):
-        raise ArgumentError(argument, f"{value!r} is not ({', '.join(names)})")
-    return numbers
-
-
-def box_text(numbers: Sequence[Degree]) -> str:
-    """Degrees as they are written."""
-    return f"({', '.join(str(number) for number in numbers)})"
 
 
 def open(path: Name, *, program: Optional[Name] = None, grid: Optional[Grid] = None) -> Index:

@@ -32,7 +32,8 @@ def as_json(told: Told) -> str:
 
 def as_geojson(told: Told) -> str:
     """A collection of features: a line for a path, with its times, and a point for each row of any other answer, in the middle of its
-    cell; of a stay where it began, of an object its first row. Refuses an answer without degrees."""
+    cell; of a stay where it began, of an object its first row, of a meeting where the left one was. Refuses an answer without
+    degrees."""
     features = path_features(told.records) if told.kind == "path" else [feature_of(record) for record in told.records]
     rows = ",\n ".join(json.dumps(feature, ensure_ascii=False) for feature in features)
     return f'{{"type": "FeatureCollection", "features": [{rows}]}}\n'

@@ -18,6 +18,9 @@ INSTANT = COORDINATE = (-2**41, 2**41)
 RADIUS = (0, 2**42)
 SLOT = (0, 15)
 
+# How many shapes a region has at most, and how many bytes a line.
+MOST_SHAPES, MOST_BYTES = 16, 1024
+
 Range = Tuple[int, int]
 
 
@@ -46,13 +49,26 @@ class Disc(NamedTuple):
         return (x - self.x) ** 2 + (y - self.y) ** 2 <= self.r**2
 
 
-Region = Union[Rect, Disc]
+Shape = Union[Rect, Disc]
 
-# Each kind of region: its word, and the ranges of its numbers.
-REGIONS: Dict[Type[Any], Tuple[str, Tuple[Range, ...]]] = {
+# Each kind of shape: its word, and the ranges of its numbers.
+SHAPES: Dict[Type[Any], Tuple[str, Tuple[Range, ...]]] = {
     Rect: ("rect", (COORDINATE,) * 4),
     Disc: ("disc", (COORDINATE, COORDINATE, RADIUS)),
 }
+
+
+class Zone(NamedTuple):
+    """The cells that are in at least one of up to sixteen rectangles and discs."""
+
+    shapes: Tuple[Shape, ...]
+
+    def contains(self, x: int, y: int) -> bool:
+        """Whether the region has that cell."""
+        return any(shape.contains(x, y) for shape in self.shapes)
+
+
+Region = Union[Rect, Disc, Zone]
 
 EVERYWHERE = Rect(COORDINATE[0], COORDINATE[0], COORDINATE[1], COORDINATE[1])
 
@@ -67,18 +83,37 @@ def disc(x: int, y: int, r: int) -> Disc:
     return checked_region("disc", Disc(x, y, r))
 
 
+def zone(*shapes: Shape) -> Zone:
+    """The cells that are in at least one of 1 to 16 shapes, each a `rect` or a `disc`. Refuses another number of shapes, and what is no
+    shape. A question line has 1,024 bytes, which hold sixteen shapes of usual numbers; the question refuses those that it does not."""
+    return checked_region("zone", Zone(shapes))
+
+
 def checked_region(argument: str, region: Any) -> Any:
     """The region with plain whole numbers; refuses what is no region, by the name of the argument and of the number."""
-    if type(region) not in REGIONS:
-        raise ArgumentError(argument, f"{region!r} is no region: make one by rect(x1, y1, x2, y2) or disc(x, y, r)")
-    ranges = REGIONS[type(region)][1]
-    numbers = zip(region._fields, region, ranges)
-    return type(region)(*(whole(f"{argument}: {name}", value, *span) for name, value, span in numbers))
+    if type(region) is not Zone:
+        return checked_shape(argument, region, "region: make one by rect(x1, y1, x2, y2), disc(x, y, r) or zone(shape, ..)")
+    shapes = tuple(region.shapes) if isinstance(region.shapes, (tuple, list)) else ()
+    if not 1 <= len(shapes) <= MOST_SHAPES:
+        raise ArgumentError(argument, f"a zone has 1 to {MOST_SHAPES} shapes, and not {len(shapes)}")
+    return Zone(tuple(
+        checked_shape(f"{argument}: shape {nth}", shape, "rect or disc") for nth, shape in enumerate(shapes, 1)
+    ))
+
+
+def checked_shape(argument: str, shape: Any, wanted: str) -> Any:
+    """The shape with plain whole numbers; refuses what is none, and says what is wanted."""
+    if type(shape) not in SHAPES:
+        raise ArgumentError(argument, f"{shape!r} is no {wanted}")
+    numbers = zip(shape._fields, shape, SHAPES[type(shape)][1])
+    return type(shape)(*(whole(f"{argument}: {name}", value, *span) for name, value, span in numbers))
 
 
 def region_words(region: Region) -> str:
     """The words of a region in a question line."""
-    return " ".join([REGIONS[type(region)][0], *map(str, region)])
+    if isinstance(region, Zone):
+        return " ".join(["any", str(len(region.shapes)), *map(region_words, region.shapes)])
+    return " ".join([SHAPES[type(region)][0], *map(str, region)])
 
 
 def number(span: Range) -> Any:
@@ -107,6 +142,8 @@ class Question:
             if span and type(value) is int and span[0] <= value <= span[1]:
                 continue
             object.__setattr__(self, name, whole(name, value, *span) if span else checked_region(name, value))
+            if type(value) is Zone and len(self.line) > MOST_BYTES:
+                raise ArgumentError(name, f"its {len(value.shapes)} shapes make a line of {len(self.line)} bytes, and {MOST_BYTES} is the most")
 
     @classmethod
     def read(cls, lines: List[bytes]) -> Any:
@@ -196,6 +233,20 @@ class Nearest(Question):
 
 
 @dataclasses.dataclass(frozen=True)
+class Meet(Question):
+    """At which instant of a window two objects were first within a distance of each other, in cells, and where: one row or none."""
+
+    word = "meet"
+    row = answers.Meeting
+    common = ("left", "right")
+    left: int = number(OBJECT)
+    right: int = number(OBJECT)
+    since: int = number(INSTANT)
+    until: int = number(INSTANT)
+    reach: int = number(RADIUS)
+
+
+@dataclasses.dataclass(frozen=True)
 class Info(Question):
     """Facts of the index."""
 
@@ -252,7 +303,7 @@ class Other(Question):
 
 
 KINDS: Dict[str, Type[Question]] = {
-    kind.word: kind for kind in (Position, Path, Slice, Interval, Nearest, Info, Hold, More, Free)
+    kind.word: kind for kind in (Position, Path, Slice, Interval, Nearest, Meet, Info, Hold, More, Free)
 }
 
 # The kinds of which a slot is a part: `Index.held` keeps the slots, and so nobody else may ask them.

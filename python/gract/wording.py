@@ -8,12 +8,15 @@ from typing import Any, Callable, Dict, Iterator, List, NamedTuple, Sequence, Tu
 from .answers import Answers, Cell
 from .errors import ArgumentError
 from .index import Index
-from .questions import disc, rect
+from .questions import Zone, disc, rect, zone
 
 WHOLE = re.compile(r"[+-]?\d+")
 REAL = re.compile(r"[+-]?(\d+(\.\d*)?|\.\d+)")
 
-REGION = ("box", "around", "metres", "rect", "disc")
+REGION = ("box", "around", "metres", "rect", "disc", "zone")
+
+# How many numbers follow the word of a shape, and what makes the shape of them.
+SHAPES: Dict[str, Tuple[Callable[..., Any], int]] = {"rect": (rect, 4), "disc": (disc, 3)}
 
 # The arguments of each question that can be typed. A method of that name answers it.
 ASKED: Dict[str, Tuple[str, ...]] = {
@@ -22,6 +25,7 @@ ASKED: Dict[str, Tuple[str, ...]] = {
     "slice": ("at", *REGION),
     "interval": ("since", "until", *REGION),
     "nearest": ("count", "at", "place", "cell"),
+    "meet": ("left", "right", "since", "until", "reach", "metres"),
     "last_known": ("at", "within", *REGION),
     "visits": ("since", "until", "gap", *REGION),
     "objects": (),
@@ -65,6 +69,18 @@ def region(make: Callable[..., Any], count: int) -> Callable[[str, str], Any]:
     return read
 
 
+def shapes(argument: str, text: str) -> Zone:
+    """A zone, of shapes as `rect 0 0 9 9 disc 20 5 3`."""
+    words, found = re.split(r"[,\s]+", text.strip()), []
+    while words:
+        if words[0] not in SHAPES:
+            raise ArgumentError(argument, f"{words[0]!r} is no shape: there are {' and '.join(SHAPES)}")
+        make, count = SHAPES[words[0]]
+        found.append(region(make, count)(argument, " ".join(words[1:1 + count])))
+        words = words[1 + count:]
+    return zone(*found)
+
+
 class Argument(NamedTuple):
     """How an argument is read, what it is, and which argument of the method it becomes."""
 
@@ -75,6 +91,8 @@ class Argument(NamedTuple):
 
 ARGUMENTS: Dict[str, Argument] = {
     "object": Argument(whole_or_text, "a number or a name"),
+    "left": Argument(whole_or_text, "a number or a name"),
+    "right": Argument(whole_or_text, "a number or a name"),
     "at": Argument(whole_or_text, "a time, as '2022-06-01 12:00' (UTC), or an instant"),
     "since": Argument(whole_or_text, "a time or an instant (the first)"),
     "until": Argument(whole_or_text, "a time or an instant (the last)"),
@@ -85,9 +103,11 @@ ARGUMENTS: Dict[str, Argument] = {
     "gap": Argument(whole_or_text, "a length of time, as '90 min', or of instants"),
     "box": Argument(listed(real_number), "WEST,SOUTH,EAST,NORTH"),
     "around": Argument(listed(real_number), "LONGITUDE,LATITUDE, with metres="),
-    "metres": Argument(real_number, "a distance from around="),
+    "metres": Argument(real_number, "a distance on the ground, from around= or of two objects"),
+    "reach": Argument(whole_number, "a distance in cells"),
     "rect": Argument(region(rect, 4), "X1,Y1,X2,Y2 in cells", "region"),
     "disc": Argument(region(disc, 3), "X,Y,R in cells", "region"),
+    "zone": Argument(shapes, "shapes in cells, as 'rect 0,0,9,9 disc 20,5,3'", "region"),
 }
 
 

@@ -45,6 +45,13 @@ class Plain:
         found = [(item, *cell, (cell[0] - x) ** 2 + (cell[1] - y) ** 2) for (item, when), cell in self.chart.items() if when == instant]
         return sorted(found, key=lambda row: (row[3], row[0]))[:count]
 
+    def meet(self, left, right, since, until, reach):
+        for _, when, x, y in (row for row in self.rows if row[0] == left and since <= row[1] <= until):
+            u, v = self.chart.get((right, when), (None, None))
+            if u is not None and (x - u) ** 2 + (y - v) ** 2 <= reach * reach:
+                return [(when, x, y, u, v)]
+        return []
+
     def last_known(self, at, within, has):
         found = []
         for item in self.objects:

@@ -12,14 +12,23 @@ from . import plain
 CHARTS = 200
 
 
-def random_region(draw, far):
-    """A region, its test, and its arguments."""
+def random_shape(draw, far):
+    """A shape and its test."""
     x, y = draw.randrange(-far, far), draw.randrange(-far, far)
     if draw.random() < 0.5:
         corners = x, y, x + draw.randrange(-2, far), y + draw.randrange(-2, far)
         return gract.rect(*corners), plain.in_rect(*corners)
     disc = x, y, draw.randrange(far)
     return gract.disc(*disc), plain.in_disc(*disc)
+
+
+def random_region(draw, far):
+    """A region and its test: a shape, or a zone of up to sixteen, which are small where they are many."""
+    if draw.random() < 0.7:
+        return random_shape(draw, far)
+    count = draw.randrange(1, 17)
+    shapes = [random_shape(draw, max(2, far // draw.randrange(1, count + 1))) for _ in range(count)]
+    return gract.zone(*(shape for shape, _ in shapes)), lambda x, y: any(has(x, y) for _, has in shapes)
 
 
 class Compared:
@@ -58,6 +67,16 @@ class Compared:
         within, gap = self.draw.randrange(40), self.draw.choice([None, 0, 1, 2, 5])
         self.same(index.last_known(at=at, within=within, region=region), table.last_known(at, within, has))
         self.same(index.visits(region, since, until, gap=gap), table.visits(since, until, has, gap))
+
+    def meetings(self):
+        index, table = self.index, self.table
+        (left, right), (since, until), reach = (self.object(), self.object()), self.window(), self.draw.randrange(self.far)
+        wanted = table.meet(left, right, since, until, reach)
+        self.same(index.meet(left, right, since, until, reach=reach), wanted)
+        self.same(list(index.ask([f"meet {left} {right} {since} {until} {reach}", questions.Meet(left, right, since, until, reach)])), [wanted] * 2)
+        whole = index.meet(left, right, reach=reach)
+        self.same((whole, whole.asked), (table.meet(left, right, table.first, table.last, reach), {"left": left, "right": right}))
+        return len(wanted)
 
     def whole(self):
         index, table = self.index, self.table
@@ -109,6 +128,25 @@ class Answers(unittest.TestCase):
             for _ in range(5):
                 compared.one_line()
                 compared.several_lines()
+
+    def test_meetings(self):
+        """The first meeting of two objects, or of one with itself, over a third of the random charts and the storms."""
+        with tempfile.TemporaryDirectory() as folder:
+            met = 0
+            for seed in range(0, CHARTS, 3):
+                draw, file = plain.randomness(seed), Path(folder) / "chart.idx"
+                rows, cell, tick = plain.random_rows(draw, 12), draw.choice([1, 1, 3]), draw.choice([1, 2, 60])
+                gract.build(rows, file, cell=cell, tick=tick, period=draw.choice([1, 2, 7, 30, 1000]))
+                with gract.open(file) as index:
+                    compared = Compared(self, index, plain.Plain(plain.gridded(rows, cell, tick)), draw, 24 // cell)
+                    met += sum(compared.meetings() for _ in range(10))
+            self.assertGreater(met, CHARTS // 3)
+        with gract.open(plain.STORMS_INDEX) as storms:
+            self.assertEqual(storms.meet(500, 502, reach=400), [gract.Meeting(74067, -531, 243, -786, 254)])
+            self.assertEqual(storms.meet(500, 502, 74068, 74067, reach=400), [])
+            compared = Compared(self, storms, plain.storms(), plain.randomness(8), 900)
+            for _ in range(50):
+                compared.meetings()
 
     def test_last_rows(self):
         """Each object's last row is found, however long it is before the end."""

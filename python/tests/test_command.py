@@ -72,10 +72,13 @@ class Command(unittest.TestCase):
             for words, answer in [
                 (["path", "object=278", "since=2005-08-28", "until=2005-08-29 23:00"], storms.path(278, "2005-08-28", "2005-08-29 23:00")),
                 (["slice", "at=52097", "rect=-980,180,-810,310"], storms.slice(52097, gract.rect(-980, 180, -810, 310))),
+                (["slice", "at=52097", "zone=disc -802 258 9 rect -980,180,-810,310"],
+                 storms.slice(52097, gract.zone(gract.disc(-802, 258, 9), gract.rect(-980, 180, -810, 310)))),
                 (["slice", "at=52097", "around=-90,29.9", "metres=70000"], storms.slice(52097, around=(-90, 29.9), metres=70000)),
                 (["interval", "since=2005-06-01", "until=2005-11-30", GULF], storms.interval("2005-06-01", "2005-11-30", box=(-98, 18, -81, 31))),
                 (["nearest", "count=3", "at=74077", "place=-80.2 25.8"], storms.nearest(3, 74077, (-802, 258))),
                 (["nearest", "count=3", "at=74077", "cell=-802,258"], storms.nearest(3, 74077, (-802, 258))),
+                (["meet", "left=500", "right=502", "reach=400"], storms.meet(500, 502, reach=400)),
                 (["last_known", "at=2005-08-29 08:00", "within=1 d", "disc=-802,258,150"],
                  storms.last_known(52097, 4, gract.disc(-802, 258, 150))),
                 (["visits", "since=2005-06-01", "until=2005-12-01", GULF], storms.visits(since="2005-06-01", until="2005-12-01", box=(-98, 18, -81, 31))),
@@ -93,6 +96,8 @@ class Command(unittest.TestCase):
                 if words[0] == "path":
                     self.assertEqual(len(features[0]["geometry"]["coordinates"]), len(answer))
                     self.assertEqual(features[0]["properties"]["instants"], [stop.instant for stop in answer])
+                elif words[0] == "meet":
+                    self.assertEqual([feature["geometry"]["coordinates"] for feature in features], [[-53.05, 24.35]])
                 else:
                     self.assertEqual([feature["properties"]["object"] for feature in features], [row.object for row in answer])
             self.assertEqual(json.loads(self.ask("info", "--format", "json")[1]), [storms.facts._asdict()])
@@ -109,6 +114,8 @@ class Command(unittest.TestCase):
             (["where"], "question: where is none"), (["slice"], "at: it is missing"), (["slice", "when=0"], "when: slice has no such argument"),
             (["slice", "at=0", "at=1"], "at: it is there twice"), (["slice", "at=0", "rect=1,2,3"], "rect: 1,2,3 has 3 numbers"),
             (["slice", "at=0", "rect=1,2,3,x"], "rect: x is no whole number"), (["slice", "at=0", "box=a,b,c,d"], "box: a is no number"),
+            (["slice", "at=0", "zone=ring 1 2"], "zone: 'ring' is no shape"), (["slice", "at=0", "zone=disc 1 2"], "zone: 1 2 has 2 numbers"),
+            (["slice", "at=0", "zone=rect 0 0 1 1", "disc=1,2,3"], "disc: it is there twice"),
             (["slice", "at=noon"], "at: not a time: noon"), (["position", "object=278", "at"], "at: position has no such"),
             (["nearest", "count=-1", "at=0", "cell=0,0"], "count: -1 is not from 0"), (["info", "--grid", "none.json"], "none.json could not be read"),
             (["info", "--format", "geojson"], "format: geojson wants degrees"),

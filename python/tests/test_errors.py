@@ -3,18 +3,23 @@
 import inspect
 import json
 import os
+import pickle
 import signal
 import sys
 import tempfile
 import unittest
-from contextlib import contextmanager
+from contextlib import contextmanager, suppress
 from pathlib import Path
 from unittest import mock
 
 import gract
-from gract import errors
+from gract import days, errors, parted, parts, shards
 
 from . import plain
+
+# What it brings with it is to be there before modules are exchanged for a check, which would bring it twice.
+with suppress(ImportError):
+    import distributed  # noqa: F401
 
 STAND_IN = plain.TOP / "python/tests/stand_in.py"
 ABOVE_OTHERS = {errors.GractError, errors.ProgramError, errors.DeviceError}
@@ -43,6 +48,8 @@ class Errors(unittest.TestCase):
         self.assertIn(sentence, str(caught.exception))
         for name, value in fields.items():
             self.assertEqual(getattr(caught.exception, name), value, name)
+        sent = pickle.loads(pickle.dumps(caught.exception))
+        self.assertEqual((type(sent), str(sent), vars(sent).keys()), (exception, str(caught.exception), vars(caught.exception).keys()))
         self.met.add(exception)
 
     @contextmanager
@@ -71,6 +78,10 @@ class Errors(unittest.TestCase):
             ("region", lambda s: s.slice(0, (1, 2, 3, 4))), ("region", lambda s: s.slice(0, "rect 0 0 1 1")),
             ("rect: y2", lambda s: s.slice(0, gract.rect(0, 0, 0, 2**41 + 1))), ("disc: r", lambda s: s.slice(0, gract.disc(0, 0, -1))),
             ("region: r", lambda s: s.interval(region=gract.Disc(0, 0, 2**42 + 1))), ("region: x1", lambda s: s.visits(gract.Rect(0.5, 0, 0, 0))),
+            ("zone", lambda s: gract.zone()), ("zone", lambda s: gract.zone(*[gract.rect(0, 0, 1, 1)] * 17)), ("zone: shape 1", lambda s: gract.zone(7)),
+            ("zone: shape 2: r", lambda s: gract.zone(gract.rect(0, 0, 1, 1), gract.Disc(0, 0, -1))), ("region", lambda s: s.slice(0, gract.Zone("x"))),
+            ("region", lambda s: s.interval(-2**41, -2**41, gract.zone(*[gract.rect(-2**41, -2**41, -2**41, -2**41)] * 16))),
+            ("region: shape 1", lambda s: s.visits(gract.Zone((gract.zone(gract.rect(0, 0, 1, 1)),)))),
             ("box", lambda s: s.slice(0, gract.rect(0, 0, 1, 1), box=(0, 0, 1, 1))), ("box", lambda s: s.slice(0, box=(0, 0, 1))),
             ("box", lambda s: s.slice(0, box="0011")), ("box", lambda s: s.slice(0, box=(0, 1, 1, 0))), ("box", lambda s: s.slice(0, box=(170, 0, -170, 1))),
             ("box: west", lambda s: s.slice(0, box=("a", 0, 1, 1))), ("box: north", lambda s: s.slice(0, box=(0, 0, 1, 91))),
@@ -81,6 +92,9 @@ class Errors(unittest.TestCase):
             ("count", lambda s: s.nearest(-1, 0, (0, 0))), ("count", lambda s: s.nearest("3", 0, (0, 0))),
             ("cell", lambda s: s.nearest(1, 0)), ("place", lambda s: s.nearest(1, 0, (0, 0), place=(0, 0))), ("cell", lambda s: s.nearest(1, 0, (0,))),
             ("x", lambda s: s.nearest(1, 0, (0.5, 0))), ("y", lambda s: s.nearest(1, 0, (0, 2**42))), ("latitude", lambda s: s.nearest(1, 0, place=(0, 99))),
+            ("left", lambda s: s.meet(-1, 0, reach=1)), ("right", lambda s: s.meet(0, "Amy", reach=1)), ("reach", lambda s: s.meet(0, 1)),
+            ("metres", lambda s: s.meet(0, 1, reach=1, metres=1)), ("reach", lambda s: s.meet(0, 1, reach=2**42 + 1)),
+            ("since", lambda s: s.meet(0, 1, "x", reach=1)), ("until", lambda s: s.meet(0, 1, 0, 0.5, reach=1)),
             ("within", lambda s: s.last_known(0, -1)), ("within", lambda s: s.last_known(0, "soon")), ("within", lambda s: s.last_known(0, 1.5)),
             ("gap", lambda s: s.visits(gap=-1)), ("gap", lambda s: s.visits(gap="x")),
             ("asked: question 2", lambda s: list(s.ask(["info", "  "]))), ("asked: question 1", lambda s: list(s.ask(["info\ninfo"]))),
@@ -228,7 +242,7 @@ class Errors(unittest.TestCase):
 
     def test_limits(self):
         far = [
-            ("span", 2**22 + 1, 2**22, [(1, 0, 0, 0), (1, 2**22, 0, 0)], {}), ("extent", 2**20 + 1, 2**20, [(1, 0, 0, 0), (1, 1, 0, 2**20)], {}),
+            ("span", 2**22 + 1, 2**22, [(1, 0, 0, 0), (1, 2**22, 0, 0)], {}), ("extent", 2**24 + 1, 2**24, [(1, 0, 0, 0), (1, 1, 0, 2**24)], {}),
             ("objects", 65537, 65536, [(item, 0, 0, 0) for item in range(65537)], {}),
             ("blocks", 9 * 2**22, 2**24, [(item, item // 9 * (2**22 - 1), 0, 0) for item in range(1, 10)], dict(period=1)),
             ("symbols", 9 * 2**22 - 9, 2**25, [(item, 0, 0, 0) for item in range(9)] + [(1, 2**22 - 1, 0, 0)], dict(period=2**22)),
@@ -316,12 +330,53 @@ class Errors(unittest.TestCase):
     def test_later_questions(self):
         """A line that this package does not know is asked all the same, and its reply is numbers."""
         with self.stand_in(said="1 -2 3\nok 1\n") as index:
-            self.assertEqual(list(index.ask(["meet 1 2 0 9 5"])), [[(1, -2, 3)]])
+            self.assertEqual(list(index.ask(["wander 1 2 0 9 5"])), [[(1, -2, 3)]])
+
+    def test_parts(self):
+        """What is refused of parts; test_parts.py has more."""
+        folder = self.folder / "parts"
+        days.build([(1, 0, 0, 0), (1, 9, 0, 0)], folder, length=9)
+        with self.refused(gract.DistributedMissing, "python3-distributed"), mock.patch.dict(sys.modules, distributed=None):
+            shards.build([(1, 0, 0, 0)], self.folder / "shards", count=1)
+        with days.open(folder) as asked:
+            one, other = (folder / asked.manifest.parts[number].file for number in (0, 1))
+            one.write_bytes(other.read_bytes())
+            with self.refused(gract.PartsError, f"1 of 2 parts cannot be asked: part 0: {one} is an index, and not the one"):
+                asked.path(1)
+        with self.refused(gract.OtherFileError, str(one), file=str(one)):
+            raise parted.Opener(gract.find_program(), 1).ask(str(one), "", [b"info\n"])
+        with self.refused(gract.ManifestError, "no such file", file=str(self.folder / "parts.json")):
+            days.open(self.folder)
+
+    def test_a_lost_worker(self):
+        """A shard of which one worker after the other dies is told."""
+        manifest = parts.Manifest(parts.ByObject(1), 1, 1, 1, {0: parts.Part("part_0.idx", "", 0, 0)})
+        with mock.patch.dict(sys.modules, {"distributed": Scheduler, "distributed.scheduler": Scheduler}):
+            workers = shards.Workers(Scheduler, self.folder, manifest, gract.find_program(), None)
+            with self.refused(gract.WorkerLost, "Is there memory enough?", file=str(self.folder.resolve() / "part_0.idx")):
+                workers.ask({0: [b"info\n"]})
 
     def test_noise(self):
         """A child that says much on standard error goes on being read."""
         with self.stand_in(noise=10**6) as index:
             self.assertEqual(index.path(1, 0, 1), [])
+
+
+class Scheduler:
+    """As much of distributed as `Workers` uses, where workers die."""
+
+    status = "error"
+
+    class KilledWorker(Exception):
+        pass
+
+    @classmethod
+    def submit(cls, *words, **others):
+        return cls
+
+    @classmethod
+    def gather(cls, futures):
+        raise cls.KilledWorker
 
 
 class Pandas:

@@ -138,6 +138,51 @@ class Places(unittest.TestCase):
                     if abs(corner.latitude) <= 90:
                         self.assertLessEqual(ground(place, corner), circle.reach)
 
+    def test_reaches(self):
+        """Any two rows within so many metres on the ground have cells within the reach, and none within it is further than it says."""
+        draw = plain.randomness(9)
+        for grid in self.grids:
+            for _ in range(300):
+                south = draw.uniform(-65, 60)
+                north, metres = south + draw.choice([0, 0.1, 5]), draw.choice([0, 10, 300, 5000, 200000])
+                reach = grid.reach(metres, south, north)
+                here = draw.uniform(85, 95), draw.uniform(south, north)
+                there = moved(here, metres * draw.choice([1 - 1e-9, draw.random()]), draw.uniform(0, 2 * math.pi))
+                (x, y), (u, v) = grid.cell_of(*here), grid.cell_of(*there)
+                self.assertLessEqual((x - u) ** 2 + (y - v) ** 2, reach.cells**2)
+                turn = draw.uniform(0, 2 * math.pi)
+                u, v = x + math.floor(reach.cells * math.cos(turn)), y + math.floor(reach.cells * math.sin(turn))
+                if (x - u) ** 2 + (y - v) ** 2 <= reach.cells**2:
+                    corner = grid.corner(u + (math.cos(turn) > 0), v + (math.sin(turn) > 0))
+                    if abs(corner.latitude) <= 90:
+                        self.assertLessEqual(ground(here, corner), reach.metres)
+
+    def test_meetings(self):
+        """Two that are within so many metres of each other at an instant have met by then, and are no further apart than the note says."""
+        draw = plain.randomness(10)
+        with tempfile.TemporaryDirectory() as folder:
+            for nth in range(30):
+                grid, metres = draw.choice(self.grids[:4]), draw.choice([100, 2000, 50000])
+                begin = draw.uniform(20, 25), draw.uniform(40, 60)
+                reports = [
+                    (item, grid.tick * grid.unit * instant, *moved(begin, draw.uniform(0, 3 * metres), draw.uniform(0, 2 * math.pi)))
+                    for instant in range(8) for item in (1, 2)
+                ]
+                file = Path(folder) / f"{nth}.idx"
+                gract.build(grid.rows(reports), file, grid=grid)
+                near = [instant for instant in range(8) if ground(reports[2 * instant][2:], reports[2 * instant + 1][2:]) <= metres]
+                with gract.open(file) as ships:
+                    found = ships.meet(1, 2, metres=metres)
+                    note, = found.notes
+                self.assertTrue(not near or (found and found[0].instant <= near[0]))
+                for row in found:
+                    apart = ground(reports[2 * row.instant][2:], reports[2 * row.instant + 1][2:])
+                    self.assertLess(apart, int(note.split()[-3]))
+        with gract.open(plain.STORMS_INDEX, grid=gract.Grid.degrees(10, cell=1, tick=6, unit=3600)) as storms:
+            self.assertEqual(storms.meet(9999, 1, metres=5), [])
+            with self.assertRaises(gract.ArgumentError):
+                storms.meet(1, 2, metres=6000000)
+
     def test_what_an_answer_says(self):
         grid = gract.Grid.degrees(10, cell=1, tick=6, unit=3600, names=plain.NAMES)
         with gract.open(plain.STORMS_INDEX, grid=grid) as storms:

@@ -33,10 +33,12 @@ class Install(unittest.TestCase):
             self.assertEqual((version, cell), (gract.__version__, ["Cell(x=-896, y=293)\n"]))
             there = {file.name for file in Path(file).parent.glob("*.py")}
             self.assertEqual(there, {file.name for file in (plain.TOP / "python/gract").glob("*.py")})
-            self.assertEqual(self.run_in(folder, str(python), "-m", "pip", "check", "--disable-pip-version-check").count("gract"), 0)
+            # It tells of all packages of the system, of which others may lack something.
+            checked = self.run_in(folder, str(python), "-m", "pip", "check", "--disable-pip-version-check", statuses=(0, 1))
+            self.assertNotIn("gract", checked)
 
-    def run_in(self, folder, *words, **others):
+    def run_in(self, folder, *words, statuses=(0,), **others):
         environment = {name: value for name, value in os.environ.items() if name != "PYTHONPATH"}
         done = subprocess.run(words, cwd=folder, stdout=subprocess.PIPE, stderr=subprocess.PIPE, text=True, env={**environment, **others})
-        self.assertEqual(done.returncode, 0, done.stdout + done.stderr)
+        self.assertIn(done.returncode, statuses, done.stdout + done.stderr)
         return done.stdout
