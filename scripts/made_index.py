@@ -41,15 +41,32 @@ def bits(values):
     return bytes(data)
 
 
-def tree_of(codes, height):
+def packed(values, width):
+    """Numbers of so many bits each, lowest first, one after the other."""
+    return bits([value >> place & 1 for value in values for place in range(width)])
+
+
+def widths_of(version, height):
+    """How many digits of a Morton number each level of a tree takes, from the top."""
+    wide = height // 4 if version == 2 else 0
+    return [2] * wide + [1] * (height - 2 * wide)
+
+
+def tree_of(codes, widths):
     """The bits of a k2-tree, of the Morton numbers of its cells."""
-    found, squares = [], [0] if codes else []
-    for level in range(height - 1, -1, -1):
-        below = sorted({code >> 2 * level for code in codes})
+    found, squares, left = [], [0] if codes else [], sum(widths)
+    for width in widths:
+        left -= width
+        below = sorted({code >> 2 * left for code in codes})
         for square in squares:
-            found += [4 * square + digit in below for digit in range(4)]
+            found += [4**width * square + digit in below for digit in range(4**width)]
         squares = below
     return found
+
+
+def log_of(version, values, rules, symbols):
+    """The log section."""
+    return numbers(symbols) if version == 1 else packed(symbols, max(1, (values + rules - 1).bit_length()))
 
 
 class Grammar:
@@ -97,7 +114,7 @@ class Grammar:
         return symbols
 
 
-def period_sections(draw, grammar, b, instants, objects, height):
+def period_sections(draw, grammar, b, instants, objects, version, height):
     """The sections of a period, and the logs of its blocks."""
     side = 2**height
     present = [draw.random() < 0.8 for _ in range(objects)]
@@ -109,37 +126,39 @@ def period_sections(draw, grammar, b, instants, objects, height):
     codes = [morton(*cell, height) for cell in cells]
     order = sorted(range(count), key=lambda place: (codes[place], place))
     lasts = [nth + 1 == count or codes[order[nth + 1]] != codes[place] for nth, place in enumerate(order)]
-    tree = tree_of(codes, height)
+    tree = tree_of(codes, widths_of(version, height))
     return [(f"presence {b}", bits(present)), (f"offsets {b}", numbers(offsets)), (f"treelen {b}", numbers([len(tree)])),
             (f"tree {b}", bits(tree)), (f"lasts {b}", bits(lasts)), (f"perm {b}", numbers(order)),
             (f"lengths {b}", numbers(map(len, logs)))], logs
 
 
-def header_of(period, height, objects, span, alphabet, rules, symbols, first, base, cell, tick):
-    return [("magic", b"GRACT001"),
+def header_of(version, period, height, objects, span, alphabet, rules, symbols, first, base, cell, tick):
+    return [("magic", b"GRACT00%d" % version),
             ("counts", numbers([period, height, objects, span, alphabet, rules, symbols])),
             ("first", numbers([first, *base, cell, tick], 8))]
 
 
 def index_of(draw):
     """An index file over a grammar made at random."""
-    height = draw.choice([1, 2, 3, 5, 8, 20])
+    version = draw.choice([1, 2])
+    height = draw.choice([1, 2, 3, 5, 8, 20, 24 if version == 2 else 4])
     period = draw.choice([1, 2, 3, 5, 8, 33, 33, 300, 300, 5000 if draw.random() < 0.2 else 8])
     objects, periods = draw.choice([1, 2, 3, 9]), draw.choice([1, 1, 2, 4])
     span = max(1, period * periods - draw.choice([0, 0, 1, period // 2]))
     grammar = Grammar(draw, period, height)
     sections, symbols = [], []
     for b in range(-(-span // period)):
-        found, logs = period_sections(draw, grammar, b, min(period, span - b * period), objects, height)
+        found, logs = period_sections(draw, grammar, b, min(period, span - b * period), objects, version, height)
         sections += found
         symbols += [symbol for log in logs for symbol in log]
     first = draw.choice([0, -7, 1000, -2**40, 2**40 - span + 1])
     base = [draw.choice([0, -3, 2**40, -2**40]) for _ in range(2)]
-    header = header_of(period, height, objects, span, len(grammar.values), len(grammar.rules), len(symbols), first, base,
+    header = header_of(version, period, height, objects, span, len(grammar.values), len(grammar.rules), len(symbols), first, base,
                        draw.choice([1, 100, 2**30]), draw.choice([1, 60, 2**30]))
     names = sorted(draw.sample(range(draw.choice([20, 2**32])), objects))
     return [*header, ("objects", numbers(names)), ("alphabet", numbers(grammar.values, 8)),
-            ("rules", numbers(part for rule in grammar.rules for part in rule)), *sections, ("log", numbers(symbols))]
+            ("rules", numbers(part for rule in grammar.rules for part in rule)), *sections,
+            ("log", log_of(version, len(grammar.values), len(grammar.rules), symbols))]
 
 
 def sections_of(data, index):
@@ -152,7 +171,7 @@ def sections_of(data, index):
                   (f"tree {b}", -(-len(part["tree"]) // 8)), (f"lasts {b}", -(-count // 8)), (f"perm {b}", 4 * count),
                   (f"lengths {b}", 4 * count)]
     sections, at = [], 0
-    for name, size in [*sizes, ("log", 4 * len(index.symbols))]:
+    for name, size in [*sizes, ("log", len(data) - sum(size for _, size in sizes))]:
         sections.append((name, data[at:at + size]))
         at += size
     return sections

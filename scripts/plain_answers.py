@@ -12,7 +12,8 @@ sys.set_int_max_str_digits(0)
 NUMERAL = re.compile(rb"[ \t]*([+-]?[0-9]+)[ \t]*")
 OBJECT, WIDE, RADIUS = (0, 2**32 - 1), (-2**41, 2**41), (0, 2**42)
 SLOT, SETTING, PERIOD = (0, 15), (1, 2**30), (1, 2**22)
-REGIONS = {b"rect": [WIDE] * 4, b"disc": [WIDE, WIDE, RADIUS]}
+SHAPES = {b"rect": [WIDE] * 4, b"disc": [WIDE, WIDE, RADIUS]}
+MANY = (1, 16)
 
 # The words after each line's first one, by their ranges; of slice and interval those before the region.
 LINES = {
@@ -21,6 +22,7 @@ LINES = {
     b"slice": [WIDE],
     b"interval": [WIDE, WIDE],
     b"nearest": [OBJECT, WIDE, WIDE, WIDE],
+    b"meet": [OBJECT, OBJECT, WIDE, WIDE, RADIUS],
     b"info": [],
     b"hold": [SLOT, OBJECT, WIDE, WIDE],
     b"more": [SLOT, OBJECT],
@@ -104,7 +106,7 @@ def quantities(rows, period):
     symbols = sum(min((b + 1) * period, span) - 1 - at for (_, b), at in firsts.items())
     yield "objects", len(objects), 2**16
     yield "span", span, 2**22
-    yield "extent", extent, 2**20
+    yield "extent", extent, 2**24
     yield "blocks", len(objects) * -(-span // period), 2**24
     yield "symbols", symbols, 2**25
 
@@ -135,50 +137,70 @@ class Bad(Exception):
     """The cause of a bad line."""
 
 
+def number_at(words, place, limits):
+    number = numeral(words[place])
+    if number is None:
+        raise Bad(f"number {place + 1}")
+    if not limits[0] <= number <= limits[1]:
+        raise Bad(f"range {place + 1}")
+    return number
+
+
+def region_of(words, place):
+    """A region that begins at a place of a line: its shapes, each the place of its word, and the ranges of its words, which is None where no
+    number stands."""
+    if len(words) <= place:
+        raise Bad("count")
+    ranges, shapes, many = [], [], 1
+    if words[place] == b"any":
+        if len(words) <= place + 1:
+            raise Bad("count")
+        ranges, many = [None, MANY], number_at(words, place + 1, MANY)
+    for _ in range(many):
+        at = place + len(ranges)
+        if len(words) <= at:
+            raise Bad("count")
+        if words[at] not in SHAPES:
+            raise Bad("word")
+        shapes.append(at)
+        ranges += [None, *SHAPES[words[at]]]
+        if len(words) < place + len(ranges):
+            raise Bad("count")
+    return shapes, ranges
+
+
 def parsed(words):
-    """A line's first word, its region's word if it has one, and its numbers."""
+    """A line's first word, its numbers before a region, and the region's shapes, each its word and its numbers."""
     kind = words[0]
     if kind not in LINES:
         raise Bad("word")
-    ranges, shape = LINES[kind], None
+    ranges, shapes = LINES[kind], []
     if kind in (b"slice", b"interval"):
-        place = 1 + len(ranges)
-        if len(words) <= place:
-            raise Bad("count")
-        shape = words[place]
-        if shape not in REGIONS:
-            raise Bad("word")
-        ranges = ranges + [None] + REGIONS[shape]
+        shapes, region = region_of(words, 1 + len(ranges))
+        ranges = ranges + region
     if len(words) != 1 + len(ranges):
         raise Bad("count")
-    numbers = []
-    for place, (word, limits) in enumerate(zip(words[1:], ranges), 2):
-        if limits is None:
-            continue
-        number = numeral(word)
-        if number is None:
-            raise Bad(f"number {place}")
-        if not limits[0] <= number <= limits[1]:
-            raise Bad(f"range {place}")
-        numbers.append(number)
-    return kind, shape, numbers
+    numbers = [limits and number_at(words, place, limits) for place, limits in enumerate(ranges, 1)]
+    found = [(words[at], numbers[at:at + len(SHAPES[words[at]])]) for at in shapes]
+    return kind, numbers[:len(LINES[kind])], found
 
 
-def is_in(shape, region, x, y):
-    if shape == b"rect":
-        return region[0] <= x <= region[2] and region[1] <= y <= region[3]
-    return (x - region[0])**2 + (y - region[1])**2 <= region[2]**2
+def is_in(shapes, x, y):
+    return any(
+        numbers[0] <= x <= numbers[2] and numbers[1] <= y <= numbers[3] if shape == b"rect"
+        else (x - numbers[0])**2 + (y - numbers[1])**2 <= numbers[2]**2
+        for shape, numbers in shapes)
 
 
 def path_of(rows, number, begin, end):
     return [(t, x, y) for o, t, x, y in rows if o == number and begin <= t <= end]
 
 
-def hits_of(rows, shape, begin, end, region):
+def hits_of(rows, begin, end, shapes):
     """Of each object the first row in the window and the region."""
     found = {}
     for o, t, x, y in rows:
-        if begin <= t <= end and is_in(shape, region, x, y):
+        if begin <= t <= end and is_in(shapes, x, y):
             found.setdefault(o, (o, t, x, y))
     return list(found.values())
 
@@ -188,23 +210,32 @@ def nears_of(rows, count, instant, x, y):
     return sorted(there, key=lambda near: (near[3], near[0]))[:count]
 
 
+def meeting_of(rows, left, right, begin, end, reach):
+    """The first instant in the window at which both have a row and are within reach, with both cells; or nothing."""
+    others = {t: (u, v) for t, u, v in path_of(rows, right, begin, end)}
+    met = [(t, x, y, *others[t]) for t, x, y in path_of(rows, left, begin, end) if t in others]
+    return [(t, x, y, u, v) for t, x, y, u, v in met if (x - u)**2 + (y - v)**2 <= reach**2][:1]
+
+
 def told(answers):
     return [*(" ".join(map(str, answer)) for answer in answers), f"ok {len(answers)}"]
 
 
 def reply(chart, desk, words):
     """The lines of the reply to a line's words; the desk has what is left of each held cursor."""
-    kind, shape, numbers = parsed(words)
+    kind, numbers, shapes = parsed(words)
     if kind == b"position":
         return told([answer[1:] for answer in path_of(chart.rows, numbers[0], numbers[1], numbers[1])])
     if kind == b"path":
         return told(path_of(chart.rows, *numbers))
     if kind == b"slice":
-        return told([(o, x, y) for o, _, x, y in hits_of(chart.rows, shape, numbers[0], numbers[0], numbers[1:])])
+        return told([(o, x, y) for o, _, x, y in hits_of(chart.rows, numbers[0], numbers[0], shapes)])
     if kind == b"interval":
-        return told(hits_of(chart.rows, shape, numbers[0], numbers[1], numbers[2:]))
+        return told(hits_of(chart.rows, *numbers, shapes))
     if kind == b"nearest":
         return told(nears_of(chart.rows, *numbers))
+    if kind == b"meet":
+        return told(meeting_of(chart.rows, *numbers))
     if kind == b"info":
         return [*(f"{name} {'*' if value is None else value}" for name, value in chart.facts), "ok 11"]
     slot = numbers[0]
