@@ -1,5 +1,5 @@
 -- What tests keep of a list.
-use Rattle.std.proofs.Common.{◌≡◌, ℕ, ◌*◌, ◌≤◌, Bool, true, List, [], ◌∷◌, ◌++◌, length, filter, ◌≢◌, ◌+◌, take, false, zero-add}
+use Rattle.std.proofs.Common.{◌≡◌, ℕ, ◌*◌, ◌≤◌, Bool, true, List, [], ◌∷◌, ◌++◌, length, filter, ◌≢◌, ◌+◌, false, zero-add}
 use Rattle.std.proofs.Common.{refl, sym, ap, ◌∙◌, arith, inl, inr, All}
 use Rattle.std.proofs.lemmas.Bool.{cases_Bool}
 use Rattle.std.proofs.lemmas.Bool.Decides.{nat_tests}
@@ -8,7 +8,6 @@ use Rattle.std.specs.Prelude.{◌&&◌, ◌==◌, if◌then◌else◌, reverse, 
 use Rattle.std.specs.List.{flat_map, sum_by}
 use Rattle.std.proofs.lemmas.List.Elements.{All-head, All-tail, filter-append}
 use Rattle.std.proofs.lemmas.List.Sums.{sum_by-cons}
-use borrow.Rule.Slice.PartMut.{mid_of, post_of, put_mid, put_same}
 
 module _ {X : Type 0} where
   -- a test that is true on all keeps all
@@ -102,12 +101,3 @@ module _ {X : Type 0} (passes : X → Bool) (key : X → ℕ) (own : ℕ) (one_k
   pub filter-other_key : (n : ℕ) → n ≢ own → (xs : List X) → filter passes (filter (λ x. key x == n) xs) ≡ []
   filter-other_key n differ [] = refl
   filter-other_key n differ (x ∷ xs) = grind (arith, nat_tests, one_key x, filter-other_key n differ xs)
-
--- what passes a test where a part was put back, of which as much passes
-pub filter-put_mid : {X : Type 0} (p : X → Bool) (a k : ℕ) (xs ys : List X) → filter p ys ≡ filter p (mid_of a k xs) →
-    filter p (put_mid a k xs ys) ≡ filter p xs
-filter-put_mid p a k xs ys same =
-    filter-append p (take a xs) (ys ++ post_of a k xs)
-    ∙ ap (λ all. filter p (take a xs) ++ all)
-    (filter-append p ys (post_of a k xs) ∙ ap (λ all. all ++ filter p (post_of a k xs)) same ∙ sym (filter-append p (mid_of a k xs) (post_of a k xs)))
-    ∙ sym (filter-append p (take a xs) (mid_of a k xs ++ post_of a k xs)) ∙ ap (filter p) (put_same a k xs)

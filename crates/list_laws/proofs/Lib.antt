@@ -20,6 +20,9 @@ pub mod OptionLemmas
 pub mod GreatestLemmas
 pub mod IncreasingLemmas
 pub mod AscendingLemmas
+pub mod ApartLemmas
+pub mod PartLemmas
+pub mod SearchLemmas
 pub mod NumberLemmas
 pub mod WeightLemmas
 pub mod StableLemmas

@@ -39,10 +39,3 @@ slice_get-drop (x ∷ xs) (suc k) = slice_get-drop xs k
 -- all of what is left
 pub take-rest : {X : Type 0} (n : ℕ) (xs : List X) → take (length xs - n) (drop n xs) ≡ drop n xs
 take-rest n xs = rw (← length-drop n xs) (take-length (drop n xs))
-
--- the first of those that are wanted
-pub take-next : {X : Type 0} (count i : ℕ) (x : X) (left rest : List X) → i < count → left ≡ x ∷ rest →
-    take (count - i) left ≡ x ∷ take (count - (i + 1)) rest
-take-next count i x left rest below cut =
-    let more : count - i ≡ suc (count - (i + 1)) = omega (arith, below) in
-    rw (more, cut) refl
