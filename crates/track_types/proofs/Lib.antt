@@ -6,6 +6,7 @@ pub mod QuantityLemmas
 pub mod RowLemmas
 pub mod RegionLemmas
 pub mod BoxLemmas
+pub mod NearLemmas
 pub mod WideningLemmas
 pub mod AskedLemmas
 pub mod LazyLemmas
