@@ -2,7 +2,7 @@
 use Rattle.std.proofs.Common.{◌≡◌, ℕ, zero, suc, ◌+◌, ◌-◌, ◌*◌, ◌/◌, ◌<◌, ◌≤◌, Bool, List, ◌∷◌, Some, length, get_or, slice_get, sym, ap, ◌∙◌, arith}
 use Rattle.std.proofs.lemmas.List.FromFn.{length-map-range_with_len, get_or-map-range_with_len}
 use Rattle.std.proofs.lemmas.Option.{get_or_from_slice_get, slice_get_within}
-use Rattle.packed_bits.specs.Bits.{ones_of, window_of}
+use Rattle.packed_bits.specs.Bits.{window_of}
 use Rattle.packed_bits.proofs.WordLemmas.{length-packed, get_or-packed}
 use Rattle.bit_rank.specs.Bits.{rank_of}
 use Rattle.bit_rank.specs.Directory.{counts_of, HasOne, IsIndexed}
@@ -48,11 +48,7 @@ module _ (bits : List Bool) (words : List ℕ) (entries : Entries) (len ones : �
       sym (get_or_from_slice_get (0 ∷ entries.counts) s count 0 read)
       ∙ ap (λ cs. get_or cs s 0) indexed.directory.counted ∙ get_or-counts_of bits s 0 within
 
-  -- a one that there is has a sample at or before it
-  pub sample_within : (j : ℕ) → j ≤ ones_of bits → (j - 1) / SUPERBLOCK ≤ length entries.samples
-  sample_within j enough = omega (arith, indexed.directory.sampled.many, indexed.directory.total)
-
-  -- whose superblock does not begin after it
+  -- the superblock of a sample of a one does not begin after it
   pub sample_before : (j number low : ℕ) → 1 ≤ j → number ≡ (j - 1) / SUPERBLOCK
       → slice_get (0 ∷ entries.samples) number ≡ Some low → rank_of bits (SUPERBLOCK * low) < j
   sample_before j zero low from_one is read =
