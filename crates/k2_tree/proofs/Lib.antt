@@ -10,6 +10,7 @@ pub mod WidthLemmas
 pub mod GroupLemmas
 pub mod SquareLemmas
 pub mod AreaLemmas
+pub mod InsideLemmas
 pub mod PruningLemmas
 pub mod KeptLemmas
 pub mod FewLemmas

@@ -1,9 +1,7 @@
 use Rattle.std.proofs.Common.{◌≡◌, ℕ, ◌+◌, ◌-◌, ◌*◌, ◌/◌, ◌%◌, ◌^◌, refl, ap, ◌∙◌, arith}
-use Rattle.std.proofs.lemmas.Int.{ints}
-use Rattle.track_types.specs.declared.cell_box.CellBox.{CellBox}
 use Rattle.k2_tree.specs.Squares.{node}
-use Rattle.k2_tree.specs.Areas.{IsBoxInside}
 use Rattle.k2_tree.specs.TreeSquares.{child_at, node_of}
+use Rattle.k2_tree.proofs.InsideLemmas.{inside-inside}
 use Rattle.k2_tree.proofs.square.Square.child.Goals as goal
 
 -- two quarters are a sixteenth
@@ -21,13 +19,5 @@ returns-clause-node c =
     c.quarter-3.ensures.node ∙ ap (λ n. child_at 1 n (c.args.digit % 4)) c.quarter-2.ensures.node
     ∙ twice s.level s.prefix c.args.digit c.args.width two
 
-inside_twice : (a b c : CellBox) → IsBoxInside a b → IsBoxInside b c → IsBoxInside a c
-inside_twice a b c ab bc = record {
-  left = omega (arith, ints, ab.left, bc.left);
-  right = omega (arith, ints, ab.right, bc.right);
-  below = omega (arith, ints, ab.below, bc.below);
-  above = omega (arith, ints, ab.above, bc.above);
-}
-
 pub returns-clause-inside : goal.returns-clause-inside
-returns-clause-inside c = inside_twice _ _ _ c.quarter-3.ensures.inside c.quarter-2.ensures.inside
+returns-clause-inside c = inside-inside _ _ _ c.quarter-3.ensures.inside c.quarter-2.ensures.inside
