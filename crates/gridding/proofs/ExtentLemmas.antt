@@ -1,10 +1,10 @@
 -- The least and the greatest of numbers that are near.
-use Rattle.std.proofs.Common.{◌≡◌, ◌∷◌, ◌++◌, ◌<◌, ◌^◌, ◌-◌, Bool, true, false, cond, List, [], All, length, map, refl, ap, ◌∙◌, arith, w64, to_z, of_z}
+use Rattle.std.proofs.Common.{◌≡◌, ◌∷◌, ◌++◌, ◌<◌, ◌^◌, ◌-◌, Bool, true, false, cond, List, [], All, length, map, refl, ap, ◌∙◌, arith}
 use Rattle.std.specs.Prelude.{ℤ, fold, pos, negsuc}
 use Rattle.std.specs.Int.{int_max, int_min}
 use Rattle.std.specs.Int.Signed.{lt_z}
 use Rattle.std.specs.List.{AllByRecursion}
-use Rattle.std.proofs.lemmas.Int.{fits_signed_from_abs, ints, to_z-of_z}
+use Rattle.std.proofs.lemmas.Int.{ints}
 use Rattle.std.proofs.lemmas.List.{map-append}
 use Rattle.std.proofs.lemmas.List.Elements.{recursion_from_All}
 use Rattle.std.proofs.lemmas.List.Sums.{fold-append}
@@ -22,10 +22,6 @@ IsNear-int_min x y near_x near_y = near_either (lt_z y x) y x near_y near_x
 
 IsNear-int_max : (x y : ℤ) → IsNear x → IsNear y → IsNear (int_max x y)
 IsNear-int_max x y near_x near_y = near_either (lt_z y x) x y near_x near_y
-
--- a number that is near fits a word
-pub near_word : (z : ℤ) → IsNear z → to_z w64 (of_z w64 z) ≡ z
-near_word z near = to_z-of_z w64 z (fits_signed_from_abs w64 z (omega (arith, ints, near.low, near.high)))
 
 -- one number more
 pub extent_over-more : (number : Row → ℤ) (rows : List Row) (row : Row) →

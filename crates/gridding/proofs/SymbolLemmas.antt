@@ -1,5 +1,5 @@
 -- Anchors of rows in order: a row is its block's anchor where the row before it is of another block.
-use Rattle.std.proofs.Common.{◌≡◌, ℕ, ℤ, zero, suc, ◌+◌, ◌≤◌, ◌<◌, Bool, true, false, List, [], ◌∷◌, ◌++◌, Ordering, Option, Some, None, append_assoc, drop, eq-eqb, get_or, length, refl, sym, ◌∙◌, ap, arith, inl, inr, ◌⊎◌}
+use Rattle.std.proofs.Common.{◌≡◌, ℕ, ℤ, suc, ◌+◌, ◌≤◌, ◌<◌, Bool, true, false, List, [], ◌∷◌, ◌++◌, Ordering, Option, Some, None, append_assoc, drop, eq-eqb, get_or, length, refl, sym, ◌∙◌, ap, arith, inl, inr, ◌⊎◌}
 use Rattle.std.specs.Prelude.{if◌then◌else◌, ◌==◌, ◌&&◌, ◌||◌, not, filter, sum_by, option_map, All, ◌*◌, ◌/◌, ◌<ℤ◌, ◌≤ℤ◌, ◌+ℤ◌, ◌-ℤ◌, nat_lt, pos, unsigned_abs}
 use Rattle.std.specs.Int.Signed.{lt_z}
 use Rattle.std.specs.List.{AllByRecursion, list_any, prefix_len}
@@ -84,13 +84,6 @@ ordered_alike a b row same (inl below) (inl above) = absurd (omega arith)
 ordered_alike a b row same (inl below) (inr (alike, above)) = absurd (omega arith)
 ordered_alike a b row same (inr (also, below)) (inl above) = absurd (omega arith)
 ordered_alike a b row same (inr (also, below)) (inr (alike, above)) = (alike, below, above)
-
--- rows in order stay so without the first ones
-pub IsAscending-drop : (n : ℕ) (rows : List Row) → IsAscending rows → IsAscending (drop n rows)
-unfolding IsStrictlySortedBy
-IsAscending-drop zero rows up = up
-IsAscending-drop (suc n) [] up = tt
-IsAscending-drop (suc n) (row ∷ rest) up = IsAscending-drop n rest up.1
 
 module _ (first : ℤ) (period : ℕ) where
   -- whether another row of a row's block is earlier, so that the row is not its anchor

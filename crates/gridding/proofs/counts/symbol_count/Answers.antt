@@ -3,11 +3,13 @@ use Rattle.std.specs.List.{prefix_len}
 use Rattle.std.proofs.lemmas.Int.{to_z-of_z}
 use Rattle.std.proofs.lemmas.List.{length-drop}
 use Rattle.std.proofs.lemmas.List.Elements.{All-drop}
+use Rattle.list_laws.proofs.PartLemmas.{IsStrictlySortedBy-drop}
 use Rattle.track_types.specs.Quantities.{elapsed, log_length}
 use Rattle.track_types.specs.declared.row.Row.{Row}
+use Rattle.track_types.specs.Row.{row_order}
 use Rattle.gridding.specs.Block.{IsInSpan, block_of, is_of_block, period_end}
 use Rattle.gridding.proofs.ObjectCountLemmas.{no_row}
-use Rattle.gridding.proofs.SymbolLemmas.{IsAscending-drop, is_block, terminals-ascending, terminals-block, terminals-none}
+use Rattle.gridding.proofs.SymbolLemmas.{is_block, terminals-ascending, terminals-block, terminals-none}
 use Rattle.gridding.proofs.counts.symbol_count.Goals as goal
 
 pub loop-left-preserved : goal.loop-left-preserved
@@ -38,7 +40,7 @@ loop-left-preserved c =
     rw (same_first, rest) record {
       so_far = omega (arith, so_far, log, step.0);
       few = omega (arith, fewer, step.1, c.log_length-count.ensures.within);
-      ascending = IsAscending-drop _ left c.loop-left.invariant.ascending;
+      ascending = IsStrictlySortedBy-drop row_order _ left c.loop-left.invariant.ascending;
       in_span = All-drop (IsInSpan first span) _ left inside;
     }
 
