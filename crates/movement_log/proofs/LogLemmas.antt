@@ -49,10 +49,6 @@ pub record IsLog (rows : List Row) (anchor : Row) (len last : ℕ) (log : List �
   pub short : length log ≤ len
   pub values : log ≡ map (value_after rows anchor) (range_with_len 1 (length log))
 
-pub log_first : (rows : List Row) (len at : ℕ) → at < length rows → IsLog rows (row_at rows at) len at []
-log_first rows len at within =
-    record { within = within; same = refl; at = omega (arith, ints); short = omega arith; values = refl }
-
 in_log_parts : (len : ℕ) (anchor row : Row) → is_in_log len anchor row ≡ true →
     (row.object ≡ anchor.object) × (unsigned_abs (row.instant -ℤ anchor.instant) ≤ len)
 in_log_parts len anchor row is = (grind (arith, nat_tests), grind (arith, nat_tests))

@@ -68,11 +68,6 @@ unfolding distinct
 object_place-first [] up = refl
 object_place-first (row ∷ rest) up = first_place row rest up
 
--- a row of the object of the row before has its place
-pub object_place-same : (rows : List Row) (i j : ℕ) → (row_at rows i).object ≡ (row_at rows j).object →
-    object_place rows i ≡ object_place rows j
-object_place-same rows i j same = ap (λ object. position_or_len (λ o. o == object) (objects_of rows)) same
-
 -- a row of another object than the row before has the next place
 pub object_place-new : (rows : List Row) → IsAscending rows → (i : ℕ) → suc i < length rows →
     (row_at rows i).object < (row_at rows (suc i)).object → object_place rows (suc i) ≡ suc (object_place rows i)
