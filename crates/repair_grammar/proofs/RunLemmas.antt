@@ -6,10 +6,6 @@ use Rattle.repair_grammar.specs.Kept.{times_of}
 use Rattle.repair_grammar.specs.Runs.{begins_odd, ends_odd, left_gone, right_gone, left_come}
 use Rattle.repair_grammar.proofs.PassLemmas.{met-other, left_of_pair, right_of_pair}
 
--- the pair of two alike symbols
-pub twin_pair : (u x : ℕ) → is_pair (u, u) x x ≡ (x == u)
-twin_pair u x = elim (cases_Bool (x == u)) [ inl is ↦ rw is refl | inr apart ↦ rw apart refl ]
-
 -- a pass at two symbols
 met-is : (pair : ℕ × ℕ) (x y : ℕ) (rest : List ℕ) → is_pair pair x y ≡ true →
     met pair (x ∷ y ∷ rest) ≡ suc (met pair rest)
