@@ -34,10 +34,6 @@ Takes-text {bytes} {text} {rest} same is taken = record {
   fits = taken.fits;
 }
 
--- nothing was taken
-pub Takes-none : {bytes : List ℕ} → IsBytes bytes → Takes bytes [] bytes
-Takes-none fits = record { parts = refl; fits = fits }
-
 -- after a step that did not fail the next one is judged
 pub then_ok : {A B : Type 0} {P : A → Type 0} (Q : B → Type 0) (f : A → Result B Flaw) (read : Result A Flaw)
     → IfOk read P → ((a : A) → P a → IfOk (f a) Q) → IfOk (read >>= f) Q

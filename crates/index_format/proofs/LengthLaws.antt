@@ -93,14 +93,3 @@ length-bytes_of_parts parts = simp (
   length-rules,
   length-log_bytes,
 ) (omega arith)
-
--- no more than with four bytes for each symbol
-pub length-bytes_of_parts-most : (parts : Parts)
-    → length (bytes_of_parts parts)
-    ≤ 76 + 4 * length parts.objects + 8 * length parts.alphabet + 8 * length parts.rules
-    + length (flat_map period_bytes parts.periods) + 4 * length parts.symbols
-length-bytes_of_parts-most parts = omega (
-  arith,
-  length-bytes_of_parts parts,
-  log_length-short parts.frame.version (length parts.alphabet + length parts.rules) (length parts.symbols),
-)

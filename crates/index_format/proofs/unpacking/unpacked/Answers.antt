@@ -1,4 +1,4 @@
-use Rattle.std.proofs.Common.{◌+◌, ◌*◌, ◌%◌, ◌++◌, ◌∷◌, [], ap, ◌∙◌, arith}
+use Rattle.std.proofs.Common.{◌*◌, ◌%◌, ◌++◌, ◌∷◌, [], ap, ◌∙◌, arith}
 use Rattle.std.proofs.lemmas.Nat.{one_shl}
 use Rattle.index_format.proofs.PackingLemmas.{IsReady, unpacking-more, unpacking-starts, window_fits, word_above}
 use Rattle.index_format.proofs.unpacking.unpacked.Goals as goal
