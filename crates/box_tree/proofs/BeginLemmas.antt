@@ -1,16 +1,14 @@
 -- A walk at its beginning.
-use Rattle.std.proofs.Common.{◌≡◌, ℕ, ◌+◌, ◌-◌, ◌*◌, ◌^◌, ◌<◌, ◌≤◌, true, false, List, [], ◌∷◌}
-use Rattle.std.proofs.Common.{length, filter, refl, sym, ap, ◌∙◌, arith, All, Option, None, Some, ◌⊎◌, inl, inr}
+use Rattle.std.proofs.Common.{◌≡◌, ℕ, ◌+◌, ◌*◌, ◌<◌, ◌≤◌, true, false, ◌∷◌, []}
+use Rattle.std.proofs.Common.{length, filter, refl, sym, ap, ◌∙◌, arith, Option, None, Some, ◌⊎◌, inl, inr}
 use Rattle.std.specs.Prelude.{nat_lt, IfNone, IfSome}
 use Rattle.std.specs.List.{range_with_len, sum_by}
 use Rattle.std.proofs.lemmas.Bool.Decides.{nat_tests}
 use Rattle.std.proofs.lemmas.List.{append-nil}
-use Rattle.std.proofs.lemmas.List.Elements.{All-head, All-tail}
 use Rattle.std.proofs.lemmas.List.Sums.{sum_by-cons}
 use Rattle.list_laws.proofs.FilterLemmas.{sum_by_if}
-use Rattle.k2_tree.specs.Pruning.{place_among}
 use Rattle.k2_tree.specs.Squares.{node}
-use Rattle.box_tree.specs.Levels.{digits, first_in, run}
+use Rattle.box_tree.specs.Levels.{digits, run}
 use Rattle.box_tree.specs.Places.{ArePassed, ArePlaces, Places, all_places, cell_passes, place_worth, square_worth}
 use Rattle.box_tree.specs.Places.{passes, square_count}
 use Rattle.box_tree.specs.Tests.{Tests}
@@ -20,29 +18,7 @@ use Rattle.box_tree.specs.Cost.{place_reads, square_reads}
 use Rattle.track_types.specs.declared.limit.TheConstants.{MAX_HEIGHT}
 use Rattle.box_tree.specs.declared.node_ref.NodeRef.{NodeRef}
 use Rattle.box_tree.proofs.NodeLemmas.{skipped-square, squares_in-own}
-
--- all are below a number that all are below
-pub place_among-all : (codes : List ℕ) (b : ℕ) → All (λ code. code < b) codes → place_among codes b ≡ length codes
-place_among-all [] b all = refl
-place_among-all (x ∷ xs) b all =
-    let P : ℕ → Type 0 = λ code. code < b in
-    let here : x < b = All-head P x xs all in
-    grind (arith, nat_tests, place_among-all xs b (All-tail P x xs all))
-
--- and none is below 0
-pub place_among-zero : (codes : List ℕ) → place_among codes 0 ≡ 0
-place_among-zero [] = refl
-place_among-zero (x ∷ xs) = grind (arith, nat_tests, place_among-zero xs)
-
--- the whole grid has all places
-pub run-whole : (codes : List ℕ) (n : ℕ) → All (λ code. code < 4 ^ n) codes
-    → run codes n 0 ≡ range_with_len 0 (length codes)
-unfolding run first_in
-run-whole codes n inside =
-    let none : 0 * 4 ^ n ≡ 0 = omega arith in
-    let all : (0 + 1) * 4 ^ n ≡ 4 ^ n = omega arith in
-    let long : length codes - 0 ≡ length codes = omega arith in
-    rw (none, all, place_among-zero codes, place_among-all codes (4 ^ n) inside, long) refl
+use Rattle.box_tree.proofs.PlacesLemmas.{run-whole}
 
 -- a walk at its beginning: all places that pass are left, for so many reads
 pub record IsBegun (tests : Tests) (places : Places) (walk : WalkView) : Type 0 where

@@ -12,9 +12,9 @@ use Rattle.box_tree.specs.Boxes.{IsBase}
 use Rattle.track_types.specs.declared.cell.Cell.{Cell}
 use Rattle.box_tree.specs.Building.{BeginsWith, IsMade, IsTask, StandsFor}
 use Rattle.box_tree.specs.declared.task.Task.{Task}
-use Rattle.box_tree.proofs.BeginLemmas.{place_among-all, place_among-zero}
 use Rattle.box_tree.proofs.BuildingLemmas.{held-made}
 use Rattle.box_tree.proofs.MakingLemmas.{stands-more}
+use Rattle.box_tree.proofs.PlacesLemmas.{place_among-all, place_among-zero}
 
 -- the task of the whole grid
 pub root-task : (codes : List ℕ) (narrow height all : ℕ) → digits (levels_below narrow height) ≡ all → all ≤ MAX_HEIGHT

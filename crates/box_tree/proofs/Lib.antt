@@ -9,13 +9,13 @@ pub mod NodeLemmas
 pub mod WalkLemmas
 -- Squares, their children, and the places in them.
 pub mod SquareLemmas
+pub mod PlacesLemmas
 mod RunLemmas
 mod DigitsLemmas
 mod BoxesLemmas
 -- Walks.
 mod BeginLemmas
 mod VisitLemmas
-mod AskedLemmas
 -- Building.
 mod SplitLemmas
 mod MakingLemmas

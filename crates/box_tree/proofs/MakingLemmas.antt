@@ -11,7 +11,6 @@ use Rattle.track_types.specs.Near.{IsBoxWithin}
 use Rattle.box_tree.proofs.RunLemmas.{All-range}
 use Rattle.std.proofs.lemmas.Bool.{cases_Bool, cases_lt}
 use Rattle.std.proofs.lemmas.Bool.Decides.{nat_tests}
-use Rattle.std.proofs.lemmas.Int.{ints}
 use Rattle.k2_tree.specs.TreeBits.{code_limit}
 use Rattle.list_laws.proofs.RangeLemmas.{range-parts}
 use Rattle.std.proofs.lemmas.List.Elements.{All-append, All-map, All-weaker, All-nil, All-cons, All-head, All-tail}
@@ -148,25 +147,6 @@ kind-made codes narrow task (Branch end mask) old new is its =
             (sym level) stand;
       };
     }
-
--- boxes in boxes
-pub inside-inside : (a b c : CellBox) → IsBoxInside a b → IsBoxInside b c → IsBoxInside a c
-inside-inside a b c ab bc = record {
-  left = omega (arith, ints, ab.left, bc.left);
-  right = omega (arith, ints, ab.right, bc.right);
-  below = omega (arith, ints, ab.below, bc.below);
-  above = omega (arith, ints, ab.above, bc.above);
-}
-
--- a box lies within itself
-pub inside-self : (a : CellBox) → IsBoxInside a a
-inside-self a = record {
-  left = omega (arith, ints);
-  right = omega (arith, ints);
-  below =
-      omega (arith, ints);
-  above = omega (arith, ints);
-}
 
 -- a box that was read is near 0
 pub box-from : (base : Cell) (boxes : List CellBox) (place : ℕ) (read : CellBox) → place < length boxes

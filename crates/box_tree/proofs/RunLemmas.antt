@@ -13,6 +13,7 @@ use Rattle.list_laws.proofs.RangeLemmas.{range-parts}
 use Rattle.k2_tree.specs.Pruning.{place_among}
 use Rattle.box_tree.specs.Levels.{children, first_in, is_held, run}
 use Rattle.box_tree.specs.Places.{Ascends}
+use Rattle.box_tree.proofs.PlacesLemmas.{place_among-le}
 
 -- a greater number has no fewer below it
 pub place_among-up : (codes : List ℕ) (a b : ℕ) → a ≤ b → place_among codes a ≤ place_among codes b
@@ -142,16 +143,6 @@ All-range P a zero each = All-nil P
 All-range P a (suc m) each =
     All-cons P a (range_with_len (a + 1) m) (each a (omega arith) (omega arith))
     (All-range P (a + 1) m (λ j low high. each j (omega arith) (omega arith)))
-
--- at most all are below a number
-pub place_among-le : (codes : List ℕ) (b : ℕ) → place_among codes b ≤ length codes
-place_among-le [] b = omega arith
-place_among-le (x ∷ xs) b = grind (arith, nat_tests, place_among-le xs b)
-
--- a square begins within the places
-pub first_in-le : (codes : List ℕ) (n prefix : ℕ) → first_in codes n prefix ≤ length codes
-unfolding first_in
-first_in-le codes n prefix = place_among-le codes (prefix * 4 ^ n)
 
 -- the numbers at a square's places have its prefix
 pub run-prefix : (codes : List ℕ) (n prefix : ℕ) → Ascends 0 codes

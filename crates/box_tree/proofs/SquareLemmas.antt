@@ -1,15 +1,11 @@
 -- Squares by column and row: their children, and how they lie in the greatest grid.
 use Rattle.std.proofs.Common.{◌≡◌, ℕ, zero, suc, ◌+◌, ◌-◌, ◌*◌, ◌/◌, ◌%◌, ◌^◌, ◌<◌, ◌≤◌}
-use Rattle.std.proofs.Common.{sym, ap, ◌∙◌, arith, lit<, inl, inr, mul-le-mul_left, mul-le-mul_right}
+use Rattle.std.proofs.Common.{sym, ap, ◌∙◌, arith, lit<, mul-le-mul_left, mul-le-mul_right}
 use Rattle.std.proofs.Common.{pow-add}
 use Rattle.std.proofs.Math.Nat.{pow-le-pow_right}
-use Rattle.std.proofs.lemmas.Bool.{cases_lt}
-use Rattle.std.proofs.lemmas.Nat.{pow_pos}
 use Rattle.track_types.specs.declared.limit.TheConstants.{MAX_HEIGHT}
 use Rattle.k2_tree.specs.Morton.{column_of, interleaved, row_of}
-use Rattle.k2_tree.specs.TreeBits.{code_limit}
 use Rattle.k2_tree.proofs.AreaLemmas.{interleaved-child}
-use Rattle.k2_tree.proofs.MortonLemmas.{interleaved-lt, interleaved-more}
 
 -- the column that one digit tells
 pub column-one : (digit : ℕ) → digit < 4 → column_of 1 digit ≡ digit % 2
@@ -94,45 +90,3 @@ child-prefix width digit row column some few =
         let first = interleaved-child (MAX_HEIGHT - 1) row column q 1 (omega arith) (omega arith) right' upper' in
         let second = interleaved-child (MAX_HEIGHT - 1) y x r 1 (omega arith) (omega arith) (omega arith) (omega arith) in
         rw (a, b) (second ∙ omega (arith, first))
-
--- fewer parts that fill no more are fewer
-fewer : (a b count : ℕ) → 0 < b → (count + 1) * b ≤ a * b → count < a
-fewer a b count some all = elim (cases_lt count a) [
-  | inl less ↦ less
-  | inr past ↦
-      let most : (a + 1) * b ≤ (count + 1) * b = mul-le-mul_right b (omega arith) in
-      let more : (a + 1) * b ≡ a * b + b = grind arith in
-      absurd (omega (arith, most, more, all))
-]
-
--- the numbers of a square of the greatest grid are below the limit of all
-pub small-prefix : (level column row : ℕ) → level ≤ MAX_HEIGHT → (column + 1) * 2 ^ level ≤ 2 ^ MAX_HEIGHT
-    → (row + 1) * 2 ^ level ≤ 2 ^ MAX_HEIGHT → (interleaved MAX_HEIGHT row column + 1) * 4 ^ level ≤ code_limit
-small-prefix level column row low right upper =
-    let rest : ℕ = MAX_HEIGHT - level in
-    let left = within column right in
-    let below = within row upper in
-    let e : rest + level ≡ MAX_HEIGHT = omega arith in
-    let short : interleaved MAX_HEIGHT row column ≡ interleaved rest row column =
-    ap (λ n. interleaved n row column) (sym (omega arith)) ∙ shorter level rest row column below left in
-    let small = interleaved-lt rest row column in
-    let most : (interleaved rest row column + 1) * 4 ^ level ≤ 4 ^ rest * 4 ^ level =
-    mul-le-mul_right (4 ^ level) (omega arith) in
-    let power : 4 ^ rest * 4 ^ level ≡ code_limit = sym (pow-add 4 rest level) ∙ ap (λ n. 4 ^ n) e in
-    rw short (omega (arith, most, power))
-  where
-    within : (count : ℕ) → (count + 1) * 2 ^ level ≤ 2 ^ MAX_HEIGHT → count < 2 ^ (MAX_HEIGHT - level)
-    within count all =
-        let e : (MAX_HEIGHT - level) + level ≡ MAX_HEIGHT = omega arith in
-        let power : 2 ^ MAX_HEIGHT ≡ 2 ^ (MAX_HEIGHT - level) * 2 ^ level = ap (λ n. 2 ^ n) (sym e)
-        ∙ pow-add 2 (MAX_HEIGHT - level) level in
-        fewer (2 ^ (MAX_HEIGHT - level)) (2 ^ level) count (pow_pos level) (omega (arith, all, power))
-
-    shorter : (more n row column : ℕ) → row < 2 ^ n → column < 2 ^ n
-        → interleaved (more + n) row column ≡ interleaved n row column
-    shorter zero n row column low left = ap (λ m. interleaved m row column) (omega arith)
-    shorter (suc more) n row column low left =
-        let wide : 2 ^ n ≤ 2 ^ (more + n) = pow-le-pow_right {n = 2} (lit< tt) (omega arith) in
-        let next : suc more + n ≡ suc (more + n) = omega arith in
-        ap (λ m. interleaved m row column) next ∙ interleaved-more (more + n) row column (omega arith) (omega arith)
-        ∙ shorter more n row column low left

@@ -2,12 +2,13 @@
 use Rattle.std.proofs.Common.{◌≡◌, ℕ, zero, suc, ◌+◌, ◌-◌, ◌*◌, ◌^◌, ◌<◌, ◌≤◌, true, false, List, [], ◌∷◌}
 use Rattle.std.proofs.Common.{refl, arith}
 use Rattle.std.specs.Prelude.{nat_lt, if◌then◌else◌}
-use Rattle.std.proofs.Common.{inl, inr, lit≤, pow-suc}
+use Rattle.std.proofs.Common.{inl, inr, lit≤}
 use Rattle.std.proofs.lemmas.Bool.{cases_Bool}
 use Rattle.std.proofs.lemmas.Bool.Decides.{nat_tests}
 use Rattle.track_types.specs.declared.limit.TheConstants.{MAX_HEIGHT}
 use Rattle.box_tree.specs.Levels.{digits}
 use Rattle.box_tree.specs.Tree.{AreLevels, child_limit, levels_below, slots}
+use Rattle.k2_tree.proofs.PrefixLemmas.{fan_pos}
 
 -- a low level takes one digit
 pub width-narrow : (narrow below : ℕ) → 1 ≤ below → below ≤ narrow
@@ -36,12 +37,8 @@ slots-parts narrow zero some = absurd (omega arith)
 slots-parts narrow (suc below) some =
     let e : suc below - 1 ≡ below = omega arith in
     let width : ℕ = if nat_lt below narrow then 1 else 2 in
-    let positive : 0 < 4 ^ width = fan-pos width in
+    let positive : 0 < 4 ^ width = fan_pos width in
     rw e (omega (arith, positive))
-  where
-    fan-pos : (n : ℕ) → 0 < 4 ^ n
-    fan-pos zero = omega arith
-    fan-pos (suc n) = omega (arith, fan-pos n, pow-suc 4 n)
 
 -- its children have room where it has
 pub child_limit-le : (levels : List ℕ) → child_limit levels ≤ slots levels + 1
@@ -79,34 +76,3 @@ levels-narrow height low = record {
   few = low;
   room = omega (arith, slots-narrow height height (omega arith));
 }
-
--- levels below some that take two digits each
-pub digits-wide : (narrow wide : ℕ) → digits (levels_below narrow (narrow + wide)) ≡ narrow + 2 * wide
-unfolding levels_below
-digits-wide narrow zero =
-    let all : narrow + 0 ≡ narrow = omega arith in rw all (omega (arith, digits-narrow narrow narrow (omega arith)))
-digits-wide narrow (suc wide) =
-    let more : narrow + suc wide ≡ suc (narrow + wide) = omega arith in
-    let two : nat_lt (narrow + wide) narrow ≡ false = grind (arith, nat_tests) in
-    rw (more, two) (omega (arith, digits-wide narrow wide))
-
-slots-wide : (narrow wide : ℕ) → slots (levels_below narrow (narrow + wide)) ≡ 3 * narrow + 15 * wide
-unfolding levels_below
-slots-wide narrow zero =
-    let all : narrow + 0 ≡ narrow = omega arith in rw all (omega (arith, slots-narrow narrow narrow (omega arith)))
-slots-wide narrow (suc wide) =
-    let more : narrow + suc wide ≡ suc (narrow + wide) = omega arith in
-    let two : nat_lt (narrow + wide) narrow ≡ false = grind (arith, nat_tests) in
-    rw (more, two) (omega (arith, slots-wide narrow wide))
-
--- so the levels of a tree of this height are levels, where at most half of its digits stand in those
-pub levels-wide : (height wide : ℕ) → height ≤ MAX_HEIGHT → 4 * wide ≤ height
-    → AreLevels (height - wide) (height - 2 * wide) height
-levels-wide height wide low few =
-    let narrow : ℕ = height - 2 * wide in
-    let levels : height - wide ≡ narrow + wide = omega (arith, few) in
-    rw levels (record {
-      digits_are = omega (arith, digits-wide narrow wide, few);
-      few = low;
-      room = omega (arith, slots-wide narrow wide, few, low);
-    })

@@ -1,12 +1,9 @@
 -- Walks over places: what a node that is visited, and a place that is looked at, change.
-use Rattle.std.proofs.Common.{◌≡◌, ℕ, suc, ◌+◌, ◌-◌, ◌<◌, ◌≤◌, true, false, [], ◌∷◌, ◌++◌, filter, refl}
+use Rattle.std.proofs.Common.{◌≡◌, ℕ, suc, ◌+◌, ◌-◌, ◌<◌, ◌≤◌, true, false, ◌∷◌, filter, refl, []}
 use Rattle.std.proofs.Common.{arith}
-use Rattle.std.specs.List.{flat_map}
-use Rattle.std.proofs.lemmas.List.Elements.{filter-append}
-use Rattle.std.proofs.lemmas.List.Sums.{sum_by-cons}
 use Rattle.box_tree.specs.Places.{Places, Square, square_worth, passes, run_of, square}
 use Rattle.box_tree.specs.Tests.{Tests}
-use Rattle.box_tree.specs.Walk.{IsVisited, WalkView, turns_in, turns_of, walk_left, walk_reads}
+use Rattle.box_tree.specs.Walk.{IsVisited, WalkView, walk_left, walk_reads}
 use Rattle.box_tree.proofs.NodeLemmas.{squares_in-own}
 
 -- a node in which nothing passes is skipped
@@ -24,23 +21,6 @@ skipped tests walk square begun steps none paid = record {
 module _ (tests : Tests) (old new : WalkView) (tree : new.tree ≡ old.tree) where
   abbrev its : Places
   its = old.tree.places
-
-  -- the next node is taken off
-  module _ (next : Square) (pending : old.pending ≡ next ∷ new.pending) (low : new.low ≡ old.low)
-      (high : new.high ≡ old.high) where
-    pub left-taken : old.high ≤ old.low
-        → walk_left tests old ≡ filter (passes tests its) (run_of its next) ++ walk_left tests new
-    left-taken done =
-        let none : old.high - old.low ≡ 0 = omega arith in
-        rw (tree, low, high, pending, none)
-        (filter-append (passes tests its) (run_of its next) (flat_map (run_of its) new.pending))
-
-    pub reads-taken : walk_reads tests.square old ≡ square_worth tests.square its next + walk_reads tests.square new
-    reads-taken =
-        rw (tree, low, high, pending) (omega (arith, sum_by-cons (square_worth tests.square its) next new.pending))
-
-    pub turns-taken : turns_of old ≡ turns_in its next + turns_of new
-    turns-taken = rw (tree, pending) (omega (arith, sum_by-cons (turns_in its) next new.pending))
 
   -- the next place of the bucket is taken off
   module _ (some : old.low < old.high) (low : new.low ≡ old.low + 1) (high : new.high ≡ old.high)

@@ -16,7 +16,7 @@ overlaps-wider : (low high a b c d : ℤ) → c ≤ℤ a → b ≤ℤ d → over
 overlaps-wider low high a b c d left right holds = grind (arith, ints, clamps)
 
 -- a box that touches one touches it where it is wider
-wider-touches : (area : CellBox) → IsWider (touches area)
+pub wider-touches : (area : CellBox) → IsWider (touches area)
 wider-touches area inner outer inside holds =
     let axes = and_parts (overlaps area.x1 area.x2 inner.x1 inner.x2) (overlaps area.y1 area.y2 inner.y1 inner.y2) holds in
     and_from _ _ (overlaps-wider area.x1 area.x2 inner.x1 inner.x2 outer.x1 outer.x2 inside.left inside.right axes.0)

@@ -1,6 +1,7 @@
 use Rattle.std.proofs.Common.{◌+◌, ◌^◌, ◌<◌, arith}
-use Rattle.box_tree.proofs.RunLemmas.{first_in-le, first_in-up}
+use Rattle.box_tree.proofs.RunLemmas.{first_in-up}
 use Rattle.box_tree.proofs.building.link_of.Goals as goal
+use Rattle.box_tree.proofs.PlacesLemmas.{first_in-le}
 
 pub overflow_sub-task : goal.overflow_sub-task
 overflow_sub-task c =

@@ -5,10 +5,10 @@ use Rattle.box_tree.specs.Building.{IsMaking, IsTask, turns_left}
 use Rattle.box_tree.specs.Kinds.{kind_of}
 use Rattle.box_tree.specs.Places.{box_at}
 use Rattle.box_tree.specs.declared.task.Task.{Task}
-use Rattle.box_tree.proofs.RunLemmas.{first_in-le}
 use Rattle.box_tree.proofs.MakingLemmas.{is-task, making-next, read-task, task-run, turns-next}
 use Rattle.box_tree.proofs.building.make.Goals as goal
 use Rattle.box_tree.proofs.building.make.Goals.{After-index-task}
+use Rattle.box_tree.proofs.PlacesLemmas.{first_in-le}
 
 -- the task is the next one
 place : (c : After-index-task) → c.len-in-loop-tasks-2.result ≡ length c.loop-tasks.links.items

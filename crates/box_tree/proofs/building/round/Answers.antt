@@ -3,8 +3,9 @@ use Rattle.std.specs.List.{range_with_len}
 use Rattle.std.proofs.lemmas.List.Elements.{All-nil, All-weaker}
 use Rattle.std.proofs.lemmas.List.{get_or_default}
 use Rattle.k2_tree.specs.Areas.{IsBoxInside}
+use Rattle.k2_tree.proofs.InsideLemmas.{inside-inside, inside-self}
 use Rattle.box_tree.specs.Places.{box_at, no_box}
-use Rattle.box_tree.proofs.MakingLemmas.{All-range_more, box-from, box-near, inside-inside, inside-self}
+use Rattle.box_tree.proofs.MakingLemmas.{All-range_more, box-from, box-near}
 use Rattle.box_tree.proofs.building.round.Goals as goal
 
 pub loop-place-init : goal.loop-place-init

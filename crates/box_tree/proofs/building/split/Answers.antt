@@ -8,10 +8,11 @@ use Rattle.box_tree.specs.Building.{child_task}
 use Rattle.box_tree.specs.Held.{digits_in}
 use Rattle.box_tree.specs.Levels.{children, first_in, is_held}
 use Rattle.box_tree.specs.declared.task.Task.{Task}
-use Rattle.box_tree.proofs.RunLemmas.{first_in-le, first_in-up, place_among-up, first_in-child}
+use Rattle.box_tree.proofs.RunLemmas.{first_in-up, place_among-up, first_in-child}
 use Rattle.box_tree.proofs.SplitLemmas.{longer-within, small-front, split-next}
 use Rattle.box_tree.proofs.building.split.Goals as goal
-use Rattle.box_tree.proofs.building.split.Goals.{After-from-in-loop-digit, After-bound_of, After-end_of-high}
+use Rattle.box_tree.proofs.building.split.Goals.{After-from-in-loop-digit}
+use Rattle.box_tree.proofs.PlacesLemmas.{first_in-le}
 
 -- the child's prefix
 prefix : (c : After-from-in-loop-digit)

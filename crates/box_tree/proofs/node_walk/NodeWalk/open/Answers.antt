@@ -2,12 +2,12 @@ use Rattle.std.proofs.Common.{ℕ, ◌+◌, ◌≤◌, List, length, refl, sym, 
 use Rattle.box_tree.specs.Levels.{digits}
 use Rattle.box_tree.specs.Tree.{IsNodeOf, TreeView, levels_of, node_square, prefix_of, slots}
 use Rattle.box_tree.specs.Walk.{WalkView, IsOpened, walk_of}
-use Rattle.box_tree.proofs.RunLemmas.{first_in-le}
 use Rattle.box_tree.proofs.TreeLemmas.{child_limit-le}
 use Rattle.box_tree.proofs.WalkLemmas.{branch-opened, branch-some, branch-walk, bucket-opened, bucket-parts}
 use Rattle.box_tree.proofs.node_walk.NodeWalk.open.Goals as goal
 use Rattle.box_tree.proofs.node_walk.NodeWalk.open.Given.{Over}
 use Rattle.box_tree.proofs.node_walk.NodeWalk.open.Goals.{In-Branch}
+use Rattle.box_tree.proofs.PlacesLemmas.{first_in-le}
 
 pub invariant_of-self : goal.invariant_of-self
 invariant_of-self g c =
