@@ -1,6 +1,6 @@
 -- The block of an object, step by step.
-use Rattle.std.proofs.Common.{◌≡◌, ℕ, ◌+◌, ◌-◌, ◌<◌, Bool, true, false, List, length, get_or, take, sum, None}
-use Rattle.std.proofs.Common.{Some, refl, sym, ap, ◌∙◌, arith, cond}
+use Rattle.std.proofs.Common.{◌≡◌, ℕ, ◌+◌, ◌-◌, ◌<◌, Bool, true, false, List, length, get_or, take, sum}
+use Rattle.std.proofs.Common.{Some, sym, ap, ◌∙◌, arith, cond}
 use Rattle.std.specs.List.{range_with_len}
 use Rattle.std.proofs.lemmas.List.{get_or-map, length-map}
 use Rattle.std.proofs.lemmas.List.FromFn.{get_or-range_with_len, length-range_with_len}
@@ -87,14 +87,6 @@ block_found view index block present is =
     let on : slice_index_or view.parts.present index false ≡ true =
     get_or_from_slice_get view.parts.present index true false present in
     rw on (ap Some is)
-
--- an absent object has none
-pub block_missing : (view : SnapshotView) (index : ℕ) → slice_get view.parts.present index ≡ Some false
-    → None ≡ block_of view index
-block_missing view index absent =
-    let off : slice_index_or view.parts.present index false ≡ false =
-    get_or_from_slice_get view.parts.present index false false absent in
-    rw off refl
 
 -- each place in leaf order has a leaf of the tree
 pub leaf_known : (view : SnapshotView) (place : ℕ) → IsSnapshot view → place < length view.parts.perm

@@ -36,14 +36,6 @@ pub record IsJoining (parts : Parts) (count before steps : ℕ) : Type 0 where
   pub reads : steps ≤ before + (start_in parts count
       + sum_by (λ number. blocks_reads (snapshot_in parts number)) (range_with_len 0 count))
 
--- before the first period
-pub joining-none : (parts : Parts) (steps : ℕ) → IsJoining parts 0 steps steps
-joining-none parts steps = record {
-  snapshots = λ number below. absurd (omega arith);
-  none = λ number below. absurd (omega arith);
-  reads = omega arith;
-}
-
 module _ (parts : Parts) (rules : RulesView) (snaps : List SnapshotView) (of : AreOf parts rules snaps) where
   -- the snapshot that is read
   pub snapshot-read : (number : ℕ) (d : SnapshotView) → number < length snaps

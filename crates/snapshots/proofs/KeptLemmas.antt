@@ -1,6 +1,6 @@
 -- The blocks of a period as places of a tree of boxes: their Morton numbers ascend, and are those of the tree of
 -- anchors.
-use Rattle.std.proofs.Common.{◌≡◌, ℕ, zero, suc, ◌+◌, ◌-◌, ◌*◌, ◌^◌, ◌<◌, ◌≤◌, ◌||◌, ℤ, pos, ◌+ℤ◌, Bool, true, false, List, [], ◌∷◌, length, get_or, map, All, Option, None, Some, IfSome, inl, inr, refl, ap, sym, subst, ◌∙◌, arith}
+use Rattle.std.proofs.Common.{◌≡◌, ℕ, zero, suc, ◌+◌, ◌-◌, ◌*◌, ◌^◌, ◌<◌, ◌≤◌, Bool, true, false, List, [], ◌∷◌, length, get_or, map, All, Option, None, Some, IfSome, inl, inr, refl, ap, sym, subst, ◌∙◌, arith}
 use Rattle.std.specs.Prelude.{fold, if◌then◌else◌, slice_index, nat_lt}
 use Rattle.std.specs.List.{list_any, range_with_len}
 use Rattle.std.specs.Option.{option_map}
@@ -18,7 +18,7 @@ use Rattle.std.proofs.lemmas.Nat.{pow_pos}
 use Rattle.list_laws.proofs.OptionLemmas.{All-made}
 use Rattle.list_laws.proofs.RangeLemmas.{All-from_filter_map}
 use Rattle.packed_bits.proofs.OnesLemmas.{ones_of-le-length}
-use Rattle.bit_rank.specs.Bits.{ones_of, rank_of, select_of, IsSelected}
+use Rattle.bit_rank.specs.Bits.{select_of}
 use Rattle.bit_rank.proofs.RankLemmas.{rank_of-le, IsSelected-select_of}
 use Rattle.track_types.specs.Frame.{wide_of, IsFrame}
 use Rattle.track_types.specs.declared.cell.Cell.{Cell}
@@ -27,11 +27,11 @@ use Rattle.track_types.specs.declared.frame.Frame.{Frame}
 use Rattle.track_types.specs.declared.limit.TheConstants.{MAX_HEIGHT}
 use Rattle.k2_tree.specs.Areas.{box_from, IsBoxInside}
 use Rattle.k2_tree.specs.Morton.{morton_of, IsInGrid}
-use Rattle.k2_tree.specs.Tree.{Tree, codes_of}
+use Rattle.k2_tree.specs.Tree.{codes_of}
 use Rattle.k2_tree.specs.TreeBits.{code_limit, Rises}
 use Rattle.k2_tree.proofs.MortonLemmas.{morton_of-lt}
 use Rattle.k2_tree.proofs.RisingLemmas.{Rises-place}
-use Rattle.box_tree.specs.Boxes.{IsBase, IsFrom}
+use Rattle.box_tree.specs.Boxes.{IsFrom}
 use Rattle.box_tree.specs.Levels.{digits}
 use Rattle.box_tree.specs.Places.{Ascends, ArePlaces}
 use Rattle.box_tree.specs.Tree.{levels_below, places_with, slots, AreLevels}
@@ -47,7 +47,6 @@ use Rattle.snapshots.specs.TrackTree.{code_of, level_count, narrow_count, places
 use Rattle.snapshots.specs.View.{SnapshotView, all_blocks, block_at, block_of, leaf_at, tree_in}
 use Rattle.snapshots.specs.declared.anchored.Anchored.{Anchored}
 use Rattle.snapshots.proofs.BlockLemmas.{leaf_known}
-use Rattle.snapshots.proofs.BlocksLemmas.{block_at-is_block}
 use Rattle.snapshots.proofs.LeafOrderLemmas.{by_leaf-are}
 use Rattle.snapshots.proofs.SoundLemmas.{wide_of-few, wide_of-fits}
 

@@ -3,7 +3,7 @@ use Rattle.std.proofs.Common.{◌≡◌, ℕ, ◌+◌, ◌-◌, ◌*◌, ◌^◌
 use Rattle.std.specs.Prelude.{slice_index}
 use Rattle.std.proofs.lemmas.Bool.{cases_lt, eq-eqb, ne_eqb}
 use Rattle.std.proofs.lemmas.Int.{ints}
-use Rattle.std.proofs.lemmas.List.{length-drop, length-map, length-take, take_more, take_all}
+use Rattle.std.proofs.lemmas.List.{length-drop, length-map, length-take, take_more}
 use Rattle.std.proofs.lemmas.List.Sums.{sum_by_push}
 use Rattle.list_laws.proofs.FindLemmas.{find_in_range-first, find_in_range-none}
 use Rattle.track_types.specs.Near.{IsCellWithin}
@@ -22,7 +22,7 @@ use Rattle.track_types.specs.declared.flaw.Section.TheVariants.{Lengths, Log}
 use Rattle.snapshots.specs.Flaws.{flaw_in}
 use Rattle.snapshots.specs.Parts.{log_at}
 use Rattle.snapshots.specs.JoinFlaws.{cell_after, cell_before, instants_after, is_along, is_off_grid, lasting, log_flaw}
-use Rattle.snapshots.specs.JoinFlaws.{off_grid_at, passes_grid, IsReachable}
+use Rattle.snapshots.specs.JoinFlaws.{off_grid_at, passes_grid}
 use Rattle.snapshots.specs.declared.anchored.Anchored.{Anchored}
 
 module _ (rules : RulesView) where
@@ -93,13 +93,6 @@ reading-none frame rules start log within = record {
 
 module _ (frame : Frame) (rules : RulesView) (start : Cell) (log : List ℕ) (place : ℕ) (cell : Cell) (duration : ℕ)
     (is : IsReading frame rules start log place cell duration) (within : place < length log) where
-  -- where a walk may be, sums with boxes fit
-  pub reached-column : length log ≤ 2 ^ 25 → IsReachable cell.x
-  reached-column long = record { low = omega (arith, ints, is.left); high = omega (arith, ints, is.right) }
-
-  pub reached-line : length log ≤ 2 ^ 25 → IsReachable cell.y
-  reached-line long = record { low = omega (arith, ints, is.below); high = omega (arith, ints, is.above) }
-
   module _ (entry : Entry) (its : entry ≡ entry_of rules (slice_index log place)) where
     -- whether the symbol's placed box passes the grid
     pub off_grid-here : (b : Bool) → b ≡ passes_grid frame cell entry.hull → is_off_grid frame rules start log place ≡ b
@@ -155,9 +148,6 @@ module _ (frame : Frame) (rules : RulesView) (start : Cell) (log : List ℕ) (ce
   unfolding off_grid_at
   off_grid-none =
       find_in_range-none (is_off_grid frame rules start log) 0 (length log) (λ j low below. is.inside j (omega arith))
-
-  pub lasting-all : duration ≡ lasting rules log
-  lasting-all = is.lasted ∙ ap (lasting rules) (take_all (length log) log (omega arith))
 
 -- a block's log has so many symbols
 pub length-log_at : (rules : RulesView) (block : Anchored) → block.from + block.len ≤ length rules.symbols

@@ -1,8 +1,7 @@
 -- The boxes of tracks: each stop of a block lies in the box of its track.
-use Rattle.std.proofs.Common.{◌≡◌, ℕ, suc, ◌+◌, ◌<◌, ◌≤◌, ℤ, pos, ◌+ℤ◌, ◌≤ℤ◌, true, List, [], ◌∷◌, ◌++◌, length, get_or, map, take, All, Option, Some, None, IfSome, refl, ap, sym, subst, ◌∙◌, arith}
+use Rattle.std.proofs.Common.{◌≡◌, ℕ, suc, ◌+◌, ◌<◌, ℤ, pos, ◌+ℤ◌, ◌≤ℤ◌, true, List, [], ◌∷◌, ◌++◌, length, get_or, map, All, Option, Some, None, IfSome, refl, ap, sym, subst, ◌∙◌, arith}
 use Rattle.std.specs.Prelude.{slice_index, slice_index_or, fold}
-use Rattle.std.specs.Int.{int_max, int_min}
-use Rattle.std.specs.List.{cons_option, filter_map, range_with_len}
+use Rattle.std.specs.List.{cons_option, range_with_len}
 use Rattle.std.specs.Option.{option_map}
 use Rattle.std.proofs.lemmas.Int.{clamps, ints}
 use Rattle.std.proofs.lemmas.List.FromFn.{get_or-map-range_with_len, length-map-range_with_len, map-range_with_len_more}
@@ -18,6 +17,7 @@ use Rattle.track_types.specs.declared.parts.Parts.{Parts}
 use Rattle.track_types.specs.declared.stop.Stop.{Stop}
 use Rattle.track_types.proofs.RegionLemmas.{in_box-from}
 use Rattle.k2_tree.specs.Areas.{IsBoxInside}
+use Rattle.k2_tree.proofs.InsideLemmas.{inside-inside, inside-self}
 use Rattle.box_tree.specs.Places.{no_box}
 use Rattle.rule_store.specs.View.{RulesView}
 use Rattle.rule_store.specs.Boxes.{bounding_box_of}
@@ -28,30 +28,13 @@ use Rattle.rule_store.specs.declared.entry.Entry.{Entry}
 use Rattle.rule_store.specs.Log.{block_stops, stop_at, stops_after, stops_from}
 use Rattle.rule_store.proofs.LogLemmas.{stops_after-cons, stops_after-none}
 use Rattle.snapshots.specs.JoinFlaws.{cell_after, cell_before}
-use Rattle.snapshots.specs.Parts.{anchored_at, log_at, rules_in, snapshot_in, stops_of}
+use Rattle.snapshots.specs.Parts.{anchored_at, log_at, rules_in, snapshot_in}
 use Rattle.snapshots.specs.Sound.{IsBlock, IsSnapshot}
 use Rattle.snapshots.specs.Tracks.{cell_box, joined, log_box, moved_box, placed_box, placed_boxes, track_box, with_hull}
 use Rattle.snapshots.specs.Tracks.{AreOnTracks, IsOnTrack}
 use Rattle.snapshots.specs.View.{SnapshotView, all_blocks, block_of}
 use Rattle.snapshots.specs.declared.anchored.Anchored.{Anchored}
 use Rattle.snapshots.proofs.ReachLemmas.{covered-along, hull_of-entry, present-none, All-stops_from, IsCovered}
-
--- a box lies in itself, and in what has one that has it
-inside-self : (area : CellBox) → IsBoxInside area area
-inside-self area = record {
-  left = omega (arith, ints);
-  right = omega (arith, ints);
-  below = omega (arith, ints);
-  above = omega (arith, ints);
-}
-
-inside-inside : (a b c : CellBox) → IsBoxInside a b → IsBoxInside b c → IsBoxInside a c
-inside-inside a b c inner outer = record {
-  left = omega (arith, ints, inner.left, outer.left);
-  right = omega (arith, ints, inner.right, outer.right);
-  below = omega (arith, ints, inner.below, outer.below);
-  above = omega (arith, ints, inner.above, outer.above);
-}
 
 -- two boxes lie in the least box with both
 pub inside-joined : (area other : CellBox)

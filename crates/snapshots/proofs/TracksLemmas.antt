@@ -1,8 +1,7 @@
 -- What a walk over the kept blocks of a period gives, and what it reads.
-use Rattle.std.proofs.Common.{◌≡◌, ℕ, suc, ◌+◌, ◌-◌, ◌*◌, ◌^◌, ◌<◌, ◌≤◌, ◌&&◌, ℤ, pos, ◌+ℤ◌, Bool, true, false, List, [], length, get_or, map, filter, All, Option, None, refl, ap, sym, subst, ◌∙◌, arith, mul-le-mul_right}
+use Rattle.std.proofs.Common.{◌≡◌, ℕ, ◌+◌, ◌*◌, ◌^◌, ◌<◌, ◌≤◌, ◌&&◌, pos, ◌+ℤ◌, Bool, List, length, get_or, map, filter, Option, None, refl, ap, sym, subst, ◌∙◌, arith, mul-le-mul_right}
 use Rattle.std.specs.Prelude.{slice_index, if◌then◌else◌}
-use Rattle.std.specs.List.{range_with_len, sum_by, Contains}
-use Rattle.std.proofs.lemmas.Int.{ints}
+use Rattle.std.specs.List.{range_with_len}
 use Rattle.std.proofs.lemmas.List.{get_or_default, get_or-map, length-map, same_lists}
 use Rattle.std.proofs.lemmas.List.FromFn.{get_or-map-range_with_len, length-map-range_with_len}
 use Rattle.list_laws.proofs.FilterLemmas.{sum_by_if}
@@ -20,7 +19,6 @@ use Rattle.k2_tree.specs.Pruning.{square_count}
 use Rattle.k2_tree.specs.Squares.{node}
 use Rattle.k2_tree.proofs.MortonLemmas.{cell_of-morton_of, highest, morton_of-lt}
 use Rattle.box_tree.specs.BoxWalk.{found_places, search_reads}
-use Rattle.box_tree.specs.Cost.{place_reads}
 use Rattle.box_tree.specs.Cost.{square_reads as opened_square_reads}
 use Rattle.box_tree.specs.Places.{Places, all_places, box_at, cell_passes, no_box, passes}
 use Rattle.box_tree.specs.Places.{square_count as held_square_count}
@@ -35,6 +33,7 @@ use Rattle.snapshots.specs.Tracks.{blocks_by_leaf, cell_box, may_hold, track_box
 use Rattle.track_types.specs.Frame.{periods_of}
 use Rattle.track_types.specs.declared.parts.Parts.{Parts}
 use Rattle.std.specs.Global.{Box}
+use Rattle.std.proofs.Math.Bool.{and_comm}
 use Rattle.snapshots.specs.Parts.{rules_in, snapshot_in}
 use Rattle.snapshots.specs.Stores.{AreStores}
 use Rattle.snapshots.specs.TrackTree.{begin_of, code_of, log_of, AreKept, IsKept}
@@ -62,12 +61,6 @@ area_at-code height base cell low inside =
     let x1 : base.x +ℤ pos (column_of MAX_HEIGHT code * 2 ^ 0) ≡ cell.x = ap (λ k. base.x +ℤ pos k) across ∙ x in
     let y1 : base.y +ℤ pos (row_of MAX_HEIGHT code * 2 ^ 0) ≡ cell.y = ap (λ k. base.y +ℤ pos k) up ∙ y in
     same_box (area_at base (node 0 code)) (cell_box cell) x1 y1 (ap (λ z. z +ℤ pos 0) x1) (ap (λ z. z +ℤ pos 0) y1)
-
-and-turned : (a b : Bool) → (a && b) ≡ (b && a)
-and-turned true true = refl
-and-turned true false = refl
-and-turned false true = refl
-and-turned false false = refl
 
 -- as many of the same blocks pass a test
 length-weighs : (p : Anchored → Bool) (xs ys : List Anchored) → WeighSame xs ys
@@ -141,7 +134,7 @@ module _ (view : SnapshotView) (is : IsSnapshot view) (rules : RulesView) (kept 
         (λ k block at.
         ap (λ b. boxes b && squares (area_at kept.tree.base (node 0 (slice_index kept.tree.places.codes k)))) at.box
         ∙ ap (λ a. boxes (track_box rules block) && squares a) at.area
-        ∙ and-turned (boxes (track_box rules block)) (squares (cell_box block.cell)))
+        ∙ and_comm (boxes (track_box rules block)) (squares (cell_box block.cell)))
 
     -- as many places have a cell that passes as blocks do
     cells_pass : length (filter (cell_passes (squares_at kept.tree.base squares) kept.tree.places)

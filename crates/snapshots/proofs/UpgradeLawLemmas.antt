@@ -1,15 +1,11 @@
 -- The newest version of parts: the same cells in each period, so the same blocks and the same chart, and valid parts.
-use Rattle.std.proofs.Common.{◌≡◌, ℕ, zero, suc, ◌+◌, ◌-◌, ◌^◌, ◌<◌, ◌≤◌, true, false, inl, inr, List, [], ◌∷◌, length, get_or, map, take, All}
+use Rattle.std.proofs.Common.{◌≡◌, ℕ, zero, suc, ◌+◌, ◌^◌, ◌<◌, ◌≤◌, List, [], ◌∷◌, length, get_or, map, take, All}
 use Rattle.std.proofs.Common.{None, Some, Option, IfSome, refl, ap, sym, ◌∙◌, subst, arith}
-use Rattle.std.specs.Prelude.{nat_le}
-use Rattle.std.specs.List.{filter_map, flat_map, position_or_len, range_with_len, sum_by}
-use Rattle.std.proofs.lemmas.Bool.{cases_lt}
-use Rattle.std.proofs.lemmas.Bool.Decides.{nat_tests}
-use Rattle.std.proofs.lemmas.List.FromFn.{get_or-range_with_len, length-range_with_len}
-use Rattle.std.proofs.lemmas.List.Sums.{fails_before_first, passes_at_first}
+use Rattle.std.specs.List.{filter_map, flat_map, range_with_len, sum_by}
 use Rattle.std.proofs.lemmas.List.{get_or-map, get_or_default, length-map, take-map}
 use Rattle.std.proofs.lemmas.List.Elements.{All-from_get_or, All-map, All-weaker}
 use Rattle.list_laws.proofs.FlatLemmas.{sum_by-map}
+use Rattle.list_laws.proofs.NumberLemmas.{least_power}
 use Rattle.track_types.specs.Chart.{ChartView}
 use Rattle.track_types.specs.Frame.{IsFrame, periods_of, wide_of}
 use Rattle.track_types.specs.Shape.{IsShaped, IsShapedPeriod, width_for, width_of}
@@ -43,29 +39,6 @@ upgraded_view view = record {
   start = view.start;
   parts = upgraded_parts view;
 }
-
--- the least power of two, from 2 on, that is as great as a number, among so many
-pub least_power : (most number : ℕ) → 1 ≤ most → number ≤ 2 ^ most
-    → let power = suc (position_or_len (λ power. nat_le number (2 ^ power)) (range_with_len 1 most)) in
-    (power ≤ most) × (number ≤ 2 ^ power)
-least_power most number some short =
-    let powers : List ℕ = range_with_len 1 most in
-    let place : ℕ = position_or_len (λ power. nat_le number (2 ^ power)) powers in
-    let long : length powers ≡ most = length-range_with_len 1 most in
-    let within : place < most = elim (cases_lt (most - 1) place) [
-      | inl past ↦
-          let last : get_or powers (most - 1) 0 ≡ most =
-          get_or-range_with_len 1 most (most - 1) 0 (omega arith) ∙ omega arith in
-          let fails = fails_before_first (λ power. nat_le number (2 ^ power)) powers (most - 1) 0 past in
-          let fails' : nat_le number (2 ^ most) ≡ false = rw last at fails in
-          let above : 2 ^ most < number = grind (arith, nat_tests) in
-          absurd (omega arith)
-      | inr not ↦ omega arith
-    ] in
-    let passes = passes_at_first (λ power. nat_le number (2 ^ power)) powers 0 (omega arith) in
-    let at : get_or powers place 0 ≡ suc place = get_or-range_with_len 1 most place 0 within ∙ omega arith in
-    let holds : nat_le number (2 ^ suc place) ≡ true = rw at at passes in
-    (omega arith, grind (arith, nat_tests))
 
 -- functions that give the same make the same of a list
 filter_map-agree : {X Y : Type 0} (f g : X → Option Y) → ((x : X) → f x ≡ g x) → (xs : List X)

@@ -1,6 +1,6 @@
 -- The tracks of a period's blocks: the box of all cells of each, and what is left of a walk over those that a search
 -- may want.
-use Rattle.std.specs.Prelude.{ℕ, Bool, true, ◌≡◌, ◌&&◌, ℤ, ◌+ℤ◌, ◌≤ℤ◌, All, List, length, map, filter, fold, slice_index, Option, None, Some}
+use Rattle.std.specs.Prelude.{ℕ, Bool, true, ◌≡◌, ◌&&◌, ℤ, ◌+ℤ◌, ◌≤ℤ◌, All, List, length, map, fold, slice_index, Option, None, Some}
 use Rattle.std.specs.Int.{int_max, int_min}
 use Rattle.std.specs.List.{filter_map, range_with_len}
 use Rattle.std.specs.Option.{option_map}

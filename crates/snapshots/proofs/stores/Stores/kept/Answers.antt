@@ -1,11 +1,10 @@
-use Rattle.std.proofs.Common.{◌≡◌, ◌<◌, sym, subst}
+use Rattle.std.proofs.Common.{◌<◌, sym, subst}
 use Rattle.track_types.specs.Frame.{periods_of}
 use Rattle.track_types.specs.declared.parts.Parts.{Parts}
 use Rattle.snapshots.specs.Parts.{rules_in, snapshot_in}
 use Rattle.snapshots.specs.Stores.{join_of}
 use Rattle.snapshots.specs.Tracks.{blocks_by_leaf}
 use Rattle.snapshots.specs.TrackTree.{AreKept, IsKept}
-use Rattle.snapshots.specs.declared.track_tree.TrackTree.{TrackTree}
 use Rattle.snapshots.proofs.TracksLemmas.{tracks-at}
 use Rattle.snapshots.proofs.stores.Stores.kept.Goals as goal
 use Rattle.snapshots.proofs.stores.Stores.kept.Goals.{After-index}

@@ -9,7 +9,7 @@ use Rattle.snapshots.specs.Sound.{IsBlock, IsSnapshot}
 use Rattle.snapshots.specs.Stores.{join_of}
 use Rattle.snapshots.specs.Tracks.{blocks_by_leaf, may_hold}
 use Rattle.snapshots.specs.TrackTree.{IsKept}
-use Rattle.snapshots.specs.TrackWalk.{block_kept, kept_budget, tracks_budget, walk_budget, walk_left}
+use Rattle.snapshots.specs.TrackWalk.{block_kept, kept_budget, walk_budget, walk_left}
 use Rattle.snapshots.specs.View.{SnapshotView}
 use Rattle.snapshots.specs.declared.track_tree.TrackTree.{TrackTree}
 use Rattle.snapshots.proofs.LeafOrderLemmas.{by_leaf-are, by_leaf-weighs}
