@@ -1,7 +1,7 @@
 -- What waits is no nearer than its key, and its key is no less than the distance to the reach of its square.
-use Rattle.std.proofs.Common.{◌≡◌, ℕ, ◌+◌, ◌-◌, ◌*◌, ◌^◌, ◌<◌, ◌≤◌, ◌&&◌, ℤ, pos, ◌+ℤ◌, ◌-ℤ◌, ◌≤ℤ◌, Bool, true, false, List, [], ◌∷◌}
-use Rattle.std.proofs.Common.{length, filter, All, Option, None, Some, get_or, max, min, refl, sym, subst, ◌∙◌, ap, arith, inl, inr}
-use Rattle.std.specs.Prelude.{IfSome, nat_le, slice_index, unsigned_abs}
+use Rattle.std.proofs.Common.{◌≡◌, ℕ, ◌+◌, ◌-◌, ◌^◌, ◌<◌, ◌≤◌, ℤ, pos, ◌+ℤ◌, Bool, true, List, []}
+use Rattle.std.proofs.Common.{length, filter, All, Option, None, Some, get_or, max, refl, sym, subst, ◌∙◌, ap, arith, inl, inr}
+use Rattle.std.specs.Prelude.{IfSome, nat_le, slice_index}
 use Rattle.std.specs.Int.{int_max, int_min}
 use Rattle.std.specs.List.{Contains}
 use Rattle.std.proofs.Math.Nat.{pow-le-pow_right}
@@ -11,7 +11,7 @@ use Rattle.std.proofs.lemmas.Int.{clamps, ints}
 use Rattle.std.proofs.lemmas.List.Elements.{All-contains, All-contains_itself, All-cons, All-nil, All-weaker}
 use Rattle.list_laws.proofs.MemberLemmas.{no_member, Contains-filter}
 use Rattle.track_types.specs.declared.limit.TheConstants.{MAX_HEIGHT}
-use Rattle.track_types.specs.Region.{in_box, nearest_cell, squared_distance}
+use Rattle.track_types.specs.Region.{in_box, squared_distance}
 use Rattle.track_types.specs.Widening.{widened}
 use Rattle.track_types.specs.declared.cell.Cell.{Cell}
 use Rattle.track_types.specs.declared.cell_box.CellBox.{CellBox}
@@ -22,7 +22,7 @@ use Rattle.k2_tree.specs.Areas.{area_at, IsBoxInside}
 use Rattle.k2_tree.specs.Squares.{node}
 use Rattle.box_tree.specs.Boxes.{IsBase}
 use Rattle.box_tree.specs.Levels.{digits}
-use Rattle.box_tree.specs.Places.{ArePassed, ArePlaces, Places, box_at, passes, run_of}
+use Rattle.box_tree.specs.Places.{ArePassed, ArePlaces, box_at, passes, run_of}
 use Rattle.box_tree.specs.Tests.{AreMonotone, Tests, tests_at}
 use Rattle.box_tree.specs.Tree.{IsNodeOf, TreeView, levels_of, node_at, node_square, prefix_of}
 use Rattle.box_tree.specs.declared.node_ref.NodeRef.{NodeRef}
@@ -31,13 +31,12 @@ use Rattle.box_tree.proofs.NearerLemmas.{nearest-wider}
 use Rattle.box_tree.proofs.NodeLemmas.{skipped-square}
 use Rattle.log_cursor.specs.Seek.{is_stop_at}
 use Rattle.rule_store.specs.View.{RulesView}
-use Rattle.snapshots.specs.Parts.{first_in, rules_in, snapshot_in, stops_of}
+use Rattle.snapshots.specs.Parts.{rules_in, snapshot_in, stops_of}
 use Rattle.snapshots.specs.Sound.{IsBlock, IsSnapshot}
-use Rattle.snapshots.specs.Speed.{gap, reach_of, speed_of, width_at, IsReached}
-use Rattle.snapshots.specs.TrackTree.{places_of}
+use Rattle.snapshots.specs.Speed.{gap, reach_of, width_at, IsReached}
 use Rattle.snapshots.specs.TrackWalk.{block_kept}
 use Rattle.snapshots.specs.Tracks.{blocks_by_leaf, cell_box, track_box, IsOnTrack}
-use Rattle.snapshots.specs.View.{SnapshotView, all_blocks}
+use Rattle.snapshots.specs.View.{SnapshotView}
 use Rattle.snapshots.specs.declared.anchored.Anchored.{Anchored}
 use Rattle.snapshots.proofs.KeptLemmas.{All-by_leaf, are_places}
 use Rattle.snapshots.proofs.LeafOrderLemmas.{by_leaf-are}
@@ -45,14 +44,13 @@ use Rattle.snapshots.proofs.ReachLemmas.{within-reach, IsSnapshot-valid}
 use Rattle.snapshots.proofs.TrackLemmas.{on-tracks}
 use Rattle.snapshots.proofs.TracksLemmas.{count_is, kept-at, IsKeptAt}
 use Rattle.nearest_search.specs.Cost.{box_dist2}
-use Rattle.nearest_search.specs.Found.{near_in, near_with}
+use Rattle.nearest_search.specs.Found.{near_in}
 use Rattle.nearest_search.specs.Reach.{key_of, short_width}
-use Rattle.nearest_search.specs.Seeking.{Quest, IsElement, IsOfTree, IsQuest, near_at, places_in, square_in, tree_of}
+use Rattle.nearest_search.specs.Seeking.{Quest, IsElement, IsQuest, near_at, tree_of}
 use Rattle.nearest_search.specs.declared.waiting.Element.{Element}
-use Rattle.nearest_search.specs.declared.waiting.Waiting.{Waiting}
 use Rattle.nearest_search.specs.declared.waiting.Waiting.TheVariants.{Node as AtNode, Place as AtPlace}
-use Rattle.nearest_search.proofs.FoundLemmas.{near-by, IsNearBy}
-use Rattle.nearest_search.proofs.PlacesLemmas.{run-within}
+use Rattle.nearest_search.proofs.FoundLemmas.{near-by}
+use Rattle.box_tree.proofs.PlacesLemmas.{run-within}
 
 -- a cell in a box is no nearer than the box
 dist-inside : (cell other : Cell) (area : CellBox) → IsBoxInside (cell_box other) area

@@ -10,7 +10,7 @@ use Rattle.std.specs.Ordering.{eq_by_cmp, is_eq, is_lt, nat_cmp, ordering_revers
 use Rattle.std.specs.declared.cmp.Ordering.TheVariants.{Less, Equal, Greater}
 use Rattle.std.proofs.lemmas.Bool.{or_parts}
 use Rattle.std.proofs.lemmas.Cmp.{nat_cmp_total, on_total, then_total}
-use Rattle.std.proofs.lemmas.Option.{slice_get_within, slice_get_past, slice_get-map}
+use Rattle.std.proofs.lemmas.Option.{slice_get_within, slice_get-map}
 use Rattle.std.proofs.lemmas.List.{length-append, length-map, map-append, nil_from_length, take_all, take_at}
 use Rattle.std.proofs.lemmas.List.MinMax.{ranks_by}
 use Rattle.std.proofs.lemmas.List.Sorted.{length_permutation}
@@ -22,6 +22,7 @@ use Rattle.list_laws.proofs.SliceLemmas.{slice_get-last}
 use Rattle.track_types.specs.ByFilter.{near_order}
 use Rattle.track_types.specs.declared.cell.Cell.{Cell}
 use Rattle.track_types.specs.declared.near.Near.{Near}
+use Rattle.track_types.proofs.NearLemmas.{near_order_total}
 use Rattle.nearest_search.specs.Cost.{is_no_farther, last_of}
 use Rattle.nearest_search.specs.Kept.{entry_near, kept_nears}
 
@@ -29,12 +30,7 @@ use Rattle.nearest_search.specs.Kept.{entry_near, kept_nears}
 abbrev pub rank_order : ℕ × ℕ → ℕ × ℕ → Ordering
 rank_order a b = ordering_then (nat_cmp a.0 b.0) (nat_cmp a.1 b.1)
 
--- the order of nearness is total
-pub near_order_total : IsTotalOrder near_order
-near_order_total =
-    then_total (on_total (λ (near : Near). near.dist2) nat_cmp_total) (on_total (λ (near : Near). near.object) nat_cmp_total)
-
--- and so is that of ranks
+-- it is total
 rank_order_total : IsTotalOrder rank_order
 rank_order_total =
     then_total (on_total (λ (rank : ℕ × ℕ). rank.0) nat_cmp_total) (on_total (λ (rank : ℕ × ℕ). rank.1) nat_cmp_total)
@@ -172,20 +168,6 @@ all-before near last (entry ∷ entries) after up apart =
       one_before near_order near_order_total near (entry_near entry) alone.0 not_before,
       all-before near last entries after up.1 alone.1,
     )
-
--- fewer are kept than are wanted, so that each has room
-pub room-few : (wanted dist2 : ℕ) (entries : List ((ℕ × ℕ) × Cell)) → length entries < wanted
-    → is_no_farther (last_of wanted (kept_nears entries)) dist2 ≡ true
-room-few wanted dist2 entries few =
-    ap (λ o. is_no_farther o dist2) (slice_get_past (kept_nears entries) (wanted - 1)
-    (omega (arith, few, length-map entries entry_near)))
-
--- none is kept
-pub room-none : (wanted dist2 : ℕ) (entries : List ((ℕ × ℕ) × Cell)) → length entries ≤ 0
-    → is_no_farther (last_of wanted (kept_nears entries)) dist2 ≡ true
-room-none wanted dist2 entries none =
-    ap (λ o. is_no_farther o dist2) (slice_get_past (kept_nears entries) (wanted - 1)
-    (omega (arith, none, length-map entries entry_near)))
 
 -- as many are kept, and this is the last of them
 pub room-last : (wanted dist2 : ℕ) (entries : List ((ℕ × ℕ) × Cell)) (rank : ℕ × ℕ) (cell : Cell)

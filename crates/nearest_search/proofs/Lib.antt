@@ -4,7 +4,6 @@ mod NearsLemmas
 mod FoundLemmas
 mod OnceLemmas
 -- What waits.
-mod PlacesLemmas
 mod ElementLemmas
 mod OpenedLemmas
 -- The search.

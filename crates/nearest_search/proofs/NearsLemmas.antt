@@ -1,7 +1,7 @@
 -- Nears in order: which are below a distance, what lies beyond those that are kept, and that lists of the same ones are
 -- put in one order.
-use Rattle.std.proofs.Common.{◌≡◌, ℕ, zero, suc, ◌+◌, ◌-◌, ◌*◌, ◌^◌, ◌<◌, ◌≤◌, Bool, true, false, List, [], ◌∷◌, ◌++◌, length}
-use Rattle.std.proofs.Common.{take, All, Option, None, Some, refl, sym, ◌∙◌, ap, add-one, arith, inl, inr}
+use Rattle.std.proofs.Common.{◌≡◌, ℕ, zero, suc, ◌+◌, ◌-◌, ◌*◌, ◌^◌, ◌<◌, ◌≤◌, true, false, List, [], ◌∷◌, ◌++◌, length}
+use Rattle.std.proofs.Common.{take, All, refl, sym, ◌∙◌, ap, add-one, arith, inl, inr}
 use Rattle.std.specs.Prelude.{nat_le, nat_lt, slice_get, if◌then◌else◌}
 use Rattle.std.specs.List.{AllByRecursion, sum_by}
 use Rattle.std.specs.List.Sorted.{IsSortedBy}
@@ -18,8 +18,8 @@ use Rattle.list_laws.proofs.OrderedLemmas.{IsPermutation-ordered, IsSortedBy-ord
 use Rattle.list_laws.proofs.WeightLemmas.{same_from_weights, IsRising}
 use Rattle.track_types.specs.ByFilter.{near_order}
 use Rattle.track_types.specs.declared.near.Near.{Near}
+use Rattle.track_types.proofs.NearLemmas.{near_order_total}
 use Rattle.nearest_search.specs.Cost.{is_no_farther}
-use Rattle.nearest_search.proofs.KeptLemmas.{near_order_total}
 
 -- how far it is
 abbrev pub far : Near → ℕ

@@ -1,11 +1,10 @@
 -- What is put among what waits: one element after another, the places of a bucket, the children of a branch.
-use Rattle.std.proofs.Common.{◌≡◌, ℕ, suc, ◌+◌, ◌-◌, ◌*◌, ◌<◌, ◌≤◌, Bool, true, List, [], ◌∷◌, ◌++◌, length, map, min, reverse, All}
+use Rattle.std.proofs.Common.{◌≡◌, ℕ, suc, ◌+◌, ◌-◌, ◌*◌, ◌≤◌, Bool, true, List, [], ◌∷◌, ◌++◌, length, map, min, reverse, All}
 use Rattle.std.proofs.Common.{refl, sym, subst, ◌∙◌, ap, arith, inl, inr, ◌⊎◌}
 use Rattle.std.specs.List.{flat_map, range_with_len, sum_by}
 use Rattle.std.specs.List.Sorted.{IsPermutation}
 use Rattle.std.proofs.lemmas.Bool.{cases_lt}
 use Rattle.std.proofs.lemmas.List.Elements.{All-append, All-cons, All-head, All-nil, All-tail}
-use Rattle.std.proofs.lemmas.List.FromFn.{length-range_with_len}
 use Rattle.std.proofs.lemmas.List.Sorted.{All-permutation, IsPermutation-reverse, IsPermutation-sym, sum_by-IsPermutation, sum_by_pushed}
 use Rattle.std.proofs.lemmas.List.Sums.{sum_by-append, sum_by-cons}
 use Rattle.list_laws.proofs.FlatLemmas.{sum_by-flat_map, sum_by-map, sum_by_plus}
@@ -13,7 +12,7 @@ use Rattle.list_laws.proofs.SumLemmas.{sum_by-agree, sum_by-zeros}
 use Rattle.k2_tree.specs.Squares.{Node}
 use Rattle.box_tree.specs.Cost.{box_reads, link_reads, place_reads}
 use Rattle.box_tree.specs.Held.{IsBucket, IsKindFor}
-use Rattle.box_tree.specs.Levels.{digits, run, squares_in}
+use Rattle.box_tree.specs.Levels.{digits, run}
 use Rattle.box_tree.specs.Places.{run_of, square, square_worth}
 use Rattle.box_tree.specs.Tree.{IsNodeOf, TreeView, levels_of, node_at, node_square, prefix_of}
 use Rattle.box_tree.specs.Walk.{IsGivenWay, turns_in}
@@ -22,12 +21,12 @@ use Rattle.box_tree.specs.declared.node_ref.NodeRef.{NodeRef}
 use Rattle.box_tree.proofs.NodeLemmas.{squares_in-own, square_worth-bucket, square_worth-cell}
 use Rattle.box_tree.proofs.WalkLemmas.{bucket-parts}
 use Rattle.nearest_search.specs.Seeking.{Quest, AreAdded, IsElement, IsOpened, IsPaid, IsQuest, IsQueued}
-use Rattle.nearest_search.specs.Seeking.{places_in, square_in, sum_waiting, tree_of, turns_left, worth_left}
+use Rattle.nearest_search.specs.Seeking.{places_in, tree_of, turns_left, worth_left}
 use Rattle.nearest_search.specs.declared.waiting.Element.{Element}
 use Rattle.nearest_search.specs.declared.waiting.Waiting.{Waiting}
 use Rattle.nearest_search.specs.declared.waiting.Waiting.TheVariants.{Node as AtNode, Place as AtPlace}
 use Rattle.nearest_search.proofs.ElementLemmas.{are-places}
-use Rattle.nearest_search.proofs.PlacesLemmas.{first_in-le}
+use Rattle.box_tree.proofs.PlacesLemmas.{first_in-le}
 
 -- how often places are counted is how many there are
 pub sum_by-ones : {X : Type 0} (xs : List X) → sum_by (λ _. 1) xs ≡ length xs
@@ -274,17 +273,6 @@ pub record AreMoving (quest : Quest) (first left : List NodeRef) (old new : List
   pub reads : steps ≤ begun + box_reads * length done
 
 module _ (quest : Quest) where
-  -- none yet
-  pub moving-first : (first : List NodeRef) (old : List Element) (begun : ℕ) → All (IsNodeOf (tree_of quest)) first
-      → AreMoving quest first first old old begun begun
-  moving-first first old begun all = record {
-    done = [];
-    sums = λ f. let nothing : sum_by f [] ≡ 0 = refl in omega (arith, nothing);
-    nodes = all;
-    added = added-none quest old;
-    reads = omega arith;
-  }
-
   module _ (first waiting left : List NodeRef) (ref : NodeRef) (old now : List Element) (begun steps : ℕ)
       (split : waiting ≡ left ++ ref ∷ []) (moving : AreMoving quest first waiting old now begun steps) where
     -- there are as many in all

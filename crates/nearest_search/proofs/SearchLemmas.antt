@@ -1,8 +1,8 @@
 -- How what is known of a search goes on: it begins with the node of the whole grid, a node is opened, a place is sought,
 -- and it ends.
 use Rattle.std.proofs.Common.{◌≡◌, ℕ, zero, suc, ◌+◌, ◌-◌, ◌*◌, ◌<◌, ◌≤◌, Bool, true, false, List, [], ◌∷◌, length, take, All}
-use Rattle.std.proofs.Common.{Option, None, Some, refl, sym, subst, ◌∙◌, ap, arith}
-use Rattle.std.specs.Prelude.{nat_lt, if◌then◌else◌}
+use Rattle.std.proofs.Common.{None, Some, refl, sym, subst, ◌∙◌, ap, arith}
+use Rattle.std.specs.Prelude.{nat_lt}
 use Rattle.std.specs.List.{filter_map, list_any, range_with_len, sum_by}
 use Rattle.std.specs.List.Sorted.{IsPermutation}
 use Rattle.std.specs.Ordering.{eq_by_cmp}
@@ -25,13 +25,13 @@ use Rattle.snapshots.specs.Parts.{chart_in}
 use Rattle.nearest_search.specs.Cost.{is_no_farther, last_of, period_near_cost}
 use Rattle.nearest_search.specs.Kept.{ClosestView}
 use Rattle.nearest_search.specs.Seeking.{Quest, AreSeeking, IsElement, IsOfTree, IsOpened, IsPaid, IsQuest, IsQueued}
-use Rattle.nearest_search.specs.Seeking.{near_at, near_squares, places_in, seek_reads_at, square_in, sum_waiting, tree_of, turns_left, worth_left}
+use Rattle.nearest_search.specs.Seeking.{near_at, near_squares, places_in, seek_reads_at, square_in, sum_waiting, tree_of, worth_left}
 use Rattle.nearest_search.specs.declared.waiting.Element.{Element}
 use Rattle.nearest_search.specs.declared.waiting.Waiting.{Waiting}
 use Rattle.nearest_search.specs.declared.waiting.Waiting.TheVariants.{Node as AtNode, Place as AtPlace}
 use Rattle.nearest_search.proofs.CostLemmas.{paid-by}
 use Rattle.nearest_search.proofs.ElementLemmas.{alone-element, alone_of, are-places}
-use Rattle.nearest_search.proofs.PlacesLemmas.{run-whole}
+use Rattle.box_tree.proofs.PlacesLemmas.{run-whole}
 use Rattle.nearest_search.proofs.SeekingLemmas.{answer-beyond, answer-end, place-apart, taken-enough}
 
 -- nothing is kept of nothing

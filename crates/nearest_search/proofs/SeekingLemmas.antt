@@ -1,14 +1,14 @@
 -- What is found while the least key is taken first, and that what is taken is near enough.
-use Rattle.std.proofs.Common.{◌≡◌, ℕ, zero, suc, ◌+◌, ◌-◌, ◌*◌, ◌^◌, ◌<◌, ◌≤◌, Bool, true, false, List, [], ◌∷◌, ◌++◌, length, map, take}
+use Rattle.std.proofs.Common.{◌≡◌, ℕ, ◌+◌, ◌-◌, ◌<◌, ◌≤◌, true, false, List, [], ◌∷◌, ◌++◌, length, take}
 use Rattle.std.proofs.Common.{All, Option, None, Some, get_or, refl, sym, subst, ◌∙◌, ap, arith, inl, inr}
-use Rattle.std.specs.Prelude.{◌==◌, IfSome, nat_le, nat_lt, slice_index, if◌then◌else◌}
-use Rattle.std.specs.List.{AllByRecursion, filter_map, flat_map, list_any, range_with_len, sum_by}
+use Rattle.std.specs.Prelude.{◌==◌, IfSome, nat_lt, slice_index}
+use Rattle.std.specs.List.{filter_map, flat_map, list_any, range_with_len, sum_by}
 use Rattle.std.specs.Ordering.{eq_by_cmp}
 use Rattle.std.proofs.lemmas.Bool.{cases_Bool, eq-eqb}
 use Rattle.std.proofs.lemmas.Bool.Decides.{nat_tests}
 use Rattle.std.proofs.lemmas.List.Elements.{All-append, All-cons, All-contains_itself, All-nil, All-weaker}
 use Rattle.std.proofs.lemmas.List.Sums.{sum_by-append, sum_by-cons}
-use Rattle.list_laws.specs.Ordered.{AreApart, ordered}
+use Rattle.list_laws.specs.Ordered.{ordered}
 use Rattle.list_laws.proofs.FlatLemmas.{sum_by-flat_map, sum_by-map, All-flat_map}
 use Rattle.list_laws.proofs.LeastLemmas.{least-take}
 use Rattle.list_laws.proofs.OptionLemmas.{All-made}
@@ -17,12 +17,13 @@ use Rattle.list_laws.proofs.SumLemmas.{made_weight, sum_by-filter_map}
 use Rattle.track_types.specs.ByFilter.{near_order, nearest_among, nears_at, nears_of}
 use Rattle.track_types.specs.declared.near.Near.{Near}
 use Rattle.track_types.specs.declared.row.Row.{Row}
+use Rattle.track_types.proofs.NearLemmas.{near_order_total}
 use Rattle.box_tree.specs.Places.{all_places}
 use Rattle.box_tree.specs.Levels.{digits}
 use Rattle.box_tree.specs.Tree.{TreeView, levels_of, prefix_of}
 use Rattle.k2_tree.specs.Areas.{area_at}
 use Rattle.snapshots.specs.Objects.{WeighSame}
-use Rattle.snapshots.specs.Parts.{chart_in, period_in, rules_in, snapshot_in}
+use Rattle.snapshots.specs.Parts.{chart_in, rules_in, snapshot_in}
 use Rattle.snapshots.specs.Sound.{IsBlock}
 use Rattle.snapshots.specs.Speed.{reach_of}
 use Rattle.snapshots.specs.TrackWalk.{block_kept}
@@ -40,11 +41,10 @@ use Rattle.nearest_search.specs.declared.waiting.Element.{Element}
 use Rattle.nearest_search.specs.declared.waiting.Waiting.{Waiting}
 use Rattle.nearest_search.specs.declared.waiting.Waiting.TheVariants.{Node as AtNode, Place as AtPlace}
 use Rattle.nearest_search.proofs.ElementLemmas.{kept-block, snap}
-use Rattle.nearest_search.proofs.FoundLemmas.{near-by, nears_at-blocks, none-taken, object-of, same-place, seen-one, seen-small, IsSeen}
-use Rattle.nearest_search.proofs.KeptLemmas.{near_order_total}
+use Rattle.nearest_search.proofs.FoundLemmas.{nears_at-blocks, none-taken, object-of, same-place, seen-one, seen-small, IsSeen}
 use Rattle.nearest_search.proofs.NearsLemmas.{far, is_nearer, kept-nearer, last-agrees, nearer_count, ordered-same, take-beyond}
 use Rattle.nearest_search.proofs.OnceLemmas.{apart-none, apart-once, has_object, range-once, sum_by-none}
-use Rattle.nearest_search.proofs.PlacesLemmas.{run-within}
+use Rattle.box_tree.proofs.PlacesLemmas.{run-within}
 
 -- what is no farther than something that is near enough is near enough
 pub no-farther-le : (last : Option Near) (a b : ℕ) → a ≤ b → is_no_farther last b ≡ true → is_no_farther last a ≡ true

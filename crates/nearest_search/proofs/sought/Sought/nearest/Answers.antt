@@ -1,4 +1,4 @@
-use Rattle.std.proofs.Common.{◌≡◌, ℕ, ◌+◌, ◌<◌, ◌≤◌, Bool, List, [], ◌∷◌, take, refl, sym, ap, subst, ◌∙◌, arith}
+use Rattle.std.proofs.Common.{◌≡◌, ℕ, true, List, ◌∷◌, take, refl, sym, ap, subst, ◌∙◌, arith}
 use Rattle.std.specs.Prelude.{IfOk}
 use Rattle.std.specs.List.{filter_map}
 use Rattle.std.specs.BinaryHeap.{heap_items}
@@ -9,41 +9,55 @@ use Rattle.track_types.specs.ByFilter.{near_order}
 use Rattle.track_types.specs.declared.near.Near.{Near}
 use Rattle.nearest_search.specs.Cost.{is_no_farther, last_of}
 use Rattle.nearest_search.specs.Kept.{ClosestView}
-use Rattle.nearest_search.specs.Seeking.{near_at, near_squares, quest_of, square_in, turns_left, worth_left}
+use Rattle.nearest_search.specs.Seeking.{near_at, near_squares, quest_of, square_in, turns_left, worth_left, AreSeeking}
 use Rattle.nearest_search.specs.declared.waiting.Element.{Element}
+use Rattle.nearest_search.specs.declared.waiting.Waiting.{Waiting}
 use Rattle.nearest_search.proofs.SearchLemmas.{nears-none, nears-some, seeking-apart, seeking-beyond, seeking-end, seeking-enough}
 use Rattle.nearest_search.proofs.SearchLemmas.{seeking-known, seeking-moved, seeking-node, seeking-opened, seeking-paid, seeking-sought}
+use Rattle.nearest_search.proofs.sought.Sought.nearest.Given.{Over}
 use Rattle.nearest_search.proofs.sought.Sought.nearest.Goals as goal
+use Rattle.nearest_search.proofs.sought.Sought.nearest.Goals.{After-has_room_for}
+
+-- what was taken stands in front of what is left
+moved : (g : Over) (c : After-has_room_for g)
+    → AreSeeking (quest_of c.args.self.now) c.args.count c.args.steps.now
+    (c.in-Some.taken ∷ heap_items c.take.new.self.heap) c.loop-taken.closest c.loop-taken.steps
+moved g c =
+    seeking-moved (quest_of c.args.self.now) c.requires.search.is c.args.count c.requires.some c.args.steps.now
+    c.loop-taken.steps c.loop-taken.closest (heap_items c.loop-taken.queue.heap)
+    (c.in-Some.taken ∷ heap_items c.take.new.self.heap) c.in-Some.ensures.moved c.loop-taken.invariant
+
+-- the call told whether it is near enough
+told : (g : Over) (c : After-has_room_for g)
+    → is_no_farther (last_of c.args.count c.loop-taken.closest.nears) c.in-Some.taken.key ≡ c.has_room_for.result
+told g c =
+    sym (ap (λ k. is_no_farther (last_of k c.loop-taken.closest.nears) c.in-Some.taken.key) c.loop-taken.invariant.wanted)
+    ∙ sym c.has_room_for.ensures
+
+-- and where it is, its square passes
+passes : (g : Over) (c : After-has_room_for g) (waiting : Waiting) → c.has_room_for.result ≡ true
+    → c.in-Some.taken.waiting ≡ waiting
+    → near_squares (quest_of c.args.self.now) c.args.count (square_in (quest_of c.args.self.now) waiting) ≡ true
+passes g c waiting holds waits =
+    ap (λ w. near_squares (quest_of c.args.self.now) c.args.count (square_in (quest_of c.args.self.now) w)) (sym waits)
+    ∙ seeking-enough _ c.requires.search.is _ c.requires.some _ _ _ _ _ (moved g c) c.in-Some.ensures.least (told g c ∙ holds)
 
 pub returns-then-not-has_room_for-clause-ok : goal.returns-then-not-has_room_for-clause-ok
 returns-then-not-has_room_for-clause-ok g c =
-    let moved = seeking-moved (quest_of c.args.self.now) c.requires.search.is c.args.count c.requires.some c.args.steps.now
-    c.loop-taken.steps c.loop-taken.closest (heap_items c.loop-taken.queue.heap)
-    (c.in-Some.taken ∷ heap_items c.take.new.self.heap) c.in-Some.ensures.moved c.loop-taken.invariant in
-    let same = ap (λ k. is_no_farther (last_of k c.loop-taken.closest.nears) c.in-Some.taken.key)
-    c.loop-taken.invariant.wanted in
-    let beyond = sym same ∙ sym c.has_room_for.ensures ∙ c.if-not-has_room_for.true in
+    let at = (goal.at.returns-then-not-has_room_for-clause-ok g c).After-has_room_for in
     subst (λ (ns : List Near). IfOk c.into_vec.result (λ found. found.items ≡ ns))
-    (seeking-beyond (quest_of c.args.self.now) c.requires.search.is c.args.count c.requires.some c.args.steps.now
-    c.loop-taken.steps c.loop-taken.closest c.in-Some.taken
-    (heap_items c.take.new.self.heap) moved
-    c.in-Some.ensures.least beyond) c.into_vec.ensures
+    (seeking-beyond _ c.requires.search.is _ c.requires.some _ _ _ _ _ (moved g at) c.in-Some.ensures.least
+    (told g at ∙ c.if-not-has_room_for.true)) c.into_vec.ensures
 
 pub returns-then-not-has_room_for-clause-cost : goal.returns-then-not-has_room_for-clause-cost
 returns-then-not-has_room_for-clause-cost g c =
-    let paid = seeking-paid (quest_of c.args.self.now) c.requires.search.is c.args.count c.requires.some c.args.steps.now
-    c.loop-taken.steps c.loop-taken.closest
-    (heap_items c.loop-taken.queue.heap) c.loop-taken.invariant in
+    let paid = seeking-paid _ c.requires.search.is _ c.requires.some _ _ _ _ c.loop-taken.invariant in
     omega (arith, paid)
 
 pub open-requires-clause-node : goal.open-requires-clause-node
 open-requires-clause-node g c =
-    let moved = seeking-moved (quest_of c.args.self.now) c.requires.search.is c.args.count c.requires.some c.args.steps.now
-    c.loop-taken.steps c.loop-taken.closest (heap_items c.loop-taken.queue.heap)
-    (c.in-Some.taken ∷ heap_items c.take.new.self.heap) c.in-Some.ensures.moved c.loop-taken.invariant in
-    seeking-node (quest_of c.args.self.now) c.requires.search.is c.args.count c.requires.some c.args.steps.now
-    c.loop-taken.steps c.loop-taken.closest c.in-Some.taken
-    (heap_items c.take.new.self.heap) moved c.in-Node.node c.in-Node.is
+    let at = (goal.at.open-requires-clause-node g c).After-has_room_for in
+    seeking-node _ c.requires.search.is _ c.requires.some _ _ _ _ _ (moved g at) c.in-Node.node c.in-Node.is
 
 pub loop-taken-smaller-in-Continue-branch-2 : goal.loop-taken-smaller-in-Continue-branch-2
 loop-taken-smaller-in-Continue-branch-2 g c =
@@ -57,70 +71,37 @@ loop-taken-smaller-in-Continue-branch-2 g c =
 
 pub loop-taken-preserved-in-Continue-branch-2 : goal.loop-taken-preserved-in-Continue-branch-2
 loop-taken-preserved-in-Continue-branch-2 g c =
-    let moved = seeking-moved (quest_of c.args.self.now) c.requires.search.is c.args.count c.requires.some c.args.steps.now
-    c.loop-taken.steps c.loop-taken.closest (heap_items c.loop-taken.queue.heap)
-    (c.in-Some.taken ∷ heap_items c.take.new.self.heap) c.in-Some.ensures.moved c.loop-taken.invariant in
-    let same = ap (λ k. is_no_farther (last_of k c.loop-taken.closest.nears) c.in-Some.taken.key)
-    c.loop-taken.invariant.wanted in
-    let holds = sym same ∙ sym c.has_room_for.ensures ∙ c.if-not-has_room_for.false in
-    let enough = seeking-enough (quest_of c.args.self.now) c.requires.search.is c.args.count c.requires.some c.args.steps.now
-    c.loop-taken.steps c.loop-taken.closest c.in-Some.taken
-    (heap_items c.take.new.self.heap) moved
-    c.in-Some.ensures.least holds in
-    let passes = ap (λ w. near_squares (quest_of c.args.self.now) c.args.count (square_in (quest_of c.args.self.now) w))
-    (sym c.in-Node.is) ∙ enough in
-    seeking-opened (quest_of c.args.self.now) c.requires.search.is c.args.count c.requires.some c.args.steps.now
-    c.loop-taken.steps c.loop-taken.closest c.in-Some.taken
-    (heap_items c.take.new.self.heap) moved c.in-Node.node
-    (heap_items c.open.new.queue.heap) c.open.new.steps c.in-Node.is passes c.in_ok-open-in-Node.ensures.opened
+    let at = (goal.at.loop-taken-preserved-in-Continue-branch-2 g c).After-has_room_for in
+    seeking-opened _ c.requires.search.is _ c.requires.some _ _ _ _ _ (moved g at) c.in-Node.node
+    (heap_items c.open.new.queue.heap) c.open.new.steps c.in-Node.is
+    (passes g at _ c.if-not-has_room_for.false c.in-Node.is) c.in_ok-open-in-Node.ensures.opened
     c.in_ok-open-in-Node.ensures.paid
 
 pub returns-in_err-open-in-Node-clause-cost : goal.returns-in_err-open-in-Node-clause-cost
 returns-in_err-open-in-Node-clause-cost g c =
-    let moved = seeking-moved (quest_of c.args.self.now) c.requires.search.is c.args.count c.requires.some c.args.steps.now
-    c.loop-taken.steps c.loop-taken.closest (heap_items c.loop-taken.queue.heap)
-    (c.in-Some.taken ∷ heap_items c.take.new.self.heap) c.in-Some.ensures.moved c.loop-taken.invariant in
-    let same = ap (λ k. is_no_farther (last_of k c.loop-taken.closest.nears) c.in-Some.taken.key)
-    c.loop-taken.invariant.wanted in
-    let holds = sym same ∙ sym c.has_room_for.ensures ∙ c.if-not-has_room_for.false in
-    let enough = seeking-enough (quest_of c.args.self.now) c.requires.search.is c.args.count c.requires.some c.args.steps.now
-    c.loop-taken.steps c.loop-taken.closest c.in-Some.taken
-    (heap_items c.take.new.self.heap) moved
-    c.in-Some.ensures.least holds in
-    let passes = ap (λ w. near_squares (quest_of c.args.self.now) c.args.count (square_in (quest_of c.args.self.now) w))
-    (sym c.in-Node.is) ∙ enough in
-    let reads : Element → ℕ = λ (e : Element). worth_left (quest_of c.args.self.now)
-    (near_squares (quest_of c.args.self.now) c.args.count) e.waiting in
-    let paid = seeking-paid (quest_of c.args.self.now) c.requires.search.is c.args.count c.requires.some c.args.steps.now
-    c.loop-taken.steps c.loop-taken.closest
-    (c.in-Some.taken ∷ heap_items c.take.new.self.heap) moved in
-    let most = c.open.ensures.cost (near_squares (quest_of c.args.self.now) c.args.count) passes in
+    let at = (goal.at.returns-in_err-open-in-Node-clause-cost g c).After-has_room_for in
+    let test = near_squares (quest_of c.args.self.now) c.args.count in
+    let reads : Element → ℕ = λ (e : Element). worth_left (quest_of c.args.self.now) test e.waiting in
+    let paid = seeking-paid _ c.requires.search.is _ c.requires.some _ _ _ _ (moved g at) in
+    let most = c.open.ensures.cost test (passes g at _ c.if-not-has_room_for.false c.in-Node.is) in
     omega (
       arith,
       paid,
       most,
       sum_by-cons reads c.in-Some.taken (heap_items c.take.new.self.heap),
-      ap (worth_left (quest_of c.args.self.now) (near_squares (quest_of c.args.self.now) c.args.count)) c.in-Node.is,
+      ap (worth_left (quest_of c.args.self.now) test) c.in-Node.is,
     )
 
 pub near-requires-clause-place : goal.near-requires-clause-place
 near-requires-clause-place g c =
-    let moved = seeking-moved (quest_of c.args.self.now) c.requires.search.is c.args.count c.requires.some c.args.steps.now
-    c.loop-taken.steps c.loop-taken.closest (heap_items c.loop-taken.queue.heap)
-    (c.in-Some.taken ∷ heap_items c.take.new.self.heap) c.in-Some.ensures.moved c.loop-taken.invariant in
-    seeking-known (quest_of c.args.self.now) c.requires.search.is c.args.count c.requires.some c.args.steps.now
-    c.loop-taken.steps c.loop-taken.closest c.in-Some.taken
-    (heap_items c.take.new.self.heap) moved c.in-Place.place c.in-Place.is
+    let at = (goal.at.near-requires-clause-place g c).After-has_room_for in
+    seeking-known _ c.requires.search.is _ c.requires.some _ _ _ _ _ (moved g at) c.in-Place.place c.in-Place.is
 
 pub offer-requires : goal.offer-requires
 offer-requires g c =
-    let moved = seeking-moved (quest_of c.args.self.now) c.requires.search.is c.args.count c.requires.some c.args.steps.now
-    c.loop-taken.steps c.loop-taken.closest (heap_items c.loop-taken.queue.heap)
-    (c.in-Some.taken ∷ heap_items c.take.new.self.heap) c.in-Some.ensures.moved c.loop-taken.invariant in
+    let at = (goal.at.offer-requires g c).After-has_room_for in
     record {
-      apart = seeking-apart (quest_of c.args.self.now) c.requires.search.is c.args.count c.requires.some c.args.steps.now
-          c.loop-taken.steps c.loop-taken.closest c.in-Some.taken
-          (heap_items c.take.new.self.heap) moved c.in-Place.place
+      apart = seeking-apart _ c.requires.search.is _ c.requires.some _ _ _ _ _ (moved g at) c.in-Place.place
           c.in-Some-near.near c.in-Place.is (sym c.near.ensures.value ∙ c.in-Some-near.is);
     }
 
@@ -135,53 +116,24 @@ loop-taken-smaller-in-Continue-branch-3 g c =
 
 pub loop-taken-preserved-in-Continue-branch-3 : goal.loop-taken-preserved-in-Continue-branch-3
 loop-taken-preserved-in-Continue-branch-3 g c =
-    let moved = seeking-moved (quest_of c.args.self.now) c.requires.search.is c.args.count c.requires.some c.args.steps.now
-    c.loop-taken.steps c.loop-taken.closest (heap_items c.loop-taken.queue.heap)
-    (c.in-Some.taken ∷ heap_items c.take.new.self.heap) c.in-Some.ensures.moved c.loop-taken.invariant in
-    let same = ap (λ k. is_no_farther (last_of k c.loop-taken.closest.nears) c.in-Some.taken.key)
-    c.loop-taken.invariant.wanted in
-    let holds = sym same ∙ sym c.has_room_for.ensures ∙ c.if-not-has_room_for.false in
-    let enough = seeking-enough (quest_of c.args.self.now) c.requires.search.is c.args.count c.requires.some c.args.steps.now
-    c.loop-taken.steps c.loop-taken.closest c.in-Some.taken
-    (heap_items c.take.new.self.heap) moved
-    c.in-Some.ensures.least holds in
-    let passes = ap (λ w. near_squares (quest_of c.args.self.now) c.args.count (square_in (quest_of c.args.self.now) w))
-    (sym c.in-Place.is) ∙ enough in
-    seeking-sought (quest_of c.args.self.now) c.requires.search.is c.args.count c.requires.some c.args.steps.now
-    c.loop-taken.steps c.loop-taken.closest c.in-Some.taken
-    (heap_items c.take.new.self.heap) moved c.in-Place.place
-    c.offer.new.self c.near.new.steps c.in-Place.is passes c.near.ensures.cost
-    (c.in_ok-offer-in-Place.ensures.wanted ∙ c.loop-taken.invariant.wanted)
-    (nears-some (quest_of c.args.self.now) c.requires.search.is c.args.count c.requires.some c.args.steps.now
-    c.loop-taken.steps c.loop-taken.closest c.in-Some.taken
-    (heap_items c.take.new.self.heap) moved c.in-Place.place
+    let at = (goal.at.loop-taken-preserved-in-Continue-branch-3 g c).After-has_room_for in
+    seeking-sought _ c.requires.search.is _ c.requires.some _ _ _ _ _ (moved g at) c.in-Place.place
+    c.offer.new.self c.near.new.steps c.in-Place.is (passes g at _ c.if-not-has_room_for.false c.in-Place.is)
+    c.near.ensures.cost (c.in_ok-offer-in-Place.ensures.wanted ∙ c.loop-taken.invariant.wanted)
+    (nears-some _ c.requires.search.is _ c.requires.some _ _ _ _ _ (moved g at) c.in-Place.place
     c.in-Some-near.near c.offer.new.self.nears (sym c.near.ensures.value ∙ c.in-Some-near.is) c.in_ok-offer-in-Place.ensures.nears)
 
 pub returns-in_err-offer-in-Place-clause-cost : goal.returns-in_err-offer-in-Place-clause-cost
 returns-in_err-offer-in-Place-clause-cost g c =
-    let moved = seeking-moved (quest_of c.args.self.now) c.requires.search.is c.args.count c.requires.some c.args.steps.now
-    c.loop-taken.steps c.loop-taken.closest (heap_items c.loop-taken.queue.heap)
-    (c.in-Some.taken ∷ heap_items c.take.new.self.heap) c.in-Some.ensures.moved c.loop-taken.invariant in
-    let same = ap (λ k. is_no_farther (last_of k c.loop-taken.closest.nears) c.in-Some.taken.key)
-    c.loop-taken.invariant.wanted in
-    let holds = sym same ∙ sym c.has_room_for.ensures ∙ c.if-not-has_room_for.false in
-    let enough = seeking-enough (quest_of c.args.self.now) c.requires.search.is c.args.count c.requires.some c.args.steps.now
-    c.loop-taken.steps c.loop-taken.closest c.in-Some.taken
-    (heap_items c.take.new.self.heap) moved
-    c.in-Some.ensures.least holds in
-    let passes = ap (λ w. near_squares (quest_of c.args.self.now) c.args.count (square_in (quest_of c.args.self.now) w))
-    (sym c.in-Place.is) ∙ enough in
+    let at = (goal.at.returns-in_err-offer-in-Place-clause-cost g c).After-has_room_for in
     let next : ClosestView = record {
       wanted = c.args.count;
       nears = take c.args.count (ordered near_order
-          (filter_map (near_at (quest_of c.args.self.now)) (c.in-Place.place ∷ moved.sought)));
+          (filter_map (near_at (quest_of c.args.self.now)) (c.in-Place.place ∷ (moved g at).sought)));
     } in
-    let seeking = seeking-sought (quest_of c.args.self.now) c.requires.search.is c.args.count c.requires.some c.args.steps.now
-    c.loop-taken.steps c.loop-taken.closest c.in-Some.taken
-    (heap_items c.take.new.self.heap) moved c.in-Place.place
-    next c.near.new.steps c.in-Place.is passes c.near.ensures.cost refl refl in
-    let paid = seeking-paid (quest_of c.args.self.now) c.requires.search.is c.args.count c.requires.some c.args.steps.now
-    c.near.new.steps next (heap_items c.take.new.self.heap) seeking in
+    let seeking = seeking-sought _ c.requires.search.is _ c.requires.some _ _ _ _ _ (moved g at) c.in-Place.place
+    next c.near.new.steps c.in-Place.is (passes g at _ c.if-not-has_room_for.false c.in-Place.is) c.near.ensures.cost refl refl in
+    let paid = seeking-paid _ c.requires.search.is _ c.requires.some _ _ _ _ seeking in
     omega (arith, paid)
 
 pub loop-taken-smaller : goal.loop-taken-smaller
@@ -195,37 +147,20 @@ loop-taken-smaller g c =
 
 pub loop-taken-preserved : goal.loop-taken-preserved
 loop-taken-preserved g c =
-    let moved = seeking-moved (quest_of c.args.self.now) c.requires.search.is c.args.count c.requires.some c.args.steps.now
-    c.loop-taken.steps c.loop-taken.closest (heap_items c.loop-taken.queue.heap)
-    (c.in-Some.taken ∷ heap_items c.take.new.self.heap) c.in-Some.ensures.moved c.loop-taken.invariant in
-    let same = ap (λ k. is_no_farther (last_of k c.loop-taken.closest.nears) c.in-Some.taken.key)
-    c.loop-taken.invariant.wanted in
-    let holds = sym same ∙ sym c.has_room_for.ensures ∙ c.if-not-has_room_for.false in
-    let enough = seeking-enough (quest_of c.args.self.now) c.requires.search.is c.args.count c.requires.some c.args.steps.now
-    c.loop-taken.steps c.loop-taken.closest c.in-Some.taken
-    (heap_items c.take.new.self.heap) moved
-    c.in-Some.ensures.least holds in
-    let passes = ap (λ w. near_squares (quest_of c.args.self.now) c.args.count (square_in (quest_of c.args.self.now) w))
-    (sym c.in-Place.is) ∙ enough in
-    seeking-sought (quest_of c.args.self.now) c.requires.search.is c.args.count c.requires.some c.args.steps.now
-    c.loop-taken.steps c.loop-taken.closest c.in-Some.taken
-    (heap_items c.take.new.self.heap) moved c.in-Place.place
-    c.loop-taken.closest c.near.new.steps c.in-Place.is passes c.near.ensures.cost c.loop-taken.invariant.wanted
-    (nears-none (quest_of c.args.self.now) c.requires.search.is c.args.count c.requires.some c.args.steps.now
-    c.loop-taken.steps c.loop-taken.closest c.in-Some.taken
-    (heap_items c.take.new.self.heap) moved c.in-Place.place
+    let at = (goal.at.loop-taken-preserved g c).After-has_room_for in
+    seeking-sought _ c.requires.search.is _ c.requires.some _ _ _ _ _ (moved g at) c.in-Place.place
+    c.loop-taken.closest c.near.new.steps c.in-Place.is (passes g at _ c.if-not-has_room_for.false c.in-Place.is)
+    c.near.ensures.cost c.loop-taken.invariant.wanted
+    (nears-none _ c.requires.search.is _ c.requires.some _ _ _ _ _ (moved g at) c.in-Place.place
     (sym c.near.ensures.value ∙ c.in_default-near.is))
 
 pub returns-clause-ok : goal.returns-clause-ok
 returns-clause-ok g c =
     subst (λ (ns : List Near). IfOk c.into_vec-2.result (λ found. found.items ≡ ns))
-    (seeking-end (quest_of c.args.self.now) c.requires.search.is c.args.count c.requires.some c.args.steps.now
-    c.loop-taken.steps c.loop-taken.closest
-    (heap_items c.loop-taken.queue.heap) c.in_default.ensures.none c.loop-taken.invariant) c.into_vec-2.ensures
+    (seeking-end _ c.requires.search.is _ c.requires.some _ _ _ _ c.in_default.ensures.none c.loop-taken.invariant)
+    c.into_vec-2.ensures
 
 pub returns-clause-cost : goal.returns-clause-cost
 returns-clause-cost g c =
-    let paid = seeking-paid (quest_of c.args.self.now) c.requires.search.is c.args.count c.requires.some c.args.steps.now
-    c.loop-taken.steps c.loop-taken.closest
-    (heap_items c.loop-taken.queue.heap) c.loop-taken.invariant in
+    let paid = seeking-paid _ c.requires.search.is _ c.requires.some _ _ _ _ c.loop-taken.invariant in
     omega (arith, paid)
