@@ -13,14 +13,15 @@ use Rattle.track_types.specs.declared.cell_box.CellBox.{CellBox}
 use Rattle.track_types.specs.declared.frame.Frame.{Frame}
 use Rattle.track_types.specs.declared.parts.Parts.{Parts}
 use Rattle.track_types.specs.declared.region.Region.{Region}
-use Rattle.track_types.proofs.RegionLemmas.{in_box-bounds, in_box-from, intersects_region-exact, is_between-from}
+use Rattle.track_types.proofs.RegionLemmas.{in_box-from, intersects_region-exact, is_between-from}
 use Rattle.track_types.proofs.WideningLemmas.{in_box-wider}
 use Rattle.k2_tree.specs.Morton.{IsInGrid}
 use Rattle.k2_tree.specs.Pruning.{IsWeaker}
 use Rattle.snapshots.specs.Speed.{gap, width_at}
 use Rattle.snapshots.specs.Tracks.{cell_box}
 use Rattle.slice_search.specs.Cost.{is_within_reach}
-use Rattle.slice_search.specs.Reach.{cut, cut_box, grid_of, may_reach, may_reach_in, meets, short_width}
+use Rattle.box_tree.specs.Touching.{touches}
+use Rattle.slice_search.specs.Reach.{cut, cut_box, grid_of, may_reach, may_reach_in, short_width}
 
 -- what both tests say, from the first
 pub both-hold : (a b result : Bool) → a ≡ true → result ≡ b → result ≡ (a && b)
@@ -47,7 +48,7 @@ abbrev pub InBoth : CellBox → CellBox → Cell → Type 0
 InBoth grid area cell = (in_box grid cell ≡ true) × (in_box area cell ≡ true)
 
 -- the cells of a cut box
-in_box-uncut : (grid area : CellBox) (cell : Cell) → meets grid area ≡ true → in_box (cut_box grid area) cell ≡ true
+in_box-uncut : (grid area : CellBox) (cell : Cell) → touches grid area ≡ true → in_box (cut_box grid area) cell ≡ true
     → InBoth grid area cell
 in_box-uncut grid area cell common inside =
     let axes = and_parts (overlaps grid.x1 grid.x2 area.x1 area.x2) (overlaps grid.y1 grid.y2 area.y1 area.y2) common in
@@ -58,7 +59,7 @@ in_box-uncut grid area cell common inside =
     (and_from _ _ across.0 along.0, and_from _ _ across.1 along.1)
 
 in_box-cut : (grid area : CellBox) (cell : Cell) → InBoth grid area cell
-    → (meets grid area ≡ true) × (in_box (cut_box grid area) cell ≡ true)
+    → (touches grid area ≡ true) × (in_box (cut_box grid area) cell ≡ true)
 in_box-cut grid area cell both =
     let held = and_parts (is_between grid.x1 grid.x2 cell.x) (is_between grid.y1 grid.y2 cell.y) both.0 in
     let box = and_parts (is_between area.x1 area.x2 cell.x) (is_between area.y1 area.y2 cell.y) both.1 in
@@ -96,7 +97,7 @@ module _ (region : Region) (grid : CellBox) where
   unfolding may_reach
   may_reach-cell n area kept =
       let box : CellBox = widened n area in
-      let tests = and_parts (meets grid box) (intersects_region region (cut_box grid box)) kept in
+      let tests = and_parts (touches grid box) (intersects_region region (cut_box grid box)) kept in
       let met = (intersects_region-exact region (cut_box grid box)).0 tests.1 in
       let cell : Cell = met.0 in
       let both = in_box-uncut grid box cell tests.0 met.1 in

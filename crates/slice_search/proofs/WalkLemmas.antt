@@ -1,8 +1,7 @@
 -- A walk over the blocks of a period, from one to the next.
-use Rattle.std.proofs.Common.{◌≡◌, ℕ, ◌+◌, ℤ, List, [], ◌∷◌, ◌++◌, All, ap, sym, ◌∙◌}
+use Rattle.std.proofs.Common.{◌≡◌, ℕ, ◌+◌, ℤ, List, ◌∷◌, ◌++◌, All, ap, sym, ◌∙◌}
 use Rattle.std.specs.Prelude.{option_to_list}
 use Rattle.std.specs.List.{filter_map, sum_by}
-use Rattle.std.proofs.lemmas.List.{append-nil}
 use Rattle.std.proofs.lemmas.List.Elements.{All-tail}
 use Rattle.std.proofs.lemmas.List.Sums.{sum_by-cons}
 use Rattle.list_laws.proofs.OptionLemmas.{append-cons_option}
@@ -33,11 +32,6 @@ module _ (parts : Parts) (number : ℕ) (from to : ℤ) (region : Region) where
         ∙ is.their;
     left_are = All-tail (IsBlock (snapshot_in parts number)) block left is.left_are;
   }
-
-  -- after the last block
-  pub walking-done : (all : List Anchored) (found : List Sighting) → IsWalking all [] found
-      → found ≡ filter_map (sighting_in parts number from to region) all
-  walking-done all found is = sym (append-nil found) ∙ is.their
 
   -- the reads of a block's log, and of those that are left
   pub log_reads-next : (block : Anchored) (left : List Anchored)

@@ -1,36 +1,17 @@
 -- That both tests of a reach are true of a box where they are of one in it.
-use Rattle.std.specs.Prelude.{◌≡◌, ℕ, ℤ, ◌≤ℤ◌, true}
+use Rattle.std.specs.Prelude.{ℕ}
 use Rattle.std.proofs.Common.{arith}
 use Rattle.std.proofs.lemmas.Bool.{and_from, and_parts}
-use Rattle.std.proofs.lemmas.Int.{clamps, ints}
-use Rattle.track_types.specs.Region.{intersects_region, overlaps, Intersects}
+use Rattle.std.proofs.lemmas.Int.{ints}
+use Rattle.track_types.specs.Region.{intersects_region}
 use Rattle.track_types.specs.Widening.{widened}
 use Rattle.track_types.specs.declared.cell_box.CellBox.{CellBox}
 use Rattle.track_types.specs.declared.region.Region.{Region}
-use Rattle.track_types.proofs.RegionLemmas.{in_box-bounds, in_box-from, intersects_region-exact}
 use Rattle.box_tree.specs.Tests.{AreMonotone, IsWider}
+use Rattle.box_tree.specs.Touching.{touches, wider-touches}
+use Rattle.box_tree.proofs.MonotoneLemmas.{wider-intersects}
 use Rattle.k2_tree.specs.Areas.{IsBoxInside}
-use Rattle.slice_search.specs.Reach.{cut-le, cut_box, may_reach, meets}
-
--- a region that has a cell of a box has one of each box round it
-wider-intersects : (region : Region) → IsWider (intersects_region region)
-wider-intersects region inner outer inside holds =
-    let touched : Intersects region inner = (intersects_region-exact region inner).0 holds in
-    let box = in_box-bounds inner touched.0 touched.1 in
-    (intersects_region-exact region outer).1 (
-      touched.0,
-      in_box-from outer touched.0 (record {
-        left = omega (arith, ints, box.left, inside.left);
-        right = omega (arith, ints, box.right, inside.right);
-        below = omega (arith, ints, box.below, inside.below);
-        above = omega (arith, ints, box.above, inside.above);
-      }),
-      touched.2,
-    )
-
--- what overlaps a pair of bounds overlaps a wider one
-overlaps-wider : (low high a b c d : ℤ) → c ≤ℤ a → b ≤ℤ d → overlaps low high a b ≡ true → overlaps low high c d ≡ true
-overlaps-wider low high a b c d left right holds = grind (arith, ints, clamps)
+use Rattle.slice_search.specs.Reach.{cut-le, cut_box, may_reach}
 
 -- a box within another stays so where both are made wider
 widened-inside : (width : ℕ) (inner outer : CellBox) → IsBoxInside inner outer
@@ -59,10 +40,8 @@ wider-may_reach region grid width inner outer inside holds =
     let a : CellBox = widened width inner in
     let b : CellBox = widened width outer in
     let wide : IsBoxInside a b = widened-inside width inner outer inside in
-    let tests = and_parts (meets grid a) (intersects_region region (cut_box grid a)) holds in
-    let axes = and_parts (overlaps grid.x1 grid.x2 a.x1 a.x2) (overlaps grid.y1 grid.y2 a.y1 a.y2) tests.0 in
-    and_from _ _ (and_from _ _ (overlaps-wider grid.x1 grid.x2 a.x1 a.x2 b.x1 b.x2 wide.left wide.right axes.0)
-    (overlaps-wider grid.y1 grid.y2 a.y1 a.y2 b.y1 b.y2 wide.below wide.above axes.1))
+    let tests = and_parts (touches grid a) (intersects_region region (cut_box grid a)) holds in
+    and_from _ _ (wider-touches grid a b wide tests.0)
     (wider-intersects region (cut_box grid a) (cut_box grid b) (cut-inside grid a b wide) tests.1)
 
 -- so both tests of a reach are monotone

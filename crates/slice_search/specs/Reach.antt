@@ -3,23 +3,19 @@ use Rattle.std.specs.Prelude.{ℕ, ◌-◌, ◌^◌, ℤ, ◌≤ℤ◌, min, Boo
 use Rattle.std.specs.Int.{int_max, int_min}
 use Rattle.std.proofs.Common.{arith}
 use Rattle.std.proofs.lemmas.Int.{clamps, ints}
-use Rattle.track_types.specs.Region.{intersects_region, overlaps}
+use Rattle.track_types.specs.Region.{intersects_region}
 use Rattle.track_types.specs.Widening.{widened}
 use Rattle.track_types.specs.declared.cell_box.CellBox.{CellBox}
 use Rattle.track_types.specs.declared.frame.Frame.{Frame}
 use Rattle.track_types.specs.declared.parts.Parts.{Parts}
 use Rattle.track_types.specs.declared.region.Region.{Region}
 use Rattle.k2_tree.specs.Areas.{box_from}
+use Rattle.box_tree.specs.Touching.{touches}
 use Rattle.snapshots.specs.Speed.{width_at}
 
 -- the box of all cells of an index's grid
 abbrev pub grid_of : Frame → CellBox
 grid_of frame = box_from frame.base.x frame.base.y (2 ^ frame.height - 1)
-
--- whether two boxes have a cell in common
-abbrev pub meets : CellBox → CellBox → Bool
-meets first second =
-    overlaps first.x1 first.x2 second.x1 second.x2 && overlaps first.y1 first.y2 second.y1 second.y2
 
 -- the number from low to high that is nearest to one
 abbrev pub cut : ℤ → ℤ → ℤ → ℤ
@@ -43,7 +39,7 @@ cut_box grid area = record {
 -- whether a region has a cell of a grid in a box that is made wider
 unfoldable pub may_reach : Region → CellBox → ℕ → CellBox → Bool
 may_reach region grid width area =
-    meets grid (widened width area) && intersects_region region (cut_box grid (widened width area))
+    touches grid (widened width area) && intersects_region region (cut_box grid (widened width area))
 
 -- how far an object gets from its anchor's cell by an instant, or 2^42 where that is less
 abbrev pub short_width : Parts → ℕ → ℤ → ℕ

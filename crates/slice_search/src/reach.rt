@@ -4,7 +4,8 @@ ghost use Rattle.track_types.specs.Near.{IsBoxWithin};
 ghost use Rattle.track_types.specs.Region.{intersects_region, overlaps};
 ghost use Rattle.track_types.specs.Widening.{widened};
 ghost use Rattle.snapshots.specs.Parts.{end_in, first_in};
-ghost use Rattle.slice_search.specs.Reach.{cut_box, grid_of, may_reach, meets, short_width};
+ghost use Rattle.box_tree.specs.Touching.{touches};
+ghost use Rattle.slice_search.specs.Reach.{cut_box, grid_of, may_reach, short_width};
 ghost use Rattle.slice_search.specs.Sought.{latest_in};
 
 use box_tree::Search;
@@ -140,7 +141,7 @@ fn wider(area: &CellBox, width: u64) -> CellBox
 
 // Whether two boxes have a cell in common.
 fn meets(first: &CellBox, second: &CellBox) -> bool
-    ensures { result ≡ meets first.now second.now }
+    ensures { result ≡ touches first.now second.now }
 {
     overlaps(first.x1, first.x2, second.x1, second.x2)
         && overlaps(first.y1, first.y2, second.y1, second.y2)
