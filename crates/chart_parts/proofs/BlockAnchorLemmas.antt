@@ -6,7 +6,6 @@ use Rattle.std.specs.List.{Contains}
 use Rattle.std.proofs.lemmas.Bool.{cases_Bool}
 use Rattle.std.proofs.lemmas.List.{get_or-map}
 use Rattle.std.proofs.lemmas.List.Elements.{Contains-get_or}
-use Rattle.std.proofs.lemmas.Option.{none-some, same_Some}
 use Rattle.bit_rank.specs.Bits.{rank_of}
 use Rattle.object_perm.specs.Permutation.{inverse_of}
 use Rattle.object_perm.proofs.InverseLemmas.{at-inverse_of}
@@ -151,20 +150,3 @@ module _ (chart : ChartView) (is : IsChart chart) (number : ℕ) (below : number
               )
           | inr off ↦ inl (anchor_of-absent chart is number i within off, same ∙ none-own off)
         ]
-
-    -- an object with an anchor has its block
-    pub block_of-anchored : (anchor : Row) → anchor_of chart number object ≡ Some anchor →
-        (block : Anchored) × HasBlock chart number i anchor block
-    block_of-anchored anchor has = elim block-anchor [
-      | inl none ↦ absurd (none-some anchor (sym none.0 ∙ has))
-      | inr some ↦
-          let same : some.0 ≡ anchor = same_Some some.0 anchor (sym some.2.anchored ∙ has) in
-          (some.1, subst (λ row. HasBlock chart number i row some.1) same some.2)
-    ]
-
-    -- an object without one has none
-    pub block_of-absent : anchor_of chart number object ≡ None → block_of (snapshot_in (parts_of chart) number) i ≡ None
-    block_of-absent none = elim block-anchor [
-      | inl neither ↦ neither.1
-      | inr some ↦ absurd (none-some some.0 (sym none ∙ some.2.anchored))
-    ]

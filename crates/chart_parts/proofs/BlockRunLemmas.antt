@@ -129,9 +129,3 @@ module _ (frame : Frame) (objects : ℕ) (blocks : List (Head × List ℕ)) (are
   pub short_in : All (λ log. length log < 2 ^ 32) (map (λ block. block.1) (blocks_in number blocks))
   short_in = All-map (λ log. length log < 2 ^ 32) (λ block. block.1) (blocks_in number blocks)
       (λ k d within. (each_in k d within).short)
-
-  pub as_many_in : length (map (λ block. block.1) (blocks_in number blocks))
-      ≡ length (map (λ block. block.0) (blocks_in number blocks))
-  as_many_in =
-      length-map (blocks_in number blocks) (λ block. block.1)
-      ∙ sym (length-map (blocks_in number blocks) (λ block. block.0))

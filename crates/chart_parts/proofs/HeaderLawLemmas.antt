@@ -1,15 +1,12 @@
 -- What the header of a chart's index keeps: its grid has the cells of all rows, and its numbers are in their ranges.
-use Rattle.std.proofs.Common.{◌≡◌, ℕ, suc, ◌+◌, ◌-◌, ◌*◌, ◌^◌, ◌<◌, ◌≤◌, true, false, List, [], ◌∷◌, length, map, get_or, All, arith, refl, ◌∙◌, inl, inr}
-use Rattle.std.specs.Prelude.{ℤ, pos, ◌+ℤ◌, ◌-ℤ◌, ◌≤ℤ◌, unsigned_abs, nat_le, fold}
+use Rattle.std.proofs.Common.{◌≡◌, ℕ, ◌+◌, ◌-◌, ◌*◌, ◌^◌, ◌<◌, ◌≤◌, List, [], ◌∷◌, length, map, All, arith, refl, ◌∙◌, inl, inr}
+use Rattle.std.specs.Prelude.{ℤ, pos, ◌+ℤ◌, ◌-ℤ◌, ◌≤ℤ◌, unsigned_abs, fold}
 use Rattle.std.specs.Int.{int_max, int_min}
-use Rattle.std.specs.List.{Contains, position_or_len, range_with_len}
-use Rattle.std.proofs.lemmas.Bool.{cases_lt}
-use Rattle.std.proofs.lemmas.Bool.Decides.{nat_tests}
+use Rattle.std.specs.List.{Contains}
 use Rattle.std.proofs.lemmas.Int.{fold-int_max_reached, fold-int_min_reached, ints}
 use Rattle.std.proofs.lemmas.List.{get_or_default, length-map}
 use Rattle.std.proofs.lemmas.List.Elements.{Contains-get_or, All-contains, All-head, All-map, All-tail, All-weaker}
-use Rattle.std.proofs.lemmas.List.FromFn.{get_or-range_with_len, length-range_with_len}
-use Rattle.std.proofs.lemmas.List.Sums.{fails_before_first, passes_at_first}
+use Rattle.list_laws.proofs.NumberLemmas.{least_power}
 use Rattle.k2_tree.specs.Morton.{IsInGrid}
 use Rattle.movement_log.specs.Blocks.{no_row, row_at}
 use Rattle.movement_log.proofs.LogLemmas.{bounded}
@@ -23,29 +20,6 @@ use Rattle.track_types.specs.declared.limit.LimitKind.TheVariants.{Blocks, Exten
 use Rattle.track_types.specs.declared.limit.TheConstants.{MAX_HEIGHT}
 use Rattle.track_types.specs.declared.row.Row.{Row}
 use Rattle.chart_parts.specs.Header.{frame_of, height_for}
-
--- the least power of two, from 2 on, that is as great as a number, among so many
-pub least_power : (most number : ℕ) → 1 ≤ most → number ≤ 2 ^ most
-    → let power = suc (position_or_len (λ power. nat_le number (2 ^ power)) (range_with_len 1 most)) in
-    (power ≤ most) × (number ≤ 2 ^ power)
-least_power most number some short =
-    let powers : List ℕ = range_with_len 1 most in
-    let place : ℕ = position_or_len (λ power. nat_le number (2 ^ power)) powers in
-    let long : length powers ≡ most = length-range_with_len 1 most in
-    let within : place < most = elim (cases_lt (most - 1) place) [
-      | inl past ↦
-          let last : get_or powers (most - 1) 0 ≡ most =
-          get_or-range_with_len 1 most (most - 1) 0 (omega arith) ∙ omega arith in
-          let fails = fails_before_first (λ power. nat_le number (2 ^ power)) powers (most - 1) 0 past in
-          let fails' : nat_le number (2 ^ most) ≡ false = rw last at fails in
-          let above : 2 ^ most < number = grind (arith, nat_tests) in
-          absurd (omega arith)
-      | inr not ↦ omega arith
-    ] in
-    let passes = passes_at_first (λ power. nat_le number (2 ^ power)) powers 0 (omega arith) in
-    let at : get_or powers place 0 ≡ suc place = get_or-range_with_len 1 most place 0 within ∙ omega arith in
-    let holds : nat_le number (2 ^ suc place) ≡ true = rw at at passes in
-    (omega arith, grind (arith, nat_tests))
 
 -- the grid is as wide as what it is made for, and no greater than a header may say
 height_for-wide : (extent : ℕ) → extent ≤ limit_of Extent

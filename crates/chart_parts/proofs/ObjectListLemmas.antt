@@ -1,5 +1,5 @@
 -- The objects of rows in order: each object once, by its run of rows.
-use Rattle.std.proofs.Common.{◌≡◌, ℕ, zero, suc, ◌+◌, ◌<◌, ◌≤◌, true, false, List, [], ◌∷◌, map, drop, get_or, length, refl, arith, inl, inr, eq-eqb, ne_eqb}
+use Rattle.std.proofs.Common.{◌≡◌, ℕ, suc, ◌+◌, ◌<◌, ◌≤◌, true, false, List, [], ◌∷◌, map, drop, get_or, length, refl, arith, inl, inr, eq-eqb, ne_eqb}
 use Rattle.std.specs.Prelude.{◌==◌, nat_le}
 use Rattle.std.specs.List.{list_any, prefix_len}
 use Rattle.std.specs.List.Sorted.{IsStrictlySortedBy}
@@ -57,13 +57,6 @@ objects_of-run row rest up =
     let within : nat_le row.object row.object ≡ true = grind (arith, nat_tests) in
     rw (within, past_first (run_length row.object rest) row rest)
     (distinct-run row.object rest (climbs-objects row rest up))
-
--- rows in order stay so without the first ones
-pub IsAscending-drop : (n : ℕ) (rows : List Row) → IsAscending rows → IsAscending (drop n rows)
-unfolding IsStrictlySortedBy
-IsAscending-drop zero rows up = up
-IsAscending-drop (suc n) [] up = tt
-IsAscending-drop (suc n) (row ∷ rest) up = IsAscending-drop n rest up.1
 
 -- the same where the first row is read at its place
 pub objects_of-first : (rows : List Row) (none : Row) → 0 < length rows → IsAscending rows →

@@ -6,7 +6,7 @@ use Rattle.std.specs.Int.Signed.{lt_z}
 use Rattle.std.specs.List.{Contains, list_any}
 use Rattle.std.specs.List.Sorted.{IsStrictlyIncreasing, IsStrictlySortedBy}
 use Rattle.std.specs.declared.cmp.Ordering.TheVariants.{Less}
-use Rattle.std.proofs.lemmas.Bool.{cases_lt, cases_order, eq-eqb, eqb-true, false≢true}
+use Rattle.std.proofs.lemmas.Bool.{cases_lt, cases_order, eq-eqb, eqb-true, false≢true, not-true}
 use Rattle.std.proofs.lemmas.Bool.Decides.{nat_tests}
 use Rattle.std.proofs.lemmas.Int.{ints}
 use Rattle.std.proofs.lemmas.List.{get_or-map, get_or_default, length-map}
@@ -26,11 +26,6 @@ use Rattle.chart_parts.proofs.BlockWords.{anchor_of}
 order_parts : (a b : Row) → row_order a b ≡ Less
     → (a.object ≤ b.object) × (a.object ≡ b.object → lt_z a.instant b.instant ≡ true)
 order_parts a b less = (grind (arith, nat_tests), λ same. grind (arith, nat_tests, ints))
-
--- a test that fails, where its contrary holds
-none_from_not : (b : Bool) → not b ≡ true → b ≡ false
-none_from_not true is = absurd (cc)
-none_from_not false is = refl
 
 module _ (chart : ChartView) (is : IsChart chart) (number : ℕ) where
   -- an anchor of the period: a row of the chart that is its block's first and lies in the period
@@ -59,7 +54,7 @@ module _ (chart : ChartView) (is : IsChart chart) (number : ℕ) where
   none_earlier anchor other its others same =
       let test : Row → Bool =
       λ row. is_same_block (first_of chart.rows) chart.period row anchor && lt_z row.instant anchor.instant in
-      let none : list_any test chart.rows ≡ false = none_from_not (list_any test chart.rows) its.first in
+      let none : list_any test chart.rows ≡ false = not-true (list_any test chart.rows) its.first in
       let fails : test other ≡ false = none_from_list_any test chart.rows other none others.among in
       let objects : (other.object == anchor.object) ≡ true = eq-eqb other.object anchor.object same in
       let periods : (period_of (first_of chart.rows) chart.period other

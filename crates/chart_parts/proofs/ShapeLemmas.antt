@@ -4,6 +4,7 @@ use Rattle.std.specs.List.{Contains, flat_map}
 use Rattle.std.specs.List.Sorted.{IsStrictlyIncreasing}
 use Rattle.std.proofs.lemmas.List.Concat.{length-flat_map}
 use Rattle.std.proofs.lemmas.List.Elements.{All-contains_itself, All-from_get_or, All-weaker}
+use Rattle.list_laws.proofs.NumberLemmas.{least_power}
 use Rattle.spiral_code.specs.Spiral.{square}
 use Rattle.spiral_code.proofs.SpiralLemmas.{move_of-below}
 use Rattle.track_types.specs.Chart.{ChartView, IsChart}
@@ -20,7 +21,7 @@ use Rattle.snapshots.specs.SoundParts.{IsInReach}
 use Rattle.chart_parts.specs.Header.{frame_of}
 use Rattle.chart_parts.specs.PartsOf.{grammar_of, parts_of}
 use Rattle.chart_parts.proofs.GrammarLemmas.{length-alphabet_of, few_terminals, IsGrammarOf-chart}
-use Rattle.chart_parts.proofs.HeaderLawLemmas.{IsFrame-frame_of, least_power}
+use Rattle.chart_parts.proofs.HeaderLawLemmas.{IsFrame-frame_of}
 use Rattle.chart_parts.proofs.RuleLemmas.{IsInReach-alphabet, symbols_below}
 
 -- a movement stays within the greatest grid, so that its value fits 64 bits

@@ -1,7 +1,9 @@
-use Rattle.std.proofs.Common.{◌++◌, ◌∷◌, [], ◌∙◌, List, get_or, ap, sym, arith, pos, rules}
+use Rattle.std.proofs.Common.{◌++◌, ◌∷◌, ◌∙◌, List, [], get_or, ap, sym, arith, pos, rules}
 use Rattle.std.proofs.lemmas.List.{append_assoc, append-nil}
+use Rattle.list_laws.proofs.PartLemmas.{IsStrictlySortedBy-drop}
 use Rattle.track_types.specs.declared.row.Row.{Row}
-use Rattle.chart_parts.proofs.ObjectListLemmas.{IsAscending-drop, no_objects, objects_of-first}
+use Rattle.track_types.specs.Row.{row_order}
+use Rattle.chart_parts.proofs.ObjectListLemmas.{no_objects, objects_of-first}
 use Rattle.chart_parts.proofs.objects.objects_of.Goals as goal
 
 pub loop-left-preserved : goal.loop-left-preserved
@@ -14,7 +16,7 @@ loop-left-preserved c =
           (sym (objects_of-first left none (omega arith) c.loop-left.invariant.ascending))
           ∙ c.loop-left.invariant.so_far;
       short = search rules;
-      ascending = IsAscending-drop _ left c.loop-left.invariant.ascending;
+      ascending = IsStrictlySortedBy-drop row_order _ left c.loop-left.invariant.ascending;
     }
 
 pub returns-clause-ok : goal.returns-clause-ok
