@@ -7,3 +7,5 @@ pub mod MemFiles
 pub mod MemSource
 pub mod MemSink
 pub mod Device
+pub mod Meanings
+pub mod Counting
