@@ -3,8 +3,11 @@ use Rattle.std.specs.Prelude.{◌≡◌, ℕ, ◌+◌, ◌≤◌, Bool, true, fa
 use Rattle.std.specs.Prelude.{Option, Some, None, is_none, ⊤}
 use Rattle.std.specs.Prelude.{Result, Ok, Err}
 use Rattle.std.specs.Io.KnownBytes.{Appends, Consumes, IsAtEnd}
+use Rattle.host_ports.specs.declared.sink.Sink.{Ghosts as OfSink}
+use Rattle.host_ports.specs.declared.source.Source.{Ghosts as OfSource}
 use Rattle.track_types.specs.Chart.{ChartView}
 use Rattle.track_types.specs.Limits.{limit_of}
+use Rattle.track_types.specs.declared.answerer.Answerer.{Ghosts as OfAnswerer}
 use Rattle.track_types.specs.declared.facts.Facts.{Facts}
 use Rattle.track_types.specs.declared.limit.LimitKind.TheVariants.{Questions}
 use Rattle.track_types.specs.declared.question.Question.{Question}
@@ -30,6 +33,10 @@ pub record Meaning : Type 0 where
 abbrev pub meaning_of : ChartView → Facts → (Question → ℕ) → Meaning
 meaning_of chart facts cost = record { chart = chart; facts = facts; cost = cost }
 
+-- what an answerer means, of all meanings of its trait
+abbrev pub meaning_by : {A W : Type 0} → OfAnswerer A W → A → Meaning
+meaning_by g answerer = meaning_of (g.chart answerer) (g.facts answerer) (g.cost answerer)
+
 -- the replies to lines, where the desk holds these walks
 abbrev pub replies_by : Meaning → List (Option (List Stop)) → List (List ℕ) → List ℕ
 replies_by meaning desk lines = replies_of meaning.chart meaning.facts desk lines
@@ -54,6 +61,11 @@ pub record Run : Type 0 where
 abbrev pub run_of : Option (List ℕ) → ℕ → Option (List ℕ) → DeskView → ℕ → Run
 run_of rest taken said desk steps =
     record { rest = rest; taken = taken; said = said; desk = desk; steps = steps }
+
+-- what is known of a source, a sink, a desk and the reads
+abbrev pub run_by : {S K : Type 0} → OfSource S → OfSink K → S → K → DeskView → ℕ → Run
+run_by heard told source sink desk steps =
+    run_of (heard.rest source) (heard.taken source) (told.said sink) desk steps
 
 -- These bytes came in between: they were next where the source tells what is to come, and are counted.
 pub record Came (before now : Run) (bytes : List ℕ) : Type 0 where

@@ -1,7 +1,8 @@
 ghost use Rattle.std.specs.Prelude.{◌≡◌, ◌≢◌, ◌≤◌, [], IfOk, IfSome, Some, Ok, Err};
 ghost use Rattle.host_ports.specs.Faults.{Rose};
+ghost use Rattle.host_ports.specs.Counting.{SinkCounts};
 ghost use Rattle.question_shell.specs.Grammar.{AreAsked};
-ghost use Rattle.question_shell.specs.Session.{meaning_of};
+ghost use Rattle.question_shell.specs.Session.{meaning_by};
 ghost use Rattle.question_shell.specs.Turns.{AnswerTold, moment};
 ghost use Rattle.question_shell.specs.declared.turn_fault.TurnFault.TheVariants as fault;
 
@@ -29,12 +30,10 @@ pub(crate) fn answer<A: Meets, K: Sink, L: Ledger>(
     steps: &mut Steps<L>,
 ) -> Result<(), TurnFault>
     requires { IfOk asked (λ asked. IfSome asked AreAsked) }
-    ensures told { AnswerTold (meaning_of (A.chart answerer) (A.facts answerer) (A.cost answerer))
+    ensures told { AnswerTold (meaning_by A.Answerer answerer)
         (moment (K.said sink.old) text.old desk.old steps.old)
         (moment (K.said sink.new) text.new desk.new steps.new) asked result }
-    ensures cause { result ≡ Err fault.Say → Rose (K.faults sink.old) (K.faults sink.new) }
-    ensures untouched { result ≢ Err fault.Say → K.faults sink.new ≡ K.faults sink.old }
-    ensures faults { K.faults sink.old ≤ K.faults sink.new }
+    ensures faults { SinkCounts K.Sink sink.old sink.new (result ≡ Err fault.Say) }
 {
     match asked {
         Ok(None) => Ok(()),
@@ -59,7 +58,7 @@ pub fn say_reply<A: Meets, K: Sink, L: Ledger>(
     steps: &mut Steps<L>,
 ) -> Result<(), TurnFault>
     requires { AreAsked question }
-    ensures told { AnswerTold (meaning_of (A.chart answerer) (A.facts answerer) (A.cost answerer))
+    ensures told { AnswerTold (meaning_by A.Answerer answerer)
         (moment (K.said sink.old) [] desk.old steps.old)
         (moment (K.said sink.new) [] desk.new steps.new) (Ok (Some question)) result }
     ensures cause { result ≡ Err fault.Say → Rose (K.faults sink.old) (K.faults sink.new) }
@@ -85,12 +84,10 @@ fn answer_question<A: Meets, K: Sink, L: Ledger>(
     steps: &mut Steps<L>,
 ) -> Result<(), TurnFault>
     requires { AreAsked question }
-    ensures told { AnswerTold (meaning_of (A.chart answerer) (A.facts answerer) (A.cost answerer))
+    ensures told { AnswerTold (meaning_by A.Answerer answerer)
         (moment (K.said sink.old) text.old desk.old steps.old)
         (moment (K.said sink.new) text.new desk.new steps.new) (Ok (Some question)) result }
-    ensures cause { result ≡ Err fault.Say → Rose (K.faults sink.old) (K.faults sink.new) }
-    ensures untouched { result ≢ Err fault.Say → K.faults sink.new ≡ K.faults sink.old }
-    ensures faults { K.faults sink.old ≤ K.faults sink.new }
+    ensures faults { SinkCounts K.Sink sink.old sink.new (result ≡ Err fault.Say) }
 {
     let Ok(mut answer) = ask(alloc, answerer, question, desk, steps) else {
         return Err(TurnFault::Memory);

@@ -4,7 +4,7 @@ ghost use Rattle.question_shell.specs.Desk.{held_of};
 ghost use Rattle.question_shell.specs.Drawing.{IsAnswer};
 ghost use Rattle.question_shell.specs.Grammar.{AreAsked};
 ghost use Rattle.question_shell.specs.Reply.{asked_cost};
-ghost use Rattle.question_shell.specs.Session.{Meaning, meaning_of, takes_memory};
+ghost use Rattle.question_shell.specs.Session.{Meaning, meaning_by, takes_memory};
 
 use crate::answer::Answer;
 use crate::desk::Desk;
@@ -25,7 +25,7 @@ pub(crate) fn ask<A: Meets, L: Ledger>(
 ) -> Result<Answer<A::Walk>, Memory>
     requires { AreAsked question }
     ensures ok { IfOk result (λ answer. IsAnswer A.Walk.left A.Walk.budget
-        (meaning_of (A.chart answerer) (A.facts answerer) (A.cost answerer))
+        (meaning_by A.Answerer answerer)
         question desk.old steps.old answer desk.new steps.new) }
     ensures takes { OnErr result (takes_memory (held_of desk.old) (Ok (Some question)) ≡ true) }
     ensures desk { OnErr result (desk.new ≡ desk.old) }

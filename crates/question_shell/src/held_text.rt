@@ -1,5 +1,5 @@
-ghost use Rattle.std.specs.Prelude.{◌≡◌, ◌≤◌, [], OnOk, OnErr};
-ghost use Rattle.host_ports.specs.Faults.{Rose};
+ghost use Rattle.std.specs.Prelude.{true, is_err, ◌≡◌, [], OnOk};
+ghost use Rattle.host_ports.specs.Counting.{SinkCounts};
 ghost use Rattle.question_shell.specs.Says.{PutTold, voice};
 
 use crate::reply::ReplyLine;
@@ -37,9 +37,7 @@ impl HeldText {
     pub(crate) fn put<K: Sink>(&mut self, line: &ReplyLine, sink: &mut K) -> Result<(), Cut>
         ensures told { PutTold (voice (K.said sink.old) self.old)
             (voice (K.said sink.new) self.new) line.now.bytes result }
-        ensures cause { OnErr result (Rose (K.faults sink.old) (K.faults sink.new)) }
-        ensures untouched { OnOk result (K.faults sink.new ≡ K.faults sink.old) }
-        ensures faults { K.faults sink.old ≤ K.faults sink.new }
+        ensures faults { SinkCounts K.Sink sink.old sink.new (is_err result ≡ true) }
     {
         if self.bytes.remaining_capacity() < line.len() {
             self.say(sink)?;
@@ -55,9 +53,7 @@ impl HeldText {
         ensures empty { OnOk result (self.new ≡ []) }
         ensures told { PutTold (voice (K.said sink.old) self.old)
             (voice (K.said sink.new) []) [] result }
-        ensures cause { OnErr result (Rose (K.faults sink.old) (K.faults sink.new)) }
-        ensures untouched { OnOk result (K.faults sink.new ≡ K.faults sink.old) }
-        ensures faults { K.faults sink.old ≤ K.faults sink.new }
+        ensures faults { SinkCounts K.Sink sink.old sink.new (is_err result ≡ true) }
     {
         if self.bytes.is_empty() {
             return Ok(());

@@ -1,9 +1,10 @@
 ghost use Rattle.std.specs.Prelude.{◌≡◌, ◌≢◌, ℕ, ◌≤◌, [], ◌∷◌, List, Err, OnOk, ◌⊎◌};
 ghost use Rattle.host_ports.specs.Faults.{Rose};
+ghost use Rattle.host_ports.specs.Counting.{SinkCounts};
 ghost use Rattle.question_shell.specs.LineKept.{kept_of};
 ghost use Rattle.question_shell.specs.Lines.{lines_of};
 ghost use Rattle.question_shell.specs.Says.{voice};
-ghost use Rattle.question_shell.specs.Session.{meaning_of};
+ghost use Rattle.question_shell.specs.Session.{meaning_by};
 ghost use Rattle.question_shell.specs.Turns.{Heard, LinesTold, Moment, MoreTold, RestTold};
 ghost use Rattle.question_shell.specs.Turns.{moment};
 ghost use Rattle.question_shell.specs.declared.turn_fault.TurnFault.TheVariants as fault;
@@ -48,13 +49,11 @@ pub(crate) fn take_piece<A: Meets, K: Sink, L: Ledger>(
     sink: &mut K,
     steps: &mut Steps<L>,
 ) -> Result<(), TurnFault>
-    ensures told { MoreTold (meaning_of (A.chart answerer) (A.facts answerer) (A.cost answerer))
+    ensures told { MoreTold (meaning_by A.Answerer answerer)
         (moment (K.said sink.old) talk.old.text desk.old steps.old) talk.old.line piece.now
         (moment (K.said sink.new) [] desk.new steps.new) talk.new.line result }
     ensures said { OnOk result (talk.new.text ≡ []) }
-    ensures cause { result ≡ Err fault.Say → Rose (K.faults sink.old) (K.faults sink.new) }
-    ensures untouched { result ≢ Err fault.Say → K.faults sink.new ≡ K.faults sink.old }
-    ensures faults { K.faults sink.old ≤ K.faults sink.new }
+    ensures faults { SinkCounts K.Sink sink.old sink.new (result ≡ Err fault.Say) }
 {
     let answered = take_bytes(alloc, answerer, talk, piece, desk, sink, steps);
     say_rest(answered, &mut talk.text, sink)
@@ -70,12 +69,10 @@ fn take_bytes<A: Meets, K: Sink, L: Ledger>(
     sink: &mut K,
     steps: &mut Steps<L>,
 ) -> Result<(), TurnFault>
-    ensures told { MoreTold (meaning_of (A.chart answerer) (A.facts answerer) (A.cost answerer))
+    ensures told { MoreTold (meaning_by A.Answerer answerer)
         (moment (K.said sink.old) talk.old.text desk.old steps.old) talk.old.line bytes.now
         (moment (K.said sink.new) talk.new.text desk.new steps.new) talk.new.line result }
-    ensures cause { result ≡ Err fault.Say → Rose (K.faults sink.old) (K.faults sink.new) }
-    ensures untouched { result ≢ Err fault.Say → K.faults sink.new ≡ K.faults sink.old }
-    ensures faults { K.faults sink.old ≤ K.faults sink.new }
+    ensures faults { SinkCounts K.Sink sink.old sink.new (result ≡ Err fault.Say) }
 {
     for byte in bytes {
         take_byte(alloc, answerer, talk, *byte, desk, sink, steps)?;
@@ -93,12 +90,10 @@ fn take_byte<A: Meets, K: Sink, L: Ledger>(
     sink: &mut K,
     steps: &mut Steps<L>,
 ) -> Result<(), TurnFault>
-    ensures told { MoreTold (meaning_of (A.chart answerer) (A.facts answerer) (A.cost answerer))
+    ensures told { MoreTold (meaning_by A.Answerer answerer)
         (moment (K.said sink.old) talk.old.text desk.old steps.old) talk.old.line (byte ∷ [])
         (moment (K.said sink.new) talk.new.text desk.new steps.new) talk.new.line result }
-    ensures cause { result ≡ Err fault.Say → Rose (K.faults sink.old) (K.faults sink.new) }
-    ensures untouched { result ≢ Err fault.Say → K.faults sink.new ≡ K.faults sink.old }
-    ensures faults { K.faults sink.old ≤ K.faults sink.new }
+    ensures faults { SinkCounts K.Sink sink.old sink.new (result ≡ Err fault.Say) }
 {
     if byte != b'\n' {
         talk.line.push(byte);
@@ -119,14 +114,12 @@ pub(crate) fn take_end<A: Meets, K: Sink, L: Ledger>(
     steps: &mut Steps<L>,
 ) -> Result<(), TurnFault>
     ensures told { (start : Moment) (came : List ℕ) →
-        let meaning = meaning_of (A.chart answerer) (A.facts answerer) (A.cost answerer) in
+        let meaning = meaning_by A.Answerer answerer in
         let now = moment (K.said sink.new) [] desk.new steps.new in
         Heard meaning start (moment (K.said sink.old) talk.old.text desk.old steps.old)
         came talk.old.line →
         LinesTold meaning start now (lines_of came) result }
-    ensures cause { result ≡ Err fault.Say → Rose (K.faults sink.old) (K.faults sink.new) }
-    ensures untouched { result ≢ Err fault.Say → K.faults sink.new ≡ K.faults sink.old }
-    ensures faults { K.faults sink.old ≤ K.faults sink.new }
+    ensures faults { SinkCounts K.Sink sink.old sink.new (result ≡ Err fault.Say) }
 {
     let asked = talk.line.question();
     let answered = answer(alloc, answerer, asked, desk, &mut talk.text, sink, steps);
@@ -141,6 +134,7 @@ fn say_rest<K: Sink>(
 ) -> Result<(), TurnFault>
     ensures told { RestTold (voice (K.said sink.old) text.old) (K.said sink.new) answered result }
     ensures said { OnOk result (text.new ≡ []) }
+    ensures passed { answered ≡ Err fault.Say → result ≡ Err fault.Say }
     ensures cause { result ≡ Err fault.Say →
         ((answered ≡ Err fault.Say) × (K.faults sink.new ≡ K.faults sink.old))
         ⊎ Rose (K.faults sink.old) (K.faults sink.new) }

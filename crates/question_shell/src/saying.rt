@@ -1,5 +1,5 @@
-ghost use Rattle.std.specs.Prelude.{◌≡◌, ◌≢◌, ◌+◌, ◌<◌, ◌^◌, ◌≤◌, Err, OnOk, OnErr, length};
-ghost use Rattle.host_ports.specs.Faults.{Rose};
+ghost use Rattle.std.specs.Prelude.{true, is_err, ◌≡◌, ◌+◌, ◌<◌, ◌^◌, ◌≤◌, Err, OnOk, length};
+ghost use Rattle.host_ports.specs.Counting.{SinkCounts};
 ghost use Rattle.question_shell.specs.Desk.{budget_of, held_of};
 ghost use Rattle.question_shell.specs.Drawing.{IsOfDesk, desk_left, items_left, reads_left, refusal_left};
 ghost use Rattle.question_shell.specs.Reply.{listed};
@@ -25,9 +25,7 @@ pub(crate) fn answer_line<K: Sink>(
 ) -> Result<(), TurnFault>
     ensures told { LineTold (voice (K.said sink.old) text.old)
         (voice (K.said sink.new) text.new) line.now.bytes result }
-    ensures cause { result ≡ Err fault.Say → Rose (K.faults sink.old) (K.faults sink.new) }
-    ensures untouched { result ≢ Err fault.Say → K.faults sink.new ≡ K.faults sink.old }
-    ensures faults { K.faults sink.old ≤ K.faults sink.new }
+    ensures faults { SinkCounts K.Sink sink.old sink.new (result ≡ Err fault.Say) }
 {
     let Ok(()) = text.put(line, sink) else {
         return Err(TurnFault::Say);
@@ -51,9 +49,7 @@ pub(crate) fn say_answer<W: Lazy<Item = Stop> + Drop, K: Sink, L: Ledger>(
         held_of desk.new ≡ desk_left W.left W.budget answer.old desk.old) }
     ensures reads { steps.new + budget_of desk.new
         ≤ steps.old + reads_left W.left W.budget answer.old desk.old }
-    ensures cause { OnErr result (Rose (K.faults sink.old) (K.faults sink.new)) }
-    ensures untouched { OnOk result (K.faults sink.new ≡ K.faults sink.old) }
-    ensures faults { K.faults sink.old ≤ K.faults sink.new }
+    ensures faults { SinkCounts K.Sink sink.old sink.new (is_err result ≡ true) }
 {
     let mut count = 0u64;
     while let Some(item) = answer.draw(desk, steps) {

@@ -3,7 +3,7 @@ ghost use Rattle.host_ports.specs.Faults.{Rose};
 ghost use Rattle.track_types.specs.Limits.{limit_of};
 ghost use Rattle.question_shell.specs.Session.{AnswersAll, AnswersBefore, AnswersFirst};
 ghost use Rattle.question_shell.specs.Session.{AnswersFront, AnswersWhole, NamesNoDevice};
-ghost use Rattle.question_shell.specs.Session.{meaning_of, run_of};
+ghost use Rattle.question_shell.specs.Session.{meaning_by, run_by};
 ghost use Rattle.question_shell.specs.declared.shell_fault.ShellFault.TheVariants as fault;
 
 use crate::desk::Desk;
@@ -44,26 +44,26 @@ pub fn run<A: Meets, S: Source, K: Sink, L: Ledger>(
     steps: &mut Steps<L>,
 ) -> Result<(), ShellFault>
     ensures ok { OnOk result (
-        AnswersAll (meaning_of (A.chart answerer) (A.facts answerer) (A.cost answerer))
-        (run_of (S.rest source.old) (S.taken source.old) (K.said sink.old) desk.old steps.old)
-        (run_of (S.rest source.new) (S.taken source.new) (K.said sink.new) desk.new steps.new)) }
+        AnswersAll (meaning_by A.Answerer answerer)
+        (run_by S.Source K.Sink source.old sink.old desk.old steps.old)
+        (run_by S.Source K.Sink source.new sink.new desk.new steps.new)) }
     ensures listen { result ≡ Err fault.Listen →
-        AnswersWhole (meaning_of (A.chart answerer) (A.facts answerer) (A.cost answerer))
-        (run_of (S.rest source.old) (S.taken source.old) (K.said sink.old) desk.old steps.old)
-        (run_of (S.rest source.new) (S.taken source.new) (K.said sink.new) desk.new steps.new) }
+        AnswersWhole (meaning_by A.Answerer answerer)
+        (run_by S.Source K.Sink source.old sink.old desk.old steps.old)
+        (run_by S.Source K.Sink source.new sink.new desk.new steps.new) }
     ensures say { result ≡ Err fault.Say →
-        AnswersFront (meaning_of (A.chart answerer) (A.facts answerer) (A.cost answerer))
-        (run_of (S.rest source.old) (S.taken source.old) (K.said sink.old) desk.old steps.old)
-        (run_of (S.rest source.new) (S.taken source.new) (K.said sink.new) desk.new steps.new) }
+        AnswersFront (meaning_by A.Answerer answerer)
+        (run_by S.Source K.Sink source.old sink.old desk.old steps.old)
+        (run_by S.Source K.Sink source.new sink.new desk.new steps.new) }
     ensures limit { (value : ℕ) → result ≡ Err (fault.Limit value) →
         (value ≡ limit_of LimitKind.Questions + 1) ×
-        AnswersFirst (meaning_of (A.chart answerer) (A.facts answerer) (A.cost answerer))
-        (run_of (S.rest source.old) (S.taken source.old) (K.said sink.old) desk.old steps.old)
-        (run_of (S.rest source.new) (S.taken source.new) (K.said sink.new) desk.new steps.new) }
+        AnswersFirst (meaning_by A.Answerer answerer)
+        (run_by S.Source K.Sink source.old sink.old desk.old steps.old)
+        (run_by S.Source K.Sink source.new sink.new desk.new steps.new) }
     ensures memory { result ≡ Err fault.Memory →
-        AnswersBefore (meaning_of (A.chart answerer) (A.facts answerer) (A.cost answerer))
-        (run_of (S.rest source.old) (S.taken source.old) (K.said sink.old) desk.old steps.old)
-        (run_of (S.rest source.new) (S.taken source.new) (K.said sink.new) desk.new steps.new) }
+        AnswersBefore (meaning_by A.Answerer answerer)
+        (run_by S.Source K.Sink source.old sink.old desk.old steps.old)
+        (run_by S.Source K.Sink source.new sink.new desk.new steps.new) }
     ensures listen_cause { result ≡ Err fault.Listen →
         Rose (S.faults source.old) (S.faults source.new) }
     ensures say_cause { result ≡ Err fault.Say → Rose (K.faults sink.old) (K.faults sink.new) }

@@ -1,6 +1,6 @@
 use Rattle.std.proofs.Common.{List, ℕ, Some, Ok, Err, subst}
 use Rattle.std.proofs.lemmas.Result.{err_from_is_err_and}
-use Rattle.question_shell.specs.Session.{meaning_of}
+use Rattle.question_shell.specs.Session.{meaning_by}
 use Rattle.question_shell.specs.Turns.{AnswerTold, moment}
 use Rattle.question_shell.proofs.TurnLemmas.{alone-cut, alone-err, alone-said}
 use Rattle.question_shell.proofs.answering.say_reply.Goals as goal
@@ -9,8 +9,7 @@ pub returns-in_err-answer_question-clause-told : goal.returns-in_err-answer_ques
 returns-in_err-answer_question-clause-told g c =
     let exit = err_from_is_err_and c.from_residual.result c.from_residual.ensures.1 in
     let said = c.answer_question in
-    let meaning = meaning_of (g.A.Answerer.chart c.args.answerer) (g.A.Answerer.facts c.args.answerer)
-    (g.A.Answerer.cost c.args.answerer) in
+    let meaning = meaning_by g.A.Answerer c.args.answerer in
     let refused = c.in_err-answer_question.field-0.0 in
     let now = moment (g.K.Sink.said said.new.sink) said.new.text said.new.desk said.new.steps in
     let Told : List ℕ → Type 0 = λ text. AnswerTold meaning
@@ -24,8 +23,7 @@ returns-in_err-answer_question-clause-told g c =
 pub returns-in_default-clause-told : goal.returns-in_default-clause-told
 returns-in_default-clause-told g c =
     let said = c.answer_question in
-    let meaning = meaning_of (g.A.Answerer.chart c.args.answerer) (g.A.Answerer.facts c.args.answerer)
-    (g.A.Answerer.cost c.args.answerer) in
+    let meaning = meaning_by g.A.Answerer c.args.answerer in
     alone-cut meaning (g.K.Sink.said c.args.sink.now) (g.K.Sink.said said.new.sink) said.new.text c.args.desk.now
     said.new.desk c.args.steps.now said.new.steps (Ok (Some c.args.question)) (g.K.Sink.said c.say.new.sink)
     (rw c.new-text.ensures at c.in_ok-answer_question.ensures.told) c.in_default.ensures.told
@@ -33,8 +31,7 @@ returns-in_default-clause-told g c =
 pub returns-clause-told : goal.returns-clause-told
 returns-clause-told g c =
     let said = c.answer_question in
-    let meaning = meaning_of (g.A.Answerer.chart c.args.answerer) (g.A.Answerer.facts c.args.answerer)
-    (g.A.Answerer.cost c.args.answerer) in
+    let meaning = meaning_by g.A.Answerer c.args.answerer in
     alone-said meaning (g.K.Sink.said c.args.sink.now) (g.K.Sink.said said.new.sink) said.new.text c.args.desk.now
     said.new.desk c.args.steps.now said.new.steps (Ok (Some c.args.question)) (g.K.Sink.said c.say.new.sink)
     (rw c.new-text.ensures at c.in_ok-answer_question.ensures.told) c.in-Ok.ensures.told

@@ -6,7 +6,7 @@ use Rattle.track_types.specs.Meeting.{meeting_of}
 use Rattle.track_types.specs.Near.{IsAsked, IsCellAsked}
 use Rattle.track_types.specs.Region.{IsRegionAsked}
 use Rattle.track_types.specs.declared.question.Question.TheVariants as question
-use Rattle.question_shell.specs.Session.{meaning_of}
+use Rattle.question_shell.specs.Session.{meaning_by}
 use Rattle.question_shell.specs.declared.item.Item.TheVariants as item
 use Rattle.question_shell.proofs.CountLemmas.{asked_kept, few-meeting, length-path_of}
 use Rattle.question_shell.proofs.DrawingLemmas.{answer-hold}
@@ -106,8 +106,7 @@ returns-in_ok-walk-in-Hold-clause-ok g c =
     let arm = c.in-Hold in
     let asked : c.args.question ≡ question.Hold arm.slot arm.object arm.from arm.to = arm.is in
     let near : (arm.slot < 16) × IsAsked arm.from × IsAsked arm.to = rw asked at c.requires in
-    let meaning = meaning_of (g.A.Answerer.chart c.args.answerer) (g.A.Answerer.facts c.args.answerer)
-    (g.A.Answerer.cost c.args.answerer) in
+    let meaning = meaning_by g.A.Answerer c.args.answerer in
     let walk = c.in_ok-walk-in-Hold.walk in
     let inside : arm.slot < length c.args.desk.now = omega (arith, near.0, c.is_held.ensures.places) in
     rw asked

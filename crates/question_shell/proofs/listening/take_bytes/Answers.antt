@@ -2,7 +2,7 @@ use Rattle.std.proofs.Common.{◌++◌, ◌+◌, ◌∷◌, [], Err, List, ℕ, 
 use Rattle.std.proofs.Common.{ap, sym, ◌∙◌, take_all}
 use Rattle.std.proofs.lemmas.List.{take_more}
 use Rattle.std.proofs.lemmas.Result.{err_from_is_err_and}
-use Rattle.question_shell.specs.Session.{meaning_of}
+use Rattle.question_shell.specs.Session.{meaning_by}
 use Rattle.question_shell.specs.Turns.{BytesTold, Heard, moment}
 use Rattle.question_shell.proofs.SessionLemmas.{around_byte, rose-later, told-more}
 use Rattle.question_shell.proofs.listening.take_bytes.Goals as goal
@@ -10,8 +10,7 @@ use Rattle.question_shell.proofs.listening.take_bytes.Goals as goal
 pub returns-in_err-take_byte-clause-told : goal.returns-in_err-take_byte-clause-told
 returns-in_err-take_byte-clause-told g c start came heard =
     let exit = err_from_is_err_and c.from_residual.result c.from_residual.ensures.1 in
-    let meaning = meaning_of (g.A.Answerer.chart c.args.answerer) (g.A.Answerer.facts c.args.answerer)
-    (g.A.Answerer.cost c.args.answerer) in
+    let meaning = meaning_by g.A.Answerer c.args.answerer in
     let piece = c.args.bytes.now in
     let i = c.loop-byte.byte-index in
     let refused = c.in_err-take_byte.field-0.0 in
@@ -24,29 +23,24 @@ returns-in_err-take_byte-clause-told g c start came heard =
     rw (exit.1, exit.2) (subst P (around_byte came piece i c.loop-byte-test.true)
     (told-more meaning start now (front ++ get_or piece i 0 ∷ []) (drop (i + 1) piece) line line refused told))
 
-pub returns-in_err-take_byte-clause-cause : goal.returns-in_err-take_byte-clause-cause
-returns-in_err-take_byte-clause-cause g c failed =
-    let exit = err_from_is_err_and c.from_residual.result c.from_residual.ensures.1 in
-    rose-later (g.K.Sink.faults c.args.sink.now) (g.K.Sink.faults c.loop-byte.sink)
-    (g.K.Sink.faults c.take_byte.new.sink)
-    (omega (arith, c.loop-byte.invariant.faults))
-    (c.in_err-take_byte.ensures.cause (ap Err (sym exit.2) ∙ (sym exit.1 ∙ failed)))
-
 pub returns-in_err-take_byte-clause-faults : goal.returns-in_err-take_byte-clause-faults
-returns-in_err-take_byte-clause-faults g c = omega (arith, c.loop-byte.invariant.faults, c.take_byte.ensures.faults)
-
-pub returns-in_err-take_byte-clause-untouched : goal.returns-in_err-take_byte-clause-untouched
-returns-in_err-take_byte-clause-untouched g c differs =
+returns-in_err-take_byte-clause-faults g c =
     let exit = err_from_is_err_and c.from_residual.result c.from_residual.ensures.1 in
-    c.in_err-take_byte.ensures.untouched (λ same. differs (exit.1 ∙ ap Err exit.2 ∙ same))
-    ∙ c.loop-byte.invariant.faults
+    let counts = c.in_err-take_byte.ensures.faults in
+    let before = c.loop-byte.invariant.faults in
+    record {
+      cause = λ failed. rose-later (g.K.Sink.faults c.args.sink.now) (g.K.Sink.faults c.loop-byte.sink)
+          (g.K.Sink.faults c.take_byte.new.sink) (omega (arith, before))
+          (counts.cause (ap Err (sym exit.2) ∙ (sym exit.1 ∙ failed)));
+      untouched = λ differs. counts.untouched (λ same. differs (exit.1 ∙ ap Err exit.2 ∙ same)) ∙ before;
+      faults = omega (arith, before, counts.faults);
+    }
 
 pub loop-byte-preserved : goal.loop-byte-preserved
 loop-byte-preserved g c = record {
-  faults = c.in_ok-take_byte.ensures.untouched (λ same. absurd (cc)) ∙ c.loop-byte.invariant.faults;
+  faults = c.in_ok-take_byte.ensures.faults.untouched (λ same. absurd (cc)) ∙ c.loop-byte.invariant.faults;
   heard = λ start came heard.
-      let meaning = meaning_of (g.A.Answerer.chart c.args.answerer) (g.A.Answerer.facts c.args.answerer)
-      (g.A.Answerer.cost c.args.answerer) in
+      let meaning = meaning_by g.A.Answerer c.args.answerer in
       let piece = c.args.bytes.now in
       let i = c.loop-byte.byte-index in
       let now = moment (g.K.Sink.said c.take_byte.new.sink) c.take_byte.new.talk.text c.take_byte.new.desk
@@ -60,8 +54,7 @@ loop-byte-preserved g c = record {
 
 pub returns-clause-told : goal.returns-clause-told
 returns-clause-told g c start came heard =
-    let meaning = meaning_of (g.A.Answerer.chart c.args.answerer) (g.A.Answerer.facts c.args.answerer)
-    (g.A.Answerer.cost c.args.answerer) in
+    let meaning = meaning_by g.A.Answerer c.args.answerer in
     let piece = c.args.bytes.now in
     let now = moment (g.K.Sink.said c.loop-byte.sink) c.loop-byte.talk.text c.loop-byte.desk c.loop-byte.steps in
     let P : List ℕ → Type 0 = λ input. Heard meaning start now (came ++ input) c.loop-byte.talk.line in

@@ -1,5 +1,5 @@
 use Rattle.std.proofs.Common.{◌≡◌, ◌++◌, ℕ, List, take}
-use Rattle.question_shell.specs.Session.{meaning_of}
+use Rattle.question_shell.specs.Session.{meaning_by}
 use Rattle.question_shell.specs.Turns.{Heard, Moment, moment}
 use Rattle.question_shell.proofs.listening.take_bytes.Given as goal
 
@@ -7,8 +7,7 @@ abbrev pub invariant-loop-byte : goal.invariant-loop-byte
 invariant-loop-byte g l = record {
   faults : g.K.Sink.faults l.sink ≡ g.K.Sink.faults l.fn.sink;
   heard : (start : Moment) (came : List ℕ) →
-      let meaning = meaning_of (g.A.Answerer.chart l.answerer) (g.A.Answerer.facts l.answerer)
-      (g.A.Answerer.cost l.answerer) in
+      let meaning = meaning_by g.A.Answerer l.answerer in
       Heard meaning start (moment (g.K.Sink.said l.fn.sink) l.fn.talk.text l.fn.desk l.fn.steps) came l.fn.talk.line →
       Heard meaning start (moment (g.K.Sink.said l.sink) l.talk.text l.desk l.steps)
       (came ++ take l.byte-index l.bytes) l.talk.line;

@@ -1,7 +1,7 @@
-use Rattle.std.proofs.Common.{Err, ◌≡◌, Result, Option, subst}
+use Rattle.std.proofs.Common.{Err, ◌≡◌, ◌∙◌, Result, Option, subst, arith}
 use Rattle.track_types.specs.declared.question.Question.{Question}
 use Rattle.question_shell.specs.Lines.{lines_of, unended_line}
-use Rattle.question_shell.specs.Session.{meaning_of}
+use Rattle.question_shell.specs.Session.{meaning_by}
 use Rattle.question_shell.specs.Turns.{AnswerTold, moment}
 use Rattle.question_shell.specs.declared.bad.Bad.{Bad}
 use Rattle.question_shell.specs.declared.turn_fault.TurnFault.TheVariants as fault
@@ -10,8 +10,7 @@ use Rattle.question_shell.proofs.listening.take_end.Goals as goal
 
 pub returns-clause-told : goal.returns-clause-told
 returns-clause-told g c start came heard =
-    let meaning = meaning_of (g.A.Answerer.chart c.args.answerer) (g.A.Answerer.facts c.args.answerer)
-    (g.A.Answerer.cost c.args.answerer) in
+    let meaning = meaning_by g.A.Answerer c.args.answerer in
     let said = c.answer-answered in
     let here = moment (g.K.Sink.said c.args.sink.now) c.args.talk.now.text c.args.desk.now c.args.steps.now in
     let between = moment (g.K.Sink.said said.new.sink) said.new.text said.new.desk said.new.steps in
@@ -20,8 +19,14 @@ returns-clause-told g c start came heard =
     rest-lines meaning start between (g.K.Sink.said c.say_rest.new.sink) (lines_of came) said.result c.say_rest.result
     (told-end meaning start here between came c.args.talk.now.line said.result told heard) c.say_rest.ensures.told
 
-pub returns-clause-cause : goal.returns-clause-cause
-returns-clause-cause g c failed =
+pub returns-clause-faults : goal.returns-clause-faults
+returns-clause-faults g c =
     let said = c.answer-answered in
-    rose-after (g.K.Sink.faults c.args.sink.now) (g.K.Sink.faults said.new.sink) (g.K.Sink.faults c.say_rest.new.sink)
-    (said.result ≡ Err fault.Say) said.ensures.faults said.ensures.cause (c.say_rest.ensures.cause failed)
+    let rest = c.say_rest.ensures in
+    record {
+      cause = λ failed. rose-after (g.K.Sink.faults c.args.sink.now) (g.K.Sink.faults said.new.sink)
+          (g.K.Sink.faults c.say_rest.new.sink) (said.result ≡ Err fault.Say) said.ensures.faults.faults
+          said.ensures.faults.cause (rest.cause failed);
+      untouched = λ other. rest.untouched other ∙ said.ensures.faults.untouched (λ failed. other (rest.passed failed));
+      faults = omega (arith, rest.faults, said.ensures.faults.faults);
+    }

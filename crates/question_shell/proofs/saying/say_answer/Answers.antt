@@ -26,7 +26,7 @@ loop-item-preserved g c =
           (voice (g.K.Sink.said c.loop-item.sink) c.loop-item.text) read.done c.in-Some.item c.line.result.bytes
           c.line.ensures read.says (voice (g.K.Sink.said c.put.new.sink) c.put.new.self) c.in_ok-put.ensures.told;
       count = omega (arith, read.count, length-append read.done (c.in-Some.item ∷ []));
-      faults = c.in_ok-put.ensures.untouched ∙ read.faults;
+      faults = c.in_ok-put.ensures.faults.untouched (λ failed. absurd (cc)) ∙ read.faults;
     }
 
 pub returns-in_err-put-clause-told : goal.returns-in_err-put-clause-told

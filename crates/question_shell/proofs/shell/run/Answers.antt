@@ -2,7 +2,7 @@ use Rattle.std.proofs.Common.{◌≡◌, ◌+◌, ◌<◌, ◌≤◌, [], ◌++�
 use Rattle.std.proofs.Common.{arith, rules, ◌∙◌}
 use Rattle.track_types.specs.Limits.{limit_of}
 use Rattle.track_types.specs.declared.limit.LimitKind.TheVariants.{Questions}
-use Rattle.question_shell.specs.Session.{Meaning, Run, meaning_of, run_of}
+use Rattle.question_shell.specs.Session.{Meaning, Run, meaning_by, run_by}
 use Rattle.question_shell.proofs.RunLemmas.{Brings, Ends, Stands, answers-all, answers-first, answers-whole, before-end}
 use Rattle.question_shell.proofs.RunLemmas.{before-piece, front-end, front-piece, moment_of}
 use Rattle.question_shell.proofs.SessionLemmas.{came-more, came-nothing, heard-all, heard-nothing, piece_heard}
@@ -12,18 +12,15 @@ use Rattle.question_shell.proofs.shell.run.Goals.{After-listen, After-take_end, 
 
 module _ (g : Over) (c : After-listen g) where
   abbrev meaning : Meaning
-  meaning = meaning_of (g.A.Answerer.chart c.args.answerer) (g.A.Answerer.facts c.args.answerer)
-      (g.A.Answerer.cost c.args.answerer)
+  meaning = meaning_by g.A.Answerer c.args.answerer
 
   -- at the call
   abbrev before : Run
-  before = run_of (g.S.Source.rest c.args.source.now) (g.S.Source.taken c.args.source.now)
-      (g.K.Sink.said c.args.sink.now) c.args.desk.now c.args.steps.now
+  before = run_by g.S.Source g.K.Sink c.args.source.now c.args.sink.now c.args.desk.now c.args.steps.now
 
   -- before more is listened to
   abbrev here : Run
-  here = run_of (g.S.Source.rest c.pieces.source) (g.S.Source.taken c.pieces.source)
-      (g.K.Sink.said c.pieces.sink) c.pieces.desk c.pieces.steps
+  here = run_by g.S.Source g.K.Sink c.pieces.source c.pieces.sink c.pieces.desk c.pieces.steps
 
   stands : Stands meaning before here c.pieces.talk.line
   stands =
@@ -39,10 +36,9 @@ module _ (g : Over) (c : After-listen g) where
 -- the end came
 ends : (g : Over) (c : After-take_end g) →
     Ends
-    (run_of (g.S.Source.rest c.pieces.source) (g.S.Source.taken c.pieces.source) (g.K.Sink.said c.pieces.sink)
+    (run_by g.S.Source g.K.Sink c.pieces.source c.pieces.sink
     c.pieces.desk c.pieces.steps)
-    (run_of (g.S.Source.rest c.listen.new.self) (g.S.Source.taken c.listen.new.self)
-    (g.K.Sink.said c.take_end.new.sink) c.take_end.new.desk c.take_end.new.steps)
+    (run_by g.S.Source g.K.Sink c.listen.new.self c.take_end.new.sink c.take_end.new.desk c.take_end.new.steps)
 ends g c =
     let piece = take c.in-Ok.count c.listen.new.buf in
     let nothing : piece ≡ [] = rw c.if-count-eq0.true refl in
@@ -58,10 +54,9 @@ ends g c =
 -- a piece more came
 brings : (g : Over) (c : After-take_piece g) →
     Brings c.pieces.invariant.bytes
-    (run_of (g.S.Source.rest c.pieces.source) (g.S.Source.taken c.pieces.source) (g.K.Sink.said c.pieces.sink)
+    (run_by g.S.Source g.K.Sink c.pieces.source c.pieces.sink
     c.pieces.desk c.pieces.steps)
-    (run_of (g.S.Source.rest c.listen.new.self) (g.S.Source.taken c.listen.new.self)
-    (g.K.Sink.said c.take_piece.new.sink) c.take_piece.new.desk c.take_piece.new.steps)
+    (run_by g.S.Source g.K.Sink c.listen.new.self c.take_piece.new.sink c.take_piece.new.desk c.take_piece.new.steps)
     (take c.in-Ok.count c.listen.new.buf)
     (take c.min-counted.result (c.listen.new.buf ++ drop c.min-room.result c.pieces.buffer))
 brings g c =
@@ -80,10 +75,8 @@ brings g c =
 
 pub pieces-init : goal.pieces-init
 pieces-init g c =
-    let meaning = meaning_of (g.A.Answerer.chart c.args.answerer) (g.A.Answerer.facts c.args.answerer)
-    (g.A.Answerer.cost c.args.answerer) in
-    let before = run_of (g.S.Source.rest c.args.source.now) (g.S.Source.taken c.args.source.now)
-    (g.K.Sink.said c.args.sink.now) c.args.desk.now c.args.steps.now in
+    let meaning = meaning_by g.A.Answerer c.args.answerer in
+    let before = run_by g.S.Source g.K.Sink c.args.source.now c.args.sink.now c.args.desk.now c.args.steps.now in
     record {
       bytes = [];
       came = came-nothing before;
@@ -138,7 +131,7 @@ pieces-preserved g c =
           (c.in-Ok-take_piece.ensures.told (moment_of (before g at)) read.bytes (rw read.text known.heard));
       text = c.in-Ok-take_piece.ensures.said;
       listen_faults = c.in-Ok.ensures.untouched ∙ read.listen_faults;
-      say_faults = c.in-Ok-take_piece.ensures.untouched (λ same. absurd (cc)) ∙ read.say_faults;
+      say_faults = c.in-Ok-take_piece.ensures.faults.untouched (λ same. absurd (cc)) ∙ read.say_faults;
     }
 
 pub returns-in-Err-Say-take_piece-clause-say : goal.returns-in-Err-Say-take_piece-clause-say
@@ -160,8 +153,7 @@ returns-in-Err-Memory-take_piece-clause-memory g c is_memory =
 pub returns-clause-limit : goal.returns-clause-limit
 returns-clause-limit g c value is_limit =
     let read = c.pieces.invariant in
-    let meaning = meaning_of (g.A.Answerer.chart c.args.answerer) (g.A.Answerer.facts c.args.answerer)
-    (g.A.Answerer.cost c.args.answerer) in
+    let meaning = meaning_by g.A.Answerer c.args.answerer in
     let past : length read.bytes ≡ limit_of Questions + 1 =
     omega (arith, read.count, read.within, c.pieces-test.false) in
     let same : c.pieces.taken ≡ value = grind (arith, is_limit) in
