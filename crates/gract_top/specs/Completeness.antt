@@ -3,6 +3,9 @@ use Rattle.std.specs.Prelude.{◌≡◌, ℕ, ◌≤◌, List, length, Option, S
 use Rattle.host_ports.specs.FileMap.{FileMap, held}
 use Rattle.host_ports.specs.FilesState.{IsPlain}
 use Rattle.host_ports.specs.Faults.{Rose}
+use Rattle.host_ports.specs.declared.files.Files.{Ghosts as OfFiles}
+use Rattle.host_ports.specs.declared.sink.Sink.{Ghosts as OfSink}
+use Rattle.host_ports.specs.declared.source.Source.{Ghosts as OfSource}
 use Rattle.track_types.specs.Limits.{limit_of}
 use Rattle.track_types.specs.declared.limit.LimitKind.TheVariants as limit
 use Rattle.track_types.specs.declared.parts.Parts.{Parts}
@@ -70,9 +73,9 @@ IsReady (request.Merge left right out) before =
 IsReady (request.Refused place) before = ⊥
 
 -- No count of faults rose, and none has reached the greatest number that it can reach.
-pub record IsCalm (load_before load_now save_before save_now listen_before listen_now say_before say_now : ℕ) :
-    Type 0 where
-  pub load : Rose load_before load_now → ⊥
-  pub save : Rose save_before save_now → ⊥
-  pub listen : Rose listen_before listen_now → ⊥
-  pub say : Rose say_before say_now → ⊥
+pub record IsCalm {F S K : Type 0} (f : OfFiles F) (s : OfSource S) (k : OfSink K) (files_before files_now : F)
+    (source_before source_now : S) (sink_before sink_now : K) : Type 0 where
+  pub load : Rose (f.load_faults files_before) (f.load_faults files_now) → ⊥
+  pub save : Rose (f.save_faults files_before) (f.save_faults files_now) → ⊥
+  pub listen : Rose (s.faults source_before) (s.faults source_now) → ⊥
+  pub say : Rose (k.faults sink_before) (k.faults sink_now) → ⊥

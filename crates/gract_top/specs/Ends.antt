@@ -2,7 +2,11 @@
 use Rattle.std.specs.Prelude.{◌≡◌, ◌≢◌, ℕ, ◌+◌, ◌*◌, ◌≤◌, ⊤, true, List, length, None, ◌⊎◌}
 use Rattle.host_ports.specs.FileMap.{IsSaved, KeepsOthers}
 use Rattle.host_ports.specs.FilesState.{FilesState, IsPlain}
+use Rattle.host_ports.specs.Meanings.{files_at}
 use Rattle.host_ports.specs.NumberedCalls.{raised}
+use Rattle.host_ports.specs.declared.files.Files.{Ghosts as OfFiles}
+use Rattle.host_ports.specs.declared.sink.Sink.{Ghosts as OfSink}
+use Rattle.host_ports.specs.declared.source.Source.{Ghosts as OfSource}
 use Rattle.track_types.specs.Chart.{ChartView}
 use Rattle.track_types.specs.Limits.{limit_of}
 use Rattle.track_types.specs.declared.limit.LimitKind.TheVariants as limit
@@ -14,7 +18,7 @@ use Rattle.index_merge.specs.Cost.{union_cost}
 use Rattle.index_merge.specs.MergeFault.{merge_fault}
 use Rattle.gract_top.specs.Beginning.{BeginsFirst, BeginsOne, EndsLoading, NotLoaded, Progress, SavesNothing, progress}
 use Rattle.gract_top.specs.Merging.{NotMerged, union_bytes}
-use Rattle.gract_top.specs.Outcome.{EndsOpened, EndsOver, Talk}
+use Rattle.gract_top.specs.Outcome.{EndsOpened, EndsOver, Talk, talk_of}
 use Rattle.gract_top.specs.Refusal.{IsAccepted, IsIndexLoaded, IsIndexRefused, IsRefused, is_early}
 use Rattle.gract_top.specs.Refusal.{is_late, is_refusal}
 use Rattle.gract_top.specs.Sampling.{EndsSample, speech}
@@ -32,9 +36,10 @@ pub record Moment : Type 0 where
   pub given : List ℕ → List ℕ
   pub talk : Talk
 
--- what is known of the outside, put together
-abbrev pub moment : FilesState → (List ℕ → List ℕ) → Talk → Moment
-moment files given talk = record { files = files; given = given; talk = talk }
+-- what is known of these files, this source and this sink, by the meanings of their traits
+abbrev pub moment_of : {F S K : Type 0} → OfFiles F → OfSource S → OfSink K → F → S → K → ℕ → Moment
+moment_of f s k files source sink steps =
+    record { files = files_at f files; given = f.given files; talk = talk_of s k source sink steps }
 
 -- the bytes that the index of a chart is written as
 abbrev pub written : ChartView → List ℕ

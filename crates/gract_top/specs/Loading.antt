@@ -1,6 +1,9 @@
 -- What came of a file that was loaded.
-use Rattle.std.specs.Prelude.{◌≡◌, ℕ, ◌+◌, ◌≤◌, ⊤, List, length, take, Option, Some, None}
-use Rattle.host_ports.specs.FileMap.{FileMap, held}
+use Rattle.std.specs.Prelude.{◌≡◌, ℕ, ◌+◌, ◌≤◌, ◌⊎◌, ⊤, List, length, take, Option, Some, None}
+use Rattle.host_ports.specs.Faults.{Rose}
+use Rattle.host_ports.specs.FileMap.{FileMap, IsMissing, held}
+use Rattle.host_ports.specs.NumberedCalls.{raised}
+use Rattle.host_ports.specs.declared.files.Files.{Ghosts as OfFiles}
 use Rattle.track_types.specs.Limits.{limit_of}
 use Rattle.track_types.specs.declared.limit.LimitKind.{LimitKind}
 
@@ -26,3 +29,16 @@ pub record IsReceived (kind : LimitKind) (map : Option FileMap) (taken : ℕ) (n
   pub bytes : List ℕ
   pub loaded : IsLoaded kind map taken name bytes
   pub received : has_taken bytes
+
+-- What loading a file tells of the files: it was begun and no other, and nothing was saved.
+pub record LoadsOnly {F : Type 0} (f : OfFiles F) (before now : F) (name : List ℕ) (failed : Type 0) : Type 0 where
+  -- it failed where the device did, or where there is no such file
+  pub load_failed : failed → Rose (f.load_faults before) (f.load_faults now) ⊎ IsMissing (f.map before) name
+  pub missing : IsMissing (f.map before) name → failed
+  pub untouched : (failed → ⊥) → f.load_faults now ≡ f.load_faults before
+  pub faults : f.load_faults before ≤ f.load_faults now
+  pub begins : f.begins now ≡ raised (f.begins before)
+  pub map : f.map now ≡ f.map before
+  pub saves : f.saves now ≡ f.saves before
+  pub save_faults : f.save_faults now ≡ f.save_faults before
+  pub given : f.given now ≡ f.given before

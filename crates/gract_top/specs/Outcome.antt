@@ -1,5 +1,7 @@
 -- What an outcome tells of what came, what was said and what was read.
 use Rattle.std.specs.Prelude.{◌≡◌, ℕ, ◌+◌, ◌≤◌, List, Option, Some, ◌⊎◌}
+use Rattle.host_ports.specs.declared.sink.Sink.{Ghosts as OfSink}
+use Rattle.host_ports.specs.declared.source.Source.{Ghosts as OfSource}
 use Rattle.track_types.specs.Limits.{limit_of}
 use Rattle.track_types.specs.declared.limit.LimitKind.TheVariants as limit
 use Rattle.question_shell.specs.Desk.{DeskView, empty_desk}
@@ -22,9 +24,10 @@ pub record Talk : Type 0 where
   pub said : Option (List ℕ)
   pub steps : ℕ
 
--- what is known, put together
-abbrev pub talk : Option (List ℕ) → ℕ → Option (List ℕ) → ℕ → Talk
-talk rest taken said steps = record { rest = rest; taken = taken; said = said; steps = steps }
+-- what is known of this source and this sink, by the meanings of their traits
+abbrev pub talk_of : {S K : Type 0} → OfSource S → OfSink K → S → K → ℕ → Talk
+talk_of s k source sink steps =
+    record { rest = s.rest source; taken = s.taken source; said = k.said sink; steps = steps }
 
 -- a moment at which a desk is held
 abbrev pub run_at : Talk → DeskView → Run

@@ -1,10 +1,10 @@
 ghost use Rattle.std.specs.Prelude.{◌≡◌, ◌≢◌, ℕ, ◌+◌, ◌≤◌, ◌^◌, false, length};
-ghost use Rattle.host_ports.specs.Faults.{Rose};
+ghost use Rattle.host_ports.specs.Counting.{SinkCounts, SourceCounts};
 ghost use Rattle.track_types.specs.Limits.{limit_of};
-ghost use Rattle.question_shell.specs.Session.{meaning_of};
+ghost use Rattle.question_shell.specs.Session.{meaning_by};
 ghost use Rattle.track_index.specs.Opening.{IsFile};
 ghost use Rattle.track_types.specs.declared.parts.Parts.{Parts};
-ghost use Rattle.gract_top.specs.Outcome.{Answers, EndsOpened, EndsOver, talk};
+ghost use Rattle.gract_top.specs.Outcome.{Answers, EndsOpened, EndsOver, talk_of};
 ghost use Rattle.gract_top.specs.Refusal.{is_early};
 
 use crate::outcome::Outcome;
@@ -30,18 +30,14 @@ pub(crate) fn answer_bytes<S: Source, K: Sink, L: Ledger>(
     ensures late { is_early result ≡ false }
     ensures words { (place : ℕ) → result ≢ Outcome.Words place }
     ensures ended { EndsOpened result bytes.items ((source.new ≡ source.old) × (sink.new ≡ sink.old))
-        (talk (S.rest source.old) (S.taken source.old) (K.said sink.old) steps.old)
-        (talk (S.rest source.new) (S.taken source.new) (K.said sink.new) steps.new) }
+        (talk_of S.Source K.Sink source.old sink.old steps.old)
+        (talk_of S.Source K.Sink source.new sink.new steps.new) }
     ensures decides { (parts : Parts) → IsFile bytes.items parts →
         EndsOver result bytes.items parts ((source.new ≡ source.old) × (sink.new ≡ sink.old))
-        (talk (S.rest source.old) (S.taken source.old) (K.said sink.old) steps.old)
-        (talk (S.rest source.new) (S.taken source.new) (K.said sink.new) steps.new) }
-    ensures listen_cause { result ≡ Outcome.ListenFailed →
-        Rose (S.faults source.old) (S.faults source.new) }
-    ensures say_cause { result ≡ Outcome.SayFailed → Rose (K.faults sink.old) (K.faults sink.new) }
-    ensures listen_untouched { result ≢ Outcome.ListenFailed →
-        S.faults source.new ≡ S.faults source.old }
-    ensures say_untouched { result ≢ Outcome.SayFailed → K.faults sink.new ≡ K.faults sink.old }
+        (talk_of S.Source K.Sink source.old sink.old steps.old)
+        (talk_of S.Source K.Sink source.new sink.new steps.new) }
+    ensures listen_faults { SourceCounts S.Source source.old source.new (result ≡ Outcome.ListenFailed) }
+    ensures say_faults { SinkCounts K.Sink sink.old sink.new (result ≡ Outcome.SayFailed) }
     ensures within { S.taken source.new ≤ S.taken source.old + (limit_of LimitKind.Questions + 1) }
 {
     let index = match open(alloc, &bytes, steps) {
@@ -64,15 +60,11 @@ pub(crate) fn answer_with<A: Meets, S: Source, K: Sink, L: Ledger>(
     ensures late { is_early result ≡ false }
     ensures words { (place : ℕ) → result ≢ Outcome.Words place }
     ensures answers { Answers result ((source.new ≡ source.old) × (sink.new ≡ sink.old))
-        (meaning_of (A.chart answerer) (A.facts answerer) (A.cost answerer))
-        (talk (S.rest source.old) (S.taken source.old) (K.said sink.old) steps.old)
-        (talk (S.rest source.new) (S.taken source.new) (K.said sink.new) steps.new) }
-    ensures listen_cause { result ≡ Outcome.ListenFailed →
-        Rose (S.faults source.old) (S.faults source.new) }
-    ensures say_cause { result ≡ Outcome.SayFailed → Rose (K.faults sink.old) (K.faults sink.new) }
-    ensures listen_untouched { result ≢ Outcome.ListenFailed →
-        S.faults source.new ≡ S.faults source.old }
-    ensures say_untouched { result ≢ Outcome.SayFailed → K.faults sink.new ≡ K.faults sink.old }
+        (meaning_by A.Answerer answerer)
+        (talk_of S.Source K.Sink source.old sink.old steps.old)
+        (talk_of S.Source K.Sink source.new sink.new steps.new) }
+    ensures listen_faults { SourceCounts S.Source source.old source.new (result ≡ Outcome.ListenFailed) }
+    ensures say_faults { SinkCounts K.Sink sink.old sink.new (result ≡ Outcome.SayFailed) }
     ensures within { S.taken source.new ≤ S.taken source.old + (limit_of LimitKind.Questions + 1) }
 {
     let Ok(mut desk) = Desk::new(alloc) else {

@@ -1,9 +1,7 @@
 ghost use Rattle.std.specs.Prelude.{◌≡◌, ◌≢◌, ℕ, ◌+◌, ◌≤◌};
-ghost use Rattle.host_ports.specs.Faults.{Rose};
-ghost use Rattle.host_ports.specs.FilesState.{state_of};
+ghost use Rattle.host_ports.specs.Counting.{SinkCounts, SourceCounts};
 ghost use Rattle.track_types.specs.Limits.{limit_of};
-ghost use Rattle.gract_top.specs.Outcome.{talk};
-ghost use Rattle.gract_top.specs.Ends.{EndsAsk, EndsOnce, moment};
+ghost use Rattle.gract_top.specs.Ends.{EndsAsk, EndsOnce, moment_of};
 ghost use Rattle.gract_top.specs.Request.{AreSettings};
 
 use crate::answering::answer_bytes;
@@ -31,25 +29,15 @@ pub(crate) fn once<F: Files, S: Source, K: Sink, L: Ledger>(
 ) -> Outcome
     requires { AreSettings settings }
     ensures ends { EndsOnce result csv.now settings ((source.new ≡ source.old) × (sink.new ≡ sink.old))
-        (moment (state_of (F.map files.old) (F.rest files.old) (F.taken files.old)
-        (F.load_faults files.old) (F.save_faults files.old) (F.saves files.old) (F.begins files.old))
-        (F.given files.old)
-        (talk (S.rest source.old) (S.taken source.old) (K.said sink.old) steps.old))
-        (moment (state_of (F.map files.new) (F.rest files.new) (F.taken files.new)
-        (F.load_faults files.new) (F.save_faults files.new) (F.saves files.new) (F.begins files.new))
-        (F.given files.new)
-        (talk (S.rest source.new) (S.taken source.new) (K.said sink.new) steps.new)) }
+        (moment_of F.Files S.Source K.Sink files.old source.old sink.old steps.old)
+        (moment_of F.Files S.Source K.Sink files.new source.new sink.new steps.new) }
     ensures words { (place : ℕ) → result ≢ Outcome.Words place }
     ensures unsaved { result ≢ Outcome.SaveFailed }
     ensures load_untouched { result ≢ Outcome.LoadFailed →
         F.load_faults files.new ≡ F.load_faults files.old }
     ensures save_untouched { F.save_faults files.new ≡ F.save_faults files.old }
-    ensures listen_cause { result ≡ Outcome.ListenFailed →
-        Rose (S.faults source.old) (S.faults source.new) }
-    ensures listen_untouched { result ≢ Outcome.ListenFailed →
-        S.faults source.new ≡ S.faults source.old }
-    ensures say_cause { result ≡ Outcome.SayFailed → Rose (K.faults sink.old) (K.faults sink.new) }
-    ensures say_untouched { result ≢ Outcome.SayFailed → K.faults sink.new ≡ K.faults sink.old }
+    ensures listen_faults { SourceCounts S.Source source.old source.new (result ≡ Outcome.ListenFailed) }
+    ensures say_faults { SinkCounts K.Sink sink.old sink.new (result ≡ Outcome.SayFailed) }
     ensures within { S.taken source.new ≤ S.taken source.old + (limit_of LimitKind.Questions + 1) }
 {
     let chart = match load_chart(alloc, csv, settings, files) {
@@ -73,25 +61,15 @@ pub(crate) fn ask<F: Files, S: Source, K: Sink, L: Ledger>(
     steps: &mut Steps<L>,
 ) -> Outcome
     ensures ends { EndsAsk result index.now ((source.new ≡ source.old) × (sink.new ≡ sink.old))
-        (moment (state_of (F.map files.old) (F.rest files.old) (F.taken files.old)
-        (F.load_faults files.old) (F.save_faults files.old) (F.saves files.old) (F.begins files.old))
-        (F.given files.old)
-        (talk (S.rest source.old) (S.taken source.old) (K.said sink.old) steps.old))
-        (moment (state_of (F.map files.new) (F.rest files.new) (F.taken files.new)
-        (F.load_faults files.new) (F.save_faults files.new) (F.saves files.new) (F.begins files.new))
-        (F.given files.new)
-        (talk (S.rest source.new) (S.taken source.new) (K.said sink.new) steps.new)) }
+        (moment_of F.Files S.Source K.Sink files.old source.old sink.old steps.old)
+        (moment_of F.Files S.Source K.Sink files.new source.new sink.new steps.new) }
     ensures words { (place : ℕ) → result ≢ Outcome.Words place }
     ensures unsaved { result ≢ Outcome.SaveFailed }
     ensures load_untouched { result ≢ Outcome.LoadFailed →
         F.load_faults files.new ≡ F.load_faults files.old }
     ensures save_untouched { F.save_faults files.new ≡ F.save_faults files.old }
-    ensures listen_cause { result ≡ Outcome.ListenFailed →
-        Rose (S.faults source.old) (S.faults source.new) }
-    ensures listen_untouched { result ≢ Outcome.ListenFailed →
-        S.faults source.new ≡ S.faults source.old }
-    ensures say_cause { result ≡ Outcome.SayFailed → Rose (K.faults sink.old) (K.faults sink.new) }
-    ensures say_untouched { result ≢ Outcome.SayFailed → K.faults sink.new ≡ K.faults sink.old }
+    ensures listen_faults { SourceCounts S.Source source.old source.new (result ≡ Outcome.ListenFailed) }
+    ensures say_faults { SinkCounts K.Sink sink.old sink.new (result ≡ Outcome.SayFailed) }
     ensures within { S.taken source.new ≤ S.taken source.old + (limit_of LimitKind.Questions + 1) }
 {
     let mut bytes = Vec::new(alloc);

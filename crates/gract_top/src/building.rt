@@ -1,6 +1,6 @@
 ghost use Rattle.std.specs.Prelude.{◌≡◌, ◌≢◌, ℕ, false};
-ghost use Rattle.host_ports.specs.Faults.{Rose};
-ghost use Rattle.host_ports.specs.FilesState.{state_of};
+ghost use Rattle.host_ports.specs.Counting.{SaveCounts};
+ghost use Rattle.host_ports.specs.Meanings.{files_at};
 ghost use Rattle.gract_top.specs.Ends.{EndsBuild, Saved};
 ghost use Rattle.gract_top.specs.Refusal.{is_early};
 ghost use Rattle.gract_top.specs.Request.{AreSettings};
@@ -22,19 +22,13 @@ pub(crate) fn build<F: Files>(
 ) -> Outcome
     requires { AreSettings settings }
     ensures ends { EndsBuild result csv.now index.now settings
-        (state_of (F.map files.old) (F.rest files.old) (F.taken files.old) (F.load_faults files.old)
-        (F.save_faults files.old) (F.saves files.old) (F.begins files.old))
-        (state_of (F.map files.new) (F.rest files.new) (F.taken files.new) (F.load_faults files.new)
-        (F.save_faults files.new) (F.saves files.new) (F.begins files.new)) }
+        (files_at F.Files files.old) (files_at F.Files files.new) }
     ensures words { (place : ℕ) → result ≢ Outcome.Words place }
     ensures unheard { result ≢ Outcome.ListenFailed }
     ensures unsaid { result ≢ Outcome.SayFailed }
     ensures load_untouched { result ≢ Outcome.LoadFailed →
         F.load_faults files.new ≡ F.load_faults files.old }
-    ensures save_cause { result ≡ Outcome.SaveFailed →
-        Rose (F.save_faults files.old) (F.save_faults files.new) }
-    ensures save_untouched { result ≢ Outcome.SaveFailed →
-        F.save_faults files.new ≡ F.save_faults files.old }
+    ensures save_faults { SaveCounts F.Files files.old files.new (result ≡ Outcome.SaveFailed) }
     ensures given { F.given files.new ≡ F.given files.old }
 {
     let chart = match load_chart(alloc, csv, settings, files) {
@@ -50,18 +44,12 @@ pub(crate) fn build<F: Files>(
 // Saves bytes under a name, once.
 pub(crate) fn save_as<F: Files>(files: &mut F, index: &str, bytes: &[u8]) -> Outcome
     ensures saved { Saved result index.now bytes.now
-        (state_of (F.map files.old) (F.rest files.old) (F.taken files.old) (F.load_faults files.old)
-        (F.save_faults files.old) (F.saves files.old) (F.begins files.old))
-        (state_of (F.map files.new) (F.rest files.new) (F.taken files.new) (F.load_faults files.new)
-        (F.save_faults files.new) (F.saves files.new) (F.begins files.new)) }
+        (files_at F.Files files.old) (files_at F.Files files.new) }
     ensures late { is_early result ≡ false }
     ensures words { (place : ℕ) → result ≢ Outcome.Words place }
     ensures unheard { result ≢ Outcome.ListenFailed }
     ensures unsaid { result ≢ Outcome.SayFailed }
-    ensures cause { result ≡ Outcome.SaveFailed →
-        Rose (F.save_faults files.old) (F.save_faults files.new) }
-    ensures untouched { result ≢ Outcome.SaveFailed →
-        F.save_faults files.new ≡ F.save_faults files.old }
+    ensures save_faults { SaveCounts F.Files files.old files.new (result ≡ Outcome.SaveFailed) }
     ensures taken { F.taken files.new ≡ F.taken files.old }
     ensures load_faults { F.load_faults files.new ≡ F.load_faults files.old }
     ensures begins { F.begins files.new ≡ F.begins files.old }

@@ -1,9 +1,7 @@
-ghost use Rattle.std.specs.Prelude.{◌≡◌, ◌≢◌, ℕ, ◌+◌, ◌≤◌, ◌⊎◌, true, false, Err};
+ghost use Rattle.std.specs.Prelude.{◌≡◌, ◌≢◌, ℕ, ◌+◌, ◌≤◌, true, false, Err};
 ghost use Rattle.std.specs.Prelude.{IfOk, IfErr};
-ghost use Rattle.host_ports.specs.Faults.{Rose};
-ghost use Rattle.host_ports.specs.FileMap.{IsMissing};
 ghost use Rattle.track_types.specs.Limits.{IsPeriod, IsResolution, limit_of};
-ghost use Rattle.host_ports.specs.NumberedCalls.{raised};
+ghost use Rattle.gract_top.specs.Loading.{LoadsOnly};
 ghost use Rattle.gract_top.specs.Receiving.{HasGriddedRows};
 ghost use Rattle.gract_top.specs.Refusal.{IsAccepted, IsRefused, is_late, is_refusal};
 ghost use Rattle.gract_top.specs.declared.request.Settings.{Settings};
@@ -32,23 +30,12 @@ pub(crate) fn load_chart<F: Files>(
         IsAccepted (F.map files.old) (F.taken files.new) csv.now settings chart) }
     ensures early { IfErr result (λ outcome. is_late outcome ≡ false) }
     ensures words { IfErr result (λ outcome. (place : ℕ) → outcome ≢ Outcome.Words place) }
-    ensures load_failed { result ≡ Err Outcome.LoadFailed →
-        Rose (F.load_faults files.old) (F.load_faults files.new)
-        ⊎ IsMissing (F.map files.old) csv.now }
-    ensures missing { IsMissing (F.map files.old) csv.now → result ≡ Err Outcome.LoadFailed }
-    ensures untouched { result ≢ Err Outcome.LoadFailed →
-        F.load_faults files.new ≡ F.load_faults files.old }
+    ensures loads { LoadsOnly F.Files files.old files.new csv.now (result ≡ Err Outcome.LoadFailed) }
     ensures refused { IfErr result (λ outcome. is_refusal outcome ≡ true →
         IsRefused (F.map files.old) (F.taken files.new) csv.now settings outcome) }
     ensures csv_taken { (value : ℕ) → result ≡ Err (Outcome.Limit LimitKind.Csv value) →
         (value ≡ limit_of LimitKind.Csv + 1) × (F.taken files.new ≡ value) }
     ensures taken { F.taken files.new ≤ limit_of LimitKind.Csv + 1 }
-    ensures begins { F.begins files.new ≡ raised (F.begins files.old) }
-    ensures map { F.map files.new ≡ F.map files.old }
-    ensures saves { F.saves files.new ≡ F.saves files.old }
-    ensures save_faults { F.save_faults files.new ≡ F.save_faults files.old }
-    ensures given { F.given files.new ≡ F.given files.old }
-    ensures faults { F.load_faults files.old ≤ F.load_faults files.new }
 {
     let rows = match load_rows(alloc, csv, settings, files) {
         Ok(rows) => rows,
@@ -75,23 +62,12 @@ fn load_rows<F: Files>(
         (HasGriddedRows (F.map files.old) (F.taken files.new) csv.now settings) }
     ensures early { IfErr result (λ outcome. is_late outcome ≡ false) }
     ensures words { IfErr result (λ outcome. (place : ℕ) → outcome ≢ Outcome.Words place) }
-    ensures load_failed { result ≡ Err Outcome.LoadFailed →
-        Rose (F.load_faults files.old) (F.load_faults files.new)
-        ⊎ IsMissing (F.map files.old) csv.now }
-    ensures missing { IsMissing (F.map files.old) csv.now → result ≡ Err Outcome.LoadFailed }
-    ensures untouched { result ≢ Err Outcome.LoadFailed →
-        F.load_faults files.new ≡ F.load_faults files.old }
+    ensures loads { LoadsOnly F.Files files.old files.new csv.now (result ≡ Err Outcome.LoadFailed) }
     ensures refused { IfErr result (λ outcome. is_refusal outcome ≡ true →
         IsRefused (F.map files.old) (F.taken files.new) csv.now settings outcome) }
     ensures csv_taken { (value : ℕ) → result ≡ Err (Outcome.Limit LimitKind.Csv value) →
         (value ≡ limit_of LimitKind.Csv + 1) × (F.taken files.new ≡ value) }
     ensures taken { F.taken files.new ≤ limit_of LimitKind.Csv + 1 }
-    ensures begins { F.begins files.new ≡ raised (F.begins files.old) }
-    ensures map { F.map files.new ≡ F.map files.old }
-    ensures saves { F.saves files.new ≡ F.saves files.old }
-    ensures save_faults { F.save_faults files.new ≡ F.save_faults files.old }
-    ensures given { F.given files.new ≡ F.given files.old }
-    ensures faults { F.load_faults files.old ≤ F.load_faults files.new }
 {
     let mut receiver = RowsReceiver::new(alloc, settings.cell, settings.tick);
     load(files, csv, LimitKind::Csv, &mut receiver)?;

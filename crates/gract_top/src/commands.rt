@@ -1,10 +1,8 @@
 ghost use Rattle.std.specs.Prelude.{◌≡◌, ◌≢◌, ℕ, ◌+◌, ◌≤◌, ◌↔◌, ◌⊎◌};
 ghost use Rattle.host_ports.specs.Faults.{Rose};
-ghost use Rattle.host_ports.specs.FilesState.{state_of};
 ghost use Rattle.track_types.specs.Limits.{limit_of};
 ghost use Rattle.gract_top.specs.Completeness.{IsCalm, IsReady};
-ghost use Rattle.gract_top.specs.Outcome.{talk};
-ghost use Rattle.gract_top.specs.Ends.{Ends, moment};
+ghost use Rattle.gract_top.specs.Ends.{Ends, moment_of};
 ghost use Rattle.gract_top.specs.Request.{request_of};
 
 use crate::asking::{ask, once};
@@ -59,14 +57,8 @@ pub fn gract<F: Files, S: Source, K: Sink, L: Ledger>(
 
     // Else the outcome is that of the command and of the file that they name.
     ensures ends { Ends (request_of words.now) result (source.new ≡ source.old) (sink.new ≡ sink.old)
-        (moment (state_of (F.map files.old) (F.rest files.old) (F.taken files.old)
-        (F.load_faults files.old) (F.save_faults files.old) (F.saves files.old) (F.begins files.old))
-        (F.given files.old)
-        (talk (S.rest source.old) (S.taken source.old) (K.said sink.old) steps.old))
-        (moment (state_of (F.map files.new) (F.rest files.new) (F.taken files.new)
-        (F.load_faults files.new) (F.save_faults files.new) (F.saves files.new) (F.begins files.new))
-        (F.given files.new)
-        (talk (S.rest source.new) (S.taken source.new) (K.said sink.new) steps.new)) }
+        (moment_of F.Files S.Source K.Sink files.old source.old sink.old steps.old)
+        (moment_of F.Files S.Source K.Sink files.new source.new sink.new steps.new) }
 
     // Only the device that the outcome names counted a fault.
     ensures load_untouched { result ≢ Outcome.LoadFailed →
@@ -84,13 +76,9 @@ pub fn gract<F: Files, S: Source, K: Sink, L: Ledger>(
 
     // Where what the request needs is there and no device fails, all is done, unless memory is refused.
     ensures complete { IsReady (request_of words.now)
-        (moment (state_of (F.map files.old) (F.rest files.old) (F.taken files.old)
-        (F.load_faults files.old) (F.save_faults files.old) (F.saves files.old) (F.begins files.old))
-        (F.given files.old)
-        (talk (S.rest source.old) (S.taken source.old) (K.said sink.old) steps.old)) →
-        IsCalm (F.load_faults files.old) (F.load_faults files.new) (F.save_faults files.old)
-        (F.save_faults files.new) (S.faults source.old) (S.faults source.new) (K.faults sink.old)
-        (K.faults sink.new) → (result ≡ Outcome.Done) ⊎ (result ≡ Outcome.Memory) }
+        (moment_of F.Files S.Source K.Sink files.old source.old sink.old steps.old) →
+        IsCalm F.Files S.Source K.Sink files.old files.new source.old source.new sink.old
+        sink.new → (result ≡ Outcome.Done) ⊎ (result ≡ Outcome.Memory) }
 
     // No byte of questions beyond their limit and one is asked for.
     ensures within { S.taken source.new ≤ S.taken source.old + (limit_of LimitKind.Questions + 1) }

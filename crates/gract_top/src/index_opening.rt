@@ -1,5 +1,5 @@
 ghost use Rattle.std.specs.Prelude.{◌≡◌, ◌≢◌, ℕ, IfOk, IfErr, Err};
-ghost use Rattle.host_ports.specs.FilesState.{state_of};
+ghost use Rattle.host_ports.specs.Meanings.{files_at};
 ghost use Rattle.gract_top.specs.Beginning.{OpensFile, StopsAt, progress};
 
 use crate::loading::load;
@@ -21,19 +21,11 @@ pub(crate) fn open_file<F: Files, L: Ledger>(
     steps: &mut Steps<L>,
 ) -> Result<Index, Outcome>
     ensures ok { IfOk result (λ index. OpensFile name.now index
-        (progress (state_of (F.map files.old) (F.rest files.old) (F.taken files.old)
-        (F.load_faults files.old) (F.save_faults files.old) (F.saves files.old) (F.begins files.old))
-        steps.old)
-        (progress (state_of (F.map files.new) (F.rest files.new) (F.taken files.new)
-        (F.load_faults files.new) (F.save_faults files.new) (F.saves files.new) (F.begins files.new))
-        steps.new)) }
+        (progress (files_at F.Files files.old) steps.old)
+        (progress (files_at F.Files files.new) steps.new)) }
     ensures err { IfErr result (λ outcome. StopsAt outcome name.now
-        (progress (state_of (F.map files.old) (F.rest files.old) (F.taken files.old)
-        (F.load_faults files.old) (F.save_faults files.old) (F.saves files.old) (F.begins files.old))
-        steps.old)
-        (progress (state_of (F.map files.new) (F.rest files.new) (F.taken files.new)
-        (F.load_faults files.new) (F.save_faults files.new) (F.saves files.new) (F.begins files.new))
-        steps.new)) }
+        (progress (files_at F.Files files.old) steps.old)
+        (progress (files_at F.Files files.new) steps.new)) }
     ensures words { IfErr result (λ outcome. (place : ℕ) → outcome ≢ Outcome.Words place) }
     ensures unheard { IfErr result (λ outcome. outcome ≢ Outcome.ListenFailed) }
     ensures unsaid { IfErr result (λ outcome. outcome ≢ Outcome.SayFailed) }

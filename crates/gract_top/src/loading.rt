@@ -1,10 +1,7 @@
-ghost use Rattle.std.specs.Prelude.{◌≡◌, ◌≢◌, ◌+◌, ◌^◌, ◌<◌, ◌≤◌, ◌⊎◌, ℕ, [], true, false, IfErr, OnOk, Err};
-ghost use Rattle.host_ports.specs.Faults.{Rose};
-ghost use Rattle.host_ports.specs.FileMap.{IsMissing};
-ghost use Rattle.host_ports.specs.NumberedCalls.{raised};
+ghost use Rattle.std.specs.Prelude.{◌≡◌, ◌≢◌, ◌+◌, ◌^◌, ◌<◌, ◌≤◌, ℕ, [], true, false, IfErr, OnOk, Err};
 ghost use Rattle.track_types.specs.Limits.{limit_of};
 ghost use Rattle.track_types.specs.declared.limit.LimitKind.{LimitKind};
-ghost use Rattle.gract_top.specs.Loading.{IsReceived};
+ghost use Rattle.gract_top.specs.Loading.{IsReceived, LoadsOnly};
 ghost use Rattle.gract_top.specs.Refusal.{IsLengthRefused, is_late, is_refusal};
 
 use crate::outcome::Outcome;
@@ -31,23 +28,12 @@ pub(crate) fn load<F: Files, R: Receiver>(
         (λ bytes. R.has_taken receiver.old bytes receiver.new)) }
     ensures early { IfErr result (λ outcome. is_late outcome ≡ false) }
     ensures words { IfErr result (λ outcome. (place : ℕ) → outcome ≢ Outcome.Words place) }
-    ensures load_failed { result ≡ Err Outcome.LoadFailed →
-        Rose (F.load_faults files.old) (F.load_faults files.new)
-        ⊎ IsMissing (F.map files.old) name.now }
-    ensures missing { IsMissing (F.map files.old) name.now → result ≡ Err Outcome.LoadFailed }
-    ensures untouched { result ≢ Err Outcome.LoadFailed →
-        F.load_faults files.new ≡ F.load_faults files.old }
+    ensures loads { LoadsOnly F.Files files.old files.new name.now (result ≡ Err Outcome.LoadFailed) }
     ensures refused { IfErr result (λ outcome. is_refusal outcome ≡ true →
         IsLengthRefused kind (F.map files.old) (F.taken files.new) name.now outcome) }
     ensures too_long { (other : LimitKind) (value : ℕ) → result ≡ Err (Outcome.Limit other value) →
         (other ≡ kind) × (value ≡ limit_of kind + 1) × (F.taken files.new ≡ value) }
     ensures taken { F.taken files.new ≤ limit_of kind + 1 }
-    ensures begins { F.begins files.new ≡ raised (F.begins files.old) }
-    ensures map { F.map files.new ≡ F.map files.old }
-    ensures saves { F.saves files.new ≡ F.saves files.old }
-    ensures save_faults { F.save_faults files.new ≡ F.save_faults files.old }
-    ensures given { F.given files.new ≡ F.given files.old }
-    ensures faults { F.load_faults files.old ≤ F.load_faults files.new }
 {
     if files.begin(name).is_err() {
         return Err(Outcome::LoadFailed);

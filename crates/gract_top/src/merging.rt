@@ -1,6 +1,6 @@
-ghost use Rattle.std.specs.Prelude.{◌≡◌, ◌≢◌, ℕ, ◌+◌, ◌≤◌, ◌<◌, ◌^◌, ◌⊎◌, None, length, IfOk, IfErr, OnOk};
-ghost use Rattle.host_ports.specs.Faults.{Rose};
-ghost use Rattle.host_ports.specs.FilesState.{state_of};
+ghost use Rattle.std.specs.Prelude.{◌≡◌, ◌≢◌, ℕ, ◌+◌, ◌≤◌, ◌<◌, ◌⊎◌, None, IfOk, IfErr, OnOk};
+ghost use Rattle.host_ports.specs.Counting.{SaveCounts};
+ghost use Rattle.host_ports.specs.Meanings.{files_at};
 ghost use Rattle.index_merge.specs.Cost.{union_cost};
 ghost use Rattle.index_merge.specs.MergeFault.{IsFaultFor, merge_fault};
 ghost use Rattle.gract_top.specs.Beginning.{SavesNothing, progress};
@@ -28,21 +28,14 @@ pub(crate) fn merge<F: Files, L: Ledger>(
     steps: &mut Steps<L>,
 ) -> Outcome
     ensures ends { EndsMerge result left.now right.now out.now
-        (progress (state_of (F.map files.old) (F.rest files.old) (F.taken files.old)
-        (F.load_faults files.old) (F.save_faults files.old) (F.saves files.old) (F.begins files.old))
-        steps.old)
-        (progress (state_of (F.map files.new) (F.rest files.new) (F.taken files.new)
-        (F.load_faults files.new) (F.save_faults files.new) (F.saves files.new) (F.begins files.new))
-        steps.new) }
+        (progress (files_at F.Files files.old) steps.old)
+        (progress (files_at F.Files files.new) steps.new) }
     ensures words { (place : ℕ) → result ≢ Outcome.Words place }
     ensures unheard { result ≢ Outcome.ListenFailed }
     ensures unsaid { result ≢ Outcome.SayFailed }
     ensures load_untouched { result ≢ Outcome.LoadFailed →
         F.load_faults files.new ≡ F.load_faults files.old }
-    ensures save_cause { result ≡ Outcome.SaveFailed →
-        Rose (F.save_faults files.old) (F.save_faults files.new) }
-    ensures save_untouched { result ≢ Outcome.SaveFailed →
-        F.save_faults files.new ≡ F.save_faults files.old }
+    ensures save_faults { SaveCounts F.Files files.old files.new (result ≡ Outcome.SaveFailed) }
     ensures given { F.given files.new ≡ F.given files.old }
 {
     let first = match open_file(alloc, left, files, steps) {
@@ -65,24 +58,15 @@ fn save_union<F: Files, L: Ledger>(
     steps: &mut Steps<L>,
 ) -> Outcome
     ensures ended { (NotMerged result left right × SavesNothing
-        (state_of (F.map files.old) (F.rest files.old) (F.taken files.old) (F.load_faults files.old)
-        (F.save_faults files.old) (F.saves files.old) (F.begins files.old))
-        (state_of (F.map files.new) (F.rest files.new) (F.taken files.new) (F.load_faults files.new)
-        (F.save_faults files.new) (F.saves files.new) (F.begins files.new)))
+        (files_at F.Files files.old) (files_at F.Files files.new))
         ⊎ SavesUnion result left right out.now
-        (state_of (F.map files.old) (F.rest files.old) (F.taken files.old) (F.load_faults files.old)
-        (F.save_faults files.old) (F.saves files.old) (F.begins files.old))
-        (state_of (F.map files.new) (F.rest files.new) (F.taken files.new) (F.load_faults files.new)
-        (F.save_faults files.new) (F.saves files.new) (F.begins files.new)) }
+        (files_at F.Files files.old) (files_at F.Files files.new) }
     ensures cost { steps.new ≤ steps.old + union_cost left right }
     ensures words { (place : ℕ) → result ≢ Outcome.Words place }
     ensures unheard { result ≢ Outcome.ListenFailed }
     ensures unsaid { result ≢ Outcome.SayFailed }
     ensures loaded { result ≢ Outcome.LoadFailed }
-    ensures cause { result ≡ Outcome.SaveFailed →
-        Rose (F.save_faults files.old) (F.save_faults files.new) }
-    ensures untouched { result ≢ Outcome.SaveFailed →
-        F.save_faults files.new ≡ F.save_faults files.old }
+    ensures save_faults { SaveCounts F.Files files.old files.new (result ≡ Outcome.SaveFailed) }
     ensures taken { F.taken files.new ≡ F.taken files.old }
     ensures load_faults { F.load_faults files.new ≡ F.load_faults files.old }
     ensures begins { F.begins files.new ≡ F.begins files.old }

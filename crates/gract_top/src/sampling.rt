@@ -1,6 +1,6 @@
 ghost use Rattle.std.specs.Prelude.{◌≡◌, ◌≢◌, ℕ, ◌<◌, ◌≤◌, ◌^◌, ◌⊎◌, true, None, Some, Err, IfOk, IfErr, length};
-ghost use Rattle.host_ports.specs.Faults.{Rose};
-ghost use Rattle.host_ports.specs.FilesState.{state_of};
+ghost use Rattle.host_ports.specs.Counting.{SinkCounts};
+ghost use Rattle.host_ports.specs.Meanings.{files_at};
 ghost use Rattle.track_index.specs.Opening.{IsFile};
 ghost use Rattle.track_types.specs.declared.parts.Parts.{Parts};
 ghost use Rattle.gract_top.specs.Refusal.{is_refusal};
@@ -35,10 +35,7 @@ pub(crate) fn sample<F: Files, K: Sink, L: Ledger>(
 ) -> Outcome
     requires { AreSampleSettings settings }
     ensures ends { EndsSample result settings (sink.new ≡ sink.old)
-        (state_of (F.map files.old) (F.rest files.old) (F.taken files.old) (F.load_faults files.old)
-        (F.save_faults files.old) (F.saves files.old) (F.begins files.old))
-        (state_of (F.map files.new) (F.rest files.new) (F.taken files.new) (F.load_faults files.new)
-        (F.save_faults files.new) (F.saves files.new) (F.begins files.new))
+        (files_at F.Files files.old) (files_at F.Files files.new)
         (F.given files.old) (speech (K.said sink.old) steps.old)
         (speech (K.said sink.new) steps.new) }
     ensures words { (place : ℕ) → result ≢ Outcome.Words place }
@@ -47,8 +44,7 @@ pub(crate) fn sample<F: Files, K: Sink, L: Ledger>(
     ensures unheard { result ≢ Outcome.ListenFailed }
     ensures load_untouched { F.load_faults files.new ≡ F.load_faults files.old }
     ensures save_untouched { F.save_faults files.new ≡ F.save_faults files.old }
-    ensures say_cause { result ≡ Outcome.SayFailed → Rose (K.faults sink.old) (K.faults sink.new) }
-    ensures say_untouched { result ≢ Outcome.SayFailed → K.faults sink.new ≡ K.faults sink.old }
+    ensures say_faults { SinkCounts K.Sink sink.old sink.new (result ≡ Outcome.SayFailed) }
 {
     let chart = match chart_of_sample(alloc, settings) {
         Ok(chart) => chart,
@@ -102,8 +98,7 @@ fn sum_bytes<K: Sink, L: Ledger>(
     ensures decides { (parts : Parts) → IsFile bytes.items parts →
         EndsSummedOver result bytes.items parts instants (sink.new ≡ sink.old)
         (speech (K.said sink.old) steps.old) (speech (K.said sink.new) steps.new) }
-    ensures say_cause { result ≡ Outcome.SayFailed → Rose (K.faults sink.old) (K.faults sink.new) }
-    ensures say_untouched { result ≢ Outcome.SayFailed → K.faults sink.new ≡ K.faults sink.old }
+    ensures say_faults { SinkCounts K.Sink sink.old sink.new (result ≡ Outcome.SayFailed) }
 {
     let index = match open(alloc, &bytes, steps) {
         Ok(index) => index,

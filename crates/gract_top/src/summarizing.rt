@@ -1,7 +1,7 @@
-ghost use Rattle.std.specs.Prelude.{◌≡◌, ◌≢◌, ◌+◌, ◌≤◌, All, Err, OnOk, OnErr};
+ghost use Rattle.std.specs.Prelude.{true, is_err, ◌≡◌, ◌+◌, ◌≤◌, All, Err, OnOk, OnErr};
 ghost use Rattle.std.specs.Io.KnownBytes.{Appends};
 ghost use Rattle.std.specs.List.{sum_by};
-ghost use Rattle.host_ports.specs.Faults.{Rose};
+ghost use Rattle.host_ports.specs.Counting.{SinkCounts};
 ghost use Rattle.question_shell.specs.Desk.{budget_of, empty_desk, held_of};
 ghost use Rattle.question_shell.specs.Reply.{ok_line};
 ghost use Rattle.question_shell.specs.declared.turn_fault.TurnFault.TheVariants as fault;
@@ -33,8 +33,7 @@ pub(crate) fn say_summary<A: Meets, K: Sink, L: Ledger>(
     ensures err { OnErr result (SaysFront (K.said sink.old) (K.said sink.new)
         (summary_of (A.chart answerer) (A.facts answerer) instants)) }
     ensures cost { steps.new ≤ steps.old + summary_cost (A.cost answerer) instants }
-    ensures cause { result ≡ Err fault.Say → Rose (K.faults sink.old) (K.faults sink.new) }
-    ensures untouched { result ≢ Err fault.Say → K.faults sink.new ≡ K.faults sink.old }
+    ensures faults { SinkCounts K.Sink sink.old sink.new (result ≡ Err fault.Say) }
 {
     let Ok(mut desk) = Desk::new(alloc) else {
         return Err(TurnFault::Memory);
@@ -61,8 +60,7 @@ fn say_counts<A: Meets, K: Sink, L: Ledger>(
         (counts_of (A.chart answerer) (A.facts answerer) questions.now)) }
     ensures cost { steps.new + budget_of desk.new
         ≤ steps.old + budget_of desk.old + sum_by (A.cost answerer) questions.now }
-    ensures cause { result ≡ Err fault.Say → Rose (K.faults sink.old) (K.faults sink.new) }
-    ensures untouched { result ≢ Err fault.Say → K.faults sink.new ≡ K.faults sink.old }
+    ensures faults { SinkCounts K.Sink sink.old sink.new (result ≡ Err fault.Say) }
 {
     for question in questions {
         let Ok(count) = count_found(alloc, answerer, *question, desk, steps) else {
@@ -79,8 +77,7 @@ fn say_counts<A: Meets, K: Sink, L: Ledger>(
 fn say_count<K: Sink>(count: u64, sink: &mut K) -> Result<(), Cut>
     ensures ok { OnOk result (Appends (K.said sink.old) (K.said sink.new) (ok_line count)) }
     ensures err { OnErr result (SaysFront (K.said sink.old) (K.said sink.new) (ok_line count)) }
-    ensures cause { OnErr result (Rose (K.faults sink.old) (K.faults sink.new)) }
-    ensures untouched { OnOk result (K.faults sink.new ≡ K.faults sink.old) }
+    ensures faults { SinkCounts K.Sink sink.old sink.new (is_err result ≡ true) }
 {
     sink.say(ok_line(count).as_bytes())
 }

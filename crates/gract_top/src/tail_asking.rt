@@ -1,13 +1,12 @@
-ghost use Rattle.std.specs.Prelude.{◌≡◌, ◌≢◌, ℕ, ◌+◌, ◌≤◌, ◌⊎◌, true, false, IfOk, IfErr, Err};
-ghost use Rattle.host_ports.specs.Faults.{Rose};
-ghost use Rattle.host_ports.specs.FileMap.{IsMissing};
-ghost use Rattle.host_ports.specs.FilesState.{state_of};
-ghost use Rattle.host_ports.specs.NumberedCalls.{raised};
+ghost use Rattle.std.specs.Prelude.{◌≡◌, ◌≢◌, ℕ, ◌+◌, ◌≤◌, false, IfOk, IfErr, Err};
+ghost use Rattle.host_ports.specs.Counting.{SinkCounts, SourceCounts};
+ghost use Rattle.host_ports.specs.Meanings.{files_at};
 ghost use Rattle.track_types.specs.Limits.{limit_of};
 ghost use Rattle.gract_top.specs.Beginning.{EndsLoading};
 ghost use Rattle.encounter.specs.WalkedCost.{walked_cost};
 ghost use Rattle.question_shell.specs.Session.{meaning_of};
-ghost use Rattle.gract_top.specs.Outcome.{Answers, talk};
+ghost use Rattle.gract_top.specs.Outcome.{Answers, talk_of};
+ghost use Rattle.gract_top.specs.Loading.{LoadsOnly};
 ghost use Rattle.gract_top.specs.Refusal.{is_early};
 ghost use Rattle.gract_top.specs.Request.{AreSettings};
 ghost use Rattle.gract_top.specs.TailAsking.{EndsAskTail, EndsTailed, HasNoTail, IsTail, settings_in};
@@ -39,23 +38,16 @@ pub(crate) fn ask_tail<F: Files, S: Source, K: Sink, L: Ledger>(
 ) -> Outcome
     ensures ends { EndsAskTail result index.now tail.now
         ((source.new ≡ source.old) × (sink.new ≡ sink.old))
-        (state_of (F.map files.old) (F.rest files.old) (F.taken files.old)
-        (F.load_faults files.old) (F.save_faults files.old) (F.saves files.old) (F.begins files.old))
-        (state_of (F.map files.new) (F.rest files.new) (F.taken files.new)
-        (F.load_faults files.new) (F.save_faults files.new) (F.saves files.new) (F.begins files.new))
-        (talk (S.rest source.old) (S.taken source.old) (K.said sink.old) steps.old)
-        (talk (S.rest source.new) (S.taken source.new) (K.said sink.new) steps.new) }
+        (files_at F.Files files.old) (files_at F.Files files.new)
+        (talk_of S.Source K.Sink source.old sink.old steps.old)
+        (talk_of S.Source K.Sink source.new sink.new steps.new) }
     ensures words { (place : ℕ) → result ≢ Outcome.Words place }
     ensures unsaved { result ≢ Outcome.SaveFailed }
     ensures load_untouched { result ≢ Outcome.LoadFailed →
         F.load_faults files.new ≡ F.load_faults files.old }
     ensures save_untouched { F.save_faults files.new ≡ F.save_faults files.old }
-    ensures listen_cause { result ≡ Outcome.ListenFailed →
-        Rose (S.faults source.old) (S.faults source.new) }
-    ensures listen_untouched { result ≢ Outcome.ListenFailed →
-        S.faults source.new ≡ S.faults source.old }
-    ensures say_cause { result ≡ Outcome.SayFailed → Rose (K.faults sink.old) (K.faults sink.new) }
-    ensures say_untouched { result ≢ Outcome.SayFailed → K.faults sink.new ≡ K.faults sink.old }
+    ensures listen_faults { SourceCounts S.Source source.old source.new (result ≡ Outcome.ListenFailed) }
+    ensures say_faults { SinkCounts K.Sink sink.old sink.new (result ≡ Outcome.SayFailed) }
     ensures within { S.taken source.new ≤ S.taken source.old + (limit_of LimitKind.Questions + 1) }
     ensures given { F.given files.new ≡ F.given files.old }
 {
@@ -77,25 +69,18 @@ fn ask_opened<F: Files, S: Source, K: Sink, L: Ledger>(
     steps: &mut Steps<L>,
 ) -> Outcome
     ensures loading { EndsLoading result tail.now LimitKind.Csv
-        (state_of (F.map files.old) (F.rest files.old) (F.taken files.old)
-        (F.load_faults files.old) (F.save_faults files.old) (F.saves files.old) (F.begins files.old))
-        (state_of (F.map files.new) (F.rest files.new) (F.taken files.new)
-        (F.load_faults files.new) (F.save_faults files.new) (F.saves files.new) (F.begins files.new)) }
+        (files_at F.Files files.old) (files_at F.Files files.new) }
     ensures ended { EndsTailed result index.now tail.now
         ((source.new ≡ source.old) × (sink.new ≡ sink.old)) (F.map files.old) (F.taken files.new)
-        (talk (S.rest source.old) (S.taken source.old) (K.said sink.old) steps.old)
-        (talk (S.rest source.new) (S.taken source.new) (K.said sink.new) steps.new) }
+        (talk_of S.Source K.Sink source.old sink.old steps.old)
+        (talk_of S.Source K.Sink source.new sink.new steps.new) }
     ensures words { (place : ℕ) → result ≢ Outcome.Words place }
     ensures unsaved { result ≢ Outcome.SaveFailed }
     ensures load_untouched { result ≢ Outcome.LoadFailed →
         F.load_faults files.new ≡ F.load_faults files.old }
     ensures save_untouched { F.save_faults files.new ≡ F.save_faults files.old }
-    ensures listen_cause { result ≡ Outcome.ListenFailed →
-        Rose (S.faults source.old) (S.faults source.new) }
-    ensures listen_untouched { result ≢ Outcome.ListenFailed →
-        S.faults source.new ≡ S.faults source.old }
-    ensures say_cause { result ≡ Outcome.SayFailed → Rose (K.faults sink.old) (K.faults sink.new) }
-    ensures say_untouched { result ≢ Outcome.SayFailed → K.faults sink.new ≡ K.faults sink.old }
+    ensures listen_faults { SourceCounts S.Source source.old source.new (result ≡ Outcome.ListenFailed) }
+    ensures say_faults { SinkCounts K.Sink sink.old sink.new (result ≡ Outcome.SayFailed) }
     ensures within { S.taken source.new ≤ S.taken source.old + (limit_of LimitKind.Questions + 1) }
     ensures map { F.map files.new ≡ F.map files.old }
     ensures saves { F.saves files.new ≡ F.saves files.old }
@@ -123,14 +108,10 @@ fn answer_walked<A: Answerer, S: Source, K: Sink, L: Ledger>(
     ensures words { (place : ℕ) → result ≢ Outcome.Words place }
     ensures answers { Answers result ((source.new ≡ source.old) × (sink.new ≡ sink.old))
         (meaning_of (A.chart answerer) (A.facts answerer) (walked_cost (A.cost answerer)))
-        (talk (S.rest source.old) (S.taken source.old) (K.said sink.old) steps.old)
-        (talk (S.rest source.new) (S.taken source.new) (K.said sink.new) steps.new) }
-    ensures listen_cause { result ≡ Outcome.ListenFailed →
-        Rose (S.faults source.old) (S.faults source.new) }
-    ensures say_cause { result ≡ Outcome.SayFailed → Rose (K.faults sink.old) (K.faults sink.new) }
-    ensures listen_untouched { result ≢ Outcome.ListenFailed →
-        S.faults source.new ≡ S.faults source.old }
-    ensures say_untouched { result ≢ Outcome.SayFailed → K.faults sink.new ≡ K.faults sink.old }
+        (talk_of S.Source K.Sink source.old sink.old steps.old)
+        (talk_of S.Source K.Sink source.new sink.new steps.new) }
+    ensures listen_faults { SourceCounts S.Source source.old source.new (result ≡ Outcome.ListenFailed) }
+    ensures say_faults { SinkCounts K.Sink sink.old sink.new (result ≡ Outcome.SayFailed) }
     ensures within { S.taken source.new ≤ S.taken source.old + (limit_of LimitKind.Questions + 1) }
 {
     answer_with(alloc, Walked::new(answerer), source, sink, steps)
@@ -161,20 +142,10 @@ fn load_tail<F: Files>(
     ensures none { IfErr result (λ outcome.
         HasNoTail outcome (F.map files.old) (F.taken files.new) csv.now settings) }
     ensures words { IfErr result (λ outcome. (place : ℕ) → outcome ≢ Outcome.Words place) }
-    ensures load_failed { result ≡ Err Outcome.LoadFailed →
-        Rose (F.load_faults files.old) (F.load_faults files.new)
-        ⊎ IsMissing (F.map files.old) csv.now }
-    ensures missing { IsMissing (F.map files.old) csv.now → result ≡ Err Outcome.LoadFailed }
-    ensures untouched { result ≢ Err Outcome.LoadFailed →
-        F.load_faults files.new ≡ F.load_faults files.old }
+    ensures loads { LoadsOnly F.Files files.old files.new csv.now (result ≡ Err Outcome.LoadFailed) }
     ensures csv_taken { (value : ℕ) → result ≡ Err (Outcome.Limit LimitKind.Csv value) →
         (value ≡ limit_of LimitKind.Csv + 1) × (F.taken files.new ≡ value) }
     ensures taken { F.taken files.new ≤ limit_of LimitKind.Csv + 1 }
-    ensures begins { F.begins files.new ≡ raised (F.begins files.old) }
-    ensures map { F.map files.new ≡ F.map files.old }
-    ensures saves { F.saves files.new ≡ F.saves files.old }
-    ensures save_faults { F.save_faults files.new ≡ F.save_faults files.old }
-    ensures given { F.given files.new ≡ F.given files.old }
 {
     match load_chart(alloc, csv, settings, files) {
         Ok(chart) => Ok(Some(chart)),

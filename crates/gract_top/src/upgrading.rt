@@ -1,6 +1,6 @@
 ghost use Rattle.std.specs.Prelude.{◌≡◌, ◌≢◌, ℕ, ◌+◌, ◌*◌, ◌≤◌, ◌^◌, ◌⊎◌, length, IfOk, IfErr};
-ghost use Rattle.host_ports.specs.Faults.{Rose};
-ghost use Rattle.host_ports.specs.FilesState.{state_of};
+ghost use Rattle.host_ports.specs.Counting.{SaveCounts};
+ghost use Rattle.host_ports.specs.Meanings.{files_at};
 ghost use Rattle.snapshots.specs.SoundParts.{IsValid};
 ghost use Rattle.track_index.specs.CheckFlaws.{IsFaultFor};
 ghost use Rattle.track_index.specs.Opening.{bytes_cost, first_flaw, IsFile};
@@ -31,19 +31,13 @@ pub(crate) fn upgrade<F: Files, L: Ledger>(
     steps: &mut Steps<L>,
 ) -> Outcome
     ensures ends { EndsUpgrade result old.now new.now
-        (state_of (F.map files.old) (F.rest files.old) (F.taken files.old) (F.load_faults files.old)
-        (F.save_faults files.old) (F.saves files.old) (F.begins files.old))
-        (state_of (F.map files.new) (F.rest files.new) (F.taken files.new) (F.load_faults files.new)
-        (F.save_faults files.new) (F.saves files.new) (F.begins files.new)) steps.old steps.new }
+        (files_at F.Files files.old) (files_at F.Files files.new) steps.old steps.new }
     ensures words { (place : ℕ) → result ≢ Outcome.Words place }
     ensures unheard { result ≢ Outcome.ListenFailed }
     ensures unsaid { result ≢ Outcome.SayFailed }
     ensures load_untouched { result ≢ Outcome.LoadFailed →
         F.load_faults files.new ≡ F.load_faults files.old }
-    ensures save_cause { result ≡ Outcome.SaveFailed →
-        Rose (F.save_faults files.old) (F.save_faults files.new) }
-    ensures save_untouched { result ≢ Outcome.SaveFailed →
-        F.save_faults files.new ≡ F.save_faults files.old }
+    ensures save_faults { SaveCounts F.Files files.old files.new (result ≡ Outcome.SaveFailed) }
     ensures given { F.given files.new ≡ F.given files.old }
 {
     let mut bytes = Vec::new(alloc);
@@ -63,20 +57,11 @@ fn save_upgraded<F: Files, L: Ledger>(
 ) -> Outcome
     requires { length bytes.items ≤ 2 ^ 30 }
     ensures ended { (NotUpgraded result bytes.items × SavesNothing
-        (state_of (F.map files.old) (F.rest files.old) (F.taken files.old) (F.load_faults files.old)
-        (F.save_faults files.old) (F.saves files.old) (F.begins files.old))
-        (state_of (F.map files.new) (F.rest files.new) (F.taken files.new) (F.load_faults files.new)
-        (F.save_faults files.new) (F.saves files.new) (F.begins files.new)))
+        (files_at F.Files files.old) (files_at F.Files files.new))
         ⊎ SavesUpgrade result bytes.items new.now
-        (state_of (F.map files.old) (F.rest files.old) (F.taken files.old) (F.load_faults files.old)
-        (F.save_faults files.old) (F.saves files.old) (F.begins files.old))
-        (state_of (F.map files.new) (F.rest files.new) (F.taken files.new) (F.load_faults files.new)
-        (F.save_faults files.new) (F.saves files.new) (F.begins files.new)) }
+        (files_at F.Files files.old) (files_at F.Files files.new) }
     ensures cost { steps.new ≤ steps.old + 2 * bytes_cost bytes.items }
-    ensures cause { result ≡ Outcome.SaveFailed →
-        Rose (F.save_faults files.old) (F.save_faults files.new) }
-    ensures untouched { result ≢ Outcome.SaveFailed →
-        F.save_faults files.new ≡ F.save_faults files.old }
+    ensures save_faults { SaveCounts F.Files files.old files.new (result ≡ Outcome.SaveFailed) }
     ensures taken { F.taken files.new ≡ F.taken files.old }
     ensures load_faults { F.load_faults files.new ≡ F.load_faults files.old }
     ensures begins { F.begins files.new ≡ F.begins files.old }

@@ -12,15 +12,15 @@ returns-in-Once-clause-complete g c = λ ready calm.
     sym c.read_request.ensures.value ∙ c.in-Once.is in
     let needs = rw asked at ready in
     once-good c.once.result c.in-Once.csv.now c.in-Once.settings _ _ _ c.once.ensures.ends needs.0 needs.1 needs.2
-    c.once.ensures.words c.once.ensures.unsaved (λ is. calm.listen (c.once.ensures.listen_cause is))
-    (λ is. calm.say (c.once.ensures.say_cause is)) calm.load
+    c.once.ensures.words c.once.ensures.unsaved (λ is. calm.listen (c.once.ensures.listen_faults.cause is))
+    (λ is. calm.say (c.once.ensures.say_faults.cause is)) calm.load
 
 pub returns-in-Build-clause-complete : goal.returns-in-Build-clause-complete
 returns-in-Build-clause-complete g c = λ ready calm.
     let asked : request_of c.args.words.now ≡ request.Build c.in-Build.csv c.in-Build.index c.in-Build.settings =
     sym c.read_request.ensures.value ∙ c.in-Build.is in
     build-good c.build.result c.in-Build.csv.now c.in-Build.index.now c.in-Build.settings _ _ c.build.ensures.ends
-    (rw asked at ready) c.build.ensures.words (λ is. calm.save (c.build.ensures.save_cause is)) c.build.ensures.unheard
+    (rw asked at ready) c.build.ensures.words (λ is. calm.save (c.build.ensures.save_faults.cause is)) c.build.ensures.unheard
     c.build.ensures.unsaid calm.load
 
 pub returns-in-Ask-clause-complete : goal.returns-in-Ask-clause-complete
@@ -29,8 +29,8 @@ returns-in-Ask-clause-complete g c = λ ready calm.
     sym c.read_request.ensures.value ∙ c.in-Ask.is in
     let needs = rw asked at ready in
     ask-good c.ask.result c.in-Ask.index.now _ _ _ c.ask.ensures.ends needs.0 needs.1 c.ask.ensures.words
-    c.ask.ensures.unsaved (λ is. calm.listen (c.ask.ensures.listen_cause is))
-    (λ is. calm.say (c.ask.ensures.say_cause is)) calm.load
+    c.ask.ensures.unsaved (λ is. calm.listen (c.ask.ensures.listen_faults.cause is))
+    (λ is. calm.say (c.ask.ensures.say_faults.cause is)) calm.load
 
 pub returns-in-AskTail-clause-complete : goal.returns-in-AskTail-clause-complete
 returns-in-AskTail-clause-complete g c = λ ready calm.
@@ -38,8 +38,8 @@ returns-in-AskTail-clause-complete g c = λ ready calm.
     sym c.read_request.ensures.value ∙ c.in-AskTail.is in
     let needs = rw asked at ready in
     ask_tail-good c.ask_tail.result c.in-AskTail.index.now c.in-AskTail.tail.now _ _ _ _ _ needs.0 needs.1.0 needs.1.1
-    c.ask_tail.ensures.words c.ask_tail.ensures.unsaved (λ is. calm.listen (c.ask_tail.ensures.listen_cause is))
-    (λ is. calm.say (c.ask_tail.ensures.say_cause is)) calm.load c.ask_tail.ensures.ends
+    c.ask_tail.ensures.words c.ask_tail.ensures.unsaved (λ is. calm.listen (c.ask_tail.ensures.listen_faults.cause is))
+    (λ is. calm.say (c.ask_tail.ensures.say_faults.cause is)) calm.load c.ask_tail.ensures.ends
 
 pub returns-in-Sample-clause-complete : goal.returns-in-Sample-clause-complete
 returns-in-Sample-clause-complete g c = λ ready calm.
@@ -48,7 +48,7 @@ returns-in-Sample-clause-complete g c = λ ready calm.
     let needs = rw asked at ready in
     sample-good c.sample.result c.in-Sample.settings _ _ _ _ needs.1 _ _ c.sample.ensures.ends needs.0
     c.sample.ensures.words c.sample.ensures.unloaded c.sample.ensures.unsaved c.sample.ensures.unheard
-    (λ is. calm.say (c.sample.ensures.say_cause is))
+    (λ is. calm.say (c.sample.ensures.say_faults.cause is))
 
 pub returns-in-Upgrade-clause-complete : goal.returns-in-Upgrade-clause-complete
 returns-in-Upgrade-clause-complete g c = λ ready calm.
@@ -56,7 +56,7 @@ returns-in-Upgrade-clause-complete g c = λ ready calm.
     sym c.read_request.ensures.value ∙ c.in-Upgrade.is in
     let needs = rw asked at ready in
     upgrade-good c.in-Upgrade.old.now c.in-Upgrade.new.now _ _ _ _ needs.0 c.upgrade.result c.upgrade.ensures.ends needs.1
-    (λ is. calm.save (c.upgrade.ensures.save_cause is)) calm.load
+    (λ is. calm.save (c.upgrade.ensures.save_faults.cause is)) calm.load
 
 pub returns-in-Merge-clause-complete : goal.returns-in-Merge-clause-complete
 returns-in-Merge-clause-complete g c = λ ready calm.
@@ -64,7 +64,7 @@ returns-in-Merge-clause-complete g c = λ ready calm.
     sym c.read_request.ensures.value ∙ c.in-Merge.is in
     let needs = rw asked at ready in
     merge-good c.merge.result c.in-Merge.left.now c.in-Merge.right.now c.in-Merge.out.now _ _ c.merge.ensures.ends needs.0
-    needs.1 needs.2 (λ is. calm.save (c.merge.ensures.save_cause is)) calm.load
+    needs.1 needs.2 (λ is. calm.save (c.merge.ensures.save_faults.cause is)) calm.load
 
 pub returns-in-Refused-clause-complete : goal.returns-in-Refused-clause-complete
 returns-in-Refused-clause-complete g c = λ ready calm.

@@ -1,4 +1,4 @@
-use Rattle.std.proofs.Common.{ℕ, refl, subst, ap}
+use Rattle.std.proofs.Common.{ℕ, refl, subst, ap, arith}
 use Rattle.host_ports.specs.FilesState.{FilesState}
 use Rattle.track_types.specs.Chart.{ChartView}
 use Rattle.chart_parts.specs.PartsOf.{parts_of}
@@ -27,9 +27,13 @@ pub returns-in-Err-clause-unheard : goal.returns-in-Err-clause-unheard
 returns-in-Err-clause-unheard g c =
     early-others c.in-Err.outcome c.args.settings c.in-Err.ensures.refused outcome.ListenFailed refl (λ is. cc)
 
-pub returns-in-Err-clause-say_cause : goal.returns-in-Err-clause-say_cause
-returns-in-Err-clause-say_cause g c = λ failed. absurd (
-    early-others c.in-Err.outcome c.args.settings c.in-Err.ensures.refused outcome.SayFailed refl (λ is. cc) failed)
+pub returns-in-Err-clause-say_faults : goal.returns-in-Err-clause-say_faults
+returns-in-Err-clause-say_faults g c = record {
+  cause = λ failed. absurd (
+      early-others c.in-Err.outcome c.args.settings c.in-Err.ensures.refused outcome.SayFailed refl (λ is. cc) failed);
+  untouched = λ other. refl;
+  faults = omega arith;
+}
 
 pub returns-clause-ends : goal.returns-clause-ends
 returns-clause-ends g c =

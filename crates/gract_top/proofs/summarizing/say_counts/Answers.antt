@@ -77,7 +77,7 @@ loop-question-preserved g c =
           (speech (g.K.Sink.said c.say_count.new.sink) (c.count_found.new.steps + budget_of c.count_found.new.desk))
           (omega (arith, c.in-Ok.ensures.cost, counted-cost cost held asked turn.counted)) c.in-Ok-say_count.ensures.ok;
       empty = c.in-Ok.ensures.desk ∙ (counted-desk chart held asked turn.counted ∙ c.loop-question.invariant.empty);
-      faults = c.in-Ok-say_count.ensures.untouched ∙ c.loop-question.invariant.faults;
+      faults = c.in-Ok-say_count.ensures.faults.untouched (λ failed. absurd (cc)) ∙ c.loop-question.invariant.faults;
     }
 
 pub returns-in_default-say_count-clause-err : goal.returns-in_default-say_count-clause-err

@@ -6,7 +6,7 @@ use Rattle.track_types.specs.declared.question.Question.{Question}
 use Rattle.track_types.specs.declared.question.Question.TheVariants as question
 use Rattle.question_shell.specs.Desk.{DeskView, budget_of, empty_desk}
 use Rattle.question_shell.specs.Reply.{listed}
-use Rattle.question_shell.specs.Session.{Meaning, meaning_of}
+use Rattle.question_shell.specs.Session.{Meaning, meaning_by}
 use Rattle.question_shell.specs.Turns.{AnswerTold, moment}
 use Rattle.question_shell.proofs.SaysLemmas.{Appends-append, Appends-says, on_err_always}
 use Rattle.gract_top.specs.Sampling.{SaysFront}
@@ -18,8 +18,7 @@ use Rattle.gract_top.proofs.summarizing.say_summary.Goals.{After-say_reply}
 
 -- what the answerer means
 abbrev meaning : (g : Over) (c : After-say_reply g) → Meaning
-meaning g c = meaning_of (g.A.Answerer.chart c.args.answerer) (g.A.Answerer.facts c.args.answerer)
-    (g.A.Answerer.cost c.args.answerer)
+meaning g c = meaning_by g.A.Answerer c.args.answerer
 
 pub returns-in_err-say_reply-clause-err : goal.returns-in_err-say_reply-clause-err
 returns-in_err-say_reply-clause-err g c =
@@ -55,8 +54,7 @@ say_counts-requires-clause-empty g c = rw c.in-Ok.ensures at c.in_ok-say_reply.e
 
 pub returns-clause-ok : goal.returns-clause-ok
 returns-clause-ok g c =
-    let of = meaning_of (g.A.Answerer.chart c.args.answerer) (g.A.Answerer.facts c.args.answerer)
-    (g.A.Answerer.cost c.args.answerer) in
+    let of = meaning_by g.A.Answerer c.args.answerer in
     let before = g.K.Sink.said c.args.sink.now in
     let between = g.K.Sink.said c.say_reply.new.sink in
     let now = g.K.Sink.said c.say_counts.new.sink in
@@ -69,8 +67,7 @@ returns-clause-ok g c =
 
 pub returns-clause-err : goal.returns-clause-err
 returns-clause-err g c =
-    let of = meaning_of (g.A.Answerer.chart c.args.answerer) (g.A.Answerer.facts c.args.answerer)
-    (g.A.Answerer.cost c.args.answerer) in
+    let of = meaning_by g.A.Answerer c.args.answerer in
     let before = g.K.Sink.said c.args.sink.now in
     let between = g.K.Sink.said c.say_reply.new.sink in
     let now = g.K.Sink.said c.say_counts.new.sink in
