@@ -81,9 +81,11 @@ module _ (view : RulesView) where
       let last : instant +ℤ pos (length (terminals ++ node.before) + length node.inside)
       ≡ (instant +ℤ pos (length terminals)) +ℤ pos (length node.before + length node.inside) =
       omega (arith, ints, long) in
-      ap (λ z. (le_z z to && le_z from (instant +ℤ pos (length (terminals ++ node.before) + length node.inside)))
+      ap (λ z. (le_z from to
+      && (le_z z to && le_z from (instant +ℤ pos (length (terminals ++ node.before) + length node.inside))))
       && has_box view node) first
-      ∙ ap (λ z. (le_z ((instant +ℤ pos (length terminals)) +ℤ pos (length node.before + 1)) to && le_z from z)
+      ∙ ap (λ z. (le_z from to
+      && (le_z ((instant +ℤ pos (length terminals)) +ℤ pos (length node.before + 1)) to && le_z from z))
       && has_box view node) last
 
   filter-after : (instant from to : ℤ) (terminals : List ℕ) (nodes : List Node) →

@@ -1,5 +1,5 @@
 -- The rule nodes of parse trees, and how many of them a walk over a window opens.
-use Rattle.std.specs.Prelude.{ℕ, ◌+◌, ℤ, pos, ◌+ℤ◌, Bool, ◌&&◌, List, [], ◌∷◌, ◌++◌, length, map, filter, slice_index}
+use Rattle.std.specs.Prelude.{ℕ, ◌+◌, ℤ, pos, ◌+ℤ◌, Bool, ◌&&◌, if◌then◌else◌, List, [], ◌∷◌, ◌++◌, length, map, filter, slice_index}
 use Rattle.std.specs.Option.{is_some}
 use Rattle.std.specs.Int.Signed.{le_z}
 use Rattle.std.specs.List.{range_with_len}
@@ -48,11 +48,12 @@ nodes_in view [] = []
 nodes_in view (symbol ∷ log) =
     (parsed view symbol).nodes ++ map (after (parsed view symbol).terminals) (nodes_in view log)
 
--- the instants of a node meet the window: it begins an instant after those before it, in a block whose anchor is
--- at this instant
+-- the window has an instant, and those of a node meet it: the node begins an instant after those before it, in a block
+-- whose anchor is at this instant
 abbrev pub meets : ℤ → ℤ → ℤ → Node → Bool
-meets instant from to node = le_z (instant +ℤ pos (length node.before + 1)) to
-    && le_z from (instant +ℤ pos (length node.before + length node.inside))
+meets instant from to node = le_z from to
+    && (le_z (instant +ℤ pos (length node.before + 1)) to
+    && le_z from (instant +ℤ pos (length node.before + length node.inside)))
 
 -- the object is present at some instant of the node
 abbrev pub has_box : RulesView → Node → Bool
@@ -66,6 +67,8 @@ is_opened view instant from to node = meets instant from to node && has_box view
 unfoldable pub opened_count : RulesView → ℤ → List ℕ → ℤ → ℤ → ℕ
 opened_count view instant log from to = length (filter (is_opened view instant from to) (nodes_in view log))
 
--- how much a walk over the window reads at most: each symbol of the log, and the parts of each opened rule
+-- how much a walk over the window reads at most: each symbol of the log, and the parts of each opened rule, and nothing
+-- where the window has no instant
 unfoldable pub block_budget : RulesView → ℤ → List ℕ → ℤ → ℤ → ℕ
-block_budget view instant log from to = length log + opened_count view instant log from to
+block_budget view instant log from to =
+    if le_z from to then (length log + opened_count view instant log from to) else 0
