@@ -13,7 +13,7 @@ use Rattle.spiral_code.specs.Spiral.{move_of}
 use Rattle.log_cursor.specs.Seek.{cell_among}
 use Rattle.log_cursor.specs.Start.{start_at}
 use Rattle.log_cursor.specs.Touching.{first_hit_of, touching_count}
-use Rattle.log_cursor.specs.Walk.{begun}
+use Rattle.log_cursor.specs.Walk.{at_rest, begun}
 use Rattle.log_cursor.specs.declared.start.Start.{Start}
 
 -- an absence, and a movement to the right; rule 2 is the movement and the absence, and rule 3 is rule 2 twice
@@ -38,6 +38,12 @@ windowed : begun four log (start_at (pos 10) (cell_at (pos 5) (pos 5))) (pos 13)
 unfolding in_window block_stops stops_after log_values values_of expansion_of grown cells_along stops_from move_of
     block_budget opened_count nodes_in parsed bounding_box_of box_round
 windowed = refl
+
+-- a window that ends before it begins
+backwards : begun four log (start_at (pos 10) (cell_at (pos 5) (pos 5))) (pos 14) (pos 13) ≡ at_rest four
+unfolding in_window block_stops stops_after log_values values_of expansion_of grown cells_along stops_from move_of
+    block_budget
+backwards = refl
 
 abbrev anchor : Start
 anchor = start_at (pos 10) (cell_at (pos 5) (pos 5))

@@ -26,7 +26,7 @@ use Rattle.log_cursor.specs.declared.start.Start.{Start}
 use Rattle.log_cursor.proofs.HitLemmas.{IsHullAsked-along, hit_left-apart, hit_left-terminal}
 use Rattle.log_cursor.proofs.RuleLemmas.{parts-below}
 use Rattle.log_cursor.proofs.TouchLemmas.{touching_count-later, touching_count-parts}
-use Rattle.log_cursor.proofs.WalkLemmas.{stops_left-before, stops_left-end, stops_left-over, stops_left-parts}
+use Rattle.log_cursor.proofs.WalkLemmas.{in_window-empty, stops_left-before, stops_left-end, stops_left-over, stops_left-parts}
 use Rattle.log_cursor.proofs.WayLemmas.{IsWayOf-first, IsWayOf-next, IsWayOf-parts, IsWayOf-rest, hull_is, start_after-is}
 
 -- the one stop of a window
@@ -98,6 +98,13 @@ or-some (Some stop) other some = refl
 or-later : (anchor other : Option Stop) → is_some anchor ≡ false → option_or anchor other ≡ other
 or-later None other none = refl
 or-later (Some stop) other none = absurd (cc)
+
+-- a window with no instant has no hit
+pub first_hit_of-empty : (rules : RulesView) (log : List ℕ) (start : Start) (from to : ℤ) (region : Region) →
+    to <ℤ from → first_hit_of rules log start from to region ≡ None
+unfolding first_hit_of
+first_hit_of-empty rules log start from to region empty =
+    ap (first_among region) (in_window-empty from to (block_stops rules start.instant start.cell log) empty)
 
 -- the first hit of a block: its anchor, and else that of its log
 module _ (rules : RulesView) (log : List ℕ) (start : Start) (from to : ℤ) (region : Region) (anchor : Option Stop)
@@ -218,7 +225,7 @@ module _ (found : Option Stop) (budget : ℕ) (old now : PendingView) (at : Star
           ∙ ap (λ (next : Start). Some (stop_at next.instant next.cell)) (sym next_is)
 
       -- a rule is opened
-      module _ (sound : AreRules now.rules) (rule : length now.rules.alphabet ≤ entry.symbol) (later : PendingView)
+      module _ (window : from ≤ℤ to) (sound : AreRules now.rules) (rule : length now.rules.alphabet ≤ entry.symbol) (later : PendingView)
           (after : ℕ) (same_rules : later.rules ≡ now.rules)
           (symbols : later.symbols ≡ left_of now.rules entry.symbol ∷ right_of now.rules entry.symbol ∷ now.symbols)
           (unread : later.unread ≡ now.unread) (read : after ≡ reads + parts_reads) where
@@ -235,8 +242,8 @@ module _ (found : Option Stop) (budget : ℕ) (old now : PendingView) (at : Star
         one_less : touching_left now.rules from to region at (entry.symbol ∷ now.symbols)
             ≡ suc (touching_left now.rules from to region at parts)
         one_less =
-            touching_count-parts now.rules from to region entry.symbol now.symbols rule known below.0 below.1 at open_end
-            reached_past touching
+            touching_count-parts now.rules from to region entry.symbol now.symbols rule known below.0 below.1 at window
+            open_end reached_past touching
 
         inside : IsSearching found budget now.rules parts now.unread at from to region after
         inside = record {

@@ -49,13 +49,14 @@ module _ (rules : RulesView) (from to : ℤ) (region : Region) where
       ap (λ values. moved start.cell (displacement_of values))
       (map-append (slice_index rules.alphabet) terminals node.before)
       ∙ moved-displaced start.cell (terminal_values rules terminals) (terminal_values rules node.before) in
-      ap (λ z. (le_z z to
-      && le_z from (start.instant +ℤ pos (length (terminals ++ node.before) + length node.inside)))
+      ap (λ z. (le_z from to
+      && (le_z z to && le_z from (start.instant +ℤ pos (length (terminals ++ node.before) + length node.inside))))
       && touches_at region place inside) first
-      ∙ ap (λ z. (le_z (past.instant +ℤ pos (length node.before + 1)) to && le_z from z)
+      ∙ ap (λ z. (le_z from to && (le_z (past.instant +ℤ pos (length node.before + 1)) to && le_z from z))
       && touches_at region place inside) last
-      ∙ ap (λ cell. (le_z (past.instant +ℤ pos (length node.before + 1)) to
-      && le_z from (past.instant +ℤ pos (length node.before + length node.inside)))
+      ∙ ap (λ cell. (le_z from to
+      && (le_z (past.instant +ℤ pos (length node.before + 1)) to
+      && le_z from (past.instant +ℤ pos (length node.before + length node.inside))))
       && touches_at region cell inside) placed
 
   filter-after : (start : Start) (terminals : List ℕ) (nodes : List Node) →
@@ -94,17 +95,18 @@ module _ (rules : RulesView) (from to : ℤ) (region : Region) where
   touching_count-later start symbol log = omega (arith, touching_count-cons start symbol log)
 
   -- the node of a symbol itself, which stands for these values
-  is_touching-own : (start : Start) (inside values : List ℕ) → terminal_values rules inside ≡ values →
+  is_touching-own : (start : Start) (inside values : List ℕ) → terminal_values rules inside ≡ values → from ≤ℤ to →
       start.instant <ℤ to → from ≤ℤ (start_past start values).instant →
       touches_at region start.cell (bounding_box_of values) ≡ true →
       is_touching rules start from to region (record { before = []; inside = inside }) ≡ true
   unfolding displacement_of
-  is_touching-own start inside values are open_end reached touches =
+  is_touching-own start inside values are window open_end reached touches =
       let long = length-map inside (slice_index rules.alphabet) in
       let same = ap length are in
       and_from _ _
+      (and_from _ _ (le_z-from from to window)
       (and_from _ _ (le_z-from (start.instant +ℤ pos (0 + 1)) to (omega (arith, ints)))
-      (le_z-from from (start.instant +ℤ pos (0 + length inside)) (omega (arith, ints, reached, long, same))))
+      (le_z-from from (start.instant +ℤ pos (0 + length inside)) (omega (arith, ints, reached, long, same)))))
       (ap (λ cell. touches_at region cell (bounding_box_of (terminal_values rules inside))) (moved-none start.cell)
       ∙ ap (λ v. touches_at region start.cell (bounding_box_of v)) are
       ∙ touches)
@@ -112,15 +114,15 @@ module _ (rules : RulesView) (from to : ℤ) (region : Region) where
   -- a rule that is touching counts one, and its two parts
   module _ (symbol : ℕ) (log : List ℕ) (rule : length rules.alphabet ≤ symbol) (known : symbol < symbols_in rules)
       (left_below : left_of rules symbol < symbol) (right_below : right_of rules symbol < symbol) where
-    pub touching_count-parts : (start : Start) → start.instant <ℤ to →
+    pub touching_count-parts : (start : Start) → from ≤ℤ to → start.instant <ℤ to →
         from ≤ℤ (start_past start (values_of rules symbol)).instant →
         touches_at region start.cell (bounding_box_of (values_of rules symbol)) ≡ true →
         touching_count rules start (symbol ∷ log) from to region
         ≡ suc (touching_count rules start (left_of rules symbol ∷ right_of rules symbol ∷ log) from to region)
     unfolding touching_count values_of
-    touching_count-parts start open_end reached touches =
-        let own = is_touching-own start (expansion_of rules symbol) (values_of rules symbol) refl open_end reached
-        touches in
+    touching_count-parts start window open_end reached touches =
+        let own = is_touching-own start (expansion_of rules symbol) (values_of rules symbol) refl window open_end
+        reached touches in
         ap (λ nodes. length (filter (is_touching rules start from to region) nodes))
         (nodes_in-parts rules symbol rule known left_below right_below log)
         ∙ rw own refl

@@ -44,20 +44,20 @@ pub window-one : (from to instant : ℤ) (cell : Cell) → is_between from to in
 unfolding in_window
 window-one from to instant cell between = rw between refl
 
--- a walk that was begun
+-- a walk that was begun over a window with an instant
 pub walk_of-begun : (pending : PendingView) (anchor : Option Stop) (start : Start) (from to : ℤ) (rules : RulesView)
     (log : List ℕ) → pending.rules ≡ rules → pending.symbols ≡ log → pending.unread ≡ length log →
     option_to_list anchor ≡ in_window from to (stop_at start.instant start.cell ∷ []) → (a b : ℤ) → a ≡ from →
-    b ≡ to → walk_of pending anchor start a b ≡ begun rules log start from to
+    b ≡ to → from ≤ℤ to → walk_of pending anchor start a b ≡ begun rules log start from to
 unfolding in_window block_stops block_budget
-walk_of-begun pending anchor start from to rules log rules_are symbols unread first a b low high =
+walk_of-begun pending anchor start from to rules log rules_are symbols unread first a b low high window =
     let stop = stop_at start.instant start.cell in
     let test : Stop → Bool = λ stop. is_between from to stop.instant in
     let stops : option_to_list anchor ++ stops_left rules from to start log
     ≡ filter test (stop ∷ stops_after rules start.instant start.cell log) =
     ap (λ stops. stops ++ stops_left rules from to start log) first
     ∙ sym (filter-append test (stop ∷ []) (stops_after rules start.instant start.cell log)) in
-    rw (low, high, rules_are, symbols, unread)
+    rw (low, high, rules_are, symbols, unread, le_z-from from to window)
     (ap (λ stops. record {
       rules = rules;
       stops = stops;
@@ -74,6 +74,22 @@ walk_of-none pending start from to rules rules_are symbols unread =
     ap (filter test) (stops_after-none rules start.instant start.cell) in
     rw (rules_are, symbols, unread, opened_count-none rules start.instant from to)
     (ap (λ stops. record { rules = rules; stops = stops; reads = 0 }) stops)
+
+-- a window with no instant has no stops
+pub in_window-empty : (from to : ℤ) (stops : List Stop) → to <ℤ from → in_window from to stops ≡ []
+unfolding in_window
+in_window-empty from to [] empty = refl
+in_window-empty from to (stop ∷ stops) empty =
+    let none : is_between from to stop.instant ≡ false = grind (arith, ints) in
+    rw none (in_window-empty from to stops empty)
+
+-- a walk that was begun over it has nothing left
+pub begun-empty : (rules : RulesView) (log : List ℕ) (start : Start) (from to : ℤ) → to <ℤ from →
+    at_rest rules ≡ begun rules log start from to
+unfolding block_budget
+begun-empty rules log start from to empty =
+    let none : le_z from to ≡ false = grind (arith, ints) in
+    rw (in_window-empty from to (block_stops rules start.instant start.cell log) empty, none) refl
 
 -- no symbols have no stops
 pub stops_left-end : (rules : RulesView) (from to : ℤ) (start : Start) (symbols : List ℕ) → symbols ≡ [] →
@@ -163,12 +179,12 @@ module _ (rules : RulesView) (from to : ℤ) (start : Start) where
           ap (in_window from to)
           (stops_after-parts rules symbol rule known left_below right_below log start.instant start.cell)
 
-      pub opened_left-parts : is_some (bounding_box_of (values_of rules symbol)) ≡ true → start.instant <ℤ to →
-          from ≤ℤ past.instant →
+      pub opened_left-parts : is_some (bounding_box_of (values_of rules symbol)) ≡ true → from ≤ℤ to →
+          start.instant <ℤ to → from ≤ℤ past.instant →
           opened_left rules from to start (symbol ∷ log)
           ≡ suc (opened_left rules from to start (left_of rules symbol ∷ right_of rules symbol ∷ log))
       unfolding values_of
-      opened_left-parts some open_end reached =
+      opened_left-parts some window open_end reached =
           let inside = expansion_of rules symbol in
           let long : length (values_of rules symbol) ≡ length inside = length-map inside (slice_index rules.alphabet) in
           let first : le_z (start.instant +ℤ pos 1) to ≡ true =
@@ -176,7 +192,7 @@ module _ (rules : RulesView) (from to : ℤ) (start : Start) where
           let last : le_z from (start.instant +ℤ pos (0 + length inside)) ≡ true =
           le_z-from from (start.instant +ℤ pos (0 + length inside)) (omega (arith, ints, long)) in
           opened_count-parts rules symbol rule known left_below right_below log start.instant from to
-          (rw (first, last, some) refl)
+          (rw (le_z-from from to window, first, last, some) refl)
 
 -- a turn: the next symbol was taken off
 module _ (first : WalkView) (before : ℕ) (old now : PendingView) (anchor : Option Stop) (at : Start) (from to : ℤ)
@@ -235,6 +251,7 @@ module _ (first : WalkView) (before : ℕ) (old now : PendingView) (anchor : Opt
       IsWalking first before now anchor (start_after at entry) from to reads
   passed skipped = record {
     none = walking.none;
+    window = walking.window;
     way = turn-way;
     same = same ∙ walking.same;
     stops = stops_are ∙ skipped
@@ -296,12 +313,13 @@ module _ (first : WalkView) (before : ℕ) (old now : PendingView) (anchor : Opt
           ≡ suc (opened_left now.rules from to at
           (left_of now.rules entry.symbol ∷ right_of now.rules entry.symbol ∷ now.symbols))
       one_less =
-          opened_left-parts now.rules from to at entry.symbol now.symbols rule known below.0 below.1 has_hull open_end
-          reached_past
+          opened_left-parts now.rules from to at entry.symbol now.symbols rule known below.0 below.1 has_hull
+          walking.window open_end reached_past
 
       pub turn-opened : IsWalking first before later anchor at from to after
       turn-opened = record {
         none = walking.none;
+        window = walking.window;
         way = subst (λ (r : RulesView). IsWayOf r at later.symbols) (sym same_rules)
             (subst (IsWayOf now.rules at) (sym symbols)
             (IsWayOf-parts now.rules entry.symbol now.symbols rule known below.0 below.1 at way));

@@ -69,6 +69,16 @@ impl<'a> Pending<'a> {
         self.stack.clear();
     }
 
+    /// Drops all symbols that were left.
+    pub fn end(&mut self)
+        ensures rules { self.new.rules ≡ self.old.rules }
+        ensures symbols { self.new.symbols ≡ [] }
+        ensures unread { self.new.unread ≡ 0 }
+    {
+        self.next = self.view.len();
+        self.stack.clear();
+    }
+
     /// Takes the next symbol off and answers its entry. A symbol of the log is read.
     pub fn next<L: Ledger>(&mut self, steps: &mut Steps<L>) -> Option<Entry>
         ensures rules { self.new.rules ≡ self.old.rules }

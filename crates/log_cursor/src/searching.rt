@@ -1,4 +1,4 @@
-ghost use Rattle.std.specs.Prelude.{◌≡◌, ◌+◌, ◌≤◌, [], ◌∷◌, length, IfOk};
+ghost use Rattle.std.specs.Prelude.{◌≡◌, ◌+◌, ◌≤◌, ◌≤ℤ◌, ◌<ℤ◌, [], ◌∷◌, length, IfOk};
 ghost use Rattle.track_types.specs.Near.{IsBoxWithin, IsCellAsked};
 ghost use Rattle.rule_store.specs.Log.{in_window, log_of, stop_at};
 ghost use Rattle.log_cursor.specs.Start.{IsBoxAsked, IsHullAsked, IsPlaced, IsWayOf};
@@ -28,7 +28,7 @@ use track_types::{Cell, CellBox, Memory, Stop};
 /// The instant and the cell of the anchor, and each symbol's box where it is placed, are at most 2^41
 /// away from 0. A symbol whose instants miss the window, or whose placed box has no cell of the
 /// region, is passed over unopened. It makes at most as many reads as the log has symbols and its
-/// parse trees have rule nodes that are not passed over. Memory is taken for the parts of opened
+/// parse trees have rule nodes that are not passed over, and none in a window that ends before it begins. Memory is taken for the parts of opened
 /// rules where the grammar is deep.
 pub fn first_hit<L: Ledger>(
     alloc: Global,
@@ -44,7 +44,11 @@ pub fn first_hit<L: Ledger>(
         ≡ first_hit_of view.entry.rules.now (log_of view.entry) start from to test.now.region) }
     ensures cost { steps.new ≤ steps.old + (length (log_of view.entry)
         + touching_count view.entry.rules.now start (log_of view.entry) from to test.now.region) }
+    ensures empty { to <ℤ from → steps.new ≡ steps.old }
 {
+    if to < from {
+        return Ok(None);
+    }
     let anchor = anchor_hit(start, from, to, test);
     if anchor.is_some() || to <= start.instant {
         return Ok(anchor);
@@ -76,7 +80,8 @@ fn hit_after<L: Ledger>(
     test: &RegionTest,
     steps: &mut Steps<L>,
 ) -> Option<Stop>
-    requires { IsWayOf pending.rules start pending.symbols }
+    requires way { IsWayOf pending.rules start pending.symbols }
+    requires window { from ≤ℤ to }
     ensures value { result ≡ hit_left pending.entry.rules from to test.now.region start
         pending.entry.symbols }
     ensures cost { steps.new ≤ steps.old + (pending.entry.unread + touching_left

@@ -19,7 +19,7 @@ use track_types::Cell;
 /// The instant and the cell of the anchor, and each symbol's box where it is placed, are at most 2^41
 /// away from 0. It passes over each symbol that ends before the instant, opens one rule at each depth
 /// below the symbol that has it, and takes no memory. It makes at most as many reads as the log has
-/// symbols and the grammar is deep.
+/// symbols and the grammar is deep, and none by the anchor's instant.
 pub fn seek<L: Ledger>(
     view: LogView<'_>,
     start: Start,
@@ -31,6 +31,7 @@ pub fn seek<L: Ledger>(
         (log_of view.entry)) instant }
     ensures cost { steps.new ≤ steps.old
         + seek_reads (length (log_of view.entry)) (depth_in view.entry.rules.now) }
+    ensures early { instant ≤ℤ start.instant → steps.new ≡ steps.old }
 {
     if instant <= start.instant {
         return if instant == start.instant {

@@ -29,14 +29,13 @@ pub struct BlockWalk<'a> {
 }
 
 impl<'a> Model for BlockWalk<'a> {
-    ghost use Rattle.log_cursor.specs.Start.{IsWayOf};
-    ghost use Rattle.log_cursor.specs.Walk.{WalkView, walk_of};
+    ghost use Rattle.log_cursor.specs.Walk.{IsGoing, WalkView, walk_of};
 
     ghost Value = { WalkView };
 
     ghost view = { λ w. walk_of w.pending w.anchor w.at w.from w.to };
 
-    ghost invariant = { λ w. IsWayOf w.pending.rules w.at w.pending.symbols };
+    ghost invariant = { λ w. IsGoing w.pending w.at w.from w.to };
 }
 
 impl<'a> BlockWalk<'a> {
@@ -69,6 +68,11 @@ impl<'a> BlockWalk<'a> {
         requires placed { IsPlaced view.rules.now start (log_of view) }
         ensures { self.new ≡ begun view.entry.rules.now (log_of view.entry) start from to }
     {
+        if to < from {
+            self.pending.end(); // of a window with no instant nothing is read
+            self.anchor = None;
+            return;
+        }
         self.pending.begin(view);
         self.anchor = stop_within(start, from, to);
         self.at = start;

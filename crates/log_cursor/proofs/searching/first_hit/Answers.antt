@@ -5,11 +5,16 @@ use Rattle.rule_store.specs.Flaws.{AreRules}
 use Rattle.rule_store.specs.Log.{in_window, log_of, stop_at}
 use Rattle.log_cursor.specs.Start.{IsWayOf}
 use Rattle.log_cursor.specs.Touching.{first_among, hit_left}
-use Rattle.log_cursor.proofs.SearchLemmas.{first_hit_of-anchor, first_hit_of-later, first_hit_of-over, hit_left-same, in_window-same}
+use Rattle.log_cursor.proofs.SearchLemmas.{first_hit_of-anchor, first_hit_of-empty, first_hit_of-later, first_hit_of-over, hit_left-same, in_window-same}
 use Rattle.log_cursor.proofs.WayLemmas.{IsWayOf-placed, length-log_of}
 use Rattle.log_cursor.proofs.searching.first_hit.Given.{Over}
 use Rattle.log_cursor.proofs.searching.first_hit.Goals as goal
 use Rattle.log_cursor.proofs.searching.first_hit.Goals.{After-anchor_hit-anchor, then-is_some-via-then-is_some, then-is_some-via-else-is_some+then-to-start}
+
+pub returns-then-to-from-clause-value : goal.returns-then-to-from-clause-value
+returns-then-to-from-clause-value g c =
+    sym (first_hit_of-empty c.args.view.rules.now (log_of c.args.view) c.args.start c.args.from c.args.to
+    c.args.test.now.region (omega (arith, ints, c.if-to-from.true)))
 
 -- what the anchor's own call answers
 anchor_is : (g : Over) (c : After-anchor_hit-anchor g) → c.anchor_hit-anchor.result
@@ -46,8 +51,11 @@ hit_after-requires g c =
     let same : now.rules ≡ rules = c.begin.ensures.rules ∙ c.in_ok-pending.ensures.rules ∙ c.rules.ensures in
     let sound : AreRules rules = subst AreRules same c.begin.ensures.sound in
     let way = IsWayOf-placed rules c.args.start log sound (length-log_of c.args.view sound) c.requires in
-    subst (λ r. IsWayOf r c.args.start now.symbols) (sym same)
-    (subst (IsWayOf rules c.args.start) (sym c.begin.ensures.symbols) way)
+    record {
+      way = subst (λ r. IsWayOf r c.args.start now.symbols) (sym same)
+          (subst (IsWayOf rules c.args.start) (sym c.begin.ensures.symbols) way);
+      window = omega (arith, ints, c.if-to-from.false);
+    }
 
 pub returns-clause-value : goal.returns-clause-value
 returns-clause-value g c =

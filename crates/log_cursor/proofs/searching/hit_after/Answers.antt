@@ -72,9 +72,13 @@ loop-at-preserved-then-next-from g c =
 -- where its entry is not passed over, the window has instants after it and up to its end
 within : (g : Over) (c : After-is_rule g) → (c.loop-at.at.instant <ℤ to_z w64 (of_z w64 c.args.to))
     × (to_z w64 (of_z w64 c.args.from) ≤ℤ (start_after c.loop-at.at c.in_ok-entry.entry).instant)
+    × (to_z w64 (of_z w64 c.args.from) ≤ℤ to_z w64 (of_z w64 c.args.to))
 within g c =
-    let next_is = ap (λ (s : Start). s.instant) c.after-next.ensures in
-    (omega (arith, ints, c.loop-at-test.true), omega (arith, ints, next_is, c.if-next-from.false))
+    let next_is = ap (λ (s : Start). s.instant) c.after-next.ensures in (
+      omega (arith, ints, c.loop-at-test.true),
+      omega (arith, ints, next_is, c.if-next-from.false),
+      omega (arith, ints, c.requires.window),
+    )
 
 pub returns-then-not-is_rule-clause-value : goal.returns-then-not-is_rule-clause-value
 returns-then-not-is_rule-clause-value g c =
@@ -111,7 +115,7 @@ loop-at-smaller g c =
     leb-true _ _ (sym c.is_rule.ensures ∙ c.if-not-is_rule.false) in
     turn-opened-fewer _ _ c.loop-at.pending c.next.new.self _ _ _ _ _ c.next.new.steps c.in_ok-entry.entry
     c.loop-at.invariant c.in_ok-entry.ensures.found c.next.ensures.rules c.next.ensures.cost
-    (sym c.touches.ensures ∙ c.if-not-touches.false) its.0 its.1 c.next.ensures.sound rule c.open.new.self
+    (sym c.touches.ensures ∙ c.if-not-touches.false) its.0 its.1 its.2 c.next.ensures.sound rule c.open.new.self
     c.open.new.steps c.open.ensures.rules c.open.ensures.symbols c.open.ensures.unread c.open.ensures.cost
 
 pub loop-at-preserved : goal.loop-at-preserved
@@ -121,7 +125,7 @@ loop-at-preserved g c =
     leb-true _ _ (sym c.is_rule.ensures ∙ c.if-not-is_rule.false) in
     turn-opened _ _ c.loop-at.pending c.next.new.self _ _ _ _ _ c.next.new.steps c.in_ok-entry.entry
     c.loop-at.invariant c.in_ok-entry.ensures.found c.next.ensures.rules c.next.ensures.cost
-    (sym c.touches.ensures ∙ c.if-not-touches.false) its.0 its.1 c.next.ensures.sound rule c.open.new.self
+    (sym c.touches.ensures ∙ c.if-not-touches.false) its.0 its.1 its.2 c.next.ensures.sound rule c.open.new.self
     c.open.new.steps c.open.ensures.rules c.open.ensures.symbols c.open.ensures.unread c.open.ensures.cost
 
 pub returns-clause-value : goal.returns-clause-value

@@ -14,14 +14,17 @@ nowhere = start_at (pos 0) (cell_at (pos 0) (pos 0))
 pub invariant_of-result : goal.invariant_of-result
 invariant_of-result c =
     let pending = c.in_ok-pending.pending in
-    subst (IsWayOf pending.rules nowhere) (sym c.in_ok-pending.ensures.symbols)
-    (IsWayOf-none pending.rules nowhere (record {
-      instant = record { low = omega (arith, ints); high = omega (arith, ints) };
-      cell = record {
-        x = record { low = omega (arith, ints); high = omega (arith, ints) };
-        y = record { low = omega (arith, ints); high = omega (arith, ints) };
-      };
-    }))
+    record {
+      way = subst (IsWayOf pending.rules nowhere) (sym c.in_ok-pending.ensures.symbols)
+          (IsWayOf-none pending.rules nowhere (record {
+            instant = record { low = omega (arith, ints); high = omega (arith, ints) };
+            cell = record {
+              x = record { low = omega (arith, ints); high = omega (arith, ints) };
+              y = record { low = omega (arith, ints); high = omega (arith, ints) };
+            };
+          }));
+      window = omega (arith, ints);
+    }
 
 pub returns : goal.returns
 returns c =

@@ -82,9 +82,13 @@ loop-self-preserved g c =
 
 pub invariant_of-self-in-loop-self-2 : goal.invariant_of-self-in-loop-self-2
 invariant_of-self-in-loop-self-2 g c =
-    subst (λ (next : Start). IsWayOf c.next.new.self.rules next c.next.new.self.symbols) (sym c.after-next.ensures)
-    (turn-way _ _ _ _ _ _ _ _ _ c.next.new.steps _ c.loop-self.invariant c.in_ok-entry.ensures.found
-    c.next.ensures.rules c.next.ensures.cost)
+    record {
+      way = subst (λ (next : Start). IsWayOf c.next.new.self.rules next c.next.new.self.symbols)
+          (sym c.after-next.ensures)
+          (turn-way _ _ _ _ _ _ _ _ _ c.next.new.steps _ c.loop-self.invariant c.in_ok-entry.ensures.found
+          c.next.ensures.rules c.next.ensures.cost);
+      window = c.loop-self.invariant.window;
+    }
 
 pub returns-in-loop-self-clause-found : goal.returns-in-loop-self-clause-found
 returns-in-loop-self-clause-found g c =
