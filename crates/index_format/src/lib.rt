@@ -19,6 +19,7 @@ mod packing;
 mod periods;
 mod place;
 mod putting;
+mod room;
 #[cfg(test)]
 mod tests;
 mod unpacking;

@@ -7,6 +7,7 @@ ghost use Rattle.index_format.specs.Fields.{items_at, short_at, rising_at, rule_
 use crate::fault::FormatFault;
 use crate::fields::{long_of, short_of};
 use crate::place::Place;
+use crate::room::with_room;
 use std::alloc::Global;
 use track_types::{Kind, List32, List64, PairList, Section};
 
@@ -20,7 +21,7 @@ pub fn shorts_of(
 ) -> Result<(List32, &[u8]), FormatFault>
     ensures { Gives (λ x. (x.0, x.1.now)) result (items_at (short_at place.section place.period) count [] bytes.now) }
 {
-    let mut values = Vec::with_capacity(alloc, (count as usize).min(bytes.len() / 4))?;
+    let mut values = with_room(alloc, count, 4, bytes)?;
     let mut rest = bytes;
     for index in 0..count as usize {
         let (value, after) = short_of(rest, place.flaw(index, Kind::Short))?;
@@ -36,7 +37,7 @@ pub fn objects_of(alloc: Global, count: u32, bytes: &[u8]) -> Result<(List32, &[
     ensures { Gives (λ x. (x.0, x.1.now)) result (items_at (rising_at w32 Objects) count [] bytes.now) }
 {
     let place = Place::of(Section::Objects, 0);
-    let mut values = Vec::with_capacity(alloc, (count as usize).min(bytes.len() / 4))?;
+    let mut values = with_room(alloc, count, 4, bytes)?;
     let mut rest = bytes;
     for index in 0..count as usize {
         let (value, after) = short_of(rest, place.flaw(index, Kind::Short))?;
@@ -55,7 +56,7 @@ pub fn alphabet_of(alloc: Global, count: u32, bytes: &[u8]) -> Result<(List64, &
     ensures { Gives (λ x. (x.0, x.1.now)) result (items_at (rising_at w64 Alphabet) count [] bytes.now) }
 {
     let place = Place::of(Section::Alphabet, 0);
-    let mut values = Vec::with_capacity(alloc, (count as usize).min(bytes.len() / 8))?;
+    let mut values = with_room(alloc, count, 8, bytes)?;
     let mut rest = bytes;
     for index in 0..count as usize {
         let (value, after) = long_of(rest, place.flaw(index, Kind::Short))?;
@@ -74,7 +75,7 @@ pub fn rules_of(alloc: Global, count: u32, bytes: &[u8]) -> Result<(PairList, &[
     ensures { Gives (λ x. (x.0, x.1.now)) result (items_at rule_at count [] bytes.now) }
 {
     let place = Place::of(Section::Rules, 0);
-    let mut rules = Vec::with_capacity(alloc, (count as usize).min(bytes.len() / 8))?;
+    let mut rules = with_room(alloc, count, 8, bytes)?;
     let mut rest = bytes;
     for index in 0..count as usize {
         let missing = place.flaw(index, Kind::Short);

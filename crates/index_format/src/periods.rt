@@ -11,6 +11,7 @@ use crate::limits::MAX_TREE;
 use crate::lists::shorts_of;
 use crate::packed::{bits_of, ones_in};
 use crate::place::Place;
+use crate::room::with_room;
 use std::alloc::Global;
 use track_types::{Kind, PeriodList, PeriodParts, Section};
 
@@ -69,7 +70,7 @@ pub fn periods_of(
 ) -> Result<(PeriodList, &[u8]), FormatFault>
     ensures { Gives (λ x. (x.0, x.1.now)) result (items_at (period_at objects) count [] bytes.now) }
 {
-    let mut periods = Vec::with_capacity(alloc, (count as usize).min(bytes.len() / 5))?;
+    let mut periods = with_room(alloc, count, 5, bytes)?;
     let mut rest = bytes;
     for period in 0..count {
         let (parts, after) = period_of(alloc, objects, period, rest)?;
