@@ -1,5 +1,5 @@
 -- How far the reading of a file is, also of one that comes piece by piece.
-use Rattle.std.specs.Prelude.{◌≡◌, ◌+◌, ◌≤◌, ℕ, List, [], ◌++◌, length, All, None}
+use Rattle.std.specs.Prelude.{◌≡◌, ◌≢◌, ◌+◌, ◌<◌, ◌≤◌, ℕ, false, List, [], ◌++◌, length, slice_index, All, None}
 use Rattle.track_types.specs.Limits.{limit_of}
 use Rattle.track_types.specs.Near.{IsRawInRange}
 use Rattle.track_types.specs.declared.limit.LimitKind.TheVariants.{Rows}
@@ -7,6 +7,7 @@ use Rattle.track_types.specs.declared.raw_row.RawRow.{RawRow}
 use Rattle.row_reader.specs.Row.{Fields}
 use Rattle.row_reader.specs.Rows.{csv_fault, data_among, raws_of, records_of, refusals_of, rows_of}
 use Rattle.row_reader.specs.declared.parser.RowParser.{RowParser}
+use Rattle.row_reader.specs.declared.parser.TheConstants.{LEAST}
 use Rattle.row_reader.specs.declared.reading.Progress.{Progress}
 
 -- rows were put after those of a list, and this holds of them
@@ -32,8 +33,15 @@ pub record AreRowsAfter (before records : List Fields) (progress : Progress) (mo
 abbrev pub kept_length : RowParser → ℕ
 kept_length parser = length parser.rest.items
 
+-- Fewer than `LEAST` bytes come before the last line of what is kept, which has not ended: no line feed is in it.
+pub record HoldsLine (kept : List ℕ) : Type 0 where
+  pub line : ℕ
+  pub few : line < LEAST
+  pub unended : (place : ℕ) → line ≤ place → place < length kept → slice_index kept place ≢ 10
+
 -- a parser has taken these bytes and given these rows: however the file goes on, its first records are those whose rows
--- were given, none of them is refused, and the others are those of what the parser keeps with what follows
+-- were given, none of them is refused, and the others are those of what the parser keeps with what follows; unless it waits
+-- for the end of the file, it keeps little more than a line
 pub record HasTaken (bytes : List ℕ) (raws : List RawRow) (parser : RowParser) : Type 0 where
   pub records : List Fields
   pub whole : (more : List ℕ) → records_of (bytes ++ more) ≡ records ++ records_of (parser.rest.items ++ more)
@@ -41,6 +49,8 @@ pub record HasTaken (bytes : List ℕ) (raws : List RawRow) (parser : RowParser)
   pub past : IsPast records parser.progress
   pub rows : raws ≡ rows_of (data_among records)
   pub ranges : All IsRawInRange raws
+  pub least : parser.least ≤ LEAST
+  pub short : parser.is_waiting ≡ false → HoldsLine parser.rest.items
 
 -- these are all rows of a file that is accepted
 pub record AreRowsOf (bytes : List ℕ) (raws : List RawRow) : Type 0 where

@@ -3,6 +3,7 @@ ghost use Rattle.track_types.specs.Limits.{limit_of};
 ghost use Rattle.track_types.specs.declared.raw_row.RawRow.{RawRow};
 ghost use Rattle.row_reader.specs.Pieces.{Adds, AreRowsOf, HasTaken, kept_length};
 ghost use Rattle.row_reader.specs.Rows.{IsFaultOf};
+ghost use Rattle.row_reader.specs.declared.parser.TheConstants.{LEAST};
 
 use crate::fault::RowsFault;
 use crate::reading::{Progress, read_on};
@@ -43,6 +44,7 @@ impl RowParser {
 
     // One that reads lines where so many bytes are there.
     pub(crate) fn with_least(alloc: Global, least: usize) -> Self
+        requires { least ≤ LEAST }
         ensures { HasTaken [] [] result }
     {
         RowParser {

@@ -1,4 +1,4 @@
-use Rattle.std.proofs.Common.{rules, ◌≡◌, ◌∙◌, List, ℕ, [], ◌∷◌, ◌++◌, length, take, is_ok, OnOk, Result, Ok, Err, if◌then◌else◌, refl, ap, vec_len}
+use Rattle.std.proofs.Common.{rules, ◌≡◌, ◌∙◌, true, false, List, ℕ, [], ◌∷◌, ◌++◌, length, take, is_ok, OnOk, Result, Ok, Err, if◌then◌else◌, refl, ap, vec_len}
 use Rattle.std.proofs.lemmas.Result.{on_ok_weaker}
 use Rattle.row_reader.proofs.TakenLemmas.{HasTaken-lines, HasTaken-piece_alone}
 use Rattle.row_reader.proofs.parser.RowParser.read_lines.Goals as goal
@@ -20,7 +20,7 @@ returns-in-Ok c =
     on_ok_weaker c.extend_from_slice.result (λ rest bytes front raws has ends. record {
       more = read.more;
       added = read.added;
-      promise = HasTaken-lines bytes lines front raws read.more old _ has ends rest
+      promise = HasTaken-lines bytes lines front raws read.more old _ has ends rest refl
           (read.promise has.records has.past);
     }) alone
 
@@ -33,4 +33,5 @@ returns-in-Err c =
     ∙ c.read_on.ensures.kept in
     on_ok_weaker c.extend_from_slice-in-Err.result (λ kept bytes front raws has ends. kept bytes raws has)
     (HasTaken-piece_alone c.extend_from_slice-in-Err.result c.args.lines.now rows.items c.truncate.new.self.items
-    c.args.self.now _ none c.extend_from_slice-in-Err.ensures.items refl)
+    c.args.self.now _ none c.extend_from_slice-in-Err.ensures.items refl refl
+    (λ least short goes_on. absurd (let waits : true ≡ false = goes_on in cc)))

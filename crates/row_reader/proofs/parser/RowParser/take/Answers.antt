@@ -1,21 +1,30 @@
-use Rattle.std.proofs.Common.{◌≡◌, ◌∙◌, [], ◌∷◌, ◌++◌, ◌+◌, take, get_or, refl, ap, subst, append_assoc}
+use Rattle.std.proofs.Common.{◌≡◌, ◌∙◌, [], ◌∷◌, ◌++◌, ◌+◌, take, get_or, length, refl, arith, ap, sym, true, false, subst, append_assoc}
 use Rattle.std.proofs.lemmas.Bool.{eqb-true}
-use Rattle.std.proofs.lemmas.List.{take-append-drop, take_more}
+use Rattle.std.proofs.lemmas.List.{get_or-drop, length-append, length-drop, take-append-drop, take_more}
 use Rattle.std.proofs.lemmas.Result.{on_ok_weaker}
 use Rattle.row_reader.specs.Pieces.{HasTaken}
 use Rattle.row_reader.specs.declared.parser.RowParser.{RowParser}
-use Rattle.row_reader.proofs.TakenLemmas.{HasTaken-piece, HasTaken-piece_alone}
+use Rattle.row_reader.proofs.TakenLemmas.{HasTaken-piece, HasTaken-piece_alone, HoldsLine-few, HoldsLine-more}
+use Rattle.row_reader.proofs.parser.RowParser.take.Goals.{then-self-via-else-self+then-len-piece, then-self-via-then-self}
 use Rattle.row_reader.proofs.parser.RowParser.take.Goals as goal
 
 pub returns-then-self : goal.returns-then-self
 returns-then-self c =
     HasTaken-piece_alone c.extend_from_slice.result c.args.piece.now c.args.rows.now.items _ c.args.self.now _ refl
-    c.extend_from_slice.ensures.items refl
+    c.extend_from_slice.ensures.items refl refl
+    (λ least short goes_on. elim c.then-self.branch [
+      | then-self-via-then-self w ↦ absurd (let waits : true ≡ false = sym w.if-self.true ∙ goes_on in cc)
+      | then-self-via-else-self+then-len-piece w ↦
+          HoldsLine-few (c.args.self.now.rest.items ++ c.args.piece.now)
+          (omega (arith, length-append c.args.self.now.rest.items c.args.piece.now, w.if-len-piece.true, w.len.ensures, least))
+    ])
 
 pub returns-in_default : goal.returns-in_default
 returns-in_default c =
     HasTaken-piece_alone c.extend_from_slice-in_default.result c.args.piece.now c.args.rows.now.items _ c.args.self.now _
-    refl c.extend_from_slice-in_default.ensures.items refl
+    refl c.extend_from_slice-in_default.ensures.items refl refl
+    (λ least short goes_on. HoldsLine-more c.args.self.now.rest.items c.args.piece.now
+    (λ place high is. c.in_default.ensures place (omega arith) high (rw is refl)) (short goes_on))
 
 pub returns : goal.returns
 returns c =
@@ -46,4 +55,8 @@ returns c =
           (then (bytes ++ lines) (raws ++ read.more) read.promise);
     })
     (HasTaken-piece c.extend_from_slice-2.result others c.read_lines.new.self new c.extend_from_slice-2.ensures.items
-    refl)
+    refl refl
+    (λ least short goes_on. HoldsLine-more c.read_lines.new.self.rest.items others
+    (λ place high is. c.in-Some.ensures.0.after (last + 1 + place) (omega arith)
+    (omega (arith, high, ap length c.split_at.ensures.back, length-drop (last + 1) piece))
+    (rw (sym (get_or-drop (last + 1) piece place 0), sym c.split_at.ensures.back, is) refl)) (short goes_on)))
