@@ -1,13 +1,18 @@
 -- Bytes have no flaw if and only if they are those of an index file.
-use Rattle.std.proofs.Common.{◌≡◌, ℕ, List, None, Result, Ok, Err, ap, ◌∙◌}
-use Rattle.std.specs.Prelude.{IfOk}
+use Rattle.std.proofs.Common.{◌≡◌, ℕ, List, None, Result, Ok, Err, ap, sym, ◌∙◌}
+use Rattle.std.specs.Prelude.{IfErr, IfOk}
 use Rattle.track_types.specs.Shape.{IsShaped}
 use Rattle.track_types.specs.declared.flaw.Flaw.{Flaw}
 use Rattle.track_types.specs.declared.parts.Parts.{Parts}
+use Rattle.snapshots.specs.SoundParts.{IsValid}
+use Rattle.index_format.specs.Answers.{Gives}
+use Rattle.index_format.specs.declared.fault.FormatFault.{FormatFault}
+use Rattle.index_format.specs.declared.fault.FormatFault.TheVariants as fault
 use Rattle.index_format.specs.Reading.{parts_in}
 use Rattle.index_format.specs.Spelling.{bytes_of_parts}
 use Rattle.index_format.proofs.BitLemmas.{IsBytes}
 use Rattle.index_format.proofs.PartsLaws.{parts_in-again, parts_in-takes}
+use Rattle.track_index.specs.CheckFlaws.{check_flaw, IsFaultFor}
 use Rattle.track_index.specs.Opening.{first_flaw, flaw_behind, IsFile}
 use Rattle.track_index.proofs.CheckLemmas.{check_flaw-sound, IsSound-unflawed}
 use Rattle.track_index.proofs.OpeningLemmas.{first_flaw-read}
@@ -17,6 +22,18 @@ pub first_flaw-file : (bytes : List ℕ) (parts : Parts) → IsFile bytes parts 
 first_flaw-file bytes parts file =
     let read = ap parts_in file.spelled ∙ parts_in-again parts file.valid.shaped in
     first_flaw-read bytes parts read ∙ check_flaw-sound parts file.valid.shaped file.valid.sound
+
+-- where parts are those of the file, nothing but these are answered
+pub decided : (read whole : Parts) (answer : Result Parts FormatFault) → ◌≡◌ {A = Result Parts Flaw} (Ok whole) (Ok read)
+    → IsValid whole → IfOk answer (λ index. index ≡ read) → IfErr answer (IsFaultFor (check_flaw read))
+    → Gives (λ index. index) answer (Ok whole)
+decided read whole (Ok index) same valid is fault = same ∙ ap Ok (sym is)
+decided read whole (Err fault.Memory) same valid is fault = tt
+decided read whole (Err (fault.Flaw flaw)) same valid is fault =
+    let none = check_flaw-sound whole valid.shaped valid.sound in
+    let parts : whole ≡ read = cc in
+    let flawed = ap check_flaw parts in
+    absurd (cc)
 
 -- bytes without a flaw are those of an index file
 pub IsFile-unflawed : (bytes : List ℕ) → IsBytes bytes → first_flaw bytes ≡ None

@@ -19,6 +19,6 @@ mod tests;
 mod upgrading;
 
 pub use index::{Index, IndexRef};
-pub use opening::open;
+pub use opening::{open, open_bytes};
 pub use path_walk::PathWalk;
 pub use upgrading::upgraded;

@@ -121,6 +121,29 @@ pub fn open<L: Ledger>(
     Index::check(alloc, parts, steps)
 }
 
+/// Opens the bytes of an index file as `open` does. They are let go once they are read, before memory is
+/// taken for what searches want.
+pub fn open_bytes<L: Ledger>(
+    alloc: Global,
+    bytes: Vec<u8>,
+    steps: &mut Steps<L>,
+) -> Result<Index, FormatFault>
+    requires { length bytes.items ≤ 2 ^ 30 }
+    ensures ok { IfOk result (λ index. IsFile bytes.items index) }
+    ensures exact { OnOk result (first_flaw bytes.items ≡ None) }
+    ensures decides { (parts : WholeParts) → IsFile bytes.items parts
+        → Gives (λ index. index) result (Ok parts) }
+    ensures flawless { (parts : WholeParts) → IsFile bytes.items parts
+        → first_flaw bytes.items ≡ None }
+    ensures flaw { IfErr result (λ fault. IsFaultFor (first_flaw bytes.items) fault) }
+    ensures cost { steps.new ≤ steps.old + bytes_cost bytes.items }
+    ensures cost_opened { IfOk result (λ index. bytes_cost bytes.items ≡ open_cost index) }
+{
+    let parts = decode(alloc, bytes.as_slice())?;
+    drop(bytes);
+    Index::check(alloc, parts, steps)
+}
+
 // Takes alphabet, rules and stored symbols as the rules of the index.
 #[tactic(auto, unfolding(crate::specs::CheckFlaws::grammar_flaw))]
 fn check_rules(

@@ -1,16 +1,9 @@
 use Rattle.std.proofs.Common.{◌≡◌, None, Result, Ok, Err, arith, ap, subst, sym, ◌∙◌}
 use Rattle.std.specs.Prelude.{IfErr, IfOk, OnOk}
 use Rattle.std.proofs.lemmas.Result.{err_from_is_err_and, IfOk-weaker}
-use Rattle.track_types.specs.declared.flaw.Flaw.{Flaw}
-use Rattle.track_types.specs.declared.parts.Parts.{Parts}
 use Rattle.snapshots.specs.IndexCost.{open_cost}
-use Rattle.snapshots.specs.SoundParts.{IsValid}
-use Rattle.index_format.specs.Answers.{Gives}
-use Rattle.index_format.specs.declared.fault.FormatFault.{FormatFault}
-use Rattle.index_format.specs.declared.fault.FormatFault.TheVariants as fault
 use Rattle.track_index.specs.CheckFlaws.{check_flaw, IsFaultFor}
-use Rattle.track_index.proofs.CheckLemmas.{check_flaw-sound}
-use Rattle.track_index.proofs.DecidingLemmas.{first_flaw-file}
+use Rattle.track_index.proofs.DecidingLemmas.{decided, first_flaw-file}
 use Rattle.track_index.proofs.OpeningLemmas.{bytes_cost-read, fault-unread, first_flaw-read}
 use Rattle.track_index.proofs.opening.open.Goals as goal
 
@@ -30,18 +23,6 @@ pub returns-clause-exact : goal.returns-clause-exact
 returns-clause-exact g c =
     subst (λ flaw. OnOk c.check.result (flaw ≡ None))
     (sym (first_flaw-read c.args.bytes.now c.in_ok-parts.parts c.in_ok-parts.ensures.ok)) c.check.ensures.exact
-
--- where parts are those of the file, nothing but these are answered
-decided : (read whole : Parts) (answer : Result Parts FormatFault) → ◌≡◌ {A = Result Parts Flaw} (Ok whole) (Ok read)
-    → IsValid whole → IfOk answer (λ index. index ≡ read) → IfErr answer (IsFaultFor (check_flaw read))
-    → Gives (λ index. index) answer (Ok whole)
-decided read whole (Ok index) same valid is fault = same ∙ ap Ok (sym is)
-decided read whole (Err fault.Memory) same valid is fault = tt
-decided read whole (Err (fault.Flaw flaw)) same valid is fault =
-    let none = check_flaw-sound whole valid.shaped valid.sound in
-    let parts : whole ≡ read = cc in
-    let flawed = ap check_flaw parts in
-    absurd (cc)
 
 pub returns-clause-decides : goal.returns-clause-decides
 returns-clause-decides g c = λ whole file.

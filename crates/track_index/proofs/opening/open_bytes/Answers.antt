@@ -1,0 +1,50 @@
+use Rattle.std.proofs.Common.{◌≡◌, None, arith, ap, subst, sym, ◌∙◌}
+use Rattle.std.specs.Prelude.{IfErr, OnOk}
+use Rattle.std.proofs.lemmas.Result.{err_from_is_err_and, IfOk-weaker}
+use Rattle.snapshots.specs.IndexCost.{open_cost}
+use Rattle.track_index.specs.CheckFlaws.{IsFaultFor}
+use Rattle.track_index.proofs.DecidingLemmas.{decided, first_flaw-file}
+use Rattle.track_index.proofs.OpeningLemmas.{bytes_cost-read, fault-unread, first_flaw-read}
+use Rattle.track_index.proofs.opening.open_bytes.Goals as goal
+
+pub returns-in_err-parts-clause-flaw : goal.returns-in_err-parts-clause-flaw
+returns-in_err-parts-clause-flaw g c =
+    let known = fault-unread c.args.bytes.items c.in_err-parts.field-0.0
+        (rw (c.as_slice.ensures.value) at c.in_err-parts.ensures.flaw) in
+    let given = err_from_is_err_and c.from_residual.result c.from_residual.ensures.1 in
+    rw (given.1, given.2) known
+
+pub returns-in_err-parts-clause-flawless : goal.returns-in_err-parts-clause-flawless
+returns-in_err-parts-clause-flawless g c = first_flaw-file c.args.bytes.items
+
+pub returns-clause-flawless : goal.returns-clause-flawless
+returns-clause-flawless g c = first_flaw-file c.args.bytes.items
+
+pub returns-clause-exact : goal.returns-clause-exact
+returns-clause-exact g c =
+    let read = rw (c.as_slice.ensures.value) at c.in_ok-parts.ensures.ok in
+    subst (λ flaw. OnOk c.check.result (flaw ≡ None))
+    (sym (first_flaw-read c.args.bytes.items c.in_ok-parts.parts read)) c.check.ensures.exact
+
+pub returns-clause-decides : goal.returns-clause-decides
+returns-clause-decides g c = λ whole file.
+    decided c.in_ok-parts.parts whole c.check.result
+    (c.in_ok-parts.ensures.one whole file.valid.shaped (c.as_slice.ensures.value ∙ file.spelled))
+    file.valid c.check.ensures.ok c.check.ensures.flaw
+
+pub returns-clause-flaw : goal.returns-clause-flaw
+returns-clause-flaw g c =
+    let read = rw (c.as_slice.ensures.value) at c.in_ok-parts.ensures.ok in
+    subst (λ flaw. IfErr c.check.result (λ fault. IsFaultFor flaw fault))
+    (sym (first_flaw-read c.args.bytes.items c.in_ok-parts.parts read)) c.check.ensures.flaw
+
+pub returns-clause-cost : goal.returns-clause-cost
+returns-clause-cost g c =
+    let read = rw (c.as_slice.ensures.value) at c.in_ok-parts.ensures.ok in
+    omega (arith, c.check.ensures.cost, bytes_cost-read c.args.bytes.items c.in_ok-parts.parts read)
+
+pub returns-clause-cost_opened : goal.returns-clause-cost_opened
+returns-clause-cost_opened g c =
+    let read = rw (c.as_slice.ensures.value) at c.in_ok-parts.ensures.ok in
+    let cost = bytes_cost-read c.args.bytes.items c.in_ok-parts.parts read in
+    IfOk-weaker c.check.result _ _ (λ index is. cost ∙ ap open_cost (sym is)) c.check.ensures.ok
