@@ -15,7 +15,7 @@ use question_shell::{Desk, ShellFault, run};
 use std::alloc::Global;
 use std::sync::ledger::Ledger;
 use step_count::Steps;
-use track_index::open;
+use track_index::open_bytes;
 use track_types::{LimitKind, Meets};
 
 // Opens the bytes of an index file, and answers the source's lines from the index.
@@ -40,12 +40,11 @@ pub(crate) fn answer_bytes<S: Source, K: Sink, L: Ledger>(
     ensures say_faults { SinkCounts K.Sink sink.old sink.new (result ≡ Outcome.SayFailed) }
     ensures within { S.taken source.new ≤ S.taken source.old + (limit_of LimitKind.Questions + 1) }
 {
-    let index = match open(alloc, &bytes, steps) {
+    let index = match open_bytes(alloc, bytes, steps) {
         Ok(index) => index,
         Err(FormatFault::Flaw(flaw)) => return Outcome::Flaw(flaw),
         Err(FormatFault::Memory) => return Outcome::Memory,
     };
-    drop(bytes);
     answer_with(alloc, IndexMeets::new(&index), source, sink, steps)
 }
 

@@ -9,7 +9,7 @@ use index_format::FormatFault;
 use std::alloc::Global;
 use std::sync::ledger::Ledger;
 use step_count::Steps;
-use track_index::{Index, open};
+use track_index::{Index, open_bytes};
 use track_types::LimitKind;
 
 // The index of the index file of that name, or the outcome that the file decides. It begins that file and no other. The
@@ -39,7 +39,7 @@ pub(crate) fn open_file<F: Files, L: Ledger>(
     if let Err(outcome) = load(files, name, LimitKind::Index, &mut bytes) {
         return Err(outcome);
     }
-    match open(alloc, &bytes, steps) {
+    match open_bytes(alloc, bytes, steps) {
         Ok(index) => Ok(index),
         Err(FormatFault::Flaw(flaw)) => Err(Outcome::Flaw(flaw)),
         Err(FormatFault::Memory) => Err(Outcome::Memory),

@@ -22,7 +22,7 @@ use sample_rows::sample_rows;
 use std::alloc::Global;
 use std::sync::ledger::Ledger;
 use step_count::Steps;
-use track_index::open;
+use track_index::open_bytes;
 use track_types::{Chart, LimitKind, MAX_ROWS};
 
 // Says the summary of a sample. What is opened is what the files give for the bytes of its index.
@@ -100,12 +100,11 @@ fn sum_bytes<K: Sink, L: Ledger>(
         (speech (K.said sink.old) steps.old) (speech (K.said sink.new) steps.new) }
     ensures say_faults { SinkCounts K.Sink sink.old sink.new (result ≡ Outcome.SayFailed) }
 {
-    let index = match open(alloc, &bytes, steps) {
+    let index = match open_bytes(alloc, bytes, steps) {
         Ok(index) => index,
         Err(FormatFault::Flaw(flaw)) => return Outcome::Flaw(flaw),
         Err(FormatFault::Memory) => return Outcome::Memory,
     };
-    drop(bytes);
     let answerer = IndexMeets::new(&index);
     outcome_of(say_summary(alloc, answerer, instants, sink, steps))
 }

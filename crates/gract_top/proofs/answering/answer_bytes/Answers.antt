@@ -1,23 +1,20 @@
-use Rattle.std.proofs.Common.{◌≡◌, List, ℕ, inr, sym, subst, arith}
-use Rattle.track_index.specs.Opening.{IsFile}
+use Rattle.std.proofs.Common.{◌≡◌, inr, arith}
 use Rattle.gract_top.proofs.OutcomeLemmas.{AnswersOver-opened, AnswersOver-same}
 use Rattle.gract_top.proofs.answering.answer_bytes.Goals as goal
 
 pub returns-clause-ended : goal.returns-clause-ended
 returns-clause-ended g c =
-    let P : List ℕ → Type 0 = λ bytes. IsFile bytes c.in-Ok.index in
     inr (record {
       parts = c.in-Ok.index;
-      file = subst P c.deref.ensures.value c.in-Ok.ensures.ok;
-      answers = AnswersOver-opened _ _ _ c.answer_with.result c.new.result.view.index.now c.in-Ok.index c.open.new.steps
+      file = c.in-Ok.ensures.ok;
+      answers = AnswersOver-opened _ _ _ c.answer_with.result c.new.result.view.index.now c.in-Ok.index c.open_bytes.new.steps
           (omega (arith, c.in-Ok.ensures.cost, c.in-Ok.ensures.cost_opened)) c.new.ensures c.answer_with.ensures.answers;
     })
 
 pub returns-clause-decides : goal.returns-clause-decides
 returns-clause-decides g c = λ parts file.
-    let P : List ℕ → Type 0 = λ bytes. IsFile bytes parts in
-    let is = c.in-Ok.ensures.decides parts (subst P (sym c.deref.ensures.value) file) in
+    let is = c.in-Ok.ensures.decides parts file in
     let same : c.in-Ok.index ≡ parts = cc in
     inr (AnswersOver-same _ _ _ c.answer_with.result c.in-Ok.index parts same
-    (AnswersOver-opened _ _ _ c.answer_with.result c.new.result.view.index.now c.in-Ok.index c.open.new.steps
+    (AnswersOver-opened _ _ _ c.answer_with.result c.new.result.view.index.now c.in-Ok.index c.open_bytes.new.steps
     (omega (arith, c.in-Ok.ensures.cost, c.in-Ok.ensures.cost_opened)) c.new.ensures c.answer_with.ensures.answers))
