@@ -1,5 +1,5 @@
 -- Rows that are gridded and put in blocks as they come.
-use Rattle.std.specs.Prelude.{◌≡◌, ◌<◌, ◌≤◌, ◌++◌, ◌⊎◌, ℕ, Bool, true, false, List, [], ◌∷◌, get_or, length, map, slice_get, All, Some, nat_eq}
+use Rattle.std.specs.Prelude.{◌≡◌, ◌<◌, ◌≤◌, ◌^◌, ◌++◌, ◌⊎◌, ℕ, Bool, true, false, List, [], ◌∷◌, get_or, length, map, slice_get, All, Some, nat_eq}
 use Rattle.std.specs.HashMap.{get, hash_map_len}
 use Rattle.track_types.specs.Limits.{limit_of}
 use Rattle.track_types.specs.Near.{IsRawInRange}
@@ -59,12 +59,13 @@ pub record HoldsRows (rows : List Row) (gridded : GriddedRows) : Type 0 where
   pub all : rows ≡ front ++ gridded.loose.items
   pub blocks : AreBlocksOf front gridded.tracks
 
--- These raw rows came, and were gridded by CELL and TICK.
+-- These raw rows came, and were gridded by CELL and TICK. They are counted as far as the type reaches.
 pub record HasGridded (cell tick : ℕ) (raws : List RawRow) (rows : GriddedRows) : Type 0 where
   pub by_cell : rows.cell ≡ cell
   pub by_tick : rows.tick ≡ tick
   pub held : HoldsRows (map (gridded cell tick) raws) rows
   pub ranges : All IsRawInRange raws
+  pub counted : length raws < 2 ^ 64 → rows.count ≡ length raws
 
 -- These are the rows of so many raw rows as a chart may have.
 abbrev pub AreFew : GriddedRows → Type 0

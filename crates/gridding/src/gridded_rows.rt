@@ -70,6 +70,7 @@ impl GriddedRows {
         requires { IsRowInRange row }
         ensures cell { self.new.cell ≡ self.old.cell }
         ensures tick { self.new.tick ≡ self.old.tick }
+        ensures count { self.new.count ≡ self.old.count }
         ensures rows { OnOk result ((rows : List Row) → HoldsRows rows self.old →
             HoldsRows (rows ++ (row ∷ [])) self.new) }
     {

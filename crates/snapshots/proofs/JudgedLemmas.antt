@@ -1,16 +1,17 @@
 -- The first flaw of a period, from those of its parts; and parts without one, which are stored.
-use Rattle.std.proofs.Common.{◌≡◌, ℕ, Bool, true, false, List, length, Option, None, Some, refl, ap, sym, subst, ◌∙◌}
+use Rattle.std.proofs.Common.{◌≡◌, ℕ, Bool, true, false, List, length, Option, None, Some, IfSome}
+use Rattle.std.proofs.Common.{refl, ap, sym, subst, ◌∙◌}
 use Rattle.std.specs.Global.{Box}
 use Rattle.track_types.specs.Frame.{instants_in, wide_of}
 use Rattle.track_types.specs.declared.flaw.Section.TheVariants.{Lasts}
 use Rattle.track_types.specs.declared.flaw.Kind.TheVariants.{Cells}
 use Rattle.track_types.specs.declared.period_parts.PeriodParts.{PeriodParts}
-use Rattle.k2_tree.specs.Tree.{Tree}
+use Rattle.k2_tree.specs.Tree.{Tree, codes_in, tree_of}
 use Rattle.k2_tree.specs.Flaws.{StandsFor}
 use Rattle.k2_tree.proofs.CellLemmas.{tree_of-StandsFor}
 use Rattle.snapshots.specs.View.{SnapshotView, tree_in, view_with}
 use Rattle.snapshots.specs.Flaws.{bits_flaw, flaw_in, flaw_of, have_cells, offset_flaw, perm_flaw, IsShaped}
-use Rattle.snapshots.specs.Stored.{parts_with, starts_in, starts_of, view_of, IsStored}
+use Rattle.snapshots.specs.Stored.{parts_with, starts_in, starts_of, tree_stored, view_of, IsStored}
 use Rattle.snapshots.specs.declared.blocks.Blocks.{Blocks}
 use Rattle.snapshots.proofs.SoundLemmas.{IsSound-flawless}
 
@@ -45,33 +46,44 @@ pub flaw_of-perm : (view : SnapshotView) (fit : Bool) → IsBegun view fit → f
     → flaw_of view ≡ perm_flaw view.number view.parts.lasts view.parts.perm
 flaw_of-perm view fit begun is = rw (begun.late, begun.bits, begun.cells, is) refl
 
--- the parts with this list in place of theirs
-abbrev pub with_perm : PeriodParts → List ℕ → PeriodParts
-with_perm parts perm = record {
+-- the parts with these tree bits and this permutation in place of theirs
+abbrev pub with_checked : PeriodParts → List Bool → List ℕ → PeriodParts
+with_checked parts tree perm = record {
   present = parts.present;
   offsets = parts.offsets;
-  tree = parts.tree;
+  tree = tree;
   lasts = parts.lasts;
   perm = perm;
   lengths = parts.lengths;
 }
 
+-- the stored tree is the one of the anchors' cells
+tree_stored-is : (view : SnapshotView) (tree : Tree) (blocks : Option (Box Blocks))
+    → StandsFor view.frame.height (wide_of view.frame) view.frame.base view.parts.tree tree
+    → parts_with view.objects blocks ≡ view.parts → IfSome blocks (λ kept. kept.value.tree ≡ tree)
+    → tree_in view ≡ tree_stored view.frame blocks
+unfolding codes_in
+tree_stored-is view tree None stands told kept =
+    ap (λ parts. tree_of view.frame.height (wide_of view.frame) view.frame.base parts.tree) (sym told)
+tree_stored-is view tree (Some blocks) stands told kept =
+    tree_of-StandsFor view.frame.height (wide_of view.frame) view.frame.base view.parts.tree tree stands ∙ sym kept
+
 -- what is stored of parts without a flaw
 module _ (view : SnapshotView) (tree : Tree) (blocks : Option (Box Blocks))
     (stands : StandsFor view.frame.height (wide_of view.frame) view.frame.base view.parts.tree tree)
-    (told : parts_with view.objects view.parts.tree blocks ≡ view.parts) where
+    (told : parts_with view.objects blocks ≡ view.parts) (kept : IfSome blocks (λ it. it.value.tree ≡ tree)) where
   -- tells them
-  pub view_of-parts : view_of view.frame view.number view.objects view.start tree blocks ≡ view
-  view_of-parts =
-      ap (λ parts. view_with view.frame view.number view.objects view.start parts)
-      (ap (λ bits. parts_with view.objects bits blocks) stands.same ∙ told)
+  pub view_of-parts : view_of view.frame view.number view.objects view.start blocks ≡ view
+  view_of-parts = ap (λ parts. view_with view.frame view.number view.objects view.start parts) told
 
   -- and is stored as it should be
   pub IsStored-flawless : IsShaped view → flaw_of view ≡ None
       → starts_in blocks ≡ starts_of view.start view.parts.lengths
-      → IsStored (view_of view.frame view.number view.objects view.start tree blocks) tree (starts_in blocks)
-  IsStored-flawless shaped none begin = subst (λ v. IsStored v tree (starts_in blocks)) (sym view_of-parts) (record {
-    is = record { shaped = shaped; sound = IsSound-flawless view shaped none };
-    tree_is = tree_of-StandsFor view.frame.height (wide_of view.frame) view.frame.base view.parts.tree tree stands;
-    begin = begin;
-  })
+      → IsStored (view_of view.frame view.number view.objects view.start blocks) (tree_stored view.frame blocks)
+      (starts_in blocks)
+  IsStored-flawless shaped none begin =
+      subst (λ v. IsStored v (tree_stored view.frame blocks) (starts_in blocks)) (sym view_of-parts) (record {
+        is = record { shaped = shaped; sound = IsSound-flawless view shaped none };
+        tree_is = tree_stored-is view tree blocks stands told kept;
+        begin = begin;
+      })

@@ -1,10 +1,11 @@
--- How a snapshot is stored: its tree, and what there is of its blocks where it has one.
+-- How a snapshot is stored: what there is of its tree and its blocks where it has one.
 use Rattle.std.specs.Prelude.{◌≡◌, ℕ, ◌+◌, Bool, false, List, [], length, map, take, sum, Option, None, Some, replicate}
 use Rattle.std.specs.List.{range_with_len}
 use Rattle.std.specs.Global.{Box}
+use Rattle.track_types.specs.Frame.{wide_of}
 use Rattle.track_types.specs.declared.frame.Frame.{Frame}
 use Rattle.track_types.specs.declared.period_parts.PeriodParts.{PeriodParts}
-use Rattle.k2_tree.specs.Tree.{Tree, tree_bits}
+use Rattle.k2_tree.specs.Tree.{Tree, tree_bits, tree_with}
 use Rattle.snapshots.specs.View.{SnapshotView, tree_in}
 use Rattle.snapshots.specs.Sound.{IsSnapshot}
 use Rattle.snapshots.specs.declared.blocks.Blocks.{Blocks}
@@ -13,42 +14,51 @@ use Rattle.snapshots.specs.declared.blocks.Blocks.{Blocks}
 abbrev pub starts_of : ℕ → List ℕ → List ℕ
 starts_of start lengths = map (λ rank. start + sum (take rank lengths)) (range_with_len 0 (length lengths))
 
--- the parts of blocks and of a tree's bits
-abbrev pub parts_of_blocks : List Bool → Blocks → PeriodParts
-parts_of_blocks tree blocks = record {
+-- the parts of what is stored of blocks
+abbrev pub parts_of_blocks : Blocks → PeriodParts
+parts_of_blocks blocks = record {
   present = blocks.present;
   offsets = blocks.offsets;
-  tree = tree;
+  tree = tree_bits blocks.tree;
   lasts = blocks.lasts;
   perm = blocks.perm;
   lengths = blocks.lengths;
 }
 
 -- the parts of so many objects that are stored: where nothing is stored of blocks, no object is present
-abbrev pub parts_with : ℕ → List Bool → Option (Box Blocks) → PeriodParts
-parts_with objects tree None = record {
+abbrev pub parts_with : ℕ → Option (Box Blocks) → PeriodParts
+parts_with objects None = record {
   present = replicate objects false;
   offsets = [];
-  tree = tree;
+  tree = [];
   lasts = [];
   perm = [];
   lengths = [];
 }
-parts_with objects tree (Some blocks) = parts_of_blocks tree blocks.value
+parts_with objects (Some blocks) = parts_of_blocks blocks.value
 
 -- where the logs are stored to begin
 abbrev pub starts_in : Option (Box Blocks) → List ℕ
 starts_in None = []
 starts_in (Some blocks) = blocks.value.starts
 
--- the view of what is stored, of which the tree tells its bits
-abbrev pub view_of : Frame → ℕ → ℕ → ℕ → Tree → Option (Box Blocks) → SnapshotView
-view_of frame number objects start tree blocks = record {
+-- the tree of no cell under a header
+abbrev pub tree_without : Frame → Tree
+tree_without frame = tree_with frame.height (wide_of frame) frame.base []
+
+-- the stored tree of the anchors' cells: where nothing is stored of blocks, it is that of no cell
+abbrev pub tree_stored : Frame → Option (Box Blocks) → Tree
+tree_stored frame None = tree_without frame
+tree_stored frame (Some blocks) = blocks.value.tree
+
+-- the view of what is stored
+abbrev pub view_of : Frame → ℕ → ℕ → ℕ → Option (Box Blocks) → SnapshotView
+view_of frame number objects start blocks = record {
   frame = frame;
   number = number;
   objects = objects;
   start = start;
-  parts = parts_with objects (tree_bits tree) blocks;
+  parts = parts_with objects blocks;
 }
 
 -- what is stored belongs to the view

@@ -1,17 +1,21 @@
-ghost use Rattle.std.specs.Prelude.{◌≡◌, ◌+◌, ◌^◌, ◌≤◌, Bool, List, length, sum, IfOk};
+ghost use Rattle.std.specs.Prelude.{◌≡◌, ◌+◌, ◌^◌, ◌≤◌, length, sum, IfOk, IfSome};
 ghost use Rattle.packed_bits.specs.Bits.{ones_of};
+ghost use Rattle.k2_tree.specs.Tree.{tree_bits};
 ghost use Rattle.std.specs.Prelude.{None};
 ghost use Rattle.snapshots.specs.Stored.{parts_of_blocks, parts_with, starts_in, starts_of};
 
 use crate::checking::{indexed, starts_of};
 use bit_rank::Bits;
+use k2_tree::K2Tree;
 use object_perm::Perm;
 use std::alloc::Global;
 use track_types::{BitList, List32, Memory, PeriodParts};
 
-/// What is stored of a period's blocks: its parts but for the tree, and where each log begins.
+/// What is stored of a period that has a block: its parts, and where each log begins.
 #[derive(Drop)]
 pub struct Blocks {
+    /// The tree of the anchors' cells.
+    pub tree: K2Tree,
     /// For each object whether it has a block.
     pub present: Bits,
     /// By object: how many instants each anchor is behind the period's first.
@@ -28,10 +32,11 @@ pub struct Blocks {
 
 impl Blocks {
     /// Stores the blocks of these parts, whose logs begin at `start`, and nothing where no object
-    /// is present: most periods of an index may have no block. The start and all lengths add up to
-    /// at most 2^25.
+    /// is present: most periods of an index may have no block. As many objects are the last of their
+    /// cell as the tree has cells. The start and all lengths add up to at most 2^25.
     pub fn store(
         alloc: Global,
+        tree: K2Tree,
         present: BitList,
         offsets: List32,
         lasts: BitList,
@@ -41,18 +46,19 @@ impl Blocks {
     ) -> Result<Option<Box<Blocks>>, Memory>
         requires offsets { length offsets ≡ ones_of present }
         requires lasts { length lasts ≡ ones_of present }
+        requires cells { ones_of lasts ≡ length tree.cells }
         requires perm { length perm ≡ ones_of present }
         requires lengths { length lengths ≡ ones_of present }
         requires total { start + sum lengths ≤ 2 ^ 25 }
-        ensures parts { IfOk result (λ blocks. (tree : List Bool)
-            → parts_with (length present) tree blocks ≡ record {
-              present = present;
-              offsets = offsets;
-              tree = tree;
-              lasts = lasts;
-              perm = perm;
-              lengths = lengths;
-            }) }
+        ensures parts { IfOk result (λ blocks. parts_with (length present) blocks ≡ record {
+          present = present;
+          offsets = offsets;
+          tree = tree_bits tree;
+          lasts = lasts;
+          perm = perm;
+          lengths = lengths;
+        }) }
+        ensures tree { IfOk result (λ blocks. IfSome blocks (λ kept. kept.value.tree ≡ tree)) }
         ensures starts { IfOk result (λ blocks. starts_in blocks ≡ starts_of start lengths) }
     {
         if offsets.as_slice().is_empty() {
@@ -60,6 +66,7 @@ impl Blocks {
         }
         let starts = starts_of(alloc, start, lengths.as_slice())?;
         let blocks = Blocks {
+            tree,
             present: indexed(alloc, present)?,
             offsets,
             lasts: indexed(alloc, lasts)?,
@@ -70,11 +77,12 @@ impl Blocks {
         Ok(Some(Box::new(alloc, blocks)?))
     }
 
-    /// The parts of the blocks and of a tree's bits. The blocks are given up, and no memory is taken.
-    pub fn into_parts(self, tree: BitList) -> PeriodParts
-        ensures { result ≡ parts_of_blocks tree self }
+    /// The parts that are stored. They are given up, and no memory is taken.
+    pub fn into_parts(self) -> PeriodParts
+        ensures { result ≡ parts_of_blocks self }
     {
         let Blocks {
+            tree,
             present,
             offsets,
             lasts,
@@ -85,7 +93,7 @@ impl Blocks {
         PeriodParts {
             present: present.into_list(),
             offsets,
-            tree,
+            tree: tree.bits(),
             lasts: lasts.into_list(),
             perm: perm.into_list(),
             lengths,
@@ -95,14 +103,14 @@ impl Blocks {
 
 /// The parts of a period in which none of so many objects has a block. Memory is taken for their
 /// presence bits.
-pub fn without_blocks(alloc: Global, objects: u32, tree: BitList) -> Result<PeriodParts, Memory>
-    ensures { IfOk result (λ parts. parts ≡ parts_with objects tree None) }
+pub fn without_blocks(alloc: Global, objects: u32) -> Result<PeriodParts, Memory>
+    ensures { IfOk result (λ parts. parts ≡ parts_with objects None) }
 {
     let absent = vec![in alloc; false; objects as usize]?;
     Ok(PeriodParts {
         present: BitList::pack(alloc, absent.as_slice())?,
         offsets: List32::new(Vec::new(alloc)),
-        tree,
+        tree: BitList::pack(alloc, &[])?,
         lasts: BitList::pack(alloc, &[])?,
         perm: List32::new(Vec::new(alloc)),
         lengths: List32::new(Vec::new(alloc)),

@@ -14,6 +14,7 @@ mod checking;
 mod everywhere;
 mod fault;
 mod finding;
+mod header;
 mod keeping;
 mod kept_walk;
 mod logs;
@@ -31,6 +32,7 @@ mod upgrading;
 
 pub use anchored::Anchored;
 pub use fault::SnapFault;
+pub use header::Header;
 pub use members::Members;
 pub use objects_in::ObjectsIn;
 pub use snapshot::Snapshot;

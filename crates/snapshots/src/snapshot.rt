@@ -19,11 +19,13 @@ use crate::anchored::Anchored;
 use crate::blocks::{Blocks, without_blocks};
 use crate::checking::{check_perm, check_tree, find_late, flaw, has_cells, instants_in};
 use crate::fault::SnapFault;
+use crate::header::Header;
 use crate::members::Members;
 use crate::objects_in::ObjectsIn;
 use k2_tree::{K2Tree, Keep};
 use std::alloc::Global;
 use std::marker::Model;
+use std::rc::Rc;
 use std::sync::ledger::Ledger;
 use step_count::Steps;
 use track_types::{Cell, Frame, Kind, Memory, PeriodParts, Section};
@@ -34,25 +36,25 @@ use track_types::{Cell, Frame, Kind, Memory, PeriodParts, Section};
 /// number of objects, and where its logs begin among all symbols.
 #[derive(Drop)]
 pub struct Snapshot {
-    frame: Frame,
+    header: Rc<Header>,
     number: u32,
     objects: u32,
     start: u32,
-    tree: K2Tree,
     // An index may have 2^22 periods, most of them without a block: these keep nothing else.
     blocks: Option<Box<Blocks>>,
 }
 
 impl Model for Snapshot {
     ghost use Rattle.snapshots.specs.View.{SnapshotView};
-    ghost use Rattle.snapshots.specs.Stored.{starts_in, view_of, IsStored};
+    ghost use Rattle.snapshots.specs.Stored.{starts_in, tree_stored, view_of, IsStored};
 
     ghost Value = { SnapshotView };
 
-    ghost view = { λ s. view_of s.frame s.number s.objects s.start s.tree s.blocks };
+    ghost view = { λ s. view_of s.header.value s.number s.objects s.start s.blocks };
 
     ghost invariant = { λ s. IsStored
-        (view_of s.frame s.number s.objects s.start s.tree s.blocks) s.tree (starts_in s.blocks) };
+        (view_of s.header.value s.number s.objects s.start s.blocks)
+        (tree_stored s.header.value s.blocks) (starts_in s.blocks) };
 }
 
 impl Snapshot {
@@ -87,6 +89,30 @@ impl Snapshot {
         ensures flaw { IfErr result (λ fault.
             IsFaultFor (flaw_of (view_with frame.now number objects start parts)) fault) }
     {
+        let header = Header::new(alloc, frame)?;
+        Snapshot::check_under(alloc, &header, number, objects, start, parts)
+    }
+
+    /// The same for a header that is kept already, as that of an index is for all its periods.
+    pub fn check_under(
+        alloc: Global,
+        header: &Rc<Header>,
+        number: u32,
+        objects: u32,
+        start: u32,
+        parts: PeriodParts,
+    ) -> Result<Snapshot, SnapFault>
+        requires { IsShaped (view_with header.now.value number objects start parts) }
+        ensures ok { IfOk result (λ snapshot.
+            snapshot ≡ view_with header.now.value number objects start parts) }
+        ensures exact { OnOk result
+            (flaw_of (view_with header.now.value number objects start parts) ≡ None) }
+        ensures sound { OnOk result
+            (IsSound (view_with header.now.value number objects start parts)) }
+        ensures flaw { IfErr result (λ fault.
+            IsFaultFor (flaw_of (view_with header.now.value number objects start parts)) fault) }
+    {
+        let frame = header.frame();
         let PeriodParts {
             present,
             offsets,
@@ -103,13 +129,12 @@ impl Snapshot {
             return Err(flaw(number, Section::Lasts, Kind::Cells, lasts.len()));
         }
         let perm = check_perm(alloc, perm, &lasts, number)?;
-        let blocks = Blocks::store(alloc, present, offsets, lasts, perm, lengths, start)?;
+        let blocks = Blocks::store(alloc, tree, present, offsets, lasts, perm, lengths, start)?;
         Ok(Snapshot {
-            frame: *frame,
+            header: header.clone()?,
             number,
             objects,
             start,
-            tree,
             blocks,
         })
     }
@@ -142,7 +167,7 @@ impl Snapshot {
         ensures value { result.now ≡ self.now.frame }
         ensures snapshot { IsSnapshot self.now }
     {
-        &self.frame
+        self.header.frame()
     }
 
     /// The period's number.
@@ -165,7 +190,10 @@ impl Snapshot {
         ensures value { result.now ≡ tree_in self.now }
         ensures snapshot { IsSnapshot self.now }
     {
-        &self.tree
+        match &self.blocks {
+            Some(blocks) => &blocks.tree,
+            None => self.header.no_cells(),
+        }
     }
 
     /// The blocks whose anchors are in the cell of a leaf, by object. The leaf is one of the
@@ -214,14 +242,12 @@ impl Snapshot {
     {
         let Snapshot {
             objects,
-            tree,
             blocks,
             ..
         } = self;
-        let tree = tree.bits();
         match blocks {
-            Some(blocks) => Ok(Box::into_inner(blocks).into_parts(tree)),
-            None => without_blocks(alloc, objects, tree),
+            Some(blocks) => Ok(Box::into_inner(blocks).into_parts()),
+            None => without_blocks(alloc, objects),
         }
     }
 

@@ -25,8 +25,9 @@ use crate::index::Index;
 use chart_parts::parts_of;
 use index_format::{FormatFault, decode};
 use rule_store::{RuleFault, RuleStore};
-use snapshots::{SnapFault, Snapshot, Stores};
+use snapshots::{Header, SnapFault, Snapshot, Stores};
 use std::alloc::Global;
+use std::rc::Rc;
 use std::sync::ledger::Ledger;
 use step_count::Steps;
 use track_types::{
@@ -231,7 +232,7 @@ fn taken_off(number: u32, lengths: &[u32]) -> Option<u32>
     Some(left)
 }
 
-// Takes the parts of all periods as their snapshots.
+// Takes the parts of all periods as their snapshots, which keep one header together.
 fn check_periods(
     alloc: Global,
     frame: &Frame,
@@ -244,12 +245,33 @@ fn check_periods(
     ensures flaw { IfErr result (λ fault.
         IsFaultFor (snapshots_flaw (snapshots_with frame.now objects periods)) fault) }
 {
+    let Ok(header) = Header::new(alloc, frame) else {
+        return Err(FormatFault::Memory);
+    };
+    check_each(alloc, &header, objects, periods)
+}
+
+// Takes the parts of all periods as their snapshots under a header.
+fn check_each(
+    alloc: Global,
+    header: &Rc<Header>,
+    objects: u32,
+    periods: PeriodList,
+) -> Result<Vec<Snapshot>, FormatFault>
+    requires { AreShapedPeriods header.now.value objects periods }
+    ensures ok { IfOk result (λ snaps.
+        snaps.items ≡ snapshots_with header.now.value objects periods) }
+    ensures exact { OnOk result
+        (snapshots_flaw (snapshots_with header.now.value objects periods) ≡ None) }
+    ensures flaw { IfErr result (λ fault.
+        IsFaultFor (snapshots_flaw (snapshots_with header.now.value objects periods)) fault) }
+{
     let mut snaps = Vec::with_capacity(alloc, periods.as_slice().len())?;
     let mut start = 0;
     for period in periods.into_vec() {
         let number = snaps.len() as u32;
         let symbols = symbols_of(period.lengths.as_slice());
-        snaps.push(check_period(alloc, frame, number, objects, start, period)?)?;
+        snaps.push(check_period(alloc, header, number, objects, start, period)?)?;
         start += symbols;
     }
     Ok(snaps)
@@ -266,20 +288,21 @@ fn symbols_of(lengths: &[u32]) -> u32
 // Takes the parts of a period as its snapshot.
 fn check_period(
     alloc: Global,
-    frame: &Frame,
+    header: &Rc<Header>,
     number: u32,
     objects: u32,
     start: u32,
     parts: PeriodParts,
 ) -> Result<Snapshot, FormatFault>
-    requires { IsShapedView (view_with frame.now number objects start parts) }
+    requires { IsShapedView (view_with header.now.value number objects start parts) }
     ensures ok { IfOk result (λ snapshot.
-        snapshot ≡ view_with frame.now number objects start parts) }
-    ensures exact { OnOk result (flaw_of (view_with frame.now number objects start parts) ≡ None) }
+        snapshot ≡ view_with header.now.value number objects start parts) }
+    ensures exact { OnOk result
+        (flaw_of (view_with header.now.value number objects start parts) ≡ None) }
     ensures flaw { IfErr result (λ fault.
-        IsFaultFor (flaw_of (view_with frame.now number objects start parts)) fault) }
+        IsFaultFor (flaw_of (view_with header.now.value number objects start parts)) fault) }
 {
-    match Snapshot::check(alloc, frame, number, objects, start, parts) {
+    match Snapshot::check_under(alloc, header, number, objects, start, parts) {
         Ok(snapshot) => Ok(snapshot),
         Err(SnapFault::Flaw(flaw)) => Err(FormatFault::Flaw(flaw)),
         Err(SnapFault::Memory) => Err(FormatFault::Memory),

@@ -1,5 +1,5 @@
-use Rattle.std.proofs.Common.{◌≡◌, List, ◌++◌, map, take, ◌∙◌, arith}
-use Rattle.std.proofs.lemmas.List.{take_all}
+use Rattle.std.proofs.Common.{◌≡◌, List, ◌++◌, length, map, take, ◌∙◌, arith}
+use Rattle.std.proofs.lemmas.List.{length-append, take_all}
 use Rattle.std.proofs.lemmas.List.Elements.{All-append}
 use Rattle.track_types.specs.Near.{IsRawInRange}
 use Rattle.track_types.specs.declared.raw_row.RawRow.{RawRow}
@@ -12,6 +12,7 @@ pub loop-raw-preserved : goal.loop-raw-preserved
 loop-raw-preserved c = record {
   by_cell = c.add.ensures.cell ∙ c.loop-raw.invariant.by_cell;
   by_tick = c.add.ensures.tick ∙ c.loop-raw.invariant.by_tick;
+  by_count = c.add.ensures.count ∙ c.loop-raw.invariant.by_count;
   held = λ cell tick raws has.
       let rows : List RawRow = c.args.rows.now in
       let i = c.loop-raw.raw-index in
@@ -32,4 +33,8 @@ returns c = λ cell tick raws has.
       by_tick = c.loop-raw.invariant.by_tick ∙ has.by_tick;
       held = record { front = now.front; all = now.all; blocks = now.blocks };
       ranges = All-append IsRawInRange raws rows has.ranges c.requires;
+      counted = λ fits.
+          let long = length-append raws rows in
+          let before = has.counted (omega (arith, long, fits)) in
+          omega (arith, long, fits, before, c.loop-raw.invariant.by_count, c.saturating_add-self.ensures);
     }

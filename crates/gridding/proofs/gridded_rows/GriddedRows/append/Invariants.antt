@@ -9,6 +9,7 @@ abbrev pub invariant-loop-raw : goal.invariant-loop-raw
 invariant-loop-raw l = record {
   by_cell : l.self.cell ≡ l.fn.self.cell;
   by_tick : l.self.tick ≡ l.fn.self.tick;
+  by_count : l.self.count ≡ l.fn.self.count;
   held : (cell tick : ℕ) (raws : List RawRow) → HasGridded cell tick raws l.fn.self →
       HoldsRows (map (gridded cell tick) (raws ++ take l.raw-index l.rows)) l.self;
 }

@@ -8,8 +8,8 @@ use Rattle.snapshots.specs.Flaws.{flaw_of, IsShaped}
 use Rattle.snapshots.specs.View.{view_with}
 use Rattle.track_index.specs.CheckFlaws.{IsFaultFor}
 use Rattle.track_index.proofs.PeriodLemmas.{checked-more, flaw-next, length-snaps, number-short, snapshots_flaw-none, AreChecked, IsShaped-next}
-use Rattle.track_index.proofs.opening.check_periods.Goals as goal
-use Rattle.track_index.proofs.opening.check_periods.Goals.{After-len-number, After-symbols_of-symbols}
+use Rattle.track_index.proofs.opening.check_each.Goals as goal
+use Rattle.track_index.proofs.opening.check_each.Goals.{After-len-number, After-symbols_of-symbols}
 
 -- the period of this turn is the next one
 turn : (c : After-len-number) → (length c.loop-period.yielded < length c.args.periods)
@@ -41,7 +41,7 @@ pub check_period-requires : goal.check_period-requires
 check_period-requires c =
     let at = (goal.at.check_period-requires c).After-len-number in
     let turn = turn at in
-    subst (λ n. IsShaped (view_with c.args.frame.now n c.args.objects c.loop-period.start c.in-Some.period))
+    subst (λ n. IsShaped (view_with c.args.header.now.value n c.args.objects c.loop-period.start c.in-Some.period))
     (sym (counted at))
     (IsShaped-next _ _ _ _ _ _ c.loop-period.invariant c.requires c.in-Some.period turn.0 turn.1)
 
@@ -51,7 +51,7 @@ returns-in_err-check_period-clause-flaw c =
     let turn = turn at in
     let found = c.in_err-check_period.field-0.0 in
     let known = flaw-next _ _ _ _ _ _ c.loop-period.invariant c.requires c.in-Some.period turn.0 turn.1 found
-    (subst (λ n. IsFaultFor (flaw_of (view_with c.args.frame.now n c.args.objects c.loop-period.start
+    (subst (λ n. IsFaultFor (flaw_of (view_with c.args.header.now.value n c.args.objects c.loop-period.start
     c.in-Some.period)) found) (counted at) c.in_err-check_period.ensures.flaw) in
     let given = err_from_is_err_and c.from_residual-in_err-check_period.result
     c.from_residual-in_err-check_period.ensures.1 in
@@ -66,8 +66,8 @@ loop-period-preserved c =
     omega (arith, c.symbols_of-symbols.ensures, ap sum c.as_slice-in-loop-period.ensures) in
     let item = c.in_ok-check_period.field-0 in
     let named : (number : ℕ) → Type 0 = λ number.
-    (item ≡ view_with c.args.frame.now number c.args.objects c.loop-period.start c.in-Some.period)
-    × (flaw_of (view_with c.args.frame.now number c.args.objects c.loop-period.start c.in-Some.period) ≡ None) in
+    (item ≡ view_with c.args.header.now.value number c.args.objects c.loop-period.start c.in-Some.period)
+    × (flaw_of (view_with c.args.header.now.value number c.args.objects c.loop-period.start c.in-Some.period) ≡ None) in
     let judged : named (length c.loop-period.yielded) =
     subst named (counted at) (c.in_ok-check_period.ensures.ok, c.in_ok-check_period.ensures.exact) in
     let more = checked-more _ _ _ _ _ _ c.loop-period.invariant c.requires c.in-Some.period turn.0 turn.1 item _
@@ -84,5 +84,5 @@ returns-clause-exact c =
     c.loop-period.yielded c.loop-period.period-iterator c.loop-period.yielded_by c.next.result c.next.new.self
     c.in-None.is c.next.ensures.steps in
     snapshots_flaw-none _ _ _ c.loop-period.start c.loop-period.snaps.items
-    (subst (λ n. AreChecked c.args.frame.now c.args.objects c.args.periods n c.loop-period.start
+    (subst (λ n. AreChecked c.args.header.now.value c.args.objects c.args.periods n c.loop-period.start
     c.loop-period.snaps.items) (end.1 ∙ c.requires.many) c.loop-period.invariant)

@@ -1,7 +1,7 @@
 use Rattle.std.proofs.Common.{length}
 use Rattle.track_index.proofs.PeriodLemmas.{AreChecked}
-use Rattle.track_index.proofs.opening.check_periods.Given as goal
+use Rattle.track_index.proofs.opening.check_each.Given as goal
 
 abbrev pub invariant-loop-period : goal.invariant-loop-period
 invariant-loop-period l =
-    AreChecked l.frame l.objects l.fn.periods (length l.yielded) l.start l.snaps.items
+    AreChecked l.header.value l.objects l.fn.periods (length l.yielded) l.start l.snaps.items

@@ -1,0 +1,98 @@
+use Rattle.std.proofs.Common.{◌≡◌, None, ap, sym, subst, ◌∙◌}
+use Rattle.std.proofs.lemmas.Result.{err_from_is_err_and}
+use Rattle.track_types.specs.Frame.{instants_in, wide_of}
+use Rattle.track_types.specs.declared.frame.Frame.{Frame}
+use Rattle.k2_tree.specs.Flaws.{StandsFor}
+use Rattle.snapshots.specs.View.{SnapshotView, view_with}
+use Rattle.snapshots.specs.Flaws.{bits_flaw, flaw_of, IsFaultFor}
+use Rattle.snapshots.specs.Stored.{parts_with, starts_in, tree_stored, view_of, IsStored}
+use Rattle.snapshots.proofs.JudgedLemmas.{flaw_of-cells, flaw_of-perm, view_of-parts, with_checked, IsBegun}
+use Rattle.snapshots.proofs.JudgedLemmas.{IsBegun-found, IsStored-flawless}
+use Rattle.snapshots.proofs.SoundLemmas.{IsSound-flawless}
+use Rattle.snapshots.proofs.snapshot.Snapshot.check_under.Goals as goal
+use Rattle.snapshots.proofs.snapshot.Snapshot.check_under.Goals.{After-has_cells}
+
+-- the header is the one that is kept
+frame_is : (c : After-has_cells) → c.frame-frame.result.now ≡ c.args.header.now.value
+frame_is c = c.frame-frame.ensures ∙ c.deref.ensures
+
+-- the tree is under it
+stands_of : (c : After-has_cells) → StandsFor c.args.header.now.value.height (wide_of c.args.header.now.value)
+    c.args.header.now.value.base c.args.parts.tree c.in_ok-tree.tree
+stands_of c =
+    subst (λ (f : Frame). StandsFor f.height (wide_of f) f.base c.args.parts.tree c.in_ok-tree.tree) (frame_is c)
+    c.in_ok-tree.ensures.ok
+
+-- what the judgement of the cells found
+begun_of : (c : After-has_cells)
+    → IsBegun (view_with c.args.header.now.value c.args.number c.args.objects c.args.start c.args.parts)
+    c.has_cells.result
+begun_of c =
+    IsBegun-found (view_with c.args.header.now.value c.args.number c.args.objects c.args.start c.args.parts)
+    c.in_ok-tree.tree c.instants_in.result c.leaves.result c.as_slice.result.now c.has_cells.result c.as_slice.ensures
+    (c.instants_in.ensures ∙ ap (λ (f : Frame). instants_in f c.args.number) (frame_is c)) c.in_default.ensures
+    (subst (λ (f : Frame). bits_flaw c.args.number f c.args.parts.tree ≡ None) (frame_is c) c.in_ok-tree.ensures.exact)
+    (stands_of c) c.leaves.ensures.value c.has_cells.ensures
+
+pub returns-then-not-has_cells-clause-flaw : goal.returns-then-not-has_cells-clause-flaw
+returns-then-not-has_cells-clause-flaw c =
+    let view : SnapshotView =
+    view_with c.args.header.now.value c.args.number c.args.objects c.args.start c.args.parts in
+    let begun = begun_of (goal.at.returns-then-not-has_cells-clause-flaw c).After-has_cells in
+    subst (IsFaultFor (flaw_of view)) (sym c.flaw-then-not-has_cells.ensures)
+    (rw c.len.ensures (flaw_of-cells view c.has_cells.result begun c.if-not-has_cells.true))
+
+pub returns-in_err-perm-clause-flaw : goal.returns-in_err-perm-clause-flaw
+returns-in_err-perm-clause-flaw c =
+    let view : SnapshotView =
+    view_with c.args.header.now.value c.args.number c.args.objects c.args.start c.args.parts in
+    let begun = begun_of (goal.at.returns-in_err-perm-clause-flaw c).After-has_cells in
+    let known : IsFaultFor (flaw_of view) c.in_err-perm.field-0.0 =
+    subst (λ first. IsFaultFor first c.in_err-perm.field-0.0)
+    (sym (flaw_of-perm view c.has_cells.result begun c.if-not-has_cells.false)) c.in_err-perm.ensures.flaw in
+    let given = err_from_is_err_and c.from_residual-in_err-perm.result c.from_residual-in_err-perm.ensures.1 in
+    rw (given.1, given.2) known
+
+pub invariant_of-result : goal.invariant_of-result
+invariant_of-result c =
+    let view : SnapshotView =
+    view_with c.args.header.now.value c.args.number c.args.objects c.args.start c.args.parts in
+    let at = (goal.at.invariant_of-result c).After-has_cells in
+    let begun = begun_of at in
+    let told = ap (λ objects. parts_with objects c.in_ok-blocks.blocks) (sym c.requires.presence)
+    ∙ c.in_ok-blocks.ensures.parts
+    ∙ ap (λ bits. with_checked view.parts bits c.in_ok-perm.perm) (stands_of at).same
+    ∙ ap (with_checked view.parts view.parts.tree) c.in_ok-perm.ensures.ok in
+    let none = flaw_of-perm view c.has_cells.result begun c.if-not-has_cells.false ∙ c.in_ok-perm.ensures.exact in
+    subst (λ (f : Frame). IsStored (view_of f c.args.number c.args.objects c.args.start c.in_ok-blocks.blocks)
+    (tree_stored f c.in_ok-blocks.blocks) (starts_in c.in_ok-blocks.blocks)) (sym c.in_ok-clone.ensures.cases)
+    (IsStored-flawless view c.in_ok-tree.tree c.in_ok-blocks.blocks (stands_of at) told c.in_ok-blocks.ensures.tree
+    c.requires none c.in_ok-blocks.ensures.starts)
+
+pub returns-clause-ok : goal.returns-clause-ok
+returns-clause-ok c =
+    let view : SnapshotView =
+    view_with c.args.header.now.value c.args.number c.args.objects c.args.start c.args.parts in
+    let at = (goal.at.returns-clause-ok c).After-has_cells in
+    let told = ap (λ objects. parts_with objects c.in_ok-blocks.blocks) (sym c.requires.presence)
+    ∙ c.in_ok-blocks.ensures.parts
+    ∙ ap (λ bits. with_checked view.parts bits c.in_ok-perm.perm) (stands_of at).same
+    ∙ ap (with_checked view.parts view.parts.tree) c.in_ok-perm.ensures.ok in
+    ap (λ (f : Frame). view_of f c.args.number c.args.objects c.args.start c.in_ok-blocks.blocks)
+    c.in_ok-clone.ensures.cases
+    ∙ view_of-parts view c.in_ok-tree.tree c.in_ok-blocks.blocks (stands_of at) told c.in_ok-blocks.ensures.tree
+
+pub returns-clause-sound : goal.returns-clause-sound
+returns-clause-sound c =
+    let view : SnapshotView =
+    view_with c.args.header.now.value c.args.number c.args.objects c.args.start c.args.parts in
+    let begun = begun_of (goal.at.returns-clause-sound c).After-has_cells in
+    IsSound-flawless view c.requires
+    (flaw_of-perm view c.has_cells.result begun c.if-not-has_cells.false ∙ c.in_ok-perm.ensures.exact)
+
+pub returns-clause-exact : goal.returns-clause-exact
+returns-clause-exact c =
+    let view : SnapshotView =
+    view_with c.args.header.now.value c.args.number c.args.objects c.args.start c.args.parts in
+    let begun = begun_of (goal.at.returns-clause-exact c).After-has_cells in
+    flaw_of-perm view c.has_cells.result begun c.if-not-has_cells.false ∙ c.in_ok-perm.ensures.exact
