@@ -12,7 +12,7 @@ use Rattle.rule_store.specs.declared.fault.RuleFault.TheVariants as fault
 use Rattle.snapshots.specs.Flaws.{flaw_of, IsShaped as IsShapedView}
 use Rattle.snapshots.specs.JoinFlaws.{join_flaw, logs_flaw}
 use Rattle.snapshots.specs.Parts.{rules_in, snapshot_in, start_in}
-use Rattle.snapshots.specs.SoundParts.{IsSound}
+use Rattle.snapshots.specs.SoundParts.{IsSound, IsValid}
 use Rattle.snapshots.specs.Stores.{snapshots_in}
 use Rattle.snapshots.proofs.NoFlawLemmas.{logs_flaw-sound, rules_flaw-sound}
 use Rattle.snapshots.proofs.SoundLemmas.{flaw_of-none}
@@ -78,6 +78,10 @@ module _ (parts : Parts) (shaped : IsShaped parts) where
       ∙ first_of_range-none _ 0 (periods_of parts.frame) (λ number low within.
       (flaw_of-none (snapshot_in parts number) (shaped_at total number (omega arith))).1
       (sound.periods number (omega arith)))) (logs_flaw-sound parts sound.logs)
+
+-- the parts of an index have no flaw
+pub check_flaw_valid : (parts : Parts) → IsValid parts → check_flaw parts ≡ None
+check_flaw_valid parts valid = check_flaw-sound parts valid.shaped valid.sound
 
 -- shaped parts have no flaw if and only if they are sound
 pub check_flaw-none : (parts : Parts) → IsShaped parts

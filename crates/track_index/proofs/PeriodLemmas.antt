@@ -1,5 +1,5 @@
 -- The periods of an index, checked one after the other.
-use Rattle.std.proofs.Common.{◌≡◌, ℕ, ◌+◌, ◌^◌, ◌<◌, ◌≤◌, List, [], ◌∷◌, ◌++◌, length, map, take, get_or, None, inl, inr, refl, ap, sym, subst, ◌∙◌, arith}
+use Rattle.std.proofs.Common.{◌≡◌, ℕ, ◌+◌, ◌^◌, ◌<◌, ◌≤◌, List, [], ◌∷◌, ◌++◌, length, map, take, get_or, None, inl, inr, ap, sym, subst, ◌∙◌, arith}
 use Rattle.std.specs.Prelude.{sum}
 use Rattle.std.specs.List.{range_with_len, sum_by}
 use Rattle.std.proofs.Math.Nat.{div-le_self}
@@ -41,10 +41,6 @@ IsShaped-at frame objects periods number shaped within =
     shaped.header (omega (arith, within, shaped.many)) shaped.some shaped.few its (omega (arith, most, limit))
 
 module _ (frame : Frame) (objects : ℕ) (periods : List PeriodParts) where
-  -- before the first period
-  pub checked-none : AreChecked frame objects periods 0 0 []
-  checked-none = record { begins = refl; snaps_are = refl; none = λ number below. absurd (omega arith) }
-
   module _ (count start : ℕ) (snaps : List SnapshotView) (are : AreChecked frame objects periods count start snaps) where
     -- as many snapshots as periods
     pub length-snaps : length snaps ≡ count
@@ -57,13 +53,6 @@ module _ (frame : Frame) (objects : ℕ) (periods : List PeriodParts) where
       -- it is the one at its place
       period-is : period ≡ period_at periods count
       period-is = read ∙ get_or_default periods count period no_period within
-
-      -- its logs begin within the limit, and end there
-      pub symbols-within : start + sum period.lengths ≤ 2 ^ 25
-      symbols-within =
-          let most = sum_by_more_le symbols_of periods count no_period within in
-          let limit : sum_by symbols_of periods ≤ 2 ^ 25 = shaped.total in
-          omega (arith, most, limit, are.begins, ap symbols_of period-is)
 
       -- it is one of the header's
       number-within : count < periods_of frame

@@ -43,10 +43,12 @@ impl Index {
     /// the number of stored symbols (`Total`, in the last period at 0); each period in order, as
     /// `Snapshot::check` does; and the logs of all blocks, by period, then object, as `Stores::join`
     /// does. `Flaw` is the first flaw in this order; its period is 0 outside the sections of
-    /// periods. `Memory` may be answered to any parts.
+    /// periods. The parts of an index have none, so they are refused only for `Memory`, which may be
+    /// answered to any parts.
     ///
     /// The lists of the parts become those of the index. It takes time linear in their lengths, and
     /// at most `open_cost` reads.
+    #[tactic(auto, using(crate::proofs::CheckLemmas::check_flaw_valid))]
     pub fn check<L: Ledger>(
         alloc: Global,
         parts: Parts,
@@ -56,6 +58,7 @@ impl Index {
         ensures ok { IfOk result (λ index. index ≡ parts) }
         ensures exact { OnOk result (check_flaw parts ≡ None) }
         ensures valid { OnOk result (IsValid parts) }
+        ensures flawless { IsValid parts → check_flaw parts ≡ None }
         ensures flaw { IfErr result (λ fault. IsFaultFor (check_flaw parts) fault) }
         ensures cost { steps.new ≤ steps.old + open_cost parts }
     {
