@@ -15,8 +15,10 @@ use Rattle.list_laws.proofs.IncreasingLemmas.{increasing-below}
 use Rattle.list_laws.proofs.RangeLemmas.{All-flat_map_range}
 use Rattle.list_laws.specs.Ordered.{ordered}
 use Rattle.list_laws.proofs.OrderedLemmas.{IsPermutation-ordered}
-use Rattle.track_types.proofs.RowLemmas.{eq_by_cmp-row_order, row_order_total}
-use Rattle.track_types.specs.Row.{IsAscending, is_same_place, row_order}
+use Rattle.list_laws.proofs.ApartLemmas.{ordered-permutation}
+use Rattle.list_laws.proofs.PartLemmas.{IsStrictlySortedBy-between, IsStrictlySortedBy-front}
+use Rattle.track_types.proofs.RowLemmas.{row_order_total}
+use Rattle.track_types.specs.Row.{IsAscending, row_order}
 use Rattle.track_types.specs.declared.parts.Parts.{Parts}
 use Rattle.track_types.specs.declared.row.Row.{Row}
 use Rattle.snapshots.specs.Parts.{chart_in, numbers_in, row_of, rows_in, stops_in}
@@ -25,7 +27,6 @@ use Rattle.object_track.proofs.TableLemmas.{IsTable-chart_in}
 use Rattle.index_merge.specs.Cost.{paths_cost, whole_path_cost}
 use Rattle.index_merge.specs.Drawing.{AreDrawn, cost_from, IsNext, rows_from}
 use Rattle.index_merge.specs.Union.{rows_of_both}
-use Rattle.index_merge.proofs.OrderLemmas.{IsStrictlySortedBy-between, IsStrictlySortedBy-front, ordered-permutation}
 
 module _ (parts : Parts) where
   -- the rows from the first object on are all
@@ -213,8 +214,4 @@ module _ (left right : Parts) (next_left next_right : ℕ) (rows : List Row)
         subst (λ xs. IsPermutation xs both)
         (ap (λ xs. rows ++ (xs ++ rows_from right next_right)) (rows_from-none left next_left no_left)
         ∙ ap (λ xs. rows ++ xs) (rows_from-none right next_right no_right) ∙ append-nil rows) drawn.all in
-        ordered-permutation row_order row_order_total (λ x y. eq_by_cmp-row_order x y ∙ flips x y ∙ sym (eq_by_cmp-row_order y x))
-        rows both drawn-ascending same
-      where
-        flips : (x y : Row) → is_same_place x y ≡ is_same_place y x
-        flips x y = grind (arith, nat_tests)
+        ordered-permutation row_order_total rows both drawn-ascending same

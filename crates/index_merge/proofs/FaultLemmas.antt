@@ -1,12 +1,14 @@
 -- The first cause in the order in which causes are looked for.
-use Rattle.std.proofs.Common.{◌≡◌, ℕ, zero, suc, ◌+◌, ◌<◌, ◌≤◌, Bool, true, false, eqb, List, [], ◌∷◌, Option, None, Some, length, drop, inl, inr, refl, ap, sym, ◌∙◌, arith}
-use Rattle.std.specs.Prelude.{slice_get, slice_index, find, nat_lt}
-use Rattle.std.specs.Option.{is_some, option_map, option_or}
+use Rattle.std.proofs.Common.{◌≡◌, ℕ, zero, suc, ◌+◌, ◌<◌, ◌≤◌, Bool, true, false, List, [], ◌∷◌, Option, None, Some, length, drop, inl, inr, refl, ap, sym, ◌∙◌, arith}
+use Rattle.std.specs.Prelude.{◌==◌, slice_get, slice_index, find, nat_lt}
+use Rattle.std.specs.Option.{option_map, option_or}
 use Rattle.std.proofs.lemmas.Bool.{cases_Bool, eq-eqb}
 use Rattle.std.proofs.lemmas.Bool.Decides.{nat_tests}
 use Rattle.std.proofs.Math.Seq.{drop-cons}
 use Rattle.std.proofs.lemmas.Option.{get_or_from_slice_get, slice_get_within}
-use Rattle.list_laws.proofs.FindLemmas.{find_in_range-all, find-passed_over}
+use Rattle.std.proofs.lemmas.List.Elements.{Contains-get_or}
+use Rattle.list_laws.proofs.FindLemmas.{find-passed_over}
+use Rattle.list_laws.proofs.MemberLemmas.{none_from_list_any}
 use Rattle.track_types.specs.Limits.{limit_of}
 use Rattle.track_types.specs.declared.frame.Frame.{Frame}
 use Rattle.track_types.specs.declared.limit.LimitKind.TheVariants.{Rows}
@@ -16,8 +18,9 @@ use Rattle.gridding.specs.GridLimit.{chart_fault}
 use Rattle.gridding.specs.GridLimit.{IsFaultFor as IsGridFaultFor}
 use Rattle.gridding.specs.declared.fault.GridFault.{GridFault}
 use Rattle.gridding.specs.declared.fault.GridFault.TheVariants as gridding
-use Rattle.snapshots.specs.Parts.{chart_in, index_in}
-use Rattle.index_merge.specs.MergeFault.{common_fault, count_fault, is_listed, merge_fault, merge_fault_of, rows_fault, settings_fault, IsFaultFor}
+use Rattle.snapshots.specs.Parts.{chart_in}
+use Rattle.track_index.specs.Listed.{is_listed}
+use Rattle.index_merge.specs.MergeFault.{common_fault, count_fault, merge_fault, merge_fault_of, rows_fault, settings_fault, IsFaultFor}
 use Rattle.index_merge.specs.Union.{rows_of_both}
 use Rattle.index_merge.specs.declared.fault.MergeFault.{MergeFault}
 use Rattle.index_merge.specs.declared.fault.MergeFault.TheVariants as fault
@@ -136,43 +139,41 @@ find-at p (x ∷ xs) zero none within = (find-passed_over p x xs none).0
 find-at p (x ∷ xs) (suc place) none within = find-at p xs place (find-passed_over p x xs none).1 (omega arith)
 
 -- a search among those from a place on, of which the first is at hand
-module _ (left right : List ℕ) (place object : ℕ)
-    (so_far : find (is_listed right) left ≡ find (is_listed right) (drop place left))
-    (here : slice_get left place ≡ Some object) where
-  found-from : find (is_listed right) left ≡ find (is_listed right) (object ∷ drop (suc place) left)
-  found-from =
-      so_far ∙ ap (find (is_listed right)) (drop-cons left place 0 (slice_get_within left place object here)
-      ∙ ap (λ x. x ∷ drop (suc place) left) (get_or_from_slice_get left place object 0 here))
+module _ (left right : List ℕ) where
+  abbrev is_common : ℕ → Bool
+  is_common object = is_listed object right
 
-  -- it is in both
-  pub common-here : is_some (index_in right object) ≡ true → common_fault left right ≡ Some (fault.Common object)
-  common-here listed =
-      let found : find (is_listed right) left ≡ Some object = found-from ∙ rw listed refl in
-      ap (option_map fault.Common) found
+  module _ (place object : ℕ) (so_far : find is_common left ≡ find is_common (drop place left))
+      (here : slice_get left place ≡ Some object) where
+    found-from : find is_common left ≡ find is_common (object ∷ drop (suc place) left)
+    found-from =
+        so_far ∙ ap (find is_common) (drop-cons left place 0 (slice_get_within left place object here)
+        ∙ ap (λ x. x ∷ drop (suc place) left) (get_or_from_slice_get left place object 0 here))
 
-  -- it is not
-  pub common-next : is_some (index_in right object) ≡ false
-      → find (is_listed right) left ≡ find (is_listed right) (drop (place + 1) left)
-  common-next unlisted =
-      let next : place + 1 ≡ suc place = omega arith in
-      found-from ∙ rw (unlisted, next) refl
+    -- it is in both
+    pub common-here : is_common object ≡ true → common_fault left right ≡ Some (fault.Common object)
+    common-here listed =
+        let found : find is_common left ≡ Some object = found-from ∙ rw listed refl in
+        ap (option_map fault.Common) found
 
-not_mapped : {X Y : Type 0} (f : X → Y) (found : Option X) → option_map f found ≡ None → found ≡ None
-not_mapped f None is = refl
-not_mapped f (Some x) is = absurd (cc)
+    -- it is not
+    pub common-next : is_common object ≡ false → find is_common left ≡ find is_common (drop (place + 1) left)
+    common-next unlisted =
+        let next : place + 1 ≡ suc place = omega arith in
+        found-from ∙ rw (unlisted, next) refl
 
-not_some : {X : Type 0} (found : Option X) → is_some found ≡ false → found ≡ None
-not_some None is = refl
-not_some (Some x) is = absurd (cc)
+  not_mapped : {X Y : Type 0} (f : X → Y) (found : Option X) → option_map f found ≡ None → found ≡ None
+  not_mapped f None is = refl
+  not_mapped f (Some x) is = absurd (cc)
 
--- where no object is in both, two objects differ
-pub objects-apart : (left right : List ℕ) (i j : ℕ) → common_fault left right ≡ None → i < length left → j < length right
-    → slice_index left i ≡ slice_index right j → ⊥
-objects-apart left right i j apart in_left in_right same =
-    let one : ℕ = slice_index left i in
-    let none : find (is_listed right) left ≡ None = not_mapped fault.Common (find (is_listed right) left) apart in
-    let unknown : index_in right one ≡ None = not_some (index_in right one) (find-at (is_listed right) left i none in_left) in
-    let differs : eqb (slice_index right j) one ≡ false =
-    find_in_range-all (λ k. eqb (slice_index right k) one) 0 (length right) unknown j (omega arith) (omega (arith, in_right)) in
-    let equal : eqb (slice_index right j) one ≡ true = eq-eqb (slice_index right j) one (sym same) in
-    cc
+  -- where no object is in both, two objects differ
+  pub objects-apart : (i j : ℕ) → common_fault left right ≡ None → i < length left → j < length right
+      → slice_index left i ≡ slice_index right j → ⊥
+  objects-apart i j apart in_left in_right same =
+      let one : ℕ = slice_index left i in
+      let unlisted = find-at is_common left i (not_mapped fault.Common (find is_common left) apart) in_left in
+      let differs : (one == slice_index right j) ≡ false =
+      none_from_list_any (λ listed. one == listed) right (slice_index right j) unlisted
+      (Contains-get_or right j 0 in_right) in
+      let equal : (one == slice_index right j) ≡ true = eq-eqb one (slice_index right j) same in
+      cc

@@ -1,4 +1,3 @@
-mod OrderLemmas
 mod PathLemmas
 mod UnionLemmas
 mod FaultLemmas

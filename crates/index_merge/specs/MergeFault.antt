@@ -1,6 +1,6 @@
 -- Why two indexes have no union: the first cause in order.
 use Rattle.std.specs.Prelude.{◌≡◌, ⊤, ℕ, ◌+◌, Bool, not, ◌==◌, nat_lt, if◌then◌else◌, List, [], ◌∷◌, length, find, Option, None, Some}
-use Rattle.std.specs.Option.{is_some, option_map, option_or}
+use Rattle.std.specs.Option.{option_map, option_or}
 use Rattle.track_types.specs.Limits.{limit_of}
 use Rattle.track_types.specs.declared.frame.Frame.{Frame}
 use Rattle.track_types.specs.declared.limit.LimitKind.TheVariants.{Rows}
@@ -11,7 +11,8 @@ use Rattle.track_types.specs.declared.setting.Setting.TheVariants as setting
 use Rattle.gridding.specs.GridLimit.{chart_fault}
 use Rattle.gridding.specs.declared.fault.GridFault.{GridFault}
 use Rattle.gridding.specs.declared.fault.GridFault.TheVariants as gridding
-use Rattle.snapshots.specs.Parts.{chart_in, index_in}
+use Rattle.snapshots.specs.Parts.{chart_in}
+use Rattle.track_index.specs.Listed.{is_listed}
 use Rattle.index_merge.specs.Union.{rows_of_both}
 use Rattle.index_merge.specs.declared.fault.MergeFault.{MergeFault}
 use Rattle.index_merge.specs.declared.fault.MergeFault.TheVariants as fault
@@ -33,13 +34,9 @@ setting_fault (which, left, right) = fault.Settings which left right
 abbrev pub settings_fault : Frame → Frame → Option MergeFault
 settings_fault left right = option_map setting_fault (find differs (settings_of left right))
 
--- whether an object is one of those that are listed
-abbrev pub is_listed : List ℕ → ℕ → Bool
-is_listed objects object = is_some (index_in objects object)
-
 -- The first object of the one list that is in the other too. Objects ascend, so that it is the least.
 abbrev pub common_fault : List ℕ → List ℕ → Option MergeFault
-common_fault left right = option_map fault.Common (find (is_listed right) left)
+common_fault left right = option_map fault.Common (find (λ object. is_listed object right) left)
 
 -- more rows than a chart may have: the least number that is too great is told
 abbrev pub count_fault : ℕ → Option MergeFault
