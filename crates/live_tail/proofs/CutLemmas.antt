@@ -16,6 +16,7 @@ use Rattle.std.proofs.lemmas.List.Kept.{IsStrictlySortedBy-filter}
 use Rattle.std.proofs.lemmas.List.MinMax.{ranks_by}
 use Rattle.std.proofs.lemmas.List.Sorted.{list_any-IsPermutation, sorted_far}
 use Rattle.std.proofs.lemmas.Map.Keys.{Less-from_sorted}
+use Rattle.std.proofs.Math.Bool.{and_comm}
 use Rattle.list_laws.proofs.FilterLemmas.{filter-all, filter_and}
 use Rattle.list_laws.proofs.MemberLemmas.{filter-none, member_of_filter}
 use Rattle.list_laws.proofs.SliceLemmas.{take-rest}
@@ -158,18 +159,12 @@ module _ (object : ℕ) where
         instant-less (get_or own k d) (get_or own (k + 1) d) (Less-from_sorted row_order own k (k + 1) d strict (omega arith) high)
         (each k d (omega arith)) (each (k + 1) d high)
 
-  and-swap : (a b : Bool) → (a && b) ≡ (b && a)
-  and-swap true true = refl
-  and-swap true false = refl
-  and-swap false true = refl
-  and-swap false false = refl
-
   -- those of them in a window
   pub window-object : (rows : List Row) (from to : ℤ) →
       rows_between (filter (λ row. object == row.object) rows) from to ≡ filter (is_row_between object from to) rows
   window-object rows from to =
       sym (filter_and (λ (row : Row). is_between from to row.instant) (λ row. object == row.object) rows)
-      ∙ filter_agree _ _ (λ (row : Row). and-swap (is_between from to row.instant) (object == row.object)) rows
+      ∙ filter_agree _ _ (λ (row : Row). and_comm (is_between from to row.instant) (object == row.object)) rows
 
 -- a window of one instant
 at-tests : (instant other : ℤ) → is_between instant instant other ≡ is_row_at instant (record { object = 0; instant = other; cell = record { x = other; y = other } })

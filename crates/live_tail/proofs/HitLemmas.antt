@@ -6,7 +6,7 @@ use Rattle.std.specs.List.{AllByRecursion, Contains, cons_option, filter_map, li
 use Rattle.std.specs.List.Sorted.{IsPermutation, IsSorted, IsStrictlySortedBy}
 use Rattle.std.specs.Ordering.{eq_by_cmp, nat_cmp}
 use Rattle.std.specs.declared.cmp.Ordering.TheVariants.{Less}
-use Rattle.std.proofs.lemmas.Bool.{cases_Bool, eqb-true}
+use Rattle.std.proofs.lemmas.Bool.{cases_Bool, eqb-true, not-true}
 use Rattle.std.proofs.lemmas.Bool.Decides.{nat_tests}
 use Rattle.std.proofs.lemmas.Cmp.{nat_cmp_total, on_total}
 use Rattle.std.proofs.lemmas.List.{take_more}
@@ -17,6 +17,7 @@ use Rattle.std.proofs.lemmas.Map.Views.{Contains-from_any}
 use Rattle.list_laws.proofs.AscendingLemmas.{same_from_members}
 use Rattle.list_laws.proofs.MemberLemmas.{Contains-filter, filter-none, first_member, later_member, member_of_filter, member_of_map, none_from_list_any}
 use Rattle.list_laws.proofs.OrderedLemmas.{IsPermutation-ordered}
+use Rattle.list_laws.proofs.ApartLemmas.{same_from_sorted}
 use Rattle.log_cursor.specs.Touching.{first_among}
 use Rattle.track_types.specs.ByFilter.{hits_of, is_row_between, path_of, stop_of}
 use Rattle.track_types.specs.Chart.{ChartView}
@@ -38,13 +39,10 @@ use Rattle.live_tail.specs.Walk.{stops_with}
 use Rattle.live_tail.proofs.CutLemmas.{All-by_members, any-both}
 use Rattle.live_tail.proofs.JoinLemmas.{IsAscending-rows_with, member_of_rows_with, path_of-rows_with}
 use Rattle.live_tail.proofs.ObjectLemmas.{any-distinct, any-map, any-member, objects_of-rise}
-use Rattle.live_tail.proofs.UnionLemmas.{IsStrictlySortedBy-union_of, beside, has, same_from_sorted, union_of}
+use Rattle.live_tail.proofs.UnionLemmas.{IsStrictlySortedBy-union_of, beside, has, union_of}
 
 -- the first stop in a region
 module _ (region : Region) (stop : Stop) (rest : List Stop) where
-  pub first-here : in_region region stop.cell ≡ true → first_among region (stop ∷ rest) ≡ Some stop
-  first-here inside = rw inside refl
-
   pub first-later : in_region region stop.cell ≡ false → first_among region (stop ∷ rest) ≡ first_among region rest
   first-later outside = rw outside refl
 
@@ -219,20 +217,13 @@ module _ (rows tail : List Row) (up : IsAscending rows) (also : IsAscending tail
       (λ z inside. Contains-filter is_own all z (any-member (λ o. z == o) own z inside (own_test z))
       (union-first own (all_of (objects_of tail) (objects_of rows)) z inside))
 
-  not_own : (object : ℕ) → not (is_own object) ≡ true → is_own object ≡ false
-  not_own object is = twice (is_own object) is
-    where
-      twice : (b : Bool) → not b ≡ true → b ≡ false
-      twice true is = absurd (cc)
-      twice false is = refl
-
   -- the chart's hits but for those of the window's objects
   others-now : filter (λ (hit : Hit). not (is_own hit.object)) (filter_map hit_now all)
       ≡ filter (λ (hit : Hit). not (is_own hit.object)) (hits_of rows from to region)
   others-now =
       filter-hits (λ object. first_among region (path_of (rows_with rows tail) object from to)) (λ object. not (is_own object)) all
       ∙ filter_map-alike hit_now hit_before (filter (λ object. not (is_own object)) all)
-      (λ object inside. hit-others object (not_own object (member_of_filter (λ object. not (is_own object)) all object inside).1))
+      (λ object inside. hit-others object (not-true (is_own object) (member_of_filter (λ object. not (is_own object)) all object inside).1))
       ∙ sym (filter-hits (λ object. first_among region (path_of rows object from to)) (λ object. not (is_own object)) all)
       ∙ ap (filter (λ (hit : Hit). not (is_own hit.object))) (sym hits-before)
 

@@ -5,18 +5,20 @@ use Rattle.std.specs.List.{AllByRecursion, list_any}
 use Rattle.std.specs.List.Sorted.{IsPermutation, IsSorted, IsStrictlySortedBy}
 use Rattle.std.specs.Ordering.{int_cmp, int_eq, nat_cmp, ordering_then}
 use Rattle.std.specs.declared.cmp.Ordering.TheVariants.{Less}
-use Rattle.std.proofs.lemmas.Bool.{cases_Bool}
+use Rattle.std.proofs.lemmas.Bool.{and_parts, cases_Bool}
 use Rattle.std.proofs.lemmas.Bool.Decides.{nat_tests}
 use Rattle.std.proofs.lemmas.Cmp.{nat_cmp_total, on_total}
 use Rattle.std.proofs.lemmas.List.{append-nil, map-append, take_more}
 use Rattle.std.proofs.lemmas.List.Elements.{filter-append, filter_agree}
 use Rattle.std.proofs.lemmas.List.Sorted.{IsPermutation-append_comm, IsPermutation-map, IsPermutation-sym, IsPermutation-trans}
+use Rattle.std.proofs.Math.Bool.{and_comm}
 use Rattle.list_laws.specs.Ordered.{ordered}
 use Rattle.list_laws.proofs.FilterLemmas.{filter_and}
 use Rattle.list_laws.proofs.KeyedLemmas.{filter_alike}
 use Rattle.list_laws.proofs.MapLemmas.{filter-map}
 use Rattle.list_laws.proofs.MemberLemmas.{list_any-agree, member_of_filter}
 use Rattle.list_laws.proofs.OrderedLemmas.{IsPermutation-ordered}
+use Rattle.list_laws.proofs.ApartLemmas.{same_from_sorted}
 use Rattle.track_types.specs.ByFilter.{is_row_at}
 use Rattle.track_types.specs.Row.{IsAscending, row_order}
 use Rattle.track_types.specs.declared.row.Row.{Row}
@@ -24,7 +26,7 @@ use Rattle.track_types.proofs.RowLemmas.{row_order_total}
 use Rattle.live_tail.specs.Join.{has_place, rows_with}
 use Rattle.live_tail.proofs.CutLemmas.{any-both}
 use Rattle.live_tail.proofs.JoinLemmas.{IsAscending-rows_with, beside-rows, union_of-rows}
-use Rattle.live_tail.proofs.UnionLemmas.{beside, filter-swap, filter-union_of, same_from_sorted}
+use Rattle.live_tail.proofs.UnionLemmas.{beside, filter-swap, filter-union_of}
 
 -- of the rows of an instant, whether some is of an object
 abbrev pub has_object : List Row → ℕ → Bool
@@ -43,16 +45,6 @@ module _ (instant : ℤ) where
   has_place-object tail row is =
       list_any-agree _ _ (λ other. place-tests row.object other.object row.instant other.instant is) tail
       ∙ sym (any-both (λ (other : Row). row.object == other.object) at tail)
-
-  and-first : (a b : Bool) → (a && b) ≡ true → a ≡ true
-  and-first true b is = refl
-  and-first false b is = absurd (cc)
-
-  and-swap : (a b : Bool) → (a && b) ≡ (b && a)
-  and-swap true true = refl
-  and-swap true false = refl
-  and-swap false true = refl
-  and-swap false false = refl
 
   module _ {Y : Type 0} (f : Row → Y) (key : Y → ℕ) (its : (row : Row) → key (f row) ≡ row.object) (q : Row → Bool) where
     -- whether a row is one of the instant that passes the test
@@ -73,12 +65,12 @@ module _ (instant : ℤ) where
         let joined : filter is_found (rows_with rows tail) ≡ ordered row_order (own ++ rest) =
         ap (filter is_found) (sym (union_of-rows tail rows)) ∙ filter-union_of row_order_total is_found tail rows also up in
         let tails : own ≡ filter q (filter at tail) =
-        filter_agree _ _ (λ row. and-swap (at row) (q row)) tail ∙ filter_and q at tail in
+        filter_agree _ _ (λ row. and_comm (at row) (q row)) tail ∙ filter_and q at tail in
         let others : map f rest ≡ left_of tail (map f (filter is_found rows)) =
         ap (λ zs. map f (filter is_found zs)) (beside-rows tail rows)
         ∙ ap (map f) (filter-swap is_found (λ row. not (has_place tail row)) rows
         ∙ filter_alike (λ row. not (has_place tail row)) (λ row. not (has_object (filter at tail) (key (f row)))) (filter is_found rows)
-        (λ row inside. ap not (has_place-object tail row (and-first (at row) (q row) (member_of_filter is_found rows row inside).1)
+        (λ row inside. ap not (has_place-object tail row (and_parts (at row) (q row) (member_of_filter is_found rows row inside).1).0
         ∙ ap (has_object (filter at tail)) (sym (its row)))))
         ∙ sym (filter-map (λ y. not (has_object (filter at tail) (key y))) f (filter is_found rows)) in
         subst (λ zs. IsPermutation (map f (filter is_found (rows_with rows tail))) (zs ++ map f (filter q (filter at tail)))) others
@@ -101,7 +93,7 @@ module _ (instant : ℤ) where
         AllByRecursion (λ y. nat_cmp (key (f row)) (key y) ≡ Less) (map f (filter is_found rows))
     all-less row [] is all = tt
     all-less row (other ∷ rows) is all = elim (cases_Bool (is_found other)) [
-      | inl meets ↦ rw meets (object-less row other all.0 is (and-first (at other) (q other) meets), all-less row rows is all.1)
+      | inl meets ↦ rw meets (object-less row other all.0 is (and_parts (at other) (q other) meets).0, all-less row rows is all.1)
       | inr fails ↦ rw fails (all-less row rows is all.1)
     ]
 
@@ -111,7 +103,7 @@ module _ (instant : ℤ) where
     unfolding IsStrictlySortedBy
     found-rises [] up = tt
     found-rises (row ∷ rows) up = elim (cases_Bool (is_found row)) [
-      | inl meets ↦ rw meets (all-less row rows (and-first (at row) (q row) meets) up.0, found-rises rows up.1)
+      | inl meets ↦ rw meets (all-less row rows (and_parts (at row) (q row) meets).0 up.0, found-rises rows up.1)
       | inr fails ↦ rw fails (found-rises rows up.1)
     ]
 

@@ -14,6 +14,7 @@ use Rattle.std.proofs.lemmas.Cmp.{nat_cmp_total, tied_itself}
 use Rattle.std.proofs.lemmas.Int.{clamps, ints}
 use Rattle.std.proofs.lemmas.List.Elements.{All-contains, Contains-append_cases, filter_agree}
 use Rattle.std.proofs.lemmas.List.Kept.{IsStrictlySortedBy-filter}
+use Rattle.std.proofs.lemmas.List.Sorted.{Contains-permutation, IsPermutation-sym}
 use Rattle.list_laws.specs.Ordered.{ordered}
 use Rattle.list_laws.proofs.AscendingLemmas.{find-agree}
 use Rattle.list_laws.proofs.MemberLemmas.{list_any-agree, member_of_filter}
@@ -34,7 +35,7 @@ use Rattle.live_tail.specs.Walk.{stop_order, stops_with}
 use Rattle.live_tail.proofs.CutLemmas.{All-by_members}
 use Rattle.live_tail.proofs.MergeLemmas.{map-merge_of, merge_of-union_of}
 use Rattle.live_tail.proofs.RangeLemmas.{asked-near, near-chart, near-greatest, near-least}
-use Rattle.live_tail.proofs.UnionLemmas.{IsStrictlySortedBy-union_of, beside, filter-union_of_alike, find-union_of, members-moved, union_of}
+use Rattle.live_tail.proofs.UnionLemmas.{IsStrictlySortedBy-union_of, beside, filter-union_of_alike, find-union_of, union_of}
 
 -- rows tie where they are of one object and instant
 pub beside-rows : (tail rows : List Row) → beside row_order_total tail rows ≡ rows_beside tail rows
@@ -132,7 +133,8 @@ unfolding rows_with
 member_of_rows_with rows tail row inside =
     let all : List Row = tail ++ rows_beside tail rows in
     elim (Contains-append_cases tail (rows_beside tail rows) row
-    (members-moved row_order_total all (ordered row_order all) (IsPermutation-ordered row_order all) row inside)) [
+    (Contains-permutation (ordered row_order all) all row
+    (IsPermutation-sym all (ordered row_order all) (IsPermutation-ordered row_order all)) inside)) [
       | inl own ↦ inl own
       | inr other ↦ inr (member_of_filter (λ (z : Row). not (has_place tail z)) rows row other).0
     ]

@@ -2,7 +2,6 @@ pub mod UnionLemmas
 pub mod MergeLemmas
 pub mod CutLemmas
 pub mod WalkLemmas
-pub mod SearchLemmas
 pub mod ObjectLemmas
 pub mod RangeLemmas
 pub mod JoinLemmas

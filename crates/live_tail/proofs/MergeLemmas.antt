@@ -7,9 +7,10 @@ use Rattle.std.specs.Option.{option_or}
 use Rattle.std.specs.Ordering.{eq_by_cmp, is_eq, match_ordering, ordering_reverse}
 use Rattle.std.specs.declared.cmp.Ordering.TheVariants.{Less, Equal, Greater}
 use Rattle.std.proofs.lemmas.Bool.{cases_Bool}
+use Rattle.std.proofs.lemmas.Cmp.{eq_by_cmp_equiv}
 use Rattle.list_laws.proofs.AscendingLemmas.{same_from_finds}
 use Rattle.live_tail.specs.Merge.{merge_of}
-use Rattle.live_tail.proofs.UnionLemmas.{IsStrictlySortedBy-union_of, alike_tied, find-union_of, tied_back, union_of}
+use Rattle.live_tail.proofs.UnionLemmas.{IsStrictlySortedBy-union_of, alike_tied, find-union_of, union_of}
 
 -- what holds in each of the three cases
 by_order : {X : Type 0} (P : X → Type 0) (a : Ordering) (less equal greater : X) → (a ≡ Less → P less) → (a ≡ Equal → P equal)
@@ -90,7 +91,7 @@ module _ {X : Type 0} {R : X → X → Ordering} (o : IsTotalOrder R) where
       (λ same. elim (cases_Bool (eq_by_cmp R z x)) [
         | inl tie ↦ rw tie refl
         | inr apart ↦
-            let other : eq_by_cmp R z y ≡ false = tied_back o z y ∙ sym (alike_tied o x y z (ap is_eq same)) ∙ tied_back o x z ∙ apart in
+            let other : eq_by_cmp R z y ≡ false = (eq_by_cmp_equiv o).symm z y ∙ sym (alike_tied o x y z (ap is_eq same)) ∙ (eq_by_cmp_equiv o).symm x z ∙ apart in
             rw (apart, other) (find-merge_of z xs ys up.1 also.1)
       ])
       (λ more. elim (cases_Bool (eq_by_cmp R z y)) [

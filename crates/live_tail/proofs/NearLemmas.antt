@@ -9,17 +9,20 @@ use Rattle.std.specs.Ordering.{eq_by_cmp, is_eq, is_lt, nat_cmp, ordering_then}
 use Rattle.std.specs.declared.cmp.Ordering.TheVariants.{Less, Equal, Greater}
 use Rattle.std.proofs.lemmas.Bool.{cases_Bool, cases_lt}
 use Rattle.std.proofs.lemmas.Bool.Decides.{nat_tests}
-use Rattle.std.proofs.lemmas.Cmp.{nat_cmp_total, on_total, then_total}
+use Rattle.std.proofs.lemmas.Cmp.{eq_by_cmp_equiv, nat_cmp_total, on_total}
 use Rattle.std.proofs.lemmas.List.{append_assoc, drop_all, length-append, length-map, length-take-le, take-append-drop, take_at}
 use Rattle.std.proofs.lemmas.List.Elements.{All-contains, All-from_recursion, filter-append, filter_agree}
 use Rattle.std.proofs.lemmas.List.Filters.{length-filter_both}
 use Rattle.std.proofs.lemmas.List.Sorted.{IsPermutation-append_comm, IsPermutation-append_left, IsPermutation-trans, length_permutation, sum_by-IsPermutation}
 use Rattle.std.proofs.lemmas.List.Sums.{length-filter}
 use Rattle.std.proofs.lemmas.Map.Keys.{IsDistinct-IsPermutation, IsDistinct-from_sorted}
+use Rattle.std.proofs.Math.Bool.{and-true}
 use Rattle.list_laws.specs.Ordered.{AreApart, ordered, placed}
 use Rattle.list_laws.proofs.LeastLemmas.{count_before, count_before-ordered, filter-ordered_apart, least-take, placed-after, take-placed}
-use Rattle.list_laws.proofs.MemberLemmas.{first_member, later_member, list_any-none, member_of_filter}
+use Rattle.list_laws.proofs.MemberLemmas.{list_any-none, member_of_filter}
 use Rattle.list_laws.proofs.OrderedLemmas.{IsPermutation-ordered, IsSortedBy-ordered, IsStrictlySortedBy-ordered}
+use Rattle.list_laws.proofs.ApartLemmas.{AreApart-behind, ordered_from_sorted}
+use Rattle.list_laws.proofs.PartLemmas.{all_from_members, member_of_drop}
 use Rattle.track_types.specs.ByFilter.{is_row_at, near_of, near_order, nearest_among, nears_at, nears_of}
 use Rattle.track_types.specs.Row.{IsAscending}
 use Rattle.track_types.specs.declared.cell.Cell.{Cell}
@@ -27,24 +30,11 @@ use Rattle.track_types.specs.declared.near.Near.{Near}
 use Rattle.track_types.specs.declared.question.Question.{Question}
 use Rattle.track_types.specs.declared.question.Question.TheVariants as asked
 use Rattle.track_types.specs.declared.row.Row.{Row}
+use Rattle.track_types.proofs.NearLemmas.{near_order_total}
 use Rattle.live_tail.specs.Cost.{nearest_cost_beside, raised_count}
 use Rattle.live_tail.specs.Join.{rows_with}
 use Rattle.live_tail.proofs.InstantLemmas.{found-moved, found-rises, has_object, left_of}
 use Rattle.live_tail.proofs.JoinLemmas.{IsAscending-rows_with}
-use Rattle.live_tail.proofs.UnionLemmas.{ordered_from_sorted, tied_back}
-
-all-from : {X : Type 0} (P : X → Type 0) (xs : List X) → ((x : X) → Contains xs x → P x) → AllByRecursion P xs
-all-from P [] each = tt
-all-from P (x ∷ xs) each = (each x (first_member x xs), all-from P xs (λ y inside. each y (later_member y x xs inside)))
-
-member_of_drop : {X : Type 0} (k : ℕ) (xs : List X) (x : X) → Contains (drop k xs) x → Contains xs x
-member_of_drop zero xs x inside = inside
-member_of_drop (suc k) [] x inside = inside
-member_of_drop (suc k) (y ∷ ys) x inside = later_member x y ys (member_of_drop k ys x inside)
-
-apart-tail : {X : Type 0} (R : X → X → Ordering) (xs ys : List X) → AreApart R (xs ++ ys) → AreApart R ys
-apart-tail R [] ys apart = apart
-apart-tail R (x ∷ xs) ys apart = apart-tail R xs ys apart.1
 
 module _ {X : Type 0} (order : X → X → Ordering) (o : IsTotalOrder order) where
   less_is : (a : Ordering) → is_lt a ≡ true → a ≡ Less
@@ -186,20 +176,16 @@ module _ {X : Type 0} (order : X → X → Ordering) (o : IsTotalOrder order) wh
 
         all-late : AllByRecursion (λ b. k ≤ count_before order (front ++ others) b) back
         all-late = elim (cases_lt raised (length sorted)) [
-          | inl more ↦ all-from (λ b. k ≤ count_before order (front ++ others) b) back (λ b inside.
+          | inl more ↦ all_from_members (λ b. k ≤ count_before order (front ++ others) b) back (λ b inside.
               late b (member_of_filter (λ x. not (gone x)) (drop raised sorted) b inside).0 more (surely more enough))
           | inr few ↦ rw (drop_all raised sorted few) tt
         ]
 
         pub take-raised : AreApart order (back ++ (front ++ others)) →
             take k (ordered order (back ++ (front ++ others))) ≡ take k (ordered order (front ++ others))
-        take-raised apart = take-late k back (front ++ others) (apart-tail order back (front ++ others) apart) all-late
+        take-raised apart = take-late k back (front ++ others) (AreApart-behind order back (front ++ others) apart) all-late
 
--- the order of nearness is total, and so is that by object
-near_order_total : IsTotalOrder near_order
-near_order_total =
-    then_total (on_total (λ (near : Near). near.dist2) nat_cmp_total) (on_total (λ (near : Near). near.object) nat_cmp_total)
-
+-- the order by object
 abbrev object_order : Near → Near → Ordering
 object_order a b = nat_cmp a.object b.object
 
@@ -279,10 +265,6 @@ module _ (rows tail : List Row) (up : IsAscending rows) (also : IsAscending tail
   abbrev overridden : Near → Bool
   overridden near = has_object own near.object
 
-  always : (b : Bool) → (b && true) ≡ b
-  always true = refl
-  always false = refl
-
   all-pass : {X : Type 0} (xs : List X) → filter (λ x. true) xs ≡ xs
   all-pass [] = refl
   all-pass (x ∷ xs) = ap (λ zs. x ∷ zs) (all-pass xs)
@@ -290,7 +272,7 @@ module _ (rows tail : List Row) (up : IsAscending rows) (also : IsAscending tail
   -- all rows of the instant are found
   all-found : (rows : List Row) → map (near_of cell) (filter (λ row. is_row_at instant row && true) rows) ≡ nears_at rows instant cell
   unfolding nears_at
-  all-found rows = ap (map (near_of cell)) (filter_agree _ _ (λ row. always (is_row_at instant row)) rows)
+  all-found rows = ap (map (near_of cell)) (filter_agree _ _ (λ row. and-true (is_row_at instant row)) rows)
 
   -- those of both are the tail's, and what these leave
   moved-nears : IsPermutation (nears_at (rows_with rows tail) instant cell)
@@ -344,11 +326,11 @@ module _ (rows tail : List Row) (up : IsAscending rows) (also : IsAscending tail
         IsPermutation-trans both (kept near_order near_order_total overridden nears ++ others) (back ++ (front ++ others)) moved-nears
         (moved-back near_order near_order_total overridden raised nears others (apart-at rows up)) in
         let distinct : IsDistinct (eq_by_cmp object_order) (back ++ (front ++ others)) =
-        IsDistinct-IsPermutation (eq_by_cmp object_order) (tied_back object_order_total) both (back ++ (front ++ others)) all_moved
+        IsDistinct-IsPermutation (eq_by_cmp object_order) (eq_by_cmp_equiv object_order_total).symm both (back ++ (front ++ others)) all_moved
         (IsDistinct-from_sorted object_order both (rise (rows_with rows tail) (IsAscending-rows_with rows tail up also))) in
         let apart : AreApart near_order (back ++ (front ++ others)) = apart-nears (back ++ (front ++ others)) distinct in
         let first : sorted ≡ ordered near_order (front ++ others) =
-        ordered_from_sorted near_order_total (front ++ others) sorted (apart-tail near_order back (front ++ others) apart)
+        ordered_from_sorted near_order_total (front ++ others) sorted (AreApart-behind near_order back (front ++ others) apart)
         (subst (λ zs. IsPermutation (filter (λ (near : Near). not (overridden near)) zs ++ others) sorted) (first-of rows up raised) moved) order in
         ap (take count) first
         ∙ sym (take-raised near_order near_order_total overridden raised nears others (apart-at rows up) count enough apart)

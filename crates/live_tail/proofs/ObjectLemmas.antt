@@ -1,7 +1,7 @@
 -- The objects of rows: which there are, and a search for one.
 use Rattle.std.proofs.Common.{◌≡◌, ℕ, ◌+◌, ◌<◌, ◌≤◌, Bool, true, false, List, [], ◌∷◌, length, get_or, map, eqb, Result, Ok, Err, refl, sym, ◌∙◌, ap, arith, inl, inr}
 use Rattle.std.specs.Prelude.{◌==◌, ◌||◌, find, is_ok, is_some}
-use Rattle.std.specs.List.{AllByRecursion, Contains, dedup, list_any}
+use Rattle.std.specs.List.{Contains, dedup, list_any}
 use Rattle.std.specs.List.Sorted.{IsBinarySearchResult, IsSearchInRange, IsSorted, IsStrictlySortedBy}
 use Rattle.std.specs.Ordering.{is_lt, nat_cmp}
 use Rattle.std.specs.declared.cmp.Ordering.TheVariants.{Less, Equal, Greater}
@@ -14,6 +14,7 @@ use Rattle.std.proofs.lemmas.Map.Keys.{Less-from_sorted}
 use Rattle.list_laws.proofs.AscendingLemmas.{same_from_members}
 use Rattle.list_laws.proofs.DedupLemmas.{find-dedup}
 use Rattle.list_laws.proofs.MemberLemmas.{first_member, later_member, list_any-none, member_cases, member_of_map, none_from_list_any}
+use Rattle.list_laws.proofs.PartLemmas.{all_from_members}
 use Rattle.track_types.specs.Quantities.{distinct, objects_of}
 use Rattle.track_types.specs.Row.{IsAscending, row_order}
 use Rattle.track_types.specs.declared.row.Row.{Row}
@@ -107,10 +108,6 @@ any-distinct object (x ∷ xs) = elim (cases_Bool (list_any (λ z. x == z) xs)) 
   | inr first ↦ rw first (ap (λ b. (object == x) || b) (any-distinct object xs))
 ]
 
-all-from : {X : Type 0} (P : X → Type 0) (xs : List X) → ((x : X) → Contains xs x → P x) → AllByRecursion P xs
-all-from P [] each = tt
-all-from P (x ∷ xs) each = (each x (first_member x xs), all-from P xs (λ y inside. each y (later_member y x xs inside)))
-
 above_test : (own other : ℕ) → own ≤ other → (own == other) ≡ false → nat_cmp own other ≡ Less
 above_test own other low apart = grind (arith, nat_tests)
 
@@ -121,7 +118,7 @@ objects_of-rise [] up = tt
 objects_of-rise (row ∷ rows) up = elim (cases_Bool (list_any (λ z. row.object == z) (map (λ (z : Row). z.object) rows))) [
   | inl again ↦ rw again (objects_of-rise rows up.1)
   | inr first ↦ rw first (
-    all-from (λ z. nat_cmp row.object z ≡ Less) (objects_of rows) (λ z inside.
+    all_from_members (λ z. nat_cmp row.object z ≡ Less) (objects_of rows) (λ z inside.
         let among = member_of_distinct (map (λ (y : Row). y.object) rows) z inside in
         let from = member_of_map (λ (y : Row). y.object) rows z among in
         let low : row.object ≤ from.0.object = object_le row from.0 (All-contains (λ (y : Row). row_order row y ≡ Less) rows from.0

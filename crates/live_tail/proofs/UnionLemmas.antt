@@ -1,53 +1,23 @@
 -- Lists in strict order, put together: what the first has, and of the second what ties with none of the first.
-use Rattle.std.proofs.Common.{◌≡◌, Bool, true, false, List, [], ◌∷◌, ◌++◌, filter, find, Ordering, refl, sym, subst, ◌∙◌, ap, arith, inl, inr}
+use Rattle.std.proofs.Common.{◌≡◌, Bool, true, false, List, [], ◌∷◌, ◌++◌, filter, find, Ordering, refl, sym, ◌∙◌, ap, arith, inl, inr}
 use Rattle.std.specs.Prelude.{not}
 use Rattle.std.specs.Cmp.{IsTotalOrder}
-use Rattle.std.specs.List.{AllByRecursion, Contains, IsDistinct, dedup, dedup_from, list_any}
-use Rattle.std.specs.List.Sorted.{IsPermutation, IsSorted, IsStrictlySortedBy}
+use Rattle.std.specs.List.{Contains, list_any}
+use Rattle.std.specs.List.Sorted.{IsStrictlySortedBy}
 use Rattle.std.specs.Option.{option_or}
-use Rattle.std.specs.Ordering.{eq_by_cmp, is_eq, is_lt, ordering_reverse}
+use Rattle.std.specs.Ordering.{eq_by_cmp, is_eq, is_lt}
 use Rattle.std.specs.declared.cmp.Ordering.TheVariants.{Less, Equal, Greater}
-use Rattle.std.proofs.lemmas.Bool.{cases_Bool}
+use Rattle.std.proofs.lemmas.Bool.{cases_Bool, not-true}
 use Rattle.std.proofs.lemmas.Cmp.{eq_by_cmp_equiv}
-use Rattle.std.proofs.lemmas.List.Elements.{All-contains, Contains-get_or, filter-append}
+use Rattle.std.proofs.lemmas.List.Elements.{filter-append}
 use Rattle.std.proofs.lemmas.List.Folds.{find-append}
-use Rattle.std.proofs.lemmas.List.Kept.{IsStrictlySortedBy-dedup, IsStrictlySortedBy-filter}
-use Rattle.std.proofs.lemmas.List.Sorted.{All-permutation, IsPermutation-sym, IsPermutation-trans}
-use Rattle.std.proofs.lemmas.Map.Keys.{IsDistinct-IsPermutation, IsDistinct-from_sorted}
+use Rattle.std.proofs.lemmas.List.Kept.{IsStrictlySortedBy-filter}
 use Rattle.list_laws.specs.Ordered.{AreApart, ordered}
-use Rattle.list_laws.proofs.AscendingLemmas.{same_from_members}
 use Rattle.list_laws.proofs.KeyedLemmas.{filter_alike}
 use Rattle.list_laws.proofs.LeastLemmas.{filter-ordered_apart}
-use Rattle.list_laws.proofs.MemberLemmas.{find_cases, first_member, later_member, list_any-none, member_of_filter, none_from_list_any}
-use Rattle.list_laws.proofs.OrderedLemmas.{IsPermutation-ordered, IsStrictlySortedBy-ordered, IsTied, find-ordered}
-
--- a test that passes for no element
-any_none : {X : Type 0} (p : X → Bool) (xs : List X) → AllByRecursion (λ x. p x ≡ false) xs → list_any p xs ≡ false
-any_none p [] all = refl
-any_none p (x ∷ xs) all = rw (all.0) (any_none p xs all.1)
-
-any-append : {X : Type 0} (p : X → Bool) (xs ys : List X) → list_any p xs ≡ false → list_any p ys ≡ false → list_any p (xs ++ ys) ≡ false
-any-append p [] ys none also = also
-any-append p (x ∷ xs) ys none also = grind (arith, any-append p xs ys)
-
-module _ {X : Type 0} (R : X → X → Ordering) where
-  -- no two elements in strict order tie
-  apart-distinct : (xs : List X) → IsDistinct (eq_by_cmp R) xs → AreApart R xs
-  unfolding IsDistinct
-  apart-distinct [] all = tt
-  apart-distinct (x ∷ xs) all = (any_none (eq_by_cmp R x) xs all.0, apart-distinct xs all.1)
-
-  pub AreApart-sorted : (xs : List X) → IsStrictlySortedBy R xs → AreApart R xs
-  AreApart-sorted xs up = apart-distinct xs (IsDistinct-from_sorted R xs up)
-
-  -- nor do two of lists of which no element of the first ties with one of the second
-  pub AreApart-append : (xs ys : List X) → AreApart R xs → AreApart R ys
-      → ((x : X) → Contains xs x → list_any (eq_by_cmp R x) ys ≡ false) → AreApart R (xs ++ ys)
-  AreApart-append [] ys apart also across = also
-  AreApart-append (x ∷ xs) ys apart also across = (
-    any-append (eq_by_cmp R x) xs ys apart.0 (across x (first_member x xs)),
-    AreApart-append xs ys apart.1 also (λ y inside. across y (later_member y x xs inside)),
-  )
+use Rattle.list_laws.proofs.MemberLemmas.{find_cases, list_any-none, member_of_filter, none_from_list_any}
+use Rattle.list_laws.proofs.OrderedLemmas.{IsStrictlySortedBy-ordered, IsTied, find-ordered}
+use Rattle.list_laws.proofs.ApartLemmas.{AreApart-append, AreApart-sorted}
 
 -- a search for what a filter keeps
 find-kept : {X : Type 0} (p q : X → Bool) (ys : List X) → ((y : X) → p y ≡ true → q y ≡ true) → find p (filter q ys) ≡ find p ys
@@ -71,15 +41,6 @@ any-filter p q [] kept = refl
 any-filter p q (x ∷ xs) kept = grind (arith, kept x, any-filter p q xs kept)
 
 module _ {X : Type 0} {R : X → X → Ordering} (o : IsTotalOrder R) where
-  -- an element ties with another where the other ties with it
-  tie_of : (a b : Ordering) → b ≡ ordering_reverse a → is_eq a ≡ is_eq b
-  tie_of Less b is = rw is refl
-  tie_of Equal b is = rw is refl
-  tie_of Greater b is = rw is refl
-
-  pub tied_back : (x y : X) → eq_by_cmp R x y ≡ eq_by_cmp R y x
-  tied_back x y = tie_of (R x y) (R y x) (o.antisymm y x)
-
   -- whether one of some ties with an element
   abbrev pub has : List X → X → Bool
   has xs y = list_any (eq_by_cmp R y) xs
@@ -92,17 +53,13 @@ module _ {X : Type 0} {R : X → X → Ordering} (o : IsTotalOrder R) where
   abbrev pub union_of : List X → List X → List X
   union_of xs ys = ordered R (xs ++ beside xs ys)
 
-  not_true : (b : Bool) → not b ≡ true → b ≡ false
-  not_true true is = absurd (cc)
-  not_true false is = refl
-
   pub AreApart-beside : (xs ys : List X) → IsStrictlySortedBy R xs → IsStrictlySortedBy R ys → AreApart R (xs ++ beside xs ys)
   AreApart-beside xs ys up also =
       AreApart-append R xs (beside xs ys) (AreApart-sorted R xs up)
       (AreApart-sorted R (beside xs ys) (IsStrictlySortedBy-filter R (λ y. not (has xs y)) ys also))
       (λ x inside. list_any-none (eq_by_cmp R x) (beside xs ys)
-      (λ y among. tied_back x y ∙ none_from_list_any (eq_by_cmp R y) xs x
-      (not_true (has xs y) (member_of_filter (λ z. not (has xs z)) ys y among).1) inside))
+      (λ y among. (eq_by_cmp_equiv o).symm x y ∙ none_from_list_any (eq_by_cmp R y) xs x
+      (not-true (has xs y) (member_of_filter (λ z. not (has xs z)) ys y among).1) inside))
 
   pub IsStrictlySortedBy-union_of : (xs ys : List X) → IsStrictlySortedBy R xs → IsStrictlySortedBy R ys → IsStrictlySortedBy R (union_of xs ys)
   IsStrictlySortedBy-union_of xs ys up also = IsStrictlySortedBy-ordered R o (xs ++ beside xs ys) (AreApart-beside xs ys up also)
@@ -154,35 +111,3 @@ module _ {X : Type 0} {R : X → X → Ordering} (o : IsTotalOrder R) where
       ∙ filter_alike (λ y. not (has xs y)) (λ y. not (has (filter p xs) y)) (filter p ys)
       (λ y inside. ap not (sym (any-filter (eq_by_cmp R y) p xs
       (λ x tie. sym (alike y x tie) ∙ (member_of_filter p ys y inside).1)))))
-
-  -- a list in order with the elements of one in strict order is that one
-  dedup-distinct_from : (x : X) (xs : List X) → IsDistinct (eq_by_cmp R) (x ∷ xs) → dedup_from (eq_by_cmp R) x xs ≡ x ∷ xs
-  unfolding IsDistinct
-  dedup-distinct_from x [] apart = refl
-  dedup-distinct_from x (y ∷ ys) apart =
-      let differ : eq_by_cmp R y x ≡ false = tied_back y x ∙ apart.0.0 in
-      rw differ (ap (λ zs. x ∷ zs) (dedup-distinct_from y ys apart.1))
-
-  dedup-distinct : (xs : List X) → IsDistinct (eq_by_cmp R) xs → dedup (eq_by_cmp R) xs ≡ xs
-  dedup-distinct [] apart = refl
-  dedup-distinct (x ∷ xs) apart = dedup-distinct_from x xs apart
-
-  pub members-moved : (xs ys : List X) → IsPermutation xs ys → (z : X) → Contains ys z → Contains xs z
-  members-moved xs ys moved z inside =
-      All-contains (Contains xs) ys z
-      (All-permutation (Contains xs) xs ys moved (λ k d below. Contains-get_or xs k d below)) inside
-
-  pub same_from_sorted : (xs ys : List X) → IsStrictlySortedBy R xs → IsPermutation xs ys → IsSorted R ys → ys ≡ xs
-  same_from_sorted xs ys up moved sorted =
-      let apart : IsDistinct (eq_by_cmp R) ys =
-      IsDistinct-IsPermutation (eq_by_cmp R) tied_back xs ys moved (IsDistinct-from_sorted R xs up) in
-      let strict : IsStrictlySortedBy R ys =
-      subst (IsStrictlySortedBy R) (dedup-distinct ys apart) (IsStrictlySortedBy-dedup o (λ x y. refl) ys sorted) in
-      same_from_members o ys xs strict up (members-moved xs ys moved)
-      (members-moved ys xs (IsPermutation-sym xs ys moved))
-
-  -- lists of which no two elements tie are put in order by any sort
-  pub ordered_from_sorted : (xs ys : List X) → AreApart R xs → IsPermutation xs ys → IsSorted R ys → ys ≡ ordered R xs
-  ordered_from_sorted xs ys apart moved sorted =
-      same_from_sorted (ordered R xs) ys (IsStrictlySortedBy-ordered R o xs apart)
-      (IsPermutation-trans (ordered R xs) xs ys (IsPermutation-sym xs (ordered R xs) (IsPermutation-ordered R xs)) moved) sorted

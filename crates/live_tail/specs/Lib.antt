@@ -6,3 +6,4 @@ pub mod Cost
 pub mod ByInstant
 pub mod Merge
 pub mod Walk
+pub mod Behind

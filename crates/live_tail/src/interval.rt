@@ -1,4 +1,4 @@
-ghost use Rattle.std.specs.Prelude.{◌≡◌, ◌++◌, ◌+◌, ◌≤◌, option_to_list, All, IfOk, OnOk};
+ghost use Rattle.std.specs.Prelude.{◌≡◌, ◌++◌, ◌+◌, ◌≤◌, option_to_list, All, IfOk, IfSome, OnOk};
 ghost use Rattle.std.specs.List.{filter_map, sum_by};
 ghost use Rattle.track_types.specs.ByFilter.{hits_of};
 ghost use Rattle.track_types.specs.Near.{IsAsked, IsCellWithin};
@@ -8,6 +8,7 @@ ghost use Rattle.track_types.specs.declared.question.Question.TheVariants as ask
 ghost use Rattle.track_types.specs.declared.stop.Stop.{Stop as StopView};
 ghost use Rattle.log_cursor.specs.Touching.{first_among};
 ghost use Rattle.interval_search.specs.FirstHits.{hit_in};
+ghost use Rattle.live_tail.specs.Behind.{IsBehind};
 ghost use Rattle.live_tail.specs.Cost.{interval_cost_beside};
 ghost use Rattle.live_tail.specs.Join.{rows_of_tail, rows_with};
 
@@ -135,7 +136,7 @@ fn push_found(found: &mut Vec<Hit>, hit: Option<Hit>) -> Result<(), Memory>
     Ok(())
 }
 
-// The first stop of a walk that is in a region.
+// The first stop of a walk that is in a region. No stop behind it is drawn.
 fn first_in<W: Lazy<Item = Stop>, L: Ledger>(
     walk: &mut W,
     region: &Region,
@@ -144,6 +145,8 @@ fn first_in<W: Lazy<Item = Stop>, L: Ledger>(
     requires region { IsRegionWithin region.now }
     requires near { All (λ (stop : StopView). IsCellWithin stop.cell) (W.left walk.old) }
     ensures value { result ≡ first_among region.now (W.left walk.old) }
+    ensures left { IfSome result (λ stop. IsBehind region.now stop (W.left walk.old)
+        (W.left walk.new)) }
     ensures cost { steps.new ≤ steps.old + W.budget walk.old }
 {
     while let Some(stop) = walk.draw(steps) {

@@ -1,5 +1,5 @@
 use Rattle.std.proofs.Common.{◌∙◌}
-use Rattle.live_tail.proofs.SearchLemmas.{any-found}
+use Rattle.list_laws.proofs.SearchLemmas.{any-found}
 use Rattle.live_tail.proofs.objects.is_among.Goals as goal
 
 pub returns : goal.returns
