@@ -55,6 +55,15 @@ fn fault_of(checked: Result<RuleStore, RuleFault>) -> Option<RuleFault> {
     }
 }
 
+// Rules of which each stands for twice what the one before it does.
+fn doubling_rules(alloc: Global) -> Result<Vec<(u32, u32)>, Memory> {
+    let mut rules = Vec::new(alloc);
+    for part in 0..25u32 {
+        rules.push((part, part))?;
+    }
+    Ok(rules)
+}
+
 #[test]
 fn flawed_rules_are_refused_at_the_first_flaw(rt: HostRuntime) -> Result<(), Fail> {
     let alloc = rt.alloc();
@@ -90,6 +99,12 @@ fn flawed_rules_are_refused_at_the_first_flaw(rt: HostRuntime) -> Result<(), Fai
         fault_of(store_of(alloc, &[1], &[], &[0, 1], 1, 9)),
         symbol,
         "no rule"
+    );
+    let doubling = doubling_rules(alloc)?;
+    assert_eq!(rt;
+        fault_of(store_of(alloc, &[2], doubling.as_slice(), &[], 20, 4194304)),
+        Some(RuleFault::Rule { rule: 19 }),
+        "2^20 cells"
     );
     Ok(())
 }
