@@ -17,11 +17,14 @@ use Rattle.track_index.specs.Opening.{first_flaw, flaw_behind, IsFile}
 use Rattle.track_index.proofs.CheckLemmas.{check_flaw-sound, IsSound-unflawed}
 use Rattle.track_index.proofs.OpeningLemmas.{first_flaw-read}
 
--- the bytes of an index file have no flaw
+-- the bytes of an index file are read as its parts
+pub parts_in-file : (bytes : List ℕ) (parts : Parts) → IsFile bytes parts → parts_in bytes ≡ Ok parts
+parts_in-file bytes parts file = ap parts_in file.spelled ∙ parts_in-again parts file.valid.shaped
+
+-- they have no flaw
 pub first_flaw-file : (bytes : List ℕ) (parts : Parts) → IsFile bytes parts → first_flaw bytes ≡ None
 first_flaw-file bytes parts file =
-    let read = ap parts_in file.spelled ∙ parts_in-again parts file.valid.shaped in
-    first_flaw-read bytes parts read ∙ check_flaw-sound parts file.valid.shaped file.valid.sound
+    first_flaw-read bytes parts (parts_in-file bytes parts file) ∙ check_flaw-sound parts file.valid.shaped file.valid.sound
 
 -- where parts are those of the file, nothing but these are answered
 pub decided : (read whole : Parts) (answer : Result Parts FormatFault) → ◌≡◌ {A = Result Parts Flaw} (Ok whole) (Ok read)
