@@ -14,11 +14,10 @@ use Rattle.track_types.specs.declared.flaw.Flaw.{Flaw}
 use Rattle.track_types.specs.declared.limit.LimitKind.{LimitKind}
 use Rattle.track_types.specs.declared.limit.LimitKind.TheVariants as limit
 use Rattle.track_types.specs.declared.parts.Parts.{Parts}
-use Rattle.index_format.proofs.PartsLaws.{parts_in-again}
-use Rattle.index_format.specs.Reading.{parts_in}
 use Rattle.snapshots.specs.IndexCost.{open_cost}
 use Rattle.track_index.specs.Opening.{bytes_cost, first_flaw, IsFile}
-use Rattle.track_index.proofs.DecidingLemmas.{first_flaw-file}
+use Rattle.track_index.proofs.DecidingLemmas.{first_flaw-file, parts_in-file}
+use Rattle.track_index.proofs.OpeningLemmas.{bytes_cost-read}
 use Rattle.gract_top.specs.Beginning.{EndsLoading, OpensFile, Progress, StopsAt, progress}
 use Rattle.gract_top.specs.Completeness.{HasIndex, HasQuestions, HasTail}
 use Rattle.gract_top.specs.Outcome.{Answers, Talk}
@@ -31,12 +30,11 @@ use Rattle.gract_top.specs.declared.request.Settings.{Settings}
 use Rattle.gract_top.proofs.BeginningLemmas.{OpensFile-parts, StopsAt-memory}
 use Rattle.gract_top.proofs.CompletenessLemmas.{IsGood, by_cause, came-whole, held-found, questions-short}
 use Rattle.gract_top.proofs.EndsLemmas.{is_early-refusal}
-use Rattle.gract_top.proofs.UpgradingLemmas.{bytes_cost-held}
 
 -- the bytes of an index file are opened within the cost of its parts
 pub bytes_cost-file : (bytes : List ℕ) (parts : Parts) → IsFile bytes parts → bytes_cost bytes ≡ open_cost parts
 bytes_cost-file bytes parts file =
-    bytes_cost-held bytes parts (ap parts_in file.spelled ∙ parts_in-again parts file.valid.shaped)
+    bytes_cost-read bytes parts (parts_in-file bytes parts file)
 
 -- the lines were answered over an index and a tail that were joined
 pub AnswersTailed-joined : (result : Outcome) (parts : Parts) (csv : List ℕ) (untouched : Type 0) (map : Option FileMap)

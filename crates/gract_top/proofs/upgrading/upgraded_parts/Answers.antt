@@ -2,14 +2,15 @@ use Rattle.std.proofs.Common.{◌∙◌, ap, arith, subst, sym}
 use Rattle.std.specs.Prelude.{IfErr}
 use Rattle.std.proofs.lemmas.Result.{err_from_is_err_and}
 use Rattle.track_index.specs.CheckFlaws.{IsFaultFor}
-use Rattle.gract_top.proofs.UpgradingLemmas.{bytes_cost-held, fault-unheld, first_flaw-held, upgraded-file}
+use Rattle.track_index.proofs.OpeningLemmas.{bytes_cost-read, fault-unread, first_flaw-read}
+use Rattle.gract_top.proofs.UpgradingLemmas.{upgraded-file}
 use Rattle.gract_top.proofs.upgrading.upgraded_parts.Goals as goal
 
 pub returns-in_err-parts-clause-flaw : goal.returns-in_err-parts-clause-flaw
 returns-in_err-parts-clause-flaw g c =
     let given = err_from_is_err_and c.from_residual.result c.from_residual.ensures.1 in
     rw (given.1, given.2, sym c.deref.ensures.value)
-    (fault-unheld c.deref.result.now c.in_err-parts.field-0.0 c.in_err-parts.ensures.flaw)
+    (fault-unread c.deref.result.now c.in_err-parts.field-0.0 c.in_err-parts.ensures.flaw)
 
 pub returns-clause-ok : goal.returns-clause-ok
 returns-clause-ok g c =
@@ -21,9 +22,9 @@ pub returns-clause-flaw : goal.returns-clause-flaw
 returns-clause-flaw g c =
     rw (sym c.deref.ensures.value)
     (subst (λ flaw. IfErr c.upgraded.result (λ fault. IsFaultFor flaw fault))
-    (sym (first_flaw-held c.deref.result.now c.in_ok-parts.parts c.in_ok-parts.ensures.ok)) c.upgraded.ensures.flaw)
+    (sym (first_flaw-read c.deref.result.now c.in_ok-parts.parts c.in_ok-parts.ensures.ok)) c.upgraded.ensures.flaw)
 
 pub returns-clause-cost : goal.returns-clause-cost
 returns-clause-cost g c =
     rw (sym c.deref.ensures.value)
-    (omega (arith, c.upgraded.ensures.cost, bytes_cost-held c.deref.result.now c.in_ok-parts.parts c.in_ok-parts.ensures.ok))
+    (omega (arith, c.upgraded.ensures.cost, bytes_cost-read c.deref.result.now c.in_ok-parts.parts c.in_ok-parts.ensures.ok))
