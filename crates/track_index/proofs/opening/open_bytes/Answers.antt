@@ -10,7 +10,7 @@ use Rattle.track_index.proofs.opening.open_bytes.Goals as goal
 pub returns-in_err-parts-clause-flaw : goal.returns-in_err-parts-clause-flaw
 returns-in_err-parts-clause-flaw g c =
     let known = fault-unread c.args.bytes.items c.in_err-parts.field-0.0
-        (rw (c.as_slice.ensures.value) at c.in_err-parts.ensures.flaw) in
+    (rw (c.as_slice.ensures.value) at c.in_err-parts.ensures.flaw) in
     let given = err_from_is_err_and c.from_residual.result c.from_residual.ensures.1 in
     rw (given.1, given.2) known
 
