@@ -70,7 +70,7 @@ impl Snapshot {
     /// 2^16 objects and at most 2^31 tree bits. `present` has a bit for each object, and the other
     /// lists have a member for each of its ones. `start` and all lengths add up to at most 2^25.
     /// Memory is taken for the directories of the three lists of bits, the shortcuts of the
-    /// permutation, where each log begins, and marks while the call runs.
+    /// permutation, where each log begins, the header, and marks while the call runs.
     pub fn check(
         alloc: Global,
         frame: &Frame,
