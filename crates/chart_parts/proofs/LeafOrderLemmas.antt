@@ -12,8 +12,8 @@ use Rattle.std.proofs.lemmas.List.Elements.{All-from_recursion}
 use Rattle.std.proofs.lemmas.List.FromFn.{get_or-range_with_len, length-range_with_len}
 use Rattle.std.proofs.lemmas.List.Sorted.{All-permutation, length_permutation}
 use Rattle.object_perm.specs.Permutation.{PermutesPlaces}
-use Rattle.list_laws.specs.Ordered.{ordered, placed}
-use Rattle.list_laws.proofs.OrderedLemmas.{IsPermutation-ordered, all-ordered, all-placed}
+use Rattle.list_laws.specs.Ordered.{ordered, insert_in_order}
+use Rattle.list_laws.proofs.OrderedLemmas.{IsPermutation-ordered, all-ordered, all-insert_in_order}
 use Rattle.chart_parts.specs.LeafOrder.{by_code, leaf_codes, leaf_order}
 
 module _ (codes : List ℕ) where
@@ -37,15 +37,15 @@ module _ (codes : List ℕ) where
       (record { low = low; tied = tied }, before_all a b rest first all.1)
 
   -- an earlier place than all others is put in its place
-  in_order-placed : (a : ℕ) (rest : List ℕ) → AllByRecursion (λ b. a < b) rest → AreInOrder rest →
-      AreInOrder (placed (by_code codes) a rest)
-  unfolding placed
-  in_order-placed a [] earlier are = (tt, tt)
-  in_order-placed a (b ∷ rest) earlier are = elim (cases_Bool (is_lt (by_code codes b a))) [
+  in_order-insert_in_order : (a : ℕ) (rest : List ℕ) → AllByRecursion (λ b. a < b) rest → AreInOrder rest →
+      AreInOrder (insert_in_order (by_code codes) a rest)
+  unfolding insert_in_order
+  in_order-insert_in_order a [] earlier are = (tt, tt)
+  in_order-insert_in_order a (b ∷ rest) earlier are = elim (cases_Bool (is_lt (by_code codes b a))) [
     | inl less ↦
         let low : slice_index codes b < slice_index codes a = grind (arith, nat_tests) in
         let first : IsBefore b a = record { low = omega arith; tied = λ same. omega arith } in
-        rw less (all-placed (by_code codes) (IsBefore b) a rest first are.0, in_order-placed a rest earlier.1 are.1)
+        rw less (all-insert_in_order (by_code codes) (IsBefore b) a rest first are.0, in_order-insert_in_order a rest earlier.1 are.1)
     | inr not ↦
         let low : slice_index codes a ≤ slice_index codes b = grind (arith, nat_tests) in
         let first : IsBefore a b = record { low = low; tied = λ same. earlier.0 } in
@@ -60,7 +60,7 @@ module _ (codes : List ℕ) where
   unfolding ordered
   in_order-ordered from zero = tt
   in_order-ordered from (suc n) =
-      in_order-placed from (ordered (by_code codes) (range_with_len (from + 1) n))
+      in_order-insert_in_order from (ordered (by_code codes) (range_with_len (from + 1) n))
       (all-ordered (by_code codes) (λ b. from < b) (range_with_len (from + 1) n)
       (later_range from (from + 1) n (omega arith)))
       (in_order-ordered (from + 1) n)

@@ -1,6 +1,6 @@
 -- The definitions, run on small indexes.
 use Rattle.std.proofs.Common.{◌≡◌, ℕ, ℤ, pos, negsuc, [], ◌∷◌, None, Some, refl}
-use Rattle.list_laws.specs.Ordered.{ordered, placed}
+use Rattle.list_laws.specs.Ordered.{ordered, insert_in_order}
 use Rattle.track_types.specs.Chart.{ChartView, chart_with}
 use Rattle.track_types.specs.declared.frame.Frame.{Frame}
 use Rattle.track_types.specs.declared.limit.LimitKind.TheVariants.{Rows}
@@ -30,7 +30,7 @@ union_of_some : union_of some other
       cell = 2;
       tick = 3;
     }
-unfolding rows_of_both ordered placed row
+unfolding rows_of_both ordered insert_in_order row
 union_of_some = refl
 
 -- headers with these settings

@@ -4,14 +4,14 @@ use Rattle.std.specs.List.{filter_map, range_with_len}
 use Rattle.std.specs.Option.{option_map, option_or}
 use Rattle.std.proofs.lemmas.Bool.{cases_order}
 use Rattle.std.proofs.lemmas.List.Elements.{All-nil, All-cons, All-head, All-tail}
-use Rattle.list_laws.specs.First.{first_of}
+use Rattle.list_laws.specs.First.{first_given}
 use Rattle.list_laws.proofs.OptionLemmas.{made_cases}
 
 module _ {Y : Type 0} (give : ℕ → Option Y) where
   -- nothing comes where no number of a range gives anything
   pub first_of_range-none : (from n : ℕ) → ((j : ℕ) → from ≤ j → j < from + n → give j ≡ None)
-      → first_of give (range_with_len from n) ≡ None
-  unfolding first_of
+      → first_given give (range_with_len from n) ≡ None
+  unfolding first_given
   first_of_range-none from zero none = refl
   first_of_range-none from (suc n) none =
       let here : give from ≡ None = none from (omega arith) (omega arith) in
@@ -20,8 +20,8 @@ module _ {Y : Type 0} (give : ℕ → Option Y) where
   -- where numbers before one give nothing, what it gives is first
   pub first_of_range-at : (from n place : ℕ) (y : Y) → from ≤ place → place < from + n
       → ((j : ℕ) → from ≤ j → j < place → give j ≡ None) → give place ≡ Some y
-      → first_of give (range_with_len from n) ≡ Some y
-  unfolding first_of
+      → first_given give (range_with_len from n) ≡ Some y
+  unfolding first_given
   first_of_range-at from zero place y low high before gives = absurd (omega arith)
   first_of_range-at from (suc n) place y low high before gives = elim (cases_order from place) [
     | inl same ↦ let here : give from ≡ Some y = ap give same ∙ gives in rw here refl
@@ -50,33 +50,33 @@ map-none f None none = refl
 map-none f (Some x) none = absurd (cc)
 
 -- where nothing is first, no member gives anything
-pub All-first_of : {X Y : Type 0} (give : X → Option Y) (xs : List X) → first_of give xs ≡ None
+pub All-first_given : {X Y : Type 0} (give : X → Option Y) (xs : List X) → first_given give xs ≡ None
     → All (λ x. give x ≡ None) xs
-unfolding first_of
-All-first_of give [] none = All-nil (λ x. give x ≡ None)
-All-first_of give (x ∷ xs) none =
-    let both = or-none (give x) (first_of give xs) none in
-    All-cons (λ y. give y ≡ None) x xs both.0 (All-first_of give xs both.1)
+unfolding first_given
+All-first_given give [] none = All-nil (λ x. give x ≡ None)
+All-first_given give (x ∷ xs) none =
+    let both = or-none (give x) (first_given give xs) none in
+    All-cons (λ y. give y ≡ None) x xs both.0 (All-first_given give xs both.1)
 
 -- where nothing is first, no number of a range gives anything
-pub first_of_range-all : {Y : Type 0} (give : ℕ → Option Y) (from n : ℕ) → first_of give (range_with_len from n) ≡ None
+pub first_of_range-all : {Y : Type 0} (give : ℕ → Option Y) (from n : ℕ) → first_given give (range_with_len from n) ≡ None
     → (j : ℕ) → from ≤ j → j < from + n → give j ≡ None
-unfolding first_of
+unfolding first_given
 first_of_range-all give from zero none j low high = absurd (omega arith)
 first_of_range-all give from (suc n) none j low high =
-    let both = or-none (give from) (first_of give (range_with_len (from + 1) n)) none in
+    let both = or-none (give from) (first_given give (range_with_len (from + 1) n)) none in
     elim (cases_order j from) [
       | inl same ↦ ap give same ∙ both.0
       | inr other ↦ first_of_range-all give (from + 1) n both.1 j (omega arith) (omega arith)
     ]
 
 -- where no member gives anything, nothing is first
-pub first_of-none : {X Y : Type 0} (give : X → Option Y) (xs : List X) → All (λ x. give x ≡ None) xs
-    → first_of give xs ≡ None
-unfolding first_of
-first_of-none give [] none = refl
-first_of-none give (x ∷ xs) none =
-    rw (All-head (λ y. give y ≡ None) x xs none) (first_of-none give xs (All-tail (λ y. give y ≡ None) x xs none))
+pub first_given-none : {X Y : Type 0} (give : X → Option Y) (xs : List X) → All (λ x. give x ≡ None) xs
+    → first_given give xs ≡ None
+unfolding first_given
+first_given-none give [] none = refl
+first_given-none give (x ∷ xs) none =
+    rw (All-head (λ y. give y ≡ None) x xs none) (first_given-none give xs (All-tail (λ y. give y ≡ None) x xs none))
 
 -- what is made of a member, if something is
 abbrev pub made_first : {X Y : Type 0} → (X → Option Y) → Option X → Option Y
@@ -84,18 +84,18 @@ made_first give None = None
 made_first give (Some x) = give x
 
 -- what is first of what is made of some members
-pub first_of-filter_map : {X Y Z : Type 0} (give : Y → Option Z) (make : X → Option Y) (xs : List X)
-    → first_of give (filter_map make xs) ≡ first_of (λ x. made_first give (make x)) xs
-unfolding first_of
-first_of-filter_map give make [] = refl
-first_of-filter_map give make (x ∷ xs) = elim (made_cases (make x)) [
-  | inl none ↦ rw none (first_of-filter_map give make xs)
-  | inr some ↦ rw some.1 (ap (option_or (give some.0)) (first_of-filter_map give make xs))
+pub first_given-filter_map : {X Y Z : Type 0} (give : Y → Option Z) (make : X → Option Y) (xs : List X)
+    → first_given give (filter_map make xs) ≡ first_given (λ x. made_first give (make x)) xs
+unfolding first_given
+first_given-filter_map give make [] = refl
+first_given-filter_map give make (x ∷ xs) = elim (made_cases (make x)) [
+  | inl none ↦ rw none (first_given-filter_map give make xs)
+  | inr some ↦ rw some.1 (ap (option_or (give some.0)) (first_given-filter_map give make xs))
 ]
 
 -- what is first of what mapped members give
-pub first_of-map : {X Y Z : Type 0} (give : Y → Option Z) (f : X → Y) (xs : List X)
-    → first_of give (map f xs) ≡ first_of (λ x. give (f x)) xs
-unfolding first_of
-first_of-map give f [] = refl
-first_of-map give f (x ∷ xs) = ap (option_or (give (f x))) (first_of-map give f xs)
+pub first_given-map : {X Y Z : Type 0} (give : Y → Option Z) (f : X → Y) (xs : List X)
+    → first_given give (map f xs) ≡ first_given (λ x. give (f x)) xs
+unfolding first_given
+first_given-map give f [] = refl
+first_given-map give f (x ∷ xs) = ap (option_or (give (f x))) (first_given-map give f xs)

@@ -15,7 +15,7 @@ use Rattle.std.proofs.lemmas.List.Elements.{filter_agree}
 use Rattle.std.proofs.lemmas.List.MinMax.{ranks_by}
 use Rattle.std.proofs.lemmas.List.Sorted.{sum_by-IsPermutation}
 use Rattle.std.proofs.lemmas.List.Sums.{length-filter}
-use Rattle.list_laws.specs.Ordered.{AreApart, ordered, placed}
+use Rattle.list_laws.specs.Ordered.{AreApart, ordered, insert_in_order}
 use Rattle.list_laws.proofs.OrderedLemmas.{IsPermutation-ordered, IsStrictlySortedBy-ordered}
 
 module _ {X : Type 0} (order : X → X → Ordering) where
@@ -24,25 +24,25 @@ module _ {X : Type 0} (order : X → X → Ordering) where
   IsBeforeAll x ys = AllByRecursion (λ y. is_lt (order y x) ≡ false) ys
 
   -- it is put in front of those that do not come before it
-  pub placed-first : (x : X) (ys : List X) → IsBeforeAll x ys → placed order x ys ≡ x ∷ ys
-  unfolding placed
-  placed-first x [] failsne = refl
-  placed-first x (y ∷ ys) none = rw (none.0) refl
+  pub insert_in_order-first : (x : X) (ys : List X) → IsBeforeAll x ys → insert_in_order order x ys ≡ x ∷ ys
+  unfolding insert_in_order
+  insert_in_order-first x [] failsne = refl
+  insert_in_order-first x (y ∷ ys) none = rw (none.0) refl
 
   -- and after those that all come before it
-  pub placed-after : (x : X) (ys : List X) → AllByRecursion (λ y. is_lt (order y x) ≡ true) ys
-      → placed order x ys ≡ ys ++ x ∷ []
-  unfolding placed
-  placed-after x [] all = refl
-  placed-after x (y ∷ ys) all = rw (all.0) (ap (λ zs. y ∷ zs) (placed-after x ys all.1))
+  pub insert_in_order-after : (x : X) (ys : List X) → AllByRecursion (λ y. is_lt (order y x) ≡ true) ys
+      → insert_in_order order x ys ≡ ys ++ x ∷ []
+  unfolding insert_in_order
+  insert_in_order-after x [] all = refl
+  insert_in_order-after x (y ∷ ys) all = rw (all.0) (ap (λ zs. y ∷ zs) (insert_in_order-after x ys all.1))
 
   -- a last element that does not come before it stays the last
-  pub placed-before : (x last : X) (ys : List X) → is_lt (order last x) ≡ false
-      → placed order x (ys ++ last ∷ []) ≡ placed order x ys ++ last ∷ []
-  unfolding placed
-  placed-before x last [] none = rw none refl
-  placed-before x last (y ∷ ys) none = elim (cases_Bool (is_lt (order y x))) [
-    | inl before ↦ rw (before) (ap (λ zs. y ∷ zs) (placed-before x last ys none))
+  pub insert_in_order-before : (x last : X) (ys : List X) → is_lt (order last x) ≡ false
+      → insert_in_order order x (ys ++ last ∷ []) ≡ insert_in_order order x ys ++ last ∷ []
+  unfolding insert_in_order
+  insert_in_order-before x last [] none = rw none refl
+  insert_in_order-before x last (y ∷ ys) none = elim (cases_Bool (is_lt (order y x))) [
+    | inl before ↦ rw (before) (ap (λ zs. y ∷ zs) (insert_in_order-before x last ys none))
     | inr after ↦ rw (after) refl
   ]
 
@@ -57,12 +57,12 @@ module _ {X : Type 0} (order : X → X → Ordering) where
   take-later (suc j) y ys = ap (λ zs. y ∷ zs) (take-fewer j ys)
 
   -- the first so many need only the first so many
-  pub take-placed : (k : ℕ) (x : X) (ys : List X) → take k (placed order x ys) ≡ take k (placed order x (take k ys))
-  unfolding placed
-  take-placed zero x ys = refl
-  take-placed (suc k) x [] = refl
-  take-placed (suc k) x (y ∷ ys) = elim (cases_Bool (is_lt (order y x))) [
-    | inl before ↦ rw (before) (ap (λ zs. y ∷ zs) (take-placed k x ys))
+  pub take-insert_in_order : (k : ℕ) (x : X) (ys : List X) → take k (insert_in_order order x ys) ≡ take k (insert_in_order order x (take k ys))
+  unfolding insert_in_order
+  take-insert_in_order zero x ys = refl
+  take-insert_in_order (suc k) x [] = refl
+  take-insert_in_order (suc k) x (y ∷ ys) = elim (cases_Bool (is_lt (order y x))) [
+    | inl before ↦ rw (before) (ap (λ zs. y ∷ zs) (take-insert_in_order k x ys))
     | inr after ↦ rw (after) (ap (λ zs. x ∷ zs) (take-later k y ys))
   ]
 
@@ -110,8 +110,8 @@ module _ {X : Type 0} (order : X → X → Ordering) where
             less_is Greater before = absurd (cc)
 
     filter-placed_yes : (x : X) (ys : List X) → p x ≡ true → IsStrictlySortedBy order ys
-        → filter p (placed order x ys) ≡ placed order x (filter p ys)
-    unfolding placed IsStrictlySortedBy
+        → filter p (insert_in_order order x ys) ≡ insert_in_order order x (filter p ys)
+    unfolding insert_in_order IsStrictlySortedBy
     filter-placed_yes x [] meets up = rw meets refl
     filter-placed_yes x (y ∷ ys) meets up = elim (cases_Bool (is_lt (order y x))) [
       | inl before ↦ elim (cases_Bool (p y)) [
@@ -119,12 +119,12 @@ module _ {X : Type 0} (order : X → X → Ordering) where
         | inr not ↦ rw (before, not) (filter-placed_yes x ys meets up.1)
       ]
       | inr after ↦
-          rw (after, meets) (sym (placed-first x (filter p (y ∷ ys))
+          rw (after, meets) (sym (insert_in_order-first x (filter p (y ∷ ys))
           (all-filter (λ z. is_lt (order z x) ≡ false) (y ∷ ys) (after, none-chain x y ys after up.0))))
     ]
 
-    filter-placed_no : (x : X) (ys : List X) → p x ≡ false → filter p (placed order x ys) ≡ filter p ys
-    unfolding placed
+    filter-placed_no : (x : X) (ys : List X) → p x ≡ false → filter p (insert_in_order order x ys) ≡ filter p ys
+    unfolding insert_in_order
     filter-placed_no x [] fails = rw fails refl
     filter-placed_no x (y ∷ ys) fails = elim (cases_Bool (is_lt (order y x))) [
       | inl before ↦ elim (cases_Bool (p y)) [
@@ -142,7 +142,7 @@ module _ {X : Type 0} (order : X → X → Ordering) where
     filter-ordered_apart (x ∷ xs) apart = elim (cases_Bool (p x)) [
       | inl meets ↦
           rw meets (filter-placed_yes x (ordered order xs) meets (IsStrictlySortedBy-ordered order o xs apart.1)
-          ∙ ap (placed order x) (filter-ordered_apart xs apart.1))
+          ∙ ap (insert_in_order order x) (filter-ordered_apart xs apart.1))
       | inr fails ↦ rw fails (filter-placed_no x (ordered order xs) fails ∙ filter-ordered_apart xs apart.1)
     ]
 
@@ -229,8 +229,8 @@ module _ {X : Type 0} (order : X → X → Ordering) where
 
     -- two that do not tie may be put among others in either order
     placed-placed : (x y : X) (zs : List X) → eq_by_cmp order x y ≡ false
-        → placed order y (placed order x zs) ≡ placed order x (placed order y zs)
-    unfolding placed
+        → insert_in_order order y (insert_in_order order x zs) ≡ insert_in_order order x (insert_in_order order y zs)
+    unfolding insert_in_order
     placed-placed x y [] apart = elim (cases_Bool (is_lt (order x y))) [
       | inl less ↦
           let back : is_lt (order y x) ≡ false = (ranks_by o (λ (x : X). x)).one_way x y less in rw (less, back) refl
@@ -260,8 +260,8 @@ module _ {X : Type 0} (order : X → X → Ordering) where
 
     -- an element that comes last and ties with none is put among the others in order
     pub ordered-last : (x : X) (xs : List X) → AllByRecursion (λ y. eq_by_cmp order x y ≡ false) xs
-        → ordered order (xs ++ x ∷ []) ≡ placed order x (ordered order xs)
+        → ordered order (xs ++ x ∷ []) ≡ insert_in_order order x (ordered order xs)
     unfolding ordered
-    ordered-last x [] apart = unfold placed in refl
+    ordered-last x [] apart = unfold insert_in_order in refl
     ordered-last x (y ∷ ys) apart =
-        ap (placed order y) (ordered-last x ys apart.1) ∙ placed-placed x y (ordered order ys) apart.0
+        ap (insert_in_order order y) (ordered-last x ys apart.1) ∙ placed-placed x y (ordered order ys) apart.0

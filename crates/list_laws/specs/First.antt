@@ -3,6 +3,6 @@ use Rattle.std.specs.Prelude.{List, [], ◌∷◌, Option, None}
 use Rattle.std.specs.Option.{option_or}
 
 -- the first of what members give, each of which may give nothing
-unfoldable pub first_of : {X Y : Type 0} → (X → Option Y) → List X → Option Y
-first_of give [] = None
-first_of give (x ∷ xs) = option_or (give x) (first_of give xs)
+unfoldable pub first_given : {X Y : Type 0} → (X → Option Y) → List X → Option Y
+first_given give [] = None
+first_given give (x ∷ xs) = option_or (give x) (first_given give xs)

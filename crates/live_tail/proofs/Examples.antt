@@ -1,6 +1,6 @@
 -- The chart of an index and a tail, on small rows.
 use Rattle.std.proofs.Common.{◌≡◌, ℕ, List, [], ◌∷◌, None, Some, pos, refl}
-use Rattle.list_laws.specs.Ordered.{ordered, placed}
+use Rattle.list_laws.specs.Ordered.{ordered, insert_in_order}
 use Rattle.track_types.specs.Chart.{chart_with as chart_of}
 use Rattle.track_types.specs.Quantities.{distinct}
 use Rattle.track_types.specs.declared.cell.Cell.{Cell}
@@ -26,7 +26,7 @@ tail = row 7 2 (at 9 9) ∷ row 7 5 (at 10 10) ∷ row 8 1 (at 11 10) ∷ []
 
 -- all by object, then instant; the later row counts
 joins : rows_with rows tail ≡ row 7 0 (at 10 10) ∷ row 7 1 (at 11 10) ∷ row 7 2 (at 9 9) ∷ row 7 5 (at 10 10) ∷ row 8 1 (at 11 10) ∷ []
-unfolding rows_with ordered placed
+unfolding rows_with ordered insert_in_order
 joins = refl
 
 -- from the lesser first to the greater last

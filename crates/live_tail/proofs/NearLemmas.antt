@@ -17,8 +17,8 @@ use Rattle.std.proofs.lemmas.List.Sorted.{IsPermutation-append_comm, IsPermutati
 use Rattle.std.proofs.lemmas.List.Sums.{length-filter}
 use Rattle.std.proofs.lemmas.Map.Keys.{IsDistinct-IsPermutation, IsDistinct-from_sorted}
 use Rattle.std.proofs.Math.Bool.{and-true}
-use Rattle.list_laws.specs.Ordered.{AreApart, ordered, placed}
-use Rattle.list_laws.proofs.LeastLemmas.{count_before, count_before-ordered, filter-ordered_apart, least-take, placed-after, take-placed}
+use Rattle.list_laws.specs.Ordered.{AreApart, ordered, insert_in_order}
+use Rattle.list_laws.proofs.LeastLemmas.{count_before, count_before-ordered, filter-ordered_apart, least-take, insert_in_order-after, take-insert_in_order}
 use Rattle.list_laws.proofs.MemberLemmas.{list_any-none, member_of_filter}
 use Rattle.list_laws.proofs.OrderedLemmas.{IsPermutation-ordered, IsSortedBy-ordered, IsStrictlySortedBy-ordered}
 use Rattle.list_laws.proofs.ApartLemmas.{AreApart-behind, ordered_from_sorted}
@@ -76,9 +76,9 @@ module _ {X : Type 0} (order : X → X → Ordering) (o : IsTotalOrder order) wh
   take-late k (b ∷ late) xs apart all =
       let sorted : List X = ordered order xs in
       let many : k ≤ count_before order sorted b = omega (arith, all.0, count_before-ordered order o xs b) in
-      take-placed order k b (ordered order (late ++ xs))
-      ∙ ap (λ ys. take k (placed order b ys)) (take-late k late xs apart all.1)
-      ∙ ap (take k) (placed-after order b (take k sorted)
+      take-insert_in_order order k b (ordered order (late ++ xs))
+      ∙ ap (λ ys. take k (insert_in_order order b ys)) (take-late k late xs apart all.1)
+      ∙ ap (take k) (insert_in_order-after order b (take k sorted)
       (first-before b k sorted (IsStrictlySortedBy-ordered order o xs apart) many))
       ∙ take_at (take k sorted) (b ∷ []) k (length-take-le k sorted (omega (arith, many, count-most sorted b)))
 

@@ -14,9 +14,9 @@ use Rattle.std.proofs.lemmas.Option.{slice_get_within, slice_get-map}
 use Rattle.std.proofs.lemmas.List.{length-append, length-map, map-append, nil_from_length, take_all, take_at}
 use Rattle.std.proofs.lemmas.List.MinMax.{ranks_by}
 use Rattle.std.proofs.lemmas.List.Sorted.{length_permutation}
-use Rattle.list_laws.specs.Ordered.{placed}
-use Rattle.list_laws.proofs.LeastLemmas.{one_before, placed-after, placed-before}
-use Rattle.list_laws.proofs.OrderedLemmas.{IsPermutation-placed}
+use Rattle.list_laws.specs.Ordered.{insert_in_order}
+use Rattle.list_laws.proofs.LeastLemmas.{one_before, insert_in_order-after, insert_in_order-before}
+use Rattle.list_laws.proofs.OrderedLemmas.{IsPermutation-insert_in_order}
 use Rattle.list_laws.proofs.FrontLemmas.{list_any-front}
 use Rattle.list_laws.proofs.SliceLemmas.{slice_get-last}
 use Rattle.track_types.specs.ByFilter.{near_order}
@@ -39,8 +39,8 @@ rank_order_total =
 pub kept-insert : (near : Near) (entries : List ((ℕ × ℕ) × Cell))
     → list_any (eq_by_cmp near_order near) (kept_nears entries) ≡ false
     → kept_nears (insert_entry rank_order entries (near.dist2, near.object) near.cell)
-    ≡ placed near_order near (kept_nears entries)
-unfolding placed
+    ≡ insert_in_order near_order near (kept_nears entries)
+unfolding insert_in_order
 kept-insert near [] apart = refl
 kept-insert near (entry ∷ entries) apart =
     let alone = or_parts (eq_by_cmp near_order near (entry_near entry)) (list_any (eq_by_cmp near_order near) (kept_nears entries))
@@ -52,17 +52,17 @@ kept-insert near (entry ∷ entries) apart =
         → near_order (entry_near entry) near ≡ ordering_reverse (near_order near (entry_near entry))
         → eq_by_cmp near_order near (entry_near entry) ≡ false
         → kept_nears (insert_entry rank_order entries (near.dist2, near.object) near.cell)
-        ≡ placed near_order near (kept_nears entries)
+        ≡ insert_in_order near_order near (kept_nears entries)
         → kept_nears (insert_entry rank_order (entry ∷ entries) (near.dist2, near.object) near.cell)
-        ≡ placed near_order near (kept_nears (entry ∷ entries))
+        ≡ insert_in_order near_order near (kept_nears (entry ∷ entries))
     at Less is back apart later = rw (is, back, is) refl
     at Equal is back apart later = let tied : true ≡ false = ap is_eq (sym is) ∙ apart in absurd (cc)
     at Greater is back apart later = rw (is, back, is) (ap (λ nears. entry_near entry ∷ nears) later)
 
 -- with one more they are one more
-pub length-placed : (near : Near) (nears : List Near) → length (placed near_order near nears) ≡ length nears + 1
-length-placed near nears =
-    length_permutation (near ∷ nears) (placed near_order near nears) (IsPermutation-placed near_order near nears)
+pub length-insert_in_order : (near : Near) (nears : List Near) → length (insert_in_order near_order near nears) ≡ length nears + 1
+length-insert_in_order near nears =
+    length_permutation (near ∷ nears) (insert_in_order near_order near nears) (IsPermutation-insert_in_order near_order near nears)
     ∙ omega arith
 
 module _ (wanted : ℕ) (near : Near) (entries : List ((ℕ × ℕ) × Cell)) where
@@ -72,27 +72,27 @@ module _ (wanted : ℕ) (near : Near) (entries : List ((ℕ × ℕ) × Cell)) wh
   -- there is room for one more
   pub kept-room : length entries < wanted → list_any (eq_by_cmp near_order near) (kept_nears entries) ≡ false
       → kept_nears (insert_entry rank_order entries (near.dist2, near.object) near.cell)
-      ≡ take wanted (placed near_order near (kept_nears entries))
+      ≡ take wanted (insert_in_order near_order near (kept_nears entries))
   kept-room room apart =
-      let few : length (placed near_order near (kept_nears entries)) ≤ wanted =
-      omega (arith, room, length-placed near (kept_nears entries), length-map entries entry_near) in
-      kept-insert near entries apart ∙ sym (take_all wanted (placed near_order near (kept_nears entries)) few)
+      let few : length (insert_in_order near_order near (kept_nears entries)) ≤ wanted =
+      omega (arith, room, length-insert_in_order near (kept_nears entries), length-map entries entry_near) in
+      kept-insert near entries apart ∙ sym (take_all wanted (insert_in_order near_order near (kept_nears entries)) few)
 
   -- none is kept, since none is wanted
   pub kept-none : wanted ≤ length entries → length entries ≤ 0
-      → kept_nears entries ≡ take wanted (placed near_order near (kept_nears entries))
+      → kept_nears entries ≡ take wanted (insert_in_order near_order near (kept_nears entries))
   kept-none full empty =
       let none : entries ≡ [] = nil_from_length entries (omega (arith, empty)) in
       let zero_wanted : wanted ≡ 0 = omega (arith, full, empty) in
-      ap kept_nears none ∙ ap (λ n. take n (placed near_order near (kept_nears entries))) (sym zero_wanted)
+      ap kept_nears none ∙ ap (λ n. take n (insert_in_order near_order near (kept_nears entries))) (sym zero_wanted)
 
   module _ (full : wanted ≤ length entries) (few : length entries ≤ wanted) where
     -- all that are kept come before it
     pub kept-full : AllByRecursion (λ kept. is_lt (near_order kept near) ≡ true) (kept_nears entries)
-        → kept_nears entries ≡ take wanted (placed near_order near (kept_nears entries))
+        → kept_nears entries ≡ take wanted (insert_in_order near_order near (kept_nears entries))
     kept-full before =
         let as_many : length (kept_nears entries) ≡ wanted = omega (arith, full, few, length-map entries entry_near) in
-        sym (ap (take wanted) (placed-after near_order near (kept_nears entries) before)
+        sym (ap (take wanted) (insert_in_order-after near_order near (kept_nears entries) before)
         ∙ take_at (kept_nears entries) (near ∷ []) wanted as_many)
 
     -- it comes before the last one, which gives way
@@ -100,7 +100,7 @@ module _ (wanted : ℕ) (near : Near) (entries : List ((ℕ × ℕ) × Cell)) wh
         → is_lt (rank_order (near.dist2, near.object) last.0) ≡ true
         → list_any (eq_by_cmp near_order near) (kept_nears entries) ≡ false
         → kept_nears (insert_entry rank_order others (near.dist2, near.object) near.cell)
-        ≡ take wanted (placed near_order near (kept_nears entries))
+        ≡ take wanted (insert_in_order near_order near (kept_nears entries))
     kept-instead others last is before apart =
         let after : is_lt (near_order (entry_near last) near) ≡ false =
         (ranks_by near_order_total (λ (n : Near). n)).one_way near (entry_near last) before in
@@ -109,20 +109,20 @@ module _ (wanted : ℕ) (near : Near) (entries : List ((ℕ × ℕ) × Cell)) wh
         let alone : list_any (eq_by_cmp near_order near) (kept_nears others) ≡ false =
         list_any-front (eq_by_cmp near_order near) (kept_nears others) (entry_near last ∷ [])
         (ap (list_any (eq_by_cmp near_order near)) (sym nears) ∙ apart) in
-        let as_many : length (placed near_order near (kept_nears others)) ≡ wanted =
+        let as_many : length (insert_in_order near_order near (kept_nears others)) ≡ wanted =
         omega (
           arith,
           full,
           few,
           ap length is,
           length-append others (last ∷ []),
-          length-placed near (kept_nears others),
+          length-insert_in_order near (kept_nears others),
           length-map others entry_near,
         ) in
         kept-insert near others alone
-        ∙ sym (ap (λ ns. take wanted (placed near_order near ns)) nears
-        ∙ ap (take wanted) (placed-before near_order near (entry_near last) (kept_nears others) after)
-        ∙ take_at (placed near_order near (kept_nears others)) (entry_near last ∷ []) wanted as_many)
+        ∙ sym (ap (λ ns. take wanted (insert_in_order near_order near ns)) nears
+        ∙ ap (take wanted) (insert_in_order-before near_order near (entry_near last) (kept_nears others) after)
+        ∙ take_at (insert_in_order near_order near (kept_nears others)) (entry_near last ∷ []) wanted as_many)
 
 -- a number is 0 where more than 0 is refused
 pub at-most-none : (n : ℕ) → (0 < n → false ≡ true) → n ≤ 0
@@ -142,7 +142,7 @@ pub kept-popped : (wanted : ℕ) (near : Near) (entries : List ((ℕ × ℕ) × 
     → is_lt (rank_order (near.dist2, near.object) rank) ≡ true
     → list_any (eq_by_cmp near_order near) (kept_nears entries) ≡ false
     → kept_nears (insert_entry rank_order others (near.dist2, near.object) near.cell)
-    ≡ take wanted (placed near_order near (kept_nears entries))
+    ≡ take wanted (insert_in_order near_order near (kept_nears entries))
 kept-popped wanted near entries full few others None rank cell removed some at before apart =
     let within : length entries - 1 < length entries = slice_get_within entries (length entries - 1) (rank, cell) at in
     let none : Option ((ℕ × ℕ) × Cell) = None in

@@ -12,8 +12,8 @@ use Rattle.std.proofs.lemmas.List.{take_at}
 use Rattle.std.proofs.lemmas.List.Elements.{All-head, All-tail}
 use Rattle.std.proofs.lemmas.List.Sorted.{All-permutation, sum_by-IsPermutation}
 use Rattle.std.proofs.lemmas.List.Sums.{sum_by-cons}
-use Rattle.list_laws.specs.Ordered.{ordered, placed}
-use Rattle.list_laws.proofs.LeastLemmas.{placed-after, take-placed}
+use Rattle.list_laws.specs.Ordered.{ordered, insert_in_order}
+use Rattle.list_laws.proofs.LeastLemmas.{insert_in_order-after, take-insert_in_order}
 use Rattle.list_laws.proofs.OrderedLemmas.{IsPermutation-ordered, IsSortedBy-ordered}
 use Rattle.list_laws.proofs.WeightLemmas.{same_from_weights, IsRising}
 use Rattle.track_types.specs.ByFilter.{near_order}
@@ -194,9 +194,9 @@ take-beyond dist2 count [] xs all kept = refl
 take-beyond dist2 count (x ∷ others) xs all kept =
     let P : Near → Type 0 = λ near. dist2 ≤ far near in
     let first : List Near = take count (ordered near_order xs) in
-    take-placed near_order count x (ordered near_order (others ++ xs))
-    ∙ ap (λ ys. take count (placed near_order x ys)) (take-beyond dist2 count others xs (All-tail P x others all) kept)
-    ∙ ap (take count) (placed-after near_order x first (all-before dist2 x first (All-head P x others all) kept.nearer))
+    take-insert_in_order near_order count x (ordered near_order (others ++ xs))
+    ∙ ap (λ ys. take count (insert_in_order near_order x ys)) (take-beyond dist2 count others xs (All-tail P x others all) kept)
+    ∙ ap (take count) (insert_in_order-after near_order x first (all-before dist2 x first (All-head P x others all) kept.nearer))
     ∙ take_at first (x ∷ []) count kept.full
 
 -- Lists of the same ones are put in one order, where of each object there is at most one, whose number is below 2^32.

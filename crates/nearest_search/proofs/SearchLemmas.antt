@@ -10,8 +10,8 @@ use Rattle.std.proofs.lemmas.Bool.Decides.{nat_tests}
 use Rattle.std.proofs.lemmas.List.Elements.{All-cons, All-head, All-nil, All-tail}
 use Rattle.std.proofs.lemmas.List.Sorted.{All-permutation, sum_by-IsPermutation, sum_by_pushed}
 use Rattle.std.proofs.lemmas.List.Sums.{sum_by-cons}
-use Rattle.list_laws.specs.Ordered.{ordered, placed}
-use Rattle.list_laws.proofs.LeastLemmas.{take-placed}
+use Rattle.list_laws.specs.Ordered.{ordered, insert_in_order}
+use Rattle.list_laws.proofs.LeastLemmas.{take-insert_in_order}
 use Rattle.track_types.specs.ByFilter.{near_order, nears_of}
 use Rattle.track_types.specs.declared.near.Near.{Near}
 use Rattle.k2_tree.specs.Squares.{Node, node}
@@ -338,10 +338,10 @@ module _ (quest : Quest) (is : IsQuest quest) (count : ℕ) (some : 0 < count) w
       nears-none place none = rw none seeking.nears
 
       pub nears-some : (place : ℕ) (near : Near) (next : List Near) → near_at quest place ≡ Some near
-          → next ≡ take closest.wanted (placed near_order near closest.nears)
+          → next ≡ take closest.wanted (insert_in_order near_order near closest.nears)
           → next ≡ take count (ordered near_order (filter_map (near_at quest) (place ∷ seeking.sought)))
       unfolding ordered
       nears-some place near next found is_next =
-          rw found (is_next ∙ ap (λ k. take k (placed near_order near closest.nears)) seeking.wanted
-          ∙ ap (λ ns. take count (placed near_order near ns)) seeking.nears
-          ∙ sym (take-placed near_order count near (ordered near_order (filter_map (near_at quest) seeking.sought))))
+          rw found (is_next ∙ ap (λ k. take k (insert_in_order near_order near closest.nears)) seeking.wanted
+          ∙ ap (λ ns. take count (insert_in_order near_order near ns)) seeking.nears
+          ∙ sym (take-insert_in_order near_order count near (ordered near_order (filter_map (near_at quest) seeking.sought))))

@@ -1,7 +1,7 @@
 ghost use Rattle.std.specs.Prelude.{◌≡◌, ◌≤◌, [], length, take, false, IfOk, OnOk};
 ghost use Rattle.std.specs.List.{list_any};
 ghost use Rattle.std.specs.Ordering.{eq_by_cmp};
-ghost use Rattle.list_laws.specs.Ordered.{placed};
+ghost use Rattle.list_laws.specs.Ordered.{insert_in_order};
 ghost use Rattle.track_types.specs.ByFilter.{near_order};
 ghost use Rattle.nearest_search.specs.Cost.{is_no_farther, last_of};
 
@@ -48,7 +48,7 @@ impl Closest {
         requires apart { list_any (eq_by_cmp near_order near) self.old.nears ≡ false }
         ensures wanted { self.new.wanted ≡ self.old.wanted }
         ensures nears { OnOk result (
-            self.new.nears ≡ take self.old.wanted (placed near_order near self.old.nears)) }
+            self.new.nears ≡ take self.old.wanted (insert_in_order near_order near self.old.nears)) }
     {
         let rank = (near.dist2, near.object);
         if self.kept.len() >= self.wanted as usize {

@@ -6,7 +6,7 @@ use Rattle.std.proofs.lemmas.Bool.Decides.{nat_tests}
 use Rattle.std.proofs.lemmas.Int.{ints}
 use Rattle.std.specs.Ordering.{int_eq, is_lt, nat_cmp, ordering_then}
 use Rattle.host_ports.specs.Faults.{Rose}
-use Rattle.list_laws.specs.Ordered.{ordered, placed}
+use Rattle.list_laws.specs.Ordered.{ordered, insert_in_order}
 use Rattle.track_types.specs.ByFilter.{hits_of, nearest_among, nears_at, nears_of, sightings_of}
 use Rattle.track_types.specs.Meeting.{first_together, meeting_of, pairs_of}
 use Rattle.track_types.specs.Region.{in_region, is_between, squared_distance}
@@ -55,7 +55,7 @@ not_before d = grind (arith, ints, nat_tests)
 
 pub one-near : (count : ℕ) (instant : ℤ) (cell : Cell) →
     (if int_eq instant (pos 2) && nat_lt 0 count then buoy_near cell ∷ [] else []) ≡ nears_of (buoy_row ∷ []) count instant cell
-unfolding nears_of nears_at nearest_among ordered placed
+unfolding nears_of nears_at nearest_among ordered insert_in_order
 one-near count instant cell = elim (cases_Bool (int_eq instant (pos 2))) [
   | inl met ↦ elim (cases_Bool (nat_lt 0 count)) [
     | inl some ↦ rw (met, some, not_before (squared_distance cell buoy_cell), some) refl

@@ -1,7 +1,7 @@
 -- The definitions, run on inputs that were worked out by hand.
 use Rattle.std.proofs.Common.{◌≡◌, ℕ, pos, negsuc, List, [], ◌∷◌, codes, refl, Ok, Err, Some, None, replicate, ◌++◌}
 use Rattle.std.specs.Fmt.{digits}
-use Rattle.list_laws.specs.Ordered.{ordered, placed}
+use Rattle.list_laws.specs.Ordered.{ordered, insert_in_order}
 use Rattle.track_types.specs.ByFilter.{hits_of, nearest_among, nears_at, nears_of, sightings_of}
 use Rattle.track_types.specs.Chart.{ChartView}
 use Rattle.track_types.specs.Meeting.{first_together, meeting_of, pairs_of}
@@ -198,7 +198,7 @@ replies_to_regions : (facts : Facts) →
     ≡ codes "7 12 11\nok 1\nok 0\n7 0 10 -10\nok 1\n7 10 -10 25\nok 1\n"
 unfolding
     chart digits replies_of listed whole_lines unended_line sightings_of hits_of nears_of nears_at nearest_among
-    ordered placed shapes_fault
+    ordered insert_in_order shapes_fault
 replies_to_regions facts = refl
 
 -- objects 1 and 2 come towards each other, and are in one cell in the end

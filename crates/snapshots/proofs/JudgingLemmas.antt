@@ -16,7 +16,7 @@ use Rattle.k2_tree.specs.Morton.{IsInGrid}
 use Rattle.snapshots.proofs.ByObjectLemmas.{index-from_block_of}
 use Rattle.bit_rank.specs.Bits.{ones_of, rank_of}
 use Rattle.bit_rank.proofs.RankLemmas.{rank_of-step}
-use Rattle.list_laws.proofs.FirstLemmas.{first_of-filter_map, first_of_range-at, first_of_range-none, made_first}
+use Rattle.list_laws.proofs.FirstLemmas.{first_given-filter_map, first_of_range-at, first_of_range-none, made_first}
 use Rattle.track_types.specs.declared.flaw.Flaw.{Flaw}
 use Rattle.track_types.specs.declared.limit.TheConstants.{MAX_HEIGHT}
 use Rattle.rule_store.specs.View.{RulesView}
@@ -42,7 +42,7 @@ module _ (rules : RulesView) (view : SnapshotView) where
   unfolding blocks_flaw all_blocks
   blocks_flaw-at index block fault.Memory within before has is = is
   blocks_flaw-at index block (fault.Flaw flaw) within before has is =
-      first_of-filter_map (block_flaw rules view) (block_of view) (range_with_len 0 view.objects)
+      first_given-filter_map (block_flaw rules view) (block_of view) (range_with_len 0 view.objects)
       ∙ first_of_range-at flaw_at 0 view.objects index flaw (omega arith) (omega arith)
       (λ j low below. before j below) (ap (made_first (block_flaw rules view)) has ∙ is)
 
@@ -50,7 +50,7 @@ module _ (rules : RulesView) (view : SnapshotView) where
   pub blocks_flaw-none : ((j : ℕ) → j < view.objects → flaw_at j ≡ None) → blocks_flaw rules view ≡ None
   unfolding blocks_flaw all_blocks
   blocks_flaw-none none =
-      first_of-filter_map (block_flaw rules view) (block_of view) (range_with_len 0 view.objects)
+      first_given-filter_map (block_flaw rules view) (block_of view) (range_with_len 0 view.objects)
       ∙ first_of_range-none flaw_at 0 view.objects (λ j low high. none j (omega arith))
 
   -- one object more

@@ -5,7 +5,7 @@ use Rattle.std.proofs.lemmas.Bool.{le-ltb, lt-leb, lt-ltb}
 use Rattle.std.proofs.lemmas.Int.{ints}
 use Rattle.std.proofs.lemmas.List.Elements.{All-weaker}
 use Rattle.list_laws.proofs.FindLemmas.{find_in_range-none}
-use Rattle.list_laws.proofs.FirstLemmas.{first_of-none, first_of_range-none}
+use Rattle.list_laws.proofs.FirstLemmas.{first_given-none, first_of_range-none}
 use Rattle.spiral_code.specs.Spiral.{ring_of}
 use Rattle.track_types.specs.Frame.{periods_of}
 use Rattle.track_types.specs.declared.cell.Cell.{Cell}
@@ -89,7 +89,7 @@ pub blocks_flaw-sound : (rules : RulesView) (view : SnapshotView) → AreSoundLo
     → blocks_flaw rules view ≡ None
 unfolding blocks_flaw
 blocks_flaw-sound rules view are =
-    first_of-none (block_flaw rules view) (all_blocks view)
+    first_given-none (block_flaw rules view) (all_blocks view)
     (All-weaker (IsSoundLog view.frame rules view.number) (λ block. block_flaw rules view block ≡ None)
     (λ block is. log_flaw-sound view.frame rules view.number (rank_in view block.index) block is) (all_blocks view) are)
 

@@ -5,7 +5,7 @@ use Rattle.std.proofs.lemmas.Bool.{and_parts, cases_Bool, eqb-true, ltb-false, n
 use Rattle.std.proofs.lemmas.Int.{ints}
 use Rattle.std.proofs.lemmas.List.Elements.{All-weaker}
 use Rattle.list_laws.proofs.FindLemmas.{find_in_range-all}
-use Rattle.list_laws.proofs.FirstLemmas.{All-first_of, map-none, or-none}
+use Rattle.list_laws.proofs.FirstLemmas.{All-first_given, map-none, or-none}
 use Rattle.spiral_code.specs.Spiral.{ring_of}
 use Rattle.track_types.specs.Frame.{periods_of}
 use Rattle.track_types.specs.declared.cell.Cell.{Cell}
@@ -111,7 +111,7 @@ AreSoundLogs-flawless rules view none =
     All-weaker (λ block. block_flaw rules view block ≡ None) (IsSoundLog view.frame rules view.number)
     (λ block flawless.
     IsSoundLog-flawless view.frame rules view.number (rank_in view block.index) block flawless)
-    (all_blocks view) (All-first_of (block_flaw rules view) (all_blocks view) none)
+    (all_blocks view) (All-first_given (block_flaw rules view) (all_blocks view) none)
 
 -- parts whose rules, snapshots and logs were judged are sound
 pub IsSound-joined : (parts : Parts) (rules : RulesView) (snaps : List SnapshotView) (before steps : ℕ)

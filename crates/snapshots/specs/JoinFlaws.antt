@@ -4,7 +4,7 @@ use Rattle.std.specs.Prelude.{List, [], ◌∷◌, length, take, find, slice_ind
 use Rattle.std.specs.Int.Signed.{le_z, lt_z}
 use Rattle.std.specs.List.{range_with_len, sum_by}
 use Rattle.std.specs.Option.{option_map, option_or}
-use Rattle.list_laws.specs.First.{first_of}
+use Rattle.list_laws.specs.First.{first_given}
 use Rattle.track_types.specs.Frame.{instants_in}
 use Rattle.track_types.specs.declared.cell.Cell.{Cell}
 use Rattle.track_types.specs.declared.cell_box.CellBox.{CellBox}
@@ -90,7 +90,7 @@ block_flaw rules view block = log_flaw view.frame rules view.number (rank_in vie
 
 -- the first flaw of a snapshot's blocks, by object
 unfoldable pub blocks_flaw : RulesView → SnapshotView → Option Flaw
-blocks_flaw rules view = first_of (block_flaw rules view) (all_blocks view)
+blocks_flaw rules view = first_given (block_flaw rules view) (all_blocks view)
 
 -- the first flaw of a period's blocks
 abbrev pub join_flaw : Parts → ℕ → Option Flaw
@@ -98,4 +98,4 @@ join_flaw parts number = blocks_flaw (rules_in parts) (snapshot_in parts number)
 
 -- the first flaw of all blocks, by period, then object
 unfoldable pub logs_flaw : Parts → Option Flaw
-logs_flaw parts = first_of (join_flaw parts) (numbers_in parts.frame)
+logs_flaw parts = first_given (join_flaw parts) (numbers_in parts.frame)

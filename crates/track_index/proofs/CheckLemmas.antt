@@ -2,7 +2,7 @@
 use Rattle.std.proofs.Common.{◌≡◌, ℕ, ◌<◌, length, Option, None, Some, refl, sym, ◌∙◌, arith}
 use Rattle.std.specs.List.{range_with_len}
 use Rattle.std.specs.Option.{option_and_then, option_map, option_or}
-use Rattle.list_laws.proofs.FirstLemmas.{first_of-map, first_of_range-all, first_of_range-none, or-none}
+use Rattle.list_laws.proofs.FirstLemmas.{first_given-map, first_of_range-all, first_of_range-none, or-none}
 use Rattle.track_types.specs.Frame.{periods_of}
 use Rattle.track_types.specs.Shape.{IsShaped}
 use Rattle.track_types.specs.declared.parts.Parts.{Parts}
@@ -54,7 +54,7 @@ module _ (parts : Parts) (shaped : IsShaped parts) where
       let first = or-none (grammar_flaw (rules_in parts)) _ none in
       let second = or-none (total_flaw parts) _ first.1 in
       let third = or-none (snapshots_flaw (snapshots_in parts)) (logs_flaw parts) second.1 in
-      let flawless = sym (first_of-map flaw_of (snapshot_in parts) (range_with_len 0 (periods_of parts.frame)))
+      let flawless = sym (first_given-map flaw_of (snapshot_in parts) (range_with_len 0 (periods_of parts.frame)))
       ∙ third.0 in
       record {
         rules = AreSoundRules-flawless (rules_in parts) (record {
@@ -74,7 +74,7 @@ module _ (parts : Parts) (shaped : IsShaped parts) where
   check_flaw-sound sound =
       let total = total_flaw-some parts (sym (start_in-all parts shaped) ∙ sound.total) in
       check_flaw-judged parts (rw (rules_flaw-sound (rules_in parts) sound.rules) refl) total
-      (first_of-map flaw_of (snapshot_in parts) (range_with_len 0 (periods_of parts.frame))
+      (first_given-map flaw_of (snapshot_in parts) (range_with_len 0 (periods_of parts.frame))
       ∙ first_of_range-none _ 0 (periods_of parts.frame) (λ number low within.
       (flaw_of-none (snapshot_in parts number) (shaped_at total number (omega arith))).1
       (sound.periods number (omega arith)))) (logs_flaw-sound parts sound.logs)

@@ -7,7 +7,7 @@ use Rattle.k2_tree.specs.Squares.{squares_above, squares_from}
 use Rattle.k2_tree.specs.Tree.{codes_below, codes_in, picked}
 use Rattle.k2_tree.specs.TreeBits.{longer, prefixes}
 use Rattle.k2_tree.specs.Widths.{digits_in, levels_with}
-use Rattle.list_laws.specs.First.{first_of}
+use Rattle.list_laws.specs.First.{first_given}
 use Rattle.list_laws.specs.Grown.{grown}
 use Rattle.packed_bits.specs.Bits.{ones_of}
 use Rattle.spiral_code.specs.Spiral.{move_of, ring_moves, ring_of_code, side_moves}
@@ -189,7 +189,7 @@ told =
     []
 
 each_is_told : map (λ row. check_flaw row.0) told ≡ map (λ row. row.1) told
-unfolding check_flaw grammar_flaw lengths_flaw snapshots_flaw first_of logs_flaw blocks_flaw all_blocks log_flaw
+unfolding check_flaw grammar_flaw lengths_flaw snapshots_flaw first_given logs_flaw blocks_flaw all_blocks log_flaw
     off_grid_at is_off_grid cell_after lasting start_in code_flaw rule_flaw symbol_flaw is_rule_flawed entry_of values_of
     expansion_of grown displacement_of bounding_box_of box_round cells_along duration_of move_of ring_moves ring_of_code
     side_moves row_of column_of cell_of picked codes_below codes_in levels_with digits_in longer rank_of ones_of group_flaw level_flaw tree_flaw

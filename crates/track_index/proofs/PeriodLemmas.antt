@@ -8,7 +8,7 @@ use Rattle.std.proofs.lemmas.List.{get_or_default}
 use Rattle.std.proofs.lemmas.List.Elements.{All-get_or}
 use Rattle.std.proofs.lemmas.List.FromFn.{length-map-range_with_len, map-range_with_len_more}
 use Rattle.std.proofs.lemmas.List.Sums.{sum_by_more, sum_by_more_le}
-use Rattle.list_laws.proofs.FirstLemmas.{first_of-map, first_of_range-at, first_of_range-none}
+use Rattle.list_laws.proofs.FirstLemmas.{first_given-map, first_of_range-at, first_of_range-none}
 use Rattle.track_types.specs.Frame.{periods_of}
 use Rattle.track_types.specs.Shape.{IsShapedPeriod}
 use Rattle.track_types.specs.declared.frame.Frame.{Frame}
@@ -99,7 +99,7 @@ module _ (frame : Frame) (objects : ℕ) (periods : List PeriodParts) where
       unfolding snapshots_flaw
       flaw-next fault.Memory is = is
       flaw-next (fault.Flaw flaw) is =
-          first_of-map flaw_of (snapshot_with frame objects periods) (range_with_len 0 (periods_of frame))
+          first_given-map flaw_of (snapshot_with frame objects periods) (range_with_len 0 (periods_of frame))
           ∙ first_of_range-at _ 0 (periods_of frame) count flaw (omega arith) (omega (arith, number-within))
           (λ j low below. are.none j below) (ap flaw_of (sym snapshot-is) ∙ is)
 
@@ -109,5 +109,5 @@ module _ (frame : Frame) (objects : ℕ) (periods : List PeriodParts) where
     pub snapshots_flaw-none : snapshots_flaw (snapshots_with frame objects periods) ≡ None
     unfolding snapshots_flaw
     snapshots_flaw-none =
-        first_of-map flaw_of (snapshot_with frame objects periods) (range_with_len 0 (periods_of frame))
+        first_given-map flaw_of (snapshot_with frame objects periods) (range_with_len 0 (periods_of frame))
         ∙ first_of_range-none _ 0 (periods_of frame) (λ j low below. are.none j (omega arith))

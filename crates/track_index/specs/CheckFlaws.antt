@@ -3,7 +3,7 @@ use Rattle.std.specs.Prelude.{◌≡◌, ℕ, ◌-◌, ◌≤◌, ◌==◌, if�
 use Rattle.std.specs.Prelude.{Option, None, Some, ⊤}
 use Rattle.std.specs.List.{sum_by}
 use Rattle.std.specs.Option.{option_and_then, option_or}
-use Rattle.list_laws.specs.First.{first_of}
+use Rattle.list_laws.specs.First.{first_given}
 use Rattle.track_types.specs.Frame.{IsFrame, periods_of}
 use Rattle.track_types.specs.Limits.{limit_of}
 use Rattle.track_types.specs.Shape.{IsShapedPeriod}
@@ -49,7 +49,7 @@ total_flaw parts = lengths_flaw parts.frame parts.periods (length parts.symbols)
 
 -- the first flaw of some snapshots, one after the other
 unfoldable pub snapshots_flaw : List SnapshotView → Option Flaw
-snapshots_flaw snaps = first_of flaw_of snaps
+snapshots_flaw snaps = first_given flaw_of snaps
 
 -- the first flaw of parts: the rules come before the total, the total before the snapshots, and these before the logs
 unfoldable pub check_flaw : Parts → Option Flaw

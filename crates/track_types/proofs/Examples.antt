@@ -1,7 +1,7 @@
 -- The definitions, run on rows that were worked out by hand.
 use Rattle.std.proofs.Common.{◌≡◌, ℕ, ℤ, pos, negsuc, List, [], ◌∷◌, ◌++◌, map, Some, None, refl}
 use Rattle.track_types.specs.ByFilter.{cell_at, hits_of, nearest_among, nears_at, nears_of, sightings_of}
-use Rattle.list_laws.specs.Ordered.{ordered, placed}
+use Rattle.list_laws.specs.Ordered.{ordered, insert_in_order}
 use Rattle.track_types.specs.Frame.{periods_of, instants_in, wide_of}
 use Rattle.track_types.specs.Shape.{width_for}
 use Rattle.track_types.specs.declared.frame.Frame.{Frame}
@@ -110,15 +110,15 @@ centre : Cell
 centre = record { x = pos 0; y = pos 0 }
 
 tied_nears : map (λ near. near.object) (nears_of tied 1 (pos 0) centre) ≡ 3 ∷ []
-unfolding tied row centre ordered placed nears_of nearest_among nears_at
+unfolding tied row centre ordered insert_in_order nears_of nearest_among nears_at
 tied_nears = refl
 
 all_nears : map (λ near. near.dist2) (nears_of tied 5 (pos 0) centre) ≡ 4 ∷ 4 ∷ 9 ∷ []
-unfolding tied row centre ordered placed nears_of nearest_among nears_at
+unfolding tied row centre ordered insert_in_order nears_of nearest_among nears_at
 all_nears = refl
 
 no_nears : nears_of tied 0 (pos 0) centre ≡ []
-unfolding tied row centre ordered placed nears_of nearest_among nears_at
+unfolding tied row centre ordered insert_in_order nears_of nearest_among nears_at
 no_nears = refl
 
 tied_sightings : map (λ found. found.object) (sightings_of tied (pos 0) (Disc (pos 0) (pos 0) 2)) ≡ 3 ∷ 5 ∷ []

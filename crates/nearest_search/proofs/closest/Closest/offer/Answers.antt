@@ -2,7 +2,7 @@ use Rattle.std.proofs.Common.{◌≡◌, ◌≤◌, false, length, take, ap, sym
 use Rattle.std.specs.List.{list_any}
 use Rattle.std.specs.Ordering.{eq_by_cmp, is_lt}
 use Rattle.std.proofs.lemmas.List.Elements.{recursion_from_All}
-use Rattle.list_laws.specs.Ordered.{placed}
+use Rattle.list_laws.specs.Ordered.{insert_in_order}
 use Rattle.track_types.specs.ByFilter.{near_order}
 use Rattle.nearest_search.specs.Kept.{kept_nears, ClosestView}
 use Rattle.nearest_search.proofs.KeptLemmas.{all-before, at-most-none, kept-full, kept-none, kept-popped, kept-room, rank_order}
@@ -17,7 +17,7 @@ returns-in_default-clause-nears c =
     let apart : list_any (eq_by_cmp near_order c.args.near) (kept_nears entries) ≡ false =
     ap (λ (v : ClosestView). list_any (eq_by_cmp near_order c.args.near) v.nears) c.self.view_is ∙ c.requires.apart in
     let full : c.self.inside.wanted ≤ length entries = omega (arith, c.if-len-self.true, c.len.ensures.len) in
-    subst (λ (v : ClosestView). v.nears ≡ take v.wanted (placed near_order c.args.near v.nears)) c.self.view_is
+    subst (λ (v : ClosestView). v.nears ≡ take v.wanted (insert_in_order near_order c.args.near v.nears)) c.self.view_is
     (elim c.in_default.branch [
       | in_default-via-in-Some+else-is_lt w ↦
           kept-full c.self.inside.wanted c.args.near entries full c.self.invariant.few
@@ -31,7 +31,7 @@ returns-clause-nears c =
     let entries = c.self.inside.kept.entries in
     let apart : list_any (eq_by_cmp near_order c.args.near) (kept_nears entries) ≡ false =
     ap (λ (v : ClosestView). list_any (eq_by_cmp near_order c.args.near) v.nears) c.self.view_is ∙ c.requires.apart in
-    subst (λ (v : ClosestView). kept_nears c.insert.new.self.entries ≡ take v.wanted (placed near_order c.args.near v.nears))
+    subst (λ (v : ClosestView). kept_nears c.insert.new.self.entries ≡ take v.wanted (insert_in_order near_order c.args.near v.nears))
     c.self.view_is (elim c.if-len-self.branch [
       | then-len-self+in-Some w ↦
           ap kept_nears c.in_ok-insert.ensures.entries
