@@ -9,7 +9,7 @@ use Rattle.spiral_code.specs.Spiral.{square}
 use Rattle.spiral_code.proofs.SpiralLemmas.{move_of-below}
 use Rattle.track_types.specs.Chart.{ChartView, IsChart}
 use Rattle.track_types.specs.Limits.{limit_of}
-use Rattle.track_types.specs.Shape.{AreLong, AreShort, AreShortPairs, width_for, width_of}
+use Rattle.track_types.specs.Shape.{AreLong, AreShort, AreShortPairs, width_for, symbol_width}
 use Rattle.track_types.specs.declared.limit.LimitKind.TheVariants.{Symbols}
 use Rattle.track_types.specs.declared.limit.TheConstants.{MAX_HEIGHT}
 use Rattle.rule_store.specs.Cells.{movement_of}
@@ -92,7 +92,7 @@ module _ (chart : ChartView) where
         (symbols_below chart is)
 
     -- so many bits are enough for each of them
-    pub narrow_symbols : All (λ symbol. symbol < 2 ^ width_of (parts_of chart)) (parts_of chart).symbols
+    pub narrow_symbols : All (λ symbol. symbol < 2 ^ symbol_width (parts_of chart)) (parts_of chart).symbols
     unfolding parts_of logs_of width_for
     narrow_symbols =
         let known : ℕ = length (alphabet_of chart) + length (grammar_of chart).rules in

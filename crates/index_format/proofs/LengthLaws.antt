@@ -9,7 +9,7 @@ use Rattle.list_laws.proofs.LengthLemmas.{length-flat_map-alike}
 use Rattle.track_types.specs.declared.parts.Parts.{Parts}
 use Rattle.track_types.specs.declared.period_parts.PeriodParts.{PeriodParts}
 use Rattle.index_format.specs.declared.header.Header.{Header}
-use Rattle.track_types.specs.Shape.{width_for, width_of}
+use Rattle.track_types.specs.Shape.{width_for, symbol_width}
 use Rattle.index_format.specs.Spelling.{bits_with, bytes_for, bytes_of_parts, header_bytes, log_bytes, long_bytes}
 use Rattle.index_format.specs.Spelling.{period_bytes, rule_bytes, short_bytes, signed_bytes, size_bytes}
 use Rattle.index_format.proofs.BitLemmas.{length-bit_bytes}
@@ -83,7 +83,7 @@ pub length-bytes_of_parts : (parts : Parts)
     → length (bytes_of_parts parts)
     ≡ 76 + 4 * length parts.objects + 8 * length parts.alphabet + 8 * length parts.rules
     + length (flat_map period_bytes parts.periods)
-    + log_length parts.frame.version (width_of parts) (length parts.symbols)
+    + log_length parts.frame.version (symbol_width parts) (length parts.symbols)
 unfolding bytes_of_parts
 length-bytes_of_parts parts = simp (
   length-append,

@@ -6,7 +6,7 @@ use Rattle.std.specs.Int.{w32, w64}
 use Rattle.std.proofs.lemmas.Bool.{eqb-true}
 use Rattle.std.proofs.lemmas.List.{nil_from_length}
 use Rattle.track_types.specs.Frame.{periods_of}
-use Rattle.track_types.specs.Shape.{IsShaped, width_for, width_of}
+use Rattle.track_types.specs.Shape.{IsShaped, width_for, symbol_width}
 use Rattle.track_types.specs.declared.flaw.Section.TheVariants.{Objects, Alphabet}
 use Rattle.track_types.specs.declared.flaw.Flaw.{Flaw}
 use Rattle.track_types.specs.declared.parts.Parts.{Parts}
@@ -47,7 +47,7 @@ parts_in-takes bytes fits =
     test_ok _ _ _ (eqb (length symbols.1) 0) (λ over.
     let are = t0.1.sizes in
     let head : header_of parts ≡ h = rw (t1.2, t2.2, t3.2, t5.1.long) refl in
-    let same : width_of parts ≡ width = rw (t2.2, t3.2) refl in
+    let same : symbol_width parts ≡ width = rw (t2.2, t3.2) refl in
     let taken = Takes-then t0.0 (Takes-then t1.0 (Takes-then t2.0 (Takes-then t3.0 (Takes-then t4.0 t5.0)))) in
     let whole = taken.parts ∙ ap (λ tail. (header_bytes h ++ (flat_map short_bytes objects.0 ++ (flat_map long_bytes alphabet.0
     ++ (flat_map rule_bytes rules.0 ++ (flat_map period_bytes periods.0 ++ log_bytes h.frame.version width symbols.0))))) ++ tail)
@@ -77,7 +77,7 @@ parts_in-takes bytes fits =
 pub parts_in-again : (parts : Parts) → IsShaped parts → parts_in (bytes_of_parts parts) ≡ Ok parts
 unfolding parts_in bytes_of_parts
 parts_in-again parts shaped =
-    let r5 = log_bytes parts.frame.version (width_of parts) parts.symbols ++ [] in
+    let r5 = log_bytes parts.frame.version (symbol_width parts) parts.symbols ++ [] in
     let r4 = flat_map period_bytes parts.periods ++ r5 in
     let r3 = flat_map rule_bytes parts.rules ++ r4 in
     let r2 = flat_map long_bytes parts.alphabet ++ r3 in
@@ -103,7 +103,7 @@ parts_in-again parts shaped =
       items_at-again (rising_listed wide64 Alphabet) parts.alphabet (length parts.alphabet) r3 refl (shaped.alphabet, shaped.long_alphabet),
       items_at-again rules_listed parts.rules (length parts.rules) r4 refl shaped.short_rules,
       items_at-again (periods_listed (length parts.objects)) parts.periods (periods_of parts.frame) r5 shaped.periods shaped.each,
-      log_at-again parts.frame.version (width_of parts) parts.symbols [] shaped.short_symbols shaped.narrow_symbols,
+      log_at-again parts.frame.version (symbol_width parts) parts.symbols [] shaped.short_symbols shaped.narrow_symbols,
     ) refl
 
 -- what was answered to bytes is as reading says

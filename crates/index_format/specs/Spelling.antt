@@ -6,7 +6,7 @@ use Rattle.packed_bits.specs.Bits.{number_of}
 use Rattle.packed_bits.specs.Words.{low_bits}
 use Rattle.index_format.specs.declared.header.Header.{Header}
 use Rattle.index_format.specs.declared.header.Sizes.{Sizes}
-use Rattle.track_types.specs.Shape.{width_of}
+use Rattle.track_types.specs.Shape.{symbol_width}
 use Rattle.track_types.specs.declared.parts.Parts.{Parts}
 use Rattle.track_types.specs.declared.period_parts.PeriodParts.{PeriodParts}
 
@@ -104,4 +104,4 @@ bytes_of_parts parts =
     header_bytes (header_of parts)
     ++ flat_map short_bytes parts.objects ++ flat_map long_bytes parts.alphabet
     ++ flat_map rule_bytes parts.rules ++ flat_map period_bytes parts.periods
-    ++ log_bytes parts.frame.version (width_of parts) parts.symbols
+    ++ log_bytes parts.frame.version (symbol_width parts) parts.symbols

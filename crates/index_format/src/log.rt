@@ -1,5 +1,5 @@
 ghost use Rattle.std.specs.Prelude.{◌≡◌, ◌+◌, ◌++◌, ◌≤◌, ◌^◌, length, OnOk};
-ghost use Rattle.track_types.specs.Shape.{IsShaped, width_for, width_of};
+ghost use Rattle.track_types.specs.Shape.{IsShaped, width_for, symbol_width};
 ghost use Rattle.index_format.specs.Answers.{Gives};
 ghost use Rattle.index_format.specs.Fields.{log_at};
 ghost use Rattle.index_format.specs.Spelling.{log_bytes};
@@ -37,7 +37,7 @@ pub fn log_of(alloc: Global, header: Header, bytes: &[u8]) -> Result<(List32, &[
 /// How many bits a symbol of shaped parts takes from version 2 on: 1 to 26.
 fn width_of(parts: &Parts) -> u32
     requires { IsShaped parts.now }
-    ensures exact { result ≡ width_of parts.now }
+    ensures exact { result ≡ symbol_width parts.now }
     ensures narrow { result ≤ 26 }
 {
     let told = parts.alphabet.as_slice().len() + parts.rules.as_slice().len();
@@ -47,7 +47,7 @@ fn width_of(parts: &Parts) -> u32
 /// How many bytes the log of shaped parts takes.
 pub fn log_len(parts: &Parts) -> usize
     requires { IsShaped parts.now }
-    ensures exact { result ≡ length (log_bytes parts.now.frame.version (width_of parts.now) parts.now.symbols) }
+    ensures exact { result ≡ length (log_bytes parts.now.frame.version (symbol_width parts.now) parts.now.symbols) }
     ensures within { result ≤ 2 ^ 27 }
 {
     let count = parts.symbols.as_slice().len();
@@ -62,7 +62,7 @@ pub fn log_len(parts: &Parts) -> usize
 pub fn put_log(out: &mut Vec<u8>, parts: &Parts) -> Result<(), Memory>
     requires { IsShaped parts.now }
     ensures { OnOk result (out.new.items
-        ≡ out.old.items ++ log_bytes parts.now.frame.version (width_of parts.now) parts.now.symbols) }
+        ≡ out.old.items ++ log_bytes parts.now.frame.version (symbol_width parts.now) parts.now.symbols) }
 {
     let symbols = parts.symbols.as_slice();
     if parts.frame.version < 2 {

@@ -8,7 +8,7 @@ use Rattle.list_laws.proofs.FlatLemmas.{sum_by-map}
 use Rattle.list_laws.proofs.NumberLemmas.{least_power}
 use Rattle.track_types.specs.Chart.{ChartView}
 use Rattle.track_types.specs.Frame.{IsFrame, periods_of, wide_of}
-use Rattle.track_types.specs.Shape.{IsShaped, IsShapedPeriod, width_for, width_of}
+use Rattle.track_types.specs.Shape.{IsShaped, IsShapedPeriod, width_for, symbol_width}
 use Rattle.track_types.specs.declared.cell.Cell.{Cell}
 use Rattle.track_types.specs.declared.cell_box.CellBox.{CellBox}
 use Rattle.track_types.specs.declared.frame.Frame.{Frame}
@@ -209,12 +209,12 @@ module _ (parts : Parts) (valid : IsValid parts) where
       })
 
   -- each stored symbol is one of the grammar's, so that the bits of a packed one are enough
-  narrow_symbols : All (λ symbol. symbol < 2 ^ width_of parts) parts.symbols
+  narrow_symbols : All (λ symbol. symbol < 2 ^ symbol_width parts) parts.symbols
   unfolding width_for
   narrow_symbols =
       let known : ℕ = length parts.alphabet + length parts.rules in
       let fits = least_power 26 known (omega arith) (omega (arith, valid.shaped.few_values, valid.shaped.few_rules)) in
-      All-from_get_or (λ symbol. symbol < 2 ^ width_of parts) parts.symbols 0 (λ place within.
+      All-from_get_or (λ symbol. symbol < 2 ^ symbol_width parts) parts.symbols 0 (λ place within.
       omega (arith, fits.1, valid.sound.rules.symbols place within))
 
   -- and so have the parts

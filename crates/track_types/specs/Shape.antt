@@ -26,8 +26,8 @@ unfoldable pub width_for : ℕ → ℕ
 width_for symbols = suc (position_or_len (λ width. nat_le symbols (2 ^ width)) (range_with_len 1 26))
 
 -- how many bits of the log section a symbol of an index of version 2 takes
-abbrev pub width_of : Parts → ℕ
-width_of parts = width_for (length parts.alphabet + length parts.rules)
+abbrev pub symbol_width : Parts → ℕ
+symbol_width parts = width_for (length parts.alphabet + length parts.rules)
 
 -- a period's lists are as long as its presence bits say, of which there is one for each object
 pub record IsShapedPeriod (objects : ℕ) (period : PeriodParts) : Type 0 where
@@ -58,4 +58,4 @@ pub record IsShaped (parts : Parts) : Type 0 where
   pub each : All (IsShapedPeriod (length parts.objects)) parts.periods
   pub few_symbols : length parts.symbols ≤ limit_of Symbols
   pub short_symbols : AreShort parts.symbols
-  pub narrow_symbols : 2 ≤ parts.frame.version → All (λ symbol. symbol < 2 ^ width_of parts) parts.symbols
+  pub narrow_symbols : 2 ≤ parts.frame.version → All (λ symbol. symbol < 2 ^ symbol_width parts) parts.symbols

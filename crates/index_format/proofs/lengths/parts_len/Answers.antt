@@ -1,6 +1,6 @@
 use Rattle.std.proofs.Common.{◌≡◌, length, take, sym, ap, arith}
 use Rattle.std.proofs.lemmas.List.{take_all}
-use Rattle.track_types.specs.Shape.{width_of}
+use Rattle.track_types.specs.Shape.{symbol_width}
 use Rattle.index_format.proofs.LengthLaws.{length-bytes_of_parts, length-log_bytes}
 use Rattle.index_format.proofs.lengths.parts_len.Goals as goal
 
@@ -13,7 +13,7 @@ returns c =
     omega (
       arith,
       length-bytes_of_parts c.args.parts.now,
-      length-log_bytes c.args.parts.now.frame.version (width_of c.args.parts.now) c.args.parts.now.symbols,
+      length-log_bytes c.args.parts.now.frame.version (symbol_width c.args.parts.now) c.args.parts.now.symbols,
       sum,
       ap length c.as_slice-objects.ensures,
       ap length c.as_slice.ensures,
