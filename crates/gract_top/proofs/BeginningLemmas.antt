@@ -12,7 +12,7 @@ use Rattle.track_index.proofs.DecidingLemmas.{first_flaw-file}
 use Rattle.gract_top.specs.Beginning.{NotLoaded, OpensFile, Progress, StopsAt}
 use Rattle.gract_top.specs.Completeness.{HasIndex}
 use Rattle.gract_top.specs.Refusal.{IsLengthRefused}
-use Rattle.gract_top.proofs.CompletenessLemmas.{came-whole, held-found, index-kept}
+use Rattle.gract_top.proofs.CompletenessLemmas.{came-whole, file_named-found, index-kept}
 use Rattle.gract_top.proofs.UpgradingLemmas.{IsFile-one}
 use Rattle.gract_top.specs.declared.outcome.Outcome.{Outcome}
 use Rattle.gract_top.specs.declared.outcome.Outcome.TheVariants as outcome
@@ -44,7 +44,7 @@ module _ (name : List ℕ) (before now : Progress) (ready : HasIndex before.file
         (λ failed. elim (stops.one.load_failed failed) [
           | inl rose ↦ calm rose
           | inr missing ↦
-              held-found before.files.map ready.files name ready.bytes ready.told ready.holds missing
+              file_named-found before.files.map ready.files name ready.bytes ready.told ready.holds missing
         ])
         (index-kept before.files.map now.files.taken name result ready)
     | inr unopened ↦ elim unopened.unopened [

@@ -5,7 +5,7 @@ use Rattle.std.proofs.lemmas.Bool.{cases_Bool}
 use Rattle.std.proofs.lemmas.Bool.Decides.{nat_tests}
 use Rattle.std.proofs.lemmas.List.{take_all}
 use Rattle.std.specs.Io.KnownBytes.{Consumes}
-use Rattle.host_ports.specs.FileMap.{FileMap, IsMissing, held}
+use Rattle.host_ports.specs.FileMap.{FileMap, IsMissing, file_named}
 use Rattle.host_ports.specs.FilesState.{FilesState, IsPlain}
 use Rattle.host_ports.specs.Faults.{Rose}
 use Rattle.track_types.specs.Limits.{limit_of}
@@ -82,22 +82,22 @@ by_cause outcome.SayFailed words load save listen say refused flawed long settin
 by_cause outcome.Memory words load save listen say refused flawed long settings common = inr refl
 
 -- a file that is held is not missing
-pub held-found : (map : Option FileMap) (files : FileMap) (name bytes : List ℕ) → map ≡ Some files →
-    held files name ≡ Some bytes → IsMissing map name → ⊥
-held-found None files name bytes told holds missing = missing
-held-found (Some others) files name bytes told holds missing =
+pub file_named-found : (map : Option FileMap) (files : FileMap) (name bytes : List ℕ) → map ≡ Some files →
+    file_named files name ≡ Some bytes → IsMissing map name → ⊥
+file_named-found None files name bytes told holds missing = missing
+file_named-found (Some others) files name bytes told holds missing =
     let same : others ≡ files = cc in
-    let none : held files name ≡ None = sym (ap (λ these. held these name) same) ∙ missing in
+    let none : file_named files name ≡ None = sym (ap (λ these. file_named these name) same) ∙ missing in
     absurd (cc)
 
 -- what came of a file that is not too long is all of it
 pub came-whole : (map : Option FileMap) (files : FileMap) (taken : ℕ) (name whole : List ℕ) (most : ℕ) (bytes : List ℕ) →
-    map ≡ Some files → held files name ≡ Some whole → length whole ≤ most → FileCame map taken name most bytes →
+    map ≡ Some files → file_named files name ≡ Some whole → length whole ≤ most → FileCame map taken name most bytes →
     bytes ≡ whole
 came-whole None files taken name whole most bytes told holds short came = absurd (cc)
 came-whole (Some others) files taken name whole most bytes told holds short came =
     let same : others ≡ files = cc in
-    let holds_now : held others name ≡ Some whole = ap (λ these. held these name) same ∙ holds in
+    let holds_now : file_named others name ≡ Some whole = ap (λ these. file_named these name) same ∙ holds in
     let front = came.held in
     let one : front.0 ≡ whole = cc in
     front.2 ∙ rw one (take_all (most + 1) whole (omega (arith, short)))
@@ -173,7 +173,7 @@ once-good result csv settings untouched before now ends ready lines plain words 
     by_cause result words
     (λ failed. elim (ends.loading.one.load_failed failed) [
       | inl rose ↦ calm rose
-      | inr missing ↦ held-found before.files.map ready.files csv ready.bytes ready.told ready.holds missing
+      | inr missing ↦ file_named-found before.files.map ready.files csv ready.bytes ready.told ready.holds missing
     ])
     save listen say
     (λ refusal. accepted-kept before.files.map now.files.taken csv settings result ready (ends.refused refusal))
@@ -206,7 +206,7 @@ ask-good result index untouched before now ends ready lines words save listen sa
     by_cause result words
     (λ failed. elim (ends.loading.one.load_failed failed) [
       | inl rose ↦ calm rose
-      | inr missing ↦ held-found before.files.map ready.files index ready.bytes ready.told ready.holds missing
+      | inr missing ↦ file_named-found before.files.map ready.files index ready.bytes ready.told ready.holds missing
     ])
     save listen say
     (λ refusal. index-kept before.files.map now.files.taken index result ready (ends.refused refusal))
@@ -243,7 +243,7 @@ build-good result csv index settings before now ends ready words save listen say
     by_cause result words
     (λ failed. elim (ends.loading.one.load_failed failed) [
       | inl rose ↦ calm rose
-      | inr missing ↦ held-found before.map ready.files csv ready.bytes ready.told ready.holds missing
+      | inr missing ↦ file_named-found before.map ready.files csv ready.bytes ready.told ready.holds missing
     ])
     save listen say
     (λ refusal. accepted-kept before.map now.taken csv settings result ready (ends.refused refusal))
@@ -292,7 +292,7 @@ module _ (index name : List ℕ) (before now : FilesState) (steps_before steps_n
     upgrade-good outcome.SaveFailed ends short save calm = absurd (save refl)
     upgrade-good outcome.LoadFailed ends short save calm = elim (ends.loading.load_failed refl) [
       | inl rose ↦ absurd (calm rose)
-      | inr missing ↦ absurd (held-found before.map ready.files index ready.bytes ready.told ready.holds missing)
+      | inr missing ↦ absurd (file_named-found before.map ready.files index ready.bytes ready.told ready.holds missing)
     ]
     upgrade-good (outcome.Flaw flaw) ends short save calm = upgrade-other _ ends (λ refused. refused)
         (λ flawed. let both : Some flaw ≡ None = sym flawed ∙ first_flaw-file ready.bytes ready.parts ready.file in cc)

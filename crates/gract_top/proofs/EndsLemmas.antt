@@ -4,7 +4,7 @@ use Rattle.std.proofs.Common.{inl, inr, refl, sym, ap, ◌∙◌, subst, arith}
 use mathlib.Core.Bool.{false≢true}
 use Rattle.host_ports.specs.FileMap.{IsMissing}
 use Rattle.host_ports.specs.FilesState.{FilesState}
-use Rattle.host_ports.specs.NumberedCalls.{raised}
+use Rattle.host_ports.specs.NumberedCalls.{one_more}
 use Rattle.track_types.specs.Chart.{ChartView}
 use Rattle.track_types.specs.Limits.{limit_of}
 use Rattle.track_types.specs.declared.limit.LimitKind.{LimitKind}
@@ -40,7 +40,7 @@ is_early-refusal outcome.Memory refusal = refusal
 pub EndsLoading-loaded : {T : Type 0} (loaded : Result T Outcome) (value : T) (result : Outcome) (name : List ℕ)
     (kind : LimitKind) (before now : FilesState) → loaded ≡ Ok value →
     (IsMissing before.map name → loaded ≡ Err outcome.LoadFailed) → now.taken ≤ limit_of kind + 1 →
-    now.begins ≡ raised before.begins → is_early result ≡ false →
+    now.begins ≡ one_more before.begins → is_early result ≡ false →
     ((size : ℕ) → is_early (outcome.Limit kind size) ≡ true) → EndsLoading result name kind before now
 EndsLoading-loaded loaded value result name kind before now is missing taken begins later early = record {
   one = record {

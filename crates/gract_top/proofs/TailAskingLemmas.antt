@@ -28,7 +28,7 @@ use Rattle.gract_top.specs.declared.outcome.Outcome.{Outcome}
 use Rattle.gract_top.specs.declared.outcome.Outcome.TheVariants as outcome
 use Rattle.gract_top.specs.declared.request.Settings.{Settings}
 use Rattle.gract_top.proofs.BeginningLemmas.{OpensFile-parts, StopsAt-memory}
-use Rattle.gract_top.proofs.CompletenessLemmas.{IsGood, by_cause, came-whole, held-found, questions-short}
+use Rattle.gract_top.proofs.CompletenessLemmas.{IsGood, by_cause, came-whole, file_named-found, questions-short}
 use Rattle.gract_top.proofs.EndsLemmas.{is_early-refusal}
 
 -- the bytes of an index file are opened within the cost of its parts
@@ -120,7 +120,7 @@ module _ (result : Outcome) (index csv : List ℕ) (untouched : Type 0) (files_b
         by_cause result words
         (λ failed. elim (asks.loading.one.load_failed failed) [
           | inl rose ↦ calm (rw asks.opens.load_faults at rose)
-          | inr missing ↦ held-found asks.between.files.map held.files csv held.bytes held.told held.holds missing
+          | inr missing ↦ file_named-found asks.between.files.map held.files csv held.bytes held.told held.holds missing
         ])
         save listen say
         (λ refusal. elim asks.ended [

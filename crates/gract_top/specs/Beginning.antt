@@ -3,7 +3,7 @@ use Rattle.std.specs.Prelude.{◌≡◌, ℕ, ◌+◌, ◌≤◌, ⊤, List, ◌
 use Rattle.host_ports.specs.FileMap.{IsMissing}
 use Rattle.host_ports.specs.FilesState.{FilesState}
 use Rattle.host_ports.specs.Faults.{Rose}
-use Rattle.host_ports.specs.NumberedCalls.{raised}
+use Rattle.host_ports.specs.NumberedCalls.{one_more}
 use Rattle.track_types.specs.Limits.{limit_of}
 use Rattle.track_types.specs.declared.flaw.Flaw.{Flaw}
 use Rattle.track_types.specs.declared.limit.LimitKind.{LimitKind}
@@ -27,7 +27,7 @@ pub record BeginsOne (result : Outcome) (name : List ℕ) (kind : LimitKind) (be
   pub missing : IsMissing before.map name → result ≡ outcome.LoadFailed
   -- no byte of the file beyond its limit and one is asked for
   pub taken : now.taken ≤ limit_of kind + 1
-  pub begins : now.begins ≡ raised before.begins
+  pub begins : now.begins ≡ one_more before.begins
 
 -- The same, where the length of that file is all that has this limit.
 pub record EndsLoading (result : Outcome) (name : List ℕ) (kind : LimitKind) (before now : FilesState) : Type 0 where
@@ -77,7 +77,7 @@ pub record OpensFile (name : List ℕ) (parts : Parts) (before now : Progress) :
   pub loaded : IsIndexLoaded before.files.map now.files.taken name bytes
   pub file : IsFile bytes parts
   pub cost : now.steps ≤ before.steps + bytes_cost bytes
-  pub begins : now.files.begins ≡ raised before.files.begins
+  pub begins : now.files.begins ≡ one_more before.files.begins
   pub unsaved : SavesNothing before.files now.files
   pub load_faults : now.files.load_faults ≡ before.files.load_faults
   pub save_faults : now.files.save_faults ≡ before.files.save_faults

@@ -1,6 +1,6 @@
 -- When a call does all that was asked of it, unless it is out of memory.
 use Rattle.std.specs.Prelude.{◌≡◌, ℕ, ◌≤◌, List, length, Option, Some, None, ◌⊎◌}
-use Rattle.host_ports.specs.FileMap.{FileMap, held}
+use Rattle.host_ports.specs.FileMap.{FileMap, file_named}
 use Rattle.host_ports.specs.FilesState.{IsPlain}
 use Rattle.host_ports.specs.Faults.{Rose}
 use Rattle.host_ports.specs.declared.files.Files.{Ghosts as OfFiles}
@@ -26,7 +26,7 @@ pub record HasAccepted (map : Option FileMap) (csv : List ℕ) (settings : Setti
   pub files : FileMap
   pub told : map ≡ Some files
   pub bytes : List ℕ
-  pub holds : held files csv ≡ Some bytes
+  pub holds : file_named files csv ≡ Some bytes
   pub accepted : file_refusal bytes settings ≡ None
 
 -- The files are told, and that name holds a CSV file that is accepted, or one without a data row.
@@ -34,7 +34,7 @@ pub record HasTail (map : Option FileMap) (csv : List ℕ) (settings : Settings)
   pub files : FileMap
   pub told : map ≡ Some files
   pub bytes : List ℕ
-  pub holds : held files csv ≡ Some bytes
+  pub holds : file_named files csv ≡ Some bytes
   pub accepted : (file_refusal bytes settings ≡ None) ⊎ (file_refusal bytes settings ≡ Some outcome.Empty)
 
 -- The files are told, and that name holds an index file that is not too long.
@@ -42,7 +42,7 @@ pub record HasIndex (map : Option FileMap) (index : List ℕ) : Type 0 where
   pub files : FileMap
   pub told : map ≡ Some files
   pub bytes : List ℕ
-  pub holds : held files index ≡ Some bytes
+  pub holds : file_named files index ≡ Some bytes
   pub short : length bytes ≤ limit_of limit.Index
   pub parts : Parts
   pub file : IsFile bytes parts

@@ -3,7 +3,7 @@ use Rattle.std.specs.Prelude.{◌≡◌, ◌≢◌, ℕ, ◌+◌, ◌*◌, ◌�
 use Rattle.host_ports.specs.FileMap.{IsSaved, KeepsOthers}
 use Rattle.host_ports.specs.FilesState.{FilesState, IsPlain}
 use Rattle.host_ports.specs.Meanings.{files_at}
-use Rattle.host_ports.specs.NumberedCalls.{raised}
+use Rattle.host_ports.specs.NumberedCalls.{one_more}
 use Rattle.host_ports.specs.declared.files.Files.{Ghosts as OfFiles}
 use Rattle.host_ports.specs.declared.sink.Sink.{Ghosts as OfSink}
 use Rattle.host_ports.specs.declared.source.Source.{Ghosts as OfSource}
@@ -75,9 +75,9 @@ pub record EndsOnce (result : Outcome) (csv : List ℕ) (settings : Settings) (u
 -- What a save left: that name holds the bytes, or anything after a failure. The other names hold what they held.
 abbrev pub Saved : Outcome → List ℕ → List ℕ → FilesState → FilesState → Type 0
 Saved outcome.Done index bytes before now =
-    IsSaved now.map index bytes × KeepsOthers before.map now.map index × (now.saves ≡ raised before.saves)
+    IsSaved now.map index bytes × KeepsOthers before.map now.map index × (now.saves ≡ one_more before.saves)
 Saved outcome.SaveFailed index bytes before now =
-    KeepsOthers before.map now.map index × (now.saves ≡ raised before.saves)
+    KeepsOthers before.map now.map index × (now.saves ≡ one_more before.saves)
 Saved other index bytes before now = ⊥
 
 -- The CSV file was accepted, and the bytes of its index were saved, or the save failed.

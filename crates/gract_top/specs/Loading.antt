@@ -1,8 +1,8 @@
 -- What came of a file that was loaded.
 use Rattle.std.specs.Prelude.{◌≡◌, ℕ, ◌+◌, ◌≤◌, ◌⊎◌, ⊤, List, length, take, Option, Some, None}
 use Rattle.host_ports.specs.Faults.{Rose}
-use Rattle.host_ports.specs.FileMap.{FileMap, IsMissing, held}
-use Rattle.host_ports.specs.NumberedCalls.{raised}
+use Rattle.host_ports.specs.FileMap.{FileMap, IsMissing, file_named}
+use Rattle.host_ports.specs.NumberedCalls.{one_more}
 use Rattle.host_ports.specs.declared.files.Files.{Ghosts as OfFiles}
 use Rattle.track_types.specs.Limits.{limit_of}
 use Rattle.track_types.specs.declared.limit.LimitKind.{LimitKind}
@@ -11,7 +11,7 @@ use Rattle.track_types.specs.declared.limit.LimitKind.{LimitKind}
 abbrev pub HoldsFront : Option FileMap → List ℕ → ℕ → List ℕ → Type 0
 HoldsFront None name limit bytes = ⊤
 HoldsFront (Some files) name limit bytes =
-    (whole : List ℕ) × (held files name ≡ Some whole) × (bytes ≡ take (limit + 1) whole)
+    (whole : List ℕ) × (file_named files name ≡ Some whole) × (bytes ≡ take (limit + 1) whole)
 
 -- These bytes of a file came: they are counted, and those of the file where it is told.
 pub record FileCame (map : Option FileMap) (taken : ℕ) (name : List ℕ) (limit : ℕ) (bytes : List ℕ) : Type 0 where
@@ -37,7 +37,7 @@ pub record LoadsOnly {F : Type 0} (f : OfFiles F) (before now : F) (name : List 
   pub missing : IsMissing (f.map before) name → failed
   pub untouched : (failed → ⊥) → f.load_faults now ≡ f.load_faults before
   pub faults : f.load_faults before ≤ f.load_faults now
-  pub begins : f.begins now ≡ raised (f.begins before)
+  pub begins : f.begins now ≡ one_more (f.begins before)
   pub map : f.map now ≡ f.map before
   pub saves : f.saves now ≡ f.saves before
   pub save_faults : f.save_faults now ≡ f.save_faults before

@@ -1,7 +1,7 @@
 -- The definitions, run on small cases.
 use Rattle.std.proofs.Common.{◌≡◌, ◌-◌, ◌^◌, [], ◌∷◌, Some, None, true, false, refl, codes}
-use Rattle.host_ports.specs.FileMap.{FileMap, held}
-use Rattle.host_ports.specs.NumberedCalls.{raised, no_calls, fails_next, counted}
+use Rattle.host_ports.specs.FileMap.{FileMap, file_named}
+use Rattle.host_ports.specs.NumberedCalls.{one_more, no_calls, fails_next, counted}
 use Rattle.host_ports.specs.FilesState.{IsPlain}
 use Rattle.host_ports.specs.MemFiles.{MemFilesView, new_files, after_begin, after_pull, after_save, is_refused, given_by}
 use Rattle.host_ports.specs.MemSource.{MemSourceView, new_source, after_listen}
@@ -11,19 +11,19 @@ use Rattle.host_ports.specs.MemSink.{MemSinkView, new_sink, is_cut, sent_count, 
 two : FileMap
 two = (codes "a", codes "new") ∷ (codes "b", codes "other") ∷ (codes "a", codes "old") ∷ []
 
-first_counts : held two (codes "a") ≡ Some (codes "new")
+first_counts : file_named two (codes "a") ≡ Some (codes "new")
 unfolding two
 first_counts = refl
 
-missing : held two (codes "c") ≡ None
+missing : file_named two (codes "c") ≡ None
 unfolding two
 missing = refl
 
 -- counts stop at 2^64 - 1
-counts_on : raised 41 ≡ 42
+counts_on : one_more 41 ≡ 42
 counts_on = refl
 
-stops : raised (2 ^ 64 - 1) ≡ 2 ^ 64 - 1
+stops : one_more (2 ^ 64 - 1) ≡ 2 ^ 64 - 1
 stops = refl
 
 -- of the calls 1, 2 and 3 the second fails

@@ -1,7 +1,7 @@
 -- What is known of a device behind std's reading and writing.
 use Rattle.std.specs.Prelude.{ℕ, ◌+◌, List, [], Option, Some, Bool, Result, is_err}
 use Rattle.host_ports.specs.Faults.{read_count}
-use Rattle.host_ports.specs.NumberedCalls.{raised, raised_if}
+use Rattle.host_ports.specs.NumberedCalls.{one_more, one_more_if}
 
 -- how many bytes came from a device, and how often it failed
 pub record Counts : Type 0 where
@@ -17,7 +17,7 @@ abbrev pub after_read : {E : Type 0} → Counts → Result ℕ E → Counts
 after_read counts outcome =
     record {
       taken = counts.taken + read_count outcome;
-      faults = raised_if (is_err outcome) counts.faults;
+      faults = one_more_if (is_err outcome) counts.faults;
     }
 
 -- the bytes that a reader has left, where it tells them, and the counts
@@ -41,7 +41,7 @@ new_disk = record { left = Some []; counts = no_counts; begins = 0; saves = 0; s
 -- one save more, and one fault more if it failed
 abbrev pub after_disk_save : DiskView → Bool → DiskView
 after_disk_save files is_fault =
-    record files { saves = raised files.saves; save_faults = raised_if is_fault files.save_faults }
+    record files { saves = one_more files.saves; save_faults = one_more_if is_fault files.save_faults }
 
 -- the bytes that a writer holds, where it tells them, and how often it failed
 pub record WriterView : Type 0 where

@@ -9,18 +9,18 @@ abbrev pub FileMap : Type 0
 FileMap = List (List ℕ × List ℕ)
 
 -- the bytes of the file of that name, if there is one
-abbrev pub held : FileMap → List ℕ → Option (List ℕ)
-held files name = lookup (λ key. bytes_eq key name) files
+abbrev pub file_named : FileMap → List ℕ → Option (List ℕ)
+file_named files name = lookup (λ key. bytes_eq key name) files
 
 -- where the files are told, there is one of that name, and all its bytes are still to come
 abbrev pub IsOpened : Option FileMap → List ℕ → Option (List ℕ) → Type 0
 IsOpened None name rest = ⊤
-IsOpened (Some files) name rest = (bytes : List ℕ) × (held files name ≡ Some bytes) × (rest ≡ Some bytes)
+IsOpened (Some files) name rest = (bytes : List ℕ) × (file_named files name ≡ Some bytes) × (rest ≡ Some bytes)
 
 -- the files are told, and there is none of that name
 abbrev pub IsMissing : Option FileMap → List ℕ → Type 0
 IsMissing None name = ⊥
-IsMissing (Some files) name = held files name ≡ None
+IsMissing (Some files) name = file_named files name ≡ None
 
 -- nothing is left to come, and where it was told what is, it is told still
 abbrev pub LeavesNothing : Option (List ℕ) → Option (List ℕ) → Type 0
@@ -30,11 +30,11 @@ LeavesNothing (Some bytes) after = after ≡ Some []
 -- where the files are told, that name holds the bytes
 abbrev pub IsSaved : Option FileMap → List ℕ → List ℕ → Type 0
 IsSaved None name bytes = ⊤
-IsSaved (Some files) name bytes = held files name ≡ Some bytes
+IsSaved (Some files) name bytes = file_named files name ≡ Some bytes
 
 -- every name but that one holds what it held, and files that were told are told still
 abbrev pub KeepsOthers : Option FileMap → Option FileMap → List ℕ → Type 0
 KeepsOthers None after name = ⊤
 KeepsOthers (Some before) after name =
     (files : FileMap) × (after ≡ Some files)
-    × ((other : List ℕ) → other ≢ name → held files other ≡ held before other)
+    × ((other : List ℕ) → other ≢ name → file_named files other ≡ file_named before other)

@@ -5,15 +5,15 @@ use Rattle.host_ports.specs.declared.file_store.HeldFile.{HeldFile}
 use Rattle.host_ports.specs.declared.file_store.Begun.{Begun}
 
 -- the name of a file, then its bytes
-abbrev pub entry_of : List ℕ → HeldFile → List ℕ × List ℕ
-entry_of store file = (slice_range store file.start file.middle, slice_range store file.middle file.end)
+abbrev pub file_entry : List ℕ → HeldFile → List ℕ × List ℕ
+file_entry store file = (slice_range store file.start file.middle, slice_range store file.middle file.end)
 
 -- the files by name, the one that came last first
 abbrev pub file_map : List ℕ → List HeldFile → FileMap
-file_map store files = reverse (map (entry_of store) files)
+file_map store files = reverse (map (file_entry store) files)
 
 -- a file lies within what is stored
-pub record IsWithin (store : List ℕ) (file : HeldFile) : Type 0 where
+pub record IsInStore (store : List ℕ) (file : HeldFile) : Type 0 where
   pub name : file.start ≤ file.middle
   pub bytes : file.middle ≤ file.end
   pub inside : file.end ≤ length store
@@ -38,4 +38,4 @@ taken_count (Some begun) = begun.taken
 -- the file that was begun is there, and has the bytes that came
 abbrev pub IsBegun : List ℕ → Option Begun → Type 0
 IsBegun store None = ⊤
-IsBegun store (Some begun) = IsWithin store begun.file × (begun.taken ≤ begun.file.end - begun.file.middle)
+IsBegun store (Some begun) = IsInStore store begun.file × (begun.taken ≤ begun.file.end - begun.file.middle)

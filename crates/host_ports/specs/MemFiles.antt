@@ -1,7 +1,7 @@
 -- What files in memory do.
 use Rattle.std.specs.Prelude.{ℕ, ◌+◌, ◌-◌, min, nat_lt, Bool, ◌||◌, if◌then◌else◌, List, [], ◌∷◌, length, drop, Option, Some, None, unwrap_or}
-use Rattle.host_ports.specs.NumberedCalls.{Calls, no_calls, fails_next, counted, numbered, raised, raised_if}
-use Rattle.host_ports.specs.FileMap.{FileMap, held}
+use Rattle.host_ports.specs.NumberedCalls.{Calls, no_calls, fails_next, counted, numbered, one_more, one_more_if}
+use Rattle.host_ports.specs.FileMap.{FileMap, file_named}
 
 -- the files by name, what is still to come of the one that was begun, how many of its bytes came, the calls and
 -- the faults of loading, how many bytes are left for saves, the calls of each kind and the faults of saving, and
@@ -40,10 +40,10 @@ after_put files name bytes = record files { files = (name, bytes) ∷ files.file
 abbrev pub after_begin : MemFilesView → List ℕ → MemFilesView
 after_begin files name =
     record files {
-      rest = if fails_next files.calls then [] else unwrap_or (held files.files name) [];
+      rest = if fails_next files.calls then [] else unwrap_or (file_named files.files name) [];
       taken = 0;
       calls = counted files.calls (fails_next files.calls);
-      begins = raised files.begins;
+      begins = one_more files.begins;
     }
 
 -- how many bytes the next call gives to a buffer with that much room
@@ -73,8 +73,8 @@ after_save files name bytes =
       files = if refused then files.files else ((name, bytes) ∷ files.files);
       calls = numbered files.calls;
       room = if refused then files.room else (files.room - (length name + length bytes));
-      saves = raised files.saves;
-      save_faults = raised_if refused files.save_faults;
+      saves = one_more files.saves;
+      save_faults = one_more_if refused files.save_faults;
     }
 
 -- what a pass gives: the bytes that were laid, or else those that it is handed

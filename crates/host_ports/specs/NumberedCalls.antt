@@ -3,12 +3,12 @@ use Rattle.std.specs.Prelude.{ℕ, ◌+◌, ◌-◌, ◌^◌, ◌==◌, min, Boo
 use Rattle.std.specs.List.{list_any}
 
 -- one more, up to 2^64 - 1
-abbrev pub raised : ℕ → ℕ
-raised n = min (n + 1) (2 ^ 64 - 1)
+abbrev pub one_more : ℕ → ℕ
+one_more n = min (n + 1) (2 ^ 64 - 1)
 
 -- one fault more, if there was one
-abbrev pub raised_if : Bool → ℕ → ℕ
-raised_if is_fault faults = if is_fault then raised faults else faults
+abbrev pub one_more_if : Bool → ℕ → ℕ
+one_more_if is_fault faults = if is_fault then one_more faults else faults
 
 -- how many calls were made, the numbers of those that fail, and how many faults were counted
 pub record Calls : Type 0 where
@@ -22,12 +22,12 @@ no_calls fails = record { made = 0; fails = fails; faults = 0 }
 
 -- whether the number of the next call is among those that fail
 abbrev pub fails_next : Calls → Bool
-fails_next calls = list_any (λ number. number == raised calls.made) calls.fails
+fails_next calls = list_any (λ number. number == one_more calls.made) calls.fails
 
 -- one call more
 abbrev pub numbered : Calls → Calls
-numbered calls = record calls { made = raised calls.made }
+numbered calls = record calls { made = one_more calls.made }
 
 -- one call more, and one fault more if that call was one
 abbrev pub counted : Calls → Bool → Calls
-counted calls is_fault = record calls { made = raised calls.made; faults = raised_if is_fault calls.faults }
+counted calls is_fault = record calls { made = one_more calls.made; faults = one_more_if is_fault calls.faults }

@@ -2,7 +2,7 @@ ghost use Rattle.std.specs.Prelude.{◌≡◌, ◌<◌, ◌≤◌, ◌^◌, Some
 ghost use Rattle.std.specs.Io.{ReadsAtMost};
 ghost use Rattle.std.specs.Io.KnownBytes.{IsAtEnd, ReadConsumes};
 ghost use Rattle.host_ports.specs.Device.{new_disk, after_read, after_disk_save};
-ghost use Rattle.host_ports.specs.NumberedCalls.{raised, raised_if};
+ghost use Rattle.host_ports.specs.NumberedCalls.{one_more, one_more_if};
 
 use crate::meter::Meter;
 use crate::retrying::read_piece;
@@ -79,9 +79,9 @@ impl<'a, R: rt::Files> Files for DiskFiles<'a, R> {
         ensures err { OnErr result (IsAtEnd self.new.left) }
         ensures fresh { self.new.counts.taken ≡ 0 }
         ensures counted { let before = self.old.counts.faults in
-            self.new.counts.faults ≡ raised_if (is_err result) before }
+            self.new.counts.faults ≡ one_more_if (is_err result) before }
         ensures faults { self.old.counts.faults ≤ self.new.counts.faults }
-        ensures begins { self.new.begins ≡ raised self.old.begins }
+        ensures begins { self.new.begins ≡ one_more self.old.begins }
         ensures saves { self.new.saves ≡ self.old.saves }
         ensures save_faults { self.new.save_faults ≡ self.old.save_faults }
     {

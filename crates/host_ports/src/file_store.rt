@@ -1,7 +1,7 @@
 ghost use Rattle.std.specs.Prelude.{◌≡◌, ◌+◌, ◌-◌, ◌≤◌, ◌++◌, ◌∷◌, [], Some, None, OnOk, MatchOption, length, slice_range, vec_len, vec_capacity};
 ghost use Rattle.std.specs.List.{All};
-ghost use Rattle.host_ports.specs.FileMap.{held};
-ghost use Rattle.host_ports.specs.FileStore.{bytes_left, file_map, IsBegun, IsWithin};
+ghost use Rattle.host_ports.specs.FileMap.{file_named};
+ghost use Rattle.host_ports.specs.FileStore.{bytes_left, file_map, IsBegun, IsInStore};
 
 use std::alloc::Global;
 use std::marker::Model;
@@ -32,7 +32,7 @@ pub(crate) struct FileStore {
 impl Model for FileStore {
     ghost use Rattle.std.specs.Prelude.{◌-◌, length, vec_capacity};
     ghost use Rattle.std.specs.List.{All};
-    ghost use Rattle.host_ports.specs.FileStore.{file_map, FileStoreView, IsWithin};
+    ghost use Rattle.host_ports.specs.FileStore.{file_map, FileStoreView, IsInStore};
 
     ghost Value = { FileStoreView };
 
@@ -43,7 +43,7 @@ impl Model for FileStore {
       places = vec_capacity s.files - length s.files.items;
     } };
 
-    ghost invariant = { λ s. All (IsWithin s.stored.items) s.files.items };
+    ghost invariant = { λ s. All (IsInStore s.stored.items) s.files.items };
 }
 
 impl FileStore {
@@ -91,9 +91,9 @@ impl FileStore {
     /// The newest file of that name.
     pub(crate) fn newest(&self, name: &str) -> Option<HeldFile>
         ensures { MatchOption result
-            (held self.now.files name.now ≡ None)
-            (λ file. IsWithin self.now.stored file
-            × (held self.now.files name.now ≡ Some (slice_range self.now.stored file.middle file.end))) }
+            (file_named self.now.files name.now ≡ None)
+            (λ file. IsInStore self.now.stored file
+            × (file_named self.now.files name.now ≡ Some (slice_range self.now.stored file.middle file.end))) }
     {
         newest_file(&self.stored, &self.files, name.as_bytes())
     }
@@ -112,11 +112,11 @@ impl FileStore {
 
 /// The last of the files that has that name.
 fn newest_file(stored: &[u8], files: &[HeldFile], name: &[u8]) -> Option<HeldFile>
-    requires { All (IsWithin stored.now) files.now }
+    requires { All (IsInStore stored.now) files.now }
     ensures { MatchOption result
-        (held (file_map stored.now files.now) name.now ≡ None)
-        (λ file. IsWithin stored.now file
-        × (held (file_map stored.now files.now) name.now
+        (file_named (file_map stored.now files.now) name.now ≡ None)
+        (λ file. IsInStore stored.now file
+        × (file_named (file_map stored.now files.now) name.now
         ≡ Some (slice_range stored.now file.middle file.end))) }
 {
     let mut found = None;

@@ -4,7 +4,7 @@ ghost use Rattle.std.specs.Io.KnownBytes.{ReadConsumes};
 ghost use Rattle.host_ports.specs.Faults.{Rose, read_count};
 ghost use Rattle.host_ports.specs.FileMap.{FileMap, IsMissing, IsOpened, IsSaved, KeepsOthers, LeavesNothing};
 ghost use Rattle.host_ports.specs.FilesState.{state_of};
-ghost use Rattle.host_ports.specs.NumberedCalls.{raised};
+ghost use Rattle.host_ports.specs.NumberedCalls.{one_more};
 
 use crate::Failed;
 
@@ -46,7 +46,7 @@ pub trait Files {
             (Rose (load_faults self.old) (load_faults self.new) ⊎ IsMissing (map self.old) name.now) }
         ensures err { OnErr result (LeavesNothing (rest self.old) (rest self.new)) }
         ensures fresh { taken self.new ≡ 0 }
-        ensures begins { begins self.new ≡ raised (begins self.old) }
+        ensures begins { begins self.new ≡ one_more (begins self.old) }
         ensures map { map self.new ≡ map self.old }
         ensures untouched { OnOk result (load_faults self.new ≡ load_faults self.old) }
         ensures faults { load_faults self.old ≤ load_faults self.new }
@@ -80,7 +80,7 @@ pub trait Files {
         ensures ok { OnOk result (IsSaved (map self.new) name.now bytes.now) }
         ensures others { KeepsOthers (map self.old) (map self.new) name.now }
         ensures cause { OnErr result (Rose (save_faults self.old) (save_faults self.new)) }
-        ensures saves { saves self.new ≡ raised (saves self.old) }
+        ensures saves { saves self.new ≡ one_more (saves self.old) }
         ensures untouched { OnOk result (save_faults self.new ≡ save_faults self.old) }
         ensures faults { save_faults self.old ≤ save_faults self.new }
         ensures rest { rest self.new ≡ rest self.old }

@@ -1,7 +1,7 @@
 ghost use Rattle.std.specs.Prelude.{◌≡◌, ◌↔◌, ◌⊎◌, ◌<◌, ◌≤◌, ◌^◌, Some, None, IsTrue, IsErr, OnOk, OnErr, IfOk, length, take, drop, ◌++◌};
 ghost use Rattle.std.specs.Io.KnownBytes.{ReadConsumes};
 ghost use Rattle.host_ports.specs.NumberedCalls.{fails_next};
-ghost use Rattle.host_ports.specs.FileMap.{held};
+ghost use Rattle.host_ports.specs.FileMap.{file_named};
 ghost use Rattle.host_ports.specs.MemFiles.{new_files, after_put, after_begin, next_pull, after_pull, is_refused, after_save, given_by};
 
 use crate::copying::copy_front;
@@ -123,7 +123,7 @@ impl Files for MemFiles {
     /// Begins the file of that name. A name that is not held is no fault of the device.
     fn begin(&mut self, name: &str) -> Result<(), Failed>
         ensures fails { IsErr result ↔
-            (IsTrue (fails_next self.old.calls) ⊎ (held self.old.files name.now ≡ None)) }
+            (IsTrue (fails_next self.old.calls) ⊎ (file_named self.old.files name.now ≡ None)) }
         ensures after { self.new ≡ after_begin self.old name.now }
         ensures faults { self.old.calls.faults ≤ self.new.calls.faults }
     {

@@ -1,6 +1,6 @@
 ghost use Rattle.std.specs.Prelude.{◌≡◌, ◌+◌, ◌^◌, ◌≤◌, ◌↔◌, Ok, IsErr, IfOk, MatchResult};
 ghost use Rattle.host_ports.specs.Device.{no_counts, after_read};
-ghost use Rattle.host_ports.specs.NumberedCalls.{raised};
+ghost use Rattle.host_ports.specs.NumberedCalls.{one_more};
 
 use crate::Failed;
 use std::io;
@@ -51,7 +51,7 @@ impl Meter {
     }
 
     pub(crate) fn count_fault(&mut self)
-        ensures after { self.new ≡ record self.old { faults = raised self.old.faults } }
+        ensures after { self.new ≡ record self.old { faults = one_more self.old.faults } }
         ensures faults { self.old.faults ≤ self.new.faults }
     {
         self.faults = self.faults.saturating_add(1);

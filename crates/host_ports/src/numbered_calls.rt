@@ -1,5 +1,5 @@
 ghost use Rattle.std.specs.Prelude.{◌≡◌, ◌↔◌, ◌≤◌, IsTrue, IsErr};
-ghost use Rattle.host_ports.specs.NumberedCalls.{no_calls, fails_next, counted, numbered, raised};
+ghost use Rattle.host_ports.specs.NumberedCalls.{no_calls, fails_next, counted, numbered, one_more};
 
 use crate::Failed;
 use std::marker::Model;
@@ -54,7 +54,7 @@ impl NumberedCalls {
     }
 
     pub(crate) fn count_fault(&mut self)
-        ensures after { self.new ≡ record self.old { faults = raised self.old.faults } }
+        ensures after { self.new ≡ record self.old { faults = one_more self.old.faults } }
         ensures faults { self.old.faults ≤ self.new.faults }
     {
         self.faults = self.faults.saturating_add(1);

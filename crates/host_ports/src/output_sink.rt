@@ -1,6 +1,6 @@
 ghost use Rattle.std.specs.Prelude.{◌≡◌, ◌≤◌, None, OnOk, IfErr, is_err, length, take};
 ghost use Rattle.std.specs.Io.KnownBytes.{Appends};
-ghost use Rattle.host_ports.specs.NumberedCalls.{raised_if};
+ghost use Rattle.host_ports.specs.NumberedCalls.{one_more_if};
 
 use crate::retrying::{flush_all, write_piece};
 use crate::{Cut, Sink};
@@ -43,7 +43,7 @@ impl<W: Write> Sink for OutputSink<W> {
         ensures within { IfErr result (λ cut. cut.sent ≤ length piece.now) }
         ensures cut { IfErr result (λ cut.
             Appends self.old.contents self.new.contents (take cut.sent piece.now)) }
-        ensures counted { self.new.faults ≡ raised_if (is_err result) self.old.faults }
+        ensures counted { self.new.faults ≡ one_more_if (is_err result) self.old.faults }
         ensures faults { self.old.faults ≤ self.new.faults }
     {
         let sent = write_piece(&mut self.writer, piece);

@@ -1,7 +1,7 @@
 use Rattle.std.proofs.Common.{◌≡◌, ◌+◌, ◌-◌, ◌≤◌, ℕ, List, length}
 use Rattle.std.specs.Io.KnownBytes.{prepend_known}
 use Rattle.host_ports.specs.FileMap.{IsOpened}
-use Rattle.host_ports.specs.NumberedCalls.{raised}
+use Rattle.host_ports.specs.NumberedCalls.{one_more}
 use Rattle.gract_top.proofs.loading.load.Given as goal
 
 abbrev pub invariant-pieces : goal.invariant-pieces
@@ -13,7 +13,7 @@ invariant-pieces g l = record {
   within : l.count ≤ l.limit;
   map : g.F.Files.map l.files ≡ g.F.Files.map l.fn.files;
   faults : g.F.Files.load_faults l.files ≡ g.F.Files.load_faults l.fn.files;
-  begins : g.F.Files.begins l.files ≡ raised (g.F.Files.begins l.fn.files);
+  begins : g.F.Files.begins l.files ≡ one_more (g.F.Files.begins l.fn.files);
   saves : g.F.Files.saves l.files ≡ g.F.Files.saves l.fn.files;
   save_faults : g.F.Files.save_faults l.files ≡ g.F.Files.save_faults l.fn.files;
   given : g.F.Files.given l.files ≡ g.F.Files.given l.fn.files;
