@@ -19,7 +19,7 @@ impl RowsReceiver {
     ghost use Rattle.track_types.specs.declared.limit.LimitKind.TheVariants.{Csv};
     ghost use Rattle.gridding.specs.GriddedRows.{HasGridded};
     ghost use Rattle.gract_top.specs.Receiving.{AreGriddedRowsOf, HasReceived, HasReceivedSince};
-    ghost use Rattle.row_reader.specs.Rows.{IsFaultOf};
+    ghost use Rattle.row_reader.specs.Rows.{IsRowsFault};
 
     // One that took nothing yet, and grids by `cell` and `tick`.
     pub(crate) fn new(alloc: Global, cell: u64, tick: u64) -> Self
@@ -42,7 +42,7 @@ impl RowsReceiver {
         ensures ok { IfOk result (λ rows. (cell tick : ℕ) (bytes : List ℕ) → HasReceived cell tick bytes self →
             AreGriddedRowsOf cell tick bytes rows) }
         ensures fault { IfErr result (λ fault. (cell tick : ℕ) (bytes : List ℕ) → HasReceived cell tick bytes self →
-            IsFaultOf bytes fault) }
+            IsRowsFault bytes fault) }
     {
         let RowsReceiver {
             parser,

@@ -3,7 +3,7 @@ use Rattle.std.proofs.Common.{◌≡◌, ℕ, ◌∷◌, [], Some, None, codes, 
 use Rattle.csv.proofs.OnLiterals.{csv_on_literals}
 use Rattle.track_types.specs.declared.raw_row.RowFault.TheVariants.{Count, NotNumber, Range}
 use Rattle.row_reader.specs.Row.{Fields}
-use Rattle.row_reader.specs.Rows.{csv_fault, raws_of, records_of, refusal_of}
+use Rattle.row_reader.specs.Rows.{csv_fault, raws_of, records_of, record_refusal}
 use Rattle.row_reader.specs.declared.fault.RowsFault.TheVariants.{Row, Limit}
 
 two_records : records_of (codes "7,0,x,1\r\n\n\"8\"\n")
@@ -39,7 +39,7 @@ heading_alone : raws_of (codes "object,\"instant\",x,y") ≡ []
 unfolding csv_on_literals
 heading_alone = refl
 
-one_too_many : (nth : ℕ) (fields : Fields) → refusal_of 16777216 nth fields ≡ Some (Limit 16777217)
+one_too_many : (nth : ℕ) (fields : Fields) → record_refusal 16777216 nth fields ≡ Some (Limit 16777217)
 one_too_many nth fields = refl
 
 one_row : raws_of (codes "7,\" -3\t\",+01,2\n") ≡ record { object = 7; time = neg_ℤ (pos 3); x = pos 1; y = pos 2 } ∷ []

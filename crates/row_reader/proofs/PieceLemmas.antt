@@ -20,7 +20,7 @@ use Rattle.track_types.specs.declared.numeral.Numeral.TheVariants.{Not}
 use Rattle.track_types.specs.declared.raw_row.RowFault.TheVariants.{NotNumber}
 use Rattle.row_reader.specs.Reading.{IsEnough}
 use Rattle.row_reader.specs.Row.{Fields, fault_at, object_fault, place_fault, record_fault}
-use Rattle.row_reader.specs.Rows.{data_among, is_data, is_heading, records_of, refusal_of, refusals_of}
+use Rattle.row_reader.specs.Rows.{data_among, is_data, is_heading, records_of, record_refusal, refusals_of}
 use Rattle.row_reader.proofs.ReadingLemmas.{next_record-left}
 use Rattle.row_reader.proofs.RowsLemmas.{data_from, refusal_of_placed}
 
@@ -220,7 +220,7 @@ none_first None others e = (refl, e)
 none_first (Some x) others e = cc
 
 -- a record that is not refused has no fault
-no_fault : (before nth : ℕ) (fields : Fields) → refusal_of before nth fields ≡ None → record_fault fields ≡ None
+no_fault : (before nth : ℕ) (fields : Fields) → record_refusal before nth fields ≡ None → record_fault fields ≡ None
 no_fault before nth fields none = grind arith
 
 -- a record that is no data is a heading

@@ -11,10 +11,10 @@ use Rattle.track_types.specs.declared.raw_row.RawRow.{RawRow}
 use Rattle.row_reader.specs.Pieces.{AreRowsAfter, AreRowsOf, IsPast}
 use Rattle.row_reader.specs.Reading.{HasRead}
 use Rattle.row_reader.specs.Row.{Fields, raw_of}
-use Rattle.row_reader.specs.Rows.{IsFaultOf, data_among, is_data, records_of, refusal_of, refusals_of, rows_of}
+use Rattle.row_reader.specs.Rows.{IsRowsFault, data_among, is_data, records_of, record_refusal, refusals_of, rows_of}
 use Rattle.row_reader.specs.declared.fault.RowsFault.{RowsFault}
 use Rattle.row_reader.specs.declared.reading.Progress.{Progress}
-use Rattle.row_reader.proofs.RowsLemmas.{IsFaultOf-csv_fault, csv_fault-refusal, data_among-data, data_among-heading, refusals_of-row, rows_of-row}
+use Rattle.row_reader.proofs.RowsLemmas.{IsRowsFault-csv_fault, csv_fault-refusal, data_among-data, data_among-heading, refusals_of-row, rows_of-row}
 
 -- no record was read yet
 pub AreRowsAfter-none : (before : List Fields) (progress : Progress)
@@ -47,7 +47,7 @@ AreRowsAfter-heading before seen fields nth given more heading are =
 
 -- a row more
 pub AreRowsAfter-row : (before seen : List Fields) (fields : Fields) (nth given : ℕ) (more : List RawRow) (row : RawRow)
-    → is_data nth fields ≡ true → refusal_of given nth fields ≡ None → given < limit_of Rows
+    → is_data nth fields ≡ true → record_refusal given nth fields ≡ None → given < limit_of Rows
     → row ≡ raw_of fields → IsRawInRange row
     → AreRowsAfter before seen (record { next = nth; given = given }) more
     → AreRowsAfter before (seen ++ (fields ∷ [])) (record { next = nth + 1; given = given + 1 }) (more ++ (row ∷ []))
@@ -70,21 +70,21 @@ AreRowsAfter-row before seen fields nth given more row is sound below same in_ra
     }
 
 -- a record that is refused
-pub IsFaultOf-refusal : {R : Type 0} (remaining : R → Option (List ℕ)) (bytes text : List ℕ)
+pub IsRowsFault-refusal : {R : Type 0} (remaining : R → Option (List ℕ)) (bytes text : List ℕ)
     (before seen : List Fields) (fields : Fields) (nth given : ℕ)
     (fault : RowsFault) (more : List RawRow) (reader : Reader R)
-    → is_data nth fields ≡ true → refusal_of given nth fields ≡ Some fault
+    → is_data nth fields ≡ true → record_refusal given nth fields ≡ Some fault
     → AreRowsAfter before seen (record { next = nth; given = given }) more
     → HasRead remaining text (seen ++ (fields ∷ [])) reader
-    → records_of bytes ≡ before ++ records_of text → IsFaultOf bytes fault
-IsFaultOf-refusal remaining bytes text before seen fields nth given fault more reader is refused are has whole =
+    → records_of bytes ≡ before ++ records_of text → IsRowsFault bytes fault
+IsRowsFault-refusal remaining bytes text before seen fields nth given fault more reader is refused are has whole =
     let all = before ++ seen in
     let past = are.past in
     let behind = has.behind in
     let after = records_from default_config behind.count (reader_state reader) has.text in
     let joined : before ++ ((seen ++ (fields ∷ [])) ++ after) ≡ (all ++ (fields ∷ [])) ++ after =
     rw (append_assoc before seen (fields ∷ []), append_assoc before (seen ++ (fields ∷ [])) after) refl in
-    IsFaultOf-csv_fault bytes fault
+    IsRowsFault-csv_fault bytes fault
     (csv_fault-refusal bytes all fields after nth fault past.number is past.accepted (rw past.given at refused)
     (whole ∙ ap (λ records. before ++ records) behind.whole ∙ joined))
 

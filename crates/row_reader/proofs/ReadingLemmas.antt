@@ -11,7 +11,7 @@ use Rattle.csv.specs.declared.parser.State.TheVariants as st
 use Rattle.csv.specs.declared.reader.Reader.{Reader}
 use Rattle.csv.specs.declared.reader.Trim.TheVariants as trim
 use Rattle.row_reader.specs.Row.{Fields}
-use Rattle.row_reader.specs.Reading.{HasRead, IsBehind, IsEnough, ShowsNext}
+use Rattle.row_reader.specs.Reading.{HasRead, IsTextAfter, IsEnough, ShowsNext}
 use Rattle.row_reader.specs.Rows.{records_of}
 
 -- a choice that is some value
@@ -109,8 +109,8 @@ left_less bytes state text read within e =
     ]
 
 behind-some : (bytes : List ℕ) (seen : List Fields) (state : State) (text : List ℕ) (read : Read)
-    → IsBehind bytes seen state text → next_record default_config state [] [] text ≡ Some read
-    → IsBehind bytes (seen ++ (read.0 ∷ [])) read.1 read.2 × (length read.0 ≤ length bytes + 1)
+    → IsTextAfter bytes seen state text → next_record default_config state [] [] text ≡ Some read
+    → IsTextAfter bytes (seen ++ (read.0 ∷ [])) read.1 read.2 × (length read.0 ≤ length bytes + 1)
 behind-some bytes seen state text read behind e =
     let others = records_from-some default_config behind.count state text read behind.enough e in
     let few = next_record-fields default_config state [] [] text read e in
@@ -128,7 +128,7 @@ behind-some bytes seen state text read behind e =
 
 -- all records were seen
 behind-none : (bytes : List ℕ) (seen : List Fields) (state : State) (text : List ℕ)
-    → IsBehind bytes seen state text → next_record default_config state [] [] text ≡ None → records_of bytes ≡ seen
+    → IsTextAfter bytes seen state text → next_record default_config state [] [] text ≡ None → records_of bytes ≡ seen
 behind-none bytes seen state text behind e =
     behind.whole
     ∙ ap (λ rest. seen ++ rest) (records_from-none default_config behind.count state text e)

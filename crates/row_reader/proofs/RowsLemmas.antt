@@ -5,7 +5,7 @@ use Rattle.std.proofs.lemmas.List.{append-nil, map-append}
 use Rattle.std.proofs.lemmas.List.Elements.{filter-append, filter_map-append}
 use Rattle.list_laws.proofs.RangeLemmas.{enumerate_from-append}
 use Rattle.row_reader.specs.Row.{Fields, raw_of}
-use Rattle.row_reader.specs.Rows.{IsFaultOf, csv_fault, data_among, is_data, records_of, refusal_of, refusals_of, rows_of}
+use Rattle.row_reader.specs.Rows.{IsRowsFault, csv_fault, data_among, is_data, records_of, record_refusal, refusals_of, rows_of}
 use Rattle.row_reader.specs.declared.fault.RowsFault.TheVariants.{Row, Limit, Memory}
 use Rattle.row_reader.specs.declared.fault.RowsFault.{RowsFault}
 
@@ -14,7 +14,7 @@ abbrev is_data_pair : ℕ × Fields → Bool
 is_data_pair numbered = is_data numbered.0 numbered.1
 
 abbrev pub refusal_of_placed : ℕ × (ℕ × Fields) → Option RowsFault
-refusal_of_placed placed = refusal_of placed.0 placed.1.0 placed.1.1
+refusal_of_placed placed = record_refusal placed.0 placed.1.0 placed.1.1
 
 -- the data records among records that are numbered from another number
 abbrev pub data_from : ℕ → List Fields → List (ℕ × Fields)
@@ -53,7 +53,7 @@ refusals_of-append front back none =
 -- a row more
 pub refusals_of-row : (seen : List Fields) (fields : Fields) (nth : ℕ)
     → nth ≡ length seen + 1 → is_data nth fields ≡ true
-    → refusals_of (data_among seen) ≡ [] → refusal_of (length (data_among seen)) nth fields ≡ None
+    → refusals_of (data_among seen) ≡ [] → record_refusal (length (data_among seen)) nth fields ≡ None
     → refusals_of (data_among (seen ++ (fields ∷ []))) ≡ []
 refusals_of-row seen fields nth number is none sound =
     ap refusals_of (data_among-data seen fields [] nth number is)
@@ -70,7 +70,7 @@ rows_of-row seen fields nth number is =
 pub csv_fault-refusal : (bytes : List ℕ) (seen : List Fields) (fields : Fields) (after : List Fields)
     (nth : ℕ) (fault : RowsFault)
     → nth ≡ length seen + 1 → is_data nth fields ≡ true → refusals_of (data_among seen) ≡ []
-    → refusal_of (length (data_among seen)) nth fields ≡ Some fault
+    → record_refusal (length (data_among seen)) nth fields ≡ Some fault
     → records_of bytes ≡ (seen ++ (fields ∷ [])) ++ after → csv_fault bytes ≡ Some fault
 csv_fault-refusal bytes seen fields after nth fault number is none refused whole =
     ap (λ all. slice_get (refusals_of (data_among all)) 0) (whole ∙ append_assoc seen (fields ∷ []) after)
@@ -80,7 +80,7 @@ csv_fault-refusal bytes seen fields after nth fault number is none refused whole
     ∙ rw refused refl
 
 -- the first refusal of a file may be answered
-pub IsFaultOf-csv_fault : (bytes : List ℕ) (fault : RowsFault) → csv_fault bytes ≡ Some fault → IsFaultOf bytes fault
-IsFaultOf-csv_fault bytes (Row nth field fault) e = e
-IsFaultOf-csv_fault bytes (Limit value) e = e
-IsFaultOf-csv_fault bytes Memory e = tt
+pub IsRowsFault-csv_fault : (bytes : List ℕ) (fault : RowsFault) → csv_fault bytes ≡ Some fault → IsRowsFault bytes fault
+IsRowsFault-csv_fault bytes (Row nth field fault) e = e
+IsRowsFault-csv_fault bytes (Limit value) e = e
+IsRowsFault-csv_fault bytes Memory e = tt

@@ -13,7 +13,7 @@ abbrev pub IsEnough : ℕ → State → List ℕ → Type 0
 IsEnough count state text = (length text < count) ⊎ ((state ≡ st.StartRecord) × (text ≡ []))
 
 -- the records of a file after those that were seen are the records of this text from this state
-pub record IsBehind (bytes : List ℕ) (seen : List Fields) (state : State) (text : List ℕ) : Type 0 where
+pub record IsTextAfter (bytes : List ℕ) (seen : List Fields) (state : State) (text : List ℕ) : Type 0 where
   pub count : ℕ
   pub enough : IsEnough count state text
   pub whole : records_of bytes ≡ seen ++ records_from default_config count state text
@@ -27,7 +27,7 @@ pub record HasRead {R : Type 0} (remaining : R → Option (List ℕ)) (bytes : L
   pub ready : Ready reader
   pub plain : reader_config reader ≡ default_config
   pub source : source_of remaining reader ≡ Some text
-  pub behind : IsBehind bytes seen (reader_state reader) text
+  pub behind : IsTextAfter bytes seen (reader_state reader) text
 
 -- what a further read shows: one record more, or that the file has no other
 abbrev pub ShowsNext : {R : Type 0} → (R → Option (List ℕ)) → List ℕ → List Fields → Fields → Reader R → Bool → Type 0

@@ -52,11 +52,11 @@ numeral_value Large = pos 0
 numeral_value Not = pos 0
 
 -- the value of a field
-abbrev pub value_of : List ℕ → ℤ
-value_of word = numeral_value (numeral_of word)
+abbrev pub field_value : List ℕ → ℤ
+field_value word = numeral_value (numeral_of word)
 
 -- the row that a record without a fault is
 abbrev pub raw_of : Fields → RawRow
 raw_of (object ∷ time ∷ x ∷ y ∷ []) =
-    record { object = unsigned_abs (value_of object); time = value_of time; x = value_of x; y = value_of y }
+    record { object = unsigned_abs (field_value object); time = field_value time; x = field_value x; y = field_value y }
 raw_of fields = record { object = 0; time = pos 0; x = pos 0; y = pos 0 }

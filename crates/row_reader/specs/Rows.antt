@@ -32,14 +32,14 @@ abbrev pub data_of : List ℕ → List (ℕ × Fields)
 data_of bytes = data_among (records_of bytes)
 
 -- why a data record with so many before it is refused: it is one too many, or else it is no row
-abbrev pub refusal_of : ℕ → ℕ → Fields → Option RowsFault
-refusal_of before nth fields =
+abbrev pub record_refusal : ℕ → ℕ → Fields → Option RowsFault
+record_refusal before nth fields =
     if nat_lt before (limit_of Rows) then option_map (λ at. Row nth at.field at.fault) (record_fault fields)
     else Some (Limit (limit_of Rows + 1))
 
 -- the refusals of numbered data records, in order
 abbrev pub refusals_of : List (ℕ × Fields) → List RowsFault
-refusals_of numbered = filter_map (λ placed. refusal_of placed.0 placed.1.0 placed.1.1) (enumerate_from 0 numbered)
+refusals_of numbered = filter_map (λ placed. record_refusal placed.0 placed.1.0 placed.1.1) (enumerate_from 0 numbered)
 
 -- the first refusal when a file's data records are looked at in order
 abbrev pub csv_fault : List ℕ → Option RowsFault
@@ -54,7 +54,7 @@ abbrev pub raws_of : List ℕ → List RawRow
 raws_of bytes = rows_of (data_of bytes)
 
 -- a fault that a file may be answered: its own, and want of memory whatever it holds
-abbrev pub IsFaultOf : List ℕ → RowsFault → Type 0
-IsFaultOf bytes Memory = Unit {0}
-IsFaultOf bytes (Row nth field fault) = csv_fault bytes ≡ Some (Row nth field fault)
-IsFaultOf bytes (Limit value) = csv_fault bytes ≡ Some (Limit value)
+abbrev pub IsRowsFault : List ℕ → RowsFault → Type 0
+IsRowsFault bytes Memory = Unit {0}
+IsRowsFault bytes (Row nth field fault) = csv_fault bytes ≡ Some (Row nth field fault)
+IsRowsFault bytes (Limit value) = csv_fault bytes ≡ Some (Limit value)

@@ -2,7 +2,7 @@ ghost use Rattle.std.specs.Prelude.{◌≡◌, ◌+◌, ◌≤◌, ℕ, List, []
 ghost use Rattle.track_types.specs.Limits.{limit_of};
 ghost use Rattle.track_types.specs.declared.raw_row.RawRow.{RawRow};
 ghost use Rattle.row_reader.specs.Pieces.{Adds, AreRowsOf, HasTaken, kept_length};
-ghost use Rattle.row_reader.specs.Rows.{IsFaultOf};
+ghost use Rattle.row_reader.specs.Rows.{IsRowsFault};
 ghost use Rattle.row_reader.specs.declared.parser.TheConstants.{LEAST};
 
 use crate::fault::RowsFault;
@@ -122,7 +122,7 @@ impl RowParser {
             Adds rows.old.items rows.new.items (λ more. AreRowsOf bytes (raws ++ more))) }
         ensures fault { IfErr result (λ fault.
             (bytes : List ℕ) (raws : List RawRow) → HasTaken bytes raws self →
-            IsFaultOf bytes fault) }
+            IsRowsFault bytes fault) }
     {
         let text = self.rest.as_slice();
         read_on(*self.rest.allocator(), text, self.progress, rows)?;

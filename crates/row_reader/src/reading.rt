@@ -4,7 +4,7 @@ ghost use Rattle.csv.specs.Records.{fields_of};
 ghost use Rattle.row_reader.specs.Pieces.{Adds, AreRowsAfter, IsPast};
 ghost use Rattle.row_reader.specs.Reading.{HasRead, ShowsNext};
 ghost use Rattle.row_reader.specs.Row.{Fields};
-ghost use Rattle.row_reader.specs.Rows.{IsFaultOf, records_of};
+ghost use Rattle.row_reader.specs.Rows.{IsRowsFault, records_of};
 
 use crate::fault::RowsFault;
 use crate::heading::is_data_record;
@@ -47,7 +47,7 @@ pub fn read_on<R: Read + Drop>(
     ensures kept { take (length rows.old.items) rows.new.items ≡ rows.old.items }
     ensures fault { IfErr result (λ fault. (text : List ℕ) → R.remaining source ≡ Some text →
         (bytes : List ℕ) (before : List Fields) → IsPast before progress →
-        records_of bytes ≡ before ++ records_of text → IsFaultOf bytes fault) }
+        records_of bytes ≡ before ++ records_of text → IsRowsFault bytes fault) }
 {
     let mut reader = reader_of(alloc, source)?;
     let mut fields = ByteRecord::new(alloc);

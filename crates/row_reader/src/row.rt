@@ -2,8 +2,8 @@ ghost use Rattle.std.specs.Prelude.{◌≡◌, ◌≢◌, ◌+◌, ◌-◌, ◌*
 ghost use Rattle.track_types.specs.Limits.{limit_of};
 ghost use Rattle.track_types.specs.Near.{IsRawInRange};
 ghost use Rattle.csv.specs.Records.{fields_of};
-ghost use Rattle.row_reader.specs.Row.{field_fault, raw_of, record_fault, value_of};
-ghost use Rattle.row_reader.specs.Rows.{refusal_of};
+ghost use Rattle.row_reader.specs.Row.{field_fault, raw_of, record_fault, field_value};
+ghost use Rattle.row_reader.specs.Rows.{record_refusal};
 
 use crate::fault::RowsFault;
 use crate::field::{FIELDS, field_in};
@@ -29,10 +29,10 @@ struct FieldFault {
 pub fn read_data(fields: &ByteRecord, nth: u64, count: usize) -> Result<RawRow, RowsFault>
     requires { length (fields_of fields.now) < 2 ^ 32 }
     ensures ok { let all = fields_of fields.now in
-        IfOk result (λ row. (refusal_of count nth all ≡ None) × (row ≡ raw_of all)) }
+        IfOk result (λ row. (record_refusal count nth all ≡ None) × (row ≡ raw_of all)) }
     ensures within { OnOk result (count < limit_of LimitKind.Rows) }
     ensures ranges { IfOk result IsRawInRange }
-    ensures err { IfErr result (λ fault. refusal_of count nth (fields_of fields.now) ≡ Some fault) }
+    ensures err { IfErr result (λ fault. record_refusal count nth (fields_of fields.now) ≡ Some fault) }
 {
     if count as u64 >= MAX_ROWS {
         return Err(RowsFault::Limit {
@@ -75,7 +75,7 @@ fn read_field(fields: &ByteRecord, field: u32, least: i64, greatest: i64) -> Res
     requires first { 0 < field }
     requires last { field ≤ length (fields_of fields.now) }
     ensures ok { let word = slice_index_or (fields_of fields.now) (field - 1) [] in
-        IfOk result (λ value. (field_fault least greatest word ≡ None) × (value ≡ value_of word)) }
+        IfOk result (λ value. (field_fault least greatest word ≡ None) × (value ≡ field_value word)) }
     ensures within { IfOk result (λ value. (least ≤ℤ value) × (value ≤ℤ greatest)) }
     ensures err { let word = slice_index_or (fields_of fields.now) (field - 1) [] in
         IfErr result (λ at.

@@ -1,7 +1,7 @@
 ghost use Rattle.std.specs.Prelude.{◌≡◌, ◌≤◌, length, None, IfOk, IfErr, All, vec_len};
 ghost use Rattle.track_types.specs.Limits.{limit_of};
 ghost use Rattle.track_types.specs.Near.{IsRawInRange};
-ghost use Rattle.row_reader.specs.Rows.{IsFaultOf, csv_fault, raws_of};
+ghost use Rattle.row_reader.specs.Rows.{IsRowsFault, csv_fault, raws_of};
 
 use crate::fault::RowsFault;
 use crate::reading::{Progress, read_on};
@@ -26,7 +26,7 @@ pub fn read_rows(alloc: Global, bytes: &[u8]) -> Result<Vec<RawRow>, RowsFault>
         (csv_fault bytes.now ≡ None) × (rows.items ≡ raws_of bytes.now)) }
     ensures few { IfOk result (λ rows. vec_len rows ≤ limit_of LimitKind.Rows) }
     ensures ranges { IfOk result (λ rows. All IsRawInRange rows.items) }
-    ensures fault { IfErr result (IsFaultOf bytes.now) }
+    ensures fault { IfErr result (IsRowsFault bytes.now) }
 {
     let mut rows = Vec::new(alloc);
     read_on(alloc, bytes, Progress::start(), &mut rows)?;

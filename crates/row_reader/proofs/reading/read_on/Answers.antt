@@ -4,7 +4,7 @@ use Rattle.std.proofs.lemmas.Option.{same_Some}
 use Rattle.std.proofs.lemmas.Result.{err_from_is_err_and}
 use Rattle.csv.specs.Records.{fields_of}
 use Rattle.row_reader.specs.Reading.{ShowsNext}
-use Rattle.row_reader.proofs.ProgressLemmas.{AreRowsAfter-heading, AreRowsAfter-none, AreRowsAfter-row, IsFaultOf-refusal}
+use Rattle.row_reader.proofs.ProgressLemmas.{AreRowsAfter-heading, AreRowsAfter-none, AreRowsAfter-row, IsRowsFault-refusal}
 use Rattle.row_reader.proofs.reading.read_on.Given.{Over}
 use Rattle.row_reader.proofs.reading.read_on.Goals as goal
 use Rattle.row_reader.proofs.reading.read_on.Goals.{After-is_data_record}
@@ -85,7 +85,7 @@ returns-in_err-row-clause-fault g c =
     let answered = err_from_is_err_and c.from_residual-in_err-row.result c.from_residual-in_err-row.ensures.1 in
     rw (answered.1, answered.2) (λ text known bytes before past whole.
     let same = same_Some text invariant.text (sym known ∙ invariant.known) in
-    IsFaultOf-refusal g.R.Read.remaining bytes invariant.text before invariant.seen fields c.loop-nth.nth
+    IsRowsFault-refusal g.R.Read.remaining bytes invariant.text before invariant.seen fields c.loop-nth.nth
     c.loop-nth.given c.in_err-row.field-0.0 invariant.added.more c.read_next.new.reader is c.in_err-row.ensures.err
     (invariant.added.promise before past) shown.0 (rw same at whole))
 
