@@ -3,7 +3,7 @@ use Rattle.std.proofs.Common.{◌≡◌, ℕ, pos, [], ◌∷◌, refl}
 use Rattle.track_types.specs.declared.raw_row.RawRow.{RawRow}
 use Rattle.sample_rows.specs.declared.spot.Spot.{Spot}
 use Rattle.sample_rows.specs.Sample.{next_state, object_rows, rows_at, sample_rows, shifted, spot_after}
-use Rattle.sample_rows.specs.Sample.{spot_at, state_after, value_of}
+use Rattle.sample_rows.specs.Sample.{spot_at, state_after, draw_value}
 
 -- a row
 abbrev row : ℕ → ℕ → ℕ → ℕ → RawRow
@@ -17,7 +17,7 @@ spot x y = record { x = x; y = y }
 first_state : next_state 0 ≡ 1442695040888963407
 first_state = refl
 
-first_value : value_of 1442695040888963407 ≡ 167951807
+first_value : draw_value 1442695040888963407 ≡ 167951807
 first_value = refl
 
 first_move : spot_after 167951807 (spot 5 7) ≡ spot 6 8

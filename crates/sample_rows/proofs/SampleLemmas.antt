@@ -9,13 +9,13 @@ use Rattle.list_laws.proofs.LengthLemmas.{length-flat_map-within}
 use Rattle.list_laws.proofs.RangeLemmas.{flat_map-range_next}
 use Rattle.track_types.specs.declared.raw_row.RawRow.{RawRow}
 use Rattle.sample_rows.specs.declared.spot.Spot.{Spot}
-use Rattle.sample_rows.specs.Reached.{IsReached}
-use Rattle.sample_rows.specs.Sample.{drawn, first_spot, is_absent, next_state, object_rows, row_of, rows_at, sample_rows}
-use Rattle.sample_rows.specs.Sample.{spot_after, spot_at, state_after, value_of}
+use Rattle.sample_rows.specs.Reached.{AreSpotsAt}
+use Rattle.sample_rows.specs.Sample.{drawn, first_spot, is_absent, next_state, object_rows, raw_row_of, rows_at, sample_rows}
+use Rattle.sample_rows.specs.Sample.{spot_after, spot_at, state_after, draw_value}
 
 -- the row of an object at the first instant
 abbrev pub first_row : ℕ → RawRow
-first_row object = row_of 0 object (first_spot object)
+first_row object = raw_row_of 0 object (first_spot object)
 
 -- at the first instant each object has one row
 pub rows-first : (objects seed : ℕ) (xs : List ℕ) → flat_map (object_rows objects seed 0) xs ≡ map first_row xs
@@ -24,9 +24,9 @@ rows-first objects seed [] = refl
 rows-first objects seed (object ∷ xs) = ap (λ rows. first_row object ∷ rows) (rows-first objects seed xs)
 
 -- the objects are where they begin
-pub IsReached-first : (objects seed : ℕ) → IsReached seed 0 (map first_spot (range_with_len 0 objects)) seed
+pub AreSpotsAt-first : (objects seed : ℕ) → AreSpotsAt seed 0 (map first_spot (range_with_len 0 objects)) seed
 unfolding spot_at state_after
-IsReached-first objects seed = record {
+AreSpotsAt-first objects seed = record {
   generator = let none : 0 * length (map first_spot (range_with_len 0 objects)) ≡ 0 = grind arith in
       sym (ap (state_after seed) none);
   each = λ object below.
@@ -47,7 +47,7 @@ pub record IsUnderWay (seed before object : ℕ) (spots : List Spot) (state : �
 
 module _ (seed before : ℕ) (spots : List Spot) (state : ℕ) where
   -- no object was moved on yet
-  pub IsUnderWay-begun : (rows : List RawRow) → IsReached seed before spots state →
+  pub IsUnderWay-begun : (rows : List RawRow) → AreSpotsAt seed before spots state →
       IsUnderWay seed before 0 spots state rows rows
   IsUnderWay-begun rows reached = record {
     generator = let same : before * length spots + 0 ≡ before * length spots = omega arith in
@@ -59,7 +59,7 @@ module _ (seed before : ℕ) (spots : List Spot) (state : ℕ) where
 
   -- all objects were moved on
   pub IsUnderWay-done : (earlier rows : List RawRow) →
-      IsUnderWay seed before (length spots) spots state earlier rows → IsReached seed (suc before) spots state
+      IsUnderWay seed before (length spots) spots state earlier rows → AreSpotsAt seed (suc before) spots state
   IsUnderWay-done earlier rows way = record {
     generator = let same : before * length spots + length spots ≡ suc before * length spots = grind arith in
         way.generator ∙ ap (state_after seed) same;
@@ -70,7 +70,7 @@ module _ (seed before : ℕ) (spots : List Spot) (state : ℕ) where
   pub object_rows-drawn : (object value : ℕ) (spot : Spot) → value ≡ drawn (length spots) seed before object →
       spot ≡ spot_at (length spots) seed (suc before) object →
       object_rows (length spots) seed (suc before) object
-      ≡ (if is_absent value then [] else row_of (suc before) object spot ∷ [])
+      ≡ (if is_absent value then [] else raw_row_of (suc before) object spot ∷ [])
   unfolding object_rows
   object_rows-drawn object value spot is at = rw (is, at) refl
 
@@ -87,8 +87,8 @@ module _ (seed before : ℕ) (spots : List Spot) (state : ℕ) where
   -- one object more was moved on
   pub IsUnderWay-next : (object : ℕ) (earlier rows more : List RawRow) (after : ℕ) (spot : Spot) →
       IsUnderWay seed before object spots state earlier rows → object < length spots → after ≡ next_state state →
-      spot ≡ spot_after (value_of after) (get_or spots object (first_spot 0)) →
-      more ≡ (if is_absent (value_of after) then [] else row_of (suc before) object spot ∷ []) →
+      spot ≡ spot_after (draw_value after) (get_or spots object (first_spot 0)) →
+      more ≡ (if is_absent (draw_value after) then [] else raw_row_of (suc before) object spot ∷ []) →
       IsUnderWay seed before (object + 1) (set spots object spot) after earlier (rows ++ more)
   IsUnderWay-next object earlier rows more after spot way below next is came =
       let long = length-set spots object spot in
@@ -96,7 +96,7 @@ module _ (seed before : ℕ) (spots : List Spot) (state : ℕ) where
       next ∙ ap next_state way.generator ∙ sym (state_after-next (before * length spots + object)) in
       let at : spot ≡ spot_at (length spots) seed (suc before) object =
       is ∙ rw (drawn_is, way.still object (omega arith) below) (sym (spot_at-next object)) in
-      let rows_are = object_rows-drawn object (value_of after) spot (ap value_of drawn_is) at in
+      let rows_are = object_rows-drawn object (draw_value after) spot (ap draw_value drawn_is) at in
       record {
         generator = let same : before * length spots + object + 1 ≡ before * length spots + (object + 1) = omega arith in
             rw long (drawn_is ∙ ap (state_after seed) same);

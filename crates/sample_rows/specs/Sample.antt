@@ -15,13 +15,13 @@ state_after seed zero = seed
 state_after seed (suc draws) = next_state (state_after seed draws)
 
 -- what a draw gives: the upper 31 bits of the state that it leaves
-abbrev pub value_of : ℕ → ℕ
-value_of state = state / 2 ^ 33
+abbrev pub draw_value : ℕ → ℕ
+draw_value state = state / 2 ^ 33
 
 -- What is drawn for an object at the instant after `before`. Each instant but the first has a draw for each object, in
 -- their order.
 abbrev pub drawn : ℕ → ℕ → ℕ → ℕ → ℕ
-drawn objects seed before object = value_of (state_after seed (before * objects + object + 1))
+drawn objects seed before object = draw_value (state_after seed (before * objects + object + 1))
 
 -- whether an object has no row at an instant, by what is drawn for it
 abbrev pub is_absent : ℕ → Bool
@@ -48,15 +48,15 @@ spot_at objects seed (suc before) object =
     spot_after (drawn objects seed before object) (spot_at objects seed before object)
 
 -- the row of an object that is at a place at an instant
-abbrev pub row_of : ℕ → ℕ → Spot → RawRow
-row_of instant object spot = record { object = object; time = pos instant; x = pos spot.x; y = pos spot.y }
+abbrev pub raw_row_of : ℕ → ℕ → Spot → RawRow
+raw_row_of instant object spot = record { object = object; time = pos instant; x = pos spot.x; y = pos spot.y }
 
 -- the rows of one object at an instant: one, or none where it is absent, which it is not at the first
 unfoldable pub object_rows : ℕ → ℕ → ℕ → ℕ → List RawRow
-object_rows objects seed zero object = row_of 0 object (first_spot object) ∷ []
+object_rows objects seed zero object = raw_row_of 0 object (first_spot object) ∷ []
 object_rows objects seed (suc before) object =
     if is_absent (drawn objects seed before object) then []
-    else row_of (suc before) object (spot_at objects seed (suc before) object) ∷ []
+    else raw_row_of (suc before) object (spot_at objects seed (suc before) object) ∷ []
 
 -- the rows of all objects at an instant
 unfoldable pub rows_at : ℕ → ℕ → ℕ → List RawRow

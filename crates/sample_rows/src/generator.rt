@@ -1,5 +1,5 @@
 ghost use Rattle.std.specs.Prelude.{◌≡◌, ◌^◌, ◌<◌};
-ghost use Rattle.sample_rows.specs.Sample.{next_state, value_of};
+ghost use Rattle.sample_rows.specs.Sample.{next_state, draw_value};
 
 /// A linear congruential generator whose state has 64 bits.
 #[derive(Clone, Copy, Debug, PartialEq, Eq)]
@@ -27,7 +27,7 @@ impl Generator {
     // Draws a number below 2^31.
     pub(crate) fn draw(&mut self) -> u32
         ensures state { self.new.state ≡ next_state self.old.state }
-        ensures value { result ≡ value_of self.new.state }
+        ensures value { result ≡ draw_value self.new.state }
     {
         self.state = self.state.wrapping_mul(MULTIPLIER).wrapping_add(INCREMENT);
         (self.state >> LOWER_BITS) as u32

@@ -3,7 +3,7 @@ ghost use Rattle.std.specs.List.{flat_map, range_with_len};
 ghost use Rattle.track_types.specs.Limits.{limit_of};
 ghost use Rattle.track_types.specs.Near.{IsRawInRange};
 ghost use Rattle.sample_rows.specs.Sample.{rows_at, sample_rows};
-ghost use Rattle.sample_rows.specs.Reached.{IsReached};
+ghost use Rattle.sample_rows.specs.Reached.{AreSpotsAt};
 
 use crate::generator::Generator;
 use crate::spot::{Spot, is_absent};
@@ -43,7 +43,7 @@ pub fn sample_rows(
 fn push_first(alloc: Global, objects: u32, rows: &mut Vec<RawRow>) -> Result<Vec<Spot>, Memory>
     requires few { objects ≤ 2 ^ 24 }
     requires none { rows.old.items ≡ [] }
-    ensures reached { IfOk result (λ spots. (seed : ℕ) → IsReached seed 0 spots.items seed) }
+    ensures reached { IfOk result (λ spots. (seed : ℕ) → AreSpotsAt seed 0 spots.items seed) }
     ensures many { IfOk result (λ spots. length spots.items ≡ objects) }
     ensures rows { OnOk result ((seed : ℕ) → rows.new.items ≡ rows_at objects seed 0) }
     ensures ranges { OnOk result (All IsRawInRange rows.new.items) }
@@ -67,10 +67,10 @@ fn push_next(
     requires few { length spots.old ≤ 2 ^ 24 }
     ensures many { length spots.new ≡ length spots.old }
     ensures reached { OnOk result ((seed before : ℕ) → instant ≡ suc before →
-        IsReached seed before spots.old generator.old.state →
-        IsReached seed instant spots.new generator.new.state) }
+        AreSpotsAt seed before spots.old generator.old.state →
+        AreSpotsAt seed instant spots.new generator.new.state) }
     ensures rows { OnOk result ((seed before : ℕ) → instant ≡ suc before →
-        IsReached seed before spots.old generator.old.state →
+        AreSpotsAt seed before spots.old generator.old.state →
         rows.new.items ≡ rows.old.items ++ rows_at (length spots.old) seed instant) }
     ensures ranges { OnOk result (All IsRawInRange rows.old.items → All IsRawInRange rows.new.items) }
 {

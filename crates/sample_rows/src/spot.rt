@@ -1,6 +1,6 @@
 ghost use Rattle.std.specs.Prelude.{◌≡◌, ◌<◌, ◌≤◌, ◌^◌};
 ghost use Rattle.track_types.specs.Near.{IsRawInRange};
-ghost use Rattle.sample_rows.specs.Sample.{first_spot, is_absent, row_of, shifted, spot_after};
+ghost use Rattle.sample_rows.specs.Sample.{first_spot, is_absent, raw_row_of, shifted, spot_after};
 
 use track_types::RawRow;
 
@@ -41,7 +41,7 @@ impl Spot {
 
     // The row of an object that is here at an instant.
     pub(crate) fn row(self, instant: u32, object: u32) -> RawRow
-        ensures value { result ≡ row_of instant object self }
+        ensures value { result ≡ raw_row_of instant object self }
         ensures near { IsRawInRange result }
     {
         RawRow {

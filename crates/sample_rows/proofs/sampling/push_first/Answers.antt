@@ -4,7 +4,7 @@ use Rattle.std.proofs.lemmas.List.FromFn.{length-map-range_with_len, map-range_w
 use Rattle.std.proofs.lemmas.List.Elements.{All-push}
 use Rattle.track_types.specs.Near.{IsRawInRange}
 use Rattle.sample_rows.specs.Sample.{first_spot, rows_at}
-use Rattle.sample_rows.proofs.SampleLemmas.{IsReached-first, first_row, rows-first}
+use Rattle.sample_rows.proofs.SampleLemmas.{AreSpotsAt-first, first_row, rows-first}
 use Rattle.sample_rows.proofs.sampling.push_first.Goals as goal
 
 pub loop-object-preserved : goal.loop-object-preserved
@@ -24,7 +24,7 @@ loop-object-preserved c =
 pub returns-clause-reached : goal.returns-clause-reached
 returns-clause-reached c = λ seed.
     let all : c.loop-object.object ≡ c.args.objects = omega arith in
-    rw c.loop-object.invariant.spots (IsReached-first c.loop-object.object seed)
+    rw c.loop-object.invariant.spots (AreSpotsAt-first c.loop-object.object seed)
 
 pub returns-clause-many : goal.returns-clause-many
 returns-clause-many c =

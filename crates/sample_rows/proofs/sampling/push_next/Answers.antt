@@ -4,8 +4,8 @@ use Rattle.std.proofs.lemmas.List.{append-nil, length-set}
 use Rattle.std.proofs.lemmas.List.Elements.{All-push}
 use Rattle.track_types.specs.Near.{IsRawInRange}
 use Rattle.track_types.specs.declared.raw_row.RawRow.{RawRow}
-use Rattle.sample_rows.specs.Reached.{IsReached}
-use Rattle.sample_rows.specs.Sample.{is_absent, row_of, rows_at}
+use Rattle.sample_rows.specs.Reached.{AreSpotsAt}
+use Rattle.sample_rows.specs.Sample.{is_absent, raw_row_of, rows_at}
 use Rattle.sample_rows.proofs.SampleLemmas.{IsUnderWay, IsUnderWay-begun, IsUnderWay-done, IsUnderWay-next}
 use Rattle.sample_rows.proofs.sampling.push_next.Goals.{then-not-is_absent+in_ok-push, else-not-is_absent}
 use Rattle.sample_rows.proofs.sampling.push_next.Goals as goal
@@ -22,7 +22,7 @@ pub loop-object-preserved : goal.loop-object-preserved
 loop-object-preserved c =
     let value = c.draw-value.result in
     let rows_by : Bool → ℕ → List RawRow = λ absent instant.
-    if absent then [] else row_of instant c.loop-object.object c.after-spot.result ∷ [] in
+    if absent then [] else raw_row_of instant c.loop-object.object c.after-spot.result ∷ [] in
     let came : c.if-not-is_absent.rows.items ≡ c.loop-object.rows.items ++ rows_by (is_absent value) c.args.instant =
     elim c.if-not-is_absent.branch [
       | then-not-is_absent+in_ok-push w ↦
@@ -61,7 +61,7 @@ returns-clause-reached c = λ seed before instant reached.
     omega (arith, c.loop-object-test.false, c.loop-object.auto.object-end, c.loop-object.invariant.many) in
     let Way : ℕ → Type 0 = λ object. IsUnderWay seed before object c.loop-object.spots c.loop-object.generator.state
     c.args.rows.now.items c.loop-object.rows.items in
-    let Reached : ℕ → Type 0 = λ at. IsReached seed at c.loop-object.spots c.loop-object.generator.state in
+    let Reached : ℕ → Type 0 = λ at. AreSpotsAt seed at c.loop-object.spots c.loop-object.generator.state in
     subst Reached (sym instant)
     (IsUnderWay-done seed before c.loop-object.spots c.loop-object.generator.state c.args.rows.now.items
     c.loop-object.rows.items (subst Way all (c.loop-object.invariant.way seed before instant reached)))

@@ -1,6 +1,6 @@
 use Rattle.std.proofs.Common.{◌≡◌, ◌∙◌, List, ◌++◌, length, drop, take, sym, ap, refl, subst, arith}
 use Rattle.std.proofs.Math.Seq.{take-append_seam}
-use Rattle.sample_rows.specs.Reached.{IsReached}
+use Rattle.sample_rows.specs.Reached.{AreSpotsAt}
 use Rattle.sample_rows.specs.Sample.{sample_rows}
 use Rattle.sample_rows.specs.declared.spot.Spot.{Spot}
 use Rattle.sample_rows.proofs.SampleLemmas.{sample_rows-few, sample_rows-more, sample_rows-one, sample_rows-some}
@@ -25,7 +25,7 @@ loop-instant-preserved c =
     let back : take old.len (new ++ drop (length new) old.items) ≡ new =
     rw long (take-append_seam new (drop (length new) old.items)) in
     let Before : List Spot → Type 0 = λ spots.
-    IsReached c.args.seed c.loop-instant.invariant.before spots c.loop-instant.generator.state in
+    AreSpotsAt c.args.seed c.loop-instant.invariant.before spots c.loop-instant.generator.state in
     let reached = subst Before (sym c.deref_mut.ensures.value) c.loop-instant.invariant.reached in
     let many : length c.deref_mut.result.now ≡ c.args.objects =
     ap length c.deref_mut.ensures.value ∙ c.loop-instant.invariant.many in
