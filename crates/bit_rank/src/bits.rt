@@ -35,13 +35,13 @@ pub struct Bits {
 impl Model for Bits {
     ghost use Rattle.std.specs.Prelude.{List, Bool, take};
     ghost use Rattle.packed_bits.specs.Words.{bits_of};
-    ghost use Rattle.bit_rank.specs.Directory.{IsIndexed};
+    ghost use Rattle.bit_rank.specs.Directory.{IsBitVector};
 
     ghost Value = { List Bool };
 
     ghost view = { λ b. take b.len (bits_of b.words) };
 
-    ghost invariant = { λ b. IsIndexed (take b.len (bits_of b.words))
+    ghost invariant = { λ b. IsBitVector (take b.len (bits_of b.words))
         b.words b.directory b.len b.ones };
 }
 
