@@ -1,7 +1,7 @@
 -- The walk that marks a cycle: what holds at each of its places.
 use Rattle.std.specs.Prelude.{◌≡◌, ◌≢◌, ℕ, ◌+◌, ◌<◌, Bool, true, false, List, length, sum_by, if◌then◌else◌, Option, None, Some, slice_index, slice_index_or, ◌⊎◌}
 use Rattle.object_perm.specs.Walk.{along}
-use Rattle.object_perm.specs.Shortcuts.{IsNear, has_shortcut}
+use Rattle.object_perm.specs.Shortcuts.{LeadsTo, has_shortcut}
 use Rattle.object_perm.specs.Settled.{IsSeen, MeetsSeen}
 
 -- the place lies between the last one that was stored and the one where the walk is
@@ -30,7 +30,7 @@ pub record IsInCycle (values : List ℕ) (seen : List Bool) (shortcuts : List (O
   pub target : (y target : ℕ) → IsSeen seen y → slice_index_or shortcuts y None ≡ Some target → IsSeen seen target
   pub store : (y target : ℕ) → IsSeen seen y → slice_index_or shortcuts y None ≡ Some target
       → (has_shortcut shortcuts target ≡ true) ⊎ ((target ≡ leader) × (stored ≢ leader))
-  pub back : (y target : ℕ) → IsSeen seen y → slice_index_or shortcuts y None ≡ Some target → IsNear values target y
+  pub back : (y target : ℕ) → IsSeen seen y → slice_index_or shortcuts y None ≡ Some target → LeadsTo values target y
   pub ahead : (y : ℕ) → IsSeen seen y → MeetsSeen values seen shortcuts y ⊎ IsOpen values stored gap y
 
 -- how many places were not seen

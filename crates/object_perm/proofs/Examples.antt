@@ -1,25 +1,25 @@
 -- The definitions on worked lists.
 use Rattle.std.proofs.Common.{◌≡◌, [], ◌∷◌, Some, None, refl}
-use Rattle.object_perm.specs.Permutation.{first_flaw, inverse_of}
+use Rattle.object_perm.specs.Permutation.{first_flawed_place, inverse_of}
 use Rattle.object_perm.specs.Walk.{along}
 use Rattle.object_perm.specs.Marks.{marks_of, targets_of}
 
 -- a permutation has no flaw, nor has the empty one
-turned : first_flaw (2 ∷ 0 ∷ 1 ∷ []) ≡ None
+turned : first_flawed_place (2 ∷ 0 ∷ 1 ∷ []) ≡ None
 turned = refl
 
-empty : first_flaw [] ≡ None
+empty : first_flawed_place [] ≡ None
 empty = refl
 
 -- a value that stood before, and one that is not below the length
-repeated : first_flaw (0 ∷ 0 ∷ []) ≡ Some 1
+repeated : first_flawed_place (0 ∷ 0 ∷ []) ≡ Some 1
 repeated = refl
 
-great : first_flaw (0 ∷ 2 ∷ []) ≡ Some 1
+great : first_flawed_place (0 ∷ 2 ∷ []) ≡ Some 1
 great = refl
 
 -- the earlier of two flaws
-earlier : first_flaw (1 ∷ 7 ∷ 1 ∷ []) ≡ Some 1
+earlier : first_flawed_place (1 ∷ 7 ∷ 1 ∷ []) ≡ Some 1
 earlier = refl
 
 -- where the values of 2 0 1 stand

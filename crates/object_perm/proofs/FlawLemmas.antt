@@ -4,20 +4,20 @@ use Rattle.std.proofs.lemmas.Bool.{cases_order, cases_Bool, leb-false, lt-leb, o
 use Rattle.std.proofs.lemmas.List.{length-take, length-take-le, get_or-take, get_or_default}
 use Rattle.std.proofs.lemmas.List.Folds.{list_any_at, Any-from_list_any}
 use Rattle.list_laws.proofs.FindLemmas.{find_in_range-first, find_in_range-none, find_in_range-all}
-use Rattle.object_perm.specs.Permutation.{PermutesPlaces, stood_before, is_flawed, first_flaw}
+use Rattle.object_perm.specs.Permutation.{PermutesPlaces, stood_before, is_flawed, first_flawed_place}
 
 -- the first flawed place
-pub first_flaw-at : (values : List ℕ) (place : ℕ) → place < length values →
+pub first_flawed_place-at : (values : List ℕ) (place : ℕ) → place < length values →
     ((before : ℕ) → before < place → is_flawed values before ≡ false) → is_flawed values place ≡ true →
-    first_flaw values ≡ Some place
-first_flaw-at values place within sound flawed =
+    first_flawed_place values ≡ Some place
+first_flawed_place-at values place within sound flawed =
     find_in_range-first (is_flawed values) 0 (length values) place (omega arith) (omega arith)
     (λ j above below. sound j below) flawed
 
 -- no place is flawed
-pub first_flaw-none : (values : List ℕ) → ((place : ℕ) → place < length values → is_flawed values place ≡ false) →
-    first_flaw values ≡ None
-first_flaw-none values sound =
+pub first_flawed_place-none : (values : List ℕ) → ((place : ℕ) → place < length values → is_flawed values place ≡ false) →
+    first_flawed_place values ≡ None
+first_flawed_place-none values sound =
     find_in_range-none (is_flawed values) 0 (length values) (λ j above below. sound j (omega arith))
 
 -- a value that stands at an earlier place stood before
@@ -29,7 +29,7 @@ stood-earlier values i j earlier within same =
     list_any_at (λ value. eqb value (get_or values j 0)) (take j values) i 0 long (eq-eqb _ _ (there ∙ same))
 
 -- a list without a first flaw is a permutation
-pub permutes-from_none : (values : List ℕ) → first_flaw values ≡ None → PermutesPlaces values
+pub permutes-from_none : (values : List ℕ) → first_flawed_place values ≡ None → PermutesPlaces values
 permutes-from_none values none =
     let sound : (place : ℕ) → place < length values → is_flawed values place ≡ false =
     λ place within. find_in_range-all (is_flawed values) 0 (length values) none place (omega arith) (omega arith) in
@@ -71,9 +71,9 @@ unflawed values permutes place within =
     ])
 
 -- a permutation has no first flaw
-pub first_flaw-permutes : (values : List ℕ) → PermutesPlaces values → first_flaw values ≡ None
-first_flaw-permutes values permutes = first_flaw-none values (unflawed values permutes)
+pub first_flawed_place-permutes : (values : List ℕ) → PermutesPlaces values → first_flawed_place values ≡ None
+first_flawed_place-permutes values permutes = first_flawed_place-none values (unflawed values permutes)
 
 -- a list that has a first flaw is no permutation
-pub no_permutation : (values : List ℕ) (place : ℕ) → first_flaw values ≡ Some place → PermutesPlaces values → ⊥
-no_permutation values place flaw permutes = let none = first_flaw-permutes values permutes in cc
+pub no_permutation : (values : List ℕ) (place : ℕ) → first_flawed_place values ≡ Some place → PermutesPlaces values → ⊥
+no_permutation values place flaw permutes = let none = first_flawed_place-permutes values permutes in cc

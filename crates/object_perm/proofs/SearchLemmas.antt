@@ -3,7 +3,7 @@ use Rattle.std.proofs.Common.{◌≡◌, ◌≢◌, ℕ, zero, suc, ◌+◌, ◌
 use Rattle.std.proofs.lemmas.Bool.{cases_eq, cases_lt, cases_order}
 use Rattle.object_perm.specs.Permutation.{PermutesPlaces}
 use Rattle.object_perm.specs.Walk.{along}
-use Rattle.object_perm.specs.Shortcuts.{IsNear, LeadBack, MeetsShortcut, IsIndexed, has_shortcut}
+use Rattle.object_perm.specs.Shortcuts.{LeadsTo, LeadBack, MeetsShortcut, HasShortcuts, has_shortcut}
 use Rattle.object_perm.proofs.WalkLemmas.{along-zero, along-split, along_within, along_apart}
 
 -- a walk that has not come to its value makes a move more
@@ -55,7 +55,7 @@ few_moves values shortcuts v moves place meets path none passed beyond =
 
 -- what a shortcut leads to: a place from which few moves lead to the value, all in all at most 33 reads
 pub record IsTarget (values : List ℕ) (v moves target : ℕ) : Type 0 where
-  pub near : IsNear values target v
+  pub near : LeadsTo values target v
   pub cost : 2 * moves + 2 + near.moves ≤ 33
 
 -- one number is another and some more, or the other is it and a rest
@@ -111,6 +111,6 @@ first_target values shortcuts v (suc moves) place target permutes lead v_below p
 
 -- what is indexed under one name is so under an equal one
 pub indexed-same : (values values' : List ℕ) (shortcuts : List (Option ℕ)) → values ≡ values' →
-    IsIndexed values shortcuts → IsIndexed values' shortcuts
+    HasShortcuts values shortcuts → HasShortcuts values' shortcuts
 indexed-same values values' shortcuts same indexed =
-    let P : List ℕ → Type 0 = λ xs. IsIndexed xs shortcuts in subst P same indexed
+    let P : List ℕ → Type 0 = λ xs. HasShortcuts xs shortcuts in subst P same indexed

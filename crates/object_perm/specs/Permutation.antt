@@ -16,8 +16,8 @@ abbrev pub is_flawed : List ℕ → ℕ → Bool
 is_flawed values place = nat_le (length values) (slice_index values place) || stood_before values place
 
 -- the first place whose value is too great or stood before
-abbrev pub first_flaw : List ℕ → Option ℕ
-first_flaw values = find (is_flawed values) (range_with_len 0 (length values))
+abbrev pub first_flawed_place : List ℕ → Option ℕ
+first_flawed_place values = find (is_flawed values) (range_with_len 0 (length values))
 
 -- the place where the value stands first, which is its only one in a permutation
 abbrev pub inverse_of : List ℕ → ℕ → ℕ

@@ -1,7 +1,7 @@
 -- Cycles that are marked one after another: what holds of the places seen so far.
 use Rattle.std.specs.Prelude.{◌≡◌, ℕ, ◌<◌, ◌≤◌, Bool, true, false, List, length, Option, None, Some, slice_index, slice_index_or, ◌⊎◌}
 use Rattle.object_perm.specs.Walk.{along}
-use Rattle.object_perm.specs.Shortcuts.{IsNear, has_shortcut}
+use Rattle.object_perm.specs.Shortcuts.{LeadsTo, has_shortcut}
 
 -- the place was seen
 abbrev pub IsSeen : List Bool → ℕ → Type 0
@@ -30,5 +30,5 @@ pub record IsSettled (values : List ℕ) (seen : List Bool) (shortcuts : List (O
   pub stored : (place target : ℕ) → IsSeen seen place → slice_index_or shortcuts place None ≡ Some target →
       has_shortcut shortcuts target ≡ true
   pub back : (place target : ℕ) → IsSeen seen place → slice_index_or shortcuts place None ≡ Some target →
-      IsNear values target place
+      LeadsTo values target place
   pub ahead : (place : ℕ) → IsSeen seen place → MeetsSeen values seen shortcuts place

@@ -4,7 +4,7 @@ use Rattle.object_perm.specs.Permutation.{PermutesPlaces}
 use Rattle.object_perm.specs.Walk.{along}
 
 -- one to sixteen moves lead from a place to another
-pub record IsNear (values : List ℕ) (from to : ℕ) : Type 0 where
+pub record LeadsTo (values : List ℕ) (from to : ℕ) : Type 0 where
   pub moves : ℕ
   pub some : 1 ≤ moves
   pub few : moves ≤ 16
@@ -33,11 +33,11 @@ pub record LeadBack (values : List ℕ) (shortcuts : List (Option ℕ)) : Type 0
   pub stored : (place target : ℕ) → place < length values → slice_index_or shortcuts place None ≡ Some target →
       has_shortcut shortcuts target ≡ true
   pub back : (place target : ℕ) → place < length values → slice_index_or shortcuts place None ≡ Some target →
-      IsNear values target place
+      LeadsTo values target place
   pub ahead : (place : ℕ) → place < length values → MeetsShortcut values shortcuts place
 
 -- a permutation of fewer than 2^32 places, with its shortcuts
-pub record IsIndexed (values : List ℕ) (shortcuts : List (Option ℕ)) : Type 0 where
+pub record HasShortcuts (values : List ℕ) (shortcuts : List (Option ℕ)) : Type 0 where
   pub permutes : PermutesPlaces values
   pub short : length values < 2 ^ 32
   pub lead_back : LeadBack values shortcuts

@@ -1,5 +1,5 @@
 ghost use Rattle.std.specs.Prelude.{◌≡◌, ◌^◌, ◌<◌, IfOk, length};
-ghost use Rattle.object_perm.specs.Permutation.{first_flaw};
+ghost use Rattle.object_perm.specs.Permutation.{first_flawed_place};
 
 use std::alloc::Global;
 use track_types::Memory;
@@ -8,7 +8,7 @@ use track_types::Memory;
 /// value that it meets.
 pub fn find_flaw(alloc: Global, values: &[u32]) -> Result<Option<u32>, Memory>
     requires { length values.now < 2 ^ 32 }
-    ensures { IfOk result (λ flaw. flaw ≡ first_flaw values.now) }
+    ensures { IfOk result (λ flaw. flaw ≡ first_flawed_place values.now) }
 {
     let mut met = vec![in alloc; false; values.len()]?;
     for (place, value) in values.iter().enumerate() {

@@ -1,8 +1,8 @@
 ghost use Rattle.std.specs.Prelude.{◌≡◌, ◌+◌, ◌^◌, ◌<◌, ◌≤◌, length, slice_index, IfErr, IfOk, OnOk};
 ghost use Rattle.object_perm.specs.Cost.{at_reads, inverse_reads};
 ghost use Rattle.object_perm.specs.Permutation.{PermutesPlaces, inverse_of};
-ghost use Rattle.object_perm.specs.Fault.{IsFaultOf};
-ghost use Rattle.object_perm.specs.Shortcuts.{IsNear, CostsWalk};
+ghost use Rattle.object_perm.specs.Fault.{IsPermFault};
+ghost use Rattle.object_perm.specs.Shortcuts.{LeadsTo, CostsWalk};
 
 use crate::cycles::find_shortcuts;
 use crate::fault::PermFault;
@@ -27,13 +27,13 @@ pub struct Perm {
 
 impl Model for Perm {
     ghost use Rattle.std.specs.Prelude.{ℕ, List};
-    ghost use Rattle.object_perm.specs.Shortcuts.{IsIndexed};
+    ghost use Rattle.object_perm.specs.Shortcuts.{HasShortcuts};
 
     ghost Value = { List ℕ };
 
     ghost view = { λ perm. perm.values };
 
-    ghost invariant = { λ perm. IsIndexed perm.values perm.shortcuts };
+    ghost invariant = { λ perm. HasShortcuts perm.values perm.shortcuts };
 }
 
 impl Perm {
@@ -45,7 +45,7 @@ impl Perm {
         requires { length list < 2 ^ 32 }
         ensures ok { IfOk result (λ perm. perm ≡ list) }
         ensures exact { OnOk result (PermutesPlaces list) }
-        ensures flaw { IfErr result (λ fault. IsFaultOf list fault) }
+        ensures flaw { IfErr result (λ fault. IsPermFault list fault) }
     {
         if let Some(index) = find_flaw(alloc, list.as_slice())? {
             return Err(PermFault::Flaw { index });
@@ -108,7 +108,7 @@ impl Perm {
     // The place at which `v` stands, by a walk from a place that is at most 16 moves before it.
     fn walk_to<L: Ledger>(&self, v: u32, from: u32, steps: &mut Steps<L>) -> u32
         requires within { from < length self.now }
-        requires near { IsNear self.now from v }
+        requires near { LeadsTo self.now from v }
         ensures value { slice_index self.now result ≡ v }
         ensures within { result < length self.now }
         ensures cost { CostsWalk self.now from v steps.old steps.new }

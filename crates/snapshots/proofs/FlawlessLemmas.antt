@@ -8,7 +8,7 @@ use Rattle.std.proofs.lemmas.Option.{slice_get-get_or}
 use Rattle.packed_bits.specs.Bits.{ones_of}
 use Rattle.bit_rank.specs.Bits.{rank_of}
 use Rattle.bit_rank.proofs.RankLemmas.{rank_of-step, rank_of-le, rank_of-le-ones_of}
-use Rattle.object_perm.specs.Permutation.{first_flaw}
+use Rattle.object_perm.specs.Permutation.{first_flawed_place}
 use Rattle.track_types.specs.Frame.{instants_in}
 use Rattle.k2_tree.specs.Flaws.{tree_flaw}
 use Rattle.snapshots.specs.View.{SnapshotView, tree_in, widths_in}
@@ -19,7 +19,7 @@ pub record IsFlawless (view : SnapshotView) : Type 0 where
   pub offsets : offset_flaw (instants_in view.frame view.number) view.parts.offsets ≡ None
   pub tree : tree_flaw (widths_in view.frame) view.parts.tree ≡ None
   pub cells : have_cells view.parts.lasts (length (tree_in view).cells) ≡ true
-  pub perm : first_flaw view.parts.perm ≡ None
+  pub perm : first_flawed_place view.parts.perm ≡ None
   pub order : order_flaw view.parts.lasts view.parts.perm ≡ None
 
 -- where the first of two is none, both are

@@ -11,7 +11,7 @@ use Rattle.std.proofs.lemmas.Option.{get_or_from_slice_get}
 use Rattle.bit_rank.specs.Bits.{rank_of}
 use Rattle.bit_rank.proofs.RankLemmas.{rank_of-le, rank_of-step}
 use Rattle.list_laws.proofs.FindLemmas.{find_in_range-all, find_in_range-none}
-use Rattle.object_perm.proofs.FlawLemmas.{first_flaw-permutes, permutes-from_none}
+use Rattle.object_perm.proofs.FlawLemmas.{first_flawed_place-permutes, permutes-from_none}
 use Rattle.track_types.specs.Frame.{instants_in, wide_of, IsFrame}
 use Rattle.track_types.specs.declared.cell.Cell.{Cell}
 use Rattle.track_types.specs.declared.frame.Frame.{Frame}
@@ -177,7 +177,7 @@ module _ (view : SnapshotView) (shaped : IsShaped view) (sound : IsSound view) w
   -- sound parts have no flaw
   pub flaw_of-sound : flaw_of view ≡ None
   flaw_of-sound =
-      let permutes = first_flaw-permutes view.parts.perm sound.permutes in
+      let permutes = first_flawed_place-permutes view.parts.perm sound.permutes in
       rw (no_late, no_tree_flaw, have, permutes, no_disorder) refl
 
 -- shaped parts have no flaw if and only if they are sound

@@ -5,7 +5,7 @@ use Rattle.std.specs.Prelude.{None, Some, ⊤, ◌^◌}
 use Rattle.std.specs.Option.{option_map, option_or}
 use Rattle.std.specs.List.{range_with_len}
 use Rattle.packed_bits.specs.Bits.{ones_of}
-use Rattle.object_perm.specs.Permutation.{first_flaw}
+use Rattle.object_perm.specs.Permutation.{first_flawed_place}
 use Rattle.track_types.specs.Frame.{IsFrame, instants_in, periods_of}
 use Rattle.track_types.specs.Limits.{limit_of}
 use Rattle.track_types.specs.declared.limit.LimitKind.TheVariants.{Objects, Symbols}
@@ -62,7 +62,7 @@ bits_flaw number frame bits = option_map (flaw_in number Tree kind.Tree) (tree_f
 
 -- the first flaw of a list that is no permutation, or does not ascend in each cell
 abbrev pub perm_flaw : ℕ → List Bool → List ℕ → Option Flaw
-perm_flaw number lasts perm = option_or (option_map (flaw_in number Perm kind.Perm) (first_flaw perm))
+perm_flaw number lasts perm = option_or (option_map (flaw_in number Perm kind.Perm) (first_flawed_place perm))
     (option_map (flaw_in number Perm kind.CellOrder) (order_flaw lasts perm))
 
 -- the first flaw of a period's parts, or none

@@ -2,7 +2,7 @@ use Rattle.std.proofs.Common.{◌≡◌, ◌<◌, ◌≤◌, true, false, arith,
 use Rattle.std.proofs.lemmas.Bool.{le-leb, or_left, or_right}
 use Rattle.std.proofs.lemmas.List.{get_or_default}
 use Rattle.object_perm.specs.Permutation.{stood_before}
-use Rattle.object_perm.proofs.FlawLemmas.{first_flaw-at, first_flaw-none}
+use Rattle.object_perm.proofs.FlawLemmas.{first_flawed_place-at, first_flawed_place-none}
 use Rattle.object_perm.proofs.flaws.find_flaw.Goals as goal
 use Rattle.object_perm.proofs.flaws.find_flaw.Goals.{then-value-len-via-then-value-len, then-value-len-via-else-value-len+then-index}
 
@@ -10,7 +10,7 @@ pub returns-then-value-len : goal.returns-then-value-len
 returns-then-value-len c =
     let values = c.args.values.now in
     let place = c.loop-place.place in
-    sym (first_flaw-at values place c.loop-place-test.true c.loop-place.invariant.sound
+    sym (first_flawed_place-at values place c.loop-place-test.true c.loop-place.invariant.sound
     (elim c.then-value-len.branch [
       | then-value-len-via-then-value-len w ↦
           let great : length values ≤ get_or values place 0 =
@@ -27,4 +27,4 @@ returns-then-value-len c =
     ]))
 
 pub returns : goal.returns
-returns c = sym (first_flaw-none c.args.values.now (λ place within. c.loop-place.invariant.sound place (omega arith)))
+returns c = sym (first_flawed_place-none c.args.values.now (λ place within. c.loop-place.invariant.sound place (omega arith)))
