@@ -12,11 +12,11 @@ use Rattle.list_laws.proofs.FilterLemmas.{sum_by_if}
 use Rattle.list_laws.proofs.SumLemmas.{sum_by-agree}
 use Rattle.track_types.specs.declared.cell_box.CellBox.{CellBox}
 use Rattle.k2_tree.specs.Pruning.{on_areas, place_among, weight_below}
-use Rattle.k2_tree.specs.Pruning.{square_count as tree_square_count, children as tree_children}
+use Rattle.k2_tree.specs.Pruning.{square_count as tree_square_count, child_prefixes}
 use Rattle.k2_tree.specs.Squares.{Node, node, squares_from}
 use Rattle.k2_tree.specs.Tree.{Tree, IsTree, codes_of, tree_widths}
 use Rattle.k2_tree.specs.Widths.{digits_in, levels_with, widths_of}
-use Rattle.k2_tree.specs.TreeBits.{Rises, is_in, longer, prefixes}
+use Rattle.k2_tree.specs.TreeBits.{Rises, is_in, children_of_prefixes, prefixes}
 use Rattle.k2_tree.proofs.PrefixLemmas.{any-prefixes, fan_pos, prefixes-top}
 use Rattle.k2_tree.proofs.PruningLemmas.{weight_below-all}
 use Rattle.k2_tree.proofs.WidthLemmas.{digits_in-widths_of}
@@ -98,8 +98,8 @@ module _ (test : Node → Bool) (codes cells : List ℕ) (same : (p : ℕ → Bo
   held-in : (n q : ℕ) → is_held codes n q ≡ is_in (prefixes n cells) q
   held-in n q = is_held-any codes n q ∙ same (λ code. code / 4 ^ n == q) ∙ sym (any-prefixes (λ o. o == q) n cells)
 
-  children-are : (n width prefix : ℕ) → children codes n width prefix ≡ tree_children width n cells prefix
-  unfolding children longer tree_children
+  children-are : (n width prefix : ℕ) → children codes n width prefix ≡ child_prefixes width n cells prefix
+  unfolding children children_of_prefixes child_prefixes
   children-are n width prefix =
       let all : List ℕ = range_with_len (4 ^ width * prefix) (4 ^ width) in
       filter_agree (is_held codes n) (is_in (prefixes n cells)) (held-in n) all
@@ -114,7 +114,7 @@ module _ (test : Node → Bool) (codes cells : List ℕ) (same : (p : ℕ → Bo
       rw (digits-same levels, children-are n level prefix)
       (ap (λ k. one_of test (node (level + n) prefix) + k)
       (sum_by-agree (squares_in test codes levels) (weight_below (one_of test) cells levels)
-      (squares_in-weights levels) (tree_children level n cells prefix)))
+      (squares_in-weights levels) (child_prefixes level n cells prefix)))
 
   -- the squares of a tree that pass
   pub squares-counted : (levels : List ℕ) → 0 < length cells → Rises 0 cells

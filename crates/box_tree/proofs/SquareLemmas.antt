@@ -4,27 +4,27 @@ use Rattle.std.proofs.Common.{sym, ap, ◌∙◌, arith, lit<, mul-le-mul_left, 
 use Rattle.std.proofs.Common.{pow-add}
 use Rattle.std.proofs.Math.Nat.{pow-le-pow_right}
 use Rattle.track_types.specs.declared.limit.TheConstants.{MAX_HEIGHT}
-use Rattle.k2_tree.specs.Morton.{column_of, interleaved, row_of}
+use Rattle.k2_tree.specs.Morton.{morton_column, interleaved, morton_row}
 use Rattle.k2_tree.proofs.AreaLemmas.{interleaved-child}
 
 -- the column that one digit tells
-pub column-one : (digit : ℕ) → digit < 4 → column_of 1 digit ≡ digit % 2
-unfolding column_of
+pub column-one : (digit : ℕ) → digit < 4 → morton_column 1 digit ≡ digit % 2
+unfolding morton_column
 column-one digit small = omega arith
 
 -- and its row
-pub row-one : (digit : ℕ) → digit < 4 → row_of 1 digit ≡ digit / 2
-unfolding row_of
+pub row-one : (digit : ℕ) → digit < 4 → morton_row 1 digit ≡ digit / 2
+unfolding morton_row
 row-one digit small = omega arith
 
 -- the column that two digits tell
-pub column-two : (digit : ℕ) → digit < 16 → column_of 2 digit ≡ 2 * (digit / 4 % 2) + digit % 2
-unfolding column_of
+pub column-two : (digit : ℕ) → digit < 16 → morton_column 2 digit ≡ 2 * (digit / 4 % 2) + digit % 2
+unfolding morton_column
 column-two digit small = omega arith
 
 -- and their row
-pub row-two : (digit : ℕ) → digit < 16 → row_of 2 digit ≡ 2 * (digit / 8) + digit / 2 % 2
-unfolding row_of
+pub row-two : (digit : ℕ) → digit < 16 → morton_row 2 digit ≡ 2 * (digit / 8) + digit / 2 % 2
+unfolding morton_row
 row-two digit small = omega arith
 
 -- a level takes one digit or two
@@ -63,28 +63,28 @@ child-fits width level count deep all =
 -- a child's prefix has a digit more, or two
 pub child-prefix : (width digit row column : ℕ) → 1 ≤ width → width ≤ 2 → digit < 4 ^ width
     → (column + 1) * 2 ^ width ≤ 2 ^ MAX_HEIGHT → (row + 1) * 2 ^ width ≤ 2 ^ MAX_HEIGHT
-    → interleaved MAX_HEIGHT (2 ^ width * row + row_of width digit) (2 ^ width * column + column_of width digit)
+    → interleaved MAX_HEIGHT (2 ^ width * row + morton_row width digit) (2 ^ width * column + morton_column width digit)
     ≡ 4 ^ width * interleaved MAX_HEIGHT row column + digit
 child-prefix width digit row column some few =
     by_width (λ w. digit < 4 ^ w → (column + 1) * 2 ^ w ≤ 2 ^ MAX_HEIGHT → (row + 1) * 2 ^ w ≤ 2 ^ MAX_HEIGHT
-    → interleaved MAX_HEIGHT (2 ^ w * row + row_of w digit) (2 ^ w * column + column_of w digit)
+    → interleaved MAX_HEIGHT (2 ^ w * row + morton_row w digit) (2 ^ w * column + morton_column w digit)
     ≡ 4 ^ w * interleaved MAX_HEIGHT row column + digit) one two width some few
   where
     one : digit < 4 ^ 1 → (column + 1) * 2 ^ 1 ≤ 2 ^ MAX_HEIGHT → (row + 1) * 2 ^ 1 ≤ 2 ^ MAX_HEIGHT
-        → interleaved MAX_HEIGHT (2 ^ 1 * row + row_of 1 digit) (2 ^ 1 * column + column_of 1 digit)
+        → interleaved MAX_HEIGHT (2 ^ 1 * row + morton_row 1 digit) (2 ^ 1 * column + morton_column 1 digit)
         ≡ 4 ^ 1 * interleaved MAX_HEIGHT row column + digit
     one low right upper =
         rw (column-one digit low, row-one digit low)
         (interleaved-child (MAX_HEIGHT - 1) row column digit 1 low (omega arith) right upper)
 
     two : digit < 4 ^ 2 → (column + 1) * 2 ^ 2 ≤ 2 ^ MAX_HEIGHT → (row + 1) * 2 ^ 2 ≤ 2 ^ MAX_HEIGHT
-        → interleaved MAX_HEIGHT (2 ^ 2 * row + row_of 2 digit) (2 ^ 2 * column + column_of 2 digit)
+        → interleaved MAX_HEIGHT (2 ^ 2 * row + morton_row 2 digit) (2 ^ 2 * column + morton_column 2 digit)
         ≡ 4 ^ 2 * interleaved MAX_HEIGHT row column + digit
     two low right upper =
         let q : ℕ = digit / 4 in let r : ℕ = digit % 4 in
         let y : ℕ = 2 * row + q / 2 in let x : ℕ = 2 * column + q % 2 in
-        let a : 4 * row + row_of 2 digit ≡ 2 * y + r / 2 = omega (arith, row-two digit low) in
-        let b : 4 * column + column_of 2 digit ≡ 2 * x + r % 2 = omega (arith, column-two digit low) in
+        let a : 4 * row + morton_row 2 digit ≡ 2 * y + r / 2 = omega (arith, row-two digit low) in
+        let b : 4 * column + morton_column 2 digit ≡ 2 * x + r % 2 = omega (arith, column-two digit low) in
         let upper' : (row + 1) * 2 ^ 1 ≤ 2 ^ MAX_HEIGHT = omega arith in
         let right' : (column + 1) * 2 ^ 1 ≤ 2 ^ MAX_HEIGHT = omega arith in
         let first = interleaved-child (MAX_HEIGHT - 1) row column q 1 (omega arith) (omega arith) right' upper' in

@@ -13,8 +13,8 @@ use Rattle.std.proofs.lemmas.List.Elements.{All-nil, All-cons, All-head, All-tai
 use Rattle.std.proofs.lemmas.List.Sums.{sum_by-append}
 use Rattle.list_laws.proofs.FlatLemmas.{sum_by-map}
 use Rattle.k2_tree.specs.Squares.{Node, node}
-use Rattle.k2_tree.specs.Morton.{column_of, row_of}
-use Rattle.k2_tree.proofs.MortonLemmas.{column_of-lt, row_of-lt}
+use Rattle.k2_tree.specs.Morton.{morton_column, morton_row}
+use Rattle.k2_tree.proofs.MortonLemmas.{morton_column-lt, morton_row-lt}
 use Rattle.box_tree.specs.Held.{Held, IsBranch, IsBucket, IsKindFor, Nodes, Stand, digits_in}
 use Rattle.box_tree.specs.Levels.{children, digits, run, squares_in}
 use Rattle.box_tree.specs.Places.{Ascends, Places, Square, square_worth, passes, run_of, square}
@@ -86,8 +86,8 @@ module _ (tree : TreeView) (parent : NodeRef) (width : ℕ) (its : IsNodeOf tree
     node = number;
     below = parent.below - 1;
     level = parent.level - width;
-    column = 2 ^ width * parent.column + column_of width digit;
-    row = 2 ^ width * parent.row + row_of width digit;
+    column = 2 ^ width * parent.column + morton_column width digit;
+    row = 2 ^ width * parent.row + morton_row width digit;
   }
 
   level-parts : width + digits lower ≡ parent.level
@@ -115,8 +115,8 @@ module _ (tree : TreeView) (parent : NodeRef) (width : ℕ) (its : IsNodeOf tree
       (record {
         level = omega (arith, level-parts);
         deep = omega (arith, its.deep);
-        right = child-ends width parent.level parent.column (column_of width d) deep (column_of-lt width d) its.right;
-        upper = child-ends width parent.level parent.row (row_of width d) deep (row_of-lt width d) its.upper;
+        right = child-ends width parent.level parent.column (morton_column width d) deep (morton_column-lt width d) its.right;
+        upper = child-ends width parent.level parent.row (morton_row width d) deep (morton_row-lt width d) its.upper;
         held = subst (λ q. Held tree.places tree.nodes lower q first)
             (sym (child-at first d (All-head P d ds low))) stand.0;
       })

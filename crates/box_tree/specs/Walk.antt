@@ -11,7 +11,7 @@ use Rattle.box_tree.specs.Cost.{node_reads, place_reads}
 use Rattle.box_tree.specs.Tree.{TreeView, IsNodeOf, child_limit, levels_of, node_at, node_square, slots}
 use Rattle.box_tree.specs.declared.node_ref.NodeRef.{NodeRef}
 use Rattle.box_tree.specs.declared.node_ref.TheConstants.{SLOTS}
-use Rattle.k2_tree.specs.Morton.{column_of, row_of}
+use Rattle.k2_tree.specs.Morton.{morton_column, morton_row}
 
 -- a tree, the squares that are still to be visited, the next one first, the places that are left of an open bucket, and
 -- how many nodes wait
@@ -70,8 +70,8 @@ child_refs parent width first (digit ∷ digits) = record {
   node = first;
   below = parent.below - 1;
   level = parent.level - width;
-  column = 2 ^ width * parent.column + column_of width digit;
-  row = 2 ^ width * parent.row + row_of width digit;
+  column = 2 ^ width * parent.column + morton_column width digit;
+  row = 2 ^ width * parent.row + morton_row width digit;
 } ∷ child_refs parent width (first + 1) digits
 
 -- a node of a square was opened: its places are left too, and it has paid for itself

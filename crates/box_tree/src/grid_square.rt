@@ -3,7 +3,7 @@ ghost use Rattle.std.specs.Prelude.{map, All, IfOk};
 ghost use Rattle.track_types.specs.Near.{IsBoxWithin, IsWithin};
 ghost use Rattle.track_types.specs.declared.limit.TheConstants.{MAX_HEIGHT};
 ghost use Rattle.k2_tree.specs.Areas.{area_at};
-ghost use Rattle.k2_tree.specs.Morton.{column_of, row_of};
+ghost use Rattle.k2_tree.specs.Morton.{morton_column, morton_row};
 ghost use Rattle.k2_tree.specs.Squares.{node};
 ghost use Rattle.k2_tree.specs.TreeBits.{code_limit};
 ghost use Rattle.box_tree.specs.Boxes.{IsBase};
@@ -69,7 +69,7 @@ pub(crate) fn cells_of(alloc: Global, codes: &[u64]) -> Result<Vec<(u32, u32)>, 
 
 // The column that the digits of a Morton number tell: the lower bit of each.
 fn column_in(code: u64) -> u32
-    ensures value { result ≡ column_of MAX_HEIGHT code }
+    ensures value { result ≡ morton_column MAX_HEIGHT code }
     ensures small { result < 2 ^ MAX_HEIGHT }
 {
     let mut column = 0;
@@ -85,7 +85,7 @@ pub(crate) fn digit_column(digit: u32, width: u32) -> u32
     requires some { 1 ≤ width }
     requires few { width ≤ 2 }
     requires small { digit < 4 ^ width }
-    ensures value { result ≡ column_of width digit }
+    ensures value { result ≡ morton_column width digit }
     ensures small { result < 2 ^ width }
 {
     digit % 2 + digit / 4 % 2 * 2
@@ -96,7 +96,7 @@ pub(crate) fn digit_row(digit: u32, width: u32) -> u32
     requires some { 1 ≤ width }
     requires few { width ≤ 2 }
     requires small { digit < 4 ^ width }
-    ensures value { result ≡ row_of width digit }
+    ensures value { result ≡ morton_row width digit }
     ensures small { result < 2 ^ width }
 {
     digit / 2 % 2 + digit / 8 * 2

@@ -12,7 +12,7 @@ use Rattle.track_types.specs.Region.{is_between, in_box}
 use Rattle.track_types.specs.declared.cell.Cell.{Cell}
 use Rattle.track_types.specs.declared.limit.TheConstants.{MAX_HEIGHT}
 use Rattle.track_types.proofs.RegionLemmas.{is_between-from}
-use Rattle.k2_tree.specs.Morton.{interleaved, morton_of, row_of, column_of, IsGrid, IsInGrid}
+use Rattle.k2_tree.specs.Morton.{interleaved, morton_of, morton_row, morton_column, IsGrid, IsInGrid}
 use Rattle.k2_tree.specs.Squares.{node}
 use Rattle.k2_tree.specs.Areas.{area_at, IsBoxInside}
 use Rattle.k2_tree.proofs.MortonLemmas.{ends_back, interleaved-more, interleaved-prefix}
@@ -148,7 +148,7 @@ module _ {height : ℕ} {base cell : Cell} (grid : IsGrid height base) (inside :
   y = unsigned_abs (cell.y -ℤ base.y)
 
   -- its row and its column
-  ends : (row_of MAX_HEIGHT prefix ≡ y / 2 ^ n) × (column_of MAX_HEIGHT prefix ≡ x / 2 ^ n)
+  ends : (morton_row MAX_HEIGHT prefix ≡ y / 2 ^ n) × (morton_column MAX_HEIGHT prefix ≡ x / 2 ^ n)
   unfolding morton_of
   ends =
       let k : ℕ = height - n in
@@ -160,14 +160,14 @@ module _ {height : ℕ} {base cell : Cell} (grid : IsGrid height base) (inside :
       rw (ap (λ h. interleaved h y x / 4 ^ n) e ∙ interleaved-prefix n k y x)
       (ends_back k MAX_HEIGHT (y / 2 ^ n) (x / 2 ^ n) few above right)
 
-  stretches : IsStretch base.x (column_of MAX_HEIGHT prefix) (2 ^ n) cell.x
-      × IsStretch base.y (row_of MAX_HEIGHT prefix) (2 ^ n) cell.y
+  stretches : IsStretch base.x (morton_column MAX_HEIGHT prefix) (2 ^ n) cell.x
+      × IsStretch base.y (morton_row MAX_HEIGHT prefix) (2 ^ n) cell.y
   stretches =
       let wide : 2 ^ height ≤ 2 ^ MAX_HEIGHT = pow-le-pow_right {n = 2} (lit< tt) grid.limit in
       let far : 2 ^ n ≤ 2 ^ height = pow-le-pow_right {n = 2} (lit< tt) low in (
-        stretch base.x cell.x (column_of MAX_HEIGHT prefix) (2 ^ n) grid.left grid.right inside.left
+        stretch base.x cell.x (morton_column MAX_HEIGHT prefix) (2 ^ n) grid.left grid.right inside.left
             (omega (arith, inside.right)) (pow_pos n) (omega arith) ends.1,
-        stretch base.y cell.y (row_of MAX_HEIGHT prefix) (2 ^ n) grid.below grid.above inside.below
+        stretch base.y cell.y (morton_row MAX_HEIGHT prefix) (2 ^ n) grid.below grid.above inside.below
             (omega (arith, inside.above)) (pow_pos n) (omega arith) ends.0,
       )
 

@@ -13,7 +13,7 @@ use Rattle.std.proofs.lemmas.List.{length-map, map-append, set-append_right}
 use Rattle.std.proofs.lemmas.Bool.Decides.{nat_tests}
 use Rattle.std.proofs.lemmas.List.Folds.{list_any-append}
 use Rattle.k2_tree.specs.Widths.{fan_of, digits_in}
-use Rattle.k2_tree.specs.TreeBits.{is_in, prefixes, Rises, level_bits, longer, morton_bits}
+use Rattle.k2_tree.specs.TreeBits.{is_in, prefixes, Rises, level_bits, children_of_prefixes, morton_bits}
 use Rattle.k2_tree.specs.Building.{levels_bits, room}
 use Rattle.k2_tree.specs.Groups.{upper_squares}
 use Rattle.k2_tree.specs.Widths.{levels_with, widths_of}
@@ -22,7 +22,7 @@ use Rattle.k2_tree.proofs.WidthLemmas.{digits_in-levels_with}
 use Rattle.k2_tree.proofs.MortonLemmas.{two_bits}
 use Rattle.k2_tree.proofs.RisingLemmas.{Rises-place}
 use Rattle.k2_tree.proofs.PrefixLemmas.{any-prefixes, by_test, once_from, prefixes-rise, fan_pos}
-use Rattle.k2_tree.proofs.LongerLemmas.{div-pow_add, length-longer, get_or-longer, longer-rises, prefixes-shorter}
+use Rattle.k2_tree.proofs.LongerLemmas.{div-pow_add, length-children_of_prefixes, get_or-children_of_prefixes, children_of_prefixes-rises, prefixes-shorter}
 
 -- the last of a number and those behind it
 abbrev last_of : ℕ → List ℕ → ℕ
@@ -116,9 +116,9 @@ mark f g p more n (suc i) (x ∷ xs) up within here =
 -- number's
 level_more : (w n c : ℕ) (above : List ℕ) (f g : ℕ → Bool) (grown : List Bool) → Rises 0 above → 0 < length above
     → get_or above (length above - 1) 0 ≡ c / 4 ^ (w + n) → ((z : ℕ) → g z ≡ (f z || (c / 4 ^ n == z)))
-    → grown ≡ map f (longer (fan_of w) above)
+    → grown ≡ map f (children_of_prefixes (fan_of w) above)
     → (fan_of w ≤ length grown)
-    × (map g (longer (fan_of w) above) ≡ set grown (length grown - fan_of w + c / 4 ^ n % fan_of w) true)
+    × (map g (children_of_prefixes (fan_of w) above) ≡ set grown (length grown - fan_of w + c / 4 ^ n % fan_of w) true)
 level_more w n c above f g grown up some last more is =
     let k : ℕ = fan_of w in
     let m : ℕ = length above - 1 in
@@ -126,17 +126,17 @@ level_more w n c above f g grown up some last more is =
     let small : d < k = mod-lt (c / 4 ^ n) (fan_pos w) in
     let count : length above ≡ suc m = omega arith in
     let long : length grown ≡ k * suc m =
-    ap length is ∙ length-map (longer k above) f ∙ length-longer k above ∙ ap (λ x. k * x) count in
+    ap length is ∙ length-map (children_of_prefixes k above) f ∙ length-children_of_prefixes k above ∙ ap (λ x. k * x) count in
     let place : length grown - k + d ≡ k * m + d = omega (arith, long) in
-    let here : get_or (longer k above) (k * m + d) 0 ≡ c / 4 ^ n =
-    get_or-longer k above m d (omega arith) small ∙ ap (λ q. k * q + d) (last ∙ sym (div-pow_add c n w))
+    let here : get_or (children_of_prefixes k above) (k * m + d) 0 ≡ c / 4 ^ n =
+    get_or-children_of_prefixes k above m d (omega arith) small ∙ ap (λ q. k * q + d) (last ∙ sym (div-pow_add c n w))
     ∙ div-add-mod (c / 4 ^ n) k in
     let none : k * 0 ≡ 0 = omega arith in
-    let up' : Rises 0 (longer k above) = rw none at (longer-rises k 0 above up) in
-    let inside : k * m + d < length (longer k above) =
-    omega (arith, length-longer k above, ap (λ x. k * x) count) in (
+    let up' : Rises 0 (children_of_prefixes k above) = rw none at (children_of_prefixes-rises k 0 above up) in
+    let inside : k * m + d < length (children_of_prefixes k above) =
+    omega (arith, length-children_of_prefixes k above, ap (λ x. k * x) count) in (
       omega (arith, long),
-      mark f g (c / 4 ^ n) more 0 (k * m + d) (longer k above) up' inside here
+      mark f g (c / 4 ^ n) more 0 (k * m + d) (children_of_prefixes k above) up' inside here
           ∙ ap (λ ys. set ys (k * m + d) true) (sym is) ∙ ap (λ j. set grown j true) (sym place),
     )
 
@@ -153,12 +153,12 @@ fresh size q f start (suc m) some low high none =
     (fresh size q f (start + 1) m some (omega arith) (omega arith) none))
 
 -- the longer prefixes of one prefix more
-pub longer-snoc : (size : ℕ) (xs : List ℕ) (q : ℕ)
-    → longer size (xs ++ q ∷ []) ≡ longer size xs ++ range_with_len (size * q) size
-unfolding longer
-longer-snoc size xs q =
+pub children_of_prefixes-snoc : (size : ℕ) (xs : List ℕ) (q : ℕ)
+    → children_of_prefixes size (xs ++ q ∷ []) ≡ children_of_prefixes size xs ++ range_with_len (size * q) size
+unfolding children_of_prefixes
+children_of_prefixes-snoc size xs q =
     flat_map-append (λ p. range_with_len (size * p) size) xs (q ∷ [])
-    ∙ ap (λ ys. longer size xs ++ ys) (append-nil (range_with_len (size * q) size))
+    ∙ ap (λ ys. children_of_prefixes size xs ++ ys) (append-nil (range_with_len (size * q) size))
 
 -- what rises behind a list is not in it
 absent_last : (n q : ℕ) (xs : List ℕ) → Rises n (xs ++ q ∷ []) → (is_in xs q ≡ false) × (n ≤ q)
@@ -183,7 +183,7 @@ last_of-take x (suc j) (y ∷ ys) within = last_of-take y j ys (omega arith)
 grown_new : (w n c x : ℕ) (xs : List ℕ) → Rises 0 (x ∷ xs ++ c ∷ [])
     → (c / 4 ^ (w + n) ≡ last_of x xs / 4 ^ (w + n) → ⊥)
     → level_bits w n (x ∷ xs) ++ replicate (fan_of w) false
-    ≡ map (is_in (prefixes n (x ∷ xs))) (longer (fan_of w) (prefixes (w + n) (x ∷ xs ++ c ∷ [])))
+    ≡ map (is_in (prefixes n (x ∷ xs))) (children_of_prefixes (fan_of w) (prefixes (w + n) (x ∷ xs ++ c ∷ [])))
 unfolding level_bits
 grown_new w n c x xs up differ =
     let old : List ℕ = prefixes (w + n) (x ∷ xs) in
@@ -197,16 +197,16 @@ grown_new w n c x xs up differ =
     λ z parent.
     grind (arith, prefixes-shorter w n (x ∷ xs) z, ap (is_in old) parent ∙ (absent_last 0 q old rises).0) in
     let zeros : map f group ≡ replicate k false = fresh k q f (k * q) k (fan_pos w) (omega arith) (omega arith) none in
-    sym (ap (λ ps. map f (longer k ps)) new ∙ ap (map f) (longer-snoc k old q)
-    ∙ map-append f (longer k old) group
-    ∙ ap (λ bits. map f (longer k old) ++ bits) zeros)
+    sym (ap (λ ps. map f (children_of_prefixes k ps)) new ∙ ap (map f) (children_of_prefixes-snoc k old q)
+    ∙ map-append f (children_of_prefixes k old) group
+    ∙ ap (λ bits. map f (children_of_prefixes k old) ++ bits) zeros)
 
 -- with the room for the next number, the level has the groups of that number too
 grown : (w n i : ℕ) (codes : List ℕ) → i < length codes → Rises 0 (take i codes ++ get_or codes i 0 ∷ [])
     → level_bits w n (take i codes) ++ room (fan_of w) (w + n) codes i
     ≡ map (is_in (prefixes n (take i codes)))
-    (longer (fan_of w) (prefixes (w + n) (take i codes ++ get_or codes i 0 ∷ [])))
-unfolding level_bits prefixes longer
+    (children_of_prefixes (fan_of w) (prefixes (w + n) (take i codes ++ get_or codes i 0 ∷ [])))
+unfolding level_bits prefixes children_of_prefixes
 grown w n zero codes within up =
     let c : ℕ = get_or codes 0 0 in
     let k : ℕ = fan_of w in
@@ -215,8 +215,8 @@ grown w n zero codes within up =
     let f : ℕ → Bool = is_in (prefixes n []) in
     let zeros : map f (range_with_len (k * q) k) ≡ replicate k false =
     fresh k q f (k * q) k (fan_pos w) (omega arith) (omega arith) (λ z parent. nothing n z) in
-    empty w n (replicate k false) ∙ sym (ap (λ ps. map f (longer k ps)) one ∙ ap (map f) (longer-snoc k [] q)
-    ∙ map-append f (longer k []) (range_with_len (k * q) k) ∙ ap (λ bits. map f (longer k []) ++ bits) zeros
+    empty w n (replicate k false) ∙ sym (ap (λ ps. map f (children_of_prefixes k ps)) one ∙ ap (map f) (children_of_prefixes-snoc k [] q)
+    ∙ map-append f (children_of_prefixes k []) (range_with_len (k * q) k) ∙ ap (λ bits. map f (children_of_prefixes k []) ++ bits) zeros
     ∙ none_longer k f (replicate k false))
   where
     only : (m c : ℕ) → prefixes m (c ∷ []) ≡ c / 4 ^ m ∷ []
@@ -225,11 +225,11 @@ grown w n zero codes within up =
     nothing : (n z : ℕ) → is_in (prefixes n []) z ≡ false
     nothing n z = refl
 
-    empty : (w n : ℕ) (bits : List Bool) → map (is_in (prefixes n [])) (longer (fan_of w) (prefixes (w + n) [])) ++ bits
+    empty : (w n : ℕ) (bits : List Bool) → map (is_in (prefixes n [])) (children_of_prefixes (fan_of w) (prefixes (w + n) [])) ++ bits
         ≡ bits
     empty w n bits = refl
 
-    none_longer : (k : ℕ) (f : ℕ → Bool) (bits : List Bool) → map f (longer k []) ++ bits ≡ bits
+    none_longer : (k : ℕ) (f : ℕ → Bool) (bits : List Bool) → map f (children_of_prefixes k []) ++ bits ≡ bits
     none_longer k f bits = refl
 grown w n (suc j) [] within up = absurd (omega arith)
 grown w n (suc j) (x ∷ rest) within up =
@@ -284,7 +284,7 @@ level_step w n i codes front old up within is =
 
 -- no number, no bits
 pub level_bits-none : (w n : ℕ) → level_bits w n [] ≡ []
-unfolding level_bits prefixes longer
+unfolding level_bits prefixes children_of_prefixes
 level_bits-none w n = refl
 
 -- one level more

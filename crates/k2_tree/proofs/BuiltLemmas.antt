@@ -12,7 +12,7 @@ use Rattle.k2_tree.specs.Morton.{morton_of, cell_of, IsGrid, IsInGrid}
 use Rattle.k2_tree.specs.Widths.{levels_with, widths_of, digits_in, fan_of}
 use Rattle.k2_tree.specs.TreeBits.{prefixes, level_bits, morton_bits, AreCodes}
 use Rattle.k2_tree.specs.Groups.{upper_squares}
-use Rattle.k2_tree.specs.Tree.{IsStored, codes_in, AreTreeBits, tree_of, tree_with}
+use Rattle.k2_tree.specs.Tree.{IsStoredTree, codes_in, AreTreeBits, tree_of, tree_with}
 use Rattle.k2_tree.proofs.MortonLemmas.{morton_of-lt}
 use Rattle.k2_tree.proofs.CellLemmas.{cells_back}
 use Rattle.k2_tree.proofs.RisingLemmas.{rises}
@@ -101,7 +101,7 @@ pub built : (height wide : ℕ) (base : Cell) (cells : List Cell) (bits : List B
     → IsStrictlyIncreasing (map (morton_of height base) cells)
     → bits ≡ morton_bits (widths_of height wide) (map (morton_of height base) cells)
     → upper ≡ upper_squares height wide (map (morton_of height base) cells)
-    → IsStored height wide base bits upper × (tree_of height wide base bits ≡ tree_with height wide base cells)
+    → IsStoredTree height wide base bits upper × (tree_of height wide base bits ≡ tree_with height wide base cells)
 built height wide base cells bits upper grid fits few inside up is split =
     let codes : List ℕ = map (morton_of height base) cells in
     let are : AreCodes height codes = codes_of_cells height base cells up in

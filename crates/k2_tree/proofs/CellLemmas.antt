@@ -13,7 +13,7 @@ use Rattle.k2_tree.specs.Morton.{morton_of, cell_of, IsInGrid}
 use Rattle.k2_tree.specs.Widths.{widths_of}
 use Rattle.k2_tree.specs.TreeBits.{is_in, morton_bits, AreCodes}
 use Rattle.k2_tree.specs.Groups.{square_at}
-use Rattle.k2_tree.specs.Tree.{tree_with, codes_in, Tree, codes_of, tree_bits, tree_of, IsTree, IsStored}
+use Rattle.k2_tree.specs.Tree.{tree_with, codes_in, Tree, codes_of, tree_bits, tree_of, IsTree, IsStoredTree}
 use Rattle.k2_tree.specs.Flaws.{StandsFor}
 use Rattle.k2_tree.proofs.MortonLemmas.{cell_of-morton_of, cell_of-inside, morton_of-cell_of}
 use Rattle.k2_tree.proofs.ToldLemmas.{codes_in-own, codes_in-none}
@@ -46,7 +46,7 @@ pub no_cells : (height wide : ℕ) (base : Cell) (bits : List Bool) → length b
     → map (cell_of height base) (codes_in (widths_of height wide) bits) ≡ []
 no_cells height wide base bits none = ap (map (cell_of height base)) (codes_in-none (widths_of height wide) bits none)
 
-module _ {height wide : ℕ} {base : Cell} {bits : List Bool} {upper : ℕ} (stored : IsStored height wide base bits upper)
+module _ {height wide : ℕ} {base : Cell} {bits : List Bool} {upper : ℕ} (stored : IsStoredTree height wide base bits upper)
   where
     abbrev codes : List ℕ
     codes = codes_in (widths_of height wide) bits
@@ -97,7 +97,7 @@ module _ {height wide : ℕ} {base : Cell} {bits : List Bool} {upper : ℕ} (sto
 
 -- what is stored stands for its bits
 pub StandsFor-stored : {height wide : ℕ} {base : Cell} {bits : List Bool} {upper : ℕ}
-    → IsStored height wide base bits upper
+    → IsStoredTree height wide base bits upper
     → StandsFor height wide base bits (tree_of height wide base bits)
 StandsFor-stored stored = record {
   high = refl;

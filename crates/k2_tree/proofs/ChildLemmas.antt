@@ -8,10 +8,10 @@ use Rattle.packed_bits.specs.Bits.{ones_of}
 use Rattle.bit_rank.specs.Bits.{rank_of}
 use Rattle.bit_rank.proofs.RankLemmas.{rank_of-append, rank_of-append_left, rank_of-map}
 use Rattle.k2_tree.specs.Widths.{digits_in, fan_of}
-use Rattle.k2_tree.specs.TreeBits.{is_in, prefixes, Rises, level_bits, longer, morton_bits, AreCodes}
+use Rattle.k2_tree.specs.TreeBits.{is_in, prefixes, Rises, level_bits, children_of_prefixes, morton_bits, AreCodes}
 use Rattle.k2_tree.specs.Squares.{bits_above, IsSquare}
 use Rattle.k2_tree.proofs.PrefixLemmas.{prefixes-top, prefixes-none}
-use Rattle.k2_tree.proofs.LongerLemmas.{length-longer, get_or-longer, prefixes-from_longer}
+use Rattle.k2_tree.proofs.LongerLemmas.{length-children_of_prefixes, get_or-children_of_prefixes, prefixes-from_longer}
 use Rattle.k2_tree.specs.Building.{levels_bits}
 use Rattle.k2_tree.proofs.LevelLemmas.{digits_in-append, morton_bits-parted, length-level_bits}
 use Rattle.k2_tree.proofs.LevelLemmas.{length-levels_bits, ones_of-levels_bits, squares_above-snoc}
@@ -25,7 +25,7 @@ one_top digits (c ∷ cs) are n some = prefixes-top digits c cs are.small
 -- the bit of a square for a digit, in the level below it
 module _ (w n i d : ℕ) (codes : List ℕ) (within : i < length (prefixes (w + n) codes)) (small : d < fan_of w) where
   abbrev long : List ℕ
-  long = longer (fan_of w) (prefixes (w + n) codes)
+  long = children_of_prefixes (fan_of w) (prefixes (w + n) codes)
 
   abbrev test : ℕ → Bool
   test = is_in (prefixes n codes)
@@ -36,10 +36,10 @@ module _ (w n i d : ℕ) (codes : List ℕ) (within : i < length (prefixes (w + 
   inside : fan_of w * i + d < length long
   inside =
       let most : fan_of w * suc i ≤ fan_of w * length (prefixes (w + n) codes) = mul-le-mul_left (fan_of w) within in
-      omega (arith, most, small, length-longer (fan_of w) (prefixes (w + n) codes))
+      omega (arith, most, small, length-children_of_prefixes (fan_of w) (prefixes (w + n) codes))
 
   stands : get_or long (fan_of w * i + d) 0 ≡ child
-  stands = get_or-longer (fan_of w) (prefixes (w + n) codes) i d within small
+  stands = get_or-children_of_prefixes (fan_of w) (prefixes (w + n) codes) i d within small
 
   -- it tells whether that child is there
   level_bit : get_or (level_bits w n codes) (fan_of w * i + d) false ≡ test child

@@ -14,7 +14,7 @@ use Rattle.bit_rank.proofs.RankLemmas.{same_from_IsSelected}
 use Rattle.track_types.specs.declared.limit.TheConstants.{MAX_HEIGHT}
 use Rattle.k2_tree.specs.Widths.{widths_of, digits_in, fan_of, widths_under}
 use Rattle.k2_tree.specs.TreeBits.{prefixes, code_limit, morton_bits}
-use Rattle.k2_tree.specs.Groups.{upper_squares, group_start, square_at, digit_at, width_at}
+use Rattle.k2_tree.specs.Groups.{upper_squares, group_start, square_at, digit_at, square_width}
 use Rattle.k2_tree.specs.Tree.{codes_in, AreTreeBits}
 use Rattle.k2_tree.proofs.PrefixLemmas.{prefixes-zero, fan_pos}
 use Rattle.k2_tree.specs.Building.{levels_bits}
@@ -35,7 +35,7 @@ pub record IsClimb (height wide : ℕ) (bits : List Bool) (leaf level square cod
 -- a digit more was left behind
 pub record IsHigher (height wide : ℕ) (bits : List Bool) (leaf level code upper place : ℕ) : Type 0 where
   pub small : code + digit_at upper place * 4 ^ level < code_limit
-  pub climb : IsClimb height wide bits leaf (level + width_at upper (square_at upper place)) (square_at upper place)
+  pub climb : IsClimb height wide bits leaf (level + square_width upper (square_at upper place)) (square_at upper place)
       (code + digit_at upper place * 4 ^ level)
 
 -- the number's digits, those of one level more left behind
@@ -127,7 +127,7 @@ module _ {height wide : ℕ} {bits : List Bool} (are : AreTreeBits height wide b
             let same : place ≡ group_start upper u.parent + u.digit =
             same_from_IsSelected bits square place (group_start upper u.parent + u.digit) selected u.selected in
             let less_fan : u.digit < k = omega (arith, u.digit_is, mod-lt climb.prefix (fan_pos u.width)) in
-            let small : u.digit < fan_of (width_at upper u.parent) = rw u.same at less_fan in
+            let small : u.digit < fan_of (square_width upper u.parent) = rw u.same at less_fan in
             let parent : square_at upper place ≡ u.parent =
             ap (square_at upper) same ∙ back_square upper u.parent u.digit small in
             let digit : digit_at upper place ≡ u.digit =

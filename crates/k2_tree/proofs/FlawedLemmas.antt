@@ -14,8 +14,8 @@ use Rattle.std.proofs.lemmas.Option.{none-some}
 use Rattle.list_laws.proofs.FirstLemmas.{map-none}
 use Rattle.std.proofs.lemmas.Option.{none-some}
 use Rattle.k2_tree.specs.Widths.{widths_of, digits_in, fan_of}
-use Rattle.k2_tree.specs.TreeBits.{is_in, prefixes, Rises, longer, level_bits, morton_bits, AreCodes}
-use Rattle.k2_tree.specs.Tree.{picked}
+use Rattle.k2_tree.specs.TreeBits.{is_in, prefixes, Rises, children_of_prefixes, level_bits, morton_bits, AreCodes}
+use Rattle.k2_tree.specs.Tree.{where_set}
 use Rattle.k2_tree.specs.Flaws.{AreNoTree, has_group, group_flaw, level_flaw, tree_flaw}
 use Rattle.k2_tree.proofs.RisingLemmas.{is_in-first}
 use Rattle.k2_tree.proofs.PrefixLemmas.{by_test, prefixes-top, fan_pos}
@@ -73,19 +73,19 @@ any-map p (x ∷ xs) = ap (λ b. p x || b) (any-map p xs)
 -- where each square has a child, no group is flawed
 group_flaw-children : (size : ℕ) (above below : List ℕ) (rest : List Bool)
     → ((p : ℕ) → is_in above p ≡ true → any_child size below p ≡ true)
-    → group_flaw size (length above) (map (is_in below) (longer size above) ++ rest) ≡ None
-unfolding group_flaw longer
+    → group_flaw size (length above) (map (is_in below) (children_of_prefixes size above) ++ rest) ≡ None
+unfolding group_flaw children_of_prefixes
 group_flaw-children size [] below rest each = refl
 group_flaw-children size (p ∷ ps) below rest each =
     let test : ℕ → Bool = is_in below in
     let children : List ℕ = range_with_len (size * p) size in
     let group : List Bool = map test children in
-    let later : List Bool = map test (longer size ps) ++ rest in
-    let bits : List Bool = map test (children ++ longer size ps) ++ rest in
+    let later : List Bool = map test (children_of_prefixes size ps) ++ rest in
+    let bits : List Bool = map test (children ++ children_of_prefixes size ps) ++ rest in
     let long : length group ≡ size = length-map children test ∙ length-range_with_len (size * p) size in
     let parted : bits ≡ group ++ later =
-    ap (λ xs. xs ++ rest) (map-append test children (longer size ps))
-    ∙ append_assoc group (map test (longer size ps)) rest in
+    ap (λ xs. xs ++ rest) (map-append test children (children_of_prefixes size ps))
+    ∙ append_assoc group (map test (children_of_prefixes size ps)) rest in
     let front : take size (group ++ later) ≡ group = take_at group later size long in
     let back : drop size (group ++ later) ≡ later = drop_at group later size long in
     let whole : nat_le size (length (group ++ later)) ≡ true =
@@ -159,23 +159,23 @@ group_flaw-within size (suc groups) bits none =
     omega (arith, (has_group-parts size bits parts.0).0, rest, length-drop size bits)
 
 -- what is picked of two lists
-picked-append : (bits : List Bool) (xs ys : List ℕ)
-    → picked bits (xs ++ ys) ≡ picked (take (length xs) bits) xs ++ picked (drop (length xs) bits) ys
-unfolding picked
-picked-append bits [] ys = none bits
+where_set-append : (bits : List Bool) (xs ys : List ℕ)
+    → where_set bits (xs ++ ys) ≡ where_set (take (length xs) bits) xs ++ where_set (drop (length xs) bits) ys
+unfolding where_set
+where_set-append bits [] ys = none bits
   where
-    none : (bits : List Bool) → picked bits ys ≡ picked (take 0 bits) [] ++ picked (drop 0 bits) ys
+    none : (bits : List Bool) → where_set bits ys ≡ where_set (take 0 bits) [] ++ where_set (drop 0 bits) ys
     none bits = refl
-picked-append [] (x ∷ xs) [] = refl
-picked-append [] (x ∷ xs) (y ∷ ys) = refl
-picked-append (true ∷ bits) (x ∷ xs) ys = ap (λ zs. x ∷ zs) (picked-append bits xs ys)
-picked-append (false ∷ bits) (x ∷ xs) ys = picked-append bits xs ys
+where_set-append [] (x ∷ xs) [] = refl
+where_set-append [] (x ∷ xs) (y ∷ ys) = refl
+where_set-append (true ∷ bits) (x ∷ xs) ys = ap (λ zs. x ∷ zs) (where_set-append bits xs ys)
+where_set-append (false ∷ bits) (x ∷ xs) ys = where_set-append bits xs ys
 
 -- the parents of what bits pick of the children of one square
 parents-group : (size p c m start : ℕ) (bits : List Bool) → 0 < size → size * p ≤ start → start + m ≤ size * p + size
     → length bits ≡ m
-    → list_any (λ x. x / size == c) (picked bits (range_with_len start m)) ≡ (list_any (λ bit. bit) bits && (p == c))
-unfolding picked
+    → list_any (λ x. x / size == c) (where_set bits (range_with_len start m)) ≡ (list_any (λ bit. bit) bits && (p == c))
+unfolding where_set
 parents-group size p c zero start [] some low high long = refl
 parents-group size p c zero start (bit ∷ bits) some low high long = absurd (omega arith)
 parents-group size p c (suc m) start [] some low high long = absurd (omega arith)
@@ -188,36 +188,36 @@ parents-group size p c (suc m) start (bit ∷ bits) some low high long =
     by_bit bit quotient rest
   where
     by_bit : (bit : Bool) → start / size ≡ p
-        → list_any (λ x. x / size == c) (picked bits (range_with_len (start + 1) m))
+        → list_any (λ x. x / size == c) (where_set bits (range_with_len (start + 1) m))
         ≡ (list_any (λ bit. bit) bits && (p == c))
-        → list_any (λ x. x / size == c) (picked (bit ∷ bits) (range_with_len start (suc m)))
+        → list_any (λ x. x / size == c) (where_set (bit ∷ bits) (range_with_len start (suc m)))
         ≡ (list_any (λ bit. bit) (bit ∷ bits) && (p == c))
     by_bit true quotient rest = grind (arith, rest, ap (λ q. q == c) quotient)
     by_bit false quotient rest = rest
 
 -- where each group has a one, the parents of what is picked are all of the prefixes
-pub parents-picked : (size : ℕ) (prefixes : List ℕ) (bits : List Bool) (c : ℕ) → 0 < size
+pub parents-where_set : (size : ℕ) (prefixes : List ℕ) (bits : List Bool) (c : ℕ) → 0 < size
     → group_flaw size (length prefixes) bits ≡ None
-    → list_any (λ x. x / size == c) (picked bits (longer size prefixes)) ≡ is_in prefixes c
-unfolding picked longer
-parents-picked size [] [] c some none = refl
-parents-picked size [] (bit ∷ bits) c some none = refl
-parents-picked size (p ∷ ps) bits c some none =
+    → list_any (λ x. x / size == c) (where_set bits (children_of_prefixes size prefixes)) ≡ is_in prefixes c
+unfolding where_set children_of_prefixes
+parents-where_set size [] [] c some none = refl
+parents-where_set size [] (bit ∷ bits) c some none = refl
+parents-where_set size (p ∷ ps) bits c some none =
     let parts = group_flaw-none size (length ps) bits none in
     let whole = has_group-parts size bits parts.0 in
     let children : List ℕ = range_with_len (size * p) size in
     let long : length children ≡ size = length-range_with_len (size * p) size in
-    let split : picked bits (children ++ longer size ps)
-    ≡ picked (take size bits) children ++ picked (drop size bits) (longer size ps) =
-    picked-append bits children (longer size ps)
-    ∙ ap (λ k. picked (take k bits) children ++ picked (drop k bits) (longer size ps)) long in
+    let split : where_set bits (children ++ children_of_prefixes size ps)
+    ≡ where_set (take size bits) children ++ where_set (drop size bits) (children_of_prefixes size ps) =
+    where_set-append bits children (children_of_prefixes size ps)
+    ∙ ap (λ k. where_set (take k bits) children ++ where_set (drop k bits) (children_of_prefixes size ps)) long in
     let group = parents-group size p c size (size * p) (take size bits) some (omega arith) (omega arith)
     (length-take-le size bits whole.0) in
     ap (list_any (λ x. x / size == c)) split
-    ∙ list_any-append (λ x. x / size == c) (picked (take size bits) children) (picked (drop size bits) (longer size ps))
-    ∙ ap (λ b. b || list_any (λ x. x / size == c) (picked (drop size bits) (longer size ps)))
+    ∙ list_any-append (λ x. x / size == c) (where_set (take size bits) children) (where_set (drop size bits) (children_of_prefixes size ps))
+    ∙ ap (λ b. b || list_any (λ x. x / size == c) (where_set (drop size bits) (children_of_prefixes size ps)))
     (group ∙ ap (λ b. b && (p == c)) whole.1)
-    ∙ ap (λ b. (p == c) || b) (parents-picked size ps (drop size bits) c some parts.1)
+    ∙ ap (λ b. (p == c) || b) (parents-where_set size ps (drop size bits) c some parts.1)
 
 -- flawed bits are no tree's
 pub AreNoTree-flawed : (height wide : ℕ) (bits : List Bool) (place : ℕ) → 2 * wide ≤ height

@@ -13,37 +13,37 @@ use Rattle.list_laws.proofs.FirstLemmas.{map-none, or-none}
 use Rattle.packed_bits.specs.Bits.{ones_of}
 use Rattle.packed_bits.proofs.OnesLemmas.{ones_of-nil, ones_of-cons}
 use Rattle.k2_tree.specs.Widths.{digits_in, fan_of, widths_of}
-use Rattle.k2_tree.specs.TreeBits.{is_in, prefixes, Rises, longer, level_bits, morton_bits}
-use Rattle.k2_tree.specs.Tree.{picked, codes_below, codes_in, AreTreeBits}
+use Rattle.k2_tree.specs.TreeBits.{is_in, prefixes, Rises, children_of_prefixes, level_bits, morton_bits}
+use Rattle.k2_tree.specs.Tree.{where_set, codes_below, codes_in, AreTreeBits}
 use Rattle.k2_tree.specs.Flaws.{group_flaw, level_flaw, tree_flaw}
 use Rattle.k2_tree.proofs.RisingLemmas.{Rises-weaker, is_in-below, is_in-first, is_in-other, same_from_rising, by_place}
 use Rattle.k2_tree.proofs.PrefixLemmas.{prefixes-rise, prefixes-zero, prefixes-of, fan_pos}
-use Rattle.k2_tree.proofs.LongerLemmas.{is_in-parents, length-longer, longer-rises}
+use Rattle.k2_tree.proofs.LongerLemmas.{is_in-parents, length-children_of_prefixes, children_of_prefixes-rises}
 use Rattle.k2_tree.proofs.WidthLemmas.{digits_in-widths_of}
-use Rattle.k2_tree.proofs.FlawedLemmas.{group_flaw-within, parents-picked}
+use Rattle.k2_tree.proofs.FlawedLemmas.{group_flaw-within, parents-where_set}
 use Rattle.k2_tree.proofs.ToldLemmas.{morton_bits-none}
 
 -- what is picked rises
-Rises-picked : (n : ℕ) (bits : List Bool) (codes : List ℕ) → Rises n codes → Rises n (picked bits codes)
-unfolding picked
-Rises-picked n [] codes up = tt
-Rises-picked n (bit ∷ bits) [] up = tt
-Rises-picked n (true ∷ bits) (code ∷ codes) up = (up.0, Rises-picked (suc code) bits codes up.1)
-Rises-picked n (false ∷ bits) (code ∷ codes) up =
+Rises-where_set : (n : ℕ) (bits : List Bool) (codes : List ℕ) → Rises n codes → Rises n (where_set bits codes)
+unfolding where_set
+Rises-where_set n [] codes up = tt
+Rises-where_set n (bit ∷ bits) [] up = tt
+Rises-where_set n (true ∷ bits) (code ∷ codes) up = (up.0, Rises-where_set (suc code) bits codes up.1)
+Rises-where_set n (false ∷ bits) (code ∷ codes) up =
     let low : n ≤ code = up.0 in
-    Rises-weaker n (suc code) (picked bits codes) (omega arith) (Rises-picked (suc code) bits codes up.1)
+    Rises-weaker n (suc code) (where_set bits codes) (omega arith) (Rises-where_set (suc code) bits codes up.1)
 
 -- as many are picked as the bits have ones
-length-picked : (bits : List Bool) (codes : List ℕ)
-    → length (picked bits codes) ≡ ones_of (take (length codes) bits)
-unfolding picked
-length-picked [] [] = sym ones_of-nil
-length-picked [] (code ∷ codes) = sym ones_of-nil
-length-picked (bit ∷ bits) [] = sym ones_of-nil
-length-picked (true ∷ bits) (code ∷ codes) =
-    omega (arith, length-picked bits codes, ones_of-cons true (take (length codes) bits))
-length-picked (false ∷ bits) (code ∷ codes) =
-    omega (arith, length-picked bits codes, ones_of-cons false (take (length codes) bits))
+length-where_set : (bits : List Bool) (codes : List ℕ)
+    → length (where_set bits codes) ≡ ones_of (take (length codes) bits)
+unfolding where_set
+length-where_set [] [] = sym ones_of-nil
+length-where_set [] (code ∷ codes) = sym ones_of-nil
+length-where_set (bit ∷ bits) [] = sym ones_of-nil
+length-where_set (true ∷ bits) (code ∷ codes) =
+    omega (arith, length-where_set bits codes, ones_of-cons true (take (length codes) bits))
+length-where_set (false ∷ bits) (code ∷ codes) =
+    omega (arith, length-where_set bits codes, ones_of-cons false (take (length codes) bits))
 
 -- a number that is below all does not matter to them
 map_without : (code : ℕ) (others xs : List ℕ) → Rises (suc code) xs
@@ -55,21 +55,21 @@ map_without code others (x ∷ xs) up =
     rw (is_in-other code others x (λ e. omega arith)) (ap (λ bs. is_in others x ∷ bs) rest)
 
 -- what is picked tells the bits
-map-picked : (n : ℕ) (bits : List Bool) (codes : List ℕ) → Rises n codes → length codes ≤ length bits
-    → map (is_in (picked bits codes)) codes ≡ take (length codes) bits
-unfolding picked
-map-picked n bits [] up within = refl
-map-picked n [] (code ∷ codes) up within = absurd (omega arith)
-map-picked n (true ∷ bits) (code ∷ codes) up within =
-    let kept : List ℕ = picked bits codes in
-    let rest = map-picked (suc code) bits codes up.1 (omega arith) in
+map-where_set : (n : ℕ) (bits : List Bool) (codes : List ℕ) → Rises n codes → length codes ≤ length bits
+    → map (is_in (where_set bits codes)) codes ≡ take (length codes) bits
+unfolding where_set
+map-where_set n bits [] up within = refl
+map-where_set n [] (code ∷ codes) up within = absurd (omega arith)
+map-where_set n (true ∷ bits) (code ∷ codes) up within =
+    let kept : List ℕ = where_set bits codes in
+    let rest = map-where_set (suc code) bits codes up.1 (omega arith) in
     ap (λ b. b ∷ map (is_in (code ∷ kept)) codes) (is_in-first code kept)
     ∙ ap (λ bs. true ∷ bs) (map_without code kept codes up.1 ∙ rest)
-map-picked n (false ∷ bits) (code ∷ codes) up within =
-    let kept : List ℕ = picked bits codes in
-    let above = Rises-picked (suc code) bits codes up.1 in
+map-where_set n (false ∷ bits) (code ∷ codes) up within =
+    let kept : List ℕ = where_set bits codes in
+    let above = Rises-where_set (suc code) bits codes up.1 in
     ap (λ b. b ∷ map (is_in kept) codes) (is_in-below (suc code) kept code above (omega arith))
-    ∙ ap (λ bs. false ∷ bs) (map-picked (suc code) bits codes up.1 (omega arith))
+    ∙ ap (λ bs. false ∷ bs) (map-where_set (suc code) bits codes up.1 (omega arith))
 
 -- numbers that rise, have these prefixes and have these bits
 record AreBelow (widths above : List ℕ) (bits : List Bool) (codes : List ℕ) : Type 0 where
@@ -80,26 +80,26 @@ record AreBelow (widths above : List ℕ) (bits : List Bool) (codes : List ℕ) 
 -- one level more, where the prefixes that its bits pick are those of the numbers
 module _ (w : ℕ) (ws above : List ℕ) (bits : List Bool) (codes : List ℕ) (up : Rises 0 above)
     (none : group_flaw (fan_of w) (length above) bits ≡ None)
-    (below : AreBelow ws (picked bits (longer (fan_of w) above)) (drop (fan_of w * length above) bits) codes) where
+    (below : AreBelow ws (where_set bits (children_of_prefixes (fan_of w) above)) (drop (fan_of w * length above) bits) codes) where
   abbrev n : ℕ
   n = digits_in ws
 
-  rises_below : Rises 0 (longer (fan_of w) above)
-  rises_below = let e : fan_of w * 0 ≡ 0 = omega arith in rw e at (longer-rises (fan_of w) 0 above up)
+  rises_below : Rises 0 (children_of_prefixes (fan_of w) above)
+  rises_below = let e : fan_of w * 0 ≡ 0 = omega arith in rw e at (children_of_prefixes-rises (fan_of w) 0 above up)
 
   same_parents : prefixes (w + n) codes ≡ above
   same_parents =
       same_from_rising 0 (prefixes (w + n) codes) above (prefixes-rise (w + n) codes below.rising) up
       (λ c. is_in-parents w n codes c ∙ ap (list_any (λ x. x / 4 ^ w == c)) below.parents
-      ∙ parents-picked (fan_of w) above bits c (fan_pos w) none)
+      ∙ parents-where_set (fan_of w) above bits c (fan_pos w) none)
 
   same_level : level_bits w n codes ≡ take (fan_of w * length above) bits
   unfolding level_bits
   same_level =
-      let within : length (longer (fan_of w) above) ≤ length bits =
-      omega (arith, group_flaw-within (fan_of w) (length above) bits none, length-longer (fan_of w) above) in
-      rw (below.parents, same_parents) (map-picked 0 bits (longer (fan_of w) above) rises_below within
-      ∙ ap (λ k. take k bits) (length-longer (fan_of w) above))
+      let within : length (children_of_prefixes (fan_of w) above) ≤ length bits =
+      omega (arith, group_flaw-within (fan_of w) (length above) bits none, length-children_of_prefixes (fan_of w) above) in
+      rw (below.parents, same_parents) (map-where_set 0 bits (children_of_prefixes (fan_of w) above) rises_below within
+      ∙ ap (λ k. take k bits) (length-children_of_prefixes (fan_of w) above))
 
   level_more : AreBelow (w ∷ ws) above bits codes
   unfolding morton_bits digits_in
@@ -134,16 +134,16 @@ AreBelow-codes_below [] above bits up none =
     record { rising = up; parents = prefixes-zero above up; exact = behind (length above) bits none }
 AreBelow-codes_below (w ∷ ws) above bits up none =
     let parts = level_flaw-none w ws (length above) bits none in
-    let kept : List ℕ = picked bits (longer (fan_of w) above) in
+    let kept : List ℕ = where_set bits (children_of_prefixes (fan_of w) above) in
     let rest : List Bool = drop (fan_of w * length above) bits in
     let ones : ones_of (take (fan_of w * length above) bits) ≡ length kept =
-    sym (length-picked bits (longer (fan_of w) above)
-    ∙ ap (λ k. ones_of (take k bits)) (length-longer (fan_of w) above)) in
+    sym (length-where_set bits (children_of_prefixes (fan_of w) above)
+    ∙ ap (λ k. ones_of (take k bits)) (length-children_of_prefixes (fan_of w) above)) in
     let none' : level_flaw ws (length kept) rest ≡ None = ap (λ k. level_flaw ws k rest) (sym ones) ∙ parts.1 in
     let e : fan_of w * 0 ≡ 0 = omega arith in
-    let up' : Rises 0 (longer (fan_of w) above) = rw e at (longer-rises (fan_of w) 0 above up) in
+    let up' : Rises 0 (children_of_prefixes (fan_of w) above) = rw e at (children_of_prefixes-rises (fan_of w) 0 above up) in
     level_more w ws above bits (codes_below ws kept rest) up parts.0
-    (AreBelow-codes_below ws kept rest (Rises-picked 0 bits (longer (fan_of w) above) up') none')
+    (AreBelow-codes_below ws kept rest (Rises-where_set 0 bits (children_of_prefixes (fan_of w) above) up') none')
 
 -- a number whose prefix is 0 is small
 small_prefix : (n code : ℕ) → is_in (0 ∷ []) (code / 4 ^ n) ≡ true → code < 4 ^ n

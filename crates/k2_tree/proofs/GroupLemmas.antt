@@ -5,7 +5,7 @@ use Rattle.std.proofs.lemmas.Bool.{cases_lt, le-ltb, lt-ltb}
 use Rattle.k2_tree.specs.Widths.{levels_with, digits_in, fan_of}
 use Rattle.k2_tree.specs.TreeBits.{prefixes}
 use Rattle.k2_tree.specs.Squares.{squares_above, bits_above}
-use Rattle.k2_tree.specs.Groups.{group_start, square_at, digit_at, width_at}
+use Rattle.k2_tree.specs.Groups.{group_start, square_at, digit_at, square_width}
 use Rattle.k2_tree.proofs.LevelLemmas.{digits_in-append}
 use Rattle.k2_tree.proofs.WidthLemmas.{digits_in-levels_with, firsts}
 
@@ -38,7 +38,7 @@ group_start-by_bits u j = elim (cases_lt j u) [
 ]
 
 -- a place leads back to its square and its digit
-module _ (u j d : ℕ) (small : d < fan_of (width_at u j)) where
+module _ (u j d : ℕ) (small : d < fan_of (square_width u j)) where
   pub back_square : square_at u (group_start u j + d) ≡ j
   unfolding group_start square_at
   back_square = elim (cases_lt j u) [
@@ -83,7 +83,7 @@ digits_in-parted a b above below parted =
 -- a square's group, and its level's width, by the number alone
 pub record IsGroup (u place width start number : ℕ) : Type 0 where
   pub start_is : start + fan_of width * place ≡ group_start u (number + place)
-  pub width_is : width ≡ width_at u (number + place)
+  pub width_is : width ≡ square_width u (number + place)
 
 module _ (codes : List ℕ) where
   -- levels of one digit: four bits for each square
@@ -154,5 +154,5 @@ module _ (codes : List ℕ) where
           ap (group_start (m + u)) place_is,
         );
         width_is = rest.width_is ∙ ap (λ t. if t then 2 else 1) (same_test m u (s + place))
-            ∙ ap (width_at (m + u)) (sym place_is);
+            ∙ ap (square_width (m + u)) (sym place_is);
       })

@@ -5,10 +5,10 @@ use Rattle.std.proofs.lemmas.List.{length-map}
 use Rattle.packed_bits.specs.Bits.{ones_of}
 use Rattle.bit_rank.proofs.RankLemmas.{ones_of-append, ones_of-map, ones_of-nil}
 use Rattle.k2_tree.specs.Widths.{digits_in, fan_of, levels_with}
-use Rattle.k2_tree.specs.TreeBits.{is_in, prefixes, Rises, level_bits, longer, morton_bits}
+use Rattle.k2_tree.specs.TreeBits.{is_in, prefixes, Rises, level_bits, children_of_prefixes, morton_bits}
 use Rattle.k2_tree.specs.Squares.{squares_above, bits_above}
 use Rattle.k2_tree.specs.Building.{levels_bits}
-use Rattle.k2_tree.proofs.LongerLemmas.{length-longer, prefixes-from_longer}
+use Rattle.k2_tree.proofs.LongerLemmas.{length-children_of_prefixes, prefixes-from_longer}
 
 pub digits_in-append : (xs ys : List ℕ) → digits_in (xs ++ ys) ≡ digits_in xs + digits_in ys
 unfolding digits_in
@@ -32,8 +32,8 @@ pub length-level_bits : (w n : ℕ) (codes : List ℕ)
     → length (level_bits w n codes) ≡ fan_of w * length (prefixes (w + n) codes)
 unfolding level_bits
 length-level_bits w n codes =
-    length-map (longer (4 ^ w) (prefixes (w + n) codes)) (is_in (prefixes n codes))
-    ∙ length-longer (4 ^ w) (prefixes (w + n) codes)
+    length-map (children_of_prefixes (4 ^ w) (prefixes (w + n) codes)) (is_in (prefixes n codes))
+    ∙ length-children_of_prefixes (4 ^ w) (prefixes (w + n) codes)
 
 pub length-levels_bits : (above : List ℕ) (n : ℕ) (codes : List ℕ)
     → length (levels_bits above n codes) ≡ bits_above above n codes
@@ -48,7 +48,7 @@ pub ones_of-level_bits : (w n : ℕ) (codes : List ℕ) → Rises 0 codes
     → ones_of (level_bits w n codes) ≡ length (prefixes n codes)
 unfolding level_bits
 ones_of-level_bits w n codes up =
-    ones_of-map (is_in (prefixes n codes)) (longer (4 ^ w) (prefixes (w + n) codes))
+    ones_of-map (is_in (prefixes n codes)) (children_of_prefixes (4 ^ w) (prefixes (w + n) codes))
     ∙ ap length (prefixes-from_longer w n codes up)
 
 -- the ones of levels are the squares in them and of the next, but for the topmost

@@ -11,7 +11,7 @@ use Rattle.std.proofs.lemmas.List.{get_or-append-add, get_or_append_left}
 use Rattle.std.proofs.lemmas.List.Folds.{list_any-append}
 use Rattle.std.proofs.lemmas.List.FromFn.{length-range_with_len, get_or-range_with_len}
 use Rattle.k2_tree.specs.Widths.{fan_of}
-use Rattle.k2_tree.specs.TreeBits.{is_in, prefixes, Rises, longer}
+use Rattle.k2_tree.specs.TreeBits.{is_in, prefixes, Rises, children_of_prefixes}
 use Rattle.k2_tree.proofs.RisingLemmas.{Rises-weaker, same_from_rising}
 use Rattle.k2_tree.proofs.PrefixLemmas.{any-image, any-prefixes, fan_pos, is_in-filter, prefixes-rise, Rises-filter}
 
@@ -24,13 +24,13 @@ Rises-range n start (suc m) rest low up =
     (low, Rises-range (suc start) (start + 1) m rest (omega arith) (rw e at up))
 
 -- longer prefixes rise
-pub longer-rises : (size n : ℕ) (xs : List ℕ) → Rises n xs → Rises (size * n) (longer size xs)
-unfolding longer
-longer-rises size n [] up = tt
-longer-rises size n (x ∷ xs) up =
+pub children_of_prefixes-rises : (size n : ℕ) (xs : List ℕ) → Rises n xs → Rises (size * n) (children_of_prefixes size xs)
+unfolding children_of_prefixes
+children_of_prefixes-rises size n [] up = tt
+children_of_prefixes-rises size n (x ∷ xs) up =
     let low : size * n ≤ size * x = mul-le-mul_left size up.0 in
     let e : size * suc x ≡ size * x + size = omega arith in
-    Rises-range (size * n) (size * x) size (longer size xs) low (rw e at (longer-rises size (suc x) xs up.1))
+    Rises-range (size * n) (size * x) size (children_of_prefixes size xs) low (rw e at (children_of_prefixes-rises size (suc x) xs up.1))
 
 -- numbers one after another are those from the first to the last
 is_in-range : (start m c : ℕ) → is_in (range_with_len start m) c ≡ (nat_le start c && nat_lt c (start + m))
@@ -65,39 +65,39 @@ is_in-group size x c some =
     ]
 
 -- a prefix without its last digit tells whether it is a longer one
-pub is_in-longer : (size : ℕ) (xs : List ℕ) (c : ℕ) → 0 < size → is_in (longer size xs) c ≡ is_in xs (c / size)
-unfolding longer
-is_in-longer size [] c some = refl
-is_in-longer size (x ∷ xs) c some =
-    list_any-append (λ other. other == c) (range_with_len (size * x) size) (longer size xs)
-    ∙ ap (λ b. b || is_in (longer size xs) c) (is_in-group size x c some)
-    ∙ ap (λ b. (x == c / size) || b) (is_in-longer size xs c some)
+pub is_in-children_of_prefixes : (size : ℕ) (xs : List ℕ) (c : ℕ) → 0 < size → is_in (children_of_prefixes size xs) c ≡ is_in xs (c / size)
+unfolding children_of_prefixes
+is_in-children_of_prefixes size [] c some = refl
+is_in-children_of_prefixes size (x ∷ xs) c some =
+    list_any-append (λ other. other == c) (range_with_len (size * x) size) (children_of_prefixes size xs)
+    ∙ ap (λ b. b || is_in (children_of_prefixes size xs) c) (is_in-group size x c some)
+    ∙ ap (λ b. (x == c / size) || b) (is_in-children_of_prefixes size xs c some)
 
 -- so many longer prefixes each
-pub length-longer : (size : ℕ) (xs : List ℕ) → length (longer size xs) ≡ size * length xs
-unfolding longer
-length-longer size [] = omega arith
-length-longer size (x ∷ xs) =
-    length-append (range_with_len (size * x) size) (longer size xs)
-    ∙ omega (arith, length-range_with_len (size * x) size, length-longer size xs)
+pub length-children_of_prefixes : (size : ℕ) (xs : List ℕ) → length (children_of_prefixes size xs) ≡ size * length xs
+unfolding children_of_prefixes
+length-children_of_prefixes size [] = omega arith
+length-children_of_prefixes size (x ∷ xs) =
+    length-append (range_with_len (size * x) size) (children_of_prefixes size xs)
+    ∙ omega (arith, length-range_with_len (size * x) size, length-children_of_prefixes size xs)
 
 -- the longer prefixes by place
-pub get_or-longer : (size : ℕ) (xs : List ℕ) (i d : ℕ) → i < length xs → d < size
-    → get_or (longer size xs) (size * i + d) 0 ≡ size * get_or xs i 0 + d
-unfolding longer
-get_or-longer size [] i d within small = absurd (omega arith)
-get_or-longer size (x ∷ xs) zero d within small =
+pub get_or-children_of_prefixes : (size : ℕ) (xs : List ℕ) (i d : ℕ) → i < length xs → d < size
+    → get_or (children_of_prefixes size xs) (size * i + d) 0 ≡ size * get_or xs i 0 + d
+unfolding children_of_prefixes
+get_or-children_of_prefixes size [] i d within small = absurd (omega arith)
+get_or-children_of_prefixes size (x ∷ xs) zero d within small =
     let group : List ℕ = range_with_len (size * x) size in
     let e : size * 0 + d ≡ d = omega arith in
-    ap (λ k. get_or (group ++ longer size xs) k 0) e
-    ∙ get_or_append_left group (longer size xs) 0 d (omega (arith, length-range_with_len (size * x) size))
+    ap (λ k. get_or (group ++ children_of_prefixes size xs) k 0) e
+    ∙ get_or_append_left group (children_of_prefixes size xs) 0 d (omega (arith, length-range_with_len (size * x) size))
     ∙ get_or-range_with_len (size * x) size d 0 small
-get_or-longer size (x ∷ xs) (suc i) d within small =
+get_or-children_of_prefixes size (x ∷ xs) (suc i) d within small =
     let group : List ℕ = range_with_len (size * x) size in
     let e : size * suc i + d ≡ length group + (size * i + d) = omega (arith, length-range_with_len (size * x) size) in
-    ap (λ k. get_or (group ++ longer size xs) k 0) e
-    ∙ get_or-append-add group (longer size xs) (size * i + d) 0
-    ∙ get_or-longer size xs i d (omega arith) small
+    ap (λ k. get_or (group ++ children_of_prefixes size xs) k 0) e
+    ∙ get_or-append-add group (children_of_prefixes size xs) (size * i + d) 0
+    ∙ get_or-children_of_prefixes size xs i d (omega arith) small
 
 -- digits left away in two steps
 pub div-pow_add : (x n w : ℕ) → x / 4 ^ n / 4 ^ w ≡ x / 4 ^ (w + n)
@@ -123,17 +123,17 @@ prefixes-shorter w n codes c is =
 
 -- the prefixes of one level are those that occur among the longer prefixes of the level above
 pub prefixes-from_longer : (w n : ℕ) (codes : List ℕ) → Rises 0 codes
-    → filter (is_in (prefixes n codes)) (longer (fan_of w) (prefixes (w + n) codes)) ≡ prefixes n codes
+    → filter (is_in (prefixes n codes)) (children_of_prefixes (fan_of w) (prefixes (w + n) codes)) ≡ prefixes n codes
 prefixes-from_longer w n codes up =
     let test : ℕ → Bool = is_in (prefixes n codes) in
     let above : List ℕ = prefixes (w + n) codes in
-    let all : List ℕ = longer (4 ^ w) above in
+    let all : List ℕ = children_of_prefixes (4 ^ w) above in
     let none : 4 ^ w * 0 ≡ 0 = omega arith in
-    let rises : Rises 0 all = rw none at (longer-rises (4 ^ w) 0 above (prefixes-rise (w + n) codes up)) in
+    let rises : Rises 0 all = rw none at (children_of_prefixes-rises (4 ^ w) 0 above (prefixes-rise (w + n) codes up)) in
     same_from_rising 0 (filter test all) (prefixes n codes) (Rises-filter 0 test all rises) (prefixes-rise n codes up)
     (λ c. grind (
       arith,
       is_in-filter test all c,
-      is_in-longer (4 ^ w) above c (fan_pos w),
+      is_in-children_of_prefixes (4 ^ w) above c (fan_pos w),
       prefixes-shorter w n codes c,
     ))

@@ -6,7 +6,7 @@ use Rattle.std.proofs.lemmas.Int.{ints}
 use Rattle.std.specs.Int.RustNames.{unsigned_abs}
 use Rattle.track_types.specs.declared.cell.Cell.{Cell}
 use Rattle.track_types.specs.declared.limit.TheConstants.{MAX_HEIGHT}
-use Rattle.k2_tree.specs.Morton.{interleaved, row_of, column_of, morton_of, cell_of, IsInGrid}
+use Rattle.k2_tree.specs.Morton.{interleaved, morton_row, morton_column, morton_of, cell_of, IsInGrid}
 use Rattle.k2_tree.specs.TreeBits.{code_limit}
 
 -- a digit less
@@ -27,21 +27,21 @@ interleaved-lt zero row column = omega arith
 interleaved-lt (suc n) row column = omega (arith, pow-suc 4 n, interleaved-lt n (row / 2) (column / 2))
 
 -- a column of n digits is below 2 ^ n
-pub column_of-lt : (n code : ℕ) → column_of n code < 2 ^ n
-unfolding column_of
-column_of-lt zero code = omega arith
-column_of-lt (suc n) code = omega (arith, pow-suc 2 n, column_of-lt n (code / 4))
+pub morton_column-lt : (n code : ℕ) → morton_column n code < 2 ^ n
+unfolding morton_column
+morton_column-lt zero code = omega arith
+morton_column-lt (suc n) code = omega (arith, pow-suc 2 n, morton_column-lt n (code / 4))
 
 -- the row is the column of the number without its last bit
-pub row_of-half : (n code : ℕ) → row_of n code ≡ column_of n (code / 2)
-unfolding row_of column_of
-row_of-half zero code = refl
-row_of-half (suc n) code =
+pub morton_row-half : (n code : ℕ) → morton_row n code ≡ morton_column n (code / 2)
+unfolding morton_row morton_column
+morton_row-half zero code = refl
+morton_row-half (suc n) code =
     let e : code / 4 / 2 ≡ code / 2 / 4 = omega arith in
-    omega (arith, row_of-half n (code / 4), ap (column_of n) e)
+    omega (arith, morton_row-half n (code / 4), ap (morton_column n) e)
 
-pub row_of-lt : (n code : ℕ) → row_of n code < 2 ^ n
-row_of-lt n code = omega (arith, row_of-half n code, column_of-lt n (code / 2))
+pub morton_row-lt : (n code : ℕ) → morton_row n code < 2 ^ n
+morton_row-lt n code = omega (arith, morton_row-half n code, morton_column-lt n (code / 2))
 
 -- as many digits as the greatest grid has, or fewer, are below the limit of all
 pub interleaved-small : (height level row column code : ℕ) → height ≤ MAX_HEIGHT
@@ -52,12 +52,12 @@ interleaved-small height level row column code few is =
     omega (arith, is, interleaved-lt (height - level) (row / 2 ^ level) (column / 2 ^ level))
 
 -- and a column of so many is small
-pub column_of-small : (height level code column : ℕ) → height ≤ MAX_HEIGHT
-    → column ≡ column_of (height - level) (code / 4 ^ level) → column < 2 ^ MAX_HEIGHT
-column_of-small height level code column few is =
+pub morton_column-small : (height level code column : ℕ) → height ≤ MAX_HEIGHT
+    → column ≡ morton_column (height - level) (code / 4 ^ level) → column < 2 ^ MAX_HEIGHT
+morton_column-small height level code column few is =
     let fewer : height - level ≤ MAX_HEIGHT = omega arith in
     let most : 2 ^ (height - level) ≤ 2 ^ MAX_HEIGHT = pow-le-pow_right {n = 2} (lit< tt) fewer in
-    omega (arith, is, column_of-lt (height - level) (code / 4 ^ level))
+    omega (arith, is, morton_column-lt (height - level) (code / 4 ^ level))
 
 -- a digit more, as a loop that goes down to level 0 meets it
 pub interleaved-down : (height level row column code : ℕ) → 0 < level → level ≤ height
@@ -72,12 +72,12 @@ interleaved-down height (suc n) row column code some within is =
     rw (i, e, div-pow_suc 2 row n, div-pow_suc 2 column n) (omega (arith, is))
 
 -- and one of a column
-pub column_of-down : (height level code column : ℕ) → 0 < level → level ≤ height
-    → column ≡ column_of (height - level) (code / 4 ^ level)
-    → 2 * column + code / 2 ^ (2 * (level - 1)) % 4 % 2 ≡ column_of (height - (level - 1)) (code / 4 ^ (level - 1))
-unfolding column_of
-column_of-down height zero code column some within is = absurd (omega arith)
-column_of-down height (suc n) code column some within is =
+pub morton_column-down : (height level code column : ℕ) → 0 < level → level ≤ height
+    → column ≡ morton_column (height - level) (code / 4 ^ level)
+    → 2 * column + code / 2 ^ (2 * (level - 1)) % 4 % 2 ≡ morton_column (height - (level - 1)) (code / 4 ^ (level - 1))
+unfolding morton_column
+morton_column-down height zero code column some within is = absurd (omega arith)
+morton_column-down height (suc n) code column some within is =
     let i : suc n - 1 ≡ n = omega arith in
     let e : height - n ≡ suc (height - suc n) = omega arith in
     let digit : code / 2 ^ (2 * n) % 4 ≡ code / 4 ^ n % 4 = ap (λ p. code / p % 4) (two_bits n) in
@@ -89,14 +89,14 @@ pub interleaved-whole : (height row column : ℕ)
 interleaved-whole height row column =
     let e : height - 0 ≡ height = omega arith in rw (e, div-one row, div-one column) refl
 
-pub column_of-whole : (height code : ℕ) → column_of (height - 0) (code / 4 ^ 0) ≡ column_of height code
-column_of-whole height code = let e : height - 0 ≡ height = omega arith in rw (e, div-one code) refl
+pub morton_column-whole : (height code : ℕ) → morton_column (height - 0) (code / 4 ^ 0) ≡ morton_column height code
+morton_column-whole height code = let e : height - 0 ≡ height = omega arith in rw (e, div-one code) refl
 
 -- 0 has column 0
-column_of-zero : (m : ℕ) → column_of m 0 ≡ 0
-unfolding column_of
-column_of-zero zero = refl
-column_of-zero (suc m) = omega (arith, column_of-zero m)
+morton_column-zero : (m : ℕ) → morton_column m 0 ≡ 0
+unfolding morton_column
+morton_column-zero zero = refl
+morton_column-zero (suc m) = omega (arith, morton_column-zero m)
 
 -- what is in front of the last digit, and the two bits of that
 last_digit : (upper row column : ℕ)
@@ -107,10 +107,10 @@ last_digit upper row column = (omega arith, omega arith, omega arith)
 
 -- a number's row and column are those that it was made of, also by more digits than it has
 pub ends_back : (n m row column : ℕ) → n ≤ m → row < 2 ^ n → column < 2 ^ n
-    → (row_of m (interleaved n row column) ≡ row) × (column_of m (interleaved n row column) ≡ column)
-unfolding interleaved row_of column_of
+    → (morton_row m (interleaved n row column) ≡ row) × (morton_column m (interleaved n row column) ≡ column)
+unfolding interleaved morton_row morton_column
 ends_back zero m row column most low left =
-    (row_of-half m 0 ∙ column_of-zero m ∙ omega arith, column_of-zero m ∙ omega arith)
+    (morton_row-half m 0 ∙ morton_column-zero m ∙ omega arith, morton_column-zero m ∙ omega arith)
 ends_back (suc n) zero row column most low left = absurd (omega arith)
 ends_back (suc n) (suc m) row column most low left =
     let half = pow-suc 2 n in
@@ -119,26 +119,26 @@ ends_back (suc n) (suc m) row column most low left =
     (rw (last.0, last.1, rest.0) (omega arith), rw (last.0, last.2, rest.1) (omega arith))
 
 -- a number is made of its row and its column
-pub interleaved-row_of : (n code : ℕ) → code < 4 ^ n → interleaved n (row_of n code) (column_of n code) ≡ code
-unfolding interleaved row_of column_of
-interleaved-row_of zero code small = omega arith
-interleaved-row_of (suc n) code small =
-    let rest : interleaved n (row_of n (code / 4)) (column_of n (code / 4)) ≡ code / 4 =
-    interleaved-row_of n (code / 4) (omega (arith, pow-suc 4 n)) in
-    let a : (2 * row_of n (code / 4) + code % 4 / 2) / 2 ≡ row_of n (code / 4) = omega arith in
-    let b : (2 * column_of n (code / 4) + code % 4 % 2) / 2 ≡ column_of n (code / 4) = omega arith in
-    let d : (2 * row_of n (code / 4) + code % 4 / 2) % 2 ≡ code % 4 / 2 = omega arith in
-    let e : (2 * column_of n (code / 4) + code % 4 % 2) % 2 ≡ code % 4 % 2 = omega arith in
+pub interleaved-morton_row : (n code : ℕ) → code < 4 ^ n → interleaved n (morton_row n code) (morton_column n code) ≡ code
+unfolding interleaved morton_row morton_column
+interleaved-morton_row zero code small = omega arith
+interleaved-morton_row (suc n) code small =
+    let rest : interleaved n (morton_row n (code / 4)) (morton_column n (code / 4)) ≡ code / 4 =
+    interleaved-morton_row n (code / 4) (omega (arith, pow-suc 4 n)) in
+    let a : (2 * morton_row n (code / 4) + code % 4 / 2) / 2 ≡ morton_row n (code / 4) = omega arith in
+    let b : (2 * morton_column n (code / 4) + code % 4 % 2) / 2 ≡ morton_column n (code / 4) = omega arith in
+    let d : (2 * morton_row n (code / 4) + code % 4 / 2) % 2 ≡ code % 4 / 2 = omega arith in
+    let e : (2 * morton_column n (code / 4) + code % 4 % 2) % 2 ≡ code % 4 % 2 = omega arith in
     rw (a, b, d, e, rest) (omega arith)
 
 -- a number's row and column, by as many digits as the greatest grid has
 pub highest : (height code : ℕ) → height ≤ MAX_HEIGHT → code < 4 ^ height
-    → (row_of MAX_HEIGHT code ≡ row_of height code) × (column_of MAX_HEIGHT code ≡ column_of height code)
+    → (morton_row MAX_HEIGHT code ≡ morton_row height code) × (morton_column MAX_HEIGHT code ≡ morton_column height code)
 highest height code low small =
-    let ends = ends_back height MAX_HEIGHT (row_of height code) (column_of height code) low
-    (row_of-lt height code) (column_of-lt height code) in
-    let whole = sym (interleaved-row_of height code small) in
-    (ap (row_of MAX_HEIGHT) whole ∙ ends.0, ap (column_of MAX_HEIGHT) whole ∙ ends.1)
+    let ends = ends_back height MAX_HEIGHT (morton_row height code) (morton_column height code) low
+    (morton_row-lt height code) (morton_column-lt height code) in
+    let whole = sym (interleaved-morton_row height code small) in
+    (ap (morton_row MAX_HEIGHT) whole ∙ ends.0, ap (morton_column MAX_HEIGHT) whole ∙ ends.1)
 
 -- digits more than a row and a column have change nothing
 pub interleaved-more : (n row column : ℕ) → row < 2 ^ n → column < 2 ^ n
@@ -189,15 +189,15 @@ pub morton_of-cell_of : (height : ℕ) (base : Cell) (code : ℕ) → code < 4 ^
     → morton_of height base (cell_of height base code) ≡ code
 unfolding morton_of cell_of
 morton_of-cell_of height base code small =
-    rw (far-moved base.x (column_of height code), far-moved base.y (row_of height code))
-    (interleaved-row_of height code small)
+    rw (far-moved base.x (morton_column height code), far-moved base.y (morton_row height code))
+    (interleaved-morton_row height code small)
 
 -- a number's cell is in the grid
 pub cell_of-inside : (height : ℕ) (base : Cell) (code : ℕ) → IsInGrid height base (cell_of height base code)
 unfolding cell_of
 cell_of-inside height base code = record {
   left = omega (arith, ints);
-  right = omega (arith, far-moved base.x (column_of height code), column_of-lt height code);
+  right = omega (arith, far-moved base.x (morton_column height code), morton_column-lt height code);
   below = omega (arith, ints);
-  above = omega (arith, far-moved base.y (row_of height code), row_of-lt height code);
+  above = omega (arith, far-moved base.y (morton_row height code), morton_row-lt height code);
 }

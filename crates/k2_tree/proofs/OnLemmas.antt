@@ -6,7 +6,7 @@ use Rattle.bit_rank.specs.Bits.{rank_of, IsSelected}
 use Rattle.k2_tree.specs.Widths.{widths_of, digits_in, fan_of, width_below, widths_under}
 use Rattle.k2_tree.specs.TreeBits.{is_in, prefixes, morton_bits, AreCodes}
 use Rattle.k2_tree.specs.Squares.{squares_above, bits_above, IsSquare}
-use Rattle.k2_tree.specs.Groups.{upper_squares, group_start, width_at}
+use Rattle.k2_tree.specs.Groups.{upper_squares, group_start, square_width}
 use Rattle.k2_tree.specs.Tree.{codes_in, AreTreeBits}
 use Rattle.k2_tree.proofs.LevelLemmas.{digits_in-append}
 use Rattle.k2_tree.proofs.WidthLemmas.{digits_in-widths_of, digits_in-widths_under, widths_under-opened}
@@ -26,12 +26,12 @@ pub record IsOn (height wide : ℕ) (codes : List ℕ) (level prefix number : �
 -- what the bits tell of a child of a square: they have its place, which tells whether it is there and which number it
 -- has
 pub record IsTold (height wide : ℕ) (codes : List ℕ) (bits : List Bool) (upper level p j d : ℕ) : Type 0 where
-  pub width : width_below (height - 2 * wide) level ≡ width_at upper j
+  pub width : width_below (height - 2 * wide) level ≡ square_width upper j
   pub inside : group_start upper j + d < length bits
   pub bit : get_or bits (group_start upper j + d) false
-      ≡ is_in (prefixes (level - width_at upper j) codes) (fan_of (width_at upper j) * p + d)
-  pub child : is_in (prefixes (level - width_at upper j) codes) (fan_of (width_at upper j) * p + d) ≡ true
-      → IsOn height wide codes (level - width_at upper j) (fan_of (width_at upper j) * p + d)
+      ≡ is_in (prefixes (level - square_width upper j) codes) (fan_of (square_width upper j) * p + d)
+  pub child : is_in (prefixes (level - square_width upper j) codes) (fan_of (square_width upper j) * p + d) ≡ true
+      → IsOn height wide codes (level - square_width upper j) (fan_of (square_width upper j) * p + d)
       (rank_of bits (group_start upper j + d) + 1)
 
 -- the one of a square stands in its parent's group
@@ -43,7 +43,7 @@ pub record IsUnder (height wide : ℕ) (codes : List ℕ) (bits : List Bool) (up
   pub fits : level + width ≤ height
   pub on : IsOn height wide codes (level + width) (q / fan_of width) parent
   pub digit_is : digit ≡ q % fan_of width
-  pub same : width ≡ width_at upper parent
+  pub same : width ≡ square_width upper parent
   pub selected : IsSelected bits j (group_start upper parent + digit)
 
 -- the last of some levels, and those before it
@@ -98,7 +98,7 @@ module _ {height wide : ℕ} {bits : List Bool} (are : AreTreeBits height wide b
       group codes wide low above ws w square.place parted square.within in
       let start : bits_above above (w + n) codes + fan_of w * square.place ≡ group_start upper j =
       own.start_is ∙ ap (group_start upper) (sym square.counted) in
-      let same : w ≡ width_at upper j = own.width_is ∙ ap (width_at upper) (sym square.counted) in
+      let same : w ≡ square_width upper j = own.width_is ∙ ap (square_width upper) (sym square.counted) in
       let left : n ≡ level - w = ap digits_in below ∙ digits_in-widths_under low (level - w) in
       let below' : widths_under low n ≡ ws = ap (widths_under low) left ∙ sym below in
       let child : is_in (prefixes n codes) (fan_of w * p + d) ≡ true → IsOn height wide codes n (fan_of w * p + d)
@@ -155,7 +155,7 @@ module _ {height wide : ℕ} {bits : List Bool} (are : AreTreeBits height wide b
         fits = omega (arith, whole, level_is);
         on = record { above = above; parted = rw (← under) parted; square = rw (← under) up.square };
         digit_is = refl;
-        same = own.width_is ∙ ap (width_at upper) (sym up.square.counted);
+        same = own.width_is ∙ ap (square_width upper) (sym up.square.counted);
         selected = rw (← start) up.selected;
       }
 

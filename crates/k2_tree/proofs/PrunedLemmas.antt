@@ -14,8 +14,8 @@ use Rattle.k2_tree.specs.Widths.{digits_in, width_below, widths_under}
 use Rattle.k2_tree.specs.TreeBits.{prefixes}
 use Rattle.k2_tree.specs.Squares.{Node, node, squares_from}
 use Rattle.k2_tree.specs.Tree.{Tree, codes_of, tree_widths, IsTree}
-use Rattle.k2_tree.specs.SquareWalk.{WalkView, top_nodes}
-use Rattle.k2_tree.specs.Pruning.{child_nodes, children, kept_below, passes, weight_below, leaf_of, kept_leaves}
+use Rattle.k2_tree.specs.SquareWalk.{SquareWalkView, top_nodes}
+use Rattle.k2_tree.specs.Pruning.{child_nodes, child_prefixes, kept_below, passes, weight_below, leaf_of, kept_leaves}
 use Rattle.k2_tree.specs.Pruning.{on_areas, passes_at, square_count}
 use Rattle.k2_tree.specs.Pruned.{kept_in, reads_of, walk_budget, walk_left, weight_in}
 use Rattle.k2_tree.specs.Cost.{child_reads}
@@ -59,7 +59,7 @@ module _ (test : Node → Bool) (tree : Tree) where
       let digits : digits_in (widths_under low n) ≡ n = digits_in-widths_under low n in
       let whole : w + n ≡ level = omega (arith, (width_below-within low level some).1) in
       rw (widths_under-opened low level some, digits, whole, holds)
-      (sym (flat_map-map (kept_in test tree) (node n) (children w n (codes_of tree) prefix)))
+      (sym (flat_map-map (kept_in test tree) (node n) (child_prefixes w n (codes_of tree) prefix)))
 
 -- the weights of a square are its own and those of its children
 module _ (weight : Node → ℕ) (tree : Tree) where
@@ -77,7 +77,7 @@ module _ (weight : Node → ℕ) (tree : Tree) where
       let whole : w + n ≡ level = omega (arith, (width_below-within low_of level some).1) in
       rw (widths_under-opened low_of level some, digits, whole)
       (ap (λ k. weight (node level prefix) + k)
-      (sym (sum_by-map (weight_in weight tree) (node n) (children w n (codes_of tree) prefix))))
+      (sym (sum_by-map (weight_in weight tree) (node n) (child_prefixes w n (codes_of tree) prefix))))
 
   weight_in-least : (level prefix : ℕ) → weight (node level prefix) ≤ weight_in weight tree (node level prefix)
   unfolding weight_below digits_in
@@ -93,22 +93,22 @@ module _ (weight : Node → ℕ) (tree : Tree) where
       by_widths (w ∷ ws) = omega arith
 
 -- how many squares are still to be visited, those below them too
-abbrev pub turns_of : WalkView → ℕ
+abbrev pub turns_of : SquareWalkView → ℕ
 turns_of walk = sum_by (weight_in (λ square. 1) walk.tree) walk.pending
 
 -- a square was taken off, and the test says so much of it
-pub record IsVisited (keep : CellBox → Bool) (old new : WalkView) (square : Node) (answer : Bool) : Type 0 where
+pub record IsVisited (keep : CellBox → Bool) (old new : SquareWalkView) (square : Node) (answer : Bool) : Type 0 where
   pub tree : new.tree ≡ old.tree
   pub pending : old.pending ≡ square ∷ new.pending
   pub told : on_areas keep old.tree square ≡ answer
 
 -- the same leaves are left for so many reads, and fewer squares
-pub record IsFurther (keep : CellBox → Bool) (reads : ℕ) (old new : WalkView) : Type 0 where
+pub record IsFurther (keep : CellBox → Bool) (reads : ℕ) (old new : SquareWalkView) : Type 0 where
   pub left : walk_left keep new ≡ walk_left keep old
   pub budget : walk_budget keep new + reads ≤ walk_budget keep old
   pub fewer : turns_of new < turns_of old
 
-module _ {keep : CellBox → Bool} {old new : WalkView} {square : Node} {answer : Bool}
+module _ {keep : CellBox → Bool} {old new : SquareWalkView} {square : Node} {answer : Bool}
     (visit : IsVisited keep old new square answer) where
   abbrev test : Node → Bool
   test = on_areas keep old.tree
@@ -147,7 +147,7 @@ module _ {keep : CellBox → Bool} {old new : WalkView} {square : Node} {answer 
       omega (arith, below, first, weight_in-opened weight old.tree square.level square.prefix some)
 
   -- another square that passes gives way to its children
-  pub given_way : {opened : WalkView} → 1 ≤ square.level → answer ≡ true → opened.tree ≡ new.tree
+  pub given_way : {opened : SquareWalkView} → 1 ≤ square.level → answer ≡ true → opened.tree ≡ new.tree
       → opened.pending ≡ child_nodes new.tree square ++ new.pending → IsFurther keep child_reads old opened
   given_way some holds same pending =
       let below : List Node = child_nodes old.tree square in
@@ -163,7 +163,7 @@ module _ {keep : CellBox → Bool} {old new : WalkView} {square : Node} {answer 
       }
 
 -- a walk at its beginning: the leaves that pass are left, and one window and one rank for each square that passes
-module _ (keep : CellBox → Bool) {tree : Tree} (walk : WalkView) (is : IsTree tree) (same : walk.tree ≡ tree)
+module _ (keep : CellBox → Bool) {tree : Tree} (walk : SquareWalkView) (is : IsTree tree) (same : walk.tree ≡ tree)
     (top : walk.pending ≡ top_nodes tree) where
   abbrev codes : List ℕ
   codes = codes_of tree

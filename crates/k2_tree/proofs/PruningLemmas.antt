@@ -7,9 +7,9 @@ use Rattle.std.proofs.lemmas.Bool.{cases_Bool}
 use Rattle.track_types.specs.declared.cell.Cell.{Cell}
 use Rattle.k2_tree.specs.Morton.{morton_of, cell_of}
 use Rattle.k2_tree.specs.Widths.{digits_in, fan_of, width_below, widths_under}
-use Rattle.k2_tree.specs.TreeBits.{AreCodes, is_in, prefixes, Rises, longer}
+use Rattle.k2_tree.specs.TreeBits.{AreCodes, is_in, prefixes, Rises, children_of_prefixes}
 use Rattle.k2_tree.specs.Squares.{Node, node, level_squares, squares_from}
-use Rattle.k2_tree.specs.Pruning.{leaf_with, place_among, digits_left, passes, children, kept_below, weight_below}
+use Rattle.k2_tree.specs.Pruning.{leaf_with, place_among, digits_left, passes, child_prefixes, kept_below, weight_below}
 use Rattle.k2_tree.proofs.MortonLemmas.{morton_of-cell_of}
 use Rattle.k2_tree.proofs.RisingLemmas.{place_among-at}
 use Rattle.k2_tree.proofs.PrefixLemmas.{prefixes-zero}
@@ -27,20 +27,20 @@ use Rattle.list_laws.proofs.FlatLemmas.{sum_by-flat_map, sum_by-map, sum_by_plus
 use Rattle.std.proofs.lemmas.List.Folds.{flat_map-map}
 
 -- the longer prefixes of all are those of each
-longer-each : (size : ℕ) (xs : List ℕ) → longer size xs ≡ flat_map (λ x. longer size (x ∷ [])) xs
-unfolding longer
-longer-each size [] = refl
-longer-each size (x ∷ xs) =
-    ap (λ ys. range_with_len (size * x) size ++ ys) (longer-each size xs)
-    ∙ ap (λ ys. ys ++ flat_map (λ x. longer size (x ∷ [])) xs) (sym (append-nil (range_with_len (size * x) size)))
+children_of_prefixes-each : (size : ℕ) (xs : List ℕ) → children_of_prefixes size xs ≡ flat_map (λ x. children_of_prefixes size (x ∷ [])) xs
+unfolding children_of_prefixes
+children_of_prefixes-each size [] = refl
+children_of_prefixes-each size (x ∷ xs) =
+    ap (λ ys. range_with_len (size * x) size ++ ys) (children_of_prefixes-each size xs)
+    ∙ ap (λ ys. ys ++ flat_map (λ x. children_of_prefixes size (x ∷ [])) xs) (sym (append-nil (range_with_len (size * x) size)))
 
 -- the children of all squares of a level are the squares of the next
-pub children-flat : (w n : ℕ) (codes : List ℕ) → Rises 0 codes
-    → flat_map (children w n codes) (prefixes (w + n) codes) ≡ prefixes n codes
-unfolding children
-children-flat w n codes up =
-    sym (filter-flat_map (is_in (prefixes n codes)) (λ x. longer (fan_of w) (x ∷ [])) (prefixes (w + n) codes))
-    ∙ ap (filter (is_in (prefixes n codes))) (sym (longer-each (fan_of w) (prefixes (w + n) codes)))
+pub child_prefixes-flat : (w n : ℕ) (codes : List ℕ) → Rises 0 codes
+    → flat_map (child_prefixes w n codes) (prefixes (w + n) codes) ≡ prefixes n codes
+unfolding child_prefixes
+child_prefixes-flat w n codes up =
+    sym (filter-flat_map (is_in (prefixes n codes)) (λ x. children_of_prefixes (fan_of w) (x ∷ [])) (prefixes (w + n) codes))
+    ∙ ap (filter (is_in (prefixes n codes))) (sym (children_of_prefixes-each (fan_of w) (prefixes (w + n) codes)))
     ∙ prefixes-from_longer w n codes up
 
 -- numbers one after another that are children of one square
@@ -56,9 +56,9 @@ All-range size r start (suc m) low high =
     (All-range size r (start + 1) m (omega arith) (omega arith))
 
 -- a child has its square's prefix
-children-prefix : (w n : ℕ) (codes : List ℕ) (r : ℕ) → All (λ q. q / 4 ^ w ≡ r) (children w n codes r)
-unfolding children longer
-children-prefix w n codes r =
+child_prefixes-prefix : (w n : ℕ) (codes : List ℕ) (r : ℕ) → All (λ q. q / 4 ^ w ≡ r) (child_prefixes w n codes r)
+unfolding child_prefixes children_of_prefixes
+child_prefixes-prefix w n codes r =
     let P : ℕ → Type 0 = λ q. q / 4 ^ w ≡ r in
     let all : List ℕ = range_with_len (4 ^ w * r) (4 ^ w) in
     All-filter (is_in (prefixes n codes)) P (all ++ [])
@@ -67,13 +67,13 @@ children-prefix w n codes r =
 -- the numbers below the children of a square have its prefix where each has its child's
 flat_map-prefix : (w n : ℕ) (codes : List ℕ) (r : ℕ) (below : ℕ → List ℕ)
     → ((q : ℕ) → All (λ c. c / 4 ^ n ≡ q) (below q))
-    → All (λ c. c / 4 ^ (w + n) ≡ r) (flat_map below (children w n codes r))
+    → All (λ c. c / 4 ^ (w + n) ≡ r) (flat_map below (child_prefixes w n codes r))
 flat_map-prefix w n codes r below each =
-    All-flat_map (λ c. c / 4 ^ (w + n) ≡ r) below (children w n codes r)
+    All-flat_map (λ c. c / 4 ^ (w + n) ≡ r) below (child_prefixes w n codes r)
     (All-weaker (λ q. q / 4 ^ w ≡ r) (λ q. All (λ c. c / 4 ^ (w + n) ≡ r) (below q))
     (λ q is. All-weaker (λ c. c / 4 ^ n ≡ q) (λ c. c / 4 ^ (w + n) ≡ r)
     (λ c e. sym (div-pow_add c n w) ∙ ap (λ z. z / 4 ^ w) e ∙ is) (below q) (each q))
-    (children w n codes r) (children-prefix w n codes r))
+    (child_prefixes w n codes r) (child_prefixes-prefix w n codes r))
 
 -- what holds of the list holds of what the test leaves
 all_if : (P : ℕ → Type 0) (b : Bool) (xs : List ℕ) → All P xs → All P (if b then xs else [])
@@ -90,7 +90,7 @@ kept_below-prefix test codes [] r =
 kept_below-prefix test codes (w ∷ ws) r =
     let n : ℕ = digits_in ws in
     all_if (λ c. c / 4 ^ (w + n) ≡ r) (test (node (w + n) r))
-    (flat_map (kept_below test codes ws) (children w n codes r))
+    (flat_map (kept_below test codes ws) (child_prefixes w n codes r))
     (flat_map-prefix w n codes r (kept_below test codes ws) (kept_below-prefix test codes ws))
 
 -- a test of one prefix keeps all or none of the numbers that have it
@@ -117,14 +117,14 @@ kept_below-all test (w ∷ ws) codes up =
     let n : ℕ = digits_in ws in
     let top : ℕ → Bool = λ c. test (node (w + n) (c / 4 ^ (w + n))) in
     let below : ℕ → List ℕ = kept_below test codes ws in
-    let each : ℕ → List ℕ = λ r. flat_map below (children w n codes r) in
+    let each : ℕ → List ℕ = λ r. flat_map below (child_prefixes w n codes r) in
     let kept : (r : ℕ) → kept_below test codes (w ∷ ws) r ≡ filter top (each r) =
     λ r. sym (filter-prefix (λ p. test (node (w + n) p)) (w + n) r (each r)
     (flat_map-prefix w n codes r below (kept_below-prefix test codes ws))) in
     flat_map_agree (kept_below test codes (w ∷ ws)) (λ r. filter top (each r)) kept (prefixes (w + n) codes)
     ∙ sym (filter-flat_map top each (prefixes (w + n) codes))
-    ∙ ap (filter top) (sym (flat_map-flat_map below (children w n codes) (prefixes (w + n) codes)))
-    ∙ ap (λ ps. filter top (flat_map below ps)) (children-flat w n codes up)
+    ∙ ap (filter top) (sym (flat_map-flat_map below (child_prefixes w n codes) (prefixes (w + n) codes)))
+    ∙ ap (λ ps. filter top (flat_map below ps)) (child_prefixes-flat w n codes up)
     ∙ ap (filter top) (kept_below-all test ws codes up)
     ∙ sym (filter_and top (passes test ws) codes)
 
@@ -139,11 +139,11 @@ weight_below-all weight (w ∷ ws) codes up =
     let below : ℕ → ℕ = weight_below weight codes ws in
     let ps : List ℕ = prefixes (w + n) codes in
     let here : ℕ → ℕ = λ p. weight (node (w + n) p) in
-    let later : sum_by (λ p. sum_by below (children w n codes p)) ps ≡ sum_by weight (squares_from ws codes) =
-    sym (sum_by-flat_map below (children w n codes) ps) ∙ ap (sum_by below) (children-flat w n codes up)
+    let later : sum_by (λ p. sum_by below (child_prefixes w n codes p)) ps ≡ sum_by weight (squares_from ws codes) =
+    sym (sum_by-flat_map below (child_prefixes w n codes) ps) ∙ ap (sum_by below) (child_prefixes-flat w n codes up)
     ∙ weight_below-all weight ws codes up in
-    sum_by_plus here (λ p. sum_by below (children w n codes p)) ps
-    ∙ ap (λ k. k + sum_by (λ p. sum_by below (children w n codes p)) ps) (sym (sum_by-map weight (node (w + n)) ps))
+    sum_by_plus here (λ p. sum_by below (child_prefixes w n codes p)) ps
+    ∙ ap (λ k. k + sum_by (λ p. sum_by below (child_prefixes w n codes p)) ps) (sym (sum_by-map weight (node (w + n)) ps))
     ∙ ap (λ k. sum_by weight (level_squares (w + n) codes) + k) later
     ∙ sym (sum_by-append weight (level_squares (w + n) codes) (squares_from ws codes))
 
@@ -155,7 +155,7 @@ module _ (test : Node → Bool) (low : ℕ) (codes : List ℕ) where
   abbrev child_nodes : Node → List Node
   child_nodes square =
       let w = width_below low square.level in
-      map (node (square.level - w)) (children w (square.level - w) codes square.prefix)
+      map (node (square.level - w)) (child_prefixes w (square.level - w) codes square.prefix)
 
   pub kept_in-opened : (level prefix : ℕ) → 1 ≤ level → test (node level prefix) ≡ true
       → kept_in (node level prefix) ≡ flat_map kept_in (child_nodes (node level prefix))
@@ -166,7 +166,7 @@ module _ (test : Node → Bool) (low : ℕ) (codes : List ℕ) where
       let digits : digits_in (widths_under low n) ≡ n = digits_in-widths_under low n in
       let whole : w + n ≡ level = omega (arith, (width_below-within low level some).1) in
       rw (widths_under-opened low level some, digits, whole, holds)
-      (sym (flat_map-map kept_in (node n) (children w n codes prefix)))
+      (sym (flat_map-map kept_in (node n) (child_prefixes w n codes prefix)))
 
 -- the cells of numbers that stand from a place on, and what a test keeps of them
 enumerate_from-cells : (height : ℕ) (base : Cell) (p : ℕ → Bool) (place : ℕ → ℕ) (k : ℕ) (codes : List ℕ)

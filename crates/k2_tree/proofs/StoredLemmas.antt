@@ -15,17 +15,17 @@ use Rattle.bit_rank.specs.Bits.{rank_of}
 use Rattle.bit_rank.proofs.RankLemmas.{rank_of-step}
 use Rattle.track_types.specs.declared.cell.Cell.{Cell}
 use Rattle.track_types.specs.declared.limit.TheConstants.{MAX_HEIGHT}
-use Rattle.k2_tree.specs.Morton.{cell_of, column_of, row_of}
+use Rattle.k2_tree.specs.Morton.{cell_of, morton_column, morton_row}
 use Rattle.k2_tree.specs.Widths.{widths_of, fan_of}
-use Rattle.k2_tree.specs.TreeBits.{is_in, prefixes, longer}
+use Rattle.k2_tree.specs.TreeBits.{is_in, prefixes, children_of_prefixes}
 use Rattle.k2_tree.specs.Squares.{Node, node}
-use Rattle.k2_tree.specs.Groups.{group_start, square_at, width_at}
-use Rattle.k2_tree.specs.Tree.{codes_in, Tree, codes_of, tree_of, IsStored}
-use Rattle.k2_tree.specs.TreeSquares.{squares_of, holds_cell, width_of, child_at, corner_of, level_of, node_of}
+use Rattle.k2_tree.specs.Groups.{group_start, square_at, square_width}
+use Rattle.k2_tree.specs.Tree.{codes_in, Tree, codes_of, tree_of, IsStoredTree}
+use Rattle.k2_tree.specs.TreeSquares.{squares_of, holds_cell, node_width, child_at, least_cell_of, level_of, node_of}
 use Rattle.k2_tree.specs.TreeSquares.{prefix_of, square_number, IsSquareOf}
 use Rattle.k2_tree.specs.Digits.{digits_of}
 use Rattle.k2_tree.specs.Pending.{StandsAt}
-use Rattle.k2_tree.specs.Pruning.{children, child_nodes}
+use Rattle.k2_tree.specs.Pruning.{child_prefixes, child_nodes}
 use Rattle.k2_tree.proofs.MortonLemmas.{highest}
 use Rattle.k2_tree.proofs.CellLemmas.{codes_back}
 use Rattle.k2_tree.proofs.PrefixLemmas.{fan_pos}
@@ -36,12 +36,12 @@ use Rattle.k2_tree.specs.declared.square.Square.{Square}
 
 -- the least cell of a square that is a cell is that cell
 pub corner_is : (height : ℕ) {base : Cell} (s : Square) → level_of s ≡ 0 → s.base ≡ base → height ≤ MAX_HEIGHT
-    → prefix_of s < 4 ^ height → corner_of s ≡ cell_of height base (prefix_of s)
+    → prefix_of s < 4 ^ height → least_cell_of s ≡ cell_of height base (prefix_of s)
 unfolding cell_of
 corner_is height s end same low small =
     let ends = highest height (prefix_of s) low small in
-    let column : column_of MAX_HEIGHT (prefix_of s) * 1 ≡ column_of height (prefix_of s) = omega (arith, ends.1) in
-    let row : row_of MAX_HEIGHT (prefix_of s) * 1 ≡ row_of height (prefix_of s) = omega (arith, ends.0) in
+    let column : morton_column MAX_HEIGHT (prefix_of s) * 1 ≡ morton_column height (prefix_of s) = omega (arith, ends.1) in
+    let row : morton_row MAX_HEIGHT (prefix_of s) * 1 ≡ morton_row height (prefix_of s) = omega (arith, ends.0) in
     rw (end, same, column, row) refl
 
 -- there are at most as many digits as the fan
@@ -74,14 +74,14 @@ range-moved k s (suc n) =
     ap (λ xs. (k + s) ∷ xs) (range-moved k (s + 1) n ∙ ap (λ z. range_with_len z n) e)
 
 -- the longer prefixes of one
-longer-one : (size q : ℕ) → longer size (q ∷ []) ≡ map (λ d. size * q + d) (range_with_len 0 size)
-unfolding longer
-longer-one size q =
+children_of_prefixes-one : (size q : ℕ) → children_of_prefixes size (q ∷ []) ≡ map (λ d. size * q + d) (range_with_len 0 size)
+unfolding children_of_prefixes
+children_of_prefixes-one size q =
     let e : size * q + 0 ≡ size * q = omega arith in
     append-nil (range_with_len (size * q) size)
     ∙ sym (range-moved (size * q) 0 size ∙ ap (λ z. range_with_len z size) e)
 
-module _ {height wide : ℕ} {base : Cell} {bits : List Bool} {upper : ℕ} (stored : IsStored height wide base bits upper)
+module _ {height wide : ℕ} {base : Cell} {bits : List Bool} {upper : ℕ} (stored : IsStoredTree height wide base bits upper)
   where
     abbrev codes : List ℕ
     codes = codes_in (widths_of height wide) bits
@@ -110,7 +110,7 @@ module _ {height wide : ℕ} {base : Cell} {bits : List Bool} {upper : ℕ} (sto
     pub leaf_cell : {s : Square} → IsSquareOf tree s → level_of s ≡ 0
         → (square_at upper (length bits) ≤ square_number s)
         × (slice_get (map (cell_of height base) codes) (square_number s - square_at upper (length bits))
-        ≡ Some (corner_of s))
+        ≡ Some (least_cell_of s))
     leaf_cell {s} of end =
         let on : IsOn height wide codes 0 (prefix_of s) (square_number s) =
         subst (λ n. IsOn height wide codes n (prefix_of s) (square_number s)) end (square_in of) in
@@ -128,7 +128,7 @@ module _ {height wide : ℕ} {base : Cell} {bits : List Bool} {upper : ℕ} (sto
     -- the children of a square that is no cell
     module _ {s : Square} (of : IsSquareOf tree s) (some : 1 ≤ level_of s) where
       abbrev w : ℕ
-      w = width_of tree (node_of s)
+      w = node_width tree (node_of s)
 
       abbrev size : ℕ
       size = fan_of w
@@ -144,7 +144,7 @@ module _ {height wide : ℕ} {base : Cell} {bits : List Bool} {upper : ℕ} (sto
       step d small = rw stored.upper_is (told stored.tree (square_in of) some d small)
 
       -- the width by the number alone
-      pub same_width : w ≡ width_at upper (square_number s)
+      pub same_width : w ≡ square_width upper (square_number s)
       same_width = (step 0 (fan_pos w)).width
 
       module _ (d : ℕ) (small : d < size) where
@@ -180,13 +180,13 @@ module _ {height wide : ℕ} {base : Cell} {bits : List Bool} {upper : ℕ} (sto
 
       -- the digits of the window are those of its children that hold a cell
       pub group_nodes : map (child_at w (node_of s)) (digits_of size window) ≡ child_nodes tree (node_of s)
-      unfolding digits_of children
+      unfolding digits_of child_prefixes
       group_nodes =
           let q : ℕ = prefix_of s in
           kept_alike (λ d. size * q + d) (child_at w (node_of s)) n (λ d. bit_at window d == 1)
           (is_in (prefixes n (codes_of tree))) (λ d. refl) size 0
           (λ d low high. window_bit d (omega arith) ∙ sym (child_told d (omega arith)))
-          ∙ ap (λ xs. map (node n) (filter (is_in (prefixes n (codes_of tree))) xs)) (sym (longer-one size q))
+          ∙ ap (λ xs. map (node n) (filter (is_in (prefixes n (codes_of tree))) xs)) (sym (children_of_prefixes-one size q))
 
       -- those from a digit on
       abbrev told_from : ℕ → ℕ → List Node

@@ -4,8 +4,8 @@ use Rattle.std.proofs.Common.{length, map, filter, drop, refl, inl, inr, sym, ap
 use Rattle.std.proofs.lemmas.Bool.{cases_Bool}
 use Rattle.std.proofs.lemmas.List.{drop_at}
 use Rattle.k2_tree.specs.Widths.{digits_in, fan_of, widths_of}
-use Rattle.k2_tree.specs.TreeBits.{is_in, prefixes, Rises, level_bits, longer, morton_bits, AreCodes}
-use Rattle.k2_tree.specs.Tree.{picked, codes_below, codes_in, AreTreeBits}
+use Rattle.k2_tree.specs.TreeBits.{is_in, prefixes, Rises, level_bits, children_of_prefixes, morton_bits, AreCodes}
+use Rattle.k2_tree.specs.Tree.{where_set, codes_below, codes_in, AreTreeBits}
 use Rattle.k2_tree.proofs.PrefixLemmas.{prefixes-none, prefixes-top, prefixes-zero, fan_pos}
 use Rattle.k2_tree.proofs.LongerLemmas.{prefixes-from_longer}
 use Rattle.k2_tree.proofs.LevelLemmas.{length-level_bits}
@@ -13,18 +13,18 @@ use Rattle.k2_tree.proofs.WidthLemmas.{digits_in-widths_of}
 
 -- no cell gives no bits
 pub morton_bits-none : (widths : List ℕ) → morton_bits widths [] ≡ []
-unfolding morton_bits level_bits longer
+unfolding morton_bits level_bits children_of_prefixes
 morton_bits-none [] = refl
 morton_bits-none (w ∷ ws) = rw (prefixes-none (w + digits_in ws)) (morton_bits-none ws)
 
 -- the bits of a test pick what it keeps, whatever follows them
-picked-map : (p : ℕ → Bool) (xs : List ℕ) (rest : List Bool) → picked (map p xs ++ rest) xs ≡ filter p xs
-unfolding picked
-picked-map p [] [] = refl
-picked-map p [] (bit ∷ rest) = refl
-picked-map p (x ∷ xs) rest = elim (cases_Bool (p x)) [
-  | inl kept ↦ rw kept (ap (λ ys. x ∷ ys) (picked-map p xs rest))
-  | inr gone ↦ rw gone (picked-map p xs rest)
+where_set-map : (p : ℕ → Bool) (xs : List ℕ) (rest : List Bool) → where_set (map p xs ++ rest) xs ≡ filter p xs
+unfolding where_set
+where_set-map p [] [] = refl
+where_set-map p [] (bit ∷ rest) = refl
+where_set-map p (x ∷ xs) rest = elim (cases_Bool (p x)) [
+  | inl kept ↦ rw kept (ap (λ ys. x ∷ ys) (where_set-map p xs rest))
+  | inr gone ↦ rw gone (where_set-map p xs rest)
 ]
 
 -- from a level downwards
@@ -35,9 +35,9 @@ codes_below-morton_bits [] codes up = prefixes-zero codes up
 codes_below-morton_bits (w ∷ ws) codes up =
     let n : ℕ = digits_in ws in
     let above : List ℕ = prefixes (w + n) codes in
-    let level : List Bool = map (is_in (prefixes n codes)) (longer (fan_of w) above) in
-    let kept : picked (level ++ morton_bits ws codes) (longer (fan_of w) above) ≡ prefixes n codes =
-    picked-map (is_in (prefixes n codes)) (longer (fan_of w) above) (morton_bits ws codes)
+    let level : List Bool = map (is_in (prefixes n codes)) (children_of_prefixes (fan_of w) above) in
+    let kept : where_set (level ++ morton_bits ws codes) (children_of_prefixes (fan_of w) above) ≡ prefixes n codes =
+    where_set-map (is_in (prefixes n codes)) (children_of_prefixes (fan_of w) above) (morton_bits ws codes)
     ∙ prefixes-from_longer w n codes up in
     let left : drop (fan_of w * length above) (level ++ morton_bits ws codes) ≡ morton_bits ws codes =
     drop_at level (morton_bits ws codes) (fan_of w * length above) (length-level_bits w n codes) in

@@ -13,9 +13,9 @@ use Rattle.k2_tree.specs.Widths.{digits_in, widths_under}
 use Rattle.k2_tree.specs.TreeBits.{prefixes, Rises}
 use Rattle.k2_tree.specs.Squares.{Node, node}
 use Rattle.k2_tree.specs.Tree.{Tree, codes_of, IsTree}
-use Rattle.k2_tree.specs.TreeSquares.{squares_of, corner_of, level_of, node_of, prefix_of, square_number, IsSquareOf}
+use Rattle.k2_tree.specs.TreeSquares.{squares_of, least_cell_of, level_of, node_of, prefix_of, square_number, IsSquareOf}
 use Rattle.k2_tree.specs.Pending.{StandsAt, nodes_of, IsNextOf}
-use Rattle.k2_tree.specs.SquareWalk.{AreOpen, IsOpen, IsTaken, IsWalk, found_nodes, open_nodes, top_nodes}
+use Rattle.k2_tree.specs.SquareWalk.{AreOpen, IsOpen, IsTakenChild, IsSquareWalk, found_nodes, open_nodes, top_nodes}
 use Rattle.k2_tree.specs.Pruning.{leaf_of, place_among}
 use Rattle.k2_tree.proofs.MortonLemmas.{morton_of-cell_of}
 use Rattle.k2_tree.proofs.RisingLemmas.{place_among-at}
@@ -70,7 +70,7 @@ module _ (squares : List Node) (base : Cell) where
   -- a child that was taken from the square opened last
   pub taken : (level : ℕ) (front : List Pending) {old new : Pending} {child : Square}
       → AreOpen squares base level (front ++ old ∷ [])
-      → IsNextOf old child new → new.square ≡ old.square → IsTaken squares base level child (front ++ new ∷ [])
+      → IsNextOf old child new → new.square ≡ old.square → IsTakenChild squares base level child (front ++ new ∷ [])
   taken level front {old} {new} {child} are next square =
       let both = AreOpen-parted level front old are in
       let last : IsOpen squares base (level - length front) old = both.1 in
@@ -89,16 +89,16 @@ module _ (squares : List Node) (base : Cell) where
       }
 
 -- no more squares are open than there are levels above the cells
-pub length-walk : {tree : Tree} {whole : Option Square} {stack : List Pending} → IsWalk tree whole stack
+pub length-walk : {tree : Tree} {whole : Option Square} {stack : List Pending} → IsSquareWalk tree whole stack
     → length stack ≤ MAX_HEIGHT
 length-walk {tree} {whole} {stack} walk =
     omega (arith, length-open (squares_of tree) tree.base tree.height stack walk.later, walk.low)
 
 -- a square of the tree is opened
 pub opened : {tree : Tree} (whole : Option Square) (stack : List Pending) (pending : Pending) {square : Square}
-    → IsWalk tree whole stack → is_none whole ≡ true → IsSquareOf tree square
+    → IsSquareWalk tree whole stack → is_none whole ≡ true → IsSquareOf tree square
     → level_of square + length stack ≤ tree.height → pending.square ≡ square
-    → StandsAt (squares_of tree) pending.number (nodes_of pending) → IsWalk tree whole (stack ++ pending ∷ [])
+    → StandsAt (squares_of tree) pending.number (nodes_of pending) → IsSquareWalk tree whole (stack ++ pending ∷ [])
 opened (Some whole) stack pending walk begun of depth same stands = absurd (false≢true begun)
 opened {tree} None stack pending walk begun of depth same stands = record {
   low = walk.low;
@@ -119,7 +119,7 @@ opened_nodes None stack pending begun = open_nodes-append stack pending
 
 -- nothing is open at the beginning
 pub begins_whole : {tree : Tree} (whole : Option Square) → IsTree tree → IfSome whole (λ s. IsSquareOf tree s)
-    → IfSome whole (λ s. node_of s ≡ node tree.height 0) → IsWalk tree whole []
+    → IfSome whole (λ s. node_of s ≡ node tree.height 0) → IsSquareWalk tree whole []
 begins_whole None is of top = record { low = is.grid.limit; first = tt; later = tt }
 begins_whole (Some square) is of top =
     record { low = is.grid.limit; first = (refl, ap (λ (n : Node). n.level) top, of); later = tt }
@@ -147,7 +147,7 @@ own_number {height} {wide} {codes} up on =
 
 -- the leaf of a square that is a cell
 pub leaf_is : {tree : Tree} {s : Square} {leaf : ℕ} → IsTree tree → IsSquareOf tree s → level_of s ≡ 0
-    → slice_get tree.cells leaf ≡ Some (corner_of s) → (leaf, corner_of s) ≡ leaf_of tree (prefix_of s)
+    → slice_get tree.cells leaf ≡ Some (least_cell_of s) → (leaf, least_cell_of s) ≡ leaf_of tree (prefix_of s)
 leaf_is {tree} {s} {leaf} is of end found =
     let codes : List ℕ = codes_of tree in
     let q : ℕ = prefix_of s in

@@ -5,7 +5,7 @@ use Rattle.std.proofs.lemmas.Int.{ints}
 use Rattle.track_types.specs.declared.cell.Cell.{Cell}
 use Rattle.track_types.specs.declared.cell_box.CellBox.{CellBox}
 use Rattle.track_types.specs.declared.limit.TheConstants.{MAX_HEIGHT}
-use Rattle.k2_tree.specs.Morton.{column_of, row_of}
+use Rattle.k2_tree.specs.Morton.{morton_column, morton_row}
 use Rattle.k2_tree.specs.Widths.{side}
 use Rattle.k2_tree.specs.Squares.{Node}
 
@@ -34,6 +34,6 @@ pub record IsBoxInside (inner outer : CellBox) : Type 0 where
 -- the cells of a square, in a grid from the base
 abbrev pub area_at : Cell → Node → CellBox
 area_at base square = box_from
-    (base.x +ℤ pos (column_of MAX_HEIGHT square.prefix * side ^ square.level))
-    (base.y +ℤ pos (row_of MAX_HEIGHT square.prefix * side ^ square.level))
+    (base.x +ℤ pos (morton_column MAX_HEIGHT square.prefix * side ^ square.level))
+    (base.y +ℤ pos (morton_row MAX_HEIGHT square.prefix * side ^ square.level))
     (side ^ square.level - 1)

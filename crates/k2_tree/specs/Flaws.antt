@@ -41,10 +41,10 @@ AreNoTree height wide bits =
     (codes : List ℕ) → AreCodes height codes → morton_bits (widths_of height wide) codes ≡ bits → ⊥
 
 -- a flaw is the first one of bits that are no tree's; memory may be wanting for bits without a flaw
-abbrev pub IsFaultOf : ℕ → ℕ → List Bool → TreeFault → Type 0
-IsFaultOf height wide bits (Flaw place) =
+abbrev pub IsTreeFault : ℕ → ℕ → List Bool → TreeFault → Type 0
+IsTreeFault height wide bits (Flaw place) =
     (tree_flaw (widths_of height wide) bits ≡ Some place) × AreNoTree height wide bits
-IsFaultOf height wide bits Memory = tree_flaw (widths_of height wide) bits ≡ None
+IsTreeFault height wide bits Memory = tree_flaw (widths_of height wide) bits ≡ None
 
 -- the tree of this height, with so many wide levels and this base, has these bits
 pub record StandsFor (height wide : ℕ) (base : Cell) (bits : List Bool) (tree : Tree) : Type 0 where

@@ -22,8 +22,8 @@ unfoldable pub digit_at : ℕ → ℕ → ℕ
 digit_at upper place = if nat_lt place (16 * upper) then place % 16 else (place - 16 * upper) % 4
 
 -- the width of the level below the square with this number
-abbrev pub width_at : ℕ → ℕ → ℕ
-width_at upper square = if nat_lt square upper then 2 else 1
+abbrev pub square_width : ℕ → ℕ → ℕ
+square_width upper square = if nat_lt square upper then 2 else 1
 
 -- how many squares are split in sixteen, counted from the bits of so many levels, of which the first has so many groups
 unfoldable pub upper_in : ℕ → ℕ → List Bool → ℕ

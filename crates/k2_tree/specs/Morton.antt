@@ -31,16 +31,16 @@ morton_of height base cell =
     interleaved height (unsigned_abs (cell.y -ℤ base.y)) (unsigned_abs (cell.x -ℤ base.x))
 
 -- the row that n digits of a Morton number tell
-unfoldable pub row_of : ℕ → ℕ → ℕ
-row_of zero code = 0
-row_of (suc n) code = 2 * row_of n (code / 4) + code % 4 / 2
+unfoldable pub morton_row : ℕ → ℕ → ℕ
+morton_row zero code = 0
+morton_row (suc n) code = 2 * morton_row n (code / 4) + code % 4 / 2
 
 -- the column that n digits of a Morton number tell
-unfoldable pub column_of : ℕ → ℕ → ℕ
-column_of zero code = 0
-column_of (suc n) code = 2 * column_of n (code / 4) + code % 4 % 2
+unfoldable pub morton_column : ℕ → ℕ → ℕ
+morton_column zero code = 0
+morton_column (suc n) code = 2 * morton_column n (code / 4) + code % 4 % 2
 
 -- the cell that has the Morton number
 unfoldable pub cell_of : ℕ → Cell → ℕ → Cell
 cell_of height base code =
-    record { x = base.x +ℤ pos (column_of height code); y = base.y +ℤ pos (row_of height code) }
+    record { x = base.x +ℤ pos (morton_column height code); y = base.y +ℤ pos (morton_row height code) }

@@ -6,7 +6,7 @@ use Rattle.track_types.specs.declared.cell_box.CellBox.{CellBox}
 use Rattle.k2_tree.specs.Widths.{widths_under}
 use Rattle.k2_tree.specs.Squares.{Node}
 use Rattle.k2_tree.specs.Tree.{Tree, codes_of}
-use Rattle.k2_tree.specs.SquareWalk.{WalkView}
+use Rattle.k2_tree.specs.SquareWalk.{SquareWalkView}
 use Rattle.k2_tree.specs.Pruning.{kept_below, leaf_of, on_areas, weight_below}
 use Rattle.k2_tree.specs.Cost.{child_reads}
 use Rattle.k2_tree.specs.declared.pruned.Pruned.{Pruned}
@@ -28,11 +28,11 @@ abbrev pub reads_of : (Node → Bool) → Node → ℕ
 reads_of test square = if test square then child_reads else 0
 
 -- the leaves that are left, in the squares that are still to be visited
-abbrev pub walk_left : (CellBox → Bool) → WalkView → List (ℕ × Cell)
+abbrev pub walk_left : (CellBox → Bool) → SquareWalkView → List (ℕ × Cell)
 walk_left keep walk = map (leaf_of walk.tree) (flat_map (kept_in (on_areas keep walk.tree) walk.tree) walk.pending)
 
 -- the reads that these squares and those below them are worth
-abbrev pub walk_budget : (CellBox → Bool) → WalkView → ℕ
+abbrev pub walk_budget : (CellBox → Bool) → SquareWalkView → ℕ
 walk_budget keep walk = sum_by (weight_in (reads_of (on_areas keep walk.tree)) walk.tree) walk.pending
 
 -- the tree of a pruned walk

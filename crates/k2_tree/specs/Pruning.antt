@@ -8,11 +8,11 @@ use Rattle.track_types.specs.Near.{IsBoxWithin}
 use Rattle.track_types.specs.Region.{in_box}
 use Rattle.k2_tree.specs.Morton.{morton_of, cell_of}
 use Rattle.k2_tree.specs.Widths.{digits_in, fan, fan_of}
-use Rattle.k2_tree.specs.TreeBits.{is_in, longer, prefixes}
+use Rattle.k2_tree.specs.TreeBits.{is_in, children_of_prefixes, prefixes}
 use Rattle.k2_tree.specs.Squares.{Node, node}
 use Rattle.k2_tree.specs.Areas.{area_at}
 use Rattle.k2_tree.specs.Tree.{Tree, codes_of, tree_widths}
-use Rattle.k2_tree.specs.TreeSquares.{squares_of, width_of}
+use Rattle.k2_tree.specs.TreeSquares.{squares_of, node_width}
 
 -- how many of the numbers are below one, which is its place among ascending ones
 abbrev pub place_among : List ℕ → ℕ → ℕ
@@ -73,25 +73,25 @@ abbrev pub square_count : (CellBox → Bool) → Tree → ℕ
 square_count keep tree = length (filter (on_areas keep tree) (squares_of tree))
 
 -- the children that hold a number of the square with this prefix: a level of this width, with n digits below it
-unfoldable pub children : ℕ → ℕ → List ℕ → ℕ → List ℕ
-children width n codes prefix = filter (is_in (prefixes n codes)) (longer (fan_of width) (prefix ∷ []))
+unfoldable pub child_prefixes : ℕ → ℕ → List ℕ → ℕ → List ℕ
+child_prefixes width n codes prefix = filter (is_in (prefixes n codes)) (children_of_prefixes (fan_of width) (prefix ∷ []))
 
 -- those children of a square of a tree
 abbrev pub child_nodes : Tree → Node → List Node
 child_nodes tree square =
-    map (node (square.level - width_of tree square))
-    (children (width_of tree square) (square.level - width_of tree square) (codes_of tree) square.prefix)
+    map (node (square.level - node_width tree square))
+    (child_prefixes (node_width tree square) (square.level - node_width tree square) (codes_of tree) square.prefix)
 
 -- the numbers below a square with levels of these widths for which a test is true on each square from this one down
 unfoldable pub kept_below : (Node → Bool) → List ℕ → List ℕ → ℕ → List ℕ
 kept_below test codes [] prefix = if test (node 0 prefix) then prefix ∷ [] else []
 kept_below test codes (width ∷ widths) prefix =
     if test (node (width + digits_in widths) prefix)
-    then flat_map (kept_below test codes widths) (children width (digits_in widths) codes prefix) else []
+    then flat_map (kept_below test codes widths) (child_prefixes width (digits_in widths) codes prefix) else []
 
 -- the weights of a square and of all squares below it together
 unfoldable pub weight_below : (Node → ℕ) → List ℕ → List ℕ → ℕ → ℕ
 weight_below weight codes [] prefix = weight (node 0 prefix)
 weight_below weight codes (width ∷ widths) prefix =
     weight (node (width + digits_in widths) prefix)
-    + sum_by (weight_below weight codes widths) (children width (digits_in widths) codes prefix)
+    + sum_by (weight_below weight codes widths) (child_prefixes width (digits_in widths) codes prefix)

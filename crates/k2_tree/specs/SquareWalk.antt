@@ -12,7 +12,7 @@ use Rattle.k2_tree.specs.declared.square.Square.{Square}
 use Rattle.k2_tree.specs.declared.pending.Pending.{Pending}
 
 -- a tree, its squares that are still to be visited, whether the whole grid was visited, and how many squares are open
-pub record WalkView : Type 0 where
+pub record SquareWalkView : Type 0 where
   pub tree : Tree
   pub pending : List Node
   pub begun : Bool
@@ -33,8 +33,8 @@ open_nodes [] = []
 open_nodes (pending ∷ later) = open_nodes later ++ nodes_of pending
 
 -- the view of a walk: the whole grid, where it is still to be visited, and then the children of open squares
-abbrev pub walk_of : Tree → Option Square → List Pending → WalkView
-walk_of tree whole stack = record {
+abbrev pub square_walk_of : Tree → Option Square → List Pending → SquareWalkView
+square_walk_of tree whole stack = record {
   tree = tree;
   pending = found_nodes whole ++ open_nodes stack;
   begun = is_none whole;
@@ -54,7 +54,7 @@ AreOpen squares base level (pending ∷ later) =
     IsOpen squares base level pending × AreOpen squares base (level - 1) later
 
 -- the square is a child that stands among the squares, and was taken from the square opened last
-pub record IsTaken (squares : List Node) (base : Cell) (level : ℕ) (square : Square)
+pub record IsTakenChild (squares : List Node) (base : Cell) (level : ℕ) (square : Square)
     (stack : List Pending) : Type 0 where
   pub same : square.base ≡ base
   pub stands : slice_get squares (square_number square) ≡ Some (node_of square)
@@ -67,7 +67,7 @@ IsWhole tree None stack = ⊤
 IsWhole tree (Some square) stack = (stack ≡ []) × (level_of square ≡ tree.height) × IsSquareOf tree square
 
 -- the parts of a walk belong together
-pub record IsWalk (tree : Tree) (whole : Option Square) (stack : List Pending) : Type 0 where
+pub record IsSquareWalk (tree : Tree) (whole : Option Square) (stack : List Pending) : Type 0 where
   pub low : tree.height ≤ MAX_HEIGHT
   pub first : IsWhole tree whole stack
   pub later : AreOpen (squares_of tree) tree.base tree.height stack

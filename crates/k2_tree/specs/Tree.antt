@@ -4,7 +4,7 @@ use Rattle.std.specs.Prelude.{true, false, List, [], ◌∷◌, length, map, dro
 use Rattle.track_types.specs.declared.cell.Cell.{Cell}
 use Rattle.k2_tree.specs.Morton.{morton_of, cell_of, IsGrid, IsInGrid}
 use Rattle.k2_tree.specs.Widths.{fan_of, widths_of}
-use Rattle.k2_tree.specs.TreeBits.{longer, morton_bits, AreCodes}
+use Rattle.k2_tree.specs.TreeBits.{children_of_prefixes, morton_bits, AreCodes}
 use Rattle.k2_tree.specs.Groups.{upper_squares}
 
 -- a set of cells of the grid of side 2 ^ height from the base, in Morton order, over so many wide levels
@@ -38,17 +38,17 @@ pub record IsTree (tree : Tree) : Type 0 where
   pub codes : AreCodes tree.height (codes_of tree)
 
 -- those of the numbers at whose place a bit is 1
-unfoldable pub picked : List Bool → List ℕ → List ℕ
-picked [] codes = []
-picked (bit ∷ bits) [] = []
-picked (true ∷ bits) (code ∷ codes) = code ∷ picked bits codes
-picked (false ∷ bits) (code ∷ codes) = picked bits codes
+unfoldable pub where_set : List Bool → List ℕ → List ℕ
+where_set [] codes = []
+where_set (bit ∷ bits) [] = []
+where_set (true ∷ bits) (code ∷ codes) = code ∷ where_set bits codes
+where_set (false ∷ bits) (code ∷ codes) = where_set bits codes
 
 -- the numbers that the bits of levels of these widths tell below these prefixes
 unfoldable pub codes_below : List ℕ → List ℕ → List Bool → List ℕ
 codes_below [] prefixes bits = prefixes
 codes_below (width ∷ widths) prefixes bits =
-    codes_below widths (picked bits (longer (fan_of width) prefixes)) (drop (fan_of width * length prefixes) bits)
+    codes_below widths (where_set bits (children_of_prefixes (fan_of width) prefixes)) (drop (fan_of width * length prefixes) bits)
 
 -- the Morton numbers that a tree's bits tell
 unfoldable pub codes_in : List ℕ → List Bool → List ℕ
@@ -68,7 +68,7 @@ pub record AreTreeBits (height wide : ℕ) (bits : List Bool) : Type 0 where
   pub few : length bits ≤ 2 ^ 31
 
 -- a tree of these parts
-pub record IsStored (height wide : ℕ) (base : Cell) (bits : List Bool) (upper : ℕ) : Type 0 where
+pub record IsStoredTree (height wide : ℕ) (base : Cell) (bits : List Bool) (upper : ℕ) : Type 0 where
   pub grid : IsGrid height base
   pub tree : AreTreeBits height wide bits
   pub upper_is : upper ≡ upper_squares height wide (codes_in (widths_of height wide) bits)

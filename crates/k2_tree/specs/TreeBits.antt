@@ -14,13 +14,13 @@ unfoldable pub prefixes : ℕ → List ℕ → List ℕ
 prefixes n codes = dedup (λ a b. a == b) (map (λ code. code / fan ^ n) codes)
 
 -- the prefixes one level longer, of so many children each, whether they occur or not
-unfoldable pub longer : ℕ → List ℕ → List ℕ
-longer size codes = flat_map (λ p. range_with_len (size * p) size) codes
+unfoldable pub children_of_prefixes : ℕ → List ℕ → List ℕ
+children_of_prefixes size codes = flat_map (λ p. range_with_len (size * p) size) codes
 
 -- the level of this width whose squares have n digits below them: for each shorter prefix, whether each longer one
 -- occurs
 unfoldable pub level_bits : ℕ → ℕ → List ℕ → List Bool
-level_bits width n codes = map (is_in (prefixes n codes)) (longer (fan_of width) (prefixes (width + n) codes))
+level_bits width n codes = map (is_in (prefixes n codes)) (children_of_prefixes (fan_of width) (prefixes (width + n) codes))
 
 -- the bits of ascending Morton numbers with levels of these widths, level by level from the top
 unfoldable pub morton_bits : List ℕ → List ℕ → List Bool

@@ -32,8 +32,8 @@ abbrev pub area_of : Square → CellBox
 area_of square = area_at square.base (node_of square)
 
 -- its least cell
-abbrev pub corner_of : Square → Cell
-corner_of square = record { x = (area_of square).x1; y = (area_of square).y1 }
+abbrev pub least_cell_of : Square → Cell
+least_cell_of square = record { x = (area_of square).x1; y = (area_of square).y1 }
 
 -- the squares of a tree that hold a cell, level by level from the top
 abbrev pub squares_of : Tree → List Node
@@ -45,8 +45,8 @@ pub record IsSquareOf (tree : Tree) (square : Square) : Type 0 where
   pub stands : slice_get (squares_of tree) square.number ≡ Some (node_of square)
 
 -- the width of the level below a square of a tree
-abbrev pub width_of : Tree → Node → ℕ
-width_of tree square = width_below (tree.height - 2 * tree.wide) square.level
+abbrev pub node_width : Tree → Node → ℕ
+node_width tree square = width_below (tree.height - 2 * tree.wide) square.level
 
 -- a child of a square by a level of this width, whether it holds a cell or not
 abbrev pub child_at : ℕ → Node → ℕ → Node

@@ -1,6 +1,6 @@
 ghost use Rattle.std.specs.Prelude.{◌≡◌, ◌+◌, ◌*◌, ◌^◌, ◌<◌, ◌≤◌};
 ghost use Rattle.k2_tree.specs.Widths.{fan_of, width_below};
-ghost use Rattle.k2_tree.specs.Groups.{group_start, square_at, digit_at, width_at};
+ghost use Rattle.k2_tree.specs.Groups.{group_start, square_at, digit_at, square_width};
 
 /// The width of the level below a square with `level` digits below it, where the last levels, of
 /// `low` digits in all, take one each.
@@ -13,7 +13,7 @@ pub fn width_below(low: u32, level: u32) -> u32
 
 /// The width of the level below the square with this number, where so many are split in sixteen.
 pub fn width_at(upper: u32, square: u32) -> u32
-    ensures value { result ≡ width_at upper square }
+    ensures value { result ≡ square_width upper square }
     ensures some { 1 ≤ result }
     ensures within { result ≤ 2 }
 {

@@ -1,6 +1,6 @@
 ghost use Rattle.std.specs.Prelude.{◌≡◌, ◌^◌, ◌<◌, ◌≤◌, pos, neg_ℤ, ◌+ℤ◌, ◌-ℤ◌, ◌≤ℤ◌, ◌↔◌, map, All, IfOk, IsTrue};
 ghost use Rattle.std.specs.Int.RustNames.{unsigned_abs};
-ghost use Rattle.k2_tree.specs.Morton.{cell_of, column_of, interleaved, morton_of, row_of, IsGrid, IsInGrid};
+ghost use Rattle.k2_tree.specs.Morton.{cell_of, morton_column, interleaved, morton_of, morton_row, IsGrid, IsInGrid};
 
 use std::alloc::Global;
 use track_types::{Cell, MAX_HEIGHT, Memory};
@@ -92,7 +92,7 @@ fn moved(base: i64, by: u64) -> i64
 // The column that the digits of a Morton number tell.
 fn column_at(code: u64, height: u32) -> u64
     requires { height ≤ MAX_HEIGHT }
-    ensures value { result ≡ column_of height code }
+    ensures value { result ≡ morton_column height code }
     ensures small { result < 2 ^ MAX_HEIGHT }
 {
     let mut column = 0;
@@ -105,7 +105,7 @@ fn column_at(code: u64, height: u32) -> u64
 // The row that the digits of a Morton number tell: its bits stand above those of the column.
 fn row_at(code: u64, height: u32) -> u64
     requires { height ≤ MAX_HEIGHT }
-    ensures value { result ≡ row_of height code }
+    ensures value { result ≡ morton_row height code }
     ensures small { result < 2 ^ MAX_HEIGHT }
 {
     column_at(code / 2, height)

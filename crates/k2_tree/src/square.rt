@@ -43,7 +43,7 @@ impl Square {
     ghost use Rattle.k2_tree.specs.Widths.{fan, fan_of};
     ghost use Rattle.k2_tree.specs.Squares.{node};
     ghost use Rattle.k2_tree.specs.Areas.{IsBoxInside};
-    ghost use Rattle.k2_tree.specs.TreeSquares.{area_of, child_at, corner_of, level_of, node_of, square_number};
+    ghost use Rattle.k2_tree.specs.TreeSquares.{area_of, child_at, least_cell_of, level_of, node_of, square_number};
 
     /// The cells of the square, whether the tree has them or not. All of its bounds are within 2^42
     /// of 0. It takes no memory.
@@ -120,7 +120,7 @@ impl Square {
 
     // The least cell.
     pub(crate) fn corner(&self) -> Cell
-        ensures { result ≡ corner_of self.now }
+        ensures { result ≡ least_cell_of self.now }
     {
         let area = self.area();
         Cell {

@@ -3,7 +3,7 @@ ghost use Rattle.track_types.specs.declared.cell.Cell.{Cell};
 ghost use Rattle.k2_tree.specs.Squares.{Node};
 ghost use Rattle.k2_tree.specs.Tree.{Tree, IsTree};
 ghost use Rattle.k2_tree.specs.TreeSquares.{level_of, node_of, prefix_of, IsSquareOf};
-ghost use Rattle.k2_tree.specs.SquareWalk.{AreOpen, IsTaken, found_nodes, open_nodes, top_nodes};
+ghost use Rattle.k2_tree.specs.SquareWalk.{AreOpen, IsTakenChild, found_nodes, open_nodes, top_nodes};
 ghost use Rattle.k2_tree.specs.Pruning.{child_nodes, leaf_of, IsLeafOf};
 ghost use Rattle.k2_tree.specs.Cost.{child_reads};
 
@@ -33,13 +33,13 @@ pub struct SquareWalk<'a> {
 }
 
 impl<'a> Model for SquareWalk<'a> {
-    ghost use Rattle.k2_tree.specs.SquareWalk.{WalkView, walk_of, IsWalk};
+    ghost use Rattle.k2_tree.specs.SquareWalk.{SquareWalkView, square_walk_of, IsSquareWalk};
 
-    ghost Value = { WalkView };
+    ghost Value = { SquareWalkView };
 
-    ghost view = { λ w. walk_of w.tree.now w.whole w.stack.items };
+    ghost view = { λ w. square_walk_of w.tree.now w.whole w.stack.items };
 
-    ghost invariant = { λ w. IsWalk w.tree.now w.whole w.stack.items };
+    ghost invariant = { λ w. IsSquareWalk w.tree.now w.whole w.stack.items };
 }
 
 impl<'a> SquareWalk<'a> {
@@ -105,7 +105,7 @@ fn next_child(stack: &mut ArrayVec<Pending, LEVELS>) -> Option<Square>
     ensures nodes { open_nodes stack.old.items ≡ found_nodes result ++ open_nodes stack.new.items }
     ensures taken { IfSome result (λ child. (squares : List Node) (base : Cell) (level : ℕ)
         → AreOpen squares base level stack.old.items
-        → IsTaken squares base level child stack.new.items) }
+        → IsTakenChild squares base level child stack.new.items) }
     ensures empty { IfNone result (stack.new.items ≡ []) }
 {
     while let Some(mut pending) = stack.pop() {

@@ -6,9 +6,9 @@ ghost use Rattle.k2_tree.specs.Widths.{widths_of, fan_of};
 ghost use Rattle.k2_tree.specs.Squares.{node};
 ghost use Rattle.k2_tree.specs.Areas.{IsBoxInside};
 ghost use Rattle.k2_tree.specs.Tree.{tree_bits, tree_with, IsTree};
-ghost use Rattle.k2_tree.specs.TreeSquares.{holds_cell, squares_of, width_of, area_of, child_at, corner_of, level_of, node_of, IsSquareOf};
+ghost use Rattle.k2_tree.specs.TreeSquares.{holds_cell, squares_of, node_width, area_of, child_at, least_cell_of, level_of, node_of, IsSquareOf};
 ghost use Rattle.k2_tree.specs.Pending.{StandsAt, nodes_of};
-ghost use Rattle.k2_tree.specs.Flaws.{tree_flaw, StandsFor, IsFaultOf};
+ghost use Rattle.k2_tree.specs.Flaws.{tree_flaw, StandsFor, IsTreeFault};
 ghost use Rattle.k2_tree.specs.Pruning.{child_nodes, kept_leaves, leaves_of, passes_at, square_count, wanted_of, IsKeptFor};
 ghost use Rattle.k2_tree.specs.Pruned.{pruned_budget, pruned_left, pruned_tree};
 ghost use Rattle.track_types.specs.declared.cell.Cell.{Cell};
@@ -56,13 +56,13 @@ pub struct K2Tree {
 }
 
 impl Model for K2Tree {
-    ghost use Rattle.k2_tree.specs.Tree.{Tree, tree_of, IsStored};
+    ghost use Rattle.k2_tree.specs.Tree.{Tree, tree_of, IsStoredTree};
 
     ghost Value = { Tree };
 
     ghost view = { λ t. tree_of t.height t.wide t.base t.bits };
 
-    ghost invariant = { λ t. IsStored t.height t.wide t.base t.bits t.upper };
+    ghost invariant = { λ t. IsStoredTree t.height t.wide t.base t.bits t.upper };
 }
 
 impl K2Tree {
@@ -118,7 +118,7 @@ impl K2Tree {
         requires few { length bits ≤ 2 ^ 31 }
         ensures ok { IfOk result (λ t. StandsFor height wide base bits t) }
         ensures exact { OnOk result (tree_flaw (widths_of height wide) bits ≡ None) }
-        ensures flaw { IfErr result (λ fault. IsFaultOf height wide bits fault) }
+        ensures flaw { IfErr result (λ fault. IsTreeFault height wide bits fault) }
     {
         match upper_of(&bits, height, wide) {
             Err(place) => Err(TreeFault::Flaw { place }),
@@ -208,12 +208,12 @@ impl K2Tree {
     ) -> Option<Square>
         requires of { IsSquareOf self.now square.now }
         requires inner { 1 ≤ level_of square.now }
-        requires small { digit < fan_of (width_of self.now (node_of square.now)) }
+        requires small { digit < fan_of (node_width self.now (node_of square.now)) }
         ensures none { IfNone result (holds_cell self.now
-            (child_at (width_of self.now (node_of square.now)) (node_of square.now) digit) ≡ false) }
+            (child_at (node_width self.now (node_of square.now)) (node_of square.now) digit) ≡ false) }
         ensures found { IfSome result (λ child. IsSquareOf self.now child) }
         ensures node { IfSome result (λ child.
-            node_of child ≡ child_at (width_of self.now (node_of square.now)) (node_of square.now) digit) }
+            node_of child ≡ child_at (node_width self.now (node_of square.now)) (node_of square.now) digit) }
         ensures inside { IfSome result (λ child.
             IsBoxInside (area_of child) (area_of square.now)) }
         ensures cost { steps.new ≤ steps.old + child_reads }
@@ -254,7 +254,7 @@ impl K2Tree {
     pub fn leaf_number<L: Ledger>(&self, square: &Square, steps: &mut Steps<L>) -> u32
         requires of { IsSquareOf self.now square.now }
         requires leaf { level_of square.now ≡ 0 }
-        ensures value { slice_get self.now.cells result ≡ Some (corner_of square.now) }
+        ensures value { slice_get self.now.cells result ≡ Some (least_cell_of square.now) }
         ensures tree { IsTree self.now }
         ensures cost { steps.new ≤ steps.old }
     {
@@ -264,7 +264,7 @@ impl K2Tree {
     /// How many children a square is split in that is no cell: 4 or 16. It reads nothing.
     pub fn fan(&self, square: &Square) -> u32
         requires { 1 ≤ level_of square.now }
-        ensures { result ≡ fan_of (width_of self.now (node_of square.now)) }
+        ensures { result ≡ fan_of (node_width self.now (node_of square.now)) }
     {
         fan_of(self.width(square))
     }
@@ -272,7 +272,7 @@ impl K2Tree {
     // The width of the level below a square.
     fn width(&self, square: &Square) -> u32
         requires { 1 ≤ level_of square.now }
-        ensures value { result ≡ width_of self.now (node_of square.now) }
+        ensures value { result ≡ node_width self.now (node_of square.now) }
         ensures some { 1 ≤ result }
         ensures narrow { result ≤ 2 }
         ensures inner { result ≤ level_of square.now }

@@ -3,9 +3,9 @@ use Rattle.std.proofs.Common.{◌≡◌, ℕ, Bool, true, false, pos, List, [], 
 use Rattle.track_types.specs.declared.flaw.Section.TheVariants.{Offsets, Tree, Lasts, Perm}
 use Rattle.track_types.specs.declared.flaw.Kind.TheVariants.{Offset, Cells, CellOrder}
 use Rattle.track_types.specs.declared.flaw.Kind.TheVariants as kind
-use Rattle.k2_tree.specs.Morton.{row_of, column_of, cell_of}
-use Rattle.k2_tree.specs.Tree.{picked, codes_below, codes_in}
-use Rattle.k2_tree.specs.TreeBits.{longer}
+use Rattle.k2_tree.specs.Morton.{morton_row, morton_column, cell_of}
+use Rattle.k2_tree.specs.Tree.{where_set, codes_below, codes_in}
+use Rattle.k2_tree.specs.TreeBits.{children_of_prefixes}
 use Rattle.k2_tree.specs.Widths.{levels_with}
 use Rattle.k2_tree.specs.Flaws.{group_flaw, level_flaw, tree_flaw}
 use Rattle.packed_bits.specs.Bits.{ones_of}
@@ -82,41 +82,41 @@ block index offset from len =
 
 the_second_object_has_its_block : block_of (two (0 ∷ 3 ∷ []) (I ∷ I ∷ [])) 1
     ≡ Some (record { index = 1; offset = 3; cell = record { x = pos 1; y = pos 1 }; from = 3; len = 0 })
-unfolding row_of column_of cell_of picked codes_below codes_in longer levels_with rank_of select_of ones_of
+unfolding morton_row morton_column cell_of where_set codes_below codes_in children_of_prefixes levels_with rank_of select_of ones_of
 the_second_object_has_its_block = refl
 
 the_parts_have_no_flaw : flaw_of (two (0 ∷ 3 ∷ []) (I ∷ I ∷ [])) ≡ None
-unfolding row_of column_of cell_of picked codes_below codes_in longer rank_of ones_of levels_with group_flaw level_flaw tree_flaw
+unfolding morton_row morton_column cell_of where_set codes_below codes_in children_of_prefixes rank_of ones_of levels_with group_flaw level_flaw tree_flaw
 the_parts_have_no_flaw = refl
 
 a_late_anchor_is_flawed : flaw_of (two (0 ∷ 4 ∷ []) (I ∷ I ∷ []))
     ≡ Some (flaw_in 0 Offsets Offset 1)
-unfolding row_of column_of cell_of picked codes_below codes_in longer rank_of ones_of levels_with group_flaw level_flaw tree_flaw
+unfolding morton_row morton_column cell_of where_set codes_below codes_in children_of_prefixes rank_of ones_of levels_with group_flaw level_flaw tree_flaw
 a_late_anchor_is_flawed = refl
 
 a_last_object_that_is_none_is_flawed : flaw_of (two (0 ∷ 3 ∷ []) (I ∷ O ∷ []))
     ≡ Some (flaw_in 0 Lasts Cells 2)
-unfolding row_of column_of cell_of picked codes_below codes_in longer rank_of ones_of levels_with group_flaw level_flaw tree_flaw
+unfolding morton_row morton_column cell_of where_set codes_below codes_in children_of_prefixes rank_of ones_of levels_with group_flaw level_flaw tree_flaw
 a_last_object_that_is_none_is_flawed = refl
 
 two_objects_in_one_cell_come_by_object : blocks_in (both (0 ∷ 1 ∷ [])) 0 ≡ block 0 0 0 3 ∷ block 1 3 3 0 ∷ []
-unfolding row_of column_of cell_of picked codes_below codes_in longer levels_with rank_of select_of ones_of
+unfolding morton_row morton_column cell_of where_set codes_below codes_in children_of_prefixes levels_with rank_of select_of ones_of
 two_objects_in_one_cell_come_by_object = refl
 
 the_second_place_has_the_second_object : block_at (both (0 ∷ 1 ∷ [])) 1 ≡ block 1 3 3 0
-unfolding row_of column_of cell_of picked codes_below codes_in longer levels_with rank_of select_of ones_of
+unfolding morton_row morton_column cell_of where_set codes_below codes_in children_of_prefixes levels_with rank_of select_of ones_of
 the_second_place_has_the_second_object = refl
 
 objects_of_one_cell_have_no_flaw : flaw_of (both (0 ∷ 1 ∷ [])) ≡ None
-unfolding row_of column_of cell_of picked codes_below codes_in longer rank_of ones_of levels_with group_flaw level_flaw tree_flaw
+unfolding morton_row morton_column cell_of where_set codes_below codes_in children_of_prefixes rank_of ones_of levels_with group_flaw level_flaw tree_flaw
 objects_of_one_cell_have_no_flaw = refl
 
 objects_that_do_not_ascend_are_flawed : flaw_of (both (1 ∷ 0 ∷ [])) ≡ Some (flaw_in 0 Perm CellOrder 1)
-unfolding row_of column_of cell_of picked codes_below codes_in longer rank_of ones_of levels_with group_flaw level_flaw tree_flaw
+unfolding morton_row morton_column cell_of where_set codes_below codes_in children_of_prefixes rank_of ones_of levels_with group_flaw level_flaw tree_flaw
 objects_that_do_not_ascend_are_flawed = refl
 
 an_object_that_stands_twice_is_flawed : flaw_of (both (0 ∷ 0 ∷ [])) ≡ Some (flaw_in 0 Perm kind.Perm 1)
-unfolding row_of column_of cell_of picked codes_below codes_in longer rank_of ones_of levels_with group_flaw level_flaw tree_flaw
+unfolding morton_row morton_column cell_of where_set codes_below codes_in children_of_prefixes rank_of ones_of levels_with group_flaw level_flaw tree_flaw
 an_object_that_stands_twice_is_flawed = refl
 
 an_empty_group_is_flawed : bits_flaw 0 (with [] [] [] [] []).frame (I ∷ O ∷ O ∷ O ∷ O ∷ O ∷ O ∷ O ∷ []) ≡ Some (flaw_in 0 Tree kind.Tree 4)
@@ -145,12 +145,12 @@ unfolding ones_of levels_with group_flaw level_flaw tree_flaw
 the_version_tells_the_levels = refl
 
 cells_without_objects_are_flawed : flaw_of (with (O ∷ O ∷ []) [] two_cells [] []) ≡ Some (flaw_in 0 Lasts Cells 0)
-unfolding row_of column_of cell_of picked codes_below codes_in longer rank_of ones_of levels_with group_flaw level_flaw tree_flaw
+unfolding morton_row morton_column cell_of where_set codes_below codes_in children_of_prefixes rank_of ones_of levels_with group_flaw level_flaw tree_flaw
 cells_without_objects_are_flawed = refl
 
 objects_without_cells_are_flawed : flaw_of (with (I ∷ I ∷ []) (0 ∷ 1 ∷ []) [] (I ∷ I ∷ []) (0 ∷ 1 ∷ []))
     ≡ Some (flaw_in 0 Lasts Cells 2)
-unfolding row_of column_of cell_of picked codes_below codes_in longer rank_of ones_of levels_with group_flaw level_flaw tree_flaw
+unfolding morton_row morton_column cell_of where_set codes_below codes_in children_of_prefixes rank_of ones_of levels_with group_flaw level_flaw tree_flaw
 objects_without_cells_are_flawed = refl
 
 -- a period of one object, whose log has one symbol
@@ -196,12 +196,12 @@ its_blocks_stop_where_it_is : map (stops_in wanderer 0) (numbers_in wanderer.fra
     ≡ (stop_at (pos 0) (cell_at (pos 0) (pos 0)) ∷ stop_at (pos 1) (cell_at (pos 5) (pos 5)) ∷ [])
     ∷ (stop_at (pos 2) (cell_at (pos 0) (pos 0)) ∷ [])
     ∷ (stop_at (pos 4) (cell_at (pos 5) (pos 6)) ∷ stop_at (pos 5) (cell_at (pos 5) (pos 5)) ∷ []) ∷ []
-unfolding row_of column_of cell_of picked codes_below codes_in longer levels_with rank_of select_of ones_of start_in stops_in
+unfolding morton_row morton_column cell_of where_set codes_below codes_in children_of_prefixes levels_with rank_of select_of ones_of start_in stops_in
     block_stops stops_after stops_from log_values values_of expansion_of grown cells_along move_of
 its_blocks_stop_where_it_is = refl
 
 each_period_has_its_speed : map (speed_of wanderer) (numbers_in wanderer.frame) ≡ 5 ∷ 0 ∷ 1 ∷ []
-unfolding row_of column_of cell_of picked codes_below codes_in longer levels_with rank_of select_of ones_of start_in all_blocks
+unfolding morton_row morton_column cell_of where_set codes_below codes_in children_of_prefixes levels_with rank_of select_of ones_of start_in all_blocks
     blocks_speed log_speed cell_after lasting entry_of bounding_box_of box_round displacement_of
     values_of expansion_of grown cells_along move_of duration_of
 each_period_has_its_speed = refl

@@ -17,7 +17,7 @@ use Rattle.track_types.specs.declared.cell.Cell.{Cell}
 use Rattle.track_types.specs.declared.frame.Frame.{Frame}
 use Rattle.k2_tree.specs.Morton.{IsGrid}
 use Rattle.k2_tree.specs.Groups.{upper_squares}
-use Rattle.k2_tree.specs.Tree.{codes_in, codes_of, tree_bits, tree_of, IsStored}
+use Rattle.k2_tree.specs.Tree.{codes_in, codes_of, tree_bits, tree_of, IsStoredTree}
 use Rattle.k2_tree.specs.TreeBits.{morton_bits}
 use Rattle.k2_tree.specs.Widths.{widths_of}
 use Rattle.k2_tree.specs.Flaws.{tree_flaw, StandsFor}
@@ -99,7 +99,7 @@ stands : (height wide : ℕ) (base : Cell) (bits : List Bool) → IsGrid height 
 unfolding tree_bits
 stands height wide base bits grid fits few none =
     let are = AreTreeBits-flawless height wide bits fits few none in
-    let stored : IsStored height wide base bits (upper_squares height wide (codes_in (widths_of height wide) bits)) =
+    let stored : IsStoredTree height wide base bits (upper_squares height wide (codes_in (widths_of height wide) bits)) =
     record { grid = grid; tree = are; upper_is = refl } in
     record {
       high = refl;

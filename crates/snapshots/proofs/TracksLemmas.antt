@@ -14,7 +14,7 @@ use Rattle.track_types.specs.declared.frame.Frame.{Frame}
 use Rattle.track_types.specs.declared.limit.TheConstants.{MAX_HEIGHT}
 use Rattle.track_types.proofs.BoxLemmas.{same_box}
 use Rattle.k2_tree.specs.Areas.{area_at}
-use Rattle.k2_tree.specs.Morton.{cell_of, column_of, morton_of, row_of, IsInGrid}
+use Rattle.k2_tree.specs.Morton.{cell_of, morton_column, morton_of, morton_row, IsInGrid}
 use Rattle.k2_tree.specs.Pruning.{square_count}
 use Rattle.k2_tree.specs.Squares.{node}
 use Rattle.k2_tree.proofs.MortonLemmas.{cell_of-morton_of, highest, morton_of-lt}
@@ -54,12 +54,12 @@ area_at-code height base cell low inside =
     let code : ℕ = morton_of height base cell in
     let ends = highest height code low (morton_of-lt height base cell) in
     let back = cell_of-morton_of height base cell inside in
-    let across : column_of MAX_HEIGHT code * 2 ^ 0 ≡ column_of height code = omega (arith, ends.1) in
-    let up : row_of MAX_HEIGHT code * 2 ^ 0 ≡ row_of height code = omega (arith, ends.0) in
-    let x : base.x +ℤ pos (column_of height code) ≡ cell.x = ap (λ (c : Cell). c.x) back in
-    let y : base.y +ℤ pos (row_of height code) ≡ cell.y = ap (λ (c : Cell). c.y) back in
-    let x1 : base.x +ℤ pos (column_of MAX_HEIGHT code * 2 ^ 0) ≡ cell.x = ap (λ k. base.x +ℤ pos k) across ∙ x in
-    let y1 : base.y +ℤ pos (row_of MAX_HEIGHT code * 2 ^ 0) ≡ cell.y = ap (λ k. base.y +ℤ pos k) up ∙ y in
+    let across : morton_column MAX_HEIGHT code * 2 ^ 0 ≡ morton_column height code = omega (arith, ends.1) in
+    let up : morton_row MAX_HEIGHT code * 2 ^ 0 ≡ morton_row height code = omega (arith, ends.0) in
+    let x : base.x +ℤ pos (morton_column height code) ≡ cell.x = ap (λ (c : Cell). c.x) back in
+    let y : base.y +ℤ pos (morton_row height code) ≡ cell.y = ap (λ (c : Cell). c.y) back in
+    let x1 : base.x +ℤ pos (morton_column MAX_HEIGHT code * 2 ^ 0) ≡ cell.x = ap (λ k. base.x +ℤ pos k) across ∙ x in
+    let y1 : base.y +ℤ pos (morton_row MAX_HEIGHT code * 2 ^ 0) ≡ cell.y = ap (λ k. base.y +ℤ pos k) up ∙ y in
     same_box (area_at base (node 0 code)) (cell_box cell) x1 y1 (ap (λ z. z +ℤ pos 0) x1) (ap (λ z. z +ℤ pos 0) y1)
 
 -- as many of the same blocks pass a test

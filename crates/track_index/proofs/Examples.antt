@@ -2,10 +2,10 @@
 use Rattle.std.proofs.Common.{◌≡◌, ℕ, zero, suc, Bool, true, false, pos, neg_ℤ, List, [], ◌∷◌, map, Option, None, Some, refl}
 use Rattle.bit_rank.specs.Bits.{rank_of}
 use Rattle.k2_tree.specs.Flaws.{group_flaw, level_flaw, tree_flaw}
-use Rattle.k2_tree.specs.Morton.{cell_of, column_of, row_of}
+use Rattle.k2_tree.specs.Morton.{cell_of, morton_column, morton_row}
 use Rattle.k2_tree.specs.Squares.{squares_above, squares_from}
-use Rattle.k2_tree.specs.Tree.{codes_below, codes_in, picked}
-use Rattle.k2_tree.specs.TreeBits.{longer, prefixes}
+use Rattle.k2_tree.specs.Tree.{codes_below, codes_in, where_set}
+use Rattle.k2_tree.specs.TreeBits.{children_of_prefixes, prefixes}
 use Rattle.k2_tree.specs.Widths.{digits_in, levels_with}
 use Rattle.list_laws.specs.First.{first_given}
 use Rattle.list_laws.specs.Grown.{grown}
@@ -192,13 +192,13 @@ each_is_told : map (λ row. check_flaw row.0) told ≡ map (λ row. row.1) told
 unfolding check_flaw grammar_flaw lengths_flaw snapshots_flaw first_given logs_flaw blocks_flaw all_blocks log_flaw
     off_grid_at is_off_grid cell_after lasting start_in code_flaw rule_flaw symbol_flaw is_rule_flawed entry_of values_of
     expansion_of grown displacement_of bounding_box_of box_round cells_along duration_of move_of ring_moves ring_of_code
-    side_moves row_of column_of cell_of picked codes_below codes_in levels_with digits_in longer rank_of ones_of group_flaw level_flaw tree_flaw
+    side_moves morton_row morton_column cell_of where_set codes_below codes_in levels_with digits_in children_of_prefixes rank_of ones_of group_flaw level_flaw tree_flaw
 each_is_told = refl
 
 -- what opening reads
 opening_reads : map open_cost (path ∷ absent ∷ repeated ∷ []) ≡ 201 ∷ 149 ∷ 253 ∷ []
-unfolding open_cost blocks_reads all_blocks squares_above squares_from prefixes picked codes_below codes_in levels_with digits_in longer
-    row_of column_of cell_of rank_of ones_of start_in
+unfolding open_cost blocks_reads all_blocks squares_above squares_from prefixes where_set codes_below codes_in levels_with digits_in children_of_prefixes
+    morton_row morton_column cell_of rank_of ones_of start_in
 opening_reads = refl
 
 -- what positions and paths read, at most
@@ -221,7 +221,7 @@ reads =
     []
 
 each_reads_so : map (λ row. row.0) reads ≡ map (λ row. row.1) reads
-unfolding position_cost path_cost depth_in grown all_blocks picked codes_below codes_in levels_with digits_in longer row_of column_of cell_of
+unfolding position_cost path_cost depth_in grown all_blocks where_set codes_below codes_in levels_with digits_in children_of_prefixes morton_row morton_column cell_of
     rank_of ones_of start_in block_budget nodes_in opened_count parsed values_of expansion_of bounding_box_of box_round
     cells_along move_of ring_moves ring_of_code side_moves
 each_reads_so = refl

@@ -1,10 +1,10 @@
 -- The costs of searches, run on the parts of small charts.
 use Rattle.std.proofs.Common.{◌≡◌, ℕ, pos, neg_ℤ, true, false, [], ◌∷◌, refl, List, map}
 use Rattle.bit_rank.specs.Bits.{rank_of}
-use Rattle.k2_tree.specs.Morton.{cell_of, column_of, interleaved, morton_of, row_of}
+use Rattle.k2_tree.specs.Morton.{cell_of, morton_column, interleaved, morton_of, morton_row}
 use Rattle.k2_tree.specs.Squares.{squares_above, squares_from}
-use Rattle.k2_tree.specs.Tree.{codes_below, codes_in, picked}
-use Rattle.k2_tree.specs.TreeBits.{longer, prefixes}
+use Rattle.k2_tree.specs.Tree.{codes_below, codes_in, where_set}
+use Rattle.k2_tree.specs.TreeBits.{children_of_prefixes, prefixes}
 use Rattle.k2_tree.specs.Widths.{digits_in, levels_with}
 use Rattle.list_laws.specs.Grown.{grown}
 use Rattle.list_laws.specs.Ordered.{ordered, insert_in_order}
@@ -60,7 +60,7 @@ reads =
 each_reads_so : map (λ row. row.0) reads ≡ map (λ row. row.1) reads
 unfolding slice_cost period_search_cost touching_count blocks_speed log_speed cell_after lasting duration_of entry_of
     interval_cost nearest_cost period_near_cost is_near_enough nears_of nearest_among nears_at ordered insert_in_order chart_in rows_in
-    stops_in block_stops stops_after stops_from log_values position_cost path_cost depth_in grown all_blocks squares_above squares_from prefixes picked
-    codes_below codes_in levels_with digits_in longer row_of column_of cell_of morton_of interleaved rank_of ones_of start_in block_budget nodes_in opened_count parsed
+    stops_in block_stops stops_after stops_from log_values position_cost path_cost depth_in grown all_blocks squares_above squares_from prefixes where_set
+    codes_below codes_in levels_with digits_in children_of_prefixes morton_row morton_column cell_of morton_of interleaved rank_of ones_of start_in block_budget nodes_in opened_count parsed
     values_of expansion_of bounding_box_of box_round displacement_of cells_along move_of ring_moves ring_of_code side_moves
 each_reads_so = refl

@@ -4,7 +4,7 @@ use Rattle.std.proofs.lemmas.List.{map-append, take_more}
 use Rattle.std.proofs.lemmas.List.Elements.{All-append, All-cons, All-nil}
 use Rattle.track_types.specs.declared.limit.TheConstants.{MAX_HEIGHT}
 use Rattle.k2_tree.specs.Morton.{interleaved}
-use Rattle.k2_tree.proofs.MortonLemmas.{interleaved-row_of, row_of-half}
+use Rattle.k2_tree.proofs.MortonLemmas.{interleaved-morton_row, morton_row-half}
 use Rattle.box_tree.specs.Tree.{AreCells, code_at}
 use Rattle.box_tree.proofs.grid_square.cells_of.Goals as goal
 
@@ -14,10 +14,10 @@ loop-code-preserved c =
     let codes = c.args.codes.now in
     let code : ℕ = get_or codes l.code-index 0 in
     let cell : ℕ × ℕ = (c.column_in.result, c.column_in-in-loop-code.result) in
-    let row = c.column_in-in-loop-code.ensures.value ∙ sym (row_of-half MAX_HEIGHT code) in
+    let row = c.column_in-in-loop-code.ensures.value ∙ sym (morton_row-half MAX_HEIGHT code) in
     let same : code_at cell ≡ code =
     ap (λ column. interleaved MAX_HEIGHT c.column_in-in-loop-code.result column) c.column_in.ensures.value
-    ∙ rw row (interleaved-row_of MAX_HEIGHT code (c.requires l.code-index 0 (omega arith))) in
+    ∙ rw row (interleaved-morton_row MAX_HEIGHT code (c.requires l.code-index 0 (omega arith))) in
     let small = λ (cell : ℕ × ℕ). (cell.0 < 2 ^ MAX_HEIGHT) × (cell.1 < 2 ^ MAX_HEIGHT) in
     let pushed = c.in_ok-push.ensures.items in (
       ap (map code_at) pushed ∙ map-append code_at l.cells.items (cell ∷ [])

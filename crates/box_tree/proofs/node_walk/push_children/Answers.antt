@@ -3,7 +3,7 @@ use Rattle.std.proofs.Common.{refl, sym, ap, ◌∙◌, arith, lit<, length-appe
 use Rattle.std.proofs.Math.Nat.{mul_comm}
 use Rattle.std.proofs.lemmas.List.{reverse-append}
 use Rattle.track_types.specs.declared.limit.TheConstants.{MAX_HEIGHT}
-use Rattle.k2_tree.specs.Morton.{column_of, row_of}
+use Rattle.k2_tree.specs.Morton.{morton_column, morton_row}
 use Rattle.box_tree.specs.Held.{digits_in}
 use Rattle.box_tree.specs.Walk.{child_refs}
 use Rattle.box_tree.specs.declared.node_ref.NodeRef.{NodeRef}
@@ -68,9 +68,9 @@ loop-digit-preserved-then-mask-digit-eq1 c =
     } in
     let x : ℕ = parent.column * 2 ^ c.args.width % 2 ^ 32 + c.digit_column.result in
     let y : ℕ = parent.row * 2 ^ c.args.width % 2 ^ 32 + c.digit_row.result in
-    let column : x ≡ 2 ^ c.args.width * parent.column + column_of c.args.width (l.digit - 1) =
+    let column : x ≡ 2 ^ c.args.width * parent.column + morton_column c.args.width (l.digit - 1) =
     omega (arith, c.digit_column.ensures.value, kept parent.column c.args.width c.requires.right) in
-    let row : y ≡ 2 ^ c.args.width * parent.row + row_of c.args.width (l.digit - 1) =
+    let row : y ≡ 2 ^ c.args.width * parent.row + morton_row c.args.width (l.digit - 1) =
     omega (arith, c.digit_row.ensures.value, kept parent.row c.args.width c.requires.upper) in
     let some : 1 ≤ l.number = omega (arith, l.invariant.left, c.requires.stand, most) in
     let back : l.number ≡ l.number - 1 + 1 = omega arith in
@@ -78,10 +78,10 @@ loop-digit-preserved-then-mask-digit-eq1 c =
       here = ap reverse c.push.ensures.items ∙ reverse-append l.stack.items (made x y ∷ [])
           ∙ ap (λ rest. made x y ∷ rest) l.invariant.here
           ∙ ap (λ k. made k y ∷ child_refs parent c.args.width l.number ds ++ reverse c.args.stack.now.items) column
-          ∙ ap (λ k. made (2 ^ c.args.width * parent.column + column_of c.args.width
+          ∙ ap (λ k. made (2 ^ c.args.width * parent.column + morton_column c.args.width
           (l.digit - 1)) k ∷ child_refs parent c.args.width l.number ds ++ reverse c.args.stack.now.items) row
-          ∙ ap (λ n. made (2 ^ c.args.width * parent.column + column_of c.args.width (l.digit - 1))
-          (2 ^ c.args.width * parent.row + row_of c.args.width (l.digit - 1)) ∷ child_refs parent c.args.width n ds
+          ∙ ap (λ n. made (2 ^ c.args.width * parent.column + morton_column c.args.width (l.digit - 1))
+          (2 ^ c.args.width * parent.row + morton_row c.args.width (l.digit - 1)) ∷ child_refs parent c.args.width n ds
           ++ reverse c.args.stack.now.items) back
           ∙ ap (λ all. child_refs parent c.args.width (l.number - 1) all ++ reverse c.args.stack.now.items) (sym first);
       left = omega (arith, l.invariant.left, ap length first);

@@ -1,7 +1,7 @@
 use Rattle.std.proofs.Common.{◌≡◌, ◌<◌, List, refl, ◌∷◌, [], ◌++◌, length, arith, ap, sym, ◌∙◌, subst, length-append}
 use Rattle.std.proofs.lemmas.Bool.{false≢true}
 use Rattle.k2_tree.specs.TreeSquares.{node_of}
-use Rattle.k2_tree.specs.SquareWalk.{AreOpen, IsTaken, open_nodes}
+use Rattle.k2_tree.specs.SquareWalk.{AreOpen, IsTakenChild, open_nodes}
 use Rattle.k2_tree.proofs.WalkLemmas.{open_nodes-append, open_nodes-nil, AreOpen-parted, taken}
 use Rattle.k2_tree.specs.declared.pending.Pending.{Pending}
 use Rattle.k2_tree.proofs.square_walk.next_child.Goals as goal
@@ -25,7 +25,7 @@ returns-in-Some-next-clause-taken c = λ squares base level are.
     let facts = c.in-Some-next.ensures in
     let before =
     subst (AreOpen squares base level) c.in-Some.ensures.items (c.loop-pending.invariant.are squares base level are) in
-    subst (IsTaken squares base level c.in-Some-next.child) (sym c.push.ensures.items)
+    subst (IsTakenChild squares base level c.in-Some-next.child) (sym c.push.ensures.items)
     (taken squares base level c.pop.new.self.items before facts.found facts.square)
 
 pub loop-pending-preserved : goal.loop-pending-preserved

@@ -1,6 +1,6 @@
 use Rattle.std.proofs.Common.{zero, suc, [], ◌∷◌, arith}
 use Rattle.std.specs.List.Sorted.{IsStrictlyIncreasing}
-use Rattle.k2_tree.specs.Morton.{morton_of, interleaved, cell_of, row_of, column_of}
+use Rattle.k2_tree.specs.Morton.{morton_of, interleaved, cell_of, morton_row, morton_column}
 use Rattle.k2_tree.proofs.tests.three_cells.Goals as goal
 
 numbers : IsStrictlyIncreasing (0 ∷ 3 ∷ 5 ∷ [])
@@ -13,5 +13,5 @@ unfolding morton_of interleaved
 build-requires-clause-ascending c = rw c.as_slice.ensures numbers
 
 pub returns : goal.returns
-unfolding cell_of row_of column_of
+unfolding cell_of morton_row morton_column
 returns c = record { ok = rw c.as_slice.ensures at c.build.ensures.ok }

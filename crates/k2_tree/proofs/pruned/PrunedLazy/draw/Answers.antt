@@ -2,7 +2,7 @@ use Rattle.std.proofs.Common.{◌≡◌, ℕ, ◌+◌, ◌≤◌, Bool, refl, sy
 use Rattle.std.proofs.lemmas.Bool.{false≢true}
 use Rattle.track_types.specs.declared.cell_box.CellBox.{CellBox}
 use Rattle.k2_tree.specs.TreeSquares.{level_of, node_of}
-use Rattle.k2_tree.specs.SquareWalk.{WalkView}
+use Rattle.k2_tree.specs.SquareWalk.{SquareWalkView}
 use Rattle.k2_tree.specs.Cost.{child_reads}
 use Rattle.k2_tree.proofs.PrunedLemmas.{given_way, skipped, yielded, IsFurther, IsVisited}
 use Rattle.k2_tree.proofs.pruned.PrunedLazy.draw.Goals as goal
@@ -30,7 +30,7 @@ gives_way g c visit =
     given_way visit (omega arith) c.if-not-passes.false c.open.ensures.tree c.open.ensures.pending
 
 -- and so the walk goes on
-goes_on : {keep : CellBox → Bool} {first now new : WalkView} {begun steps steps' reads : ℕ}
+goes_on : {keep : CellBox → Bool} {first now new : SquareWalkView} {begun steps steps' reads : ℕ}
     → IsDrawing keep first now begun steps → new.tree ≡ now.tree → IsFurther keep reads now new → steps' ≤ steps + reads
     → IsDrawing keep first new begun steps'
 goes_on drawing tree further paid = record {

@@ -1,12 +1,12 @@
 use Rattle.std.proofs.Common.{◌++◌, sym, ap, ◌∙◌, subst, append-nil}
-use Rattle.k2_tree.specs.SquareWalk.{IsWalk, found_nodes, open_nodes}
+use Rattle.k2_tree.specs.SquareWalk.{IsSquareWalk, found_nodes, open_nodes}
 use Rattle.k2_tree.proofs.WalkLemmas.{begins_whole, open_nodes-nil, whole_nodes}
 use Rattle.k2_tree.proofs.square_walk.SquareWalk.new.Goals as goal
 
 pub invariant_of-result : goal.invariant_of-result
 invariant_of-result c =
     let facts = c.root.ensures in
-    subst (IsWalk c.args.tree.now c.root.result) (sym c.new.ensures)
+    subst (IsSquareWalk c.args.tree.now c.root.result) (sym c.new.ensures)
     (begins_whole c.root.result facts.tree facts.found facts.node)
 
 pub returns-clause-pending : goal.returns-clause-pending

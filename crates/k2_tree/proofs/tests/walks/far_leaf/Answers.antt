@@ -4,7 +4,7 @@ use Rattle.track_types.specs.Region.{intersects_region}
 use Rattle.track_types.specs.declared.cell.Cell.{Cell}
 use Rattle.track_types.specs.declared.region.Region.{Region}
 use Rattle.track_types.specs.declared.region.Region.TheVariants.{Rect}
-use Rattle.k2_tree.specs.Morton.{morton_of, interleaved, cell_of, row_of, column_of}
+use Rattle.k2_tree.specs.Morton.{morton_of, interleaved, cell_of, morton_row, morton_column}
 use Rattle.k2_tree.specs.Widths.{digits_in, levels_with}
 use Rattle.k2_tree.specs.TreeBits.{prefixes}
 use Rattle.k2_tree.specs.Squares.{squares_from}
@@ -23,11 +23,11 @@ far = Rect (pos 15) (negsuc 14) (pos 16) (negsuc 13)
 
 no_leaf : (tree : Tree) (region : Region) → tree ≡ three → region ≡ far
     → kept_leaves (intersects_region region) tree ≡ []
-unfolding passes_at passes digits_left digits_in levels_with morton_of interleaved cell_of row_of column_of
+unfolding passes_at passes digits_left digits_in levels_with morton_of interleaved cell_of morton_row morton_column
 no_leaf tree region t r = rw (t, r) refl
 
 none_of_three : square_count (intersects_region far) three ≡ 0
-unfolding squares_from digits_in levels_with prefixes morton_of interleaved cell_of row_of column_of
+unfolding squares_from digits_in levels_with prefixes morton_of interleaved cell_of morton_row morton_column
 none_of_three = refl
 
 no_square : (tree : Tree) (region : Region) → tree ≡ three → region ≡ far

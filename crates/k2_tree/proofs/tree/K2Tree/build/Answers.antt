@@ -4,7 +4,7 @@ use Rattle.k2_tree.specs.Morton.{morton_of}
 use Rattle.k2_tree.specs.Widths.{widths_of}
 use Rattle.k2_tree.specs.TreeBits.{Rises, morton_bits}
 use Rattle.k2_tree.specs.Groups.{upper_squares}
-use Rattle.k2_tree.specs.Tree.{IsStored, tree_of, tree_with}
+use Rattle.k2_tree.specs.Tree.{IsStoredTree, tree_of, tree_with}
 use Rattle.k2_tree.proofs.RisingLemmas.{rises}
 use Rattle.k2_tree.proofs.BuiltLemmas.{few_bits, built}
 use Rattle.k2_tree.proofs.tree.K2Tree.build.Goals as goal
@@ -42,7 +42,7 @@ pack-requires c =
 -- a tree that is stored, of these cells
 stored : (c : In-Ok) → c.as_slice-2.result.now
     ≡ morton_bits (widths_of c.args.height c.args.wide) (map (morton_of c.args.height c.args.base) c.args.cells.now)
-    → IsStored c.args.height c.args.wide c.args.base c.in-Ok.bits c.in_ok-bits.upper
+    → IsStoredTree c.args.height c.args.wide c.args.base c.in-Ok.bits c.in_ok-bits.upper
     × (tree_of c.args.height c.args.wide c.args.base c.in-Ok.bits
     ≡ tree_with c.args.height c.args.wide c.args.base c.args.cells.now)
 stored c made =

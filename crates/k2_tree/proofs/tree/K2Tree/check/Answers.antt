@@ -1,4 +1,4 @@
-use Rattle.k2_tree.specs.Tree.{IsStored}
+use Rattle.k2_tree.specs.Tree.{IsStoredTree}
 use Rattle.k2_tree.proofs.CellLemmas.{StandsFor-stored}
 use Rattle.k2_tree.proofs.FlawlessLemmas.{AreTreeBits-flawless}
 use Rattle.k2_tree.proofs.FlawedLemmas.{AreNoTree-flawed}
@@ -6,7 +6,7 @@ use Rattle.k2_tree.proofs.UpperLemmas.{upper_is}
 use Rattle.k2_tree.proofs.tree.K2Tree.check.Goals as goal
 use Rattle.k2_tree.proofs.tree.K2Tree.check.Goals.{In-Ok-from_list}
 
-stored : (c : In-Ok-from_list) → IsStored c.args.height c.args.wide c.args.base c.args.bits c.in-Ok.upper
+stored : (c : In-Ok-from_list) → IsStoredTree c.args.height c.args.wide c.args.base c.args.bits c.in-Ok.upper
 stored c =
     let tree = AreTreeBits-flawless c.args.height c.args.wide c.args.bits c.requires.fits c.requires.few
     c.in-Ok.ensures.ok in

@@ -3,7 +3,7 @@ use Rattle.bit_rank.specs.Bits.{rank_of}
 use Rattle.k2_tree.specs.Widths.{fan_of}
 use Rattle.k2_tree.specs.Groups.{group_start}
 use Rattle.k2_tree.specs.Tree.{Tree, tree_of}
-use Rattle.k2_tree.specs.TreeSquares.{width_of, child_at, node_of, square_number, IsSquareOf}
+use Rattle.k2_tree.specs.TreeSquares.{node_width, child_at, node_of, square_number, IsSquareOf}
 use Rattle.k2_tree.proofs.StoredLemmas.{child_inside, child_stands, child_told}
 use Rattle.k2_tree.proofs.tree.K2Tree.child.Goals as goal
 use Rattle.k2_tree.proofs.tree.K2Tree.child.Goals.{After-number, After-group_start}
@@ -18,10 +18,10 @@ of g c = rw c.self.view_is c.requires.of
 -- the digit is one of its
 small : (g : Over) (c : After-number g)
     → c.args.digit < fan_of
-    (width_of (tree_of c.self.inside.height c.self.inside.wide c.self.inside.base c.self.inside.bits)
+    (node_width (tree_of c.self.inside.height c.self.inside.wide c.self.inside.base c.self.inside.bits)
     (node_of c.args.square.now))
 small g c =
-    omega (arith, c.requires.small, ap (λ (t : Tree). fan_of (width_of t (node_of c.args.square.now))) c.self.view_is)
+    omega (arith, c.requires.small, ap (λ (t : Tree). fan_of (node_width t (node_of c.args.square.now))) c.self.view_is)
 
 inside : (g : Over) (c : After-number g)
     → group_start c.self.inside.upper c.number.result + c.args.digit < length c.self.inside.bits
@@ -72,5 +72,5 @@ returns-clause-found g c =
           told.0)
           ∙ ap Some (sym (c.child.ensures.node
           ∙ ap (λ w. child_at w (node_of c.args.square.now) c.args.digit)
-          (c.width.ensures.value ∙ sym (ap (λ (t : Tree). width_of t (node_of c.args.square.now)) c.self.view_is))));
+          (c.width.ensures.value ∙ sym (ap (λ (t : Tree). node_width t (node_of c.args.square.now)) c.self.view_is))));
     })

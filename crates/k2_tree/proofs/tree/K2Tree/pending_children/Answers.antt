@@ -6,7 +6,7 @@ use Rattle.bit_rank.proofs.RankLemmas.{rank_of-le-place}
 use Rattle.k2_tree.specs.Widths.{fan_of}
 use Rattle.k2_tree.specs.Groups.{group_start}
 use Rattle.k2_tree.specs.Tree.{Tree, tree_of}
-use Rattle.k2_tree.specs.TreeSquares.{width_of, child_at, node_of, square_number, IsSquareOf}
+use Rattle.k2_tree.specs.TreeSquares.{node_width, child_at, node_of, square_number, IsSquareOf}
 use Rattle.k2_tree.specs.Digits.{digits_of}
 use Rattle.k2_tree.specs.Pending.{nodes_of}
 use Rattle.k2_tree.proofs.PrefixLemmas.{fan_pos}
@@ -23,16 +23,16 @@ of g c = rw c.self.view_is c.requires.of
 
 -- the width that the code takes is the square's
 width : (g : Over) (c : After-number g) → c.width-width.result
-    ≡ width_of (tree_of c.self.inside.height c.self.inside.wide c.self.inside.base c.self.inside.bits)
+    ≡ node_width (tree_of c.self.inside.height c.self.inside.wide c.self.inside.base c.self.inside.bits)
     (node_of c.args.square)
 width g c =
-    c.width-width.ensures.value ∙ sym (ap (λ (t : Tree). width_of t (node_of c.args.square)) c.self.view_is)
+    c.width-width.ensures.value ∙ sym (ap (λ (t : Tree). node_width t (node_of c.args.square)) c.self.view_is)
 
 -- its bits are in the tree, which has few
 inside : (g : Over) (c : After-number g)
     → group_start c.self.inside.upper c.number.result + fan_of c.width-width.result ≤ length c.self.inside.bits
 inside g c =
-    let w = width_of (tree_of c.self.inside.height c.self.inside.wide c.self.inside.base c.self.inside.bits)
+    let w = node_width (tree_of c.self.inside.height c.self.inside.wide c.self.inside.base c.self.inside.bits)
     (node_of c.args.square) in
     let last = child_inside c.self.invariant (of g c) c.requires.inner (fan_of w - 1) (omega (arith, fan_pos w)) in
     rw (c.number.ensures, width g c) (omega (arith, last, fan_pos w))
@@ -108,7 +108,7 @@ nodes g c w same =
 pub returns-clause-nodes : goal.returns-clause-nodes
 returns-clause-nodes g c =
     let at = goal.at.returns-clause-nodes g c in
-    let w = width_of (tree_of c.self.inside.height c.self.inside.wide c.self.inside.base c.self.inside.bits)
+    let w = node_width (tree_of c.self.inside.height c.self.inside.wide c.self.inside.base c.self.inside.bits)
     (node_of c.args.square) in
     rw (← c.self.view_is)
     (nodes g at.After-new w (width g at.After-number)
@@ -117,7 +117,7 @@ returns-clause-nodes g c =
 pub returns-clause-stands : goal.returns-clause-stands
 returns-clause-stands g c =
     let at = goal.at.returns-clause-stands g c in
-    let w = width_of (tree_of c.self.inside.height c.self.inside.wide c.self.inside.base c.self.inside.bits)
+    let w = node_width (tree_of c.self.inside.height c.self.inside.wide c.self.inside.base c.self.inside.bits)
     (node_of c.args.square) in
     let number : c.new.result.number
     ≡ rank_of c.self.inside.bits (group_start c.self.inside.upper (square_number c.args.square)) + 1 =

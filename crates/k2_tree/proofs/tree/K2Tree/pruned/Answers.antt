@@ -1,7 +1,7 @@
 use Rattle.std.proofs.Common.{◌≡◌, ap, ◌∙◌}
 use Rattle.std.specs.List.{sum_by}
 use Rattle.list_laws.proofs.FilterLemmas.{sum_by-filter}
-use Rattle.k2_tree.specs.SquareWalk.{WalkView}
+use Rattle.k2_tree.specs.SquareWalk.{SquareWalkView}
 use Rattle.k2_tree.specs.Pruning.{kept_leaves, leaves_of, passes_at, wanted_of}
 use Rattle.k2_tree.specs.Pruned.{walk_budget, walk_left}
 use Rattle.k2_tree.proofs.KeptLemmas.{kept_leaves-wanted}
@@ -11,7 +11,7 @@ use Rattle.k2_tree.proofs.tree.K2Tree.pruned.Given.{Over}
 use Rattle.k2_tree.proofs.tree.K2Tree.pruned.Goals.{After-new-2}
 
 pub returns-clause-tree : goal.returns-clause-tree
-returns-clause-tree g c = ap (λ (w : WalkView). w.tree) c.new-2.ensures.walk ∙ c.new.ensures.tree
+returns-clause-tree g c = ap (λ (w : SquareWalkView). w.tree) c.new-2.ensures.walk ∙ c.new.ensures.tree
 
 -- what is left at the beginning
 left : (g : Over) (c : After-new-2 g)
@@ -21,7 +21,7 @@ left g c =
     let facts = c.new.ensures in
     let keeps = g.F.Keep.keeps in
     ap (λ k. walk_left (keeps k) c.new-2.result.walk) c.new-2.ensures.keep
-    ∙ ap (λ (w : WalkView). walk_left (keeps c.args.keep) w) c.new-2.ensures.walk
+    ∙ ap (λ (w : SquareWalkView). walk_left (keeps c.args.keep) w) c.new-2.ensures.walk
     ∙ left_whole (keeps c.args.keep) c.new.result facts.is_tree facts.tree facts.pending
 
 pub returns-clause-left : goal.returns-clause-left
@@ -37,7 +37,7 @@ pub returns-clause-budget : goal.returns-clause-budget
 returns-clause-budget g c =
     let facts = c.new.ensures in
     ap (λ k. walk_budget (g.F.Keep.keeps k) c.new-2.result.walk) c.new-2.ensures.keep
-    ∙ ap (λ (w : WalkView). walk_budget (g.F.Keep.keeps c.args.keep) w) c.new-2.ensures.walk
+    ∙ ap (λ (w : SquareWalkView). walk_budget (g.F.Keep.keeps c.args.keep) w) c.new-2.ensures.walk
     ∙ budget_whole (g.F.Keep.keeps c.args.keep) c.new.result facts.is_tree facts.tree facts.pending
 
 pub returns-clause-wanted : goal.returns-clause-wanted
