@@ -10,24 +10,24 @@ use Rattle.list_laws.proofs.FilterLemmas.{sum_by_if}
 use Rattle.k2_tree.specs.Squares.{node}
 use Rattle.box_tree.specs.Levels.{digits, run}
 use Rattle.box_tree.specs.Places.{ArePassed, ArePlaces, Places, all_places, cell_passes, place_worth, square_worth}
-use Rattle.box_tree.specs.Places.{passes, square_count}
+use Rattle.box_tree.specs.Places.{place_passes, held_square_count}
 use Rattle.box_tree.specs.Tests.{Tests}
 use Rattle.box_tree.specs.Tree.{TreeView, whole}
-use Rattle.box_tree.specs.Walk.{WalkView, walk_left, walk_reads}
-use Rattle.box_tree.specs.Cost.{place_reads, square_reads}
+use Rattle.box_tree.specs.Walk.{NodeWalkView, places_left, walk_reads}
+use Rattle.box_tree.specs.Cost.{place_reads, opened_square_reads}
 use Rattle.track_types.specs.declared.limit.TheConstants.{MAX_HEIGHT}
 use Rattle.box_tree.specs.declared.node_ref.NodeRef.{NodeRef}
 use Rattle.box_tree.proofs.NodeLemmas.{skipped-square, squares_in-own}
 use Rattle.box_tree.proofs.PlacesLemmas.{run-whole}
 
 -- a walk at its beginning: all places that pass are left, for so many reads
-pub record IsBegun (tests : Tests) (places : Places) (walk : WalkView) : Type 0 where
-  pub left : walk_left tests walk ≡ filter (passes tests places) (all_places places)
-  pub reads : walk_reads tests.square walk ≤ square_reads * square_count tests.square places
+pub record IsBegun (tests : Tests) (places : Places) (walk : NodeWalkView) : Type 0 where
+  pub left : places_left tests walk ≡ filter (place_passes tests places) (all_places places)
+  pub reads : walk_reads tests.square walk ≤ opened_square_reads * held_square_count tests.square places
       + place_reads * length (filter (cell_passes tests.square places) (all_places places))
 
 module _ (tests : Tests) (mono : ArePassed tests) (tree : TreeView) (are : ArePlaces tree.places)
-    (few : digits tree.places.levels ≤ MAX_HEIGHT) (walk : WalkView)
+    (few : digits tree.places.levels ≤ MAX_HEIGHT) (walk : NodeWalkView)
     (same : walk.tree ≡ tree) (low : walk.low ≡ 0) (high : walk.high ≡ 0) where
   abbrev n : ℕ
   n = digits tree.places.levels
@@ -35,7 +35,7 @@ module _ (tests : Tests) (mono : ArePassed tests) (tree : TreeView) (are : ArePl
   all : run tree.places.codes n 0 ≡ all_places tree.places
   all = run-whole tree.places.codes n are.inside
 
-  nothing : walk.pending ≡ [] → filter (passes tests tree.places) (all_places tree.places) ≡ []
+  nothing : walk.pending ≡ [] → filter (place_passes tests tree.places) (all_places tree.places) ≡ []
       → IsBegun tests tree.places walk
   nothing pending none = record {
     left = rw (same, low, high, pending, none) refl;
@@ -44,7 +44,7 @@ module _ (tests : Tests) (mono : ArePassed tests) (tree : TreeView) (are : ArePl
 
   something : walk.pending ≡ whole tree ∷ [] → 0 < length tree.places.codes → tests.square (node n 0) ≡ true
       → IsBegun tests tree.places walk
-  unfolding square_worth square_count
+  unfolding square_worth held_square_count
   something pending some holds =
       let own = squares_in-own tests.square tree.places.codes tree.places.levels 0 holds in
       let test : nat_lt 0 (length tree.places.codes) ≡ true = grind (arith, nat_tests) in
@@ -55,7 +55,7 @@ module _ (tests : Tests) (mono : ArePassed tests) (tree : TreeView) (are : ArePl
       ∙ ap (λ xs. place_reads * length (filter (cell_passes tests.square tree.places) xs)) all in
       record {
         left = rw (same, low, high, pending, all)
-            (ap (filter (passes tests tree.places)) (append-nil (all_places tree.places)));
+            (ap (filter (place_passes tests tree.places)) (append-nil (all_places tree.places)));
         reads = rw (same, low, high, pending, test) (omega (arith, one, cells, own));
       }
 
@@ -66,8 +66,8 @@ module _ (tests : Tests) (mono : ArePassed tests) (tree : TreeView) (are : ArePl
       → IfNone found (walk.pending ≡ []) → IfSome found (λ ref. walk.pending ≡ whole tree ∷ [])
       → IsBegun tests tree.places walk
   begun None (inl empty) some holds none pending =
-      nothing none (ap (λ codes. filter (passes tests tree.places) (range_with_len 0 (length codes))) empty)
+      nothing none (ap (λ codes. filter (place_passes tests tree.places) (range_with_len 0 (length codes))) empty)
   begun None (inr fails) some holds none pending =
-      nothing none (ap (filter (passes tests tree.places)) (sym all)
+      nothing none (ap (filter (place_passes tests tree.places)) (sym all)
       ∙ skipped-square tests mono tree.places n 0 few are fails)
   begun (Some root) reason some holds none pending = something pending some holds

@@ -12,7 +12,7 @@ use Rattle.list_laws.proofs.FilterLemmas.{sum_by_if}
 use Rattle.list_laws.proofs.SumLemmas.{sum_by-agree}
 use Rattle.track_types.specs.declared.cell_box.CellBox.{CellBox}
 use Rattle.k2_tree.specs.Pruning.{on_areas, place_among, weight_below}
-use Rattle.k2_tree.specs.Pruning.{square_count as tree_square_count, child_prefixes}
+use Rattle.k2_tree.specs.Pruning.{square_count, child_prefixes}
 use Rattle.k2_tree.specs.Squares.{Node, node, squares_from}
 use Rattle.k2_tree.specs.Tree.{Tree, IsTree, codes_of, tree_widths}
 use Rattle.k2_tree.specs.Widths.{digits_in, levels_with, widths_of}
@@ -20,8 +20,8 @@ use Rattle.k2_tree.specs.TreeBits.{Rises, is_in, children_of_prefixes, prefixes}
 use Rattle.k2_tree.proofs.PrefixLemmas.{any-prefixes, fan_pos, prefixes-top}
 use Rattle.k2_tree.proofs.PruningLemmas.{weight_below-all}
 use Rattle.k2_tree.proofs.WidthLemmas.{digits_in-widths_of}
-use Rattle.box_tree.specs.Levels.{children, digits, first_in, is_held, squares_in}
-use Rattle.box_tree.specs.Places.{square_count}
+use Rattle.box_tree.specs.Levels.{children, digits, square_start, is_held, squares_in}
+use Rattle.box_tree.specs.Places.{held_square_count}
 use Rattle.box_tree.specs.Tests.{squares_at}
 use Rattle.box_tree.specs.Tree.{levels_below, places_with}
 
@@ -31,7 +31,7 @@ one_of test square = if test square then 1 else 0
 
 -- a square holds a number where one has its prefix
 is_held-any : (codes : List ℕ) (n prefix : ℕ) → is_held codes n prefix ≡ list_any (λ code. code / 4 ^ n == prefix) codes
-unfolding is_held first_in
+unfolding is_held square_start
 is_held-any codes n prefix = by_counts codes (4 ^ n) (fan_pos n)
   where
     below : (a b : ℕ) (codes : List ℕ) → a ≤ b → place_among codes a ≤ place_among codes b
@@ -159,12 +159,12 @@ levels-widths height wide fits =
     ap (levels_below (height - 2 * wide)) all ∙ mixed-levels (height - 2 * wide) wide
 
 -- so a tree of boxes over the cells of a k2-tree, each as often as one likes, counts the squares that it counts
-pub square_count-tree : (tree : Tree) → IsTree tree → (keep : CellBox → Bool) (codes : List ℕ) (boxes : List CellBox)
+pub held_square_count-tree : (tree : Tree) → IsTree tree → (keep : CellBox → Bool) (codes : List ℕ) (boxes : List CellBox)
     → ((p : ℕ → Bool) → list_any p codes ≡ list_any p (codes_of tree))
-    → square_count (squares_at tree.base keep)
-    (places_with (tree.height - tree.wide) (tree.height - 2 * tree.wide) codes boxes) ≡ tree_square_count keep tree
-unfolding square_count prefixes
-square_count-tree tree is keep [] boxes same = sym (none (codes_of tree) is.codes.rising (sym (same (λ _. true))))
+    → held_square_count (squares_at tree.base keep)
+    (places_with (tree.height - tree.wide) (tree.height - 2 * tree.wide) codes boxes) ≡ square_count keep tree
+unfolding held_square_count prefixes
+held_square_count-tree tree is keep [] boxes same = sym (none (codes_of tree) is.codes.rising (sym (same (λ _. true))))
   where
     none : (cells : List ℕ) → Rises 0 cells → list_any (λ _. true) cells ≡ false
         → length (filter (on_areas keep tree) (squares_from (tree_widths tree) cells)) ≡ 0
@@ -175,7 +175,7 @@ square_count-tree tree is keep [] boxes same = sym (none (codes_of tree) is.code
           sum_by_if 1 (on_areas keep tree) (squares_from (tree_widths tree) []),
         )
     none (c ∷ cs) up empty = absurd (false≢true (sym empty))
-square_count-tree tree is keep (code ∷ codes) boxes same =
+held_square_count-tree tree is keep (code ∷ codes) boxes same =
     let test : nat_lt 0 (length (code ∷ codes)) ≡ true = grind (arith, nat_tests) in
     let all : digits_in (tree_widths tree) ≡ tree.height = digits_in-widths_of tree.height tree.wide is.fits in
     rw (test, levels-widths tree.height tree.wide is.fits)

@@ -3,13 +3,13 @@ use Rattle.std.proofs.Common.{◌≡◌, ℕ, zero, suc, ◌+◌, ◌<◌, ◌�
 use Rattle.std.proofs.Common.{ap, ◌∙◌, arith, All, subst, inl, inr, ◌⊎◌}
 use Rattle.std.specs.Prelude.{nat_lt, if◌then◌else◌}
 use Rattle.std.proofs.lemmas.Option.{same_Some, slice_get_within}
-use Rattle.box_tree.specs.Kinds.{kind_of}
+use Rattle.box_tree.specs.Kinds.{link_kind}
 use Rattle.box_tree.specs.Levels.{children, digits, run}
 use Rattle.k2_tree.specs.Areas.{IsBoxInside}
 use Rattle.box_tree.specs.Places.{Places, box_at}
 use Rattle.box_tree.specs.Held.{Held, IsBranch, IsBucket, IsKindFor, Nodes, Stand}
 use Rattle.box_tree.specs.Tree.{levels_below}
-use Rattle.box_tree.specs.Building.{IsMade, IsMadeKind, IsTask, StandsFor}
+use Rattle.box_tree.specs.Building.{IsMade, IsMadeKind, IsTask, IsTaskAt}
 use Rattle.box_tree.specs.declared.kind.Kind.{Kind}
 use Rattle.box_tree.specs.declared.kind.Kind.TheVariants.{Bucket, Branch}
 use Rattle.box_tree.specs.declared.task.Task.{Task}
@@ -34,7 +34,7 @@ module _ (places : Places) (narrow : ℕ) (tasks : List Task) (nodes : Nodes)
 
   kind-upper : (task : Task) (kind : Kind) (width lower : ℕ) → task.below ≡ suc lower
       → levels_below narrow (suc lower) ≡ width ∷ levels_below narrow lower
-      → ((prefix number : ℕ) → StandsFor tasks lower prefix number
+      → ((prefix number : ℕ) → IsTaskAt tasks lower prefix number
       → Held places nodes (levels_below narrow lower) prefix number)
       → IsBucket places.codes (width + digits (levels_below narrow lower)) task.prefix task.low task.high
       → IsMadeKind places.codes narrow tasks task kind
@@ -50,22 +50,22 @@ module _ (places : Places) (narrow : ℕ) (tasks : List Task) (nodes : Nodes)
       let same_lower : its.lower ≡ lower = cc (its.deep, deep) in
       let same_width : its.width ≡ width = cc (its.levels, split, ap (λ k. levels_below narrow (suc k)) same_lower) in
       let branch : IsBranch places.codes (digits (levels_below narrow lower)) width task.prefix end mask
-      (StandsFor tasks lower) =
+      (IsTaskAt tasks lower) =
       subst (λ k. IsBranch places.codes (digits (levels_below narrow k)) width task.prefix end mask
-      (StandsFor tasks k)) same_lower
+      (IsTaskAt tasks k)) same_lower
       (subst (λ w. IsBranch places.codes (digits (levels_below narrow its.lower)) w task.prefix end mask
-      (StandsFor tasks its.lower)) same_width its.branch) in
+      (IsTaskAt tasks its.lower)) same_width its.branch) in
       record {
         first = branch.first;
         few = branch.few;
         told = branch.told;
         stand = branch.stand;
-        each = Stand-weaker (StandsFor tasks lower) (Held places nodes (levels_below narrow lower)) below branch.first
+        each = Stand-weaker (IsTaskAt tasks lower) (Held places nodes (levels_below narrow lower)) below branch.first
             (children places.codes (digits (levels_below narrow lower)) width task.prefix) branch.each;
       }
 
   -- a node that was made stands for its square, where its kind does
-  node-made : (below prefix number : ℕ) → (stands : StandsFor tasks below prefix number)
+  node-made : (below prefix number : ℕ) → (stands : IsTaskAt tasks below prefix number)
       → ((task : Task) (kind : Kind) → task.below ≡ below → IsTask places.codes narrow task
       → IsMadeKind places.codes narrow tasks task kind
       → IsKindFor places nodes (levels_below narrow below) task.prefix kind)
@@ -85,12 +85,12 @@ module _ (places : Places) (narrow : ℕ) (tasks : List Task) (nodes : Nodes)
         link_is = it.link_is;
         covers = subst (λ p. All P (run places.codes (digits (levels_below narrow below)) p)) at
             (subst (λ n. All P (run places.codes n it.task.prefix)) level it.covers);
-        kind = subst (λ p. IsKindFor places nodes (levels_below narrow below) p (kind_of it.link)) at
-            (kinds it.task (kind_of it.link) flat it.is it.kind);
+        kind = subst (λ p. IsKindFor places nodes (levels_below narrow below) p (link_kind it.link)) at
+            (kinds it.task (link_kind it.link) flat it.is it.kind);
       }
 
   -- each node that stands for a square holds its places
-  pub held-made : (below prefix number : ℕ) → StandsFor tasks below prefix number
+  pub held-made : (below prefix number : ℕ) → IsTaskAt tasks below prefix number
       → Held places nodes (levels_below narrow below) prefix number
   unfolding levels_below
   held-made zero prefix number stands =

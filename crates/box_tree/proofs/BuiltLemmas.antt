@@ -5,12 +5,12 @@ use Rattle.std.proofs.Math.Nat.{pow-le-pow_right}
 use Rattle.track_types.specs.declared.cell_box.CellBox.{CellBox}
 use Rattle.track_types.specs.declared.limit.TheConstants.{MAX_HEIGHT}
 use Rattle.box_tree.specs.Held.{Nodes}
-use Rattle.box_tree.specs.Levels.{digits, first_in}
+use Rattle.box_tree.specs.Levels.{digits, square_start}
 use Rattle.box_tree.specs.Places.{ArePlaces}
-use Rattle.box_tree.specs.Tree.{AreLevels, IsTree, code_at, levels_below, places_with, tree_of}
+use Rattle.box_tree.specs.Tree.{AreLevels, IsBoxTree, code_at, levels_below, places_with, box_tree_of}
 use Rattle.box_tree.specs.Boxes.{IsBase}
 use Rattle.track_types.specs.declared.cell.Cell.{Cell}
-use Rattle.box_tree.specs.Building.{BeginsWith, IsMade, IsTask, StandsFor}
+use Rattle.box_tree.specs.Building.{BeginsWith, IsMade, IsTask, IsTaskAt}
 use Rattle.box_tree.specs.declared.task.Task.{Task}
 use Rattle.box_tree.proofs.BuildingLemmas.{held-made}
 use Rattle.box_tree.proofs.MakingLemmas.{stands-more}
@@ -20,7 +20,7 @@ use Rattle.box_tree.proofs.PlacesLemmas.{place_among-all, place_among-zero}
 pub root-task : (codes : List ℕ) (narrow height all : ℕ) → digits (levels_below narrow height) ≡ all → all ≤ MAX_HEIGHT
     → All (λ code. code < 4 ^ all) codes → 0 < length codes
     → IsTask codes narrow (record { below = height; level = all; prefix = 0; low = 0; high = length codes })
-unfolding first_in
+unfolding square_start
 root-task codes narrow height all level few inside some =
     let none : 0 * 4 ^ all ≡ 0 = omega arith in
     let one : (0 + 1) * 4 ^ all ≡ 4 ^ all = omega arith in
@@ -43,11 +43,11 @@ pub tree-built : (base : Cell) (height narrow all : ℕ) (codes : List ℕ) (cel
     → IsBase base → AreLevels height narrow all → ArePlaces (places_with height narrow codes boxes)
     → map code_at cells ≡ codes
     → ((number : ℕ) → number < length tasks → IsMade codes boxes narrow tasks areas links number)
-    → BeginsWith first tasks → (0 < length codes → StandsFor first height 0 0)
-    → IsTree all (tree_of base height narrow cells boxes areas links)
+    → BeginsWith first tasks → (0 < length codes → IsTaskAt first height 0 0)
+    → IsBoxTree all (box_tree_of base height narrow cells boxes areas links)
 tree-built base height narrow all codes cells boxes areas links first tasks near levels are same made begins stands =
     let nodes : Nodes = record { areas = areas; links = links } in
-    subst (λ cs. IsTree all
+    subst (λ cs. IsBoxTree all
     (record { base = base; narrow = narrow; places = places_with height narrow cs boxes; nodes = nodes }))
     (sym same)
     (record {
@@ -57,6 +57,6 @@ tree-built base height narrow all codes cells boxes areas links first tasks near
       few = levels.few;
       room = levels.room;
       held = λ some. held-made (places_with height narrow codes boxes) narrow tasks nodes made height 0 0
-          (subst (λ (all : List Task). StandsFor all height 0 0) (sym begins.is)
+          (subst (λ (all : List Task). IsTaskAt all height 0 0) (sym begins.is)
           (stands-more first begins.rest height 0 0 (stands some)));
     })

@@ -6,7 +6,7 @@ use Rattle.std.specs.List.{range_with_len}
 use Rattle.std.proofs.lemmas.Bool.Decides.{nat_tests}
 use Rattle.std.proofs.lemmas.List.Elements.{filter-append, All-filter}
 use Rattle.list_laws.proofs.RangeLemmas.{range-parts}
-use Rattle.box_tree.specs.Held.{digits_in}
+use Rattle.box_tree.specs.Held.{mask_digits}
 use Rattle.box_tree.proofs.RunLemmas.{All-range}
 
 -- the digits of a mask from one on
@@ -19,8 +19,8 @@ unfolding digits_from
 digits_from-end level mask digit past = let none : 4 ^ level - digit ≡ 0 = omega arith in rw none refl
 
 -- from 0 on they are all
-pub digits_from-zero : (level mask : ℕ) → digits_from level mask 0 ≡ digits_in level mask
-unfolding digits_from digits_in
+pub digits_from-zero : (level mask : ℕ) → digits_from level mask 0 ≡ mask_digits level mask
+unfolding digits_from mask_digits
 digits_from-zero level mask = let all : 4 ^ level - 0 ≡ 4 ^ level = omega arith in rw all refl
 
 -- a digit whose bit is set is the first of them
@@ -43,8 +43,8 @@ digits_from-clear level mask digit low clear =
 
 -- they are at most as many as all
 pub digits_from-few : (level mask digit : ℕ) → digit ≤ 4 ^ level
-    → length (digits_from level mask digit) ≤ length (digits_in level mask)
-unfolding digits_from digits_in
+    → length (digits_from level mask digit) ≤ length (mask_digits level mask)
+unfolding digits_from mask_digits
 digits_from-few level mask digit low =
     let p = λ (d : ℕ). bit_at mask d == 1 in
     let parts : range_with_len 0 (digit + (4 ^ level - digit)) ≡ range_with_len 0 digit ++ range_with_len digit
@@ -64,8 +64,8 @@ digits_from-few level mask digit low =
     )
 
 -- each is the digit of a child
-pub digits_in-small : (level mask : ℕ) → All (λ d. d < 4 ^ level) (digits_in level mask)
-unfolding digits_in
-digits_in-small level mask =
+pub mask_digits-small : (level mask : ℕ) → All (λ d. d < 4 ^ level) (mask_digits level mask)
+unfolding mask_digits
+mask_digits-small level mask =
     All-filter (λ d. bit_at mask d == 1) (λ d. d < 4 ^ level) (range_with_len 0 (4 ^ level))
     (All-range (λ d. d < 4 ^ level) 0 (4 ^ level) (λ j low high. omega arith))

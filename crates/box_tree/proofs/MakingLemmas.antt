@@ -21,13 +21,13 @@ use Rattle.track_types.specs.declared.cell_box.CellBox.{CellBox}
 use Rattle.k2_tree.specs.Areas.{IsBoxInside}
 use Rattle.track_types.specs.declared.cell.Cell.{Cell}
 use Rattle.box_tree.specs.Boxes.{IsFrom}
-use Rattle.box_tree.specs.Kinds.{kind_of}
-use Rattle.box_tree.specs.Levels.{children, digits, first_in, is_held, run, squares_in}
+use Rattle.box_tree.specs.Kinds.{link_kind}
+use Rattle.box_tree.specs.Levels.{children, digits, square_start, is_held, run, squares_in}
 use Rattle.box_tree.specs.Places.{box_at}
-use Rattle.box_tree.specs.Held.{Stand, digits_in}
+use Rattle.box_tree.specs.Held.{Stand, mask_digits}
 use Rattle.box_tree.specs.Tree.{levels_below}
 use Rattle.box_tree.specs.Building.{BeginsWith, IsMade, IsMadeKind, IsMadeLink, IsMaking}
-use Rattle.box_tree.specs.Building.{IsTask, StandsFor, child_task, task_levels, turns_left}
+use Rattle.box_tree.specs.Building.{IsTask, IsTaskAt, child_task, task_levels, task_squares}
 use Rattle.box_tree.specs.declared.kind.Kind.{Kind}
 use Rattle.box_tree.specs.declared.kind.Kind.TheVariants.{Bucket, Branch}
 use Rattle.box_tree.specs.declared.task.Task.{Task}
@@ -40,8 +40,8 @@ stays : {A : Type 0} (xs ys : List A) (i : ℕ) (x : A) → slice_get xs i ≡ S
 stays xs ys i x is = slice_get-append_left xs ys i (slice_get_within xs i x is) ∙ is
 
 -- a task that stands among tasks stands among more
-pub stands-more : (tasks more : List Task) (below prefix number : ℕ) → StandsFor tasks below prefix number
-    → StandsFor (tasks ++ more) below prefix number
+pub stands-more : (tasks more : List Task) (below prefix number : ℕ) → IsTaskAt tasks below prefix number
+    → IsTaskAt (tasks ++ more) below prefix number
 stands-more tasks more below prefix number it = record {
   task = it.task;
   stands = stays tasks more number it.task it.stands;
@@ -63,7 +63,7 @@ kind-more codes narrow tasks more task (Branch end mask) is = record {
     few = is.branch.few;
     told = is.branch.told;
     stand = is.branch.stand;
-    each = Stand-weaker (StandsFor tasks is.lower) (StandsFor (tasks ++ more) is.lower)
+    each = Stand-weaker (IsTaskAt tasks is.lower) (IsTaskAt (tasks ++ more) is.lower)
         (stands-more tasks more is.lower) is.branch.first
         (children codes (digits (levels_below narrow is.lower)) is.width task.prefix) is.branch.each;
   };
@@ -83,12 +83,12 @@ made-more codes boxes narrow tasks more areas area links link number it = record
   area_is = stays areas (area ∷ []) number it.area it.area_is;
   link_is = stays links (link ∷ []) number it.link it.link_is;
   covers = it.covers;
-  kind = kind-more codes narrow tasks more it.task (kind_of it.link) it.kind;
+  kind = kind-more codes narrow tasks more it.task (link_kind it.link) it.kind;
 }
 
 -- children that were put after others stand there
 stand-pushed : (codes : List ℕ) (width : ℕ) (task : Task) (front : List Task) (cs : List ℕ)
-    → Stand (StandsFor (front ++ map (child_task codes width task) cs) (task.below - 1)) (length front) cs
+    → Stand (IsTaskAt (front ++ map (child_task codes width task) cs) (task.below - 1)) (length front) cs
 unfolding Stand
 stand-pushed codes width task front [] = tt
 stand-pushed codes width task front (c ∷ cs) =
@@ -103,8 +103,8 @@ stand-pushed codes width task front (c ∷ cs) =
         same_below = refl;
         same_prefix = refl;
       },
-      subst (λ (tasks : List Task). Stand (StandsFor tasks (task.below - 1)) (length front + 1) cs) all
-          (subst (λ k. Stand (StandsFor ((front ++ here ∷ []) ++ rest) (task.below - 1)) k cs) next
+      subst (λ (tasks : List Task). Stand (IsTaskAt tasks (task.below - 1)) (length front + 1) cs) all
+          (subst (λ k. Stand (IsTaskAt ((front ++ here ∷ []) ++ rest) (task.below - 1)) k cs) next
           (stand-pushed codes width task (front ++ here ∷ []) cs)),
     )
 
@@ -120,10 +120,10 @@ kind-made codes narrow task (Branch end mask) old new is its =
     let lower : List ℕ = levels_below narrow (task.below - 1) in
     let level : digits lower ≡ task.level - width = let all = ap digits its.2 in omega (arith, is.level, all) in
     let cs : List ℕ = children codes (task.level - width) width task.prefix in
-    let stand : Stand (StandsFor new (task.below - 1)) (length old) cs =
-    subst (λ (tasks : List Task). Stand (StandsFor tasks (task.below - 1)) (length old) cs) (sym into.pushed)
+    let stand : Stand (IsTaskAt new (task.below - 1)) (length old) cs =
+    subst (λ (tasks : List Task). Stand (IsTaskAt tasks (task.below - 1)) (length old) cs) (sym into.pushed)
     (stand-pushed codes width task old cs) in
-    let long : length old + length (digits_in width mask) ≡ end =
+    let long : length old + length (mask_digits width mask) ≡ end =
     omega (
       arith,
       its.3,
@@ -131,7 +131,7 @@ kind-made codes narrow task (Branch end mask) old new is its =
       length-append old (map (child_task codes width task) cs),
       length-map cs (child_task codes width task),
       ap length into.told,
-      length-map (digits_in width mask) (λ digit. 4 ^ width * task.prefix + digit),
+      length-map (mask_digits width mask) (λ digit. 4 ^ width * task.prefix + digit),
     ) in
     record {
       width = width;
@@ -143,7 +143,7 @@ kind-made codes narrow task (Branch end mask) old new is its =
         few = into.few;
         told = into.told ∙ ap (λ n. children codes n width task.prefix) (sym level);
         stand = long;
-        each = subst (λ n. Stand (StandsFor new (task.below - 1)) (length old) (children codes n width task.prefix))
+        each = subst (λ n. Stand (IsTaskAt new (task.below - 1)) (length old) (children codes n width task.prefix))
             (sym level) stand;
       };
     }
@@ -173,7 +173,7 @@ All-range_more P a k low each last =
 
 -- the children of a square that hold a place
 children-held : (codes : List ℕ) (n level prefix : ℕ)
-    → All (λ q. (first_in codes n q < first_in codes n (q + 1)) × (4 ^ level * prefix ≤ q)
+    → All (λ q. (square_start codes n q < square_start codes n (q + 1)) × (4 ^ level * prefix ≤ q)
     × (q < 4 ^ level * prefix + 4 ^ level)) (children codes n level prefix)
 unfolding children is_held
 children-held codes n level prefix =
@@ -182,10 +182,10 @@ children-held codes n level prefix =
     (4 ^ level) (λ j low high. (low, high)))
   where
     P : ℕ → Type 0
-    P q = (first_in codes n q < first_in codes n (q + 1)) × (4 ^ level * prefix ≤ q)
+    P q = (square_start codes n q < square_start codes n (q + 1)) × (4 ^ level * prefix ≤ q)
         × (q < 4 ^ level * prefix + 4 ^ level)
 
-    some : (q : ℕ) → is_held codes n q ≡ true → first_in codes n q < first_in codes n (q + 1)
+    some : (q : ℕ) → is_held codes n q ≡ true → square_start codes n q < square_start codes n (q + 1)
     some q holds = grind (arith, nat_tests)
 
     held : (xs : List ℕ) → All (λ q. (4 ^ level * prefix ≤ q) × (q < 4 ^ level * prefix + 4 ^ level)) xs
@@ -203,7 +203,7 @@ children-held codes n level prefix =
 -- what is known of a child's task
 child-is : (codes : List ℕ) (narrow width : ℕ) (task : Task) (q : ℕ) → IsTask codes narrow task → 1 ≤ task.below
     → levels_below narrow task.below ≡ width ∷ levels_below narrow (task.below - 1)
-    → (first_in codes (task.level - width) q < first_in codes (task.level - width) (q + 1))
+    → (square_start codes (task.level - width) q < square_start codes (task.level - width) (q + 1))
     × (4 ^ width * task.prefix ≤ q) × (q < 4 ^ width * task.prefix + 4 ^ width)
     → IsTask codes narrow (child_task codes width task q)
 child-is codes narrow width task q is some split its =
@@ -240,12 +240,12 @@ pub making-next : (codes : List ℕ) (boxes : List CellBox) (narrow : ℕ) (firs
     → slice_get old (length links) ≡ Some task → IsTask codes narrow task
     → All (λ place. IsBoxInside (box_at boxes place) area) (run codes task.level task.prefix)
     → IsBoxWithin area → ((base : Cell) → All (IsFrom base) boxes → IsFrom base area)
-    → IsMadeLink codes narrow task (kind_of link) old new
+    → IsMadeLink codes narrow task (link_kind link) old new
     → IsMaking codes boxes narrow first new (areas ++ area ∷ []) (links ++ link ∷ [])
 making-next codes boxes narrow first old new areas links task area link is stands its covers near from made =
-    let more = begins codes narrow task (kind_of link) old new made in
+    let more = begins codes narrow task (link_kind link) old new made in
     record {
-      tasks = tasks-more codes narrow task (kind_of link) old new its made is.tasks;
+      tasks = tasks-more codes narrow task (link_kind link) old new its made is.tasks;
       begin = record {
         rest = is.begin.rest ++ more.rest;
         is = more.is ∙ ap (λ xs. xs ++ more.rest) is.begin.is
@@ -273,7 +273,7 @@ making-next codes boxes narrow first old new areas links task area link is stand
               area_is = ap (slice_get (areas ++ area ∷ [])) (sym is.same) ∙ last areas area;
               link_is = last links link;
               covers = covers;
-              kind = kind-made codes narrow task (kind_of link) old new its made;
+              kind = kind-made codes narrow task (link_kind link) old new its made;
             })
       ];
     }
@@ -292,8 +292,8 @@ making-next codes boxes narrow first old new areas links task area link is stand
 turns-split : (codes : List ℕ) (narrow : ℕ) (task : Task) (kind : Kind) (old new : List Task) (k : ℕ)
     → IsTask codes narrow task
     → IsMadeLink codes narrow task kind old new → k + 1 ≤ length old
-    → turns_left codes narrow (drop (k + 1) new)
-    < turns_left codes narrow (drop (k + 1) old) + squares_in (λ _. true) codes (task_levels narrow task) task.prefix
+    → task_squares codes narrow (drop (k + 1) new)
+    < task_squares codes narrow (drop (k + 1) old) + squares_in (λ _. true) codes (task_levels narrow task) task.prefix
 unfolding squares_in
 turns-split codes narrow task (Bucket low high) old new k is its within =
     let own = squares_in-own (λ _. true) codes (task_levels narrow task) task.prefix refl in
@@ -307,7 +307,7 @@ turns-split codes narrow task (Branch end mask) old new k is its within =
     let left : drop (k + 1) new ≡ drop (k + 1) old ++ made =
     ap (drop (k + 1)) its.4.pushed ∙ drop-append-le (k + 1) old made within in
     let f : Task → ℕ = λ t. squares_in (λ _. true) codes (task_levels narrow t) t.prefix in
-    let summed : turns_left codes narrow (drop (k + 1) new) ≡ sum_by f (drop (k + 1) old) + sum_by f made =
+    let summed : task_squares codes narrow (drop (k + 1) new) ≡ sum_by f (drop (k + 1) old) + sum_by f made =
     ap (sum_by f) left ∙ sum_by-append f (drop (k + 1) old) made in
     let below : sum_by f made ≡ sum_by (squares_in (λ _. true) codes lower) cs =
     sum_by-map f (child_task codes width task) cs in
@@ -320,7 +320,7 @@ turns-split codes narrow task (Branch end mask) old new k is its within =
 pub turns-next : (codes : List ℕ) (narrow : ℕ) (task : Task) (kind : Kind) (old new : List Task) (k : ℕ)
     → IsTask codes narrow task
     → slice_get old k ≡ Some task → IsMadeLink codes narrow task kind old new
-    → turns_left codes narrow (drop (k + 1) new) < turns_left codes narrow (drop k old)
+    → task_squares codes narrow (drop (k + 1) new) < task_squares codes narrow (drop k old)
 turns-next codes narrow task kind old new k is stands its =
     let within = slice_get_within old k task stands in
     let f : Task → ℕ = λ t. squares_in (λ _. true) codes (task_levels narrow t) t.prefix in
@@ -328,7 +328,7 @@ turns-next codes narrow task kind old new k is stands its =
     let cut : drop k old ≡ task ∷ drop (k + 1) old =
     drop-cons old k task within ∙ ap (λ t. t ∷ drop (suc k) old) (get_or_from_slice_get old k task task stands)
     ∙ ap (λ n. task ∷ drop n old) (sym next) in
-    let all : turns_left codes narrow (drop k old) ≡ f task + sum_by f (drop (k + 1) old) =
+    let all : task_squares codes narrow (drop k old) ≡ f task + sum_by f (drop (k + 1) old) =
     ap (sum_by f) cut ∙ sum_by-cons f task (drop (k + 1) old) in
     let fewer = turns-split codes narrow task kind old new k is its (omega (arith, within)) in
     omega (arith, all, fewer)

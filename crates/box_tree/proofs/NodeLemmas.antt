@@ -13,9 +13,9 @@ use Rattle.track_types.specs.declared.cell_box.CellBox.{CellBox}
 use Rattle.track_types.specs.declared.limit.TheConstants.{MAX_HEIGHT}
 use Rattle.k2_tree.specs.Areas.{IsBoxInside}
 use Rattle.k2_tree.specs.Squares.{Node, node}
-use Rattle.box_tree.specs.Levels.{children, digits, first_in, run, squares_in}
+use Rattle.box_tree.specs.Levels.{children, digits, square_start, run, squares_in}
 use Rattle.box_tree.specs.Places.{Places, ArePassed, ArePlaces, Ascends, box_at, cell_passes, place_worth}
-use Rattle.box_tree.specs.Places.{square_worth, passes, square}
+use Rattle.box_tree.specs.Places.{square_worth, place_passes, square_with}
 use Rattle.box_tree.specs.Tests.{Tests}
 use Rattle.box_tree.specs.Held.{IsBucket}
 use Rattle.box_tree.proofs.RunLemmas.{run-children, run-prefix}
@@ -35,25 +35,25 @@ fails-by false b only fails = refl
 module _ (tests : Tests) (mono : ArePassed tests) (places : Places) where
   -- a square that fails has no place that passes
   pub skipped-square : (n prefix : ℕ) → n ≤ MAX_HEIGHT → ArePlaces places → tests.square (node n prefix) ≡ false
-      → filter (passes tests places) (run places.codes n prefix) ≡ []
-  unfolding passes
+      → filter (place_passes tests places) (run places.codes n prefix) ≡ []
+  unfolding place_passes
   skipped-square n prefix deep are fails =
-      filter-fails (passes tests places) (run places.codes n prefix)
+      filter-fails (place_passes tests places) (run places.codes n prefix)
       (All-weaker (λ place. (slice_index places.codes place / 4 ^ n ≡ prefix) × (place < length places.codes))
-      (λ place. passes tests places place ≡ false)
-      (λ place its. fails-by (passes tests places place) (tests.square (node n prefix))
+      (λ place. place_passes tests places place ≡ false)
+      (λ place its. fails-by (place_passes tests places place) (tests.square (node n prefix))
       (λ all. rw its.0 at (mono.square n (slice_index places.codes place) deep (are.small place 0 its.1)
       (and_parts _ _ all).1)) fails)
       (run places.codes n prefix) (run-prefix places.codes n prefix are.ascend))
 
   -- so has one whose box fails
   pub skipped-box : (run : List ℕ) (area : CellBox) → All (λ place. IsBoxInside (box_at places.boxes place) area) run
-      → tests.area area ≡ false → filter (passes tests places) run ≡ []
-  unfolding passes
+      → tests.area area ≡ false → filter (place_passes tests places) run ≡ []
+  unfolding place_passes
   skipped-box run area covers fails =
-      filter-fails (passes tests places) run
-      (All-weaker (λ place. IsBoxInside (box_at places.boxes place) area) (λ place. passes tests places place ≡ false)
-      (λ place its. fails-by (passes tests places place) (tests.area area)
+      filter-fails (place_passes tests places) run
+      (All-weaker (λ place. IsBoxInside (box_at places.boxes place) area) (λ place. place_passes tests places place ≡ false)
+      (λ place its. fails-by (place_passes tests places place) (tests.area area)
       (λ all. mono.area (box_at places.boxes place) area its (and_parts _ _ all).0) fails) run covers)
 
 -- so much for each, and two sums
@@ -78,7 +78,7 @@ length-kept p (x ∷ xs) = grind (arith, length-kept p xs)
 pub few-children : (codes : List ℕ) (n level prefix : ℕ) → level ≤ 2 → length (children codes n level prefix) ≤ 16
 unfolding children
 few-children codes n level prefix low =
-    let kept = length-kept (λ q. nat_lt (first_in codes n q) (first_in codes n (q + 1)))
+    let kept = length-kept (λ q. nat_lt (square_start codes n q) (square_start codes n (q + 1)))
     (range_with_len (4 ^ level * prefix) (4 ^ level)) in
     let most : 4 ^ level ≤ 16 = fan-le level low in
     omega (arith, length-kept, length-range_with_len (4 ^ level * prefix) (4 ^ level), most)
@@ -101,8 +101,8 @@ module _ (test : Node → Bool) (places : Places) where
   -- a square that passes pays for its children
   pub square_worth-branch : (level : ℕ) (levels : List ℕ) (prefix : ℕ) → level ≤ 2
       → test (node (level + digits levels) prefix) ≡ true
-      → sum_by (square_worth test places) (map (square levels) (children places.codes (digits levels) level prefix)) + 3
-      ≤ square_worth test places (square (level ∷ levels) prefix)
+      → sum_by (square_worth test places) (map (square_with levels) (children places.codes (digits levels) level prefix)) + 3
+      ≤ square_worth test places (square_with (level ∷ levels) prefix)
   unfolding square_worth squares_in
   square_worth-branch level levels prefix low passes =
       let n : ℕ = digits levels in
@@ -110,9 +110,9 @@ module _ (test : Node → Bool) (places : Places) where
       let below : List ℕ = children codes n level prefix in
       let s : ℕ → ℕ = squares_in test codes levels in
       let r : ℕ → ℕ = λ q. sum_by (place_worth test places) (run codes n q) in
-      let mapped : sum_by (square_worth test places) (map (square levels) below) ≡ sum_by
+      let mapped : sum_by (square_worth test places) (map (square_with levels) below) ≡ sum_by
       (λ q. 3 + (48 * s q + r q)) below =
-      sum_by-map (square_worth test places) (square levels) below in
+      sum_by-map (square_worth test places) (square_with levels) below in
       let summed = sum_by-three s r below in
       let few = few-children codes n level prefix low in
       let cells : sum_by (place_worth test places) (run codes (level + n) prefix) ≡ sum_by r below =
@@ -122,7 +122,7 @@ module _ (test : Node → Bool) (places : Places) where
 
   -- and for a bucket of few places
   pub square_worth-bucket : (levels : List ℕ) (prefix low high : ℕ) → test (node (digits levels) prefix) ≡ true
-      → high ≤ low + 16 → 3 * (high - low) + 3 ≤ square_worth test places (square levels prefix)
+      → high ≤ low + 16 → 3 * (high - low) + 3 ≤ square_worth test places (square_with levels prefix)
   unfolding square_worth
   square_worth-bucket levels prefix low high passes few =
       let own = squares_in-own test places.codes levels prefix passes in
@@ -130,7 +130,7 @@ module _ (test : Node → Bool) (places : Places) where
 
   -- in a cell that passes each place pays for itself
   pub square_worth-cell : (prefix low high : ℕ) → Ascends 0 places.codes → test (node 0 prefix) ≡ true
-      → IsBucket places.codes 0 prefix low high → 3 * (high - low) + 3 ≤ square_worth test places (square [] prefix)
+      → IsBucket places.codes 0 prefix low high → 3 * (high - low) + 3 ≤ square_worth test places (square_with [] prefix)
   unfolding square_worth run
   square_worth-cell prefix low high up holds is =
       let places_of : List ℕ = range_with_len low (high - low) in
@@ -141,8 +141,8 @@ module _ (test : Node → Bool) (places : Places) where
       (λ place its. ap (λ c. test (node 0 c)) (sym (div-one (slice_index places.codes place)) ∙ its.0) ∙ holds)
       (run places.codes 0 prefix) (run-prefix places.codes 0 prefix up)) in
       let long : length (run places.codes 0 prefix) ≡ high - low =
-      length-range_with_len (first_in places.codes 0 prefix)
-      (first_in places.codes 0 (prefix + 1) - first_in places.codes 0 prefix)
+      length-range_with_len (square_start places.codes 0 prefix)
+      (square_start places.codes 0 (prefix + 1) - square_start places.codes 0 prefix)
       ∙ rw (is.low_is, is.high_is) refl in
       omega (arith, all, long)
     where

@@ -5,7 +5,7 @@ use Rattle.std.proofs.lemmas.Bool.Decides.{nat_tests}
 use Rattle.std.proofs.lemmas.List.Elements.{All-head, All-tail}
 use Rattle.list_laws.proofs.KeyedLemmas.{member_of_range}
 use Rattle.k2_tree.specs.Pruning.{place_among}
-use Rattle.box_tree.specs.Levels.{first_in, run}
+use Rattle.box_tree.specs.Levels.{square_start, run}
 
 -- all are below a number that all are below
 pub place_among-all : (codes : List ℕ) (b : ℕ) → All (λ code. code < b) codes → place_among codes b ≡ length codes
@@ -28,7 +28,7 @@ place_among-le (x ∷ xs) b = grind (arith, nat_tests, place_among-le xs b)
 -- the whole grid has all places
 pub run-whole : (codes : List ℕ) (n : ℕ) → All (λ code. code < 4 ^ n) codes
     → run codes n 0 ≡ range_with_len 0 (length codes)
-unfolding run first_in
+unfolding run square_start
 run-whole codes n inside =
     let none : 0 * 4 ^ n ≡ 0 = omega arith in
     let all : (0 + 1) * 4 ^ n ≡ 4 ^ n = omega arith in
@@ -36,13 +36,13 @@ run-whole codes n inside =
     rw (none, all, place_among-zero codes, place_among-all codes (4 ^ n) inside, long) refl
 
 -- the places of a square begin among all
-pub first_in-le : (codes : List ℕ) (n prefix : ℕ) → first_in codes n prefix ≤ length codes
-unfolding first_in
-first_in-le codes n prefix = place_among-le codes (prefix * 4 ^ n)
+pub square_start-le : (codes : List ℕ) (n prefix : ℕ) → square_start codes n prefix ≤ length codes
+unfolding square_start
+square_start-le codes n prefix = place_among-le codes (prefix * 4 ^ n)
 
 -- a place of a square is one of all
 pub run-within : (codes : List ℕ) (n prefix place : ℕ) → Contains (run codes n prefix) place → place < length codes
-unfolding run first_in
+unfolding run square_start
 run-within codes n prefix place inside =
     let a : ℕ = place_among codes (prefix * 4 ^ n) in
     let b : ℕ = place_among codes ((prefix + 1) * 4 ^ n) in

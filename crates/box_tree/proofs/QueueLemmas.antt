@@ -7,8 +7,8 @@ use Rattle.std.proofs.lemmas.List.Sums.{sum_by-append, sum_by-cons}
 use Rattle.list_laws.proofs.FlatLemmas.{sum_by-flat_map}
 use Rattle.k2_tree.specs.Squares.{Node}
 use Rattle.box_tree.specs.Cost.{node_reads, place_reads}
-use Rattle.box_tree.specs.Places.{run_of}
-use Rattle.box_tree.specs.Queued.{AreQueued, reads_below, weight_below}
+use Rattle.box_tree.specs.Places.{square_places}
+use Rattle.box_tree.specs.Queued.{AreQueued, reads_below, node_weight}
 use Rattle.box_tree.specs.Tree.{IsNodeOf, TreeView, node_at, node_square}
 use Rattle.box_tree.specs.Walk.{IsGivenWay}
 use Rattle.box_tree.specs.declared.node_ref.NodeRef.{NodeRef}
@@ -22,12 +22,12 @@ module _ (tree : TreeView) (ref : NodeRef) (nodes taken : List NodeRef) (waiting
   queued-branch old new gave paid = record {
     are = All-append (IsNodeOf tree) gave.children nodes gave.nodes (All-tail (IsNodeOf tree) ref nodes is.are);
     parted = λ weight.
-        let its : weight_below weight tree ref ≡ sum_by (weight_below weight tree) gave.children =
+        let its : node_weight weight tree ref ≡ sum_by (node_weight weight tree) gave.children =
         ap (sum_by weight) gave.places
-        ∙ sum_by-flat_map weight (λ child. run_of tree.places (node_square tree.narrow child)) gave.children in
+        ∙ sum_by-flat_map weight (λ child. square_places tree.places (node_square tree.narrow child)) gave.children in
         let all = is.parted weight in
-        let first = sum_by-cons (weight_below weight tree) ref nodes in
-        let both = sum_by-append (weight_below weight tree) gave.children nodes in
+        let first = sum_by-cons (node_weight weight tree) ref nodes in
+        let both = sum_by-append (node_weight weight tree) gave.children nodes in
         omega (arith, its, all, first, both);
     reads = λ test pass.
         let P : NodeRef → Type 0 = λ r. test (node_at r) ≡ true in
@@ -40,7 +40,7 @@ module _ (tree : TreeView) (ref : NodeRef) (nodes taken : List NodeRef) (waiting
 
   -- a bucket was taken: its places wait
   pub queued-bucket : (low high : ℕ)
-      → run_of tree.places (node_square tree.narrow ref) ≡ range_with_len low (high - low)
+      → square_places tree.places (node_square tree.narrow ref) ≡ range_with_len low (high - low)
       → ((test : Node → Bool) → test (node_at ref) ≡ true
       → place_reads * (high - low) + node_reads ≤ reads_below test tree ref)
       → steps' ≤ steps + (place_reads * (high - low) + node_reads)
@@ -48,10 +48,10 @@ module _ (tree : TreeView) (ref : NodeRef) (nodes taken : List NodeRef) (waiting
   queued-bucket low high places pays paid = record {
     are = All-tail (IsNodeOf tree) ref nodes is.are;
     parted = λ weight.
-        let its : weight_below weight tree ref ≡ sum_by weight (range_with_len low (high - low)) =
+        let its : node_weight weight tree ref ≡ sum_by weight (range_with_len low (high - low)) =
         ap (sum_by weight) places in
         let all = is.parted weight in
-        let first = sum_by-cons (weight_below weight tree) ref nodes in
+        let first = sum_by-cons (node_weight weight tree) ref nodes in
         let both = sum_by-append weight (range_with_len low (high - low)) waiting in
         omega (arith, its, all, first, both);
     reads = λ test pass.

@@ -11,7 +11,7 @@ use Rattle.std.proofs.lemmas.List.Elements.{All-nil, All-cons}
 use Rattle.list_laws.proofs.FlatLemmas.{flat_map-filter}
 use Rattle.list_laws.proofs.RangeLemmas.{range-parts}
 use Rattle.k2_tree.specs.Pruning.{place_among}
-use Rattle.box_tree.specs.Levels.{children, first_in, is_held, run}
+use Rattle.box_tree.specs.Levels.{children, square_start, is_held, run}
 use Rattle.box_tree.specs.Places.{Ascends}
 use Rattle.box_tree.proofs.PlacesLemmas.{place_among-le}
 
@@ -49,15 +49,15 @@ telescope f up a (suc m) =
     ∙ sym joined ∙ ap (range_with_len (f a)) (sym parts) ∙ ap (λ k. range_with_len (f a) (f k - f a)) (sym e)
 
 -- a square begins where the one before it ends
-pub first_in-up : (codes : List ℕ) (n prefix : ℕ) → first_in codes n prefix ≤ first_in codes n (prefix + 1)
-unfolding first_in
-first_in-up codes n prefix = place_among-up codes (prefix * 4 ^ n) ((prefix + 1) * 4 ^ n) (grind arith)
+pub square_start-up : (codes : List ℕ) (n prefix : ℕ) → square_start codes n prefix ≤ square_start codes n (prefix + 1)
+unfolding square_start
+square_start-up codes n prefix = place_among-up codes (prefix * 4 ^ n) ((prefix + 1) * 4 ^ n) (grind arith)
 
 -- a square begins where its first child does
-pub first_in-child : (codes : List ℕ) (n level prefix : ℕ)
-    → first_in codes n (4 ^ level * prefix) ≡ first_in codes (level + n) prefix
-unfolding first_in
-first_in-child codes n level prefix =
+pub square_start-child : (codes : List ℕ) (n level prefix : ℕ)
+    → square_start codes n (4 ^ level * prefix) ≡ square_start codes (level + n) prefix
+unfolding square_start
+square_start-child codes n level prefix =
     ap (place_among codes) (same (4 ^ level) (4 ^ n) (4 ^ (level + n)) (pow-add 4 level n))
   where
     same : (a b c : ℕ) → c ≡ a * b → a * prefix * b ≡ prefix * c
@@ -67,8 +67,8 @@ first_in-child codes n level prefix =
 run-empty : (codes : List ℕ) (n prefix : ℕ) → is_held codes n prefix ≡ false → run codes n prefix ≡ []
 unfolding is_held run
 run-empty codes n prefix none =
-    let up = first_in-up codes n prefix in
-    let e : first_in codes n (prefix + 1) - first_in codes n prefix ≡ 0 = grind (arith, nat_tests) in
+    let up = square_start-up codes n prefix in
+    let e : square_start codes n (prefix + 1) - square_start codes n prefix ≡ 0 = grind (arith, nat_tests) in
     rw e refl
 
 -- the places of a square are those of its children
@@ -78,10 +78,10 @@ unfolding run children
 run-children codes n level prefix =
     let q : ℕ = 4 ^ level * prefix in
     let past : q + 4 ^ level ≡ 4 ^ level * (prefix + 1) = grind arith in
-    let f : ℕ → ℕ = first_in codes n in
-    ap (λ a. range_with_len a (first_in codes (level + n) (prefix + 1) - a)) (sym (first_in-child codes n level prefix))
-    ∙ ap (λ b. range_with_len (f q) (b - f q)) (sym (first_in-child codes n level (prefix + 1)) ∙ ap f (sym past))
-    ∙ sym (telescope f (first_in-up codes n) q (4 ^ level))
+    let f : ℕ → ℕ = square_start codes n in
+    ap (λ a. range_with_len a (square_start codes (level + n) (prefix + 1) - a)) (sym (square_start-child codes n level prefix))
+    ∙ ap (λ b. range_with_len (f q) (b - f q)) (sym (square_start-child codes n level (prefix + 1)) ∙ ap f (sym past))
+    ∙ sym (telescope f (square_start-up codes n) q (4 ^ level))
     ∙ sym (flat_map-filter (run codes n) (is_held codes n) (range_with_len q (4 ^ level))
     (λ k d within. run-empty codes n _))
 
@@ -147,7 +147,7 @@ All-range P a (suc m) each =
 -- the numbers at a square's places have its prefix
 pub run-prefix : (codes : List ℕ) (n prefix : ℕ) → Ascends 0 codes
     → All (λ place. (slice_index codes place / 4 ^ n ≡ prefix) × (place < length codes)) (run codes n prefix)
-unfolding run first_in
+unfolding run square_start
 run-prefix codes n prefix up =
     let up' = first_in-up' codes n prefix in
     All-range (λ place. (slice_index codes place / 4 ^ n ≡ prefix) × (place < length codes))

@@ -13,7 +13,7 @@ use Rattle.std.proofs.lemmas.List.{append-nil, map-append}
 use Rattle.std.proofs.lemmas.List.Elements.{filter-append}
 use Rattle.list_laws.proofs.RangeLemmas.{range-parts}
 use Rattle.box_tree.specs.Building.{child_task, IsPushed, IsSplitting}
-use Rattle.box_tree.specs.Levels.{first_in, is_held}
+use Rattle.box_tree.specs.Levels.{square_start, is_held}
 use Rattle.box_tree.specs.declared.task.Task.{Task}
 
 -- bits of a number to which a higher power of two is added
@@ -66,7 +66,7 @@ filter-left p a m fails =
 
 module _ (codes : List ℕ) (width : ℕ) (task : Task) (digit low high mask : ℕ) (old now : List Task)
     (is : IsSplitting codes width task digit low mask old now)
-    (next : high ≡ first_in codes (task.level - width) (4 ^ width * task.prefix + digit + 1)) where
+    (next : high ≡ square_start codes (task.level - width) (4 ^ width * task.prefix + digit + 1)) where
   abbrev n : ℕ
   n = task.level - width
 
@@ -104,7 +104,7 @@ module _ (codes : List ℕ) (width : ℕ) (task : Task) (digit low high mask : �
             (sym (map-append (child_task codes width task) (filter (is_held codes n) (range_with_len from digit))
             ((from + digit) ∷ []))
             ∙ ap (map (child_task codes width task)) (sym (filter-kept (is_held codes n) from digit held)));
-        here = next ∙ ap (first_in codes n) (omega arith);
+        here = next ∙ ap (square_start codes n) (omega arith);
       }
 
   -- one that holds none
@@ -120,7 +120,7 @@ module _ (codes : List ℕ) (width : ℕ) (task : Task) (digit low high mask : �
             ∙ sym (filter-left (is_held codes n) from digit not_held);
         pushed = is.pushed ∙ ap (λ xs. old ++ map (child_task codes width task) xs)
             (sym (filter-left (is_held codes n) from digit not_held));
-        here = next ∙ ap (first_in codes n) (omega arith);
+        here = next ∙ ap (square_start codes n) (omega arith);
       }
 
   -- the child was put after the others where it holds a place

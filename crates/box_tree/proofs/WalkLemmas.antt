@@ -15,15 +15,15 @@ use Rattle.list_laws.proofs.FlatLemmas.{sum_by-map}
 use Rattle.k2_tree.specs.Squares.{Node, node}
 use Rattle.k2_tree.specs.Morton.{morton_column, morton_row}
 use Rattle.k2_tree.proofs.MortonLemmas.{morton_column-lt, morton_row-lt}
-use Rattle.box_tree.specs.Held.{Held, IsBranch, IsBucket, IsKindFor, Nodes, Stand, digits_in}
+use Rattle.box_tree.specs.Held.{Held, IsBranch, IsBucket, IsKindFor, Nodes, Stand, mask_digits}
 use Rattle.box_tree.specs.Levels.{children, digits, run, squares_in}
-use Rattle.box_tree.specs.Places.{Ascends, Places, Square, square_worth, passes, run_of, square}
-use Rattle.box_tree.specs.Tree.{IsNodeOf, TreeView, child_limit, levels_below, levels_of, node_square, prefix_of, slots}
-use Rattle.box_tree.specs.Walk.{Fits, IsGivenWay, IsOpened, IsWalk, WalkView, child_refs, turns_in}
-use Rattle.box_tree.specs.Walk.{walk_of}
+use Rattle.box_tree.specs.Places.{Ascends, Places, Square, square_worth, place_passes, square_places, square_with}
+use Rattle.box_tree.specs.Tree.{IsNodeOf, TreeView, child_limit, levels_below, levels_of, node_square, node_prefix, slots}
+use Rattle.box_tree.specs.Walk.{Fits, IsGivenWay, OpensSquare, IsNodeWalk, NodeWalkView, child_refs, turns_in}
+use Rattle.box_tree.specs.Walk.{node_walk_of}
 use Rattle.box_tree.specs.declared.kind.Kind.TheVariants.{Bucket, Branch}
 use Rattle.box_tree.specs.declared.node_ref.NodeRef.{NodeRef}
-use Rattle.box_tree.proofs.DigitsLemmas.{digits_in-small}
+use Rattle.box_tree.proofs.DigitsLemmas.{mask_digits-small}
 use Rattle.box_tree.proofs.NodeLemmas.{length-kept, square_worth-branch, square_worth-bucket}
 use Rattle.box_tree.proofs.NodeLemmas.{square_worth-cell, squares_in-own}
 use Rattle.box_tree.proofs.RunLemmas.{run-children}
@@ -53,9 +53,9 @@ unfolding IsKindFor
 branch-parts places nodes level levels prefix end mask is = is
 
 -- a mask has at most as many digits as there are children
-pub length-digits_in : (level mask : ℕ) → length (digits_in level mask) ≤ 4 ^ level
-unfolding digits_in
-length-digits_in level mask =
+pub length-mask_digits : (level mask : ℕ) → length (mask_digits level mask) ≤ 4 ^ level
+unfolding mask_digits
+length-mask_digits level mask =
     omega (
       arith,
       length-kept (λ d. bit_at mask d == 1) (range_with_len 0 (4 ^ level)),
@@ -65,11 +65,11 @@ length-digits_in level mask =
 
 -- the squares within the children are fewer
 turns-branch : (places : Places) (level : ℕ) (levels : List ℕ) (prefix : ℕ)
-    → sum_by (turns_in places) (map (square levels) (children places.codes (digits levels) level prefix))
-    < turns_in places (square (level ∷ levels) prefix)
+    → sum_by (turns_in places) (map (square_with levels) (children places.codes (digits levels) level prefix))
+    < turns_in places (square_with (level ∷ levels) prefix)
 unfolding squares_in
 turns-branch places level levels prefix =
-    omega (arith, sum_by-map (turns_in places) (square levels) (children places.codes (digits levels) level prefix))
+    omega (arith, sum_by-map (turns_in places) (square_with levels) (children places.codes (digits levels) level prefix))
 
 -- the children of a node that is split by a level
 module _ (tree : TreeView) (parent : NodeRef) (width : ℕ) (its : IsNodeOf tree parent)
@@ -79,7 +79,7 @@ module _ (tree : TreeView) (parent : NodeRef) (width : ℕ) (its : IsNodeOf tree
   lower = levels_below tree.narrow (parent.below - 1)
 
   abbrev longer : ℕ → ℕ
-  longer digit = 4 ^ width * prefix_of parent + digit
+  longer digit = 4 ^ width * node_prefix parent + digit
 
   abbrev child : ℕ → ℕ → NodeRef
   child number digit = record {
@@ -97,7 +97,7 @@ module _ (tree : TreeView) (parent : NodeRef) (width : ℕ) (its : IsNodeOf tree
   deep = omega (arith, level-parts)
 
   -- a child's prefix has its digit last
-  pub child-at : (number digit : ℕ) → digit < 4 ^ width → prefix_of (child number digit) ≡ longer digit
+  pub child-at : (number digit : ℕ) → digit < 4 ^ width → node_prefix (child number digit) ≡ longer digit
   child-at number digit low =
       child-prefix width digit parent.row parent.column some few low
       (child-fits width parent.level parent.column deep its.right)
@@ -124,13 +124,13 @@ module _ (tree : TreeView) (parent : NodeRef) (width : ℕ) (its : IsNodeOf tree
 
   -- their squares
   children-squares : (first : ℕ) (ds : List ℕ) → All (λ d. d < 4 ^ width) ds
-      → map (node_square tree.narrow) (child_refs parent width first ds) ≡ map (square lower) (map longer ds)
+      → map (node_square tree.narrow) (child_refs parent width first ds) ≡ map (square_with lower) (map longer ds)
   children-squares first [] low = refl
   children-squares first (d ∷ ds) low =
       let P : ℕ → Type 0 = λ d. d < 4 ^ width in
-      ap (λ q. square lower q ∷ map (node_square tree.narrow) (child_refs parent width (first + 1) ds))
+      ap (λ q. square_with lower q ∷ map (node_square tree.narrow) (child_refs parent width (first + 1) ds))
       (child-at first d (All-head P d ds low))
-      ∙ ap (λ squares. square lower (longer d) ∷ squares) (children-squares (first + 1) ds (All-tail P d ds low))
+      ∙ ap (λ squares. square_with lower (longer d) ∷ squares) (children-squares (first + 1) ds (All-tail P d ds low))
 
   -- each is one level lower
   children-lower : (first : ℕ) (ds : List ℕ) → 1 ≤ parent.below
@@ -143,51 +143,51 @@ module _ (tree : TreeView) (parent : NodeRef) (width : ℕ) (its : IsNodeOf tree
 
   -- the branch gives way to them
   pub given-way : (end mask : ℕ) (old new : List NodeRef) → 1 ≤ parent.below
-      → IsBranch tree.places.codes (digits lower) width (prefix_of parent) end mask (Held tree.places tree.nodes lower)
-      → new ≡ child_refs parent width (end - length (digits_in width mask)) (digits_in width mask) ++ old
+      → IsBranch tree.places.codes (digits lower) width (node_prefix parent) end mask (Held tree.places tree.nodes lower)
+      → new ≡ child_refs parent width (end - length (mask_digits width mask)) (mask_digits width mask) ++ old
       → IsGivenWay tree parent old new
   given-way end mask old new inner is pushed =
-      let ds : List ℕ = digits_in width mask in
+      let ds : List ℕ = mask_digits width mask in
       let sq : NodeRef → Square = node_square tree.narrow in
       let first : end - length ds ≡ is.first = omega (arith, is.stand) in
       let refs : List NodeRef = child_refs parent width is.first ds in
-      let cs : List ℕ = children tree.places.codes (digits lower) width (prefix_of parent) in
-      let low = digits_in-small width mask in
+      let cs : List ℕ = children tree.places.codes (digits lower) width (node_prefix parent) in
+      let low = mask_digits-small width mask in
       let stand : Stand (Held tree.places tree.nodes lower) is.first (map longer ds) =
       subst (Stand (Held tree.places tree.nodes lower) is.first) (sym is.told) is.each in
-      let squares : map sq refs ≡ map (square lower) cs =
-      children-squares is.first ds low ∙ ap (map (square lower)) is.told in
-      let whole : sq parent ≡ square (width ∷ lower) (prefix_of parent) =
-      ap (λ ls. square ls (prefix_of parent)) split in
+      let squares : map sq refs ≡ map (square_with lower) cs =
+      children-squares is.first ds low ∙ ap (map (square_with lower)) is.told in
+      let whole : sq parent ≡ square_with (width ∷ lower) (node_prefix parent) =
+      ap (λ ls. square_with ls (node_prefix parent)) split in
       let long : length refs ≡ length ds =
-      sym (length-map refs sq) ∙ ap length squares ∙ length-map cs (square lower) ∙ sym (ap length is.told)
+      sym (length-map refs sq) ∙ ap length squares ∙ length-map cs (square_with lower) ∙ sym (ap length is.told)
       ∙ length-map ds longer in
       record {
         children = refs;
         pushed = pushed ∙ ap (λ n. child_refs parent width n ds ++ old) first;
         nodes = children-nodes is.first ds low stand;
-        few = omega (arith, long, length-digits_in width mask, ap child_limit split);
-        places = ap (run_of tree.places) whole ∙ run-children tree.places.codes (digits lower) width (prefix_of parent)
-            ∙ sym (flat_map-map (run_of tree.places) (square lower) cs)
-            ∙ ap (flat_map (run_of tree.places)) (sym squares)
-            ∙ flat_map-map (run_of tree.places) sq refs;
+        few = omega (arith, long, length-mask_digits width mask, ap child_limit split);
+        places = ap (square_places tree.places) whole ∙ run-children tree.places.codes (digits lower) width (node_prefix parent)
+            ∙ sym (flat_map-map (square_places tree.places) (square_with lower) cs)
+            ∙ ap (flat_map (square_places tree.places)) (sym squares)
+            ∙ flat_map-map (square_places tree.places) sq refs;
         levels = children-lower is.first ds inner;
         reads = λ test holds.
-            let at : test (node (width + digits lower) (prefix_of parent)) ≡ true =
-            ap (λ n. test (node n (prefix_of parent))) level-parts ∙ holds in
-            let paid = square_worth-branch test tree.places width lower (prefix_of parent) few at in
+            let at : test (node (width + digits lower) (node_prefix parent)) ≡ true =
+            ap (λ n. test (node n (node_prefix parent))) level-parts ∙ holds in
+            let paid = square_worth-branch test tree.places width lower (node_prefix parent) few at in
             let summed = sym (sum_by-map (square_worth test tree.places) sq refs)
             ∙ ap (sum_by (square_worth test tree.places)) squares in
             let own = ap (square_worth test tree.places) whole in
             omega (arith, paid, summed, own);
         turns =
-            let fewer = turns-branch tree.places width lower (prefix_of parent) in
+            let fewer = turns-branch tree.places width lower (node_prefix parent) in
             let summed = sym (sum_by-map (turns_in tree.places) sq refs) ∙ ap (sum_by (turns_in tree.places)) squares in
             let own = ap (turns_in tree.places) whole in
             omega (arith, fewer, summed, own);
       }
 
-module _ (old new : WalkView) (done : old.high ≤ old.low) (tree : new.tree ≡ old.tree) where
+module _ (old new : NodeWalkView) (done : old.high ≤ old.low) (tree : new.tree ≡ old.tree) where
   abbrev its : Places
   its = old.tree.places
 
@@ -197,30 +197,30 @@ module _ (old new : WalkView) (done : old.high ≤ old.low) (tree : new.tree ≡
   -- a bucket is opened
   pub bucket-opened : (levels : List ℕ) (prefix low high : ℕ) → Ascends 0 its.codes
       → IsBucket its.codes (digits levels) prefix low high → (levels ≡ []) ⊎ (high ≤ low + 16)
-      → new.pending ≡ old.pending → new.low ≡ low → new.high ≡ high → IsOpened old new (square levels prefix)
+      → new.pending ≡ old.pending → new.low ≡ low → new.high ≡ high → OpensSquare old new (square_with levels prefix)
   unfolding run
   bucket-opened levels prefix low high up is size pending low_is high_is = record {
     left = λ tests. rw (tree, pending, low_is, high_is, none-before, is.low_is, is.high_is)
-        (filter-append (passes tests its) (run its.codes (digits levels) prefix) (flat_map (run_of its) old.pending));
+        (filter-append (place_passes tests its) (run its.codes (digits levels) prefix) (flat_map (square_places its) old.pending));
     reads = λ test holds. rw (tree, pending, low_is, high_is) (let paid = pays test holds size in omega arith);
     turns = rw (tree, pending) (let own = squares_in-own (λ _. true) its.codes levels prefix refl in omega arith);
   }
     where
       pays : (test : Node → Bool) → test (node (digits levels) prefix) ≡ true → (levels ≡ []) ⊎ (high ≤ low + 16)
-          → 3 * (high - low) + 3 ≤ square_worth test its (square levels prefix)
+          → 3 * (high - low) + 3 ≤ square_worth test its (square_with levels prefix)
       pays test holds (inr few) = square_worth-bucket test its levels prefix low high holds few
       pays test holds (inl cell) =
-          subst (λ ls. 3 * (high - low) + 3 ≤ square_worth test its (square ls prefix)) (sym cell)
+          subst (λ ls. 3 * (high - low) + 3 ≤ square_worth test its (square_with ls prefix)) (sym cell)
           (square_worth-cell test its prefix low high up (rw cell at holds) (rw cell at is))
 
 -- a branch is opened: its children wait in its place
 module _ (tree : TreeView) (low high : ℕ) (stack new : List NodeRef) (parent : NodeRef)
     (way : IsGivenWay tree parent (reverse stack) (reverse new)) where
-  abbrev before : WalkView
-  before = walk_of tree stack low high
+  abbrev before : NodeWalkView
+  before = node_walk_of tree stack low high
 
-  abbrev after : WalkView
-  after = walk_of tree new low high
+  abbrev after : NodeWalkView
+  after = node_walk_of tree new low high
 
   abbrev sq : NodeRef → Square
   sq = node_square tree.narrow
@@ -229,18 +229,18 @@ module _ (tree : TreeView) (low high : ℕ) (stack new : List NodeRef) (parent :
   waiting = ap (map sq) way.pushed ∙ map-append sq way.children (reverse stack)
 
   -- its places are left, and the reads that it is worth pay for theirs
-  pub branch-opened : high ≤ low → IsNodeOf tree parent → IsOpened before after (sq parent)
+  pub branch-opened : high ≤ low → IsNodeOf tree parent → OpensSquare before after (sq parent)
   branch-opened done its = record {
     left = λ tests.
         let none : high - low ≡ 0 = omega arith in
-        rw (none, waiting) (ap (filter (passes tests tree.places))
-        (flat_map-append (run_of tree.places) (map sq way.children) before.pending
-        ∙ ap (λ run. run ++ flat_map (run_of tree.places) before.pending)
-        (flat_map-map (run_of tree.places) sq way.children ∙ sym way.places))
-        ∙ filter-append (passes tests tree.places) (run_of tree.places (sq parent))
-        (flat_map (run_of tree.places) before.pending));
+        rw (none, waiting) (ap (filter (place_passes tests tree.places))
+        (flat_map-append (square_places tree.places) (map sq way.children) before.pending
+        ∙ ap (λ run. run ++ flat_map (square_places tree.places) before.pending)
+        (flat_map-map (square_places tree.places) sq way.children ∙ sym way.places))
+        ∙ filter-append (place_passes tests tree.places) (square_places tree.places (sq parent))
+        (flat_map (square_places tree.places) before.pending));
     reads = λ test holds.
-        let paid = way.reads test (ap (λ n. test (node n (prefix_of parent))) (sym its.level) ∙ holds) in
+        let paid = way.reads test (ap (λ n. test (node n (node_prefix parent))) (sym its.level) ∙ holds) in
         let summed = sum_by-map (square_worth test tree.places) sq way.children in
         let both = ap (sum_by (square_worth test tree.places)) waiting
         ∙ sum_by-append (square_worth test tree.places) (map sq way.children) before.pending in
@@ -267,9 +267,9 @@ module _ (tree : TreeView) (low high : ℕ) (stack new : List NodeRef) (parent :
       )
 
   -- the parts of the walk still belong together
-  pub branch-walk : IsWalk tree stack low high
+  pub branch-walk : IsNodeWalk tree stack low high
       → length stack + slots (levels_of tree.narrow parent) ≤ slots tree.places.levels
-      → 1 ≤ parent.below → IsWalk tree new low high
+      → 1 ≤ parent.below → IsNodeWalk tree new low high
   branch-walk walk room inner = record {
     nodes = subst (All (IsNodeOf tree)) (sym way.pushed)
         (All-append (IsNodeOf tree) way.children (reverse stack) way.nodes walk.nodes);
@@ -285,7 +285,7 @@ module _ (tree : TreeView) (low high : ℕ) (stack new : List NodeRef) (parent :
 -- a node was taken off a walk's stack
 pub popped : (tree : TreeView) (low high : ℕ) (old new : List NodeRef) (taken : Option NodeRef)
     → old ≡ new ++ option_to_list taken
-    → IsWalk tree old low high → IsWalk tree new low high
+    → IsNodeWalk tree old low high → IsNodeWalk tree new low high
 popped tree low high old new None is walk = rw (is ∙ append-nil new) at walk
 popped tree low high old new (Some ref) is walk =
     let turned : reverse old ≡ ref ∷ reverse new = ap reverse is ∙ reverse-append new (ref ∷ []) in
@@ -301,7 +301,7 @@ popped tree low high old new (Some ref) is walk =
 -- a node that was taken off is one of the tree's
 pub popped-node : (tree : TreeView) (low high : ℕ) (old new : List NodeRef) (taken : Option NodeRef)
     → old ≡ new ++ option_to_list taken
-    → IsWalk tree old low high → IfSome taken (λ ref. IsNodeOf tree ref)
+    → IsNodeWalk tree old low high → IfSome taken (λ ref. IsNodeOf tree ref)
 popped-node tree low high old new None is walk = tt
 popped-node tree low high old new (Some ref) is walk =
     let turned : reverse old ≡ ref ∷ reverse new = ap reverse is ∙ reverse-append new (ref ∷ []) in

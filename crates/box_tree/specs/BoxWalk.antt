@@ -1,23 +1,23 @@
 -- What a walk finds, and what is left of one.
 use Rattle.std.specs.Prelude.{ℕ, ◌+◌, ◌*◌, Bool, List, filter, length}
 use Rattle.track_types.specs.declared.cell_box.CellBox.{CellBox}
-use Rattle.box_tree.specs.Cost.{place_reads, square_reads}
-use Rattle.box_tree.specs.Places.{all_places, cell_passes, passes, square_count}
+use Rattle.box_tree.specs.Cost.{place_reads, opened_square_reads}
+use Rattle.box_tree.specs.Places.{all_places, cell_passes, place_passes, held_square_count}
 use Rattle.box_tree.specs.Tests.{Tests, squares_at, tests_at}
 use Rattle.box_tree.specs.Tree.{TreeView}
-use Rattle.box_tree.specs.Walk.{walk_left, walk_reads}
+use Rattle.box_tree.specs.Walk.{places_left, walk_reads}
 use Rattle.box_tree.specs.declared.walk.BoxWalk.{BoxWalk}
 
 -- the places of a tree whose cell passes the first test and whose box passes the second, in order
 abbrev pub found_places : (CellBox → Bool) → (CellBox → Bool) → TreeView → List ℕ
 found_places squares boxes tree =
-    filter (passes (tests_at tree.base squares boxes) tree.places) (all_places tree.places)
+    filter (place_passes (tests_at tree.base squares boxes) tree.places) (all_places tree.places)
 
 -- at most so many reads find them: some for each square that holds a place and passes, and some for each place whose
 -- cell passes
 abbrev pub search_reads : (CellBox → Bool) → TreeView → ℕ
 search_reads squares tree =
-    square_reads * square_count (squares_at tree.base squares) tree.places
+    opened_square_reads * held_square_count (squares_at tree.base squares) tree.places
     + place_reads * length (filter (cell_passes (squares_at tree.base squares) tree.places) (all_places tree.places))
 
 -- the tree that a walk goes over
@@ -31,7 +31,7 @@ module _ {S : Type 0} (squares boxes : S → CellBox → Bool) where
 
   -- the places that are left
   abbrev pub box_left : BoxWalk S → List ℕ
-  box_left walk = walk_left (asked walk) walk.walk
+  box_left walk = places_left (asked walk) walk.walk
 
   -- the reads that are still to be made for them
   abbrev pub box_budget : BoxWalk S → ℕ

@@ -8,12 +8,12 @@ use Rattle.k2_tree.specs.TreeBits.{code_limit}
 use Rattle.track_types.specs.Near.{IsBoxWithin}
 use Rattle.track_types.specs.declared.cell.Cell.{Cell}
 use Rattle.box_tree.specs.Boxes.{IsFrom}
-use Rattle.box_tree.specs.Kinds.{kind_of}
+use Rattle.box_tree.specs.Kinds.{link_kind}
 use Rattle.std.specs.Int.{bit_at}
 use Rattle.std.specs.List.{range_with_len, sum_by}
-use Rattle.box_tree.specs.Levels.{children, digits, first_in, is_held, run, squares_in}
-use Rattle.box_tree.specs.Places.{Square, box_at, square}
-use Rattle.box_tree.specs.Held.{IsBranch, IsBucket, digits_in}
+use Rattle.box_tree.specs.Levels.{children, digits, square_start, is_held, run, squares_in}
+use Rattle.box_tree.specs.Places.{Square, box_at, square_with}
+use Rattle.box_tree.specs.Held.{IsBranch, IsBucket, mask_digits}
 use Rattle.box_tree.specs.Tree.{levels_below}
 use Rattle.box_tree.specs.Cost.{bucket_limit}
 use Rattle.box_tree.specs.declared.kind.Kind.{Kind}
@@ -26,7 +26,7 @@ task_levels narrow task = levels_below narrow task.below
 
 -- its square
 abbrev pub task_square : ℕ → Task → Square
-task_square narrow task = square (task_levels narrow task) task.prefix
+task_square narrow task = square_with (task_levels narrow task) task.prefix
 
 -- a task tells its square and its places
 pub record IsTask (codes : List ℕ) (narrow : ℕ) (task : Task) : Type 0 where
@@ -37,7 +37,7 @@ pub record IsTask (codes : List ℕ) (narrow : ℕ) (task : Task) : Type 0 where
   pub some : task.low < task.high
 
 -- a task of these levels and this prefix stands at a place
-pub record StandsFor (tasks : List Task) (below prefix number : ℕ) : Type 0 where
+pub record IsTaskAt (tasks : List Task) (below prefix number : ℕ) : Type 0 where
   pub task : Task
   pub stands : slice_get tasks number ≡ Some task
   pub same_below : task.below ≡ below
@@ -49,7 +49,7 @@ pub record IsSplit (codes : List ℕ) (narrow : ℕ) (tasks : List Task) (task :
   pub lower : ℕ
   pub deep : task.below ≡ suc lower
   pub levels : levels_below narrow (suc lower) ≡ width ∷ levels_below narrow lower
-  pub branch : IsBranch codes (digits (levels_below narrow lower)) width task.prefix end mask (StandsFor tasks lower)
+  pub branch : IsBranch codes (digits (levels_below narrow lower)) width task.prefix end mask (IsTaskAt tasks lower)
 
 -- what the kind that was made of a task says
 abbrev pub IsMadeKind : List ℕ → ℕ → List Task → Task → Kind → Type 0
@@ -63,8 +63,8 @@ child_task codes width task prefix = record {
   below = task.below - 1;
   level = task.level - width;
   prefix = prefix;
-  low = first_in codes (task.level - width) prefix;
-  high = first_in codes (task.level - width) (prefix + 1);
+  low = square_start codes (task.level - width) prefix;
+  high = square_start codes (task.level - width) (prefix + 1);
 }
 
 -- the task of a child was put after the others where it holds a place, and its digit into the mask
@@ -80,12 +80,12 @@ pub record IsSplitting (codes : List ℕ) (width : ℕ) (task : Task) (digit low
       ≡ filter (is_held codes (task.level - width)) (range_with_len (4 ^ width * task.prefix) digit)
   pub pushed : now ≡ old ++ map (child_task codes width task)
       (filter (is_held codes (task.level - width)) (range_with_len (4 ^ width * task.prefix) digit))
-  pub here : low ≡ first_in codes (task.level - width) (4 ^ width * task.prefix + digit)
+  pub here : low ≡ square_start codes (task.level - width) (4 ^ width * task.prefix + digit)
 
 -- the children of a square that hold a place came after the other tasks
 pub record IsSplitInto (codes : List ℕ) (width : ℕ) (task : Task) (mask : ℕ) (old new : List Task) : Type 0 where
   pub few : mask < 2 ^ 16
-  pub told : map (λ digit. 4 ^ width * task.prefix + digit) (digits_in width mask)
+  pub told : map (λ digit. 4 ^ width * task.prefix + digit) (mask_digits width mask)
       ≡ children codes (task.level - width) width task.prefix
   pub pushed : new ≡ old ++ map (child_task codes width task) (children codes (task.level - width) width task.prefix)
 
@@ -108,7 +108,7 @@ pub record IsMade (codes : List ℕ) (boxes : List CellBox) (narrow : ℕ) (task
   pub area_is : slice_get areas number ≡ Some area
   pub link_is : slice_get links number ≡ Some link
   pub covers : All (λ place. IsBoxInside (box_at boxes place) area) (run codes task.level task.prefix)
-  pub kind : IsMadeKind codes narrow tasks task (kind_of link)
+  pub kind : IsMadeKind codes narrow tasks task (link_kind link)
 
 -- a list begins with another
 pub record BeginsWith {A : Type 0} (front all : List A) : Type 0 where
@@ -116,8 +116,8 @@ pub record BeginsWith {A : Type 0} (front all : List A) : Type 0 where
   pub is : all ≡ front ++ rest
 
 -- how many squares are in those of tasks
-abbrev pub turns_left : List ℕ → ℕ → List Task → ℕ
-turns_left codes narrow tasks =
+abbrev pub task_squares : List ℕ → ℕ → List Task → ℕ
+task_squares codes narrow tasks =
     sum_by (λ (task : Task). squares_in (λ _. true) codes (task_levels narrow task) task.prefix) tasks
 
 -- nodes were made of the first tasks

@@ -30,5 +30,5 @@ abbrev pub opened_reads : ℕ
 opened_reads = bucket_limit * place_reads
 
 -- a square with a node of its own that is opened
-abbrev pub square_reads : ℕ
-square_reads = opened_reads + node_reads
+abbrev pub opened_square_reads : ℕ
+opened_square_reads = opened_reads + node_reads

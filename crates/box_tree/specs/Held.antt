@@ -6,8 +6,8 @@ use Rattle.std.specs.Int.{bit_at}
 use Rattle.std.specs.List.{range_with_len}
 use Rattle.track_types.specs.declared.cell_box.CellBox.{CellBox}
 use Rattle.k2_tree.specs.Areas.{IsBoxInside}
-use Rattle.box_tree.specs.Kinds.{kind_of}
-use Rattle.box_tree.specs.Levels.{children, digits, first_in, run}
+use Rattle.box_tree.specs.Kinds.{link_kind}
+use Rattle.box_tree.specs.Levels.{children, digits, square_start, run}
 use Rattle.box_tree.specs.Places.{Places, box_at}
 use Rattle.box_tree.specs.Cost.{bucket_limit}
 use Rattle.box_tree.specs.declared.kind.Kind.{Kind}
@@ -19,13 +19,13 @@ pub record Nodes : Type 0 where
   pub links : List (ℕ × ℕ)
 
 -- the digits of a mask
-unfoldable pub digits_in : ℕ → ℕ → List ℕ
-digits_in level mask = filter (λ digit. bit_at mask digit == 1) (range_with_len 0 (4 ^ level))
+unfoldable pub mask_digits : ℕ → ℕ → List ℕ
+mask_digits level mask = filter (λ digit. bit_at mask digit == 1) (range_with_len 0 (4 ^ level))
 
 -- a node of the square has these places
 pub record IsBucket (codes : List ℕ) (n prefix low high : ℕ) : Type 0 where
-  pub low_is : low ≡ first_in codes n prefix
-  pub high_is : high ≡ first_in codes n (prefix + 1)
+  pub low_is : low ≡ square_start codes n prefix
+  pub high_is : high ≡ square_start codes n (prefix + 1)
 
 -- nodes one after another are of these prefixes
 unfoldable pub Stand : (ℕ → ℕ → Type 0) → ℕ → List ℕ → Type 0
@@ -36,8 +36,8 @@ Stand held first (prefix ∷ prefixes) = held prefix first × Stand held (first 
 pub record IsBranch (codes : List ℕ) (n level prefix end mask : ℕ) (held : ℕ → ℕ → Type 0) : Type 0 where
   pub first : ℕ
   pub few : mask < 2 ^ 16
-  pub told : map (λ digit. 4 ^ level * prefix + digit) (digits_in level mask) ≡ children codes n level prefix
-  pub stand : first + length (digits_in level mask) ≡ end
+  pub told : map (λ digit. 4 ^ level * prefix + digit) (mask_digits level mask) ≡ children codes n level prefix
+  pub stand : first + length (mask_digits level mask) ≡ end
   pub each : Stand held first (children codes n level prefix)
 
 -- a cell is always a bucket
@@ -58,7 +58,7 @@ pub record IsNode (places : Places) (nodes : Nodes) (n prefix number : ℕ) (IsK
   pub area_is : slice_get nodes.areas number ≡ Some area
   pub link_is : slice_get nodes.links number ≡ Some link
   pub covers : All (λ place. IsBoxInside (box_at places.boxes place) area) (run places.codes n prefix)
-  pub kind : IsKind (kind_of link)
+  pub kind : IsKind (link_kind link)
 
 -- what the kind of a node says of it, by descent on the levels below its square
 unfoldable pub IsKindFor : Places → Nodes → List ℕ → ℕ → Kind → Type 0

@@ -12,16 +12,16 @@ digits [] = 0
 digits (level ∷ levels) = level + digits levels
 
 -- where the numbers of the square with this prefix begin among ascending ones, n digits being below it
-unfoldable pub first_in : List ℕ → ℕ → ℕ → ℕ
-first_in codes n prefix = place_among codes (prefix * 4 ^ n)
+unfoldable pub square_start : List ℕ → ℕ → ℕ → ℕ
+square_start codes n prefix = place_among codes (prefix * 4 ^ n)
 
 -- the places of a square
 unfoldable pub run : List ℕ → ℕ → ℕ → List ℕ
-run codes n prefix = range_with_len (first_in codes n prefix) (first_in codes n (prefix + 1) - first_in codes n prefix)
+run codes n prefix = range_with_len (square_start codes n prefix) (square_start codes n (prefix + 1) - square_start codes n prefix)
 
 -- whether a square holds a number
 unfoldable pub is_held : List ℕ → ℕ → ℕ → Bool
-is_held codes n prefix = nat_lt (first_in codes n prefix) (first_in codes n (prefix + 1))
+is_held codes n prefix = nat_lt (square_start codes n prefix) (square_start codes n (prefix + 1))
 
 -- the children that hold a number of a square that is split by a level; they have n digits below them
 unfoldable pub children : List ℕ → ℕ → ℕ → ℕ → List ℕ

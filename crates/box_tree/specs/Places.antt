@@ -44,8 +44,8 @@ abbrev pub cell_passes : (Node → Bool) → Places → ℕ → Bool
 cell_passes test places place = test (node 0 (slice_index places.codes place))
 
 -- whether a place's box and its cell pass
-unfoldable pub passes : Tests → Places → ℕ → Bool
-passes tests places place = tests.area (box_at places.boxes place) && cell_passes tests.square places place
+unfoldable pub place_passes : Tests → Places → ℕ → Bool
+place_passes tests places place = tests.area (box_at places.boxes place) && cell_passes tests.square places place
 
 -- a square of the grid passes where a cell in it does, and a box where one in it does
 pub record ArePassed (tests : Tests) : Type 0 where
@@ -59,12 +59,12 @@ pub record Square : Type 0 where
   pub prefix : ℕ
 
 -- the square with these
-abbrev pub square : List ℕ → ℕ → Square
-square levels prefix = record { levels = levels; prefix = prefix }
+abbrev pub square_with : List ℕ → ℕ → Square
+square_with levels prefix = record { levels = levels; prefix = prefix }
 
 -- its places
-abbrev pub run_of : Places → Square → List ℕ
-run_of places square = run places.codes (digits square.levels) square.prefix
+abbrev pub square_places : Places → Square → List ℕ
+square_places places square = run places.codes (digits square.levels) square.prefix
 
 -- the reads that a place is worth: those of its box and its cell, where its cell passes
 abbrev pub place_worth : (Node → Bool) → Places → ℕ → ℕ
@@ -74,11 +74,11 @@ place_worth test places place = if cell_passes test places place then place_read
 unfoldable pub square_worth : (Node → Bool) → Places → Square → ℕ
 square_worth test places square =
     node_reads + (opened_reads * squares_in test places.codes square.levels square.prefix
-    + sum_by (place_worth test places) (run_of places square))
+    + sum_by (place_worth test places) (square_places places square))
 
 -- how many squares that hold a place pass, from the whole grid down to the cells
-unfoldable pub square_count : (Node → Bool) → Places → ℕ
-square_count test places = if nat_lt 0 (length places.codes) then squares_in test places.codes places.levels 0 else 0
+unfoldable pub held_square_count : (Node → Bool) → Places → ℕ
+held_square_count test places = if nat_lt 0 (length places.codes) then squares_in test places.codes places.levels 0 else 0
 
 -- all places
 abbrev pub all_places : Places → List ℕ

@@ -1,14 +1,14 @@
 -- What a best-first search keeps: nodes and places that wait, and places that were sought.
 use Rattle.std.specs.Prelude.{◌≡◌, ℕ, ◌+◌, ◌≤◌, Bool, true, List, length, All}
 use Rattle.std.specs.List.{range_with_len, sum_by}
-use Rattle.box_tree.specs.Places.{square_worth, run_of}
+use Rattle.box_tree.specs.Places.{square_worth, square_places}
 use Rattle.k2_tree.specs.Squares.{Node}
 use Rattle.box_tree.specs.Tree.{TreeView, IsNodeOf, node_at, node_square, whole}
 use Rattle.box_tree.specs.declared.node_ref.NodeRef.{NodeRef}
 
 -- a weight of the places below a node
-abbrev pub weight_below : (ℕ → ℕ) → TreeView → NodeRef → ℕ
-weight_below weight tree ref = sum_by weight (run_of tree.places (node_square tree.narrow ref))
+abbrev pub node_weight : (ℕ → ℕ) → TreeView → NodeRef → ℕ
+node_weight weight tree ref = sum_by weight (square_places tree.places (node_square tree.narrow ref))
 
 -- the reads that a node is worth
 abbrev pub reads_below : (Node → Bool) → TreeView → NodeRef → ℕ
@@ -20,7 +20,7 @@ pub record AreQueued (tree : TreeView) (nodes taken : List NodeRef) (waiting sou
     (begun steps : ℕ) : Type 0 where
   pub are : All (IsNodeOf tree) nodes
   pub parted : (weight : ℕ → ℕ)
-      → sum_by weight sought + (sum_by weight waiting + sum_by (weight_below weight tree) nodes)
+      → sum_by weight sought + (sum_by weight waiting + sum_by (node_weight weight tree) nodes)
       ≡ sum_by weight (range_with_len 0 (length tree.places.codes))
   pub reads : (test : Node → Bool) → All (λ ref. test (node_at ref) ≡ true) taken
       → steps + sum_by (reads_below test tree) nodes ≤ begun + square_worth test tree.places (whole tree)

@@ -8,7 +8,7 @@ use Rattle.k2_tree.specs.Morton.{interleaved}
 use Rattle.k2_tree.specs.Squares.{Node, node}
 use Rattle.box_tree.specs.Boxes.{IsBase}
 use Rattle.box_tree.specs.Levels.{digits}
-use Rattle.box_tree.specs.Places.{Places, Square, square, ArePlaces}
+use Rattle.box_tree.specs.Places.{Places, Square, square_with, ArePlaces}
 use Rattle.box_tree.specs.Held.{Nodes, Held}
 use Rattle.box_tree.specs.declared.node_ref.NodeRef.{NodeRef}
 use Rattle.box_tree.specs.declared.node_ref.TheConstants.{SLOTS}
@@ -30,8 +30,8 @@ abbrev pub code_at : ℕ × ℕ → ℕ
 code_at cell = interleaved MAX_HEIGHT cell.1 cell.0
 
 -- the tree of these parts
-abbrev pub tree_of : Cell → ℕ → ℕ → List (ℕ × ℕ) → List CellBox → List CellBox → List (ℕ × ℕ) → TreeView
-tree_of base height narrow cells boxes areas links = record {
+abbrev pub box_tree_of : Cell → ℕ → ℕ → List (ℕ × ℕ) → List CellBox → List CellBox → List (ℕ × ℕ) → TreeView
+box_tree_of base height narrow cells boxes areas links = record {
   base = base;
   narrow = narrow;
   places = record { levels = levels_below narrow height; codes = map code_at cells; boxes = boxes };
@@ -60,7 +60,7 @@ places_with height narrow codes boxes = record { levels = levels_below narrow he
 
 -- the square of the whole grid
 abbrev pub whole : TreeView → Square
-whole tree = square tree.places.levels 0
+whole tree = square_with tree.places.levels 0
 
 -- which square of the grid that is
 abbrev pub grid_node : TreeView → Node
@@ -71,16 +71,16 @@ abbrev pub levels_of : ℕ → NodeRef → List ℕ
 levels_of narrow ref = levels_below narrow ref.below
 
 -- the prefix of the Morton numbers of a node's cells
-abbrev pub prefix_of : NodeRef → ℕ
-prefix_of ref = code_at (ref.column, ref.row)
+abbrev pub node_prefix : NodeRef → ℕ
+node_prefix ref = code_at (ref.column, ref.row)
 
 -- the square of a node
 abbrev pub node_square : ℕ → NodeRef → Square
-node_square narrow ref = square (levels_of narrow ref) (prefix_of ref)
+node_square narrow ref = square_with (levels_of narrow ref) (node_prefix ref)
 
 -- which square of the grid that is
 abbrev pub node_at : NodeRef → Node
-node_at ref = node ref.level (prefix_of ref)
+node_at ref = node ref.level (node_prefix ref)
 
 -- the node is one of the tree's
 pub record IsNodeOf (tree : TreeView) (ref : NodeRef) : Type 0 where
@@ -88,14 +88,14 @@ pub record IsNodeOf (tree : TreeView) (ref : NodeRef) : Type 0 where
   pub deep : ref.level ≤ MAX_HEIGHT
   pub right : (ref.column + 1) * 2 ^ ref.level ≤ 2 ^ MAX_HEIGHT
   pub upper : (ref.row + 1) * 2 ^ ref.level ≤ 2 ^ MAX_HEIGHT
-  pub held : Held tree.places tree.nodes (levels_of tree.narrow ref) (prefix_of ref) ref.node
+  pub held : Held tree.places tree.nodes (levels_of tree.narrow ref) (node_prefix ref) ref.node
 
 -- columns and rows of the greatest grid
 abbrev pub AreCells : List (ℕ × ℕ) → Type 0
 AreCells cells = All (λ cell. (cell.0 < 2 ^ MAX_HEIGHT) × (cell.1 < 2 ^ MAX_HEIGHT)) cells
 
 -- what holds of every tree
-pub record IsTree (all : ℕ) (tree : TreeView) : Type 0 where
+pub record IsBoxTree (all : ℕ) (tree : TreeView) : Type 0 where
   pub grid : IsBase tree.base
   pub places_are : ArePlaces tree.places
   pub digits_are : digits tree.places.levels ≡ all

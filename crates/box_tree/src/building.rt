@@ -1,11 +1,11 @@
 ghost use Rattle.std.specs.Prelude.{◌≡◌, ℕ, suc, ◌+◌, ◌-◌, ◌*◌, ◌^◌, ◌<◌, ◌≤◌, ◌++◌, ◌∷◌, length};
 ghost use Rattle.std.specs.Prelude.{map, All, IfOk, OnOk, slice_index, ◌≤ℤ◌, ℤ};
-ghost use Rattle.box_tree.specs.Building.{child_task, BeginsWith, StandsFor, IsMade, IsMadeLink};
+ghost use Rattle.box_tree.specs.Building.{child_task, BeginsWith, IsTaskAt, IsMade, IsMadeLink};
 ghost use Rattle.box_tree.specs.Building.{IsPushed, IsSplitInto, IsTask, task_levels};
 ghost use Rattle.box_tree.specs.Boxes.{IsFrom};
 ghost use Rattle.track_types.specs.declared.cell.Cell.{Cell};
-ghost use Rattle.box_tree.specs.Kinds.{kind_of};
-ghost use Rattle.box_tree.specs.Levels.{children, digits, first_in};
+ghost use Rattle.box_tree.specs.Kinds.{link_kind};
+ghost use Rattle.box_tree.specs.Levels.{children, digits, square_start};
 ghost use Rattle.box_tree.specs.Places.{Ascends, box_at};
 ghost use Rattle.box_tree.specs.Tree.{levels_below};
 ghost use Rattle.track_types.specs.declared.limit.TheConstants.{MAX_HEIGHT};
@@ -35,7 +35,7 @@ pub fn begin(alloc: Global, codes: &[u64], height: u32, all: u32) -> Result<Vec<
     requires few { all ≤ MAX_HEIGHT }
     ensures tasks { IfOk result (λ tasks. (narrow : ℕ) → digits (levels_below narrow height) ≡ all
         → All (IsTask codes.now narrow) tasks.items) }
-    ensures first { IfOk result (λ tasks. 0 < length codes.now → StandsFor tasks.items height 0 0) }
+    ensures first { IfOk result (λ tasks. 0 < length codes.now → IsTaskAt tasks.items height 0 0) }
 {
     let mut tasks = Vec::new(alloc);
     if codes.len() == 0 {
@@ -154,7 +154,7 @@ fn link_of(
     requires is { IsTask codes.now narrow task }
     requires short { length codes.now < 2 ^ 31 }
     ensures ok { IfOk result (λ link.
-        IsMadeLink codes.now narrow task (kind_of link) tasks.old.items tasks.new.items) }
+        IsMadeLink codes.now narrow task (link_kind link) tasks.old.items tasks.new.items) }
 {
     if task.below == 0 || task.high - task.low <= BUCKET_LIMIT {
         return Ok((task.low, BUCKET + task.high));
@@ -188,8 +188,8 @@ fn split(codes: &[u64], width: u32, task: Task, tasks: &mut Vec<Task>) -> Result
     requires level { width ≤ task.level }
     requires deep { task.level ≤ MAX_HEIGHT }
     requires small { (task.prefix + 1) * 4 ^ task.level ≤ code_limit }
-    requires low { task.low ≡ first_in codes.now task.level task.prefix }
-    requires high { task.high ≡ first_in codes.now task.level (task.prefix + 1) }
+    requires low { task.low ≡ square_start codes.now task.level task.prefix }
+    requires high { task.high ≡ square_start codes.now task.level (task.prefix + 1) }
     ensures ok { IfOk result (λ mask.
         IsSplitInto codes.now width task mask tasks.old.items tasks.new.items) }
 {

@@ -1,5 +1,5 @@
 ghost use Rattle.std.specs.Prelude.{◌≡◌};
-ghost use Rattle.box_tree.specs.Kinds.{kind_of};
+ghost use Rattle.box_tree.specs.Kinds.{link_kind};
 
 /// What a node is: a bucket of the places from `low` on and before `high`, or a branch whose
 /// children stand one after another before `end`, one for each digit that the mask has.
@@ -17,7 +17,7 @@ pub(crate) const BUCKET: u32 = 1 << 31;
 
 // The kind that a link tells.
 pub(crate) fn kind_of(link: (u32, u32)) -> Kind
-    ensures { result ≡ kind_of link }
+    ensures { result ≡ link_kind link }
 {
     if link.1 < BUCKET {
         Kind::Branch {

@@ -3,10 +3,10 @@ ghost use Rattle.std.specs.Prelude.{reverse, IfNone, IfSome};
 ghost use Rattle.track_types.specs.declared.limit.TheConstants.{MAX_HEIGHT};
 ghost use Rattle.box_tree.specs.Boxes.{IsBase};
 ghost use Rattle.box_tree.specs.Cost.{link_reads};
-ghost use Rattle.box_tree.specs.Held.{digits_in};
+ghost use Rattle.box_tree.specs.Held.{mask_digits};
 ghost use Rattle.box_tree.specs.Tree.{IsNodeOf, levels_of, node_square, slots, whole};
 ghost use Rattle.box_tree.specs.Places.{ArePlaces};
-ghost use Rattle.box_tree.specs.Walk.{child_refs, IsOpened};
+ghost use Rattle.box_tree.specs.Walk.{child_refs, OpensSquare};
 
 use crate::grid_square::{digit_column, digit_row};
 use crate::kind::Kind;
@@ -27,13 +27,13 @@ pub(crate) struct NodeWalk<'a> {
 }
 
 impl<'a> Model for NodeWalk<'a> {
-    ghost use Rattle.box_tree.specs.Walk.{WalkView, walk_of, IsWalk};
+    ghost use Rattle.box_tree.specs.Walk.{NodeWalkView, node_walk_of, IsNodeWalk};
 
-    ghost Value = { WalkView };
+    ghost Value = { NodeWalkView };
 
-    ghost view = { λ w. walk_of w.tree.now w.stack.items w.low w.high };
+    ghost view = { λ w. node_walk_of w.tree.now w.stack.items w.low w.high };
 
-    ghost invariant = { λ w. IsWalk w.tree.now w.stack.items w.low w.high };
+    ghost invariant = { λ w. IsNodeWalk w.tree.now w.stack.items w.low w.high };
 }
 
 impl<'a> NodeWalk<'a> {
@@ -113,7 +113,7 @@ impl<'a> NodeWalk<'a> {
             ≤ slots self.old.tree.places.levels }
         requires done { self.old.high ≤ self.old.low }
         ensures tree { self.new.tree ≡ self.old.tree }
-        ensures opened { IsOpened self.old self.new (node_square self.old.tree.narrow taken) }
+        ensures opened { OpensSquare self.old self.new (node_square self.old.tree.narrow taken) }
         ensures cost { steps.new ≤ steps.old + link_reads }
     {
         match self.tree.kind(&taken, steps) {
@@ -143,10 +143,10 @@ pub(crate) fn push_children(
     requires right { (parent.now.column + 1) * 2 ^ width ≤ 2 ^ MAX_HEIGHT }
     requires upper { (parent.now.row + 1) * 2 ^ width ≤ 2 ^ MAX_HEIGHT }
     requires mask { mask < 2 ^ 16 }
-    requires stand { length (digits_in width mask) ≤ end }
-    requires room { length stack.old.items + length (digits_in width mask) ≤ SLOTS }
+    requires stand { length (mask_digits width mask) ≤ end }
+    requires room { length stack.old.items + length (mask_digits width mask) ≤ SLOTS }
     ensures { reverse stack.new.items
-        ≡ child_refs parent.now width (end - length (digits_in width mask)) (digits_in width mask)
+        ≡ child_refs parent.now width (end - length (mask_digits width mask)) (mask_digits width mask)
         ++ reverse stack.old.items }
 {
     let fan = fan_of(width);

@@ -10,9 +10,9 @@ ghost use Rattle.box_tree.specs.Walk.{IsGivenWay};
 ghost use Rattle.box_tree.specs.declared.kind.Kind.TheVariants.{Branch};
 ghost use Rattle.box_tree.specs.declared.node_ref.TheConstants.{SLOTS};
 ghost use Rattle.box_tree.specs.Tree.{AreLevels, IsNodeOf, child_limit, levels_below, levels_of};
-ghost use Rattle.box_tree.specs.Tree.{node_at, node_square, places_with, prefix_of, slots, whole};
+ghost use Rattle.box_tree.specs.Tree.{node_at, node_square, places_with, node_prefix, slots, whole};
 ghost use Rattle.box_tree.specs.Levels.{digits};
-ghost use Rattle.box_tree.specs.Places.{box_at, run_of, ArePlaces};
+ghost use Rattle.box_tree.specs.Places.{box_at, square_places, ArePlaces};
 ghost use Rattle.track_types.specs.declared.limit.TheConstants.{MAX_HEIGHT};
 
 use crate::boxes::Boxes;
@@ -49,14 +49,14 @@ pub struct BoxTree {
 }
 
 impl Model for BoxTree {
-    ghost use Rattle.box_tree.specs.Tree.{AreCells, IsTree, TreeView, tree_of};
+    ghost use Rattle.box_tree.specs.Tree.{AreCells, IsBoxTree, TreeView, box_tree_of};
 
     ghost Value = { TreeView };
 
-    ghost view = { λ t. tree_of t.base t.height t.narrow t.cells t.boxes t.areas t.links };
+    ghost view = { λ t. box_tree_of t.base t.height t.narrow t.cells t.boxes t.areas t.links };
 
     ghost invariant = { λ t. AreCells t.cells
-        × IsTree t.digits (tree_of t.base t.height t.narrow t.cells t.boxes t.areas t.links) };
+        × IsBoxTree t.digits (box_tree_of t.base t.height t.narrow t.cells t.boxes t.areas t.links) };
 }
 
 impl BoxTree {
@@ -134,7 +134,7 @@ impl BoxTree {
     pub fn area<L: Ledger>(&self, node: &NodeRef, steps: &mut Steps<L>) -> CellBox
         requires { IsNodeOf self.now node.now }
         ensures covers { All (λ place. IsBoxInside (box_at self.now.places.boxes place) result)
-            (run_of self.now.places (node_square self.now.narrow node.now)) }
+            (square_places self.now.places (node_square self.now.narrow node.now)) }
         ensures within { IsBoxWithin result }
         ensures cost { steps.new ≤ steps.old + box_reads }
     {
@@ -145,7 +145,7 @@ impl BoxTree {
     pub fn kind<L: Ledger>(&self, node: &NodeRef, steps: &mut Steps<L>) -> Kind
         requires { IsNodeOf self.now node.now }
         ensures kind { IsKindFor self.now.places self.now.nodes (levels_of self.now.narrow node.now)
-            (prefix_of node.now) result }
+            (node_prefix node.now) result }
         ensures cost { steps.new ≤ steps.old + link_reads }
     {
         kind_of(self.links.at(node.node as usize, steps))
@@ -183,7 +183,7 @@ impl BoxTree {
     )
         requires of { IsNodeOf self.now node.now }
         requires kind { IsKindFor self.now.places self.now.nodes
-            (levels_of self.now.narrow node.now) (prefix_of node.now) (Branch end mask) }
+            (levels_of self.now.narrow node.now) (node_prefix node.now) (Branch end mask) }
         requires room { length stack.old.items
             + child_limit (levels_of self.now.narrow node.now) ≤ SLOTS }
         ensures pushed { IsGivenWay self.now node.now (reverse stack.old.items)

@@ -5,7 +5,7 @@ ghost use Rattle.box_tree.specs.BoxWalk.{walked_tree};
 ghost use Rattle.box_tree.specs.Cost.{place_reads};
 ghost use Rattle.box_tree.specs.Boxes.{IsBase};
 ghost use Rattle.box_tree.specs.Levels.{digits};
-ghost use Rattle.box_tree.specs.Places.{passes, ArePlaces};
+ghost use Rattle.box_tree.specs.Places.{place_passes, ArePlaces};
 ghost use Rattle.track_types.specs.declared.limit.TheConstants.{MAX_HEIGHT};
 ghost use Rattle.box_tree.specs.Tests.{squares_at};
 ghost use Rattle.box_tree.specs.Tree.{grid_node, levels_of, node_square, slots, whole, IsNodeOf};
@@ -50,7 +50,7 @@ impl<'a, S: Search> BoxWalk<'a, S> {
     fn meets<L: Ledger>(&self, place: u32, steps: &mut Steps<L>) -> bool
         requires { place < length self.now.walk.tree.places.codes }
         ensures value { result
-            ≡ passes (asked S.squares S.boxes self.now) self.now.walk.tree.places place }
+            ≡ place_passes (asked S.squares S.boxes self.now) self.now.walk.tree.places place }
         ensures cost { steps.new ≤ steps.old + place_reads }
     {
         let tree = self.walk.tree();

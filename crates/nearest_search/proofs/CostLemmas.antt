@@ -9,12 +9,12 @@ use Rattle.list_laws.proofs.SumLemmas.{sum_by-each}
 use Rattle.track_types.specs.declared.cell_box.CellBox.{CellBox}
 use Rattle.k2_tree.specs.Areas.{area_at}
 use Rattle.k2_tree.specs.Squares.{Node, node}
-use Rattle.box_tree.specs.Cost.{place_reads, square_reads}
-use Rattle.box_tree.specs.Places.{all_places, cell_passes, place_worth, square_count}
+use Rattle.box_tree.specs.Cost.{place_reads, opened_square_reads}
+use Rattle.box_tree.specs.Places.{all_places, cell_passes, place_worth, held_square_count}
 use Rattle.box_tree.specs.Tree.{TreeView}
 use Rattle.rule_store.specs.View.{RulesView}
 use Rattle.snapshots.specs.Cost.{block_reads, record_reads}
-use Rattle.snapshots.specs.Cost.{square_reads as wide_reads}
+use Rattle.snapshots.specs.Cost.{square_reads}
 use Rattle.snapshots.specs.IndexCost.{seek_cost}
 use Rattle.snapshots.specs.Objects.{WeighSame}
 use Rattle.snapshots.specs.Parts.{rules_in, snapshot_in}
@@ -65,7 +65,7 @@ module _ (quest : Quest) (is : IsQuest quest) (count : ℕ) where
   -- squares and places that are near enough pay for those that were sought
   pub paid-by : (sought : List ℕ) → All (λ place. pass place ≡ true) sought
       → ((weight : ℕ → ℕ) → sum_by weight sought ≤ sum_by weight places)
-      → square_reads * square_count (near_squares quest count) tree.places
+      → opened_square_reads * held_square_count (near_squares quest count) tree.places
       + sum_by (place_worth (near_squares quest count) tree.places) places + sum_by (seek_reads_at quest) sought
       ≤ period_near_cost quest.parts count quest.number quest.instant quest.cell
   unfolding period_near_cost
@@ -74,11 +74,11 @@ module _ (quest : Quest) (is : IsQuest quest) (count : ℕ) where
       let log : ℕ → ℕ = λ place. seek_cost quest.parts (Some (block_kept quest.kept place)) in
       let reads : ℕ → ℕ = seek_reads_at quest in
       let squares = squares_pass view (snap quest is) (rules_in quest.parts) quest.kept is.kept enough (λ _. true) in
-      let wide = mul-le-mul_right (square_count (near_squares quest count) tree.places) (square_reads-le tt) in
+      let wide = mul-le-mul_right (held_square_count (near_squares quest count) tree.places) (square_reads-le tt) in
       omega (
         arith,
         wide,
-        ap (λ n. wide_reads * n) squares,
+        ap (λ n. square_reads * n) squares,
         fewer (λ place. if pass place then reads place else 0),
         sum-passing reads sought all,
         sum_by-filter reads pass places,
@@ -88,5 +88,5 @@ module _ (quest : Quest) (is : IsQuest quest) (count : ℕ) where
         near-blocks (near_cost quest.parts),
       )
     where
-      square_reads-le : Unit {0} → square_reads ≤ wide_reads
+      square_reads-le : Unit {0} → opened_square_reads ≤ square_reads
       square_reads-le any = omega arith

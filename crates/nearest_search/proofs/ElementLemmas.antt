@@ -22,9 +22,9 @@ use Rattle.k2_tree.specs.Areas.{area_at, IsBoxInside}
 use Rattle.k2_tree.specs.Squares.{node}
 use Rattle.box_tree.specs.Boxes.{IsBase}
 use Rattle.box_tree.specs.Levels.{digits}
-use Rattle.box_tree.specs.Places.{ArePassed, ArePlaces, box_at, passes, run_of}
+use Rattle.box_tree.specs.Places.{ArePassed, ArePlaces, box_at, place_passes, square_places}
 use Rattle.box_tree.specs.Tests.{AreMonotone, Tests, tests_at}
-use Rattle.box_tree.specs.Tree.{IsNodeOf, TreeView, levels_of, node_at, node_square, prefix_of}
+use Rattle.box_tree.specs.Tree.{IsNodeOf, TreeView, levels_of, node_at, node_square, node_prefix}
 use Rattle.box_tree.specs.declared.node_ref.NodeRef.{NodeRef}
 use Rattle.box_tree.proofs.MonotoneLemmas.{passed-areas}
 use Rattle.box_tree.proofs.NearerLemmas.{nearest-wider}
@@ -197,7 +197,7 @@ module _ (quest : Quest) (is : IsQuest quest) where
 
   module _ (ref : NodeRef) (of : IsNodeOf tree ref) where
     abbrev run : List ℕ
-    run = run_of tree.places (node_square tree.narrow ref)
+    run = square_places tree.places (node_square tree.narrow ref)
 
     abbrev square_of : CellBox
     square_of = area_at tree.base (node_at ref)
@@ -205,9 +205,9 @@ module _ (quest : Quest) (is : IsQuest quest) where
     -- the reach of a node's square is no farther than what is in it
     square-far : (place : ℕ) (near : Near) → Contains run place → near_at quest place ≡ Some near
         → box_dist2 quest.cell (widened short square_of) ≤ near.dist2
-    unfolding passes
+    unfolding place_passes
     square-far place near inside found =
-        let within = run-within tree.places.codes (digits (levels_of tree.narrow ref)) (prefix_of ref) place inside in
+        let within = run-within tree.places.codes (digits (levels_of tree.narrow ref)) (node_prefix ref) place inside in
         let far = near-far place near within found in
         let test : CellBox → Bool = λ a. nat_le (box_dist2 quest.cell (widened short a)) near.dist2 in
         let tests : Tests = tests_at tree.base test (λ _. true) in
@@ -225,12 +225,12 @@ module _ (quest : Quest) (is : IsQuest quest) where
           | inl holds ↦
               grind (arith, nat_tests, holds)
           | inr fails ↦
-              let none : filter (passes tests tree.places) run ≡ [] =
-              skipped-square tests passed tree.places (digits (levels_of tree.narrow ref)) (prefix_of ref)
+              let none : filter (place_passes tests tree.places) run ≡ [] =
+              skipped-square tests passed tree.places (digits (levels_of tree.narrow ref)) (node_prefix ref)
               (omega (arith, of.level, of.deep)) are-places
-              (ap (λ n. test (area_at tree.base (node n (prefix_of ref)))) of.level ∙ fails) in
+              (ap (λ n. test (area_at tree.base (node n (node_prefix ref)))) of.level ∙ fails) in
               no_member place (subst (λ xs. Contains xs place) none
-              (Contains-filter (passes tests tree.places) run place its_cell inside))
+              (Contains-filter (place_passes tests tree.places) run place its_cell inside))
         ]
 
     -- a node may wait by what is within reach of its square alone
@@ -282,7 +282,7 @@ module _ (quest : Quest) (is : IsQuest quest) where
 
     module _ (ref : NodeRef) (of : IsNodeOf tree ref) (at : square ≡ area_at tree.base (node_at ref)) where
       abbrev run_at : List ℕ
-      run_at = run_of tree.places (node_square tree.narrow ref)
+      run_at = square_places tree.places (node_square tree.narrow ref)
 
       -- a node waits
       pub node-element : All (λ place. IsBoxInside (box_at tree.places.boxes place) area) run_at
@@ -291,7 +291,7 @@ module _ (quest : Quest) (is : IsQuest quest) where
         of = of;
         near = All-weaker (Contains run_at) (λ p. IfSome (near_at quest p) (λ (near : Near). key ≤ near.dist2))
             (λ place inside. IfSome-from (λ near. key ≤ near.dist2) (near_at quest place) (λ near found.
-            let within = run-within tree.places.codes (digits (levels_of tree.narrow ref)) (prefix_of ref) place inside in
+            let within = run-within tree.places.codes (digits (levels_of tree.narrow ref)) (node_prefix ref) place inside in
             let far = near-far place near within found in
             let held = All-contains (λ p. IsBoxInside (box_at tree.places.boxes p) area) run_at place covers inside in
             let most = nearest-wider quest.cell (box_at tree.places.boxes place) area held in

@@ -13,8 +13,8 @@ use Rattle.k2_tree.specs.Squares.{Node}
 use Rattle.box_tree.specs.Cost.{box_reads, link_reads, place_reads}
 use Rattle.box_tree.specs.Held.{IsBucket, IsKindFor}
 use Rattle.box_tree.specs.Levels.{digits, run}
-use Rattle.box_tree.specs.Places.{run_of, square, square_worth}
-use Rattle.box_tree.specs.Tree.{IsNodeOf, TreeView, levels_of, node_at, node_square, prefix_of}
+use Rattle.box_tree.specs.Places.{square_places, square_with, square_worth}
+use Rattle.box_tree.specs.Tree.{IsNodeOf, TreeView, levels_of, node_at, node_square, node_prefix}
 use Rattle.box_tree.specs.Walk.{IsGivenWay, turns_in}
 use Rattle.box_tree.specs.declared.kind.Kind.TheVariants.{Bucket}
 use Rattle.box_tree.specs.declared.node_ref.NodeRef.{NodeRef}
@@ -26,7 +26,7 @@ use Rattle.nearest_search.specs.declared.waiting.Element.{Element}
 use Rattle.nearest_search.specs.declared.waiting.Waiting.{Waiting}
 use Rattle.nearest_search.specs.declared.waiting.Waiting.TheVariants.{Node as AtNode, Place as AtPlace}
 use Rattle.nearest_search.proofs.ElementLemmas.{are-places}
-use Rattle.box_tree.proofs.PlacesLemmas.{first_in-le}
+use Rattle.box_tree.proofs.PlacesLemmas.{square_start-le}
 
 -- how often places are counted is how many there are
 pub sum_by-ones : {X : Type 0} (xs : List X) → sum_by (λ _. 1) xs ≡ length xs
@@ -107,15 +107,15 @@ module _ (quest : Quest) where
   module _ (is : IsQuest quest) (ref : NodeRef) (of : IsNodeOf tree ref) (old new : List Element) where
     -- a bucket's places are those of its node
     module _ (low high : ℕ)
-        (kind : IsKindFor tree.places tree.nodes (levels_of tree.narrow ref) (prefix_of ref) (Bucket low high)) where
+        (kind : IsKindFor tree.places tree.nodes (levels_of tree.narrow ref) (node_prefix ref) (Bucket low high)) where
       abbrev range : List ℕ
       range = range_with_len low (high - low)
 
-      parts : IsBucket tree.places.codes (digits (levels_of tree.narrow ref)) (prefix_of ref) low high
+      parts : IsBucket tree.places.codes (digits (levels_of tree.narrow ref)) (node_prefix ref) low high
           × ((levels_of tree.narrow ref ≡ []) ⊎ (high ≤ low + 16))
-      parts = bucket-parts tree.places tree.nodes (levels_of tree.narrow ref) (prefix_of ref) low high kind
+      parts = bucket-parts tree.places tree.nodes (levels_of tree.narrow ref) (node_prefix ref) low high kind
 
-      bucket-run : run_of tree.places (node_square tree.narrow ref) ≡ range
+      bucket-run : square_places tree.places (node_square tree.narrow ref) ≡ range
       unfolding run
       bucket-run = rw (parts.0.low_is, parts.0.high_is) refl
 
@@ -124,24 +124,24 @@ module _ (quest : Quest) where
           omega (
             arith,
             parts.0.high_is,
-            first_in-le tree.places.codes (digits (levels_of tree.narrow ref)) (prefix_of ref + 1),
+            square_start-le tree.places.codes (digits (levels_of tree.narrow ref)) (node_prefix ref + 1),
           )
 
       -- a node that passes pays for its bucket
       pub bucket-pays : (test : Node → Bool) → test (node_at ref) ≡ true
           → place_reads * (high - low) + 3 ≤ square_worth test tree.places (node_square tree.narrow ref)
       bucket-pays test holds =
-          let passes = ap (λ n. test (record { level = n; prefix = prefix_of ref })) of.level ∙ holds in
+          let passes = ap (λ n. test (record { level = n; prefix = node_prefix ref })) of.level ∙ holds in
           elim parts.1 [
             | inr few ↦
-                square_worth-bucket test tree.places (levels_of tree.narrow ref) (prefix_of ref) low high passes few
+                square_worth-bucket test tree.places (levels_of tree.narrow ref) (node_prefix ref) low high passes few
             | inl cell ↦
-                subst (λ levels. test (record { level = digits levels; prefix = prefix_of ref }) ≡ true
-                → IsBucket tree.places.codes (digits levels) (prefix_of ref) low high
-                → place_reads * (high - low) + 3 ≤ square_worth test tree.places (square levels (prefix_of ref)))
+                subst (λ levels. test (record { level = digits levels; prefix = node_prefix ref }) ≡ true
+                → IsBucket tree.places.codes (digits levels) (node_prefix ref) low high
+                → place_reads * (high - low) + 3 ≤ square_worth test tree.places (square_with levels (node_prefix ref)))
                 (sym cell)
                 (λ holds its.
-                square_worth-cell test tree.places (prefix_of ref) low high (are-places quest is).ascend holds its)
+                square_worth-cell test tree.places (node_prefix ref) low high (are-places quest is).ascend holds its)
                 passes parts.0
           ]
 
@@ -157,7 +157,7 @@ module _ (quest : Quest) where
               ap (sum_by weight) bucket-run,
             );
         turns =
-            let own = squares_in-own (λ _. true) tree.places.codes (levels_of tree.narrow ref) (prefix_of ref) refl in
+            let own = squares_in-own (λ _. true) tree.places.codes (levels_of tree.narrow ref) (node_prefix ref) refl in
             omega (
               arith,
               its.sums (turns_left quest),
@@ -229,7 +229,7 @@ module _ (quest : Quest) where
       branch-opened its = record {
         each = its.each;
         places = λ weight.
-            let runs : NodeRef → List ℕ = λ child. run_of tree.places (node_square tree.narrow child) in
+            let runs : NodeRef → List ℕ = λ child. square_places tree.places (node_square tree.narrow child) in
             omega (
               arith,
               its.sums (λ w. sum_by weight (places_in quest w)),
@@ -239,7 +239,7 @@ module _ (quest : Quest) where
               sum_by-flat_map weight runs gave.children,
             );
         turns =
-            let runs : NodeRef → List ℕ = λ child. run_of tree.places (node_square tree.narrow child) in
+            let runs : NodeRef → List ℕ = λ child. square_places tree.places (node_square tree.narrow child) in
             let turns : NodeRef → ℕ = λ child. turns_in tree.places (node_square tree.narrow child) in
             omega (
               arith,

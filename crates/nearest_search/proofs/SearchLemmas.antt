@@ -15,10 +15,10 @@ use Rattle.list_laws.proofs.LeastLemmas.{take-insert_in_order}
 use Rattle.track_types.specs.ByFilter.{near_order, nears_of}
 use Rattle.track_types.specs.declared.near.Near.{Near}
 use Rattle.k2_tree.specs.Squares.{Node, node}
-use Rattle.box_tree.specs.Cost.{box_reads, square_reads}
+use Rattle.box_tree.specs.Cost.{box_reads, opened_square_reads}
 use Rattle.box_tree.specs.Levels.{digits, squares_in}
-use Rattle.box_tree.specs.Places.{Places, Square, all_places, cell_passes, place_worth, run_of, square_count, square_worth}
-use Rattle.box_tree.specs.Tree.{IsNodeOf, TreeView, levels_of, node_at, node_square, prefix_of, whole}
+use Rattle.box_tree.specs.Places.{Places, Square, all_places, cell_passes, place_worth, square_places, held_square_count, square_worth}
+use Rattle.box_tree.specs.Tree.{IsNodeOf, TreeView, levels_of, node_at, node_square, node_prefix, whole}
 use Rattle.box_tree.specs.declared.node_ref.NodeRef.{NodeRef}
 use Rattle.box_tree.proofs.NodeLemmas.{squares_in-own}
 use Rattle.snapshots.specs.Parts.{chart_in}
@@ -70,9 +70,9 @@ module _ (quest : Quest) (is : IsQuest quest) (count : ℕ) (some : 0 < count) w
   -- the node of the whole grid
   module _ (root : NodeRef) (of : IsNodeOf tree root) (grid : node_square tree.narrow root ≡ whole tree)
       (places_are : 0 < length tree.places.codes) where
-    run-root : run_of tree.places (node_square tree.narrow root) ≡ places
+    run-root : square_places tree.places (node_square tree.narrow root) ≡ places
     run-root =
-        ap (run_of tree.places) grid
+        ap (square_places tree.places) grid
         ∙ run-whole tree.places.codes (digits tree.places.levels) (are-places quest is).inside
 
     -- it is near enough
@@ -96,18 +96,18 @@ module _ (quest : Quest) (is : IsQuest quest) (count : ℕ) (some : 0 < count) w
 
     -- so squares pay for it
     root-paid : square_worth test tree.places (node_square tree.narrow root)
-        ≤ square_reads * square_count test tree.places + sum_by (place_worth test tree.places) places
-    unfolding square_worth square_count
+        ≤ opened_square_reads * held_square_count test tree.places + sum_by (place_worth test tree.places) places
+    unfolding square_worth held_square_count
     root-paid =
         let levels : digits (levels_of tree.narrow root) ≡ digits tree.places.levels =
         ap (λ (sq : Square). digits sq.levels) grid in
-        let prefix : prefix_of root ≡ 0 = ap (λ (sq : Square). sq.prefix) grid in
+        let prefix : node_prefix root ≡ 0 = ap (λ (sq : Square). sq.prefix) grid in
         let holds : test (node (digits tree.places.levels) 0) ≡ true =
         ap (λ n. test (node n 0)) (sym levels ∙ of.level) ∙ ap (λ q. test (node root.level q)) (sym prefix)
         ∙ root-enough in
         let own = squares_in-own test tree.places.codes tree.places.levels 0 holds in
         let held : nat_lt 0 (length tree.places.codes) ≡ true = grind (arith, nat_tests) in
-        let counted : square_count test tree.places ≡ squares_in test tree.places.codes tree.places.levels 0 = rw held refl in
+        let counted : held_square_count test tree.places ≡ squares_in test tree.places.codes tree.places.levels 0 = rw held refl in
         omega (
           arith,
           own,

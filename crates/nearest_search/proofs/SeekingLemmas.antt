@@ -20,7 +20,7 @@ use Rattle.track_types.specs.declared.row.Row.{Row}
 use Rattle.track_types.proofs.NearLemmas.{near_order_total}
 use Rattle.box_tree.specs.Places.{all_places}
 use Rattle.box_tree.specs.Levels.{digits}
-use Rattle.box_tree.specs.Tree.{TreeView, levels_of, prefix_of}
+use Rattle.box_tree.specs.Tree.{TreeView, levels_of, node_prefix}
 use Rattle.k2_tree.specs.Areas.{area_at}
 use Rattle.snapshots.specs.Objects.{WeighSame}
 use Rattle.snapshots.specs.Parts.{chart_in, rules_in, snapshot_in}
@@ -182,7 +182,7 @@ module _ (quest : Quest) (is : IsQuest quest) where
   known-in : (waiting : Waiting) → IsOfTree quest waiting
       → All (λ place. place < length tree.places.codes) (places_in quest waiting)
   known-in (AtNode ref) of = λ k d within.
-      run-within tree.places.codes (digits (levels_of tree.narrow ref)) (prefix_of ref)
+      run-within tree.places.codes (digits (levels_of tree.narrow ref)) (node_prefix ref)
       (get_or (places_in quest (AtNode ref)) k d) (All-contains_itself (places_in quest (AtNode ref)) k d within)
   known-in (AtPlace place) of =
       All-cons (λ p. p < length tree.places.codes) place [] of (All-nil (λ p. p < length tree.places.codes))

@@ -13,8 +13,8 @@ use Rattle.track_types.specs.declared.near.Near.{Near}
 use Rattle.track_types.specs.declared.parts.Parts.{Parts}
 use Rattle.k2_tree.specs.Areas.{area_at}
 use Rattle.k2_tree.specs.Squares.{Node, node}
-use Rattle.box_tree.specs.Cost.{box_reads, place_reads, square_reads}
-use Rattle.box_tree.specs.Places.{all_places, cell_passes, place_worth, run_of, square_count, square_worth}
+use Rattle.box_tree.specs.Cost.{box_reads, place_reads, opened_square_reads}
+use Rattle.box_tree.specs.Places.{all_places, cell_passes, place_worth, square_places, held_square_count, square_worth}
 use Rattle.box_tree.specs.Tests.{squares_at}
 use Rattle.box_tree.specs.Tree.{IsNodeOf, TreeView, node_at, node_square}
 use Rattle.box_tree.specs.Walk.{turns_in}
@@ -83,7 +83,7 @@ module _ (quest : Quest) where
 
   -- the places of what waits: those below a node, or the one
   abbrev pub places_in : Waiting → List ℕ
-  places_in (AtNode ref) = run_of tree_of.places (node_square tree_of.narrow ref)
+  places_in (AtNode ref) = square_places tree_of.places (node_square tree_of.narrow ref)
   places_in (AtPlace place) = place ∷ []
 
   -- its square: a node's, or the cell of a place
@@ -104,7 +104,7 @@ module _ (quest : Quest) where
   -- how often something may be taken that comes of it
   abbrev pub turns_left : Waiting → ℕ
   turns_left (AtNode ref) = turns_in tree_of.places (node_square tree_of.narrow ref)
-      + length (run_of tree_of.places (node_square tree_of.narrow ref))
+      + length (square_places tree_of.places (node_square tree_of.narrow ref))
   turns_left (AtPlace place) = 1
 
   -- an element waits at no more than the squared distance of each object in it, and at no less than that of the reach of
@@ -160,6 +160,6 @@ module _ (quest : Quest) where
         ≡ sum_by weight (all_places tree_of.places)
     pub enough : All (λ place. cell_passes (near_squares count) tree_of.places place ≡ true) sought
     pub cost : steps + sum_waiting (worth_left (near_squares count)) elements ≤ before
-        + (square_reads * square_count (near_squares count) tree_of.places
+        + (opened_square_reads * held_square_count (near_squares count) tree_of.places
         + sum_by (place_worth (near_squares count) tree_of.places) (all_places tree_of.places))
         + sum_by seek_reads_at sought

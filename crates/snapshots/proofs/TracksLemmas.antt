@@ -19,11 +19,11 @@ use Rattle.k2_tree.specs.Pruning.{square_count}
 use Rattle.k2_tree.specs.Squares.{node}
 use Rattle.k2_tree.proofs.MortonLemmas.{cell_of-morton_of, highest, morton_of-lt}
 use Rattle.box_tree.specs.BoxWalk.{found_places, search_reads}
-use Rattle.box_tree.specs.Cost.{square_reads as opened_square_reads}
-use Rattle.box_tree.specs.Places.{Places, all_places, box_at, cell_passes, no_box, passes}
-use Rattle.box_tree.specs.Places.{square_count as held_square_count}
+use Rattle.box_tree.specs.Cost.{opened_square_reads}
+use Rattle.box_tree.specs.Places.{Places, all_places, box_at, cell_passes, no_box, place_passes}
+use Rattle.box_tree.specs.Places.{held_square_count}
 use Rattle.box_tree.specs.Tests.{squares_at, tests_at}
-use Rattle.box_tree.proofs.BridgeLemmas.{square_count-tree}
+use Rattle.box_tree.proofs.BridgeLemmas.{held_square_count-tree}
 use Rattle.box_tree.proofs.CostLemmas.{search-pays}
 use Rattle.rule_store.specs.View.{RulesView}
 use Rattle.snapshots.specs.Cost.{block_reads, record_reads, square_reads}
@@ -128,9 +128,9 @@ module _ (view : SnapshotView) (is : IsSnapshot view) (rules : RulesView) (kept 
     -- the places that are found are those of the blocks that may hold what is sought
     pub found-blocks : map (block_kept kept) (found_places squares boxes kept.tree)
         ≡ filter (may_hold squares boxes rules) (blocks_by_leaf view)
-    unfolding passes
+    unfolding place_passes
     found-blocks =
-        tested (passes (tests_at kept.tree.base squares boxes) kept.tree.places) (may_hold squares boxes rules)
+        tested (place_passes (tests_at kept.tree.base squares boxes) kept.tree.places) (may_hold squares boxes rules)
         (λ k block at.
         ap (λ b. boxes b && squares (area_at kept.tree.base (node 0 (slice_index kept.tree.places.codes k)))) at.box
         ∙ ap (λ a. boxes (track_box rules block) && squares a) at.area
@@ -153,7 +153,7 @@ module _ (view : SnapshotView) (is : IsSnapshot view) (rules : RulesView) (kept 
     squares_pass =
         ap (λ b. held_square_count (squares_at b squares) kept.tree.places) are.base
         ∙ ap (held_square_count (squares_at view.frame.base squares)) are.places
-        ∙ square_count-tree (tree_in view) is.sound.tree.is_tree squares
+        ∙ held_square_count-tree (tree_in view) is.sound.tree.is_tree squares
         (map (code_of view.frame) (blocks_by_leaf view))
         (map (track_box rules) (blocks_by_leaf view)) (same_codes view is)
 

@@ -1,14 +1,14 @@
 use Rattle.std.proofs.Common.{◌≡◌, ℕ, ◌+◌, ◌<◌, List, [], ◌∷◌, ◌++◌, length, drop, All, arith, sym, ap, ◌∙◌}
 use Rattle.std.proofs.Common.{subst, get_or, length-append}
 use Rattle.k2_tree.specs.Areas.{IsBoxInside}
-use Rattle.box_tree.specs.Building.{IsMaking, IsTask, turns_left}
-use Rattle.box_tree.specs.Kinds.{kind_of}
+use Rattle.box_tree.specs.Building.{IsMaking, IsTask, task_squares}
+use Rattle.box_tree.specs.Kinds.{link_kind}
 use Rattle.box_tree.specs.Places.{box_at}
 use Rattle.box_tree.specs.declared.task.Task.{Task}
 use Rattle.box_tree.proofs.MakingLemmas.{is-task, making-next, read-task, task-run, turns-next}
 use Rattle.box_tree.proofs.building.make.Goals as goal
 use Rattle.box_tree.proofs.building.make.Goals.{After-index-task}
-use Rattle.box_tree.proofs.PlacesLemmas.{first_in-le}
+use Rattle.box_tree.proofs.PlacesLemmas.{square_start-le}
 
 -- the task is the next one
 place : (c : After-index-task) → c.len-in-loop-tasks-2.result ≡ length c.loop-tasks.links.items
@@ -30,7 +30,7 @@ pub round-requires-clause-within : goal.round-requires-clause-within
 round-requires-clause-within c =
     let task : Task = c.index-task.result.now in
     let is = its (goal.at.round-requires-clause-within c).After-index-task in
-    let most = first_in-le c.args.codes.now task.level (task.prefix + 1) in
+    let most = square_start-le c.args.codes.now task.level (task.prefix + 1) in
     omega (arith, is.places.high_is, most, c.requires.same)
 
 pub round-requires-clause-some : goal.round-requires-clause-some
@@ -66,7 +66,7 @@ loop-tasks-smaller c =
     let long : length c.push-in-loop-tasks.new.self.items ≡ length l.links.items + 1 =
     ap length c.in_ok-push-2.ensures.items ∙ length-append l.links.items (c.in_ok-link.link ∷ []) in
     let fewer = turns-next codes c.args.narrow task
-    (kind_of c.in_ok-link.link) l.tasks.items c.link_of.new.tasks.items (length l.links.items) (its at)
+    (link_kind c.in_ok-link.link) l.tasks.items c.link_of.new.tasks.items (length l.links.items) (its at)
     (read-task l.tasks.items (length l.links.items) task (next at) (before at)) c.in_ok-link.ensures.ok in
-    subst (λ k. turns_left codes c.args.narrow (drop k c.link_of.new.tasks.items) < turns_left codes c.args.narrow
+    subst (λ k. task_squares codes c.args.narrow (drop k c.link_of.new.tasks.items) < task_squares codes c.args.narrow
     (drop (length l.links.items) l.tasks.items)) (sym long) fewer

@@ -4,7 +4,7 @@ use Rattle.std.proofs.Math.Nat.{mul_comm}
 use Rattle.std.proofs.lemmas.List.{reverse-append}
 use Rattle.track_types.specs.declared.limit.TheConstants.{MAX_HEIGHT}
 use Rattle.k2_tree.specs.Morton.{morton_column, morton_row}
-use Rattle.box_tree.specs.Held.{digits_in}
+use Rattle.box_tree.specs.Held.{mask_digits}
 use Rattle.box_tree.specs.Walk.{child_refs}
 use Rattle.box_tree.specs.declared.node_ref.NodeRef.{NodeRef}
 use Rattle.box_tree.proofs.DigitsLemmas.{digits_from, digits_from-clear, digits_from-end, digits_from-few}
@@ -29,7 +29,7 @@ cut width mask digit some low set =
     digits_from-set width mask (digit - 1) (omega arith) set ∙ ap (λ d. (digit - 1) ∷ digits_from width mask d) back
 
 few : (width mask digit : ℕ) → 0 < digit → digit ≤ 4 ^ width → mask / 2 ^ (digit - 1) % 2 ≡ 1
-    → length (digits_from width mask digit) + 1 ≤ length (digits_in width mask)
+    → length (digits_from width mask digit) + 1 ≤ length (mask_digits width mask)
 few width mask digit some low set =
     let most = digits_from-few width mask (digit - 1) (omega arith) in
     omega (arith, ap length (cut width mask digit some low set), most)
@@ -111,11 +111,11 @@ pub returns : goal.returns
 returns c =
     let l = c.loop-digit in
     let end : l.digit ≡ 0 = omega arith in
-    let all : digits_from c.args.width c.args.mask l.digit ≡ digits_in c.args.width c.args.mask =
+    let all : digits_from c.args.width c.args.mask l.digit ≡ mask_digits c.args.width c.args.mask =
     ap (digits_from c.args.width c.args.mask) end ∙ digits_from-zero c.args.width c.args.mask in
-    let number : l.number ≡ c.args.end - length (digits_in c.args.width c.args.mask) =
+    let number : l.number ≡ c.args.end - length (mask_digits c.args.width c.args.mask) =
     omega (arith, l.invariant.left, ap length all) in
     l.invariant.here ∙ ap
     (λ ds. child_refs c.args.parent.now c.args.width l.number ds ++ reverse c.args.stack.now.items) all
     ∙ ap (λ n. child_refs c.args.parent.now c.args.width n
-    (digits_in c.args.width c.args.mask) ++ reverse c.args.stack.now.items) number
+    (mask_digits c.args.width c.args.mask) ++ reverse c.args.stack.now.items) number

@@ -1,8 +1,8 @@
 use Rattle.std.proofs.Common.{◌≡◌, slice_get, sym, ap, ◌∙◌, subst}
 use Rattle.std.proofs.lemmas.Option.{same_Some}
 use Rattle.box_tree.specs.Held.{IsKindFor}
-use Rattle.box_tree.specs.Kinds.{kind_of}
-use Rattle.box_tree.specs.Tree.{levels_of, prefix_of, TreeView}
+use Rattle.box_tree.specs.Kinds.{link_kind}
+use Rattle.box_tree.specs.Tree.{levels_of, node_prefix, TreeView}
 use Rattle.box_tree.proofs.tree.BoxTree.kind.Goals as goal
 
 pub returns-clause-kind : goal.returns-clause-kind
@@ -13,5 +13,5 @@ returns-clause-kind g c =
     same_Some held.link c.at.result
     (sym held.link_is ∙ ap (λ (t : TreeView). slice_get t.nodes.links c.args.node.now.node) (sym c.self.view_is)
     ∙ c.at.ensures.value) in
-    subst (IsKindFor tree.places tree.nodes (levels_of tree.narrow c.args.node.now) (prefix_of c.args.node.now))
-    (ap kind_of same ∙ sym c.kind_of.ensures) held.kind
+    subst (IsKindFor tree.places tree.nodes (levels_of tree.narrow c.args.node.now) (node_prefix c.args.node.now))
+    (ap link_kind same ∙ sym c.kind_of.ensures) held.kind

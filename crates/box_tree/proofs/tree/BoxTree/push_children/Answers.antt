@@ -1,10 +1,10 @@
 use Rattle.std.proofs.Common.{◌-◌, ◌≤◌, arith, subst, ap, reverse}
 use Rattle.box_tree.specs.Held.{Held, IsBranch, IsKindFor}
 use Rattle.box_tree.specs.Levels.{digits}
-use Rattle.box_tree.specs.Tree.{TreeView, child_limit, levels_below, prefix_of}
+use Rattle.box_tree.specs.Tree.{TreeView, child_limit, levels_below, node_prefix}
 use Rattle.box_tree.specs.declared.kind.Kind.TheVariants.{Branch}
 use Rattle.box_tree.proofs.SquareLemmas.{child-fits}
-use Rattle.box_tree.proofs.WalkLemmas.{branch-parts, branch-some, given-way, length-digits_in}
+use Rattle.box_tree.proofs.WalkLemmas.{branch-parts, branch-some, given-way, length-mask_digits}
 use Rattle.box_tree.proofs.tree.BoxTree.push_children.Goals as goal
 use Rattle.box_tree.proofs.tree.BoxTree.push_children.Goals.{After-width-width}
 
@@ -12,19 +12,19 @@ pub width-width-requires : goal.width-width-requires
 width-width-requires c =
     let tree : TreeView = c.args.self.now in
     branch-some tree.places tree.nodes tree.narrow c.args.node.now.below
-    (prefix_of c.args.node.now) c.args.end c.args.mask c.requires.kind
+    (node_prefix c.args.node.now) c.args.end c.args.mask c.requires.kind
 
 branch : (c : After-width-width) → IsBranch c.args.self.now.places.codes
     (digits (levels_below c.args.self.now.narrow (c.args.node.now.below - 1))) c.width-width.result
-    (prefix_of c.args.node.now) c.args.end c.args.mask
+    (node_prefix c.args.node.now) c.args.end c.args.mask
     (Held c.args.self.now.places c.args.self.now.nodes
     (levels_below c.args.self.now.narrow (c.args.node.now.below - 1)))
 branch c =
     let tree : TreeView = c.args.self.now in
     let node = c.args.node.now in
     branch-parts tree.places tree.nodes c.width-width.result (levels_below tree.narrow (node.below - 1))
-    (prefix_of node) c.args.end c.args.mask
-    (subst (λ ls. IsKindFor tree.places tree.nodes ls (prefix_of node)
+    (node_prefix node) c.args.end c.args.mask
+    (subst (λ ls. IsKindFor tree.places tree.nodes ls (node_prefix node)
     (Branch c.args.end c.args.mask)) c.width-width.ensures.value c.requires.kind)
 
 -- the level is one of the node's
@@ -57,7 +57,7 @@ pub push_children-requires-clause-room : goal.push_children-requires-clause-room
 push_children-requires-clause-room c =
     omega (
       arith,
-      length-digits_in c.width-width.result c.args.mask,
+      length-mask_digits c.width-width.result c.args.mask,
       ap child_limit c.width-width.ensures.value,
       c.requires.room,
     )
@@ -71,6 +71,6 @@ returns c =
       pushed = given-way tree node c.width-width.result c.requires.of w.value w.some w.few c.args.end c.args.mask
           (reverse c.args.stack.now.items) (reverse c.push_children.new.stack.items)
           (branch-some tree.places tree.nodes tree.narrow node.below
-          (prefix_of node) c.args.end c.args.mask c.requires.kind)
+          (node_prefix node) c.args.end c.args.mask c.requires.kind)
           (branch (goal.at.returns c).After-width-width) c.push_children.ensures;
     }

@@ -2,12 +2,12 @@ use Rattle.std.proofs.Common.{◌≡◌, true, false, refl, sym, ap, ◌∙◌}
 use Rattle.std.specs.Prelude.{slice_index}
 use Rattle.k2_tree.specs.Areas.{area_at}
 use Rattle.k2_tree.specs.Squares.{node}
-use Rattle.box_tree.specs.Places.{box_at, passes}
+use Rattle.box_tree.specs.Places.{box_at, place_passes}
 use Rattle.box_tree.specs.Tree.{TreeView}
 use Rattle.box_tree.proofs.walk.BoxWalk.meets.Goals as goal
 
 pub returns-then-not-meets_box-clause-value : goal.returns-then-not-meets_box-clause-value
-unfolding passes
+unfolding place_passes
 returns-then-not-meets_box-clause-value g c =
     let walk = c.args.self.now in
     let boxes = g.S.Search.boxes walk.search in
@@ -18,7 +18,7 @@ returns-then-not-meets_box-clause-value g c =
     rw its refl
 
 pub returns-clause-value : goal.returns-clause-value
-unfolding passes
+unfolding place_passes
 returns-clause-value g c =
     let walk = c.args.self.now in
     let boxes = g.S.Search.boxes walk.search in

@@ -2,7 +2,7 @@ use Rattle.std.proofs.Common.{◌≤◌, ap, subst, sym, ◌∙◌}
 use Rattle.box_tree.specs.BoxWalk.{search_reads}
 use Rattle.box_tree.specs.Tests.{squares_at, tests_at}
 use Rattle.box_tree.specs.Tree.{TreeView}
-use Rattle.box_tree.specs.Walk.{walk_left, walk_reads}
+use Rattle.box_tree.specs.Walk.{places_left, walk_reads}
 use Rattle.box_tree.proofs.BeginLemmas.{IsBegun, begun}
 use Rattle.box_tree.proofs.MonotoneLemmas.{passed-areas}
 use Rattle.box_tree.proofs.walk.BoxWalk.new.Goals as goal
@@ -26,7 +26,7 @@ pub returns-clause-left : goal.returns-clause-left
 returns-clause-left g c =
     let S = g.S.Search in
     let search = c.args.search in
-    ap (λ (t : TreeView). walk_left
+    ap (λ (t : TreeView). places_left
     (tests_at t.base (S.squares search) (S.boxes search)) c.new.result) c.new.ensures.tree
     ∙ (at_first g (goal.at.returns-clause-left g c).After-new).left
 

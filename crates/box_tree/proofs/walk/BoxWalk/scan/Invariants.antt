@@ -1,14 +1,14 @@
 use Rattle.std.proofs.Common.{◌≡◌, ℕ, ◌+◌, ◌-◌, ◌≤◌}
 use Rattle.box_tree.specs.BoxWalk.{asked}
 use Rattle.box_tree.specs.Tests.{Tests}
-use Rattle.box_tree.specs.Walk.{WalkView, walk_left, walk_reads}
+use Rattle.box_tree.specs.Walk.{NodeWalkView, places_left, walk_reads}
 use Rattle.box_tree.proofs.walk.BoxWalk.scan.Given as goal
 
 -- places of the bucket that do not pass were passed over
-pub record IsScanning (tests : Tests) (old now : WalkView) (begun steps : ℕ) : Type 0 where
+pub record IsScanning (tests : Tests) (old now : NodeWalkView) (begun steps : ℕ) : Type 0 where
   pub tree : now.tree ≡ old.tree
   pub pending : now.pending ≡ old.pending
-  pub left : walk_left tests old ≡ walk_left tests now
+  pub left : places_left tests old ≡ places_left tests now
   pub reads : steps + walk_reads tests.square now ≤ begun + walk_reads tests.square old
 
 abbrev pub invariant-loop-place : goal.invariant-loop-place

@@ -3,9 +3,9 @@ use Rattle.k2_tree.specs.Areas.{area_at, IsBoxInside}
 use Rattle.k2_tree.specs.Squares.{node}
 use Rattle.box_tree.specs.BoxWalk.{asked}
 use Rattle.box_tree.specs.Levels.{digits}
-use Rattle.box_tree.specs.Places.{ArePassed, Square, box_at, run_of}
+use Rattle.box_tree.specs.Places.{ArePassed, Square, box_at, square_places}
 use Rattle.box_tree.specs.Tests.{Tests}
-use Rattle.box_tree.specs.Tree.{TreeView, levels_of, node_at, node_square, prefix_of}
+use Rattle.box_tree.specs.Tree.{TreeView, levels_of, node_at, node_square, node_prefix}
 use Rattle.box_tree.proofs.MonotoneLemmas.{passed-areas}
 use Rattle.box_tree.proofs.NodeLemmas.{skipped-box, skipped-square}
 use Rattle.box_tree.proofs.VisitLemmas.{skipped}
@@ -24,12 +24,12 @@ mono g c =
 -- what the test of its square is
 told : (g : Over) (c : After-square-square g)
     → (asked g.S.Search.squares g.S.Search.boxes c.args.self.now).square
-    (node (digits (levels_of c.args.self.now.walk.tree.narrow c.args.taken)) (prefix_of c.args.taken))
+    (node (digits (levels_of c.args.self.now.walk.tree.narrow c.args.taken)) (node_prefix c.args.taken))
     ≡ g.S.Search.squares c.args.self.now.search c.square-square.result
 told g c =
     let squares = g.S.Search.squares c.args.self.now.search in
     let tree : TreeView = c.args.self.now.walk.tree in
-    ap (λ n. squares (area_at tree.base (node n (prefix_of c.args.taken)))) c.requires.of.level
+    ap (λ n. squares (area_at tree.base (node n (node_prefix c.args.taken)))) c.requires.of.level
     ∙ ap squares (ap (λ (t : TreeView). area_at t.base (node_at c.args.taken)) (sym c.tree-tree.ensures.value)
     ∙ sym c.square-square.ensures.value)
 
@@ -39,10 +39,10 @@ returns-then-not-meets_box-clause-visited g c =
     let tree : TreeView = c.args.self.now.walk.tree in
     let square : Square = node_square tree.narrow c.args.taken in
     let covers = subst (λ (t : TreeView). All (λ place. IsBoxInside (box_at t.places.boxes place) c.area-area.result)
-    (run_of t.places (node_square t.narrow c.args.taken))) c.tree-tree.ensures.value c.area-area.ensures.covers in
+    (square_places t.places (node_square t.narrow c.args.taken))) c.tree-tree.ensures.value c.area-area.ensures.covers in
     skipped tests c.args.self.now.walk square c.args.steps.now c.area-area.new.steps
     (skipped-box tests (mono g (goal.at.returns-then-not-meets_box-clause-visited g c).After-tree-tree) tree.places
-    (run_of tree.places square)
+    (square_places tree.places square)
     c.area-area.result covers (sym c.meets_box.ensures ∙ c.if-not-meets_box.true))
     (omega (arith, c.area-area.ensures.cost))
 
