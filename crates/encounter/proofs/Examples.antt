@@ -5,7 +5,7 @@ use Rattle.rule_store.specs.Log.{block_stops, log_values, stops_after, stops_fro
 use Rattle.rule_store.specs.Boxes.{box_round}
 use Rattle.rule_store.specs.Expansion.{expansion_of, values_of}
 use Rattle.rule_store.specs.Nodes.{nodes_in, parsed}
-use Rattle.list_laws.specs.Grown.{grown}
+use Rattle.list_laws.specs.Grown.{table_of_rules}
 use Rattle.spiral_code.specs.Spiral.{move_of}
 use Rattle.rule_store.specs.Cells.{cell_at, cells_along, displacement_of}
 use Rattle.log_cursor.specs.Start.{start_at}
@@ -29,29 +29,29 @@ standing = tree_of grammar (start_at (pos 10) (cell_at (pos 9) (pos 5))) (0 ∷ 
 
 -- the rule is close to the other's anchor, or to its terminals, which are no rules
 by_anchor : close_count (pos 0) (pos 20) 0 moving (alone 6) ≡ 1
-unfolding close_count count_with spans_in nodes_in parsed grown block_stops stops_after log_values values_of expansion_of
+unfolding close_count count_with spans_in nodes_in parsed table_of_rules block_stops stops_after log_values values_of expansion_of
     cells_along displacement_of stops_from move_of box_round
 by_anchor = refl
 
 by_terminals : close_count (pos 0) (pos 20) 2 moving standing ≡ 1
-unfolding close_count count_with spans_in nodes_in parsed grown block_stops stops_after log_values values_of expansion_of
+unfolding close_count count_with spans_in nodes_in parsed table_of_rules block_stops stops_after log_values values_of expansion_of
     cells_along displacement_of stops_from move_of box_round
 by_terminals = refl
 
 -- it is too far, or its instants miss the window
 by_none : close_count (pos 0) (pos 20) 1 moving standing ≡ 0
-unfolding close_count count_with spans_in nodes_in parsed grown block_stops stops_after log_values values_of expansion_of
+unfolding close_count count_with spans_in nodes_in parsed table_of_rules block_stops stops_after log_values values_of expansion_of
     cells_along displacement_of stops_from move_of box_round
 by_none = refl
 
 by_window : close_count (pos 13) (pos 20) 2 moving standing ≡ 0
-unfolding close_count count_with spans_in nodes_in parsed grown block_stops stops_after log_values values_of expansion_of
+unfolding close_count count_with spans_in nodes_in parsed table_of_rules block_stops stops_after log_values values_of expansion_of
     cells_along displacement_of stops_from move_of box_round
 by_window = refl
 
 -- a block with itself counts twice
 by_itself : close_count (pos 0) (pos 20) 0 moving moving ≡ 2
-unfolding close_count count_with spans_in nodes_in parsed grown block_stops stops_after log_values values_of expansion_of
+unfolding close_count count_with spans_in nodes_in parsed table_of_rules block_stops stops_after log_values values_of expansion_of
     cells_along displacement_of stops_from move_of box_round
 by_itself = refl
 
@@ -67,7 +67,7 @@ abbrev stepping : Tree
 stepping = tree_of absences (start_at (pos 10) (cell_at (pos 0) (pos 0))) (2 ∷ [])
 
 by_one_terminal : close_count (pos 0) (pos 20) 1 stepping pausing ≡ 1
-unfolding close_count count_with spans_in nodes_in parsed grown block_stops stops_after log_values values_of expansion_of
+unfolding close_count count_with spans_in nodes_in parsed table_of_rules block_stops stops_after log_values values_of expansion_of
     cells_along displacement_of stops_from move_of box_round
 by_one_terminal = refl
 
@@ -76,7 +76,7 @@ abbrev late : Tree
 late = tree_of absences (start_at (pos 11) (cell_at (pos 2) (pos 0))) []
 
 by_one_anchor : close_count (pos 0) (pos 20) 0 pausing late ≡ 1
-unfolding close_count count_with spans_in nodes_in parsed grown block_stops stops_after log_values values_of expansion_of
+unfolding close_count count_with spans_in nodes_in parsed table_of_rules block_stops stops_after log_values values_of expansion_of
     cells_along displacement_of stops_from move_of box_round
 by_one_anchor = refl
 

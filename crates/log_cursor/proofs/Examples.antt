@@ -8,7 +8,7 @@ use Rattle.rule_store.specs.Cells.{cell_at, cells_along, displacement_of}
 use Rattle.rule_store.specs.Log.{block_stops, in_window, log_values, stop_at, stops_after, stops_from}
 use Rattle.rule_store.specs.Boxes.{bounding_box_of, box_round}
 use Rattle.rule_store.specs.Nodes.{block_budget, nodes_in, opened_count, parsed}
-use Rattle.list_laws.specs.Grown.{grown}
+use Rattle.list_laws.specs.Grown.{table_of_rules}
 use Rattle.spiral_code.specs.Spiral.{move_of}
 use Rattle.log_cursor.specs.Seek.{cell_among}
 use Rattle.log_cursor.specs.Start.{start_at}
@@ -25,23 +25,23 @@ abbrev log : List ℕ
 log = 3 ∷ 1 ∷ []
 
 moves_on : cell_among (block_stops four (pos 10) (cell_at (pos 5) (pos 5)) log) (pos 13) ≡ Some (cell_at (pos 7) (pos 5))
-unfolding cell_among block_stops stops_after log_values values_of expansion_of grown cells_along stops_from move_of
+unfolding cell_among block_stops stops_after log_values values_of expansion_of table_of_rules cells_along stops_from move_of
 moves_on = refl
 
 is_absent : cell_among (block_stops four (pos 10) (cell_at (pos 5) (pos 5)) log) (pos 14) ≡ None
-unfolding cell_among block_stops stops_after log_values values_of expansion_of grown cells_along stops_from move_of
+unfolding cell_among block_stops stops_after log_values values_of expansion_of table_of_rules cells_along stops_from move_of
 is_absent = refl
 
 -- rule 3 and its second part meet the window
 windowed : begun four log (start_at (pos 10) (cell_at (pos 5) (pos 5))) (pos 13) (pos 14)
     ≡ record { rules = four; stops = stop_at (pos 13) (cell_at (pos 7) (pos 5)) ∷ []; reads = 4 }
-unfolding in_window block_stops stops_after log_values values_of expansion_of grown cells_along stops_from move_of
+unfolding in_window block_stops stops_after log_values values_of expansion_of table_of_rules cells_along stops_from move_of
     block_budget opened_count nodes_in parsed bounding_box_of box_round
 windowed = refl
 
 -- a window that ends before it begins
 backwards : begun four log (start_at (pos 10) (cell_at (pos 5) (pos 5))) (pos 14) (pos 13) ≡ at_rest four
-unfolding in_window block_stops stops_after log_values values_of expansion_of grown cells_along stops_from move_of
+unfolding in_window block_stops stops_after log_values values_of expansion_of table_of_rules cells_along stops_from move_of
     block_budget
 backwards = refl
 
@@ -53,21 +53,21 @@ abbrev one_cell : Region
 one_cell = Rect (pos 7) (pos 5) (pos 7) (pos 5)
 
 hits : first_hit_of four log anchor (pos 10) (pos 20) one_cell ≡ Some (stop_at (pos 13) (cell_at (pos 7) (pos 5)))
-unfolding first_hit_of in_window block_stops stops_after log_values values_of expansion_of grown cells_along stops_from
+unfolding first_hit_of in_window block_stops stops_after log_values values_of expansion_of table_of_rules cells_along stops_from
     move_of
 hits = refl
 
 -- rule 3 and its second part have the cell in their placed boxes
 touches : touching_count four anchor log (pos 10) (pos 20) one_cell ≡ 2
-unfolding touching_count nodes_in parsed grown bounding_box_of box_round cells_along displacement_of move_of
+unfolding touching_count nodes_in parsed table_of_rules bounding_box_of box_round cells_along displacement_of move_of
 touches = refl
 
 -- of these only rule 3 begins by instant 12
 touches_in_time : touching_count four anchor log (pos 10) (pos 12) one_cell ≡ 1
-unfolding touching_count nodes_in parsed grown bounding_box_of box_round cells_along displacement_of move_of
+unfolding touching_count nodes_in parsed table_of_rules bounding_box_of box_round cells_along displacement_of move_of
 touches_in_time = refl
 
 -- the last movement, which is in no rule, leads to the disc
 needs_no_rule : touching_count four anchor log (pos 10) (pos 20) (Disc (pos 8) (pos 5) 0) ≡ 0
-unfolding touching_count nodes_in parsed grown bounding_box_of box_round cells_along displacement_of move_of
+unfolding touching_count nodes_in parsed table_of_rules bounding_box_of box_round cells_along displacement_of move_of
 needs_no_rule = refl

@@ -12,9 +12,9 @@ use Rattle.std.proofs.lemmas.List.Elements.{All-append, All-cons, All-head, All-
 use Rattle.std.specs.Option.{option_to_list}
 use Rattle.list_laws.proofs.FrontLemmas.{All-back}
 use Rattle.spiral_code.specs.Spiral.{move_of}
-use Rattle.list_laws.specs.Grown.{grown}
+use Rattle.list_laws.specs.Grown.{table_of_rules}
 use Rattle.list_laws.proofs.FrontLemmas.{All-front}
-use Rattle.list_laws.proofs.GrownLemmas.{length-grown}
+use Rattle.list_laws.proofs.GrownLemmas.{length-table_of_rules}
 use Rattle.track_types.specs.Near.{IsCellAsked}
 use Rattle.track_types.specs.declared.cell.Cell.{Cell}
 use Rattle.track_types.specs.declared.cell_box.CellBox.{CellBox}
@@ -141,10 +141,10 @@ duration_of-past : (rules : RulesView) (symbol : ℕ) → symbols_in rules ≤ s
 unfolding duration_of expansion_of
 duration_of-past rules symbol above =
     let known = map (λ (terminal : ℕ). terminal ∷ []) (range_with_len 0 (length rules.alphabet)) in
-    let made = length-grown ◌++◌ [] known rules.rules in
+    let made = length-table_of_rules ◌++◌ [] known rules.rules in
     let first = length-map-range_with_len (λ (terminal : ℕ). terminal ∷ []) 0 (length rules.alphabet) in
-    let past : length (grown ◌++◌ [] known rules.rules) ≤ symbol = omega (arith, made, first) in
-    ap length (get_or_past (grown ◌++◌ [] known rules.rules) symbol [] past)
+    let past : length (table_of_rules ◌++◌ [] known rules.rules) ≤ symbol = omega (arith, made, first) in
+    ap length (get_or_past (table_of_rules ◌++◌ [] known rules.rules) symbol [] past)
 
 -- no symbol lasts longer than a period
 duration_of-limit : (rules : RulesView) → AreRules rules → (symbol : ℕ) → duration_of rules symbol ≤ 2 ^ 22

@@ -4,8 +4,8 @@ use Rattle.std.specs.List.{flat_map, range_with_len, AllByRecursion, Contains}
 use Rattle.std.proofs.lemmas.Bool.{cases_Bool}
 use Rattle.std.proofs.lemmas.List.FromFn.{length-map-range_with_len, get_or-map-range_with_len}
 use Rattle.std.proofs.lemmas.List.Elements.{Contains-append_cases}
-use Rattle.list_laws.specs.Grown.{expansions, grown}
-use Rattle.list_laws.proofs.GrownLemmas.{length-grown, grown-append, grown-keeps, grown-last}
+use Rattle.list_laws.specs.Grown.{expansions, table_of_rules}
+use Rattle.list_laws.proofs.GrownLemmas.{length-table_of_rules, table_of_rules-append, table_of_rules-keeps, table_of_rules-last}
 use Rattle.list_laws.proofs.MemberLemmas.{member_cases, no_member}
 use Rattle.repair_grammar.specs.RePair.{is_pair, replaced, pairs_in, AreBelow}
 use Rattle.repair_grammar.specs.GrammarOf.{expanded}
@@ -92,14 +92,14 @@ terminals alphabet = map (λ terminal. terminal ∷ []) (range_with_len 0 alphab
 
 pub length-expansions : (alphabet : ℕ) (rules : List (ℕ × ℕ)) → length (expansions alphabet rules)
     ≡ alphabet + length rules
-length-expansions alphabet rules = length-grown (◌++◌) [] (terminals alphabet) rules
+length-expansions alphabet rules = length-table_of_rules (◌++◌) [] (terminals alphabet) rules
     ∙ ap (λ n. n + length rules) (length-map-range_with_len (λ terminal. terminal ∷ []) 0 alphabet)
 
 -- a terminal stands for itself
 pub expansions-terminal : (alphabet : ℕ) (rules : List (ℕ × ℕ)) (terminal : ℕ) → terminal < alphabet →
     get_or (expansions alphabet rules) terminal [] ≡ terminal ∷ []
 expansions-terminal alphabet rules terminal below =
-    grown-keeps (◌++◌) [] (terminals alphabet) rules terminal
+    table_of_rules-keeps (◌++◌) [] (terminals alphabet) rules terminal
     (rw (length-map-range_with_len (λ t. t ∷ []) 0 alphabet) below)
     ∙ get_or-map-range_with_len (λ t. t ∷ []) 0 alphabet terminal terminal [] below (omega arith)
 
@@ -108,14 +108,14 @@ pub expansions-last : (alphabet : ℕ) (rules : List (ℕ × ℕ)) (pair : ℕ �
     get_or (expansions alphabet (rules ++ pair ∷ [])) (alphabet + length rules) []
     ≡ get_or (expansions alphabet rules) pair.0 [] ++ get_or (expansions alphabet rules) pair.1 []
 expansions-last alphabet rules pair =
-    rw (length-map-range_with_len (λ t. t ∷ []) 0 alphabet) at (grown-last (◌++◌) [] (terminals alphabet) rules pair)
+    rw (length-map-range_with_len (λ t. t ∷ []) 0 alphabet) at (table_of_rules-last (◌++◌) [] (terminals alphabet) rules pair)
 
 -- all other symbols stand for what they stood for
 grown_other : (alphabet : ℕ) (rules more : List (ℕ × ℕ)) (symbol : ℕ) → symbol < length (expansions alphabet rules) →
     get_or (expansions alphabet (rules ++ more)) symbol [] ≡ get_or (expansions alphabet rules) symbol []
 grown_other alphabet rules more symbol below =
-    ap (λ table. get_or table symbol []) (grown-append (◌++◌) [] (terminals alphabet) rules more)
-    ∙ grown-keeps (◌++◌) [] (grown (◌++◌) [] (terminals alphabet) rules) more symbol below
+    ap (λ table. get_or table symbol []) (table_of_rules-append (◌++◌) [] (terminals alphabet) rules more)
+    ∙ table_of_rules-keeps (◌++◌) [] (table_of_rules (◌++◌) [] (terminals alphabet) rules) more symbol below
 
 pub expansions-other : (alphabet : ℕ) (rules more : List (ℕ × ℕ)) (symbol : ℕ) → symbol < alphabet + length rules →
     get_or (expansions alphabet (rules ++ more)) symbol [] ≡ get_or (expansions alphabet rules) symbol []

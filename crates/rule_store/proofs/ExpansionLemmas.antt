@@ -4,9 +4,9 @@ use Rattle.std.specs.Prelude.{slice_index}
 use Rattle.std.specs.List.{range_with_len}
 use Rattle.std.proofs.lemmas.List.{map-append, length-map}
 use Rattle.std.proofs.lemmas.List.FromFn.{length-map-range_with_len}
-use Rattle.list_laws.specs.Grown.{grown}
-use Rattle.list_laws.proofs.GrownLemmas.{length-grown}
-use Rattle.list_laws.proofs.RuleLemmas.{grown-at_rule, grown-at_terminal}
+use Rattle.list_laws.specs.Grown.{table_of_rules}
+use Rattle.list_laws.proofs.GrownLemmas.{length-table_of_rules}
+use Rattle.list_laws.proofs.RuleLemmas.{table_of_rules-at_rule, table_of_rules-at_terminal}
 use Rattle.rule_store.specs.View.{RulesView, symbols_in}
 use Rattle.rule_store.specs.Expansion.{deeper, depth_of, depths, expansion_of, values_of}
 use Rattle.rule_store.specs.Flaws.{rule_at}
@@ -21,7 +21,7 @@ module _ (view : RulesView) where
   pub expansion_of-terminal : (symbol : ℕ) → symbol < length view.alphabet → expansion_of view symbol ≡ symbol ∷ []
   unfolding expansion_of
   expansion_of-terminal symbol below =
-      grown-at_terminal ◌++◌ [] (λ terminal. terminal ∷ []) (length view.alphabet) view.rules symbol below
+      table_of_rules-at_terminal ◌++◌ [] (λ terminal. terminal ∷ []) (length view.alphabet) view.rules symbol below
 
   pub values_of-terminal : (symbol : ℕ) → symbol < length view.alphabet →
       values_of view symbol ≡ slice_index view.alphabet symbol ∷ []
@@ -31,7 +31,7 @@ module _ (view : RulesView) where
   pub depth_of-terminal : (symbol : ℕ) → symbol < length view.alphabet → depth_of view symbol ≡ 0
   unfolding depth_of
   depth_of-terminal symbol below =
-      grown-at_terminal deeper 0 (λ terminal. 0) (length view.alphabet) view.rules symbol below
+      table_of_rules-at_terminal deeper 0 (λ terminal. 0) (length view.alphabet) view.rules symbol below
 
   -- of a rule
   module _ (j : ℕ) (left right : ℕ) (within : j < length view.rules) (is : rule_at view.rules j ≡ (left, right))
@@ -43,8 +43,8 @@ module _ (view : RulesView) where
         let known = map (λ (terminal : ℕ). terminal ∷ []) (range_with_len 0 (length view.alphabet)) in
         let place : length known + j ≡ length view.alphabet + j =
         rule_place (λ terminal. terminal ∷ []) (length view.alphabet) j in
-        ap (λ k. get_or (grown ◌++◌ [] known view.rules) k []) (sym place)
-        ∙ grown-at_rule ◌++◌ [] known view.rules j (left, right) within is (omega arith) (omega arith)
+        ap (λ k. get_or (table_of_rules ◌++◌ [] known view.rules) k []) (sym place)
+        ∙ table_of_rules-at_rule ◌++◌ [] known view.rules j (left, right) within is (omega arith) (omega arith)
 
     pub values_of-rule : values_of view (length view.alphabet + j) ≡ values_of view left ++ values_of view right
     unfolding values_of
@@ -57,15 +57,15 @@ module _ (view : RulesView) where
     depth_of-rule =
         let known = map (λ (terminal : ℕ). 0) (range_with_len 0 (length view.alphabet)) in
         let place : length known + j ≡ length view.alphabet + j = rule_place (λ terminal. 0) (length view.alphabet) j in
-        ap (λ k. get_or (grown deeper 0 known view.rules) k 0) (sym place)
-        ∙ grown-at_rule deeper 0 known view.rules j (left, right) within is (omega arith) (omega arith)
+        ap (λ k. get_or (table_of_rules deeper 0 known view.rules) k 0) (sym place)
+        ∙ table_of_rules-at_rule deeper 0 known view.rules j (left, right) within is (omega arith) (omega arith)
 
   -- there is a depth for each symbol
   pub length-depths : length (depths (length view.alphabet) view.rules) ≡ symbols_in view
   length-depths =
       omega (
         arith,
-        length-grown deeper 0 (map (λ terminal. 0) (range_with_len 0 (length view.alphabet))) view.rules,
+        length-table_of_rules deeper 0 (map (λ terminal. 0) (range_with_len 0 (length view.alphabet))) view.rules,
         length-map-range_with_len {X = ℕ} (λ terminal. 0) 0 (length view.alphabet),
       )
 

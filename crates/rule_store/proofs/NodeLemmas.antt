@@ -10,9 +10,9 @@ use Rattle.std.proofs.lemmas.List.Elements.{filter-append}
 use Rattle.std.proofs.lemmas.Simd.{map-map}
 use Rattle.std.proofs.Math.ListN.{get_or-map}
 use Rattle.std.proofs.lemmas.List.FromFn.{length-map-range_with_len}
-use Rattle.list_laws.specs.Grown.{grown}
-use Rattle.list_laws.proofs.GrownLemmas.{KeepsJoins, map-grown}
-use Rattle.list_laws.proofs.RuleLemmas.{grown-at_rule, grown-at_terminal}
+use Rattle.list_laws.specs.Grown.{table_of_rules}
+use Rattle.list_laws.proofs.GrownLemmas.{KeepsJoins, map-table_of_rules}
+use Rattle.list_laws.proofs.RuleLemmas.{table_of_rules-at_rule, table_of_rules-at_terminal}
 use Rattle.rule_store.specs.View.{RulesView}
 use Rattle.rule_store.proofs.ExpansionLemmas.{expansion_of-rule}
 use Rattle.rule_store.specs.Expansion.{expansion_of}
@@ -35,7 +35,7 @@ module _ (view : RulesView) where
   pub parsed-terminal : (symbol : ℕ) → symbol < length view.alphabet → parsed view symbol ≡ leaf symbol
   unfolding parsed
   parsed-terminal symbol below =
-      grown-at_terminal parsed_with unparsed leaf (length view.alphabet) view.rules symbol below
+      table_of_rules-at_terminal parsed_with unparsed leaf (length view.alphabet) view.rules symbol below
 
   pub parsed-rule : (j left right : ℕ) → j < length view.rules → rule_at view.rules j ≡ (left, right) →
       left < length view.alphabet + j → right < length view.alphabet + j →
@@ -45,8 +45,8 @@ module _ (view : RulesView) where
       let known = map leaf (range_with_len 0 (length view.alphabet)) in
       let many : length known ≡ length view.alphabet = length-map-range_with_len leaf 0 (length view.alphabet) in
       let place : length known + j ≡ length view.alphabet + j = omega (arith, many) in
-      ap (λ k. get_or (grown parsed_with unparsed known view.rules) k unparsed) (sym place)
-      ∙ grown-at_rule parsed_with unparsed known view.rules j (left, right) within is (omega (arith, many))
+      ap (λ k. get_or (table_of_rules parsed_with unparsed known view.rules) k unparsed) (sym place)
+      ∙ table_of_rules-at_rule parsed_with unparsed known view.rules j (left, right) within is (omega (arith, many))
       (omega (arith, many))
 
   -- the nodes of a rule and of a log after it are its own, and those of its two parts and the log
@@ -112,9 +112,9 @@ module _ (view : RulesView) where
       let known = map leaf (range_with_len 0 (length view.alphabet)) in
       let keeps : KeepsJoins terminals parsed_with unparsed ◌++◌ [] =
       record { none = refl; join = λ left right. refl } in
-      sym (get_or-map terminals (grown parsed_with unparsed known view.rules) symbol unparsed)
-      ∙ ap (λ table. get_or table symbol []) (map-grown terminals parsed_with unparsed ◌++◌ [] keeps known view.rules)
-      ∙ ap (λ table. get_or (grown ◌++◌ [] table view.rules) symbol [])
+      sym (get_or-map terminals (table_of_rules parsed_with unparsed known view.rules) symbol unparsed)
+      ∙ ap (λ table. get_or table symbol []) (map-table_of_rules terminals parsed_with unparsed ◌++◌ [] keeps known view.rules)
+      ∙ ap (λ table. get_or (table_of_rules ◌++◌ [] table view.rules) symbol [])
       (map-map terminals leaf (range_with_len 0 (length view.alphabet)))
 
   -- the node of a rule, in a block whose anchor is at some instant: its instants meet the window, and it has a box

@@ -1,7 +1,7 @@
 -- What a symbol stands for: the terminals that replacing each rule by its two parts leaves.
 use Rattle.std.specs.Prelude.{ℕ, ◌+◌, max, List, [], ◌++◌, length, map, fold, slice_index}
 use Rattle.std.specs.List.{range_with_len}
-use Rattle.list_laws.specs.Grown.{expansions, grown, known_of}
+use Rattle.list_laws.specs.Grown.{expansions, table_of_rules, known_of}
 use Rattle.rule_store.specs.View.{RulesView}
 
 -- the terminals that a symbol stands for
@@ -18,7 +18,7 @@ deeper left right = 1 + max left right
 
 -- the depth of each symbol: 0 for a terminal
 abbrev pub depths : ℕ → List (ℕ × ℕ) → List ℕ
-depths size rules = grown deeper 0 (map (λ terminal. 0) (range_with_len 0 size)) rules
+depths size rules = table_of_rules deeper 0 (map (λ terminal. 0) (range_with_len 0 size)) rules
 
 -- the depth of a symbol
 unfoldable pub depth_of : RulesView → ℕ → ℕ

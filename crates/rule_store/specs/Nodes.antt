@@ -3,7 +3,7 @@ use Rattle.std.specs.Prelude.{ℕ, ◌+◌, ℤ, pos, ◌+ℤ◌, Bool, ◌&&◌
 use Rattle.std.specs.Option.{is_some}
 use Rattle.std.specs.Int.Signed.{le_z}
 use Rattle.std.specs.List.{range_with_len}
-use Rattle.list_laws.specs.Grown.{grown, known_of}
+use Rattle.list_laws.specs.Grown.{table_of_rules, known_of}
 use Rattle.rule_store.specs.View.{RulesView}
 use Rattle.rule_store.specs.Boxes.{bounding_box_of}
 
@@ -40,7 +40,7 @@ unparsed = record { terminals = []; nodes = [] }
 -- the parse tree of a symbol
 unfoldable pub parsed : RulesView → ℕ → Parsed
 parsed view symbol = known_of parsed_with unparsed
-    (grown parsed_with unparsed (map leaf (range_with_len 0 (length view.alphabet))) view.rules) symbol
+    (table_of_rules parsed_with unparsed (map leaf (range_with_len 0 (length view.alphabet))) view.rules) symbol
 
 -- the rule nodes of a log's parse trees
 unfoldable pub nodes_in : RulesView → List ℕ → List Node

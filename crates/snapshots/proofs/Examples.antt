@@ -11,7 +11,7 @@ use Rattle.k2_tree.specs.Flaws.{group_flaw, level_flaw, tree_flaw}
 use Rattle.packed_bits.specs.Bits.{ones_of}
 use Rattle.bit_rank.specs.Bits.{rank_of, select_of}
 use Rattle.spiral_code.specs.Spiral.{move_of}
-use Rattle.list_laws.specs.Grown.{grown}
+use Rattle.list_laws.specs.Grown.{table_of_rules}
 use Rattle.track_types.specs.declared.frame.Frame.{Frame}
 use Rattle.track_types.specs.declared.parts.Parts.{Parts}
 use Rattle.track_types.specs.declared.period_parts.PeriodParts.{PeriodParts}
@@ -197,11 +197,11 @@ its_blocks_stop_where_it_is : map (stops_in wanderer 0) (numbers_in wanderer.fra
     ∷ (stop_at (pos 2) (cell_at (pos 0) (pos 0)) ∷ [])
     ∷ (stop_at (pos 4) (cell_at (pos 5) (pos 6)) ∷ stop_at (pos 5) (cell_at (pos 5) (pos 5)) ∷ []) ∷ []
 unfolding morton_row morton_column cell_of where_set codes_below codes_in children_of_prefixes levels_with rank_of select_of ones_of start_in stops_in
-    block_stops stops_after stops_from log_values values_of expansion_of grown cells_along move_of
+    block_stops stops_after stops_from log_values values_of expansion_of table_of_rules cells_along move_of
 its_blocks_stop_where_it_is = refl
 
 each_period_has_its_speed : map (speed_of wanderer) (numbers_in wanderer.frame) ≡ 5 ∷ 0 ∷ 1 ∷ []
 unfolding morton_row morton_column cell_of where_set codes_below codes_in children_of_prefixes levels_with rank_of select_of ones_of start_in all_blocks
     blocks_speed log_speed cell_after lasting entry_of bounding_box_of box_round displacement_of
-    values_of expansion_of grown cells_along move_of duration_of
+    values_of expansion_of table_of_rules cells_along move_of duration_of
 each_period_has_its_speed = refl

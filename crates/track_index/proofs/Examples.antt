@@ -8,7 +8,7 @@ use Rattle.k2_tree.specs.Tree.{codes_below, codes_in, where_set}
 use Rattle.k2_tree.specs.TreeBits.{children_of_prefixes, prefixes}
 use Rattle.k2_tree.specs.Widths.{digits_in, levels_with}
 use Rattle.list_laws.specs.First.{first_given}
-use Rattle.list_laws.specs.Grown.{grown}
+use Rattle.list_laws.specs.Grown.{table_of_rules}
 use Rattle.packed_bits.specs.Bits.{ones_of}
 use Rattle.spiral_code.specs.Spiral.{move_of, ring_moves, ring_of_code, side_moves}
 use Rattle.track_types.specs.declared.flaw.Flaw.{Flaw}
@@ -191,7 +191,7 @@ told =
 each_is_told : map (λ row. check_flaw row.0) told ≡ map (λ row. row.1) told
 unfolding check_flaw grammar_flaw lengths_flaw snapshots_flaw first_given logs_flaw blocks_flaw all_blocks log_flaw
     off_grid_at is_off_grid cell_after lasting start_in code_flaw rule_flaw symbol_flaw is_rule_flawed entry_of values_of
-    expansion_of grown displacement_of bounding_box_of box_round cells_along duration_of move_of ring_moves ring_of_code
+    expansion_of table_of_rules displacement_of bounding_box_of box_round cells_along duration_of move_of ring_moves ring_of_code
     side_moves morton_row morton_column cell_of where_set codes_below codes_in levels_with digits_in children_of_prefixes rank_of ones_of group_flaw level_flaw tree_flaw
 each_is_told = refl
 
@@ -221,7 +221,7 @@ reads =
     []
 
 each_reads_so : map (λ row. row.0) reads ≡ map (λ row. row.1) reads
-unfolding position_cost path_cost depth_in grown all_blocks where_set codes_below codes_in levels_with digits_in children_of_prefixes morton_row morton_column cell_of
+unfolding position_cost path_cost depth_in table_of_rules all_blocks where_set codes_below codes_in levels_with digits_in children_of_prefixes morton_row morton_column cell_of
     rank_of ones_of start_in block_budget nodes_in opened_count parsed values_of expansion_of bounding_box_of box_round
     cells_along move_of ring_moves ring_of_code side_moves
 each_reads_so = refl

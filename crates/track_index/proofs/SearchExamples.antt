@@ -6,7 +6,7 @@ use Rattle.k2_tree.specs.Squares.{squares_above, squares_from}
 use Rattle.k2_tree.specs.Tree.{codes_below, codes_in, where_set}
 use Rattle.k2_tree.specs.TreeBits.{children_of_prefixes, prefixes}
 use Rattle.k2_tree.specs.Widths.{digits_in, levels_with}
-use Rattle.list_laws.specs.Grown.{grown}
+use Rattle.list_laws.specs.Grown.{table_of_rules}
 use Rattle.list_laws.specs.Ordered.{ordered, insert_in_order}
 use Rattle.log_cursor.specs.Touching.{touching_count}
 use Rattle.packed_bits.specs.Bits.{ones_of}
@@ -60,7 +60,7 @@ reads =
 each_reads_so : map (λ row. row.0) reads ≡ map (λ row. row.1) reads
 unfolding slice_cost period_search_cost touching_count blocks_speed log_speed cell_after lasting duration_of entry_of
     interval_cost nearest_cost period_near_cost is_near_enough nears_of nearest_among nears_at ordered insert_in_order chart_in rows_in
-    stops_in block_stops stops_after stops_from log_values position_cost path_cost depth_in grown all_blocks squares_above squares_from prefixes where_set
+    stops_in block_stops stops_after stops_from log_values position_cost path_cost depth_in table_of_rules all_blocks squares_above squares_from prefixes where_set
     codes_below codes_in levels_with digits_in children_of_prefixes morton_row morton_column cell_of morton_of interleaved rank_of ones_of start_in block_budget nodes_in opened_count parsed
     values_of expansion_of bounding_box_of box_round displacement_of cells_along move_of ring_moves ring_of_code side_moves
 each_reads_so = refl
