@@ -1,8 +1,11 @@
 -- The definitions, run on rows that were worked out by hand.
-use Rattle.std.proofs.Common.{◌≡◌, ℕ, ℤ, pos, negsuc, List, [], ◌∷◌, ◌++◌, map, Some, None, refl}
+use Rattle.std.proofs.Common.{◌≡◌, ℕ, ℤ, pos, negsuc, List, [], ◌∷◌, ◌++◌, map, Some, None, true, false, refl}
 use Rattle.track_types.specs.ByFilter.{cell_at, hits_of, nearest_among, nears_at, nears_of, sightings_of}
 use Rattle.list_laws.specs.Ordered.{ordered, insert_in_order}
-use Rattle.track_types.specs.Frame.{periods_of, instants_in, wide_of}
+use Rattle.track_types.specs.Frame.{end_in, first_in, instants_in, last_in, period_in, periods_of, wide_of}
+use Rattle.track_types.specs.Boxes.{box_from, cut_box, joined_box, moved_box, touches}
+use Rattle.track_types.specs.Timeline.{terminals_from}
+use Rattle.track_types.specs.declared.cell_box.CellBox.{CellBox}
 use Rattle.track_types.specs.Shape.{width_for}
 use Rattle.track_types.specs.declared.frame.Frame.{Frame}
 use Rattle.track_types.specs.Quantities.{anchors_of, block_count, distinct, extent_of, first_of, last_of, object_count, objects_of, period_count, span_of, symbol_count}
@@ -78,6 +81,43 @@ five = record {
 
 five_periods : periods_of five ∷ instants_in five 0 ∷ instants_in five 1 ∷ instants_in five 2 ∷ [] ≡ 3 ∷ 2 ∷ 2 ∷ 1 ∷ []
 five_periods = refl
+
+five_bounds : first_in five 1 ∷ end_in five 1 ∷ first_in five 2 ∷ end_in five 2 ∷ last_in five ∷ [] ≡ pos 2 ∷ pos 3 ∷ pos 4 ∷ pos 4 ∷ pos 4 ∷ []
+five_bounds = refl
+
+-- no period has an instant before the first or after the last
+five_found : map (period_in five) (pos 0 ∷ pos 3 ∷ pos 4 ∷ pos 5 ∷ negsuc 0 ∷ []) ≡ Some 0 ∷ Some 1 ∷ Some 2 ∷ None ∷ None ∷ []
+five_found = refl
+
+-- a log of a period's last instant is empty
+five_terminals : map (terminals_from (pos 0) 5 2) (pos 2 ∷ pos 3 ∷ pos 4 ∷ []) ≡ 1 ∷ 0 ∷ 0 ∷ []
+five_terminals = refl
+
+-- the bounds of a box
+abbrev bounds : CellBox → List ℤ
+bounds area = area.x1 ∷ area.y1 ∷ area.x2 ∷ area.y2 ∷ []
+
+-- two boxes of five columns and five lines that have two of each in common, and one that has none with the first
+abbrev low_box : CellBox
+low_box = box_from (pos 0) (pos 0) 4
+
+abbrev high_box : CellBox
+high_box = box_from (pos 3) (pos 3) 4
+
+abbrev right_box : CellBox
+right_box = box_from (pos 5) (pos 3) 4
+
+boxes_touch : map (touches low_box) (low_box ∷ high_box ∷ right_box ∷ []) ≡ true ∷ true ∷ false ∷ []
+boxes_touch = refl
+
+boxes_cut : bounds (cut_box low_box high_box) ≡ pos 3 ∷ pos 3 ∷ pos 4 ∷ pos 4 ∷ []
+boxes_cut = refl
+
+boxes_joined : bounds (joined_box low_box right_box) ≡ pos 0 ∷ pos 0 ∷ pos 9 ∷ pos 7 ∷ []
+boxes_joined = refl
+
+box_moved : bounds (moved_box (record { x = negsuc 0; y = pos 2 }) low_box) ≡ negsuc 0 ∷ pos 2 ∷ pos 3 ∷ pos 6 ∷ []
+box_moved = refl
 
 -- the same header in version 2, of trees of a height
 abbrev tall : ℕ → Frame

@@ -3,6 +3,8 @@ pub mod Digits
 pub mod DigitWords
 pub mod BareDigits
 pub mod QuantityLemmas
+pub mod ChartLemmas
+pub mod TimelineLemmas
 pub mod RowLemmas
 pub mod RegionLemmas
 pub mod BoxLemmas

@@ -1,10 +1,10 @@
 -- The least and the greatest of numbers, as a loop finds them.
-use Rattle.std.proofs.Common.{◌≡◌, ◌+◌, ◌<◌, List, [], ◌∷◌, length, get_or, map, refl, sym, arith}
+use Rattle.std.proofs.Common.{◌≡◌, ◌+◌, ◌<◌, List, [], ◌∷◌, length, get_or, map, refl, sym, inl, inr, arith}
 use Rattle.std.specs.Prelude.{fold, ℤ, pos, ◌≤ℤ◌, ◌-ℤ◌, unsigned_abs, All}
 use Rattle.std.specs.Int.{int_max, int_min}
 use Rattle.std.proofs.lemmas.List.Folds.{fold-map}
-use Rattle.std.proofs.lemmas.Int.{fold-int_max_bounds, fold-int_min_bounds, ints}
-use Rattle.std.proofs.lemmas.List.Elements.{All-cons, All-nil}
+use Rattle.std.proofs.lemmas.Int.{fold-int_max_bounds, fold-int_max_reached, fold-int_min_bounds, fold-int_min_reached, ints}
+use Rattle.std.proofs.lemmas.List.Elements.{All-cons, All-contains, All-head, All-nil, All-tail}
 use Rattle.list_laws.proofs.MapLemmas.{All-from_map}
 use Rattle.track_types.specs.Quantities.{elapsed, first_of, greatest, instants_of, last_of, least, span_of}
 use Rattle.track_types.specs.declared.row.Row.{Row}
@@ -26,6 +26,21 @@ pub greatest-from_first : {X : Type 0} (f : X → ℤ) (xs : List X) (d : X) →
     fold (λ z x. int_max z (f x)) (f (get_or xs 0 d)) xs ≡ greatest (map f xs)
 greatest-from_first f [] d some = absurd (omega arith)
 greatest-from_first f (x ∷ xs) d some = rw (int_max-same (f x)) (sym (fold-map int_max f (f x) xs))
+
+-- what holds of all numbers holds of the least and of the greatest
+pub least_keeps : (P : ℤ → Type 0) (zs : List ℤ) → 0 < length zs → All P zs → P (least zs)
+least_keeps P [] some all = absurd (omega arith)
+least_keeps P (z ∷ zs) some all = elim (fold-int_min_reached z zs (fold int_min z zs) refl) [
+  | inl first ↦ rw first (All-head P z zs all)
+  | inr among ↦ All-contains P zs (fold int_min z zs) (All-tail P z zs all) among
+]
+
+pub greatest_keeps : (P : ℤ → Type 0) (zs : List ℤ) → 0 < length zs → All P zs → P (greatest zs)
+greatest_keeps P [] some all = absurd (omega arith)
+greatest_keeps P (z ∷ zs) some all = elim (fold-int_max_reached z zs (fold int_max z zs) refl) [
+  | inl first ↦ rw first (All-head P z zs all)
+  | inr among ↦ All-contains P zs (fold int_max z zs) (All-tail P z zs all) among
+]
 
 -- none is below the least, and none above the greatest
 least-below : (zs : List ℤ) → All (λ z. least zs ≤ℤ z) zs

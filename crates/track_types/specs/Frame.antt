@@ -1,8 +1,10 @@
--- The header of an index, its periods, and how many instants each of them has.
-use Rattle.std.specs.Prelude.{◌≡◌, ℕ, ◌-◌, ◌*◌, ◌/◌, ◌≤◌, nat_lt, if◌then◌else◌, min, pos, neg_ℤ, ◌+ℤ◌, ◌≤ℤ◌}
-use Rattle.std.specs.Int.{div_ceil}
+-- The header of an index: its ranges, its instants and periods, and its grid.
+use Rattle.std.specs.Prelude.{◌≡◌, ℕ, ◌-◌, ◌/◌, ◌^◌, ◌≤◌, nat_lt, if◌then◌else◌, ℤ, pos, neg_ℤ, ◌+ℤ◌, ◌≤ℤ◌, Bool, Option}
+use Rattle.track_types.specs.Boxes.{box_from}
 use Rattle.track_types.specs.Limits.{IsPeriod, IsResolution, limit_of}
 use Rattle.track_types.specs.Near.{IsNear}
+use Rattle.track_types.specs.Timeline.{is_spanned, last_from, period_if, period_last, period_size, period_start, period_total}
+use Rattle.track_types.specs.declared.cell_box.CellBox.{CellBox}
 use Rattle.track_types.specs.declared.frame.Frame.{Frame}
 use Rattle.track_types.specs.declared.limit.LimitKind.TheVariants.{Span}
 use Rattle.track_types.specs.declared.limit.TheConstants.{MAX_HEIGHT, MAX_NARROW_HEIGHT, MAX_PLACE, MAX_VERSION}
@@ -30,8 +32,32 @@ wide_of frame = if nat_lt frame.version 2 then 0 else (frame.height / 4)
 
 -- how many periods there are
 abbrev pub periods_of : Frame → ℕ
-periods_of frame = div_ceil frame.span frame.period
+periods_of frame = period_total frame.span frame.period
 
 -- how many instants a period has
 abbrev pub instants_in : Frame → ℕ → ℕ
-instants_in frame number = min frame.period (frame.span - number * frame.period)
+instants_in frame number = period_size frame.span frame.period number
+
+-- the first instant of a period
+abbrev pub first_in : Frame → ℕ → ℤ
+first_in frame number = period_start frame.first frame.period number
+
+-- the last instant of a period
+abbrev pub end_in : Frame → ℕ → ℤ
+end_in frame number = period_last frame.first frame.span frame.period number
+
+-- the last instant of an index
+abbrev pub last_in : Frame → ℤ
+last_in frame = last_from frame.first frame.span
+
+-- the instant is one of the index's
+abbrev pub is_covered : Frame → ℤ → Bool
+is_covered frame instant = is_spanned frame.first frame.span instant
+
+-- the period of an instant, if it is one of the index's
+abbrev pub period_in : Frame → ℤ → Option ℕ
+period_in frame instant = period_if frame.first frame.span frame.period instant
+
+-- the box of all cells of an index's grid
+abbrev pub grid_of : Frame → CellBox
+grid_of frame = box_from frame.base.x frame.base.y (2 ^ frame.height - 1)

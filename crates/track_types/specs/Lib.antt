@@ -2,6 +2,7 @@ pub mod Numeral
 pub mod Near
 pub mod Limits
 pub mod Row
+pub mod Timeline
 pub mod Quantities
 pub mod Chart
 pub mod ByFilter
@@ -9,6 +10,7 @@ pub mod Meeting
 pub mod Shapes
 pub mod Region
 pub mod Widening
+pub mod Boxes
 pub mod Lazy
 pub mod Bounds
 pub mod FaultText

@@ -1,8 +1,9 @@
 -- How much there is in rows: objects, instants, cells, blocks and terminals.
-use Rattle.std.specs.Prelude.{ℕ, ◌+◌, ◌-◌, ◌*◌, ◌/◌, min, max, ℤ, pos, ◌-ℤ◌, unsigned_abs, Bool, not, ◌&&◌, ◌==◌, if◌then◌else◌, List, [], ◌∷◌, length, map, filter, fold, sum_by}
-use Rattle.std.specs.Int.{int_max, int_min, div_ceil}
+use Rattle.std.specs.Prelude.{ℕ, ◌+◌, ◌*◌, max, ℤ, pos, ◌-ℤ◌, unsigned_abs, Bool, not, ◌&&◌, ◌==◌, if◌then◌else◌, List, [], ◌∷◌, length, map, filter, fold, sum_by}
+use Rattle.std.specs.Int.{int_max, int_min}
 use Rattle.std.specs.Int.Signed.{lt_z}
 use Rattle.std.specs.List.{list_any}
+use Rattle.track_types.specs.Timeline.{elapsed_from, period_from, period_total, terminals_from}
 use Rattle.track_types.specs.declared.row.Row.{Row}
 
 -- the least of numbers
@@ -62,7 +63,7 @@ object_count rows = length (objects_of rows)
 
 -- how many periods there are, the last of which may be shorter
 abbrev pub period_count : List Row → ℕ → ℕ
-period_count rows period = div_ceil (span_of rows) period
+period_count rows period = period_total (span_of rows) period
 
 -- how many blocks there may be: one for each object and period
 abbrev pub block_count : List Row → ℕ → ℕ
@@ -70,11 +71,11 @@ block_count rows period = object_count rows * period_count rows period
 
 -- how many instants come before a row's, from the first on
 abbrev pub elapsed : ℤ → Row → ℕ
-elapsed first row = unsigned_abs (row.instant -ℤ first)
+elapsed first row = elapsed_from first row.instant
 
 -- the period of a row, counted from 0
 abbrev pub period_of : ℤ → ℕ → Row → ℕ
-period_of first period row = elapsed first row / period
+period_of first period row = period_from first period row.instant
 
 -- whether two rows are of one block: of one object and in one period
 abbrev pub is_same_block : ℤ → ℕ → Row → Row → Bool
@@ -93,8 +94,7 @@ anchors_of first period rows = filter (is_anchor first period rows) rows
 -- how many terminals the log of an anchor's block has: one for each later instant of its period, of which
 -- the last one ends where the span does
 abbrev pub log_length : ℤ → ℕ → ℕ → Row → ℕ
-log_length first span period anchor =
-    min ((period_of first period anchor + 1) * period) span - (elapsed first anchor + 1)
+log_length first span period anchor = terminals_from first span period anchor.instant
 
 -- how many terminals all logs have before there is a grammar
 abbrev pub symbol_count : List Row → ℕ → ℕ

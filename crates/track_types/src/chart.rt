@@ -1,8 +1,9 @@
 ghost use Rattle.std.specs.Prelude.{◌≡◌, ◌<◌, length};
 ghost use Rattle.track_types.specs.Chart.{IsChart, chart_with};
-ghost use Rattle.track_types.specs.Quantities.{first_of, last_of};
+ghost use Rattle.track_types.specs.Quantities.{first_of, last_of, span_of};
 
 use crate::row::Row;
+use crate::timeline::Timeline;
 use std::marker::Model;
 
 /// A chart: the table of gridded rows, ascending by object, then instant, with at most one row for each
@@ -72,6 +73,21 @@ impl Chart {
         ensures chart { IsChart self.now }
     {
         self.last
+    }
+
+    /// Its instants from the first to the last, and its periods.
+    pub fn timeline(&self) -> Timeline
+        ensures first { result.first ≡ self.now.first }
+        ensures span { result.span ≡ span_of self.now.rows }
+        ensures period { result.period ≡ self.now.period }
+        ensures chart { IsChart self.now }
+    {
+        let span = self.last.abs_diff(self.first) + 1;
+        Timeline {
+            first: self.first,
+            span: span as u32,
+            period: self.period,
+        }
     }
 
     /// How many instants lie between two snapshots, 1 to 2^22.

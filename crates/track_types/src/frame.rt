@@ -1,7 +1,6 @@
-ghost use Rattle.std.specs.Prelude.{◌≡◌};
-ghost use Rattle.track_types.specs.Frame.{wide_of};
-
 use crate::cell::Cell;
+use crate::cell_box::CellBox;
+use crate::timeline::Timeline;
 
 /// The header of an index: where its instants and its cells begin, how far they reach, and how they
 /// were made.
@@ -30,11 +29,44 @@ pub struct Frame {
 }
 
 impl Frame {
+    ghost use Rattle.std.specs.Prelude.{◌≡◌};
+    ghost use Rattle.track_types.specs.Frame.{grid_of, wide_of, IsFrame};
+    ghost use Rattle.track_types.specs.Near.{IsBoxWithin};
+
     /// How many levels of a period's tree, from the top, split a square in sixteen. The others split
     /// it in four. It takes no memory.
     pub fn wide_levels(&self) -> u32
         ensures { result ≡ wide_of self.now }
     {
         if self.version < 2 { 0 } else { self.height / 4 }
+    }
+
+    /// Its instants and periods.
+    pub fn timeline(&self) -> Timeline
+        requires { IsFrame self.now }
+        ensures first { result.first ≡ self.now.first }
+        ensures span { result.span ≡ self.now.span }
+        ensures period { result.period ≡ self.now.period }
+    {
+        Timeline {
+            first: self.first,
+            span: self.span,
+            period: self.period,
+        }
+    }
+
+    /// All cells of its grid.
+    pub fn grid(&self) -> CellBox
+        requires { IsFrame self.now }
+        ensures value { result ≡ grid_of self.now }
+        ensures within { IsBoxWithin result }
+    {
+        let far = (1 << self.height) - 1;
+        CellBox {
+            x1: self.base.x,
+            y1: self.base.y,
+            x2: self.base.x + far,
+            y2: self.base.y + far,
+        }
     }
 }

@@ -37,6 +37,7 @@ mod shape;
 mod shapes;
 mod sighting;
 mod stop;
+mod timeline;
 
 pub use answerer::Answerer;
 pub use bounds::{NumberFault, number_within};
@@ -72,3 +73,4 @@ pub use shape::{Shape, dist2};
 pub use shapes::Shapes;
 pub use sighting::Sighting;
 pub use stop::Stop;
+pub use timeline::Timeline;

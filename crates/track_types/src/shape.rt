@@ -73,7 +73,7 @@ fn is_between(low: i64, high: i64, value: i64) -> bool
 }
 
 // Whether some number is from `low` to `high` and from `first` to `last`.
-fn overlaps(low: i64, high: i64, first: i64, last: i64) -> bool
+pub(crate) fn overlaps(low: i64, high: i64, first: i64, last: i64) -> bool
     ensures { result ≡ overlaps low high first last }
 {
     low.max(first) <= high.min(last)
