@@ -9,7 +9,7 @@ use Rattle.track_types.specs.declared.frame.Frame.{Frame}
 use Rattle.track_types.specs.declared.limit.LimitKind.TheVariants.{Span}
 use Rattle.track_types.specs.declared.limit.TheConstants.{MAX_HEIGHT, MAX_NARROW_HEIGHT, MAX_PLACE, MAX_VERSION}
 
--- the ranges of a header: a version has a greatest height, and the last instant, too, is at most 2^40 away from 0
+-- the ranges of a header: a version has a greatest height, and the last instant, too, is at most `MAX_PLACE` away from 0
 pub record IsFrame (frame : Frame) : Type 0 where
   pub known : 1 ≤ frame.version
   pub newest : frame.version ≤ MAX_VERSION

@@ -15,6 +15,7 @@ pub mod Lazy
 pub mod Bounds
 pub mod FaultText
 pub mod FlawText
+pub mod Flaws
 pub mod Frame
 pub mod Table
 pub mod Shape

@@ -1,31 +1,32 @@
 -- Regions, the cells that they hold, and the boxes that they touch.
-use Rattle.std.specs.Prelude.{ℕ, ◌+◌, ◌*◌, ◌^◌, ◌≤◌, ℤ, ◌-ℤ◌, unsigned_abs, Bool, ◌&&◌, nat_le, IsTrue, All}
+use Rattle.std.specs.Prelude.{ℕ, ◌+◌, ◌*◌, ◌≤◌, ℤ, ◌-ℤ◌, unsigned_abs, Bool, ◌&&◌, nat_le, IsTrue, All}
 use Rattle.std.specs.List.{list_any}
 use Rattle.std.specs.Int.{int_max, int_min}
 use Rattle.std.specs.Int.Signed.{le_z}
 use Rattle.track_types.specs.Near.{IsAsked, IsWithin}
 use Rattle.track_types.specs.declared.cell.Cell.{Cell}
 use Rattle.track_types.specs.declared.cell_box.CellBox.{CellBox}
+use Rattle.track_types.specs.declared.limit.TheConstants.{MAX_REACH}
 use Rattle.track_types.specs.declared.region.Region.{Region}
 use Rattle.track_types.specs.declared.region.Region.TheVariants as region
 use Rattle.track_types.specs.declared.shape.Shape.{Shape}
 use Rattle.track_types.specs.declared.shape.Shape.TheVariants.{Rect, Disc}
 
--- a shape whose numbers are at most 2^42 away from 0
+-- a shape whose numbers are at most `MAX_REACH` away from 0
 abbrev pub IsShapeWithin : Shape → Type 0
 IsShapeWithin (Rect x1 y1 x2 y2) = IsWithin x1 × IsWithin y1 × IsWithin x2 × IsWithin y2
-IsShapeWithin (Disc x y r) = IsWithin x × IsWithin y × (r ≤ 2 ^ 42)
+IsShapeWithin (Disc x y r) = IsWithin x × IsWithin y × (r ≤ MAX_REACH)
 
--- a region whose shapes' numbers are at most 2^42 away from 0
+-- a region whose shapes' numbers are at most `MAX_REACH` away from 0
 abbrev pub IsRegionWithin : Region → Type 0
 IsRegionWithin (region.Rect x1 y1 x2 y2) = IsShapeWithin (Rect x1 y1 x2 y2)
 IsRegionWithin (region.Disc x y r) = IsShapeWithin (Disc x y r)
 IsRegionWithin (region.Any shapes) = All IsShapeWithin shapes
 
--- a shape that may be asked for: its coordinates are at most 2^41 away from 0, and its radius is at most 2^42
+-- a shape that may be asked for: its coordinates may, and its radius is at most `MAX_REACH`
 abbrev pub IsShapeAsked : Shape → Type 0
 IsShapeAsked (Rect x1 y1 x2 y2) = IsAsked x1 × IsAsked y1 × IsAsked x2 × IsAsked y2
-IsShapeAsked (Disc x y r) = IsAsked x × IsAsked y × (r ≤ 2 ^ 42)
+IsShapeAsked (Disc x y r) = IsAsked x × IsAsked y × (r ≤ MAX_REACH)
 
 -- a region whose shapes may be asked for
 abbrev pub IsRegionAsked : Region → Type 0

@@ -6,6 +6,7 @@ use Rattle.packed_bits.specs.Bits.{ones_of}
 use Rattle.track_types.specs.Frame.{IsFrame, periods_of}
 use Rattle.track_types.specs.Limits.{limit_of}
 use Rattle.track_types.specs.declared.limit.LimitKind.TheVariants.{Objects, Blocks, Symbols}
+use Rattle.track_types.specs.declared.limit.TheConstants.{MAX_TREE}
 use Rattle.track_types.specs.declared.parts.Parts.{Parts}
 use Rattle.track_types.specs.declared.period_parts.PeriodParts.{PeriodParts}
 
@@ -33,7 +34,7 @@ symbol_width parts = width_for (length parts.alphabet + length parts.rules)
 pub record IsShapedPeriod (objects : ℕ) (period : PeriodParts) : Type 0 where
   pub presence : length period.present ≡ objects
   pub offsets : length period.offsets ≡ ones_of period.present
-  pub bits : length period.tree ≤ 2 ^ 31
+  pub bits : length period.tree ≤ MAX_TREE
   pub lasts : length period.lasts ≡ ones_of period.present
   pub perm : length period.perm ≡ ones_of period.present
   pub lengths : length period.lengths ≡ ones_of period.present

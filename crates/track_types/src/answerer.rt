@@ -26,8 +26,8 @@ use step_count::Steps;
 /// Its meaning is a chart, its facts, and for each question a cost. Each answer is the one that
 /// filtering the chart's rows gives, and it makes at most as many reads as its question costs. An
 /// unknown object, an instant outside the chart and an empty window have `None` or the empty list.
-/// Instants and coordinates that are asked for are at most 2^41 away from 0, and a radius is at most
-/// 2^42.
+/// Instants and coordinates that are asked for are at most `MAX_ASKED` away from 0, and a radius is at
+/// most `MAX_REACH`.
 pub trait Answerer: Copy {
     type Walk: Lazy<Item = Stop> + Drop;
 

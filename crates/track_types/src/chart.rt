@@ -9,9 +9,10 @@ use std::marker::Model;
 /// A chart: the table of gridded rows, ascending by object, then instant, with at most one row for each
 /// pair. An object is absent at an instant for which it has no row.
 ///
-/// It has 1 to 2^24 rows, whose instants and coordinates lie within 2^40 of 0; at most 2^16 objects,
-/// 2^22 instants from the first to the last, `MAX_EXTENT` cells from the least to the greatest of each
-/// axis, 2^24 blocks (objects times periods), and 2^25 terminals in the logs of all blocks.
+/// It has 1 to `MAX_ROWS` rows, whose instants and coordinates lie within `MAX_PLACE` of 0; at most
+/// `MAX_OBJECTS` objects, `MAX_SPAN` instants from the first to the last, `MAX_EXTENT` cells from the
+/// least to the greatest of each axis, `MAX_BLOCKS` blocks (objects times periods), and `MAX_SYMBOLS`
+/// terminals in the logs of all blocks.
 #[derive(Debug, Drop)]
 pub struct Chart {
     rows: Vec<Row>,
@@ -34,8 +35,8 @@ impl Model for Chart {
 
 impl Chart {
     /// The chart of these rows, of which all that a chart keeps is asked. `cell` is how many units a
-    /// cell is wide, `tick` how many units of time an instant lasts (1 to 2^30 each), and `period` how
-    /// many instants lie between two snapshots (1 to 2^22).
+    /// cell is wide, `tick` how many units of time an instant lasts (1 to `MAX_RESOLUTION` each), and
+    /// `period` how many instants lie between two snapshots (1 to `MAX_PERIOD`).
     pub fn new(rows: Vec<Row>, cell: u64, tick: u64, period: u32) -> Self
         requires { IsChart (chart_with rows.items cell tick period) }
         ensures { result ≡ chart_with rows.items cell tick period }
@@ -90,7 +91,7 @@ impl Chart {
         }
     }
 
-    /// How many instants lie between two snapshots, 1 to 2^22.
+    /// How many instants lie between two snapshots, 1 to `MAX_PERIOD`.
     pub fn period(&self) -> u32
         ensures value { result ≡ self.now.period }
         ensures chart { IsChart self.now }
@@ -98,7 +99,7 @@ impl Chart {
         self.period
     }
 
-    /// How many units a cell is wide, 1 to 2^30.
+    /// How many units a cell is wide, 1 to `MAX_RESOLUTION`.
     pub fn cell(&self) -> u64
         ensures value { result ≡ self.now.cell }
         ensures chart { IsChart self.now }
@@ -106,7 +107,7 @@ impl Chart {
         self.cell
     }
 
-    /// How many units of time an instant lasts, 1 to 2^30.
+    /// How many units of time an instant lasts, 1 to `MAX_RESOLUTION`.
     pub fn tick(&self) -> u64
         ensures value { result ≡ self.now.tick }
         ensures chart { IsChart self.now }

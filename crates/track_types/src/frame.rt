@@ -11,20 +11,20 @@ use crate::timeline::Timeline;
 pub struct Frame {
     /// The version of the format that the index is written in: 1 to `MAX_VERSION`.
     pub version: u32,
-    /// The first instant: -2^40 to 2^40, and so is the last one.
+    /// The first instant: at most `MAX_PLACE` away from 0, and so is the last one.
     pub first: i64,
-    /// Instants from the first to the last, both counted: 1 to 2^22.
+    /// Instants from the first to the last, both counted: 1 to `MAX_SPAN`.
     pub span: u32,
-    /// Instants of a period: 1 to 2^22. The last period ends with the span.
+    /// Instants of a period: 1 to `MAX_PERIOD`. The last period ends with the span.
     pub period: u32,
     /// The grid of cells has the side 2^height: 1 to `MAX_HEIGHT`, in version 1 to
     /// `MAX_NARROW_HEIGHT`.
     pub height: u32,
-    /// The least cell of the grid. Its coordinates are -2^40 to 2^40.
+    /// The least cell of the grid. Its coordinates are at most `MAX_PLACE` away from 0.
     pub base: Cell,
-    /// Units of a cell: 1 to 2^30.
+    /// Units of a cell: 1 to `MAX_RESOLUTION`.
     pub cell: u64,
-    /// Units of an instant: 1 to 2^30.
+    /// Units of an instant: 1 to `MAX_RESOLUTION`.
     pub tick: u64,
 }
 

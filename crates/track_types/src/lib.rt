@@ -16,6 +16,7 @@ mod cell_box;
 mod chart;
 mod facts;
 mod flaw;
+mod format_fault;
 mod frame;
 mod hit;
 mod lazy;
@@ -46,14 +47,15 @@ pub use cell_box::CellBox;
 pub use chart::Chart;
 pub use facts::Facts;
 pub use flaw::{Flaw, Kind, Section};
+pub use format_fault::FormatFault;
 pub use frame::Frame;
 pub use hit::Hit;
 pub use lazy::drawn_items::Drawn;
 pub use lazy::{Lazy, drawn};
 pub use limit::{
-    LimitKind, MAX_BLOCKS, MAX_CSV, MAX_EXTENT, MAX_HEIGHT, MAX_INDEX, MAX_NARROW_HEIGHT,
-    MAX_OBJECTS, MAX_PERIOD, MAX_PLACE, MAX_QUESTIONS, MAX_RESOLUTION, MAX_ROWS, MAX_SPAN,
-    MAX_SYMBOLS, MAX_VERSION,
+    LimitKind, MAX_ASKED, MAX_BLOCKS, MAX_CSV, MAX_EXTENT, MAX_HEIGHT, MAX_INDEX,
+    MAX_NARROW_HEIGHT, MAX_OBJECTS, MAX_PERIOD, MAX_PLACE, MAX_QUESTIONS, MAX_REACH,
+    MAX_RESOLUTION, MAX_ROWS, MAX_SPAN, MAX_SYMBOLS, MAX_TREE, MAX_VERSION,
 };
 pub use lists::{List32, List64, Lists32, PairList, PeriodList};
 pub use meeting::Meeting;

@@ -47,6 +47,16 @@ pub const MAX_PERIOD: u64 = 4_194_304;
 /// How far from 0 the times, the instants and the coordinates of rows may be, 2^40.
 pub const MAX_PLACE: u64 = 1_099_511_627_776;
 
+/// How far from 0 the instants and the coordinates that are asked for may be, 2^41.
+pub const MAX_ASKED: u64 = 2_199_023_255_552;
+
+/// The greatest radius and the greatest distance that are asked for, and how far from 0 the
+/// coordinates that are compared may be, 2^42.
+pub const MAX_REACH: u64 = 4_398_046_511_104;
+
+/// The greatest count of bits of a period's tree, 2^31.
+pub const MAX_TREE: u64 = 2_147_483_648;
+
 /// A quantity that has a greatest value.
 #[derive(Clone, Copy, Debug, PartialEq, Eq)]
 pub enum LimitKind {

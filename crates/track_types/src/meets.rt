@@ -1,6 +1,7 @@
-ghost use Rattle.std.specs.Prelude.{◌≡◌, ◌+◌, ◌≤◌, ◌^◌, IfOk};
+ghost use Rattle.std.specs.Prelude.{◌≡◌, ◌+◌, ◌≤◌, IfOk};
 ghost use Rattle.track_types.specs.Meeting.{meeting_of};
 ghost use Rattle.track_types.specs.Near.{IsAsked};
+ghost use Rattle.track_types.specs.declared.limit.TheConstants.{MAX_REACH};
 ghost use Rattle.track_types.specs.declared.question.Question.TheVariants as asked;
 
 use crate::answerer::Answerer;
@@ -15,7 +16,7 @@ pub trait Meets: Answerer {
     /// The first instant from one to another, both counted, at which two objects have a row within
     /// `reach` cells of each other, and their cells; `None` exactly where there is none, as for an
     /// unknown object. A distance is that of the centres of cells: its square is at most the square
-    /// of `reach`. One object with itself is its first row in the window.
+    /// of `reach`, which is at most `MAX_REACH`. One object with itself is its first row in the window.
     fn meet<L: Ledger>(
         self,
         alloc: Global,
@@ -28,7 +29,7 @@ pub trait Meets: Answerer {
     ) -> Result<Option<Meeting>, Memory>
         requires from { IsAsked from }
         requires to { IsAsked to }
-        requires reach { reach ≤ 2 ^ 42 }
+        requires reach { reach ≤ MAX_REACH }
         ensures ok { IfOk result (λ found. found
             ≡ meeting_of (Self.chart self).rows left right from to reach) }
         ensures cost { steps.new

@@ -10,7 +10,7 @@ use std::fmt::{self, Display, Formatter, Write};
 pub struct RawRow {
     /// The object's number, 0 to 2^32 - 1.
     pub object: u32,
-    /// -2^40 to 2^40, as are the two coordinates.
+    /// At most `MAX_PLACE` away from 0, as are the two coordinates.
     pub time: i64,
     pub x: i64,
     pub y: i64,

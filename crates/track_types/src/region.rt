@@ -24,8 +24,8 @@ pub enum Region {
 }
 
 impl Region {
-    /// Whether a cell is in the region. All coordinates are at most 2^42 away from 0, and so are
-    /// radii. It takes no memory.
+    /// Whether a cell is in the region. All coordinates are at most `MAX_REACH` away from 0, and
+    /// so are radii. It takes no memory.
     pub fn contains(&self, cell: Cell) -> bool
         requires region { IsRegionWithin self.now }
         requires near { IsCellWithin cell }
@@ -39,8 +39,8 @@ impl Region {
     }
 
     /// Whether any cell of the box is in the region. Elsewhere this is called "intersects", and
-    /// "touches" is said of borders alone. All coordinates are at most 2^42 away from 0, and so are
-    /// radii. It takes no memory.
+    /// "touches" is said of borders alone. All coordinates are at most `MAX_REACH` away from 0, and
+    /// so are radii. It takes no memory.
     pub fn touches(&self, area: &CellBox) -> bool
         requires region { IsRegionWithin self.now }
         requires near { IsBoxWithin area.now }

@@ -48,7 +48,7 @@ impl Shape {
     }
 }
 
-/// The squared Euclidean distance of two cells, whose coordinates are at most 2^42 away from 0.
+/// The squared Euclidean distance of two cells, whose coordinates are at most `MAX_REACH` away from 0.
 pub fn dist2(a: Cell, b: Cell) -> u128
     requires first { IsCellWithin a }
     requires second { IsCellWithin b }
