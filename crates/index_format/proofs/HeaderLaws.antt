@@ -1,5 +1,5 @@
 -- The header: what is read is spelled so and in its ranges, and what is in its ranges is read again.
-use Rattle.std.proofs.Common.{◌≡◌, ℕ, ℤ, pos, ◌-◌, ◌*◌, ◌^◌, ◌<◌, ◌≤◌, Bool, true, false, ltb, List, ◌++◌, length, take, drop, zero, suc, inl, inr, Ok, refl, sym, ap, FitsSigned, ◌∙◌, append_assoc, arith}
+use Rattle.std.proofs.Common.{◌≡◌, ℕ, ℤ, pos, ◌-◌, ◌*◌, ◌<◌, ◌≤◌, Bool, true, false, ltb, List, ◌++◌, length, take, drop, zero, suc, inl, inr, Ok, refl, sym, ap, FitsSigned, ◌∙◌, append_assoc, arith}
 use Rattle.std.specs.Prelude.{IfOk, nat_le, neg_ℤ, ◌≤ℤ◌, ◌+ℤ◌}
 use Rattle.std.specs.Int.{Width, w32, w64, cast_signed, cast_unsigned, div_ceil}
 use Rattle.std.specs.Int.Signed.{le_z}
@@ -15,7 +15,7 @@ use Rattle.track_types.specs.Near.{IsNear}
 use Rattle.track_types.specs.declared.frame.Frame.{Frame}
 use Rattle.track_types.specs.Limits.{limit_of}
 use Rattle.track_types.specs.declared.limit.LimitKind.TheVariants as limits
-use Rattle.track_types.specs.declared.limit.TheConstants.{MAX_HEIGHT, MAX_NARROW_HEIGHT, MAX_VERSION}
+use Rattle.track_types.specs.declared.limit.TheConstants.{MAX_HEIGHT, MAX_NARROW_HEIGHT, MAX_PERIOD, MAX_RESOLUTION, MAX_VERSION}
 use Rattle.track_types.specs.declared.flaw.Kind.TheVariants.{Short}
 use Rattle.track_types.proofs.RegionLemmas.{le_z-from, le_z-is}
 use Rattle.index_format.specs.declared.header.Header.{Header}
@@ -117,7 +117,7 @@ height_within frame is = elim (cases_lt frame.version 2) [
 
 -- the numbers of four bytes are in their ranges
 pub record AreSizes (version : ℕ) (sizes : Sizes) : Type 0 where
-  pub period : (1 ≤ sizes.period) × (sizes.period ≤ 2 ^ 22)
+  pub period : (1 ≤ sizes.period) × (sizes.period ≤ MAX_PERIOD)
   pub height : (1 ≤ sizes.height) × (sizes.height ≤ greatest_height version)
   pub objects : (1 ≤ sizes.objects) × (sizes.objects ≤ limit_of limits.Objects)
   pub span : (1 ≤ sizes.span) × (sizes.span ≤ limit_of limits.Span)
@@ -133,7 +133,7 @@ unfolding sizes_at size_bytes
 sizes_at-takes version bytes fits =
     let high = greatest_height version in
     let many = limit_of limits.Symbols in
-    then_ok _ _ (field_at w32 1 (is_between 1 (2 ^ 22)) bytes) (field_at-takes wide32 1 (is_between 1 (2 ^ 22)) bytes fits) (λ period t1.
+    then_ok _ _ (field_at w32 1 (is_between 1 MAX_PERIOD) bytes) (field_at-takes wide32 1 (is_between 1 MAX_PERIOD) bytes fits) (λ period t1.
     then_ok _ _ (field_at w32 2 (is_between 1 high) period.1) (field_at-takes wide32 2 (is_between 1 high) period.1 t1.0.fits) (λ height t2.
     then_ok _ _ (field_at w32 3 (is_between 1 (limit_of limits.Objects)) height.1) (field_at-takes wide32 3 (is_between 1 (limit_of limits.Objects)) height.1 t2.0.fits) (λ objects t3.
     then_ok _ _ (field_at w32 4 (is_span objects.0 period.0) objects.1) (field_at-takes wide32 4 (is_span objects.0 period.0) objects.1 t3.0.fits) (λ span t4.
@@ -145,7 +145,7 @@ sizes_at-takes version bytes fits =
       Takes-text _ (simp append_assoc refl)
           (Takes-then t1.0 (Takes-then t2.0 (Takes-then t3.0 (Takes-then t4.0 (Takes-then t5.0 (Takes-then t6.0 t7.0)))))),
       record {
-        period = between 1 (2 ^ 22) period.0 t1.2;
+        period = between 1 MAX_PERIOD period.0 t1.2;
         height = between 1 high height.0 t2.2;
         objects = between 1 (limit_of limits.Objects) objects.0 t3.2;
         span = between 1 (limit_of limits.Span) span.0 both.0;
@@ -175,8 +175,8 @@ sizes_at-again version sizes rest are =
     let span = and_from (is_between 1 (limit_of limits.Span) sizes.span) (nat_le blocks (limit_of limits.Blocks))
     (is_between-true 1 (limit_of limits.Span) sizes.span are.span.0 are.span.1) few in
     ap (sizes_at version) text ∙ rw (
-      field_at-again wide32 1 (is_between 1 (2 ^ 22)) sizes.period r2 (omega (arith, are.period.1))
-          (is_between-true 1 (2 ^ 22) sizes.period are.period.0 are.period.1),
+      field_at-again wide32 1 (is_between 1 MAX_PERIOD) sizes.period r2 (omega (arith, are.period.1))
+          (is_between-true 1 MAX_PERIOD sizes.period are.period.0 are.period.1),
       field_at-again wide32 2 (is_between 1 high) sizes.height r3 (omega (arith, height_limit version sizes.height are.height.1))
           (is_between-true 1 high sizes.height are.height.0 are.height.1),
       field_at-again wide32 3 (is_between 1 (limit_of limits.Objects)) sizes.objects r4 (omega (arith, are.objects.1))
@@ -195,7 +195,7 @@ pub record IsHeader (header : Header) : Type 0 where
   pub frame : IsFrame header.frame
   pub sizes : AreSizes header.frame.version (sizes_of header)
 
--- a number at most 2^40 from 0 fits in eight bytes
+-- a number at most `far` from 0 fits in eight bytes
 near_fits : (z : ℤ) → neg_ℤ far ≤ℤ z → z ≤ℤ far → FitsSigned w64 z
 near_fits z low high = fits_signed_from_abs w64 z (omega (arith, ints, low, high))
 
@@ -215,7 +215,7 @@ first_before first more ends = omega (arith, ints, ends)
 pub header_at-takes : (bytes : List ℕ) → IsBytes bytes → IfOk (header_at bytes) (λ h. Takes bytes (header_bytes h.0) h.1 × IsHeader h.0)
 unfolding header_at header_bytes
 header_at-takes bytes fits =
-    let units = is_between 1 (2 ^ 30) in
+    let units = is_between 1 MAX_RESOLUTION in
     then_ok _ _ (version_at bytes) (version_at-takes bytes fits) (λ version t0.
     then_ok _ _ (sizes_at version.0 version.1) (sizes_at-takes version.0 version.1 t0.0.fits) (λ sizes t1.
     then_ok _ _ (signed_at 8 (is_first sizes.0.span) sizes.1) (signed_at-takes 8 (is_first sizes.0.span) sizes.1 t1.0.fits) (λ first t2.
@@ -224,8 +224,8 @@ header_at-takes bytes fits =
     then_ok _ _ (field_at w64 11 units y.1) (field_at-takes wide64 11 units y.1 t4.0.fits) (λ cell t5.
     then_ok _ _ (field_at w64 12 units cell.1) (field_at-takes wide64 12 units cell.1 t5.0.fits) (λ tick t6.
     let begin = and_parts (le_z (neg_ℤ far) first.0) (le_z (first.0 +ℤ pos (sizes.0.span - 1)) far) t2.1 in
-    let cells = between 1 (2 ^ 30) cell.0 t5.2 in
-    let ticks = between 1 (2 ^ 30) tick.0 t6.2 in
+    let cells = between 1 MAX_RESOLUTION cell.0 t5.2 in
+    let ticks = between 1 MAX_RESOLUTION tick.0 t6.2 in
     let are = t1.1 in (
       Takes-text _ (simp append_assoc refl)
           (Takes-then t0.0 (Takes-then t1.0 (Takes-then t2.0 (Takes-then t3.0 (Takes-then t4.0 (Takes-then t5.0 t6.0)))))),
@@ -255,7 +255,7 @@ pub header_at-again : (header : Header) (rest : List ℕ) → IsHeader header �
 unfolding header_at header_bytes
 header_at-again header rest is =
     let frame = header.frame in
-    let units = is_between 1 (2 ^ 30) in
+    let units = is_between 1 MAX_RESOLUTION in
     let r6 = long_bytes frame.tick ++ rest in
     let r5 = long_bytes frame.cell ++ r6 in
     let r4 = signed_bytes frame.base.y ++ r5 in
@@ -276,7 +276,7 @@ header_at-again header rest is =
       signed_at-again 10 is_near frame.base.y r5 (near_fits frame.base.y is.frame.lines.low is.frame.lines.high)
           (near-true frame.base.y is.frame.lines),
       field_at-again wide64 11 units frame.cell r6 (omega (arith, is.frame.cells.limit))
-          (is_between-true 1 (2 ^ 30) frame.cell is.frame.cells.some is.frame.cells.limit),
+          (is_between-true 1 MAX_RESOLUTION frame.cell is.frame.cells.some is.frame.cells.limit),
       field_at-again wide64 12 units frame.tick rest (omega (arith, is.frame.ticks.limit))
-          (is_between-true 1 (2 ^ 30) frame.tick is.frame.ticks.some is.frame.ticks.limit),
+          (is_between-true 1 MAX_RESOLUTION frame.tick is.frame.ticks.some is.frame.ticks.limit),
     ) refl

@@ -9,8 +9,8 @@ use Rattle.track_types.specs.declared.flaw.Flaw.{Flaw}
 use Rattle.track_types.specs.declared.flaw.Section.{Section}
 use Rattle.track_types.specs.declared.flaw.Section.TheVariants.{Rules}
 use Rattle.track_types.specs.declared.flaw.Kind.TheVariants.{Short, Order}
-use Rattle.index_format.specs.declared.fault.FormatFault.{FormatFault}
-use Rattle.index_format.specs.declared.fault.FormatFault.TheVariants as fault
+use Rattle.track_types.specs.declared.format_fault.FormatFault.{FormatFault}
+use Rattle.track_types.specs.declared.format_fault.FormatFault.TheVariants as fault
 use Rattle.index_format.specs.Answers.{IsFaultOf}
 use Rattle.index_format.specs.Fields.{Taken, flaw_at, number_at, items_at, short_at, rises, rising_at, rule_at}
 

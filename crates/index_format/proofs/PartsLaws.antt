@@ -10,7 +10,7 @@ use Rattle.track_types.specs.Shape.{IsShaped, width_for, symbol_width}
 use Rattle.track_types.specs.declared.flaw.Section.TheVariants.{Objects, Alphabet}
 use Rattle.track_types.specs.declared.flaw.Flaw.{Flaw}
 use Rattle.track_types.specs.declared.parts.Parts.{Parts}
-use Rattle.index_format.specs.declared.fault.FormatFault.{FormatFault}
+use Rattle.track_types.specs.declared.format_fault.FormatFault.{FormatFault}
 use Rattle.index_format.specs.Answers.{Gives}
 use Rattle.index_format.specs.Spelling.{short_bytes, long_bytes, rule_bytes, period_bytes, log_bytes, header_bytes, header_of, bytes_of_parts}
 use Rattle.index_format.specs.Fields.{items_at, rising_at, rule_at, log_at}

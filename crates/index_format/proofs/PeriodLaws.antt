@@ -1,5 +1,5 @@
 -- The sections of a period: what is read is spelled so and shaped, and what is shaped is read again.
-use Rattle.std.proofs.Common.{◌≡◌, ℕ, ◌^◌, ◌≤◌, true, List, [], ◌∷◌, ◌++◌, length, All, Ok, Err, refl, ap, ◌∙◌, append_assoc, arith}
+use Rattle.std.proofs.Common.{◌≡◌, ℕ, ◌≤◌, true, List, [], ◌∷◌, ◌++◌, length, All, Ok, Err, refl, ap, ◌∙◌, append_assoc, arith}
 use Rattle.std.specs.Prelude.{IfOk, nat_le}
 use Rattle.std.specs.List.{flat_map}
 use Rattle.std.specs.Int.{w32}
@@ -10,6 +10,7 @@ use Rattle.packed_bits.specs.Bits.{ones_of}
 use Rattle.track_types.specs.Shape.{IsShapedPeriod}
 use Rattle.track_types.specs.declared.flaw.Section.TheVariants.{Presence, Offsets, TreeLen, Tree, Lasts, Perm, Lengths}
 use Rattle.track_types.specs.declared.flaw.Kind.TheVariants.{Short}
+use Rattle.track_types.specs.declared.limit.TheConstants.{MAX_TREE}
 use Rattle.track_types.specs.declared.period_parts.PeriodParts.{PeriodParts}
 use Rattle.index_format.specs.Spelling.{short_bytes, bit_bytes, period_bytes}
 use Rattle.index_format.specs.Fields.{Taken, flaw_at, number_at, items_at, short_at, bits_at}
@@ -20,18 +21,18 @@ use Rattle.index_format.proofs.ListLaws.{shorts_listed}
 
 -- a tree's length that was read is spelled so
 tree_length_at-takes : (number : ℕ) (bytes : List ℕ) → IsBytes bytes
-    → IfOk (tree_length_at number bytes) (λ n. Takes bytes (short_bytes n.0) n.1 × (n.0 ≤ 2 ^ 31))
+    → IfOk (tree_length_at number bytes) (λ n. Takes bytes (short_bytes n.0) n.1 × (n.0 ≤ MAX_TREE))
 unfolding tree_length_at
 tree_length_at-takes number bytes fits =
     let missing = flaw_at TreeLen number 0 Short in
     then_ok _ _ (number_at w32 missing bytes) (number_at-takes wide32 missing bytes fits) (λ n taken.
-    test_ok _ _ _ (nat_le n.0 (2 ^ 31)) (λ low. (taken.0, grind (arith, nat_tests, low))))
+    test_ok _ _ _ (nat_le n.0 MAX_TREE) (λ low. (taken.0, grind (arith, nat_tests, low))))
 
-tree_length_at-again : (number n : ℕ) (rest : List ℕ) → n ≤ 2 ^ 31 → tree_length_at number (short_bytes n ++ rest) ≡ Ok (n, rest)
+tree_length_at-again : (number n : ℕ) (rest : List ℕ) → n ≤ MAX_TREE → tree_length_at number (short_bytes n ++ rest) ≡ Ok (n, rest)
 unfolding tree_length_at
 tree_length_at-again number n rest low =
     let read = number_at-again wide32 (flaw_at TreeLen number 0 Short) n rest (omega arith) in
-    let test : nat_le n (2 ^ 31) ≡ true = grind (arith, nat_tests, low) in
+    let test : nat_le n MAX_TREE ≡ true = grind (arith, nat_tests, low) in
     rw (read, test) refl
 
 -- a period that was read is spelled so

@@ -1,8 +1,8 @@
 -- What a function that reads may answer, beside what reading gives.
 use Rattle.std.specs.Prelude.{◌≡◌, Result, Ok, Err}
 use Rattle.track_types.specs.declared.flaw.Flaw.{Flaw}
-use Rattle.index_format.specs.declared.fault.FormatFault.{FormatFault}
-use Rattle.index_format.specs.declared.fault.FormatFault.TheVariants as fault
+use Rattle.track_types.specs.declared.format_fault.FormatFault.{FormatFault}
+use Rattle.track_types.specs.declared.format_fault.FormatFault.TheVariants as fault
 
 -- a flaw is that of the reading; memory may be wanting for any bytes
 abbrev pub IsFaultOf : {Y : Type 0} → Result Y Flaw → FormatFault → Type 0

@@ -1,5 +1,5 @@
 -- The parts that the bytes of an index hold, or the first flaw.
-use Rattle.std.specs.Prelude.{bytes_eq, ℕ, ℤ, pos, neg_ℤ, ◌+ℤ◌, ◌+◌, ◌-◌, ◌*◌, ◌^◌, Bool, ◌&&◌, List, [], length, take, drop, Result, Ok, Err, nat_lt, nat_le, ◌==◌, if◌then◌else◌}
+use Rattle.std.specs.Prelude.{bytes_eq, ℕ, ℤ, pos, neg_ℤ, ◌+ℤ◌, ◌+◌, ◌-◌, ◌*◌, Bool, ◌&&◌, List, [], length, take, drop, Result, Ok, Err, nat_lt, nat_le, ◌==◌, if◌then◌else◌}
 use Rattle.std.specs.Int.{Width, w32, w64, div_ceil, cast_signed}
 use Rattle.std.specs.Int.Signed.{le_z}
 use Rattle.packed_bits.specs.Bits.{ones_of}
@@ -7,7 +7,7 @@ use Rattle.track_types.specs.Frame.{periods_of}
 use Rattle.track_types.specs.Shape.{width_for}
 use Rattle.track_types.specs.Limits.{limit_of}
 use Rattle.track_types.specs.declared.limit.LimitKind.TheVariants as limits
-use Rattle.track_types.specs.declared.limit.TheConstants.{MAX_HEIGHT, MAX_NARROW_HEIGHT}
+use Rattle.track_types.specs.declared.limit.TheConstants.{MAX_HEIGHT, MAX_NARROW_HEIGHT, MAX_PERIOD, MAX_PLACE, MAX_RESOLUTION, MAX_TREE}
 use Rattle.track_types.specs.declared.flaw.Flaw.{Flaw}
 use Rattle.track_types.specs.declared.flaw.Kind.{Kind}
 use Rattle.track_types.specs.declared.flaw.Kind.TheVariants.{Short, Magic, Field, Extra}
@@ -29,9 +29,9 @@ is_between least greatest n = nat_le least n && nat_le n greatest
 
 -- the greatest distance of a coordinate or an instant from 0
 abbrev pub far : ℤ
-far = pos (2 ^ 40)
+far = pos MAX_PLACE
 
--- at most 2^40 from 0
+-- at most `far` from 0
 abbrev pub is_near : ℤ → Bool
 is_near z = le_z (neg_ℤ far) z && le_z z far
 
@@ -40,7 +40,7 @@ abbrev pub is_span : ℕ → ℕ → ℕ → Bool
 is_span objects period span =
     is_between 1 (limit_of limits.Span) span && nat_le (objects * div_ceil span period) (limit_of limits.Blocks)
 
--- an instant from which the whole span is at most 2^40 from 0
+-- an instant from which the whole span is at most `far` from 0
 abbrev pub is_first : ℕ → ℤ → Bool
 is_first span first = le_z (neg_ℤ far) first && le_z (first +ℤ pos (span - 1)) far
 
@@ -71,7 +71,7 @@ signed_at index passes bytes = do
 -- the header's numbers of four bytes, in a version
 unfoldable pub sizes_at : ℕ → List ℕ → Taken Sizes
 sizes_at version bytes = do
-  period ← field_at w32 1 (is_between 1 (2 ^ 22)) bytes
+  period ← field_at w32 1 (is_between 1 MAX_PERIOD) bytes
   height ← field_at w32 2 (is_between 1 (greatest_height version)) period.1
   objects ← field_at w32 3 (is_between 1 (limit_of limits.Objects)) height.1
   span ← field_at w32 4 (is_span objects.0 period.0) objects.1
@@ -99,8 +99,8 @@ header_at bytes = do
   first ← signed_at 8 (is_first sizes.0.span) sizes.1
   x ← signed_at 9 is_near first.1
   y ← signed_at 10 is_near x.1
-  cell ← field_at w64 11 (is_between 1 (2 ^ 30)) y.1
-  tick ← field_at w64 12 (is_between 1 (2 ^ 30)) cell.1
+  cell ← field_at w64 11 (is_between 1 MAX_RESOLUTION) y.1
+  tick ← field_at w64 12 (is_between 1 MAX_RESOLUTION) cell.1
   Ok (
     record {
       frame = record {
@@ -125,7 +125,7 @@ header_at bytes = do
 unfoldable pub tree_length_at : ℕ → List ℕ → Taken ℕ
 tree_length_at number bytes = do
   n ← number_at w32 (flaw_at TreeLen number 0 Short) bytes
-  if nat_le n.0 (2 ^ 31) then Ok n else Err (flaw_at TreeLen number 0 Field)
+  if nat_le n.0 MAX_TREE then Ok n else Err (flaw_at TreeLen number 0 Field)
 
 -- the sections of one period, for so many objects
 unfoldable pub period_at : ℕ → List PeriodParts → List ℕ → Taken PeriodParts

@@ -1,18 +1,18 @@
-ghost use Rattle.std.specs.Prelude.{◌≡◌, ◌≤◌, ◌^◌, IfOk, IfErr, Ok, length};
+ghost use Rattle.std.specs.Prelude.{◌≡◌, ◌≤◌, IfOk, IfErr, Ok, length};
 ghost use Rattle.track_types.specs.Shape.{IsShaped};
+ghost use Rattle.track_types.specs.declared.limit.TheConstants.{MAX_INDEX};
 ghost use Rattle.track_types.specs.declared.parts.Parts as declared;
 ghost use Rattle.index_format.specs.Answers.{Gives, IsFaultOf};
 ghost use Rattle.index_format.specs.Reading.{parts_in};
 ghost use Rattle.index_format.specs.Spelling.{bytes_of_parts};
 
-use crate::fault::FormatFault;
 use crate::header::header_of;
 use crate::lists::{alphabet_of, objects_of, rules_of};
 use crate::log::log_of;
 use crate::periods::periods_of;
 use crate::place::Place;
 use std::alloc::Global;
-use track_types::{Kind, Parts, Section};
+use track_types::{FormatFault, Kind, Parts, Section};
 
 /// The parts that the bytes hold, all of the bytes.
 #[tactic(auto, unfolding(crate::specs::Reading::parts_in))]
@@ -39,13 +39,13 @@ fn parts_of(alloc: Global, bytes: &[u8]) -> Result<Parts, FormatFault>
     })
 }
 
-/// The parts that the bytes of an index file hold: at most 2^30 bytes, all of which are read.
+/// The parts that the bytes of an index file hold: at most `MAX_INDEX` bytes, all of which are read.
 ///
 /// `FormatFault::Flaw` is the first flaw from the front. Each parts that have the form of an index
 /// are decoded from their own bytes alone. Memory is taken as the bytes pay for it: a list is made
 /// only as long as the bytes that are left can hold.
 pub fn decode(alloc: Global, bytes: &[u8]) -> Result<Parts, FormatFault>
-    requires { length bytes.now ≤ 2 ^ 30 }
+    requires { length bytes.now ≤ MAX_INDEX }
     ensures ok { IfOk result (λ parts. parts_in bytes.now ≡ Ok parts) }
     ensures shaped { IfOk result (λ parts. IsShaped parts) }
     ensures spelled { IfOk result (λ parts. bytes.now ≡ bytes_of_parts parts) }

@@ -3,8 +3,7 @@ ghost use Rattle.std.specs.Int.{w32, w64, from_le_bytes};
 ghost use Rattle.index_format.specs.Answers.{Gives};
 ghost use Rattle.index_format.specs.Fields.{number_at};
 
-use crate::fault::FormatFault;
-use track_types::Flaw;
+use track_types::{Flaw, FormatFault};
 
 /// The number of eight bytes, lowest first.
 pub fn word_of(bytes: &[u8]) -> u64

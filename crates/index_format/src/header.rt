@@ -1,18 +1,22 @@
 ghost use Rattle.std.specs.Prelude.{◌≡◌, ◌≤◌, ◌+◌, ◌^◌, IfOk, pos};
 ghost use Rattle.std.specs.Int.{w32, w64};
-ghost use Rattle.track_types.specs.declared.limit.TheConstants.{MAX_VERSION};
+ghost use Rattle.track_types.specs.declared.limit.TheConstants.{MAX_RESOLUTION, MAX_SYMBOLS, MAX_VERSION};
 ghost use Rattle.index_format.specs.Answers.{Gives};
 ghost use Rattle.index_format.specs.Spelling.{magic};
 ghost use Rattle.index_format.specs.Reading.{header_flaw, is_between, is_span, is_first, is_near, greatest_height, version_at, field_at, signed_at, sizes_at, header_at};
 
-use crate::fault::FormatFault;
 use crate::fields::{long_of, short_of};
-use crate::limits::{FAR, MAX_BLOCKS, MAX_OBJECTS, MAX_SPAN, MAX_SYMBOLS, MAX_UNITS};
 use crate::place::Place;
-use track_types::{Cell, Flaw, Frame, Kind, MAX_HEIGHT, MAX_NARROW_HEIGHT, Section};
+use track_types::{
+    Cell, Flaw, FormatFault, Frame, Kind, MAX_BLOCKS, MAX_HEIGHT, MAX_NARROW_HEIGHT, MAX_OBJECTS,
+    MAX_PERIOD, MAX_PLACE, MAX_RESOLUTION, MAX_SPAN, MAX_SYMBOLS, Section,
+};
 
 /// How many bytes name the format and its version.
 const MAGIC_LEN: usize = 8;
+
+/// How far from 0 an instant and a coordinate may be.
+const FAR: i64 = MAX_PLACE as i64;
 
 /// The eight bytes that an index of a version begins with: `GRACT001`, `GRACT002`.
 pub fn magic(version: u32) -> [u8; 8]
@@ -94,13 +98,13 @@ fn field_of(
     bytes: &[u8],
     index: usize,
     least: u32,
-    greatest: u32,
+    greatest: u64,
 ) -> Result<(u32, &[u8]), FormatFault>
     ensures exact { Gives (λ x. (x.0, x.1.now)) result (field_at w32 index (is_between least greatest) bytes.now) }
     ensures within { IfOk result (λ x. (least ≤ x.0) × (x.0 ≤ greatest)) }
 {
     let (number, rest) = short_of(bytes, header_flaw(index, Kind::Short))?;
-    if number < least || number > greatest {
+    if number < least || u64::from(number) > greatest {
         return Err(FormatFault::Flaw(header_flaw(index, Kind::Field)));
     }
     Ok((number, rest))
@@ -109,10 +113,10 @@ fn field_of(
 /// How many units a cell or an instant has.
 #[tactic(auto, unfolding(crate::specs::Reading::field_at))]
 fn units_of(bytes: &[u8], index: usize) -> Result<(u64, &[u8]), FormatFault>
-    ensures { Gives (λ x. (x.0, x.1.now)) result (field_at w64 index (is_between 1 (2 ^ 30)) bytes.now) }
+    ensures { Gives (λ x. (x.0, x.1.now)) result (field_at w64 index (is_between 1 MAX_RESOLUTION) bytes.now) }
 {
     let (units, rest) = long_of(bytes, header_flaw(index, Kind::Short))?;
-    if units < 1 || units > MAX_UNITS {
+    if units < 1 || units > MAX_RESOLUTION {
         return Err(FormatFault::Flaw(header_flaw(index, Kind::Field)));
     }
     Ok((units, rest))
@@ -126,7 +130,7 @@ fn span_of(bytes: &[u8], objects: u32, period: u32) -> Result<(u32, &[u8]), Form
     ensures within { IfOk result (λ x. 1 ≤ x.0) }
 {
     let (span, rest) = short_of(bytes, header_flaw(4, Kind::Short))?;
-    let in_range = 1 <= span && span <= MAX_SPAN;
+    let in_range = 1 <= span && u64::from(span) <= MAX_SPAN;
     if !in_range || u64::from(objects) * u64::from(span.div_ceil(period)) > MAX_BLOCKS {
         return Err(FormatFault::Flaw(header_flaw(4, Kind::Field)));
     }
@@ -167,10 +171,10 @@ fn sizes_of(version: u32, bytes: &[u8]) -> Result<(Sizes, &[u8]), FormatFault>
     ensures within { IfOk result (λ x. 1 ≤ x.0.span) }
     ensures some { IfOk result (λ x. 1 ≤ x.0.period) }
     ensures told { IfOk result (λ x. x.0.alphabet + x.0.rules ≤ 2 ^ 26) }
-    ensures few { IfOk result (λ x. x.0.symbols ≤ 2 ^ 25) }
+    ensures few { IfOk result (λ x. x.0.symbols ≤ MAX_SYMBOLS) }
 {
-    let (period, rest) = field_of(bytes, 1, 1, MAX_SPAN)?;
-    let (height, rest) = field_of(rest, 2, 1, greatest_height(version))?;
+    let (period, rest) = field_of(bytes, 1, 1, MAX_PERIOD)?;
+    let (height, rest) = field_of(rest, 2, 1, greatest_height(version).into())?;
     let (objects, rest) = field_of(rest, 3, 1, MAX_OBJECTS)?;
     let (span, rest) = span_of(rest, objects, period)?;
     let (alphabet, rest) = field_of(rest, 5, 0, MAX_SYMBOLS)?;
@@ -196,7 +200,7 @@ pub fn header_of(bytes: &[u8]) -> Result<(Header, &[u8]), FormatFault>
     ensures exact { Gives (λ x. (x.0, x.1.now)) result (header_at bytes.now) }
     ensures within { IfOk result (λ x. 1 ≤ x.0.frame.period) }
     ensures told { IfOk result (λ x. x.0.alphabet + x.0.rules ≤ 2 ^ 26) }
-    ensures few { IfOk result (λ x. x.0.symbols ≤ 2 ^ 25) }
+    ensures few { IfOk result (λ x. x.0.symbols ≤ MAX_SYMBOLS) }
 {
     let (version, rest) = version_of(bytes)?;
     let (sizes, rest) = sizes_of(version, rest)?;

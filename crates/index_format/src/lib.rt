@@ -7,11 +7,9 @@
 
 mod decoding;
 mod encoding;
-mod fault;
 mod fields;
 mod header;
 mod lengths;
-mod limits;
 mod lists;
 mod log;
 mod packed;
@@ -27,4 +25,4 @@ mod width;
 
 pub use decoding::decode;
 pub use encoding::encode;
-pub use fault::FormatFault;
+pub use track_types::FormatFault;

@@ -4,12 +4,11 @@ ghost use Rattle.track_types.specs.declared.flaw.Section.TheVariants.{Objects, A
 ghost use Rattle.index_format.specs.Answers.{Gives};
 ghost use Rattle.index_format.specs.Fields.{items_at, short_at, rising_at, rule_at};
 
-use crate::fault::FormatFault;
 use crate::fields::{long_of, short_of};
 use crate::place::Place;
 use crate::room::with_room;
 use std::alloc::Global;
-use track_types::{Kind, List32, List64, PairList, Section};
+use track_types::{FormatFault, Kind, List32, List64, PairList, Section};
 
 /// So many numbers of four bytes. Memory is taken only for those that the bytes hold.
 #[tactic(auto, unfolding(crate::specs::Fields::short_at))]

@@ -1,10 +1,10 @@
 ghost use Rattle.std.specs.Prelude.{◌≡◌, ◌+◌, ◌++◌, ◌≤◌, ◌^◌, length, OnOk};
-ghost use Rattle.track_types.specs.Shape.{IsShaped, width_for, symbol_width};
+ghost use Rattle.track_types.specs.Shape.{IsShaped, symbol_width, width_for};
+ghost use Rattle.track_types.specs.declared.limit.TheConstants.{MAX_SYMBOLS};
 ghost use Rattle.index_format.specs.Answers.{Gives};
 ghost use Rattle.index_format.specs.Fields.{log_at};
 ghost use Rattle.index_format.specs.Spelling.{log_bytes};
 
-use crate::fault::FormatFault;
 use crate::header::Header;
 use crate::lists::shorts_of;
 use crate::packed::bits_of;
@@ -14,12 +14,12 @@ use crate::putting::put_shorts;
 use crate::unpacking::unpacked;
 use crate::width::width_for;
 use std::alloc::Global;
-use track_types::{List32, Memory, Parts, Section};
+use track_types::{FormatFault, List32, Memory, Parts, Section};
 
 /// The symbols of all logs, and the bytes after them.
 #[tactic(auto, unfolding(crate::specs::Fields::log_at, crate::specs::Fields::packed_at))]
 pub fn log_of(alloc: Global, header: Header, bytes: &[u8]) -> Result<(List32, &[u8]), FormatFault>
-    requires few { header.symbols ≤ 2 ^ 25 }
+    requires few { header.symbols ≤ MAX_SYMBOLS }
     requires told { header.alphabet + header.rules ≤ 2 ^ 26 }
     ensures { Gives (λ x. (x.0, x.1.now)) result
         (log_at header.frame.version (width_for (header.alphabet + header.rules)) header.symbols bytes.now) }

@@ -5,11 +5,10 @@ ghost use Rattle.index_format.specs.Answers.{Gives};
 ghost use Rattle.index_format.specs.Fields.{has_spare, bits_at};
 ghost use Rattle.index_format.specs.Spelling.{bits_in, bytes_for};
 
-use crate::fault::FormatFault;
 use crate::fields::word_of;
 use crate::place::Place;
 use std::alloc::{AllocError, Global};
-use track_types::{BitList, Kind};
+use track_types::{BitList, FormatFault, Kind};
 
 /// So many bits, and the bytes after the last one that they fill. Memory is taken only where the
 /// bytes hold them.

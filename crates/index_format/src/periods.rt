@@ -5,15 +5,13 @@ ghost use Rattle.index_format.specs.Answers.{Gives};
 ghost use Rattle.index_format.specs.Fields.{items_at};
 ghost use Rattle.index_format.specs.Reading.{tree_length_at, period_at};
 
-use crate::fault::FormatFault;
 use crate::fields::short_of;
-use crate::limits::MAX_TREE;
 use crate::lists::shorts_of;
 use crate::packed::{bits_of, ones_in};
 use crate::place::Place;
 use crate::room::with_room;
 use std::alloc::Global;
-use track_types::{Kind, PeriodList, PeriodParts, Section};
+use track_types::{FormatFault, Kind, MAX_TREE, PeriodList, PeriodParts, Section};
 
 /// How many bits a period's tree has.
 #[tactic(auto, unfolding(crate::specs::Reading::tree_length_at))]
@@ -22,7 +20,7 @@ fn tree_length_of(period: u32, bytes: &[u8]) -> Result<(u32, &[u8]), FormatFault
 {
     let place = Place::of(Section::TreeLen, period);
     let (len, rest) = short_of(bytes, place.flaw(0, Kind::Short))?;
-    if len > MAX_TREE {
+    if u64::from(len) > MAX_TREE {
         return Err(FormatFault::Flaw(place.flaw(0, Kind::Field)));
     }
     Ok((len, rest))
