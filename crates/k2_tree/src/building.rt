@@ -7,22 +7,40 @@ ghost use Rattle.track_types.specs.declared.limit.TheConstants.{MAX_HEIGHT};
 
 use crate::groups::fan_of;
 use std::alloc::Global;
-use track_types::Memory;
+use track_types::{BitList, Memory};
 
 /// The tree bits of ascending Morton numbers of `height` digits, level by level from the top, of
-/// which the `wide` upper ones take two digits each, and how many squares these split. Each level
-/// takes one pass over the numbers.
+/// which the `wide` upper ones take two digits each: the bits of a tree that is only to be written.
+/// There are at most 2^16 numbers, and the height is at most `MAX_HEIGHT`. Each level takes one
+/// pass over the numbers.
 pub fn bits_of_codes(
     alloc: Global,
     codes: &[u64],
     height: u32,
     wide: u32,
-) -> Result<(Vec<bool>, u32), Memory>
+) -> Result<BitList, Memory>
     requires ascending { Rises 0 codes.now }
     requires few { length codes.now ≤ 2 ^ 16 }
     requires low { height ≤ MAX_HEIGHT }
     requires fits { 2 * wide ≤ height }
-    ensures bits { IfOk result (λ made. made.0.items ≡ morton_bits (widths_of height wide) codes.now) }
+    ensures ok { IfOk result (λ bits. bits ≡ morton_bits (widths_of height wide) codes.now) }
+{
+    let (bits, _upper) = split_by_codes(alloc, codes, height, wide)?;
+    Ok(bits)
+}
+
+/// These bits, and how many squares the wide levels split.
+pub fn split_by_codes(
+    alloc: Global,
+    codes: &[u64],
+    height: u32,
+    wide: u32,
+) -> Result<(BitList, u32), Memory>
+    requires ascending { Rises 0 codes.now }
+    requires few { length codes.now ≤ 2 ^ 16 }
+    requires low { height ≤ MAX_HEIGHT }
+    requires fits { 2 * wide ≤ height }
+    ensures bits { IfOk result (λ made. made.0 ≡ morton_bits (widths_of height wide) codes.now) }
     ensures upper { IfOk result (λ made. made.1 ≡ upper_squares height wide codes.now) }
 {
     let low = height - 2 * wide;
@@ -30,7 +48,8 @@ pub fn bits_of_codes(
     push_levels(&mut bits, codes, 2, wide, low)?;
     let upper = bits.len() / 16;
     push_levels(&mut bits, codes, 1, low, 0)?;
-    Ok((bits, upper as u32))
+    let list = BitList::pack(alloc, bits.as_slice())?;
+    Ok((list, upper as u32))
 }
 
 // Pushes so many levels of one width. The squares of the last have `below` digits below them.

@@ -14,7 +14,7 @@ ghost use Rattle.k2_tree.specs.Pruned.{pruned_budget, pruned_left, pruned_tree};
 ghost use Rattle.track_types.specs.declared.cell.Cell.{Cell};
 ghost use Rattle.k2_tree.specs.Cost.{child_reads, climb_reads, descent_reads};
 
-use crate::building::bits_of_codes;
+use crate::building::split_by_codes;
 use crate::checking::upper_of;
 use crate::climb::code_of_leaf;
 use crate::descent::{child_at, find_leaf};
@@ -87,8 +87,7 @@ impl K2Tree {
         ensures ok { IfOk result (λ t. t ≡ tree_with height wide base cells.now) }
     {
         let codes = codes_of_cells(alloc, cells, height, base)?;
-        let (bits, upper) = bits_of_codes(alloc, codes.as_slice(), height, wide)?;
-        let list = BitList::pack(alloc, bits.as_slice())?;
+        let (list, upper) = split_by_codes(alloc, codes.as_slice(), height, wide)?;
         match Bits::from_list(alloc, list) {
             Ok(bits) => Ok(K2Tree {
                 bits,
