@@ -37,7 +37,7 @@ module _ {X : Type 0} (order : X → X → Ordering) where
     AreApart-append xs ys apart.1 also (λ y inside. across y (later_member y x xs inside)),
   )
 
-  -- nor do two of those behind
+  -- nor do two of those after
   pub AreApart-behind : (xs ys : List X) → AreApart order (xs ++ ys) → AreApart order ys
   AreApart-behind [] ys apart = apart
   AreApart-behind (x ∷ xs) ys apart = AreApart-behind xs ys apart.1

@@ -49,7 +49,7 @@ module _ {K : Type 0} {R : K → K → Ordering} (o : IsTotalOrder R) where
         ]
       ]
 
-  -- the members behind the first of two lists that begin alike
+  -- the members after the first of two lists that begin alike
   members_behind : (x y : K) (xs ys : List K) → x ≡ y → IsStrictlySortedBy R (x ∷ xs) →
       ((z : K) → Contains (x ∷ xs) z → Contains (y ∷ ys) z) → (z : K) → Contains xs z → Contains ys z
   members_behind x y xs ys is up into z inside =

@@ -1,4 +1,4 @@
--- Parts of lists: what holds of all, and lists in strict order: what stands in front, what stands behind, and what may be put between.
+-- Parts of lists: what holds of all, and lists in strict order: what stands in front, what stands after, and what may be put between.
 use Rattle.std.proofs.Common.{◌≡◌, ℕ, zero, suc, List, [], ◌∷◌, ◌++◌, All, Ordering}
 use Rattle.std.specs.Prelude.{drop}
 use Rattle.std.specs.List.{AllByRecursion, Contains}
@@ -15,7 +15,7 @@ module _ {X : Type 0} where
   all_from_members P (x ∷ xs) each =
       (each x (first_member x xs), all_from_members P xs (λ y inside. each y (later_member y x xs inside)))
 
-  -- what holds of all holds of those in front and of those behind
+  -- what holds of all holds of those in front and of those after
   all_front : (P : X → Type 0) (xs ys : List X) → AllByRecursion P (xs ++ ys) → AllByRecursion P xs
   all_front P [] ys all = tt
   all_front P (x ∷ xs) ys all = (all.0, all_front P xs ys all.1)
@@ -45,7 +45,7 @@ module _ {X : Type 0} where
     IsStrictlySortedBy-drop (suc n) [] up = tt
     IsStrictlySortedBy-drop (suc n) (x ∷ xs) up = IsStrictlySortedBy-drop n xs up.1
 
-    -- others may be put between, where they are in order with those in front and before those behind
+    -- others may be put between, where they are in order with those in front and before those after
     pub IsStrictlySortedBy-between : (xs ys zs : List X) → IsStrictlySortedBy order (xs ++ ys)
         → IsStrictlySortedBy order (xs ++ zs) → All (λ y. All (λ z. order y z ≡ Less) zs) ys
         → IsStrictlySortedBy order ((xs ++ ys) ++ zs)

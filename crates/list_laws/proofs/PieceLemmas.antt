@@ -10,7 +10,7 @@ use Rattle.std.proofs.lemmas.List.Concat.{flat_map-append}
 use Rattle.list_laws.proofs.MemberLemmas.{first_member, later_member, member_cases, no_member}
 use Rattle.list_laws.proofs.RuleLemmas.{parted_at}
 
--- the part of a list behind what is in front of it
+-- the part of a list after what is in front of it
 pub slice_range-middle : {A : Type 0} (before part after : List A)
     → slice_range (before ++ (part ++ after)) (length before) (length before + length part) ≡ part
 slice_range-middle before part after =
@@ -28,7 +28,7 @@ flat_map-parted f xs k d within =
     ∙ append_assoc (flat_map f (take k xs)) (flat_map f (get_or xs k d ∷ [])) (flat_map f (drop (k + 1) xs))
     ∙ ap (λ ys. flat_map f (take k xs) ++ (ys ++ flat_map f (drop (k + 1) xs))) last
 
--- an element that passes stands among those that do, behind those before it
+-- an element that passes stands among those that do, after those before it
 pub get_or-filter : {X : Type 0} (p : X → Bool) (xs : List X) (k : ℕ) (d : X) → k < length xs → p (get_or xs k d) ≡ true
     → (length (filter p (take k xs)) < length (filter p xs))
     × (get_or (filter p xs) (length (filter p (take k xs))) d ≡ get_or xs k d)
@@ -41,7 +41,7 @@ get_or-filter p (x ∷ xs) (suc k) d within passes =
       | inr gone ↦ rw gone rest
     ]
 
--- what does not fall, and behind it what is not below and does not fall
+-- what does not fall, and after it what is not below and does not fall
 pub IsNonDecreasingBy-append : {X : Type 0} (f : X → ℕ) (n : ℕ) (xs ys : List X) → IsNonDecreasingBy f xs
     → All (λ x. f x ≤ n) xs → IsNonDecreasingBy f ys → All (λ y. n ≤ f y) ys → IsNonDecreasingBy f (xs ++ ys)
 IsNonDecreasingBy-append f n xs ys up low up' high i j d before within =

@@ -26,7 +26,7 @@ module _ {X : Type 0} (key : X → ℕ) where
     IsRising-from_order (y ∷ ys) (λ i j d low high. rise (suc i) (suc j) d (omega arith) (omega arith)),
   )
 
-  -- the elements behind the first rise too
+  -- the elements after the first rise too
   IsRising-tail : (x : X) (xs : List X) → IsRising (x ∷ xs) → IsRising xs
   IsRising-tail x [] rise = tt
   IsRising-tail x (y ∷ ys) rise = rise.1
