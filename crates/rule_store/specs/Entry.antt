@@ -1,6 +1,7 @@
 -- The summary of a symbol, taken over the values that it stands for.
 use Rattle.std.specs.Prelude.{ℕ, ◌^◌, ◌≤◌, ◌≤ℤ◌, pos, neg_ℤ, List, length, IfSome}
 use Rattle.track_types.specs.Near.{IsBoxWithin}
+use Rattle.track_types.specs.declared.limit.TheConstants.{MAX_PERIOD}
 use Rattle.rule_store.specs.View.{RulesView}
 use Rattle.rule_store.specs.Expansion.{expansion_of, values_of}
 use Rattle.rule_store.specs.Cells.{displacement_of}
@@ -31,5 +32,5 @@ pub record IsEntryWithin (entry : Entry) : Type 0 where
   pub right : entry.dx ≤ℤ pos (2 ^ 31)
   pub below : neg_ℤ (pos (2 ^ 31)) ≤ℤ entry.dy
   pub above : entry.dy ≤ℤ pos (2 ^ 31)
-  pub short : entry.duration ≤ 2 ^ 22
+  pub short : entry.duration ≤ MAX_PERIOD
   pub hull : IfSome entry.hull IsBoxWithin

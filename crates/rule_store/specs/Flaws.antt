@@ -3,7 +3,12 @@ use Rattle.std.specs.Prelude.{◌≡◌, ℕ, ◌+◌, ◌-◌, ◌^◌, Bool, f
 use Rattle.std.specs.Option.{option_map, option_or}
 use Rattle.std.specs.List.{range_with_len}
 use Rattle.spiral_code.specs.Spiral.{ring_of}
+use Rattle.track_types.specs.Flaws.{flaw_in}
 use Rattle.track_types.specs.declared.cell_box.CellBox.{CellBox}
+use Rattle.track_types.specs.declared.flaw.Kind.TheVariants as kind
+use Rattle.track_types.specs.declared.flaw.Section.TheVariants as section
+use Rattle.track_types.specs.declared.format_fault.FormatFault.{FormatFault}
+use Rattle.track_types.specs.declared.format_fault.FormatFault.TheVariants as format
 use Rattle.rule_store.specs.View.{RulesView, IsShaped, symbols_in}
 use Rattle.rule_store.specs.Cells.{movement_of}
 use Rattle.rule_store.specs.Entry.{entry_of}
@@ -78,6 +83,13 @@ IsFaultFor first (fault.Code index) = first ≡ Some (fault.Code index)
 IsFaultFor first (fault.Rule rule) = first ≡ Some (fault.Rule rule)
 IsFaultFor first (fault.Symbol index) = first ≡ Some (fault.Symbol index)
 IsFaultFor first fault.Memory = ⊤
+
+-- what a fault of the rules is in an index
+abbrev pub format_fault_of : RuleFault → FormatFault
+format_fault_of (fault.Code index) = format.Flaw (flaw_in 0 section.Alphabet kind.Code index)
+format_fault_of (fault.Rule rule) = format.Flaw (flaw_in 0 section.Rules kind.Rule rule)
+format_fault_of (fault.Symbol index) = format.Flaw (flaw_in 0 section.Log kind.Symbol index)
+format_fault_of fault.Memory = format.Memory
 
 -- what holds of every rule store: its lists are shaped and have no flaw
 pub record AreRules (view : RulesView) : Type 0 where

@@ -1,8 +1,10 @@
 ghost use Rattle.std.specs.Prelude.{◌≡◌};
+ghost use Rattle.rule_store.specs.Flaws.{format_fault_of};
 ghost use Rattle.rule_store.specs.declared.fault.RuleFault.TheVariants.{Memory};
 
 use std::error::Error;
 use std::fmt::{self, Display, Formatter, Write};
+use track_types::{Flaw, FormatFault, Kind, Section};
 
 /// Why lists are not taken as the rules of an index.
 #[derive(Clone, Copy, Debug, PartialEq, Eq)]
@@ -37,5 +39,24 @@ impl From<track_types::Memory> for RuleFault {
 
     fn from(_memory: track_types::Memory) -> Self {
         RuleFault::Memory
+    }
+}
+
+impl From<RuleFault> for FormatFault {
+    ghost from_gives = { λ cause fault. fault ≡ format_fault_of cause };
+
+    fn from(cause: RuleFault) -> Self {
+        let (section, kind, index) = match cause {
+            RuleFault::Code { index } => (Section::Alphabet, Kind::Code, index),
+            RuleFault::Rule { rule } => (Section::Rules, Kind::Rule, rule),
+            RuleFault::Symbol { index } => (Section::Log, Kind::Symbol, index),
+            RuleFault::Memory => return FormatFault::Memory,
+        };
+        FormatFault::Flaw(Flaw {
+            section,
+            period: 0,
+            index: u64::from(index),
+            kind,
+        })
     }
 }

@@ -1,7 +1,7 @@
 ghost use Rattle.std.specs.Prelude.{◌≡◌, ℕ, List, ◌^◌, ◌<◌, ◌≤◌, false};
 ghost use Rattle.spiral_code.specs.Spiral.{ring_of};
 ghost use Rattle.track_types.specs.Near.{IsWithin};
-ghost use Rattle.track_types.specs.declared.limit.TheConstants.{MAX_HEIGHT};
+ghost use Rattle.track_types.specs.declared.limit.TheConstants.{MAX_HEIGHT, MAX_PERIOD};
 
 use crate::entry::Entry;
 use crate::packed_box::PackedBox;
@@ -14,7 +14,7 @@ pub(crate) struct PackedEntry {
     dx: i32,
     dy: i32,
     pub(crate) hull: PackedBox,
-    ghost short: { duration ≤ 2 ^ 22 },
+    ghost short: { duration ≤ MAX_PERIOD },
     ghost shallow: { depth ≤ 2 ^ 26 },
 }
 
@@ -25,7 +25,7 @@ impl PackedEntry {
 
     /// Packs an entry, whose distances stay within the reach of the highest grid.
     pub(crate) fn pack(entry: Entry, depth: u32) -> PackedEntry
-        requires short { entry.duration ≤ 2 ^ 22 }
+        requires short { entry.duration ≤ MAX_PERIOD }
         requires shallow { depth ≤ 2 ^ 26 }
         requires near { ring_of entry.dx entry.dy < 2 ^ MAX_HEIGHT }
         requires within { box_passes MAX_HEIGHT entry.hull ≡ false }

@@ -1,7 +1,7 @@
 ghost use Rattle.std.specs.Prelude.{◌≡◌, ◌+◌, ◌^◌, ◌<◌, ◌≤◌, None, true, false, length, IfOk};
 ghost use Rattle.std.specs.Prelude.{MatchOption};
 ghost use Rattle.spiral_code.specs.Spiral.{ring_of};
-ghost use Rattle.track_types.specs.declared.limit.TheConstants.{MAX_HEIGHT};
+ghost use Rattle.track_types.specs.declared.limit.TheConstants.{MAX_HEIGHT, MAX_PERIOD, MAX_SYMBOLS};
 
 use crate::entry::Entry;
 use crate::joining::{join, terminal_entry};
@@ -17,12 +17,12 @@ pub(crate) struct RawRules<'a> {
     pub(crate) symbols: &'a [u32],
     pub(crate) height: u32,
     pub(crate) period: u32,
-    ghost alphabet_fits: { length alphabet.now ≤ 2 ^ 25 },
-    ghost rules_fit: { length rules.now ≤ 2 ^ 25 },
-    ghost symbols_fit: { length symbols.now ≤ 2 ^ 25 },
+    ghost alphabet_fits: { length alphabet.now ≤ MAX_SYMBOLS },
+    ghost rules_fit: { length rules.now ≤ MAX_SYMBOLS },
+    ghost symbols_fit: { length symbols.now ≤ MAX_SYMBOLS },
     ghost height_fits: { height ≤ MAX_HEIGHT },
     ghost some: { 0 < period },
-    ghost period_fits: { period ≤ 2 ^ 22 },
+    ghost period_fits: { period ≤ MAX_PERIOD },
 }
 
 impl RawRules<'_> {

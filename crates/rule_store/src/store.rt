@@ -55,9 +55,9 @@ impl RuleStore {
     /// stored symbol is a terminal or a rule. The fault is the first place that fails. Each rule is
     /// judged before a later one sums it, so that no sum leaves its type.
     ///
-    /// The alphabet ascends; it, the rules and the symbols have at most 2^25 members each; `height`
-    /// is 1 to `MAX_HEIGHT` and `period` 1 to 2^22. Memory is taken for the entries, 32 bytes for
-    /// each symbol of the grammar.
+    /// The alphabet ascends; it, the rules and the symbols have at most `MAX_SYMBOLS` members each;
+    /// `height` is 1 to `MAX_HEIGHT` and `period` 1 to `MAX_PERIOD`. Memory is taken for the entries,
+    /// 32 bytes for each symbol of the grammar.
     pub fn check(
         alloc: Global,
         alphabet: List64,

@@ -8,7 +8,7 @@ use std::marker::Brand;
 use std::sync::ledger::{Blank, Ledger};
 use std::test::Fail;
 use step_count::Steps;
-use track_types::{List32, List64, MAX_HEIGHT, Memory, PairList};
+use track_types::{List32, List64, MAX_HEIGHT, MAX_PERIOD, Memory, PairList};
 
 // Whether numbers ascend.
 fn ascends(numbers: &[u64]) -> bool
@@ -34,7 +34,7 @@ fn store_of(
     if !ascends(alphabet) || alphabet.len() > 100 || rules.len() > 100 || symbols.len() > 100 {
         return Err(RuleFault::Memory);
     }
-    if height < 1 || height > MAX_HEIGHT || period < 1 || period > 4194304 {
+    if height < 1 || height > MAX_HEIGHT || period < 1 || u64::from(period) > MAX_PERIOD {
         return Err(RuleFault::Memory);
     }
     RuleStore::check(
@@ -102,7 +102,7 @@ fn flawed_rules_are_refused_at_the_first_flaw(rt: HostRuntime) -> Result<(), Fai
     );
     let doubling = doubling_rules(alloc)?;
     assert_eq!(rt;
-        fault_of(store_of(alloc, &[2], doubling.as_slice(), &[], 20, 4194304)),
+        fault_of(store_of(alloc, &[2], doubling.as_slice(), &[], 20, MAX_PERIOD as u32)),
         Some(RuleFault::Rule { rule: 19 }),
         "2^20 cells"
     );
@@ -228,7 +228,14 @@ fn entries_sum_up_expansions(rt: HostRuntime) -> Result<(), Fail> {
     let alphabet: [u64; 10] = [0, 1, 2, 3, 4, 5, 6, 7, 8, 9];
     for seed in 0..200u64 {
         let rules = random_rules(alloc, seed)?;
-        let store = store_of(alloc, &alphabet, rules.as_slice(), &[], MAX_HEIGHT, 4194304)?;
+        let store = store_of(
+            alloc,
+            &alphabet,
+            rules.as_slice(),
+            &[],
+            MAX_HEIGHT,
+            MAX_PERIOD as u32,
+        )?;
         let expansions = expand(alloc, &alphabet, rules.as_slice())?;
         for (symbol, values) in expansions.iter().enumerate() {
             let told = told_of(&store, symbol);
