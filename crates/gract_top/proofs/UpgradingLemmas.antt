@@ -5,7 +5,7 @@ use Rattle.track_types.specs.declared.flaw.Flaw.{Flaw}
 use Rattle.track_types.specs.declared.parts.Parts.{Parts}
 use Rattle.track_types.specs.Shape.{IsShaped}
 use Rattle.index_format.specs.Spelling.{bytes_of_parts}
-use Rattle.index_format.specs.declared.fault.FormatFault.{FormatFault}
+use Rattle.track_types.specs.declared.format_fault.FormatFault.{FormatFault}
 use Rattle.track_index.specs.CheckFlaws.{check_flaw}
 use Rattle.track_index.specs.Opening.{IsFile}
 use Rattle.snapshots.specs.Upgrade.{upgrade_of}

@@ -6,8 +6,8 @@ use Rattle.track_types.specs.declared.flaw.Flaw.{Flaw}
 use Rattle.track_types.specs.declared.parts.Parts.{Parts}
 use Rattle.snapshots.specs.SoundParts.{IsValid}
 use Rattle.index_format.specs.Answers.{Gives}
-use Rattle.index_format.specs.declared.fault.FormatFault.{FormatFault}
-use Rattle.index_format.specs.declared.fault.FormatFault.TheVariants as fault
+use Rattle.track_types.specs.declared.format_fault.FormatFault.{FormatFault}
+use Rattle.track_types.specs.declared.format_fault.FormatFault.TheVariants as fault
 use Rattle.index_format.specs.Reading.{parts_in}
 use Rattle.index_format.specs.Spelling.{bytes_of_parts}
 use Rattle.index_format.proofs.BitLemmas.{IsBytes}

@@ -17,8 +17,8 @@ use Rattle.snapshots.specs.View.{SnapshotView}
 use Rattle.snapshots.specs.JoinFlaws.{logs_flaw}
 use Rattle.snapshots.specs.Parts.{no_period, period_at, rules_in, snapshot_in, start_in, symbols_of}
 use Rattle.snapshots.specs.Stores.{join_of, parts_of, snapshots_in, AreOf}
-use Rattle.index_format.specs.declared.fault.FormatFault.{FormatFault}
-use Rattle.index_format.specs.declared.fault.FormatFault.TheVariants as fault
+use Rattle.track_types.specs.declared.format_fault.FormatFault.{FormatFault}
+use Rattle.track_types.specs.declared.format_fault.FormatFault.TheVariants as fault
 use Rattle.track_types.specs.declared.flaw.Flaw.{Flaw}
 use Rattle.snapshots.specs.IndexCost.{open_cost}
 use Rattle.index_format.specs.Answers.{IsFaultOf}

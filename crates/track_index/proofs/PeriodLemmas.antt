@@ -17,8 +17,8 @@ use Rattle.snapshots.specs.View.{SnapshotView, view_with}
 use Rattle.snapshots.specs.Flaws.{flaw_of, IsShaped}
 use Rattle.snapshots.specs.Parts.{no_period, period_at, symbols_of}
 use Rattle.snapshots.proofs.ReachLemmas.{IsShaped-view}
-use Rattle.index_format.specs.declared.fault.FormatFault.{FormatFault}
-use Rattle.index_format.specs.declared.fault.FormatFault.TheVariants as fault
+use Rattle.track_types.specs.declared.format_fault.FormatFault.{FormatFault}
+use Rattle.track_types.specs.declared.format_fault.FormatFault.TheVariants as fault
 use Rattle.track_index.specs.CheckFlaws.{snapshot_with, snapshots_flaw, snapshots_with, AreShapedPeriods, IsFaultFor}
 
 -- what is known once the first periods were checked: where the next logs begin, their snapshots, and that none has a

@@ -23,8 +23,8 @@ use Rattle.snapshots.specs.Flaws.{flaw_in, flaw_of}
 use Rattle.snapshots.specs.JoinFlaws.{logs_flaw}
 use Rattle.snapshots.specs.Parts.{numbers_in, period_at, rules_in, symbols_of}
 use Rattle.snapshots.specs.Stores.{snapshots_in}
-use Rattle.index_format.specs.declared.fault.FormatFault.{FormatFault}
-use Rattle.index_format.specs.declared.fault.FormatFault.TheVariants as fault
+use Rattle.track_types.specs.declared.format_fault.FormatFault.{FormatFault}
+use Rattle.track_types.specs.declared.format_fault.FormatFault.TheVariants as fault
 
 -- where a fault of the rules is, and how the index is not of its format there
 abbrev pub rule_flaw_of : RuleFault → Option Flaw
