@@ -11,11 +11,11 @@ abbrev pub flaw_in : ℕ → Section → Kind → ℕ → Flaw
 flaw_in number section kind index = record { section = section; period = number; index = index; kind = kind }
 
 -- the flaw of a fault, and none where memory was refused
-abbrev pub flaw_of : FormatFault → Option Flaw
-flaw_of (fault.Flaw flaw) = Some flaw
-flaw_of fault.Memory = None
+abbrev pub fault_flaw : FormatFault → Option Flaw
+fault_flaw (fault.Flaw flaw) = Some flaw
+fault_flaw fault.Memory = None
 
 -- a fault is this flaw; memory may be wanting for any bytes
-abbrev pub IsFaultFor : Option Flaw → FormatFault → Type 0
-IsFaultFor first (fault.Flaw flaw) = first ≡ Some flaw
-IsFaultFor first fault.Memory = ⊤
+abbrev pub IsFormatFaultFor : Option Flaw → FormatFault → Type 0
+IsFormatFaultFor first (fault.Flaw flaw) = first ≡ Some flaw
+IsFormatFaultFor first fault.Memory = ⊤
