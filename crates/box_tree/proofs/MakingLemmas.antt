@@ -2,12 +2,15 @@
 use Rattle.std.proofs.Common.{◌≡◌, ℕ, suc, ◌+◌, ◌-◌, ◌*◌, ◌^◌, ◌<◌, ◌≤◌, true, List, [], ◌∷◌, ◌++◌, length, map}
 use Rattle.std.proofs.Common.{filter, drop, refl, sym, ap, ◌∙◌, arith, All, subst, inl, inr, Some, append_assoc}
 use Rattle.std.proofs.Common.{length-append, get_or}
-use Rattle.std.specs.Prelude.{slice_get}
+use Rattle.std.specs.Prelude.{slice_get, ℤ}
+use Rattle.std.specs.Int.{int_max, int_min}
+use Rattle.std.proofs.lemmas.Int.{clamps, ints}
 use Rattle.std.specs.List.{range_with_len, sum_by}
 use Rattle.std.proofs.lemmas.Option.{slice_get_within, slice_get-get_or, get_or_from_slice_get}
 use Rattle.std.proofs.lemmas.List.{length-map, append-nil, drop-append-le}
 use Rattle.std.proofs.Math.Seq.{drop-cons}
-use Rattle.track_types.specs.Near.{IsBoxWithin}
+use Rattle.track_types.specs.Near.{IsBoxWithin, IsWithin}
+use Rattle.track_types.specs.Boxes.{joined_box}
 use Rattle.box_tree.proofs.RunLemmas.{All-range}
 use Rattle.std.proofs.lemmas.Bool.{cases_Bool, cases_lt}
 use Rattle.std.proofs.lemmas.Bool.Decides.{nat_tests}
@@ -159,6 +162,29 @@ pub box-near : (boxes : List CellBox) (place : ℕ) (read : CellBox) → place <
     → read ≡ get_or boxes place read
     → All IsBoxWithin boxes → IsBoxWithin read
 box-near boxes place read within is near = subst IsBoxWithin (sym is) (near place read within)
+
+-- the least box with two boxes is where they are
+pub joined-from : (base : Cell) (area other : CellBox) → IsFrom base area → IsFrom base other → IsFrom base (joined_box area other)
+joined-from base area other own first = record {
+  left = omega (arith, ints, clamps, own.left, first.left);
+  right = omega (arith, ints, clamps, own.right, first.right);
+  below = omega (arith, ints, clamps, own.below, first.below);
+  above = omega (arith, ints, clamps, own.above, first.above);
+}
+
+pub joined-near : (area other : CellBox) → IsBoxWithin area → IsBoxWithin other → IsBoxWithin (joined_box area other)
+joined-near area other own first = record {
+  x1 = within-min area.x1 other.x1 own.x1 first.x1;
+  y1 = within-min area.y1 other.y1 own.y1 first.y1;
+  x2 = within-max area.x2 other.x2 own.x2 first.x2;
+  y2 = within-max area.y2 other.y2 own.y2 first.y2;
+}
+  where
+    within-min : (a b : ℤ) → IsWithin a → IsWithin b → IsWithin (int_min a b)
+    within-min a b one two = record { low = omega (arith, ints, clamps, one.low, two.low); high = omega (arith, ints, clamps, one.high) }
+
+    within-max : (a b : ℤ) → IsWithin a → IsWithin b → IsWithin (int_max a b)
+    within-max a b one two = record { low = omega (arith, ints, clamps, one.low); high = omega (arith, ints, clamps, one.high, two.high) }
 
 -- one number more of a range
 pub All-range_more : (P : ℕ → Type 0) (a k : ℕ) → a ≤ k → All P (range_with_len a (k - a)) → P k

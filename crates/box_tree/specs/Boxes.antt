@@ -2,7 +2,7 @@
 use Rattle.std.specs.Prelude.{◌≡◌, ℕ, ◌-◌, ◌^◌, pos, neg_ℤ, ◌+ℤ◌, ◌≤ℤ◌, List, [], ◌∷◌, length}
 use Rattle.track_types.specs.declared.cell.Cell.{Cell}
 use Rattle.track_types.specs.declared.cell_box.CellBox.{CellBox}
-use Rattle.k2_tree.specs.Areas.{le-more}
+use Rattle.track_types.specs.Boxes.{le-more}
 
 -- the box that begins so far from a base and reaches so far
 abbrev pub box_with : Cell → ℕ × ℕ → ℕ × ℕ → CellBox

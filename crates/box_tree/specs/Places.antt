@@ -7,7 +7,8 @@ use Rattle.track_types.specs.declared.cell_box.CellBox.{CellBox}
 use Rattle.k2_tree.specs.Squares.{Node, node}
 use Rattle.track_types.specs.declared.limit.TheConstants.{MAX_HEIGHT}
 use Rattle.k2_tree.specs.TreeBits.{code_limit}
-use Rattle.k2_tree.specs.Areas.{box_from, IsBoxInside}
+use Rattle.track_types.specs.Boxes.{box_from}
+use Rattle.k2_tree.specs.Areas.{IsBoxInside}
 use Rattle.box_tree.specs.Cost.{node_reads, opened_reads, place_reads}
 use Rattle.box_tree.specs.Levels.{digits, run, squares_in}
 use Rattle.box_tree.specs.Tests.{Tests}

@@ -1,15 +1,11 @@
 -- A search by two boxes, as the tests ask it.
-use Rattle.std.proofs.Common.{◌≡◌, ℤ, ◌≤ℤ◌, Bool, true, arith}
-use Rattle.std.specs.Prelude.{◌&&◌}
+use Rattle.std.proofs.Common.{◌≡◌, ℤ, ◌≤ℤ◌, true, arith}
 use Rattle.std.proofs.lemmas.Bool.{and_from, and_parts}
 use Rattle.std.proofs.lemmas.Int.{ints, clamps}
+use Rattle.track_types.specs.Boxes.{touches}
 use Rattle.track_types.specs.Region.{overlaps}
 use Rattle.track_types.specs.declared.cell_box.CellBox.{CellBox}
 use Rattle.box_tree.specs.Tests.{AreMonotone, IsWider}
-
--- whether two boxes have a cell in common
-abbrev pub touches : CellBox → CellBox → Bool
-touches first second = overlaps first.x1 first.x2 second.x1 second.x2 && overlaps first.y1 first.y2 second.y1 second.y2
 
 -- what overlaps a pair of bounds overlaps a wider one
 overlaps-wider : (low high a b c d : ℤ) → c ≤ℤ a → b ≤ℤ d → overlaps low high a b ≡ true → overlaps low high c d ≡ true

@@ -95,51 +95,9 @@ fn round(boxes: &[CellBox], low: u32, high: u32) -> CellBox
 {
     let mut area = boxes[low as usize];
     for place in low + 1..high {
-        area = join(&area, &boxes[place as usize]);
+        area = area.joined(&boxes[place as usize]);
     }
     area
-}
-
-// The box of two boxes.
-fn join(first: &CellBox, second: &CellBox) -> CellBox
-    requires first { IsBoxWithin first.now }
-    requires second { IsBoxWithin second.now }
-    ensures within { IsBoxWithin result }
-    ensures from { (base : Cell) → IsFrom base first.now → IsFrom base second.now
-        → IsFrom base result }
-    ensures first { IsBoxInside first.now result }
-    ensures second { IsBoxInside second.now result }
-{
-    CellBox {
-        x1: lesser(first.x1, second.x1),
-        y1: lesser(first.y1, second.y1),
-        x2: greater(first.x2, second.x2),
-        y2: greater(first.y2, second.y2),
-    }
-}
-
-// The lesser of two coordinates.
-fn lesser(a: i64, b: i64) -> i64
-    requires a { IsWithin a }
-    requires b { IsWithin b }
-    ensures first { result ≤ℤ a }
-    ensures second { result ≤ℤ b }
-    ensures least { (low : ℤ) → low ≤ℤ a → low ≤ℤ b → low ≤ℤ result }
-    ensures within { IsWithin result }
-{
-    if a < b { a } else { b }
-}
-
-// The greater of two coordinates.
-fn greater(a: i64, b: i64) -> i64
-    requires a { IsWithin a }
-    requires b { IsWithin b }
-    ensures first { a ≤ℤ result }
-    ensures second { b ≤ℤ result }
-    ensures most { (high : ℤ) → a ≤ℤ high → b ≤ℤ high → result ≤ℤ high }
-    ensures within { IsWithin result }
-{
-    if a < b { b } else { a }
 }
 
 // The link of the node that is made of a task. Where it is a branch, the tasks of its children

@@ -11,7 +11,7 @@ use std::process::Abort;
 use std::sync::ledger::{Blank, Ledger};
 use std::test::Fail;
 use step_count::Steps;
-use touching::{Touching, touch};
+use touching::Touching;
 use track_types::{Cell, CellBox, Lazy, Memory};
 
 mod touching;
@@ -156,7 +156,7 @@ fn walk_agrees<L: Ledger>(rt: &impl Abort, made: &Made, search: Touching, steps:
     let mut walk = BoxWalk::new(&made.tree, search);
     let mut place: u32 = 0;
     for (code, area) in made.codes.iter().zip(&made.boxes) {
-        if touch(&search.square, &cell_of(*code)) && touch(&search.area, area) {
+        if search.square.meets(&cell_of(*code)) && search.area.meets(area) {
             assert_eq!(rt; walk.draw(steps), Some(place));
         }
         place = place.wrapping_add(1);
