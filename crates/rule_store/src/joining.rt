@@ -12,7 +12,7 @@ ghost use Rattle.rule_store.specs.Stored.{IsPacked};
 use crate::entry::Entry;
 use crate::packed_entry::PackedEntry;
 use spiral_code::decode_move;
-use track_types::CellBox;
+use track_types::{Cell, CellBox};
 
 /// The entry of a terminal: an absence, or the movement of a code.
 pub(crate) fn terminal_entry(symbol: u32, value: u64) -> Entry
@@ -29,12 +29,7 @@ pub(crate) fn terminal_entry(symbol: u32, value: u64) -> Entry
         };
     }
     let (dx, dy) = decode_move(value - 1);
-    let hull = CellBox {
-        x1: dx,
-        y1: dy,
-        x2: dx,
-        y2: dy,
-    };
+    let hull = CellBox::of(Cell { x: dx, y: dy });
     Entry {
         symbol,
         duration: 1,
@@ -71,12 +66,7 @@ fn shift(hull: Option<CellBox>, dx: i64, dy: i64) -> Option<CellBox>
         → result ≡ box_round (map (λ cell. moved cell (dx, dy)) cells) }
 {
     match hull {
-        Some(hull) => Some(CellBox {
-            x1: hull.x1 + dx,
-            y1: hull.y1 + dy,
-            x2: hull.x2 + dx,
-            y2: hull.y2 + dy,
-        }),
+        Some(hull) => Some(hull.moved(Cell { x: dx, y: dy })),
         None => None,
     }
 }
@@ -87,12 +77,7 @@ fn join_boxes(left: Option<CellBox>, right: Option<CellBox>) -> Option<CellBox>
         → result ≡ box_round (lefts ++ rights) }
 {
     match (left, right) {
-        (Some(a), Some(b)) => Some(CellBox {
-            x1: a.x1.min(b.x1),
-            y1: a.y1.min(b.y1),
-            x2: a.x2.max(b.x2),
-            y2: a.y2.max(b.y2),
-        }),
+        (Some(a), Some(b)) => Some(a.joined(&b)),
         (Some(_), None) => left,
         (None, _) => right,
     }

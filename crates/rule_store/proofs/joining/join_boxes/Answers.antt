@@ -1,15 +1,15 @@
-use Rattle.std.proofs.Common.{◌≡◌, [], ◌∙◌, sym, rules}
-use Rattle.std.proofs.lemmas.Int.{clamps, ints, to_z-of_z}
+use Rattle.std.proofs.Common.{◌≡◌, [], ◌∙◌, sym, refl}
 use Rattle.std.proofs.lemmas.List.{append-nil}
+use Rattle.track_types.specs.Boxes.{joined_box}
 use Rattle.rule_store.proofs.BoxLemmas.{box_round-append, box_round-none}
 use Rattle.rule_store.proofs.joining.join_boxes.Goals as goal
 
 pub returns-in-Some-Some : goal.returns-in-Some-Some
 returns-in-Some-Some c = λ lefts rights left right.
-    box_round-append lefts rights c.in-Some-Some.a c.in-Some-Some.b _ (sym c.in-Some-Some.is-0 ∙ left)
-    (sym c.in-Some-Some.is-1 ∙ right) (search (rules, ints, to_z-of_z, clamps)) (search (rules, ints, to_z-of_z))
-    (search (rules, ints, to_z-of_z))
-    (search (rules, ints, to_z-of_z))
+    let a = c.in-Some-Some.a in
+    let b = c.in-Some-Some.b in
+    rw c.joined.ensures (box_round-append lefts rights a b (joined_box a b) (sym c.in-Some-Some.is-0 ∙ left)
+    (sym c.in-Some-Some.is-1 ∙ right) refl refl refl refl)
 
 pub returns-in-Some-None : goal.returns-in-Some-None
 returns-in-Some-None c = λ lefts rights left right.

@@ -13,5 +13,5 @@ returns c =
     let is = is_move_of c.args.value move some c.decode_move-dx.ensures.exact in
     let by = displacement_of-move c.args.value move.0 move.1 some is in
     same_entry _ c.args.symbol (c.args.value ∷ []) refl refl (omega (arith, ints, by.0)) (omega (arith, ints, by.1))
-    (bounding_box_of-move c.args.value _ move.0 move.1 some is (omega (arith, ints)) (omega (arith, ints))
-    (omega (arith, ints)) (omega (arith, ints)))
+    (rw c.of-hull.ensures (bounding_box_of-move c.args.value _ move.0 move.1 some is (omega (arith, ints)) (omega (arith, ints))
+    (omega (arith, ints)) (omega (arith, ints))))
