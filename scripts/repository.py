@@ -113,6 +113,34 @@ def labels(crate):
     return found
 
 
+def exported(crate):
+    """The names that a library hands out."""
+    root = folder(crate) / "src" / "lib.rt"
+    handed = re.findall(r"^pub use ([^;]*);", root.read_text(), re.MULTILINE) if root.exists() else []
+    return set(re.findall(r"\w+", " ".join(handed)))
+
+
+def answers(crate):
+    """Each call that a library hands out, with the type of its answer: of a type or a trait `TYPE::CALL`, of none `CALL`."""
+    names = exported(crate)
+    for file in sources(crate):
+        if "tests" in file.relative_to(folder(crate)).as_posix():
+            continue
+        owner = is_trait = call = None
+        for line in file.read_text().splitlines():
+            begins = re.match(r"(?:pub )?(impl|trait)\b(?:<[^>]*>)?(.* for)? (\w+)", line)
+            if begins:
+                is_trait, owner = begins.group(1) == "trait", begins.group(3)
+            call = re.match(r"( *)(pub )?fn (\w+)", line) or call
+            answer = re.search(r"-> (.*?)(?: \{|;)?$", line)
+            if not call or not answer:
+                continue
+            indent, is_public, name = call.groups()
+            call = None
+            if (owner if indent else name) in names and (is_public or indent and is_trait):
+                yield f"{owner}::{name}" if indent else name, answer.group(1)
+
+
 def words(crate):
     """All public names of a crate's definitions, those of fields too."""
     found = set()
