@@ -85,11 +85,11 @@ IsFaultFor first (fault.Symbol index) = first ≡ Some (fault.Symbol index)
 IsFaultFor first fault.Memory = ⊤
 
 -- what a fault of the rules is in an index
-abbrev pub format_fault_of : RuleFault → FormatFault
-format_fault_of (fault.Code index) = format.Flaw (flaw_in 0 section.Alphabet kind.Code index)
-format_fault_of (fault.Rule rule) = format.Flaw (flaw_in 0 section.Rules kind.Rule rule)
-format_fault_of (fault.Symbol index) = format.Flaw (flaw_in 0 section.Log kind.Symbol index)
-format_fault_of fault.Memory = format.Memory
+abbrev pub format_fault_of_rules : RuleFault → FormatFault
+format_fault_of_rules (fault.Code index) = format.Flaw (flaw_in 0 section.Alphabet kind.Code index)
+format_fault_of_rules (fault.Rule rule) = format.Flaw (flaw_in 0 section.Rules kind.Rule rule)
+format_fault_of_rules (fault.Symbol index) = format.Flaw (flaw_in 0 section.Log kind.Symbol index)
+format_fault_of_rules fault.Memory = format.Memory
 
 -- what holds of every rule store: its lists are shaped and have no flaw
 pub record AreRules (view : RulesView) : Type 0 where

@@ -1,5 +1,5 @@
 ghost use Rattle.std.specs.Prelude.{◌≡◌};
-ghost use Rattle.rule_store.specs.Flaws.{format_fault_of};
+ghost use Rattle.rule_store.specs.Flaws.{format_fault_of_rules};
 ghost use Rattle.rule_store.specs.declared.fault.RuleFault.TheVariants.{Memory};
 
 use std::error::Error;
@@ -43,7 +43,7 @@ impl From<track_types::Memory> for RuleFault {
 }
 
 impl From<RuleFault> for FormatFault {
-    ghost from_gives = { λ cause fault. fault ≡ format_fault_of cause };
+    ghost from_gives = { λ cause fault. fault ≡ format_fault_of_rules cause };
 
     fn from(cause: RuleFault) -> Self {
         let (section, kind, index) = match cause {
