@@ -17,10 +17,11 @@ pub struct CellBox {
 }
 
 impl CellBox {
-    ghost use Rattle.std.specs.Prelude.{◌≡◌, ◌≤◌, ◌^◌};
+    ghost use Rattle.std.specs.Prelude.{◌≡◌, ◌≤◌};
     ghost use Rattle.track_types.specs.Boxes.{cell_box, cut_box, joined_box, moved_box, touches, IsMovable};
     ghost use Rattle.track_types.specs.Near.{IsBoxWithin};
     ghost use Rattle.track_types.specs.Widening.{widened};
+    ghost use Rattle.track_types.specs.declared.limit.TheConstants.{MAX_REACH};
 
     /// The box of one cell.
     pub fn of(cell: Cell) -> CellBox
@@ -60,10 +61,10 @@ impl CellBox {
     }
 
     /// The box with so many columns more on the left and on the right, and so many lines below and
-    /// above: at most 2^42, as its bounds are at most that far from 0.
+    /// above: at most `MAX_REACH`, as its bounds are at most that far from 0.
     pub fn widened(&self, width: u64) -> CellBox
         requires area { IsBoxWithin self.now }
-        requires width { width ≤ 2 ^ 42 }
+        requires width { width ≤ MAX_REACH }
         ensures { result ≡ widened width self.now }
     {
         CellBox {

@@ -17,14 +17,15 @@ ghost use Rattle.track_types.specs.declared.limit.TheConstants.{MAX_PERIOD, MAX_
 /// The instants of a chart or of an index, and the periods that they are cut into. Periods are counted
 /// from 0.
 ///
-/// The ranges of its numbers belong to its type. The last instant, too, is at most 2^40 away from 0.
+/// The ranges of its numbers belong to its type. The last instant, too, is at most `MAX_PLACE` away
+/// from 0.
 #[derive(Clone, Copy, Debug, PartialEq, Eq)]
 pub struct Timeline {
-    /// The first instant: -2^40 to 2^40.
+    /// The first instant, at most `MAX_PLACE` away from 0.
     pub first: i64,
-    /// Instants from the first to the last, both counted: 1 to 2^22.
+    /// Instants from the first to the last, both counted: 1 to `MAX_SPAN`.
     pub span: u32,
-    /// Instants of a period: 1 to 2^22. The last period ends with the span.
+    /// Instants of a period: 1 to `MAX_PERIOD`. The last period ends with the span.
     pub period: u32,
     ghost long: { 1 ≤ span },
     ghost short: { span ≤ limit_of Span },
