@@ -32,7 +32,7 @@ use Rattle.log_cursor.proofs.TouchLemmas.{moved-displaced}
 use Rattle.log_cursor.proofs.WayLemmas.{box_round-bounded, same_start}
 use Rattle.rule_store.specs.declared.entry.Entry.{Entry}
 use Rattle.log_cursor.specs.Pending.{IsRoomy, IsTaken, PendingView}
-use Rattle.log_cursor.specs.Placing.{placed_box}
+use Rattle.track_types.specs.Boxes.{moved_box}
 use Rattle.log_cursor.specs.Start.{IsHullAsked, IsStart, IsWayOf, start_after}
 use Rattle.log_cursor.proofs.HitLemmas.{IsHullAsked-along, placed-round}
 use Rattle.log_cursor.proofs.WayLemmas.{IsWayOf-first, IsWayOf-parts, IsWayOf-rest, hull_is, start_after-is}
@@ -348,7 +348,7 @@ module _ (pending : PendingView) (at : Start) (entry : Entry) (is : IsSide pendi
   pub node-start : start_after at entry ≡ start_past at (values_of pending.rules entry.symbol)
   node-start = start_after-is pending.rules at entry entry.symbol is.top_is.0
 
-  pub node-area : option_map (placed_box at.cell) entry.hull
+  pub node-area : option_map (moved_box at.cell) entry.hull
       ≡ box_round (present_in (cells_along at.cell (values_of pending.rules entry.symbol)))
   node-area =
       placed-round at.cell (values_of pending.rules entry.symbol) entry.hull

@@ -3,7 +3,7 @@ ghost use Rattle.track_types.specs.Near.{IsBoxWithin, IsCellAsked};
 ghost use Rattle.rule_store.specs.Cost.{parts_reads};
 ghost use Rattle.rule_store.specs.Log.{log_of};
 ghost use Rattle.log_cursor.specs.Start.{IsHullAsked, IsPlaced, IsStart};
-ghost use Rattle.log_cursor.specs.Placing.{placed_box};
+ghost use Rattle.track_types.specs.Boxes.{moved_box};
 ghost use Rattle.encounter.specs.Span.{tree_of};
 ghost use Rattle.encounter.specs.Side.{IsOpened, IsPassed, Tells, remaining, past_of};
 
@@ -155,7 +155,7 @@ fn around(cell: Cell) -> CellBox
 // A symbol's box, if it has one, moved to the cell where the symbol begins.
 fn area_of(cell: Cell, hull: Option<CellBox>) -> Option<CellBox>
     requires { IsHullAsked cell hull }
-    ensures value { result ≡ option_map (placed_box cell) hull }
+    ensures value { result ≡ option_map (moved_box cell) hull }
     ensures within { IfSome result IsBoxWithin }
 {
     match hull {

@@ -25,7 +25,7 @@ use Rattle.rule_store.proofs.BoxLemmas.{box_round-bounds, box_round-moved, box_r
 use Rattle.rule_store.proofs.CellLemmas.{present-moved, same_cell}
 use Rattle.rule_store.proofs.ExpansionLemmas.{length-values_of, values_of-terminal}
 use Rattle.rule_store.proofs.LogLemmas.{stops_after-cons}
-use Rattle.log_cursor.specs.Placing.{placed_box}
+use Rattle.track_types.specs.Boxes.{moved_box}
 use Rattle.log_cursor.specs.Start.{IsHullAsked, start_past}
 use Rattle.log_cursor.specs.Touching.{first_among, hit_left, touches_at}
 use Rattle.log_cursor.specs.Walk.{stops_left}
@@ -35,7 +35,7 @@ use Rattle.log_cursor.proofs.WayLemmas.{box_round-bounded}
 
 -- the box of values, placed at a cell, is the least round the cells along them from there
 pub placed-round : (cell : Cell) (values : List ℕ) (hull : Option CellBox) → hull ≡ bounding_box_of values →
-    option_map (placed_box cell) hull ≡ box_round (present_in (cells_along cell values))
+    option_map (moved_box cell) hull ≡ box_round (present_in (cells_along cell values))
 unfolding bounding_box_of
 placed-round cell values hull is =
     let by : ℤ × ℤ = (cell.x, cell.y) in
@@ -44,11 +44,11 @@ placed-round cell values hull is =
     ∙ ap (λ start. box_round (present_in (cells_along start values))) here
   where
     at_origin : (hull : Option CellBox) → hull ≡ box_round (present_in (cells_along origin values)) →
-        option_map (placed_box cell) hull
+        option_map (moved_box cell) hull
         ≡ box_round (map (λ c. moved c (cell.x, cell.y)) (present_in (cells_along origin values)))
     at_origin None is = box_round-moved_none (present_in (cells_along origin values)) (cell.x, cell.y) is
     at_origin (Some area) is =
-        box_round-moved (present_in (cells_along origin values)) (cell.x, cell.y) area (placed_box cell area) is
+        box_round-moved (present_in (cells_along origin values)) (cell.x, cell.y) area (moved_box cell area) is
         (omega (arith, ints)) (omega (arith, ints)) (omega (arith, ints)) (omega (arith, ints))
 
 -- one of several numbers that may be asked for
@@ -98,7 +98,7 @@ pub IsHullAsked-along : (cell : Cell) (values : List ℕ) (hull : Option CellBox
     All IsCellAsked (present_in (cells_along cell values)) → IsHullAsked cell hull
 IsHullAsked-along cell values None is near = tt
 IsHullAsked-along cell values (Some hull) is near =
-    let bounds = box_round-asked (placed_box cell hull) (present_in (cells_along cell values))
+    let bounds = box_round-asked (moved_box cell hull) (present_in (cells_along cell values))
     (placed-round cell values (Some hull) is) near in
     record { x1 = bounds.0.0; y1 = bounds.0.1; x2 = bounds.1.0; y2 = bounds.1.1 }
 
@@ -124,8 +124,8 @@ module _ (region : Region) where
       (All-nil (λ c. in_region region c ≡ false))
   outside-along cell values (Some hull) is apart =
       let cells = present_in (cells_along cell values) in
-      λ k d within. outside (placed_box cell hull) apart (get_or cells k d)
-      (box_round-bounded (placed_box cell hull) cells (placed-round cell values (Some hull) is) k d within)
+      λ k d within. outside (moved_box cell hull) apart (get_or cells k d)
+      (box_round-bounded (moved_box cell hull) cells (placed-round cell values (Some hull) is) k d within)
 
   -- no stop at such cells is a hit
   no_hit : (test : Stop → Bool) (instant : ℤ) (cells : List (Option Cell)) →
@@ -155,7 +155,7 @@ module _ (region : Region) where
   held-box cell code None is touches = absurd (cc)
   held-box cell code (Some area) is touches =
       let bounds = box_round-bounds area (moved origin (move_of code)) [] is in
-      let placed = placed_box cell area in
+      let placed = moved_box cell area in
       let found = (intersects_region-exact region placed).0 touches in
       let inside = in_box-bounds placed found.0 found.1 in
       let same : found.0 ≡ moved cell (displacement_of (suc code ∷ [])) =

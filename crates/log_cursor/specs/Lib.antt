@@ -2,6 +2,5 @@ pub mod Start
 pub mod Seek
 pub mod Pending
 pub mod Walk
-pub mod Placing
 pub mod Touching
 pub mod Cost

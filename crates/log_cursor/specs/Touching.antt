@@ -10,7 +10,7 @@ use Rattle.rule_store.specs.Boxes.{bounding_box_of}
 use Rattle.rule_store.specs.Cells.{displacement_of, moved}
 use Rattle.rule_store.specs.Log.{block_stops, in_window}
 use Rattle.rule_store.specs.Nodes.{Node, meets, nodes_in}
-use Rattle.log_cursor.specs.Placing.{placed_box}
+use Rattle.track_types.specs.Boxes.{moved_box}
 use Rattle.log_cursor.specs.Start.{IsWayOf}
 use Rattle.log_cursor.specs.Walk.{stops_left}
 use Rattle.log_cursor.specs.declared.start.Start.{Start}
@@ -27,7 +27,7 @@ first_hit_of rules log start from to region =
 -- the region has a cell of a box that is placed at a cell, if there is a box
 abbrev pub touches_at : Region → Cell → Option CellBox → Bool
 touches_at region cell None = false
-touches_at region cell (Some hull) = intersects_region region (placed_box cell hull)
+touches_at region cell (Some hull) = intersects_region region (moved_box cell hull)
 
 -- the values of terminals
 abbrev pub terminal_values : RulesView → List ℕ → List ℕ

@@ -2,7 +2,7 @@ ghost use Rattle.std.specs.Prelude.{◌≡◌, ◌+◌, ◌≤◌, ◌≤ℤ◌,
 ghost use Rattle.track_types.specs.Near.{IsBoxWithin, IsCellAsked};
 ghost use Rattle.rule_store.specs.Log.{in_window, log_of, stop_at};
 ghost use Rattle.log_cursor.specs.Start.{IsBoxAsked, IsHullAsked, IsPlaced, IsWayOf};
-ghost use Rattle.log_cursor.specs.Placing.{placed_box};
+ghost use Rattle.track_types.specs.Boxes.{moved_box};
 ghost use Rattle.log_cursor.specs.Touching.{
   first_among,
   first_hit_of,
@@ -120,13 +120,8 @@ fn touches(cell: Cell, hull: Option<CellBox>, test: &RegionTest) -> bool
 /// A symbol's box, moved from (0, 0) to the cell where the symbol begins.
 pub fn placed(cell: Cell, hull: CellBox) -> CellBox
     requires { IsBoxAsked cell hull }
-    ensures value { result ≡ placed_box cell hull }
+    ensures value { result ≡ moved_box cell hull }
     ensures within { IsBoxWithin result }
 {
-    CellBox {
-        x1: cell.x + hull.x1,
-        y1: cell.y + hull.y1,
-        x2: cell.x + hull.x2,
-        y2: cell.y + hull.y2,
-    }
+    hull.moved(cell)
 }
