@@ -10,7 +10,7 @@ use Rattle.std.specs.Int.RustNames.{unsigned_abs}
 use Rattle.track_types.specs.Near.{IsBoxWithin, IsWithin}
 use Rattle.track_types.specs.Region.{is_between, in_box}
 use Rattle.track_types.specs.declared.cell.Cell.{Cell}
-use Rattle.track_types.specs.declared.limit.TheConstants.{MAX_HEIGHT}
+use Rattle.track_types.specs.declared.limit.TheConstants.{MAX_ASKED, MAX_HEIGHT}
 use Rattle.track_types.proofs.RegionLemmas.{is_between-from}
 use Rattle.k2_tree.specs.Morton.{interleaved, morton_of, morton_row, morton_column, IsGrid, IsInGrid}
 use Rattle.k2_tree.specs.Squares.{node}
@@ -22,7 +22,7 @@ pub word_kept : (z : ℤ) → IsWithin z → to_z w64 (of_z w64 z) ≡ z
 word_kept z within = to_z-of_z w64 z (omega (arith, ints, within.low, within.high))
 
 -- a base's coordinate is near 0
-pub base_within : (z : ℤ) → neg_ℤ (pos (2 ^ 41)) ≤ℤ z → z ≤ℤ pos (2 ^ 41) → IsWithin z
+pub base_within : (z : ℤ) → neg_ℤ (pos MAX_ASKED) ≤ℤ z → z ≤ℤ pos MAX_ASKED → IsWithin z
 base_within z low high = record { low = omega (arith, ints); high = omega (arith, ints) }
 
 -- a coordinate that lies so far from the base's, as words and as the square's prefix tells it
@@ -119,7 +119,7 @@ record IsStretch (base : ℤ) (count far : ℕ) (z : ℤ) : Type 0 where
   pub first : IsWithin (base +ℤ pos (count * far))
   pub last : IsWithin (base +ℤ pos (count * far) +ℤ pos (far - 1))
 
-stretch : (base z : ℤ) (count far : ℕ) → neg_ℤ (pos (2 ^ 41)) ≤ℤ base → base ≤ℤ pos (2 ^ 41) → base ≤ℤ z
+stretch : (base z : ℤ) (count far : ℕ) → neg_ℤ (pos MAX_ASKED) ≤ℤ base → base ≤ℤ pos MAX_ASKED → base ≤ℤ z
     → unsigned_abs (z -ℤ base) < 2 ^ MAX_HEIGHT → 0 < far → far ≤ 2 ^ MAX_HEIGHT
     → count ≡ unsigned_abs (z -ℤ base) / far → IsStretch base count far z
 stretch base z count far left right low small some most is =

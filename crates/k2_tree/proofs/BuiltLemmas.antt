@@ -7,7 +7,7 @@ use Rattle.std.proofs.lemmas.List.{length-map}
 use Rattle.std.proofs.lemmas.List.Elements.{All-map}
 use Rattle.std.specs.List.Sorted.{IsStrictlyIncreasing}
 use Rattle.track_types.specs.declared.cell.Cell.{Cell}
-use Rattle.track_types.specs.declared.limit.TheConstants.{MAX_HEIGHT}
+use Rattle.track_types.specs.declared.limit.TheConstants.{MAX_HEIGHT, MAX_OBJECTS, MAX_TREE}
 use Rattle.k2_tree.specs.Morton.{morton_of, cell_of, IsGrid, IsInGrid}
 use Rattle.k2_tree.specs.Widths.{levels_with, widths_of, digits_in, fan_of}
 use Rattle.k2_tree.specs.TreeBits.{prefixes, level_bits, morton_bits, AreCodes}
@@ -78,8 +78,8 @@ path_bits-widths_of height wide fits =
     )
 
 -- there are few bits
-pub few_bits : (height wide : ℕ) (codes : List ℕ) → height ≤ MAX_HEIGHT → 2 * wide ≤ height → length codes ≤ 2 ^ 16
-    → length (morton_bits (widths_of height wide) codes) ≤ 2 ^ 31
+pub few_bits : (height wide : ℕ) (codes : List ℕ) → height ≤ MAX_HEIGHT → 2 * wide ≤ height → length codes ≤ MAX_OBJECTS
+    → length (morton_bits (widths_of height wide) codes) ≤ MAX_TREE
 few_bits height wide codes low fits few =
     let most : path_bits (widths_of height wide) * length codes ≤ (8 * MAX_HEIGHT) * length codes =
     mul-le-mul_right (length codes) (omega (arith, path_bits-widths_of height wide fits)) in
@@ -97,7 +97,7 @@ codes_of_cells height base cells up = record {
 
 -- what was packed is stored
 pub built : (height wide : ℕ) (base : Cell) (cells : List Cell) (bits : List Bool) (upper : ℕ) → IsGrid height base
-    → 2 * wide ≤ height → length cells ≤ 2 ^ 16 → All (IsInGrid height base) cells
+    → 2 * wide ≤ height → length cells ≤ MAX_OBJECTS → All (IsInGrid height base) cells
     → IsStrictlyIncreasing (map (morton_of height base) cells)
     → bits ≡ morton_bits (widths_of height wide) (map (morton_of height base) cells)
     → upper ≡ upper_squares height wide (map (morton_of height base) cells)

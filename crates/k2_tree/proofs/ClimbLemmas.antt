@@ -11,7 +11,7 @@ use Rattle.packed_bits.specs.Bits.{ones_of}
 use Rattle.bit_rank.specs.Bits.{rank_of, IsSelected}
 use Rattle.bit_rank.proofs.RankLemmas.{ones_of-append, ones_of-nil, ones_of-le-length, rank_of-step, rank_of-le-ones_of}
 use Rattle.bit_rank.proofs.RankLemmas.{same_from_IsSelected}
-use Rattle.track_types.specs.declared.limit.TheConstants.{MAX_HEIGHT}
+use Rattle.track_types.specs.declared.limit.TheConstants.{MAX_HEIGHT, MAX_TREE}
 use Rattle.k2_tree.specs.Widths.{widths_of, digits_in, fan_of, widths_under}
 use Rattle.k2_tree.specs.TreeBits.{prefixes, code_limit, morton_bits}
 use Rattle.k2_tree.specs.Groups.{upper_squares, group_start, square_at, digit_at, square_width}
@@ -82,7 +82,7 @@ module _ {height wide : ℕ} {bits : List Bool} (are : AreTreeBits height wide b
     unfolding digits_in
     starts =
         let count = length-codes_in some_bits in
-        let low : length bits ≤ 2 ^ 31 = are.few in
+        let low : length bits ≤ MAX_TREE = are.few in
         let none = widths_under-none (height - 2 * wide) in
         let told : prefixes 0 codes ≡ codes = prefixes-zero codes are.codes.rising in (
           omega (arith, count, ones_of-le-length bits),

@@ -12,6 +12,7 @@ use Rattle.std.proofs.lemmas.Option.{none-some}
 use Rattle.list_laws.proofs.FirstLemmas.{map-none, or-none}
 use Rattle.packed_bits.specs.Bits.{ones_of}
 use Rattle.packed_bits.proofs.OnesLemmas.{ones_of-nil, ones_of-cons}
+use Rattle.track_types.specs.declared.limit.TheConstants.{MAX_TREE}
 use Rattle.k2_tree.specs.Widths.{digits_in, fan_of, widths_of}
 use Rattle.k2_tree.specs.TreeBits.{is_in, prefixes, Rises, children_of_prefixes, level_bits, morton_bits}
 use Rattle.k2_tree.specs.Tree.{where_set, codes_below, codes_in, AreTreeBits}
@@ -159,7 +160,7 @@ small_from_top n codes top k d within =
     small_prefix n code (rw top at there)
 
 -- bits without a flaw are a tree's
-pub AreTreeBits-flawless : (height wide : ℕ) (bits : List Bool) → 2 * wide ≤ height → length bits ≤ 2 ^ 31
+pub AreTreeBits-flawless : (height wide : ℕ) (bits : List Bool) → 2 * wide ≤ height → length bits ≤ MAX_TREE
     → tree_flaw (widths_of height wide) bits ≡ None → AreTreeBits height wide bits
 unfolding tree_flaw codes_in
 AreTreeBits-flawless height wide [] fits few none = record {

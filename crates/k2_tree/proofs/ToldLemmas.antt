@@ -1,8 +1,9 @@
 -- The numbers that a tree's bits tell.
-use Rattle.std.proofs.Common.{◌≡◌, ℕ, ◌+◌, ◌*◌, ◌^◌, ◌<◌, ◌≤◌, Bool, List, [], ◌∷◌, ◌++◌}
+use Rattle.std.proofs.Common.{◌≡◌, ℕ, ◌+◌, ◌*◌, ◌<◌, ◌≤◌, Bool, List, [], ◌∷◌, ◌++◌}
 use Rattle.std.proofs.Common.{length, map, filter, drop, refl, inl, inr, sym, ap, ◌∙◌, arith, subst, length-append}
 use Rattle.std.proofs.lemmas.Bool.{cases_Bool}
 use Rattle.std.proofs.lemmas.List.{drop_at}
+use Rattle.track_types.specs.declared.limit.TheConstants.{MAX_TREE}
 use Rattle.k2_tree.specs.Widths.{digits_in, fan_of, widths_of}
 use Rattle.k2_tree.specs.TreeBits.{is_in, prefixes, Rises, level_bits, children_of_prefixes, morton_bits, AreCodes}
 use Rattle.k2_tree.specs.Tree.{where_set, codes_below, codes_in, AreTreeBits}
@@ -91,7 +92,7 @@ module _ (height wide : ℕ) (codes : List ℕ) (some : 1 ≤ height) (fits : 2 
       codes_in-morton_bits widths codes (some_levels widths (omega (arith, digits))) (rw digits are)
 
   -- the bits of Morton numbers are a tree's
-  pub AreTreeBits-morton_bits : length (morton_bits widths codes) ≤ 2 ^ 31
+  pub AreTreeBits-morton_bits : length (morton_bits widths codes) ≤ MAX_TREE
       → AreTreeBits height wide (morton_bits widths codes)
   AreTreeBits-morton_bits few = record {
     fits = fits;

@@ -2,16 +2,16 @@
 use Rattle.std.specs.Prelude.{ℕ, zero, suc, ◌+◌, ◌*◌, ◌/◌, ◌%◌, ◌^◌, ◌<◌, ◌≤◌, pos, neg_ℤ, ◌+ℤ◌, ◌-ℤ◌, ◌≤ℤ◌}
 use Rattle.std.specs.Int.RustNames.{unsigned_abs}
 use Rattle.track_types.specs.declared.cell.Cell.{Cell}
-use Rattle.track_types.specs.declared.limit.TheConstants.{MAX_HEIGHT}
+use Rattle.track_types.specs.declared.limit.TheConstants.{MAX_ASKED, MAX_HEIGHT}
 
 -- the side of the grid is 2 ^ height, and its least corner is near
 pub record IsGrid (height : ℕ) (base : Cell) : Type 0 where
   pub some : 1 ≤ height
   pub limit : height ≤ MAX_HEIGHT
-  pub left : neg_ℤ (pos (2 ^ 41)) ≤ℤ base.x
-  pub right : base.x ≤ℤ pos (2 ^ 41)
-  pub below : neg_ℤ (pos (2 ^ 41)) ≤ℤ base.y
-  pub above : base.y ≤ℤ pos (2 ^ 41)
+  pub left : neg_ℤ (pos MAX_ASKED) ≤ℤ base.x
+  pub right : base.x ≤ℤ pos MAX_ASKED
+  pub below : neg_ℤ (pos MAX_ASKED) ≤ℤ base.y
+  pub above : base.y ≤ℤ pos MAX_ASKED
 
 -- the cell is in the grid
 pub record IsInGrid (height : ℕ) (base cell : Cell) : Type 0 where

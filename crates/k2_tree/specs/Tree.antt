@@ -2,6 +2,7 @@
 use Rattle.std.specs.Prelude.{◌≡◌, ℕ, ◌*◌, ◌^◌, ◌≤◌, Bool}
 use Rattle.std.specs.Prelude.{true, false, List, [], ◌∷◌, length, map, drop, All}
 use Rattle.track_types.specs.declared.cell.Cell.{Cell}
+use Rattle.track_types.specs.declared.limit.TheConstants.{MAX_TREE}
 use Rattle.k2_tree.specs.Morton.{morton_of, cell_of, IsGrid, IsInGrid}
 use Rattle.k2_tree.specs.Widths.{fan_of, widths_of}
 use Rattle.k2_tree.specs.TreeBits.{children_of_prefixes, morton_bits, AreCodes}
@@ -65,7 +66,7 @@ pub record AreTreeBits (height wide : ℕ) (bits : List Bool) : Type 0 where
   pub fits : 2 * wide ≤ height
   pub codes : AreCodes height (codes_in (widths_of height wide) bits)
   pub exact : bits ≡ morton_bits (widths_of height wide) (codes_in (widths_of height wide) bits)
-  pub few : length bits ≤ 2 ^ 31
+  pub few : length bits ≤ MAX_TREE
 
 -- a tree of these parts
 pub record IsStoredTree (height wide : ℕ) (base : Cell) (bits : List Bool) (upper : ℕ) : Type 0 where

@@ -1,9 +1,9 @@
-ghost use Rattle.std.specs.Prelude.{◌≡◌, ◌+◌, ◌-◌, ◌*◌, ◌/◌, ◌%◌, ◌^◌, ◌<◌, ◌≤◌, ◌++◌, length, slice_index, IfOk, OnOk};
+ghost use Rattle.std.specs.Prelude.{◌≡◌, ◌+◌, ◌-◌, ◌*◌, ◌/◌, ◌%◌, ◌<◌, ◌≤◌, ◌++◌, length, slice_index, IfOk, OnOk};
 ghost use Rattle.k2_tree.specs.Widths.{levels_with, widths_of};
 ghost use Rattle.k2_tree.specs.TreeBits.{Rises, level_bits, morton_bits};
 ghost use Rattle.k2_tree.specs.Groups.{upper_squares};
 ghost use Rattle.k2_tree.specs.Building.{levels_bits, room};
-ghost use Rattle.track_types.specs.declared.limit.TheConstants.{MAX_HEIGHT};
+ghost use Rattle.track_types.specs.declared.limit.TheConstants.{MAX_HEIGHT, MAX_OBJECTS};
 
 use crate::groups::fan_of;
 use std::alloc::Global;
@@ -20,7 +20,7 @@ pub fn bits_of_codes(
     wide: u32,
 ) -> Result<BitList, Memory>
     requires ascending { Rises 0 codes.now }
-    requires few { length codes.now ≤ 2 ^ 16 }
+    requires few { length codes.now ≤ MAX_OBJECTS }
     requires low { height ≤ MAX_HEIGHT }
     requires fits { 2 * wide ≤ height }
     ensures ok { IfOk result (λ bits. bits ≡ morton_bits (widths_of height wide) codes.now) }
@@ -37,7 +37,7 @@ pub fn split_by_codes(
     wide: u32,
 ) -> Result<(BitList, u32), Memory>
     requires ascending { Rises 0 codes.now }
-    requires few { length codes.now ≤ 2 ^ 16 }
+    requires few { length codes.now ≤ MAX_OBJECTS }
     requires low { height ≤ MAX_HEIGHT }
     requires fits { 2 * wide ≤ height }
     ensures bits { IfOk result (λ made. made.0 ≡ morton_bits (widths_of height wide) codes.now) }

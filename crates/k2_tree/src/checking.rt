@@ -1,9 +1,9 @@
-ghost use Rattle.std.specs.Prelude.{◌≡◌, ◌+◌, ◌-◌, ◌*◌, ◌^◌, ◌<◌, ◌≤◌, None, Some, length, drop, IfErr, IfOk, OnOk};
+ghost use Rattle.std.specs.Prelude.{◌≡◌, ◌+◌, ◌-◌, ◌*◌, ◌<◌, ◌≤◌, None, Some, length, drop, IfErr, IfOk, OnOk};
 ghost use Rattle.k2_tree.specs.Widths.{widths_of};
 ghost use Rattle.k2_tree.specs.Groups.{upper_in};
 ghost use Rattle.k2_tree.specs.Flaws.{group_flaw, tree_flaw};
 ghost use Rattle.k2_tree.specs.Checking.{flaw_from, group_ones, IsLevel};
-ghost use Rattle.track_types.specs.declared.limit.TheConstants.{MAX_HEIGHT};
+ghost use Rattle.track_types.specs.declared.limit.TheConstants.{MAX_HEIGHT, MAX_TREE};
 
 use crate::groups::{fan_of, width_below};
 use track_types::BitList;
@@ -14,7 +14,7 @@ use track_types::BitList;
 /// Each level has as many groups as the level above it has ones, and the first has one. A group of
 /// the `wide` upper levels has sixteen bits, and one of the others four. No memory is taken.
 pub fn upper_of(bits: &BitList, height: u32, wide: u32) -> Result<u32, u32>
-    requires few { length bits.now ≤ 2 ^ 31 }
+    requires few { length bits.now ≤ MAX_TREE }
     requires low { height ≤ MAX_HEIGHT }
     requires fits { 2 * wide ≤ height }
     ensures ok { OnOk result (tree_flaw (widths_of height wide) bits.now ≡ None) }
@@ -63,7 +63,7 @@ fn upper_groups(width: u32, groups: u32) -> u32
 // is not whole or holds no one.
 fn ones_of_level(bits: &BitList, start: u32, groups: u32, fan: u32) -> Result<u32, u32>
     requires within { start ≤ length bits.now }
-    requires few { length bits.now ≤ 2 ^ 31 }
+    requires few { length bits.now ≤ MAX_TREE }
     requires some { 1 ≤ fan }
     ensures whole { IfOk result (λ ones. IsLevel fan bits.now start groups ones) }
     ensures flaw { IfErr result (λ place.
@@ -85,7 +85,7 @@ fn ones_of_level(bits: &BitList, start: u32, groups: u32, fan: u32) -> Result<u3
 // How many ones the group of so many bits from a place on has, and 0 where it is not whole.
 fn ones_of_group(bits: &BitList, place: u32, fan: u32) -> u32
     requires within { place ≤ length bits.now }
-    requires few { length bits.now ≤ 2 ^ 31 }
+    requires few { length bits.now ≤ MAX_TREE }
     ensures { result ≡ group_ones fan (drop place bits.now) }
 {
     if bits.len() - place < fan {

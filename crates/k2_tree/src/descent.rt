@@ -5,7 +5,7 @@ ghost use Rattle.k2_tree.specs.TreeBits.{is_in};
 ghost use Rattle.k2_tree.specs.Groups.{upper_squares};
 ghost use Rattle.k2_tree.specs.Tree.{codes_in, AreTreeBits};
 ghost use Rattle.k2_tree.specs.Cost.{child_reads, descent_reads};
-ghost use Rattle.track_types.specs.declared.limit.TheConstants.{MAX_HEIGHT};
+ghost use Rattle.track_types.specs.declared.limit.TheConstants.{MAX_HEIGHT, MAX_TREE};
 
 use crate::groups::{fan_of, group_start, square_at, width_below};
 use bit_rank::Bits;
@@ -51,7 +51,7 @@ pub fn find_leaf<L: Ledger>(
 /// the one of the square's number.
 pub fn child_at<L: Ledger>(bits: &Bits, place: u32, steps: &mut Steps<L>) -> Option<u32>
     requires inside { place < length bits.now }
-    requires few { length bits.now ≤ 2 ^ 31 }
+    requires few { length bits.now ≤ MAX_TREE }
     ensures value { MatchOption result (slice_index_or bits.now place false ≡ false)
         (λ child. (slice_index_or bits.now place false ≡ true) × (child ≡ rank_of bits.now place + 1)) }
     ensures cost { steps.new ≤ steps.old + child_reads }

@@ -11,7 +11,8 @@ use track_types::CellBox;
 pub trait Keep {
     ghost keeps: { Self → CellBox → Bool };
 
-    /// Whether a box is kept. All of its bounds are at most 2^42 away from 0. It takes no memory.
+    /// Whether a box is kept. All of its bounds are at most `MAX_REACH` away from 0. It takes no
+    /// memory.
     fn keep(&self, area: &CellBox) -> bool
         requires { IsBoxWithin area.now }
         ensures { result ≡ keeps self.now area.now };

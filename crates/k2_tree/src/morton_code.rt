@@ -1,5 +1,6 @@
 ghost use Rattle.std.specs.Prelude.{◌≡◌, ◌^◌, ◌<◌, ◌≤◌, pos, neg_ℤ, ◌+ℤ◌, ◌-ℤ◌, ◌≤ℤ◌, ◌↔◌, map, All, IfOk, IsTrue};
 ghost use Rattle.std.specs.Int.RustNames.{unsigned_abs};
+ghost use Rattle.track_types.specs.declared.limit.TheConstants.{MAX_ASKED};
 ghost use Rattle.k2_tree.specs.Morton.{cell_of, morton_column, interleaved, morton_of, morton_row, IsGrid, IsInGrid};
 
 use std::alloc::Global;
@@ -49,7 +50,7 @@ pub fn is_in_grid(cell: Cell, height: u32, base: Cell) -> bool
 
 // How far a coordinate of the grid is from the base's.
 fn offset(place: i64, base: i64) -> u64
-    requires low { neg_ℤ (pos (2 ^ 41)) ≤ℤ base }
+    requires low { neg_ℤ (pos MAX_ASKED) ≤ℤ base }
     requires from_base { base ≤ℤ place }
     ensures { result ≡ unsigned_abs (place -ℤ base) }
 {
@@ -81,8 +82,8 @@ pub fn cell_at(code: u64, height: u32, base: Cell) -> Cell
 
 // The coordinate so far from the base's.
 fn moved(base: i64, by: u64) -> i64
-    requires low { neg_ℤ (pos (2 ^ 41)) ≤ℤ base }
-    requires high { base ≤ℤ pos (2 ^ 41) }
+    requires low { neg_ℤ (pos MAX_ASKED) ≤ℤ base }
+    requires high { base ≤ℤ pos MAX_ASKED }
     requires small { by < 2 ^ MAX_HEIGHT }
     ensures { result ≡ base +ℤ pos by }
 {

@@ -1,7 +1,7 @@
 ghost use Rattle.std.specs.Prelude.{◌≡◌, ◌+◌, ◌-◌, ◌*◌, ◌/◌, ◌%◌, ◌^◌, ◌<◌, ◌≤◌, ◌↔◌, pos, neg_ℤ, ◌+ℤ◌, ◌≤ℤ◌, IsTrue};
 ghost use Rattle.k2_tree.specs.Morton.{IsGrid};
 ghost use Rattle.track_types.specs.Near.{IsBoxWithin, IsWithin};
-ghost use Rattle.track_types.specs.declared.limit.TheConstants.{MAX_HEIGHT};
+ghost use Rattle.track_types.specs.declared.limit.TheConstants.{MAX_ASKED, MAX_HEIGHT};
 
 use track_types::{Cell, CellBox};
 
@@ -22,10 +22,10 @@ pub struct Square {
     ghost low: { level ≤ MAX_HEIGHT },
     ghost right: { (column + 1) * 2 ^ level ≤ 2 ^ MAX_HEIGHT },
     ghost upper: { (row + 1) * 2 ^ level ≤ 2 ^ MAX_HEIGHT },
-    ghost west: { neg_ℤ (pos (2 ^ 41)) ≤ℤ base.x },
-    ghost east: { base.x ≤ℤ pos (2 ^ 41) },
-    ghost south: { neg_ℤ (pos (2 ^ 41)) ≤ℤ base.y },
-    ghost north: { base.y ≤ℤ pos (2 ^ 41) },
+    ghost west: { neg_ℤ (pos MAX_ASKED) ≤ℤ base.x },
+    ghost east: { base.x ≤ℤ pos MAX_ASKED },
+    ghost south: { neg_ℤ (pos MAX_ASKED) ≤ℤ base.y },
+    ghost north: { base.y ≤ℤ pos MAX_ASKED },
 }
 
 impl Default for Square {
@@ -45,8 +45,8 @@ impl Square {
     ghost use Rattle.k2_tree.specs.Areas.{IsBoxInside};
     ghost use Rattle.k2_tree.specs.TreeSquares.{area_of, child_at, least_cell_of, level_of, node_of, square_number};
 
-    /// The cells of the square, whether the tree has them or not. All of its bounds are within 2^42
-    /// of 0. It takes no memory.
+    /// The cells of the square, whether the tree has them or not. All of its bounds are within
+    /// `MAX_REACH` of 0. It takes no memory.
     pub fn area(&self) -> CellBox
         ensures value { result ≡ area_of self.now }
         ensures within { IsBoxWithin result }
@@ -147,8 +147,8 @@ impl Square {
 
 // The first coordinate of a square, where so many squares of its level stand before it.
 fn first(base: i64, before: u32, level: u32) -> i64
-    requires west { neg_ℤ (pos (2 ^ 41)) ≤ℤ base }
-    requires east { base ≤ℤ pos (2 ^ 41) }
+    requires west { neg_ℤ (pos MAX_ASKED) ≤ℤ base }
+    requires east { base ≤ℤ pos MAX_ASKED }
     requires low { level ≤ MAX_HEIGHT }
     requires inside { (before + 1) * 2 ^ level ≤ 2 ^ MAX_HEIGHT }
     ensures value { result ≡ base +ℤ pos (before * 2 ^ level) }
@@ -159,8 +159,8 @@ fn first(base: i64, before: u32, level: u32) -> i64
 
 // Its last coordinate.
 fn last(base: i64, before: u32, level: u32) -> i64
-    requires west { neg_ℤ (pos (2 ^ 41)) ≤ℤ base }
-    requires east { base ≤ℤ pos (2 ^ 41) }
+    requires west { neg_ℤ (pos MAX_ASKED) ≤ℤ base }
+    requires east { base ≤ℤ pos MAX_ASKED }
     requires low { level ≤ MAX_HEIGHT }
     requires inside { (before + 1) * 2 ^ level ≤ 2 ^ MAX_HEIGHT }
     ensures value { result ≡ base +ℤ pos (before * 2 ^ level) +ℤ pos (2 ^ level - 1) }

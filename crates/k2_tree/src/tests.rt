@@ -1,7 +1,7 @@
-ghost use Rattle.std.specs.Prelude.{◌≡◌, ◌*◌, ◌^◌, ◌<◌, ◌≤◌, [], ◌∷◌, length, map, IfOk};
+ghost use Rattle.std.specs.Prelude.{◌≡◌, ◌*◌, ◌<◌, ◌≤◌, [], ◌∷◌, length, map, IfOk};
 ghost use Rattle.k2_tree.specs.Morton.{cell_of};
 ghost use Rattle.k2_tree.specs.Tree.{tree_with};
-ghost use Rattle.track_types.specs.declared.limit.TheConstants.{MAX_HEIGHT};
+ghost use Rattle.track_types.specs.declared.limit.TheConstants.{MAX_HEIGHT, MAX_TREE};
 
 use super::{K2Tree, TreeFault, morton};
 use std::alloc::Global;
@@ -79,7 +79,7 @@ fn bits_are(rt: &impl Abort, what: &str, tree: K2Tree, leaves: u32, len: u32, wo
 
 // The bits as a list.
 fn list_of(alloc: Global, bits: &[bool]) -> Result<BitList, Memory>
-    requires { length bits.now ≤ 2 ^ 31 }
+    requires { length bits.now ≤ MAX_TREE }
     ensures { IfOk result (λ list. list ≡ bits.now) }
 {
     Ok(BitList::pack(alloc, bits)?)
@@ -87,7 +87,7 @@ fn list_of(alloc: Global, bits: &[bool]) -> Result<BitList, Memory>
 
 // The first flaw of bits as a tree of this height with so many wide levels, if they have one.
 fn flaw_of(alloc: Global, bits: &[bool], height: u32, wide: u32) -> Result<Option<u32>, TreeFault>
-    requires few { length bits.now ≤ 2 ^ 31 }
+    requires few { length bits.now ≤ MAX_TREE }
     requires some { 1 ≤ height }
     requires low { height ≤ MAX_HEIGHT }
     requires fits { 2 * wide ≤ height }

@@ -1,4 +1,4 @@
-ghost use Rattle.std.specs.Prelude.{◌≡◌, ◌+◌, ◌*◌, ◌^◌, ◌<◌, ◌≤◌, length, map, All, Contains, [], false, IfErr, IfNone, IfOk, IfSome, OnOk, MatchOption, None, Some, slice_get, ℕ, Bool, if◌then◌else◌};
+ghost use Rattle.std.specs.Prelude.{◌≡◌, ◌+◌, ◌*◌, ◌<◌, ◌≤◌, length, map, All, Contains, [], false, IfErr, IfNone, IfOk, IfSome, OnOk, MatchOption, None, Some, slice_get, ℕ, Bool, if◌then◌else◌};
 ghost use Rattle.std.specs.List.{sum_by};
 ghost use Rattle.std.specs.List.Sorted.{IsStrictlyIncreasing};
 ghost use Rattle.k2_tree.specs.Morton.{morton_of, IsGrid, IsInGrid};
@@ -12,6 +12,7 @@ ghost use Rattle.k2_tree.specs.Flaws.{tree_flaw, StandsFor, IsTreeFault};
 ghost use Rattle.k2_tree.specs.Pruning.{child_nodes, kept_leaves, leaves_of, passes_at, square_count, wanted_of, IsKeptFor};
 ghost use Rattle.k2_tree.specs.Pruned.{pruned_budget, pruned_left, pruned_tree};
 ghost use Rattle.track_types.specs.declared.cell.Cell.{Cell};
+ghost use Rattle.track_types.specs.declared.limit.TheConstants.{MAX_OBJECTS, MAX_TREE};
 ghost use Rattle.k2_tree.specs.Cost.{child_reads, climb_reads, descent_reads};
 
 use crate::building::split_by_codes;
@@ -68,10 +69,10 @@ impl Model for K2Tree {
 impl K2Tree {
     /// The tree of a set of cells, in one pass over them for each level.
     ///
-    /// The cells ascend in Morton order, so that none stands twice, and there are at most 2^16. The
-    /// height is from 1 to `MAX_HEIGHT`, and the base's coordinates are within 2^41 of 0. The
-    /// `wide` upper levels split a square in sixteen; each takes two of the height. Memory is taken
-    /// for the Morton numbers, the bits and their directory.
+    /// The cells ascend in Morton order, so that none stands twice, and there are at most
+    /// `MAX_OBJECTS`. The height is from 1 to `MAX_HEIGHT`, and the base's coordinates are within
+    /// `MAX_ASKED` of 0. The `wide` upper levels split a square in sixteen; each takes two of the
+    /// height. Memory is taken for the Morton numbers, the bits and their directory.
     pub fn build(
         alloc: Global,
         cells: &[Cell],
@@ -81,7 +82,7 @@ impl K2Tree {
     ) -> Result<K2Tree, Memory>
         requires grid { IsGrid height base }
         requires fits { 2 * wide ≤ height }
-        requires few { length cells.now ≤ 2 ^ 16 }
+        requires few { length cells.now ≤ MAX_OBJECTS }
         requires inside { All (IsInGrid height base) cells.now }
         requires ascending { IsStrictlyIncreasing (map (morton_of height base) cells.now) }
         ensures ok { IfOk result (λ t. t ≡ tree_with height wide base cells.now) }
@@ -102,9 +103,9 @@ impl K2Tree {
 
     /// Takes bits as a tree with `wide` wide levels, in one pass over them.
     ///
-    /// There are at most 2^31 bits. The height is from 1 to `MAX_HEIGHT`, each wide level takes two
-    /// of it, and the base's coordinates are within 2^41 of 0. `Flaw` says at which place the bits
-    /// first fail to be such a tree's. Memory is taken for the directory alone.
+    /// There are at most `MAX_TREE` bits. The height is from 1 to `MAX_HEIGHT`, each wide level takes
+    /// two of it, and the base's coordinates are within `MAX_ASKED` of 0. `Flaw` says at which place
+    /// the bits first fail to be such a tree's. Memory is taken for the directory alone.
     pub fn check(
         alloc: Global,
         bits: BitList,
@@ -114,7 +115,7 @@ impl K2Tree {
     ) -> Result<K2Tree, TreeFault>
         requires grid { IsGrid height base }
         requires fits { 2 * wide ≤ height }
-        requires few { length bits ≤ 2 ^ 31 }
+        requires few { length bits ≤ MAX_TREE }
         ensures ok { IfOk result (λ t. StandsFor height wide base bits t) }
         ensures exact { OnOk result (tree_flaw (widths_of height wide) bits ≡ None) }
         ensures flaw { IfErr result (λ fault. IsTreeFault height wide bits fault) }
