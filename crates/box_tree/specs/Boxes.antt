@@ -2,6 +2,7 @@
 use Rattle.std.specs.Prelude.{◌≡◌, ℕ, ◌-◌, ◌^◌, pos, neg_ℤ, ◌+ℤ◌, ◌≤ℤ◌, List, [], ◌∷◌, length}
 use Rattle.track_types.specs.declared.cell.Cell.{Cell}
 use Rattle.track_types.specs.declared.cell_box.CellBox.{CellBox}
+use Rattle.track_types.specs.declared.limit.TheConstants.{MAX_ASKED}
 use Rattle.track_types.specs.Boxes.{le-more}
 
 -- the box that begins so far from a base and reaches so far
@@ -23,10 +24,10 @@ boxes_of base (corner ∷ corners) (reach ∷ reaches) = box_with base corner re
 
 -- a base near 0
 pub record IsBase (base : Cell) : Type 0 where
-  pub left : neg_ℤ (pos (2 ^ 41)) ≤ℤ base.x
-  pub right : base.x ≤ℤ pos (2 ^ 41)
-  pub below : neg_ℤ (pos (2 ^ 41)) ≤ℤ base.y
-  pub above : base.y ≤ℤ pos (2 ^ 41)
+  pub left : neg_ℤ (pos MAX_ASKED) ≤ℤ base.x
+  pub right : base.x ≤ℤ pos MAX_ASKED
+  pub below : neg_ℤ (pos MAX_ASKED) ≤ℤ base.y
+  pub above : base.y ≤ℤ pos MAX_ASKED
 
 -- a box lies to the right of a base and above it, and less than 2^32 away
 pub record IsFrom (base : Cell) (area : CellBox) : Type 0 where

@@ -1,7 +1,7 @@
 ghost use Rattle.std.specs.Prelude.{◌≡◌, ◌+◌, ◌-◌, ◌*◌, ◌^◌, ◌<◌, ◌≤◌, pos, neg_ℤ, ◌+ℤ◌, ◌≤ℤ◌};
 ghost use Rattle.std.specs.Prelude.{map, All, IfOk};
 ghost use Rattle.track_types.specs.Near.{IsBoxWithin, IsWithin};
-ghost use Rattle.track_types.specs.declared.limit.TheConstants.{MAX_HEIGHT};
+ghost use Rattle.track_types.specs.declared.limit.TheConstants.{MAX_ASKED, MAX_HEIGHT};
 ghost use Rattle.k2_tree.specs.Areas.{area_at};
 ghost use Rattle.k2_tree.specs.Morton.{morton_column, morton_row};
 ghost use Rattle.k2_tree.specs.Squares.{node};
@@ -32,8 +32,8 @@ pub(crate) fn square_area(base: Cell, level: u32, column: u32, row: u32) -> Cell
 
 // The first coordinate of a square, where so many squares of its size stand before it.
 fn first(base: i64, before: u32, level: u32) -> i64
-    requires west { neg_ℤ (pos (2 ^ 41)) ≤ℤ base }
-    requires east { base ≤ℤ pos (2 ^ 41) }
+    requires west { neg_ℤ (pos MAX_ASKED) ≤ℤ base }
+    requires east { base ≤ℤ pos MAX_ASKED }
     requires low { level ≤ MAX_HEIGHT }
     requires inside { (before + 1) * 2 ^ level ≤ 2 ^ MAX_HEIGHT }
     ensures value { result ≡ base +ℤ pos (before * 2 ^ level) }
@@ -44,8 +44,8 @@ fn first(base: i64, before: u32, level: u32) -> i64
 
 // Its last coordinate.
 fn last(base: i64, before: u32, level: u32) -> i64
-    requires west { neg_ℤ (pos (2 ^ 41)) ≤ℤ base }
-    requires east { base ≤ℤ pos (2 ^ 41) }
+    requires west { neg_ℤ (pos MAX_ASKED) ≤ℤ base }
+    requires east { base ≤ℤ pos MAX_ASKED }
     requires low { level ≤ MAX_HEIGHT }
     requires inside { (before + 1) * 2 ^ level ≤ 2 ^ MAX_HEIGHT }
     ensures value { result ≡ base +ℤ pos (before * 2 ^ level) +ℤ pos (2 ^ level - 1) }
