@@ -3,6 +3,7 @@ pub mod Digits
 pub mod DigitWords
 pub mod BareDigits
 pub mod QuantityLemmas
+pub mod ExtentLemmas
 pub mod ChartLemmas
 pub mod TimelineLemmas
 pub mod RowLemmas

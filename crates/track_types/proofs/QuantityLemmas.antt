@@ -9,24 +9,6 @@ use Rattle.list_laws.proofs.MapLemmas.{All-from_map}
 use Rattle.track_types.specs.Quantities.{elapsed, first_of, greatest, instants_of, last_of, least, span_of}
 use Rattle.track_types.specs.declared.row.Row.{Row}
 
-int_min-same : (z : ℤ) → int_min z z ≡ z
-int_min-same z = grind arith
-
-int_max-same : (z : ℤ) → int_max z z ≡ z
-int_max-same z = grind arith
-
--- the least, from the first one on
-pub least-from_first : {X : Type 0} (f : X → ℤ) (xs : List X) (d : X) → 0 < length xs →
-    fold (λ z x. int_min z (f x)) (f (get_or xs 0 d)) xs ≡ least (map f xs)
-least-from_first f [] d some = absurd (omega arith)
-least-from_first f (x ∷ xs) d some = rw (int_min-same (f x)) (sym (fold-map int_min f (f x) xs))
-
--- the greatest, from the first one on
-pub greatest-from_first : {X : Type 0} (f : X → ℤ) (xs : List X) (d : X) → 0 < length xs →
-    fold (λ z x. int_max z (f x)) (f (get_or xs 0 d)) xs ≡ greatest (map f xs)
-greatest-from_first f [] d some = absurd (omega arith)
-greatest-from_first f (x ∷ xs) d some = rw (int_max-same (f x)) (sym (fold-map int_max f (f x) xs))
-
 -- what holds of all numbers holds of the least and of the greatest
 pub least_keeps : (P : ℤ → Type 0) (zs : List ℤ) → 0 < length zs → All P zs → P (least zs)
 least_keeps P [] some all = absurd (omega arith)

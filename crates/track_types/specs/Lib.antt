@@ -4,6 +4,7 @@ pub mod Limits
 pub mod Row
 pub mod Timeline
 pub mod Quantities
+pub mod Extents
 pub mod Chart
 pub mod ByFilter
 pub mod Meeting

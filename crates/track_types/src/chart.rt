@@ -1,7 +1,9 @@
-ghost use Rattle.std.specs.Prelude.{◌≡◌, ◌<◌, length};
+ghost use Rattle.std.specs.Prelude.{◌≡◌};
 ghost use Rattle.track_types.specs.Chart.{IsChart, chart_with};
-ghost use Rattle.track_types.specs.Quantities.{first_of, last_of, span_of};
+ghost use Rattle.track_types.specs.Extents.{AreExtentsOf};
+ghost use Rattle.track_types.specs.Quantities.{span_of};
 
+use crate::extents::Extents;
 use crate::row::Row;
 use crate::timeline::Timeline;
 use std::marker::Model;
@@ -16,8 +18,8 @@ use std::marker::Model;
 #[derive(Debug, Drop)]
 pub struct Chart {
     rows: Vec<Row>,
-    first: i64,
-    last: i64,
+    // What was found of the rows when the chart was made.
+    extents: Extents,
     period: u32,
     cell: u64,
     tick: u64,
@@ -25,12 +27,13 @@ pub struct Chart {
 
 impl Model for Chart {
     ghost use Rattle.track_types.specs.Chart.{ChartView, IsChart};
+    ghost use Rattle.track_types.specs.Extents.{AreExtentsOf};
 
     ghost Value = { ChartView };
 
-    ghost view = { λ c. record { rows = c.rows.items; first = c.first; last = c.last; period = c.period; cell = c.cell; tick = c.tick } };
+    ghost view = { λ c. record { rows = c.rows.items; first = c.extents.time.least; last = c.extents.time.greatest; period = c.period; cell = c.cell; tick = c.tick } };
 
-    ghost invariant = { λ c. IsChart (record { rows = c.rows.items; first = c.first; last = c.last; period = c.period; cell = c.cell; tick = c.tick }) };
+    ghost invariant = { λ c. IsChart (record { rows = c.rows.items; first = c.extents.time.least; last = c.extents.time.greatest; period = c.period; cell = c.cell; tick = c.tick }) × AreExtentsOf c.rows.items c.extents };
 }
 
 impl Chart {
@@ -41,11 +44,19 @@ impl Chart {
         requires { IsChart (chart_with rows.items cell tick period) }
         ensures { result ≡ chart_with rows.items cell tick period }
     {
-        let (first, last) = ends(&rows);
+        let extents = Extents::of(&rows);
+        Chart::with_extents(rows, extents, cell, tick, period)
+    }
+
+    /// The same chart, where the extents of its rows are known: it takes no look at them.
+    pub fn with_extents(rows: Vec<Row>, extents: Extents, cell: u64, tick: u64, period: u32) -> Self
+        requires chart { IsChart (chart_with rows.items cell tick period) }
+        requires extents { AreExtentsOf rows.items extents }
+        ensures { result ≡ chart_with rows.items cell tick period }
+    {
         Chart {
             rows,
-            first,
-            last,
+            extents,
             period,
             cell,
             tick,
@@ -65,7 +76,7 @@ impl Chart {
         ensures value { result ≡ self.now.first }
         ensures chart { IsChart self.now }
     {
-        self.first
+        self.extents.time.least
     }
 
     /// The greatest instant of a row.
@@ -73,7 +84,15 @@ impl Chart {
         ensures value { result ≡ self.now.last }
         ensures chart { IsChart self.now }
     {
-        self.last
+        self.extents.time.greatest
+    }
+
+    /// From the least to the greatest instant, column and line of its rows.
+    pub fn extents(&self) -> Extents
+        ensures value { AreExtentsOf self.now.rows result }
+        ensures chart { IsChart self.now }
+    {
+        self.extents
     }
 
     /// Its instants from the first to the last, and its periods.
@@ -83,9 +102,10 @@ impl Chart {
         ensures period { result.period ≡ self.now.period }
         ensures chart { IsChart self.now }
     {
-        let span = self.last.abs_diff(self.first) + 1;
+        let time = self.extents.time;
+        let span = time.width();
         Timeline {
-            first: self.first,
+            first: time.least,
             span: span as u32,
             period: self.period,
         }
@@ -114,19 +134,4 @@ impl Chart {
     {
         self.tick
     }
-}
-
-// The least and the greatest instant.
-fn ends(rows: &[Row]) -> (i64, i64)
-    requires { 0 < length rows.now }
-    ensures first { result.0 ≡ first_of rows.now }
-    ensures last { result.1 ≡ last_of rows.now }
-{
-    let mut first = rows[0].instant;
-    let mut last = first;
-    for row in rows {
-        first = first.min(row.instant);
-        last = last.max(row.instant);
-    }
-    (first, last)
 }
