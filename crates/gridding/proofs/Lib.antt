@@ -7,7 +7,6 @@ mod SortingLemmas
 mod ObjectCountLemmas
 mod SymbolLemmas
 mod DivisorLemmas
-mod ExtentLemmas
 mod SurveyLemmas
 mod LimitLemmas
 mod BaseLemmas

@@ -4,9 +4,9 @@ use Rattle.std.proofs.lemmas.List.Sums.{fold-append}
 use Rattle.track_types.specs.Near.{IsRowInRange}
 use Rattle.track_types.specs.Row.{IsAscending}
 use Rattle.track_types.specs.declared.row.Row.{Row}
+use Rattle.track_types.proofs.ExtentLemmas.{AreExtentsOf-over}
 use Rattle.gridding.specs.Survey.{IsMeasureOf, IsSurveyOf, last_object}
 use Rattle.gridding.specs.declared.survey.Survey.{Survey}
-use Rattle.gridding.proofs.ExtentLemmas.{IsExtentOf-over}
 use Rattle.gridding.proofs.ObjectCountLemmas.{object_count-le}
 
 -- the object of the last row
@@ -19,8 +19,5 @@ pub IsMeasureOf-survey : (rows : List Row) (survey : Survey) → 0 < length rows
 IsMeasureOf-survey rows survey some few up in_range of = record {
   objects = of.objects up few;
   few = rw (of.objects up few) (object_count-le rows up);
-  time = IsExtentOf-over (λ row. row.instant) rows survey.time some (λ k d below. (in_range k d below).instant) of.time;
-  columns = IsExtentOf-over (λ row. row.cell.x) rows survey.columns some
-      (λ k d below. (in_range k d below).x) of.columns;
-  lines = IsExtentOf-over (λ row. row.cell.y) rows survey.lines some (λ k d below. (in_range k d below).y) of.lines;
+  extents = AreExtentsOf-over rows survey.extents some in_range of.extents;
 }

@@ -210,12 +210,6 @@ module _ (first : ℤ) (period : ℕ) where
       let periods : period_of first period a ≡ period_of first period row = grind (arith, nat_tests, parts.1) in
       rw (objects, periods) refl
 
-  -- a block with a row's object, and with the end of the row's period
-  pub is_block : (row : Row) (block : Block) → block.object ≡ row.object →
-      block.end ≡ first +ℤ pos (period_end first period row) → block ≡ block_of first period row
-  is_block row block object end =
-      ap (λ o. record { object = o; end = block.end }) object ∙ ap (λ e. record { object = row.object; end = e }) end
-
   -- the row before shows this exactly where it is of the same block
   seen-block : (before : Option Row) (row : Row) → 0 < period → IsAbove before row →
       seen before row ≡ is_block_of (option_map (block_of first period) before) row
@@ -308,11 +302,13 @@ module _ (first : ℤ) (period : ℕ) where
       (recursion_from_All (λ row. first ≤ℤ row.instant) rows (λ k d below. (inside k d below).after_first))
 
   -- a row is of its own block
-  own_block : (row : Row) → first ≤ℤ row.instant → elapsed first row < period_end first period row →
+  own_block : (row : Row) → 0 < period → first ≤ℤ row.instant →
       is_of_block (block_of first period row) row ≡ true
-  own_block row behind before_end =
+  own_block row some behind =
       let objects : (row.object == row.object) ≡ true = eq-eqb row.object row.object refl in
-      let counted : nat_lt (elapsed first row) (period_end first period row) ≡ true = grind (arith, nat_tests) in
+      let number : ℕ = period_of first period row in
+      let counted : nat_lt (elapsed first row) (period_end first period row) ≡ true =
+      sym (quotient_by_end period (elapsed first row) (elapsed first row) some (omega arith)) ∙ eq-eqb number number refl in
       rw objects (sym (end_from_first first row.instant (period_end first period row) behind) ∙ counted)
 
   -- a block's row is passed over, and any other row begins another block
@@ -336,17 +332,17 @@ module _ (first : ℤ) (period : ℕ) where
       terminals-after_one span block row rest (is_of_block block row) refl (terminals-after span block rest)
 
   -- one block more, at a step of a loop
-  pub terminals-block : (span : ℕ) (rows : List Row) (d : Row) → 0 < length rows → first ≤ℤ (get_or rows 0 d).instant →
-      elapsed first (get_or rows 0 d) < period_end first period (get_or rows 0 d) →
+  pub terminals-block : (span : ℕ) (rows : List Row) (d : Row) → 0 < length rows → 0 < period →
+      first ≤ℤ (get_or rows 0 d).instant →
       (terminals span None rows ≡ log_length first span period (get_or rows 0 d)
       + terminals span None (drop (prefix_len (is_of_block (block_of first period (get_or rows 0 d))) rows) rows))
       × (0 < prefix_len (is_of_block (block_of first period (get_or rows 0 d))) rows)
   unfolding terminals
-  terminals-block span [] d some behind before_end = absurd (omega arith)
-  terminals-block span (row ∷ rest) d some behind before_end =
+  terminals-block span [] d some long behind = absurd (omega arith)
+  terminals-block span (row ∷ rest) d some long behind =
       let length_of = prefix_len (is_of_block (block_of first period row)) in
       let next : 1 + length_of rest ≡ suc (length_of rest) = omega arith in
-      rw (own_block row behind before_end, next) (
+      rw (own_block row long behind, next) (
         ap (λ n. log_length first span period row + n) (terminals-after span (block_of first period row) rest),
         omega arith,
       )

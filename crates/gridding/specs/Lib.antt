@@ -2,7 +2,6 @@ pub mod Floor
 pub mod Grid
 pub mod ChartOf
 pub mod GridLimit
-pub mod Extents
 pub mod Survey
 pub mod Block
 pub mod Origin

@@ -1,9 +1,9 @@
 -- What is found of rows that are looked at one by one, in their order.
 use Rattle.std.specs.Prelude.{◌≡◌, ◌<◌, ◌≤◌, ◌^◌, ℕ, Bool, false, ◌==◌, List, fold, length, Option, Some, None}
-use Rattle.track_types.specs.Quantities.{columns_of, instants_of, lines_of, object_count}
+use Rattle.track_types.specs.Extents.{AreExtentsOf, extents_over}
+use Rattle.track_types.specs.Quantities.{object_count}
 use Rattle.track_types.specs.Row.{IsAscending}
 use Rattle.track_types.specs.declared.row.Row.{Row}
-use Rattle.gridding.specs.Extents.{IsExtentOf, extent_over}
 use Rattle.gridding.specs.declared.survey.Survey.{Survey}
 
 -- whether the row before, if there was one, was of this object
@@ -19,14 +19,10 @@ last_object = fold (λ _ row. Some row.object) None
 pub record IsSurveyOf (rows : List Row) (survey : Survey) : Type 0 where
   pub objects : IsAscending rows → length rows < 2 ^ 64 → survey.objects ≡ object_count rows
   pub last : survey.last ≡ last_object rows
-  pub time : survey.time ≡ extent_over (instants_of rows)
-  pub columns : survey.columns ≡ extent_over (columns_of rows)
-  pub lines : survey.lines ≡ extent_over (lines_of rows)
+  pub extents : survey.extents ≡ extents_over rows
 
 -- what a survey tells of some rows in order and in range
 pub record IsMeasureOf (rows : List Row) (survey : Survey) : Type 0 where
   pub objects : survey.objects ≡ object_count rows
   pub few : survey.objects ≤ length rows
-  pub time : IsExtentOf (λ row. row.instant) rows survey.time
-  pub columns : IsExtentOf (λ row. row.cell.x) rows survey.columns
-  pub lines : IsExtentOf (λ row. row.cell.y) rows survey.lines
+  pub extents : AreExtentsOf rows survey.extents

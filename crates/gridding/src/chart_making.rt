@@ -72,5 +72,5 @@ pub fn chart(
     check_base(rows.as_slice())?;
     let survey = Survey::of(rows.as_slice());
     check_limits(rows.as_slice(), survey, period)?;
-    Ok(Chart::new(rows, cell, tick, period))
+    Ok(Chart::with_extents(rows, survey.extents, cell, tick, period))
 }

@@ -99,6 +99,6 @@ impl GriddedRows {
             return Err(GridFault::Empty);
         }
         check_limits(made.rows.as_slice(), made.survey, period)?;
-        Ok(Chart::new(made.rows, self.cell, self.tick, period))
+        Ok(Chart::with_extents(made.rows, made.survey.extents, self.cell, self.tick, period))
     }
 }

@@ -9,7 +9,6 @@
 mod chart_making;
 mod counts;
 mod divisor;
-mod extents;
 mod fault;
 mod gridded_rows;
 mod limits;

@@ -1,4 +1,4 @@
-ghost use Rattle.std.specs.Prelude.{◌≡◌, ◌+◌, ◌^◌, ◌<◌, ◌≤◌, ◌-ℤ◌, max, unsigned_abs};
+ghost use Rattle.std.specs.Prelude.{◌≡◌, ◌^◌, ◌<◌, ◌≤◌, max, unsigned_abs};
 ghost use Rattle.std.specs.Prelude.{All, IfErr, None, OnOk, false, length, true};
 ghost use Rattle.gridding.specs.GridLimit.{base_of, IsRefusal, first_past, is_past};
 ghost use Rattle.gridding.specs.Survey.{IsMeasureOf};
@@ -7,10 +7,9 @@ ghost use Rattle.track_types.specs.Near.{IsNear, IsRowInRange};
 ghost use Rattle.track_types.specs.Row.{IsAscending};
 
 use crate::counts::symbol_count;
-use crate::extents::Extent;
 use crate::fault::GridFault;
 use crate::survey::Survey;
-use track_types::{Cell, LimitKind, Row};
+use track_types::{Cell, LimitKind, Row, Timeline};
 
 /// Refuses the greatest absolute coordinate of the rows' cells where it passes its limit. It is asked of rows that are
 /// gridded already: the cells of raw rows are within it.
@@ -44,28 +43,19 @@ pub fn check_limits(rows: &[Row], survey: Survey, period: u32) -> Result<(), Gri
     ensures ok { OnOk result (first_past rows.now period ≡ None) }
     ensures limit { IfErr result (IsRefusal (first_past rows.now period)) }
 {
-    let period = u64::from(period);
-    let span = survey.time.width();
+    let span = survey.extents.span();
     within(LimitKind::Objects, survey.objects)?;
     within(LimitKind::Span, span)?;
-    within(LimitKind::Extent, greater(survey.columns, survey.lines))?;
-    within(LimitKind::Blocks, survey.objects * span.div_ceil(period))?;
-    let symbols = symbol_count(rows, survey.time.least, span, period);
+    within(LimitKind::Extent, survey.extents.width())?;
+    let timeline = Timeline {
+        first: survey.extents.time.least,
+        span: span as u32,
+        period,
+    };
+    let periods = u64::from(timeline.periods());
+    within(LimitKind::Blocks, survey.objects * periods)?;
+    let symbols = symbol_count(rows, timeline);
     within(LimitKind::Symbols, symbols)
-}
-
-// The width of the wider of two extents.
-fn greater(columns: Extent, lines: Extent) -> u64
-    requires least_column { IsNear columns.least }
-    requires greatest_column { IsNear columns.greatest }
-    requires least_line { IsNear lines.least }
-    requires greatest_line { IsNear lines.greatest }
-    ensures { result ≡ max (unsigned_abs (columns.greatest -ℤ columns.least) + 1)
-        (unsigned_abs (lines.greatest -ℤ lines.least) + 1) }
-{
-    let columns = columns.width();
-    let lines = lines.width();
-    columns.max(lines)
 }
 
 fn within(kind: LimitKind, value: u64) -> Result<(), GridFault>

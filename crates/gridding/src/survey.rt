@@ -2,8 +2,7 @@ ghost use Rattle.std.specs.Prelude.{◌≡◌, [], ◌∷◌, ◌++◌, List};
 ghost use Rattle.gridding.specs.Survey.{is_object_of};
 ghost use Rattle.track_types.specs.declared.row.Row.{Row};
 
-use crate::extents::Extent;
-use track_types::Row;
+use track_types::{Extents, Row};
 
 /// Rows, with what was found of them.
 #[derive(Drop)]
@@ -19,12 +18,8 @@ pub struct Survey {
     pub objects: u64,
     /// The object of the last row.
     pub last: Option<u32>,
-    /// The extent of the rows' instants.
-    pub time: Extent,
-    /// The extent of the columns of their cells.
-    pub columns: Extent,
-    /// The extent of the lines of their cells.
-    pub lines: Extent,
+    /// The extents of the rows.
+    pub extents: Extents,
 }
 
 impl Survey {
@@ -37,9 +32,7 @@ impl Survey {
         Survey {
             objects: 0,
             last: None,
-            time: Extent::empty(),
-            columns: Extent::empty(),
-            lines: Extent::empty(),
+            extents: Extents::empty(),
         }
     }
 
@@ -51,9 +44,7 @@ impl Survey {
         Survey {
             objects: self.objects.saturating_add(u64::from(!again)),
             last: Some(row.object),
-            time: self.time.widened(row.instant),
-            columns: self.columns.widened(row.cell.x),
-            lines: self.lines.widened(row.cell.y),
+            extents: self.extents.with(row),
         }
     }
 

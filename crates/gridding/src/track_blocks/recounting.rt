@@ -6,10 +6,9 @@ ghost use Rattle.track_types.specs.Near.{IsRowInRange};
 ghost use Rattle.track_types.specs.declared.row.Row.{Row};
 
 use super::{Run, TrackBlocks};
-use crate::extents::Extent;
 use crate::packed_place::{INSTANTS, Origin, PackedPlace};
 use std::alloc::AllocError;
-use track_types::Row;
+use track_types::{Extent, Row};
 
 impl TrackBlocks {
     ghost use Rattle.gridding.specs.Blocks.{rows_of_run};

@@ -7,11 +7,11 @@ use Rattle.gridding.proofs.counts.symbol_count.Given as goal
 
 abbrev pub invariant-loop-left : goal.invariant-loop-left
 invariant-loop-left l = record {
-  so_far : l.count + terminals l.fn.first l.period l.span None l.left
-      ≡ terminals l.fn.first l.period l.span None l.rows;
+  so_far : l.count + terminals l.timeline.first l.timeline.period l.timeline.span None l.left
+      ≡ terminals l.timeline.first l.timeline.period l.timeline.span None l.rows;
   few : l.count + 2 ^ 22 * length l.left ≤ 2 ^ 22 * length l.rows;
   ascending : IsAscending l.left;
-  in_span : All (IsInSpan l.fn.first l.span) l.left;
+  in_span : All (IsInSpan l.timeline.first l.timeline.span) l.left;
 }
 
 abbrev pub decreases-loop-left : goal.decreases-loop-left

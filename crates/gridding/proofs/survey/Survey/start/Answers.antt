@@ -7,7 +7,5 @@ unfolding distinct
 returns c = record {
   objects = λ up few. refl;
   last = refl;
-  time = c.empty.ensures;
-  columns = c.empty-2.ensures;
-  lines = c.empty-3.ensures;
+  extents = c.empty.ensures;
 }
