@@ -22,7 +22,7 @@ use Rattle.track_types.specs.declared.row.Row.{Row}
 use Rattle.gridding.specs.Blocks.{IsLastOf, Run, filled_of, rows_of_run, rows_of_runs}
 use Rattle.gridding.specs.PackedPlace.{row_at}
 use Rattle.gridding.specs.Blocks.{rows_with, runs_of, runs_with}
-use Rattle.gridding.specs.GriddedRows.{AreBlocksOf, HasAdded, HasKept, HasPut, HasRoom, IsAway, IsFull, IsOneTooMany}
+use Rattle.gridding.specs.GriddedRows.{AreBlocksOf, HasAdded, HasKept, HasPut, HasRoom, IsApart, IsAway, IsFull, IsOneTooMany}
 use Rattle.gridding.specs.declared.packed_place.PackedPlace.{PackedPlace}
 use Rattle.gridding.specs.declared.track_blocks.TheConstants.{ROWS}
 use Rattle.gridding.specs.declared.track_blocks.TrackBlocks.{TrackBlocks}
@@ -320,7 +320,8 @@ no_rows_from_none rows tracks object blocks is =
 -- a row was added where each answer says what it is to say
 pub has_added : (row : Row) (old new : TrackBlocks) (answer : Result Bool AllocError) →
     (answer ≡ Ok true → HasPut row old new) →
-    (answer ≡ Ok false → HasKept old new × ((rows : List Row) → AreBlocksOf rows old → IsAway row old ⊎ IsOneTooMany row rows old)) →
+    (answer ≡ Ok false → HasKept old new × ((rows : List Row) → AreBlocksOf rows old →
+    (IsAway row old × IsApart row old) ⊎ IsOneTooMany row rows old)) →
     IfOk answer (HasAdded row old new)
 has_added row old new (Ok true) put left_out = put refl
 has_added row old new (Ok false) put left_out = left_out refl

@@ -8,6 +8,7 @@ mod ObjectCountLemmas
 mod SymbolLemmas
 mod DivisorLemmas
 mod SurveyLemmas
+mod RecountingLemmas
 mod LimitLemmas
 mod BaseLemmas
 mod Examples

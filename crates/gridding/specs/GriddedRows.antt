@@ -1,6 +1,7 @@
 -- Rows that are gridded and put in blocks as they come.
 use Rattle.std.specs.Prelude.{◌≡◌, ◌<◌, ◌≤◌, ◌^◌, ◌++◌, ◌⊎◌, ℕ, Bool, true, false, List, [], ◌∷◌, get_or, length, map, slice_get, All, Some, nat_eq}
 use Rattle.std.specs.HashMap.{get, hash_map_len}
+use Rattle.std.specs.List.{AllByRecursion}
 use Rattle.track_types.specs.Limits.{limit_of}
 use Rattle.track_types.specs.Near.{IsRawInRange}
 use Rattle.track_types.specs.declared.limit.LimitKind.TheVariants.{Objects, Rows}
@@ -9,6 +10,7 @@ use Rattle.track_types.specs.declared.row.Row.{Row}
 use Rattle.gridding.specs.Blocks.{IsLastOf, rows_of_runs, rows_with, runs_of, runs_with}
 use Rattle.gridding.specs.ChartOf.{gridded}
 use Rattle.gridding.specs.PackedPlace.{HasPlace}
+use Rattle.gridding.specs.declared.packed_place.Origin.{Origin}
 use Rattle.gridding.specs.declared.gridded_rows.GriddedRows.{GriddedRows}
 use Rattle.gridding.specs.declared.track_blocks.TheConstants.{ROWS}
 use Rattle.gridding.specs.declared.track_blocks.TrackBlocks.{TrackBlocks}
@@ -24,6 +26,11 @@ IsFull object tracks = (place : ℕ) → slice_get tracks.objects.items place �
 -- there are blocks, and a row has no place from their origin
 abbrev pub IsAway : Row → TrackBlocks → Type 0
 IsAway row tracks = (0 < length tracks.blocks.items) × (HasPlace tracks.origin row → ⊥)
+
+-- from no origin of the same cells all rows of blocks have places, and this row too
+abbrev pub IsApart : Row → TrackBlocks → Type 0
+IsApart row tracks = (origin : Origin) → origin.cell ≡ tracks.origin.cell →
+    AllByRecursion (HasPlace origin) (rows_of_runs tracks.origin (runs_of tracks)) → HasPlace origin row → ⊥
 
 -- no other row has a row's object, and as many objects have a last block as a chart may have objects
 abbrev pub IsOneTooMany : Row → List Row → TrackBlocks → Type 0
@@ -51,7 +58,8 @@ HasKept old new = (rows : List Row) → AreBlocksOf rows old → AreBlocksOf row
 abbrev pub HasAdded : Row → TrackBlocks → TrackBlocks → Bool → Type 0
 HasAdded row old new true = HasPut row old new
 HasAdded row old new false =
-    HasKept old new × ((rows : List Row) → AreBlocksOf rows old → IsAway row old ⊎ IsOneTooMany row rows old)
+    HasKept old new × ((rows : List Row) → AreBlocksOf rows old →
+    (IsAway row old × IsApart row old) ⊎ IsOneTooMany row rows old)
 
 -- These rows came, in this order: those in blocks, and after them those from the first that had no block on.
 pub record HoldsRows (rows : List Row) (gridded : GriddedRows) : Type 0 where

@@ -2,6 +2,7 @@ pub mod Floor
 pub mod Grid
 pub mod ChartOf
 pub mod GridLimit
+pub mod Recounting
 pub mod Survey
 pub mod Block
 pub mod Origin

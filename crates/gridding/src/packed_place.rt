@@ -1,4 +1,4 @@
-ghost use Rattle.std.specs.Prelude.{◌≡◌, ◌<◌, ◌+ℤ◌, ◌-ℤ◌, pos, IfNone, IfSome};
+ghost use Rattle.std.specs.Prelude.{◌≡◌, ◌<◌, ◌+ℤ◌, pos, IfNone, IfSome};
 ghost use Rattle.gridding.specs.Origin.{IsCounted, IsOrigin};
 ghost use Rattle.gridding.specs.declared.packed_place.TheConstants.{INSTANTS};
 ghost use Rattle.track_types.specs.Near.{IsNear, IsRowInRange, IsWithin};
@@ -68,20 +68,14 @@ impl Origin {
     pub fn reaching(self, instant: i64, before: u64) -> Self
         requires instant { IsNear instant }
         requires before { before < INSTANTS }
-        ensures { IsCounted result.instant INSTANTS instant }
+        ensures exact { (result.instant +ℤ pos before) ≡ instant }
+        ensures counted { IsCounted result.instant INSTANTS instant }
+        ensures cell { result.cell ≡ self.cell }
     {
         Origin {
             instant: instant - before as i64,
             cell: self.cell,
         }
-    }
-
-    /// How many instants after the origin's an instant is.
-    pub fn since(self, instant: i64) -> i64
-        requires { IsNear instant }
-        ensures { result ≡ instant -ℤ self.instant }
-    {
-        instant - self.instant
     }
 
     /// The place of a row, or none where it is too far away.
@@ -91,6 +85,7 @@ impl Origin {
         requires x { IsWithin row.cell.x }
         requires y { IsWithin row.cell.y }
         ensures some { IfSome result (λ place. row_at self row.object place ≡ row) }
+        ensures near { IfSome result (λ _. HasPlace self row) }
         ensures none { IfNone result (HasPlace self row → ⊥) }
     {
         let instant = offset(self.instant, INSTANTS, row.instant)?;

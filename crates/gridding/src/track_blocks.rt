@@ -1,4 +1,4 @@
-ghost use Rattle.std.specs.Prelude.{◌≡◌, ◌<◌, ◌≤◌, ◌+◌, List, [], ◌∷◌, ◌++◌, true, false, slice_get, take, Some, Ok};
+ghost use Rattle.std.specs.Prelude.{◌≡◌, ◌<◌, ◌≤◌, ◌+◌, List, [], ◌∷◌, ◌++◌, true, false, slice_get, take, length, Some, Ok};
 ghost use Rattle.std.specs.Prelude.{IfOk, OnOk};
 ghost use Rattle.std.specs.HashMap.{hash_map_len};
 ghost use Rattle.gridding.specs.declared.track_blocks.TheConstants.{ROWS};
@@ -42,7 +42,7 @@ pub struct TrackBlocks {
 
 impl TrackBlocks {
     ghost use Rattle.gridding.specs.Blocks.{rows_with, runs_in, runs_of};
-    ghost use Rattle.gridding.specs.GriddedRows.{AreBlocksOf, HasAdded, HasKept, HasRoom, IsAway, IsFull};
+    ghost use Rattle.gridding.specs.GriddedRows.{AreBlocksOf, HasAdded, HasKept, HasRoom, IsFull};
     ghost use Rattle.gridding.specs.PackedPlace.{HasPlace, row_at};
 
     /// No blocks. The first row decides from where places are counted.
@@ -60,7 +60,8 @@ impl TrackBlocks {
     // No blocks, of which places are counted from an origin.
     #[tactic(auto, unfolding(crate::specs::Blocks::runs_of))]
     fn counted_from(alloc: Global, origin: Origin) -> Self
-        ensures { AreBlocksOf [] result }
+        ensures none { AreBlocksOf [] result }
+        ensures origin { result.origin ≡ origin }
     {
         TrackBlocks {
             origin,
@@ -102,19 +103,30 @@ impl TrackBlocks {
         requires { IsRowInRange row }
         ensures { IfOk result (HasAdded row self.old self.new) }
     {
-        self.begin_around(row);
-        match self.origin.place(row) {
-            Some(place) => self.put_anywhere(row.object, place),
-            None => self.add_far(row),
+        if self.is_one_too_many(row.object) {
+            return Ok(false);
         }
+        self.begin_around(row);
+        let Some(place) = self.origin.place(row) else {
+            return self.add_far(row);
+        };
+        self.put_known(row.object, place)?;
+        Ok(true)
+    }
+
+    // Whether the object has no block, and there are as many objects as a chart may have.
+    fn is_one_too_many(&self, object: u32) -> bool
+        ensures { result ≡ true → (rows : List Row) → AreBlocksOf rows self.now →
+            (rows_with object rows ≡ []) × (limit_of LimitKind.Objects ≤ hash_map_len self.now.last_of) }
+    {
+        self.last_of.len() >= MAX_OBJECTS as usize && !self.last_of.contains_key(&object)
     }
 
     // Has places counted from around a row's, where it is the first.
     fn begin_around(&mut self, row: Row)
         requires { IsRowInRange row }
         ensures kept { HasKept self.old self.new }
-        ensures map { self.new.last_of ≡ self.old.last_of }
-        ensures away { (HasPlace self.new.origin row → ⊥) → IsAway row self.old }
+        ensures away { (HasPlace self.new.origin row → ⊥) → (0 < length self.old.blocks.items) × (self.new ≡ self.old) }
     {
         if self.blocks.is_empty() {
             self.origin = Origin::around(row);
@@ -132,27 +144,20 @@ impl TrackBlocks {
     }
 
     // Puts a place into the object's last block, or into a new one.
-    fn put_anywhere(&mut self, object: u32, place: PackedPlace) -> Result<bool, AllocError>
-        ensures put { result ≡ Ok true → (rows : List Row) → AreBlocksOf rows self.old →
-            AreBlocksOf (rows ++ (row_at self.old.origin object place ∷ [])) self.new }
-        ensures left_out { result ≡ Ok false → self.new ≡ self.old }
-        ensures full { result ≡ Ok false → (rows : List Row) → AreBlocksOf rows self.old →
-            (rows_with object rows ≡ []) × (limit_of LimitKind.Objects ≤ hash_map_len self.old.last_of) }
+    fn put_known(&mut self, object: u32, place: PackedPlace) -> Result<(), AllocError>
+        ensures put { OnOk result ((rows : List Row) → AreBlocksOf rows self.old →
+            AreBlocksOf (rows ++ (row_at self.old.origin object place ∷ [])) self.new) }
+        ensures origin { self.new.origin ≡ self.old.origin }
     {
         match self.last_of.get(&object).copied() {
             Some(last) => {
                 if self.put(object, last, place) {
-                    return Ok(true);
+                    return Ok(());
                 }
             }
-            None => {
-                if self.last_of.len() >= MAX_OBJECTS as usize {
-                    return Ok(false);
-                }
-            }
+            None => {}
         }
-        self.open(object, place)?;
-        Ok(true)
+        self.open(object, place)
     }
 
     // Puts a place into a block, if it is one of the object and has room: so it is the object's last, since no block is
@@ -165,6 +170,7 @@ impl TrackBlocks {
             slice_get self.old.objects.items guess ≡ Some object → HasRoom self.old guess → ⊥ }
         ensures put { result ≡ true → (rows : List Row) → AreBlocksOf rows self.old →
             AreBlocksOf (rows ++ (row_at self.old.origin object place ∷ [])) self.new }
+        ensures origin { self.new.origin ≡ self.old.origin }
     {
         let length = match (self.objects.get(guess), self.lengths.get(guess)) {
             (Some(&owner), Some(&length)) if owner == object && (length as usize) < ROWS => length,
@@ -183,8 +189,9 @@ impl TrackBlocks {
 
     // Opens a block of the object, with this place in it. The blocks that the object has are to be full.
     fn open(&mut self, object: u32, place: PackedPlace) -> Result<(), AllocError>
-        ensures { OnOk result ((rows : List Row) → AreBlocksOf rows self.old → IsFull object self.old →
+        ensures opened { OnOk result ((rows : List Row) → AreBlocksOf rows self.old → IsFull object self.old →
             AreBlocksOf (rows ++ (row_at self.old.origin object place ∷ [])) self.new) }
+        ensures origin { self.new.origin ≡ self.old.origin }
     {
         let last = self.blocks.len();
         self.blocks.push([place; ROWS])?;

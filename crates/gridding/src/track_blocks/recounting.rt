@@ -1,8 +1,12 @@
 // Blocks whose places are counted from another origin, since a row has no place from theirs.
 
-ghost use Rattle.std.specs.Prelude.{◌≡◌, ◌<◌, ◌++◌, List, true, false, IfOk, IfSome, Ok};
+ghost use Rattle.std.specs.Prelude.{◌≡◌, ◌<◌, ◌≤ℤ◌, ◌+ℤ◌, pos, ◌++◌, List, All, true, false, fold, IfNone, IfOk, IfSome, Ok};
+ghost use Rattle.gridding.specs.Blocks.{rows_of_run, rows_of_runs, runs_in};
+ghost use Rattle.gridding.specs.Extents.{extent_over, widened};
+ghost use Rattle.gridding.specs.Recounting.{IsCentred, IsExtentWithin, IsOfExtent};
 ghost use Rattle.gridding.specs.declared.packed_place.TheConstants.{INSTANTS};
 ghost use Rattle.track_types.specs.Near.{IsRowInRange};
+ghost use Rattle.track_types.specs.Quantities.{instants_of};
 ghost use Rattle.track_types.specs.declared.row.Row.{Row};
 
 use super::{Run, TrackBlocks};
@@ -11,8 +15,8 @@ use std::alloc::AllocError;
 use track_types::{Extent, Row};
 
 impl TrackBlocks {
-    ghost use Rattle.gridding.specs.Blocks.{rows_of_run};
-    ghost use Rattle.gridding.specs.GriddedRows.{AreBlocksOf, HasKept, HasPut};
+    ghost use Rattle.gridding.specs.GriddedRows.{AreBlocksOf, HasKept, HasPut, IsApart};
+    ghost use Rattle.gridding.specs.PackedPlace.{HasPlace};
 
     // Puts a row that is far from the origin, and answers whether it could: where all rows have places from another
     // origin, they are counted from there.
@@ -22,15 +26,17 @@ impl TrackBlocks {
         requires { IsRowInRange row }
         ensures put { result ≡ Ok true → HasPut row self.old self.new }
         ensures left_out { result ≡ Ok false → HasKept self.old self.new }
+        ensures apart { result ≡ Ok false → IsApart row self.old }
     {
         let Some(moved) = self.recounted(row)? else {
             return Ok(false);
         };
         *self = moved;
-        match self.origin.place(row) {
-            Some(place) => self.put_anywhere(row.object, place),
-            None => Ok(false),
-        }
+        let Some(place) = self.origin.place(row) else {
+            return Ok(false);
+        };
+        self.put_known(row.object, place)?;
+        Ok(true)
     }
 
     // The same rows with their places counted from an origin from which this row has a place too, or none where there
@@ -38,19 +44,21 @@ impl TrackBlocks {
     // next time: so rows are counted anew at most 22 times.
     fn recounted(&self, row: Row) -> Result<Option<TrackBlocks>, AllocError>
         requires { IsRowInRange row }
-        ensures { IfOk result (λ made. IfSome made (HasKept self.now)) }
+        ensures kept { IfOk result (λ made. IfSome made (HasKept self.now)) }
+        ensures reached { IfOk result (λ made. IfSome made (λ tracks. HasPlace tracks.origin row)) }
+        ensures apart { IfOk result (λ made. IfNone made (IsApart row self.now)) }
     {
         let alloc = *self.blocks.allocator();
         let runs = self.runs(alloc)?;
-        let since = self.origin.since(row.instant);
-        let Some(before) = instants_before(extent_of(runs.as_slice()).widened(since), since) else {
+        let extent = extent_of(self.origin, runs.as_slice()).widened(row.instant);
+        let Some(before) = instants_before(extent, row.instant) else {
             return Ok(None);
         };
         let origin = self.origin.reaching(row.instant, before);
-        if origin.place(row).is_none() {
+        let Some(_place) = origin.place(row) else {
             // Its cell is far away.
             return Ok(None);
-        }
+        };
         let mut tracks = TrackBlocks::counted_from(alloc, origin);
         for &(object, places) in runs.iter() {
             if !tracks.add_run(self.origin, object, places)? {
@@ -60,15 +68,18 @@ impl TrackBlocks {
         Ok(Some(tracks))
     }
 
-    // Puts the rows of a run that is counted from another origin, and answers whether it could.
+    // Puts the rows of a run that is counted from another origin, and answers whether all have places.
     fn add_run(
         &mut self,
         origin: Origin,
         object: u32,
         places: &[PackedPlace],
     ) -> Result<bool, AllocError>
-        ensures { result ≡ Ok true → (rows : List Row) → AreBlocksOf rows self.old →
+        ensures put { result ≡ Ok true → (rows : List Row) → AreBlocksOf rows self.old →
             AreBlocksOf (rows ++ rows_of_run origin (object, places.now)) self.new }
+        ensures far { result ≡ Ok false →
+            All (HasPlace self.old.origin) (rows_of_run origin (object, places.now)) → ⊥ }
+        ensures origin { self.new.origin ≡ self.old.origin }
     {
         for place in places {
             let Some(place) = self.origin.place(origin.row(object, *place)) else {
@@ -78,9 +89,7 @@ impl TrackBlocks {
             if self.put(object, self.recent, place) {
                 continue;
             }
-            if !self.put_anywhere(object, place)? {
-                return Ok(false);
-            }
+            self.put_known(object, place)?;
         }
         Ok(true)
     }
@@ -89,30 +98,40 @@ impl TrackBlocks {
 // How many instants an origin leaves before one of an extent, so that as many are free on both sides of the extent;
 // none if the extent is too wide.
 fn instants_before(extent: Extent, instant: i64) -> Option<u64>
-    ensures { IfSome result (λ before. before < INSTANTS) }
+    requires near { IsExtentWithin extent }
+    requires inside { IsOfExtent extent instant }
+    ensures within { IfSome result (λ before. before < INSTANTS) }
+    ensures exact { IfSome result (IsCentred extent instant) }
+    ensures none { IfNone result ((extent.least +ℤ pos INSTANTS) ≤ℤ extent.greatest) }
 {
-    let last = extent.greatest.checked_sub(extent.least)?;
-    let free = (INSTANTS as i64 - 1).checked_sub(last)?;
-    let before = instant.checked_sub(extent.least)?.checked_add(free / 2)?;
-    if free < 0 || before < 0 || before >= INSTANTS as i64 {
+    let last = extent.greatest.abs_diff(extent.least);
+    if last >= INSTANTS {
         return None;
     }
-    Some(before as u64)
+    Some(instant.abs_diff(extent.least) + (INSTANTS - 1 - last) / 2)
 }
 
-// How far after the origin the places of runs are.
-fn extent_of(runs: &[Run<'_>]) -> Extent {
+// The extent of the instants of runs that are counted from an origin.
+fn extent_of(origin: Origin, runs: &[Run<'_>]) -> Extent
+    ensures exact { result ≡ extent_over (instants_of (rows_of_runs origin (runs_in runs.now))) }
+    ensures near { IsExtentWithin result }
+{
     let mut extent = Extent::empty();
-    for &(_, places) in runs {
-        extent = extent_with(extent, places);
+    for &(object, places) in runs {
+        extent = extent_with(extent, origin, object, places);
     }
     extent
 }
 
-fn extent_with(extent: Extent, places: &[PackedPlace]) -> Extent {
+// An extent, and so much more that the instants of a run are in it.
+fn extent_with(extent: Extent, origin: Origin, object: u32, places: &[PackedPlace]) -> Extent
+    requires near { IsExtentWithin extent }
+    ensures exact { result ≡ fold widened extent (instants_of (rows_of_run origin (object, places.now))) }
+    ensures near { IsExtentWithin result }
+{
     let mut extent = extent;
     for place in places {
-        extent = extent.widened(place.elapsed() as i64);
+        extent = extent.widened(origin.row(object, *place).instant);
     }
     extent
 }

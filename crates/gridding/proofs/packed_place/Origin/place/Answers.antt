@@ -1,7 +1,8 @@
 use Rattle.std.proofs.Common.{◌≡◌, ℕ, ◌+◌, ◌*◌, ◌/◌, ◌%◌, ◌<◌, arith, refl, w64, to_z, of_z}
-use Rattle.std.specs.Prelude.{ℤ}
+use Rattle.std.specs.Prelude.{ℤ, pos, ◌+ℤ◌}
 use Rattle.std.proofs.lemmas.Int.{ints, to_z-of_z, fits_signed_from_abs}
 use Rattle.track_types.specs.Near.{IsWithin}
+use Rattle.gridding.proofs.RecountingLemmas.{within_word}
 use Rattle.gridding.specs.Origin.{IsCounted, IsOrigin}
 use Rattle.gridding.specs.PackedPlace.{cell_of, elapsed_of}
 use Rattle.gridding.specs.declared.packed_place.TheConstants.{CELLS, INSTANTS}
@@ -21,17 +22,19 @@ module _ (instant x y : ℕ) (x_short : x < CELLS) (y_short : y < CELLS) where
   third : bits % CELLS ≡ y
   third = omega (arith, y_short)
 
--- numbers that are not far from 0 fit a word
+-- a number of an origin fits a word
 origin_word : (z : ℤ) → IsOrigin z → to_z w64 (of_z w64 z) ≡ z
 origin_word z near = to_z-of_z w64 z (fits_signed_from_abs w64 z (omega (arith, ints, near.0, near.1)))
-
-within_word : (z : ℤ) → IsWithin z → to_z w64 (of_z w64 z) ≡ z
-within_word z within = to_z-of_z w64 z (fits_signed_from_abs w64 z (omega (arith, ints, within.low, within.high)))
 
 -- a number that is not found among so many as words is none of them
 not_counted : (least : ℤ) (count : ℕ) (number : ℤ) → IsOrigin least → IsWithin number →
     (IsCounted (to_z w64 (of_z w64 least)) count (to_z w64 (of_z w64 number)) → ⊥) → IsCounted least count number → ⊥
 not_counted least count number origin within none counted = none (rw (origin_word least origin, within_word number within) counted)
+
+-- one that is found among so many is one of them
+found : {least : ℤ} {count offset : ℕ} {number : ℤ} → (offset < count) × ((least +ℤ pos offset) ≡ number) →
+    IsCounted least count number
+found (below, is) = (omega (arith, ints, is), omega (arith, ints, below, is))
 
 pub returns-in_err-instant-clause-none : goal.returns-in_err-instant-clause-none
 returns-in_err-instant-clause-none c =
@@ -60,3 +63,11 @@ returns-clause-some c =
     let x_is = rw (origin_word origin.cell.x origin.x_near, within_word c.args.row.cell.x c.requires.x) at c.in_ok-x.ensures.some in
     let y_is = rw (origin_word origin.cell.y origin.y_near, within_word c.args.row.cell.y c.requires.y) at c.in_ok-y.ensures.some in
     rw (first t x y x_is.0 y_is.0, second t x y x_is.0 y_is.0, third t x y x_is.0 y_is.0, t_is.1, x_is.1, y_is.1) refl
+
+pub returns-clause-near : goal.returns-clause-near
+returns-clause-near c =
+    let origin = c.args.self in
+    let t_is = rw (origin_word origin.instant origin.instant_near, within_word c.args.row.instant c.requires.instant) at c.in_ok-instant.ensures.some in
+    let x_is = rw (origin_word origin.cell.x origin.x_near, within_word c.args.row.cell.x c.requires.x) at c.in_ok-x.ensures.some in
+    let y_is = rw (origin_word origin.cell.y origin.y_near, within_word c.args.row.cell.y c.requires.y) at c.in_ok-y.ensures.some in
+    record { instant = found t_is; x = found x_is; y = found y_is }
