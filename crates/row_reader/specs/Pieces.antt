@@ -1,5 +1,5 @@
 -- How far the reading of a file is, also of one that comes piece by piece.
-use Rattle.std.specs.Prelude.{◌≡◌, ◌≢◌, ◌+◌, ◌<◌, ◌≤◌, ℕ, false, List, [], ◌++◌, length, slice_index, All, None}
+use Rattle.std.specs.Prelude.{◌≡◌, ◌≢◌, ◌+◌, ◌<◌, ◌≤◌, ℕ, true, false, List, [], ◌∷◌, ◌++◌, length, slice_index, All, None}
 use Rattle.track_types.specs.Limits.{limit_of}
 use Rattle.track_types.specs.Near.{IsRawInRange}
 use Rattle.track_types.specs.declared.limit.LimitKind.TheVariants.{Rows}
@@ -39,9 +39,22 @@ pub record HoldsLine (kept : List ℕ) : Type 0 where
   pub few : line < LEAST
   pub unended : (place : ℕ) → line ≤ place → place < length kept → slice_index kept place ≢ 10
 
+-- bytes end with a line feed
+pub record EndsLine (bytes : List ℕ) : Type 0 where
+  pub front : List ℕ
+  pub feed : bytes ≡ front ++ (10 ∷ [])
+
+-- bytes begin with lines that are a file with a fault
+pub record HasRefusal (bytes : List ℕ) : Type 0 where
+  pub lines : List ℕ
+  pub others : List ℕ
+  pub parts : bytes ≡ lines ++ others
+  pub ended : EndsLine lines
+  pub refused : csv_fault lines ≢ None
+
 -- a parser has taken these bytes and given these rows: however the file goes on, its first records are those whose rows
 -- were given, none of them is refused, and the others are those of what the parser keeps with what follows; unless it waits
--- for the end of the file, it keeps little more than a line
+-- for the end of the file, it keeps little more than a line, and it waits only where the lines up to one that it has taken are refused
 pub record HasTaken (bytes : List ℕ) (raws : List RawRow) (parser : RowParser) : Type 0 where
   pub records : List Fields
   pub whole : (more : List ℕ) → records_of (bytes ++ more) ≡ records ++ records_of (parser.rest.items ++ more)
@@ -51,6 +64,7 @@ pub record HasTaken (bytes : List ℕ) (raws : List RawRow) (parser : RowParser)
   pub ranges : All IsRawInRange raws
   pub least : parser.least ≤ LEAST
   pub short : parser.is_waiting ≡ false → HoldsLine parser.rest.items
+  pub waits : parser.is_waiting ≡ true → HasRefusal bytes
 
 -- these are all rows of a file that is accepted
 pub record AreRowsOf (bytes : List ℕ) (raws : List RawRow) : Type 0 where

@@ -1,5 +1,5 @@
 -- What a file is as rows.
-use Rattle.std.specs.Prelude.{◌≡◌, ◌+◌, ℕ, Bool, not, ◌==◌, ◌&&◌, nat_lt, if◌then◌else◌, List, [], ◌∷◌, map, filter, codes, Option, Some, option_map, slice_get}
+use Rattle.std.specs.Prelude.{◌≡◌, ◌+◌, ℕ, Bool, true, false, not, ◌==◌, ◌&&◌, nat_lt, if◌then◌else◌, List, [], ◌∷◌, map, filter, codes, Option, Some, option_map, slice_get}
 use Rattle.std.specs.List.{enumerate_from, filter_map}
 use Rattle.std.specs.Cmp.Lexicographic.{pointwise}
 use Rattle.std.specs.Str.{bytes_eq}
@@ -52,6 +52,12 @@ rows_of = map (λ numbered. raw_of numbered.1)
 -- the rows of a file
 abbrev pub raws_of : List ℕ → List RawRow
 raws_of bytes = rows_of (data_of bytes)
+
+-- whether a fault is of a file, and not want of memory
+abbrev pub is_refusal : RowsFault → Bool
+is_refusal (Row nth field fault) = true
+is_refusal (Limit value) = true
+is_refusal Memory = false
 
 -- a fault that a file may be answered: its own, and want of memory whatever it holds
 abbrev pub IsRowsFault : List ℕ → RowsFault → Type 0

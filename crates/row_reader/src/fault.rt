@@ -24,6 +24,20 @@ pub enum RowsFault {
     Memory,
 }
 
+impl RowsFault {
+    ghost use Rattle.row_reader.specs.Rows.{is_refusal};
+
+    // Whether it is of the file, and not want of memory.
+    pub(crate) fn is_refusal(self) -> bool
+        ensures { result ≡ is_refusal self }
+    {
+        match self {
+            RowsFault::Row { .. } | RowsFault::Limit { .. } => true,
+            RowsFault::Memory => false,
+        }
+    }
+}
+
 impl<T: Drop> From<AllocFailed<T>> for RowsFault {
     ghost from_gives = { λ _ fault. fault ≡ Memory };
 

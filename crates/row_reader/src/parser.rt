@@ -1,7 +1,7 @@
-ghost use Rattle.std.specs.Prelude.{◌≡◌, ◌+◌, ◌≤◌, ℕ, List, [], ◌∷◌, ◌++◌, length, IfErr, OnOk};
+ghost use Rattle.std.specs.Prelude.{◌≡◌, ◌+◌, ◌≤◌, ℕ, List, [], ◌++◌, length, IfErr, OnOk};
 ghost use Rattle.track_types.specs.Limits.{limit_of};
 ghost use Rattle.track_types.specs.declared.raw_row.RawRow.{RawRow};
-ghost use Rattle.row_reader.specs.Pieces.{Adds, AreRowsOf, HasTaken, kept_length};
+ghost use Rattle.row_reader.specs.Pieces.{Adds, AreRowsOf, EndsLine, HasTaken, kept_length};
 ghost use Rattle.row_reader.specs.Rows.{IsRowsFault};
 ghost use Rattle.row_reader.specs.declared.parser.TheConstants.{LEAST};
 
@@ -22,7 +22,7 @@ const LEAST: usize = 0x8000;
 ///
 /// What it keeps is the line that has not ended, and before it fewer than 32,768 bytes. A line feed
 /// ends a line, and so a file whose lines end with CR alone is kept whole. From the text on that has
-/// a refused record, all is kept up to `finish`.
+/// a refused record, and from no other, all is kept up to `finish`.
 #[derive(Drop)]
 pub struct RowParser {
     // Bytes of which no record was given yet.
@@ -85,10 +85,10 @@ impl RowParser {
 
     // Reads what is kept and the lines after it, which end with a line feed.
     fn read_lines(&mut self, lines: &[u8], rows: &mut Vec<RawRow>) -> Result<(), AllocError>
-        requires { kept_length self.now + length lines.now ≤ limit_of LimitKind.Csv }
+        requires few { kept_length self.now + length lines.now ≤ limit_of LimitKind.Csv }
+        requires ended { EndsLine lines.now }
         ensures { OnOk result (
-            (bytes front : List ℕ) (raws : List RawRow) → HasTaken bytes raws self.old →
-            lines.now ≡ front ++ (10 ∷ []) →
+            (bytes : List ℕ) (raws : List RawRow) → HasTaken bytes raws self.old →
             Adds rows.old.items rows.new.items
             (λ more. HasTaken (bytes ++ lines.now) (raws ++ more) self.new)) }
     {
@@ -102,8 +102,10 @@ impl RowParser {
                 // mark is dropped at a text's front alone.
                 self.rest.extend_from_slice(b"\n")
             }
-            Err(RowsFault::Memory) => Err(AllocError),
-            Err(_refused) => {
+            Err(fault) => {
+                if !fault.is_refusal() {
+                    return Err(AllocError);
+                }
                 // Where the text was cut within quotes, its last record goes on, and may be refused
                 // for another reason. So the refusal is told when all of the file is there.
                 rows.truncate(count);

@@ -134,6 +134,29 @@ fn the_first_refusal_is_told(rt: HostRuntime) -> Result<(), Fail> {
 }
 
 #[test]
+fn a_refusal_in_the_first_piece_is_told_after_the_last(rt: HostRuntime) -> Result<(), Fail> {
+    let mut file = Vec::new(rt.alloc());
+    file.extend_from_slice(b"7,0,1\n")?;
+    for object in 0..70_000u32 {
+        let line = format!(in rt.alloc(); "{object},-5,{object},6401239\n")?;
+        file.extend_from_slice(line.as_bytes())?;
+    }
+    assert!(rt; file.len() < 10_000_000);
+    // The first text ends in the thirty-second piece. Its refused record has all kept from there on.
+    let mut parser = RowParser::new(rt.alloc());
+    let mut rows = Vec::new(rt.alloc());
+    take_in_pieces(&rt, &mut parser, file.as_slice(), 1_024, &mut rows);
+    assert!(rt; rows.is_empty());
+    assert_eq!(rt; parser.kept_length(), file.len());
+    assert!(rt; parser.kept_length() < 10_000_000);
+    assert_eq!(rt;
+        parser.finish(&mut rows).err(),
+        Some(fault(1, 3, RowFault::Count))
+    );
+    Ok(())
+}
+
+#[test]
 fn seventy_thousand_rows_and_the_one_after(rt: HostRuntime) -> Result<(), Fail> {
     let mut file = Vec::new(rt.alloc());
     for object in 0..70_000u32 {

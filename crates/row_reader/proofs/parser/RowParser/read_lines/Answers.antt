@@ -1,6 +1,7 @@
-use Rattle.std.proofs.Common.{rules, ◌≡◌, ◌∙◌, true, false, List, ℕ, [], ◌∷◌, ◌++◌, length, take, is_ok, OnOk, Result, Ok, Err, if◌then◌else◌, refl, ap, vec_len}
+use Rattle.std.proofs.Common.{rules, ◌≡◌, ◌∙◌, true, false, List, ℕ, [], ◌∷◌, ◌++◌, length, take, is_ok, OnOk, Result, Ok, Err, if◌then◌else◌, refl, ap, vec_len, sym}
 use Rattle.std.proofs.lemmas.Result.{on_ok_weaker}
-use Rattle.row_reader.proofs.TakenLemmas.{HasTaken-lines, HasTaken-piece_alone}
+use Rattle.row_reader.proofs.TakenLemmas.{HasTaken-lines, HasTaken-piece_alone, waits-fault}
+use Rattle.row_reader.specs.declared.parser.RowParser.{RowParser}
 use Rattle.row_reader.proofs.parser.RowParser.read_lines.Goals as goal
 
 -- where the line feed was put into what was cleared, it is all that is kept
@@ -17,21 +18,31 @@ returns-in-Ok c =
     let read = c.in-Ok.ensures.ok (old.rest.items ++ lines) known in
     let alone = feed_alone c.extend_from_slice.result c.clear.new.self.items c.extend_from_slice.new.self.items
     c.clear.ensures.items c.extend_from_slice.ensures.items in
-    on_ok_weaker c.extend_from_slice.result (λ rest bytes front raws has ends. record {
+    on_ok_weaker c.extend_from_slice.result (λ rest bytes raws has. record {
       more = read.more;
       added = read.added;
-      promise = HasTaken-lines bytes lines front raws read.more old _ has ends rest refl
+      promise = HasTaken-lines bytes lines raws read.more old _ has c.requires.ended rest refl refl
           (read.promise has.records has.past);
     }) alone
 
-pub returns-in-Err : goal.returns-in-Err
-returns-in-Err c =
+pub returns-else-not-is_refusal : goal.returns-else-not-is_refusal
+returns-else-not-is_refusal c =
     let rows = c.args.rows.now in
     let size : vec_len rows ≡ length rows.items = search rules in
+    let old = c.args.self.now in
+    let lines = c.args.lines.now in
     let none = c.truncate.ensures.items
     ∙ ap (λ count. take count c.read_on.new.rows.items) (c.len-count.ensures ∙ size)
     ∙ c.read_on.ensures.kept in
-    on_ok_weaker c.extend_from_slice-in-Err.result (λ kept bytes front raws has ends. kept bytes raws has)
-    (HasTaken-piece_alone c.extend_from_slice-in-Err.result c.args.lines.now rows.items c.truncate.new.self.items
-    c.args.self.now _ none c.extend_from_slice-in-Err.ensures.items refl refl
-    (λ least short goes_on. absurd (let waits : true ≡ false = goes_on in cc)))
+    let new : RowParser = record {
+      rest = c.extend_from_slice-in-Err.new.self;
+      progress = old.progress;
+      is_waiting = true;
+      least = old.least;
+    } in
+    HasTaken-piece_alone c.extend_from_slice-in-Err.result lines rows.items c.truncate.new.self.items old new none
+    c.extend_from_slice-in-Err.ensures.items refl refl
+    (λ least short goes_on. absurd (let waits : true ≡ false = goes_on in cc))
+    (waits-fault lines old new c.in-Err.fault c.requires.ended
+    (sym c.is_refusal.ensures ∙ c.if-not-is_refusal.false) (c.in-Err.ensures.fault (old.rest.items ++ lines)
+    (c.chain-text.ensures.bytes ∙ rw c.as_slice.ensures.value refl)))
