@@ -3,10 +3,12 @@ use Rattle.std.proofs.Common.{◌≡◌, ℕ, suc, ◌+◌, ◌*◌, ◌<◌, �
 use Rattle.std.specs.List.{Contains}
 use Rattle.std.proofs.lemmas.List.Elements.{Contains-append_left, Contains-append_right}
 use Rattle.list_laws.proofs.MemberLemmas.{first_member}
+use Rattle.std.proofs.lemmas.Bool.Decides.{nat_tests}
+use Rattle.std.proofs.lemmas.List.{append-nil}
 use Rattle.std.proofs.lemmas.Bool.{cases_Bool, cases_lt, and_parts, and_from, eqb-true, eq-eqb, ne_eqb, lt-ltb, ltb-true, both_ways}
 use Rattle.repair_grammar.specs.RePair.{is_pair}
 use Rattle.repair_grammar.specs.Counts.{met_after}
-use Rattle.repair_grammar.specs.Kept.{times_of}
+use Rattle.repair_grammar.specs.Kept.{noted_at, times_of}
 use Rattle.repair_grammar.specs.Runs.{begins_odd, ends_odd, left_gone, right_gone, left_come}
 use Rattle.repair_grammar.specs.Threads.{at, live, AreThreads, HasEnds, IsPlain, IsCounted, IsPassing, IsAround, AreNeighbours, stands_at}
 use Rattle.repair_grammar.specs.Joins.{plain_of, gone_left, gone_right, only_if, counts_left}
@@ -84,6 +86,21 @@ pub noted_by : (old new : List ℕ) (here : Bool) (place : ℕ) → new ≡ (if 
     here ≡ true → Contains new place
 noted_by old new true place is own = rw is (Contains-append_right old (place ∷ []) place (first_member place []))
 noted_by old new false place is own = absurd (cc)
+
+-- the same as what is noted at its place
+pub noted_as : (here : Bool) (old : List ℕ) (place : ℕ) →
+    (if here then old ++ place ∷ [] else old) ≡ old ++ (if here then place ∷ [] else [])
+noted_as true old place = refl
+noted_as false old place = sym (append-nil old)
+
+-- a place is noted as often as its pair is the one
+length-noted_at : (pair : Option (ℕ × ℕ)) (place : ℕ) (other : ℕ × ℕ) → length (noted_at pair place other) ≡ times_of pair other
+unfolding times_of
+length-noted_at None place other = refl
+length-noted_at (Some pair) place other = elim (cases_Bool (is_pair other pair.0 pair.1)) [
+  | inl is ↦ rw is refl
+  | inr apart ↦ rw apart refl
+]
 
 pub times_le : (pair : Option (ℕ × ℕ)) (other : ℕ × ℕ) → times_of pair other ≤ 1
 unfolding times_of
@@ -360,3 +377,23 @@ live-all (x ∷ row) words =
     let here : x < 4294967295 = words 0 (omega arith) in
     let apart : (x == 4294967295) ≡ false = ne_eqb x 4294967295 (λ same. omega (arith, same, here)) in
     rw apart (ap (λ rest. x ∷ rest) (live-all row (λ j within. words (suc j) (omega arith))))
+
+-- of two pairs that a new symbol has with its neighbours, which are not both the symbol, no other pair is both
+times_of-apart : (x y : ℕ) (other : ℕ × ℕ) → (y == other.1) ≡ false → times_of (plain_of x y) other ≡ 0
+unfolding times_of plain_of
+times_of-apart x y other apart = elim (cases_Bool (nat_lt x 4294967294 && nat_lt y 4294967294)) [
+  | inl plain ↦ rw plain (grind (arith, apart))
+  | inr mark ↦ rw mark refl
+]
+
+pub noted_once : (x s y left place : ℕ) (other : ℕ × ℕ) → (s == y) ≡ false →
+    length (noted_at (plain_of x s) left other) + length (noted_at (plain_of s y) place other) ≤ 1
+noted_once x s y left place other differ =
+    let first = length-noted_at (plain_of x s) left other in
+    let second = length-noted_at (plain_of s y) place other in
+    elim (cases_Bool (s == other.1)) [
+      | inl is ↦
+          let apart : (y == other.1) ≡ false = grind (arith, nat_tests, is, differ) in
+          omega (arith, first, second, times_le (plain_of x s) other, times_of-apart s y other apart)
+      | inr apart ↦ omega (arith, first, second, times_le (plain_of s y) other, times_of-apart x s other apart)
+    ]

@@ -1,5 +1,5 @@
 -- The table of pairs: one entry that is written, and one that comes.
-use Rattle.std.proofs.Common.{◌≡◌, ℕ, ◌+◌, ◌<◌, ◌≤◌, cond, if◌then◌else◌, Option, Some, None, [], ◌++◌, refl, sym, ◌∙◌, ap, arith, inl, inr}
+use Rattle.std.proofs.Common.{◌≡◌, ℕ, ◌+◌, ◌<◌, ◌≤◌, cond, if◌then◌else◌, Option, Some, None, [], ◌++◌, length, refl, sym, ◌∙◌, ap, arith, inl, inr}
 use Rattle.std.proofs.lemmas.Bool.{cases_Bool, cases_lt}
 use Rattle.std.specs.List.{Contains}
 use Rattle.repair_grammar.specs.declared.pairs.Seen.{Seen}
@@ -24,6 +24,15 @@ places-none = refl
 pub places-some : (seen : Seen) → places_in_entry (Some seen) ≡ seen.places.items
 unfolding places_in_entry
 places-some seen = refl
+
+-- no place comes with an entry that goes
+pub removed-few : (old new : ℕ × ℕ → Option Seen) (pair other : ℕ × ℕ) →
+    new other ≡ cond (is_pair other pair.0 pair.1) None (old other) →
+    length (places_in_entry (new other)) ≤ length (places_in_entry (old other))
+removed-few old new pair other now = elim (cases_Bool (is_pair other pair.0 pair.1)) [
+  | inl is ↦ let value : new other ≡ None = rw is at now in rw (value, places-none) (omega arith)
+  | inr apart ↦ let value : new other ≡ old other = rw apart at now in rw value (omega arith)
+]
 
 -- an entry that goes, where its pair counts no more
 module _ (old new : ℕ × ℕ → Option Seen) (pair other : ℕ × ℕ)

@@ -1,5 +1,5 @@
 -- The keys that are kept between rounds, and what one step counts.
-use Rattle.std.specs.Prelude.{◌≡◌, ◌⊎◌, ℕ, ◌<◌, ◌≤◌, cond, Option, Some, None, List}
+use Rattle.std.specs.Prelude.{◌≡◌, ◌⊎◌, ℕ, ◌<◌, ◌≤◌, cond, if◌then◌else◌, Option, Some, None, List, [], ◌∷◌}
 use Rattle.std.specs.List.{Contains}
 use Rattle.std.specs.BinaryHeap.{heap_items}
 use Rattle.repair_grammar.specs.declared.key.Key.{Key}
@@ -10,6 +10,11 @@ use Rattle.repair_grammar.specs.RePair.{is_pair}
 unfoldable pub times_of : Option (ℕ × ℕ) → ℕ × ℕ → ℕ
 times_of None pair = 0
 times_of (Some other) pair = cond (is_pair pair other.0 other.1) 1 0
+
+-- the places that a step notes for a pair: its place, if the pair is the one that it notes
+abbrev pub noted_at : Option (ℕ × ℕ) → ℕ → ℕ × ℕ → List ℕ
+noted_at None place pair = []
+noted_at (Some other) place pair = if is_pair pair other.0 other.1 then place ∷ [] else []
 
 -- the keys, in no order
 abbrev pub items_of : Keys → List Key

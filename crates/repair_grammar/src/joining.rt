@@ -1,7 +1,7 @@
-ghost use Rattle.std.specs.Prelude.{◌≡◌, ℕ, ◌+◌, ◌^◌, ◌<◌, ◌≤◌, ◌==◌, true, false, List, ◌∷◌};
+ghost use Rattle.std.specs.Prelude.{◌≡◌, ℕ, ◌+◌, ◌^◌, ◌<◌, ◌≤◌, ◌==◌, true, false, List, ◌∷◌, ◌++◌};
 ghost use Rattle.std.specs.Prelude.{length, take, drop, slice_index_or, IfOk, OnOk, IfSome};
 ghost use Rattle.std.specs.List.{Contains};
-ghost use Rattle.repair_grammar.specs.Kept.{times_of};
+ghost use Rattle.repair_grammar.specs.Kept.{noted_at, times_of};
 ghost use Rattle.repair_grammar.specs.Pairs.{count_of, places_of, HasCome};
 ghost use Rattle.repair_grammar.specs.Runs.{begins_odd, ends_odd};
 ghost use Rattle.repair_grammar.specs.Threads.{at, live, IsCounted, IsPassing, IsPlain};
@@ -77,6 +77,8 @@ pub fn note_some(
     requires room { IfSome pair (λ own. count_of pairs.old own + 1 < 2 ^ 32) }
     ensures counts { OnOk result ((other : ℕ × ℕ) → count_of pairs.new other
         ≡ count_of pairs.old other + times_of (only_if counts pair) other) }
+    ensures places { OnOk result ((other : ℕ × ℕ) → places_of pairs.new other
+        ≡ places_of pairs.old other ++ noted_at pair place other) }
     ensures kept { OnOk result ((other : ℕ × ℕ) (k : ℕ) →
         Contains (places_of pairs.old other) k → Contains (places_of pairs.new other) k) }
     ensures noted { OnOk result (IfSome pair (λ own. Contains (places_of pairs.new own) place)) }
@@ -95,6 +97,8 @@ fn lower_some(pairs: &mut Pairs, pair: Option<(u32, u32)>)
         ≡ count_of pairs.old other }
     ensures places { (other : ℕ × ℕ) → 0 < count_of pairs.new other →
         places_of pairs.new other ≡ places_of pairs.old other }
+    ensures few { (other : ℕ × ℕ) →
+        length (places_of pairs.new other) ≤ length (places_of pairs.old other) }
     ensures fresh { pairs.new.fresh ≡ pairs.old.fresh }
 {
     if let Some(pair) = pair {
@@ -112,7 +116,7 @@ fn counts_next(before: u32, symbol: u32, odd: bool) -> bool
 
 /// Puts the symbol in place of the pair at a place, and counts what that changes. Where the symbol
 /// stands before the place, it has to be known whether its run there is odd. It gives whether the run
-/// that ends at the place now is.
+/// that ends at the place now is. For no pair more than one place is noted.
 pub fn join_at(
     alloc: Global,
     text: &mut Text,
@@ -139,6 +143,8 @@ pub fn join_at(
     ensures text { OnOk result (IsText text.new) }
     ensures counted { OnOk result
         (IsCounted text.new.symbols.items (count_of pairs.new) (places_of pairs.new)) }
+    ensures few { OnOk result ((other : ℕ × ℕ) →
+        length (places_of pairs.new other) ≤ length (places_of pairs.old other) + 1) }
     ensures come { OnOk result (HasCome pairs.old pairs.new) }
     ensures place { OnOk result (at text.new.symbols.items place ≡ symbol) }
     ensures run { IfOk result (λ odd.

@@ -1,7 +1,7 @@
-ghost use Rattle.std.specs.Prelude.{◌≡◌, ℕ, ◌+◌, ◌^◌, ◌<◌, cond, IfOk, OnOk, [], ◌∷◌, ◌++◌};
+ghost use Rattle.std.specs.Prelude.{◌≡◌, ℕ, ◌+◌, ◌^◌, ◌<◌, ◌≤◌, cond, length, IfOk, OnOk, [], ◌∷◌, ◌++◌};
 ghost use Rattle.std.specs.Prelude.{if◌then◌else◌};
 ghost use Rattle.std.specs.List.{Contains};
-ghost use Rattle.std.specs.List.Sorted.{IsNonDecreasing};
+ghost use Rattle.std.specs.List.Sorted.{IsNonDecreasing, IsPermutation};
 ghost use Rattle.repair_grammar.specs.RePair.{is_pair};
 ghost use Rattle.repair_grammar.specs.Pairs.{count_in_table, places_in_table};
 ghost use Rattle.repair_grammar.specs.Pairs.{count_of, places_of, HasCome};
@@ -50,11 +50,12 @@ impl Pairs {
         }
     }
 
-    /// Writes the places of a pair on a list, in order.
+    /// Writes the places of a pair on a list, in order and each as often as it was noted.
     pub fn copy_places(&self, pair: (u32, u32), places: &mut Vec<u32>) -> Result<(), Memory>
         ensures order { OnOk result (IsNonDecreasing places.new.items) }
         ensures all { OnOk result ((place : ℕ) →
             Contains (places_of self.now pair) place → Contains places.new.items place) }
+        ensures same { OnOk result (IsPermutation (places_of self.now pair) places.new.items) }
     {
         copy_seen(&self.table, pair, places)?;
         put_in_order(places);
@@ -89,6 +90,8 @@ impl Pairs {
             + cond (is_pair other pair.0 pair.1) 1 0 ≡ count_of self.old other }
         ensures places { (other : ℕ × ℕ) → 0 < count_of self.new other →
             places_of self.new other ≡ places_of self.old other }
+        ensures few { (other : ℕ × ℕ) →
+            length (places_of self.new other) ≤ length (places_of self.old other) }
         ensures fresh { self.new.fresh ≡ self.old.fresh }
     {
         if lower_in(&mut self.table, pair) == 0 {
@@ -113,6 +116,7 @@ fn copy_seen(table: &Table, pair: (u32, u32), places: &mut Vec<u32>) -> Result<(
 fn put_in_order(places: &mut Vec<u32>)
     ensures order { IsNonDecreasing places.new.items }
     ensures all { (place : ℕ) → Contains places.old.items place → Contains places.new.items place }
+    ensures same { IsPermutation places.old.items places.new.items }
 {
     if !places.as_slice().is_sorted() {
         places.sort_unstable();

@@ -1,5 +1,7 @@
-use Rattle.std.proofs.Common.{◌≡◌, ℕ, ◌+◌, ◌<◌, ◌≤◌, ◌==◌, true, false, get_or, take, arith, refl, inl, inr, sym, ◌∙◌, ap}
+use Rattle.std.proofs.Common.{◌≡◌, ℕ, ◌+◌, ◌<◌, ◌≤◌, ◌==◌, true, false, List, get_or, length, take, arith, refl, inl, inr, sym, ◌∙◌, ap}
 use Rattle.std.specs.List.{Contains}
+use Rattle.std.proofs.lemmas.List.{length-append}
+use Rattle.repair_grammar.specs.Kept.{noted_at}
 use Rattle.repair_grammar.specs.Pairs.{count_of, places_of}
 use Rattle.repair_grammar.specs.Threads.{at, live, IsPlain}
 use Rattle.repair_grammar.specs.Joins.{only_if, counts_left}
@@ -8,7 +10,7 @@ use Rattle.std.proofs.lemmas.Bool.{cases_Bool}
 use Rattle.repair_grammar.proofs.CountLemmas.{times_of-some, times_of-own}
 use Rattle.repair_grammar.proofs.ThreadLemmas.{after-place, gone_is, left_is}
 use Rattle.repair_grammar.proofs.PairLemmas.{come_then, come_fewer}
-use Rattle.repair_grammar.proofs.JoinLemmas.{run_after, came, went, went_counts, times_le, some_counts, gone_left-plain, gone_right-plain, counted_around, passing_around, some_weaker, plain_is, counted_room}
+use Rattle.repair_grammar.proofs.JoinLemmas.{run_after, came, went, went_counts, noted_once, times_le, some_counts, gone_left-plain, gone_right-plain, counted_around, passing_around, some_weaker, plain_is, counted_room}
 use Rattle.repair_grammar.proofs.joining.join_at.Goals as goal
 use Rattle.repair_grammar.proofs.joining.join_at.Goals.{In_ok-note_some-2, After-join_around}
 
@@ -214,3 +216,23 @@ returns-clause-run c = let at_2 = (goal.at.returns-clause-run c).In_ok-note_some
     c.around-around.result.left c.around-around.result.gone c.around-around.result.right c.around-around.result.before
     c.around-around.result.after c.args.symbol c.around-around.ensures (fits at_2) c.args.pair.0 c.args.pair.1
     c.requires.left (is_b at_2) c.args.odd (run at_2))
+
+pub returns-clause-few : goal.returns-clause-few
+returns-clause-few c = let at_2 = (goal.at.returns-clause-few c).In_ok-note_some-2 in λ other.
+    let first = c.in_ok-note_some.ensures.places other in
+    let second = c.in_ok-note_some-2.ensures.places other in
+    let left : List ℕ = noted_at c.plain_pair.result c.around-around.result.left other in
+    let right : List ℕ = noted_at c.plain_pair-2.result c.args.place other in
+    omega (
+      arith,
+      ap length first,
+      length-append (places_of c.args.pairs.now other) left,
+      ap length second,
+      length-append (places_of c.note_some.new.pairs other) right,
+      rw (sym c.plain_pair.ensures, sym c.plain_pair-2.ensures) at
+          (noted_once c.around-around.result.before c.args.symbol c.around-around.result.after c.around-around.result.left
+          c.args.place other (new_r at_2)),
+      c.lower.ensures.few other,
+      c.lower_some.ensures.few other,
+      c.lower_some-2.ensures.few other,
+    )

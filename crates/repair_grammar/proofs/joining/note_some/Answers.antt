@@ -1,14 +1,24 @@
-use Rattle.std.proofs.Common.{arith}
+use Rattle.std.proofs.Common.{arith, sym, ◌∙◌}
+use Rattle.std.proofs.lemmas.List.{append-nil}
 use Rattle.repair_grammar.specs.Pairs.{places_of}
 use Rattle.repair_grammar.specs.RePair.{is_pair}
 use Rattle.repair_grammar.proofs.CountLemmas.{own_pair}
 use Rattle.repair_grammar.proofs.PairLemmas.{come_none}
-use Rattle.repair_grammar.proofs.JoinLemmas.{one_of, one_of_none, kept_by, noted_by}
+use Rattle.repair_grammar.proofs.JoinLemmas.{one_of, one_of_none, kept_by, noted_as, noted_by}
 use Rattle.repair_grammar.proofs.joining.note_some.Goals as goal
 
 pub returns-in_ok-note-clause-counts : goal.returns-in_ok-note-clause-counts
 returns-in_ok-note-clause-counts c = λ other.
     rw (c.in-Some.is, one_of c.args.counts c.in-Some.pair other) (c.in_ok-note.ensures.counts other)
+
+pub returns-in_ok-note-clause-places : goal.returns-in_ok-note-clause-places
+returns-in_ok-note-clause-places c = λ other.
+    rw c.in-Some.is
+    (c.in_ok-note.ensures.places other
+    ∙ noted_as (is_pair other c.in-Some.pair.0 c.in-Some.pair.1) (places_of c.args.pairs.now other) c.args.place)
+
+pub returns-in_default-clause-places : goal.returns-in_default-clause-places
+returns-in_default-clause-places c = λ other. rw c.in_default.is (sym (append-nil (places_of c.args.pairs.now other)))
 
 pub returns-in_ok-note-clause-kept : goal.returns-in_ok-note-clause-kept
 returns-in_ok-note-clause-kept c = λ other k inside.

@@ -1,7 +1,7 @@
-use Rattle.std.proofs.Common.{◌≡◌, ◌+◌, arith, ◌∙◌}
+use Rattle.std.proofs.Common.{◌≡◌, ◌+◌, ap, arith, length, ◌∙◌}
 use Rattle.repair_grammar.specs.Pairs.{entry_of, count_in_table}
 use Rattle.repair_grammar.proofs.CountLemmas.{own_pair}
-use Rattle.repair_grammar.proofs.PairLemmas.{removed-count, removed-places}
+use Rattle.repair_grammar.proofs.PairLemmas.{removed-count, removed-few, removed-places}
 use Rattle.repair_grammar.proofs.pairs.Pairs.lower.Goals as goal
 use Rattle.repair_grammar.proofs.pairs.Pairs.lower.Goals.{After-remove}
 
@@ -27,3 +27,14 @@ returns-then-lower_in-eq0-clause-places c = λ other some.
     let at = (goal.at.returns-then-lower_in-eq0-clause-places c).After-remove in
     removed-places (entry_of c.lower_in.new.table) (entry_of c.remove.new.self) c.args.pair other
     (c.remove.ensures.updates.0 other) (none at) some ∙ c.lower_in.ensures.places other
+
+pub returns-then-lower_in-eq0-clause-few : goal.returns-then-lower_in-eq0-clause-few
+returns-then-lower_in-eq0-clause-few c = λ other. omega (
+  arith,
+  removed-few (entry_of c.lower_in.new.table) (entry_of c.remove.new.self) c.args.pair other
+      (c.remove.ensures.updates.0 other),
+  ap length (c.lower_in.ensures.places other),
+)
+
+pub returns-else-lower_in-eq0-clause-few : goal.returns-else-lower_in-eq0-clause-few
+returns-else-lower_in-eq0-clause-few c = λ other. omega (arith, ap length (c.lower_in.ensures.places other))
