@@ -149,7 +149,7 @@ pub run-prefix : (codes : List ℕ) (n prefix : ℕ) → Ascends 0 codes
     → All (λ place. (slice_index codes place / 4 ^ n ≡ prefix) × (place < length codes)) (run codes n prefix)
 unfolding run square_start
 run-prefix codes n prefix up =
-    let up' = first_in-up' codes n prefix in
+    let up' = square_start-up' codes n prefix in
     All-range (λ place. (slice_index codes place / 4 ^ n ≡ prefix) × (place < length codes))
     (place_among codes (prefix * 4 ^ n))
     (place_among codes ((prefix + 1) * 4 ^ n) - place_among codes (prefix * 4 ^ n))
@@ -160,6 +160,6 @@ run-prefix codes n prefix up =
     let most = below-place 0 ((prefix + 1) * 4 ^ n) j codes up before in
     (div-eq_of_lt-le (4 ^ n) least most, within))
   where
-    first_in-up' : (codes : List ℕ) (n prefix : ℕ)
+    square_start-up' : (codes : List ℕ) (n prefix : ℕ)
         → place_among codes (prefix * 4 ^ n) ≤ place_among codes ((prefix + 1) * 4 ^ n)
-    first_in-up' codes n prefix = place_among-up codes (prefix * 4 ^ n) ((prefix + 1) * 4 ^ n) (grind arith)
+    square_start-up' codes n prefix = place_among-up codes (prefix * 4 ^ n) ((prefix + 1) * 4 ^ n) (grind arith)

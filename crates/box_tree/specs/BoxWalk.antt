@@ -26,13 +26,13 @@ walked_tree walk = walk.walk.tree
 
 module _ {S : Type 0} (squares boxes : S → CellBox → Bool) where
   -- what a walk asks of the nodes of its tree
-  abbrev pub asked : BoxWalk S → Tests
-  asked walk = tests_at walk.walk.tree.base (squares walk.search) (boxes walk.search)
+  abbrev pub walk_tests : BoxWalk S → Tests
+  walk_tests walk = tests_at walk.walk.tree.base (squares walk.search) (boxes walk.search)
 
   -- the places that are left
   abbrev pub box_left : BoxWalk S → List ℕ
-  box_left walk = places_left (asked walk) walk.walk
+  box_left walk = places_left (walk_tests walk) walk.walk
 
   -- the reads that are still to be made for them
   abbrev pub box_budget : BoxWalk S → ℕ
-  box_budget walk = walk_reads (asked walk).square walk.walk
+  box_budget walk = walk_reads (walk_tests walk).square walk.walk

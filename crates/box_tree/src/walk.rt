@@ -1,6 +1,6 @@
 ghost use Rattle.std.specs.Prelude.{◌≡◌, ◌+◌, ◌++◌, ◌≤◌, ◌<◌, ◌⊎◌, [], length, option_to_list};
 ghost use Rattle.std.specs.Prelude.{true, false, IfNone, IfSome};
-ghost use Rattle.box_tree.specs.BoxWalk.{asked, box_budget, box_left, found_places, search_reads};
+ghost use Rattle.box_tree.specs.BoxWalk.{walk_tests, box_budget, box_left, found_places, search_reads};
 ghost use Rattle.box_tree.specs.BoxWalk.{walked_tree};
 ghost use Rattle.box_tree.specs.Cost.{place_reads};
 ghost use Rattle.box_tree.specs.Boxes.{IsBase};
@@ -50,7 +50,7 @@ impl<'a, S: Search> BoxWalk<'a, S> {
     fn meets<L: Ledger>(&self, place: u32, steps: &mut Steps<L>) -> bool
         requires { place < length self.now.walk.tree.places.codes }
         ensures value { result
-            ≡ place_passes (asked S.squares S.boxes self.now) self.now.walk.tree.places place }
+            ≡ place_passes (walk_tests S.squares S.boxes self.now) self.now.walk.tree.places place }
         ensures cost { steps.new ≤ steps.old + place_reads }
     {
         let tree = self.walk.tree();
@@ -65,7 +65,7 @@ impl<'a, S: Search> BoxWalk<'a, S> {
     // The next place of the open bucket that is sought.
     fn scan<L: Ledger>(&mut self, steps: &mut Steps<L>) -> Option<u32>
         ensures search { self.new.search ≡ self.old.search }
-        ensures scanned { IsScanned (asked S.squares S.boxes self.old) self.old.walk self.new.walk
+        ensures scanned { IsScanned (walk_tests S.squares S.boxes self.old) self.old.walk self.new.walk
             result steps.old steps.new }
         ensures within { IfSome result (λ place. place < length self.old.walk.tree.places.codes) }
         ensures done { IfNone result (self.new.walk.high ≤ self.new.walk.low) }
@@ -85,7 +85,7 @@ impl<'a, S: Search> BoxWalk<'a, S> {
             ≤ slots self.old.walk.tree.places.levels }
         requires done { self.old.walk.high ≤ self.old.walk.low }
         ensures search { self.new.search ≡ self.old.search }
-        ensures visited { IsVisited (asked S.squares S.boxes self.old) self.old.walk self.new.walk
+        ensures visited { IsVisited (walk_tests S.squares S.boxes self.old) self.old.walk self.new.walk
             (node_square self.old.walk.tree.narrow taken) steps.old steps.new }
     {
         let tree = self.walk.tree();

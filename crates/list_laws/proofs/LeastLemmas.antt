@@ -228,17 +228,17 @@ module _ {X : Type 0} (order : X → X → Ordering) where
     ]
 
     -- two that do not tie may be put among others in either order
-    placed-placed : (x y : X) (zs : List X) → eq_by_cmp order x y ≡ false
+    insert_in_order-insert_in_order : (x y : X) (zs : List X) → eq_by_cmp order x y ≡ false
         → insert_in_order order y (insert_in_order order x zs) ≡ insert_in_order order x (insert_in_order order y zs)
     unfolding insert_in_order
-    placed-placed x y [] apart = elim (cases_Bool (is_lt (order x y))) [
+    insert_in_order-insert_in_order x y [] apart = elim (cases_Bool (is_lt (order x y))) [
       | inl less ↦
           let back : is_lt (order y x) ≡ false = (ranks_by o (λ (x : X). x)).one_way x y less in rw (less, back) refl
       | inr more ↦ let back : is_lt (order y x) ≡ true = one_before x y apart more in rw (more, back) refl
     ]
-    placed-placed x y (z ∷ zs) apart = elim (cases_Bool (is_lt (order z x))) [
+    insert_in_order-insert_in_order x y (z ∷ zs) apart = elim (cases_Bool (is_lt (order z x))) [
       | inl before_x ↦ elim (cases_Bool (is_lt (order z y))) [
-        | inl before_y ↦ rw (before_x, before_y, before_x) (ap (λ ws. z ∷ ws) (placed-placed x y zs apart))
+        | inl before_y ↦ rw (before_x, before_y, before_x) (ap (λ ws. z ∷ ws) (insert_in_order-insert_in_order x y zs apart))
         | inr after_y ↦
             let less : is_lt (order y x) ≡ true = past x y z after_y before_x in
             rw (before_x, after_y, less, before_x) refl
@@ -264,4 +264,4 @@ module _ {X : Type 0} (order : X → X → Ordering) where
     unfolding ordered
     ordered-last x [] apart = unfold insert_in_order in refl
     ordered-last x (y ∷ ys) apart =
-        ap (insert_in_order order y) (ordered-last x ys apart.1) ∙ placed-placed x y (ordered order ys) apart.0
+        ap (insert_in_order order y) (ordered-last x ys apart.1) ∙ insert_in_order-insert_in_order x y (ordered order ys) apart.0

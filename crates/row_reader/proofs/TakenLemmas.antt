@@ -11,7 +11,7 @@ use Rattle.track_types.specs.Near.{IsRawInRange}
 use Rattle.track_types.specs.declared.raw_row.RawRow.{RawRow}
 use Rattle.row_reader.specs.Pieces.{Adds, AreRowsAfter, EndsLine, HasRefusal, HasTaken, HoldsLine, IsPast}
 use Rattle.row_reader.specs.Row.{Fields}
-use Rattle.row_reader.specs.Rows.{IsFaultOf, csv_fault, is_refusal, records_of}
+use Rattle.row_reader.specs.Rows.{IsRowsFault, csv_fault, is_refusal, records_of}
 use Rattle.row_reader.specs.declared.fault.RowsFault.{RowsFault}
 use Rattle.row_reader.specs.declared.fault.RowsFault.TheVariants.{Row, Limit, Memory}
 use Rattle.row_reader.specs.declared.parser.RowParser.{RowParser}
@@ -45,7 +45,7 @@ HoldsLine-few kept few = record {
 }
 
 -- a file has been refused, also where it goes on
-refused_by : (lines : List ℕ) (fault : RowsFault) → is_refusal fault ≡ true → IsFaultOf lines fault → csv_fault lines ≢ None
+refused_by : (lines : List ℕ) (fault : RowsFault) → is_refusal fault ≡ true → IsRowsFault lines fault → csv_fault lines ≢ None
 refused_by lines (Row nth field cause) refusal is none = cc
 refused_by lines (Limit value) refusal is none = cc
 refused_by lines Memory refusal is none = cc
@@ -72,7 +72,7 @@ WaitsFor piece old new = (bytes : List ℕ) (raws : List RawRow) → HasTaken by
 -- what is kept was read with these lines, and a record was refused
 pub waits-fault : (lines : List ℕ) (old new : RowParser) (fault : RowsFault) → EndsLine lines → is_refusal fault ≡ true
     → ((bytes : List ℕ) (before : List Fields) → IsPast before old.progress
-    → records_of bytes ≡ before ++ records_of (old.rest.items ++ lines) → IsFaultOf bytes fault)
+    → records_of bytes ≡ before ++ records_of (old.rest.items ++ lines) → IsRowsFault bytes fault)
     → WaitsFor lines old new
 waits-fault lines old new fault ended refusal refuses bytes raws has is = record {
   lines = bytes ++ lines;

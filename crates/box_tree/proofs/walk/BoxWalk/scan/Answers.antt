@@ -1,6 +1,6 @@
 use Rattle.std.proofs.Common.{◌≡◌, ◌∷◌, true, false, sym, ap, ◌∙◌, arith}
 use Rattle.box_tree.specs.Places.{place_passes}
-use Rattle.box_tree.specs.BoxWalk.{asked}
+use Rattle.box_tree.specs.BoxWalk.{walk_tests}
 use Rattle.box_tree.specs.Tests.{Tests, tests_at}
 use Rattle.box_tree.specs.Tree.{TreeView}
 use Rattle.box_tree.specs.Walk.{NodeWalkView, places_left}
@@ -11,7 +11,7 @@ use Rattle.box_tree.proofs.walk.BoxWalk.scan.Goals.{After-meets}
 
 -- what the test said of the next place
 told : (g : Over) (c : After-meets g)
-    → place_passes (asked g.S.Search.squares g.S.Search.boxes c.args.self.now) c.loop-place.self.walk.tree.places
+    → place_passes (walk_tests g.S.Search.squares g.S.Search.boxes c.args.self.now) c.loop-place.self.walk.tree.places
     c.loop-place.self.walk.low
     ≡ c.meets.result
 told g c =
@@ -32,7 +32,7 @@ told g c =
 
 pub returns-then-meets-clause-scanned : goal.returns-then-meets-clause-scanned
 returns-then-meets-clause-scanned g c =
-    let tests : Tests = asked g.S.Search.squares g.S.Search.boxes c.args.self.now in
+    let tests : Tests = walk_tests g.S.Search.squares g.S.Search.boxes c.args.self.now in
     let is = c.loop-place.invariant.1 in
     let it = c.in-Some.ensures in
     let now : NodeWalkView = c.loop-place.self.walk in
@@ -50,7 +50,7 @@ returns-then-meets-clause-scanned g c =
 
 pub loop-place-preserved : goal.loop-place-preserved
 loop-place-preserved g c =
-    let tests : Tests = asked g.S.Search.squares g.S.Search.boxes c.args.self.now in
+    let tests : Tests = walk_tests g.S.Search.squares g.S.Search.boxes c.args.self.now in
     let is = c.loop-place.invariant.1 in
     let it = c.in-Some.ensures in
     let now : NodeWalkView = c.loop-place.self.walk in

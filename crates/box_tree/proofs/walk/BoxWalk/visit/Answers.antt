@@ -1,7 +1,7 @@
 use Rattle.std.proofs.Common.{◌≡◌, false, true, All, subst, sym, ap, ◌∙◌, arith}
 use Rattle.k2_tree.specs.Areas.{area_at, IsBoxInside}
 use Rattle.k2_tree.specs.Squares.{node}
-use Rattle.box_tree.specs.BoxWalk.{asked}
+use Rattle.box_tree.specs.BoxWalk.{walk_tests}
 use Rattle.box_tree.specs.Levels.{digits}
 use Rattle.box_tree.specs.Places.{ArePassed, Square, box_at, square_places}
 use Rattle.box_tree.specs.Tests.{Tests}
@@ -14,7 +14,7 @@ use Rattle.box_tree.proofs.walk.BoxWalk.visit.Given.{Over}
 use Rattle.box_tree.proofs.walk.BoxWalk.visit.Goals.{After-square-square, After-tree-tree}
 
 -- the tests are monotone
-mono : (g : Over) (c : After-tree-tree g) → ArePassed (asked g.S.Search.squares g.S.Search.boxes c.args.self.now)
+mono : (g : Over) (c : After-tree-tree g) → ArePassed (walk_tests g.S.Search.squares g.S.Search.boxes c.args.self.now)
 mono g c =
     let walk = c.args.self.now in
     passed-areas walk.walk.tree.base c.tree-tree.ensures.base (g.S.Search.squares walk.search)
@@ -23,7 +23,7 @@ mono g c =
 
 -- what the test of its square is
 told : (g : Over) (c : After-square-square g)
-    → (asked g.S.Search.squares g.S.Search.boxes c.args.self.now).square
+    → (walk_tests g.S.Search.squares g.S.Search.boxes c.args.self.now).square
     (node (digits (levels_of c.args.self.now.walk.tree.narrow c.args.taken)) (node_prefix c.args.taken))
     ≡ g.S.Search.squares c.args.self.now.search c.square-square.result
 told g c =
@@ -35,7 +35,7 @@ told g c =
 
 pub returns-then-not-meets_box-clause-visited : goal.returns-then-not-meets_box-clause-visited
 returns-then-not-meets_box-clause-visited g c =
-    let tests : Tests = asked g.S.Search.squares g.S.Search.boxes c.args.self.now in
+    let tests : Tests = walk_tests g.S.Search.squares g.S.Search.boxes c.args.self.now in
     let tree : TreeView = c.args.self.now.walk.tree in
     let square : Square = node_square tree.narrow c.args.taken in
     let covers = subst (λ (t : TreeView). All (λ place. IsBoxInside (box_at t.places.boxes place) c.area-area.result)
@@ -48,7 +48,7 @@ returns-then-not-meets_box-clause-visited g c =
 
 pub returns-then-not-meets_square-clause-visited : goal.returns-then-not-meets_square-clause-visited
 returns-then-not-meets_square-clause-visited g c =
-    let tests : Tests = asked g.S.Search.squares g.S.Search.boxes c.args.self.now in
+    let tests : Tests = walk_tests g.S.Search.squares g.S.Search.boxes c.args.self.now in
     let at = goal.at.returns-then-not-meets_square-clause-visited g c in
     let tree : TreeView = c.args.self.now.walk.tree in
     let square : Square = node_square tree.narrow c.args.taken in
@@ -61,7 +61,7 @@ returns-then-not-meets_square-clause-visited g c =
 
 pub returns-clause-visited : goal.returns-clause-visited
 returns-clause-visited g c =
-    let tests : Tests = asked g.S.Search.squares g.S.Search.boxes c.args.self.now in
+    let tests : Tests = walk_tests g.S.Search.squares g.S.Search.boxes c.args.self.now in
     let square : Square = node_square c.args.self.now.walk.tree.narrow c.args.taken in
     let holds : tests.square (node (digits square.levels) square.prefix) ≡ true =
     told g (goal.at.returns-clause-visited g c).After-square-square ∙ sym c.meets_square.ensures

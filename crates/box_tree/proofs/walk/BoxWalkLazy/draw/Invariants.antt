@@ -1,5 +1,5 @@
 use Rattle.std.proofs.Common.{◌≡◌, ℕ, ◌+◌, ◌≤◌}
-use Rattle.box_tree.specs.BoxWalk.{asked}
+use Rattle.box_tree.specs.BoxWalk.{walk_tests}
 use Rattle.box_tree.specs.Tests.{Tests}
 use Rattle.box_tree.specs.Walk.{NodeWalkView, walk_turns, places_left, walk_reads}
 use Rattle.box_tree.proofs.walk.BoxWalkLazy.draw.Given as goal
@@ -13,7 +13,7 @@ pub record IsDrawing (tests : Tests) (first now : NodeWalkView) (begun steps : �
 abbrev pub invariant-loop-place : goal.invariant-loop-place
 invariant-loop-place g l =
     (l.self.search ≡ l.fn.self.search)
-    × IsDrawing (asked g.S.Search.squares g.S.Search.boxes l.fn.self) l.fn.self.walk l.self.walk l.fn.steps l.steps
+    × IsDrawing (walk_tests g.S.Search.squares g.S.Search.boxes l.fn.self) l.fn.self.walk l.self.walk l.fn.steps l.steps
 
 abbrev pub decreases-loop-place : goal.decreases-loop-place
 decreases-loop-place g l = walk_turns l.self.walk
