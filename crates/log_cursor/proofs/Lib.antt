@@ -7,5 +7,6 @@ mod WalkLemmas
 pub mod TouchLemmas
 pub mod HitLemmas
 mod SearchLemmas
+mod LeftLemmas
 mod SeekLemmas
 mod Examples

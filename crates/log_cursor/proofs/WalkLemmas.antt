@@ -20,10 +20,10 @@ use Rattle.rule_store.specs.Cost.{parts_reads}
 use Rattle.rule_store.specs.Entry.{duration_of, entry_of}
 use Rattle.rule_store.specs.Flaws.{AreRules, left_of, right_of}
 use Rattle.rule_store.specs.declared.entry.Entry.{Entry}
-use Rattle.rule_store.specs.Log.{block_stops, in_window, log_values, stop_at, stops_after}
+use Rattle.rule_store.specs.Log.{block_stops, in_window, log_values, stop_at, stops_after, stops_from}
 use Rattle.rule_store.specs.Nodes.{block_budget, opened_count}
 use Rattle.rule_store.proofs.ExpansionLemmas.{length-values_of}
-use Rattle.rule_store.proofs.LogLemmas.{stops_after-none}
+use Rattle.rule_store.proofs.LogLemmas.{stops_after-cons, stops_after-none}
 use Rattle.rule_store.proofs.NodeLemmas.{opened_count-cons, opened_count-none}
 use Rattle.log_cursor.specs.Pending.{IsTaken, PendingView}
 use Rattle.log_cursor.specs.Start.{IsStart, IsWayOf, start_after, start_past}
@@ -123,6 +123,20 @@ module _ (rules : RulesView) (from to : ℤ) (start : Start) where
     later_stops =
         ap (λ n. in_window from to (stops_after rules (start.instant +ℤ pos n) past.cell log))
         (sym (length-values_of rules symbol))
+
+    -- the stops of the first symbol come before those of the others
+    pub stops_left-cons :
+        stops_left rules from to start (symbol ∷ log)
+        ≡ in_window from to (stops_from (start.instant +ℤ pos 1) (cells_along start.cell (values_of rules symbol)))
+        ++ stops_left rules from to past log
+    unfolding in_window
+    stops_left-cons =
+        let test : Stop → Bool = λ stop. is_between from to stop.instant in
+        let own = stops_from (start.instant +ℤ pos 1) (cells_along start.cell (values_of rules symbol)) in
+        let later = stops_after rules (start.instant +ℤ pos (duration_of rules symbol)) past.cell log in
+        ap (filter test) (stops_after-cons rules start.instant start.cell symbol log)
+        ∙ filter-append test own later
+        ∙ ap (λ stops. filter test own ++ stops) later_stops
 
     -- a symbol before the window
     pub stops_left-before : past.instant <ℤ from →

@@ -1,5 +1,5 @@
 -- What a search for the first stop in a region finds, and how many rules it opens.
-use Rattle.std.specs.Prelude.{◌≡◌, ℕ, ◌+◌, ◌*◌, ◌≤◌, ℤ, Bool, false, ◌&&◌, List, length, map, filter, find, slice_index, Option, Some, None}
+use Rattle.std.specs.Prelude.{◌≡◌, ℕ, ◌+◌, ◌*◌, ◌≤◌, ℤ, Bool, false, ◌&&◌, List, ◌∷◌, ◌++◌, length, map, filter, find, slice_index, Option, Some, None}
 use Rattle.track_types.specs.Region.{in_region, intersects_region}
 use Rattle.track_types.specs.declared.cell.Cell.{Cell}
 use Rattle.track_types.specs.declared.cell_box.CellBox.{CellBox}
@@ -8,7 +8,7 @@ use Rattle.track_types.specs.declared.stop.Stop.{Stop}
 use Rattle.rule_store.specs.View.{RulesView}
 use Rattle.rule_store.specs.Boxes.{bounding_box_of}
 use Rattle.rule_store.specs.Cells.{displacement_of, moved}
-use Rattle.rule_store.specs.Log.{block_stops, in_window}
+use Rattle.rule_store.specs.Log.{block_stops, in_window, stops_after}
 use Rattle.rule_store.specs.Nodes.{Node, meets, nodes_in}
 use Rattle.track_types.specs.Boxes.{moved_box}
 use Rattle.log_cursor.specs.Start.{IsWayOf}
@@ -64,6 +64,16 @@ pub record IsSearching (found : Option Stop) (budget : ℕ) (rules : RulesView) 
   pub way : IsWayOf rules at symbols
   pub same : found ≡ hit_left rules from to region at symbols
   pub reads : steps + (unread + touching_left rules from to region at symbols) ≤ budget
+
+-- of these stops some were passed, and the others are those of symbols from a place on
+pub record IsLeftOf (stops : List Stop) (rules : RulesView) (symbols : List ℕ) (at : Start) (from to : ℤ) : Type 0 where
+  pub passed : List Stop
+  pub all : stops ≡ passed ++ stops_left rules from to at symbols
+
+-- one of these stops was hit, and those after it are those of the symbols that are left
+pub record IsHitOf (rules : RulesView) (from to : ℤ) (stops : List Stop) (symbols : List ℕ) (hit : Stop) : Type 0 where
+  pub passed : List Stop
+  pub all : stops ≡ passed ++ (hit ∷ in_window from to (stops_after rules hit.instant hit.cell symbols))
 
 -- how often a search still turns at most: a symbol that is opened gives way to two
 abbrev pub turns_left : RulesView → ℤ → ℤ → Region → Start → List ℕ → ℕ

@@ -1,12 +1,14 @@
-ghost use Rattle.std.specs.Prelude.{◌≡◌, ◌+◌, ◌≤◌, ◌≤ℤ◌, ◌<ℤ◌, [], ◌∷◌, length, IfOk};
+ghost use Rattle.std.specs.Prelude.{◌≡◌, ◌+◌, ◌≤◌, ◌≤ℤ◌, ◌<ℤ◌, [], ◌∷◌, length, IfOk, IfSome};
 ghost use Rattle.track_types.specs.Near.{IsBoxWithin, IsCellAsked};
 ghost use Rattle.rule_store.specs.Log.{in_window, log_of, stop_at};
 ghost use Rattle.log_cursor.specs.Start.{IsBoxAsked, IsHullAsked, IsPlaced, IsWayOf};
 ghost use Rattle.track_types.specs.Boxes.{moved_box};
+ghost use Rattle.log_cursor.specs.Walk.{stops_left};
 ghost use Rattle.log_cursor.specs.Touching.{
   first_among,
   first_hit_of,
   hit_left,
+  IsHitOf,
   touches_at,
   touching_count,
   touching_left,
@@ -55,7 +57,7 @@ pub fn first_hit<L: Ledger>(
     }
     let mut pending = Pending::new(alloc, view.rules())?;
     pending.begin(view);
-    Ok(hit_after(pending, start, from, to, test, steps))
+    Ok(hit_after(&mut pending, start, from, to, test, steps))
 }
 
 // The anchor of a block, if it is in a window and in a region.
@@ -71,21 +73,23 @@ fn anchor_hit(start: Start, from: i64, to: i64, test: &RegionTest) -> Option<Sto
     Some(anchor)
 }
 
-// The first hit of symbols that begin after a start.
+// The first hit of symbols that begin after a start. No symbol after it is taken off.
 fn hit_after<L: Ledger>(
-    mut pending: Pending<'_>,
+    pending: &mut Pending<'_>,
     start: Start,
     from: i64,
     to: i64,
     test: &RegionTest,
     steps: &mut Steps<L>,
 ) -> Option<Stop>
-    requires way { IsWayOf pending.rules start pending.symbols }
+    requires way { IsWayOf pending.old.rules start pending.old.symbols }
     requires window { from ≤ℤ to }
-    ensures value { result ≡ hit_left pending.entry.rules from to test.now.region start
-        pending.entry.symbols }
-    ensures cost { steps.new ≤ steps.old + (pending.entry.unread + touching_left
-        pending.entry.rules from to test.now.region start pending.entry.symbols) }
+    ensures value { result ≡ hit_left pending.old.rules from to test.now.region start
+        pending.old.symbols }
+    ensures left { IfSome result (IsHitOf pending.old.rules from to
+        (stops_left pending.old.rules from to start pending.old.symbols) pending.new.symbols) }
+    ensures cost { steps.new ≤ steps.old + (pending.old.unread + touching_left
+        pending.old.rules from to test.now.region start pending.old.symbols) }
 {
     let mut at = start;
     while at.instant < to {
