@@ -13,6 +13,7 @@ use Rattle.repair_grammar.specs.Threads.{at, live, stands_at, passed_from, AreNe
 use Rattle.repair_grammar.proofs.PassLemmas.{met-step, stands_first-whole, whole_pair, left_of_pair, right_of_pair, replaced-none}
 use Rattle.repair_grammar.proofs.ThreadLemmas.{same_or, live-none, live-cut, live-here, not_first, not_last, after, after-place, after-gone, after-other, after-length, run_back_start}
 use Rattle.repair_grammar.proofs.FrontierLemmas.{stands-neighbours, frontier-moves, frontier-join, stands-joined, counts-joined}
+use Rattle.repair_grammar.specs.declared.text.TheConstants.{END, GAP}
 
 -- a pair that stands, stands inside, and its left symbol is there
 head_of : List ℕ → ℕ → ℕ
@@ -23,12 +24,12 @@ pub stands-within : (symbols : List ℕ) (pair : ℕ × ℕ) (k : ℕ) → stand
     (k < length symbols) × (at symbols k ≡ pair.0)
 unfolding stands_at head_of
 stands-within symbols pair k stands =
-    let parts = and_parts (not (at symbols k == 4294967295)) (stands_first pair (live (drop k symbols))) stands in
-    let symbol : (at symbols k == 4294967295) ≡ false = not-true _ parts.0 in
+    let parts = and_parts (not (at symbols k == GAP)) (stands_first pair (live (drop k symbols))) stands in
+    let symbol : (at symbols k == GAP) ≡ false = not-true _ parts.0 in
     let within : k < length symbols = elim (cases_lt k (length symbols)) [
       | inl less ↦ less
-      | inr past ↦ absurd (eqb-false (at symbols k) 4294967295 symbol
-          (get_or_past symbols k 4294967295 (omega (arith, past))))
+      | inr past ↦ absurd (eqb-false (at symbols k) GAP symbol
+          (get_or_past symbols k GAP (omega (arith, past))))
     ] in
     let whole : live (drop k symbols) ≡ pair.0 ∷ pair.1 ∷ drop 2 (live (drop k symbols)) =
     stands_first-whole pair (live (drop k symbols)) parts.1 in
@@ -36,7 +37,7 @@ stands-within symbols pair k stands =
     live-here symbols k within symbol in
     (within, ap (λ xs. head_of xs 0) (sym here ∙ whole))
 
-pub stands-inside : (symbols : List ℕ) (pair : ℕ × ℕ) (k : ℕ) → HasEnds symbols → pair.0 < 4294967294 →
+pub stands-inside : (symbols : List ℕ) (pair : ℕ × ℕ) (k : ℕ) → HasEnds symbols → pair.0 < END →
     stands_at symbols pair k ≡ true → k + 1 < length symbols
 stands-inside symbols pair k ends plain stands = let is = stands-within symbols pair k stands in
     not_last symbols k ends is.0 (omega (arith, is.1, plain))
@@ -56,7 +57,7 @@ pub stands-counts : (symbols : List ℕ) (pair : ℕ × ℕ) (k : ℕ) → stand
     0 < met pair (live symbols)
 unfolding stands_at
 stands-counts symbols pair k stands =
-    let parts = and_parts (not (at symbols k == 4294967295)) (stands_first pair (live (drop k symbols))) stands in
+    let parts = and_parts (not (at symbols k == GAP)) (stands_first pair (live (drop k symbols))) stands in
     omega (
       arith,
       stands_first-counts pair (live (drop k symbols)) parts.1,
@@ -65,9 +66,9 @@ stands-counts symbols pair k stands =
     )
 
 module _ (symbols : List ℕ) (p m r c l : ℕ) (near : AreNeighbours symbols p m) (next_near : AreNeighbours symbols m r)
-    (left_near : AreNeighbours symbols l p) (fits : c < 4294967294)
-    (a_plain : at symbols p < 4294967294) (b_plain : at symbols m < 4294967294) (ends : HasEnds symbols) where
-  pub c_fits : c < 4294967295
+    (left_near : AreNeighbours symbols l p) (fits : c < END)
+    (a_plain : at symbols p < END) (b_plain : at symbols m < END) (ends : HasEnds symbols) where
+  pub c_fits : c < GAP
   c_fits = omega (arith, fits)
 
   abbrev then : List ℕ
@@ -105,8 +106,8 @@ module _ (symbols : List ℕ) (p m r c l : ℕ) (near : AreNeighbours symbols p 
         ((other : ℕ × ℕ) → 0 < count_after other → IsPlain other) →
         ((other : ℕ × ℕ) (k : ℕ) → 0 < count_after other → Contains (places other) k → Contains
         (places_after other) k) →
-        (at symbols r < 4294967294 → 0 < count_after (c, at symbols r) → Contains (places_after (c, at symbols r)) p) →
-        (at symbols l < 4294967294 → 0 < count_after (at symbols l, c) → Contains (places_after (at symbols l, c)) l) →
+        (at symbols r < END → 0 < count_after (c, at symbols r) → Contains (places_after (c, at symbols r)) p) →
+        (at symbols l < END → 0 < count_after (at symbols l, c) → Contains (places_after (at symbols l, c)) l) →
         IsCounted then count_after places_after
     counted-joined counted changes plain_after keeps right left = record {
       counts = counts_then;
@@ -120,11 +121,11 @@ module _ (symbols : List ℕ) (p m r c l : ℕ) (near : AreNeighbours symbols p 
             | inl before ↦ keeps other k some (counted.noted other k plain before)
             | inr new ↦ elim new [
               | inl here ↦ let same : (c, at symbols r) ≡ other = whole_pair other c (at symbols r) here.1 in
-                  let fits_r : at symbols r < 4294967294 =
+                  let fits_r : at symbols r < END =
                   omega (arith, right_of_pair other c (at symbols r) here.1, plain.1) in
                   rw (here.0, sym same) (right fits_r (rw (sym same) at some))
               | inr there ↦ let same : (at symbols l, c) ≡ other = whole_pair other (at symbols l) c there.1 in
-                  let fits_l : at symbols l < 4294967294 =
+                  let fits_l : at symbols l < END =
                   omega (arith, left_of_pair other (at symbols l) c there.1, plain.0) in
                   rw (there.0, sym same) (left fits_l (rw (sym same) at some))
             ]
@@ -164,7 +165,7 @@ module _ (symbols : List ℕ) (p m r c l : ℕ) (near : AreNeighbours symbols p 
           ];
       new = λ k from. elim (same_or k m) [
         | inl same ↦ rw (same, after-gone symbols p m r c near next_near c_fits)
-            (ne_eqb c 4294967295 (λ e. omega (arith, e, fits)))
+            (ne_eqb c GAP (λ e. omega (arith, e, fits)))
         | inr not_m ↦ rw (after-other symbols p m r c near next_near c_fits k (λ same. omega (arith, same, from)) not_m)
             (passing.new k (omega (arith, from, stood.0)))
       ];
@@ -282,7 +283,7 @@ passing-start first pair c places new noted = record {
 
 -- the pair stands where its symbols do
 pub stands-here : (symbols next previous : List ℕ) (pair : ℕ × ℕ) (p : ℕ) → AreThreads symbols next previous →
-    p + 1 < length symbols → at symbols p < 4294967295 →
+    p + 1 < length symbols → at symbols p < GAP →
     stands_at symbols pair p ≡ is_pair pair (at symbols p) (at symbols (get_or next p 0))
 stands-here symbols next previous pair p threads inside stands =
     stands-neighbours symbols pair p (get_or next p 0) (threads.on p inside stands)
@@ -298,7 +299,7 @@ stands-not symbols pair k none = elim (cases_Bool (stands_at symbols pair k)) [
 -- the run of the new symbol before the next place ends at the last place at which a pair was replaced
 pub run-before : (first symbols : List ℕ) (pair : ℕ × ℕ) (c p l : ℕ) (places : List ℕ) (q : ℕ) (odd : Bool) →
     IsPassing first symbols pair c (p ∷ places) q → stands_at symbols pair p ≡ true → AreNeighbours symbols l p →
-    c < 4294967295 → IsRun symbols c q odd → (at symbols l == c) ≡ true → odd ≡ ends_odd c false (live (take p symbols))
+    c < GAP → IsRun symbols c q odd → (at symbols l == c) ≡ true → odd ≡ ends_odd c false (live (take p symbols))
 run-before first symbols pair c p l places q odd passing stands near fits run is = elim (cases_lt l q) [
   | inr past ↦ absurd (eqb-false c (at symbols l) (passing.new l (omega (arith, past)))
       (sym (eqb-true (at symbols l) c is)))

@@ -9,6 +9,7 @@ use Rattle.repair_grammar.specs.Threads.{at, live, stands_at, passed_from, AreNe
 use Rattle.repair_grammar.proofs.PassLemmas.{replaced-passed}
 use Rattle.repair_grammar.proofs.ThreadLemmas.{same_or, same_left, live-here, live-last_here, live-stands, live-gap, live-last_gap, live-neighbours, live-before, after, after-place, after-gone, after-other, kept, joined, rest-live, upto-live, was-live, is-live}
 use Rattle.repair_grammar.proofs.RunLemmas.{changed}
+use Rattle.repair_grammar.specs.declared.text.TheConstants.{GAP}
 
 pub stands_first-two : (pair : ℕ × ℕ) (x y : ℕ) (rest : List ℕ) → stands_first pair (x ∷ y ∷ rest) ≡ is_pair pair x y
 unfolding stands_first
@@ -24,7 +25,7 @@ pub stands-neighbours : (symbols : List ℕ) (pair : ℕ × ℕ) (p q : ℕ) →
     stands_at symbols pair p ≡ is_pair pair (at symbols p) (at symbols q)
 unfolding stands_at
 stands-neighbours symbols pair p q near =
-    rw (ne_eqb (at symbols p) 4294967295 (λ same. omega (arith, same, near.left_stands)))
+    rw (ne_eqb (at symbols p) GAP (λ same. omega (arith, same, near.left_stands)))
     (ap (stands_first pair) (live-neighbours symbols p q near
     ∙ ap (λ rest. at symbols p ∷ rest) (live-stands symbols q near.within near.right_stands))
     ∙ stands_first-two pair (at symbols p) (at symbols q) (live (drop (q + 1) symbols)))
@@ -33,8 +34,8 @@ stands-neighbours symbols pair p q near =
 pub frontier-step : (symbols : List ℕ) (pair : ℕ × ℕ) (c k : ℕ) → k < length symbols →
     stands_at symbols pair k ≡ false → passed_from symbols pair c (k + 1) ≡ passed_from symbols pair c k
 unfolding stands_at
-frontier-step symbols pair c k within none = elim (cases_Bool (at symbols k == 4294967295)) [
-  | inl is ↦ let gap_is : at symbols k ≡ 4294967295 = eqb-true (at symbols k) 4294967295 is in
+frontier-step symbols pair c k within none = elim (cases_Bool (at symbols k == GAP)) [
+  | inl is ↦ let gap_is : at symbols k ≡ GAP = eqb-true (at symbols k) GAP is in
       ap (λ front. front ++ replaced pair c (live (drop (k + 1) symbols))) (live-last_gap symbols k within gap_is)
       ∙ ap (λ rest. live (take k symbols) ++ replaced pair c rest) (sym (live-gap symbols k within gap_is))
   | inr symbol ↦ let passed : stands_first pair (at symbols k ∷ live (drop (k + 1) symbols)) ≡ false =
@@ -56,7 +57,7 @@ frontier-moves symbols pair c (suc n) k within none =
     ∙ frontier-step symbols pair c k (omega arith) (none k (omega arith) (omega arith))
 
 module _ (symbols : List ℕ) (p m r c : ℕ) (near : AreNeighbours symbols p m) (next_near : AreNeighbours symbols m r)
-    (fits : c < 4294967295) where
+    (fits : c < GAP) where
   abbrev then : List ℕ
   then = after symbols p m r c near next_near fits
 
@@ -83,22 +84,22 @@ module _ (symbols : List ℕ) (p m r c : ℕ) (near : AreNeighbours symbols p m)
     | inr not_p ↦
         let not_m : k ≢ m = λ same. gone_not (rw same at stands) in
         let here : at then k ≡ at symbols k = after-other symbols p m r c near next_near fits k not_p not_m in
-        let symbol : (at then k == 4294967295) ≡ false =
+        let symbol : (at then k == GAP) ≡ false =
         not-true _ (and_parts _ _ stands).0 in
-        let differs : at symbols k ≢ 4294967295 = λ is. eqb-false (at then k) 4294967295 symbol (here ∙ is) in
+        let differs : at symbols k ≢ GAP = λ is. eqb-false (at then k) GAP symbol (here ∙ is) in
         let old : AreNeighbours symbols k (get_or next k 0) =
         threads.on k inside (fits_word (at symbols k) (threads.words k) differs) in
         by (get_or next k 0) old not_p not_m here
   ]
     where
-      fits_word : (x : ℕ) → x < 4294967296 → x ≢ 4294967295 → x < 4294967295
-      fits_word x word differs = elim (cases_lt x 4294967295) [
+      fits_word : (x : ℕ) → x < 4294967296 → x ≢ GAP → x < GAP
+      fits_word x word differs = elim (cases_lt x GAP) [
         | inl less ↦ less
         | inr more ↦ absurd (differs (omega (arith, more, word)))
       ]
 
       gone_not : stands_at then other m ≡ true → ⊥
-      gone_not stands_m = eqb-false (at then m) 4294967295 (not-true _ (and_parts _ _ stands_m).0)
+      gone_not stands_m = eqb-false (at then m) GAP (not-true _ (and_parts _ _ stands_m).0)
           (after-gone symbols p m r c near next_near fits)
 
       at_new : stands_at then other p ≡ true → is_pair other c (at symbols r) ≡ true

@@ -18,16 +18,17 @@ use Rattle.repair_grammar.proofs.ThreadLemmas.{live-before, live-stands, upto-li
 use Rattle.repair_grammar.proofs.RunLemmas.{ends_odd-last}
 use Rattle.repair_grammar.proofs.FrontierLemmas.{counts-joined, stands-neighbours}
 use Rattle.repair_grammar.proofs.CountedLemmas.{counted-joined, passing-join}
+use Rattle.repair_grammar.specs.declared.text.TheConstants.{END, GAP}
 
 module _ (other : ℕ × ℕ) (plain : IsPlain other) where
   pub plain_times : (x y : ℕ) → times_of (plain_of x y) other ≡ times_of (Some (x, y)) other
   unfolding plain_of times_of
-  plain_times x y = elim (cases_Bool (nat_lt x 4294967294 && nat_lt y 4294967294)) [
+  plain_times x y = elim (cases_Bool (nat_lt x END && nat_lt y END)) [
     | inl both ↦ rw both refl
     | inr mark ↦ elim (cases_Bool (is_pair other x y)) [
-      | inl is ↦ absurd (both_ways (nat_lt x 4294967294 && nat_lt y 4294967294) mark (and_from _ _
-          (lt-ltb x 4294967294 (omega (arith, left_of_pair other x y is, plain.0)))
-          (lt-ltb y 4294967294 (omega (arith, right_of_pair other x y is, plain.1)))))
+      | inl is ↦ absurd (both_ways (nat_lt x END && nat_lt y END) mark (and_from _ _
+          (lt-ltb x END (omega (arith, left_of_pair other x y is, plain.0)))
+          (lt-ltb y END (omega (arith, right_of_pair other x y is, plain.1)))))
       | inr apart ↦ rw (mark, apart) refl
     ]
   ]
@@ -118,13 +119,13 @@ some_counts (Some pair) count plain enough = omega (arith, enough pair plain, ti
 
 pub plain_is : (x y : ℕ) → IfSome (plain_of x y) IsPlain
 unfolding plain_of
-plain_is x y = elim (cases_Bool (nat_lt x 4294967294 && nat_lt y 4294967294)) [
-  | inl both ↦ let parts = and_parts (nat_lt x 4294967294) (nat_lt y 4294967294) both in
-      rw both (ltb-true x 4294967294 parts.0, ltb-true y 4294967294 parts.1)
+plain_is x y = elim (cases_Bool (nat_lt x END && nat_lt y END)) [
+  | inl both ↦ let parts = and_parts (nat_lt x END) (nat_lt y END) both in
+      rw both (ltb-true x END parts.0, ltb-true y END parts.1)
   | inr mark ↦ rw mark (search rules)
 ]
 
-pub gone_left-plain : (odd : Bool) (x a b : ℕ) → a < 4294967294 → IfSome (gone_left odd x a b) IsPlain
+pub gone_left-plain : (odd : Bool) (x a b : ℕ) → a < END → IfSome (gone_left odd x a b) IsPlain
 unfolding gone_left
 gone_left-plain odd x a b fits = elim (cases_Bool (x == a)) [
   | inl is ↦ rw is (elim (cases_Bool (not (a == b) && odd)) [
@@ -134,7 +135,7 @@ gone_left-plain odd x a b fits = elim (cases_Bool (x == a)) [
   | inr apart ↦ rw apart (plain_is x a)
 ]
 
-pub gone_right-plain : (odd : Bool) (a b y : ℕ) → b < 4294967294 → IfSome (gone_right odd a b y) IsPlain
+pub gone_right-plain : (odd : Bool) (a b y : ℕ) → b < END → IfSome (gone_right odd a b y) IsPlain
 unfolding gone_right
 gone_right-plain odd a b y fits = elim (cases_Bool (y == b)) [
   | inl is ↦ rw is (elim (cases_Bool (not (a == b) && odd)) [
@@ -149,11 +150,11 @@ pub counted_plain : (counts : Bool) (x y : ℕ) (other : ℕ × ℕ) → 0 < tim
     IsPlain other
 unfolding plain_of times_of
 counted_plain false x y other some = absurd (omega (arith, some))
-counted_plain true x y other some = elim (cases_Bool (nat_lt x 4294967294 && nat_lt y 4294967294)) [
+counted_plain true x y other some = elim (cases_Bool (nat_lt x END && nat_lt y END)) [
   | inl both ↦ elim (cases_Bool (is_pair other x y)) [
-    | inl is ↦ let parts = and_parts (nat_lt x 4294967294) (nat_lt y 4294967294) both in (
-      omega (arith, left_of_pair other x y is, ltb-true x 4294967294 parts.0),
-      omega (arith, right_of_pair other x y is, ltb-true y 4294967294 parts.1),
+    | inl is ↦ let parts = and_parts (nat_lt x END) (nat_lt y END) both in (
+      omega (arith, left_of_pair other x y is, ltb-true x END parts.0),
+      omega (arith, right_of_pair other x y is, ltb-true y END parts.1),
     )
     | inr apart ↦ absurd (let none : 0 < 0 = rw apart at (rw both at some) in omega (arith, none))
   ]
@@ -163,7 +164,7 @@ counted_plain true x y other some = elim (cases_Bool (nat_lt x 4294967294 && nat
 live-length : (symbols : List ℕ) → length (live symbols) ≤ length symbols
 unfolding live
 live-length [] = omega arith
-live-length (x ∷ symbols) = elim (cases_Bool (x == 4294967295)) [
+live-length (x ∷ symbols) = elim (cases_Bool (x == GAP)) [
   | inl is ↦ rw is (omega (arith, live-length symbols))
   | inr apart ↦ rw apart (omega (arith, live-length symbols))
 ]
@@ -183,13 +184,13 @@ pub some_weaker : (pair : Option (ℕ × ℕ)) (P Q : ℕ × ℕ → Type 0) →
 some_weaker None P Q weaker fact = search rules
 some_weaker (Some own) P Q weaker fact = weaker own fact
 
-some_of : (x y : ℕ) → x < 4294967294 → y < 4294967294 → plain_of x y ≡ Some (x, y)
+some_of : (x y : ℕ) → x < END → y < END → plain_of x y ≡ Some (x, y)
 unfolding plain_of
-some_of x y x_plain y_plain = rw (lt-ltb x 4294967294 x_plain, lt-ltb y 4294967294 y_plain) refl
+some_of x y x_plain y_plain = rw (lt-ltb x END x_plain, lt-ltb y END y_plain) refl
 
 -- all that a join changes, at a place p whose neighbours are known
 module _ (symbols : List ℕ) (p l m r before beyond c : ℕ) (around : IsAround symbols p l m r before beyond)
-    (fits : c < 4294967295) (a b : ℕ) (is_a : at symbols p ≡ a) (is_b : at symbols m ≡ b) where
+    (fits : c < GAP) (a b : ℕ) (is_a : at symbols p ≡ a) (is_b : at symbols m ≡ b) where
   -- the run that ends before p, and the one that begins beyond the pair
   pub ends_are : (u : ℕ) → ends_odd u false (live (take l symbols) ++ at symbols l ∷ []) ≡ ends_odd u false
       (live (take p symbols))
@@ -201,7 +202,7 @@ module _ (symbols : List ℕ) (p l m r before beyond c : ℕ) (around : IsAround
 
   -- the run of the new symbol that ends at p
   pub run_after : (odd : Bool) → ((before == c) ≡ true → odd ≡ ends_odd c false (live (take p symbols))) →
-      counts_left (not odd) before c ≡ ends_odd c false (live (take (p + 1) (set (set symbols p c) m 4294967295)))
+      counts_left (not odd) before c ≡ ends_odd c false (live (take (p + 1) (set (set symbols p c) m GAP)))
   run_after odd run = run_is ∙ sym (ap (ends_odd c false) (upto-live symbols p m r c around.near around.next_near fits)
       ∙ ends_odd-last c false (live (take p symbols)) c ∙ rw (eq-eqb c c refl) refl)
     where
@@ -276,14 +277,14 @@ module _ (symbols : List ℕ) (p l m r before beyond c : ℕ) (around : IsAround
 
   -- counts and places after the join
   pub counted_around : (next previous : List ℕ) (count count_after : ℕ × ℕ → ℕ) (places places_after : ℕ × ℕ → List ℕ) →
-      AreThreads symbols next previous → HasEnds symbols → c < 4294967294 → a < 4294967294 → b < 4294967294 →
+      AreThreads symbols next previous → HasEnds symbols → c < END → a < END → b < END →
       IsCounted symbols count places →
       ((a == b) ≡ true → (before == a) ≡ false) → (c == a) ≡ false → (c == b) ≡ false → (c == beyond) ≡ false →
       ((other : ℕ × ℕ) → count_after other + went other ≡ count other + came other) →
       ((other : ℕ × ℕ) (k : ℕ) → 0 < count_after other → Contains (places other) k → Contains (places_after other) k) →
       IfSome (plain_of c beyond) (λ own. 0 < count_after own → Contains (places_after own) p) →
       IfSome (plain_of before c) (λ own. 0 < count_after own → Contains (places_after own) l) →
-      IsCounted (set (set symbols p c) m 4294967295) count_after places_after
+      IsCounted (set (set symbols p c) m GAP) count_after places_after
   counted_around next previous count count_after places places_after threads ends c_plain a_plain b_plain counted begins
       new_a new_b new_r changes keeps right left =
       counted-joined symbols p m r c l around.near around.next_near around.left_near c_plain (rw is_a a_plain)
@@ -302,16 +303,16 @@ module _ (symbols : List ℕ) (p l m r before beyond c : ℕ) (around : IsAround
       (λ own. 0 < count_after own → Contains (places_after own) l) before c
       (rw around.before_is at before_plain) c_plain left))
     where
-      noted_of : (P : ℕ × ℕ → Type 0) (x y : ℕ) → x < 4294967294 → y < 4294967294 → IfSome (plain_of x y) P → P (x, y)
+      noted_of : (P : ℕ × ℕ → Type 0) (x y : ℕ) → x < END → y < END → IfSome (plain_of x y) P → P (x, y)
       noted_of P x y x_plain y_plain noted = rw (some_of x y x_plain y_plain) at noted
 
   -- and the pass
   pub passing_around : (next previous : List ℕ) → AreThreads symbols next previous → HasEnds symbols →
-      c < 4294967294 → a < 4294967294 → b < 4294967294 →
+      c < END → a < END → b < END →
       ((a == b) ≡ true → (before == a) ≡ false) → (c == a) ≡ false → (c == b) ≡ false → (c == beyond) ≡ false →
       (first places : List ℕ) (q : ℕ) → IsPassing first symbols (a, b) c (p ∷ places) q →
       ((k : ℕ) → Contains places k → p ≤ k) →
-      IsPassing first (set (set symbols p c) m 4294967295) (a, b) c places (p + 1)
+      IsPassing first (set (set symbols p c) m GAP) (a, b) c places (p + 1)
   passing_around next previous threads ends c_plain a_plain b_plain begins new_a new_b new_r first places q passing
       order =
       passing-join symbols p m r c l around.near around.next_near around.left_near c_plain (rw is_a a_plain)
@@ -337,7 +338,7 @@ first_step taken pair x rest i within plain = elim (cases_Bool (taken && (x == g
 ]
 
 -- a row without gaps: neighbours stand side by side
-pub row_near : (row : List ℕ) (k : ℕ) → ((j : ℕ) → j < length row → at row j < 4294967295) → k + 1 < length row →
+pub row_near : (row : List ℕ) (k : ℕ) → ((j : ℕ) → j < length row → at row j < GAP) → k + 1 < length row →
     AreNeighbours row k (k + 1)
 row_near row k words inside = record {
   before = omega arith;
@@ -349,7 +350,7 @@ row_near row k words inside = record {
 
 -- one place more is noted
 pub first_noted : (row : List ℕ) (old new : ℕ × ℕ → List ℕ) (i x y : ℕ) →
-    ((j : ℕ) → j < length row → at row j < 4294967295) → i + 1 < length row → at row i ≡ x → at row (i + 1) ≡ y →
+    ((j : ℕ) → j < length row → at row j < GAP) → i + 1 < length row → at row i ≡ x → at row (i + 1) ≡ y →
     ((pair : ℕ × ℕ) (k : ℕ) → Contains (old pair) k → Contains (new pair) k) →
     IfSome (plain_of x y) (λ own. Contains (new own) i) →
     ((pair : ℕ × ℕ) (k : ℕ) → IsPlain pair → k < i → stands_at row pair k ≡ true → Contains (old pair) k) →
@@ -370,12 +371,12 @@ first_noted row old new i x y words inside is_x is_y keeps own before pair k pla
           rw (same, sym whole) noted
     ]
 
-pub live-all : (row : List ℕ) → ((j : ℕ) → j < length row → at row j < 4294967295) → live row ≡ row
+pub live-all : (row : List ℕ) → ((j : ℕ) → j < length row → at row j < GAP) → live row ≡ row
 unfolding live
 live-all [] words = refl
 live-all (x ∷ row) words =
-    let here : x < 4294967295 = words 0 (omega arith) in
-    let apart : (x == 4294967295) ≡ false = ne_eqb x 4294967295 (λ same. omega (arith, same, here)) in
+    let here : x < GAP = words 0 (omega arith) in
+    let apart : (x == GAP) ≡ false = ne_eqb x GAP (λ same. omega (arith, same, here)) in
     rw apart (ap (λ rest. x ∷ rest) (live-all row (λ j within. words (suc j) (omega arith))))
 
 -- of two pairs that a new symbol has with its neighbours, which are not both the symbol, no other pair is both

@@ -9,10 +9,11 @@ use Rattle.repair_grammar.specs.Pairs.{count_of, places_of}
 use Rattle.repair_grammar.specs.Threads.{live, row_of, IsCounted, IsPlain}
 use Rattle.repair_grammar.proofs.CoverLemmas.{counted_below}
 use Rattle.repair_grammar.proofs.RowLemmas.{met-row, replaced-row}
+use Rattle.repair_grammar.specs.declared.text.TheConstants.{END}
 
 -- every pair counts in the row what it counts in the blocks
 module _ (limit : ℕ) (symbols : List ℕ) (blocks : List (List ℕ)) (count : ℕ × ℕ → ℕ) (places : ℕ × ℕ → List ℕ)
-    (fits : limit < 4294967294) (below : AreBelow limit blocks) (row : live symbols ≡ row_of blocks)
+    (fits : limit < END) (below : AreBelow limit blocks) (row : live symbols ≡ row_of blocks)
     (counted : IsCounted symbols count places) where
   no_mark : (pair : ℕ × ℕ) → (IsPlain pair → ⊥) → count pair ≡ pair_count blocks pair
   no_mark pair marked =
@@ -28,8 +29,8 @@ module _ (limit : ℕ) (symbols : List ℕ) (blocks : List (List ℕ)) (count : 
       here ∙ sym there
 
   pub counts_all : (pair : ℕ × ℕ) → count pair ≡ pair_count blocks pair
-  counts_all pair = elim (cases_lt pair.0 4294967294) [
-    | inl left ↦ elim (cases_lt pair.1 4294967294) [
+  counts_all pair = elim (cases_lt pair.0 END) [
+    | inl left ↦ elim (cases_lt pair.1 END) [
       | inl right ↦ counted.counts pair (left, right) ∙ ap (met pair) row ∙ met-row pair left right blocks
       | inr mark ↦ no_mark pair (λ plain. omega (arith, mark, plain.1))
     ]

@@ -8,24 +8,25 @@ use Rattle.repair_grammar.specs.RePair.{is_pair, met, replaced, pair_count, AreB
 use Rattle.repair_grammar.specs.Threads.{at, live, row_of, HasEnds}
 use Rattle.repair_grammar.proofs.PassLemmas.{met-none, met-other, replaced-none}
 use Rattle.repair_grammar.proofs.ThreadLemmas.{live_first}
+use Rattle.repair_grammar.specs.declared.text.TheConstants.{END, GAP}
 
-row-cons : (blocks : List (List ℕ)) → (rest : List ℕ) × (row_of blocks ≡ 4294967294 ∷ rest)
+row-cons : (blocks : List (List ℕ)) → (rest : List ℕ) × (row_of blocks ≡ END ∷ rest)
 unfolding row_of
 row-cons [] = ([], refl)
 row-cons (block ∷ blocks) = (block ++ row_of blocks, refl)
 
-module _ (pair : ℕ × ℕ) (left : pair.0 < 4294967294) (right : pair.1 < 4294967294) where
-  not_left : (4294967294 == pair.0) ≡ false
-  not_left = ne_eqb 4294967294 pair.0 (λ same. omega (arith, same, left))
+module _ (pair : ℕ × ℕ) (left : pair.0 < END) (right : pair.1 < END) where
+  not_left : (END == pair.0) ≡ false
+  not_left = ne_eqb END pair.0 (λ same. omega (arith, same, left))
 
-  not_right : (x : ℕ) → is_pair pair x 4294967294 ≡ false
-  not_right x = let none : (4294967294 == pair.1) ≡ false =
-      ne_eqb 4294967294 pair.1 (λ same. omega (arith, same, right)) in rw none (and_right (x == pair.0) false refl)
+  not_right : (x : ℕ) → is_pair pair x END ≡ false
+  not_right x = let none : (END == pair.1) ≡ false =
+      ne_eqb END pair.1 (λ same. omega (arith, same, right)) in rw none (and_right (x == pair.0) false refl)
 
-  met-mark : (rest : List ℕ) → met pair (4294967294 ∷ rest) ≡ met pair rest
-  met-mark rest = met-other pair 4294967294 rest not_left
+  met-mark : (rest : List ℕ) → met pair (END ∷ rest) ≡ met pair rest
+  met-mark rest = met-other pair END rest not_left
 
-  met-block : (block rest : List ℕ) → met pair (block ++ 4294967294 ∷ rest) ≡ met pair block + met pair rest
+  met-block : (block rest : List ℕ) → met pair (block ++ END ∷ rest) ≡ met pair block + met pair rest
   unfolding met
   met-block [] rest = omega (arith, met-mark rest)
   met-block (x ∷ []) rest = rw (not_right x) (omega (arith, met-mark rest))
@@ -47,13 +48,13 @@ module _ (pair : ℕ × ℕ) (left : pair.0 < 4294967294) (right : pair.1 < 4294
 
   module _ (symbol : ℕ) where
     replaced-mark : (rest : List ℕ) →
-        replaced pair symbol (4294967294 ∷ rest) ≡ 4294967294 ∷ replaced pair symbol rest
+        replaced pair symbol (END ∷ rest) ≡ END ∷ replaced pair symbol rest
     unfolding replaced
     replaced-mark [] = refl
     replaced-mark (x ∷ rest) = rw not_left refl
 
-    replaced-block : (block rest : List ℕ) → replaced pair symbol (block ++ 4294967294 ∷ rest)
-        ≡ replaced pair symbol block ++ 4294967294 ∷ replaced pair symbol rest
+    replaced-block : (block rest : List ℕ) → replaced pair symbol (block ++ END ∷ rest)
+        ≡ replaced pair symbol block ++ END ∷ replaced pair symbol rest
     unfolding replaced
     replaced-block [] rest = replaced-mark rest
     replaced-block (x ∷ []) rest = rw (not_right x) (ap (λ tail. x ∷ tail) (replaced-mark rest))
@@ -66,74 +67,74 @@ module _ (pair : ℕ × ℕ) (left : pair.0 < 4294967294) (right : pair.1 < 4294
     pub replaced-row : (blocks : List (List ℕ)) →
         replaced pair symbol (row_of blocks) ≡ row_of (map (replaced pair symbol) blocks)
     unfolding row_of
-    replaced-row [] = replaced-mark [] ∙ ap (λ rest. 4294967294 ∷ rest) (replaced-none pair symbol)
+    replaced-row [] = replaced-mark [] ∙ ap (λ rest. END ∷ rest) (replaced-none pair symbol)
     replaced-row (block ∷ blocks) = let tail = row-cons blocks in
         replaced-mark (block ++ row_of blocks)
-        ∙ ap (λ rest. 4294967294 ∷ rest) (ap (λ row. replaced pair symbol (block ++ row)) tail.1
+        ∙ ap (λ rest. END ∷ rest) (ap (λ row. replaced pair symbol (block ++ row)) tail.1
         ∙ replaced-block block tail.0
         ∙ ap (λ row. replaced pair symbol block ++ row) (sym (replaced-mark tail.0)
         ∙ ap (replaced pair symbol) (sym tail.1) ∙ replaced-row blocks))
 
 -- the row of no block, and of one more
-pub row_none : row_of [] ≡ 4294967294 ∷ []
+pub row_none : row_of [] ≡ END ∷ []
 unfolding row_of
 row_none = refl
 
 pub row_more : (front block : List ℕ) (blocks : List (List ℕ)) →
-    ((front ++ 4294967294 ∷ []) ++ block) ++ row_of blocks ≡ front ++ row_of (block ∷ blocks)
+    ((front ++ END ∷ []) ++ block) ++ row_of blocks ≡ front ++ row_of (block ∷ blocks)
 unfolding row_of
-row_more front block blocks = append_assoc (front ++ 4294967294 ∷ []) block (row_of blocks)
-    ∙ append_assoc front (4294967294 ∷ []) (block ++ row_of blocks)
+row_more front block blocks = append_assoc (front ++ END ∷ []) block (row_of blocks)
+    ∙ append_assoc front (END ∷ []) (block ++ row_of blocks)
 
 -- what is cut from a row with gaps, where a block was begun
 pub cut : List ℕ → List ℕ → List (List ℕ)
 cut block [] = []
-cut block (x ∷ xs) = if x == 4294967294 then block ∷ cut [] xs
-    else if x == 4294967295 then cut block xs else cut (block ++ x ∷ []) xs
+cut block (x ∷ xs) = if x == END then block ∷ cut [] xs
+    else if x == GAP then cut block xs else cut (block ++ x ∷ []) xs
 
 pub cut-none : (block : List ℕ) → cut block [] ≡ []
 unfolding cut
 cut-none block = refl
 
 module _ (block : List ℕ) (x : ℕ) (xs : List ℕ) where
-  pub cut-end : x ≡ 4294967294 → cut block (x ∷ xs) ≡ block ∷ cut [] xs
+  pub cut-end : x ≡ END → cut block (x ∷ xs) ≡ block ∷ cut [] xs
   unfolding cut
-  cut-end is = rw (eq-eqb x 4294967294 is) refl
+  cut-end is = rw (eq-eqb x END is) refl
 
-  pub cut-gap : x ≢ 4294967294 → x ≡ 4294967295 → cut block (x ∷ xs) ≡ cut block xs
+  pub cut-gap : x ≢ END → x ≡ GAP → cut block (x ∷ xs) ≡ cut block xs
   unfolding cut
-  cut-gap apart is = rw (ne_eqb x 4294967294 apart, eq-eqb x 4294967295 is) refl
+  cut-gap apart is = rw (ne_eqb x END apart, eq-eqb x GAP is) refl
 
-  pub cut-more : x ≢ 4294967294 → x ≢ 4294967295 → cut block (x ∷ xs) ≡ cut (block ++ x ∷ []) xs
+  pub cut-more : x ≢ END → x ≢ GAP → cut block (x ∷ xs) ≡ cut (block ++ x ∷ []) xs
   unfolding cut
-  cut-more apart symbol = rw (ne_eqb x 4294967294 apart, ne_eqb x 4294967295 symbol) refl
+  cut-more apart symbol = rw (ne_eqb x END apart, ne_eqb x GAP symbol) refl
 
 -- gaps make no difference
 cut-live : (block xs : List ℕ) → cut block (live xs) ≡ cut block xs
 unfolding cut live
 cut-live block [] = refl
-cut-live block (x ∷ xs) = elim (cases_Bool (x == 4294967294)) [
-  | inl is ↦ let symbol : (x == 4294967295) ≡ false =
-      ne_eqb x 4294967295 (λ same. omega (arith, same, eqb-true x 4294967294 is)) in
+cut-live block (x ∷ xs) = elim (cases_Bool (x == END)) [
+  | inl is ↦ let symbol : (x == GAP) ≡ false =
+      ne_eqb x GAP (λ same. omega (arith, same, eqb-true x END is)) in
       rw (symbol, is) (ap (λ blocks. block ∷ blocks) (cut-live [] xs))
-  | inr apart ↦ elim (cases_Bool (x == 4294967295)) [
+  | inr apart ↦ elim (cases_Bool (x == GAP)) [
     | inl gap ↦ rw (gap, apart) (cut-live block xs)
     | inr symbol ↦ rw (symbol, apart, symbol) (cut-live (block ++ x ∷ []) xs)
   ]
 ]
 
 -- a block, and all of them
-cut-block : (front block rest : List ℕ) → AllByRecursion (λ symbol. symbol < 4294967294) block →
-    cut front (block ++ 4294967294 ∷ rest) ≡ (front ++ block) ∷ cut [] rest
-cut-block front [] rest below = cut-end front 4294967294 rest refl
+cut-block : (front block rest : List ℕ) → AllByRecursion (λ symbol. symbol < END) block →
+    cut front (block ++ END ∷ rest) ≡ (front ++ block) ∷ cut [] rest
+cut-block front [] rest below = cut-end front END rest refl
     ∙ ap (λ xs. xs ∷ cut [] rest) (sym (append-nil front))
 cut-block front (x ∷ block) rest below =
-    cut-more front x (block ++ 4294967294 ∷ rest) (λ same. omega (arith, same, below.0))
+    cut-more front x (block ++ END ∷ rest) (λ same. omega (arith, same, below.0))
     (λ same. omega (arith, same, below.0))
     ∙ cut-block (front ++ x ∷ []) block rest below.1
     ∙ ap (λ xs. xs ∷ cut [] rest) (append_assoc front (x ∷ []) block)
 
-cut-row : (blocks : List (List ℕ)) (tail : List ℕ) → AreBelow 4294967294 blocks → row_of blocks ≡ 4294967294 ∷ tail →
+cut-row : (blocks : List (List ℕ)) (tail : List ℕ) → AreBelow END blocks → row_of blocks ≡ END ∷ tail →
     cut [] tail ≡ blocks
 unfolding row_of AreBelow
 cut-row [] tail below is = ap (cut []) (sym (ap (drop 1) is)) ∙ cut-none []
@@ -144,16 +145,16 @@ cut-row (block ∷ blocks) tail below is =
     ∙ ap (λ later. block ∷ later) (cut-row blocks rest.0 below.1 rest.1)
 
 pub cut-all : (blocks : List (List ℕ)) (row rest : List ℕ) (first : ℕ) → row ≡ first ∷ rest → HasEnds row →
-    AreBelow 4294967294 blocks → live row ≡ row_of blocks → cut [] rest ≡ blocks
+    AreBelow END blocks → live row ≡ row_of blocks → cut [] rest ≡ blocks
 cut-all blocks row rest first whole ends below is =
-    let mark : first ≡ 4294967294 = sym (ap (λ xs. at xs 0) whole) ∙ ends.first in
+    let mark : first ≡ END = sym (ap (λ xs. at xs 0) whole) ∙ ends.first in
     let tail = row-cons blocks in
     let later : live rest ≡ tail.0 = ap (drop 1) (sym (live_mark first rest mark) ∙ ap live (sym whole) ∙ is
     ∙ tail.1) in
     sym (cut-live [] rest) ∙ ap (cut []) later ∙ cut-row blocks tail.0 below tail.1
   where
-    live_mark : (first : ℕ) (rest : List ℕ) → first ≡ 4294967294 → live (first ∷ rest) ≡ first ∷ live rest
-    live_mark first rest mark = live_first first rest (ne_eqb first 4294967295 (λ same. omega (arith, same, mark)))
+    live_mark : (first : ℕ) (rest : List ℕ) → first ≡ END → live (first ∷ rest) ≡ first ∷ live rest
+    live_mark first rest mark = live_first first rest (ne_eqb first GAP (λ same. omega (arith, same, mark)))
 
 -- a symbol that is in no block stands nowhere
 new_block : (c : ℕ) (block rest : List ℕ) → AllByRecursion (λ symbol. symbol < c) block →
@@ -163,24 +164,24 @@ new_block c [] rest below new = new
 new_block c (x ∷ block) rest below new =
     (ne_eqb c x (λ same. omega (arith, same, below.0)), new_block c block rest below.1 new)
 
-new_row : (c : ℕ) (blocks : List (List ℕ)) → c < 4294967294 → AreBelow c blocks →
+new_row : (c : ℕ) (blocks : List (List ℕ)) → c < END → AreBelow c blocks →
     AllByRecursion (λ symbol. (c == symbol) ≡ false) (row_of blocks)
 unfolding row_of AreBelow
-new_row c [] fits below = (ne_eqb c 4294967294 (λ same. omega (arith, same, fits)), tt)
+new_row c [] fits below = (ne_eqb c END (λ same. omega (arith, same, fits)), tt)
 new_row c (block ∷ blocks) fits below = (
-  ne_eqb c 4294967294 (λ same. omega (arith, same, fits)),
+  ne_eqb c END (λ same. omega (arith, same, fits)),
   new_block c block (row_of blocks) below.0 (new_row c blocks fits below.1),
 )
 
-new_live : (c : ℕ) (symbols : List ℕ) → c < 4294967295 →
+new_live : (c : ℕ) (symbols : List ℕ) → c < GAP →
     AllByRecursion (λ symbol. (c == symbol) ≡ false) (live symbols) → (k : ℕ) → (c == at symbols k) ≡ false
 unfolding live
 new_live c [] fits new k =
-    let none : at [] k ≡ 4294967295 = get_or_past [] k 4294967295 (omega arith) in
+    let none : at [] k ≡ GAP = get_or_past [] k GAP (omega arith) in
     ne_eqb c (at [] k) (λ same. omega (arith, same, none, fits))
-new_live c (x ∷ symbols) fits new k = elim (cases_Bool (x == 4294967295)) [
+new_live c (x ∷ symbols) fits new k = elim (cases_Bool (x == GAP)) [
   | inl gap ↦ let later : AllByRecursion (λ symbol. (c == symbol) ≡ false) (live symbols) = rw gap at new in
-      by k (ne_eqb c x (λ same. omega (arith, same, fits, eqb-true x 4294967295 gap))) (new_live c symbols fits later)
+      by k (ne_eqb c x (λ same. omega (arith, same, fits, eqb-true x GAP gap))) (new_live c symbols fits later)
   | inr symbol ↦ let all : AllByRecursion (λ symbol. (c == symbol) ≡ false) (x ∷ live symbols) = rw symbol at new in
       by k all.0 (new_live c symbols fits all.1)
 ]
@@ -189,40 +190,40 @@ new_live c (x ∷ symbols) fits new k = elim (cases_Bool (x == 4294967295)) [
     by zero here later = here
     by (suc j) here later = later j
 
-pub new_text : (c : ℕ) (symbols : List ℕ) (blocks : List (List ℕ)) → c < 4294967294 → AreBelow c blocks →
+pub new_text : (c : ℕ) (symbols : List ℕ) (blocks : List (List ℕ)) → c < END → AreBelow c blocks →
     live symbols ≡ row_of blocks → (k : ℕ) → (c == at symbols k) ≡ false
 new_text c symbols blocks fits below is =
     new_live c symbols (omega (arith, fits)) (rw is (new_row c blocks fits below))
 
 -- every symbol of a row is a symbol or a mark, and marks stand at both ends
-pub row_words : (limit : ℕ) (blocks : List (List ℕ)) → limit < 4294967294 → AreBelow limit blocks →
-    AllByRecursion (λ symbol. symbol < 4294967295) (row_of blocks)
+pub row_words : (limit : ℕ) (blocks : List (List ℕ)) → limit < END → AreBelow limit blocks →
+    AllByRecursion (λ symbol. symbol < GAP) (row_of blocks)
 unfolding row_of AreBelow
 row_words limit [] fits below = (omega arith, tt)
 row_words limit (block ∷ blocks) fits below =
     (omega arith, words_block limit block (row_of blocks) fits below.0 (row_words limit blocks fits below.1))
   where
-    words_block : (limit : ℕ) (block rest : List ℕ) → limit < 4294967294 → AllByRecursion
+    words_block : (limit : ℕ) (block rest : List ℕ) → limit < END → AllByRecursion
         (λ symbol. symbol < limit) block →
-        AllByRecursion (λ symbol. symbol < 4294967295) rest → AllByRecursion (λ symbol. symbol < 4294967295)
+        AllByRecursion (λ symbol. symbol < GAP) rest → AllByRecursion (λ symbol. symbol < GAP)
         (block ++ rest)
     words_block limit [] rest fits below words = words
     words_block limit (x ∷ block) rest fits below words =
         (omega (arith, below.0, fits), words_block limit block rest fits below.1 words)
 
-pub word_at : (row : List ℕ) → AllByRecursion (λ symbol. symbol < 4294967295) row → (k : ℕ) → k < length row →
-    at row k < 4294967295
+pub word_at : (row : List ℕ) → AllByRecursion (λ symbol. symbol < GAP) row → (k : ℕ) → k < length row →
+    at row k < GAP
 word_at [] words k within = absurd (omega (arith, within))
 word_at (x ∷ row) words zero within = words.0
 word_at (x ∷ row) words (suc k) within = word_at row words.1 k (omega (arith, within))
 
-row_front : (blocks : List (List ℕ)) → (front : List ℕ) × (row_of blocks ≡ front ++ 4294967294 ∷ [])
+row_front : (blocks : List (List ℕ)) → (front : List ℕ) × (row_of blocks ≡ front ++ END ∷ [])
 unfolding row_of
 row_front [] = ([], refl)
 row_front (block ∷ blocks) = let later = row_front blocks in (
-  4294967294 ∷ block ++ later.0,
-  ap (λ row. 4294967294 ∷ block ++ row) later.1
-      ∙ ap (λ row. 4294967294 ∷ row) (sym (append_assoc block later.0 (4294967294 ∷ []))),
+  END ∷ block ++ later.0,
+  ap (λ row. END ∷ block ++ row) later.1
+      ∙ ap (λ row. END ∷ row) (sym (append_assoc block later.0 (END ∷ []))),
 )
 
 pub row_ends : (blocks : List (List ℕ)) → HasEnds (row_of blocks)
@@ -233,20 +234,20 @@ row_ends blocks =
       some = omega (arith, ap length tail.1);
       first = ap (λ row. at row 0) tail.1;
       last = λ place end.
-          let mark : ℕ = 4294967294 in
+          let mark : ℕ = END in
           ap (λ row. at row place) front.1
-          ∙ get_or_push front.0 mark 4294967295 place
+          ∙ get_or_push front.0 mark GAP place
           (omega (arith, end, ap length front.1, length-append front.0 (mark ∷ [])));
     }
 
 -- symbols below a limit are below the marks
-below_mark : (limit : ℕ) (block : List ℕ) → limit < 4294967294 → AllByRecursion (λ symbol. symbol < limit) block →
-    AllByRecursion (λ symbol. symbol < 4294967294) block
+below_mark : (limit : ℕ) (block : List ℕ) → limit < END → AllByRecursion (λ symbol. symbol < limit) block →
+    AllByRecursion (λ symbol. symbol < END) block
 below_mark limit [] fits below = below
 below_mark limit (x ∷ block) fits below = (omega (arith, below.0, fits), below_mark limit block fits below.1)
 
-pub below_marks : (limit : ℕ) (blocks : List (List ℕ)) → limit < 4294967294 → AreBelow limit blocks →
-    AreBelow 4294967294 blocks
+pub below_marks : (limit : ℕ) (blocks : List (List ℕ)) → limit < END → AreBelow limit blocks →
+    AreBelow END blocks
 unfolding AreBelow
 below_marks limit [] fits below = below
 below_marks limit (block ∷ blocks) fits below =

@@ -7,6 +7,7 @@ use Rattle.std.proofs.Math.Seq.{drop-cons}
 use Rattle.repair_grammar.specs.Runs.{begins_odd, ends_odd}
 use Rattle.repair_grammar.specs.Threads.{at, live, turned_by, AreNeighbours, AreThreads, HasEnds, IsAround}
 use Rattle.repair_grammar.proofs.RunLemmas.{begins_odd-front, ends_odd-last}
+use Rattle.repair_grammar.specs.declared.text.TheConstants.{END, GAP}
 
 -- cases of two places
 pub same_or : (m n : ℕ) → (m ≡ n) ⊎ (m ≢ n)
@@ -17,38 +18,38 @@ pub live-none : live [] ≡ []
 unfolding live
 live-none = refl
 
-pub live_first : (x : ℕ) (xs : List ℕ) → (x == 4294967295) ≡ false → live (x ∷ xs) ≡ x ∷ live xs
+pub live_first : (x : ℕ) (xs : List ℕ) → (x == GAP) ≡ false → live (x ∷ xs) ≡ x ∷ live xs
 unfolding live
 live_first x xs symbol = rw symbol refl
 
 -- what is left of two rows
 pub live-append : (xs ys : List ℕ) → live (xs ++ ys) ≡ live xs ++ live ys
 unfolding live
-live-append xs ys = filter-append (λ symbol. not (symbol == 4294967295)) xs ys
+live-append xs ys = filter-append (λ symbol. not (symbol == GAP)) xs ys
 
 pub live-cut : (symbols : List ℕ) (p : ℕ) → live symbols ≡ live (take p symbols) ++ live (drop p symbols)
 live-cut symbols p = ap live (sym (take-append-drop p symbols)) ∙ live-append (take p symbols) (drop p symbols)
 
 -- a symbol that stands, and a gap
-pub live-here : (symbols : List ℕ) (p : ℕ) → p < length symbols → (at symbols p == 4294967295) ≡ false →
+pub live-here : (symbols : List ℕ) (p : ℕ) → p < length symbols → (at symbols p == GAP) ≡ false →
     live (drop p symbols) ≡ at symbols p ∷ live (drop (p + 1) symbols)
 unfolding live
-live-here symbols p within symbol = rw (drop-cons symbols p 4294967295 within, add-one, symbol) refl
+live-here symbols p within symbol = rw (drop-cons symbols p GAP within, add-one, symbol) refl
 
-pub live-stands : (symbols : List ℕ) (p : ℕ) → p < length symbols → at symbols p < 4294967295 →
+pub live-stands : (symbols : List ℕ) (p : ℕ) → p < length symbols → at symbols p < GAP →
     live (drop p symbols) ≡ at symbols p ∷ live (drop (p + 1) symbols)
 live-stands symbols p within stands =
-    live-here symbols p within (ne_eqb (at symbols p) 4294967295 (λ same. omega (arith, same, stands)))
+    live-here symbols p within (ne_eqb (at symbols p) GAP (λ same. omega (arith, same, stands)))
 
-pub live-gap : (symbols : List ℕ) (p : ℕ) → p < length symbols → at symbols p ≡ 4294967295 →
+pub live-gap : (symbols : List ℕ) (p : ℕ) → p < length symbols → at symbols p ≡ GAP →
     live (drop p symbols) ≡ live (drop (p + 1) symbols)
 unfolding live
 live-gap symbols p within is =
-    rw (drop-cons symbols p 4294967295 within, add-one, eq-eqb (get_or symbols p 4294967295) 4294967295 is) refl
+    rw (drop-cons symbols p GAP within, add-one, eq-eqb (get_or symbols p GAP) GAP is) refl
 
 -- gaps in a row leave nothing
 live-gaps : (symbols : List ℕ) (n p : ℕ) → p + n ≤ length symbols →
-    ((k : ℕ) → p ≤ k → k < p + n → at symbols k ≡ 4294967295) → live (drop p symbols) ≡ live (drop (p + n) symbols)
+    ((k : ℕ) → p ≤ k → k < p + n → at symbols k ≡ GAP) → live (drop p symbols) ≡ live (drop (p + n) symbols)
 live-gaps symbols zero p within gaps = ap (λ q. live (drop q symbols)) (omega arith)
 live-gaps symbols (suc n) p within gaps =
     live-gap symbols p (omega arith) (gaps p (omega arith) (omega arith))
@@ -85,27 +86,27 @@ same_right symbols m i j one other = elim (cases_lt i j) [
 ]
 
 -- one place more on the left
-pub live-last_here : (symbols : List ℕ) (p : ℕ) → p < length symbols → (at symbols p == 4294967295) ≡ false →
+pub live-last_here : (symbols : List ℕ) (p : ℕ) → p < length symbols → (at symbols p == GAP) ≡ false →
     live (take (p + 1) symbols) ≡ live (take p symbols) ++ at symbols p ∷ []
 unfolding live
-live-last_here symbols p within symbol = ap live (take_more symbols p 4294967295 within)
+live-last_here symbols p within symbol = ap live (take_more symbols p GAP within)
     ∙ live-append (take p symbols) (at symbols p ∷ []) ∙ ap (λ xs. live (take p symbols) ++ xs) (rw symbol refl)
 
-pub live-last : (symbols : List ℕ) (p : ℕ) → p < length symbols → at symbols p < 4294967295 →
+pub live-last : (symbols : List ℕ) (p : ℕ) → p < length symbols → at symbols p < GAP →
     live (take (p + 1) symbols) ≡ live (take p symbols) ++ at symbols p ∷ []
 live-last symbols p within stands =
-    live-last_here symbols p within (ne_eqb (at symbols p) 4294967295 (λ same. omega (arith, same, stands)))
+    live-last_here symbols p within (ne_eqb (at symbols p) GAP (λ same. omega (arith, same, stands)))
 
-pub live-last_gap : (symbols : List ℕ) (p : ℕ) → p < length symbols → at symbols p ≡ 4294967295 →
+pub live-last_gap : (symbols : List ℕ) (p : ℕ) → p < length symbols → at symbols p ≡ GAP →
     live (take (p + 1) symbols) ≡ live (take p symbols)
 unfolding live
-live-last_gap symbols p within is = ap live (take_more symbols p 4294967295 within)
+live-last_gap symbols p within is = ap live (take_more symbols p GAP within)
     ∙ live-append (take p symbols) (at symbols p ∷ [])
-    ∙ ap (λ xs. live (take p symbols) ++ xs) (rw (eq-eqb (at symbols p) 4294967295 is) refl)
+    ∙ ap (λ xs. live (take p symbols) ++ xs) (rw (eq-eqb (at symbols p) GAP is) refl)
     ∙ append-nil (live (take p symbols))
 
 live-last_gaps : (symbols : List ℕ) (n p : ℕ) → p + n ≤ length symbols →
-    ((k : ℕ) → p ≤ k → k < p + n → at symbols k ≡ 4294967295) → live (take (p + n) symbols) ≡ live (take p symbols)
+    ((k : ℕ) → p ≤ k → k < p + n → at symbols k ≡ GAP) → live (take (p + n) symbols) ≡ live (take p symbols)
 live-last_gaps symbols zero p within gaps = ap (λ q. live (take q symbols)) (omega arith)
 live-last_gaps symbols (suc n) p within gaps = ap (λ q. live (take q symbols)) (omega arith)
     ∙ live-last_gap symbols (p + n) (omega arith) (gaps (p + n) (omega arith) (omega arith))
@@ -121,24 +122,24 @@ live-before symbols p q near =
     ∙ live-last symbols p (omega (arith, near.before, near.within)) near.left_stands
 
 module _ (symbols : List ℕ) (p m r c : ℕ) (near : AreNeighbours symbols p m) (next_near : AreNeighbours symbols m r)
-    (fits : c < 4294967295) where
+    (fits : c < GAP) where
   abbrev pub after : List ℕ
-  after = set (set symbols p c) m 4294967295
+  after = set (set symbols p c) m GAP
 
   pub after-place : at after p ≡ c
-  after-place = get_or-set_other (set symbols p c) m p 4294967295 4294967295 (λ same. omega (arith, near.before, same))
-      ∙ get_or-set_same symbols p c 4294967295 (omega (arith, near.before, near.within))
+  after-place = get_or-set_other (set symbols p c) m p GAP GAP (λ same. omega (arith, near.before, same))
+      ∙ get_or-set_same symbols p c GAP (omega (arith, near.before, near.within))
 
-  pub after-gone : at after m ≡ 4294967295
-  after-gone = get_or-set_same (set symbols p c) m 4294967295 4294967295
+  pub after-gone : at after m ≡ GAP
+  after-gone = get_or-set_same (set symbols p c) m GAP GAP
       (rw (length-set symbols p c) near.within)
 
   pub after-other : (k : ℕ) → k ≢ p → k ≢ m → at after k ≡ at symbols k
-  after-other k not_p not_m = get_or-set_other (set symbols p c) m k 4294967295 4294967295 not_m
-      ∙ get_or-set_other symbols p k c 4294967295 not_p
+  after-other k not_p not_m = get_or-set_other (set symbols p c) m k GAP GAP not_m
+      ∙ get_or-set_other symbols p k c GAP not_p
 
   pub after-length : length after ≡ length symbols
-  after-length = length-set (set symbols p c) m 4294967295 ∙ length-set symbols p c
+  after-length = length-set (set symbols p c) m GAP ∙ length-set symbols p c
 
   -- neighbours but for the place that goes
   pub kept : (i j : ℕ) → i ≢ m → j ≢ m → AreNeighbours symbols i j → AreNeighbours after i j
@@ -156,7 +157,7 @@ module _ (symbols : List ℕ) (p m r c : ℕ) (near : AreNeighbours symbols p m)
     gaps = λ k from to. elim (same_or k m) [
       | inl same ↦ rw same after-gone
       | inr not_m ↦ elim (same_or k p) [
-        | inl same ↦ absurd (let none : at symbols p ≡ 4294967295 = rw (sym same) (are.gaps k from to) in
+        | inl same ↦ absurd (let none : at symbols p ≡ GAP = rw (sym same) (are.gaps k from to) in
             omega (arith, none, near.left_stands))
         | inr not_p ↦ after-other k not_p not_m ∙ are.gaps k from to
       ]
@@ -197,11 +198,11 @@ module _ (symbols : List ℕ) (p m r c : ℕ) (near : AreNeighbours symbols p m)
       (live-stands symbols m near.within near.right_stands))
 
   before_it : take p after ≡ take p symbols
-  before_it = take-set-le p (set symbols p c) m 4294967295 (omega (arith, near.before)) ∙ take-set-le p symbols p c
+  before_it = take-set-le p (set symbols p c) m GAP (omega (arith, near.before)) ∙ take-set-le p symbols p c
       (omega arith)
 
   rest_it : drop (m + 1) after ≡ drop (m + 1) symbols
-  rest_it = drop-set-lt (m + 1) (set symbols p c) m 4294967295 (omega arith)
+  rest_it = drop-set-lt (m + 1) (set symbols p c) m GAP (omega arith)
       ∙ drop-set-lt (m + 1) symbols p c (omega (arith, near.before))
 
   pub rest-live : live (drop (p + 1) after) ≡ live (drop (m + 1) symbols)
@@ -233,9 +234,9 @@ module _ (symbols : List ℕ) (p m r c : ℕ) (near : AreNeighbours symbols p m)
   -- the threads after it
   module _ (next previous : List ℕ) (threads : AreThreads symbols next previous) (is_next : get_or next p 0 ≡ m)
       (is_right : get_or next m 0 ≡ r) (more : m + 1 < length symbols) where
-    pub stood : (k : ℕ) → at after k < 4294967295 → (k ≢ m) × (at symbols k < 4294967295)
+    pub stood : (k : ℕ) → at after k < GAP → (k ≢ m) × (at symbols k < GAP)
     stood k stands = elim (same_or k m) [
-      | inl same ↦ absurd (let none : at after k ≡ 4294967295 = rw same after-gone in omega (arith, none, stands))
+      | inl same ↦ absurd (let none : at after k ≡ GAP = rw same after-gone in omega (arith, none, stands))
       | inr not_m ↦ elim (same_or k p) [
         | inl same ↦ (not_m, rw same near.left_stands)
         | inr not_p ↦ (not_m, omega (arith, after-other k not_p not_m, stands))
@@ -292,7 +293,7 @@ ends_odd-place : (symbols : List ℕ) (u p q : ℕ) → AreNeighbours symbols p 
 ends_odd-place symbols u p q near = ap (ends_odd u false) (live-before symbols p q near)
     ∙ ends_odd-last u false (live (take p symbols)) (at symbols p)
 
-ends_odd-at : (symbols : List ℕ) (u p : ℕ) → p < length symbols → at symbols p < 4294967295 →
+ends_odd-at : (symbols : List ℕ) (u p : ℕ) → p < length symbols → at symbols p < GAP →
     ends_odd u false (live (take (p + 1) symbols))
     ≡ ((at symbols p == u) && not (ends_odd u false (live (take p symbols))))
 ends_odd-at symbols u p within stands = ap (ends_odd u false) (live-last symbols p within stands)
@@ -319,7 +320,7 @@ pub run_back_start : (symbols : List ℕ) (u p q : ℕ) → AreNeighbours symbol
 run_back_start symbols u p q near = ends_odd-place symbols u p q near
     ∙ sym (ends_odd-at symbols u p (omega (arith, near.before, near.within)) near.left_stands)
 
-pub run_back_end : (symbols : List ℕ) (u p : ℕ) (odd whole : Bool) → p < length symbols → at symbols p < 4294967295 →
+pub run_back_end : (symbols : List ℕ) (u p : ℕ) (odd whole : Bool) → p < length symbols → at symbols p < GAP →
     at symbols p ≢ u → whole ≡ turned_by odd (ends_odd u false (live (take (p + 1) symbols))) → odd ≡ whole
 run_back_end symbols u p odd whole within stands other left =
     let even : ends_odd u false (live (take (p + 1) symbols)) ≡ false =
@@ -334,7 +335,7 @@ run_on symbols u p q odd whole near is left =
     left ∙ ap (turned_by odd) (begins_odd-at symbols u p q near ∙ rw (eq-eqb (at symbols p) u is) refl)
     ∙ turned_not odd (begins_odd u (live (drop q symbols)))
 
-pub run_on_end : (symbols : List ℕ) (u p : ℕ) (odd whole : Bool) → p < length symbols → at symbols p < 4294967295 →
+pub run_on_end : (symbols : List ℕ) (u p : ℕ) (odd whole : Bool) → p < length symbols → at symbols p < GAP →
     at symbols p ≢ u → whole ≡ turned_by odd (begins_odd u (live (drop p symbols))) → odd ≡ whole
 run_on_end symbols u p odd whole within stands other left =
     let even : begins_odd u (live (drop p symbols)) ≡ false =
@@ -345,27 +346,27 @@ run_on_end symbols u p odd whole within stands other left =
 
 -- the neighbours that the code reads
 pub neighbour_back : (symbols next previous : List ℕ) (p q : ℕ) → AreThreads symbols next previous → 0 < p →
-    p < length symbols → at symbols p < 4294967295 → q ≡ get_or previous p q → AreNeighbours symbols q p
+    p < length symbols → at symbols p < GAP → q ≡ get_or previous p q → AreNeighbours symbols q p
 neighbour_back symbols next previous p q threads some within stands is =
     let same : get_or previous p 0 ≡ q =
     get_or_default previous p 0 q (omega (arith, within, threads.previouses)) ∙ sym is in
     rw same at (threads.back p some within stands)
 
 pub neighbour_on : (symbols next previous : List ℕ) (p q : ℕ) → AreThreads symbols next previous →
-    p + 1 < length symbols → at symbols p < 4294967295 → q ≡ get_or next p q → AreNeighbours symbols p q
+    p + 1 < length symbols → at symbols p < GAP → q ≡ get_or next p q → AreNeighbours symbols p q
 neighbour_on symbols next previous p q threads inside stands is =
     let same : get_or next p 0 ≡ q = get_or_default next p 0 q (omega (arith, inside, threads.nexts)) ∙ sym is in
     rw same at (threads.on p inside stands)
 
 -- a symbol stands at neither end
-pub not_first : (symbols : List ℕ) (p : ℕ) → HasEnds symbols → at symbols p < 4294967294 → 0 < p
+pub not_first : (symbols : List ℕ) (p : ℕ) → HasEnds symbols → at symbols p < END → 0 < p
 not_first symbols p ends plain = elim (same_or p 0) [
-  | inl zero_is ↦ absurd (let end : at symbols p ≡ 4294967294 = ap (at symbols) zero_is ∙ ends.first in
+  | inl zero_is ↦ absurd (let end : at symbols p ≡ END = ap (at symbols) zero_is ∙ ends.first in
       omega (arith, plain, end))
   | inr some ↦ elim (cases_lt 0 p) [ inl more ↦ more | inr none ↦ absurd (some (omega (arith, none))) ]
 ]
 
-pub not_last : (symbols : List ℕ) (p : ℕ) → HasEnds symbols → p < length symbols → at symbols p < 4294967294 →
+pub not_last : (symbols : List ℕ) (p : ℕ) → HasEnds symbols → p < length symbols → at symbols p < END →
     p + 1 < length symbols
 not_last symbols p ends within plain = elim (same_or (p + 1) (length symbols)) [
   | inl end ↦ absurd (omega (arith, plain, ends.last p end))
@@ -377,11 +378,11 @@ not_last symbols p ends within plain = elim (same_or (p + 1) (length symbols)) [
 
 -- the symbol that was read
 pub read_is : (symbols : List ℕ) (p x : ℕ) → p < length symbols → x ≡ get_or symbols p x → at symbols p ≡ x
-read_is symbols p x within is = get_or_default symbols p 4294967295 x within ∙ sym is
+read_is symbols p x within is = get_or_default symbols p GAP x within ∙ sym is
 
 pub threads_around : (symbols next previous : List ℕ) (p l m r c before beyond : ℕ) →
-    AreThreads symbols next previous → IsAround symbols p l m r before beyond → c < 4294967295 →
-    AreThreads (set (set symbols p c) m 4294967295) (set next p r) (set previous r p)
+    AreThreads symbols next previous → IsAround symbols p l m r before beyond → c < GAP →
+    AreThreads (set (set symbols p c) m GAP) (set next p r) (set previous r p)
 threads_around symbols next previous p l m r c before beyond threads around fits =
     let near : AreNeighbours symbols p m = around.near in
     let right_near : AreNeighbours symbols m r = around.next_near in

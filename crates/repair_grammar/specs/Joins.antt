@@ -2,6 +2,7 @@
 use Rattle.std.specs.Prelude.{ℕ, Bool, true, not, ◌&&◌, ◌==◌, nat_lt, if◌then◌else◌, Option, Some, None}
 use Rattle.repair_grammar.specs.declared.text.Text.{Text}
 use Rattle.repair_grammar.specs.Threads.{AreThreads, HasEnds}
+use Rattle.repair_grammar.specs.declared.text.TheConstants.{END}
 
 -- the threads of a text, and the marks at its ends
 pub record IsText (text : Text) : Type 0 where
@@ -10,7 +11,7 @@ pub record IsText (text : Text) : Type 0 where
 
 -- the pair of two symbols, if neither is a mark
 unfoldable pub plain_of : ℕ → ℕ → Option (ℕ × ℕ)
-plain_of x y = if nat_lt x 4294967294 && nat_lt y 4294967294 then Some (x, y) else None
+plain_of x y = if nat_lt x END && nat_lt y END then Some (x, y) else None
 
 -- the pair on the left that counts once less: x and a, or two a where the run that ends there is odd
 unfoldable pub gone_left : Bool → ℕ → ℕ → ℕ → Option (ℕ × ℕ)

@@ -1,26 +1,27 @@
 -- Symbols of all blocks in one row, where a place that is taken out stays as a gap, and neighbours know each other.
--- A mark is 4294967294, and a gap 4294967295; symbols are below both.
+-- Marks (`END`) and gaps (`GAP`) are above all symbols.
 use Rattle.repair_grammar.specs.RePair.{met, replaced}
 use Rattle.std.specs.List.{Contains}
 use Rattle.repair_grammar.specs.Counts.{stands_first}
 use Rattle.repair_grammar.specs.Runs.{ends_odd}
+use Rattle.repair_grammar.specs.declared.text.TheConstants.{END, GAP}
 use Rattle.std.specs.Prelude.{◌≡◌, ℕ, ◌+◌, ◌<◌, ◌≤◌, Bool, true, false, ◌==◌, ◌&&◌, not, List, [], ◌∷◌, ◌++◌, length, filter, take, drop, slice_index_or, if◌then◌else◌}
 
 -- the symbol at a place
 abbrev pub at : List ℕ → ℕ → ℕ
-at symbols place = slice_index_or symbols place 4294967295
+at symbols place = slice_index_or symbols place GAP
 
 -- the symbols that are left, in order
 unfoldable pub live : List ℕ → List ℕ
-live symbols = filter (λ symbol. not (symbol == 4294967295)) symbols
+live symbols = filter (λ symbol. not (symbol == GAP)) symbols
 
 -- two places at which symbols stand, with gaps alone between them
 pub record AreNeighbours (symbols : List ℕ) (left right : ℕ) : Type 0 where
   pub before : left < right
   pub within : right < length symbols
-  pub left_stands : at symbols left < 4294967295
-  pub right_stands : at symbols right < 4294967295
-  pub gaps : (k : ℕ) → left < k → k < right → at symbols k ≡ 4294967295
+  pub left_stands : at symbols left < GAP
+  pub right_stands : at symbols right < GAP
+  pub gaps : (k : ℕ) → left < k → k < right → at symbols k ≡ GAP
 
 -- from each place at which a symbol stands, but for the last and the first, next and previous lead to its neighbours
 pub record AreThreads (symbols next previous : List ℕ) : Type 0 where
@@ -28,16 +29,16 @@ pub record AreThreads (symbols next previous : List ℕ) : Type 0 where
   pub words : (place : ℕ) → at symbols place < 4294967296
   pub nexts : length next ≡ length symbols
   pub previouses : length previous ≡ length symbols
-  pub on : (place : ℕ) → place + 1 < length symbols → at symbols place < 4294967295 →
+  pub on : (place : ℕ) → place + 1 < length symbols → at symbols place < GAP →
       AreNeighbours symbols place (slice_index_or next place 0)
-  pub back : (place : ℕ) → 0 < place → place < length symbols → at symbols place < 4294967295 →
+  pub back : (place : ℕ) → 0 < place → place < length symbols → at symbols place < GAP →
       AreNeighbours symbols (slice_index_or previous place 0) place
 
 -- a mark that is no symbol stands at both ends
 pub record HasEnds (symbols : List ℕ) : Type 0 where
   pub some : 0 < length symbols
-  pub first : at symbols 0 ≡ 4294967294
-  pub last : (place : ℕ) → place + 1 ≡ length symbols → at symbols place ≡ 4294967294
+  pub first : at symbols 0 ≡ END
+  pub last : (place : ℕ) → place + 1 ≡ length symbols → at symbols place ≡ END
 
 -- whether a test is turned
 abbrev pub turned_by : Bool → Bool → Bool
@@ -45,7 +46,7 @@ turned_by odd test = if odd then not test else test
 
 -- whether the pair stands at a place
 unfoldable pub stands_at : List ℕ → ℕ × ℕ → ℕ → Bool
-stands_at symbols pair place = not (at symbols place == 4294967295) && stands_first pair (live (drop place symbols))
+stands_at symbols pair place = not (at symbols place == GAP) && stands_first pair (live (drop place symbols))
 
 -- what a pass from a place on leaves of the whole, where all before the place is done
 abbrev pub passed_from : List ℕ → ℕ × ℕ → ℕ → ℕ → List ℕ
@@ -53,12 +54,12 @@ passed_from symbols pair symbol place = live (take place symbols) ++ replaced pa
 
 -- the blocks in one row, with a mark before each and after the last
 unfoldable pub row_of : List (List ℕ) → List ℕ
-row_of [] = 4294967294 ∷ []
-row_of (block ∷ blocks) = 4294967294 ∷ block ++ row_of blocks
+row_of [] = END ∷ []
+row_of (block ∷ blocks) = END ∷ block ++ row_of blocks
 
 -- a pair of symbols, without a mark
 abbrev pub IsPlain : ℕ × ℕ → Type 0
-IsPlain pair = (pair.0 < 4294967294) × (pair.1 < 4294967294)
+IsPlain pair = (pair.0 < END) × (pair.1 < END)
 
 -- the counts of all pairs of symbols, and for each the places at which it stands; the list may have others too
 pub record IsCounted (symbols : List ℕ) (count : ℕ × ℕ → ℕ) (places : ℕ × ℕ → List ℕ) : Type 0 where

@@ -1,5 +1,6 @@
-ghost use Rattle.std.specs.Prelude.{◌≡◌, ◌^◌, ◌≤◌, length, IfOk};
+ghost use Rattle.std.specs.Prelude.{◌≡◌, ◌≤◌, length, IfOk};
 ghost use Rattle.std.specs.List.{sum_by};
+ghost use Rattle.track_types.specs.declared.limit.TheConstants.{MAX_SYMBOLS};
 ghost use Rattle.repair_grammar.specs.RePair.{AreBelow, re_pair};
 
 use crate::choosing::{first_pair, settle};
@@ -15,8 +16,8 @@ use track_types::{Lists32, Memory, PairList};
 /// The rules and blocks of Re-Pair, by changing in each round only what its pair's places change.
 pub fn by_places(alloc: Global, alphabet: u32, blocks: &Lists32) -> Result<Grammar, Memory>
     requires below { AreBelow alphabet blocks.now }
-    requires few { sum_by length blocks.now ≤ 2 ^ 25 }
-    requires small { alphabet ≤ 2 ^ 25 }
+    requires few { sum_by length blocks.now ≤ MAX_SYMBOLS }
+    requires small { alphabet ≤ MAX_SYMBOLS }
     ensures ok { IfOk result (λ grammar. grammar ≡ re_pair alphabet blocks.now) }
 {
     let row = row(alloc, blocks)?;

@@ -1,7 +1,8 @@
-ghost use Rattle.std.specs.Prelude.{◌≡◌, ℕ, ◌^◌, ◌<◌, ◌≤◌, length, IfOk};
+ghost use Rattle.std.specs.Prelude.{◌≡◌, ℕ, ◌<◌, ◌≤◌, length, IfOk};
 ghost use Rattle.std.specs.List.{sum_by};
 ghost use Rattle.track_types.specs.Limits.{limit_of};
 ghost use Rattle.track_types.specs.declared.limit.LimitKind.TheVariants.{Symbols};
+ghost use Rattle.track_types.specs.declared.limit.TheConstants.{MAX_SYMBOLS};
 ghost use Rattle.repair_grammar.specs.GrammarOf.{IsGrammarOf};
 ghost use Rattle.repair_grammar.specs.RePair.{AreBelow, pair_count, re_pair};
 
@@ -29,7 +30,7 @@ pub struct Grammar {
 pub fn compress(alloc: Global, alphabet: u32, blocks: &Lists32) -> Result<Grammar, Memory>
     requires below { AreBelow alphabet blocks.now }
     requires few { sum_by length blocks.now ≤ limit_of Symbols }
-    requires small { alphabet ≤ 2 ^ 25 }
+    requires small { alphabet ≤ MAX_SYMBOLS }
     ensures ok { IfOk result (λ grammar. grammar ≡ re_pair alphabet blocks.now) }
     ensures sound { IfOk result (IsGrammarOf alphabet blocks.now) }
     ensures done { IfOk result (λ grammar. (pair : ℕ × ℕ) → pair_count grammar.blocks pair < 2) }

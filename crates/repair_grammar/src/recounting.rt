@@ -1,5 +1,6 @@
-ghost use Rattle.std.specs.Prelude.{◌≡◌, ◌^◌, ◌≤◌, length, IfOk, OnOk};
+ghost use Rattle.std.specs.Prelude.{◌≡◌, ◌≤◌, length, IfOk, OnOk};
 ghost use Rattle.std.specs.List.{sum_by};
+ghost use Rattle.track_types.specs.declared.limit.TheConstants.{MAX_SYMBOLS};
 ghost use Rattle.repair_grammar.specs.RePair.{re_pair};
 ghost use Rattle.repair_grammar.specs.Counts.{lists_of};
 
@@ -14,8 +15,8 @@ use track_types::{List32, Lists32, Memory, PairList};
 ///
 /// A round reads all symbols, so the time grows with the square of their number.
 pub fn recounted(alloc: Global, alphabet: u32, blocks: &Lists32) -> Result<Grammar, Memory>
-    requires few { sum_by length blocks.now ≤ 2 ^ 25 }
-    requires small { alphabet ≤ 2 ^ 25 }
+    requires few { sum_by length blocks.now ≤ MAX_SYMBOLS }
+    requires small { alphabet ≤ MAX_SYMBOLS }
     ensures ok { IfOk result (λ grammar. grammar ≡ re_pair alphabet blocks.now) }
 {
     let mut blocks = copies(alloc, blocks)?;

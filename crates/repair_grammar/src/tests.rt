@@ -1,5 +1,6 @@
-ghost use Rattle.std.specs.Prelude.{◌≡◌, ◌^◌, ◌<◌, ◌≤◌, length, IfOk};
+ghost use Rattle.std.specs.Prelude.{◌≡◌, ◌<◌, ◌≤◌, length, IfOk};
 ghost use Rattle.std.specs.List.{AllByRecursion, sum_by};
+ghost use Rattle.track_types.specs.declared.limit.TheConstants.{MAX_SYMBOLS};
 ghost use Rattle.repair_grammar.specs.RePair.{AreBelow};
 
 use super::recounting::recounted;
@@ -25,7 +26,7 @@ fn block_of(alloc: Global, alphabet: u32, symbols: &[u32]) -> Result<List32, Mem
 // The lists as blocks, which in these tests are never too many.
 fn blocks_of(alloc: Global, alphabet: u32, lists: &[Vec<u32>]) -> Result<Lists32, Memory>
     ensures below { IfOk result (AreBelow alphabet) }
-    ensures few { IfOk result (λ blocks. sum_by length blocks ≤ 2 ^ 25) }
+    ensures few { IfOk result (λ blocks. sum_by length blocks ≤ MAX_SYMBOLS) }
 {
     let mut blocks = Vec::new(alloc);
     let mut room = 1 << 25;
@@ -41,14 +42,14 @@ fn blocks_of(alloc: Global, alphabet: u32, lists: &[Vec<u32>]) -> Result<Lists32
 
 // What `compress` makes of the lists.
 fn compressed(alloc: Global, alphabet: u32, lists: &[Vec<u32>]) -> Result<Grammar, Memory>
-    requires { alphabet ≤ 2 ^ 25 }
+    requires { alphabet ≤ MAX_SYMBOLS }
 {
     compress(alloc, alphabet, &blocks_of(alloc, alphabet, lists)?)
 }
 
 // What counting every pair afresh in each round makes of them.
 fn compressed_afresh(alloc: Global, alphabet: u32, lists: &[Vec<u32>]) -> Result<Grammar, Memory>
-    requires { alphabet ≤ 2 ^ 25 }
+    requires { alphabet ≤ MAX_SYMBOLS }
 {
     recounted(alloc, alphabet, &blocks_of(alloc, alphabet, lists)?)
 }
@@ -94,7 +95,7 @@ fn gives(
     rules: &[(u32, u32)],
     after: &[&[u32]],
 ) -> Result<bool, Memory>
-    requires { alphabet ≤ 2 ^ 25 }
+    requires { alphabet ≤ MAX_SYMBOLS }
 {
     let lists = lists_of(alloc, blocks)?;
     let grammar = compressed(alloc, alphabet, lists.as_slice())?;

@@ -15,6 +15,7 @@ use Rattle.repair_grammar.proofs.JoinLemmas.{live-all}
 use Rattle.repair_grammar.proofs.PlaceLemmas.{counts_all, row_after, counted_same, covers_same}
 use Rattle.repair_grammar.proofs.compressing.by_places.Goals as goal
 use Rattle.repair_grammar.proofs.compressing.by_places.Goals.{In-Some, In_ok-replace_all}
+use Rattle.repair_grammar.specs.declared.text.TheConstants.{END}
 
 pub count_row-requires-clause-words : goal.count_row-requires-clause-words
 count_row-requires-clause-words c =
@@ -43,7 +44,7 @@ settle-requires c = record {
 pub rounds-init : goal.rounds-init
 rounds-init c =
     let blocks : List (List ℕ) = c.args.blocks.now in
-    let fits : c.args.alphabet < 4294967294 = omega (arith, c.requires.small) in
+    let fits : c.args.alphabet < END = omega (arith, c.requires.small) in
     let symbols : c.in_ok-text.text.symbols.items ≡ row_of blocks =
     c.in_ok-text.ensures.symbols ∙ c.in_ok-row.ensures in
     let read : c.as_slice.result.now ≡ c.in_ok-text.text.symbols.items =
@@ -66,7 +67,7 @@ rounds-init c =
 abbrev limit : In-Some → ℕ
 limit c = c.args.alphabet + length c.rounds.rules.items
 
-fits : (c : In-Some) → limit c < 4294967294
+fits : (c : In-Some) → limit c < END
 fits c = omega (arith, c.rounds.invariant.few, c.requires.few, c.requires.small)
 
 counts : (c : In-Some) (pair : ℕ × ℕ) → count_of c.rounds.pairs pair ≡ pair_count c.rounds.invariant.now pair
@@ -141,7 +142,7 @@ pub settle-requires-in-Some : goal.settle-requires-in-Some
 settle-requires-in-Some c =
     let o = (goal.at.settle-requires-in-Some c).In-Some in
     let p = (goal.at.settle-requires-in-Some c).In_ok-replace_all in
-    let fits_more : limit o + 1 < 4294967294 =
+    let fits_more : limit o + 1 < END =
     omega (arith, c.rounds.invariant.few, c.requires.few, c.requires.small) in
     record {
       keys = covers_after (limit o) c.in-Some.pair c.rounds.invariant.now (count_of c.rounds.pairs)
@@ -189,7 +190,7 @@ pub returns : goal.returns
 returns c =
     let now : List (List ℕ) = c.rounds.invariant.now in
     let bound : ℕ = c.args.alphabet + length c.rounds.rules.items in
-    let small_enough : bound < 4294967294 = omega (arith, c.rounds.invariant.few, c.requires.few, c.requires.small) in
+    let small_enough : bound < END = omega (arith, c.rounds.invariant.few, c.requires.few, c.requires.small) in
     let counted : AllBelowTwo (count_of c.rounds.pairs) = rw c.in_default.is at c.in_ok-pair.ensures.first in
     let small : AllBelowTwo (pair_count now) =
     λ pair. rw (sym (counts_all bound c.rounds.text.symbols.items now (count_of c.rounds.pairs)

@@ -13,6 +13,7 @@ use Rattle.repair_grammar.proofs.PairLemmas.{come_then, come_fewer}
 use Rattle.repair_grammar.proofs.JoinLemmas.{run_after, came, went, went_counts, noted_once, times_le, some_counts, gone_left-plain, gone_right-plain, counted_around, passing_around, some_weaker, plain_is, counted_room}
 use Rattle.repair_grammar.proofs.joining.join_at.Goals as goal
 use Rattle.repair_grammar.proofs.joining.join_at.Goals.{In_ok-note_some-2, After-join_around}
+use Rattle.repair_grammar.specs.declared.text.TheConstants.{GAP}
 
 pub note_some-requires : goal.note_some-requires
 note_some-requires c = record {
@@ -40,7 +41,7 @@ note_some-requires-2 c = record {
       )) (plain_is c.args.symbol c.around-around.result.after));
 }
 
-fits : (c : In_ok-note_some-2) → c.args.symbol < 4294967295
+fits : (c : In_ok-note_some-2) → c.args.symbol < GAP
 fits c = omega (arith, c.requires.fits)
 
 is_b : (c : In_ok-note_some-2) → at c.args.text.now.symbols.items c.around-around.result.gone ≡ c.args.pair.1

@@ -4,6 +4,7 @@ use Rattle.std.proofs.Math.Seq.{drop-cons}
 use Rattle.repair_grammar.specs.Threads.{row_of}
 use Rattle.repair_grammar.proofs.RowLemmas.{row_none, row_more}
 use Rattle.repair_grammar.proofs.rows.row.Goals as goal
+use Rattle.repair_grammar.specs.declared.text.TheConstants.{END}
 
 pub each-preserved : goal.each-preserved
 each-preserved c =
@@ -23,7 +24,7 @@ each-preserved c =
     let split : drop i blocks ≡ block ∷ drop (i + 1) blocks = rw add-one (drop-cons blocks i [] within) in
     ap (λ xs. xs ++ row_of (drop (i + 1) blocks)) (c.in_ok-extend_from_slice.ensures.items
     ∙ ap (λ xs. xs ++ c.as_slice.result.now) c.in_ok-push.ensures.items)
-    ∙ ap (λ xs. ((c.each.row.items ++ 4294967294 ∷ []) ++ xs) ++ row_of (drop (i + 1) blocks)) item
+    ∙ ap (λ xs. ((c.each.row.items ++ END ∷ []) ++ xs) ++ row_of (drop (i + 1) blocks)) item
     ∙ row_more c.each.row.items block (drop (i + 1) blocks)
     ∙ ap (λ xs. c.each.row.items ++ row_of xs) (sym split) ∙ c.each.invariant
 

@@ -9,6 +9,7 @@ use Rattle.repair_grammar.proofs.PassLemmas.{met-le, met_after-fresh, met_after-
 use Rattle.repair_grammar.proofs.CountedLemmas.{stands-inside}
 use Rattle.repair_grammar.proofs.JoinLemmas.{counted_plain, some_weaker, plain_is, first_step, first_noted, live-all}
 use Rattle.repair_grammar.proofs.tallying.count_row.Goals as goal
+use Rattle.repair_grammar.specs.declared.text.TheConstants.{GAP}
 
 pub returns-in_default : goal.returns-in_default
 returns-in_default c = absurd (let empty : c.args.row.now ≡ [] = nil_from_length _ c.in_default.ensures.cases in
@@ -49,7 +50,7 @@ symbols-preserved c =
     let right : ℕ = get_or rest i 0 in
     let within : i < length rest = c.symbols-test.true in
     let next : at c.args.row.now (i + 1) ≡ right = ap (λ row. at row (i + 1)) whole
-    ∙ rw add-one (get_or_default rest i 4294967295 0 within) in
+    ∙ rw add-one (get_or_default rest i GAP 0 within) in
     let long : i + 1 < length c.args.row.now = omega (arith, within, ap length whole) in
     record {
       left = next;

@@ -3,6 +3,7 @@ use Rattle.std.proofs.lemmas.List.{get_or_default}
 use Rattle.repair_grammar.specs.Threads.{at, AreNeighbours}
 use Rattle.repair_grammar.proofs.ThreadLemmas.{neighbour_back, neighbour_on, not_first, not_last, read_is}
 use Rattle.repair_grammar.proofs.text.Text.around.Goals as goal
+use Rattle.repair_grammar.specs.declared.text.TheConstants.{END}
 
 pub returns : goal.returns
 returns c =
@@ -21,7 +22,7 @@ returns c =
     get_or_default next c.args.place 0 c.index-2.result.now
     (omega (arith, c.requires.text.threads.nexts, c.requires.inside))
     ∙ sym c.index-2.ensures in
-    let gone : at symbols c.index-2.result.now < 4294967294 = rw same at c.requires.gone in
+    let gone : at symbols c.index-2.result.now < END = rw same at c.requires.gone in
     let beyond : AreNeighbours symbols c.index-2.result.now c.index-3.result.now =
     neighbour_on symbols next previous c.index-2.result.now c.index-3.result.now c.requires.text.threads
     (not_last symbols c.index-2.result.now c.requires.text.ends near.within gone)

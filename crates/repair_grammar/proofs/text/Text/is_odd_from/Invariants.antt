@@ -2,11 +2,12 @@ use Rattle.std.proofs.Common.{◌≡◌, ◌-◌, ◌<◌, length, drop}
 use Rattle.repair_grammar.specs.Runs.{begins_odd}
 use Rattle.repair_grammar.specs.Threads.{at, live, turned_by}
 use Rattle.repair_grammar.proofs.text.Text.is_odd_from.Given as goal
+use Rattle.repair_grammar.specs.declared.text.TheConstants.{GAP}
 
 -- what was passed, turned by what is left
 abbrev pub invariant-run : goal.invariant-run
 invariant-run l = record {
-  stands : at l.self.symbols.items l.here < 4294967295;
+  stands : at l.self.symbols.items l.here < GAP;
   within : l.here < length l.self.symbols.items;
   left : begins_odd l.symbol (live (drop l.place l.self.symbols.items))
       ≡ turned_by l.odd (begins_odd l.symbol (live (drop l.here l.self.symbols.items)));
