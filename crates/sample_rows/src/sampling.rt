@@ -1,7 +1,8 @@
-ghost use Rattle.std.specs.Prelude.{◌≡◌, ◌≢◌, ℕ, suc, ◌+◌, ◌*◌, ◌<◌, ◌≤◌, ◌^◌, ◌++◌, [], All, IfOk, OnOk, length};
+ghost use Rattle.std.specs.Prelude.{◌≡◌, ◌≢◌, ℕ, suc, ◌+◌, ◌*◌, ◌<◌, ◌≤◌, ◌++◌, [], All, IfOk, OnOk, length};
 ghost use Rattle.std.specs.List.{flat_map, range_with_len};
 ghost use Rattle.track_types.specs.Limits.{limit_of};
 ghost use Rattle.track_types.specs.Near.{IsRawInRange};
+ghost use Rattle.track_types.specs.declared.limit.TheConstants.{MAX_ROWS};
 ghost use Rattle.sample_rows.specs.Sample.{rows_at, sample_rows};
 ghost use Rattle.sample_rows.specs.Reached.{AreSpotsAt};
 
@@ -41,7 +42,7 @@ pub fn sample_rows(
 
 // Pushes the rows of the first instant, and answers where the objects are.
 fn push_first(alloc: Global, objects: u32, rows: &mut Vec<RawRow>) -> Result<Vec<Spot>, Memory>
-    requires few { objects ≤ 2 ^ 24 }
+    requires few { objects ≤ MAX_ROWS }
     requires none { rows.old.items ≡ [] }
     ensures reached { IfOk result (λ spots. (seed : ℕ) → AreSpotsAt seed 0 spots.items seed) }
     ensures many { IfOk result (λ spots. length spots.items ≡ objects) }
@@ -64,7 +65,7 @@ fn push_next(
     generator: &mut Generator,
     rows: &mut Vec<RawRow>,
 ) -> Result<(), Memory>
-    requires few { length spots.old ≤ 2 ^ 24 }
+    requires few { length spots.old ≤ MAX_ROWS }
     ensures many { length spots.new ≡ length spots.old }
     ensures reached { OnOk result ((seed before : ℕ) → instant ≡ suc before →
         AreSpotsAt seed before spots.old generator.old.state →

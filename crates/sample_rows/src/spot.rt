@@ -1,5 +1,6 @@
-ghost use Rattle.std.specs.Prelude.{◌≡◌, ◌<◌, ◌≤◌, ◌^◌};
+ghost use Rattle.std.specs.Prelude.{◌≡◌, ◌<◌, ◌≤◌};
 ghost use Rattle.track_types.specs.Near.{IsRawInRange};
+ghost use Rattle.track_types.specs.declared.limit.TheConstants.{MAX_ROWS};
 ghost use Rattle.sample_rows.specs.Sample.{first_spot, is_absent, raw_row_of, shifted, spot_after};
 
 use track_types::RawRow;
@@ -17,7 +18,7 @@ const EDGE: u32 = 1_023;
 impl Spot {
     // Where an object is at the first instant.
     pub(crate) fn first(object: u32) -> Self
-        requires { object < 2 ^ 24 }
+        requires { object < MAX_ROWS }
         ensures { result ≡ first_spot object }
     {
         Spot {
