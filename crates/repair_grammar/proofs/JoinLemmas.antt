@@ -382,7 +382,7 @@ live-all (x ∷ row) words =
 -- of two pairs that a new symbol has with its neighbours, which are not both the symbol, no other pair is both
 times_of-apart : (x y : ℕ) (other : ℕ × ℕ) → (y == other.1) ≡ false → times_of (plain_of x y) other ≡ 0
 unfolding times_of plain_of
-times_of-apart x y other apart = elim (cases_Bool (nat_lt x 4294967294 && nat_lt y 4294967294)) [
+times_of-apart x y other apart = elim (cases_Bool (nat_lt x END && nat_lt y END)) [
   | inl plain ↦ rw plain (grind (arith, apart))
   | inr mark ↦ rw mark refl
 ]
