@@ -19,7 +19,7 @@ use Rattle.rule_store.specs.Boxes.{bounding_box_of, box_round, column, line, ori
 use Rattle.rule_store.specs.Cells.{cells_along, displacement_of, moved, present_in}
 use Rattle.rule_store.proofs.BoxLemmas.{box_round-bounds}
 use Rattle.rule_store.proofs.CellLemmas.{cells_along-append, moved-moved, moved-none, present-moved, same_cell}
-use Rattle.snapshots.specs.SoundParts.{IsBoxInReach, IsInReach, IsPlaced}
+use Rattle.snapshots.specs.SoundParts.{IsBoxInReach, IsInReach, IsInGridAt}
 
 -- a start of which something holds, and values that lead only to cells of which it holds
 pub record IsAlong (P : Cell → Type 0) (start : Cell) (values : List ℕ) : Type 0 where
@@ -93,7 +93,7 @@ module _ (frame : Frame) where
   -- cells that lie in the grid once they are moved have a box that does so
   placed-round : (start : Cell) (cells : List Cell) (hull : Option CellBox) → hull ≡ box_round cells →
       ((cell : Cell) → Contains cells cell → IsInFrame (moved cell (start.x, start.y))) →
-      IfSome hull (IsPlaced frame start)
+      IfSome hull (IsInGridAt frame start)
   unfolding box_round
   placed-round start cells None is each = tt
   placed-round start [] (Some area) is each = absurd (cc)
@@ -118,9 +118,9 @@ module _ (frame : Frame) where
 
   module _ (start : Cell) (values : List ℕ) (along : IsAlong IsInFrame start values) where
     -- the box of the values, moved to the start, is in the grid
-    pub IsPlaced-along : IfSome (bounding_box_of values) (IsPlaced frame start)
+    pub IsInGridAt-along : IfSome (bounding_box_of values) (IsInGridAt frame start)
     unfolding bounding_box_of
-    IsPlaced-along =
+    IsInGridAt-along =
         let by : ℤ × ℤ = (start.x, start.y) in
         let here : moved origin by ≡ start =
         same_cell _ _ start.x start.y (omega (arith, ints)) (omega (arith, ints)) in
@@ -138,9 +138,9 @@ module _ (frame : Frame) where
 
     -- their box reaches no farther from the start than the grid is wide
     pub IsBoxInReach-along : IfSome (bounding_box_of values) (IsBoxInReach frame.height)
-    IsBoxInReach-along = boxed (bounding_box_of values) IsPlaced-along
+    IsBoxInReach-along = boxed (bounding_box_of values) IsInGridAt-along
       where
-        boxed : (hull : Option CellBox) → IfSome hull (IsPlaced frame start) → IfSome hull (IsBoxInReach frame.height)
+        boxed : (hull : Option CellBox) → IfSome hull (IsInGridAt frame start) → IfSome hull (IsBoxInReach frame.height)
         boxed None placed = tt
         boxed (Some hull) placed =
             let is = along.begins in

@@ -9,7 +9,7 @@ use Rattle.track_types.specs.Frame.{periods_of}
 use Rattle.track_types.specs.declared.frame.Frame.{Frame}
 use Rattle.k2_tree.specs.Morton.{IsInGrid}
 use Rattle.movement_log.specs.declared.head.Head.{Head}
-use Rattle.chart_parts.specs.PeriodWith.{AreBlocksOf, ArePlaced, Climbs, IsBlockOf, blocks_in, run_of}
+use Rattle.chart_parts.specs.PeriodWith.{AreBlocksByPeriod, ArePlaced, Climbs, IsBlockOf, blocks_of_period, period_run_length}
 use Rattle.chart_parts.proofs.RunLemmas.{Climbs-behind_run, filter-behind_run, filter-run, run}
 
 -- the period of a block
@@ -19,7 +19,7 @@ period_in block = block.0.period
 -- the first blocks are those of earlier periods
 pub record IsBehind (blocks : List (Head × List ℕ)) (number start : ℕ) : Type 0 where
   pub by_period : Climbs number (map period_in (drop start blocks))
-  pub behind : (k : ℕ) → number ≤ k → blocks_in k blocks ≡ blocks_in k (drop start blocks)
+  pub behind : (k : ℕ) → number ≤ k → blocks_of_period k blocks ≡ blocks_of_period k (drop start blocks)
 
 module _ (blocks : List (Head × List ℕ)) where
   -- none is of an earlier period than the first
@@ -28,8 +28,8 @@ module _ (blocks : List (Head × List ℕ)) where
 
   module _ (number start : ℕ) (so_far : IsBehind blocks number start) where
     -- the blocks of a period are next
-    pub blocks_in-run : take (run period_in number (drop start blocks)) (drop start blocks) ≡ blocks_in number blocks
-    blocks_in-run =
+    pub blocks_of_period-run : take (run period_in number (drop start blocks)) (drop start blocks) ≡ blocks_of_period number blocks
+    blocks_of_period-run =
         sym (filter-run period_in number (drop start blocks) so_far.by_period)
         ∙ sym (so_far.behind number (omega arith))
 
@@ -42,13 +42,13 @@ module _ (blocks : List (Head × List ℕ)) where
           by_period = rw (sym all) (Climbs-behind_run period_in number (drop start blocks) so_far.by_period);
           behind = λ k above. so_far.behind k (omega arith)
               ∙ filter-behind_run period_in number k (drop start blocks) (omega arith)
-              ∙ ap (blocks_in k) all;
+              ∙ ap (blocks_of_period k) all;
         }
 
-run_of-firsts : (number : ℕ) (blocks : List (Head × List ℕ)) →
-    run_of number (map (λ block. block.0) blocks) ≡ run period_in number blocks
-run_of-firsts number [] = refl
-run_of-firsts number (block ∷ blocks) = rw (run_of-firsts number blocks) refl
+period_run_length-firsts : (number : ℕ) (blocks : List (Head × List ℕ)) →
+    period_run_length number (map (λ block. block.0) blocks) ≡ run period_in number blocks
+period_run_length-firsts number [] = refl
+period_run_length-firsts number (block ∷ blocks) = rw (period_run_length-firsts number blocks) refl
 
 module _ (heads : List Head) (logs : List (List ℕ)) (same : length logs ≡ length heads) where
   firsts : map (λ (block : Head × List ℕ). block.0) (zip heads logs) ≡ heads
@@ -58,38 +58,38 @@ module _ (heads : List Head) (logs : List (List ℕ)) (same : length logs ≡ le
   seconds = seconds-zip heads logs same
 
   -- as many headers are next as blocks
-  pub run_of-zip : (number start : ℕ) →
-      run_of number (drop start heads) ≡ run period_in number (drop start (zip heads logs))
-  run_of-zip number start =
-      ap (λ all. run_of number (drop start all)) (sym firsts)
-      ∙ ap (run_of number) (drop-map (λ block. block.0) start (zip heads logs))
-      ∙ run_of-firsts number (drop start (zip heads logs))
+  pub period_run_length-zip : (number start : ℕ) →
+      period_run_length number (drop start heads) ≡ run period_in number (drop start (zip heads logs))
+  period_run_length-zip number start =
+      ap (λ all. period_run_length number (drop start all)) (sym firsts)
+      ∙ ap (period_run_length number) (drop-map (λ block. block.0) start (zip heads logs))
+      ∙ period_run_length-firsts number (drop start (zip heads logs))
 
   module _ (number start : ℕ) (so_far : IsBehind (zip heads logs) number start) where
     -- what is part of each block of a period is next
     part-run : {A : Type 0} (part : Head × List ℕ → A) (all : List A) → map part (zip heads logs) ≡ all
-        → take (run_of number (drop start heads)) (drop start all) ≡ map part (blocks_in number (zip heads logs))
+        → take (period_run_length number (drop start heads)) (drop start all) ≡ map part (blocks_of_period number (zip heads logs))
     part-run part all is =
-        ap (λ parts. take (run_of number (drop start heads)) (drop start parts)) (sym is)
-        ∙ ap (take (run_of number (drop start heads))) (drop-map part start (zip heads logs))
-        ∙ take-map part (run_of number (drop start heads)) (drop start (zip heads logs))
-        ∙ ap (λ n. map part (take n (drop start (zip heads logs)))) (run_of-zip number start)
-        ∙ ap (map part) (blocks_in-run (zip heads logs) number start so_far)
+        ap (λ parts. take (period_run_length number (drop start heads)) (drop start parts)) (sym is)
+        ∙ ap (take (period_run_length number (drop start heads))) (drop-map part start (zip heads logs))
+        ∙ take-map part (period_run_length number (drop start heads)) (drop start (zip heads logs))
+        ∙ ap (λ n. map part (take n (drop start (zip heads logs)))) (period_run_length-zip number start)
+        ∙ ap (map part) (blocks_of_period-run (zip heads logs) number start so_far)
 
     -- the headers of a period, and their logs
-    pub heads-run : take (run_of number (drop start heads)) (drop start heads)
-        ≡ map (λ block. block.0) (blocks_in number (zip heads logs))
+    pub heads-run : take (period_run_length number (drop start heads)) (drop start heads)
+        ≡ map (λ block. block.0) (blocks_of_period number (zip heads logs))
     heads-run = part-run (λ block. block.0) heads firsts
 
-    pub logs-run : take (run_of number (drop start heads)) (drop start logs)
-        ≡ map (λ block. block.1) (blocks_in number (zip heads logs))
+    pub logs-run : take (period_run_length number (drop start heads)) (drop start logs)
+        ≡ map (λ block. block.1) (blocks_of_period number (zip heads logs))
     logs-run = part-run (λ block. block.1) logs seconds
 
 module _ (heads : List Head) (logs : List (List ℕ)) (same : length logs ≡ length heads) (number start : ℕ)
     (so_far : IsBehind (zip heads logs) number start) (count : ℕ)
-    (counted : count ≡ run_of number (take (length heads - start) (drop start heads))) where
-  is : count ≡ run_of number (drop start heads)
-  is = counted ∙ ap (run_of number)
+    (counted : count ≡ period_run_length number (take (length heads - start) (drop start heads))) where
+  is : count ≡ period_run_length number (drop start heads)
+  is = counted ∙ ap (period_run_length number)
       (take_all (length heads - start) (drop start heads) (omega (arith, length-drop start heads)))
 
   back : start + count - start ≡ count
@@ -97,35 +97,35 @@ module _ (heads : List Head) (logs : List (List ℕ)) (same : length logs ≡ le
 
   -- the part of the headers that is a period's
   pub heads-next : take (start + count - start) (drop start heads)
-      ≡ map (λ block. block.0) (blocks_in number (zip heads logs))
+      ≡ map (λ block. block.0) (blocks_of_period number (zip heads logs))
   heads-next = rw (back, is) (heads-run heads logs same number start so_far)
 
   -- the part of the logs that is a period's
   pub logs-next : take (start + count - start) (drop start logs)
-      ≡ map (λ block. block.1) (blocks_in number (zip heads logs))
+      ≡ map (λ block. block.1) (blocks_of_period number (zip heads logs))
   logs-next = rw (back, is) (logs-run heads logs same number start so_far)
 
   pub behind_next : IsBehind (zip heads logs) (number + 1) (start + count)
-  behind_next = rw (is, run_of-zip heads logs same number start) (behind_more (zip heads logs) number start so_far)
+  behind_next = rw (is, period_run_length-zip heads logs same number start) (behind_more (zip heads logs) number start so_far)
 
-module _ (frame : Frame) (objects : ℕ) (blocks : List (Head × List ℕ)) (are : AreBlocksOf frame objects blocks)
+module _ (frame : Frame) (objects : ℕ) (blocks : List (Head × List ℕ)) (are : AreBlocksByPeriod frame objects blocks)
     (number : ℕ) where
-  each_in : All (IsBlockOf frame objects) (blocks_in number blocks)
+  each_in : All (IsBlockOf frame objects) (blocks_of_period number blocks)
   each_in = All-filter (λ block. block.0.period == number) (IsBlockOf frame objects) blocks are.each
 
   -- the headers of a period
-  pub placed_in : number < periods_of frame → ArePlaced frame (map (λ block. block.0) (blocks_in number blocks))
+  pub placed_in : number < periods_of frame → ArePlaced frame (map (λ block. block.0) (blocks_of_period number blocks))
   placed_in below = record {
     grid = are.grid;
-    few = omega (arith, are.few number below, length-map (blocks_in number blocks) (λ block. block.0));
+    few = omega (arith, are.few number below, length-map (blocks_of_period number blocks) (λ block. block.0));
     inside = All-map (λ head. IsInGrid frame.height frame.base head.cell) (λ block. block.0)
-        (blocks_in number blocks) (λ k d within. (each_in k d within).inside);
+        (blocks_of_period number blocks) (λ k d within. (each_in k d within).inside);
   }
 
-  pub indexes_in : All (λ head. head.index < objects) (map (λ block. block.0) (blocks_in number blocks))
-  indexes_in = All-map (λ head. head.index < objects) (λ block. block.0) (blocks_in number blocks)
+  pub indexes_in : All (λ head. head.index < objects) (map (λ block. block.0) (blocks_of_period number blocks))
+  indexes_in = All-map (λ head. head.index < objects) (λ block. block.0) (blocks_of_period number blocks)
       (λ k d within. (each_in k d within).index)
 
-  pub short_in : All (λ log. length log < 2 ^ 32) (map (λ block. block.1) (blocks_in number blocks))
-  short_in = All-map (λ log. length log < 2 ^ 32) (λ block. block.1) (blocks_in number blocks)
+  pub short_in : All (λ log. length log < 2 ^ 32) (map (λ block. block.1) (blocks_of_period number blocks))
+  short_in = All-map (λ log. length log < 2 ^ 32) (λ block. block.1) (blocks_of_period number blocks)
       (λ k d within. (each_in k d within).short)

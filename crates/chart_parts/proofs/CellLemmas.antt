@@ -18,7 +18,7 @@ use Rattle.track_types.specs.declared.cell.Cell.{Cell}
 use Rattle.track_types.specs.declared.row.Row.{Row}
 use Rattle.rule_store.specs.Cells.{cells_along, moved}
 use Rattle.movement_log.specs.Logs.{anchors_in, block_anchors, values_after}
-use Rattle.movement_log.specs.Values.{is_earlier, last_before, value_at}
+use Rattle.movement_log.specs.Values.{is_before, last_before, value_at}
 use Rattle.movement_log.proofs.RowLemmas.{earlier, instant_lt, not_earlier, row_of}
 
 -- a movement by its code leads to the cell from which it was made
@@ -48,8 +48,8 @@ module _ (rows : List Row) (object : ℕ) where
       let i : ℕ = is.among.0 in
       let within : i < length rows = is.among.1 in
       let at : get_or rows i row ≡ row = is.among.2 in
-      find_last_at (is_earlier object instant) row rows i within
-      (ap (is_earlier object instant) at ∙ earlier object instant row is.same is.before)
+      find_last_at (is_before object instant) row rows i within
+      (ap (is_before object instant) at ∙ earlier object instant row is.same is.before)
       (λ k later inside. not_earlier object instant (get_or rows k row) (λ alike.
       let order = rw at at (Less-from_sorted row_order rows i k row up later inside) in
       let other : Row = get_or rows k row in

@@ -10,7 +10,7 @@ use Rattle.k2_tree.specs.Widths.{digits_in, levels_with}
 use Rattle.k2_tree.specs.TreeBits.{level_bits, children_of_prefixes, morton_bits, prefixes}
 use Rattle.movement_log.specs.Values.{value_at}
 use Rattle.movement_log.specs.Logs.{alphabet_of, ascending_of, block_anchors, logged_values, logs_of}
-use Rattle.repair_grammar.specs.RePair.{after_round, first_key, is_first_of, key_order, keys_of, met, pair_count, pairs_in, re_pair, replaced, rounds}
+use Rattle.repair_grammar.specs.RePair.{after_round, first_key, is_first_of, key_order, keys_of, replacement_count, pair_count, pairs_in, re_pair, block_after_pass, rounds}
 use Rattle.chart_parts.specs.Header.{frame_of}
 use Rattle.chart_parts.specs.LeafOrder.{distinct_codes, ends_of, leaf_codes, leaf_order}
 use Rattle.chart_parts.specs.PartsOf.{anchor_codes, grammar_of, logged_anchors, logs_in, parts_of, period_of_chart}
@@ -41,5 +41,5 @@ path_parts : parts_of path ≡ record {
 unfolding parts_of frame_of period_of_chart anchor_codes grammar_of logged_anchors logs_in leaf_order leaf_codes distinct_codes ends_of
     ordered insert_in_order morton_of interleaved levels_with digits_in morton_bits level_bits children_of_prefixes prefixes
     logs_of alphabet_of ascending_of block_anchors logged_values value_at code_of anchors_of distinct
-    after_round first_key is_first_of key_order keys_of met pair_count pairs_in re_pair replaced rounds
+    after_round first_key is_first_of key_order keys_of replacement_count pair_count pairs_in re_pair block_after_pass rounds
 path_parts = refl

@@ -18,7 +18,7 @@ use Rattle.track_types.specs.declared.frame.Frame.{Frame}
 use Rattle.movement_log.specs.declared.head.Head.{Head}
 use Rattle.k2_tree.specs.Morton.{morton_of}
 use Rattle.chart_parts.specs.LeafOrder.{by_code, leaf_order}
-use Rattle.chart_parts.specs.PeriodWith.{ArePlaced, IsLeafIn, codes_of_heads, leaf_at, no_head}
+use Rattle.chart_parts.specs.PeriodWith.{ArePlaced, IsLeafIn, codes_of_heads, block_leaf, no_head}
 use Rattle.chart_parts.specs.declared.leaves.Leaf.{Leaf}
 
 no_leaf : Leaf
@@ -75,17 +75,17 @@ module _ (codes : List ℕ) where
 module _ (frame : Frame) (heads : List Head) where
   -- the leaves by object
   abbrev pub leaves_from : List Leaf
-  leaves_from = map (leaf_at frame heads) (range_with_len 0 (length heads))
+  leaves_from = map (block_leaf frame heads) (range_with_len 0 (length heads))
 
   -- the number of the leaf at a place
   pub code-at : (place : ℕ) → place < length heads →
-      slice_index (codes_of_heads frame heads) place ≡ (leaf_at frame heads place).code
+      slice_index (codes_of_heads frame heads) place ≡ (block_leaf frame heads place).code
   code-at place within = get_or-map (λ head. morton_of frame.height frame.base head.cell) heads place no_head 0 within
 
   -- leaves of a stable sort by their numbers are those of the places in leaf order
   pub sorted_leaves : (sorted : List Leaf) → IsPermutation leaves_from sorted →
       IsNonDecreasingBy (λ leaf. leaf.code) sorted → IsStableByKey (λ leaf. leaf.code) nat_cmp leaves_from sorted →
-      sorted ≡ map (leaf_at frame heads) (leaf_order (codes_of_heads frame heads))
+      sorted ≡ map (block_leaf frame heads) (leaf_order (codes_of_heads frame heads))
   sorted_leaves sorted moved up stable =
       let codes = codes_of_heads frame heads in
       let many : length codes ≡ length heads = length-map heads (λ head. morton_of frame.height frame.base head.cell) in
@@ -97,10 +97,10 @@ module _ (frame : Frame) (heads : List Head) where
       omega (arith, code-at place (omega arith), low_at limit bound.1 place (omega arith)) in
       sym (by_key-sorted (λ leaf. leaf.code) limit sorted up below)
       ∙ sym (by_key-stable (λ leaf. leaf.code) any_of (λ k. refl) limit leaves_from sorted stable)
-      ∙ sym (map-by_key (leaf_at frame heads) (slice_index codes) (λ leaf. leaf.code) 0 limit
+      ∙ sym (map-by_key (block_leaf frame heads) (slice_index codes) (λ leaf. leaf.code) 0 limit
       (range_with_len 0 (length heads)) alike)
-      ∙ ap (λ n. map (leaf_at frame heads) (by_key (slice_index codes) 0 limit (range_with_len 0 n))) (sym many)
-      ∙ sym (ap (map (leaf_at frame heads)) (leaf_order-by_key codes limit small))
+      ∙ ap (λ n. map (block_leaf frame heads) (by_key (slice_index codes) 0 limit (range_with_len 0 n))) (sym many)
+      ∙ sym (ap (map (block_leaf frame heads)) (leaf_order-by_key codes limit small))
     where
       any_of : ℕ → Leaf
       any_of code = record { code = code; cell = no_head.cell; place = 0 }
@@ -111,23 +111,23 @@ module _ (frame : Frame) (heads : List Head) where
           get_or-range_with_len 0 (length heads) k d (omega (arith, length-range_with_len 0 (length heads))) ∙ zero
 
       alike : All (λ place.
-          slice_index (codes_of_heads frame heads) place ≡ (leaf_at frame heads place).code)
+          slice_index (codes_of_heads frame heads) place ≡ (block_leaf frame heads place).code)
           (range_with_len 0 (length heads))
       alike k d within = rw (at k d within) (code-at k (omega (arith, length-range_with_len 0 (length heads))))
 
       low_at : (limit : ℕ) → All (λ leaf. leaf.code < limit) leaves_from → (place : ℕ) → place < length heads →
-          (leaf_at frame heads place).code < limit
+          (block_leaf frame heads place).code < limit
       low_at limit low place within =
-          rw (get_or-map-range_with_len (leaf_at frame heads) 0 (length heads) place place (any_of 0) within
+          rw (get_or-map-range_with_len (block_leaf frame heads) 0 (length heads) place place (any_of 0) within
           (omega arith))
-          at (low place (any_of 0) (omega (arith, length-map-range_with_len (leaf_at frame heads) 0 (length heads))))
+          at (low place (any_of 0) (omega (arith, length-map-range_with_len (block_leaf frame heads) 0 (length heads))))
 
   -- each is a leaf of its header's cell
   pub All-leaves : ArePlaced frame heads →
-      All (IsLeafIn frame) (map (leaf_at frame heads) (leaf_order (codes_of_heads frame heads)))
+      All (IsLeafIn frame) (map (block_leaf frame heads) (leaf_order (codes_of_heads frame heads)))
   All-leaves placed =
-      All-map (IsLeafIn frame) (leaf_at frame heads) (leaf_order (codes_of_heads frame heads))
-      (All-leaf_order (codes_of_heads frame heads) (λ place. IsLeafIn frame (leaf_at frame heads place))
+      All-map (IsLeafIn frame) (block_leaf frame heads) (leaf_order (codes_of_heads frame heads))
+      (All-leaf_order (codes_of_heads frame heads) (λ place. IsLeafIn frame (block_leaf frame heads place))
       (λ place within.
       let many : length (codes_of_heads frame heads) ≡ length heads =
       length-map heads (λ head. morton_of frame.height frame.base head.cell) in

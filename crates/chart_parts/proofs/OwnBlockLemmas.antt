@@ -16,7 +16,7 @@ use Rattle.movement_log.specs.declared.head.Head.{Head}
 use Rattle.movement_log.proofs.AlphabetLemmas.{terminal_of-member}
 use Rattle.chart_parts.specs.Header.{frame_of}
 use Rattle.chart_parts.specs.PartsOf.{grammar_of, is_present, logged_anchors}
-use Rattle.chart_parts.specs.PeriodWith.{AreBlocksOf, Climbs, IsBlockOf, blocks_in}
+use Rattle.chart_parts.specs.PeriodWith.{AreBlocksByPeriod, Climbs, IsBlockOf, blocks_of_period}
 use Rattle.snapshots.proofs.SoundLemmas.{IsGrid-frame}
 use Rattle.chart_parts.proofs.CellLemmas.{Contains-block_anchors}
 use Rattle.chart_parts.proofs.GrammarLemmas.{IsGrammarOf-chart, few_terminals, firsts-logged_anchors}
@@ -39,11 +39,11 @@ module _ (chart : ChartView) (is : IsChart chart) where
       ∙ ap (map (row_period chart)) (firsts-logged_anchors chart) in
       subst (Climbs 0) (sym periods) (Climbs-rising (row_period chart) 0 anchors (λ k d within. omega arith) rising)
 
-  few_in : (number : ℕ) → number < periods_of (frame_of chart) → length (blocks_in number (own_blocks chart)) ≤ 2 ^ 16
+  few_in : (number : ℕ) → number < periods_of (frame_of chart) → length (blocks_of_period number (own_blocks chart)) ≤ 2 ^ 16
   unfolding frame_of
   few_in number below =
       let heads = ap length (heads-own chart number below) in
-      let blocks = length-map (blocks_in number (own_blocks chart)) (λ (block : Head × List ℕ). block.0) in
+      let blocks = length-map (blocks_of_period number (own_blocks chart)) (λ (block : Head × List ℕ). block.0) in
       let anchors = length-map (anchors_in chart number) (head_of chart) in
       let objects = ap length (filter-is_present chart is number) in
       let present = length-map (anchors_in chart number) (λ (anchor : Row). anchor.object) in
@@ -88,8 +88,8 @@ module _ (chart : ChartView) (is : IsChart chart) where
       }))
 
   -- the blocks of a chart
-  pub AreBlocksOf-own : AreBlocksOf (frame_of chart) (object_count chart.rows) (own_blocks chart)
-  AreBlocksOf-own = record {
+  pub AreBlocksByPeriod-own : AreBlocksByPeriod (frame_of chart) (object_count chart.rows) (own_blocks chart)
+  AreBlocksByPeriod-own = record {
     grid = IsGrid-frame (frame_of chart) (IsFrame-frame_of chart is);
     by_period = by_period;
     few = few_in;

@@ -17,7 +17,7 @@ use Rattle.movement_log.specs.declared.head.Head.{Head}
 use Rattle.snapshots.specs.Parts.{numbers_in}
 use Rattle.chart_parts.specs.Header.{frame_of}
 use Rattle.chart_parts.specs.PartsOf.{anchor_codes, grammar_of, logged_anchors, logs_in, period_of_chart}
-use Rattle.chart_parts.specs.PeriodWith.{Climbs, blocks_in, period_of_blocks}
+use Rattle.chart_parts.specs.PeriodWith.{Climbs, blocks_of_period, period_of_blocks}
 use Rattle.chart_parts.proofs.GrammarLemmas.{firsts-logged_anchors, length-blocks}
 use Rattle.chart_parts.proofs.OwnPresenceLemmas.{presence_of-heads}
 
@@ -59,18 +59,18 @@ module _ (chart : ChartView) where
     abbrev logged : List (Row × List ℕ)
     logged = filter (λ block. row_period block.0 == number) (logged_anchors chart)
 
-    in_period : blocks_in number own_blocks ≡ map headed logged
-    in_period = ap (blocks_in number) own_blocks-headed
+    in_period : blocks_of_period number own_blocks ≡ map headed logged
+    in_period = ap (blocks_of_period number) own_blocks-headed
         ∙ filter-map (λ block. block.0.period == number) headed (logged_anchors chart)
 
     -- the logs of a period
-    pub logs-own : map (λ block. block.1) (blocks_in number own_blocks) ≡ logs_in chart number
+    pub logs-own : map (λ block. block.1) (blocks_of_period number own_blocks) ≡ logs_in chart number
     unfolding logs_in
     logs-own = ap (map (λ block. block.1)) in_period ∙ map-map (λ (block : Head × List ℕ). block.1) headed logged
 
     -- the headers of a period
     pub heads-own : number < count →
-        map (λ block. block.0) (blocks_in number own_blocks) ≡ map (head_of chart) (anchors_in chart number)
+        map (λ block. block.0) (blocks_of_period number own_blocks) ≡ map (head_of chart) (anchors_in chart number)
     unfolding block_anchors
     heads-own below =
         ap (map (λ block. block.0)) in_period

@@ -9,7 +9,7 @@ use Rattle.k2_tree.proofs.ToldLemmas.{morton_bits-none}
 use Rattle.movement_log.specs.declared.head.Head.{Head}
 use Rattle.snapshots.specs.View.{widths_in}
 use Rattle.chart_parts.specs.LeafOrder.{distinct_codes, ends_of, leaf_codes, leaf_order}
-use Rattle.chart_parts.specs.PeriodWith.{codes_of_heads, leaf_at, period_with, presence_of, without_blocks}
+use Rattle.chart_parts.specs.PeriodWith.{codes_of_heads, block_leaf, period_with, presence_of, without_blocks}
 use Rattle.chart_parts.proofs.LeafListLemmas.{All-leaf_order, code-at}
 
 -- a period without a header has presence bits alone
@@ -22,22 +22,22 @@ period_with-none frame objects (head ∷ heads) logs none same = absurd (omega a
 
 module _ (frame : Frame) (heads : List Head) where
   -- the places of leaves
-  pub places-leaves : (places : List ℕ) → map (λ leaf. leaf.place) (map (leaf_at frame heads) places) ≡ places
+  pub places-leaves : (places : List ℕ) → map (λ leaf. leaf.place) (map (block_leaf frame heads) places) ≡ places
   places-leaves [] = refl
   places-leaves (place ∷ places) = ap (λ all. place ∷ all) (places-leaves places)
 
   codes-places : (places : List ℕ) → All (λ place. place < length (codes_of_heads frame heads)) places →
-      map (λ leaf. leaf.code) (map (leaf_at frame heads) places) ≡ map (slice_index (codes_of_heads frame heads)) places
+      map (λ leaf. leaf.code) (map (block_leaf frame heads) places) ≡ map (slice_index (codes_of_heads frame heads)) places
   codes-places [] within = refl
   codes-places (place ∷ places) within =
       let low : place < length (codes_of_heads frame heads) = within 0 0 (omega arith) in
       let many = length-map heads (λ (head : Head). morton_of frame.height frame.base head.cell) in
       rw (code-at frame heads place (omega arith))
-      (ap (λ all. (leaf_at frame heads place).code ∷ all)
+      (ap (λ all. (block_leaf frame heads place).code ∷ all)
       (codes-places places (λ k d below. within (suc k) d (omega arith))))
 
   -- the numbers of leaves in leaf order
-  pub codes-leaves : map (λ leaf. leaf.code) (map (leaf_at frame heads) (leaf_order (codes_of_heads frame heads)))
+  pub codes-leaves : map (λ leaf. leaf.code) (map (block_leaf frame heads) (leaf_order (codes_of_heads frame heads)))
       ≡ leaf_codes (codes_of_heads frame heads)
   unfolding leaf_codes
   codes-leaves =

@@ -28,7 +28,7 @@ use Rattle.chart_parts.proofs.LeafOrderLemmas.{leaf_order-within, length-leaf_co
 use Rattle.chart_parts.proofs.LogPlaceLemmas.{blocks-by_period, length-logs_in}
 use Rattle.chart_parts.proofs.LogSliceLemmas.{periods_of-frame_of}
 use Rattle.chart_parts.proofs.PresenceLemmas.{ones_of-present}
-use Rattle.chart_parts.proofs.SnapshotLemmas.{IsSound-own, length-anchor_codes}
+use Rattle.chart_parts.proofs.SnapshotLemmas.{IsSoundPeriod-own, length-anchor_codes}
 
 module _ (chart : ChartView) (is : IsChart chart) (number : ℕ) (below : number < periods_of (frame_of chart)) where
   abbrev codes : List ℕ
@@ -62,7 +62,7 @@ module _ (chart : ChartView) (is : IsChart chart) (number : ℕ) (below : number
   short_offsets =
       All-weaker (λ offset. offset < instants_in (frame_of chart) number) (λ offset. offset < 2 ^ 32)
       (λ offset low. let limit = (IsFrame-frame_of chart is).periods.limit in omega arith)
-      (period_of_chart chart number).offsets (IsSound-own chart is number).offsets
+      (period_of_chart chart number).offsets (IsSoundPeriod-own chart is number).offsets
 
   -- there are few symbols, so that each log is short
   short_lengths : AreShort (map length (logs_in chart number))

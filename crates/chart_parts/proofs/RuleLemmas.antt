@@ -16,7 +16,7 @@ use Rattle.track_types.specs.declared.row.Row.{Row}
 use Rattle.rule_store.specs.Cells.{displacement_of, moved, movement_of}
 use Rattle.rule_store.specs.Entry.{entry_of, entry_with}
 use Rattle.rule_store.specs.Expansion.{values_of}
-use Rattle.rule_store.specs.Flaws.{rule_at}
+use Rattle.rule_store.specs.Flaws.{rule_parts}
 use Rattle.rule_store.specs.Log.{log_values}
 use Rattle.rule_store.specs.View.{RulesView}
 use Rattle.rule_store.proofs.ExpansionLemmas.{values_of-rule}
@@ -123,11 +123,11 @@ module _ (chart : ChartView) (is : IsChart chart) where
 
   IsBlockPart-parts : (rule : ℕ) → rule < length (grammar_of chart).rules →
       IsBlockPart (values_of rules (length (logs_of chart).alphabet + rule)) →
-      IsBlockPart (values_of rules (rule_at (grammar_of chart).rules rule).0)
-      × IsBlockPart (values_of rules (rule_at (grammar_of chart).rules rule).1)
+      IsBlockPart (values_of rules (rule_parts (grammar_of chart).rules rule).0)
+      × IsBlockPart (values_of rules (rule_parts (grammar_of chart).rules rule).1)
   unfolding parts_of
   IsBlockPart-parts rule within stay =
-      let pair : ℕ × ℕ = rule_at (grammar_of chart).rules rule in
+      let pair : ℕ × ℕ = rule_parts (grammar_of chart).rules rule in
       let below = (IsGrammarOf-chart chart).parts rule within in
       let two = subst IsBlockPart (values_of-rule rules rule pair.0 pair.1 within refl below.0 below.1) stay in (
         IsStay-front (frame_of chart) (chart.period - 1) (values_of rules pair.0) (values_of rules pair.1) two,

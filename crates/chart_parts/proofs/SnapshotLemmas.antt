@@ -20,7 +20,7 @@ use Rattle.k2_tree.specs.TreeBits.{AreCodes, morton_bits}
 use Rattle.k2_tree.proofs.CellLemmas.{codes_back, tree_of-StandsFor}
 use Rattle.k2_tree.proofs.MortonLemmas.{cell_of-inside, morton_of-lt}
 use Rattle.snapshots.specs.View.{SnapshotView, view_with, widths_in}
-use Rattle.snapshots.specs.Sound.{IsSound}
+use Rattle.snapshots.specs.Sound.{IsSoundPeriod}
 use Rattle.snapshots.specs.Parts.{snapshot_in, start_in}
 use Rattle.movement_log.specs.Logs.{anchors_in}
 use Rattle.chart_parts.specs.Header.{frame_of}
@@ -138,9 +138,9 @@ module _ (chart : ChartView) (is : IsChart chart) (number : ℕ) where
       its.period within)
       (anchors_in chart number) (All-contains_itself (anchors_in chart number)))
 
-  pub IsSound-own : IsSound own_view
+  pub IsSoundPeriod-own : IsSoundPeriod own_view
   unfolding period_of_chart
-  IsSound-own = record {
+  IsSoundPeriod-own = record {
     offsets = offsets-own;
     tree =
         StandsFor-morton_bits frame.height (wide_of frame) frame.base (distinct_codes codes)
@@ -160,5 +160,5 @@ module _ (chart : ChartView) (is : IsChart chart) (number : ℕ) where
   }
 
   -- each period of a chart's parts is sound
-  pub IsSound-period : number < periods_of (frame_of chart) → IsSound (snapshot_in (parts_of chart) number)
-  IsSound-period below = subst IsSound (sym (snapshot_in-parts_of below)) IsSound-own
+  pub IsSoundPeriod-period : number < periods_of (frame_of chart) → IsSoundPeriod (snapshot_in (parts_of chart) number)
+  IsSoundPeriod-period below = subst IsSoundPeriod (sym (snapshot_in-parts_of below)) IsSoundPeriod-own

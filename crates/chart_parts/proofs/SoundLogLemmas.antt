@@ -19,13 +19,13 @@ use Rattle.rule_store.specs.View.{RulesView}
 use Rattle.rule_store.proofs.ExpansionLemmas.{length-values_of}
 use Rattle.movement_log.specs.Logs.{anchors_in, values_after}
 use Rattle.movement_log.proofs.CutLemmas.{length-values_after}
-use Rattle.snapshots.specs.JoinFlaws.{cell_after, cell_before, instants_after, lasting}
+use Rattle.snapshots.specs.JoinFlaws.{cell_after, cell_before, instants_after, duration_of_log}
 use Rattle.snapshots.specs.Parts.{log_in, rules_in}
 use Rattle.snapshots.specs.SoundParts.{IsSoundLog}
 use Rattle.snapshots.specs.declared.anchored.Anchored.{Anchored}
 use Rattle.chart_parts.specs.Header.{frame_of}
 use Rattle.chart_parts.specs.PartsOf.{logged_anchors, parts_of}
-use Rattle.chart_parts.proofs.AlongLemmas.{IsAlong, IsAlong-back, IsAlong-front, IsInFrame, IsPlaced-along}
+use Rattle.chart_parts.proofs.AlongLemmas.{IsAlong, IsAlong-back, IsAlong-front, IsInFrame, IsInGridAt-along}
 use Rattle.chart_parts.proofs.BlockGridLemmas.{IsAlong-block}
 use Rattle.chart_parts.proofs.ValueLemmas.{log-values, logged_anchor}
 
@@ -42,9 +42,9 @@ IsAlong-place P rules start (symbol ∷ log) (suc place) along within =
     (IsAlong-back P start (values_of rules symbol) (log_values rules log) along) (omega arith)
 
 -- a log lasts one instant for each of its values
-lasting-log : (rules : RulesView) (log : List ℕ) → lasting rules log ≡ length (log_values rules log)
-unfolding lasting log_values
-lasting-log rules log =
+duration_of_log-log : (rules : RulesView) (log : List ℕ) → duration_of_log rules log ≡ length (log_values rules log)
+unfolding duration_of_log log_values
+duration_of_log-log rules log =
     sum_by-agree (duration_of rules) (λ symbol. length (values_of rules symbol))
     (λ symbol. sym (length-values_of rules symbol)) log
     ∙ sym (length-flat_map (values_of rules) log)
@@ -84,12 +84,12 @@ module _ (chart : ChartView) (is : IsChart chart) (number : ℕ) (anchor : Row) 
       (anchors_of (first_of chart.rows) chart.period chart.rows) anchor among).1
 
   -- the log lasts to the end of the period
-  lasts_to_end : lasting rules log ≡ instants_after (frame_of chart) number block
+  lasts_to_end : duration_of_log rules log ≡ instants_after (frame_of chart) number block
   unfolding frame_of
   lasts_to_end =
       let before : ℕ = elapsed (first_of chart.rows) anchor in
       let span : ℕ = span_of chart.rows in
-      lasting-log rules log ∙ ap length (log-values chart anchor log logged) ∙ length-values_after chart anchor
+      duration_of_log-log rules log ∙ ap length (log-values chart anchor log logged) ∙ length-values_after chart anchor
       ∙ instants_left before chart.period span number is.period.some period_is
       ∙ ap (λ n. min chart.period (span - number * chart.period) - 1 - n) (sym offset_is)
 
@@ -98,7 +98,7 @@ module _ (chart : ChartView) (is : IsChart chart) (number : ℕ) (anchor : Row) 
   unfolding entry_of
   IsSoundLog-block = record {
     placed = λ place within.
-        IsPlaced-along (frame_of chart) (cell_before rules block.cell log place)
+        IsInGridAt-along (frame_of chart) (cell_before rules block.cell log place)
         (values_of rules (slice_index log place))
         (IsAlong-place (IsInFrame (frame_of chart)) rules block.cell log place IsAlong-log within);
     lasts = lasts_to_end;

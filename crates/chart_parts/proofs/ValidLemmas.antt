@@ -19,7 +19,7 @@ use Rattle.chart_parts.proofs.PeriodShapeLemmas.{shaped-periods}
 use Rattle.chart_parts.proofs.RuleLemmas.{AreSoundRules-parts_of}
 use Rattle.chart_parts.proofs.ShapeLemmas.{AreLong-alphabet, AreShort-symbols, AreShortPairs-rules, narrow_symbols}
 use Rattle.chart_parts.proofs.ShapeLemmas.{IsStrictlyIncreasing-alphabet, few_rules, few_symbols, few_values}
-use Rattle.chart_parts.proofs.SnapshotLemmas.{IsSound-period}
+use Rattle.chart_parts.proofs.SnapshotLemmas.{IsSoundPeriod-period}
 use Rattle.chart_parts.proofs.SoundLogLemmas.{IsSoundLog-block}
 
 module _ (chart : ChartView) (is : IsChart chart) where
@@ -40,7 +40,7 @@ module _ (chart : ChartView) (is : IsChart chart) where
   IsSound-parts_of = record {
     rules = AreSoundRules-parts_of chart is;
     total = total-parts_of chart;
-    periods = IsSound-period chart is;
+    periods = IsSoundPeriod-period chart is;
     logs = AreSoundLogs-period;
   }
 

@@ -17,8 +17,8 @@ use Rattle.chart_parts.specs.declared.leaves.Leaf.{Leaf}
 use Rattle.chart_parts.specs.declared.writing.Blocks.{Blocks}
 
 -- the blocks of a chart: their alphabet, their headers, and the rules and logs of the grammar
-abbrev pub blocks_of : ChartView → Blocks
-blocks_of chart = record {
+abbrev pub chart_blocks : ChartView → Blocks
+chart_blocks chart = record {
   alphabet = (logs_of chart).alphabet;
   heads = (logs_of chart).heads;
   rules = (grammar_of chart).rules;
@@ -50,17 +50,17 @@ without_blocks present =
     record { present = present; offsets = []; tree = []; lasts = []; perm = []; lengths = [] }
 
 -- those of the blocks that are of a period
-abbrev pub blocks_in : ℕ → List (Head × List ℕ) → List (Head × List ℕ)
-blocks_in number blocks = filter (λ block. block.0.period == number) blocks
+abbrev pub blocks_of_period : ℕ → List (Head × List ℕ) → List (Head × List ℕ)
+blocks_of_period number blocks = filter (λ block. block.0.period == number) blocks
 
 -- the parts of a period, from the headers and the logs of all blocks
 unfoldable pub period_of_blocks : Frame → ℕ → List (Head × List ℕ) → ℕ → PeriodParts
 period_of_blocks frame objects blocks number = period_with frame objects
-    (map (λ block. block.0) (blocks_in number blocks)) (map (λ block. block.1) (blocks_in number blocks))
+    (map (λ block. block.0) (blocks_of_period number blocks)) (map (λ block. block.1) (blocks_of_period number blocks))
 
 -- how many headers of a period there are before one of another
-abbrev pub run_of : ℕ → List Head → ℕ
-run_of number heads = prefix_len (λ head. head.period == number) heads
+abbrev pub period_run_length : ℕ → List Head → ℕ
+period_run_length number heads = prefix_len (λ head. head.period == number) heads
 
 -- headers of a period's blocks, with cells in the header's grid
 pub record ArePlaced (frame : Frame) (heads : List Head) : Type 0 where
@@ -80,10 +80,10 @@ pub record IsBlockOf (frame : Frame) (objects : ℕ) (block : Head × List ℕ) 
   pub short : length block.1 < 2 ^ 32
 
 -- the blocks come by period, and there are few in each
-pub record AreBlocksOf (frame : Frame) (objects : ℕ) (blocks : List (Head × List ℕ)) : Type 0 where
+pub record AreBlocksByPeriod (frame : Frame) (objects : ℕ) (blocks : List (Head × List ℕ)) : Type 0 where
   pub grid : IsGrid frame.height frame.base
   pub by_period : Climbs 0 (map (λ block. block.0.period) blocks)
-  pub few : (number : ℕ) → number < periods_of frame → length (blocks_in number blocks) ≤ 2 ^ 16
+  pub few : (number : ℕ) → number < periods_of frame → length (blocks_of_period number blocks) ≤ 2 ^ 16
   pub each : All (IsBlockOf frame objects) blocks
 
 -- what a place past the end reads
@@ -95,8 +95,8 @@ abbrev pub cell_of_head : List Head → ℕ → Cell
 cell_of_head heads place = (slice_index_or heads place no_head).cell
 
 -- the leaf of the block at a place
-abbrev pub leaf_at : Frame → List Head → ℕ → Leaf
-leaf_at frame heads place = record {
+abbrev pub block_leaf : Frame → List Head → ℕ → Leaf
+block_leaf frame heads place = record {
   code = morton_of frame.height frame.base (cell_of_head heads place);
   cell = cell_of_head heads place;
   place = place;

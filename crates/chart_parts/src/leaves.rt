@@ -3,7 +3,7 @@ ghost use Rattle.std.specs.List.{dedup, range_with_len};
 ghost use Rattle.std.specs.List.Sorted.{IsSorted};
 ghost use Rattle.std.specs.Ordering.{nat_cmp};
 ghost use Rattle.chart_parts.specs.LeafOrder.{ends_of, leaf_order};
-ghost use Rattle.chart_parts.specs.PeriodWith.{ArePlaced, IsLeafIn, codes_of_heads, is_end, leaf_at};
+ghost use Rattle.chart_parts.specs.PeriodWith.{ArePlaced, IsLeafIn, codes_of_heads, is_end, block_leaf};
 ghost use Rattle.snapshots.specs.View.{widths_in};
 ghost use Rattle.k2_tree.specs.Morton.{IsGrid};
 ghost use Rattle.k2_tree.specs.TreeBits.{morton_bits};
@@ -31,7 +31,7 @@ pub(crate) fn leaves_of(
 ) -> Result<Vec<Leaf>, AllocError>
     requires { ArePlaced frame heads.now }
     ensures ok { IfOk result (λ leaves. leaves.items
-        ≡ map (leaf_at frame heads.now) (leaf_order (codes_of_heads frame heads.now))) }
+        ≡ map (block_leaf frame heads.now) (leaf_order (codes_of_heads frame heads.now))) }
     ensures sorted { IfOk result (λ leaves. IsSorted nat_cmp (map (λ leaf. leaf.code) leaves.items)) }
     ensures each { IfOk result (λ leaves. All (IsLeafIn frame) leaves.items) }
     ensures few { IfOk result (λ leaves. length leaves.items ≡ length heads.now) }
@@ -46,7 +46,7 @@ pub(crate) fn leaves_of(
 fn leaves_by_object(alloc: Global, frame: Frame, heads: &[Head]) -> Result<Vec<Leaf>, AllocError>
     requires { ArePlaced frame heads.now }
     ensures { IfOk result (λ leaves. leaves.items
-        ≡ map (leaf_at frame heads.now) (range_with_len 0 (length heads.now))) }
+        ≡ map (block_leaf frame heads.now) (range_with_len 0 (length heads.now))) }
 {
     let mut leaves = Vec::with_capacity(alloc, heads.len())?;
     for place in 0..heads.len() {

@@ -1,6 +1,6 @@
 ghost use Rattle.std.specs.Prelude.{◌≡◌, ◌^◌, ◌<◌, ◌≤◌, All, IfOk, length, map};
 ghost use Rattle.std.specs.List.{zip};
-ghost use Rattle.chart_parts.specs.PeriodWith.{AreBlocksOf, ArePlaced, period_of_blocks, period_with, run_of, without_blocks};
+ghost use Rattle.chart_parts.specs.PeriodWith.{AreBlocksByPeriod, ArePlaced, period_of_blocks, period_with, period_run_length, without_blocks};
 ghost use Rattle.snapshots.specs.Parts.{numbers_in};
 
 use crate::leaves::{ends_of, leaves_of, places_of, tree_of};
@@ -20,7 +20,7 @@ pub(crate) fn periods_of(
 ) -> Result<Vec<PeriodParts>, Memory>
     requires period { 0 < frame.period }
     requires same { length logs.now ≡ length heads.now }
-    requires blocks { AreBlocksOf frame objects (zip heads.now logs.now) }
+    requires blocks { AreBlocksByPeriod frame objects (zip heads.now logs.now) }
     ensures { IfOk result (λ periods. periods.items
         ≡ map (period_of_blocks frame objects (zip heads.now logs.now)) (numbers_in frame)) }
 {
@@ -37,7 +37,7 @@ pub(crate) fn periods_of(
 
 // How many headers of a period there are before one of another.
 fn run_of(heads: &[Head], number: u32) -> usize
-    ensures exact { result ≡ run_of number heads.now }
+    ensures exact { result ≡ period_run_length number heads.now }
     ensures within { result ≤ length heads.now }
 {
     let mut run = 0;

@@ -4,7 +4,7 @@ ghost use Rattle.track_types.specs.Chart.{IsChart};
 ghost use Rattle.snapshots.specs.Parts.{chart_in};
 ghost use Rattle.snapshots.specs.SoundParts.{IsValid};
 ghost use Rattle.chart_parts.specs.PartsOf.{parts_of};
-ghost use Rattle.chart_parts.specs.PeriodWith.{blocks_of};
+ghost use Rattle.chart_parts.specs.PeriodWith.{chart_blocks};
 ghost use Rattle.index_format.specs.Spelling.{bytes_of_parts};
 
 use crate::header::frame_of;
@@ -61,7 +61,7 @@ pub(crate) struct Blocks {
 // The blocks of a chart. The terminals are let go when the rules are made.
 fn blocks_of(alloc: Global, chart: &Chart) -> Result<Blocks, Memory>
     requires { IsChart chart.now }
-    ensures ok { IfOk result (λ blocks. blocks ≡ blocks_of chart.now) }
+    ensures ok { IfOk result (λ blocks. blocks ≡ chart_blocks chart.now) }
 {
     let RawLogs {
         alphabet,

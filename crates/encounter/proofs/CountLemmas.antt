@@ -7,8 +7,8 @@ use Rattle.std.proofs.lemmas.List.Elements.{filter-append}
 use Rattle.std.proofs.lemmas.List.Folds.{list_any-append}
 use Rattle.list_laws.proofs.FilterLemmas.{length-filter-le}
 use Rattle.track_types.specs.declared.stop.Stop.{Stop}
-use Rattle.encounter.specs.Side.{joined}
-use Rattle.encounter.specs.Span.{Span, Tree, close_count, count_with, is_close, nodes_of, span_at}
+use Rattle.encounter.specs.Side.{both_trees}
+use Rattle.encounter.specs.Span.{Span, BlockTree, close_count, count_with, is_close, tree_nodes, span_at}
 
 or-later : (a b : Bool) → b ≡ true → (a || b) ≡ true
 or-later true b later = refl
@@ -47,8 +47,8 @@ module _ (test : Span → Span → Bool) where
   count_with-one node nodes others counts = rw counts refl
 
 -- a test that some node of a tree passes is passed in a tree that goes on to it
-any-later : (test : Span → Bool) (own later : Tree) → list_any test (nodes_of later) ≡ true →
-    list_any test (nodes_of (joined own later)) ≡ true
+any-later : (test : Span → Bool) (own later : BlockTree) → list_any test (tree_nodes later) ≡ true →
+    list_any test (tree_nodes (both_trees own later)) ≡ true
 any-later test own later some =
     let stops = ap (list_any test) (map-append span_at own.stops later.stops) in
     let one = list_any-append test (map span_at own.stops) (map span_at later.stops) in
@@ -85,43 +85,43 @@ module _ (from to : ℤ) (reach : ℕ) where
   near_of node other = is_close from to reach other node
 
   -- a node that is passed takes none of the later ones from the count
-  pub close_count-left : (own later right : Tree) →
-      close_count from to reach later right ≤ close_count from to reach (joined own later) right
+  pub close_count-left : (own later right : BlockTree) →
+      close_count from to reach later right ≤ close_count from to reach (both_trees own later) right
   unfolding close_count
   close_count-left own later right =
-      let one = count_with-fewer near own.rules later.rules (nodes_of right) in
-      let two = count_with-weaker near_of right.rules (nodes_of later) (nodes_of (joined own later))
+      let one = count_with-fewer near own.rules later.rules (tree_nodes right) in
+      let two = count_with-weaker near_of right.rules (tree_nodes later) (tree_nodes (both_trees own later))
       (λ node some. any-later (near_of node) own later some) in
       omega (arith, one, two)
 
-  pub close_count-right : (left own later : Tree) →
-      close_count from to reach left later ≤ close_count from to reach left (joined own later)
+  pub close_count-right : (left own later : BlockTree) →
+      close_count from to reach left later ≤ close_count from to reach left (both_trees own later)
   unfolding close_count
   close_count-right left own later =
-      let one = count_with-fewer near_of own.rules later.rules (nodes_of left) in
-      let two = count_with-weaker near left.rules (nodes_of later) (nodes_of (joined own later))
+      let one = count_with-fewer near_of own.rules later.rules (tree_nodes left) in
+      let two = count_with-weaker near left.rules (tree_nodes later) (tree_nodes (both_trees own later))
       (λ node some. any-later (near node) own later some) in
       omega (arith, one, two)
 
   -- a rule that is opened counts one, where it is close to a node of the other block
-  pub close_count-left_opened : (node : Span) (stops : List Stop) (rules : List Span) (right : Tree) →
-      list_any (near node) (nodes_of right) ≡ true →
+  pub close_count-left_opened : (node : Span) (stops : List Stop) (rules : List Span) (right : BlockTree) →
+      list_any (near node) (tree_nodes right) ≡ true →
       suc (close_count from to reach (record { stops = stops; rules = rules }) right)
       ≤ close_count from to reach (record { stops = stops; rules = node ∷ rules }) right
   unfolding close_count
   close_count-left_opened node stops rules right counts =
-      let one = count_with-one near node rules (nodes_of right) counts in
+      let one = count_with-one near node rules (tree_nodes right) counts in
       let two = count_with-weaker near_of right.rules (map span_at stops ++ rules) (map span_at stops ++ node ∷ rules)
       (λ other some. any-opened (near_of other) node stops rules some) in
       omega (arith, one, two)
 
-  pub close_count-right_opened : (left : Tree) (node : Span) (stops : List Stop) (rules : List Span) →
-      list_any (near_of node) (nodes_of left) ≡ true →
+  pub close_count-right_opened : (left : BlockTree) (node : Span) (stops : List Stop) (rules : List Span) →
+      list_any (near_of node) (tree_nodes left) ≡ true →
       suc (close_count from to reach left (record { stops = stops; rules = rules }))
       ≤ close_count from to reach left (record { stops = stops; rules = node ∷ rules })
   unfolding close_count
   close_count-right_opened left node stops rules counts =
-      let one = count_with-one near_of node rules (nodes_of left) counts in
+      let one = count_with-one near_of node rules (tree_nodes left) counts in
       let two = count_with-weaker near left.rules (map span_at stops ++ rules) (map span_at stops ++ node ∷ rules)
       (λ other some. any-opened (near other) node stops rules some) in
       omega (arith, one, two)

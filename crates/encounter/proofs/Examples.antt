@@ -7,25 +7,25 @@ use Rattle.rule_store.specs.Expansion.{expansion_of, values_of}
 use Rattle.rule_store.specs.Nodes.{nodes_in, parsed}
 use Rattle.list_laws.specs.Grown.{table_of_rules}
 use Rattle.spiral_code.specs.Spiral.{move_of}
-use Rattle.rule_store.specs.Cells.{cell_at, cells_along, displacement_of}
+use Rattle.rule_store.specs.Cells.{cell_with, cells_along, displacement_of}
 use Rattle.log_cursor.specs.Start.{start_at}
 use Rattle.snapshots.specs.Cost.{find_reads}
-use Rattle.encounter.specs.Span.{Tree, close_count, count_with, spans_in, tree_of}
+use Rattle.encounter.specs.Span.{BlockTree, close_count, count_with, spans_in, log_tree}
 
 -- two terminals, standing still and one to the right; rule 2 is twice to the right
 abbrev grammar : RulesView
 grammar = rules_with (1 ∷ 2 ∷ []) ((1, 1) ∷ []) (2 ∷ []) 4 9
 
 -- a block with its anchor at instant 10 in (5, 5), and a rule behind it
-abbrev moving : Tree
-moving = tree_of grammar (start_at (pos 10) (cell_at (pos 5) (pos 5))) (2 ∷ [])
+abbrev moving : BlockTree
+moving = log_tree grammar (start_at (pos 10) (cell_with (pos 5) (pos 5))) (2 ∷ [])
 
 -- blocks of an anchor alone, and of an anchor and two terminals
-abbrev alone : ℕ → Tree
-alone x = tree_of grammar (start_at (pos 11) (cell_at (pos x) (pos 5))) []
+abbrev alone : ℕ → BlockTree
+alone x = log_tree grammar (start_at (pos 11) (cell_with (pos x) (pos 5))) []
 
-abbrev standing : Tree
-standing = tree_of grammar (start_at (pos 10) (cell_at (pos 9) (pos 5))) (0 ∷ 0 ∷ [])
+abbrev standing : BlockTree
+standing = log_tree grammar (start_at (pos 10) (cell_with (pos 9) (pos 5))) (0 ∷ 0 ∷ [])
 
 -- the rule is close to the other's anchor, or to its terminals, which are no rules
 by_anchor : close_count (pos 0) (pos 20) 0 moving (alone 6) ≡ 1
@@ -60,11 +60,11 @@ abbrev absences : RulesView
 absences = rules_with (0 ∷ 1 ∷ 2 ∷ []) ((0, 1) ∷ []) (3 ∷ []) 4 9
 
 -- the rule of one block is close to the other's terminal, though the other has no rule
-abbrev pausing : Tree
-pausing = tree_of absences (start_at (pos 10) (cell_at (pos 2) (pos 0))) (3 ∷ [])
+abbrev pausing : BlockTree
+pausing = log_tree absences (start_at (pos 10) (cell_with (pos 2) (pos 0))) (3 ∷ [])
 
-abbrev stepping : Tree
-stepping = tree_of absences (start_at (pos 10) (cell_at (pos 0) (pos 0))) (2 ∷ [])
+abbrev stepping : BlockTree
+stepping = log_tree absences (start_at (pos 10) (cell_with (pos 0) (pos 0))) (2 ∷ [])
 
 by_one_terminal : close_count (pos 0) (pos 20) 1 stepping pausing ≡ 1
 unfolding close_count count_with spans_in nodes_in parsed table_of_rules block_stops stops_after log_values values_of expansion_of
@@ -72,8 +72,8 @@ unfolding close_count count_with spans_in nodes_in parsed table_of_rules block_s
 by_one_terminal = refl
 
 -- and to the other's anchor, though the other has nothing else
-abbrev late : Tree
-late = tree_of absences (start_at (pos 11) (cell_at (pos 2) (pos 0))) []
+abbrev late : BlockTree
+late = log_tree absences (start_at (pos 11) (cell_with (pos 2) (pos 0))) []
 
 by_one_anchor : close_count (pos 0) (pos 20) 0 pausing late ≡ 1
 unfolding close_count count_with spans_in nodes_in parsed table_of_rules block_stops stops_after log_values values_of expansion_of

@@ -32,8 +32,8 @@ use Rattle.object_track.proofs.ChartLemmas.{path_of-unknown}
 use Rattle.object_track.proofs.MetLemmas.{period-before}
 use Rattle.object_track.proofs.StopsLemmas.{All-stops_in}
 use Rattle.encounter.specs.MeetCost.{meet_cost, period_meet_cost}
-use Rattle.encounter.specs.Seeking.{IsSeeking, meet_cost_between, meeting_between}
-use Rattle.encounter.specs.Span.{Tree, tree_of}
+use Rattle.encounter.specs.Seeking.{IsSeekingMeeting, meet_cost_between, meeting_between}
+use Rattle.encounter.specs.Span.{BlockTree, log_tree}
 use Rattle.encounter.specs.Window.{have_met, meeting_among}
 use Rattle.encounter.proofs.PairLemmas.{Apart, first_pair-apart, first_pair-split, first_pair-window}
 use Rattle.encounter.proofs.WalkedLemmas.{none-left, none-right, untogether}
@@ -63,14 +63,14 @@ module _ (parts : Parts) (number index : ℕ) (seen : SnapshotView) (at : seen �
       rw (← none) refl
 
   -- one with a block, whose parse trees are these
-  pub stops-present : (block : Anchored) (rules : RulesView) (log : List ℕ) (start : Start) (tree : Tree) →
+  pub stops-present : (block : Anchored) (rules : RulesView) (log : List ℕ) (start : Start) (tree : BlockTree) →
       Some block ≡ block_of seen index → rules ≡ rules_in parts → log ≡ log_in parts block →
-      start ≡ start_at (anchored_at parts.frame number block) block.cell → tree ≡ tree_of rules start log →
+      start ≡ start_at (anchored_at parts.frame number block) block.cell → tree ≡ log_tree rules start log →
       tree.stops ≡ stops_in parts index number
   unfolding stops_in
   stops-present block rules log start tree here of its_log its_start is =
       let present : Some block ≡ block_of (snapshot_in parts number) index = here ∙ ap (λ s. block_of s index) at in
-      ap (λ (t : Tree). t.stops) is ∙ (rw (of, its_log, its_start, ← present) refl)
+      ap (λ (t : BlockTree). t.stops) is ∙ (rw (of, its_log, its_start, ← present) refl)
 
 -- in a window two stops are together where they have met in it
 together-window : (from to : ℤ) (reach : ℕ) (lefts rights : List Stop) →
@@ -174,7 +174,7 @@ module _ (parts : Parts) (left right : ℕ) (from to : ℤ) (reach next behind :
       (range_with_len (next + 1) (behind - (next + 1)))
 
 module _ (found : Option (Stop × Stop)) (budget : ℕ) (parts : Parts) (valid : IsValid parts) (left right : ℕ) (from to : ℤ)
-    (reach next behind steps : ℕ) (is : IsSeeking found budget parts left right from to reach next behind steps) where
+    (reach next behind steps : ℕ) (is : IsSeekingMeeting found budget parts left right from to reach next behind steps) where
   module _ (less : next < behind) (within : behind ≤ periods_of parts.frame) where
     abbrev here : Option (Stop × Stop)
     here = meeting_among from to reach (stops_in parts left next) (stops_in parts right next)
@@ -188,7 +188,7 @@ module _ (found : Option (Stop × Stop)) (budget : ℕ) (parts : Parts) (valid :
     -- the next period has none
     pub seeking-next : (reads : ℕ) → option_map meeting_at here ≡ None →
         reads ≤ steps + period_meet_cost parts left right from to reach next →
-        IsSeeking found budget parts left right from to reach (next + 1) behind reads
+        IsSeekingMeeting found budget parts left right from to reach (next + 1) behind reads
     seeking-next reads none cost = record {
       same = whole ∙ ap (λ one. option_or one later) (map-none meeting_at here none);
       reads = omega (arith, is.reads, cost, meet_cost_between-step parts left right from to reach next behind less);

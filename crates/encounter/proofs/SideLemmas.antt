@@ -18,7 +18,7 @@ use Rattle.rule_store.specs.Expansion.{expansion_of, values_of}
 use Rattle.rule_store.specs.Flaws.{AreRules, left_of, right_of}
 use Rattle.rule_store.specs.Entry.{entry_of}
 use Rattle.rule_store.specs.Log.{log_values, stop_at, stops_after, stops_from}
-use Rattle.rule_store.specs.Nodes.{Node, after, nodes_in, parsed}
+use Rattle.rule_store.specs.Nodes.{RuleNode, after, nodes_in, parsed}
 use Rattle.rule_store.proofs.BoxLemmas.{box_round-is, box_round-none}
 use Rattle.rule_store.proofs.CellLemmas.{length-cells_along, same_cell}
 use Rattle.rule_store.proofs.ExpansionLemmas.{length-values_of, values_of-terminal}
@@ -36,8 +36,8 @@ use Rattle.track_types.specs.Boxes.{moved_box}
 use Rattle.log_cursor.specs.Start.{IsHullAsked, IsStart, IsWayOf, start_after}
 use Rattle.log_cursor.proofs.HitLemmas.{IsHullAsked-along, placed-round}
 use Rattle.log_cursor.proofs.WayLemmas.{IsWayOf-first, IsWayOf-parts, IsWayOf-rest, hull_is, start_after-is}
-use Rattle.encounter.specs.Side.{IsInside, IsOpened, IsPassed, IsSide, SideView, Tells, is_in, joined, remaining, past_of, side_of, tree_after, tree_in}
-use Rattle.encounter.specs.Span.{Span, Tree, span_along, span_at, span_of, spans_in, start_beyond}
+use Rattle.encounter.specs.Side.{IsStopInside, OpensNode, IsPassed, IsSide, SideView, Tells, is_in_area, both_trees, remaining, past_of, side_of, tree_after, symbol_tree}
+use Rattle.encounter.specs.Span.{Span, BlockTree, span_along, span_at, node_span, spans_in, start_beyond}
 
 module _ (rules : RulesView) where
   -- where two lists of terminals lead, one after the other
@@ -53,14 +53,14 @@ module _ (rules : RulesView) where
       omega (arith, ints, long) in
       rw (instants, cells) refl
 
-  spans-after : (at : Start) (terminals : List ℕ) (nodes : List Node) →
-      map (span_of rules at) (map (after terminals) nodes)
-      ≡ map (span_of rules (start_beyond rules at terminals)) nodes
+  spans-after : (at : Start) (terminals : List ℕ) (nodes : List RuleNode) →
+      map (node_span rules at) (map (after terminals) nodes)
+      ≡ map (node_span rules (start_beyond rules at terminals)) nodes
   spans-after at terminals [] = refl
   spans-after at terminals (node ∷ nodes) =
       ap (λ start. span_along start (terminal_values rules node.inside)
-      ∷ map (span_of rules at) (map (after terminals) nodes)) (start_beyond-append at terminals node.before)
-      ∙ ap (λ spans. span_of rules (start_beyond rules at terminals) node ∷ spans) (spans-after at terminals nodes)
+      ∷ map (node_span rules at) (map (after terminals) nodes)) (start_beyond-append at terminals node.before)
+      ∙ ap (λ spans. node_span rules (start_beyond rules at terminals) node ∷ spans) (spans-after at terminals nodes)
 
   -- the terminals of a symbol lead where its values do
   start_beyond-is : (at : Start) (symbol : ℕ) →
@@ -73,18 +73,18 @@ module _ (rules : RulesView) where
 
   pub spans_in-cons : (at : Start) (symbol : ℕ) (log : List ℕ) →
       spans_in rules at (symbol ∷ log)
-      ≡ map (span_of rules at) (parsed rules symbol).nodes ++ spans_in rules (start_past at (values_of rules symbol)) log
+      ≡ map (node_span rules at) (parsed rules symbol).nodes ++ spans_in rules (start_past at (values_of rules symbol)) log
   unfolding spans_in nodes_in
   spans_in-cons at symbol log =
       let tree = parsed rules symbol in
-      map-append (span_of rules at) tree.nodes (map (after tree.terminals) (nodes_in rules log))
-      ∙ ap (λ spans. map (span_of rules at) tree.nodes ++ spans) (spans-after at tree.terminals (nodes_in rules log))
-      ∙ ap (λ start. map (span_of rules at) tree.nodes ++ map (span_of rules start) (nodes_in rules log))
+      map-append (node_span rules at) tree.nodes (map (after tree.terminals) (nodes_in rules log))
+      ∙ ap (λ spans. map (node_span rules at) tree.nodes ++ spans) (spans-after at tree.terminals (nodes_in rules log))
+      ∙ ap (λ start. map (node_span rules at) tree.nodes ++ map (node_span rules start) (nodes_in rules log))
       (start_beyond-is at symbol)
 
   -- symbols leave what the first one does, and then what the others do
   pub tree_after-cons : (at : Start) (symbol : ℕ) (log : List ℕ) →
-      joined (tree_in rules at symbol) (tree_after rules (start_past at (values_of rules symbol)) log)
+      both_trees (symbol_tree rules at symbol) (tree_after rules (start_past at (values_of rules symbol)) log)
       ≡ tree_after rules at (symbol ∷ log)
   tree_after-cons at symbol log =
       let past = start_past at (values_of rules symbol) in
@@ -105,7 +105,7 @@ module _ (rules : RulesView) where
     spans_in-parts at =
         let here : start_beyond rules at [] ≡ at =
         same_start _ _ _ _ _ _ (omega (arith, ints)) (omega (arith, ints)) (omega (arith, ints)) in
-        ap (map (span_of rules at)) (nodes_in-parts rules symbol rule known left_below right_below log)
+        ap (map (node_span rules at)) (nodes_in-parts rules symbol rule known left_below right_below log)
         ∙ ap (λ start. span_along start (values_of rules symbol)
         ∷ spans_in rules at (left_of rules symbol ∷ right_of rules symbol ∷ log)) here
 
@@ -133,7 +133,7 @@ module _ (pending : PendingView) (at : Start) where
       ≤ (side_of pending at top).size
   past-size None is = omega arith
   past-size (Some entry) is =
-      let own = map (span_of pending.rules at) (parsed pending.rules entry.symbol).nodes in
+      let own = map (node_span pending.rules at) (parsed pending.rules entry.symbol).nodes in
       let past = start_past at (values_of pending.rules entry.symbol) in
       let later = spans_in pending.rules past pending.symbols in
       let both = ap length (spans_in-cons pending.rules at entry.symbol pending.symbols) in
@@ -166,7 +166,7 @@ module _ (pending : PendingView) (at : Start) where
         ap (λ r. tree_after r next (entry.symbol ∷ now.symbols)) rules_are
         ∙ ap (tree_after pending.rules next) (sym taken.symbols) in
         let spans : length (spans_in now.rules next (entry.symbol ∷ now.symbols))
-        ≡ length (spans_in pending.rules next pending.symbols) = ap (λ (t : Tree). length t.rules) tree in
+        ≡ length (spans_in pending.rules next pending.symbols) = ap (λ (t : BlockTree). length t.rules) tree in
         let long = ap length taken.symbols in
         record {
           rest = tree_after-cons now.rules next entry.symbol now.symbols ∙ tree ∙ sym (past-later top is);
@@ -202,7 +202,7 @@ module _ (pending opened now : PendingView) (at : Start) (entry left : Entry) (i
     );
   }
 
-  pub opened-to : IsOpened (side_of pending at (Some entry)) (side_of now at (Some left))
+  pub opened-to : OpensNode (side_of pending at (Some entry)) (side_of now at (Some left))
   opened-to =
       let new : remaining (side_of now at (Some left)) ≡ tree_after pending.rules at parts =
       tree_after-cons now.rules at left.symbol now.symbols
@@ -219,28 +219,28 @@ module _ (pending opened now : PendingView) (at : Start) (entry left : Entry) (i
       let long = ap length parts-are in
       let more = ap length split in
       record {
-        stops = ap (λ (t : Tree). t.stops) new ∙ sym (ap (λ (t : Tree). t.stops) old ∙ stops);
-        rules = ap (λ (t : Tree). t.rules) old ∙ split
-            ∙ ap (λ (t : Tree). span_along at (values_of pending.rules entry.symbol) ∷ t.rules) (sym new);
+        stops = ap (λ (t : BlockTree). t.stops) new ∙ sym (ap (λ (t : BlockTree). t.stops) old ∙ stops);
+        rules = ap (λ (t : BlockTree). t.rules) old ∙ split
+            ∙ ap (λ (t : BlockTree). span_along at (values_of pending.rules entry.symbol) ∷ t.rules) (sym new);
         fewer = omega (arith, spans, long, more);
       }
 
 -- the stops at the cells of instants that follow each other
 stops-inside : (top : Span) (instant : ℤ) (cells : List (Option Cell)) → top.begin <ℤ instant →
-    (instant +ℤ pos (length cells)) ≤ℤ (top.end +ℤ pos 1) → All (λ c. is_in top.area c ≡ true) (present_in cells) →
-    All (IsInside top) (stops_from instant cells)
+    (instant +ℤ pos (length cells)) ≤ℤ (top.end +ℤ pos 1) → All (λ c. is_in_area top.area c ≡ true) (present_in cells) →
+    All (IsStopInside top) (stops_from instant cells)
 unfolding stops_from
-stops-inside top instant [] low high within = All-nil (IsInside top)
+stops-inside top instant [] low high within = All-nil (IsStopInside top)
 stops-inside top instant (None ∷ cells) low high within =
     stops-inside top (instant +ℤ pos 1) cells (omega (arith, ints)) (omega (arith, ints)) within
 stops-inside top instant (Some here ∷ cells) low high within =
-    All-cons (IsInside top) (stop_at instant here) (stops_from (instant +ℤ pos 1) cells) (record {
+    All-cons (IsStopInside top) (stop_at instant here) (stops_from (instant +ℤ pos 1) cells) (record {
       after = low;
       before = omega (arith, ints);
-      cell = All-head (λ c. is_in top.area c ≡ true) here (present_in cells) within;
+      cell = All-head (λ c. is_in_area top.area c ≡ true) here (present_in cells) within;
     })
     (stops-inside top (instant +ℤ pos 1) cells (omega (arith, ints)) (omega (arith, ints))
-    (All-tail (λ c. is_in top.area c ≡ true) here (present_in cells) within))
+    (All-tail (λ c. is_in_area top.area c ≡ true) here (present_in cells) within))
 
 stops-behind : (z instant : ℤ) (cells : List (Option Cell)) → z <ℤ instant →
     All (λ stop. z <ℤ stop.instant) (stops_from instant cells)
@@ -259,9 +259,9 @@ stops_after-later rules z at log low =
 
 -- cells are in the least box round them
 in_round : (cells : List Cell) (area : Option CellBox) → area ≡ box_round cells →
-    All (λ c. is_in area c ≡ true) cells
+    All (λ c. is_in_area area c ≡ true) cells
 in_round cells None is =
-    subst (All (λ c. is_in None c ≡ true)) (sym (box_round-none cells is)) (All-nil (λ c. is_in None c ≡ true))
+    subst (All (λ c. is_in_area None c ≡ true)) (sym (box_round-none cells is)) (All-nil (λ c. is_in_area None c ≡ true))
 in_round cells (Some area) is =
     λ k d within. in_box-from area (get_or cells k d) (box_round-bounded area cells is k d within)
 
@@ -298,12 +298,12 @@ module _ (pending : PendingView) (at : Start) where
   pub tells-of : (top : Option Entry) → IsSide pending at top → Tells (side_of pending at top)
   tells-of None is = record {
     ordered = omega (arith, ints);
-    inside = All-cons (IsInside (span_at (stop_at at.instant at.cell))) (stop_at at.instant at.cell) [] (record {
+    inside = All-cons (IsStopInside (span_at (stop_at at.instant at.cell))) (stop_at at.instant at.cell) [] (record {
       after = omega (arith, ints);
       before = omega (arith, ints);
-      cell = All-head (λ c. is_in (box_round (at.cell ∷ [])) c ≡ true) at.cell []
+      cell = All-head (λ c. is_in_area (box_round (at.cell ∷ [])) c ≡ true) at.cell []
           (in_round (at.cell ∷ []) (box_round (at.cell ∷ [])) refl);
-    }) (All-nil (IsInside (span_at (stop_at at.instant at.cell))));
+    }) (All-nil (IsStopInside (span_at (stop_at at.instant at.cell))));
     later = stops_after-later pending.rules at.instant at pending.symbols (omega (arith, ints));
     leaf = λ _ _. (refl, refl);
     rule = λ opens. absurd (cc);

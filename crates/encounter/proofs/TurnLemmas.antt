@@ -19,9 +19,9 @@ use Rattle.rule_store.specs.Boxes.{box_round}
 use Rattle.rule_store.specs.Log.{stop_at}
 use Rattle.track_types.specs.Meeting.{pairs_of}
 use Rattle.encounter.specs.Window.{have_met, meeting_among}
-use Rattle.encounter.specs.Span.{Span, Tree, are_common, are_near, box_distance, close_count, gap_of, is_close, nodes_of, span_at}
-use Rattle.encounter.specs.Side.{IsInside, IsOpened, IsPassed, SideView, Tells, is_in, remaining}
-use Rattle.encounter.specs.Turn.{Finds, GoesOn, Moment, moment}
+use Rattle.encounter.specs.Span.{Span, BlockTree, are_common, are_near, box_distance, close_count, gap_of, is_close, tree_nodes, span_at}
+use Rattle.encounter.specs.Side.{IsStopInside, OpensNode, IsPassed, SideView, Tells, is_in_area, remaining}
+use Rattle.encounter.specs.Turn.{Finds, GoesOn, Sides, sides}
 use Rattle.encounter.proofs.PairLemmas.{Apart, first_pair-apart, first_pair-found, first_pair-left, first_pair-right}
 use Rattle.encounter.proofs.CountLemmas.{any-rule, any-stop, close_count-left, close_count-left_opened, close_count-right, close_count-right_opened}
 
@@ -43,7 +43,7 @@ box_distance-least area other p q here there =
     ≤ squared_gap p.y q.y = mul-le-mul y y in
     omega (arith, columns, lines)
 
-near-from : (reach : ℕ) (one other : Option CellBox) (p q : Cell) → is_in one p ≡ true → is_in other q ≡ true →
+near-from : (reach : ℕ) (one other : Option CellBox) (p q : Cell) → is_in_area one p ≡ true → is_in_area other q ≡ true →
     nat_le (squared_distance p q) (reach * reach) ≡ true → are_near reach one other ≡ true
 near-from reach None other p q here there near = absurd (cc)
 near-from reach (Some area) None p q here there near = absurd (cc)
@@ -73,7 +73,7 @@ module _ (from to : ℤ) (reach : ℕ) where
   }
 
   -- a meeting in two nodes makes them close
-  close-from : (one other : Span) (left right : Stop) → IsInside one left → IsInside other right →
+  close-from : (one other : Span) (left right : Stop) → IsStopInside one left → IsStopInside other right →
       have_met from to reach left right ≡ true → is_close from to reach one other ≡ true
   close-from one other left right here there met =
       let m = met-parts left right met in
@@ -90,7 +90,7 @@ module _ (from to : ℤ) (reach : ℕ) where
 
   -- two nodes that are not close
   module _ (one other : Span) (apart : is_close from to reach one other ≡ false) where
-    nodes-apart : (lefts rights : List Stop) → All (IsInside one) lefts → All (IsInside other) rights →
+    nodes-apart : (lefts rights : List Stop) → All (IsStopInside one) lefts → All (IsStopInside other) rights →
         Apart (have_met from to reach) lefts rights
     nodes-apart lefts rights here there k d within i e inside =
         unmet (get_or lefts k d) (get_or rights i e) (λ met.
@@ -136,7 +136,7 @@ module _ (from to : ℤ) (reach : ℕ) where
 
   -- the next node of a block is one of its nodes
   top-in : (test : Span → Bool) (side : SideView) → Tells side → is_some side.top.area ≡ true → test side.top ≡ true →
-      list_any test (nodes_of (remaining side)) ≡ true
+      list_any test (tree_nodes (remaining side)) ≡ true
   top-in test side tells some holds = elim (cases_Bool side.opens) [
     | inl rule ↦
         let first = tells.rule rule in
@@ -178,13 +178,13 @@ module _ (from to : ℤ) (reach : ℕ) where
       and_from _ _ low (and_from _ _ same near)
 
   module _ (left right : SideView) (tells : Tells left) (told : Tells right) (steps : ℕ) where
-    abbrev here : Moment
-    here = moment left right steps
+    abbrev here : Sides
+    here = sides left right steps
 
     -- the next node of the left block is passed, where it ends first
     module _ (apart : is_close from to reach left.top right.top ≡ false) (sooner : left.top.end ≤ℤ right.top.end) where
       pub passed-left : (new : SideView) (reads : ℕ) → IsPassed left new → reads + new.unread ≤ steps + left.unread →
-          GoesOn from to reach here (moment new right reads)
+          GoesOn from to reach here (sides new right reads)
       unfolding meeting_among
       passed-left new reads passed cost =
           let none = first-apart left right tells told apart sooner in
@@ -194,13 +194,13 @@ module _ (from to : ℤ) (reach : ℕ) where
           ap (λ t. close_count from to reach t (remaining right)) passed.rest in
           record {
             same = first_pair-left (have_met from to reach) left.own.stops left.later.stops (remaining right).stops none
-                ∙ ap (λ (t : Tree). meeting_among from to reach t.stops (remaining right).stops) (sym passed.rest);
+                ∙ ap (λ (t : BlockTree). meeting_among from to reach t.stops (remaining right).stops) (sym passed.rest);
             reads = omega (arith, fewer, same, cost);
             fewer = omega (arith, passed.fewer);
           }
 
       pub ended-left : (new : SideView) (reads : ℕ) → left.later.stops ≡ [] → reads + new.unread ≤ steps + left.unread →
-          Finds from to reach here (moment new right reads) None
+          Finds from to reach here (sides new right reads) None
       unfolding meeting_among pairs_of
       ended-left new reads end cost =
           let none = first-apart left right tells told apart sooner in
@@ -217,7 +217,7 @@ module _ (from to : ℤ) (reach : ℕ) where
     -- so is that of the right block
     module _ (apart : is_close from to reach left.top right.top ≡ false) (sooner : right.top.end ≤ℤ left.top.end) where
       pub passed-right : (new : SideView) (reads : ℕ) → IsPassed right new → reads + new.unread ≤ steps + right.unread →
-          GoesOn from to reach here (moment left new reads)
+          GoesOn from to reach here (sides left new reads)
       unfolding meeting_among
       passed-right new reads passed cost =
           let none = second-apart left right tells told apart sooner in
@@ -227,13 +227,13 @@ module _ (from to : ℤ) (reach : ℕ) where
           ap (λ t. close_count from to reach (remaining left) t) passed.rest in
           record {
             same = first_pair-right (have_met from to reach) (remaining left).stops right.own.stops right.later.stops none
-                ∙ ap (λ (t : Tree). meeting_among from to reach (remaining left).stops t.stops) (sym passed.rest);
+                ∙ ap (λ (t : BlockTree). meeting_among from to reach (remaining left).stops t.stops) (sym passed.rest);
             reads = omega (arith, fewer, same, cost);
             fewer = omega (arith, passed.fewer);
           }
 
       pub ended-right : (new : SideView) (reads : ℕ) → right.later.stops ≡ [] → reads + new.unread ≤ steps + right.unread →
-          Finds from to reach here (moment left new reads) None
+          Finds from to reach here (sides left new reads) None
       unfolding meeting_among
       ended-right new reads end cost =
           let none = second-apart left right tells told apart sooner in
@@ -251,9 +251,9 @@ module _ (from to : ℤ) (reach : ℕ) where
       near = both-some left.top.area right.top.area (and_parts (are_common from to left.top right.top)
           (are_near reach left.top.area right.top.area) close).1
 
-      pub opened-left : (new : SideView) (reads : ℕ) → IsOpened left new →
+      pub opened-left : (new : SideView) (reads : ℕ) → OpensNode left new →
           reads + new.unread ≤ steps + 1 + left.unread →
-          GoesOn from to reach here (moment new right reads)
+          GoesOn from to reach here (sides new right reads)
       opened-left new reads opened cost =
           let old = remaining left in
           let now = remaining new in
@@ -271,9 +271,9 @@ module _ (from to : ℤ) (reach : ℕ) where
             fewer = omega (arith, opened.fewer);
           }
 
-      pub opened-right : (new : SideView) (reads : ℕ) → IsOpened right new →
+      pub opened-right : (new : SideView) (reads : ℕ) → OpensNode right new →
           reads + new.unread ≤ steps + 1 + right.unread →
-          GoesOn from to reach here (moment left new reads)
+          GoesOn from to reach here (sides left new reads)
       opened-right new reads opened cost =
           let old = remaining right in
           let now = remaining new in
@@ -298,7 +298,7 @@ module _ (from to : ℤ) (reach : ℕ) where
         (λ k d within. (its.inside k d within).after)
         (λ k d within. let behind = its.later k d within in omega (arith, ints, behind, its.ordered))
 
-    pub over-left : to ≤ℤ left.top.begin → (new : Moment) → new.steps ≤ steps → Finds from to reach here new None
+    pub over-left : to ≤ℤ left.top.begin → (new : Sides) → new.steps ≤ steps → Finds from to reach here new None
     unfolding meeting_among
     over-left over new cost =
         let lefts = (remaining left).stops in
@@ -312,7 +312,7 @@ module _ (from to : ℤ) (reach : ℕ) where
           reads = omega (arith, cost);
         }
 
-    pub over-right : to ≤ℤ right.top.begin → (new : Moment) → new.steps ≤ steps → Finds from to reach here new None
+    pub over-right : to ≤ℤ right.top.begin → (new : Sides) → new.steps ≤ steps → Finds from to reach here new None
     unfolding meeting_among
     over-right over new cost =
         let lefts = (remaining left).stops in
@@ -328,7 +328,7 @@ module _ (from to : ℤ) (reach : ℕ) where
 
     -- neither is a rule
     pub found-both : is_close from to reach left.top right.top ≡ true → left.opens ≡ false → right.opens ≡ false →
-        (new : Moment) → new.steps ≤ steps →
+        (new : Sides) → new.steps ≤ steps →
         Finds from to reach here new (Some (stop_at left.top.end left.cell, stop_at right.top.end right.cell))
     unfolding meeting_among
     found-both close one other new cost =

@@ -19,7 +19,7 @@ use Rattle.track_types.specs.Table.{IsTable}
 use Rattle.track_types.specs.declared.row.Row.{Row}
 use Rattle.track_types.specs.declared.stop.Stop.{Stop}
 use Rattle.track_types.specs.Meeting.{are_together, first_together, pairs_of}
-use Rattle.encounter.specs.Walked.{AreDrawn, IsTrack}
+use Rattle.encounter.specs.Walked.{AreWalked, IsTrack}
 use Rattle.encounter.proofs.PairLemmas.{first_pair-apart, first_pair-found, first_pair-left, first_pair-right}
 
 -- what a test keeps passes it
@@ -130,10 +130,10 @@ module _ (reach : ℕ) where
 
   -- what two walks have done, by one more draw
   module _ (lefts rights : List Stop) (budget : ℕ) (left right : Stop) (more others : List Stop) (steps rest : ℕ)
-      (is : AreDrawn reach lefts rights budget left right more others steps rest) where
+      (is : AreWalked reach lefts rights budget left right more others steps rest) where
     pub drawn-right : right.instant <ℤ left.instant → (next : Stop) (later : List Stop) (reads now : ℕ) →
         others ≡ next ∷ later → reads + now ≤ steps + rest →
-        AreDrawn reach lefts rights budget left next more later reads now
+        AreWalked reach lefts rights budget left next more later reads now
     drawn-right early next later reads now are cost = record {
       same = is.same ∙ drop-right left right more others is.left_is is.right_is early
           ∙ ap (first_together reach (left ∷ more)) are;
@@ -149,7 +149,7 @@ module _ (reach : ℕ) where
 
     module _ (early : left.instant ≤ℤ right.instant) (apart : are_together reach left right ≡ false) where
       pub drawn-left : (next : Stop) (later : List Stop) (reads now : ℕ) → more ≡ next ∷ later →
-          reads + now ≤ steps + rest → AreDrawn reach lefts rights budget next right later others reads now
+          reads + now ≤ steps + rest → AreWalked reach lefts rights budget next right later others reads now
       drawn-left next later reads now are cost = record {
         same = is.same ∙ drop-left left right more others is.left_is is.right_is early apart
             ∙ ap (λ stops. first_together reach stops (right ∷ others)) are;

@@ -8,12 +8,12 @@ use Rattle.snapshots.specs.IndexCost.{is_met}
 use Rattle.snapshots.specs.Parts.{anchored_at, index_in, log_in, numbers_in, rules_in, snapshot_in}
 use Rattle.snapshots.specs.View.{block_of}
 use Rattle.snapshots.specs.declared.anchored.Anchored.{Anchored}
-use Rattle.encounter.specs.Span.{Tree, close_count, tree_of}
+use Rattle.encounter.specs.Span.{BlockTree, close_count, log_tree}
 
 -- the parse trees of a block of a period
-abbrev pub block_tree : Parts → ℕ → Anchored → Tree
+abbrev pub block_tree : Parts → ℕ → Anchored → BlockTree
 block_tree parts number block =
-    tree_of (rules_in parts) (start_at (anchored_at parts.frame number block) block.cell) (log_in parts block)
+    log_tree (rules_in parts) (start_at (anchored_at parts.frame number block) block.cell) (log_in parts block)
 
 -- going through two blocks of a period: both stored lengths, and the rules that are close to a node of the other block
 abbrev pub pair_cost : Parts → ℤ → ℤ → ℕ → ℕ → Option Anchored → Option Anchored → ℕ

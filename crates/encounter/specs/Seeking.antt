@@ -18,7 +18,7 @@ meet_cost_between parts left right from to reach next behind =
     sum_by (period_meet_cost parts left right from to reach) (range_with_len next (behind - next))
 
 -- What a search that has found nothing has done: the same first meeting is ahead, for reads from the budget.
-pub record IsSeeking (found : Option (Stop × Stop)) (budget : ℕ) (parts : Parts) (left right : ℕ) (from to : ℤ)
+pub record IsSeekingMeeting (found : Option (Stop × Stop)) (budget : ℕ) (parts : Parts) (left right : ℕ) (from to : ℤ)
     (reach next behind steps : ℕ) : Type 0 where
   pub same : found ≡ meeting_between parts left right from to reach next behind
   pub reads : steps + meet_cost_between parts left right from to reach next behind ≤ budget

@@ -16,7 +16,7 @@ use Rattle.rule_store.specs.declared.entry.Entry.{Entry}
 use Rattle.log_cursor.specs.Pending.{IsRoomy, PendingView}
 use Rattle.log_cursor.specs.Start.{IsWayOf, start_after, start_past}
 use Rattle.log_cursor.specs.declared.start.Start.{Start}
-use Rattle.encounter.specs.Span.{Span, Tree, span_along, span_at, span_of, spans_in}
+use Rattle.encounter.specs.Span.{Span, BlockTree, span_along, span_at, node_span, spans_in}
 
 -- the next node of a block: its span, where it leads, whether it is a rule, its own stops and rule nodes, and what comes
 -- after it; how many symbols of the log are still to be read, and a measure of what remains, which each turn makes less
@@ -24,31 +24,31 @@ pub record SideView : Type 0 where
   pub top : Span
   pub cell : Cell
   pub opens : Bool
-  pub own : Tree
-  pub later : Tree
+  pub own : BlockTree
+  pub later : BlockTree
   pub unread : ℕ
   pub size : ℕ
 
 -- two trees, one after the other
-abbrev pub joined : Tree → Tree → Tree
-joined own later = record { stops = own.stops ++ later.stops; rules = own.rules ++ later.rules }
+abbrev pub both_trees : BlockTree → BlockTree → BlockTree
+both_trees own later = record { stops = own.stops ++ later.stops; rules = own.rules ++ later.rules }
 
 -- all that remains, the next node first
-abbrev pub remaining : SideView → Tree
-remaining side = joined side.own side.later
+abbrev pub remaining : SideView → BlockTree
+remaining side = both_trees side.own side.later
 
 -- the stops and the rule nodes of symbols from a place on
-abbrev pub tree_after : RulesView → Start → List ℕ → Tree
+abbrev pub tree_after : RulesView → Start → List ℕ → BlockTree
 tree_after rules at symbols = record {
   stops = stops_after rules at.instant at.cell symbols;
   rules = spans_in rules at symbols;
 }
 
 -- a symbol's own stops and rule nodes
-abbrev pub tree_in : RulesView → Start → ℕ → Tree
-tree_in rules at symbol = record {
+abbrev pub symbol_tree : RulesView → Start → ℕ → BlockTree
+symbol_tree rules at symbol = record {
   stops = stops_from (at.instant +ℤ pos 1) (cells_along at.cell (values_of rules symbol));
-  rules = map (span_of rules at) (parsed rules symbol).nodes;
+  rules = map (node_span rules at) (parsed rules symbol).nodes;
 }
 
 -- a block whose next node is its anchor, or the symbol of an entry
@@ -68,7 +68,7 @@ side_of pending at (Some entry) = let values = values_of pending.rules entry.sym
       top = span_along at values;
       cell = past.cell;
       opens = nat_le (length pending.rules.alphabet) entry.symbol;
-      own = tree_in pending.rules at entry.symbol;
+      own = symbol_tree pending.rules at entry.symbol;
       later = tree_after pending.rules past pending.symbols;
       unread = pending.unread;
       size = 2 * length (spans_in pending.rules at (entry.symbol ∷ pending.symbols))
@@ -97,30 +97,30 @@ pub record IsSide (pending : PendingView) (at : Start) (top : Option Entry) : Ty
   pub top_is : IsTop pending top
 
 -- a cell is in a box, if there is one
-abbrev pub is_in : Option CellBox → Cell → Bool
-is_in None cell = false
-is_in (Some area) cell = in_box area cell
+abbrev pub is_in_area : Option CellBox → Cell → Bool
+is_in_area None cell = false
+is_in_area (Some area) cell = in_box area cell
 
 -- a stop is at an instant and in the box of a node
-pub record IsInside (top : Span) (stop : Stop) : Type 0 where
+pub record IsStopInside (top : Span) (stop : Stop) : Type 0 where
   pub after : top.begin <ℤ stop.instant
   pub before : stop.instant ≤ℤ top.end
-  pub cell : is_in top.area stop.cell ≡ true
+  pub cell : is_in_area top.area stop.cell ≡ true
 
 -- the first of some rule nodes
-pub record IsFirst (top : Span) (nodes : List Span) : Type 0 where
+pub record IsTopOf (top : Span) (nodes : List Span) : Type 0 where
   pub rest : List Span
   pub is : nodes ≡ top ∷ rest
 
 -- what the next node tells of the stops that remain
 pub record Tells (side : SideView) : Type 0 where
   pub ordered : side.top.begin ≤ℤ side.top.end
-  pub inside : All (IsInside side.top) side.own.stops
+  pub inside : All (IsStopInside side.top) side.own.stops
   pub later : All (λ stop. side.top.end <ℤ stop.instant) side.later.stops
   pub leaf : side.opens ≡ false → is_some side.top.area ≡ true →
       (side.own.stops ≡ stop_at side.top.end side.cell ∷ [])
       × (side.top ≡ span_at (stop_at side.top.end side.cell))
-  pub rule : side.opens ≡ true → IsFirst side.top (remaining side).rules
+  pub rule : side.opens ≡ true → IsTopOf side.top (remaining side).rules
 
 -- the next node was passed
 pub record IsPassed (old new : SideView) : Type 0 where
@@ -128,7 +128,7 @@ pub record IsPassed (old new : SideView) : Type 0 where
   pub fewer : new.size < old.size
 
 -- the next node was opened
-pub record IsOpened (old new : SideView) : Type 0 where
+pub record OpensNode (old new : SideView) : Type 0 where
   pub stops : (remaining new).stops ≡ (remaining old).stops
   pub rules : (remaining old).rules ≡ old.top ∷ (remaining new).rules
   pub fewer : new.size < old.size

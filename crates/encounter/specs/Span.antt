@@ -10,7 +10,7 @@ use Rattle.rule_store.specs.View.{RulesView}
 use Rattle.rule_store.specs.Boxes.{box_round}
 use Rattle.rule_store.specs.Cells.{cells_along, displacement_of, moved, present_in}
 use Rattle.rule_store.specs.Log.{block_stops}
-use Rattle.rule_store.specs.Nodes.{Node, nodes_in}
+use Rattle.rule_store.specs.Nodes.{RuleNode, nodes_in}
 use Rattle.log_cursor.specs.Touching.{terminal_values}
 use Rattle.log_cursor.specs.declared.start.Start.{Start}
 
@@ -36,13 +36,13 @@ start_beyond rules start terminals = record {
 }
 
 -- the span of a rule's node
-abbrev pub span_of : RulesView → Start → Node → Span
-span_of rules start node =
+abbrev pub node_span : RulesView → Start → RuleNode → Span
+node_span rules start node =
     span_along (start_beyond rules start node.before) (terminal_values rules node.inside)
 
 -- the rule nodes of a log's parse trees
 unfoldable pub spans_in : RulesView → Start → List ℕ → List Span
-spans_in rules start log = map (span_of rules start) (nodes_in rules log)
+spans_in rules start log = map (node_span rules start) (nodes_in rules log)
 
 -- a stop is a node of one instant and one cell: the anchor, or a terminal
 abbrev pub span_at : Stop → Span
@@ -77,27 +77,27 @@ abbrev pub is_close : ℤ → ℤ → ℕ → Span → Span → Bool
 is_close from to reach a b = are_common from to a b && are_near reach a.area b.area
 
 -- a block, or what remains of it: its stops and its rule nodes
-pub record Tree : Type 0 where
+pub record BlockTree : Type 0 where
   pub stops : List Stop
   pub rules : List Span
 
 -- all its nodes: the anchor and the terminals with a cell are its stops
-abbrev pub nodes_of : Tree → List Span
-nodes_of tree = map span_at tree.stops ++ tree.rules
+abbrev pub tree_nodes : BlockTree → List Span
+tree_nodes tree = map span_at tree.stops ++ tree.rules
 
 -- how many of some nodes pass a test with some of others
 unfoldable pub count_with : (Span → Span → Bool) → List Span → List Span → ℕ
 count_with test nodes others = length (filter (λ node. list_any (test node) others) nodes)
 
 -- the rule nodes of either that are close to some node of the other
-unfoldable pub close_count : ℤ → ℤ → ℕ → Tree → Tree → ℕ
+unfoldable pub close_count : ℤ → ℤ → ℕ → BlockTree → BlockTree → ℕ
 close_count from to reach left right =
-    count_with (is_close from to reach) left.rules (nodes_of right)
-    + count_with (λ node other. is_close from to reach other node) right.rules (nodes_of left)
+    count_with (is_close from to reach) left.rules (tree_nodes right)
+    + count_with (λ node other. is_close from to reach other node) right.rules (tree_nodes left)
 
 -- the parse trees of a block
-abbrev pub tree_of : RulesView → Start → List ℕ → Tree
-tree_of rules start log = record {
+abbrev pub log_tree : RulesView → Start → List ℕ → BlockTree
+log_tree rules start log = record {
   stops = block_stops rules start.instant start.cell log;
   rules = spans_in rules start log;
 }

@@ -19,16 +19,16 @@ reads_ahead from to reach left right =
     (left.unread + right.unread) + close_count from to reach (remaining left) (remaining right)
 
 -- two blocks, and the reads so far
-pub record Moment : Type 0 where
+pub record Sides : Type 0 where
   pub left : SideView
   pub right : SideView
   pub steps : ℕ
 
 -- these two blocks, after so many reads
-abbrev pub moment : SideView → SideView → ℕ → Moment
-moment left right steps = record { left = left; right = right; steps = steps }
+abbrev pub sides : SideView → SideView → ℕ → Sides
+sides left right steps = record { left = left; right = right; steps = steps }
 
-module _ (from to : ℤ) (reach : ℕ) (old new : Moment) where
+module _ (from to : ℤ) (reach : ℕ) (old new : Sides) where
   -- the same first meeting is ahead, for reads from the budget
   pub record GoesOn : Type 0 where
     pub same : meeting_ahead from to reach old.left old.right ≡ meeting_ahead from to reach new.left new.right

@@ -11,7 +11,7 @@ pub record IsTrack (stops : List Stop) : Type 0 where
 
 -- What two walks have done: the two stops that were drawn last, and those that are left, have the first meeting of both
 -- walks, for reads from their budgets.
-pub record AreDrawn (reach : ℕ) (lefts rights : List Stop) (budget : ℕ) (left right : Stop) (more others : List Stop)
+pub record AreWalked (reach : ℕ) (lefts rights : List Stop) (budget : ℕ) (left right : Stop) (more others : List Stop)
     (steps rest : ℕ) : Type 0 where
   pub same : first_together reach lefts rights ≡ first_together reach (left ∷ more) (right ∷ others)
   pub left_is : IsTrack (left ∷ more)

@@ -1,6 +1,6 @@
 ghost use Rattle.std.specs.Prelude.{◌≡◌, ◌+◌, ◌≤◌, ◌^◌, option_map, true, false};
 ghost use Rattle.track_types.specs.Meeting.{meeting_at};
-ghost use Rattle.encounter.specs.Turn.{IsTurned, meeting_ahead, moment, reads_ahead};
+ghost use Rattle.encounter.specs.Turn.{IsTurned, meeting_ahead, sides, reads_ahead};
 
 use crate::block_node::BlockNode;
 use crate::side::Side;
@@ -50,7 +50,7 @@ fn take_turn<L: Ledger>(
 ) -> Turn
     requires { window.now.reach ≤ 2 ^ 42 }
     ensures { IsTurned window.now.from window.now.to window.now.reach
-        (moment left.old right.old steps.old) (moment left.new right.new steps.new) result }
+        (sides left.old right.old steps.old) (sides left.new right.new steps.new) result }
 {
     let one = left.node();
     let other = right.node();

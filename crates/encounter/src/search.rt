@@ -70,15 +70,15 @@ fn meet_in_periods<L: Ledger>(
     requires reach { window.now.reach ≤ 2 ^ 42 }
     requires left { places.left < length stores.now.objects }
     requires right { places.right < length stores.now.objects }
-    requires periods { periods.behind ≤ periods_of stores.now.frame }
+    requires periods { periods.end ≤ periods_of stores.now.frame }
     ensures ok { IfOk result (λ found. found ≡ option_map meeting_at (meeting_between stores.now
         places.left places.right window.now.from window.now.to window.now.reach
-        periods.next periods.behind)) }
+        periods.next periods.end)) }
     ensures cost { steps.new ≤ steps.old + meet_cost_between stores.now places.left places.right
-        window.now.from window.now.to window.now.reach periods.next periods.behind }
+        window.now.from window.now.to window.now.reach periods.next periods.end }
 {
     let _ = stores.frame(); // says what holds of every index
-    for period in periods.next..periods.behind {
+    for period in periods.next..periods.end {
         let found = meet_in_period(alloc, stores, places, window, period, steps)?;
         if let Some(meeting) = found {
             return Ok(Some(meeting));

@@ -4,8 +4,8 @@ ghost use Rattle.rule_store.specs.Cost.{parts_reads};
 ghost use Rattle.rule_store.specs.Log.{log_of};
 ghost use Rattle.log_cursor.specs.Start.{IsHullAsked, IsPlaced, IsStart};
 ghost use Rattle.track_types.specs.Boxes.{moved_box};
-ghost use Rattle.encounter.specs.Span.{tree_of};
-ghost use Rattle.encounter.specs.Side.{IsOpened, IsPassed, Tells, remaining, past_of};
+ghost use Rattle.encounter.specs.Span.{log_tree};
+ghost use Rattle.encounter.specs.Side.{OpensNode, IsPassed, Tells, remaining, past_of};
 
 use crate::block_node::BlockNode;
 use log_cursor::{Pending, Start, placed};
@@ -46,7 +46,7 @@ impl<'a> Side<'a> {
     pub fn new(alloc: Global, view: LogView<'a>, start: Start) -> Result<Side<'a>, Memory>
         requires { IsPlaced view.rules.now start (log_of view) }
         ensures rest { IfOk result (λ side.
-            remaining side ≡ tree_of view.entry.rules.now start (log_of view.entry)) }
+            remaining side ≡ log_tree view.entry.rules.now start (log_of view.entry)) }
         ensures unread { IfOk result (λ side. side.unread ≡ length (log_of view.entry)) }
     {
         let mut pending = Pending::new(alloc, view.rules())?;
@@ -110,7 +110,7 @@ impl<'a> Side<'a> {
     /// Opens the next node, which is a rule, by one read.
     pub fn open<L: Ledger>(&mut self, steps: &mut Steps<L>)
         requires { self.old.opens ≡ true }
-        ensures opened { IsOpened self.old self.new }
+        ensures opened { OpensNode self.old self.new }
         ensures cost { steps.new + self.new.unread ≤ steps.old + parts_reads + self.old.unread }
     {
         let Some(entry) = self.top else {

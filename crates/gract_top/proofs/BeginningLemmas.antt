@@ -9,7 +9,7 @@ use Rattle.track_types.specs.declared.limit.LimitKind.TheVariants as limit
 use Rattle.track_types.specs.declared.parts.Parts.{Parts}
 use Rattle.track_index.specs.Opening.{first_flaw, IsFile}
 use Rattle.track_index.proofs.DecidingLemmas.{first_flaw-file}
-use Rattle.gract_top.specs.Beginning.{NotLoaded, OpensFile, Progress, StopsAt}
+use Rattle.gract_top.specs.Beginning.{NotLoaded, OpensFile, Progress, StopsAtIndex}
 use Rattle.gract_top.specs.Completeness.{HasIndex}
 use Rattle.gract_top.specs.Refusal.{IsLengthRefused}
 use Rattle.gract_top.proofs.CompletenessLemmas.{came-whole, file_named-found, index-kept}
@@ -37,9 +37,9 @@ module _ (kind : LimitKind) (name : List ℕ) (before now : FilesState) where
 
 module _ (name : List ℕ) (before now : Progress) (ready : HasIndex before.files.map name) where
   -- a call that stops at an index file that is there, where no device fails, is out of memory
-  pub StopsAt-memory : (result : Outcome) → StopsAt result name before now →
+  pub StopsAtIndex-memory : (result : Outcome) → StopsAtIndex result name before now →
       (Rose before.files.load_faults now.files.load_faults → ⊥) → result ≡ outcome.Memory
-  StopsAt-memory result stops calm = elim stops.ended [
+  StopsAtIndex-memory result stops calm = elim stops.ended [
     | inl unloaded ↦ NotLoaded-memory limit.Index name before.files now.files result unloaded.0
         (λ failed. elim (stops.one.load_failed failed) [
           | inl rose ↦ calm rose

@@ -17,11 +17,11 @@ use Rattle.track_index.specs.Opening.{first_flaw}
 use Rattle.track_index.proofs.DecidingLemmas.{first_flaw-file}
 use Rattle.gract_top.specs.Completeness.{HasAccepted, HasIndex, HasQuestions}
 use Rattle.gract_top.specs.Beginning.{NotLoaded}
-use Rattle.gract_top.specs.Ends.{AnswersChart, AnswersFile, EndsAsk, EndsBuild, EndsOnce, EndsUpgrade, Moment}
+use Rattle.gract_top.specs.Ends.{AnswersChart, AnswersFile, EndsAsk, EndsBuild, EndsOnce, EndsUpgrade, OutsideView}
 use Rattle.gract_top.specs.Ends.{Saved, written}
 use Rattle.gract_top.specs.Loading.{FileCame}
 use Rattle.gract_top.specs.Outcome.{EndsOpened, Talk}
-use Rattle.gract_top.specs.Refusal.{IsIndexRefused, IsRefused, file_refusal, is_late, is_refusal, length_refusal}
+use Rattle.gract_top.specs.Refusal.{IsIndexRefused, IsRefused, file_refusal, is_late, is_bytes_refusal, length_refusal}
 use Rattle.gract_top.proofs.LoadingLemmas.{length_refusal-short}
 use Rattle.gract_top.specs.Sampling.{EndsSample, Speech, SumsNothing, SumsSample, Told, sample_chart, sample_refusal}
 use Rattle.gract_top.specs.Summary.{summary_of}
@@ -40,7 +40,7 @@ abbrev pub IsGood : Outcome → Type 0
 IsGood result = (result ≡ outcome.Done) ⊎ (result ≡ outcome.Memory)
 
 -- a quantity other than that of questions is one of what is loaded
-limit-either : (kind : LimitKind) (value : ℕ) → (is_refusal (outcome.Limit kind value) ≡ true) ⊎ (kind ≡ limit.Questions)
+limit-either : (kind : LimitKind) (value : ℕ) → (is_bytes_refusal (outcome.Limit kind value) ≡ true) ⊎ (kind ≡ limit.Questions)
 limit-either limit.Csv value = inl refl
 limit-either limit.Rows value = inl refl
 limit-either limit.Objects value = inl refl
@@ -55,7 +55,7 @@ limit-either limit.Questions value = inr refl
 -- the causes that are left out by the devices and the words, and that lead to the others
 pub by_cause : (result : Outcome) → ((place : ℕ) → result ≢ outcome.Words place) → (result ≢ outcome.LoadFailed) →
     (result ≢ outcome.SaveFailed) → (result ≢ outcome.ListenFailed) → (result ≢ outcome.SayFailed) →
-    (is_refusal result ≡ true → ⊥) → ((flaw : Flaw) → result ≢ outcome.Flaw flaw) →
+    (is_bytes_refusal result ≡ true → ⊥) → ((flaw : Flaw) → result ≢ outcome.Flaw flaw) →
     ((value : ℕ) → result ≢ outcome.Limit limit.Questions value) →
     ((setting : Setting) (left right : ℕ) → result ≢ outcome.Settings setting left right) →
     ((object : ℕ) → result ≢ outcome.Common object) → IsGood result
@@ -164,7 +164,7 @@ module _ (untouched : Type 0) (before now : Talk) where
   opened-common object bytes (inr ends) = ends.answers.answers.answered
 
 -- a call of `once`
-pub once-good : (result : Outcome) (csv : List ℕ) (settings : Settings) (untouched : Type 0) (before now : Moment) →
+pub once-good : (result : Outcome) (csv : List ℕ) (settings : Settings) (untouched : Type 0) (before now : OutsideView) →
     EndsOnce result csv settings untouched before now → HasAccepted before.files.map csv settings →
     HasQuestions before.talk.rest → IsPlain before.given → ((place : ℕ) → result ≢ outcome.Words place) →
     (result ≢ outcome.SaveFailed) → (result ≢ outcome.ListenFailed) → (result ≢ outcome.SayFailed) →
@@ -198,7 +198,7 @@ once-good result csv settings untouched before now ends ready lines plain words 
     opened-common untouched before.talk now.talk object _ (subst Over is (ends.late (ap is_late is))).ended)
 
 -- a call of `ask`
-pub ask-good : (result : Outcome) (index : List ℕ) (untouched : Type 0) (before now : Moment) →
+pub ask-good : (result : Outcome) (index : List ℕ) (untouched : Type 0) (before now : OutsideView) →
     EndsAsk result index untouched before now → HasIndex before.files.map index → HasQuestions before.talk.rest →
     ((place : ℕ) → result ≢ outcome.Words place) → (result ≢ outcome.SaveFailed) → (result ≢ outcome.ListenFailed) →
     (result ≢ outcome.SayFailed) → (Rose before.files.load_faults now.files.load_faults → ⊥) → IsGood result
@@ -363,10 +363,10 @@ module _ (result : Outcome) (settings : SampleSettings) (unsaid : Type 0) (given
     sample-good files_before files_now ends accepted words load save listen say =
         by_cause result words load save listen say
         (λ refusal. let both : Some result ≡ None = sym (ends.refused refusal).0 ∙ accepted in cc)
-        (λ flaw is. sums-none (outcome.Flaw flaw) (λ memory. cc) (λ text told. told) is (ends.accepted (ap is_refusal is)))
+        (λ flaw is. sums-none (outcome.Flaw flaw) (λ memory. cc) (λ text told. told) is (ends.accepted (ap is_bytes_refusal is)))
         (λ value is. sums-none (outcome.Limit limit.Questions value) (λ memory. cc) (λ text told. told) is
-        (ends.accepted (ap is_refusal is)))
+        (ends.accepted (ap is_bytes_refusal is)))
         (λ setting left right is. sums-none (outcome.Settings setting left right) (λ memory. cc) (λ text told. told) is
-        (ends.accepted (ap is_refusal is)))
+        (ends.accepted (ap is_bytes_refusal is)))
         (λ object is. sums-none (outcome.Common object) (λ memory. cc) (λ text told. told) is
-        (ends.accepted (ap is_refusal is)))
+        (ends.accepted (ap is_bytes_refusal is)))

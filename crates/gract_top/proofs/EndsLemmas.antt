@@ -14,14 +14,14 @@ use Rattle.chart_parts.specs.PartsOf.{parts_of}
 use Rattle.track_index.specs.Opening.{IsFile}
 use Rattle.gract_top.specs.Outcome.{EndsOpened, EndsOver, Talk}
 use Rattle.gract_top.specs.Beginning.{EndsLoading, SavesNothing}
-use Rattle.gract_top.specs.Ends.{AnswersChart, EndsBuild, EndsOnce, Moment, Saved, SavesChart, written}
-use Rattle.gract_top.specs.Refusal.{IsAccepted, is_early, is_refusal}
+use Rattle.gract_top.specs.Ends.{AnswersChart, EndsBuild, EndsOnce, OutsideView, Saved, SavesChart, written}
+use Rattle.gract_top.specs.Refusal.{IsAccepted, is_early, is_bytes_refusal}
 use Rattle.gract_top.specs.declared.outcome.Outcome.{Outcome}
 use Rattle.gract_top.specs.declared.outcome.Outcome.TheVariants as outcome
 use Rattle.gract_top.specs.declared.request.Settings.{Settings}
 
 -- what the file's bytes decide comes before a question
-pub is_early-refusal : (result : Outcome) → is_refusal result ≡ true → is_early result ≡ true
+pub is_early-refusal : (result : Outcome) → is_bytes_refusal result ≡ true → is_early result ≡ true
 is_early-refusal outcome.Done refusal = refusal
 is_early-refusal (outcome.Words place) refusal = refl
 is_early-refusal outcome.LoadFailed refusal = refl
@@ -52,7 +52,7 @@ EndsLoading-loaded loaded value result name kind before now is missing taken beg
   too_long = λ size long. absurd (false≢true (sym later ∙ ap is_early long ∙ early size));
 }
 
-module _ (result : Outcome) (csv : List ℕ) (settings : Settings) (untouched : Type 0) (before now : Moment) where
+module _ (result : Outcome) (csv : List ℕ) (settings : Settings) (untouched : Type 0) (before now : OutsideView) where
   -- what the files gave for the bytes of a chart's index was opened and asked
   pub AnswersChart-passed : (chart : ChartView) (bytes passed : List ℕ) →
       IsAccepted before.files.map now.files.taken csv settings chart → IsFile bytes (parts_of chart) →

@@ -7,7 +7,7 @@ use Rattle.track_types.specs.declared.limit.LimitKind.TheVariants as limit
 use Rattle.track_types.specs.declared.raw_row.RowFault.TheVariants as fault
 use Rattle.track_types.specs.declared.setting.Setting.TheVariants as setting
 use Rattle.gract_top.specs.OutcomeText.{text_of}
-use Rattle.gract_top.specs.Request.{request_of, values_of}
+use Rattle.gract_top.specs.Request.{request_of, word_values}
 use Rattle.gract_top.specs.Summary.{counted_questions}
 use Rattle.gract_top.specs.declared.outcome.Outcome.TheVariants as outcome
 use Rattle.gract_top.specs.declared.request.Request.TheVariants as request
@@ -23,7 +23,7 @@ words texts = map word texts
 -- command words
 form_once : request_of (words (codes "once" ∷ codes "t.csv" ∷ codes "+10" ∷ codes " 60" ∷ codes "4" ∷ []))
     ≡ request.Once (word (codes "t.csv")) (record { cell = 10; tick = 60; period = 4 })
-unfolding values_of
+unfolding word_values
 form_once = refl
 
 no_words : request_of [] ≡ request.Refused 1
@@ -33,60 +33,60 @@ unknown_command : request_of (words (codes "fetch" ∷ [])) ≡ request.Refused 
 unknown_command = refl
 
 empty_name : request_of (words (codes "once" ∷ codes "" ∷ codes "1" ∷ codes "1" ∷ codes "4" ∷ [])) ≡ request.Refused 2
-unfolding values_of
+unfolding word_values
 empty_name = refl
 
 cell_below : request_of (words (codes "once" ∷ codes "t.csv" ∷ codes "0" ∷ codes "x" ∷ codes "4" ∷ [])) ≡ request.Refused 3
-unfolding values_of
+unfolding word_values
 cell_below = refl
 
 period_missing : request_of (words (codes "once" ∷ codes "t.csv" ∷ codes "1" ∷ codes "1" ∷ [])) ≡ request.Refused 5
-unfolding values_of
+unfolding word_values
 period_missing = refl
 
 period_above : request_of (words (codes "once" ∷ codes "t.csv" ∷ codes "1" ∷ codes "1" ∷ codes "4194305" ∷ []))
     ≡ request.Refused 5
-unfolding values_of
+unfolding word_values
 period_above = refl
 
 one_word_more : request_of (words (codes "once" ∷ codes "t.csv" ∷ codes "1" ∷ codes "1" ∷ codes "4" ∷ codes "x" ∷ []))
     ≡ request.Refused 6
-unfolding values_of
+unfolding word_values
 one_word_more = refl
 
 form_ask : request_of (words (codes "ask" ∷ codes "t.idx" ∷ [])) ≡ request.Ask (word (codes "t.idx"))
-unfolding values_of
+unfolding word_values
 form_ask = refl
 
 form_ask_tail : request_of (words (codes "ask" ∷ codes "t.idx" ∷ codes "t.csv" ∷ []))
     ≡ request.AskTail (word (codes "t.idx")) (word (codes "t.csv"))
-unfolding values_of
+unfolding word_values
 form_ask_tail = refl
 
 empty_tail : request_of (words (codes "ask" ∷ codes "t.idx" ∷ codes "" ∷ [])) ≡ request.Refused 3
-unfolding values_of
+unfolding word_values
 empty_tail = refl
 
 behind_a_tail : request_of (words (codes "ask" ∷ codes "t.idx" ∷ codes "t.csv" ∷ codes "x" ∷ [])) ≡ request.Refused 4
-unfolding values_of
+unfolding word_values
 behind_a_tail = refl
 
 form_upgrade : request_of (words (codes "upgrade" ∷ codes "t.idx" ∷ codes " " ∷ []))
     ≡ request.Upgrade (word (codes "t.idx")) (word (codes " "))
-unfolding values_of
+unfolding word_values
 form_upgrade = refl
 
 new_missing : request_of (words (codes "upgrade" ∷ codes "t.idx" ∷ [])) ≡ request.Refused 3
-unfolding values_of
+unfolding word_values
 new_missing = refl
 
 form_merge : request_of (words (codes "merge" ∷ codes "t.idx" ∷ codes "u.idx" ∷ codes "t.idx" ∷ []))
     ≡ request.Merge (word (codes "t.idx")) (word (codes "u.idx")) (word (codes "t.idx"))
-unfolding values_of
+unfolding word_values
 form_merge = refl
 
 out_missing : request_of (words (codes "merge" ∷ codes "t.idx" ∷ codes "u.idx" ∷ [])) ≡ request.Refused 4
-unfolding values_of
+unfolding word_values
 out_missing = refl
 
 -- the lines that ask for a summary of 64 instants

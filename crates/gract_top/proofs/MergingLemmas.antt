@@ -9,7 +9,7 @@ use Rattle.gract_top.specs.Beginning.{OpensFile, Progress, SavesNothing}
 use Rattle.gract_top.specs.Completeness.{HasIndex}
 use Rattle.gract_top.specs.Ends.{EndsMerge, MergesParts, SavesUnion}
 use Rattle.gract_top.specs.Merging.{NotMerged, union_bytes}
-use Rattle.gract_top.proofs.BeginningLemmas.{OpensFile-parts, StopsAt-memory}
+use Rattle.gract_top.proofs.BeginningLemmas.{OpensFile-parts, StopsAtIndex-memory}
 use Rattle.gract_top.proofs.CompletenessLemmas.{IsGood}
 use Rattle.gract_top.proofs.EndsLemmas.{Saved-done, Saved-loaded}
 use Rattle.gract_top.specs.declared.outcome.Outcome.{Outcome}
@@ -46,7 +46,7 @@ pub merge-good : (result : Outcome) (left right name : List ℕ) (before now : P
     (second : HasIndex before.files.map right) → merge_fault first.parts second.parts ≡ None →
     result ≢ outcome.SaveFailed → (Rose before.files.load_faults now.files.load_faults → ⊥) → IsGood result
 merge-good result left right name before now ends first second merged save calm = elim ends [
-  | inl stops ↦ inr (StopsAt-memory left before now first result stops calm)
+  | inl stops ↦ inr (StopsAtIndex-memory left before now first result stops calm)
   | inr opens ↦
       let between = opens.1 in
       let here : HasIndex between.files.map right = record {
@@ -60,7 +60,7 @@ merge-good result left right name before now ends first second merged save calm 
       } in
       let of_first : opens.0 ≡ first.parts = OpensFile-parts left before between first opens.0 opens.2 in
       elim opens.3 [
-        | inl stops ↦ inr (StopsAt-memory right between now here result stops
+        | inl stops ↦ inr (StopsAtIndex-memory right between now here result stops
             (λ rose. calm (subst (λ faults. Rose faults now.files.load_faults) opens.2.load_faults rose)))
         | inr both ↦ elim both.3.ended [
           | inl unmerged ↦ elim unmerged.0 [

@@ -12,7 +12,7 @@ use Rattle.snapshots.specs.Parts.{chart_in}
 use Rattle.track_index.specs.Facts.{facts_of}
 use Rattle.track_index.specs.Opening.{IsFile}
 use Rattle.gract_top.specs.Cost.{question_cost}
-use Rattle.gract_top.specs.Refusal.{is_refusal}
+use Rattle.gract_top.specs.Refusal.{is_bytes_refusal}
 use Rattle.gract_top.specs.Sampling.{EndsSample, EndsSummed, EndsSummedOver, SaysFront, Speech, SumsOver}
 use Rattle.gract_top.specs.Sampling.{SumsSample, Told, sample_chart, sample_refusal}
 use Rattle.gract_top.specs.Summary.{summary_cost, summary_of}
@@ -78,12 +78,12 @@ module _ (result : Outcome) (settings : SampleSettings) (unsaid : Type 0) (files
   where
     -- the call ended before there were bytes to pass
     pub EndsSample-early :
-        ((result ≡ outcome.Memory) ⊎ ((is_refusal result ≡ true) × (sample_refusal settings ≡ Some result))) → unsaid →
+        ((result ≡ outcome.Memory) ⊎ ((is_bytes_refusal result ≡ true) × (sample_refusal settings ≡ Some result))) → unsaid →
         now.steps ≡ before.steps → files_now ≡ files_before →
         EndsSample result settings unsaid files_before files_now given before now
     EndsSample-early (inl memory) silent steps kept = record {
       kept = kept;
-      refused = λ refusal. absurd (false≢true (sym (ap is_refusal memory) ∙ refusal));
+      refused = λ refusal. absurd (false≢true (sym (ap is_bytes_refusal memory) ∙ refusal));
       accepted = λ other. inl (memory, (silent, steps));
     }
     EndsSample-early (inr refusal) silent steps kept = record {
@@ -93,7 +93,7 @@ module _ (result : Outcome) (settings : SampleSettings) (unsaid : Type 0) (files
     }
 
     -- the call ended after that
-    pub EndsSample-late : is_refusal result ≡ false → files_now ≡ files_before →
+    pub EndsSample-late : is_bytes_refusal result ≡ false → files_now ≡ files_before →
         SumsSample result settings unsaid given before now →
         EndsSample result settings unsaid files_before files_now given before now
     EndsSample-late other kept sums = record {
@@ -104,16 +104,16 @@ module _ (result : Outcome) (settings : SampleSettings) (unsaid : Type 0) (files
 
 -- what is known before there are bytes to pass decides none of these outcomes
 pub early-others : (result : Outcome) (settings : SampleSettings) →
-    ((result ≡ outcome.Memory) ⊎ ((is_refusal result ≡ true) × (sample_refusal settings ≡ Some result))) →
-    (other : Outcome) → is_refusal other ≡ false → other ≢ outcome.Memory → result ≢ other
+    ((result ≡ outcome.Memory) ⊎ ((is_bytes_refusal result ≡ true) × (sample_refusal settings ≡ Some result))) →
+    (other : Outcome) → is_bytes_refusal other ≡ false → other ≢ outcome.Memory → result ≢ other
 early-others result settings (inl memory) other unrefused apart is = apart (sym is ∙ memory)
 early-others result settings (inr refusal) other unrefused apart is =
-    false≢true (sym unrefused ∙ sym (ap is_refusal is) ∙ refusal.0)
+    false≢true (sym unrefused ∙ sym (ap is_bytes_refusal is) ∙ refusal.0)
 
 -- bytes that were opened decide none of these outcomes
 module _ (bytes : List ℕ) (instants : ℕ) (unsaid : Type 0) (before now : Speech) where
   pub EndsSummed-late : (result : Outcome) → EndsSummed result bytes instants unsaid before now →
-      (is_refusal result ≡ false) × ((place : ℕ) → result ≢ outcome.Words place) × (result ≢ outcome.SaveFailed)
+      (is_bytes_refusal result ≡ false) × ((place : ℕ) → result ≢ outcome.Words place) × (result ≢ outcome.SaveFailed)
       × (result ≢ outcome.ListenFailed) × (result ≢ outcome.LoadFailed)
   EndsSummed-late outcome.Done ends = (refl, (λ place is. cc), (λ is. cc), (λ is. cc), (λ is. cc))
   EndsSummed-late outcome.SayFailed ends = (refl, (λ place is. cc), (λ is. cc), (λ is. cc), (λ is. cc))

@@ -20,10 +20,10 @@ use Rattle.track_types.specs.declared.question.Question.{Question}
 use Rattle.track_types.specs.declared.question.Question.TheVariants as question
 use Rattle.track_types.specs.declared.stop.Stop.{Stop}
 use Rattle.gract_top.specs.Sampling.{SaysFront, Speech}
-use Rattle.gract_top.specs.Summary.{IsCounted, count_line, counts_of, found_by}
+use Rattle.gract_top.specs.Summary.{IsSlotless, count_line, counts_of, found_by}
 
 -- a question of no slot leaves the desk as it is
-pub counted-desk : (chart : ChartView) (desk : List (Option (List Stop))) (asked : Question) → IsCounted asked →
+pub counted-desk : (chart : ChartView) (desk : List (Option (List Stop))) (asked : Question) → IsSlotless asked →
     desk_of chart desk asked ≡ desk
 counted-desk chart desk (question.Position object instant) counted = refl
 counted-desk chart desk (question.Path object from to) counted = refl
@@ -37,7 +37,7 @@ counted-desk chart desk (question.More slot count) counted = absurd counted
 counted-desk chart desk (question.Free slot) counted = absurd counted
 
 -- and costs no more than it may
-pub counted-cost : (cost : Question → ℕ) (desk : List (Option (List Stop))) (asked : Question) → IsCounted asked →
+pub counted-cost : (cost : Question → ℕ) (desk : List (Option (List Stop))) (asked : Question) → IsSlotless asked →
     asked_cost cost desk (Ok (Some asked)) ≤ cost asked
 counted-cost cost desk (question.Position object instant) counted = omega arith
 counted-cost cost desk (question.Path object from to) counted = omega arith

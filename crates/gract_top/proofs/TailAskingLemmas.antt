@@ -18,16 +18,16 @@ use Rattle.snapshots.specs.IndexCost.{open_cost}
 use Rattle.track_index.specs.Opening.{bytes_cost, first_flaw, IsFile}
 use Rattle.track_index.proofs.DecidingLemmas.{first_flaw-file, parts_in-file}
 use Rattle.track_index.proofs.OpeningLemmas.{bytes_cost-read}
-use Rattle.gract_top.specs.Beginning.{EndsLoading, OpensFile, Progress, StopsAt, progress}
+use Rattle.gract_top.specs.Beginning.{EndsLoading, OpensFile, Progress, StopsAtIndex, progress}
 use Rattle.gract_top.specs.Completeness.{HasIndex, HasQuestions, HasTail}
-use Rattle.gract_top.specs.Outcome.{Answers, Talk}
-use Rattle.gract_top.specs.Refusal.{file_refusal, is_early, is_late, is_refusal}
+use Rattle.gract_top.specs.Outcome.{AnswersSource, Talk}
+use Rattle.gract_top.specs.Refusal.{file_refusal, is_early, is_late, is_bytes_refusal}
 use Rattle.gract_top.specs.TailAsking.{AnswersTailed, AsksTailed, EndsAskTail, EndsTailed, HasNoTail, IsTail}
 use Rattle.gract_top.specs.TailAsking.{settings_in, tailed_meaning}
 use Rattle.gract_top.specs.declared.outcome.Outcome.{Outcome}
 use Rattle.gract_top.specs.declared.outcome.Outcome.TheVariants as outcome
 use Rattle.gract_top.specs.declared.request.Settings.{Settings}
-use Rattle.gract_top.proofs.BeginningLemmas.{OpensFile-parts, StopsAt-memory}
+use Rattle.gract_top.proofs.BeginningLemmas.{OpensFile-parts, StopsAtIndex-memory}
 use Rattle.gract_top.proofs.CompletenessLemmas.{IsGood, by_cause, came-whole, file_named-found, questions-short}
 use Rattle.gract_top.proofs.EndsLemmas.{is_early-refusal}
 
@@ -41,18 +41,18 @@ pub AnswersTailed-joined : (result : Outcome) (parts : Parts) (csv : List ℕ) (
     (taken : ℕ) (before now : Talk) (tail : Option ChartView) (settings : Settings) (asked joined : TailedView) →
     is_early result ≡ false → settings ≡ settings_in parts → IsTail map taken csv settings tail → asked ≡ joined →
     joined ≡ record { parts = parts; tail = tail } →
-    Answers result untouched (tailed_meaning asked.parts asked.tail) before now →
+    AnswersSource result untouched (tailed_meaning asked.parts asked.tail) before now →
     AnswersTailed result parts csv untouched map taken before now
 AnswersTailed-joined result parts csv untouched map taken before now tail settings asked joined late by is same both answers =
     let Is : Settings → Type 0 = λ these. IsTail map taken csv these tail in
-    let Over : TailedView → Type 0 = λ these. Answers result untouched (tailed_meaning these.parts these.tail) before now in
+    let Over : TailedView → Type 0 = λ these. AnswersSource result untouched (tailed_meaning these.parts these.tail) before now in
     record { late = late; tail = tail; is_tail = subst Is by is; answers = subst Over (same ∙ both) answers }
 
 module _ (result : Outcome) (index csv : List ℕ) (untouched : Type 0) (files_before files_now : FilesState)
     (before now : Talk)
   where
     -- a call that ended at the index file
-    pub EndsAskTail-stopped : StopsAt result index (progress files_before before.steps) (progress files_now now.steps) →
+    pub EndsAskTail-stopped : StopsAtIndex result index (progress files_before before.steps) (progress files_now now.steps) →
         untouched → EndsAskTail result index csv untouched files_before files_now before now
     EndsAskTail-stopped stops same = record { unsaved = stops.unsaved; ended = inl (stops, same) }
 
@@ -88,7 +88,7 @@ tail-short bytes settings accepted = elim (cases_Bool (nat_lt (limit_of limit.Cs
 
 -- a tail that is there and accepted, or has no row, is not refused
 tail-kept : (map : Option FileMap) (taken : ℕ) (csv : List ℕ) (settings : Settings) (cause : Outcome) →
-    HasTail map csv settings → HasNoTail cause map taken csv settings → is_refusal cause ≡ true → ⊥
+    HasTail map csv settings → HasNoTail cause map taken csv settings → is_bytes_refusal cause ≡ true → ⊥
 tail-kept map taken csv settings cause ready none refusal =
     let refused = none.refused refusal in
     let same : refused.bytes ≡ ready.bytes =
@@ -160,6 +160,6 @@ module _ (result : Outcome) (index csv : List ℕ) (untouched : Type 0) (files_b
     -- a call of `ask` with a tail
     pub ask_tail-good : EndsAskTail result index csv untouched files_before files_now before now → IsGood result
     ask_tail-good ends = elim ends.ended [
-      | inl stops ↦ inr (StopsAt-memory index _ _ ready result stops.0 calm)
+      | inl stops ↦ inr (StopsAtIndex-memory index _ _ ready result stops.0 calm)
       | inr asks ↦ asks-good asks
     ]

@@ -64,7 +64,7 @@ pub record StopsUnopened (result : Outcome) (name : List ℕ) (before now : Prog
 
 -- A call ended at the index file of that name, which was not loaded, or not opened: no other file was begun, and nothing
 -- was saved.
-pub record StopsAt (result : Outcome) (name : List ℕ) (before now : Progress) : Type 0 where
+pub record StopsAtIndex (result : Outcome) (name : List ℕ) (before now : Progress) : Type 0 where
   pub one : BeginsOne result name limit.Index before.files now.files
   pub unsaved : SavesNothing before.files now.files
   pub ended : (NotLoaded result limit.Index name before.files now.files × (now.steps ≡ before.steps))
@@ -86,5 +86,5 @@ pub record OpensFile (name : List ℕ) (parts : Parts) (before now : Progress) :
 -- opened the file, and ended so from where it stood then.
 abbrev pub BeginsFirst : Outcome → List ℕ → Progress → Progress → (Parts → Progress → Type 0) → Type 0
 BeginsFirst result name before now EndsBehind =
-    StopsAt result name before now
+    StopsAtIndex result name before now
     ⊎ ((parts : Parts) × (between : Progress) × OpensFile name parts before between × EndsBehind parts between)

@@ -10,7 +10,7 @@ use Rattle.track_types.specs.Limits.{limit_of}
 use Rattle.track_types.specs.declared.limit.LimitKind.TheVariants as limit
 use Rattle.track_types.specs.declared.parts.Parts.{Parts}
 use Rattle.track_index.specs.Opening.{IsFile}
-use Rattle.gract_top.specs.Ends.{Moment}
+use Rattle.gract_top.specs.Ends.{OutsideView}
 use Rattle.gract_top.specs.Refusal.{file_refusal}
 use Rattle.gract_top.specs.Sampling.{sample_refusal}
 use Rattle.gract_top.specs.TailAsking.{settings_in}
@@ -56,7 +56,7 @@ pub record HasQuestions (rest : Option (List ℕ)) : Type 0 where
 -- What a request needs is there: a form, the files that it loads, questions that are not too many where it asks any, files
 -- that give what they are handed where it opens what it wrote, an upgrade that is not too long where it saves one, and two
 -- indexes that have a union where it merges them.
-abbrev pub IsReady : Request → Moment → Type 0
+abbrev pub IsReady : Request → OutsideView → Type 0
 IsReady (request.Once csv settings) before =
     HasAccepted before.files.map csv.now settings × HasQuestions before.talk.rest × IsPlain before.given
 IsReady (request.Build csv index settings) before = HasAccepted before.files.map csv.now settings

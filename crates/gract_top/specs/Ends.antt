@@ -20,7 +20,7 @@ use Rattle.gract_top.specs.Beginning.{BeginsFirst, BeginsOne, EndsLoading, NotLo
 use Rattle.gract_top.specs.Merging.{NotMerged, union_bytes}
 use Rattle.gract_top.specs.Outcome.{EndsOpened, EndsOver, Talk, talk_of}
 use Rattle.gract_top.specs.Refusal.{IsAccepted, IsIndexLoaded, IsIndexRefused, IsRefused, is_early}
-use Rattle.gract_top.specs.Refusal.{is_late, is_refusal}
+use Rattle.gract_top.specs.Refusal.{is_late, is_bytes_refusal}
 use Rattle.gract_top.specs.Sampling.{EndsSample, speech}
 use Rattle.gract_top.specs.TailAsking.{EndsAskTail}
 use Rattle.gract_top.specs.Upgrading.{IsUpgrade, NotUpgraded}
@@ -31,13 +31,13 @@ use Rattle.gract_top.specs.declared.request.Request.{Request}
 use Rattle.gract_top.specs.declared.request.Request.TheVariants as request
 
 -- What is known of the outside at a moment: the files, what their next pass gives, and source and sink.
-pub record Moment : Type 0 where
+pub record OutsideView : Type 0 where
   pub files : FilesState
   pub given : List ℕ → List ℕ
   pub talk : Talk
 
 -- what is known of these files, this source and this sink, by the meanings of their traits
-abbrev pub moment_of : {F S K : Type 0} → OfFiles F → OfSource S → OfSink K → F → S → K → ℕ → Moment
+abbrev pub moment_of : {F S K : Type 0} → OfFiles F → OfSource S → OfSink K → F → S → K → ℕ → OutsideView
 moment_of f s k files source sink steps =
     record { files = files_at f files; given = f.given files; talk = talk_of s k source sink steps }
 
@@ -46,13 +46,13 @@ abbrev pub written : ChartView → List ℕ
 written chart = bytes_of_parts (parts_of chart)
 
 -- Source and sink are as they were, and nothing was read of an index.
-abbrev pub StaysSilent : Type 0 → Moment → Moment → Type 0
+abbrev pub StaysSilent : Type 0 → OutsideView → OutsideView → Type 0
 StaysSilent untouched before now = untouched × (now.talk.steps ≡ before.talk.steps)
 
 -- The CSV file was accepted, and what the files gave for the bytes of its index was opened and asked. Plain files give
 -- these very bytes, and the lines are answered over the chart's own parts.
 pub record AnswersChart (result : Outcome) (csv : List ℕ) (settings : Settings) (untouched : Type 0)
-    (before now : Moment) : Type 0 where
+    (before now : OutsideView) : Type 0 where
   pub chart : ChartView
   pub accepted : IsAccepted before.files.map now.files.taken csv settings chart
   pub ended : EndsOpened result (before.given (written chart)) untouched before.talk now.talk
@@ -60,11 +60,11 @@ pub record AnswersChart (result : Outcome) (csv : List ℕ) (settings : Settings
 
 -- How a call of `once` ends.
 pub record EndsOnce (result : Outcome) (csv : List ℕ) (settings : Settings) (untouched : Type 0)
-    (before now : Moment) : Type 0 where
+    (before now : OutsideView) : Type 0 where
   pub loading : EndsLoading result csv limit.Csv before.files now.files
   pub unsaved : SavesNothing before.files now.files
   -- the file was refused for its bytes
-  pub refused : is_refusal result ≡ true → IsRefused before.files.map now.files.taken csv settings result
+  pub refused : is_bytes_refusal result ≡ true → IsRefused before.files.map now.files.taken csv settings result
   pub early : is_early result ≡ true → StaysSilent untouched before now
   -- the file was accepted
   pub late : is_late result ≡ true → AnswersChart result csv settings untouched before now
@@ -92,24 +92,24 @@ pub record EndsBuild (result : Outcome) (csv index : List ℕ) (settings : Setti
     Type 0 where
   pub loading : EndsLoading result csv limit.Csv before now
   -- the file was refused for its bytes
-  pub refused : is_refusal result ≡ true → IsRefused before.map now.taken csv settings result
+  pub refused : is_bytes_refusal result ≡ true → IsRefused before.map now.taken csv settings result
   -- the file was accepted
   pub late : is_late result ≡ true → SavesChart result csv index settings before now
   pub unsaved : result ≢ outcome.Done → result ≢ outcome.SaveFailed → SavesNothing before now
 
 -- The index file was loaded, opened and asked.
-pub record AnswersFile (result : Outcome) (index : List ℕ) (untouched : Type 0) (before now : Moment) : Type 0 where
+pub record AnswersFile (result : Outcome) (index : List ℕ) (untouched : Type 0) (before now : OutsideView) : Type 0 where
   pub bytes : List ℕ
   pub loaded : IsIndexLoaded before.files.map now.files.taken index bytes
   pub ended : EndsOpened result bytes untouched before.talk now.talk
 
 -- How a call of `ask` ends.
-pub record EndsAsk (result : Outcome) (index : List ℕ) (untouched : Type 0) (before now : Moment) : Type 0 where
+pub record EndsAsk (result : Outcome) (index : List ℕ) (untouched : Type 0) (before now : OutsideView) : Type 0 where
   pub loading : EndsLoading result index limit.Index before.files now.files
   pub unsaved : SavesNothing before.files now.files
   pub given : now.given ≡ before.given
   -- the file was refused for its length
-  pub refused : is_refusal result ≡ true → IsIndexRefused before.files.map now.files.taken index result
+  pub refused : is_bytes_refusal result ≡ true → IsIndexRefused before.files.map now.files.taken index result
   pub early : is_early result ≡ true → StaysSilent untouched before now
   -- the file was loaded
   pub late : is_late result ≡ true → AnswersFile result index untouched before now
@@ -164,7 +164,7 @@ EndsMerge result left right name before now =
 
 -- How the call that a request asks for ends, where it is not refused. `unheard` says that the source is as it was, and
 -- `unsaid` that the sink is.
-abbrev pub Ends : Request → Outcome → Type 0 → Type 0 → Moment → Moment → Type 0
+abbrev pub Ends : Request → Outcome → Type 0 → Type 0 → OutsideView → OutsideView → Type 0
 Ends (request.Once csv settings) result unheard unsaid before now =
     EndsOnce result csv.now settings (unheard × unsaid) before now
 Ends (request.Build csv index settings) result unheard unsaid before now =

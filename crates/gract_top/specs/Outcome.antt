@@ -46,7 +46,7 @@ Answered outcome.Memory untouched meaning before now =
 Answered other untouched meaning before now = ⊥
 
 -- A source's lines were answered from an empty desk, as far as the outcome tells.
-pub record Answers (result : Outcome) (untouched : Type 0) (meaning : Meaning) (before now : Talk) : Type 0 where
+pub record AnswersSource (result : Outcome) (untouched : Type 0) (meaning : Meaning) (before now : Talk) : Type 0 where
   pub desk : DeskView
   pub answered : Answered result untouched meaning (run_at before empty_desk) (run_at now desk)
 
@@ -58,10 +58,10 @@ index_meaning parts = meaning_of (chart_in parts) (facts_of parts) (question_cos
 pub record AnswersOver (result : Outcome) (parts : Parts) (untouched : Type 0) (before now : Talk) : Type 0 where
   pub opened : ℕ
   pub cost : opened ≤ before.steps + open_cost parts
-  pub answers : Answers result untouched (index_meaning parts) (record before { steps = opened }) now
+  pub answers : AnswersSource result untouched (index_meaning parts) (record before { steps = opened }) now
 
 -- The bytes are those of an index file, and the lines were answered over what it holds.
-pub record AnswersBytes (result : Outcome) (bytes : List ℕ) (untouched : Type 0) (before now : Talk) : Type 0 where
+pub record AnswersIndex (result : Outcome) (bytes : List ℕ) (untouched : Type 0) (before now : Talk) : Type 0 where
   pub parts : Parts
   pub file : IsFile bytes parts
   pub answers : AnswersOver result parts untouched before now
@@ -80,7 +80,7 @@ Unopened other bytes untouched before now = ⊥
 -- How a call ends once it has bytes to open: with their first flaw, or over what they hold, unless it was out of memory.
 abbrev pub EndsOpened : Outcome → List ℕ → Type 0 → Talk → Talk → Type 0
 EndsOpened result bytes untouched before now =
-    Unopened result bytes untouched before.steps now.steps ⊎ AnswersBytes result bytes untouched before now
+    Unopened result bytes untouched before.steps now.steps ⊎ AnswersIndex result bytes untouched before now
 
 -- How a call ends once it has the bytes of an index file that holds these parts: over them, unless it was out of memory.
 abbrev pub EndsOver : Outcome → List ℕ → Parts → Type 0 → Talk → Talk → Type 0

@@ -74,18 +74,18 @@ abbrev pub IsIndexLoaded : Option FileMap → ℕ → List ℕ → List ℕ → 
 IsIndexLoaded = IsLoaded limit.Index
 
 -- an outcome that the bytes of the loaded file decide before anything is made of them
-abbrev pub is_refusal : Outcome → Bool
-is_refusal (outcome.Row nth field fault) = true
-is_refusal outcome.Empty = true
-is_refusal (outcome.Limit limit.Questions value) = false
-is_refusal (outcome.Limit kind value) = true
-is_refusal other = false
+abbrev pub is_bytes_refusal : Outcome → Bool
+is_bytes_refusal (outcome.Row nth field fault) = true
+is_bytes_refusal outcome.Empty = true
+is_bytes_refusal (outcome.Limit limit.Questions value) = false
+is_bytes_refusal (outcome.Limit kind value) = true
+is_bytes_refusal other = false
 
 -- an outcome that comes before there is a chart or bytes to open
 abbrev pub is_early : Outcome → Bool
 is_early (outcome.Words place) = true
 is_early outcome.LoadFailed = true
-is_early other = is_refusal other
+is_early other = is_bytes_refusal other
 
 -- an outcome that comes after that; out of memory a call may be at any time
 abbrev pub is_late : Outcome → Bool

@@ -33,10 +33,10 @@ natural_of (Ok value) = Some (unsigned_abs value)
 natural_of (Err fault) = None
 
 -- the value of a word, where it is of this kind
-abbrev pub value_of : (kind : WordKind) → Bor (List ℕ) → Option (Value kind)
-value_of File word = if has_byte word.now then Some word else None
-value_of OptionalFile word = if has_byte word.now then Some (Some word) else None
-value_of (Number least greatest) word = natural_of (number_within (pos least) (pos greatest) word.now)
+abbrev pub word_value : (kind : WordKind) → Bor (List ℕ) → Option (Value kind)
+word_value File word = if has_byte word.now then Some word else None
+word_value OptionalFile word = if has_byte word.now then Some (Some word) else None
+word_value (Number least greatest) word = natural_of (number_within (pos least) (pos greatest) word.now)
 
 -- the values of words of these kinds
 abbrev pub Values : List WordKind → Type 0
@@ -44,23 +44,23 @@ Values [] = ⊤
 Values (kind ∷ kinds) = Value kind × Values kinds
 
 -- a value before others, unless these are refused
-abbrev pub joined : {A B : Type 0} → A → Result B ℕ → Result (A × B) ℕ
-joined value (Ok others) = Ok (value, others)
-joined value (Err place) = Err place
+abbrev pub value_and_others : {A B : Type 0} → A → Result B ℕ → Result (A × B) ℕ
+value_and_others value (Ok others) = Ok (value, others)
+value_and_others value (Err place) = Err place
 
 -- a value, where there is one, before others; else its place is refused
 abbrev pub joined_or : {A B : Type 0} → Option A → ℕ → Result B ℕ → Result (A × B) ℕ
-joined_or (Some value) place others = joined value others
+joined_or (Some value) place others = value_and_others value others
 joined_or None place others = Err place
 
 -- The values of words of these kinds, or the place of the first word that is not of its kind, of the first that is missing,
 -- or of the first too many.
-unfoldable pub values_of : (kinds : List WordKind) → List (Bor (List ℕ)) → ℕ → Result (Values kinds) ℕ
-values_of [] [] place = Ok tt
-values_of [] (word ∷ words) place = Err place
-values_of (OptionalFile ∷ kinds) [] place = joined None (values_of kinds [] place)
-values_of (kind ∷ kinds) [] place = Err place
-values_of (kind ∷ kinds) (word ∷ words) place = joined_or (value_of kind word) place (values_of kinds words (place + 1))
+unfoldable pub word_values : (kinds : List WordKind) → List (Bor (List ℕ)) → ℕ → Result (Values kinds) ℕ
+word_values [] [] place = Ok tt
+word_values [] (word ∷ words) place = Err place
+word_values (OptionalFile ∷ kinds) [] place = value_and_others None (word_values kinds [] place)
+word_values (kind ∷ kinds) [] place = Err place
+word_values (kind ∷ kinds) (word ∷ words) place = joined_or (word_value kind word) place (word_values kinds words (place + 1))
 
 -- A form of words: the name of a command, what is wanted after it, and what these values ask for.
 pub record Form : Type 0 where
@@ -145,7 +145,7 @@ asked_by form (Err place) = Refused place
 
 -- what words after a command's name ask for by its form, where the first of them stands at a place
 abbrev pub asked : Form → List (Bor (List ℕ)) → ℕ → Request
-asked form words place = asked_by form (values_of form.kinds words place)
+asked form words place = asked_by form (word_values form.kinds words place)
 
 -- what words after a name ask for, by the form among these that it names
 abbrev pub asked_among : List Form → List ℕ → List (Bor (List ℕ)) → Request

@@ -17,7 +17,7 @@ use Rattle.track_index.specs.Facts.{facts_of}
 use Rattle.track_index.specs.Opening.{IsFile}
 use Rattle.gract_top.specs.Cost.{question_cost}
 use Rattle.gract_top.specs.Outcome.{OpensOnly, Unopened}
-use Rattle.gract_top.specs.Refusal.{grid_refusal, is_refusal}
+use Rattle.gract_top.specs.Refusal.{grid_refusal, is_bytes_refusal}
 use Rattle.gract_top.specs.Summary.{summary_cost, summary_of}
 use Rattle.gract_top.specs.declared.outcome.Outcome.{Outcome}
 use Rattle.gract_top.specs.declared.outcome.Outcome.TheVariants as outcome
@@ -97,9 +97,9 @@ SumsNothing unsaid before now = unsaid × (now.steps ≡ before.steps)
 pub record EndsSample (result : Outcome) (settings : SampleSettings) (unsaid : Type 0) (files_before files_now : FilesState)
     (given : List ℕ → List ℕ) (before now : Speech) : Type 0 where
   pub kept : files_now ≡ files_before
-  pub refused : is_refusal result ≡ true →
+  pub refused : is_bytes_refusal result ≡ true →
       (sample_refusal settings ≡ Some result) × SumsNothing unsaid before now
   -- the sample is accepted, or the call was out of memory before there were bytes to pass
-  pub accepted : is_refusal result ≡ false →
+  pub accepted : is_bytes_refusal result ≡ false →
       ((result ≡ outcome.Memory) × SumsNothing unsaid before now)
       ⊎ SumsSample result settings unsaid given before now

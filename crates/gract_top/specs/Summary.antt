@@ -62,8 +62,8 @@ abbrev pub summary_cost : (Question → ℕ) → ℕ → ℕ
 summary_cost cost instants = sum_by cost (counted_questions instants)
 
 -- A question that may be asked, and is of no slot.
-abbrev pub IsCounted : Question → Type 0
-IsCounted (question.Hold slot object from to) = ⊥
-IsCounted (question.More slot count) = ⊥
-IsCounted (question.Free slot) = ⊥
-IsCounted other = AreAsked other
+abbrev pub IsSlotless : Question → Type 0
+IsSlotless (question.Hold slot object from to) = ⊥
+IsSlotless (question.More slot count) = ⊥
+IsSlotless (question.Free slot) = ⊥
+IsSlotless other = AreAsked other

@@ -10,11 +10,11 @@ use Rattle.snapshots.specs.Parts.{chart_in}
 use Rattle.encounter.specs.WalkedCost.{walked_cost}
 use Rattle.live_tail.specs.Cost.{cost_with}
 use Rattle.live_tail.specs.Facts.{facts_with}
-use Rattle.live_tail.specs.Join.{chart_with}
+use Rattle.live_tail.specs.Join.{joint_chart}
 use Rattle.question_shell.specs.Session.{Meaning, meaning_of}
-use Rattle.gract_top.specs.Beginning.{EndsLoading, OpensFile, Progress, SavesNothing, StopsAt, progress}
-use Rattle.gract_top.specs.Outcome.{Answers, Talk}
-use Rattle.gract_top.specs.Refusal.{IsAccepted, IsRefused, is_early, is_late, is_refusal}
+use Rattle.gract_top.specs.Beginning.{EndsLoading, OpensFile, Progress, SavesNothing, StopsAtIndex, progress}
+use Rattle.gract_top.specs.Outcome.{AnswersSource, Talk}
+use Rattle.gract_top.specs.Refusal.{IsAccepted, IsRefused, is_early, is_late, is_bytes_refusal}
 use Rattle.gract_top.specs.Request.{settings_of}
 use Rattle.gract_top.specs.declared.outcome.Outcome.{Outcome}
 use Rattle.gract_top.specs.declared.outcome.Outcome.TheVariants as outcome
@@ -32,7 +32,7 @@ IsTail map taken csv settings None = IsRefused map taken csv settings outcome.Em
 -- what an index of these parts means with a tail
 abbrev pub tailed_meaning : Parts → Option ChartView → Meaning
 tailed_meaning parts tail =
-    meaning_of (chart_with (chart_in parts) tail) (facts_with parts tail) (walked_cost (cost_with parts tail))
+    meaning_of (joint_chart (chart_in parts) tail) (facts_with parts tail) (walked_cost (cost_with parts tail))
 
 -- Why a CSV file gave no tail: it was not loaded, or its bytes are refused, but not for having no data row; or out of
 -- memory.
@@ -40,7 +40,7 @@ pub record HasNoTail (result : Outcome) (map : Option FileMap) (taken : ℕ) (cs
     Type 0 where
   pub early : is_late result ≡ false
   pub some : result ≢ outcome.Empty
-  pub refused : is_refusal result ≡ true → IsRefused map taken csv settings result
+  pub refused : is_bytes_refusal result ≡ true → IsRefused map taken csv settings result
 
 -- The CSV file gave a tail, which may have no row, and the lines were answered over the index with it.
 pub record AnswersTailed (result : Outcome) (parts : Parts) (csv : List ℕ) (untouched : Type 0) (map : Option FileMap)
@@ -48,7 +48,7 @@ pub record AnswersTailed (result : Outcome) (parts : Parts) (csv : List ℕ) (un
   pub late : is_early result ≡ false
   pub tail : Option ChartView
   pub is_tail : IsTail map taken csv (settings_in parts) tail
-  pub answers : Answers result untouched (tailed_meaning parts tail) before now
+  pub answers : AnswersSource result untouched (tailed_meaning parts tail) before now
 
 -- How a call ends once an index of these parts is open: its tail's file gave none, and nothing more was read, or the
 -- lines were answered over both.
@@ -72,5 +72,5 @@ pub record AsksTailed (result : Outcome) (index csv : List ℕ) (untouched : Typ
 pub record EndsAskTail (result : Outcome) (index csv : List ℕ) (untouched : Type 0) (files_before files_now : FilesState)
     (before now : Talk) : Type 0 where
   pub unsaved : SavesNothing files_before files_now
-  pub ended : (StopsAt result index (progress files_before before.steps) (progress files_now now.steps) × untouched)
+  pub ended : (StopsAtIndex result index (progress files_before before.steps) (progress files_now now.steps) × untouched)
       ⊎ AsksTailed result index csv untouched files_before files_now before now

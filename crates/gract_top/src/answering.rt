@@ -4,7 +4,7 @@ ghost use Rattle.track_types.specs.Limits.{limit_of};
 ghost use Rattle.question_shell.specs.Session.{meaning_by};
 ghost use Rattle.track_index.specs.Opening.{IsFile};
 ghost use Rattle.track_types.specs.declared.parts.Parts.{Parts};
-ghost use Rattle.gract_top.specs.Outcome.{Answers, EndsOpened, EndsOver, talk_of};
+ghost use Rattle.gract_top.specs.Outcome.{AnswersSource, EndsOpened, EndsOver, talk_of};
 ghost use Rattle.gract_top.specs.Refusal.{is_early};
 
 use crate::outcome::Outcome;
@@ -58,7 +58,7 @@ pub(crate) fn answer_with<A: Meets, S: Source, K: Sink, L: Ledger>(
 ) -> Outcome
     ensures late { is_early result ≡ false }
     ensures words { (place : ℕ) → result ≢ Outcome.Words place }
-    ensures answers { Answers result ((source.new ≡ source.old) × (sink.new ≡ sink.old))
+    ensures answers { AnswersSource result ((source.new ≡ source.old) × (sink.new ≡ sink.old))
         (meaning_by A.Answerer answerer)
         (talk_of S.Source K.Sink source.old sink.old steps.old)
         (talk_of S.Source K.Sink source.new sink.new steps.new) }

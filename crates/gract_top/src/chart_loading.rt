@@ -3,7 +3,7 @@ ghost use Rattle.std.specs.Prelude.{IfOk, IfErr};
 ghost use Rattle.track_types.specs.Limits.{IsPeriod, IsResolution, limit_of};
 ghost use Rattle.gract_top.specs.Loading.{LoadsOnly};
 ghost use Rattle.gract_top.specs.Receiving.{HasGriddedRows};
-ghost use Rattle.gract_top.specs.Refusal.{IsAccepted, IsRefused, is_late, is_refusal};
+ghost use Rattle.gract_top.specs.Refusal.{IsAccepted, IsRefused, is_late, is_bytes_refusal};
 ghost use Rattle.gract_top.specs.declared.request.Settings.{Settings};
 
 use crate::loading::load;
@@ -31,7 +31,7 @@ pub(crate) fn load_chart<F: Files>(
     ensures early { IfErr result (λ outcome. is_late outcome ≡ false) }
     ensures words { IfErr result (λ outcome. (place : ℕ) → outcome ≢ Outcome.Words place) }
     ensures loads { LoadsOnly F.Files files.old files.new csv.now (result ≡ Err Outcome.LoadFailed) }
-    ensures refused { IfErr result (λ outcome. is_refusal outcome ≡ true →
+    ensures refused { IfErr result (λ outcome. is_bytes_refusal outcome ≡ true →
         IsRefused (F.map files.old) (F.taken files.new) csv.now settings outcome) }
     ensures csv_taken { (value : ℕ) → result ≡ Err (Outcome.Limit LimitKind.Csv value) →
         (value ≡ limit_of LimitKind.Csv + 1) × (F.taken files.new ≡ value) }
@@ -63,7 +63,7 @@ fn load_rows<F: Files>(
     ensures early { IfErr result (λ outcome. is_late outcome ≡ false) }
     ensures words { IfErr result (λ outcome. (place : ℕ) → outcome ≢ Outcome.Words place) }
     ensures loads { LoadsOnly F.Files files.old files.new csv.now (result ≡ Err Outcome.LoadFailed) }
-    ensures refused { IfErr result (λ outcome. is_refusal outcome ≡ true →
+    ensures refused { IfErr result (λ outcome. is_bytes_refusal outcome ≡ true →
         IsRefused (F.map files.old) (F.taken files.new) csv.now settings outcome) }
     ensures csv_taken { (value : ℕ) → result ≡ Err (Outcome.Limit LimitKind.Csv value) →
         (value ≡ limit_of LimitKind.Csv + 1) × (F.taken files.new ≡ value) }

@@ -11,18 +11,18 @@ pub(crate) struct CommandWords<'a> {
 
 impl<'a> CommandWords<'a> {
     ghost use Rattle.std.specs.Prelude.{◌≡◌, ◌+◌, ◌<◌, ◌≤◌, ◌^◌, List, [], ◌∷◌, Ok, Err, IfOk, IfErr, OnOk};
-    ghost use Rattle.gract_top.specs.Request.{AreSettings, File, Number, OptionalFile, WordKind, joined, period};
-    ghost use Rattle.gract_top.specs.Request.{resolution, values_of};
+    ghost use Rattle.gract_top.specs.Request.{AreSettings, File, Number, OptionalFile, WordKind, value_and_others, period};
+    ghost use Rattle.gract_top.specs.Request.{resolution, word_values};
 
     // The next one as the name of a file: any text that is not empty; or else its place.
-    #[tactic(auto, unfolding(crate::specs::Request::values_of))]
+    #[tactic(auto, unfolding(crate::specs::Request::word_values))]
     pub(crate) fn file(&mut self) -> Result<&'a str, u32>
         requires { self.old.place < 2 ^ 31 }
         ensures ok { IfOk result (λ name. (kinds : List WordKind) →
-            values_of (File ∷ kinds) self.old.rest.now self.old.place
-            ≡ joined name (values_of kinds self.new.rest.now self.new.place)) }
+            word_values (File ∷ kinds) self.old.rest.now self.old.place
+            ≡ value_and_others name (word_values kinds self.new.rest.now self.new.place)) }
         ensures err { IfErr result (λ place. (kinds : List WordKind) →
-            values_of (File ∷ kinds) self.old.rest.now self.old.place ≡ Err place) }
+            word_values (File ∷ kinds) self.old.rest.now self.old.place ≡ Err place) }
         ensures next { OnOk result (self.new.place ≡ self.old.place + 1) }
     {
         let [word, rest @ ..] = self.rest else {
@@ -37,14 +37,14 @@ impl<'a> CommandWords<'a> {
     }
 
     // The next one as the name of a file, and none where there is no other word; or else its place.
-    #[tactic(auto, unfolding(crate::specs::Request::values_of))]
+    #[tactic(auto, unfolding(crate::specs::Request::word_values))]
     pub(crate) fn optional_file(&mut self) -> Result<Option<&'a str>, u32>
         requires { self.old.place < 2 ^ 31 }
         ensures ok { IfOk result (λ name. (kinds : List WordKind) →
-            values_of (OptionalFile ∷ kinds) self.old.rest.now self.old.place
-            ≡ joined name (values_of kinds self.new.rest.now self.new.place)) }
+            word_values (OptionalFile ∷ kinds) self.old.rest.now self.old.place
+            ≡ value_and_others name (word_values kinds self.new.rest.now self.new.place)) }
         ensures err { IfErr result (λ place. (kinds : List WordKind) →
-            values_of (OptionalFile ∷ kinds) self.old.rest.now self.old.place ≡ Err place) }
+            word_values (OptionalFile ∷ kinds) self.old.rest.now self.old.place ≡ Err place) }
     {
         let [word, rest @ ..] = self.rest else {
             return Ok(None);
@@ -58,15 +58,15 @@ impl<'a> CommandWords<'a> {
     }
 
     // The value of the next one, a numeral from `least` to `greatest`; or else its place.
-    #[tactic(auto, unfolding(crate::specs::Request::values_of))]
+    #[tactic(auto, unfolding(crate::specs::Request::word_values))]
     pub(crate) fn number(&mut self, least: u64, greatest: u64) -> Result<u64, u32>
         requires small { self.old.place < 2 ^ 31 }
         requires bounds { (least ≤ greatest) × (greatest < 2 ^ 63) }
         ensures ok { IfOk result (λ value. (kinds : List WordKind) →
-            values_of (Number least greatest ∷ kinds) self.old.rest.now self.old.place
-            ≡ joined value (values_of kinds self.new.rest.now self.new.place)) }
+            word_values (Number least greatest ∷ kinds) self.old.rest.now self.old.place
+            ≡ value_and_others value (word_values kinds self.new.rest.now self.new.place)) }
         ensures err { IfErr result (λ place. (kinds : List WordKind) →
-            values_of (Number least greatest ∷ kinds) self.old.rest.now self.old.place ≡ Err place) }
+            word_values (Number least greatest ∷ kinds) self.old.rest.now self.old.place ≡ Err place) }
         ensures within { IfOk result (λ value. (least ≤ value) × (value ≤ greatest)) }
         ensures next { OnOk result (self.new.place ≡ self.old.place + 1) }
     {
@@ -85,11 +85,11 @@ impl<'a> CommandWords<'a> {
     pub(crate) fn settings(&mut self) -> Result<Settings, u32>
         requires { self.old.place < 2 ^ 30 }
         ensures ok { IfOk result (λ settings. (kinds : List WordKind) →
-            values_of (resolution ∷ resolution ∷ period ∷ kinds) self.old.rest.now self.old.place
-            ≡ joined settings.cell (joined settings.tick (joined settings.period
-            (values_of kinds self.new.rest.now self.new.place)))) }
+            word_values (resolution ∷ resolution ∷ period ∷ kinds) self.old.rest.now self.old.place
+            ≡ value_and_others settings.cell (value_and_others settings.tick (value_and_others settings.period
+            (word_values kinds self.new.rest.now self.new.place)))) }
         ensures err { IfErr result (λ place. (kinds : List WordKind) →
-            values_of (resolution ∷ resolution ∷ period ∷ kinds) self.old.rest.now self.old.place
+            word_values (resolution ∷ resolution ∷ period ∷ kinds) self.old.rest.now self.old.place
             ≡ Err place) }
         ensures ranges { IfOk result AreSettings }
     {
@@ -100,10 +100,10 @@ impl<'a> CommandWords<'a> {
     }
 
     // The place of the first one, where there is any.
-    #[tactic(auto, unfolding(crate::specs::Request::values_of))]
+    #[tactic(auto, unfolding(crate::specs::Request::word_values))]
     pub(crate) fn end(self) -> Result<(), u32>
-        ensures ok { OnOk result (values_of [] self.entry.rest.now self.entry.place ≡ Ok tt) }
-        ensures err { IfErr result (λ place. values_of [] self.entry.rest.now self.entry.place ≡ Err place) }
+        ensures ok { OnOk result (word_values [] self.entry.rest.now self.entry.place ≡ Ok tt) }
+        ensures err { IfErr result (λ place. word_values [] self.entry.rest.now self.entry.place ≡ Err place) }
     {
         if self.rest.is_empty() {
             Ok(())

@@ -1,5 +1,5 @@
 ghost use Rattle.std.specs.Prelude.{◌≡◌, ◌≤◌, All};
-ghost use Rattle.gract_top.specs.Summary.{IsCounted, counted_questions};
+ghost use Rattle.gract_top.specs.Summary.{IsSlotless, counted_questions};
 
 use track_types::{Cell, Question, Region};
 
@@ -22,7 +22,7 @@ const MIDDLE: Region = Region::Disc {
 pub(crate) fn counted_questions(instants: u32) -> [Question; 5]
     requires { 1 ≤ instants }
     ensures value { result ≡ counted_questions instants }
-    ensures counted { All IsCounted result }
+    ensures counted { All IsSlotless result }
 {
     let last = instants - 1;
     let middle = i64::from((instants / 2).min(last));

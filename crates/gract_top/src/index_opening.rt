@@ -1,6 +1,6 @@
 ghost use Rattle.std.specs.Prelude.{◌≡◌, ◌≢◌, ℕ, IfOk, IfErr, Err};
 ghost use Rattle.host_ports.specs.Meanings.{files_at};
-ghost use Rattle.gract_top.specs.Beginning.{OpensFile, StopsAt, progress};
+ghost use Rattle.gract_top.specs.Beginning.{OpensFile, StopsAtIndex, progress};
 
 use crate::loading::load;
 use crate::outcome::Outcome;
@@ -23,7 +23,7 @@ pub(crate) fn open_file<F: Files, L: Ledger>(
     ensures ok { IfOk result (λ index. OpensFile name.now index
         (progress (files_at F.Files files.old) steps.old)
         (progress (files_at F.Files files.new) steps.new)) }
-    ensures err { IfErr result (λ outcome. StopsAt outcome name.now
+    ensures err { IfErr result (λ outcome. StopsAtIndex outcome name.now
         (progress (files_at F.Files files.old) steps.old)
         (progress (files_at F.Files files.new) steps.new)) }
     ensures words { IfErr result (λ outcome. (place : ℕ) → outcome ≢ Outcome.Words place) }

@@ -2,7 +2,7 @@ ghost use Rattle.std.specs.Prelude.{◌≡◌, ◌≢◌, ◌+◌, ◌^◌, ◌<
 ghost use Rattle.track_types.specs.Limits.{limit_of};
 ghost use Rattle.track_types.specs.declared.limit.LimitKind.{LimitKind};
 ghost use Rattle.gract_top.specs.Loading.{IsReceived, LoadsOnly};
-ghost use Rattle.gract_top.specs.Refusal.{IsLengthRefused, is_late, is_refusal};
+ghost use Rattle.gract_top.specs.Refusal.{IsLengthRefused, is_late, is_bytes_refusal};
 
 use crate::outcome::Outcome;
 use crate::receiver::Receiver;
@@ -29,7 +29,7 @@ pub(crate) fn load<F: Files, R: Receiver>(
     ensures early { IfErr result (λ outcome. is_late outcome ≡ false) }
     ensures words { IfErr result (λ outcome. (place : ℕ) → outcome ≢ Outcome.Words place) }
     ensures loads { LoadsOnly F.Files files.old files.new name.now (result ≡ Err Outcome.LoadFailed) }
-    ensures refused { IfErr result (λ outcome. is_refusal outcome ≡ true →
+    ensures refused { IfErr result (λ outcome. is_bytes_refusal outcome ≡ true →
         IsLengthRefused kind (F.map files.old) (F.taken files.new) name.now outcome) }
     ensures too_long { (other : LimitKind) (value : ℕ) → result ≡ Err (Outcome.Limit other value) →
         (other ≡ kind) × (value ≡ limit_of kind + 1) × (F.taken files.new ≡ value) }

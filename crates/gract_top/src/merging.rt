@@ -2,7 +2,7 @@ ghost use Rattle.std.specs.Prelude.{◌≡◌, ◌≢◌, ℕ, ◌+◌, ◌≤�
 ghost use Rattle.host_ports.specs.Counting.{SaveCounts};
 ghost use Rattle.host_ports.specs.Meanings.{files_at};
 ghost use Rattle.index_merge.specs.Cost.{union_cost};
-ghost use Rattle.index_merge.specs.MergeFault.{IsFaultFor, merge_fault};
+ghost use Rattle.index_merge.specs.MergeFault.{IsMergeFaultFor, merge_fault};
 ghost use Rattle.gract_top.specs.Beginning.{SavesNothing, progress};
 ghost use Rattle.gract_top.specs.Ends.{EndsMerge, SavesUnion};
 ghost use Rattle.gract_top.specs.Merging.{NotMerged, merge_outcome, union_bytes};
@@ -87,7 +87,7 @@ fn index_of_union<L: Ledger>(
 ) -> Result<Vec<u8>, MergeFault>
     ensures ok { IfOk result (λ bytes. bytes.items ≡ union_bytes left right) }
     ensures exact { OnOk result (merge_fault left right ≡ None) }
-    ensures fault { IfErr result (IsFaultFor (merge_fault left right)) }
+    ensures fault { IfErr result (IsMergeFaultFor (merge_fault left right)) }
     ensures cost { steps.new ≤ steps.old + union_cost left right }
 {
     let chart = union(alloc, &left, &right, steps)?;

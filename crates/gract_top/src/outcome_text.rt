@@ -97,7 +97,7 @@ fn record_text(nth: u64, field: u32, fault: RowFault) -> ArrayString<160>
     text.push_str(digits.format(nth));
     text.push_str(words_before(fault));
     text.push_str(digits.format(field));
-    text.push_str(words_behind(fault));
+    text.push_str(words_after(fault));
     text
 }
 
@@ -163,7 +163,7 @@ fn words_before(fault: RowFault) -> &'static str
     }
 }
 
-fn words_behind(fault: RowFault) -> &'static str
+fn words_after(fault: RowFault) -> &'static str
     ensures value { result.now ≡ behind_field fault }
     ensures short { length result.now ≤ 16 }
 {

@@ -3,7 +3,7 @@ ghost use Rattle.host_ports.specs.Counting.{SinkCounts};
 ghost use Rattle.host_ports.specs.Meanings.{files_at};
 ghost use Rattle.track_index.specs.Opening.{IsFile};
 ghost use Rattle.track_types.specs.declared.parts.Parts.{Parts};
-ghost use Rattle.gract_top.specs.Refusal.{is_refusal};
+ghost use Rattle.gract_top.specs.Refusal.{is_bytes_refusal};
 ghost use Rattle.gract_top.specs.Request.{AreSampleSettings};
 ghost use Rattle.gract_top.specs.Sampling.{EndsSample, EndsSummed, EndsSummedOver};
 ghost use Rattle.gract_top.specs.Sampling.{sample_chart, sample_refusal, speech};
@@ -63,7 +63,7 @@ fn chart_of_sample(alloc: Global, settings: SampleSettings) -> Result<Chart, Out
     ensures accepted { IfOk result (λ _. sample_refusal settings ≡ None) }
     ensures chart { IfOk result (λ chart. chart ≡ sample_chart settings) }
     ensures refused { IfErr result (λ outcome. (outcome ≡ Outcome.Memory)
-        ⊎ ((is_refusal outcome ≡ true) × (sample_refusal settings ≡ Some outcome))) }
+        ⊎ ((is_bytes_refusal outcome ≡ true) × (sample_refusal settings ≡ Some outcome))) }
 {
     let most = u64::from(settings.objects) * u64::from(settings.instants);
     if most > MAX_ROWS {

@@ -6,7 +6,7 @@ ghost use Rattle.question_shell.specs.Desk.{budget_of, empty_desk, held_of};
 ghost use Rattle.question_shell.specs.Reply.{ok_line};
 ghost use Rattle.question_shell.specs.declared.turn_fault.TurnFault.TheVariants as fault;
 ghost use Rattle.gract_top.specs.Sampling.{SaysFront};
-ghost use Rattle.gract_top.specs.Summary.{IsCounted, counts_of, summary_cost, summary_of};
+ghost use Rattle.gract_top.specs.Summary.{IsSlotless, counts_of, summary_cost, summary_of};
 
 use crate::counting::counted_questions;
 use arrayvec::ArrayString;
@@ -52,7 +52,7 @@ fn say_counts<A: Meets, K: Sink, L: Ledger>(
     sink: &mut K,
     steps: &mut Steps<L>,
 ) -> Result<(), TurnFault>
-    requires counted { All IsCounted questions.now }
+    requires counted { All IsSlotless questions.now }
     requires empty { held_of desk.old ≡ held_of empty_desk }
     ensures ok { OnOk result (Appends (K.said sink.old) (K.said sink.new)
         (counts_of (A.chart answerer) (A.facts answerer) questions.now)) }

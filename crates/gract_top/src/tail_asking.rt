@@ -5,7 +5,7 @@ ghost use Rattle.track_types.specs.Limits.{limit_of};
 ghost use Rattle.gract_top.specs.Beginning.{EndsLoading};
 ghost use Rattle.encounter.specs.WalkedCost.{walked_cost};
 ghost use Rattle.question_shell.specs.Session.{meaning_of};
-ghost use Rattle.gract_top.specs.Outcome.{Answers, talk_of};
+ghost use Rattle.gract_top.specs.Outcome.{AnswersSource, talk_of};
 ghost use Rattle.gract_top.specs.Loading.{LoadsOnly};
 ghost use Rattle.gract_top.specs.Refusal.{is_early};
 ghost use Rattle.gract_top.specs.Request.{AreSettings};
@@ -106,7 +106,7 @@ fn answer_walked<A: Answerer, S: Source, K: Sink, L: Ledger>(
 ) -> Outcome
     ensures late { is_early result ≡ false }
     ensures words { (place : ℕ) → result ≢ Outcome.Words place }
-    ensures answers { Answers result ((source.new ≡ source.old) × (sink.new ≡ sink.old))
+    ensures answers { AnswersSource result ((source.new ≡ source.old) × (sink.new ≡ sink.old))
         (meaning_of (A.chart answerer) (A.facts answerer) (walked_cost (A.cost answerer)))
         (talk_of S.Source K.Sink source.old sink.old steps.old)
         (talk_of S.Source K.Sink source.new sink.new steps.new) }

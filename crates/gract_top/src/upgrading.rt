@@ -2,7 +2,7 @@ ghost use Rattle.std.specs.Prelude.{◌≡◌, ◌≢◌, ℕ, ◌+◌, ◌*◌,
 ghost use Rattle.host_ports.specs.Counting.{SaveCounts};
 ghost use Rattle.host_ports.specs.Meanings.{files_at};
 ghost use Rattle.snapshots.specs.SoundParts.{IsValid};
-ghost use Rattle.track_index.specs.CheckFlaws.{IsFaultFor};
+ghost use Rattle.track_index.specs.CheckFlaws.{IsFormatFaultFor};
 ghost use Rattle.track_index.specs.Opening.{bytes_cost, first_flaw, IsFile};
 ghost use Rattle.snapshots.specs.Upgrade.{upgrade_of};
 ghost use Rattle.track_types.specs.Limits.{limit_of};
@@ -113,7 +113,7 @@ fn upgraded_parts<L: Ledger>(
     ensures ok { IfOk result (λ newest.
         (parts : WholeParts) × IsFile bytes.items parts × (newest ≡ upgrade_of parts)) }
     ensures valid { IfOk result IsValid }
-    ensures flaw { IfErr result (λ fault. IsFaultFor (first_flaw bytes.items) fault) }
+    ensures flaw { IfErr result (λ fault. IsFormatFaultFor (first_flaw bytes.items) fault) }
     ensures cost { steps.new ≤ steps.old + 2 * bytes_cost bytes.items }
 {
     let parts = decode(alloc, &bytes)?;

@@ -9,7 +9,7 @@ use Rattle.track_types.specs.Limits.{limit_of}
 use Rattle.track_types.specs.Near.{IsNear, IsRowInRange}
 use Rattle.track_types.specs.declared.limit.LimitKind.TheVariants.{Base}
 use Rattle.track_types.specs.declared.row.Row.{Row}
-use Rattle.gridding.specs.GridLimit.{base_of, chart_fault, chart_limit, distance_of, first_past, IsFaultFor, IsRefusal, is_past, limit_fault}
+use Rattle.gridding.specs.GridLimit.{base_of, chart_fault, chart_limit, distance_of, first_past, IsGridFaultFor, IsRefusal, is_past, limit_fault}
 use Rattle.gridding.specs.declared.fault.GridFault.{GridFault}
 use Rattle.gridding.specs.declared.fault.GridFault.TheVariants.{Empty, Limit, Memory}
 
@@ -27,9 +27,9 @@ chart_fault-some [] period some = absurd (omega arith)
 chart_fault-some (row ∷ rows) period some = refl
 
 -- a fault that is the cause
-pub IsFaultFor-is : (rows : List Row) (period : ℕ) (fault : GridFault) → fault ≡ Limit Base (base_of rows)
-    → chart_fault rows period ≡ Some (Limit Base (base_of rows)) → IsFaultFor (chart_fault rows period) fault
-IsFaultFor-is rows period fault is first = rw is first
+pub IsGridFaultFor-is : (rows : List Row) (period : ℕ) (fault : GridFault) → fault ≡ Limit Base (base_of rows)
+    → chart_fault rows period ≡ Some (Limit Base (base_of rows)) → IsGridFaultFor (chart_fault rows period) fault
+IsGridFaultFor-is rows period fault is first = rw is first
 
 module _ (rows : List Row) (period : ℕ) (some : 0 < length rows) where
   -- a cell is too far
@@ -46,11 +46,11 @@ module _ (rows : List Row) (period : ℕ) (some : 0 < length rows) where
     chart_fault-within none = chart_fault-near ∙ ap (option_map limit_fault) none
 
     -- or one does
-    pub IsFaultFor-refusal : (fault : GridFault) → IsRefusal (first_past rows period) fault
-        → IsFaultFor (chart_fault rows period) fault
-    IsFaultFor-refusal (Limit kind value) refusal = chart_fault-near ∙ ap (option_map limit_fault) refusal
-    IsFaultFor-refusal Empty refusal = absurd refusal
-    IsFaultFor-refusal Memory refusal = tt
+    pub IsGridFaultFor-refusal : (fault : GridFault) → IsRefusal (first_past rows period) fault
+        → IsGridFaultFor (chart_fault rows period) fault
+    IsGridFaultFor-refusal (Limit kind value) refusal = chart_fault-near ∙ ap (option_map limit_fault) refusal
+    IsGridFaultFor-refusal Empty refusal = absurd refusal
+    IsGridFaultFor-refusal Memory refusal = tt
 
 -- a coordinate that is not farther
 IsNear-within : (z : ℤ) → unsigned_abs z ≤ limit_of Base → IsNear z

@@ -19,8 +19,8 @@ use Rattle.std.proofs.lemmas.Slice.Zip.{firsts-zip, get_or-zip, length-zip}
 use Rattle.list_laws.proofs.SliceLemmas.{slice_get-append_add, slice_get-append_left}
 use Rattle.list_laws.proofs.ZipLemmas.{zip-append, zip-set}
 use Rattle.track_types.specs.declared.row.Row.{Row}
-use Rattle.gridding.specs.Blocks.{IsLastOf, Run, filled_of, rows_of_run, rows_of_runs}
-use Rattle.gridding.specs.PackedPlace.{row_at}
+use Rattle.gridding.specs.Blocks.{IsLastOf, ObjectRun, filled_of, rows_of_run, rows_of_runs}
+use Rattle.gridding.specs.PackedPlace.{packed_row}
 use Rattle.gridding.specs.Blocks.{rows_with, runs_of, runs_with}
 use Rattle.gridding.specs.GriddedRows.{AreBlocksOf, HasAdded, HasKept, HasPut, HasRoom, IsApart, IsAway, IsFull, IsOneTooMany}
 use Rattle.gridding.specs.declared.packed_place.PackedPlace.{PackedPlace}
@@ -29,7 +29,7 @@ use Rattle.gridding.specs.declared.track_blocks.TrackBlocks.{TrackBlocks}
 use Rattle.gridding.specs.declared.packed_place.Origin.{Origin}
 
 -- the object of a run
-abbrev owner : Run → ℕ
+abbrev owner : ObjectRun → ℕ
 owner run = run.0
 
 -- an object at the end stands there last
@@ -84,25 +84,25 @@ same_last object objects a b at_a at_b =
 
 module _ (origin : Origin) where
   -- the rows of an object in runs
-  abbrev rows_in : ℕ → List Run → List Row
+  abbrev rows_in : ℕ → List ObjectRun → List Row
   rows_in object runs = rows_of_runs origin (runs_with object runs)
 
   -- of two lists of runs
-  rows_in-append : (object : ℕ) (xs ys : List Run) → rows_in object (xs ++ ys) ≡ rows_in object xs ++ rows_in object ys
+  rows_in-append : (object : ℕ) (xs ys : List ObjectRun) → rows_in object (xs ++ ys) ≡ rows_in object xs ++ rows_in object ys
   rows_in-append object xs ys =
       ap (rows_of_runs origin) (filter-append (λ run. run.0 == object) xs ys)
       ∙ flat_map-append (rows_of_run origin) (runs_with object xs) (runs_with object ys)
 
   -- of a run of one place
   rows_in-opened : (object : ℕ) (place : PackedPlace) (other : ℕ) →
-      rows_in other ((object, place ∷ []) ∷ []) ≡ rows_with other (row_at origin object place ∷ [])
+      rows_in other ((object, place ∷ []) ∷ []) ≡ rows_with other (packed_row origin object place ∷ [])
   rows_in-opened object place other = elim (cases_eq object other) [
     | inl is ↦ grind (arith, nat_tests)
     | inr differ ↦ grind (arith, nat_tests)
   ]
 
   -- where there is no run of an object
-  rows_in-none : (object : ℕ) (runs : List Run) → filter (λ other. other == object) (map owner runs) ≡ [] →
+  rows_in-none : (object : ℕ) (runs : List ObjectRun) → filter (λ other. other == object) (map owner runs) ≡ [] →
       rows_in object runs ≡ []
   rows_in-none object [] none = refl
   rows_in-none object (run ∷ runs) none = elim (cases_eq run.0 object) [
@@ -111,34 +111,34 @@ module _ (origin : Origin) where
   ]
 
   -- of one place more in a run after which there is none of its object
-  rows_in-put : (object : ℕ) (places : List PackedPlace) (place : PackedPlace) (other : ℕ) (runs : List Run) →
+  rows_in-put : (object : ℕ) (places : List PackedPlace) (place : PackedPlace) (other : ℕ) (runs : List ObjectRun) →
       filter (λ own. own == object) (map owner runs) ≡ [] →
       rows_in other ((object, places ++ (place ∷ [])) ∷ runs)
-      ≡ rows_in other ((object, places) ∷ runs) ++ rows_with other (row_at origin object place ∷ [])
+      ≡ rows_in other ((object, places) ∷ runs) ++ rows_with other (packed_row origin object place ∷ [])
   rows_in-put object places place other runs none =
       let none_after = rows_in-none object runs none in
-      let put = map-append (row_at origin object) places (place ∷ []) in
+      let put = map-append (packed_row origin object) places (place ∷ []) in
       elim (cases_eq object other) [
         | inl is ↦
-            let end = append-nil (map (row_at origin object) places) in
-            grind (arith, nat_tests, none_after, put, end, append-nil (map (row_at origin object) (places ++ (place ∷ []))))
+            let end = append-nil (map (packed_row origin object) places) in
+            grind (arith, nat_tests, none_after, put, end, append-nil (map (packed_row origin object) (places ++ (place ∷ []))))
         | inr differ ↦ grind (arith, nat_tests, append-nil (rows_in other runs))
       ]
 
   -- of one place more in an object's last run
-  rows_in-pushed : (object last : ℕ) (places : List PackedPlace) (place : PackedPlace) (other : ℕ) (runs : List Run) →
-      (d : Run) → IsLastOf object (map owner runs) (Some last) → get_or runs last d ≡ (object, places) →
+  rows_in-pushed : (object last : ℕ) (places : List PackedPlace) (place : PackedPlace) (other : ℕ) (runs : List ObjectRun) →
+      (d : ObjectRun) → IsLastOf object (map owner runs) (Some last) → get_or runs last d ≡ (object, places) →
       rows_in other (set runs last (object, places ++ (place ∷ [])))
-      ≡ rows_in other runs ++ rows_with other (row_at origin object place ∷ [])
+      ≡ rows_in other runs ++ rows_with other (packed_row origin object place ∷ [])
   rows_in-pushed object last places place other [] d (is, none) here = cc
   rows_in-pushed object zero places place other (run ∷ runs) d (is, none) here =
       rw here (rows_in-put object places place other runs none)
   rows_in-pushed object (suc last) places place other (run ∷ runs) d (is, none) here =
-      let pushed : Run = (object, places ++ (place ∷ [])) in
+      let pushed : ObjectRun = (object, places ++ (place ∷ [])) in
       let rest = rows_in-pushed object last places place other runs d (is, none) here in
       rows_in-append other (run ∷ []) (set runs last pushed) ∙ ap (λ rows. rows_in other (run ∷ []) ++ rows) rest
-      ∙ sym (append_assoc (rows_in other (run ∷ [])) (rows_in other runs) (rows_with other (row_at origin object place ∷ [])))
-      ∙ ap (λ rows. rows ++ rows_with other (row_at origin object place ∷ [])) (sym (rows_in-append other (run ∷ []) runs))
+      ∙ sym (append_assoc (rows_in other (run ∷ [])) (rows_in other runs) (rows_with other (packed_row origin object place ∷ [])))
+      ∙ ap (λ rows. rows ++ rows_with other (packed_row origin object place ∷ [])) (sym (rows_in-append other (run ∷ []) runs))
 
 -- each block has its filled places
 filled_long : (rows : List Row) (tracks : TrackBlocks) → AreBlocksOf rows tracks →
@@ -151,12 +151,12 @@ filled_long rows tracks blocks =
 module _ (rows : List Row) (old new : TrackBlocks) (object : ℕ) (place : PackedPlace) (blocks : AreBlocksOf rows old) (origin_stays : new.origin ≡ old.origin) where
   -- each object has the rows that it had, and this one if it is its own
   held_more : (other : ℕ) →
-      rows_in old.origin other (runs_of new) ≡ rows_in old.origin other (runs_of old) ++ rows_with other (row_at old.origin object place ∷ []) →
-      rows_in new.origin other (runs_of new) ≡ rows_with other (rows ++ (row_at old.origin object place ∷ []))
+      rows_in old.origin other (runs_of new) ≡ rows_in old.origin other (runs_of old) ++ rows_with other (packed_row old.origin object place ∷ []) →
+      rows_in new.origin other (runs_of new) ≡ rows_with other (rows ++ (packed_row old.origin object place ∷ []))
   unfolding runs_of
   held_more other more =
-      rw origin_stays more ∙ ap (λ held. held ++ rows_with other (row_at old.origin object place ∷ [])) (blocks.held other)
-      ∙ sym (filter-append (λ row. row.object == other) rows (row_at old.origin object place ∷ []))
+      rw origin_stays more ∙ ap (λ held. held ++ rows_with other (packed_row old.origin object place ∷ [])) (blocks.held other)
+      ∙ sym (filter-append (λ row. row.object == other) rows (packed_row old.origin object place ∷ []))
 
   -- in the object's last block
   pub blocks_pushed : (last n : ℕ) (places pushed : List PackedPlace) →
@@ -165,7 +165,7 @@ module _ (rows : List Row) (old new : TrackBlocks) (object : ℕ) (place : Packe
       take (n + 1) pushed ≡ take n places ++ (place ∷ []) →
       new.blocks.items ≡ set old.blocks.items last pushed → new.objects ≡ old.objects →
       new.lengths.items ≡ set old.lengths.items last (n + 1) → new.last_of ≡ old.last_of →
-      AreBlocksOf (rows ++ (row_at old.origin object place ∷ [])) new
+      AreBlocksOf (rows ++ (packed_row old.origin object place ∷ [])) new
   unfolding runs_of
   blocks_pushed last n places pushed is below places_are length_is put blocks_are objects_stay lengths_are map_stays =
       let objects : List ℕ = old.objects.items in
@@ -180,7 +180,7 @@ module _ (rows : List Row) (old new : TrackBlocks) (object : ℕ) (place : Packe
       get_or-zip old.blocks.items old.lengths.items last (places, n) (omega (arith, blocks.objects))
       (omega (arith, blocks.objects, blocks.lengths)) ∙ grind (arith, places_are, n_is) in
       let own : get_or objects last object ≡ object = get_or_from_slice_get objects last object object is_last.0 in
-      let run : Run = (object, take n places) in
+      let run : ObjectRun = (object, take n places) in
       let run_is : get_or (runs_of old) last run ≡ run =
       get_or-zip objects filled last run within (omega arith)
       ∙ grind (
@@ -223,12 +223,12 @@ module _ (rows : List Row) (old new : TrackBlocks) (object : ℕ) (place : Packe
       last ≡ length old.blocks.items → new.blocks.items ≡ old.blocks.items ++ (opened ∷ []) →
       new.objects.items ≡ old.objects.items ++ (object ∷ []) → new.lengths.items ≡ old.lengths.items ++ (1 ∷ []) →
       Updates nat_eq old.last_of new.last_of object (Some last) → IsFull object old →
-      AreBlocksOf (rows ++ (row_at old.origin object place ∷ [])) new
+      AreBlocksOf (rows ++ (packed_row old.origin object place ∷ [])) new
   unfolding runs_of
   blocks_opened last opened one place_is blocks_are objects_are lengths_are updates full =
       let objects : List ℕ = old.objects.items in
       let pairs : List (List PackedPlace × ℕ) = zip old.blocks.items old.lengths.items in
-      let run : Run = (object, place ∷ []) in
+      let run : ObjectRun = (object, place ∷ []) in
       let filled_now : map filled_of (zip new.blocks.items new.lengths.items)
       ≡ map filled_of pairs ++ ((place ∷ []) ∷ []) =
       rw (blocks_are, lengths_are)

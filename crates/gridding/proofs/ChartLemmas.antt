@@ -15,8 +15,8 @@ use Rattle.track_types.specs.declared.row.Row.{Row}
 use Rattle.list_laws.specs.Ordered.{ordered}
 use Rattle.list_laws.proofs.MemberLemmas.{some_from_any}
 use Rattle.list_laws.proofs.OrderedLemmas.{IsPermutation-ordered, all-ordered, any-ordered}
-use Rattle.gridding.proofs.KeptLemmas.{any-kept, found-chart_rows, place_equiv}
-use Rattle.gridding.specs.ChartOf.{chart_rows, gridded, kept}
+use Rattle.gridding.proofs.KeptLemmas.{any-last_of_each_instant, found-chart_rows, place_equiv}
+use Rattle.gridding.specs.ChartOf.{chart_rows, gridded, last_of_each_instant}
 use Rattle.gridding.specs.Floor.{floor_div}
 
 -- a quotient is not farther from 0
@@ -28,14 +28,14 @@ IsNear-floor_div (negsuc a) d near = let less : a / d ≤ a = div-le_self a d in
 
 -- what holds of all rows holds of those that are kept
 all-kept_at : (P : Row → Type 0) (row : Row) (later : List Row) (again : Bool) → list_any (is_same_place row) later ≡ again → P row →
-    AllByRecursion P (kept later) → AllByRecursion P (kept (row ∷ later))
-unfolding kept
+    AllByRecursion P (last_of_each_instant later) → AllByRecursion P (last_of_each_instant (row ∷ later))
+unfolding last_of_each_instant
 all-kept_at P row later true again one all = rw again all
 all-kept_at P row later false again one all = rw again (one, all)
 
-pub all-kept : (P : Row → Type 0) (rows : List Row) → AllByRecursion P rows → AllByRecursion P (kept rows)
-all-kept P [] all = unfold kept in tt
-all-kept P (row ∷ later) all = all-kept_at P row later (list_any (is_same_place row) later) refl all.0 (all-kept P later all.1)
+pub all-last_of_each_instant : (P : Row → Type 0) (rows : List Row) → AllByRecursion P rows → AllByRecursion P (last_of_each_instant rows)
+all-last_of_each_instant P [] all = unfold last_of_each_instant in tt
+all-last_of_each_instant P (row ∷ later) all = all-kept_at P row later (list_any (is_same_place row) later) refl all.0 (all-last_of_each_instant P later all.1)
 
 -- a raw row in range is gridded to a row in range
 pub IsRowInRange-gridded : (raw : RawRow) (cell tick : ℕ) → IsRawInRange raw → IsRowInRange (gridded cell tick raw)
@@ -50,29 +50,29 @@ pub chart_rows-in_range : (raws : List RawRow) (cell tick : ℕ) → All IsRawIn
 unfolding chart_rows
 chart_rows-in_range raws cell tick near =
     All-from_recursion IsRowInRange (chart_rows raws cell tick)
-    (all-ordered row_order IsRowInRange (kept (map (gridded cell tick) raws))
-    (all-kept IsRowInRange (map (gridded cell tick) raws) (gridded_all raws (recursion_from_All IsRawInRange raws near)))) where
+    (all-ordered row_order IsRowInRange (last_of_each_instant (map (gridded cell tick) raws))
+    (all-last_of_each_instant IsRowInRange (map (gridded cell tick) raws) (gridded_all raws (recursion_from_All IsRawInRange raws near)))) where
       gridded_all : (raws : List RawRow) → AllByRecursion IsRawInRange raws → AllByRecursion IsRowInRange (map (gridded cell tick) raws)
       gridded_all [] all = tt
       gridded_all (raw ∷ raws) all = (IsRowInRange-gridded raw cell tick all.0, gridded_all raws all.1)
 
 -- there are not more than raw rows
 length-kept_at : (row : Row) (later : List Row) (again : Bool) → list_any (is_same_place row) later ≡ again →
-    length (kept later) ≤ length later → length (kept (row ∷ later)) ≤ length (row ∷ later)
-unfolding kept
+    length (last_of_each_instant later) ≤ length later → length (last_of_each_instant (row ∷ later)) ≤ length (row ∷ later)
+unfolding last_of_each_instant
 length-kept_at row later true again behind = rw again (omega arith)
 length-kept_at row later false again behind = rw again (omega arith)
 
-length-kept : (rows : List Row) → length (kept rows) ≤ length rows
-length-kept [] = unfold kept in omega arith
-length-kept (row ∷ later) = length-kept_at row later (list_any (is_same_place row) later) refl (length-kept later)
+length-last_of_each_instant : (rows : List Row) → length (last_of_each_instant rows) ≤ length rows
+length-last_of_each_instant [] = unfold last_of_each_instant in omega arith
+length-last_of_each_instant (row ∷ later) = length-kept_at row later (list_any (is_same_place row) later) refl (length-last_of_each_instant later)
 
 pub chart_rows-few : (raws : List RawRow) (cell tick : ℕ) → length (chart_rows raws cell tick) ≤ length raws
 unfolding chart_rows
 chart_rows-few raws cell tick =
-    let rows = kept (map (gridded cell tick) raws) in
+    let rows = last_of_each_instant (map (gridded cell tick) raws) in
     rw (length_permutation rows (ordered row_order rows) (IsPermutation-ordered row_order rows), ← length-map raws (gridded cell tick))
-    (length-kept (map (gridded cell tick) raws))
+    (length-last_of_each_instant (map (gridded cell tick) raws))
 
 -- there is one where there is a raw row
 pub chart_rows-some : (raws : List RawRow) (cell tick : ℕ) → 0 < length raws → 0 < length (chart_rows raws cell tick)
@@ -82,7 +82,7 @@ chart_rows-some (raw ∷ raws) cell tick some =
     let row = gridded cell tick raw in
     let rows = map (gridded cell tick) (raw ∷ raws) in
     let here : list_any (is_same_place row) rows ≡ true = rw (place_equiv.refl row) refl in
-    some_from_any (is_same_place row) (ordered row_order (kept rows)) (any-ordered row_order (is_same_place row) (kept rows) ∙ any-kept row rows ∙ here)
+    some_from_any (is_same_place row) (ordered row_order (last_of_each_instant rows)) (any-ordered row_order (is_same_place row) (last_of_each_instant rows) ∙ any-last_of_each_instant row rows ∙ here)
 
 -- so where there is none, there is no raw row
 pub chart_rows-none : (raws : List RawRow) (cell tick : ℕ) → length (chart_rows raws cell tick) ≡ 0 → raws ≡ []

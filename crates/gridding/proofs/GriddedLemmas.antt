@@ -16,33 +16,33 @@ use Rattle.track_types.specs.Row.{IsAscending, is_same_place, row_order}
 use Rattle.track_types.specs.declared.raw_row.RawRow.{RawRow}
 use Rattle.track_types.specs.declared.row.Row.{Row}
 use Rattle.list_laws.specs.Ordered.{ordered}
-use Rattle.gridding.specs.Blocks.{Run, rows_of_run, rows_of_runs, rows_with, runs_of, runs_with}
-use Rattle.gridding.specs.ChartOf.{chart_rows, gridded, kept}
-use Rattle.gridding.specs.GridLimit.{IsFaultOf, IsRefusal, first_past}
+use Rattle.gridding.specs.Blocks.{ObjectRun, rows_of_run, rows_of_runs, rows_with, runs_of, runs_with}
+use Rattle.gridding.specs.ChartOf.{chart_rows, gridded, last_of_each_instant}
+use Rattle.gridding.specs.GridLimit.{IsGridFault, IsRefusal, first_past}
 use Rattle.gridding.specs.declared.fault.GridFault.{GridFault}
 use Rattle.gridding.specs.declared.fault.GridFault.TheVariants.{Empty, Limit, Memory}
 use Rattle.gridding.specs.GriddedRows.{AreBlocksOf, HoldsRows, HasGridded}
 use Rattle.gridding.specs.declared.gridded_rows.GriddedRows.{GriddedRows}
-use Rattle.gridding.specs.PackedPlace.{row_at}
+use Rattle.gridding.specs.PackedPlace.{packed_row}
 use Rattle.gridding.specs.declared.packed_place.PackedPlace.{PackedPlace}
 use Rattle.gridding.specs.declared.track_blocks.TrackBlocks.{TrackBlocks}
-use Rattle.gridding.proofs.KeptLemmas.{ascending-kept, found, found-chart_rows}
+use Rattle.gridding.proofs.KeptLemmas.{ascending-last_of_each_instant, found, found-chart_rows}
 use Rattle.gridding.specs.declared.packed_place.Origin.{Origin}
 
 module _ (origin : Origin) where
   -- a run has rows of its object alone
   rows_with-own : (object : ℕ) (places : List PackedPlace) →
-      rows_with object (map (row_at origin object) places) ≡ map (row_at origin object) places
+      rows_with object (map (packed_row origin object) places) ≡ map (packed_row origin object) places
   rows_with-own object [] = refl
   rows_with-own object (place ∷ places) = grind (arith, nat_tests, rows_with-own object places)
 
   rows_with-other : (object other : ℕ) (places : List PackedPlace) → (other == object) ≡ false →
-      rows_with object (map (row_at origin other) places) ≡ []
+      rows_with object (map (packed_row origin other) places) ≡ []
   rows_with-other object other [] differ = refl
   rows_with-other object other (place ∷ places) differ = rw differ (rows_with-other object other places differ)
 
   -- so an object's rows are those of its runs
-  rows_with-runs : (object : ℕ) (runs : List Run) →
+  rows_with-runs : (object : ℕ) (runs : List ObjectRun) →
       rows_with object (rows_of_runs origin runs) ≡ rows_of_runs origin (runs_with object runs)
   rows_with-runs object [] = refl
   rows_with-runs object (run ∷ runs) =
@@ -107,19 +107,19 @@ pub chart_rows-held : (raws : List RawRow) (cell tick : ℕ) (all : GriddedRows)
 unfolding chart_rows
 chart_rows-held raws cell tick all made has up finds =
     let rows : List Row = map (gridded cell tick) raws in
-    same_from_finds row_order_total made (ordered row_order (kept rows)) up (ascending-kept rows)
+    same_from_finds row_order_total made (ordered row_order (last_of_each_instant rows)) up (ascending-last_of_each_instant rows)
     (λ sought.
     let by_place : (all : List Row) → find (eq_by_cmp row_order sought) all ≡ found sought all =
     find-agree (eq_by_cmp row_order sought) (is_same_place sought) (eq_by_cmp-row_order sought) in
     by_place made ∙ finds sought ∙ found-held rows all has.held sought ∙ sym (found-chart_rows sought rows)
-    ∙ sym (by_place (ordered row_order (kept rows))))
+    ∙ sym (by_place (ordered row_order (last_of_each_instant rows))))
 
 -- the refusal of the rows of the chart of raw rows is a fault of these
-pub IsFaultOf-refusal : (raws : List RawRow) (cell tick period : ℕ) (fault : GridFault) → raws ≢ [] →
-    IsRefusal (first_past (chart_rows raws cell tick) period) fault → IsFaultOf raws cell tick period fault
-IsFaultOf-refusal raws cell tick period (Limit kind value) some refusal = (some, refusal)
-IsFaultOf-refusal raws cell tick period Empty some refusal = absurd refusal
-IsFaultOf-refusal raws cell tick period Memory some refusal = tt
+pub IsGridFault-refusal : (raws : List RawRow) (cell tick period : ℕ) (fault : GridFault) → raws ≢ [] →
+    IsRefusal (first_past (chart_rows raws cell tick) period) fault → IsGridFault raws cell tick period fault
+IsGridFault-refusal raws cell tick period (Limit kind value) some refusal = (some, refusal)
+IsGridFault-refusal raws cell tick period Empty some refusal = absurd refusal
+IsGridFault-refusal raws cell tick period Memory some refusal = tt
 
 -- one raw row more is held
 pub HoldsRows-more : (cell tick : ℕ) (raws rows : List RawRow) (i : ℕ) (d : RawRow) (own_cell own_tick : ℕ) (row : Row) (all : GriddedRows) →

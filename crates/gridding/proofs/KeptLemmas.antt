@@ -18,7 +18,7 @@ use Rattle.list_laws.proofs.FindLemmas.{find-some_passes}
 use Rattle.list_laws.proofs.FirstLemmas.{option_or-none}
 use Rattle.list_laws.proofs.MemberLemmas.{list_any-agree, none_from_list_any}
 use Rattle.list_laws.proofs.OrderedLemmas.{IsStrictlySortedBy-ordered, find-ordered}
-use Rattle.gridding.specs.ChartOf.{kept}
+use Rattle.gridding.specs.ChartOf.{last_of_each_instant}
 
 -- the search for the object and instant of a row
 abbrev pub found : Row → List Row → Option Row
@@ -37,44 +37,44 @@ same_seek_alike a b (row ∷ rows) same = rw (place_equiv.congr a b row same, sa
 
 -- what is kept has a row of each place that has one
 any-kept_at : (sought row : Row) (later : List Row) (again passes : Bool) → list_any (is_same_place row) later ≡ again →
-    is_same_place sought row ≡ passes → list_any (is_same_place sought) (kept later) ≡ list_any (is_same_place sought) later →
-    list_any (is_same_place sought) (kept (row ∷ later)) ≡ list_any (is_same_place sought) (row ∷ later)
-unfolding kept
+    is_same_place sought row ≡ passes → list_any (is_same_place sought) (last_of_each_instant later) ≡ list_any (is_same_place sought) later →
+    list_any (is_same_place sought) (last_of_each_instant (row ∷ later)) ≡ list_any (is_same_place sought) (row ∷ later)
+unfolding last_of_each_instant
 any-kept_at sought row later true true again passes rest =
     let some : list_any (is_same_place sought) later ≡ true = same_seek_alike sought row later passes ∙ again in
     rw (again, passes) (rest ∙ some)
 any-kept_at sought row later true false again passes rest = rw (again, passes) rest
 any-kept_at sought row later false passing again passes rest = rw (again, rest) refl
 
-pub any-kept : (sought : Row) (rows : List Row) → list_any (is_same_place sought) (kept rows) ≡ list_any (is_same_place sought) rows
-any-kept sought [] = unfold kept in refl
-any-kept sought (row ∷ later) =
-    any-kept_at sought row later (list_any (is_same_place row) later) (is_same_place sought row) refl refl (any-kept sought later)
+pub any-last_of_each_instant : (sought : Row) (rows : List Row) → list_any (is_same_place sought) (last_of_each_instant rows) ≡ list_any (is_same_place sought) rows
+any-last_of_each_instant sought [] = unfold last_of_each_instant in refl
+any-last_of_each_instant sought (row ∷ later) =
+    any-kept_at sought row later (list_any (is_same_place row) later) (is_same_place sought row) refl refl (any-last_of_each_instant sought later)
 
 -- a search in what is kept finds the last row that passes
 found-kept_at : (sought row : Row) (later : List Row) (again passes : Bool) → list_any (is_same_place row) later ≡ again →
     is_same_place sought row ≡ passes →
-    found sought (kept (row ∷ later)) ≡ option_or (found sought (kept later)) (found sought (row ∷ []))
-unfolding kept
+    found sought (last_of_each_instant (row ∷ later)) ≡ option_or (found sought (last_of_each_instant later)) (found sought (row ∷ []))
+unfolding last_of_each_instant
 found-kept_at sought row later true true again passes =
-    let some : list_any (is_same_place sought) (kept later) ≡ true = any-kept sought later ∙ same_seek_alike sought row later passes ∙ again in
-    rw (again) (sym (find-some_passes (is_same_place sought) (kept later) (found sought (row ∷ [])) some))
-found-kept_at sought row later true false again passes = rw (again, passes) (sym (option_or-none (found sought (kept later))))
+    let some : list_any (is_same_place sought) (last_of_each_instant later) ≡ true = any-last_of_each_instant sought later ∙ same_seek_alike sought row later passes ∙ again in
+    rw (again) (sym (find-some_passes (is_same_place sought) (last_of_each_instant later) (found sought (row ∷ [])) some))
+found-kept_at sought row later true false again passes = rw (again, passes) (sym (option_or-none (found sought (last_of_each_instant later))))
 found-kept_at sought row later false true again passes =
-    let none : list_any (is_same_place sought) (kept later) ≡ false = any-kept sought later ∙ same_seek_alike sought row later passes ∙ again in
-    let nothing : found sought (kept later) ≡ None =
-    find-none (is_same_place sought) (kept later) (λ row inside. none_from_list_any (is_same_place sought) (kept later) row none inside) in
+    let none : list_any (is_same_place sought) (last_of_each_instant later) ≡ false = any-last_of_each_instant sought later ∙ same_seek_alike sought row later passes ∙ again in
+    let nothing : found sought (last_of_each_instant later) ≡ None =
+    find-none (is_same_place sought) (last_of_each_instant later) (λ row inside. none_from_list_any (is_same_place sought) (last_of_each_instant later) row none inside) in
     rw (again, passes, nothing) refl
-found-kept_at sought row later false false again passes = rw (again, passes) (sym (option_or-none (found sought (kept later))))
+found-kept_at sought row later false false again passes = rw (again, passes) (sym (option_or-none (found sought (last_of_each_instant later))))
 
-found-kept : (sought : Row) (rows : List Row) → found sought (kept rows) ≡ found sought (reverse rows)
-found-kept sought [] = unfold kept in refl
-found-kept sought (row ∷ later) =
+found-last_of_each_instant : (sought : Row) (rows : List Row) → found sought (last_of_each_instant rows) ≡ found sought (reverse rows)
+found-last_of_each_instant sought [] = unfold last_of_each_instant in refl
+found-last_of_each_instant sought (row ∷ later) =
     let last : reverse (row ∷ later) ≡ reverse later ++ row ∷ [] = reverse-append (row ∷ []) later in
     let behind : found sought (reverse later ++ row ∷ []) ≡ option_or (found sought (reverse later)) (found sought (row ∷ [])) =
     find-append (is_same_place sought) (reverse later) (row ∷ []) in
     found-kept_at sought row later (list_any (is_same_place row) later) (is_same_place sought row) refl refl
-    ∙ ap (λ before. option_or before (found sought (row ∷ []))) (found-kept sought later)
+    ∙ ap (λ before. option_or before (found sought (row ∷ []))) (found-last_of_each_instant sought later)
     ∙ sym behind ∙ ap (found sought) (sym last)
 
 -- no row comes before another of its place
@@ -89,21 +89,21 @@ tied_place sought a b first second =
 
 -- no two rows that are kept tie
 apart-kept_at : (row : Row) (later : List Row) (again : Bool) → list_any (is_same_place row) later ≡ again →
-    AreApart row_order (kept later) → AreApart row_order (kept (row ∷ later))
-unfolding kept
+    AreApart row_order (last_of_each_instant later) → AreApart row_order (last_of_each_instant (row ∷ later))
+unfolding last_of_each_instant
 apart-kept_at row later true again rest = rw again rest
 apart-kept_at row later false again rest =
-    rw again (list_any-agree _ _ (eq_by_cmp-row_order row) (kept later) ∙ any-kept row later ∙ again, rest)
+    rw again (list_any-agree _ _ (eq_by_cmp-row_order row) (last_of_each_instant later) ∙ any-last_of_each_instant row later ∙ again, rest)
 
-apart-kept : (rows : List Row) → AreApart row_order (kept rows)
-apart-kept [] = unfold kept in tt
-apart-kept (row ∷ later) = apart-kept_at row later (list_any (is_same_place row) later) refl (apart-kept later)
+apart-last_of_each_instant : (rows : List Row) → AreApart row_order (last_of_each_instant rows)
+apart-last_of_each_instant [] = unfold last_of_each_instant in tt
+apart-last_of_each_instant (row ∷ later) = apart-kept_at row later (list_any (is_same_place row) later) refl (apart-last_of_each_instant later)
 
 -- the rows of a chart are in order
-pub ascending-kept : (rows : List Row) → IsAscending (ordered row_order (kept rows))
-ascending-kept rows = IsStrictlySortedBy-ordered row_order row_order_total (kept rows) (apart-kept rows)
+pub ascending-last_of_each_instant : (rows : List Row) → IsAscending (ordered row_order (last_of_each_instant rows))
+ascending-last_of_each_instant rows = IsStrictlySortedBy-ordered row_order row_order_total (last_of_each_instant rows) (apart-last_of_each_instant rows)
 
 -- what is found in the rows of a chart is the last row of its place
-pub found-chart_rows : (sought : Row) (rows : List Row) → found sought (ordered row_order (kept rows)) ≡ found sought (reverse rows)
+pub found-chart_rows : (sought : Row) (rows : List Row) → found sought (ordered row_order (last_of_each_instant rows)) ≡ found sought (reverse rows)
 found-chart_rows sought rows =
-    find-ordered row_order (is_same_place sought) (tied_place sought) (kept rows) ∙ found-kept sought rows
+    find-ordered row_order (is_same_place sought) (tied_place sought) (last_of_each_instant rows) ∙ found-last_of_each_instant sought rows

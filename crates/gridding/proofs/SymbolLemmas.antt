@@ -21,7 +21,7 @@ use Rattle.track_types.specs.Quantities.{anchors_of, elapsed, is_anchor, is_same
 use Rattle.track_types.specs.Row.{IsAscending, row_order}
 use Rattle.track_types.specs.declared.row.Row.{Row}
 use Rattle.track_types.proofs.RowLemmas.{row_order_total}
-use Rattle.gridding.specs.Block.{IsInSpan, block_of, is_of_block, period_end}
+use Rattle.gridding.specs.Block.{IsInSpan, block_of_row, is_of_block, period_end}
 use Rattle.gridding.specs.declared.counts.Block.{Block}
 
 -- whether a row is of the block before, if there was one
@@ -190,7 +190,7 @@ module _ (first : ℤ) (period : ℕ) where
 
   -- a row is in the period of an earlier one where it comes before its end
   same_by_end : (a row : Row) → 0 < period → (row_order a row ≡ Less) × (first ≤ℤ a.instant) →
-      is_same_block first period a row ≡ is_block_of (Some (block_of first period a)) row
+      is_same_block first period a row ≡ is_block_of (Some (block_of_row first period a)) row
   same_by_end a row some above =
       elim (order_cases a row above.0) [
         | inl objects ↦ let differ : (a.object == row.object) ≡ false = grind (arith, nat_tests) in rw differ refl
@@ -203,16 +203,16 @@ module _ (first : ℤ) (period : ℕ) where
 
   -- rows of one block are so by the same object and the same end
   same_block : (a row : Row) → is_same_block first period a row ≡ true →
-      block_of first period a ≡ block_of first period row
+      block_of_row first period a ≡ block_of_row first period row
   same_block a row same =
       let parts = and_parts (a.object == row.object) (period_of first period a == period_of first period row) same in
       let objects : a.object ≡ row.object = grind (arith, nat_tests, parts.0) in
       let periods : period_of first period a ≡ period_of first period row = grind (arith, nat_tests, parts.1) in
       rw (objects, periods) refl
 
-  -- the row before shows this exactly where it is of the same block
+  -- the row before shows this if and only if it is of the same block
   seen-block : (before : Option Row) (row : Row) → 0 < period → IsAbove before row →
-      seen before row ≡ is_block_of (option_map (block_of first period) before) row
+      seen before row ≡ is_block_of (option_map (block_of_row first period) before) row
   seen-block None row some above = refl
   seen-block (Some before) row some above = earlier_block before row above.0 ∙ same_by_end before row some above
 
@@ -221,12 +221,12 @@ module _ (first : ℤ) (period : ℕ) where
   terminals span before [] = 0
   terminals span before (row ∷ rest) =
       if is_block_of before row then terminals span before rest
-      else (log_length first span period row + terminals span (Some (block_of first period row)) rest)
+      else (log_length first span period row + terminals span (Some (block_of_row first period row)) rest)
 
   terminals-cons : (span : ℕ) (before : Option Block) (row : Row) (rest : List Row) →
       terminals span before (row ∷ rest)
       ≡ (if is_block_of before row then terminals span before rest
-      else (log_length first span period row + terminals span (Some (block_of first period row)) rest))
+      else (log_length first span period row + terminals span (Some (block_of_row first period row)) rest))
   unfolding terminals
   terminals-cons span before row rest = refl
 
@@ -239,25 +239,25 @@ module _ (first : ℤ) (period : ℕ) where
 
   -- after a row, the block before is that of the row
   terminals-at : (span : ℕ) (a row : Row) (rest : List Row) (again : Bool) →
-      is_block_of (Some (block_of first period a)) row ≡ again →
+      is_block_of (Some (block_of_row first period a)) row ≡ again →
       (again ≡ true → is_same_block first period a row ≡ true) →
-      terminals span (Some (block_of first period a)) (row ∷ rest)
-      ≡ (if again then 0 else log_length first span period row) + terminals span (Some (block_of first period row)) rest
+      terminals span (Some (block_of_row first period a)) (row ∷ rest)
+      ≡ (if again then 0 else log_length first span period row) + terminals span (Some (block_of_row first period row)) rest
   terminals-at span a row rest true is same =
-      let alike : terminals span (Some (block_of first period a)) rest
-      ≡ terminals span (Some (block_of first period row)) rest =
+      let alike : terminals span (Some (block_of_row first period a)) rest
+      ≡ terminals span (Some (block_of_row first period row)) rest =
       ap (λ block. terminals span (Some block) rest) (same_block a row (same refl)) in
-      terminals-cons span (Some (block_of first period a)) row rest ∙ rw is (omega arith)
+      terminals-cons span (Some (block_of_row first period a)) row rest ∙ rw is (omega arith)
   terminals-at span a row rest false is same =
-      terminals-cons span (Some (block_of first period a)) row rest ∙ rw is refl
+      terminals-cons span (Some (block_of_row first period a)) row rest ∙ rw is refl
 
   terminals-step : (span : ℕ) (before : Option Row) (row : Row) (rest : List Row) → 0 < period → IsAbove before row →
-      terminals span (option_map (block_of first period) before) (row ∷ rest)
-      ≡ (if is_block_of (option_map (block_of first period) before) row then 0 else log_length first span period row)
-      + terminals span (Some (block_of first period row)) rest
+      terminals span (option_map (block_of_row first period) before) (row ∷ rest)
+      ≡ (if is_block_of (option_map (block_of_row first period) before) row then 0 else log_length first span period row)
+      + terminals span (Some (block_of_row first period row)) rest
   terminals-step span None row rest some above = terminals-cons span None row rest
   terminals-step span (Some a) row rest some above =
-      terminals-at span a row rest (is_block_of (Some (block_of first period a)) row) refl
+      terminals-at span a row rest (is_block_of (Some (block_of_row first period a)) row) refl
       (λ is. same_by_end a row some above ∙ is)
 
   above_all : (row : Row) (rest : List Row) → first ≤ℤ row.instant → AllByRecursion (λ y. row_order row y ≡ Less) rest →
@@ -272,19 +272,19 @@ module _ (first : ℤ) (period : ℕ) where
   -- these are the terminals of all anchors
   terminals-anchors : (span : ℕ) (front rest : List Row) (before : Option Row) → 0 < period → ShowsAll front before →
       AllByRecursion (IsAbove before) rest → IsAscending rest → AllByRecursion (λ row. first ≤ℤ row.instant) rest →
-      terminals span (option_map (block_of first period) before) rest ≡ sum_by (log_length first span period) (filter (is_anchor first period (front ++ rest)) rest)
+      terminals span (option_map (block_of_row first period) before) rest ≡ sum_by (log_length first span period) (filter (is_anchor first period (front ++ rest)) rest)
   unfolding terminals IsStrictlySortedBy
   terminals-anchors span front [] before some shows above up behind = refl
   terminals-anchors span front (row ∷ rest) before some shows above up behind =
       let all = front ++ row ∷ rest in
       let length_of = log_length first span period in
-      let again = is_block_of (option_map (block_of first period) before) row in
+      let again = is_block_of (option_map (block_of_row first period) before) row in
       let anchor : is_anchor first period all row ≡ not again =
       is_anchor-seen front rest before row shows above.0 up.0 ∙ ap not (seen-block before row some above.0) in
       let more : sum_by length_of (filter (is_anchor first period all) (row ∷ rest))
       ≡ (if again then 0 else length_of row) + sum_by length_of (filter (is_anchor first period all) rest) =
       sum_by-filter_more length_of (is_anchor first period all) row rest again anchor in
-      let others : terminals span (Some (block_of first period row)) rest
+      let others : terminals span (Some (block_of_row first period row)) rest
       ≡ sum_by length_of (filter (is_anchor first period ((front ++ row ∷ []) ++ rest)) rest) =
       terminals-anchors span (front ++ row ∷ []) rest (Some row) some (ShowsAll-push front before row some above.0 shows)
       (above_all row rest behind.0 up.0) up.1 behind.1 in
@@ -303,7 +303,7 @@ module _ (first : ℤ) (period : ℕ) where
 
   -- a row is of its own block
   own_block : (row : Row) → 0 < period → first ≤ℤ row.instant →
-      is_of_block (block_of first period row) row ≡ true
+      is_of_block (block_of_row first period row) row ≡ true
   own_block row some behind =
       let objects : (row.object == row.object) ≡ true = eq-eqb row.object row.object refl in
       let number : ℕ = period_of first period row in
@@ -335,14 +335,14 @@ module _ (first : ℤ) (period : ℕ) where
   pub terminals-block : (span : ℕ) (rows : List Row) (d : Row) → 0 < length rows → 0 < period →
       first ≤ℤ (get_or rows 0 d).instant →
       (terminals span None rows ≡ log_length first span period (get_or rows 0 d)
-      + terminals span None (drop (prefix_len (is_of_block (block_of first period (get_or rows 0 d))) rows) rows))
-      × (0 < prefix_len (is_of_block (block_of first period (get_or rows 0 d))) rows)
+      + terminals span None (drop (prefix_len (is_of_block (block_of_row first period (get_or rows 0 d))) rows) rows))
+      × (0 < prefix_len (is_of_block (block_of_row first period (get_or rows 0 d))) rows)
   unfolding terminals
   terminals-block span [] d some long behind = absurd (omega arith)
   terminals-block span (row ∷ rest) d some long behind =
-      let length_of = prefix_len (is_of_block (block_of first period row)) in
+      let length_of = prefix_len (is_of_block (block_of_row first period row)) in
       let next : 1 + length_of rest ≡ suc (length_of rest) = omega arith in
       rw (own_block row long behind, next) (
-        ap (λ n. log_length first span period row + n) (terminals-after span (block_of first period row) rest),
+        ap (λ n. log_length first span period row + n) (terminals-after span (block_of_row first period row) rest),
         omega arith,
       )

@@ -10,17 +10,17 @@ abbrev pub period_end : ℤ → ℕ → Row → ℕ
 period_end first period row = (period_of first period row + 1) * period
 
 -- the block of a row, where periods begin at the first instant
-abbrev pub block_of : ℤ → ℕ → Row → Block
-block_of first period row = record { object = row.object; end = first +ℤ pos (period_end first period row) }
+abbrev pub block_of_row : ℤ → ℕ → Row → Block
+block_of_row first period row = record { object = row.object; end = first +ℤ pos (period_end first period row) }
 
 -- whether a row is of a block: of its object, and before the end of its period
 abbrev pub is_of_block : Block → Row → Bool
 is_of_block block row = (block.object == row.object) && lt_z row.instant block.end
 
 -- rows begin with one of a block's object, and the block ends within so many instants from that row on
-abbrev pub BeginsWith : Block → ℕ → List Row → Type 0
-BeginsWith block period [] = ⊥
-BeginsWith block period (anchor ∷ later) =
+abbrev pub BeginsBlock : Block → ℕ → List Row → Type 0
+BeginsBlock block period [] = ⊥
+BeginsBlock block period (anchor ∷ later) =
     (anchor.object ≡ block.object) × (block.end ≤ℤ (anchor.instant +ℤ pos period))
 
 -- a row is within a span of instants that begins at the first

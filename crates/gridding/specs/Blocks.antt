@@ -3,26 +3,26 @@ use Rattle.std.specs.Prelude.{◌≡◌, ℕ, suc, ◌==◌, List, [], drop, fil
 use Rattle.std.specs.Borrow.{Bor}
 use Rattle.std.specs.List.{flat_map, zip}
 use Rattle.track_types.specs.declared.row.Row.{Row}
-use Rattle.gridding.specs.PackedPlace.{row_at}
+use Rattle.gridding.specs.PackedPlace.{packed_row}
 use Rattle.gridding.specs.declared.packed_place.Origin.{Origin}
 use Rattle.gridding.specs.declared.packed_place.PackedPlace.{PackedPlace}
 use Rattle.gridding.specs.declared.track_blocks.TrackBlocks.{TrackBlocks}
 
 -- an object, and places of its rows in the order in which they came
-abbrev pub Run : Type 0
-Run = ℕ × List PackedPlace
+abbrev pub ObjectRun : Type 0
+ObjectRun = ℕ × List PackedPlace
 
 module _ (origin : Origin) where
   -- the rows of a run
-  abbrev pub rows_of_run : Run → List Row
-  rows_of_run run = map (row_at origin run.0) run.1
+  abbrev pub rows_of_run : ObjectRun → List Row
+  rows_of_run run = map (packed_row origin run.0) run.1
 
   -- the rows of runs, run after run
-  abbrev pub rows_of_runs : List Run → List Row
+  abbrev pub rows_of_runs : List ObjectRun → List Row
   rows_of_runs = flat_map rows_of_run
 
 -- the runs of an object
-abbrev pub runs_with : ℕ → List Run → List Run
+abbrev pub runs_with : ℕ → List ObjectRun → List ObjectRun
 runs_with object = filter (λ run. run.0 == object)
 
 -- the rows of an object
@@ -40,7 +40,7 @@ abbrev pub filled_of : List PackedPlace × ℕ → List PackedPlace
 filled_of block = take block.1 block.0
 
 -- the runs of blocks: of each block its object and the places that are filled
-unfoldable pub runs_of : TrackBlocks → List Run
+unfoldable pub runs_of : TrackBlocks → List ObjectRun
 runs_of tracks = zip tracks.objects.items (map filled_of (zip tracks.blocks.items tracks.lengths.items))
 
 -- an object beside a reference to places
@@ -48,9 +48,9 @@ abbrev pub RunRef : Type 0
 RunRef = ℕ × Bor (List PackedPlace)
 
 -- the run that is referred to
-abbrev pub run_in : RunRef → Run
+abbrev pub run_in : RunRef → ObjectRun
 run_in entry = (entry.0, entry.1.now)
 
 -- the runs that are referred to
-abbrev pub runs_in : List RunRef → List Run
+abbrev pub runs_in : List RunRef → List ObjectRun
 runs_in = map run_in

@@ -14,13 +14,13 @@ gridded cell tick raw =
     record { object = raw.object; instant = floor_div raw.time tick; cell = record { x = floor_div raw.x cell; y = floor_div raw.y cell } }
 
 -- the rows after which no row of the same object and instant comes
-unfoldable pub kept : List Row → List Row
-kept [] = []
-kept (row ∷ later) = if list_any (is_same_place row) later then kept later else row ∷ kept later
+unfoldable pub last_of_each_instant : List Row → List Row
+last_of_each_instant [] = []
+last_of_each_instant (row ∷ later) = if list_any (is_same_place row) later then last_of_each_instant later else row ∷ last_of_each_instant later
 
 -- the rows of the chart of raw rows, by object, then by instant
 unfoldable pub chart_rows : List RawRow → ℕ → ℕ → List Row
-chart_rows raws cell tick = ordered row_order (kept (map (gridded cell tick) raws))
+chart_rows raws cell tick = ordered row_order (last_of_each_instant (map (gridded cell tick) raws))
 
 -- the chart of raw rows
 abbrev pub chart_of : List RawRow → ℕ → ℕ → ℕ → ChartView

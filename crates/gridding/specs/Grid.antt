@@ -4,8 +4,8 @@ use Rattle.gridding.specs.declared.divisor.Divisor.{Divisor}
 use Rattle.gridding.specs.declared.row_gridding.Grid.{Grid}
 
 -- the number that a divisor is
-abbrev pub value_of : Divisor → ℕ
-value_of divisor = divisor.value
+abbrev pub divisor_value : Divisor → ℕ
+divisor_value divisor = divisor.value
 
 -- the width of a cell
 abbrev pub cell_width : Grid → ℕ

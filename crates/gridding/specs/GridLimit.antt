@@ -35,10 +35,10 @@ IsRefusal past Empty = ⊥
 IsRefusal past Memory = ⊥
 
 -- a fault that raw rows may be answered: their own, and want of memory whatever they are
-abbrev pub IsFaultOf : List RawRow → ℕ → ℕ → ℕ → GridFault → Type 0
-IsFaultOf raws cell tick period Memory = Unit {0}
-IsFaultOf raws cell tick period Empty = raws ≡ []
-IsFaultOf raws cell tick period (Limit kind value) = (raws ≢ []) × (grid_limit raws cell tick period ≡ Some (kind, value))
+abbrev pub IsGridFault : List RawRow → ℕ → ℕ → ℕ → GridFault → Type 0
+IsGridFault raws cell tick period Memory = Unit {0}
+IsGridFault raws cell tick period Empty = raws ≡ []
+IsGridFault raws cell tick period (Limit kind value) = (raws ≢ []) × (grid_limit raws cell tick period ≡ Some (kind, value))
 
 -- how many cells a row's cell is away from 0, along the axis along which it is farther
 abbrev pub distance_of : Row → ℕ
@@ -63,7 +63,7 @@ chart_fault [] period = Some Empty
 chart_fault (row ∷ rows) period = option_map limit_fault (chart_limit (row ∷ rows) period)
 
 -- a fault is this one, or memory was refused
-abbrev pub IsFaultFor : Option GridFault → GridFault → Type 0
-IsFaultFor first Memory = ⊤
-IsFaultFor first Empty = first ≡ Some Empty
-IsFaultFor first (Limit kind value) = first ≡ Some (Limit kind value)
+abbrev pub IsGridFaultFor : Option GridFault → GridFault → Type 0
+IsGridFaultFor first Memory = ⊤
+IsGridFaultFor first Empty = first ≡ Some Empty
+IsGridFaultFor first (Limit kind value) = first ≡ Some (Limit kind value)

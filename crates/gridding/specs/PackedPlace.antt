@@ -2,16 +2,16 @@
 use Rattle.std.specs.Prelude.{ℕ, ◌*◌, ◌/◌, ◌%◌, ℤ, pos, ◌+ℤ◌}
 use Rattle.track_types.specs.declared.cell.Cell.{Cell}
 use Rattle.track_types.specs.declared.row.Row.{Row}
-use Rattle.gridding.specs.Origin.{IsCounted}
+use Rattle.gridding.specs.Origin.{IsOneOf}
 use Rattle.gridding.specs.declared.packed_place.Origin.{Origin}
 use Rattle.gridding.specs.declared.packed_place.PackedPlace.{PackedPlace}
 use Rattle.gridding.specs.declared.packed_place.TheConstants.{CELLS, INSTANTS}
 
 -- a row is so near to an origin that its place has room in 64 bits
 pub record HasPlace (origin : Origin) (row : Row) : Type 0 where
-  pub instant : IsCounted origin.instant INSTANTS row.instant
-  pub x : IsCounted origin.cell.x CELLS row.cell.x
-  pub y : IsCounted origin.cell.y CELLS row.cell.y
+  pub instant : IsOneOf origin.instant INSTANTS row.instant
+  pub x : IsOneOf origin.cell.x CELLS row.cell.x
+  pub y : IsOneOf origin.cell.y CELLS row.cell.y
 
 -- how many instants a place is after its origin's
 unfoldable pub elapsed_of : PackedPlace → ℕ
@@ -23,12 +23,12 @@ module _ (origin : Origin) where
   instant_of place = origin.instant +ℤ pos (elapsed_of place)
 
   -- the cell of a place
-  unfoldable pub cell_of : PackedPlace → Cell
-  cell_of place = record {
+  unfoldable pub packed_cell : PackedPlace → Cell
+  packed_cell place = record {
     x = origin.cell.x +ℤ pos (place.bits / CELLS % CELLS);
     y = origin.cell.y +ℤ pos (place.bits % CELLS);
   }
 
   -- the row of an object at a place
-  abbrev pub row_at : ℕ → PackedPlace → Row
-  row_at object place = record { object = object; instant = instant_of place; cell = cell_of place }
+  abbrev pub packed_row : ℕ → PackedPlace → Row
+  packed_row object place = record { object = object; instant = instant_of place; cell = packed_cell place }

@@ -1,6 +1,6 @@
 ghost use Rattle.std.specs.Prelude.{◌≡◌, ◌≢◌, ◌^◌, ◌≤◌, All, IfErr, IfOk, None, OnOk, [], length};
 ghost use Rattle.gridding.specs.ChartOf.{chart_of};
-ghost use Rattle.gridding.specs.GridLimit.{chart_fault, IsFaultFor, IsFaultOf, grid_limit};
+ghost use Rattle.gridding.specs.GridLimit.{chart_fault, IsGridFaultFor, IsGridFault, grid_limit};
 ghost use Rattle.track_types.specs.Chart.{chart_with};
 ghost use Rattle.track_types.specs.Limits.{IsPeriod, IsResolution, limit_of};
 ghost use Rattle.track_types.specs.Near.{IsNear, IsRawInRange};
@@ -35,7 +35,7 @@ pub fn grid(
     ensures some { IfOk result (λ _. rows.now ≢ []) }
     ensures ok { IfOk result (λ chart. (grid_limit rows.now cell tick period ≡ None)
         × (chart ≡ chart_of rows.now cell tick period)) }
-    ensures fault { IfErr result (IsFaultOf rows.now cell tick period) }
+    ensures fault { IfErr result (IsGridFault rows.now cell tick period) }
 {
     let mut gridded = GriddedRows::new(alloc, cell, tick);
     gridded.append(rows)?;
@@ -63,7 +63,7 @@ pub fn chart(
     requires period { IsPeriod period }
     ensures ok { IfOk result (λ chart. chart ≡ chart_with rows.items cell tick period) }
     ensures exact { OnOk result (chart_fault rows.items period ≡ None) }
-    ensures fault { IfErr result (IsFaultFor (chart_fault rows.items period)) }
+    ensures fault { IfErr result (IsGridFaultFor (chart_fault rows.items period)) }
 {
     let _ = alloc; // the rows become those of the chart
     if rows.is_empty() {

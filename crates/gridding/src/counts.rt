@@ -1,6 +1,6 @@
 ghost use Rattle.std.specs.Prelude.{◌≡◌, ◌≤◌, ◌≤ℤ◌, ◌+ℤ◌, All, drop, length, pos, sum_by};
 ghost use Rattle.std.specs.List.{prefix_len};
-ghost use Rattle.gridding.specs.Block.{BeginsWith, IsInSpan, block_of, is_of_block};
+ghost use Rattle.gridding.specs.Block.{BeginsBlock, IsInSpan, block_of_row, is_of_block};
 ghost use Rattle.track_types.specs.Limits.{limit_of};
 ghost use Rattle.track_types.specs.Quantities.{anchors_of, log_length};
 ghost use Rattle.track_types.specs.Row.{IsAscending};
@@ -48,7 +48,7 @@ pub fn symbol_count(rows: &[Row], timeline: Timeline) -> u64
 // so that the block has no more rows than a period has instants.
 fn after_block<'a>(rows: &'a [Row], block: Block, period: u32) -> &'a [Row]
     requires ascending { IsAscending rows.now }
-    requires begins { BeginsWith block period rows.now }
+    requires begins { BeginsBlock block period rows.now }
     ensures { result.now ≡ drop (prefix_len (is_of_block block) rows.now) rows.now }
 {
     let most = rows.len().min(period as usize);
@@ -59,7 +59,7 @@ fn after_block<'a>(rows: &'a [Row], block: Block, period: u32) -> &'a [Row]
 // The block of an anchor.
 fn block_of(anchor: &Row, timeline: Timeline) -> Block
     requires { IsInSpan timeline.first timeline.span anchor.now }
-    ensures exact { result ≡ block_of timeline.first timeline.period anchor.now }
+    ensures exact { result ≡ block_of_row timeline.first timeline.period anchor.now }
     ensures begins { result.end ≤ℤ (anchor.now.instant +ℤ pos timeline.period) }
 {
     let period = timeline.period_at(anchor.instant);

@@ -20,12 +20,12 @@ pub struct Divisor {
 }
 
 impl Divisor {
-    ghost use Rattle.gridding.specs.Grid.{value_of};
+    ghost use Rattle.gridding.specs.Grid.{divisor_value};
 
     /// The divisor of this value.
     pub fn new(value: u64) -> Self
         requires { IsResolution value }
-        ensures { value_of result ≡ value }
+        ensures { divisor_value result ≡ value }
     {
         Divisor {
             value,
@@ -36,8 +36,8 @@ impl Divisor {
     /// The quotient, rounded towards minus infinity.
     pub fn floor(self, number: i64) -> i64
         requires { IsNear number }
-        ensures exact { result ≡ floor_div number (value_of self) }
-        ensures law { IsFloor number (value_of self) result }
+        ensures exact { result ≡ floor_div number (divisor_value self) }
+        ensures law { IsFloor number (divisor_value self) result }
     {
         // From -1 down, numbers and their quotients are the complements of those from 0 up.
         let negative = number < 0;
@@ -49,7 +49,7 @@ impl Divisor {
     // The quotient, rounded down.
     fn quotient(self, number: u64) -> u64
         requires { number ≤ MAX_PLACE }
-        ensures { result ≡ number / value_of self }
+        ensures { result ≡ number / divisor_value self }
     {
         (u128::from(number) * self.reciprocal >> SCALE_BITS) as u64
     }

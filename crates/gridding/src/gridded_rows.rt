@@ -34,7 +34,7 @@ pub struct GriddedRows {
 impl GriddedRows {
     ghost use Rattle.gridding.specs.ChartOf.{chart_of};
     ghost use Rattle.gridding.specs.GriddedRows.{AreFew, HoldsRows, HasGridded};
-    ghost use Rattle.gridding.specs.GridLimit.{IsFaultOf, grid_limit};
+    ghost use Rattle.gridding.specs.GridLimit.{IsGridFault, grid_limit};
 
     /// No rows yet, to be gridded by `cell` and `tick`.
     pub fn new(alloc: Global, cell: u64, tick: u64) -> Self
@@ -91,7 +91,7 @@ impl GriddedRows {
             HasGridded cell tick raws self → (grid_limit raws cell tick period ≡ None)
             × (chart ≡ chart_of raws cell tick period)) }
         ensures fault { IfErr result (λ fault. (cell tick : ℕ) (raws : List RawRow) →
-            HasGridded cell tick raws self → IsFaultOf raws cell tick period fault) }
+            HasGridded cell tick raws self → IsGridFault raws cell tick period fault) }
     {
         let runs = self.tracks.runs(alloc)?;
         let made = merged_rows(alloc, self.tracks.origin(), runs, &self.loose, self.count)?;

@@ -1,5 +1,5 @@
 ghost use Rattle.std.specs.Prelude.{◌≡◌, ◌<◌, ◌+ℤ◌, pos, IfNone, IfSome};
-ghost use Rattle.gridding.specs.Origin.{IsCounted, IsOrigin};
+ghost use Rattle.gridding.specs.Origin.{IsOneOf, IsOrigin};
 ghost use Rattle.gridding.specs.declared.packed_place.TheConstants.{INSTANTS};
 ghost use Rattle.track_types.specs.Near.{IsNear, IsRowInRange, IsWithin};
 
@@ -48,7 +48,7 @@ pub struct Origin {
 }
 
 impl Origin {
-    ghost use Rattle.gridding.specs.PackedPlace.{HasPlace, row_at};
+    ghost use Rattle.gridding.specs.PackedPlace.{HasPlace, packed_row};
 
     /// The origin of places around that of a first row.
     pub fn around(first: Row) -> Self
@@ -69,7 +69,7 @@ impl Origin {
         requires instant { IsNear instant }
         requires before { before < INSTANTS }
         ensures exact { (result.instant +ℤ pos before) ≡ instant }
-        ensures counted { IsCounted result.instant INSTANTS instant }
+        ensures counted { IsOneOf result.instant INSTANTS instant }
         ensures cell { result.cell ≡ self.cell }
     {
         Origin {
@@ -84,7 +84,7 @@ impl Origin {
         requires instant { IsWithin row.instant }
         requires x { IsWithin row.cell.x }
         requires y { IsWithin row.cell.y }
-        ensures some { IfSome result (λ place. row_at self row.object place ≡ row) }
+        ensures some { IfSome result (λ place. packed_row self row.object place ≡ row) }
         ensures near { IfSome result (λ _. HasPlace self row) }
         ensures none { IfNone result (HasPlace self row → ⊥) }
     {
@@ -99,7 +99,7 @@ impl Origin {
     /// The row of an object at a place.
     #[inline]
     pub fn row(self, object: u32, place: PackedPlace) -> Row
-        ensures row { result ≡ row_at self object place }
+        ensures row { result ≡ packed_row self object place }
         ensures instant { IsWithin result.instant }
         ensures x { IsWithin result.cell.x }
         ensures y { IsWithin result.cell.y }
@@ -121,7 +121,7 @@ fn offset(least: i64, count: u64, number: i64) -> Option<u64>
     requires least { IsOrigin least }
     requires number { IsWithin number }
     ensures some { IfSome result (λ offset. (offset < count) × (least +ℤ pos offset ≡ number)) }
-    ensures none { IfNone result (IsCounted least count number → ⊥) }
+    ensures none { IfNone result (IsOneOf least count number → ⊥) }
 {
     let offset = number - least;
     if offset < 0 || offset as u64 >= count {

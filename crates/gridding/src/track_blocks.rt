@@ -43,7 +43,7 @@ pub struct TrackBlocks {
 impl TrackBlocks {
     ghost use Rattle.gridding.specs.Blocks.{rows_with, runs_in, runs_of};
     ghost use Rattle.gridding.specs.GriddedRows.{AreBlocksOf, HasAdded, HasKept, HasRoom, IsFull};
-    ghost use Rattle.gridding.specs.PackedPlace.{HasPlace, row_at};
+    ghost use Rattle.gridding.specs.PackedPlace.{HasPlace, packed_row};
 
     /// No blocks. The first row decides from where places are counted.
     pub fn new(alloc: Global) -> Self
@@ -146,7 +146,7 @@ impl TrackBlocks {
     // Puts a place into the object's last block, or into a new one.
     fn put_known(&mut self, object: u32, place: PackedPlace) -> Result<(), AllocError>
         ensures put { OnOk result ((rows : List Row) → AreBlocksOf rows self.old →
-            AreBlocksOf (rows ++ (row_at self.old.origin object place ∷ [])) self.new) }
+            AreBlocksOf (rows ++ (packed_row self.old.origin object place ∷ [])) self.new) }
         ensures origin { self.new.origin ≡ self.old.origin }
     {
         match self.last_of.get(&object).copied() {
@@ -169,7 +169,7 @@ impl TrackBlocks {
         ensures full { result ≡ false → (rows : List Row) → AreBlocksOf rows self.old →
             slice_get self.old.objects.items guess ≡ Some object → HasRoom self.old guess → ⊥ }
         ensures put { result ≡ true → (rows : List Row) → AreBlocksOf rows self.old →
-            AreBlocksOf (rows ++ (row_at self.old.origin object place ∷ [])) self.new }
+            AreBlocksOf (rows ++ (packed_row self.old.origin object place ∷ [])) self.new }
         ensures origin { self.new.origin ≡ self.old.origin }
     {
         let length = match (self.objects.get(guess), self.lengths.get(guess)) {
@@ -190,7 +190,7 @@ impl TrackBlocks {
     // Opens a block of the object, with this place in it. The blocks that the object has are to be full.
     fn open(&mut self, object: u32, place: PackedPlace) -> Result<(), AllocError>
         ensures opened { OnOk result ((rows : List Row) → AreBlocksOf rows self.old → IsFull object self.old →
-            AreBlocksOf (rows ++ (row_at self.old.origin object place ∷ [])) self.new) }
+            AreBlocksOf (rows ++ (packed_row self.old.origin object place ∷ [])) self.new) }
         ensures origin { self.new.origin ≡ self.old.origin }
     {
         let last = self.blocks.len();

@@ -187,7 +187,7 @@ drop-bits_in k bytes within =
     length-bits_in (take k bytes) ∙ ap (λ n. 8 * n) (length-take-le k bytes within) in
     ap (drop (8 * k)) (sym whole ∙ parts) ∙ drop_at (bits_in (take k bytes)) (bits_in (drop k bytes)) (8 * k) long
 
--- there is a 1 exactly where the bits do not spell 0
+-- there is a 1 if and only if the bits do not spell 0
 pub any_one : (bits : List Bool) → ltb 0 (ones_of bits) ≡ ltb 0 (number_of bits)
 any_one bits = elim (cases_lt 0 (ones_of bits)) [
   | inl some ↦ elim (cases_lt 0 (number_of bits)) [

@@ -22,19 +22,19 @@ use Rattle.index_format.specs.declared.header.Header.{Header}
 use Rattle.index_format.specs.declared.header.Sizes.{Sizes}
 use Rattle.index_format.specs.Spelling.{magic, short_bytes, long_bytes, signed_bytes, size_bytes, header_bytes, sizes_of}
 use Rattle.index_format.specs.Fields.{number_at}
-use Rattle.index_format.specs.Reading.{header_flaw, is_between, is_span, is_first, is_near, far, greatest_height, version_at, field_at, signed_at, sizes_at, header_at}
+use Rattle.index_format.specs.Reading.{header_flaw, is_in_range, is_span, is_first, is_near, far, greatest_height, version_at, field_at, signed_at, sizes_at, header_at}
 use Rattle.index_format.proofs.BitLemmas.{IsBytes, IsBytes-drop}
 use Rattle.index_format.proofs.Laws.{Takes, Takes-then, Takes-text, then_ok, test_ok, guard_ok, else_ok, IsWide, wide32, wide64, number_at-takes, number_at-again}
 
 -- the tests of a range
 
-between : (least greatest n : ℕ) → is_between least greatest n ≡ true → (least ≤ n) × (n ≤ greatest)
+between : (least greatest n : ℕ) → is_in_range least greatest n ≡ true → (least ≤ n) × (n ≤ greatest)
 between least greatest n test =
     let both = and_parts (nat_le least n) (nat_le n greatest) test in
     (grind (arith, nat_tests, both.0), grind (arith, nat_tests, both.1))
 
-is_between-true : (least greatest n : ℕ) → least ≤ n → n ≤ greatest → is_between least greatest n ≡ true
-is_between-true least greatest n low high =
+is_in_range-true : (least greatest n : ℕ) → least ≤ n → n ≤ greatest → is_in_range least greatest n ≡ true
+is_in_range-true least greatest n low high =
     and_from (nat_le least n) (nat_le n greatest) (grind (arith, nat_tests, low)) (grind (arith, nat_tests, high))
 
 -- fields
@@ -133,15 +133,15 @@ unfolding sizes_at size_bytes
 sizes_at-takes version bytes fits =
     let high = greatest_height version in
     let many = limit_of limits.Symbols in
-    then_ok _ _ (field_at w32 1 (is_between 1 MAX_PERIOD) bytes) (field_at-takes wide32 1 (is_between 1 MAX_PERIOD) bytes fits) (λ period t1.
-    then_ok _ _ (field_at w32 2 (is_between 1 high) period.1) (field_at-takes wide32 2 (is_between 1 high) period.1 t1.0.fits) (λ height t2.
-    then_ok _ _ (field_at w32 3 (is_between 1 (limit_of limits.Objects)) height.1) (field_at-takes wide32 3 (is_between 1 (limit_of limits.Objects)) height.1 t2.0.fits) (λ objects t3.
+    then_ok _ _ (field_at w32 1 (is_in_range 1 MAX_PERIOD) bytes) (field_at-takes wide32 1 (is_in_range 1 MAX_PERIOD) bytes fits) (λ period t1.
+    then_ok _ _ (field_at w32 2 (is_in_range 1 high) period.1) (field_at-takes wide32 2 (is_in_range 1 high) period.1 t1.0.fits) (λ height t2.
+    then_ok _ _ (field_at w32 3 (is_in_range 1 (limit_of limits.Objects)) height.1) (field_at-takes wide32 3 (is_in_range 1 (limit_of limits.Objects)) height.1 t2.0.fits) (λ objects t3.
     then_ok _ _ (field_at w32 4 (is_span objects.0 period.0) objects.1) (field_at-takes wide32 4 (is_span objects.0 period.0) objects.1 t3.0.fits) (λ span t4.
-    then_ok _ _ (field_at w32 5 (is_between 0 many) span.1) (field_at-takes wide32 5 (is_between 0 many) span.1 t4.0.fits) (λ alphabet t5.
-    then_ok _ _ (field_at w32 6 (is_between 0 many) alphabet.1) (field_at-takes wide32 6 (is_between 0 many) alphabet.1 t5.0.fits) (λ rules t6.
-    then_ok _ _ (field_at w32 7 (is_between 0 many) rules.1) (field_at-takes wide32 7 (is_between 0 many) rules.1 t6.0.fits) (λ symbols t7.
+    then_ok _ _ (field_at w32 5 (is_in_range 0 many) span.1) (field_at-takes wide32 5 (is_in_range 0 many) span.1 t4.0.fits) (λ alphabet t5.
+    then_ok _ _ (field_at w32 6 (is_in_range 0 many) alphabet.1) (field_at-takes wide32 6 (is_in_range 0 many) alphabet.1 t5.0.fits) (λ rules t6.
+    then_ok _ _ (field_at w32 7 (is_in_range 0 many) rules.1) (field_at-takes wide32 7 (is_in_range 0 many) rules.1 t6.0.fits) (λ symbols t7.
     let blocks = objects.0 * div_ceil span.0 period.0 in
-    let both = and_parts (is_between 1 (limit_of limits.Span) span.0) (nat_le blocks (limit_of limits.Blocks)) t4.2 in (
+    let both = and_parts (is_in_range 1 (limit_of limits.Span) span.0) (nat_le blocks (limit_of limits.Blocks)) t4.2 in (
       Takes-text _ (simp append_assoc refl)
           (Takes-then t1.0 (Takes-then t2.0 (Takes-then t3.0 (Takes-then t4.0 (Takes-then t5.0 (Takes-then t6.0 t7.0)))))),
       record {
@@ -172,22 +172,22 @@ sizes_at-again version sizes rest are =
     let text : size_bytes sizes ++ rest ≡ short_bytes sizes.period ++ r2 = simp append_assoc refl in
     let blocks = sizes.objects * div_ceil sizes.span sizes.period in
     let few : nat_le blocks (limit_of limits.Blocks) ≡ true = grind (arith, nat_tests, are.blocks) in
-    let span = and_from (is_between 1 (limit_of limits.Span) sizes.span) (nat_le blocks (limit_of limits.Blocks))
-    (is_between-true 1 (limit_of limits.Span) sizes.span are.span.0 are.span.1) few in
+    let span = and_from (is_in_range 1 (limit_of limits.Span) sizes.span) (nat_le blocks (limit_of limits.Blocks))
+    (is_in_range-true 1 (limit_of limits.Span) sizes.span are.span.0 are.span.1) few in
     ap (sizes_at version) text ∙ rw (
-      field_at-again wide32 1 (is_between 1 MAX_PERIOD) sizes.period r2 (omega (arith, are.period.1))
-          (is_between-true 1 MAX_PERIOD sizes.period are.period.0 are.period.1),
-      field_at-again wide32 2 (is_between 1 high) sizes.height r3 (omega (arith, height_limit version sizes.height are.height.1))
-          (is_between-true 1 high sizes.height are.height.0 are.height.1),
-      field_at-again wide32 3 (is_between 1 (limit_of limits.Objects)) sizes.objects r4 (omega (arith, are.objects.1))
-          (is_between-true 1 (limit_of limits.Objects) sizes.objects are.objects.0 are.objects.1),
+      field_at-again wide32 1 (is_in_range 1 MAX_PERIOD) sizes.period r2 (omega (arith, are.period.1))
+          (is_in_range-true 1 MAX_PERIOD sizes.period are.period.0 are.period.1),
+      field_at-again wide32 2 (is_in_range 1 high) sizes.height r3 (omega (arith, height_limit version sizes.height are.height.1))
+          (is_in_range-true 1 high sizes.height are.height.0 are.height.1),
+      field_at-again wide32 3 (is_in_range 1 (limit_of limits.Objects)) sizes.objects r4 (omega (arith, are.objects.1))
+          (is_in_range-true 1 (limit_of limits.Objects) sizes.objects are.objects.0 are.objects.1),
       field_at-again wide32 4 (is_span sizes.objects sizes.period) sizes.span r5 (omega (arith, are.span.1)) span,
-      field_at-again wide32 5 (is_between 0 many) sizes.alphabet r6 (omega (arith, are.alphabet))
-          (is_between-true 0 many sizes.alphabet (omega arith) are.alphabet),
-      field_at-again wide32 6 (is_between 0 many) sizes.rules r7 (omega (arith, are.rules))
-          (is_between-true 0 many sizes.rules (omega arith) are.rules),
-      field_at-again wide32 7 (is_between 0 many) sizes.symbols rest (omega (arith, are.symbols))
-          (is_between-true 0 many sizes.symbols (omega arith) are.symbols),
+      field_at-again wide32 5 (is_in_range 0 many) sizes.alphabet r6 (omega (arith, are.alphabet))
+          (is_in_range-true 0 many sizes.alphabet (omega arith) are.alphabet),
+      field_at-again wide32 6 (is_in_range 0 many) sizes.rules r7 (omega (arith, are.rules))
+          (is_in_range-true 0 many sizes.rules (omega arith) are.rules),
+      field_at-again wide32 7 (is_in_range 0 many) sizes.symbols rest (omega (arith, are.symbols))
+          (is_in_range-true 0 many sizes.symbols (omega arith) are.symbols),
     ) refl
 
 -- a header in its ranges
@@ -215,7 +215,7 @@ first_before first more ends = omega (arith, ints, ends)
 pub header_at-takes : (bytes : List ℕ) → IsBytes bytes → IfOk (header_at bytes) (λ h. Takes bytes (header_bytes h.0) h.1 × IsHeader h.0)
 unfolding header_at header_bytes
 header_at-takes bytes fits =
-    let units = is_between 1 MAX_RESOLUTION in
+    let units = is_in_range 1 MAX_RESOLUTION in
     then_ok _ _ (version_at bytes) (version_at-takes bytes fits) (λ version t0.
     then_ok _ _ (sizes_at version.0 version.1) (sizes_at-takes version.0 version.1 t0.0.fits) (λ sizes t1.
     then_ok _ _ (signed_at 8 (is_first sizes.0.span) sizes.1) (signed_at-takes 8 (is_first sizes.0.span) sizes.1 t1.0.fits) (λ first t2.
@@ -255,7 +255,7 @@ pub header_at-again : (header : Header) (rest : List ℕ) → IsHeader header �
 unfolding header_at header_bytes
 header_at-again header rest is =
     let frame = header.frame in
-    let units = is_between 1 MAX_RESOLUTION in
+    let units = is_in_range 1 MAX_RESOLUTION in
     let r6 = long_bytes frame.tick ++ rest in
     let r5 = long_bytes frame.cell ++ r6 in
     let r4 = signed_bytes frame.base.y ++ r5 in
@@ -276,7 +276,7 @@ header_at-again header rest is =
       signed_at-again 10 is_near frame.base.y r5 (near_fits frame.base.y is.frame.lines.low is.frame.lines.high)
           (near-true frame.base.y is.frame.lines),
       field_at-again wide64 11 units frame.cell r6 (omega (arith, is.frame.cells.limit))
-          (is_between-true 1 MAX_RESOLUTION frame.cell is.frame.cells.some is.frame.cells.limit),
+          (is_in_range-true 1 MAX_RESOLUTION frame.cell is.frame.cells.some is.frame.cells.limit),
       field_at-again wide64 12 units frame.tick rest (omega (arith, is.frame.ticks.limit))
-          (is_between-true 1 MAX_RESOLUTION frame.tick is.frame.ticks.some is.frame.ticks.limit),
+          (is_in_range-true 1 MAX_RESOLUTION frame.tick is.frame.ticks.some is.frame.ticks.limit),
     ) refl

@@ -11,7 +11,7 @@ use Rattle.track_types.specs.declared.flaw.Section.TheVariants.{Rules}
 use Rattle.track_types.specs.declared.flaw.Kind.TheVariants.{Short, Order}
 use Rattle.track_types.specs.declared.format_fault.FormatFault.{FormatFault}
 use Rattle.track_types.specs.declared.format_fault.FormatFault.TheVariants as fault
-use Rattle.index_format.specs.Answers.{IsFaultOf}
+use Rattle.index_format.specs.Answers.{IsFormatFault}
 use Rattle.index_format.specs.Fields.{Taken, flaw_at, number_at, items_at, short_at, rises, rising_at, rule_at}
 
 -- i of count items were read, and what is left to read gives what the whole does
@@ -36,7 +36,7 @@ module _ {A : Type 0} {next : List A → List ℕ → Taken A} {count i : ℕ} {
 
   -- an item could not be read: so can the whole not
   pub items_at-fault : (why : FormatFault)
-      → i < count → IsFaultOf (next seen rest) why → IsFaultOf (items_at next count [] bytes) why
+      → i < count → IsFormatFault (next seen rest) why → IsFormatFault (items_at next count [] bytes) why
   unfolding items_at
   items_at-fault fault.Memory within read = tt
   items_at-fault (fault.Flaw flaw) within read =
@@ -91,8 +91,8 @@ module _ (w : Width) (section : Section) (i : ℕ) (seen bytes : List ℕ) (miss
       ∙ ap (λ flaw. number_at w flaw bytes) (sym is)
 
   -- a number that is not there is not one that rises
-  rising_at-fault : (why : FormatFault) → IsFaultOf (number_at w missing bytes) why
-      → IsFaultOf (rising_at w section seen bytes) why
+  rising_at-fault : (why : FormatFault) → IsFormatFault (number_at w missing bytes) why
+      → IsFormatFault (rising_at w section seen bytes) why
   unfolding rising_at
   rising_at-fault fault.Memory read = tt
   rising_at-fault (fault.Flaw flaw) read = rw (number, read) refl
@@ -114,15 +114,15 @@ module _ (w : Width) (section : Section) {count i : ℕ} {seen rest bytes : List
     (so_far : IsUnderWay (rising_at w section) count i seen rest bytes) (missing : Flaw)
     (is : missing ≡ flaw_at section 0 i Short) (here : i < count) where
   -- it is
-  pub rising-missing : (why : FormatFault) → IsFaultOf (number_at w missing rest) why
-      → IsFaultOf (items_at (rising_at w section) count [] bytes) why
+  pub rising-missing : (why : FormatFault) → IsFormatFault (number_at w missing rest) why
+      → IsFormatFault (items_at (rising_at w section) count [] bytes) why
   rising-missing why read =
       items_at-fault so_far why here (rising_at-fault w section i seen rest missing so_far.long is why read)
 
   module _ (n : ℕ) (after : List ℕ) (read : number_at w missing rest ≡ Ok (n, after)) where
     -- it is not above the one before
     pub rising-falls : (last : ℕ) (told : Flaw) → 0 < i → last ≡ get_or seen (i - 1) last → n ≤ last
-        → told ≡ flaw_at section 0 i Order → IsFaultOf (items_at (rising_at w section) count [] bytes) (fault.Flaw told)
+        → told ≡ flaw_at section 0 i Order → IsFormatFault (items_at (rising_at w section) count [] bytes) (fault.Flaw told)
     rising-falls last told some last_is below told_is =
         let falls = rises-below seen n i so_far.long last some last_is below in
         rw told_is (items_at-fault so_far (fault.Flaw (flaw_at section 0 i Order)) here
@@ -147,14 +147,14 @@ module _ (i : ℕ) (seen : List (ℕ × ℕ)) (bytes : List ℕ) (missing : Flaw
       ∙ ap (λ flaw. number_at w32 flaw bytes) (sym is)
 
   -- a rule whose first number is not there
-  pub rule_at-left : (why : FormatFault) → IsFaultOf (number_at w32 missing bytes) why → IsFaultOf (rule_at seen bytes) why
+  pub rule_at-left : (why : FormatFault) → IsFormatFault (number_at w32 missing bytes) why → IsFormatFault (rule_at seen bytes) why
   unfolding rule_at
   rule_at-left fault.Memory read = tt
   rule_at-left (fault.Flaw flaw) read = rw (half bytes, read) refl
 
   -- a rule whose second number is not there
   pub rule_at-right : (left : ℕ) (rest : List ℕ) (why : FormatFault) → number_at w32 missing bytes ≡ Ok (left, rest)
-      → IsFaultOf (number_at w32 missing rest) why → IsFaultOf (rule_at seen bytes) why
+      → IsFormatFault (number_at w32 missing rest) why → IsFormatFault (rule_at seen bytes) why
   unfolding rule_at
   rule_at-right left rest fault.Memory first second = tt
   rule_at-right left rest (fault.Flaw flaw) first second = rw (half bytes, first, half rest, second) refl

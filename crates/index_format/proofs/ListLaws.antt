@@ -33,7 +33,7 @@ shorts_listed section period = record {
     number_more seen bytes all (Ok n) taken = (taken.0, All-snoc (λ n. n < 2 ^ 32) seen n.0 all taken.1)
     number_more seen bytes all (Err flaw) taken = tt
 
--- a number rises exactly where it is greater than the last
+-- a number rises if and only if it is greater than the last
 rises-above : (seen : List ℕ) (n : ℕ) → rises seen n ≡ true → 0 < length seen → slice_index seen (length seen - 1) < n
 rises-above seen n up some =
     let more : eqb (length seen) 0 ≡ false = grind (arith, nat_tests) in

@@ -12,7 +12,7 @@ use Rattle.index_format.specs.Spelling.{bit_bytes, bits_with, log_bytes}
 use Rattle.index_format.proofs.BitLemmas.{IsBytes}
 use Rattle.index_format.proofs.Laws.{Takes, then_ok, items_at-takes, items_at-again, bits_at-takes, bits_at-again}
 use Rattle.index_format.proofs.ListLaws.{shorts_listed}
-use Rattle.index_format.proofs.SymbolLemmas.{bits_with-numbers_in, length-bits_with, length-numbers_in, numbers_in-bits_with, small-numbers_in}
+use Rattle.index_format.proofs.SymbolLemmas.{bits_with-numbers_from_bits, length-bits_with, length-numbers_from_bits, numbers_from_bits-bits_with, small-numbers_from_bits}
 
 -- so many symbols that fit
 pub record IsLog (version width count : ℕ) (symbols : List ℕ) : Type 0 where
@@ -27,12 +27,12 @@ packed_at-takes : (version width count : ℕ) (bytes : List ℕ) → width ≤ 3
 unfolding packed_at
 packed_at-takes version width count bytes narrow fits =
     then_ok _ _ (bits_at Log 0 (width * count) bytes) (bits_at-takes Log 0 (width * count) bytes fits) (λ bits taken.
-    let text = bits_with-numbers_in width count bits.0 taken.1 in
-    let small = small-numbers_in width count bits.0 taken.1 in
+    let text = bits_with-numbers_from_bits width count bits.0 taken.1 in
+    let small = small-numbers_from_bits width count bits.0 taken.1 in
     let limit : 2 ^ width ≤ 2 ^ 32 = pow-le-pow_right {n = 2} (omega arith) narrow in (
       rw text taken.0,
       record {
-        long = length-numbers_in width count bits.0;
+        long = length-numbers_from_bits width count bits.0;
         short = All-weaker (λ n. n < 2 ^ width) (λ n. n < 2 ^ 32) (λ n low. omega (arith, low, limit)) _ small;
         narrow = λ later. small;
       },
@@ -62,6 +62,6 @@ log_at-again version width symbols rest short narrow = elim (cases_lt version 2)
       (items_at-again (shorts_listed Log 0) symbols (length symbols) rest refl short)
   | inr later ↦
       let read = bits_at-again Log 0 (width * length symbols) (bits_with width symbols) rest (length-bits_with width symbols) in
-      let same = numbers_in-bits_with width symbols (narrow later) in
+      let same = numbers_from_bits-bits_with width symbols (narrow later) in
       rw (le-ltb version 2 later, read, same) refl
 ]

@@ -10,9 +10,9 @@ use Rattle.packed_bits.proofs.NumberLemmas.{number_of-append, number_of-take, nu
 use Rattle.packed_bits.proofs.WordLemmas.{length-low_bits, number_of-low_bits}
 use Rattle.index_format.specs.Packing.{IsPacking}
 use Rattle.index_format.specs.Spelling.{bytes_filled, bytes_for, bit_bytes}
-use Rattle.index_format.specs.Fields.{numbers_in}
+use Rattle.index_format.specs.Fields.{numbers_from_bits}
 use Rattle.index_format.proofs.BitLemmas.{bytes_filled-word}
-use Rattle.index_format.proofs.SymbolLemmas.{numbers_in-more}
+use Rattle.index_format.proofs.SymbolLemmas.{numbers_from_bits-more}
 
 -- bits that are appended change no byte that is full
 bytes_filled-append : (n : ℕ) (bits more : List Bool) → 8 * n ≤ length bits → bytes_filled n (bits ++ more) ≡ bytes_filled n bits
@@ -115,14 +115,14 @@ joined_small width number waiting filled small low =
 
 -- what of some bits was read from their words: the numbers before the k-th, and the bits after them up to a word's end
 pub record IsUnpacking (width k : ℕ) (bits : List Bool) (numbers : List ℕ) (waiting filled words : ℕ) : Type 0 where
-  pub seen : numbers ≡ numbers_in width k bits
+  pub seen : numbers ≡ numbers_from_bits width k bits
   pub left : waiting ≡ window_of bits (width * k) filled
   pub place : width * k + filled ≡ 64 * words
   pub low : filled < 64
 
 -- nothing was read
 pub unpacking-starts : (width : ℕ) (bits : List Bool) (numbers : List ℕ) → numbers ≡ [] → IsUnpacking width 0 bits numbers 0 0 0
-unfolding numbers_in window_of number_of
+unfolding numbers_from_bits window_of number_of
 unpacking-starts width bits numbers none =
     record { seen = none; left = refl; place = omega arith; low = omega arith }
 
@@ -151,7 +151,7 @@ pub record IsReady (width k : ℕ) (bits : List Bool) (waiting filled words : �
 
 -- it is taken from those that wait
 pub unpacking-more : (width k : ℕ) (bits : List Bool) (numbers new : List ℕ) (waiting filled words : ℕ)
-    → numbers ≡ numbers_in width k bits → IsReady width k bits waiting filled words
+    → numbers ≡ numbers_from_bits width k bits → IsReady width k bits waiting filled words
     → new ≡ numbers ++ waiting % 2 ^ width ∷ []
     → IsUnpacking width (k + 1) bits new (waiting / 2 ^ width) (filled - width) words
 unpacking-more width k bits numbers new waiting filled words seen ready new_is =
@@ -162,7 +162,7 @@ unpacking-more width k bits numbers new waiting filled words seen ready new_is =
     ap (λ v. v % 2 ^ width) ready.left ∙ sym (window_of-narrow bits p width filled ready.enough) in
     record {
       seen = new_is ∙ ap (λ n. numbers ++ n ∷ []) number
-          ∙ ap (λ front. front ++ window_of bits p width ∷ []) seen ∙ sym (numbers_in-more width k bits);
+          ∙ ap (λ front. front ++ window_of bits p width ∷ []) seen ∙ sym (numbers_from_bits-more width k bits);
       left = ap (λ v. v / 2 ^ width) (ready.left ∙ ap (λ m. window_of bits p m) (sym whole))
           ∙ sym (window_of-past bits p width (filled - width)) ∙ ap (λ q. window_of bits q (filled - width)) (sym next);
       place = omega (arith, next, ready.place, ready.enough);

@@ -14,7 +14,7 @@ use Rattle.track_types.specs.declared.format_fault.FormatFault.{FormatFault}
 use Rattle.index_format.specs.Answers.{Gives}
 use Rattle.index_format.specs.Spelling.{short_bytes, long_bytes, rule_bytes, period_bytes, log_bytes, header_bytes, header_of, bytes_of_parts}
 use Rattle.index_format.specs.Fields.{items_at, rising_at, rule_at, log_at}
-use Rattle.index_format.specs.Reading.{header_at, period_at, parts_in}
+use Rattle.index_format.specs.Reading.{header_at, period_sections_at, parts_in}
 use Rattle.index_format.proofs.BitLemmas.{IsBytes}
 use Rattle.index_format.proofs.Laws.{Takes-then, then_ok, test_ok, wide32, wide64, items_at-takes, items_at-again}
 use Rattle.index_format.proofs.ListLaws.{rising_listed, rules_listed}
@@ -32,7 +32,7 @@ parts_in-takes bytes fits =
     then_ok _ _ (items_at (rising_at w32 Objects) h.objects [] header.1) (items_at-takes (rising_listed wide32 Objects) h.objects header.1 t0.0.fits) (λ objects t1.
     then_ok _ _ (items_at (rising_at w64 Alphabet) h.alphabet [] objects.1) (items_at-takes (rising_listed wide64 Alphabet) h.alphabet objects.1 t1.0.fits) (λ alphabet t2.
     then_ok _ _ (items_at rule_at h.rules [] alphabet.1) (items_at-takes rules_listed h.rules alphabet.1 t2.0.fits) (λ rules t3.
-    then_ok _ _ (items_at (period_at h.objects) (periods_of h.frame) [] rules.1) (items_at-takes (periods_listed h.objects) (periods_of h.frame) rules.1 t3.0.fits) (λ periods t4.
+    then_ok _ _ (items_at (period_sections_at h.objects) (periods_of h.frame) [] rules.1) (items_at-takes (periods_listed h.objects) (periods_of h.frame) rules.1 t3.0.fits) (λ periods t4.
     let width = width_for (h.alphabet + h.rules) in
     then_ok _ _ (log_at h.frame.version width h.symbols periods.1)
     (log_at-takes h.frame.version width h.symbols periods.1 (omega (arith, width_for-narrow (h.alphabet + h.rules))) t4.0.fits) (λ symbols t5.

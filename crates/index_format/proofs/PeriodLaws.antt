@@ -14,7 +14,7 @@ use Rattle.track_types.specs.declared.limit.TheConstants.{MAX_TREE}
 use Rattle.track_types.specs.declared.period_parts.PeriodParts.{PeriodParts}
 use Rattle.index_format.specs.Spelling.{short_bytes, bit_bytes, period_bytes}
 use Rattle.index_format.specs.Fields.{Taken, flaw_at, number_at, items_at, short_at, bits_at}
-use Rattle.index_format.specs.Reading.{tree_length_at, period_at}
+use Rattle.index_format.specs.Reading.{tree_length_at, period_sections_at}
 use Rattle.index_format.proofs.BitLemmas.{IsBytes}
 use Rattle.index_format.proofs.Laws.{Takes, Takes-then, Takes-text, then_ok, test_ok, wide32, number_at-takes, number_at-again, IsListed, items_at-takes, items_at-again, bits_at-takes, bits_at-again}
 use Rattle.index_format.proofs.ListLaws.{shorts_listed}
@@ -36,10 +36,10 @@ tree_length_at-again number n rest low =
     rw (read, test) refl
 
 -- a period that was read is spelled so
-pub period_at-takes : (objects : ℕ) (seen : List PeriodParts) (bytes : List ℕ) → IsBytes bytes
-    → IfOk (period_at objects seen bytes) (λ period. Takes bytes (period_bytes period.0) period.1 × IsShapedPeriod objects period.0)
-unfolding period_at period_bytes
-period_at-takes objects seen bytes fits =
+pub period_sections_at-takes : (objects : ℕ) (seen : List PeriodParts) (bytes : List ℕ) → IsBytes bytes
+    → IfOk (period_sections_at objects seen bytes) (λ period. Takes bytes (period_bytes period.0) period.1 × IsShapedPeriod objects period.0)
+unfolding period_sections_at period_bytes
+period_sections_at-takes objects seen bytes fits =
     let b = length seen in
     then_ok _ _ (bits_at Presence b objects bytes) (bits_at-takes Presence b objects bytes fits) (λ present t1.
     let n = ones_of present.0 in
@@ -67,10 +67,10 @@ period_at-takes objects seen bytes fits =
     ))))))))
 
 -- a shaped period that is spelled so is read
-pub period_at-again : (objects : ℕ) (seen : List PeriodParts) (period : PeriodParts) (rest : List ℕ) → IsShapedPeriod objects period
-    → period_at objects seen (period_bytes period ++ rest) ≡ Ok (period, rest)
-unfolding period_at period_bytes
-period_at-again objects seen period rest shaped =
+pub period_sections_at-again : (objects : ℕ) (seen : List PeriodParts) (period : PeriodParts) (rest : List ℕ) → IsShapedPeriod objects period
+    → period_sections_at objects seen (period_bytes period ++ rest) ≡ Ok (period, rest)
+unfolding period_sections_at period_bytes
+period_sections_at-again objects seen period rest shaped =
     let b = length seen in
     let n = ones_of period.present in
     let r7 = flat_map short_bytes period.lengths ++ rest in
@@ -80,7 +80,7 @@ period_at-again objects seen period rest shaped =
     let r3 = short_bytes (length period.tree) ++ r4 in
     let r2 = flat_map short_bytes period.offsets ++ r3 in
     let text : period_bytes period ++ rest ≡ bit_bytes period.present ++ r2 = simp append_assoc refl in
-    ap (period_at objects seen) text ∙ rw (
+    ap (period_sections_at objects seen) text ∙ rw (
       bits_at-again Presence b objects period.present r2 shaped.presence,
       items_at-again (shorts_listed Offsets b) period.offsets n r3 shaped.offsets shaped.short_offsets,
       tree_length_at-again b (length period.tree) r4 shaped.bits,
@@ -91,12 +91,12 @@ period_at-again objects seen period rest shaped =
     ) refl
 
 -- periods of so many objects
-pub periods_listed : (objects : ℕ) → IsListed (period_at objects) period_bytes (All (IsShapedPeriod objects))
+pub periods_listed : (objects : ℕ) → IsListed (period_sections_at objects) period_bytes (All (IsShapedPeriod objects))
 periods_listed objects = record {
   none = All-nil (IsShapedPeriod objects);
   front = λ xs ys all. All-front (IsShapedPeriod objects) xs ys all;
-  takes = λ seen bytes all fits. period_more seen bytes all (period_at objects seen bytes) (period_at-takes objects seen bytes fits);
-  again = λ seen period rest all. period_at-again objects seen period rest (All-last (IsShapedPeriod objects) seen period all);
+  takes = λ seen bytes all fits. period_more seen bytes all (period_sections_at objects seen bytes) (period_sections_at-takes objects seen bytes fits);
+  again = λ seen period rest all. period_sections_at-again objects seen period rest (All-last (IsShapedPeriod objects) seen period all);
 }
   where
     period_more : (seen : List PeriodParts) (bytes : List ℕ) → All (IsShapedPeriod objects) seen → (read : Taken PeriodParts)

@@ -8,7 +8,7 @@ use Rattle.packed_bits.specs.Bits.{number_of, window_of}
 use Rattle.packed_bits.specs.Words.{low_bits}
 use Rattle.packed_bits.proofs.NumberLemmas.{number_of-lt, same_from_number_of}
 use Rattle.packed_bits.proofs.WordLemmas.{length-low_bits, number_of-low_bits}
-use Rattle.index_format.specs.Fields.{numbers_in}
+use Rattle.index_format.specs.Fields.{numbers_from_bits}
 use Rattle.index_format.specs.Spelling.{bits_with}
 
 -- so many bits for each number
@@ -19,16 +19,16 @@ length-bits_with width (n ∷ numbers) =
     omega (arith, length-append (low_bits width n) (bits_with width numbers), length-low_bits width n, length-bits_with width numbers)
 
 -- what was written is read again
-pub numbers_in-bits_with : (width : ℕ) (numbers : List ℕ) → All (λ n. n < 2 ^ width) numbers
-    → numbers_in width (length numbers) (bits_with width numbers) ≡ numbers
-unfolding numbers_in bits_with
-numbers_in-bits_with width [] small = refl
-numbers_in-bits_with width (n ∷ numbers) small =
+pub numbers_from_bits-bits_with : (width : ℕ) (numbers : List ℕ) → All (λ n. n < 2 ^ width) numbers
+    → numbers_from_bits width (length numbers) (bits_with width numbers) ≡ numbers
+unfolding numbers_from_bits bits_with
+numbers_from_bits-bits_with width [] small = refl
+numbers_from_bits-bits_with width (n ∷ numbers) small =
     let front = take_at (low_bits width n) (bits_with width numbers) width (length-low_bits width n) in
     let back = drop_at (low_bits width n) (bits_with width numbers) width (length-low_bits width n) in
     let first : number_of (low_bits width n) ≡ n = number_of-low_bits width n ∙ mod-eq_of_lt (small 0 n (omega arith)) in
     rw (front, back, first)
-    (ap (λ rest. n ∷ rest) (numbers_in-bits_with width numbers (λ k d h. small (suc k) d (omega arith))))
+    (ap (λ rest. n ∷ rest) (numbers_from_bits-bits_with width numbers (λ k d h. small (suc k) d (omega arith))))
 
 -- the lowest bits of the number that bits spell are these bits
 low_bits-number_of : (bits : List Bool) → low_bits (length bits) (number_of bits) ≡ bits
@@ -37,50 +37,50 @@ low_bits-number_of bits =
     (number_of-low_bits (length bits) (number_of bits) ∙ mod-eq_of_lt (number_of-lt bits))
 
 -- what was read is written again
-pub bits_with-numbers_in : (width n : ℕ) (bits : List Bool) → length bits ≡ width * n → bits_with width (numbers_in width n bits) ≡ bits
-unfolding numbers_in bits_with
-bits_with-numbers_in width zero [] long = refl
-bits_with-numbers_in width zero (bit ∷ bits) long = absurd (omega arith)
-bits_with-numbers_in width (suc n) bits long =
+pub bits_with-numbers_from_bits : (width n : ℕ) (bits : List Bool) → length bits ≡ width * n → bits_with width (numbers_from_bits width n bits) ≡ bits
+unfolding numbers_from_bits bits_with
+bits_with-numbers_from_bits width zero [] long = refl
+bits_with-numbers_from_bits width zero (bit ∷ bits) long = absurd (omega arith)
+bits_with-numbers_from_bits width (suc n) bits long =
     let front : length (take width bits) ≡ width = length-take-le width bits (omega arith) in
     let first : low_bits width (number_of (take width bits)) ≡ take width bits =
     ap (λ k. low_bits k (number_of (take width bits))) (sym front) ∙ low_bits-number_of (take width bits) in
-    let rest = bits_with-numbers_in width n (drop width bits) (omega (arith, length-drop width bits)) in
+    let rest = bits_with-numbers_from_bits width n (drop width bits) (omega (arith, length-drop width bits)) in
     rw (first, rest) (take-append-drop width bits)
 
 -- as many as were asked for
-pub length-numbers_in : (width n : ℕ) (bits : List Bool) → length (numbers_in width n bits) ≡ n
-unfolding numbers_in
-length-numbers_in width zero bits = refl
-length-numbers_in width (suc n) bits = ap suc (length-numbers_in width n (drop width bits))
+pub length-numbers_from_bits : (width n : ℕ) (bits : List Bool) → length (numbers_from_bits width n bits) ≡ n
+unfolding numbers_from_bits
+length-numbers_from_bits width zero bits = refl
+length-numbers_from_bits width (suc n) bits = ap suc (length-numbers_from_bits width n (drop width bits))
 
 -- each of them has that many bits
-pub small-numbers_in : (width n : ℕ) (bits : List Bool) → length bits ≡ width * n → All (λ n. n < 2 ^ width) (numbers_in width n bits)
-unfolding numbers_in
-small-numbers_in width zero bits long = All-nil (λ n. n < 2 ^ width)
-small-numbers_in width (suc n) bits long =
+pub small-numbers_from_bits : (width n : ℕ) (bits : List Bool) → length bits ≡ width * n → All (λ n. n < 2 ^ width) (numbers_from_bits width n bits)
+unfolding numbers_from_bits
+small-numbers_from_bits width zero bits long = All-nil (λ n. n < 2 ^ width)
+small-numbers_from_bits width (suc n) bits long =
     let front : length (take width bits) ≡ width = length-take-le width bits (omega arith) in
     let first : number_of (take width bits) < 2 ^ width = rw front at (number_of-lt (take width bits)) in
-    All-cons (λ n. n < 2 ^ width) (number_of (take width bits)) (numbers_in width n (drop width bits)) first
-    (small-numbers_in width n (drop width bits) (omega (arith, length-drop width bits)))
+    All-cons (λ n. n < 2 ^ width) (number_of (take width bits)) (numbers_from_bits width n (drop width bits)) first
+    (small-numbers_from_bits width n (drop width bits) (omega (arith, length-drop width bits)))
 
--- one more is the window behind the others
-numbers_in-next : (width n : ℕ) (bits : List Bool)
-    → numbers_in width (suc n) bits ≡ numbers_in width n bits ++ window_of bits (width * n) width ∷ []
-unfolding numbers_in window_of
-numbers_in-next width zero bits = let e : width * 0 ≡ 0 = omega arith in rw e refl
-numbers_in-next width (suc n) bits =
+-- one more is the window after the others
+numbers_from_bits-next : (width n : ℕ) (bits : List Bool)
+    → numbers_from_bits width (suc n) bits ≡ numbers_from_bits width n bits ++ window_of bits (width * n) width ∷ []
+unfolding numbers_from_bits window_of
+numbers_from_bits-next width zero bits = let e : width * 0 ≡ 0 = omega arith in rw e refl
+numbers_from_bits-next width (suc n) bits =
     let place : width + width * n ≡ width * suc n = omega arith in
-    ap (λ rest. number_of (take width bits) ∷ rest) (numbers_in-next width n (drop width bits)
-    ∙ ap (λ behind. numbers_in width n (drop width bits) ++ number_of (take width behind) ∷ [])
+    ap (λ rest. number_of (take width bits) ∷ rest) (numbers_from_bits-next width n (drop width bits)
+    ∙ ap (λ behind. numbers_from_bits width n (drop width bits) ++ number_of (take width behind) ∷ [])
     (drop-drop (width * n) width bits ∙ ap (λ p. drop p bits) place))
 
-pub numbers_in-more : (width n : ℕ) (bits : List Bool)
-    → numbers_in width (n + 1) bits ≡ numbers_in width n bits ++ window_of bits (width * n) width ∷ []
-numbers_in-more width n bits =
-    let e : n + 1 ≡ suc n = omega arith in ap (λ k. numbers_in width k bits) e ∙ numbers_in-next width n bits
+pub numbers_from_bits-more : (width n : ℕ) (bits : List Bool)
+    → numbers_from_bits width (n + 1) bits ≡ numbers_from_bits width n bits ++ window_of bits (width * n) width ∷ []
+numbers_from_bits-more width n bits =
+    let e : n + 1 ≡ suc n = omega arith in ap (λ k. numbers_from_bits width k bits) e ∙ numbers_from_bits-next width n bits
 
--- one number more has its bits behind the others'
+-- one number more has its bits after the others'
 pub bits_with-more : (width : ℕ) (numbers : List ℕ) (n : ℕ) → bits_with width (numbers ++ n ∷ []) ≡ bits_with width numbers ++ low_bits width n
 unfolding bits_with
 bits_with-more width numbers n =

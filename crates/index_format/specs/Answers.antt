@@ -5,11 +5,11 @@ use Rattle.track_types.specs.declared.format_fault.FormatFault.{FormatFault}
 use Rattle.track_types.specs.declared.format_fault.FormatFault.TheVariants as fault
 
 -- a flaw is that of the reading; memory may be wanting for any bytes
-abbrev pub IsFaultOf : {Y : Type 0} → Result Y Flaw → FormatFault → Type 0
-IsFaultOf read (fault.Flaw flaw) = read ≡ Err flaw
-IsFaultOf read fault.Memory = Unit {0}
+abbrev pub IsFormatFault : {Y : Type 0} → Result Y Flaw → FormatFault → Type 0
+IsFormatFault read (fault.Flaw flaw) = read ≡ Err flaw
+IsFormatFault read fault.Memory = Unit {0}
 
 -- what was answered, seen by view, is what reading gives, unless memory was refused
 abbrev pub Gives : {X Y : Type 0} → (X → Y) → Result X FormatFault → Result Y Flaw → Type 0
 Gives view (Ok x) read = read ≡ Ok (view x)
-Gives view (Err fault) read = IsFaultOf read fault
+Gives view (Err fault) read = IsFormatFault read fault

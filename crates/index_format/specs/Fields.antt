@@ -70,15 +70,15 @@ bits_at section period count bytes =
     else Ok (take count (bits_in (take (bytes_for count) bytes)), drop (bytes_for count) bytes)
 
 -- so many numbers of so many bits each, from the front of the bits
-unfoldable pub numbers_in : ℕ → ℕ → List Bool → List ℕ
-numbers_in width zero bits = []
-numbers_in width (suc n) bits = number_of (take width bits) ∷ numbers_in width n (drop width bits)
+unfoldable pub numbers_from_bits : ℕ → ℕ → List Bool → List ℕ
+numbers_from_bits width zero bits = []
+numbers_from_bits width (suc n) bits = number_of (take width bits) ∷ numbers_from_bits width n (drop width bits)
 
 -- numbers of so many bits each, whose bytes are the elements of the log
 unfoldable pub packed_at : ℕ → ℕ → List ℕ → Taken (List ℕ)
 packed_at width count bytes = do
   bits ← bits_at Log 0 (width * count) bytes
-  Ok (numbers_in width count bits.0, bits.1)
+  Ok (numbers_from_bits width count bits.0, bits.1)
 
 -- the symbols of all logs: of four bytes each in version 1, after it of so many bits each
 unfoldable pub log_at : ℕ → ℕ → ℕ → List ℕ → Taken (List ℕ)

@@ -3,7 +3,7 @@ use Rattle.std.specs.Prelude.{◌≡◌, ℕ, ◌+◌, ◌*◌, ◌<◌, Bool, L
 use Rattle.packed_bits.specs.Bits.{number_of}
 use Rattle.index_format.specs.Spelling.{bytes_filled}
 
--- behind what stood there before, the bits' whole words are written, and the number of the others waits
+-- after what stood there before, the bits' whole words are written, and the number of the others waits
 pub record IsPacking (before : List ℕ) (bits : List Bool) (out : List ℕ) (waiting filled : ℕ) : Type 0 where
   pub words : ℕ
   pub long : length bits ≡ 64 * words + filled

@@ -24,8 +24,8 @@ abbrev pub header_flaw : ℕ → Kind → Flaw
 header_flaw index kind = flaw_at Header 0 index kind
 
 -- least to greatest, both counted
-abbrev pub is_between : ℕ → ℕ → ℕ → Bool
-is_between least greatest n = nat_le least n && nat_le n greatest
+abbrev pub is_in_range : ℕ → ℕ → ℕ → Bool
+is_in_range least greatest n = nat_le least n && nat_le n greatest
 
 -- the greatest distance of a coordinate or an instant from 0
 abbrev pub far : ℤ
@@ -38,7 +38,7 @@ is_near z = le_z (neg_ℤ far) z && le_z z far
 -- the span is in its range, and objects times periods is
 abbrev pub is_span : ℕ → ℕ → ℕ → Bool
 is_span objects period span =
-    is_between 1 (limit_of limits.Span) span && nat_le (objects * div_ceil span period) (limit_of limits.Blocks)
+    is_in_range 1 (limit_of limits.Span) span && nat_le (objects * div_ceil span period) (limit_of limits.Blocks)
 
 -- an instant from which the whole span is at most `far` from 0
 abbrev pub is_first : ℕ → ℤ → Bool
@@ -71,13 +71,13 @@ signed_at index passes bytes = do
 -- the header's numbers of four bytes, in a version
 unfoldable pub sizes_at : ℕ → List ℕ → Taken Sizes
 sizes_at version bytes = do
-  period ← field_at w32 1 (is_between 1 MAX_PERIOD) bytes
-  height ← field_at w32 2 (is_between 1 (greatest_height version)) period.1
-  objects ← field_at w32 3 (is_between 1 (limit_of limits.Objects)) height.1
+  period ← field_at w32 1 (is_in_range 1 MAX_PERIOD) bytes
+  height ← field_at w32 2 (is_in_range 1 (greatest_height version)) period.1
+  objects ← field_at w32 3 (is_in_range 1 (limit_of limits.Objects)) height.1
   span ← field_at w32 4 (is_span objects.0 period.0) objects.1
-  alphabet ← field_at w32 5 (is_between 0 (limit_of limits.Symbols)) span.1
-  rules ← field_at w32 6 (is_between 0 (limit_of limits.Symbols)) alphabet.1
-  symbols ← field_at w32 7 (is_between 0 (limit_of limits.Symbols)) rules.1
+  alphabet ← field_at w32 5 (is_in_range 0 (limit_of limits.Symbols)) span.1
+  rules ← field_at w32 6 (is_in_range 0 (limit_of limits.Symbols)) alphabet.1
+  symbols ← field_at w32 7 (is_in_range 0 (limit_of limits.Symbols)) rules.1
   Ok (
     record {
       period = period.0;
@@ -99,8 +99,8 @@ header_at bytes = do
   first ← signed_at 8 (is_first sizes.0.span) sizes.1
   x ← signed_at 9 is_near first.1
   y ← signed_at 10 is_near x.1
-  cell ← field_at w64 11 (is_between 1 MAX_RESOLUTION) y.1
-  tick ← field_at w64 12 (is_between 1 MAX_RESOLUTION) cell.1
+  cell ← field_at w64 11 (is_in_range 1 MAX_RESOLUTION) y.1
+  tick ← field_at w64 12 (is_in_range 1 MAX_RESOLUTION) cell.1
   Ok (
     record {
       frame = record {
@@ -128,8 +128,8 @@ tree_length_at number bytes = do
   if nat_le n.0 MAX_TREE then Ok n else Err (flaw_at TreeLen number 0 Field)
 
 -- the sections of one period, for so many objects
-unfoldable pub period_at : ℕ → List PeriodParts → List ℕ → Taken PeriodParts
-period_at objects seen bytes = do
+unfoldable pub period_sections_at : ℕ → List PeriodParts → List ℕ → Taken PeriodParts
+period_sections_at objects seen bytes = do
   present ← bits_at Presence (length seen) objects bytes
   offsets ← items_at (short_at Offsets (length seen)) (ones_of present.0) [] present.1
   long ← tree_length_at (length seen) offsets.1
@@ -160,7 +160,7 @@ parts_in bytes = do
   objects ← items_at (rising_at w32 Objects) header.0.objects [] header.1
   alphabet ← items_at (rising_at w64 Alphabet) header.0.alphabet [] objects.1
   rules ← items_at rule_at header.0.rules [] alphabet.1
-  periods ← items_at (period_at header.0.objects) (periods_of header.0.frame) [] rules.1
+  periods ← items_at (period_sections_at header.0.objects) (periods_of header.0.frame) [] rules.1
   symbols ← log_at header.0.frame.version (width_for (header.0.alphabet + header.0.rules)) header.0.symbols periods.1
   ended symbols.1 (record {
     frame = header.0.frame;

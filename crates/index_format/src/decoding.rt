@@ -2,7 +2,7 @@ ghost use Rattle.std.specs.Prelude.{◌≡◌, ◌≤◌, IfOk, IfErr, Ok, lengt
 ghost use Rattle.track_types.specs.Shape.{IsShaped};
 ghost use Rattle.track_types.specs.declared.limit.TheConstants.{MAX_INDEX};
 ghost use Rattle.track_types.specs.declared.parts.Parts as declared;
-ghost use Rattle.index_format.specs.Answers.{Gives, IsFaultOf};
+ghost use Rattle.index_format.specs.Answers.{Gives, IsFormatFault};
 ghost use Rattle.index_format.specs.Reading.{parts_in};
 ghost use Rattle.index_format.specs.Spelling.{bytes_of_parts};
 
@@ -51,7 +51,7 @@ pub fn decode(alloc: Global, bytes: &[u8]) -> Result<Parts, FormatFault>
     ensures spelled { IfOk result (λ parts. bytes.now ≡ bytes_of_parts parts) }
     ensures one { (parts : declared.Parts) → IsShaped parts → bytes.now ≡ bytes_of_parts parts
         → Gives (λ found. found) result (Ok parts) }
-    ensures flaw { IfErr result (IsFaultOf (parts_in bytes.now)) }
+    ensures flaw { IfErr result (IsFormatFault (parts_in bytes.now)) }
 {
     parts_of(alloc, bytes)
 }

@@ -3,7 +3,7 @@ ghost use Rattle.std.specs.Int.{w32, w64};
 ghost use Rattle.track_types.specs.declared.limit.TheConstants.{MAX_RESOLUTION, MAX_SYMBOLS, MAX_VERSION};
 ghost use Rattle.index_format.specs.Answers.{Gives};
 ghost use Rattle.index_format.specs.Spelling.{magic};
-ghost use Rattle.index_format.specs.Reading.{header_flaw, is_between, is_span, is_first, is_near, greatest_height, version_at, field_at, signed_at, sizes_at, header_at};
+ghost use Rattle.index_format.specs.Reading.{header_flaw, is_in_range, is_span, is_first, is_near, greatest_height, version_at, field_at, signed_at, sizes_at, header_at};
 
 use crate::fields::{long_of, short_of};
 use crate::place::Place;
@@ -100,7 +100,7 @@ fn field_of(
     least: u32,
     greatest: u64,
 ) -> Result<(u32, &[u8]), FormatFault>
-    ensures exact { Gives (λ x. (x.0, x.1.now)) result (field_at w32 index (is_between least greatest) bytes.now) }
+    ensures exact { Gives (λ x. (x.0, x.1.now)) result (field_at w32 index (is_in_range least greatest) bytes.now) }
     ensures within { IfOk result (λ x. (least ≤ x.0) × (x.0 ≤ greatest)) }
 {
     let (number, rest) = short_of(bytes, header_flaw(index, Kind::Short))?;
@@ -113,7 +113,7 @@ fn field_of(
 /// How many units a cell or an instant has.
 #[tactic(auto, unfolding(crate::specs::Reading::field_at))]
 fn units_of(bytes: &[u8], index: usize) -> Result<(u64, &[u8]), FormatFault>
-    ensures { Gives (λ x. (x.0, x.1.now)) result (field_at w64 index (is_between 1 MAX_RESOLUTION) bytes.now) }
+    ensures { Gives (λ x. (x.0, x.1.now)) result (field_at w64 index (is_in_range 1 MAX_RESOLUTION) bytes.now) }
 {
     let (units, rest) = long_of(bytes, header_flaw(index, Kind::Short))?;
     if units < 1 || units > MAX_RESOLUTION {

@@ -1,7 +1,7 @@
 //! The bytes of an index file, in two versions: `encode` writes the parts of an index, and `decode` reads them again
 //! or names the first flaw by its section, period, index and kind.
 //!
-//! Parts that are shaped have one spelling, and bytes are read exactly where they are the spelling of
+//! Parts that are shaped have one spelling, and bytes are read if and only if they are the spelling of
 //! shaped parts. The crate stands on track_types, packed_bits and list_laws.
 #![tactic(auto)]
 

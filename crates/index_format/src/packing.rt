@@ -22,7 +22,7 @@ impl Waiting {
         Waiting { bits: 0, len: 0 }
     }
 
-    /// These bits with a number of `width` bits behind them. A word that is full is appended.
+    /// These bits with a number of `width` bits after them. A word that is full is appended.
     fn then(self, out: &mut Vec<u8>, width: u32, number: u32) -> Result<Waiting, Memory>
         requires narrow { width ≤ 32 }
         requires small { number < 2 ^ width }

@@ -3,7 +3,7 @@ ghost use Rattle.track_types.specs.declared.flaw.Section.TheVariants.{TreeLen};
 ghost use Rattle.track_types.specs.declared.period_parts.PeriodParts as declared;
 ghost use Rattle.index_format.specs.Answers.{Gives};
 ghost use Rattle.index_format.specs.Fields.{items_at};
-ghost use Rattle.index_format.specs.Reading.{tree_length_at, period_at};
+ghost use Rattle.index_format.specs.Reading.{tree_length_at, period_sections_at};
 
 use crate::fields::short_of;
 use crate::lists::shorts_of;
@@ -27,7 +27,7 @@ fn tree_length_of(period: u32, bytes: &[u8]) -> Result<(u32, &[u8]), FormatFault
 }
 
 /// The sections of one period.
-#[tactic(auto, unfolding(crate::specs::Reading::period_at))]
+#[tactic(auto, unfolding(crate::specs::Reading::period_sections_at))]
 fn period_of(
     alloc: Global,
     objects: u32,
@@ -35,7 +35,7 @@ fn period_of(
     bytes: &[u8],
 ) -> Result<(PeriodParts, &[u8]), FormatFault>
     ensures exact { (seen : List declared.PeriodParts) → length seen ≡ period
-        → Gives (λ x. (x.0, x.1.now)) result (period_at objects seen bytes.now) }
+        → Gives (λ x. (x.0, x.1.now)) result (period_sections_at objects seen bytes.now) }
 {
     let (present, rest) = bits_of(alloc, Place::of(Section::Presence, period), objects, bytes)?;
     let count = ones_in(&present);
@@ -66,7 +66,7 @@ pub fn periods_of(
     count: u32,
     bytes: &[u8],
 ) -> Result<(PeriodList, &[u8]), FormatFault>
-    ensures { Gives (λ x. (x.0, x.1.now)) result (items_at (period_at objects) count [] bytes.now) }
+    ensures { Gives (λ x. (x.0, x.1.now)) result (items_at (period_sections_at objects) count [] bytes.now) }
 {
     let mut periods = with_room(alloc, count, 5, bytes)?;
     let mut rest = bytes;

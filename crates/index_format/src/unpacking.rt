@@ -1,5 +1,5 @@
 ghost use Rattle.std.specs.Prelude.{◌≡◌, ◌*◌, ◌<◌, ◌≤◌, ◌^◌, IfOk, length};
-ghost use Rattle.index_format.specs.Fields.{numbers_in};
+ghost use Rattle.index_format.specs.Fields.{numbers_from_bits};
 
 use std::alloc::{AllocError, Global};
 use track_types::BitList;
@@ -15,7 +15,7 @@ pub fn unpacked(
     requires some { 1 ≤ width }
     requires narrow { width ≤ 32 }
     requires long { length bits.now ≡ width * count }
-    ensures { IfOk result (λ numbers. numbers.items ≡ numbers_in width count bits.now) }
+    ensures { IfOk result (λ numbers. numbers.items ≡ numbers_from_bits width count bits.now) }
 {
     let mut numbers = Vec::with_capacity(alloc, count as usize)?;
     // The bits of the words read that are no number yet.

@@ -15,32 +15,32 @@ use Rattle.track_types.specs.declared.limit.LimitKind.TheVariants.{Rows}
 use Rattle.track_types.specs.declared.parts.Parts.{Parts}
 use Rattle.track_types.specs.declared.row.Row.{Row}
 use Rattle.gridding.specs.GridLimit.{chart_fault}
-use Rattle.gridding.specs.GridLimit.{IsFaultFor as IsGridFaultFor}
+use Rattle.gridding.specs.GridLimit.{IsGridFaultFor}
 use Rattle.gridding.specs.declared.fault.GridFault.{GridFault}
 use Rattle.gridding.specs.declared.fault.GridFault.TheVariants as gridding
 use Rattle.snapshots.specs.Parts.{chart_in}
 use Rattle.track_index.specs.Listed.{is_listed}
-use Rattle.index_merge.specs.MergeFault.{common_fault, count_fault, merge_fault, merge_fault_of, rows_fault, settings_fault, IsFaultFor}
+use Rattle.index_merge.specs.MergeFault.{common_fault, count_fault, merge_fault, merge_fault_of, rows_fault, settings_fault, IsMergeFaultFor}
 use Rattle.index_merge.specs.Union.{rows_of_both}
 use Rattle.index_merge.specs.declared.fault.MergeFault.{MergeFault}
 use Rattle.index_merge.specs.declared.fault.MergeFault.TheVariants as fault
 
 -- what is the fault is a fault for it
-pub IsFaultFor-is : (first : Option MergeFault) (told : MergeFault) → first ≡ Some told → IsFaultFor first told
-IsFaultFor-is first fault.Memory is = tt
-IsFaultFor-is first fault.Empty is = is
-IsFaultFor-is first (fault.Common object) is = is
-IsFaultFor-is first (fault.Limit kind value) is = is
-IsFaultFor-is first (fault.Settings which left right) is = is
+pub IsMergeFaultFor-is : (first : Option MergeFault) (told : MergeFault) → first ≡ Some told → IsMergeFaultFor first told
+IsMergeFaultFor-is first fault.Memory is = tt
+IsMergeFaultFor-is first fault.Empty is = is
+IsMergeFaultFor-is first (fault.Common object) is = is
+IsMergeFaultFor-is first (fault.Limit kind value) is = is
+IsMergeFaultFor-is first (fault.Settings which left right) is = is
 
 -- where one cause is another, so are their faults
-pub IsFaultFor-from : (first whole : Option MergeFault) (told : MergeFault)
-    → (first ≡ Some told → whole ≡ Some told) → IsFaultFor first told → IsFaultFor whole told
-IsFaultFor-from first whole fault.Memory into is = tt
-IsFaultFor-from first whole fault.Empty into is = into is
-IsFaultFor-from first whole (fault.Common object) into is = into is
-IsFaultFor-from first whole (fault.Limit kind value) into is = into is
-IsFaultFor-from first whole (fault.Settings which left right) into is = into is
+pub IsMergeFaultFor-from : (first whole : Option MergeFault) (told : MergeFault)
+    → (first ≡ Some told → whole ≡ Some told) → IsMergeFaultFor first told → IsMergeFaultFor whole told
+IsMergeFaultFor-from first whole fault.Memory into is = tt
+IsMergeFaultFor-from first whole fault.Empty into is = into is
+IsMergeFaultFor-from first whole (fault.Common object) into is = into is
+IsMergeFaultFor-from first whole (fault.Limit kind value) into is = into is
+IsMergeFaultFor-from first whole (fault.Settings which left right) into is = into is
 
 -- so many rows are not too many
 pub count_fault-few : (rows : ℕ) → rows ≤ limit_of Rows → count_fault rows ≡ None
@@ -50,9 +50,9 @@ pub count_fault-many : (rows : ℕ) → limit_of Rows < rows → count_fault row
 count_fault-many rows many = let past : nat_lt (limit_of Rows) rows ≡ true = grind (arith, nat_tests) in rw past refl
 
 -- where some are too many, more are
-pub count_fault-more : (some more : ℕ) (told : MergeFault) → some ≤ more → IsFaultFor (count_fault some) told
-    → IsFaultFor (count_fault more) told
-count_fault-more some more told least is = IsFaultFor-from (count_fault some) (count_fault more) told
+pub count_fault-more : (some more : ℕ) (told : MergeFault) → some ≤ more → IsMergeFaultFor (count_fault some) told
+    → IsMergeFaultFor (count_fault more) told
+count_fault-more some more told least is = IsMergeFaultFor-from (count_fault some) (count_fault more) told
     (λ past. elim (cases_Bool (nat_lt (limit_of Rows) some)) [
       | inl many ↦ count_fault-many more (grind (arith, nat_tests)) ∙ sym (rw many refl) ∙ past
       | inr few ↦ let never : None ≡ Some told = sym (rw few refl) ∙ past in absurd (cc)
@@ -105,10 +105,10 @@ module _ (left right : Parts) where
 
       -- there are too many rows
       pub merge_fault-count : (told : MergeFault)
-          → IsFaultFor (count_fault (length (rows_of_both (chart_in left) (chart_in right)))) told
-          → IsFaultFor (merge_fault left right) told
+          → IsMergeFaultFor (count_fault (length (rows_of_both (chart_in left) (chart_in right)))) told
+          → IsMergeFaultFor (merge_fault left right) told
       merge_fault-count told =
-          IsFaultFor-from (count_fault (length (rows_of_both (chart_in left) (chart_in right)))) (merge_fault left right) told
+          IsMergeFaultFor-from (count_fault (length (rows_of_both (chart_in left) (chart_in right)))) (merge_fault left right) told
           (λ is. merge_fault-apart
           ∙ ap (λ first. option_or first (option_map merge_fault_of
           (chart_fault (rows_of_both (chart_in left) (chart_in right)) left.frame.period))) is)
@@ -127,7 +127,7 @@ module _ (left right : Parts) where
 
         -- the chart of the rows is
         pub merge_fault-chart : (told : GridFault) → IsGridFaultFor (chart_fault rows left.frame.period) told
-            → IsFaultFor (merge_fault left right) (merge_fault_of told)
+            → IsMergeFaultFor (merge_fault left right) (merge_fault_of told)
         merge_fault-chart gridding.Memory is = tt
         merge_fault-chart gridding.Empty is = merge_fault-few ∙ ap (option_map merge_fault_of) is
         merge_fault-chart (gridding.Limit kind value) is = merge_fault-few ∙ ap (option_map merge_fault_of) is

@@ -18,8 +18,8 @@ use Rattle.index_merge.specs.declared.fault.MergeFault.{MergeFault}
 use Rattle.index_merge.specs.declared.fault.MergeFault.TheVariants as fault
 
 -- the settings of two headers, in the order in which they are compared
-abbrev pub settings_of : Frame → Frame → List (Setting × ℕ × ℕ)
-settings_of left right =
+abbrev pub compared_settings : Frame → Frame → List (Setting × ℕ × ℕ)
+compared_settings left right =
     (setting.Cell, left.cell, right.cell) ∷ (setting.Tick, left.tick, right.tick) ∷ (setting.Period, left.period, right.period) ∷ []
 
 -- whether a setting is not the same in both
@@ -32,7 +32,7 @@ setting_fault (which, left, right) = fault.Settings which left right
 
 -- the first setting that differs, with both numbers
 abbrev pub settings_fault : Frame → Frame → Option MergeFault
-settings_fault left right = option_map setting_fault (find differs (settings_of left right))
+settings_fault left right = option_map setting_fault (find differs (compared_settings left right))
 
 -- The first object of the one list that is in the other too. Objects ascend, so that it is the least.
 abbrev pub common_fault : List ℕ → List ℕ → Option MergeFault
@@ -60,9 +60,9 @@ merge_fault left right = option_or (settings_fault left.frame right.frame)
     (rows_fault (rows_of_both (chart_in left) (chart_in right)) left.frame.period))
 
 -- a fault is this one, or memory was refused
-abbrev pub IsFaultFor : Option MergeFault → MergeFault → Type 0
-IsFaultFor first fault.Memory = ⊤
-IsFaultFor first fault.Empty = first ≡ Some fault.Empty
-IsFaultFor first (fault.Common object) = first ≡ Some (fault.Common object)
-IsFaultFor first (fault.Limit kind value) = first ≡ Some (fault.Limit kind value)
-IsFaultFor first (fault.Settings which left right) = first ≡ Some (fault.Settings which left right)
+abbrev pub IsMergeFaultFor : Option MergeFault → MergeFault → Type 0
+IsMergeFaultFor first fault.Memory = ⊤
+IsMergeFaultFor first fault.Empty = first ≡ Some fault.Empty
+IsMergeFaultFor first (fault.Common object) = first ≡ Some (fault.Common object)
+IsMergeFaultFor first (fault.Limit kind value) = first ≡ Some (fault.Limit kind value)
+IsMergeFaultFor first (fault.Settings which left right) = first ≡ Some (fault.Settings which left right)

@@ -1,7 +1,7 @@
 ghost use Rattle.std.specs.Prelude.{◌≡◌, ◌+◌, ◌<◌, ◌≤◌, ◌++◌, None, Some, IfErr, IfNone, IfOk, OnOk, length, slice_index};
 ghost use Rattle.index_merge.specs.Cost.{union_cost, whole_path_cost};
 ghost use Rattle.index_merge.specs.Drawing.{IsNext};
-ghost use Rattle.index_merge.specs.MergeFault.{common_fault, count_fault, IsFaultFor};
+ghost use Rattle.index_merge.specs.MergeFault.{common_fault, count_fault, IsMergeFaultFor};
 ghost use Rattle.index_merge.specs.Union.{rows_of_both};
 ghost use Rattle.snapshots.specs.Parts.{chart_in, rows_in};
 ghost use Rattle.track_types.specs.Limits.{limit_of};
@@ -34,7 +34,7 @@ pub fn rows_of_both<L: Ledger>(
     ensures rows { IfOk result (λ rows. rows.items ≡ rows_of_both (chart_in left.now) (chart_in right.now)) }
     ensures ascending { IfOk result (λ rows. IsAscending rows.items) }
     ensures few { IfOk result (λ rows. length rows.items ≤ limit_of LimitKind.Rows) }
-    ensures fault { IfErr result (IsFaultFor
+    ensures fault { IfErr result (IsMergeFaultFor
         (count_fault (length (rows_of_both (chart_in left.now) (chart_in right.now))))) }
     ensures cost { steps.new ≤ steps.old + union_cost left.now right.now }
 {
@@ -93,7 +93,7 @@ fn append_path<L: Ledger>(
     requires few { length rows.old.items ≤ limit_of LimitKind.Rows }
     ensures rows { OnOk result (rows.new.items ≡ rows.old.items ++ rows_in index.now place) }
     ensures few { OnOk result (length rows.new.items ≤ limit_of LimitKind.Rows) }
-    ensures fault { IfErr result (IsFaultFor
+    ensures fault { IfErr result (IsMergeFaultFor
         (count_fault (length rows.old.items + length (rows_in index.now place)))) }
     ensures cost { steps.new ≤ steps.old
         + whole_path_cost index.now (slice_index index.now.objects place) }

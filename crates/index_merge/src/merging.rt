@@ -1,6 +1,6 @@
 ghost use Rattle.std.specs.Prelude.{◌≡◌, ◌+◌, ◌≤◌, None, IfErr, IfOk, OnOk};
 ghost use Rattle.index_merge.specs.Cost.{union_cost};
-ghost use Rattle.index_merge.specs.MergeFault.{merge_fault, IsFaultFor};
+ghost use Rattle.index_merge.specs.MergeFault.{merge_fault, IsMergeFaultFor};
 ghost use Rattle.index_merge.specs.Union.{union_of};
 ghost use Rattle.snapshots.specs.Parts.{chart_in};
 
@@ -33,7 +33,7 @@ pub fn union<L: Ledger>(
 ) -> Result<Chart, MergeFault>
     ensures ok { IfOk result (λ chart. chart ≡ union_of (chart_in left.now) (chart_in right.now)) }
     ensures exact { OnOk result (merge_fault left.now right.now ≡ None) }
-    ensures fault { IfErr result (IsFaultFor (merge_fault left.now right.now)) }
+    ensures fault { IfErr result (IsMergeFaultFor (merge_fault left.now right.now)) }
     ensures cost { steps.new ≤ steps.old + union_cost left.now right.now }
 {
     let (one, other) = (left.stores(), right.stores());

@@ -36,7 +36,7 @@ use Rattle.object_track.proofs.TableLemmas.{index_in-own}
 use Rattle.slice_search.specs.Sought.{first_stop_in, has_stop_in, AreSought}
 use Rattle.slice_search.specs.Reach.{grid_of}
 use Rattle.slice_search.proofs.SoughtLemmas.{first_stop-beside, sought-each}
-use Rattle.interval_search.specs.FirstHits.{first_before, first_here, first_hit, hit_at, is_at, is_known, known_after, known_hits}
+use Rattle.interval_search.specs.FirstHits.{first_before, first_here, first_hit, hit_at, is_block_at, is_known, known_after, known_hits}
 use Rattle.interval_search.specs.FirstHits.{AreFirst, IsFirstHit, IsLooking}
 
 -- so much for each known object
@@ -231,16 +231,16 @@ module _ (parts : Parts) (from to : ℤ) (region : Region) where
         left_are = sought.are;
         here = λ place within gone none.
             here-none place (λ block its at. by_stop block its (first_stop_in parts number from to region block) refl
-            (ap (λ p. list_any (is_at p) blocks) at ∙ none));
+            (ap (λ p. list_any (is_block_at p) blocks) at ∙ none));
       }
         where
           by_stop : (block : Anchored) → IsBlock view block → (stop : Option Stop)
-              → first_stop_in parts number from to region block ≡ stop → list_any (is_at block.index) blocks ≡ false
+              → first_stop_in parts number from to region block ≡ stop → list_any (is_block_at block.index) blocks ≡ false
               → stop ≡ None
           by_stop block its None is_stop none = refl
           by_stop block its (Some stop) is_stop none =
               let has : has_stop_in parts number from to region block ≡ true = ap is_some is_stop in
-              let among : list_any (is_at block.index) blocks ≡ true =
+              let among : list_any (is_block_at block.index) blocks ≡ true =
               sought-each parts valid number inside from to region blocks sought block its has in
               absurd (cc)
 
@@ -260,10 +260,10 @@ module _ (parts : Parts) (from to : ℤ) (region : Region) where
         next-within = omega (arith, is.first.size, block-known parts valid number inside block its)
 
         -- another object is not that of the block
-        others : (place : ℕ) → (place ≡ block.index → ⊥) → list_any (is_at place) left ≡ false
-            → list_any (is_at place) (block ∷ left) ≡ false
+        others : (place : ℕ) → (place ≡ block.index → ⊥) → list_any (is_block_at place) left ≡ false
+            → list_any (is_block_at place) (block ∷ left) ≡ false
         others place apart none =
-            let differs : is_at place block ≡ false = grind (arith, nat_tests) in
+            let differs : is_block_at place block ≡ false = grind (arith, nat_tests) in
             rw (differs, none) refl
 
         -- its object is known

@@ -33,8 +33,8 @@ known_after None place known = known
 known_after (Some stop) place known = slice_set known place true
 
 -- the block is that of the object at a place
-abbrev pub is_at : ℕ → Anchored → Bool
-is_at place block = block.index == place
+abbrev pub is_block_at : ℕ → Anchored → Bool
+is_block_at place block = block.index == place
 
 module _ (parts : Parts) (from to : ℤ) (region : Region) where
   -- the first hit of the object at a place
@@ -74,4 +74,4 @@ module _ (parts : Parts) (from to : ℤ) (region : Region) where
     pub first : AreFirst number known found
     pub left_are : All (IsBlock (snapshot_in parts number)) left
     pub here : (place : ℕ) → place < length parts.objects → is_known known place ≡ false
-        → list_any (is_at place) left ≡ false → first_here number place ≡ None
+        → list_any (is_block_at place) left ≡ false → first_here number place ≡ None

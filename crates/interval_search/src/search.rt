@@ -42,7 +42,7 @@ pub fn interval<L: Ledger>(
     }
     let mut hits = FirstHits::none(alloc, stores.objects())?;
     let periods = Periods::met(stores, from, to);
-    for period in periods.next..periods.behind {
+    for period in periods.next..periods.end {
         let sought = Sought {
             stores,
             period,

@@ -1,4 +1,4 @@
--- Building: what one number more behind ascending ones changes in a level's bits, whatever its fan.
+-- Building: what one number more after ascending ones changes in a level's bits, whatever its fan.
 use Rattle.std.proofs.Common.{◌≡◌, ℕ, zero, suc, ◌+◌, ◌-◌, ◌*◌, ◌/◌, ◌%◌, ◌^◌, ◌<◌, ◌≤◌, ◌==◌, ◌||◌, Bool, true, false}
 use Rattle.std.proofs.Common.{List, [], ◌∷◌, ◌++◌, length, map, take, get_or, refl, sym, ap, ◌∙◌, inl, inr, arith}
 use Rattle.std.proofs.Common.{subst, replicate}
@@ -24,7 +24,7 @@ use Rattle.k2_tree.proofs.RisingLemmas.{Rises-place}
 use Rattle.k2_tree.proofs.PrefixLemmas.{any-prefixes, by_test, once_from, prefixes-rise, fan_pos}
 use Rattle.k2_tree.proofs.LongerLemmas.{div-pow_add, length-children_of_prefixes, get_or-children_of_prefixes, children_of_prefixes-rises, prefixes-shorter}
 
--- the last of a number and those behind it
+-- the last of a number and those after it
 abbrev last_of : ℕ → List ℕ → ℕ
 last_of k [] = k
 last_of k (x ∷ xs) = last_of x xs
@@ -34,7 +34,7 @@ once_from-same : (k y : ℕ) (xs : List ℕ) → y ≡ last_of k xs → once_fro
 once_from-same k y [] e = grind (arith, nat_tests)
 once_from-same k y (x ∷ xs) e = grind (arith, nat_tests, once_from-same k y xs, once_from-same x y xs e)
 
--- another number stands behind
+-- another number stands after
 once_from-new : (k y : ℕ) (xs : List ℕ) → (y ≡ last_of k xs → ⊥) → once_from k (xs ++ y ∷ []) ≡ once_from k xs ++ y ∷ []
 once_from-new k y [] e = grind (arith, nat_tests, e)
 once_from-new k y (x ∷ xs) e = grind (arith, nat_tests, once_from-new k y xs, once_from-new x y xs e)
@@ -160,7 +160,7 @@ children_of_prefixes-snoc size xs q =
     flat_map-append (λ p. range_with_len (size * p) size) xs (q ∷ [])
     ∙ ap (λ ys. children_of_prefixes size xs ++ ys) (append-nil (range_with_len (size * q) size))
 
--- what rises behind a list is not in it
+-- what rises after a list is not in it
 absent_last : (n q : ℕ) (xs : List ℕ) → Rises n (xs ++ q ∷ []) → (is_in xs q ≡ false) × (n ≤ q)
 absent_last n q [] up = (refl, up.0)
 absent_last n q (x ∷ xs) up =

@@ -185,7 +185,7 @@ module _ {low height : ℕ} {bits : List Bool} {level start groups : ℕ}
       passed.left ∙ (rw (widths_under-opened low level more)
       (first start place (group_flaw (fan_of w) groups (drop start bits)) _ fails))
 
-  -- behind the last level what remains is the flaw
+  -- after the last level what remains is the flaw
   module _ (end : level ≡ 0) where
     none_left : widths_under low level ≡ []
     none_left = ap (widths_under low) end ∙ widths_under-none low

@@ -1,4 +1,4 @@
--- Bits have no flaw exactly where they are those of Morton numbers.
+-- Bits have no flaw if and only if they are those of Morton numbers.
 use Rattle.std.proofs.Common.{◌≡◌, ℕ, zero, suc, ◌+◌, ◌*◌, ◌/◌, ◌<◌, ◌≤◌, ◌==◌, ◌&&◌, ◌||◌, Bool, true, false}
 use Rattle.std.proofs.Common.{nat_le, List, [], ◌∷◌, ◌++◌, length, map, take, drop, refl, sym, ap, ◌∙◌, inl, inr, arith}
 use Rattle.std.proofs.Common.{None, Some, length-drop, length-append, append_assoc, ◌-◌}
@@ -140,7 +140,7 @@ has_group-parts size bits has =
     let parts = and_parts (nat_le size (length bits)) (list_any (λ bit. bit) (take size bits)) has in
     (leb-true size (length bits) parts.0, parts.1)
 
--- the group at the front of those without a flaw is there, and those behind it have no flaw
+-- the group at the front of those without a flaw is there, and those after it have no flaw
 pub group_flaw-none : (size groups : ℕ) (bits : List Bool) → group_flaw size (suc groups) bits ≡ None
     → (has_group size bits ≡ true) × (group_flaw size groups (drop size bits) ≡ None)
 unfolding group_flaw

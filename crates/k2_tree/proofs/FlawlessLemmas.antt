@@ -110,7 +110,7 @@ module _ (w : ℕ) (ws above : List ℕ) (bits : List Bool) (codes : List ℕ) (
     exact = rw (same_level, below.exact) (take-append-drop (fan_of w * length above) bits);
   }
 
--- where nothing is flawed behind the last level, nothing is there
+-- where nothing is flawed after the last level, nothing is there
 behind : (groups : ℕ) (bits : List Bool) → level_flaw [] groups bits ≡ None → [] ≡ bits
 unfolding level_flaw
 behind groups [] none = refl

@@ -15,7 +15,7 @@ use Rattle.k2_tree.specs.TreeBits.{is_in, prefixes, Rises, children_of_prefixes}
 use Rattle.k2_tree.proofs.RisingLemmas.{Rises-weaker, same_from_rising}
 use Rattle.k2_tree.proofs.PrefixLemmas.{any-image, any-prefixes, fan_pos, is_in-filter, prefixes-rise, Rises-filter}
 
--- numbers one after another, and greater ones behind them, rise
+-- numbers one after another, and greater ones after them, rise
 Rises-range : (n start m : ℕ) (rest : List ℕ) → n ≤ start → Rises (start + m) rest
     → Rises n (range_with_len start m ++ rest)
 Rises-range n start zero rest low up = Rises-weaker n (start + 0) rest (omega arith) up

@@ -35,7 +35,7 @@ at_lowest (suc t) n is =
     let half : (n - 1) / 2 ≡ n / 2 - 1 = omega (arith, is.1 0 (omega arith), bit_at_lowest n) in
     bit_at-suc (n - 1) t ∙ ap (λ x. bit_at x t) half ∙ at_lowest t (n / 2) (half_lowest n t is)
 
--- without the first number that passes a test those behind it are left
+-- without the first number that passes a test those after it are left
 first_kept : (p q : ℕ → Bool) (start m t : ℕ) → start ≤ t → t < start + m → p t ≡ true
     → ((i : ℕ) → start ≤ i → i < t → p i ≡ false) → ((i : ℕ) → start ≤ i → i ≤ t → q i ≡ false)
     → ((i : ℕ) → t < i → q i ≡ p i)

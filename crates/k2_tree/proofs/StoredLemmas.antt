@@ -212,7 +212,7 @@ module _ {height wide : ℕ} {base : Cell} {bits : List Bool} {upper : ℕ} (sto
                 rw (window_bit d small ∙ e) (rw next at rest)
           ]
 
-      -- they stand one behind another from the rank of the group on
+      -- they stand one after another from the rank of the group on
       pub group_stands : StandsAt (squares_of tree) (rank_of bits start + 1)
           (map (child_at w (node_of s)) (digits_of size window))
       unfolding digits_of

@@ -77,7 +77,7 @@ module _ {height wide : ℕ} {bits : List Bool} (are : AreTreeBits height wide b
       let off = le-ltb (length bits) (16 * upper) (omega (arith, p.0)) in
       rw off (omega (arith, p.0, p.1))
 
-  -- a square of the lowest level is one of the numbers, behind all inner squares
+  -- a square of the lowest level is one of the numbers, after all inner squares
   pub bottom : {q j : ℕ} → IsOn height wide codes 0 q j
       → (i : ℕ) × (i < length codes) × (get_or codes i 0 ≡ q) × (j ≡ square_at upper (length bits) + i)
   unfolding digits_in

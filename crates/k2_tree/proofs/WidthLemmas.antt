@@ -73,7 +73,7 @@ firsts x y xs ys e = (ap first_of e, ap rest_of e)
     rest_of [] = []
     rest_of (z ∷ zs) = zs
 
--- what stands behind some levels are all levels below a square
+-- what stands after some levels are all levels below a square
 pub widths_under-behind : (low m : ℕ) (xs ys : List ℕ) → xs ++ ys ≡ widths_under low m → ys
     ≡ widths_under low (digits_in ys)
 widths_under-behind low m [] ys parted =

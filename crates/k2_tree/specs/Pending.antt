@@ -20,7 +20,7 @@ pub record IsNextOf (old : Pending) (child : Square) (new : Pending) : Type 0 wh
   pub base : child.base ≡ old.square.base
   pub level : level_of child + old.width ≡ level_of old.square
 
--- the squares stand in a list one behind another, the first of them at this place
+-- the squares stand in a list one after another, the first of them at this place
 abbrev pub StandsAt : List Node → ℕ → List Node → Type 0
 StandsAt squares number [] = Unit {0}
 StandsAt squares number (square ∷ rest) = (slice_get squares number ≡ Some square) × StandsAt squares (suc number) rest

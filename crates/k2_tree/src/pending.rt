@@ -14,7 +14,7 @@ pub struct Pending {
     width: u32,
     // A bit for each child, the first child's lowest, where it holds a cell and is still to come.
     digits: u32,
-    // The number of the next of them. The others have the numbers behind it.
+    // The number of the next of them. The others have the numbers after it.
     number: u32,
     ghost some: { 1 ≤ width },
     ghost narrow: { width ≤ 2 },

@@ -20,7 +20,7 @@ use track_types::{Cell, MAX_HEIGHT};
 const LEVELS: usize = MAX_HEIGHT as usize;
 
 /// A way over the squares of a tree in Morton order, in which each square is followed by its
-/// children where it is opened, and else by what comes behind them.
+/// children where it is opened, and else by what comes after them.
 ///
 /// It keeps one entry for each level. Contracts see the tree, the squares that are still to be
 /// visited, the next one first, and how many squares are open.

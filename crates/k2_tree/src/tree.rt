@@ -165,7 +165,7 @@ impl K2Tree {
         cell_at(code, self.height, self.base)
     }
 
-    /// The number of a cell, and `None` exactly where the set does not have it, also outside the
+    /// The number of a cell, and `None` if and only if the set does not have it, also outside the
     /// grid. It goes down from the top by one bit and one `rank1` for each level, and takes no
     /// memory.
     pub fn leaf_of<L: Ledger>(&self, cell: Cell, steps: &mut Steps<L>) -> Option<u32>
@@ -197,7 +197,7 @@ impl K2Tree {
     }
 
     /// The child of a square, by its digit: the last digit to base 4 of its Morton number, or the
-    /// last two where the square is split in sixteen. `None` exactly where it holds no cell of the
+    /// last two where the square is split in sixteen. `None` if and only if it holds no cell of the
     /// set. Its cells lie within the square, which is one of this tree's and no cell. The digit is
     /// below `fan`.
     pub fn child<L: Ledger>(

@@ -1,13 +1,13 @@
 -- The chart of an index and a tail, on small rows.
 use Rattle.std.proofs.Common.{◌≡◌, ℕ, List, [], ◌∷◌, None, Some, pos, refl}
 use Rattle.list_laws.specs.Ordered.{ordered, insert_in_order}
-use Rattle.track_types.specs.Chart.{chart_with as chart_of}
+use Rattle.track_types.specs.Chart.{chart_with}
 use Rattle.track_types.specs.Quantities.{distinct}
 use Rattle.track_types.specs.declared.cell.Cell.{Cell}
 use Rattle.track_types.specs.declared.row.Row.{Row}
 use Rattle.live_tail.specs.Cost.{objects_between, raised_count}
-use Rattle.live_tail.specs.Facts.{count_with}
-use Rattle.live_tail.specs.Join.{chart_with, rows_with}
+use Rattle.live_tail.specs.Facts.{joint_object_count}
+use Rattle.live_tail.specs.Join.{joint_chart, joint_rows}
 
 -- a cell by its coordinates
 abbrev at : ℕ → ℕ → Cell
@@ -25,28 +25,28 @@ abbrev tail : List Row
 tail = row 7 2 (at 9 9) ∷ row 7 5 (at 10 10) ∷ row 8 1 (at 11 10) ∷ []
 
 -- all by object, then instant; the later row counts
-joins : rows_with rows tail ≡ row 7 0 (at 10 10) ∷ row 7 1 (at 11 10) ∷ row 7 2 (at 9 9) ∷ row 7 5 (at 10 10) ∷ row 8 1 (at 11 10) ∷ []
-unfolding rows_with ordered insert_in_order
+joins : joint_rows rows tail ≡ row 7 0 (at 10 10) ∷ row 7 1 (at 11 10) ∷ row 7 2 (at 9 9) ∷ row 7 5 (at 10 10) ∷ row 8 1 (at 11 10) ∷ []
+unfolding joint_rows ordered insert_in_order
 joins = refl
 
 -- from the lesser first to the greater last
-ends_late : (chart_with (chart_of rows 1 1 4) (Some (chart_of tail 1 1 4))).last ≡ pos 5
+ends_late : (joint_chart (chart_with rows 1 1 4) (Some (chart_with tail 1 1 4))).last ≡ pos 5
 ends_late = refl
 
-begins_early : (chart_with (chart_of rows 1 1 4) (Some (chart_of tail 1 1 4))).first ≡ pos 0
+begins_early : (joint_chart (chart_with rows 1 1 4) (Some (chart_with tail 1 1 4))).first ≡ pos 0
 begins_early = refl
 
 -- without a tail it is the chart
-stays : chart_with (chart_of rows 1 1 4) None ≡ chart_of rows 1 1 4
+stays : joint_chart (chart_with rows 1 1 4) None ≡ chart_with rows 1 1 4
 stays = refl
 
 -- one object is listed, and one is the tail's alone
-counts : count_with (7 ∷ []) tail ≡ 2
-unfolding count_with distinct
+counts : joint_object_count (7 ∷ []) tail ≡ 2
+unfolding joint_object_count distinct
 counts = refl
 
-counts_none : count_with (7 ∷ 9 ∷ []) [] ≡ 2
-unfolding count_with distinct
+counts_none : joint_object_count (7 ∷ 9 ∷ []) [] ≡ 2
+unfolding joint_object_count distinct
 counts_none = refl
 
 -- only object 7 has a later row from instant 2 on

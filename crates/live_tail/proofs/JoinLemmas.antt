@@ -29,7 +29,7 @@ use Rattle.track_types.specs.Table.{IsRowOf, IsTable}
 use Rattle.track_types.specs.declared.row.Row.{Row}
 use Rattle.track_types.proofs.QuantityLemmas.{first_of-below, last_of-above}
 use Rattle.track_types.proofs.RowLemmas.{eq_by_cmp-row_order, row_order_total}
-use Rattle.live_tail.specs.Join.{chart_with, has_place, rows_beside, rows_of_tail, rows_with}
+use Rattle.live_tail.specs.Join.{joint_chart, has_place, rows_beside, rows_of_tail, joint_rows}
 use Rattle.live_tail.specs.Merge.{merge_of}
 use Rattle.live_tail.specs.Walk.{stop_order, stops_with}
 use Rattle.live_tail.proofs.CutLemmas.{All-by_members}
@@ -42,8 +42,8 @@ pub beside-rows : (tail rows : List Row) → beside row_order_total tail rows �
 beside-rows tail rows =
     filter_agree _ _ (λ y. ap not (list_any-agree _ _ (λ x. eq_by_cmp-row_order y x) tail)) rows
 
-pub union_of-rows : (tail rows : List Row) → union_of row_order_total tail rows ≡ rows_with rows tail
-unfolding rows_with
+pub union_of-rows : (tail rows : List Row) → union_of row_order_total tail rows ≡ joint_rows rows tail
+unfolding joint_rows
 union_of-rows tail rows = ap (λ others. ordered row_order (tail ++ others)) (beside-rows tail rows)
 
 find-or : (place : Row) (a b : Option Row) →
@@ -53,19 +53,19 @@ find-or place None b = refl
 find-or place (Some a) b = refl
 
 module _ (rows tail : List Row) (up : IsAscending rows) (also : IsAscending tail) where
-  pub IsAscending-rows_with : IsAscending (rows_with rows tail)
-  IsAscending-rows_with =
+  pub IsAscending-joint_rows : IsAscending (joint_rows rows tail)
+  IsAscending-joint_rows =
       subst IsAscending (union_of-rows tail rows) (IsStrictlySortedBy-union_of row_order_total tail rows also up)
 
 -- the cell at an instant is the tail's, or else the chart's
-pub cell_at-rows_with : (rows tail : List Row) (object : ℕ) (instant : ℤ) →
-    cell_at (rows_with rows tail) object instant ≡ option_or (cell_at tail object instant) (cell_at rows object instant)
-cell_at-rows_with rows tail object instant =
+pub cell_at-joint_rows : (rows tail : List Row) (object : ℕ) (instant : ℤ) →
+    cell_at (joint_rows rows tail) object instant ≡ option_or (cell_at tail object instant) (cell_at rows object instant)
+cell_at-joint_rows rows tail object instant =
     let place : Row = record { object = object; instant = instant; cell = record { x = pos 0; y = pos 0 } } in
     let tied : (xs : List Row) → find (is_row_of object instant) xs ≡ find (eq_by_cmp row_order place) xs =
     λ xs. find-agree _ _ (λ row. sym (eq_by_cmp-row_order place row)) xs in
     ap (option_map (λ (row : Row). row.cell))
-    (tied (rows_with rows tail) ∙ ap (find (eq_by_cmp row_order place)) (sym (union_of-rows tail rows))
+    (tied (joint_rows rows tail) ∙ ap (find (eq_by_cmp row_order place)) (sym (union_of-rows tail rows))
     ∙ find-union_of row_order_total place tail rows
     ∙ ap (λ found. option_or found (find (eq_by_cmp row_order place) rows)) (sym (tied tail))
     ∙ ap (option_or (find (is_row_of object instant) tail)) (sym (tied rows)))
@@ -103,9 +103,9 @@ order-stops object a b one other =
     then-same (nat_cmp a.object b.object) (int_cmp a.instant b.instant) same
 
 -- the path of an object is the tail's merged with the chart's
-pub path_of-rows_with : (rows tail : List Row) → IsAscending rows → IsAscending tail → (object : ℕ) (from to : ℤ) →
-    path_of (rows_with rows tail) object from to ≡ stops_with (filter (is_row_between object from to) tail) (path_of rows object from to)
-path_of-rows_with rows tail up also object from to =
+pub path_of-joint_rows : (rows tail : List Row) → IsAscending rows → IsAscending tail → (object : ℕ) (from to : ℤ) →
+    path_of (joint_rows rows tail) object from to ≡ stops_with (filter (is_row_between object from to) tail) (path_of rows object from to)
+path_of-joint_rows rows tail up also object from to =
     let window : List Row → List Row = filter (is_row_between object from to) in
     ap (map stop_of)
     (ap window (sym (union_of-rows tail rows))
@@ -117,19 +117,19 @@ path_of-rows_with rows tail up also object from to =
     (all-window object from to tail) (all-window object from to rows)
 
 -- without rows of a tail they are the chart's
-pub rows_with-none : (rows : List Row) → IsAscending rows → rows_with rows [] ≡ rows
+pub joint_rows-none : (rows : List Row) → IsAscending rows → joint_rows rows [] ≡ rows
 unfolding merge_of IsStrictlySortedBy
-rows_with-none rows up = sym (union_of-rows [] rows) ∙ merge_of-union_of row_order_total [] rows tt up
+joint_rows-none rows up = sym (union_of-rows [] rows) ∙ merge_of-union_of row_order_total [] rows tt up
 
 -- the rows of the chart of both
-pub chart_with-rows : (chart : ChartView) (tail : Option ChartView) → IsAscending chart.rows →
-    rows_with chart.rows (rows_of_tail tail) ≡ (chart_with chart tail).rows
-chart_with-rows chart None up = rows_with-none chart.rows up
-chart_with-rows chart (Some tail) up = refl
+pub joint_chart-rows : (chart : ChartView) (tail : Option ChartView) → IsAscending chart.rows →
+    joint_rows chart.rows (rows_of_tail tail) ≡ (joint_chart chart tail).rows
+joint_chart-rows chart None up = joint_rows-none chart.rows up
+joint_chart-rows chart (Some tail) up = refl
 
 -- each row of both is a tail's or the chart's
-pub member_of_rows_with : (rows tail : List Row) (row : Row) → Contains (rows_with rows tail) row → Contains tail row ⊎ Contains rows row
-unfolding rows_with
+pub member_of_rows_with : (rows tail : List Row) (row : Row) → Contains (joint_rows rows tail) row → Contains tail row ⊎ Contains rows row
+unfolding joint_rows
 member_of_rows_with rows tail row inside =
     let all : List Row = tail ++ rows_beside tail rows in
     elim (Contains-append_cases tail (rows_beside tail rows) row
@@ -167,13 +167,13 @@ asked-end chart is = (
 )
 
 -- the chart of both is a table
-pub IsTable-chart_with : (chart : ChartView) (tail : Option ChartView) → IsTable chart → IfSome tail IsChart → IsTable (chart_with chart tail)
-IsTable-chart_with chart None table none = table
-IsTable-chart_with chart (Some tail) table is =
-    let joined : ChartView = chart_with chart (Some tail) in
+pub IsTable-joint_chart : (chart : ChartView) (tail : Option ChartView) → IsTable chart → IfSome tail IsChart → IsTable (joint_chart chart tail)
+IsTable-joint_chart chart None table none = table
+IsTable-joint_chart chart (Some tail) table is =
+    let joined : ChartView = joint_chart chart (Some tail) in
     let ends = asked-end tail is in
     record {
-      ascending = IsAscending-rows_with chart.rows tail.rows table.ascending is.ascending;
+      ascending = IsAscending-joint_rows chart.rows tail.rows table.ascending is.ascending;
       rows = All-by_members (IsRowOf joined) joined.rows (λ row inside. elim (member_of_rows_with chart.rows tail.rows row inside) [
         | inl own ↦
             let low : tail.first ≤ℤ row.instant = rw (is.first) (All-contains (λ (z : Row). first_of tail.rows ≤ℤ z.instant) tail.rows row (first_of-below tail.rows) own) in
@@ -196,17 +196,17 @@ IsTable-chart_with chart (Some tail) table is =
     }
 
 -- the cell at an instant in the chart of both
-pub cell_at-chart_with : (chart : ChartView) (tail : Option ChartView) → IsTable chart → (object : ℕ) (instant : ℤ) →
-    cell_at (chart_with chart tail).rows object instant
+pub cell_at-joint_chart : (chart : ChartView) (tail : Option ChartView) → IsTable chart → (object : ℕ) (instant : ℤ) →
+    cell_at (joint_chart chart tail).rows object instant
     ≡ option_or (cell_at (rows_of_tail tail) object instant) (cell_at chart.rows object instant)
-cell_at-chart_with chart tail table object instant =
-    ap (λ rows. cell_at rows object instant) (sym (chart_with-rows chart tail table.ascending))
-    ∙ cell_at-rows_with chart.rows (rows_of_tail tail) object instant
+cell_at-joint_chart chart tail table object instant =
+    ap (λ rows. cell_at rows object instant) (sym (joint_chart-rows chart tail table.ascending))
+    ∙ cell_at-joint_rows chart.rows (rows_of_tail tail) object instant
 
 -- the path of an object in it
-pub path_of-chart_with : (chart : ChartView) (tail : Option ChartView) → IsTable chart → IsAscending (rows_of_tail tail) →
-    (object : ℕ) (from to : ℤ) → path_of (chart_with chart tail).rows object from to
+pub path_of-joint_chart : (chart : ChartView) (tail : Option ChartView) → IsTable chart → IsAscending (rows_of_tail tail) →
+    (object : ℕ) (from to : ℤ) → path_of (joint_chart chart tail).rows object from to
     ≡ stops_with (filter (is_row_between object from to) (rows_of_tail tail)) (path_of chart.rows object from to)
-path_of-chart_with chart tail table also object from to =
-    ap (λ rows. path_of rows object from to) (sym (chart_with-rows chart tail table.ascending))
-    ∙ path_of-rows_with chart.rows (rows_of_tail tail) table.ascending also object from to
+path_of-joint_chart chart tail table also object from to =
+    ap (λ rows. path_of rows object from to) (sym (joint_chart-rows chart tail table.ascending))
+    ∙ path_of-joint_rows chart.rows (rows_of_tail tail) table.ascending also object from to

@@ -16,14 +16,14 @@ abbrev pub rows_beside : List Row → List Row → List Row
 rows_beside others rows = filter (λ row. not (has_place others row)) rows
 
 -- the rows of a tail, and those for whose object and instant it has none, by object, then instant
-unfoldable pub rows_with : List Row → List Row → List Row
-rows_with rows tail = ordered row_order (tail ++ rows_beside tail rows)
+unfoldable pub joint_rows : List Row → List Row → List Row
+joint_rows rows tail = ordered row_order (tail ++ rows_beside tail rows)
 
 -- the chart of both: from the lesser of both firsts to the greater of both lasts, and in all else the chart's
-abbrev pub chart_with : ChartView → Option ChartView → ChartView
-chart_with chart None = chart
-chart_with chart (Some tail) = record {
-  rows = rows_with chart.rows tail.rows;
+abbrev pub joint_chart : ChartView → Option ChartView → ChartView
+joint_chart chart None = chart
+joint_chart chart (Some tail) = record {
+  rows = joint_rows chart.rows tail.rows;
   first = int_min chart.first tail.first;
   last = int_max chart.last tail.last;
   period = chart.period;

@@ -15,11 +15,11 @@ impl<'a> Answerer for TailRef<'a> {
     ghost use Rattle.snapshots.specs.Parts.{chart_in};
     ghost use Rattle.live_tail.specs.Cost.{cost_with};
     ghost use Rattle.live_tail.specs.Facts.{facts_with};
-    ghost use Rattle.live_tail.specs.Join.{chart_with};
+    ghost use Rattle.live_tail.specs.Join.{joint_chart};
 
     type Walk = TailWalk<'a, PathWalk<'a>>;
 
-    ghost chart = { λ a. chart_with (chart_in a.tailed.now.parts) a.tailed.now.tail };
+    ghost chart = { λ a. joint_chart (chart_in a.tailed.now.parts) a.tailed.now.tail };
 
     ghost facts = { λ a. facts_with a.tailed.now.parts a.tailed.now.tail };
 

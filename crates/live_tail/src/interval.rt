@@ -8,9 +8,9 @@ ghost use Rattle.track_types.specs.declared.question.Question.TheVariants as ask
 ghost use Rattle.track_types.specs.declared.stop.Stop.{Stop as StopView};
 ghost use Rattle.log_cursor.specs.Touching.{first_among};
 ghost use Rattle.interval_search.specs.FirstHits.{hit_in};
-ghost use Rattle.live_tail.specs.Behind.{IsBehind};
+ghost use Rattle.live_tail.specs.Behind.{AreLeftAfter};
 ghost use Rattle.live_tail.specs.Cost.{interval_cost_beside};
-ghost use Rattle.live_tail.specs.Join.{rows_of_tail, rows_with};
+ghost use Rattle.live_tail.specs.Join.{rows_of_tail, joint_rows};
 
 use crate::objects::{is_among, objects_in};
 use crate::tail::Tail;
@@ -38,7 +38,7 @@ pub fn interval<A: Answerer, L: Ledger>(
     requires to { IsAsked to }
     requires region { IsRegionAsked region.now }
     ensures ok { IfOk result (λ found. found.items ≡ hits_of
-        (rows_with (A.chart answerer).rows (rows_of_tail tail.now)) from to region.now) }
+        (joint_rows (A.chart answerer).rows (rows_of_tail tail.now)) from to region.now) }
     ensures cost { steps.new ≤ steps.old + interval_cost_beside (A.cost answerer)
         (rows_of_tail tail.now) from to region.now }
 {
@@ -83,7 +83,7 @@ impl<'a, A: Answerer> Window<'a, A> {
         requires to { IsAsked self.now.to }
         requires region { IsRegionAsked self.now.region.now }
         ensures found { OnOk result (found.new.items ≡ found.old.items ++ filter_map (hit_in
-            (rows_with (A.chart self.now.answerer).rows (rows_of_tail self.now.tail.now))
+            (joint_rows (A.chart self.now.answerer).rows (rows_of_tail self.now.tail.now))
             self.now.from self.now.to self.now.region.now) objects.now) }
         ensures cost { steps.new ≤ steps.old + sum_by (λ object. A.cost self.now.answerer
             (asked.Path object self.now.from self.now.to)) objects.now }
@@ -107,7 +107,7 @@ impl<'a, A: Answerer> Window<'a, A> {
         requires to { IsAsked self.now.to }
         requires region { IsRegionAsked self.now.region.now }
         ensures ok { IfOk result (λ hit. hit ≡ hit_in
-            (rows_with (A.chart self.now.answerer).rows (rows_of_tail self.now.tail.now))
+            (joint_rows (A.chart self.now.answerer).rows (rows_of_tail self.now.tail.now))
             self.now.from self.now.to self.now.region.now object) }
         ensures cost { steps.new ≤ steps.old + A.cost self.now.answerer
             (asked.Path object self.now.from self.now.to) }
@@ -145,7 +145,7 @@ fn first_in<W: Lazy<Item = Stop>, L: Ledger>(
     requires region { IsRegionWithin region.now }
     requires near { All (λ (stop : StopView). IsCellWithin stop.cell) (W.left walk.old) }
     ensures value { result ≡ first_among region.now (W.left walk.old) }
-    ensures left { IfSome result (λ stop. IsBehind region.now stop (W.left walk.old)
+    ensures left { IfSome result (λ stop. AreLeftAfter region.now stop (W.left walk.old)
         (W.left walk.new)) }
     ensures cost { steps.new ≤ steps.old + W.budget walk.old }
 {

@@ -7,7 +7,7 @@ use Rattle.rule_store.specs.View.{RulesView, symbols_in}
 use Rattle.rule_store.specs.Expansion.{depth_in, depth_of, depths, expansion_of, values_of}
 use Rattle.rule_store.specs.Flaws.{AreRules, left_of, right_of}
 use Rattle.rule_store.specs.Log.{log_values, stops_after}
-use Rattle.rule_store.specs.Nodes.{Node, nodes_in, opened_count, parsed}
+use Rattle.rule_store.specs.Nodes.{RuleNode, nodes_in, opened_count, parsed}
 use Rattle.rule_store.proofs.ExpansionLemmas.{depth_of-rule, expansion_of-rule, values_of-rule}
 use Rattle.rule_store.proofs.FlawLemmas.{no_flaws, rule-sound}
 use Rattle.rule_store.proofs.LogLemmas.{stops_after-rule}
@@ -94,7 +94,7 @@ module _ (rules : RulesView) (symbol : ℕ) (rule : length rules.alphabet ≤ sy
         ∙ ap (expansion_of rules) place in
         ap (λ s. nodes_in rules (s ∷ log)) (sym place)
         ∙ nodes_in-rule rules number left right log within refl left_low right_low
-        ∙ ap {B = List Node} (λ i. record { before = []; inside = i } ∷ nodes_in rules (left ∷ right ∷ log)) inside
+        ∙ ap {B = List RuleNode} (λ i. record { before = []; inside = i } ∷ nodes_in rules (left ∷ right ∷ log)) inside
 
     -- where a walk opens it, it counts one and its parts
     pub opened_count-parts : (instant from to : ℤ) → opens rules instant from to symbol ≡ true →

@@ -14,7 +14,7 @@ use Rattle.rule_store.specs.Expansion.{expansion_of, values_of}
 use Rattle.rule_store.specs.Boxes.{bounding_box_of}
 use Rattle.rule_store.specs.Cells.{displacement_of, moved}
 use Rattle.rule_store.specs.Flaws.{left_of, right_of}
-use Rattle.rule_store.specs.Nodes.{Node, after, nodes_in, parsed}
+use Rattle.rule_store.specs.Nodes.{RuleNode, after, nodes_in, parsed}
 use Rattle.rule_store.proofs.CellLemmas.{displacement_of-columns, displacement_of-lines, moved-none, same_cell}
 use Rattle.rule_store.proofs.NodeLemmas.{parsed-terminals}
 use Rattle.log_cursor.specs.Start.{start_past}
@@ -32,7 +32,7 @@ moved-displaced cell xs ys =
 
 module _ (rules : RulesView) (from to : ℤ) (region : Region) where
   -- a node after some terminals is touching as it is where these have been walked
-  is_touching-after : (start : Start) (terminals : List ℕ) (node : Node) →
+  is_touching-after : (start : Start) (terminals : List ℕ) (node : RuleNode) →
       is_touching rules start from to region (after terminals node)
       ≡ is_touching rules (start_past start (terminal_values rules terminals)) from to region node
   is_touching-after start terminals node =
@@ -59,7 +59,7 @@ module _ (rules : RulesView) (from to : ℤ) (region : Region) where
       && le_z from (past.instant +ℤ pos (length node.before + length node.inside))))
       && touches_at region cell inside) placed
 
-  filter-after : (start : Start) (terminals : List ℕ) (nodes : List Node) →
+  filter-after : (start : Start) (terminals : List ℕ) (nodes : List RuleNode) →
       length (filter (is_touching rules start from to region) (map (after terminals) nodes))
       ≡ length (filter (is_touching rules (start_past start (terminal_values rules terminals)) from to region) nodes)
   filter-after start terminals [] = refl
@@ -79,7 +79,7 @@ module _ (rules : RulesView) (from to : ℤ) (region : Region) where
       + touching_count rules (start_past start (values_of rules symbol)) log from to region
   unfolding touching_count nodes_in values_of
   touching_count-cons start symbol log =
-      let test : Node → _ = is_touching rules start from to region in
+      let test : RuleNode → _ = is_touching rules start from to region in
       let tree = parsed rules symbol in
       let later = nodes_in rules log in
       ap length (filter-append test tree.nodes (map (after tree.terminals) later))

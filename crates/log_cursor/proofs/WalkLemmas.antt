@@ -27,7 +27,7 @@ use Rattle.rule_store.proofs.LogLemmas.{stops_after-cons, stops_after-none}
 use Rattle.rule_store.proofs.NodeLemmas.{opened_count-cons, opened_count-none}
 use Rattle.log_cursor.specs.Pending.{IsTaken, PendingView}
 use Rattle.log_cursor.specs.Start.{IsStart, IsWayOf, start_after, start_past}
-use Rattle.log_cursor.specs.Walk.{IsWalking, WalkView, at_rest, begun, opened_left, stops_left, turns_of, walk_of}
+use Rattle.log_cursor.specs.Walk.{IsWalking, WalkView, at_rest, walk_from, opened_left, stops_left, turns_of, walk_of}
 use Rattle.log_cursor.specs.declared.start.Start.{Start}
 use Rattle.log_cursor.proofs.RuleLemmas.{opened_count-parts, parts-below, stops_after-parts}
 use Rattle.log_cursor.proofs.WayLemmas.{IsWayOf-next, IsWayOf-parts, IsWayOf-rest, hull_is, start_after-is}
@@ -45,12 +45,12 @@ unfolding in_window
 window-one from to instant cell between = rw between refl
 
 -- a walk that was begun over a window with an instant
-pub walk_of-begun : (pending : PendingView) (anchor : Option Stop) (start : Start) (from to : ℤ) (rules : RulesView)
+pub walk_of-walk_from : (pending : PendingView) (anchor : Option Stop) (start : Start) (from to : ℤ) (rules : RulesView)
     (log : List ℕ) → pending.rules ≡ rules → pending.symbols ≡ log → pending.unread ≡ length log →
     option_to_list anchor ≡ in_window from to (stop_at start.instant start.cell ∷ []) → (a b : ℤ) → a ≡ from →
-    b ≡ to → from ≤ℤ to → walk_of pending anchor start a b ≡ begun rules log start from to
+    b ≡ to → from ≤ℤ to → walk_of pending anchor start a b ≡ walk_from rules log start from to
 unfolding in_window block_stops block_budget
-walk_of-begun pending anchor start from to rules log rules_are symbols unread first a b low high window =
+walk_of-walk_from pending anchor start from to rules log rules_are symbols unread first a b low high window =
     let stop = stop_at start.instant start.cell in
     let test : Stop → Bool = λ stop. is_between from to stop.instant in
     let stops : option_to_list anchor ++ stops_left rules from to start log
@@ -84,10 +84,10 @@ in_window-empty from to (stop ∷ stops) empty =
     rw none (in_window-empty from to stops empty)
 
 -- a walk that was begun over it has nothing left
-pub begun-empty : (rules : RulesView) (log : List ℕ) (start : Start) (from to : ℤ) → to <ℤ from →
-    at_rest rules ≡ begun rules log start from to
+pub walk_from-empty : (rules : RulesView) (log : List ℕ) (start : Start) (from to : ℤ) → to <ℤ from →
+    at_rest rules ≡ walk_from rules log start from to
 unfolding block_budget
-begun-empty rules log start from to empty =
+walk_from-empty rules log start from to empty =
     let none : le_z from to ≡ false = grind (arith, ints) in
     rw (in_window-empty from to (block_stops rules start.instant start.cell log) empty, none) refl
 

@@ -21,7 +21,7 @@ use Rattle.track_types.specs.declared.cell_box.CellBox.{CellBox}
 use Rattle.track_types.proofs.RegionLemmas.{IsBounded}
 use Rattle.rule_store.specs.View.{RulesView, symbols_in}
 use Rattle.rule_store.specs.Expansion.{expansion_of, values_of}
-use Rattle.rule_store.specs.Cells.{cell_at, cells_along, displacement_of, moved, present_in}
+use Rattle.rule_store.specs.Cells.{cell_with, cells_along, displacement_of, moved, present_in}
 use Rattle.rule_store.specs.Boxes.{bounding_box_of, box_round, column, line, origin}
 use Rattle.rule_store.specs.Entry.{duration_of, entry_of}
 use Rattle.rule_store.specs.Flaws.{AreRules, left_of, right_of}
@@ -38,9 +38,9 @@ use Rattle.log_cursor.proofs.RuleLemmas.{log_values-parts}
 use Rattle.log_cursor.proofs.StopLemmas.{duration_of-terminal}
 
 -- places of the same instant, column and line are the same
-pub same_start : (i j x u y v : ℤ) → i ≡ j → x ≡ u → y ≡ v → start_at i (cell_at x y) ≡ start_at j (cell_at u v)
+pub same_start : (i j x u y v : ℤ) → i ≡ j → x ≡ u → y ≡ v → start_at i (cell_with x y) ≡ start_at j (cell_with u v)
 same_start i j x u y v instants columns lines =
-    ap (λ z. start_at z (cell_at x y)) instants ∙ ap (start_at j) (same_cell x y u v columns lines)
+    ap (λ z. start_at z (cell_with x y)) instants ∙ ap (start_at j) (same_cell x y u v columns lines)
 
 -- values lead from a near cell along near cells to a near one
 end-near : (cell : Cell) (values : List ℕ) → IsCellAsked cell →

@@ -9,7 +9,7 @@ use Rattle.rule_store.specs.View.{RulesView}
 use Rattle.rule_store.specs.Boxes.{bounding_box_of}
 use Rattle.rule_store.specs.Cells.{displacement_of, moved}
 use Rattle.rule_store.specs.Log.{block_stops, in_window, stops_after}
-use Rattle.rule_store.specs.Nodes.{Node, meets, nodes_in}
+use Rattle.rule_store.specs.Nodes.{RuleNode, meets, nodes_in}
 use Rattle.track_types.specs.Boxes.{moved_box}
 use Rattle.log_cursor.specs.Start.{IsWayOf}
 use Rattle.log_cursor.specs.Walk.{stops_left}
@@ -34,13 +34,13 @@ abbrev pub terminal_values : RulesView → List ℕ → List ℕ
 terminal_values rules terminals = map (slice_index rules.alphabet) terminals
 
 -- the placed box of a rule's node has a cell of the region, in a block with its anchor in this cell
-abbrev pub is_touched : RulesView → Cell → Region → Node → Bool
+abbrev pub is_touched : RulesView → Cell → Region → RuleNode → Bool
 is_touched rules cell region node =
     touches_at region (moved cell (displacement_of (terminal_values rules node.before)))
     (bounding_box_of (terminal_values rules node.inside))
 
 -- the node's instants meet the window besides
-abbrev pub is_touching : RulesView → Start → ℤ → ℤ → Region → Node → Bool
+abbrev pub is_touching : RulesView → Start → ℤ → ℤ → Region → RuleNode → Bool
 is_touching rules start from to region node =
     meets start.instant from to node && is_touched rules start.cell region node
 

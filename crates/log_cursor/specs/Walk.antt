@@ -20,8 +20,8 @@ abbrev pub at_rest : RulesView → WalkView
 at_rest rules = record { rules = rules; stops = []; reads = 0 }
 
 -- a walk over the stops of a block in a window
-abbrev pub begun : RulesView → List ℕ → Start → ℤ → ℤ → WalkView
-begun rules log start from to = record {
+abbrev pub walk_from : RulesView → List ℕ → Start → ℤ → ℤ → WalkView
+walk_from rules log start from to = record {
   rules = rules;
   stops = in_window from to (block_stops rules start.instant start.cell log);
   reads = block_budget rules start.instant log from to;

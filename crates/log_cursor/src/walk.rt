@@ -1,7 +1,7 @@
 ghost use Rattle.std.specs.Prelude.{◌≡◌, ◌++◌, ◌+◌, ◌≤◌, [], ◌∷◌, IfNone, IfOk, option_to_list};
 ghost use Rattle.rule_store.specs.Log.{in_window, log_of, stop_at};
 ghost use Rattle.log_cursor.specs.Start.{IsPlaced};
-ghost use Rattle.log_cursor.specs.Walk.{at_rest, begun};
+ghost use Rattle.log_cursor.specs.Walk.{at_rest, walk_from};
 
 use crate::pending::Pending;
 use crate::start::Start;
@@ -66,7 +66,7 @@ impl<'a> BlockWalk<'a> {
     pub fn begin(&mut self, view: LogView<'a>, start: Start, from: i64, to: i64)
         requires rules { view.rules.now ≡ self.old.rules }
         requires placed { IsPlaced view.rules.now start (log_of view) }
-        ensures { self.new ≡ begun view.entry.rules.now (log_of view.entry) start from to }
+        ensures { self.new ≡ walk_from view.entry.rules.now (log_of view.entry) start from to }
     {
         if to < from {
             self.pending.end(); // of a window with no instant nothing is read

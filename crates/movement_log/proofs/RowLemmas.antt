@@ -11,7 +11,7 @@ use Rattle.track_types.specs.Row.{IsAscending, is_row_of, row_order}
 use Rattle.track_types.specs.declared.row.Row.{Row}
 use Rattle.track_types.proofs.RowLemmas.{object_le}
 use Rattle.movement_log.specs.Blocks.{no_row, row_at}
-use Rattle.movement_log.specs.Values.{is_earlier, last_before, move_value, value_at}
+use Rattle.movement_log.specs.Values.{is_before, last_before, move_value, value_at}
 
 -- the order of two rows, as an order of their objects and instants
 pub instant_lt : (a b : Row) → row_order a b ≡ Less → a.object ≡ b.object → a.instant <ℤ b.instant
@@ -23,11 +23,11 @@ pub not_row_of : (object : ℕ) (instant : ℤ) (row : Row) → (row.object ≡ 
 not_row_of object instant row apart = grind (arith, nat_tests, ints)
 
 pub not_earlier : (object : ℕ) (instant : ℤ) (row : Row) → (row.object ≡ object → instant ≤ℤ row.instant) →
-    is_earlier object instant row ≡ false
+    is_before object instant row ≡ false
 not_earlier object instant row late = grind (arith, nat_tests, ints)
 
 pub earlier : (object : ℕ) (instant : ℤ) (row : Row) → row.object ≡ object → row.instant <ℤ instant →
-    is_earlier object instant row ≡ true
+    is_before object instant row ≡ true
 earlier object instant row same before = grind (arith, nat_tests, ints)
 
 pub row_of : (object : ℕ) (instant : ℤ) (row : Row) → row.object ≡ object → row.instant ≡ instant →
@@ -91,7 +91,7 @@ module _ (rows : List Row) (up : IsAscending rows) where
       (λ k before. not_row_of row.object row.instant (row_at rows k)
       (λ alike at. let more = instant_rises k (i + 1) before below alike in omega (arith, ints))) in
       let last : last_before rows row.object row.instant ≡ Some (row_at rows i) =
-      find_last_at (is_earlier row.object row.instant) no_row rows i (omega arith)
+      find_last_at (is_before row.object row.instant) no_row rows i (omega arith)
       (earlier row.object row.instant (row_at rows i) same less)
       (λ k later within. not_earlier row.object row.instant (row_at rows k)
       (λ alike. elim (cases_lt (i + 1) k) [

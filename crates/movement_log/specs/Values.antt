@@ -7,12 +7,12 @@ use Rattle.track_types.specs.declared.cell.Cell.{Cell}
 use Rattle.track_types.specs.declared.row.Row.{Row}
 
 -- whether a row is of this object and before this instant
-abbrev pub is_earlier : ℕ → ℤ → Row → Bool
-is_earlier object instant row = (row.object == object) && lt_z row.instant instant
+abbrev pub is_before : ℕ → ℤ → Row → Bool
+is_before object instant row = (row.object == object) && lt_z row.instant instant
 
 -- the last row of an object before an instant
 abbrev pub last_before : List Row → ℕ → ℤ → Option Row
-last_before rows object instant = find (is_earlier object instant) (reverse rows)
+last_before rows object instant = find (is_before object instant) (reverse rows)
 
 -- the value of a movement from one cell to another: its code and one
 abbrev pub move_value : Cell → Cell → ℕ

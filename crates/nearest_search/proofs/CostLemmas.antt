@@ -25,7 +25,7 @@ use Rattle.snapshots.specs.declared.anchored.Anchored.{Anchored}
 use Rattle.snapshots.proofs.LeafOrderLemmas.{by_leaf-weighs}
 use Rattle.snapshots.proofs.TracksLemmas.{squares_pass, tested}
 use Rattle.nearest_search.specs.Cost.{is_near_enough, near_cost, period_near_cost}
-use Rattle.nearest_search.specs.Seeking.{Quest, IsQuest, near_squares, seek_reads_at, tree_of}
+use Rattle.nearest_search.specs.Seeking.{Quest, IsQuest, near_squares, seek_reads_at, quest_tree}
 use Rattle.nearest_search.proofs.ElementLemmas.{snap}
 
 module _ (quest : Quest) (is : IsQuest quest) (count : ℕ) where
@@ -33,7 +33,7 @@ module _ (quest : Quest) (is : IsQuest quest) (count : ℕ) where
   view = snapshot_in quest.parts quest.number
 
   abbrev tree : TreeView
-  tree = tree_of quest
+  tree = quest_tree quest
 
   abbrev enough : CellBox → Bool
   enough = is_near_enough quest.parts count quest.number quest.instant quest.cell

@@ -45,8 +45,8 @@ use Rattle.snapshots.proofs.TrackLemmas.{on-tracks}
 use Rattle.snapshots.proofs.TracksLemmas.{count_is, kept-at, IsKeptAt}
 use Rattle.nearest_search.specs.Cost.{box_dist2}
 use Rattle.nearest_search.specs.Found.{near_in}
-use Rattle.nearest_search.specs.Reach.{key_of, short_width}
-use Rattle.nearest_search.specs.Seeking.{Quest, IsElement, IsQuest, near_at, tree_of}
+use Rattle.nearest_search.specs.Reach.{queue_key, width_in_64_bits}
+use Rattle.nearest_search.specs.Seeking.{Quest, IsElement, IsQuest, near_at, quest_tree}
 use Rattle.nearest_search.specs.declared.waiting.Element.{Element}
 use Rattle.nearest_search.specs.declared.waiting.Waiting.TheVariants.{Node as AtNode, Place as AtPlace}
 use Rattle.nearest_search.proofs.FoundLemmas.{near-by}
@@ -85,10 +85,10 @@ module _ (quest : Quest) (is : IsQuest quest) where
   rules = rules_in quest.parts
 
   abbrev short : ℕ
-  short = short_width quest.parts quest.number quest.instant
+  short = width_in_64_bits quest.parts quest.number quest.instant
 
   abbrev tree : TreeView
-  tree = tree_of quest
+  tree = quest_tree quest
 
   pub snap : IsSnapshot view
   snap = IsSnapshot-valid quest.parts is.valid quest.number is.within
@@ -248,10 +248,10 @@ module _ (quest : Quest) (is : IsQuest quest) where
       reach = reach-short square_of;
     }
 
-  module _ (key width : ℕ) (area square : CellBox) (its : key ≡ key_of quest.cell width area square)
+  module _ (key width : ℕ) (area square : CellBox) (its : key ≡ queue_key quest.cell width area square)
       (wide : width ≡ short) where
     keyed : key ≡ max (box_dist2 quest.cell area) (box_dist2 quest.cell (widened short square))
-    unfolding key_of
+    unfolding queue_key
     keyed = its ∙ ap (λ w. max (box_dist2 quest.cell area) (box_dist2 quest.cell (widened w square))) wide
 
     -- a place waits

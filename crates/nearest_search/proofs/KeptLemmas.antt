@@ -23,7 +23,7 @@ use Rattle.track_types.specs.ByFilter.{near_order}
 use Rattle.track_types.specs.declared.cell.Cell.{Cell}
 use Rattle.track_types.specs.declared.near.Near.{Near}
 use Rattle.track_types.proofs.NearLemmas.{near_order_total}
-use Rattle.nearest_search.specs.Cost.{is_no_farther, last_of}
+use Rattle.nearest_search.specs.Cost.{is_no_farther, last_answer}
 use Rattle.nearest_search.specs.Kept.{entry_near, kept_nears}
 
 -- the order of ranks
@@ -173,7 +173,7 @@ all-before near last (entry ∷ entries) after up apart =
 pub room-last : (wanted dist2 : ℕ) (entries : List ((ℕ × ℕ) × Cell)) (rank : ℕ × ℕ) (cell : Cell)
     → wanted ≤ length entries → length entries ≤ wanted
     → slice_get entries (length entries - 1) ≡ Some (rank, cell)
-    → is_no_farther (last_of wanted (kept_nears entries)) dist2 ≡ nat_le dist2 rank.0
+    → is_no_farther (last_answer wanted (kept_nears entries)) dist2 ≡ nat_le dist2 rank.0
 room-last wanted dist2 entries rank cell full few last =
     let same : wanted ≡ length entries = omega (arith, full, few) in
     ap (λ o. is_no_farther o dist2)

@@ -20,8 +20,8 @@ use Rattle.box_tree.specs.declared.kind.Kind.TheVariants.{Bucket}
 use Rattle.box_tree.specs.declared.node_ref.NodeRef.{NodeRef}
 use Rattle.box_tree.proofs.NodeLemmas.{squares_in-own, square_worth-bucket, square_worth-cell}
 use Rattle.box_tree.proofs.WalkLemmas.{bucket-parts}
-use Rattle.nearest_search.specs.Seeking.{Quest, AreAdded, IsElement, IsOpened, IsPaid, IsQuest, IsQueued}
-use Rattle.nearest_search.specs.Seeking.{places_in, tree_of, turns_left, worth_left}
+use Rattle.nearest_search.specs.Seeking.{Quest, AreAdded, IsElement, OpensWaiting, IsPaid, IsQuest, IsQueued}
+use Rattle.nearest_search.specs.Seeking.{places_in, quest_tree, waiting_turns, worth_left}
 use Rattle.nearest_search.specs.declared.waiting.Element.{Element}
 use Rattle.nearest_search.specs.declared.waiting.Waiting.{Waiting}
 use Rattle.nearest_search.specs.declared.waiting.Waiting.TheVariants.{Node as AtNode, Place as AtPlace}
@@ -48,7 +48,7 @@ length-flat_map f xs =
 
 module _ (quest : Quest) where
   abbrev tree : TreeView
-  tree = tree_of quest
+  tree = quest_tree quest
 
   -- nothing was added
   pub added-none : (old : List Element) → AreAdded quest [] old old
@@ -145,7 +145,7 @@ module _ (quest : Quest) where
                 passes parts.0
           ]
 
-      pub bucket-opened : AreAdded quest (map AtPlace range) old new → IsOpened quest (AtNode ref) old new
+      pub bucket-opened : AreAdded quest (map AtPlace range) old new → OpensWaiting quest (AtNode ref) old new
       bucket-opened its = record {
         each = its.each;
         places = λ weight.
@@ -160,8 +160,8 @@ module _ (quest : Quest) where
             let own = squares_in-own (λ _. true) tree.places.codes (levels_of tree.narrow ref) (node_prefix ref) refl in
             omega (
               arith,
-              its.sums (turns_left quest),
-              sum_by-map (turns_left quest) AtPlace range,
+              its.sums (waiting_turns quest),
+              sum_by-map (waiting_turns quest) AtPlace range,
               sum_by-ones range,
               ap length bucket-run,
               own,
@@ -225,7 +225,7 @@ module _ (quest : Quest) where
       branch-pays test holds =
           omega (arith, gave.reads test holds, sum-children (worth test), worth-parts test nodes)
 
-      pub branch-opened : AreAdded quest (map AtNode nodes) old new → IsOpened quest (AtNode ref) old new
+      pub branch-opened : AreAdded quest (map AtNode nodes) old new → OpensWaiting quest (AtNode ref) old new
       branch-opened its = record {
         each = its.each;
         places = λ weight.
@@ -243,8 +243,8 @@ module _ (quest : Quest) where
             let turns : NodeRef → ℕ = λ child. turns_in tree.places (node_square tree.narrow child) in
             omega (
               arith,
-              its.sums (turns_left quest),
-              sum_by-map (turns_left quest) AtNode nodes,
+              its.sums (waiting_turns quest),
+              sum_by-map (waiting_turns quest) AtNode nodes,
               sum-children (λ child. turns child + length (runs child)),
               sum_by_plus turns (λ child. length (runs child)) gave.children,
               gave.turns,
@@ -268,7 +268,7 @@ module _ (quest : Quest) where
 pub record AreMoving (quest : Quest) (first left : List NodeRef) (old new : List Element) (begun steps : ℕ) : Type 0 where
   pub done : List NodeRef
   pub sums : (f : NodeRef → ℕ) → sum_by f done + sum_by f left ≡ sum_by f first
-  pub nodes : All (IsNodeOf (tree_of quest)) left
+  pub nodes : All (IsNodeOf (quest_tree quest)) left
   pub added : AreAdded quest (map AtNode done) old new
   pub reads : steps ≤ begun + box_reads * length done
 
@@ -306,8 +306,8 @@ module _ (quest : Quest) where
             sum_by-cons f ref [],
             sum_by-cons f ref moving.done,
           );
-      nodes = (all-parts (IsNodeOf (tree_of quest)) left (ref ∷ [])
-          (subst (All (IsNodeOf (tree_of quest))) split moving.nodes)).0;
+      nodes = (all-parts (IsNodeOf (quest_tree quest)) left (ref ∷ [])
+          (subst (All (IsNodeOf (quest_tree quest))) split moving.nodes)).0;
       added = added-more quest (map AtNode moving.done) (AtNode ref) old now new moving.added
           (added-queued quest (AtNode ref) now new queued);
       reads = omega (arith, moving.reads, most);

@@ -22,10 +22,10 @@ use Rattle.box_tree.specs.Tree.{IsNodeOf, TreeView, levels_of, node_at, node_squ
 use Rattle.box_tree.specs.declared.node_ref.NodeRef.{NodeRef}
 use Rattle.box_tree.proofs.NodeLemmas.{squares_in-own}
 use Rattle.snapshots.specs.Parts.{chart_in}
-use Rattle.nearest_search.specs.Cost.{is_no_farther, last_of, period_near_cost}
+use Rattle.nearest_search.specs.Cost.{is_no_farther, last_answer, period_near_cost}
 use Rattle.nearest_search.specs.Kept.{ClosestView}
-use Rattle.nearest_search.specs.Seeking.{Quest, AreSeeking, IsElement, IsOfTree, IsOpened, IsPaid, IsQuest, IsQueued}
-use Rattle.nearest_search.specs.Seeking.{near_at, near_squares, places_in, seek_reads_at, square_in, sum_waiting, tree_of, worth_left}
+use Rattle.nearest_search.specs.Seeking.{Quest, AreSeeking, IsElement, IsOfTree, OpensWaiting, IsPaid, IsQuest, IsQueued}
+use Rattle.nearest_search.specs.Seeking.{near_at, near_squares, places_in, seek_reads_at, square_in, sum_waiting, quest_tree, worth_left}
 use Rattle.nearest_search.specs.declared.waiting.Element.{Element}
 use Rattle.nearest_search.specs.declared.waiting.Waiting.{Waiting}
 use Rattle.nearest_search.specs.declared.waiting.Waiting.TheVariants.{Node as AtNode, Place as AtPlace}
@@ -56,7 +56,7 @@ least-of e others least = All-cons (λ (other : Element). e.key ≤ other.key) e
 
 module _ (quest : Quest) (is : IsQuest quest) (count : ℕ) (some : 0 < count) where
   abbrev tree : TreeView
-  tree = tree_of quest
+  tree = quest_tree quest
 
   abbrev test : Node → Bool
   test = near_squares quest count
@@ -234,14 +234,14 @@ module _ (quest : Quest) (is : IsQuest quest) (count : ℕ) (some : 0 < count) w
     module _ (e : Element) (others : List Element) (seeking : AreSeeking quest count before (e ∷ others) closest steps)
         (least : All (λ (other : Element). e.key ≤ other.key) others) where
       -- what waits is farther than the last that is kept
-      pub seeking-beyond : is_no_farther (last_of count closest.nears) e.key ≡ false
+      pub seeking-beyond : is_no_farther (last_answer count closest.nears) e.key ≡ false
           → closest.nears ≡ nears_of (chart_in quest.parts).rows count quest.instant quest.cell
       seeking-beyond beyond =
           answer-beyond quest is count some seeking.sought closest.nears (e ∷ others) seeking.known seeking.nears
           seeking.each seeking.parted e.key (least-of e others least) beyond
 
       -- otherwise what was taken is near enough
-      pub seeking-enough : is_no_farther (last_of count closest.nears) e.key ≡ true
+      pub seeking-enough : is_no_farther (last_answer count closest.nears) e.key ≡ true
           → test (square_in quest e.waiting) ≡ true
       seeking-enough holds =
           taken-enough quest is count some seeking.sought closest.nears (e ∷ others) seeking.known seeking.nears
@@ -253,7 +253,7 @@ module _ (quest : Quest) (is : IsQuest quest) (count : ℕ) (some : 0 < count) w
 
       -- a node gave way to what it holds
       pub seeking-opened : (ref : NodeRef) (new : List Element) (later : ℕ) → e.waiting ≡ AtNode ref
-          → test (node_at ref) ≡ true → IsOpened quest (AtNode ref) others new
+          → test (node_at ref) ≡ true → OpensWaiting quest (AtNode ref) others new
           → IsPaid quest (AtNode ref) others new steps later → AreSeeking quest count before new closest later
       seeking-opened ref new later waits holds opened paid = record {
         sought = seeking.sought;

@@ -34,9 +34,9 @@ use Rattle.snapshots.proofs.ByObjectLemmas.{index-from_block_of}
 use Rattle.snapshots.proofs.LeafOrderLemmas.{by_leaf-weighs}
 use Rattle.snapshots.proofs.TracksLemmas.{all-kept}
 use Rattle.object_track.proofs.BlockLemmas.{block-known}
-use Rattle.nearest_search.specs.Cost.{box_dist2, is_near_enough, is_no_farther, last_of}
+use Rattle.nearest_search.specs.Cost.{box_dist2, is_near_enough, is_no_farther, last_answer}
 use Rattle.nearest_search.specs.Found.{near_in}
-use Rattle.nearest_search.specs.Seeking.{Quest, IsElement, IsOfTree, IsQuest, near_at, near_squares, places_in, square_in, sum_waiting, tree_of}
+use Rattle.nearest_search.specs.Seeking.{Quest, IsElement, IsOfTree, IsQuest, near_at, near_squares, places_in, square_in, sum_waiting, quest_tree}
 use Rattle.nearest_search.specs.declared.waiting.Element.{Element}
 use Rattle.nearest_search.specs.declared.waiting.Waiting.{Waiting}
 use Rattle.nearest_search.specs.declared.waiting.Waiting.TheVariants.{Node as AtNode, Place as AtPlace}
@@ -69,7 +69,7 @@ module _ (quest : Quest) (is : IsQuest quest) where
   view = snapshot_in quest.parts quest.number
 
   abbrev tree : TreeView
-  tree = tree_of quest
+  tree = quest_tree quest
 
   abbrev rows : List Row
   rows = (chart_in quest.parts).rows
@@ -232,22 +232,22 @@ module _ (quest : Quest) (is : IsQuest quest) where
 
     -- so what is no farther than the last that is kept is no farther than the last answer
     pub far-agrees : (key : ℕ) → All (λ (e : Element). key ≤ e.key) elements
-        → is_no_farther (last_of count nears) key
-        ≡ is_no_farther (last_of count (nears_of rows count quest.instant quest.cell)) key
+        → is_no_farther (last_answer count nears) key
+        ≡ is_no_farther (last_answer count (nears_of rows count quest.instant quest.cell)) key
     far-agrees key least =
         let same : nearer_count key found ≡ nearer_count key all =
         omega (arith, both-weigh (is_nearer key), none-nearer key least) in
-        ap (λ ns. is_no_farther (last_of count ns) key) nears_is
+        ap (λ ns. is_no_farther (last_answer count ns) key) nears_is
         ∙ last-agrees key count found all some same
-        ∙ sym (ap (λ ns. is_no_farther (last_of count ns) key) (nears_of-is count))
+        ∙ sym (ap (λ ns. is_no_farther (last_answer count ns) key) (nears_of-is count))
 
     -- and what waits with the least key is near enough, where it is no farther than the last that is kept
     pub taken-enough : (e : Element) → IsElement quest e → All (λ (other : Element). e.key ≤ other.key) elements
-        → is_no_farther (last_of count nears) e.key ≡ true
+        → is_no_farther (last_answer count nears) e.key ≡ true
         → near_squares quest count (square_in quest e.waiting) ≡ true
     unfolding is_near_enough
     taken-enough e its least holds =
-        no-farther-le (last_of count (nears_of rows count quest.instant quest.cell))
+        no-farther-le (last_answer count (nears_of rows count quest.instant quest.cell))
         (box_dist2 quest.cell (reach_of quest.parts quest.number quest.instant
         (area_at tree.base (square_in quest e.waiting)))) e.key its.reach (sym (far-agrees e.key least) ∙ holds)
 
@@ -279,7 +279,7 @@ module _ (quest : Quest) (is : IsQuest quest) where
         (filter_map (near_at quest) (flat_map (λ (e : Element). places_in quest e.waiting) es) ++ found))) none)
 
     pub answer-beyond : (key : ℕ) → All (λ (e : Element). key ≤ e.key) elements
-        → is_no_farther (last_of count nears) key ≡ false → nears ≡ nears_of rows count quest.instant quest.cell
+        → is_no_farther (last_answer count nears) key ≡ false → nears ≡ nears_of rows count quest.instant quest.cell
     answer-beyond key least beyond =
         let others : List Near = filter_map (near_at quest) rest in
         let far_off : All (λ near. key ≤ far near) others =
@@ -292,7 +292,7 @@ module _ (quest : Quest) (is : IsQuest quest) where
         (λ p. IfSome (near_at quest p) (λ (near : Near). key ≤ near.dist2))
         (λ p. farther (near_at quest p) e.key (least k d within)) (places_in quest e.waiting) (each k d within).near)) in
         answer-from (take-beyond key count others found far_off
-        (kept-nearer key count found some (ap (λ ns. is_no_farther (last_of count ns) key) (sym nears_is) ∙ beyond)))
+        (kept-nearer key count found some (ap (λ ns. is_no_farther (last_answer count ns) key) (sym nears_is) ∙ beyond)))
       where
         farther : (o : Option Near) (low : ℕ) → key ≤ low → IfSome o (λ (near : Near). low ≤ near.dist2)
             → IfSome o (λ (near : Near). key ≤ near.dist2)

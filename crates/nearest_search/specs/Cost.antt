@@ -21,8 +21,8 @@ abbrev pub box_dist2 : Cell → CellBox → ℕ
 box_dist2 cell area = squared_distance cell (nearest_cell area cell)
 
 -- the last of so many answers, and none where there are fewer
-abbrev pub last_of : ℕ → List Near → Option Near
-last_of count nears = slice_get nears (count - 1)
+abbrev pub last_answer : ℕ → List Near → Option Near
+last_answer count nears = slice_get nears (count - 1)
 
 -- whether a squared distance is at most that of the last answer; every one is where there are fewer answers
 abbrev pub is_no_farther : Option Near → ℕ → Bool
@@ -32,7 +32,7 @@ is_no_farther (Some last) dist2 = nat_le dist2 last.dist2
 -- whether the reach of a box of a period at an instant is no farther from a cell than the last answer
 unfoldable pub is_near_enough : Parts → ℕ → ℕ → ℤ → Cell → CellBox → Bool
 is_near_enough parts count number instant cell area =
-    is_no_farther (last_of count (nears_of (chart_in parts).rows count instant cell))
+    is_no_farther (last_answer count (nears_of (chart_in parts).rows count instant cell))
     (box_dist2 cell (reach_of parts number instant area))
 
 -- the reads of a block in which the cell at an instant is sought: the block, the symbols of its log, and a rule at each

@@ -17,5 +17,5 @@ abbrev pub kept_nears : List ((ℕ × ℕ) × Cell) → List Near
 kept_nears entries = map entry_near entries
 
 -- no more are kept than are wanted
-pub record AreKept (wanted : ℕ) (entries : List ((ℕ × ℕ) × Cell)) : Type 0 where
+pub record KeepsAtMost (wanted : ℕ) (entries : List ((ℕ × ℕ) × Cell)) : Type 0 where
   pub few : length entries ≤ wanted

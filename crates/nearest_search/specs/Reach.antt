@@ -8,9 +8,9 @@ use Rattle.snapshots.specs.Speed.{width_at}
 use Rattle.nearest_search.specs.Cost.{box_dist2}
 
 -- what waits by a box and by what is within reach of a square: the greater of the two least squared distances
-unfoldable pub key_of : Cell → ℕ → CellBox → CellBox → ℕ
-key_of cell width area square = max (box_dist2 cell area) (box_dist2 cell (widened width square))
+unfoldable pub queue_key : Cell → ℕ → CellBox → CellBox → ℕ
+queue_key cell width area square = max (box_dist2 cell area) (box_dist2 cell (widened width square))
 
 -- how far an object gets from its anchor's cell by an instant, or the greatest number of 64 bits where that is less
-abbrev pub short_width : Parts → ℕ → ℤ → ℕ
-short_width parts number instant = min (width_at parts number instant) (2 ^ 64 - 1)
+abbrev pub width_in_64_bits : Parts → ℕ → ℤ → ℕ
+width_in_64_bits parts number instant = min (width_at parts number instant) (2 ^ 64 - 1)

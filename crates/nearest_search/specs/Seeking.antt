@@ -30,7 +30,7 @@ use Rattle.snapshots.specs.declared.track_tree.TrackTree.{TrackTree}
 use Rattle.nearest_search.specs.Cost.{box_dist2, is_near_enough}
 use Rattle.nearest_search.specs.Found.{near_in}
 use Rattle.nearest_search.specs.Kept.{ClosestView}
-use Rattle.nearest_search.specs.Reach.{short_width}
+use Rattle.nearest_search.specs.Reach.{width_in_64_bits}
 use Rattle.nearest_search.specs.declared.sought.Sought.{Sought}
 use Rattle.nearest_search.specs.declared.waiting.Element.{Element}
 use Rattle.nearest_search.specs.declared.waiting.Waiting.{Waiting}
@@ -66,7 +66,7 @@ pub record IsQuest (quest : Quest) : Type 0 where
 -- so it is with a search, which knows how far an object gets
 pub record IsSearch (sought : Sought) : Type 0 where
   pub is : IsQuest (quest_of sought)
-  pub width : sought.reach.width ≡ short_width sought.stores.now sought.period sought.instant
+  pub width : sought.reach.width ≡ width_in_64_bits sought.stores.now sought.period sought.instant
 
 -- a sum over what waits
 abbrev pub sum_waiting : (Waiting → ℕ) → List Element → ℕ
@@ -74,8 +74,8 @@ sum_waiting f elements = sum_by (λ (e : Element). f e.waiting) elements
 
 module _ (quest : Quest) where
   -- the tree that is searched
-  abbrev pub tree_of : TreeView
-  tree_of = quest.kept.tree
+  abbrev pub quest_tree : TreeView
+  quest_tree = quest.kept.tree
 
   -- how near the object of the block at a place is
   abbrev pub near_at : ℕ → Option Near
@@ -83,29 +83,29 @@ module _ (quest : Quest) where
 
   -- the places of what waits: those below a node, or the one
   abbrev pub places_in : Waiting → List ℕ
-  places_in (AtNode ref) = square_places tree_of.places (node_square tree_of.narrow ref)
+  places_in (AtNode ref) = square_places quest_tree.places (node_square quest_tree.narrow ref)
   places_in (AtPlace place) = place ∷ []
 
   -- its square: a node's, or the cell of a place
   abbrev pub square_in : Waiting → Node
   square_in (AtNode ref) = node_at ref
-  square_in (AtPlace place) = node 0 (slice_index tree_of.places.codes place)
+  square_in (AtPlace place) = node 0 (slice_index quest_tree.places.codes place)
 
   -- it is one of the tree's
   abbrev pub IsOfTree : Waiting → Type 0
-  IsOfTree (AtNode ref) = IsNodeOf tree_of ref
-  IsOfTree (AtPlace place) = place < length tree_of.places.codes
+  IsOfTree (AtNode ref) = IsNodeOf quest_tree ref
+  IsOfTree (AtPlace place) = place < length quest_tree.places.codes
 
   -- the reads that it is still worth: a node's box and those of a place were read before
   abbrev pub worth_left : (Node → Bool) → Waiting → ℕ
-  worth_left test (AtNode ref) = square_worth test tree_of.places (node_square tree_of.narrow ref) - box_reads
+  worth_left test (AtNode ref) = square_worth test quest_tree.places (node_square quest_tree.narrow ref) - box_reads
   worth_left test (AtPlace place) = 0
 
   -- how often something may be taken that comes of it
-  abbrev pub turns_left : Waiting → ℕ
-  turns_left (AtNode ref) = turns_in tree_of.places (node_square tree_of.narrow ref)
-      + length (square_places tree_of.places (node_square tree_of.narrow ref))
-  turns_left (AtPlace place) = 1
+  abbrev pub waiting_turns : Waiting → ℕ
+  waiting_turns (AtNode ref) = turns_in quest_tree.places (node_square quest_tree.narrow ref)
+      + length (square_places quest_tree.places (node_square quest_tree.narrow ref))
+  waiting_turns (AtPlace place) = 1
 
   -- an element waits at no more than the squared distance of each object in it, and at no less than that of the reach of
   -- its square
@@ -113,7 +113,7 @@ module _ (quest : Quest) where
     pub of : IsOfTree element.waiting
     pub near : All (λ place. IfSome (near_at place) (λ (near : Near). element.key ≤ near.dist2)) (places_in element.waiting)
     pub reach : box_dist2 quest.cell (reach_of quest.parts quest.number quest.instant
-        (area_at tree_of.base (square_in element.waiting))) ≤ element.key
+        (area_at quest_tree.base (square_in element.waiting))) ≤ element.key
 
   -- one was put among what waits
   pub record IsQueued (waiting : Waiting) (old new : List Element) : Type 0 where
@@ -132,11 +132,11 @@ module _ (quest : Quest) where
   seek_reads_at place = record_reads + seek_cost quest.parts (Some (block_kept quest.kept place))
 
   -- what a node holds was put among what waits, and it has paid for that
-  pub record IsOpened (taken : Waiting) (old new : List Element) : Type 0 where
+  pub record OpensWaiting (taken : Waiting) (old new : List Element) : Type 0 where
     pub each : All IsElement old → All IsElement new
     pub places : (weight : ℕ → ℕ) → sum_waiting (λ w. sum_by weight (places_in w)) new
         ≡ sum_by weight (places_in taken) + sum_waiting (λ w. sum_by weight (places_in w)) old
-    pub turns : sum_waiting turns_left new < turns_left taken + sum_waiting turns_left old
+    pub turns : sum_waiting waiting_turns new < waiting_turns taken + sum_waiting waiting_turns old
 
   -- the reads by which it is opened
   abbrev pub IsPaid : Waiting → List Element → List Element → ℕ → ℕ → Type 0
@@ -145,21 +145,21 @@ module _ (quest : Quest) where
 
   -- the squares whose reach is no farther than the last of so many answers
   abbrev pub near_squares : ℕ → Node → Bool
-  near_squares count = squares_at tree_of.base (is_near_enough quest.parts count quest.number quest.instant quest.cell)
+  near_squares count = squares_at quest_tree.base (is_near_enough quest.parts count quest.number quest.instant quest.cell)
 
   -- What is known while nodes and places are taken, the one with the least key first: each place was sought, waits, or
   -- lies below one node that waits; the nearest of what was sought are kept; what was taken is near enough, and so the
   -- squares that are have paid for it.
   pub record AreSeeking (count before : ℕ) (elements : List Element) (closest : ClosestView) (steps : ℕ) : Type 0 where
     pub sought : List ℕ
-    pub known : All (λ place. place < length tree_of.places.codes) sought
+    pub known : All (λ place. place < length quest_tree.places.codes) sought
     pub wanted : closest.wanted ≡ count
     pub nears : closest.nears ≡ take count (ordered near_order (filter_map near_at sought))
     pub each : All IsElement elements
     pub parted : (weight : ℕ → ℕ) → sum_by weight sought + sum_waiting (λ w. sum_by weight (places_in w)) elements
-        ≡ sum_by weight (all_places tree_of.places)
-    pub enough : All (λ place. cell_passes (near_squares count) tree_of.places place ≡ true) sought
+        ≡ sum_by weight (all_places quest_tree.places)
+    pub enough : All (λ place. cell_passes (near_squares count) quest_tree.places place ≡ true) sought
     pub cost : steps + sum_waiting (worth_left (near_squares count)) elements ≤ before
-        + (opened_square_reads * held_square_count (near_squares count) tree_of.places
-        + sum_by (place_worth (near_squares count) tree_of.places) (all_places tree_of.places))
+        + (opened_square_reads * held_square_count (near_squares count) quest_tree.places
+        + sum_by (place_worth (near_squares count) quest_tree.places) (all_places quest_tree.places))
         + sum_by seek_reads_at sought

@@ -3,7 +3,7 @@ ghost use Rattle.std.specs.List.{list_any};
 ghost use Rattle.std.specs.Ordering.{eq_by_cmp};
 ghost use Rattle.list_laws.specs.Ordered.{insert_in_order};
 ghost use Rattle.track_types.specs.ByFilter.{near_order};
-ghost use Rattle.nearest_search.specs.Cost.{is_no_farther, last_of};
+ghost use Rattle.nearest_search.specs.Cost.{is_no_farther, last_answer};
 
 use std::alloc::Global;
 use std::collections::BTreeMap;
@@ -21,13 +21,13 @@ pub(crate) struct Closest {
 }
 
 impl Model for Closest {
-    ghost use Rattle.nearest_search.specs.Kept.{kept_nears, AreKept, ClosestView};
+    ghost use Rattle.nearest_search.specs.Kept.{kept_nears, KeepsAtMost, ClosestView};
 
     ghost Value = { ClosestView };
 
     ghost view = { λ c. record { wanted = c.wanted; nears = kept_nears c.kept.entries } };
 
-    ghost invariant = { λ c. AreKept c.wanted c.kept.entries };
+    ghost invariant = { λ c. KeepsAtMost c.wanted c.kept.entries };
 }
 
 impl Closest {
@@ -65,7 +65,7 @@ impl Closest {
     /// Whether one at a squared distance may belong to the nearest: fewer are kept than are wanted, or
     /// the last of them is as far, since of two that are as far the lesser object comes first.
     pub(crate) fn has_room_for(&self, dist2: u128) -> bool
-        ensures { result ≡ is_no_farther (last_of self.now.wanted self.now.nears) dist2 }
+        ensures { result ≡ is_no_farther (last_answer self.now.wanted self.now.nears) dist2 }
     {
         if self.kept.len() < self.wanted as usize {
             return true;

@@ -5,7 +5,7 @@ ghost use Rattle.track_types.specs.Widening.{widened};
 ghost use Rattle.track_types.specs.Frame.{periods_of, IsFrame};
 ghost use Rattle.snapshots.specs.Parts.{first_in};
 ghost use Rattle.nearest_search.specs.Cost.{box_dist2};
-ghost use Rattle.nearest_search.specs.Reach.{key_of, short_width};
+ghost use Rattle.nearest_search.specs.Reach.{queue_key, width_in_64_bits};
 
 use snapshots::Stores;
 use track_types::{Cell, CellBox, Frame};
@@ -24,7 +24,7 @@ impl Reach {
         requires period { period < periods_of stores.now.frame }
         requires instant { IsAsked instant }
         ensures cell { result.cell ≡ cell }
-        ensures width { result.width ≡ short_width stores.now period instant }
+        ensures width { result.width ≡ width_in_64_bits stores.now period instant }
     {
         let elapsed = instant.abs_diff(first_of(stores.frame(), period));
         let width = stores.speed(period).saturating_mul(elapsed);
@@ -37,7 +37,7 @@ impl Reach {
         requires cell { IsCellAsked self.now.cell }
         requires area { IsBoxWithin area.now }
         requires square { IsBoxWithin square.now }
-        ensures { result ≡ key_of self.now.cell self.now.width area.now square.now }
+        ensures { result ≡ queue_key self.now.cell self.now.width area.now square.now }
     {
         let near = dist2_to(self.cell, area, 0);
         near.max(dist2_to(self.cell, square, self.width))

@@ -12,7 +12,7 @@ ghost use Rattle.snapshots.specs.Parts.{snapshot_in, stops_of};
 ghost use Rattle.snapshots.specs.Sound.{IsBlock};
 ghost use Rattle.nearest_search.specs.Cost.{period_near_cost};
 ghost use Rattle.nearest_search.specs.Kept.{ClosestView};
-ghost use Rattle.nearest_search.specs.Seeking.{AreAdded, AreSeeking, IsOpened, IsPaid, IsQueued, IsSearch};
+ghost use Rattle.nearest_search.specs.Seeking.{AreAdded, AreSeeking, OpensWaiting, IsPaid, IsQueued, IsSearch};
 ghost use Rattle.nearest_search.specs.declared.waiting.Waiting.TheVariants.{Node as AtNode, Place as AtPlace};
 
 use crate::queue::Queue;
@@ -152,7 +152,7 @@ impl<'a> Sought<'a> {
     ) -> Result<(), Memory>
         requires search { IsSearch self.now }
         requires node { IsNodeOf self.now.kept.now.tree node }
-        ensures opened { OnOk result (IsOpened (quest_of self.now) (AtNode node)
+        ensures opened { OnOk result (OpensWaiting (quest_of self.now) (AtNode node)
             (heap_items queue.old.heap) (heap_items queue.new.heap)) }
         ensures paid { OnOk result (IsPaid (quest_of self.now) (AtNode node)
             (heap_items queue.old.heap) (heap_items queue.new.heap) steps.old steps.new) }

@@ -11,7 +11,7 @@ pub record IsOpen (values : List ℕ) (stored gap place : ℕ) : Type 0 where
   pub split : behind + before ≡ gap
   pub path : place ≡ along values behind stored
 
--- the walk along a cycle is at a place, `gap` moves behind the last one that was stored, which is the leader at first
+-- the walk along a cycle is at a place, `gap` moves after the last one that was stored, which is the leader at first
 pub record IsInCycle (values : List ℕ) (seen : List Bool) (shortcuts : List (Option ℕ))
     (leader place stored gap : ℕ) : Type 0 where
   pub seen_length : length seen ≡ length values

@@ -95,7 +95,7 @@ ones-marks_of (x ∷ xs) (suc i) =
     let here : count_ones (n % 2 ^ 1) ≡ mark_of x = ap count_ones low ∙ one_bit (mark_of x) one in
     omega (arith, others, here, length-targets_of x (take i xs)))
 
--- the target of a place that has one stands behind those of the places before it
+-- the target of a place that has one stands after those of the places before it
 pub target-here : (xs : List (Option ℕ)) (i target : ℕ) → get_or xs i None ≡ Some target →
     (length (targets_of (take i xs)) < length (targets_of xs)) ×
     (get_or (targets_of xs) (length (targets_of (take i xs))) 0 ≡ target)

@@ -35,7 +35,7 @@ shortcut_in-more group targets more bit within =
           ∙ sym (shortcut_in-unmarked group targets bit unmarked)
     ]
 
--- a group that was packed from places, behind the targets that there were
+-- a group that was packed from places, after the targets that there were
 pub record IsGroupOf (group : Group) (targets : List ℕ) (places : List (Option ℕ)) : Type 0 where
   pub marks : group.0 ≡ marks_of places
   pub before : group.1 ≡ length targets

@@ -25,7 +25,7 @@ use Rattle.log_cursor.specs.Start.{start_at, AreHullsAsked, IsHullAsked, IsPlace
 use Rattle.snapshots.specs.JoinFlaws.{cell_after, cell_before}
 use Rattle.snapshots.specs.Parts.{anchored_at, log_in, no_period, period_at, rules_in, snapshot_in}
 use Rattle.snapshots.specs.Sound.{IsBlock}
-use Rattle.snapshots.specs.SoundParts.{IsPlaced as IsInGridAt, IsSoundLog, IsValid}
+use Rattle.snapshots.specs.SoundParts.{IsInGridAt, IsSoundLog, IsValid}
 use Rattle.snapshots.specs.Stores.{snapshots_in, AreOf}
 use Rattle.snapshots.specs.View.{all_blocks, block_of}
 use Rattle.snapshots.specs.declared.anchored.Anchored.{Anchored}

@@ -23,7 +23,7 @@ use Rattle.rule_store.specs.Log.{block_stops, log_values, stop_at, stops_after, 
 use Rattle.rule_store.proofs.CellLemmas.{length-cells_along}
 use Rattle.rule_store.proofs.ExpansionLemmas.{length-values_of}
 use Rattle.log_cursor.proofs.WayLemmas.{log-near}
-use Rattle.snapshots.specs.JoinFlaws.{lasting}
+use Rattle.snapshots.specs.JoinFlaws.{duration_of_log}
 use Rattle.snapshots.specs.Parts.{anchored_at, end_in, first_in, log_in, row_of, rules_in, snapshot_in, stops_in, stops_in_block, stops_of}
 use Rattle.snapshots.specs.Sound.{IsBlock}
 use Rattle.snapshots.specs.SoundParts.{IsValid}
@@ -105,20 +105,20 @@ block_stops-ascend rules object instant cell log =
     stops_from-ascend object instant (Some cell ∷ cells_along cell (log_values rules log))
 
 -- there are as many values in a log as it lasts
-length-log_values : (rules : RulesView) (log : List ℕ) → length (log_values rules log) ≡ lasting rules log
-unfolding log_values lasting
+length-log_values : (rules : RulesView) (log : List ℕ) → length (log_values rules log) ≡ duration_of_log rules log
+unfolding log_values duration_of_log
 length-log_values rules log =
     length-flat_map (values_of rules) log
     ∙ sum_by-agree (λ symbol. length (values_of rules symbol)) (duration_of rules) (length-values_of rules) log
 
 pub All-block_stops : (rules : RulesView) (low high instant : ℤ) (cell : Cell) (log : List ℕ) → low ≤ℤ instant
-    → (instant +ℤ pos (lasting rules log)) ≤ℤ high → IsCellAsked cell
+    → (instant +ℤ pos (duration_of_log rules log)) ≤ℤ high → IsCellAsked cell
     → All IsCellAsked (present_in (cells_along cell (log_values rules log)))
     → All (IsStopIn low high) (block_stops rules instant cell log)
 unfolding block_stops stops_after stops_from
 All-block_stops rules low high instant cell log above below near cells =
     let along = cells_along cell (log_values rules log) in
-    let long : length along ≡ lasting rules log =
+    let long : length along ≡ duration_of_log rules log =
     length-cells_along cell (log_values rules log) ∙ length-log_values rules log in
     All-stops_from low high instant (Some cell ∷ along) above (omega (arith, ints, below, long))
     (All-cons IsCellAsked cell (present_in along) near cells)

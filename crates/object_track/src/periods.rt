@@ -10,21 +10,21 @@ use track_types::Frame;
 #[derive(Clone, Copy)]
 pub struct Periods {
     pub next: u32,
-    pub behind: u32,
+    pub end: u32,
 }
 
 impl Periods {
     /// No period.
     pub fn none() -> Periods
         ensures next { result.next ≡ 0 }
-        ensures behind { result.behind ≡ 0 }
+        ensures end { result.end ≡ 0 }
     {
-        Periods { next: 0, behind: 0 }
+        Periods { next: 0, end: 0 }
     }
 
     /// The periods that have an instant in a window, whose ends count.
     pub fn met(stores: &Stores, from: i64, to: i64) -> Periods
-        ensures { AreMet stores.now.frame from to result.next result.behind }
+        ensures { AreMet stores.now.frame from to result.next result.end }
     {
         let frame = stores.frame();
         let low = from.max(frame.first);
@@ -35,7 +35,7 @@ impl Periods {
         let period = u64::from(frame.period);
         Periods {
             next: (elapsed(frame, low) / period) as u32,
-            behind: (elapsed(frame, high) / period) as u32 + 1,
+            end: (elapsed(frame, high) / period) as u32 + 1,
         }
     }
 }

@@ -7,7 +7,7 @@ use Rattle.std.proofs.lemmas.Bool.{cases_lt}
 use Rattle.std.proofs.lemmas.List.{get_or-map, get_or-set_same, length-map, map-set, set-get_or}
 use Rattle.std.proofs.lemmas.List.Sums.{sum_by-set}
 use Rattle.track_types.specs.declared.stop.Stop.{Stop}
-use Rattle.question_shell.specs.Desk.{DeskView, Draws, budget_in, budget_of, held_of, is_held_in, place_of, stops_in}
+use Rattle.question_shell.specs.Desk.{DeskView, Draws, budget_in, budget_of, held_of, is_held_in, slot_walk, slot_stops}
 use Rattle.question_shell.specs.Items.{stops_at}
 
 -- a desk by its places, of which each shows what is seen of its walk
@@ -24,21 +24,21 @@ module _ {W : Type 0} (seen : W → List Stop × ℕ) (places : List (Option W))
 
     -- what a place shows
     pub shown-place : (place default : Option W) → slot < length places → get_or places slot default ≡ place →
-        place_of desk slot ≡ option_map seen place
+        slot_walk desk slot ≡ option_map seen place
     shown-place place default below is = sym (ap (λ desk. get_or desk slot None) shown)
         ∙ (get_or-map (option_map seen) places slot default None below ∙ ap (option_map seen) is)
 
 -- A walk in one place of a desk was drawn from, and stands there again.
 pub record IsDrawn (desk now : DeskView) (slot : ℕ) (old new : List Stop × ℕ) : Type 0 where
   pub below : slot < length desk
-  pub before : place_of desk slot ≡ Some old
+  pub before : slot_walk desk slot ≡ Some old
   pub after : now ≡ set desk slot (Some new)
 
 module _ {desk now : DeskView} {slot : ℕ} {old new : List Stop × ℕ} (drawn : IsDrawn desk now slot old new) where
-  place-now : place_of now slot ≡ Some new
-  place-now = ap (λ desk. place_of desk slot) drawn.after ∙ get_or-set_same desk slot (Some new) None drawn.below
+  place-now : slot_walk now slot ≡ Some new
+  place-now = ap (λ desk. slot_walk desk slot) drawn.after ∙ get_or-set_same desk slot (Some new) None drawn.below
 
-  pub draws-found : (first : List Stop) → old.0 ≡ first ++ new.0 → stops_in desk slot ≡ first ++ stops_in now slot
+  pub draws-found : (first : List Stop) → old.0 ≡ first ++ new.0 → slot_stops desk slot ≡ first ++ slot_stops now slot
   draws-found first found = ap (λ place. option_map_or (λ walk. walk.0) place []) drawn.before
       ∙ (found ∙ ap (λ place. first ++ option_map_or (λ walk. walk.0) place []) (sym place-now))
 
@@ -54,22 +54,22 @@ module _ {desk now : DeskView} {slot : ℕ} {old new : List Stop × ℕ} (drawn 
   pub draws-held : is_held_in now slot ≡ is_held_in desk slot
   draws-held = ap is_some place-now ∙ sym (ap is_some drawn.before)
 
-  pub draws-others : now ≡ set desk slot (place_of now slot)
+  pub draws-others : now ≡ set desk slot (slot_walk now slot)
   draws-others = drawn.after ∙ ap (set desk slot) (sym place-now)
 
 -- the stops in a place, by the lists that the desk holds
 pub stops_at-held : (desk : DeskView) (slot : ℕ) →
-    stops_at (held_of desk) slot ≡ option_map (λ walk. walk.0) (place_of desk slot)
+    stops_at (held_of desk) slot ≡ option_map (λ walk. walk.0) (slot_walk desk slot)
 stops_at-held desk slot = shown_at (option_map (λ walk. walk.0)) refl desk slot
   where
     shown_at : (f : Option (List Stop × ℕ) → Option (List Stop)) → f None ≡ None → (desk : DeskView) (slot : ℕ) →
-        stops_at (map f desk) slot ≡ f (place_of desk slot)
+        stops_at (map f desk) slot ≡ f (slot_walk desk slot)
     shown_at f empty [] slot = sym empty
     shown_at f empty (place ∷ desk) zero = refl
     shown_at f empty (place ∷ desk) (suc slot) = shown_at f empty desk slot
 
 pub is_some-stops_at : (desk : DeskView) (slot : ℕ) → is_some (stops_at (held_of desk) slot) ≡ is_held_in desk slot
-is_some-stops_at desk slot = ap is_some (stops_at-held desk slot) ∙ is_some-map (place_of desk slot)
+is_some-stops_at desk slot = ap is_some (stops_at-held desk slot) ∙ is_some-map (slot_walk desk slot)
   where
     is_some-map : (place : Option (List Stop × ℕ)) → is_some (option_map (λ walk. walk.0) place) ≡ is_some place
     is_some-map None = refl
@@ -111,10 +111,10 @@ module _ (before between : DeskView) (slot start here : ℕ) (draws : Draws befo
     | inl below ↦ omega (
       arith,
       draws.cost,
-      budget_of-set before slot (place_of between slot) below,
+      budget_of-set before slot (slot_walk between slot) below,
       ap budget_of draws.others,
     )
     | inr beyond ↦
-        let same : between ≡ before = draws.others ∙ set_beyond before slot (place_of between slot) beyond in
+        let same : between ≡ before = draws.others ∙ set_beyond before slot (slot_walk between slot) beyond in
         omega (arith, draws.cost, ap budget_of same, ap (λ desk. budget_in desk slot) same)
   ]

@@ -11,11 +11,11 @@ use Rattle.track_types.specs.ByFilter.{path_of}
 use Rattle.track_types.specs.declared.question.Question.{Question}
 use Rattle.track_types.specs.declared.question.Question.TheVariants as question
 use Rattle.track_types.specs.declared.stop.Stop.{Stop}
-use Rattle.question_shell.specs.Desk.{DeskView, Draws, budget_of, held_of, is_held_in, place_of, stops_in}
-use Rattle.question_shell.specs.Drawing.{Gives, IsAnswer, IsOfDesk, desk_left, items_left, reads_left, refusal_left}
+use Rattle.question_shell.specs.Desk.{DeskView, Draws, budget_of, held_of, is_held_in, slot_walk, slot_stops}
+use Rattle.question_shell.specs.Drawing.{GivesItems, IsAnswer, IsOfDesk, desk_left, items_left, reads_left, refusal_left}
 use Rattle.question_shell.specs.Items.{items_of, line_of, stops_at}
 use Rattle.question_shell.specs.Reply.{hold_cost, last_line, listed, refusal_of}
-use Rattle.question_shell.specs.Says.{Cuts, PutTold, Says, Voice, voice}
+use Rattle.question_shell.specs.Says.{Cuts, Puts, Says, Voice, voice}
 use Rattle.question_shell.specs.Session.{Meaning}
 use Rattle.question_shell.specs.Turns.{Takes, TakesFront, moment}
 use Rattle.question_shell.specs.declared.answer.Answer.{Answer}
@@ -28,15 +28,15 @@ use Rattle.question_shell.proofs.SaysLemmas.{cuts-append, cuts-more, says-append
 module _ {W : Type 0} {left : W → List Stop} {budget : W → ℕ} where
   -- nothing was drawn yet
   pub gives-nothing : (now : Answer W) (desk : DeskView) (steps : ℕ) → IsOfDesk now →
-      Gives left budget now now desk desk steps steps []
+      GivesItems left budget now now desk desk steps steps []
   gives-nothing now desk steps slot =
       record { slot = slot; items = refl; refusal = refl; held = refl; reads = omega arith }
 
   -- more was drawn
   pub gives-more : {first between now : Answer W} {desk here after : DeskView} {start middle end : ℕ}
-      {done found : List Item} → Gives left budget first between desk here start middle done →
-      Gives left budget between now here after middle end found →
-      Gives left budget first now desk after start end (done ++ found)
+      {done found : List Item} → GivesItems left budget first between desk here start middle done →
+      GivesItems left budget between now here after middle end found →
+      GivesItems left budget first now desk after start end (done ++ found)
   gives-more {now = now} {after = after} {done = done} {found = found} gives more = record {
     slot = more.slot;
     items = gives.items
@@ -102,8 +102,8 @@ module _ (start between : Voice) (done : List Item) (found : Item) (line : List 
 -- the last line, where no item is left
 pub told-last : {T E : Type 0} (start between now : Voice) (done items rest : List Item) (refusal : Option (List ℕ))
     (line : List ℕ) (result : Result T E) → items ≡ done ++ rest → rest ≡ [] → line ≡ last_line refusal (length done) →
-    Says start between (flat_map line_of done) → PutTold between now line result →
-    PutTold start now (listed items refusal) result
+    Says start between (flat_map line_of done) → Puts between now line result →
+    Puts start now (listed items refusal) result
 unfolding listed
 told-last start between now done items rest refusal line result cut none is =
     let all : items ≡ done = cut ∙ (ap (λ rest. done ++ rest) none ∙ append-nil done) in
@@ -113,16 +113,16 @@ told-last start between now done items rest refusal line result cut none is =
 -- what is left in a slot after so many were drawn
 module _ (desk : DeskView) (slot : ℕ) where
   pub dropped : (count : ℕ) → option_map (drop count) (stops_at (held_of desk) slot)
-      ≡ (if is_held_in desk slot then Some (drop count (stops_in desk slot)) else None)
-  dropped count = ap (option_map (drop count)) (stops_at-held desk slot) ∙ by_place (place_of desk slot)
+      ≡ (if is_held_in desk slot then Some (drop count (slot_stops desk slot)) else None)
+  dropped count = ap (option_map (drop count)) (stops_at-held desk slot) ∙ by_place (slot_walk desk slot)
     where
       by_place : (place : Option (List Stop × ℕ)) → option_map (drop count) (option_map (λ walk. walk.0) place)
           ≡ (if is_some place then Some (drop count (option_map_or (λ walk. walk.0) place [])) else None)
       by_place None = refl
       by_place (Some walk) = refl
 
-  pub kept : stops_at (held_of desk) slot ≡ (if is_held_in desk slot then Some (stops_in desk slot) else None)
-  kept = stops_at-held desk slot ∙ by_place (place_of desk slot)
+  pub kept : stops_at (held_of desk) slot ≡ (if is_held_in desk slot then Some (slot_stops desk slot) else None)
+  kept = stops_at-held desk slot ∙ by_place (slot_walk desk slot)
     where
       by_place : (place : Option (List Stop × ℕ)) → option_map (λ walk. walk.0) place
           ≡ (if is_some place then Some (option_map_or (λ walk. walk.0) place []) else None)
@@ -132,22 +132,22 @@ module _ (desk : DeskView) (slot : ℕ) where
 -- the desk and an answer that draws from a slot of it
 module _ {W : Type 0} (left : W → List Stop) (budget : W → ℕ) (desk : DeskView) (slot : ℕ) where
   pub held-drawn : (now : DeskView) (many few start end : ℕ) → Draws desk now slot start end →
-      drop few (stops_in now slot) ≡ drop many (stops_in desk slot) →
+      drop few (slot_stops now slot) ≡ drop many (slot_stops desk slot) →
       desk_left left budget (answer.More slot few) now ≡ desk_left left budget (answer.More slot many) desk
   held-drawn now many few start end draws same =
       let after = option_map (drop few) (stops_at (held_of now) slot) in
       let is : after ≡ option_map (drop many) (stops_at (held_of desk) slot) =
       dropped now slot few ∙ rw (draws.held, same) (sym (dropped desk slot many)) in
-      ap (λ held. set held slot after) (ap held_of draws.others ∙ held_of-set desk slot (place_of now slot))
-      ∙ (set-set (held_of desk) slot (option_map (λ walk. walk.0) (place_of now slot)) after
+      ap (λ held. set held slot after) (ap held_of draws.others ∙ held_of-set desk slot (slot_walk now slot))
+      ∙ (set-set (held_of desk) slot (option_map (λ walk. walk.0) (slot_walk now slot)) after
       ∙ ap (set (held_of desk) slot) is)
 
   -- nothing is left to draw
-  pub held-same : (count : ℕ) → take count (stops_in desk slot) ≡ [] →
+  pub held-same : (count : ℕ) → take count (slot_stops desk slot) ≡ [] →
       desk_left left budget (answer.More slot count) desk ≡ held_of desk
   held-same count none =
-      let all : drop count (stops_in desk slot) ≡ stops_in desk slot =
-      sym (ap (λ front. front ++ drop count (stops_in desk slot)) none) ∙ take-append-drop count (stops_in desk slot) in
+      let all : drop count (slot_stops desk slot) ≡ slot_stops desk slot =
+      sym (ap (λ front. front ++ drop count (slot_stops desk slot)) none) ∙ take-append-drop count (slot_stops desk slot) in
       let is : option_map (drop count) (stops_at (held_of desk) slot) ≡ stops_at (held_of desk) slot =
       dropped desk slot count ∙ rw all (sym (kept desk slot)) in
       ap (set (held_of desk) slot) is ∙ set-get_or (held_of desk) slot None
@@ -155,12 +155,12 @@ module _ {W : Type 0} (left : W → List Stop) (budget : W → ℕ) (desk : Desk
 -- stops of a slot were drawn
 pub gives-drawn : {W : Type 0} (left : W → List Stop) (budget : W → ℕ) (desk now : DeskView)
     (slot many few start end : ℕ) (found : List Stop) → slot < 16 → Draws desk now slot start end →
-    drop few (stops_in now slot) ≡ drop many (stops_in desk slot) →
-    take many (stops_in desk slot) ≡ found ++ take few (stops_in now slot) →
-    Gives left budget (answer.More slot many) (answer.More slot few) desk now start end (map item.Stop found)
+    drop few (slot_stops now slot) ≡ drop many (slot_stops desk slot) →
+    take many (slot_stops desk slot) ≡ found ++ take few (slot_stops now slot) →
+    GivesItems left budget (answer.More slot many) (answer.More slot few) desk now start end (map item.Stop found)
 gives-drawn left budget desk now slot many few start end found below draws same cut = record {
   slot = below;
-  items = ap (map item.Stop) cut ∙ map-append item.Stop found (take few (stops_in now slot));
+  items = ap (map item.Stop) cut ∙ map-append item.Stop found (take few (slot_stops now slot));
   refusal = refl;
   held = held-drawn left budget desk slot now many few start end draws same;
   reads = omega (arith, draws-due desk now slot start end draws);
@@ -193,7 +193,7 @@ module _ {W : Type 0} (left : W → List Stop) (budget : W → ℕ) (meaning : M
     }
 
     -- a held one is emptied
-    pub answer-freed : (walk : List Stop × ℕ) (now : DeskView) → place_of desk slot ≡ Some walk →
+    pub answer-freed : (walk : List Stop × ℕ) (now : DeskView) → slot_walk desk slot ≡ Some walk →
         now ≡ set desk slot None →
         IsAnswer left budget meaning (question.Free slot) desk steps answer.Done now steps
     answer-freed walk now place is = record {
@@ -206,7 +206,7 @@ module _ {W : Type 0} (left : W → List Stop) (budget : W → ℕ) (meaning : M
     }
 
     -- an empty one is not
-    pub answer-empty : (now : DeskView) → place_of desk slot ≡ None → now ≡ set desk slot None →
+    pub answer-empty : (now : DeskView) → slot_walk desk slot ≡ None → now ≡ set desk slot None →
         IsAnswer left budget meaning (question.Free slot) desk steps answer.Free now steps
     answer-empty now place is =
         let same : now ≡ desk = is ∙ (ap (set desk slot) (sym place) ∙ set-get_or desk slot None) in

@@ -11,22 +11,22 @@ use Rattle.track_types.specs.declared.region.Region.TheVariants as region
 use Rattle.question_shell.specs.Grammar.{question_of}
 use Rattle.track_types.specs.declared.shape.Shape.TheVariants as shape
 use Rattle.question_shell.specs.RegionWords.{shapes_fault, shapes_of}
-use Rattle.question_shell.specs.Lines.{lines_of, unended_line, whole_lines, words_of}
+use Rattle.question_shell.specs.Lines.{input_lines, unended_line, whole_lines, words_of}
 use Rattle.question_shell.specs.Replies.{costs_of, desk_after, replies_of}
 use Rattle.question_shell.specs.Reply.{listed}
 use Rattle.question_shell.specs.Slots.{replies_to_each, replies_to_slot}
 use Rattle.question_shell.specs.declared.bad.Bad.TheVariants as bad
 
 -- lines: an empty one counts, a last one counts where it has a byte
-three_lines : lines_of (codes "a\n\nb") ≡ codes "a" ∷ [] ∷ codes "b" ∷ []
+three_lines : input_lines (codes "a\n\nb") ≡ codes "a" ∷ [] ∷ codes "b" ∷ []
 unfolding whole_lines unended_line
 three_lines = refl
 
-two_lines : lines_of (codes "a\n\n") ≡ codes "a" ∷ [] ∷ []
+two_lines : input_lines (codes "a\n\n") ≡ codes "a" ∷ [] ∷ []
 unfolding whole_lines unended_line
 two_lines = refl
 
-no_line : lines_of [] ≡ []
+no_line : input_lines [] ≡ []
 unfolding whole_lines unended_line
 no_line = refl
 
@@ -187,13 +187,13 @@ chart = record {
 
 replies_to_lines : (facts : Facts) →
     replies_of chart facts []
-    (lines_of (codes "position 7 0\n\nposition 7 1\nwhere\npath 7 0 2\npath 8 0 2\nposition x 1"))
+    (input_lines (codes "position 7 0\n\nposition 7 1\nwhere\npath 7 0 2\npath 8 0 2\nposition x 1"))
     ≡ codes "10 -10\nok 1\nok 0\nbad word\n0 10 -10\n2 12 11\nok 2\nok 0\nbad number 2\n"
 unfolding chart digits replies_of listed whole_lines unended_line
 replies_to_lines facts = refl
 
 replies_to_regions : (facts : Facts) →
-    replies_of chart facts [] (lines_of
+    replies_of chart facts [] (input_lines
     (codes "slice 2 rect 10 10 12 12\nslice 1 rect 0 0 99 99\ninterval 0 2 disc 10 -10 99\nnearest 2 0 7 -6\n"))
     ≡ codes "7 12 11\nok 1\nok 0\n7 0 10 -10\nok 1\n7 10 -10 25\nok 1\n"
 unfolding
@@ -220,7 +220,7 @@ meeting_chart = record {
 }
 
 replies_to_meetings : (facts : Facts) →
-    replies_of meeting_chart facts [] (lines_of
+    replies_of meeting_chart facts [] (input_lines
     (codes "meet 1 2 0 9 3\nmeet 1 2 0 9 2\nmeet 1 2 0 1 3\nmeet 1 9 0 9 3\nmeet 1 1 1 9 0\nmeet 2 1 3 3 0\n"))
     ≡ codes "2 2 0 5 0\nok 1\n3 2 0 2 0\nok 1\nok 0\nok 0\n1 1 0 1 0\nok 1\n3 2 0 2 0\nok 1\n"
 unfolding
@@ -243,7 +243,7 @@ facts_of_two = record {
   depth = 0;
 }
 
-reply_to_info : replies_of chart facts_of_two [] (lines_of (codes "info"))
+reply_to_info : replies_of chart facts_of_two [] (input_lines (codes "info"))
     ≡ codes "objects 2\nfirst 0\nlast 3\nperiod 4\ncell 1\ntick 1\nheight 2\nalphabet 2\nrules 0\nlog 3\ndepth 0\nok 11\n"
 unfolding facts_of_two digits replies_of listed whole_lines unended_line
 reply_to_info = refl
@@ -263,7 +263,7 @@ path_chart = record {
 
 -- a slot stays held when its walk has ended, until it is freed
 replies_to_cursor : (facts : Facts) →
-    replies_of path_chart facts (replicate 16 None) (lines_of
+    replies_of path_chart facts (replicate 16 None) (input_lines
     (codes "hold 0 7 0 2\nhold 0 7 0 2\nmore 0 0\nmore 0 9\nmore 0 9\nfree 0\nhold 0 8 0 2\nmore 0 1\n"))
     ≡ codes "ok 0\nbad held\nok 0\n0 10 10\n1 11 10\n2 12 11\nok 3\nok 0\nok 0\nok 0\nok 0\n"
 unfolding path_chart digits replies_of listed whole_lines unended_line
@@ -271,7 +271,7 @@ replies_to_cursor facts = refl
 
 -- walks in two slots, drawn from in turn
 two_cursors : List (List ℕ)
-two_cursors = lines_of
+two_cursors = input_lines
     (codes "hold 0 7 0 2\nhold 15 7 1 2\nmore 0 1\nmore 15 5\nmore 0 5\nmore 0 1\nhold 15 7 0 0\nfree 3\nfree 15\nmore 15 1\n")
 
 replies_to_two_cursors : (facts : Facts) →
@@ -289,14 +289,14 @@ replies_to_last_slot facts = refl
 
 replies_to_last_slot_alone : (facts : Facts) →
     replies_to_each path_chart facts (replicate 16 None)
-    (lines_of (codes "hold 15 7 1 2\nmore 15 5\nhold 15 7 0 0\nfree 15\nmore 15 1\n"))
+    (input_lines (codes "hold 15 7 1 2\nmore 15 5\nhold 15 7 0 0\nfree 15\nmore 15 1\n"))
     ≡ codes "ok 0\n" ∷ codes "1 11 10\n2 12 11\nok 2\n" ∷ codes "bad held\n" ∷ codes "ok 0\n" ∷ codes "bad free\n" ∷ []
 unfolding path_chart digits replies_to_each listed whole_lines unended_line
 replies_to_last_slot_alone facts = refl
 
 -- the desk after lines: what is left of a walk in slot 0, and nothing in slot 1
 desk_after_lines : (facts : Facts) →
-    desk_after path_chart facts (replicate 2 None) (lines_of (codes "hold 0 7 0 2\nhold 1 7 0 2\nmore 0 2\nfree 1\n"))
+    desk_after path_chart facts (replicate 2 None) (input_lines (codes "hold 0 7 0 2\nhold 1 7 0 2\nmore 0 2\nfree 1\n"))
     ≡ Some (record { instant = pos 2; cell = record { x = pos 12; y = pos 11 } } ∷ []) ∷ None ∷ []
 unfolding path_chart desk_after listed whole_lines unended_line
 desk_after_lines facts = refl
@@ -304,13 +304,13 @@ desk_after_lines facts = refl
 -- holding costs what its path may cost, unless the slot is held; drawing and freeing cost nothing more
 costs_of_cursors : (facts : Facts) →
     costs_of (λ asked. 5) path_chart facts (replicate 16 None)
-    (lines_of (codes "hold 0 7 0 2\nhold 0 7 0 2\nmore 0 3\nfree 0\nhold 0 7 0 2\n"))
+    (input_lines (codes "hold 0 7 0 2\nhold 0 7 0 2\nmore 0 3\nfree 0\nhold 0 7 0 2\n"))
     ≡ 10
 unfolding path_chart costs_of listed whole_lines unended_line
 costs_of_cursors facts = refl
 
 -- a bad and a blank line cost nothing, and `info` neither
 costs_of_lines : (facts : Facts) →
-    costs_of (λ asked. 5) chart facts [] (lines_of (codes "position 7 0\n\nwhere\ninfo\npath 7 0 2\n")) ≡ 10
+    costs_of (λ asked. 5) chart facts [] (input_lines (codes "position 7 0\n\nwhere\ninfo\npath 7 0 2\n")) ≡ 10
 unfolding costs_of whole_lines unended_line
 costs_of_lines facts = refl

@@ -17,7 +17,7 @@ use Rattle.track_types.specs.declared.region.Region.{Region}
 use Rattle.track_types.proofs.RegionLemmas.{is_between-bounds}
 use Rattle.std.proofs.lemmas.Int.{ints}
 use Rattle.question_shell.specs.Grammar.{about, laid_question}
-use Rattle.question_shell.specs.NumberWords.{NumberWord, fault_or, first_fault, number_fault, number_of, numbers_of}
+use Rattle.question_shell.specs.NumberWords.{NumberWord, fault_or, first_fault, number_fault, word_number, numbers_of}
 use Rattle.question_shell.specs.NumberWords.{shapes_word, value_of, word_fault}
 use Rattle.question_shell.specs.RegionWords.{IsLayout, and_then, any_counted, any_layout, before_shapes, fault_after}
 use Rattle.question_shell.specs.RegionWords.{kind_of, kind_words, layout_of, region_of, shape_at, shape_of, shape_size}
@@ -55,7 +55,7 @@ numbers-front [] size words room = refl
 numbers-front (bounds ∷ wanted) zero words room = absurd (omega (arith, room))
 numbers-front (bounds ∷ wanted) (suc size) [] room = refl
 numbers-front (bounds ∷ wanted) (suc size) (word ∷ words) room =
-    ap (λ numbers. number_of word ∷ numbers) (numbers-front wanted size words (omega (arith, room)))
+    ap (λ numbers. word_number word ∷ numbers) (numbers-front wanted size words (omega (arith, room)))
 
 few_numbers : (kind : Kind) → length (kind_words kind) ≤ 4
 few_numbers Rect = omega arith
@@ -158,7 +158,7 @@ shapes_of-front (suc count) place size words room =
 
 -- the number of shapes is 1 to 16
 count-few : (place : ℕ) (word : List ℕ) → word_fault shapes_word place word ≡ None →
-    (1 ≤ unsigned_abs (number_of word)) × (unsigned_abs (number_of word) ≤ 16)
+    (1 ≤ unsigned_abs (word_number word)) × (unsigned_abs (word_number word) ≤ 16)
 count-few place word none = by_numeral (numeral_of word) none
   where
     by_test : (value : ℤ) (inside : Bool) → is_between (pos 1) (pos 16) value ≡ inside →
@@ -183,10 +183,10 @@ layout-few place [] layout is = cc
 layout-few place (name ∷ words) layout is = by_name (bytes_eq name (codes "any")) is
   where
     by_count : (count : List ℕ) (rest : List (List ℕ)) (fault : Option Bad) → word_fault shapes_word (place + 1) count ≡ fault →
-        any_counted fault (unsigned_abs (number_of count)) rest ≡ Ok layout → IsLayout layout
+        any_counted fault (unsigned_abs (word_number count)) rest ≡ Ok layout → IsLayout layout
     by_count count rest (Some fault) found is = cc
     by_count count rest None found is =
-        subst IsLayout (unless-is (shapes_fault (unsigned_abs (number_of count)) rest) (Any (unsigned_abs (number_of count))) layout is)
+        subst IsLayout (unless-is (shapes_fault (unsigned_abs (word_number count)) rest) (Any (unsigned_abs (word_number count))) layout is)
         (count-few (place + 1) count found)
 
     by_any : (words : List (List ℕ)) → any_layout (place + 1) words ≡ Ok layout → IsLayout layout
@@ -212,7 +212,7 @@ module _ (more : ℕ) (room : 80 < more) where
 
       by_any : (words : List (List ℕ)) → any_layout (place + 1) (take (suc more) words) ≡ any_layout (place + 1) words
       by_any [] = refl
-      by_any (count ∷ rest) = by_count (unsigned_abs (number_of count)) rest (word_fault shapes_word (place + 1) count)
+      by_any (count ∷ rest) = by_count (unsigned_abs (word_number count)) rest (word_fault shapes_word (place + 1) count)
           (λ none. (count-few (place + 1) count none).1)
 
       one : shapes_fault 1 (name ∷ take (suc more) words) ≡ shapes_fault 1 (name ∷ words)

@@ -6,7 +6,7 @@ use Rattle.track_types.specs.Bounds.{number_within, value_within}
 use Rattle.track_types.specs.Numeral.{numeral_of}
 use Rattle.track_types.specs.declared.numeral.Numeral.{Numeral}
 use Rattle.track_types.specs.declared.numeral.Numeral.TheVariants.{Value, Large, Not}
-use Rattle.question_shell.specs.NumberWords.{first_fault, number_of, value_of}
+use Rattle.question_shell.specs.NumberWords.{first_fault, word_number, value_of}
 use Rattle.question_shell.specs.Lines.{texts}
 use Rattle.question_shell.specs.Grammar.{form_of, form_question, form_words, question_in, some_question}
 use Rattle.question_shell.specs.Grammar.{worded_question}
@@ -58,13 +58,13 @@ texts-four (a ∷ b ∷ c ∷ d ∷ words) none count = refl
 slice-kept : (words : List (List ℕ)) → form_question Slice (take 85 words) ≡ form_question Slice words
 slice-kept [] = refl
 slice-kept (instant ∷ words) = laid-front 82 (omega arith) (first_fault (form_words Slice) 2 (instant ∷ []))
-    (question.Slice (number_of instant)) 3 words
+    (question.Slice (word_number instant)) 3 words
 
 interval-kept : (words : List (List ℕ)) → form_question Interval (take 85 words) ≡ form_question Interval words
 interval-kept [] = refl
 interval-kept (from ∷ []) = refl
 interval-kept (from ∷ to ∷ words) = laid-front 81 (omega arith) (first_fault (form_words Interval) 2 (from ∷ to ∷ []))
-    (question.Interval (number_of from) (number_of to)) 4 words
+    (question.Interval (word_number from) (word_number to)) 4 words
 
 -- a question without a region has fewer words than are kept
 module _ (words : List (List ℕ)) (long : 85 < length words) where

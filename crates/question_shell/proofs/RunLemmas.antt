@@ -7,10 +7,10 @@ use Rattle.track_types.specs.Limits.{limit_of}
 use Rattle.track_types.specs.declared.limit.LimitKind.TheVariants.{Questions}
 use Rattle.question_shell.specs.Desk.{held_of}
 use Rattle.question_shell.specs.LineKept.{LineKept}
-use Rattle.question_shell.specs.Lines.{lines_of, unended_line, whole_lines}
+use Rattle.question_shell.specs.Lines.{input_lines, unended_line, whole_lines}
 use Rattle.question_shell.specs.Session.{AnswersAll, AnswersBefore, AnswersFirst, AnswersFront, AnswersToPiece}
 use Rattle.question_shell.specs.Session.{AnswersWhole, AreTaken, Came, Meaning, Run}
-use Rattle.question_shell.specs.Turns.{BytesTold, Heard, LinesTold, Moment, MoreTold, Turns, TurnsFront, moment}
+use Rattle.question_shell.specs.Turns.{BytesTold, Heard, AnswersLines, Moment, AnswersBytes, Turns, TurnsFront, moment}
 use Rattle.question_shell.specs.declared.turn_fault.TurnFault.{TurnFault}
 use Rattle.question_shell.specs.declared.turn_fault.TurnFault.TheVariants as fault
 use Rattle.question_shell.proofs.SlotLemmas.{slots-independent}
@@ -23,7 +23,7 @@ moment_of here = moment here.said [] here.desk here.steps
 
 -- what is told of bytes is told of their whole lines
 pub told-whole : (meaning : Meaning) (start now : Moment) (all : List ℕ) (line : LineKept) (refused : TurnFault) →
-    BytesTold meaning start now all line (Err refused) → LinesTold meaning start now (whole_lines all) (Err refused)
+    BytesTold meaning start now all line (Err refused) → AnswersLines meaning start now (whole_lines all) (Err refused)
 told-whole meaning start now all line fault.Say told = told
 told-whole meaning start now all line fault.Memory told = told
 
@@ -31,7 +31,7 @@ told-whole meaning start now all line fault.Memory told = told
 pub refused-first : (meaning : Meaning) (start now : Moment) (first all : List ℕ) (line : LineKept)
     (refused : TurnFault) →
     take (limit_of Questions) all ≡ first → BytesTold meaning start now first line (Err refused) →
-    LinesTold meaning start now (whole_lines all) (Err refused)
+    AnswersLines meaning start now (whole_lines all) (Err refused)
 refused-first meaning start now first all line refused is_first told =
     let P : List ℕ → Type 0 = λ input. BytesTold meaning start now input line (Err refused) in
     let whole = ap (λ text. text ++ drop (limit_of Questions) all) (sym is_first)
@@ -41,7 +41,7 @@ refused-first meaning start now first all line refused is_first told =
 
 -- where the sink failed, a front of the replies was said
 front-say : (meaning : Meaning) (start now : Moment) (lines : List (List ℕ)) (refused : TurnFault) →
-    LinesTold meaning start now lines (Err refused) → refused ≡ fault.Say → TurnsFront meaning start now lines
+    AnswersLines meaning start now lines (Err refused) → refused ≡ fault.Say → TurnsFront meaning start now lines
 front-say meaning start now lines fault.Say told is = told
 front-say meaning start now lines fault.Memory told is = absurd (cc)
 
@@ -49,7 +49,7 @@ front-say meaning start now lines fault.Memory told is = absurd (cc)
 pub last-piece : (meaning : Meaning) (before between now : Run) (bytes front piece : List ℕ) (line : LineKept)
     (lines : List (List ℕ)) (refused : TurnFault) → bytes ≡ front ++ piece → length piece ≤ 4096 →
     Heard meaning (moment_of before) (moment_of between) front line →
-    LinesTold meaning (moment_of between) (moment_of now) lines (Err refused) → refused ≡ fault.Say →
+    AnswersLines meaning (moment_of between) (moment_of now) lines (Err refused) → refused ≡ fault.Say →
     AnswersToPiece meaning before now bytes
 last-piece meaning before between now bytes front piece line lines refused split short heard told is =
     let turns = front-say meaning (moment_of between) (moment_of now) lines refused told is in
@@ -66,7 +66,7 @@ last-piece meaning before between now bytes front piece line lines refused split
 
 module _ (meaning : Meaning) (before now : Run) (bytes : List ℕ) (came : Came before now bytes)
     (within : length bytes ≤ limit_of Questions + 1) (lines : List (List ℕ)) (taken : AreTaken now.rest bytes lines)
-    (refused : TurnFault) (told : LinesTold meaning (moment_of before) (moment_of now) lines (Err refused))
+    (refused : TurnFault) (told : AnswersLines meaning (moment_of before) (moment_of now) lines (Err refused))
   where
     -- the sink failed
     pub answers-front : refused ≡ fault.Say → AnswersToPiece meaning before now bytes → AnswersFront meaning before now
@@ -89,7 +89,7 @@ module _ (meaning : Meaning) (before now : Run) (bytes : List ℕ) (came : Came 
     -- memory was refused
     pub answers-before : refused ≡ fault.Memory → AnswersBefore meaning before now
     answers-before is =
-        let P : TurnFault → Type 0 = λ fault. LinesTold meaning (moment_of before) (moment_of now) lines (Err fault) in
+        let P : TurnFault → Type 0 = λ fault. AnswersLines meaning (moment_of before) (moment_of now) lines (Err fault) in
         let stopped = subst P is told in
         record {
           bytes = bytes;
@@ -161,41 +161,41 @@ module _ {meaning : Meaning} {before here now : Run} {line : LineKept} (stands :
     came-here = came-end before here now stands.bytes ends.piece ends.nothing stands.came ends.consumed ends.taken
 
     pub answers-all : ((start : Moment) (came : List ℕ) → Heard meaning start (moment_of here) came line →
-        Turns meaning start (moment_of now) (lines_of came)) → AnswersAll meaning before now
+        Turns meaning start (moment_of now) (input_lines came)) → AnswersAll meaning before now
     answers-all told = record {
       bytes = stands.bytes;
       came = came-here;
       at_end = ends.at_end;
       within = stands.short;
       answers = answers-turns meaning before.rest now.rest before.said now.said before.taken now.taken before.steps
-          now.steps before.desk now.desk (lines_of stands.bytes) (told (moment_of before) stands.bytes stands.heard);
+          now.steps before.desk now.desk (input_lines stands.bytes) (told (moment_of before) stands.bytes stands.heard);
     }
 
     module _ (refused : TurnFault)
         (told : (start : Moment) (came : List ℕ) → Heard meaning start (moment_of here) came line →
-        LinesTold meaning start (moment_of now) (lines_of came) (Err refused))
+        AnswersLines meaning start (moment_of now) (input_lines came) (Err refused))
       where
         pub front-end : refused ≡ fault.Say → AnswersFront meaning before now
         front-end say =
             let again = heard-again meaning (moment_of before) (moment_of here) stands.bytes line stands.heard in
             let last = last-piece meaning before here now stands.bytes stands.bytes [] line _ refused (sym (append-nil stands.bytes))
             (omega arith) stands.heard (told (moment_of here) (unended_line stands.bytes) again) say in
-            answers-front meaning before now stands.bytes came-here (omega (arith, stands.short)) (lines_of stands.bytes)
+            answers-front meaning before now stands.bytes came-here (omega (arith, stands.short)) (input_lines stands.bytes)
             (inr (ends.at_end, refl)) refused (told (moment_of before) stands.bytes stands.heard) say last
 
         pub before-end : refused ≡ fault.Memory → AnswersBefore meaning before now
         before-end memory =
-            answers-before meaning before now stands.bytes came-here (omega (arith, stands.short)) (lines_of stands.bytes)
+            answers-before meaning before now stands.bytes came-here (omega (arith, stands.short)) (input_lines stands.bytes)
             (inr (ends.at_end, refl)) refused (told (moment_of before) stands.bytes stands.heard) memory
 
   -- a piece more came, and was answered as far as it may be
   module _ {piece counted : List ℕ} (brings : Brings stands.bytes here now piece counted) (new : LineKept) (refused : TurnFault)
-      (told : MoreTold meaning (moment_of here) line counted (moment_of now) new (Err refused))
+      (told : AnswersBytes meaning (moment_of here) line counted (moment_of now) new (Err refused))
     where
       came-piece : Came before now (stands.bytes ++ piece)
       came-piece = came-more before here now stands.bytes piece stands.came brings.consumed brings.taken
 
-      told-piece : LinesTold meaning (moment_of before) (moment_of now) (whole_lines (stands.bytes ++ piece)) (Err refused)
+      told-piece : AnswersLines meaning (moment_of before) (moment_of now) (whole_lines (stands.bytes ++ piece)) (Err refused)
       told-piece =
           refused-first meaning (moment_of before) (moment_of now) (stands.bytes ++ counted) (stands.bytes ++ piece) new refused
           brings.front (told (moment_of before) stands.bytes stands.heard)

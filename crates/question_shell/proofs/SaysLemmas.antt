@@ -3,7 +3,7 @@ use Rattle.std.proofs.Common.{◌≡◌, ℕ, List, [], ◌++◌, refl, sym, ap,
 use Rattle.std.proofs.Common.{take, drop, subst, Result, Ok, Err, OnErr}
 use Rattle.std.proofs.lemmas.List.{take-append-drop}
 use Rattle.std.specs.Io.KnownBytes.{Appends}
-use Rattle.question_shell.specs.Says.{Cuts, PutTold, Says, Voice, voice}
+use Rattle.question_shell.specs.Says.{Cuts, Puts, Says, Voice, voice}
 
 -- a text said after another
 pub Appends-append : (before between now : Option (List ℕ)) (first second : List ℕ) →
@@ -93,7 +93,7 @@ on_err_always (Err fault) fact = fact
 
 -- what a call put, in other words and after another text
 pub told-after : {T E : Type 0} (before between now : Voice) (first line text : List ℕ) (result : Result T E) →
-    first ++ line ≡ text → Says before between first → PutTold between now line result → PutTold before now text result
+    first ++ line ≡ text → Says before between first → Puts between now line result → Puts before now text result
 told-after before between now first line text (Ok value) whole says told =
     subst (λ (all : List ℕ). Says before now all) whole (says-append before between now first line says told)
 told-after before between now first line text (Err fault) whole says told =

@@ -14,10 +14,10 @@ use Rattle.track_types.specs.declared.limit.LimitKind.TheVariants.{Questions}
 use Rattle.question_shell.specs.Desk.{DeskView, held_of}
 use Rattle.question_shell.specs.Grammar.{question_of}
 use Rattle.question_shell.specs.LineKept.{LineKept, kept_of}
-use Rattle.question_shell.specs.Lines.{if_any, is_line_feed, lines_of, unended_line, whole_lines}
+use Rattle.question_shell.specs.Lines.{if_any, is_line_feed, input_lines, unended_line, whole_lines}
 use Rattle.question_shell.specs.Says.{Cuts, voice}
 use Rattle.question_shell.specs.Session.{Answers, Came, Meaning, Run, replies_by, run_of}
-use Rattle.question_shell.specs.Turns.{AnswerTold, BytesTold, Heard, LinesTold, Moment, RestTold, Turns}
+use Rattle.question_shell.specs.Turns.{AnswerTold, BytesTold, Heard, AnswersLines, Moment, Flushes, Turns}
 use Rattle.question_shell.specs.Turns.{TurnsBefore, TurnsFront, moment}
 use Rattle.question_shell.specs.declared.turn_fault.TurnFault.{TurnFault}
 use Rattle.question_shell.specs.declared.turn_fault.TurnFault.TheVariants as fault
@@ -148,12 +148,12 @@ module _ (meaning : Meaning) (start : Moment) where
   -- a last line that no line feed ends, and what is told of its answer; where it has no byte, it asks nothing
   pub told-end : (between now : Moment) (came : List ℕ) (line : LineKept) (result : Result Unit TurnFault) →
       AnswerTold meaning between now (question_of (unended_line came)) result →
-      Heard meaning start between came line → LinesTold meaning start now (lines_of came) result
+      Heard meaning start between came line → AnswersLines meaning start now (input_lines came) result
   told-end between now came line result told heard = by_line (unended_line came) result told
     where
       by_line : (last : List ℕ) (result : Result Unit TurnFault) →
           AnswerTold meaning between now (question_of last) result →
-          LinesTold meaning start now (whole_lines came ++ if_any last) result
+          AnswersLines meaning start now (whole_lines came ++ if_any last) result
       by_line [] (Ok done) told =
           rw (append-nil (whole_lines came))
           (turns-say meaning start between now (whole_lines came) heard.turns told.said told.desk
@@ -174,8 +174,8 @@ module _ (meaning : Meaning) (start : Moment) where
   -- what is told of lines, after what was held back was said too
   pub rest-lines : (between : Moment) (now : Option (List ℕ)) (lines : List (List ℕ))
       (answered result : Result Unit TurnFault) →
-      LinesTold meaning start between lines answered → RestTold between.voice now answered result →
-      LinesTold meaning start (record between { voice = voice now [] }) lines result
+      AnswersLines meaning start between lines answered → Flushes between.voice now answered result →
+      AnswersLines meaning start (record between { voice = voice now [] }) lines result
   rest-lines between now lines (Ok done) (Ok still) told rest =
       turns-say meaning start between (record between { voice = voice now [] }) lines told rest refl (omega arith)
   rest-lines between now lines (Ok done) (Err fault.Say) told rest =
@@ -194,7 +194,7 @@ module _ (meaning : Meaning) (start : Moment) where
 
   pub rest-bytes : (between : Moment) (now : Option (List ℕ)) (came : List ℕ) (line : LineKept)
       (answered result : Result Unit TurnFault) → BytesTold meaning start between came line answered →
-      RestTold between.voice now answered result →
+      Flushes between.voice now answered result →
       BytesTold meaning start (record between { voice = voice now [] }) came line result
   rest-bytes between now came line (Ok done) (Ok still) told rest = record {
     turns = rest-lines between now (whole_lines came) (Ok done) (Ok still) told.turns rest;

@@ -22,24 +22,24 @@ abbrev pub budget_of : DeskView → ℕ
 budget_of desk = sum_by (λ place. option_map_or (λ walk. walk.1) place 0) desk
 
 -- what a place holds; nothing where it is empty
-abbrev pub place_of : DeskView → ℕ → Option (List Stop × ℕ)
-place_of desk slot = slice_index_or desk slot None
+abbrev pub slot_walk : DeskView → ℕ → Option (List Stop × ℕ)
+slot_walk desk slot = slice_index_or desk slot None
 
 -- whether a place holds a walk
 abbrev pub is_held_in : DeskView → ℕ → Bool
-is_held_in desk slot = is_some (place_of desk slot)
+is_held_in desk slot = is_some (slot_walk desk slot)
 
 -- the stops that are left in a place; none where it is empty
-abbrev pub stops_in : DeskView → ℕ → List Stop
-stops_in desk slot = option_map_or (λ walk. walk.0) (place_of desk slot) []
+abbrev pub slot_stops : DeskView → ℕ → List Stop
+slot_stops desk slot = option_map_or (λ walk. walk.0) (slot_walk desk slot) []
 
 -- how many reads the walk in a place may still make; 0 where it is empty
 abbrev pub budget_in : DeskView → ℕ → ℕ
-budget_in desk slot = option_map_or (λ walk. walk.1) (place_of desk slot) 0
+budget_in desk slot = option_map_or (λ walk. walk.1) (slot_walk desk slot) 0
 
 -- Stops may have been drawn from the walk in a place: it is held if and only if it was, the other places stay, and what
 -- was read was taken from its budget.
 pub record Draws (before now : DeskView) (slot start end : ℕ) : Type 0 where
   pub held : is_held_in now slot ≡ is_held_in before slot
-  pub others : now ≡ slice_set before slot (place_of now slot)
+  pub others : now ≡ slice_set before slot (slot_walk now slot)
   pub cost : end + budget_in now slot ≤ start + budget_in before slot

@@ -3,7 +3,7 @@ use Rattle.std.specs.Prelude.{◌≡◌, ℕ, ◌+◌, ◌<◌, ◌≤◌, ◌^�
 use Rattle.std.specs.Prelude.{option_map, option_to_list, slice_set}
 use Rattle.track_types.specs.declared.question.Question.{Question}
 use Rattle.track_types.specs.declared.stop.Stop.{Stop}
-use Rattle.question_shell.specs.Desk.{DeskView, budget_of, held_of, stops_in}
+use Rattle.question_shell.specs.Desk.{DeskView, budget_of, held_of, slot_stops}
 use Rattle.question_shell.specs.Items.{items_of, stops_at}
 use Rattle.question_shell.specs.Reply.{asked_cost, desk_of, free_line, held_line, refusal_of}
 use Rattle.question_shell.specs.Session.{Meaning}
@@ -33,7 +33,7 @@ module _ {W : Type 0} (left : W → List Stop) (budget : W → ℕ) where
   items_left (answer.Nearest found) desk = map item.Near found
   items_left (answer.Meet found) desk = map item.Meeting (option_to_list found)
   items_left (answer.Info facts) desk = map item.Fact facts
-  items_left (answer.More slot count) desk = map item.Stop (take count (stops_in desk slot))
+  items_left (answer.More slot count) desk = map item.Stop (take count (slot_stops desk slot))
   items_left other desk = []
 
   -- what the desk will hold once they are drawn
@@ -48,7 +48,7 @@ module _ {W : Type 0} (left : W → List Stop) (budget : W → ℕ) where
   reads_left other desk = budget_of desk
 
   -- These items were drawn in between, and what was read is taken from what may be read.
-  pub record Gives (before now : Answer W) (desk after : DeskView) (start end : ℕ) (found : List Item) : Type 0 where
+  pub record GivesItems (before now : Answer W) (desk after : DeskView) (start end : ℕ) (found : List Item) : Type 0 where
     pub slot : IsOfDesk now
     pub items : items_left before desk ≡ found ++ items_left now after
     pub refusal : refusal_left now ≡ refusal_left before

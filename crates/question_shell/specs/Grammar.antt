@@ -8,7 +8,7 @@ use Rattle.track_types.specs.declared.question.Question.{Question}
 use Rattle.track_types.specs.declared.question.Question.TheVariants as question
 use Rattle.track_types.specs.declared.region.Region.{Region}
 use Rattle.question_shell.specs.Lines.{words_of}
-use Rattle.question_shell.specs.NumberWords.{NumberWord, first_fault, number_at, numbers_of, object_word}
+use Rattle.question_shell.specs.NumberWords.{NumberWord, first_fault, nth_number, numbers_of, object_word}
 use Rattle.question_shell.specs.NumberWords.{place_word, radius_word, slot_word}
 use Rattle.question_shell.specs.RegionWords.{layout_of, region_of, unless_bad}
 use Rattle.question_shell.specs.declared.bad.Bad.{Bad}
@@ -67,28 +67,28 @@ laid_question (Ok layout) None asks place words = about asks (region_of layout p
 -- what the words after a form's first ask
 abbrev pub form_question : Form → List (List ℕ) → Result Question Bad
 form_question Position words = plain_question Position
-    (λ numbers. question.Position (unsigned_abs (number_at numbers 0)) (number_at numbers 1)) words
+    (λ numbers. question.Position (unsigned_abs (nth_number numbers 0)) (nth_number numbers 1)) words
 form_question Path words = plain_question Path
-    (λ numbers. question.Path (unsigned_abs (number_at numbers 0)) (number_at numbers 1) (number_at numbers 2)) words
+    (λ numbers. question.Path (unsigned_abs (nth_number numbers 0)) (nth_number numbers 1) (nth_number numbers 2)) words
 form_question Slice words = laid_question (layout_of 3 (drop 1 words)) (first_fault (form_words Slice) 2 words)
-    (question.Slice (number_at (numbers_of (form_words Slice) words) 0)) 3 (drop 1 words)
+    (question.Slice (nth_number (numbers_of (form_words Slice) words) 0)) 3 (drop 1 words)
 form_question Interval words =
     let numbers = numbers_of (form_words Interval) words in
     laid_question (layout_of 4 (drop 2 words)) (first_fault (form_words Interval) 2 words)
-    (question.Interval (number_at numbers 0) (number_at numbers 1)) 4 (drop 2 words)
+    (question.Interval (nth_number numbers 0) (nth_number numbers 1)) 4 (drop 2 words)
 form_question Nearest words = plain_question Nearest
-    (λ numbers. question.Nearest (unsigned_abs (number_at numbers 0)) (number_at numbers 1)
-    (record { x = number_at numbers 2; y = number_at numbers 3 })) words
+    (λ numbers. question.Nearest (unsigned_abs (nth_number numbers 0)) (nth_number numbers 1)
+    (record { x = nth_number numbers 2; y = nth_number numbers 3 })) words
 form_question Meet words = plain_question Meet
-    (λ numbers. question.Meet (unsigned_abs (number_at numbers 0)) (unsigned_abs (number_at numbers 1))
-    (number_at numbers 2) (number_at numbers 3) (unsigned_abs (number_at numbers 4))) words
+    (λ numbers. question.Meet (unsigned_abs (nth_number numbers 0)) (unsigned_abs (nth_number numbers 1))
+    (nth_number numbers 2) (nth_number numbers 3) (unsigned_abs (nth_number numbers 4))) words
 form_question Info words = plain_question Info (λ numbers. question.Info) words
 form_question Hold words = plain_question Hold
-    (λ numbers. question.Hold (unsigned_abs (number_at numbers 0)) (unsigned_abs (number_at numbers 1))
-    (number_at numbers 2) (number_at numbers 3)) words
+    (λ numbers. question.Hold (unsigned_abs (nth_number numbers 0)) (unsigned_abs (nth_number numbers 1))
+    (nth_number numbers 2) (nth_number numbers 3)) words
 form_question More words = plain_question More
-    (λ numbers. question.More (unsigned_abs (number_at numbers 0)) (unsigned_abs (number_at numbers 1))) words
-form_question Free words = plain_question Free (λ numbers. question.Free (unsigned_abs (number_at numbers 0))) words
+    (λ numbers. question.More (unsigned_abs (nth_number numbers 0)) (unsigned_abs (nth_number numbers 1))) words
+form_question Free words = plain_question Free (λ numbers. question.Free (unsigned_abs (nth_number numbers 0))) words
 
 -- a line that asks a question, or is bad
 abbrev pub some_question : Result Question Bad → Result (Option Question) Bad

@@ -22,8 +22,8 @@ if_any [] = []
 if_any (byte ∷ rest) = (byte ∷ rest) ∷ []
 
 -- the lines of question input: a last line without a line feed counts where it has a byte
-abbrev pub lines_of : List ℕ → List (List ℕ)
-lines_of input = whole_lines input ++ if_any (unended_line input)
+abbrev pub input_lines : List ℕ → List (List ℕ)
+input_lines input = whole_lines input ++ if_any (unended_line input)
 
 -- a space, a tab or a carriage return
 abbrev pub is_gap : ℕ → Bool

@@ -35,8 +35,8 @@ abbrev pub shapes_word : NumberWord
 shapes_word = (pos 1, pos 16)
 
 -- a number by its word's place among a question's words after its first, counted from 0; 0 where there is none
-abbrev pub number_at : List ℤ → ℕ → ℤ
-number_at numbers place = slice_index_or numbers place (pos 0)
+abbrev pub nth_number : List ℤ → ℕ → ℤ
+nth_number numbers place = slice_index_or numbers place (pos 0)
 
 -- what a number's fault makes of its line, where the number stands at that place
 abbrev pub number_fault : ℕ → Result ℤ NumberFault → Option Bad
@@ -67,11 +67,11 @@ value_of Large = pos 0
 value_of Not = pos 0
 
 -- the number that a word is
-abbrev pub number_of : List ℕ → ℤ
-number_of text = value_of (numeral_of text)
+abbrev pub word_number : List ℕ → ℤ
+word_number text = value_of (numeral_of text)
 
 -- the numbers that words are
 abbrev pub numbers_of : List NumberWord → List (List ℕ) → List ℤ
 numbers_of [] words = []
 numbers_of (wanted ∷ more) [] = []
-numbers_of (wanted ∷ more) (word ∷ words) = number_of word ∷ numbers_of more words
+numbers_of (wanted ∷ more) (word ∷ words) = word_number word ∷ numbers_of more words

@@ -6,7 +6,7 @@ use Rattle.track_types.specs.declared.region.Region.{Region}
 use Rattle.track_types.specs.declared.region.Region.TheVariants as region
 use Rattle.track_types.specs.declared.shape.Shape.{Shape}
 use Rattle.track_types.specs.declared.shape.Shape.TheVariants as shape
-use Rattle.question_shell.specs.NumberWords.{NumberWord, first_fault, number_at, number_of, numbers_of}
+use Rattle.question_shell.specs.NumberWords.{NumberWord, first_fault, nth_number, word_number, numbers_of}
 use Rattle.question_shell.specs.NumberWords.{place_word, radius_word, shapes_word, word_fault}
 use Rattle.question_shell.specs.declared.bad.Bad.{Bad}
 use Rattle.question_shell.specs.declared.bad.Bad.TheVariants as bad
@@ -61,9 +61,9 @@ shapes_fault (suc more) words = fault_after (shape_size words) (λ size. shapes_
 -- a shape by its numbers
 abbrev pub shape_by : Kind → List ℤ → Shape
 shape_by Rect numbers =
-    shape.Rect (number_at numbers 0) (number_at numbers 1) (number_at numbers 2) (number_at numbers 3)
+    shape.Rect (nth_number numbers 0) (nth_number numbers 1) (nth_number numbers 2) (nth_number numbers 3)
 shape_by Disc numbers =
-    shape.Disc (number_at numbers 0) (number_at numbers 1) (unsigned_abs (number_at numbers 2))
+    shape.Disc (nth_number numbers 0) (nth_number numbers 1) (unsigned_abs (nth_number numbers 2))
 
 -- the shape of the words after its name, the first of which stands at that place of the line, or the first fault
 abbrev pub shape_of : Kind → ℕ → List (List ℕ) → Result Shape Bad
@@ -97,7 +97,7 @@ any_counted None count words = unless_bad (shapes_fault count words) (Any count)
 abbrev pub any_layout : ℕ → List (List ℕ) → Result Layout Bad
 any_layout place [] = Err bad.Count
 any_layout place (count ∷ words) =
-    any_counted (word_fault shapes_word place count) (unsigned_abs (number_of count)) words
+    any_counted (word_fault shapes_word place count) (unsigned_abs (word_number count)) words
 
 -- how the words of a region are laid out, the first of which stands at that place of the line, or what is wrong with that
 abbrev pub layout_of : ℕ → List (List ℕ) → Result Layout Bad

@@ -28,6 +28,6 @@ pub record Cuts (before : Voice) (now : Option (List ℕ)) (text : List ℕ) : T
   pub says : Says before (voice now unsaid) text
 
 -- What is told of a text that was put: it was said, or a front of it.
-abbrev pub PutTold : {T E : Type 0} → Voice → Voice → List ℕ → Result T E → Type 0
-PutTold before now text (Ok value) = Says before now text
-PutTold before now text (Err fault) = Cuts before now.said text
+abbrev pub Puts : {T E : Type 0} → Voice → Voice → List ℕ → Result T E → Type 0
+Puts before now text (Ok value) = Says before now text
+Puts before now text (Err fault) = Cuts before now.said text

@@ -15,7 +15,7 @@ use Rattle.track_types.specs.declared.question.Question.TheVariants as question
 use Rattle.track_types.specs.declared.stop.Stop.{Stop}
 use Rattle.question_shell.specs.Desk.{DeskView, budget_of, held_of}
 use Rattle.question_shell.specs.Grammar.{question_of}
-use Rattle.question_shell.specs.Lines.{lines_of, whole_lines}
+use Rattle.question_shell.specs.Lines.{input_lines, whole_lines}
 use Rattle.question_shell.specs.Replies.{costs_of, desk_after, replies_of}
 use Rattle.question_shell.specs.Items.{stops_at}
 use Rattle.question_shell.specs.Slots.{lines_of_slot, replies_to_each, replies_to_slot}
@@ -103,7 +103,7 @@ pub record AnswersAll (meaning : Meaning) (before now : Run) : Type 0 where
   pub came : Came before now bytes
   pub at_end : IsAtEnd now.rest
   pub within : length bytes ≤ limit_of Questions
-  pub answers : Answers meaning before now (lines_of bytes)
+  pub answers : Answers meaning before now (input_lines bytes)
 
 -- The whole lines among the bytes that came were answered.
 pub record AnswersWhole (meaning : Meaning) (before now : Run) : Type 0 where
@@ -143,7 +143,7 @@ pub record StopsAt (meaning : Meaning) (desk : List (Option (List Stop))) (lines
 
 -- The lines that may be answered: the whole ones, and all of them where the source was read to its end.
 abbrev pub AreTaken : Option (List ℕ) → List ℕ → List (List ℕ) → Type 0
-AreTaken rest bytes lines = (lines ≡ whole_lines bytes) ⊎ (IsAtEnd rest × (lines ≡ lines_of bytes))
+AreTaken rest bytes lines = (lines ≡ whole_lines bytes) ⊎ (IsAtEnd rest × (lines ≡ input_lines bytes))
 
 -- The lines before one that takes memory were answered, and no other: exactly their replies were said, the desk is the
 -- one after them, and no more was read than they and that line cost.

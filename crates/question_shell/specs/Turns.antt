@@ -88,25 +88,25 @@ BytesTold meaning before now came line (Err fault.Say) = TurnsFront meaning befo
 BytesTold meaning before now came line (Err fault.Memory) = TurnsBefore meaning before now (whole_lines came)
 
 -- What bytes more tell at a moment: with those that were heard before, they were heard, or told of as above.
-abbrev pub MoreTold : Meaning → Moment → LineKept → List ℕ → Moment → LineKept → Result Unit TurnFault → Type 0
-MoreTold meaning before coming bytes now line result = (start : Moment) (came : List ℕ) →
+abbrev pub AnswersBytes : Meaning → Moment → LineKept → List ℕ → Moment → LineKept → Result Unit TurnFault → Type 0
+AnswersBytes meaning before coming bytes now line result = (start : Moment) (came : List ℕ) →
     Heard meaning start before came coming → BytesTold meaning start now (came ++ bytes) line result
 
 -- What is told of these lines: all were answered, a front of the replies was said, or memory was refused.
-abbrev pub LinesTold : Meaning → Moment → Moment → List (List ℕ) → Result Unit TurnFault → Type 0
-LinesTold meaning before now lines (Ok done) = Turns meaning before now lines
-LinesTold meaning before now lines (Err fault.Say) = TurnsFront meaning before now lines
-LinesTold meaning before now lines (Err fault.Memory) = TurnsBefore meaning before now lines
+abbrev pub AnswersLines : Meaning → Moment → Moment → List (List ℕ) → Result Unit TurnFault → Type 0
+AnswersLines meaning before now lines (Ok done) = Turns meaning before now lines
+AnswersLines meaning before now lines (Err fault.Say) = TurnsFront meaning before now lines
+AnswersLines meaning before now lines (Err fault.Memory) = TurnsBefore meaning before now lines
 
 -- What is told of the rest of the text after an answer: it was said, or a front of it; after the sink failed, nothing
 -- more.
-abbrev pub RestTold : Voice → Option (List ℕ) → Result Unit TurnFault → Result Unit TurnFault → Type 0
-RestTold before now (Ok done) (Ok still) = Says before (voice now []) []
-RestTold before now (Ok done) (Err fault.Say) = Cuts before now []
-RestTold before now (Ok done) (Err fault.Memory) = ⊥
-RestTold before now (Err fault.Say) (Ok still) = ⊥
-RestTold before now (Err fault.Say) (Err fault.Say) = now ≡ before.said
-RestTold before now (Err fault.Say) (Err fault.Memory) = ⊥
-RestTold before now (Err fault.Memory) (Ok still) = ⊥
-RestTold before now (Err fault.Memory) (Err fault.Say) = Cuts before now []
-RestTold before now (Err fault.Memory) (Err fault.Memory) = Says before (voice now []) []
+abbrev pub Flushes : Voice → Option (List ℕ) → Result Unit TurnFault → Result Unit TurnFault → Type 0
+Flushes before now (Ok done) (Ok still) = Says before (voice now []) []
+Flushes before now (Ok done) (Err fault.Say) = Cuts before now []
+Flushes before now (Ok done) (Err fault.Memory) = ⊥
+Flushes before now (Err fault.Say) (Ok still) = ⊥
+Flushes before now (Err fault.Say) (Err fault.Say) = now ≡ before.said
+Flushes before now (Err fault.Say) (Err fault.Memory) = ⊥
+Flushes before now (Err fault.Memory) (Ok still) = ⊥
+Flushes before now (Err fault.Memory) (Err fault.Say) = Cuts before now []
+Flushes before now (Err fault.Memory) (Err fault.Memory) = Says before (voice now []) []

@@ -1,6 +1,6 @@
 ghost use Rattle.std.specs.Prelude.{◌≡◌, ◌<◌, ◌++◌, [], IfNone, drop, option_to_list, take};
-ghost use Rattle.question_shell.specs.Desk.{Draws, stops_in};
-ghost use Rattle.question_shell.specs.Drawing.{Gives, IsDrawn, IsOfDesk, refusal_left};
+ghost use Rattle.question_shell.specs.Desk.{Draws, slot_stops};
+ghost use Rattle.question_shell.specs.Drawing.{GivesItems, IsDrawn, IsOfDesk, refusal_left};
 ghost use Rattle.question_shell.specs.Reply.{last_line};
 
 use crate::desk::Desk;
@@ -47,7 +47,7 @@ impl<W: Lazy<Item = Stop> + Drop> Answer<W> {
         steps: &mut Steps<L>,
     ) -> Option<Item>
         requires { IsOfDesk self.old }
-        ensures gives { Gives W.left W.budget self.old self.new desk.old desk.new steps.old steps.new
+        ensures gives { GivesItems W.left W.budget self.old self.new desk.old desk.new steps.old steps.new
             (option_to_list result) }
         ensures none { IfNone result (IsDrawn W.left W.budget self.new desk.new) }
     {
@@ -84,11 +84,11 @@ fn draw_more<W: Lazy<Item = Stop> + Drop, L: Ledger>(
     steps: &mut Steps<L>,
 ) -> Option<Stop>
     requires { slot < 16 }
-    ensures found { take count.old (stops_in desk.old slot)
-        ≡ option_to_list result ++ take count.new (stops_in desk.new slot) }
-    ensures left { drop count.new (stops_in desk.new slot)
-        ≡ drop count.old (stops_in desk.old slot) }
-    ensures none { IfNone result (take count.new (stops_in desk.new slot) ≡ []) }
+    ensures found { take count.old (slot_stops desk.old slot)
+        ≡ option_to_list result ++ take count.new (slot_stops desk.new slot) }
+    ensures left { drop count.new (slot_stops desk.new slot)
+        ≡ drop count.old (slot_stops desk.old slot) }
+    ensures none { IfNone result (take count.new (slot_stops desk.new slot) ≡ []) }
     ensures draws { Draws desk.old desk.new slot steps.old steps.new }
 {
     if *count == 0 {

@@ -1,7 +1,7 @@
 ghost use Rattle.std.specs.Prelude.{◌≡◌, ◌+◌, ◌++◌, ◌<◌, ◌≤◌, [], IfNone, IfOk, None, Some, length};
 ghost use Rattle.std.specs.Prelude.{option_map, option_to_list, slice_set};
-ghost use Rattle.question_shell.specs.Desk.{budget_in, empty_desk, is_held_in, place_of};
-ghost use Rattle.question_shell.specs.Desk.{stops_in};
+ghost use Rattle.question_shell.specs.Desk.{budget_in, empty_desk, is_held_in, slot_walk};
+ghost use Rattle.question_shell.specs.Desk.{slot_stops};
 
 use std::alloc::Global;
 use std::marker::Model;
@@ -52,7 +52,7 @@ impl<W: Lazy<Item = Stop> + Drop> Desk<W> {
     /// Puts a walk into the empty place of this slot. The other places stay.
     pub fn hold(&mut self, slot: u8, walk: W)
         requires slot { slot < 16 }
-        requires empty { place_of self.old slot ≡ None }
+        requires empty { slot_walk self.old slot ≡ None }
         ensures { self.new ≡ slice_set self.old slot (Some (W.left walk, W.budget walk)) }
     {
         self.places[slot as usize] = Some(walk);
@@ -63,12 +63,12 @@ impl<W: Lazy<Item = Stop> + Drop> Desk<W> {
     /// read is taken from the budget of that walk, and the other places stay.
     pub fn draw<L: Ledger>(&mut self, slot: u8, steps: &mut Steps<L>) -> Option<Stop>
         requires { slot < 16 }
-        ensures found { stops_in self.old slot ≡ option_to_list result ++ stops_in self.new slot }
-        ensures none { IfNone result (stops_in self.old slot ≡ []) }
+        ensures found { slot_stops self.old slot ≡ option_to_list result ++ slot_stops self.new slot }
+        ensures none { IfNone result (slot_stops self.old slot ≡ []) }
         ensures cost { steps.new + budget_in self.new slot
             ≤ steps.old + budget_in self.old slot }
         ensures held { is_held_in self.new slot ≡ is_held_in self.old slot }
-        ensures others { self.new ≡ slice_set self.old slot (place_of self.new slot) }
+        ensures others { self.new ≡ slice_set self.old slot (slot_walk self.new slot) }
     {
         let Some(walk) = &mut self.places[slot as usize] else {
             return None;
@@ -81,7 +81,7 @@ impl<W: Lazy<Item = Stop> + Drop> Desk<W> {
     pub fn release(&mut self, slot: u8) -> Option<W>
         requires { slot < 16 }
         ensures walk { option_map (λ walk. (W.left walk, W.budget walk)) result
-            ≡ place_of self.old slot }
+            ≡ slot_walk self.old slot }
         ensures emptied { self.new ≡ slice_set self.old slot None }
     {
         self.places[slot as usize].take()

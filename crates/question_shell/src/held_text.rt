@@ -1,6 +1,6 @@
 ghost use Rattle.std.specs.Prelude.{true, is_err, ◌≡◌, [], OnOk};
 ghost use Rattle.host_ports.specs.Counting.{SinkCounts};
-ghost use Rattle.question_shell.specs.Says.{PutTold, voice};
+ghost use Rattle.question_shell.specs.Says.{Puts, voice};
 
 use crate::reply::ReplyLine;
 use arrayvec::ArrayVec;
@@ -35,7 +35,7 @@ impl HeldText {
 
     // Holds a line back; what was held before is said first where there is no room.
     pub(crate) fn put<K: Sink>(&mut self, line: &ReplyLine, sink: &mut K) -> Result<(), Cut>
-        ensures told { PutTold (voice (K.said sink.old) self.old)
+        ensures told { Puts (voice (K.said sink.old) self.old)
             (voice (K.said sink.new) self.new) line.now.bytes result }
         ensures faults { SinkCounts K.Sink sink.old sink.new (is_err result ≡ true) }
     {
@@ -51,7 +51,7 @@ impl HeldText {
     // Says what is held back; where that is nothing, the sink is left alone.
     pub(crate) fn say<K: Sink>(&mut self, sink: &mut K) -> Result<(), Cut>
         ensures empty { OnOk result (self.new ≡ []) }
-        ensures told { PutTold (voice (K.said sink.old) self.old)
+        ensures told { Puts (voice (K.said sink.old) self.old)
             (voice (K.said sink.new) []) [] result }
         ensures faults { SinkCounts K.Sink sink.old sink.new (is_err result ≡ true) }
     {

@@ -2,10 +2,10 @@ ghost use Rattle.std.specs.Prelude.{◌≡◌, ◌≢◌, ℕ, ◌≤◌, [], �
 ghost use Rattle.host_ports.specs.Faults.{Rose};
 ghost use Rattle.host_ports.specs.Counting.{SinkCounts};
 ghost use Rattle.question_shell.specs.LineKept.{kept_of};
-ghost use Rattle.question_shell.specs.Lines.{lines_of};
+ghost use Rattle.question_shell.specs.Lines.{input_lines};
 ghost use Rattle.question_shell.specs.Says.{voice};
 ghost use Rattle.question_shell.specs.Session.{meaning_by};
-ghost use Rattle.question_shell.specs.Turns.{Heard, LinesTold, Moment, MoreTold, RestTold};
+ghost use Rattle.question_shell.specs.Turns.{Heard, AnswersLines, Moment, AnswersBytes, Flushes};
 ghost use Rattle.question_shell.specs.Turns.{moment};
 ghost use Rattle.question_shell.specs.declared.turn_fault.TurnFault.TheVariants as fault;
 
@@ -49,7 +49,7 @@ pub(crate) fn take_piece<A: Meets, K: Sink, L: Ledger>(
     sink: &mut K,
     steps: &mut Steps<L>,
 ) -> Result<(), TurnFault>
-    ensures told { MoreTold (meaning_by A.Answerer answerer)
+    ensures told { AnswersBytes (meaning_by A.Answerer answerer)
         (moment (K.said sink.old) talk.old.text desk.old steps.old) talk.old.line piece.now
         (moment (K.said sink.new) [] desk.new steps.new) talk.new.line result }
     ensures said { OnOk result (talk.new.text ≡ []) }
@@ -69,7 +69,7 @@ fn take_bytes<A: Meets, K: Sink, L: Ledger>(
     sink: &mut K,
     steps: &mut Steps<L>,
 ) -> Result<(), TurnFault>
-    ensures told { MoreTold (meaning_by A.Answerer answerer)
+    ensures told { AnswersBytes (meaning_by A.Answerer answerer)
         (moment (K.said sink.old) talk.old.text desk.old steps.old) talk.old.line bytes.now
         (moment (K.said sink.new) talk.new.text desk.new steps.new) talk.new.line result }
     ensures faults { SinkCounts K.Sink sink.old sink.new (result ≡ Err fault.Say) }
@@ -90,7 +90,7 @@ fn take_byte<A: Meets, K: Sink, L: Ledger>(
     sink: &mut K,
     steps: &mut Steps<L>,
 ) -> Result<(), TurnFault>
-    ensures told { MoreTold (meaning_by A.Answerer answerer)
+    ensures told { AnswersBytes (meaning_by A.Answerer answerer)
         (moment (K.said sink.old) talk.old.text desk.old steps.old) talk.old.line (byte ∷ [])
         (moment (K.said sink.new) talk.new.text desk.new steps.new) talk.new.line result }
     ensures faults { SinkCounts K.Sink sink.old sink.new (result ≡ Err fault.Say) }
@@ -118,7 +118,7 @@ pub(crate) fn take_end<A: Meets, K: Sink, L: Ledger>(
         let now = moment (K.said sink.new) [] desk.new steps.new in
         Heard meaning start (moment (K.said sink.old) talk.old.text desk.old steps.old)
         came talk.old.line →
-        LinesTold meaning start now (lines_of came) result }
+        AnswersLines meaning start now (input_lines came) result }
     ensures faults { SinkCounts K.Sink sink.old sink.new (result ≡ Err fault.Say) }
 {
     let asked = talk.line.question();
@@ -132,7 +132,7 @@ fn say_rest<K: Sink>(
     text: &mut HeldText,
     sink: &mut K,
 ) -> Result<(), TurnFault>
-    ensures told { RestTold (voice (K.said sink.old) text.old) (K.said sink.new) answered result }
+    ensures told { Flushes (voice (K.said sink.old) text.old) (K.said sink.new) answered result }
     ensures said { OnOk result (text.new ≡ []) }
     ensures passed { answered ≡ Err fault.Say → result ≡ Err fault.Say }
     ensures cause { result ≡ Err fault.Say →

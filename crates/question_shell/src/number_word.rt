@@ -1,6 +1,6 @@
 ghost use Rattle.std.specs.Prelude.{◌≡◌, ◌<◌, ◌≤◌, ◌^◌, ◌≤ℤ◌, IfOk, IfErr, Some, None, unsigned_abs};
 ghost use Rattle.track_types.specs.Near.{IsAsked};
-ghost use Rattle.question_shell.specs.NumberWords.{number_of, object_word, place_word, radius_word};
+ghost use Rattle.question_shell.specs.NumberWords.{word_number, object_word, place_word, radius_word};
 ghost use Rattle.question_shell.specs.NumberWords.{shapes_word, slot_word, word_fault};
 
 use crate::bad::Bad;
@@ -9,7 +9,7 @@ use track_types::{NumberFault, number_within};
 // Reads an object's number, O, or a count, K or N.
 pub(crate) fn read_object(word: &[u8], place: u32) -> Result<u32, Bad>
     ensures none { IfOk result (λ _. word_fault object_word place word.now ≡ None) }
-    ensures value { IfOk result (λ object. object ≡ unsigned_abs (number_of word.now)) }
+    ensures value { IfOk result (λ object. object ≡ unsigned_abs (word_number word.now)) }
     ensures err { IfErr result (λ bad. word_fault object_word place word.now ≡ Some bad) }
 {
     let number = read_number(word, place, 0, 0xffff_ffff)?;
@@ -19,7 +19,7 @@ pub(crate) fn read_object(word: &[u8], place: u32) -> Result<u32, Bad>
 // Reads an instant, T, or a coordinate, X or Y: at most 2^41 away from 0.
 pub(crate) fn read_place(word: &[u8], place: u32) -> Result<i64, Bad>
     ensures none { IfOk result (λ _. word_fault place_word place word.now ≡ None) }
-    ensures value { IfOk result (λ number. number ≡ number_of word.now) }
+    ensures value { IfOk result (λ number. number ≡ word_number word.now) }
     ensures asked { IfOk result IsAsked }
     ensures err { IfErr result (λ bad. word_fault place_word place word.now ≡ Some bad) }
 {
@@ -29,7 +29,7 @@ pub(crate) fn read_place(word: &[u8], place: u32) -> Result<i64, Bad>
 // Reads a radius, R, or a distance, D: at most 2^42.
 pub(crate) fn read_radius(word: &[u8], place: u32) -> Result<u64, Bad>
     ensures none { IfOk result (λ _. word_fault radius_word place word.now ≡ None) }
-    ensures value { IfOk result (λ radius. radius ≡ unsigned_abs (number_of word.now)) }
+    ensures value { IfOk result (λ radius. radius ≡ unsigned_abs (word_number word.now)) }
     ensures asked { IfOk result (λ radius. radius ≤ 2 ^ 42) }
     ensures err { IfErr result (λ bad. word_fault radius_word place word.now ≡ Some bad) }
 {
@@ -40,7 +40,7 @@ pub(crate) fn read_radius(word: &[u8], place: u32) -> Result<u64, Bad>
 // Reads a slot of the desk, S.
 pub(crate) fn read_slot(word: &[u8], place: u32) -> Result<u8, Bad>
     ensures none { IfOk result (λ _. word_fault slot_word place word.now ≡ None) }
-    ensures value { IfOk result (λ slot. slot ≡ unsigned_abs (number_of word.now)) }
+    ensures value { IfOk result (λ slot. slot ≡ unsigned_abs (word_number word.now)) }
     ensures asked { IfOk result (λ slot. slot < 16) }
     ensures err { IfErr result (λ bad. word_fault slot_word place word.now ≡ Some bad) }
 {
@@ -51,7 +51,7 @@ pub(crate) fn read_slot(word: &[u8], place: u32) -> Result<u8, Bad>
 // Reads how many shapes a region has, N: 1 to 16.
 pub(crate) fn read_shape_count(word: &[u8], place: u32) -> Result<u32, Bad>
     ensures none { IfOk result (λ _. word_fault shapes_word place word.now ≡ None) }
-    ensures value { IfOk result (λ count. count ≡ unsigned_abs (number_of word.now)) }
+    ensures value { IfOk result (λ count. count ≡ unsigned_abs (word_number word.now)) }
     ensures few { IfOk result (λ count. (1 ≤ count) × (count ≤ 16)) }
     ensures err { IfErr result (λ bad. word_fault shapes_word place word.now ≡ Some bad) }
 {
@@ -63,7 +63,7 @@ pub(crate) fn read_shape_count(word: &[u8], place: u32) -> Result<u32, Bad>
 fn read_number(word: &[u8], place: u32, least: i64, greatest: i64) -> Result<i64, Bad>
     ensures none { IfOk result (λ _. word_fault (least, greatest) place word.now ≡ None) }
     ensures value { IfOk result (λ number.
-        number ≡ number_of word.now) }
+        number ≡ word_number word.now) }
     ensures range { IfOk result (λ number. (least ≤ℤ number) × (number ≤ℤ greatest)) }
     ensures err { IfErr result (λ bad.
         word_fault (least, greatest) place word.now ≡ Some bad) }

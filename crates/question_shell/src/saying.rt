@@ -3,7 +3,7 @@ ghost use Rattle.host_ports.specs.Counting.{SinkCounts};
 ghost use Rattle.question_shell.specs.Desk.{budget_of, held_of};
 ghost use Rattle.question_shell.specs.Drawing.{IsOfDesk, desk_left, items_left, reads_left, refusal_left};
 ghost use Rattle.question_shell.specs.Reply.{listed};
-ghost use Rattle.question_shell.specs.Says.{PutTold, voice};
+ghost use Rattle.question_shell.specs.Says.{Puts, voice};
 ghost use Rattle.question_shell.specs.Turns.{LineTold};
 ghost use Rattle.question_shell.specs.declared.turn_fault.TurnFault.TheVariants as fault;
 
@@ -43,7 +43,7 @@ pub(crate) fn say_answer<W: Lazy<Item = Stop> + Drop, K: Sink, L: Ledger>(
 ) -> Result<(), Cut>
     requires slot { IsOfDesk answer.old }
     requires few { length (items_left W.left W.budget answer.old desk.old) < 2 ^ 64 }
-    ensures told { PutTold (voice (K.said sink.old) text.old) (voice (K.said sink.new) text.new)
+    ensures told { Puts (voice (K.said sink.old) text.old) (voice (K.said sink.new) text.new)
         (listed (items_left W.left W.budget answer.old desk.old) (refusal_left answer.old)) result }
     ensures desk { OnOk result (
         held_of desk.new ≡ desk_left W.left W.budget answer.old desk.old) }

@@ -5,10 +5,10 @@ use Rattle.std.specs.List.{sum_by}
 use Rattle.std.proofs.lemmas.Bool.{cases_Bool, and_from, eq-eqb}
 use Rattle.std.proofs.lemmas.List.{take-map, length-map, get_or-map}
 use Rattle.std.proofs.lemmas.List.Sums.{sum_by_more, sum_by_more_le_part}
-use Rattle.repair_grammar.specs.RePair.{is_pair, met, pair_count}
+use Rattle.repair_grammar.specs.RePair.{is_pair, replacement_count, pair_count}
 use Rattle.repair_grammar.specs.Counts.{lists_of}
 use Rattle.repair_grammar.specs.Kept.{times_of}
-use Rattle.repair_grammar.proofs.PassLemmas.{whole_pair, met-le}
+use Rattle.repair_grammar.proofs.PassLemmas.{whole_pair, replacement_count-le}
 
 -- a pair is met where its own symbols stand
 pub own_pair : (x y : ℕ) → is_pair (x, y) x y ≡ true
@@ -35,21 +35,21 @@ item_list blocks i item within is = get_or-map (λ vec. vec.items) blocks i item
 module _ (pair : ℕ × ℕ) (blocks : List (Vec ℕ)) (i : ℕ) (item : Vec ℕ) (within : i < length blocks) (is : item
     ≡ get_or blocks i item) where
   pub count_more : pair_count (lists_of (take (i + 1) blocks)) pair
-      ≡ pair_count (lists_of (take i blocks)) pair + met pair item.items
+      ≡ pair_count (lists_of (take i blocks)) pair + replacement_count pair item.items
   unfolding pair_count
   count_more = let lists = lists_of blocks in
-      ap (sum_by (met pair)) (sym (take-map (λ vec. vec.items) (i + 1) blocks))
-      ∙ sum_by_more (met pair) lists i [] (rw length-map within)
-      ∙ ap (λ xs. sum_by (met pair) xs + met pair (get_or lists i [])) (take-map (λ vec. vec.items) i blocks)
-      ∙ ap (λ xs. sum_by (met pair) (lists_of (take i blocks)) + met pair xs) (item_list blocks i item within is)
+      ap (sum_by (replacement_count pair)) (sym (take-map (λ vec. vec.items) (i + 1) blocks))
+      ∙ sum_by_more (replacement_count pair) lists i [] (rw length-map within)
+      ∙ ap (λ xs. sum_by (replacement_count pair) xs + replacement_count pair (get_or lists i [])) (take-map (λ vec. vec.items) i blocks)
+      ∙ ap (λ xs. sum_by (replacement_count pair) (lists_of (take i blocks)) + replacement_count pair xs) (item_list blocks i item within is)
 
   pub count_room : pair_count (lists_of (take i blocks)) pair + length item.items ≤ sum_by length (lists_of blocks)
   unfolding pair_count
   count_room = let lists = lists_of blocks in
       rw (← (take-map (λ (vec : Vec ℕ). vec.items) i blocks), ← (item_list blocks i item within is))
-      (sum_by_more_le_part (met pair) length lists i [] (rw length-map within) (λ block. omega (
+      (sum_by_more_le_part (replacement_count pair) length lists i [] (rw length-map within) (λ block. omega (
         arith,
-        met-le pair block,
+        replacement_count-le pair block,
       )))
 
 -- the pair that a step counts

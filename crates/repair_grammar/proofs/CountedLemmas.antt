@@ -5,12 +5,12 @@ use Rattle.std.specs.List.Sorted.{IsNonDecreasing}
 use Rattle.std.proofs.lemmas.Bool.{cases_Bool, cases_lt, and_parts, not-true, eqb-true, eqb-false, ne_eqb, eq-eqb, both_ways}
 use Rattle.std.proofs.lemmas.List.{get_or_past, get_or_default, drop_all, take_all, append-nil, length-drop, get_or-drop}
 use Rattle.list_laws.proofs.MemberLemmas.{member_cases, no_member}
-use Rattle.repair_grammar.specs.RePair.{is_pair, met, replaced}
+use Rattle.repair_grammar.specs.RePair.{is_pair, replacement_count, block_after_pass}
 use Rattle.repair_grammar.specs.Counts.{stands_first}
 use Rattle.repair_grammar.specs.Kept.{times_of}
 use Rattle.repair_grammar.specs.Runs.{ends_odd, left_gone, right_gone, left_come}
-use Rattle.repair_grammar.specs.Threads.{at, live, stands_at, passed_from, AreNeighbours, AreThreads, HasEnds, IsPlain, IsCounted, IsPassing, IsRun}
-use Rattle.repair_grammar.proofs.PassLemmas.{met-step, stands_first-whole, whole_pair, left_of_pair, right_of_pair, replaced-none}
+use Rattle.repair_grammar.specs.Threads.{at, live, stands_at, passed_from, AreNeighbours, AreThreads, HasEnds, IsUnmarked, IsCounted, IsPassing, IsRun}
+use Rattle.repair_grammar.proofs.PassLemmas.{replacement_count-step, stands_first-whole, whole_pair, left_of_pair, right_of_pair, block_after_pass-none}
 use Rattle.repair_grammar.proofs.ThreadLemmas.{same_or, live-none, live-cut, live-here, not_first, not_last, after, after-place, after-gone, after-other, after-length, run_back_start}
 use Rattle.repair_grammar.proofs.FrontierLemmas.{stands-neighbours, frontier-moves, frontier-join, stands-joined, counts-joined}
 use Rattle.repair_grammar.specs.declared.text.TheConstants.{END, GAP}
@@ -43,26 +43,26 @@ stands-inside symbols pair k ends plain stands = let is = stands-within symbols 
     not_last symbols k ends is.0 (omega (arith, is.1, plain))
 
 -- a pair that stands, counts
-met-later : (pair : ℕ × ℕ) (xs ys : List ℕ) → met pair ys ≤ met pair (xs ++ ys)
-met-later pair [] ys = omega arith
-met-later pair (x ∷ xs) ys = omega (arith, met-later pair xs ys, (met-step pair x (xs ++ ys)).0)
+replacement_count-later : (pair : ℕ × ℕ) (xs ys : List ℕ) → replacement_count pair ys ≤ replacement_count pair (xs ++ ys)
+replacement_count-later pair [] ys = omega arith
+replacement_count-later pair (x ∷ xs) ys = omega (arith, replacement_count-later pair xs ys, (replacement_count-step pair x (xs ++ ys)).0)
 
-stands_first-counts : (pair : ℕ × ℕ) (block : List ℕ) → stands_first pair block ≡ true → 0 < met pair block
-unfolding met stands_first
+stands_first-counts : (pair : ℕ × ℕ) (block : List ℕ) → stands_first pair block ≡ true → 0 < replacement_count pair block
+unfolding replacement_count stands_first
 stands_first-counts pair [] stands = absurd (cc)
 stands_first-counts pair (x ∷ []) stands = absurd (cc)
 stands_first-counts pair (x ∷ y ∷ block) stands = rw stands (omega arith)
 
 pub stands-counts : (symbols : List ℕ) (pair : ℕ × ℕ) (k : ℕ) → stands_at symbols pair k ≡ true →
-    0 < met pair (live symbols)
+    0 < replacement_count pair (live symbols)
 unfolding stands_at
 stands-counts symbols pair k stands =
     let parts = and_parts (not (at symbols k == GAP)) (stands_first pair (live (drop k symbols))) stands in
     omega (
       arith,
       stands_first-counts pair (live (drop k symbols)) parts.1,
-      met-later pair (live (take k symbols)) (live (drop k symbols)),
-      ap (met pair) (live-cut symbols k),
+      replacement_count-later pair (live (take k symbols)) (live (drop k symbols)),
+      ap (replacement_count pair) (live-cut symbols k),
     )
 
 module _ (symbols : List ℕ) (p m r c l : ℕ) (near : AreNeighbours symbols p m) (next_near : AreNeighbours symbols m r)
@@ -97,13 +97,13 @@ module _ (symbols : List ℕ) (p m r c l : ℕ) (near : AreNeighbours symbols p 
       (new_r : (c == at symbols r) ≡ false)
       (count count_after : ℕ × ℕ → ℕ) (places places_after : ℕ × ℕ → List ℕ) where
     pub counted-joined : IsCounted symbols count places →
-        ((other : ℕ × ℕ) → IsPlain other → count_after other
+        ((other : ℕ × ℕ) → IsUnmarked other → count_after other
         + times_of (left_gone (live (take l symbols)) (at symbols l) (at symbols p) (at symbols m)) other
         + times_of (Some (at symbols p, at symbols m)) other
         + times_of (right_gone (at symbols p) (at symbols m) (at symbols r) (live (drop (r + 1) symbols))) other
         ≡ count other + times_of (left_come (live (take l symbols)) (at symbols l) c) other
         + times_of (Some (c, at symbols r)) other) →
-        ((other : ℕ × ℕ) → 0 < count_after other → IsPlain other) →
+        ((other : ℕ × ℕ) → 0 < count_after other → IsUnmarked other) →
         ((other : ℕ × ℕ) (k : ℕ) → 0 < count_after other → Contains (places other) k → Contains
         (places_after other) k) →
         (at symbols r < END → 0 < count_after (c, at symbols r) → Contains (places_after (c, at symbols r)) p) →
@@ -132,7 +132,7 @@ module _ (symbols : List ℕ) (p m r c l : ℕ) (near : AreNeighbours symbols p 
           ];
     }
       where
-        counts_then : (other : ℕ × ℕ) → IsPlain other → count_after other ≡ met other (live then)
+        counts_then : (other : ℕ × ℕ) → IsUnmarked other → count_after other ≡ replacement_count other (live then)
         counts_then other plain = omega (
           arith,
           changes other plain,
@@ -222,13 +222,13 @@ passing-skip first symbols pair c p rest q passing none = record {
 
 -- no place is left
 pub passing-end : (first symbols : List ℕ) (pair : ℕ × ℕ) (c q : ℕ) → IsPassing first symbols pair c [] q →
-    live symbols ≡ replaced pair c (live first)
+    live symbols ≡ block_after_pass pair c (live first)
 passing-end first symbols pair c q passing =
     let distance : q + (length symbols - q) ≡ length symbols = omega (arith, passing.inside) in
     sym (append-nil (live symbols))
-    ∙ ap (λ rest. live symbols ++ rest) (sym (replaced-none pair c))
-    ∙ ap (λ rest. live symbols ++ replaced pair c rest) (sym (live-nothing symbols))
-    ∙ ap (λ front. live front ++ replaced pair c (live (drop (length symbols) symbols)))
+    ∙ ap (λ rest. live symbols ++ rest) (sym (block_after_pass-none pair c))
+    ∙ ap (λ rest. live symbols ++ block_after_pass pair c rest) (sym (live-nothing symbols))
+    ∙ ap (λ front. live front ++ block_after_pass pair c (live (drop (length symbols) symbols)))
     (sym (take_all (length symbols) symbols (omega arith)))
     ∙ ap (passed_from symbols pair c) (sym distance)
     ∙ frontier-moves symbols pair c (length symbols - q) q (omega (arith, distance))
@@ -276,7 +276,7 @@ pub passing-start : (first : List ℕ) (pair : ℕ × ℕ) (c : ℕ) (places : L
     IsPassing first first pair c places 0
 passing-start first pair c places new noted = record {
   inside = omega arith;
-  done = ap (λ front. front ++ replaced pair c (live first)) live-none;
+  done = ap (λ front. front ++ block_after_pass pair c (live first)) live-none;
   ahead = λ k stands. (omega arith, noted k stands);
   new = λ k from. new k;
 }

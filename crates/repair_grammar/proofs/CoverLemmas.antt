@@ -9,13 +9,13 @@ use Rattle.std.proofs.lemmas.List.Elements.{All-contains, All-from_recursion, Co
 use Rattle.std.proofs.lemmas.List.Sorted.{Contains-permutation}
 use Rattle.list_laws.proofs.MemberLemmas.{member_cases, no_member}
 use Rattle.repair_grammar.specs.declared.key.Key.{Key}
-use Rattle.repair_grammar.specs.RePair.{key_order, key_cmp, pair_count, replaced, AreBelow}
+use Rattle.repair_grammar.specs.RePair.{key_order, key_cmp, pair_count, block_after_pass, AreBelow}
 use Rattle.repair_grammar.specs.Counts.{IsFirst, AllBelowTwo}
 use Rattle.repair_grammar.specs.Kept.{Covers, CoversBut}
 use Rattle.repair_grammar.proofs.KeyLemmas.{key_order_total, key_cmp-is, counted_stands}
 use Rattle.repair_grammar.proofs.FirstLemmas.{IsUpTo, fewer_after, not_before, upto_itself, upto_from}
 use Rattle.repair_grammar.proofs.ExpansionLemmas.{parts_below}
-use Rattle.repair_grammar.proofs.NewerLemmas.{counts-replaced-le}
+use Rattle.repair_grammar.proofs.NewerLemmas.{counts-block_after_pass-le}
 
 -- keys that say enough in another order
 pub covers_moved : (count : ℕ × ℕ → ℕ) (keys more : List Key) → IsPermutation keys more → Covers count keys →
@@ -125,7 +125,7 @@ counted_below limit blocks pair below some = parts_below limit blocks pair below
 pub covers_after : (symbol : ℕ) (pair : ℕ × ℕ) (blocks : List (List ℕ)) (count count_after : ℕ × ℕ → ℕ)
     (fresh : List (ℕ × ℕ)) (keys : List Key) → AreBelow symbol blocks → (pair.0 < symbol) × (pair.1 < symbol) →
     ((other : ℕ × ℕ) → count other ≡ pair_count blocks other) →
-    ((other : ℕ × ℕ) → count_after other ≡ pair_count (map (replaced pair symbol) blocks) other) →
+    ((other : ℕ × ℕ) → count_after other ≡ pair_count (map (block_after_pass pair symbol) blocks) other) →
     ((other : ℕ × ℕ) → 0 < count_after other → (0 < count other) ⊎ Contains fresh other) →
     Covers count keys → CoversBut fresh count_after keys
 unfolding Covers CoversBut
@@ -137,7 +137,7 @@ covers_after symbol pair blocks count count_after fresh keys below parts before 
             arith,
             before other,
             after other,
-            counts-replaced-le pair symbol other old.0 old.1 blocks,
+            counts-block_after_pass-le pair symbol other old.0 old.1 blocks,
           ) in
           let key = covers other (omega (arith, two, fewer)) in
           inr (key.0, key.1, key.2, omega (arith, key.3, fewer))

@@ -7,28 +7,28 @@ use Rattle.std.proofs.lemmas.List.Elements.{Contains-append_cases}
 use Rattle.list_laws.specs.Grown.{expansions, table_of_rules}
 use Rattle.list_laws.proofs.GrownLemmas.{length-table_of_rules, table_of_rules-append, table_of_rules-keeps, table_of_rules-last}
 use Rattle.list_laws.proofs.MemberLemmas.{member_cases, no_member}
-use Rattle.repair_grammar.specs.RePair.{is_pair, replaced, pairs_in, AreBelow}
+use Rattle.repair_grammar.specs.RePair.{is_pair, block_after_pass, pairs_in, AreBelow}
 use Rattle.repair_grammar.specs.GrammarOf.{expanded}
 use Rattle.repair_grammar.proofs.PassLemmas.{left_of_pair, right_of_pair}
 
 -- a pass keeps what a block stands for, where the symbol stands for the pair and all others for what they did
 module _ {A : Type 0} (old new : ℕ → List A) (pair : ℕ × ℕ) (symbol : ℕ) (whole : new symbol ≡ old pair.0 ++ old pair.1)
     (same : (other : ℕ) → other < symbol → new other ≡ old other) where
-  pub flat_map-replaced : (block : List ℕ) → AllByRecursion (λ other. other < symbol) block →
-      flat_map new (replaced pair symbol block) ≡ flat_map old block
-  unfolding replaced
-  flat_map-replaced [] below = refl
-  flat_map-replaced (x ∷ []) below = rw (same x below.0) refl
-  flat_map-replaced (x ∷ y ∷ rest) below = elim (cases_Bool (is_pair pair x y)) [
+  pub flat_map-block_after_pass : (block : List ℕ) → AllByRecursion (λ other. other < symbol) block →
+      flat_map new (block_after_pass pair symbol block) ≡ flat_map old block
+  unfolding block_after_pass
+  flat_map-block_after_pass [] below = refl
+  flat_map-block_after_pass (x ∷ []) below = rw (same x below.0) refl
+  flat_map-block_after_pass (x ∷ y ∷ rest) below = elim (cases_Bool (is_pair pair x y)) [
     | inl is ↦ rw (
       is,
       whole,
       left_of_pair pair x y is,
       right_of_pair pair x y is,
-      flat_map-replaced rest below.1.1,
+      flat_map-block_after_pass rest below.1.1,
       append_assoc,
     ) refl
-    | inr other ↦ rw (other, same x below.0, flat_map-replaced (y ∷ rest) below.1) refl
+    | inr other ↦ rw (other, same x below.0, flat_map-block_after_pass (y ∷ rest) below.1) refl
   ]
 
 -- the symbols after a pass
@@ -37,22 +37,22 @@ pub below-more : (limit : ℕ) (block : List ℕ) → AllByRecursion (λ symbol.
 below-more limit [] below = below
 below-more limit (x ∷ rest) below = (omega (arith, below.0), below-more limit rest below.1)
 
-pub below-replaced : (pair : ℕ × ℕ) (symbol : ℕ) (block : List ℕ) → AllByRecursion (λ other. other < symbol) block →
-    AllByRecursion (λ other. other < symbol + 1) (replaced pair symbol block)
-unfolding replaced
-below-replaced pair symbol [] below = below
-below-replaced pair symbol (x ∷ []) below = (omega (arith, below.0), below.1)
-below-replaced pair symbol (x ∷ y ∷ rest) below = elim (cases_Bool (is_pair pair x y)) [
-  | inl is ↦ rw is (omega arith, below-replaced pair symbol rest below.1.1)
-  | inr other ↦ rw other (omega (arith, below.0), below-replaced pair symbol (y ∷ rest) below.1)
+pub below-block_after_pass : (pair : ℕ × ℕ) (symbol : ℕ) (block : List ℕ) → AllByRecursion (λ other. other < symbol) block →
+    AllByRecursion (λ other. other < symbol + 1) (block_after_pass pair symbol block)
+unfolding block_after_pass
+below-block_after_pass pair symbol [] below = below
+below-block_after_pass pair symbol (x ∷ []) below = (omega (arith, below.0), below.1)
+below-block_after_pass pair symbol (x ∷ y ∷ rest) below = elim (cases_Bool (is_pair pair x y)) [
+  | inl is ↦ rw is (omega arith, below-block_after_pass pair symbol rest below.1.1)
+  | inr other ↦ rw other (omega (arith, below.0), below-block_after_pass pair symbol (y ∷ rest) below.1)
 ]
 
-pub all_below-replaced : (pair : ℕ × ℕ) (symbol : ℕ) (blocks : List (List ℕ)) → AreBelow symbol blocks →
-    AreBelow (symbol + 1) (map (replaced pair symbol) blocks)
+pub all_below-block_after_pass : (pair : ℕ × ℕ) (symbol : ℕ) (blocks : List (List ℕ)) → AreBelow symbol blocks →
+    AreBelow (symbol + 1) (map (block_after_pass pair symbol) blocks)
 unfolding AreBelow
-all_below-replaced pair symbol [] below = below
-all_below-replaced pair symbol (block ∷ blocks) below =
-    (below-replaced pair symbol block below.0, all_below-replaced pair symbol blocks below.1)
+all_below-block_after_pass pair symbol [] below = below
+all_below-block_after_pass pair symbol (block ∷ blocks) below =
+    (below-block_after_pass pair symbol block below.0, all_below-block_after_pass pair symbol blocks below.1)
 
 -- a block more
 pub AreBelow-none : (limit : ℕ) → AreBelow limit []
@@ -125,13 +125,13 @@ expansions-other alphabet rules more symbol below =
 -- a block stands for the same after a round
 module _ (alphabet : ℕ) (rules : List (ℕ × ℕ)) (pair : ℕ × ℕ) where
   pub expanded-round : (blocks : List (List ℕ)) → AreBelow (alphabet + length rules) blocks →
-      map (expanded alphabet (rules ++ pair ∷ [])) (map (replaced pair (alphabet + length rules)) blocks)
+      map (expanded alphabet (rules ++ pair ∷ [])) (map (block_after_pass pair (alphabet + length rules)) blocks)
       ≡ map (expanded alphabet rules) blocks
   unfolding expanded AreBelow
   expanded-round [] below = refl
   expanded-round (block ∷ blocks) below = rw (
     expanded-round blocks below.1,
-    flat_map-replaced (λ symbol. get_or (expansions alphabet rules) symbol [])
+    flat_map-block_after_pass (λ symbol. get_or (expansions alphabet rules) symbol [])
         (λ symbol. get_or (expansions alphabet (rules ++ pair ∷ [])) symbol []) pair (alphabet + length rules)
         (expansions-last alphabet rules pair)
         (λ symbol small. expansions-other alphabet rules (pair ∷ []) symbol small) block below.0,

@@ -11,24 +11,24 @@ use Rattle.std.proofs.lemmas.Map.Views.{Contains-from_lookup}
 use Rattle.list_laws.proofs.MemberLemmas.{first_member, later_member, member_cases, no_member}
 use Rattle.repair_grammar.specs.declared.key.Key.{Key}
 use Rattle.repair_grammar.specs.RePair.{key_order, key_of, keys_of, first_key, pair_count}
-use Rattle.repair_grammar.specs.Counts.{IsFirst, AllBelowTwo, count_in, earlier_of, key_at, first_in}
+use Rattle.repair_grammar.specs.Counts.{IsFirst, AllBelowTwo, count_in, earlier_of, key_at, first_repeated}
 use Rattle.repair_grammar.proofs.KeyLemmas.{key_order_total, first_key-only, key_stands}
 
 -- no entry
-pub first_in-nil : (first : Option Key) → first_in first [] ≡ first
-unfolding first_in
-first_in-nil first = refl
+pub first_repeated-nil : (first : Option Key) → first_repeated first [] ≡ first
+unfolding first_repeated
+first_repeated-nil first = refl
 
 -- one entry more
-pub first_in-more : (first : Option Key) (entry : (ℕ × ℕ) × ℕ) (entries : List ((ℕ × ℕ) × ℕ)) → 1 < entry.1 →
-    first_in first (entry ∷ entries) ≡ first_in (Some (earlier_of first (key_at entry))) entries
-unfolding first_in
-first_in-more first entry entries two = rw (lt-ltb 1 entry.1 two) refl
+pub first_repeated-more : (first : Option Key) (entry : (ℕ × ℕ) × ℕ) (entries : List ((ℕ × ℕ) × ℕ)) → 1 < entry.1 →
+    first_repeated first (entry ∷ entries) ≡ first_repeated (Some (earlier_of first (key_at entry))) entries
+unfolding first_repeated
+first_repeated-more first entry entries two = rw (lt-ltb 1 entry.1 two) refl
 
-pub first_in-less : (first : Option Key) (entry : (ℕ × ℕ) × ℕ) (entries : List ((ℕ × ℕ) × ℕ)) → entry.1 ≤ 1 →
-    first_in first (entry ∷ entries) ≡ first_in first entries
-unfolding first_in
-first_in-less first entry entries one = rw (le-ltb 1 entry.1 one) refl
+pub first_repeated-less : (first : Option Key) (entry : (ℕ × ℕ) × ℕ) (entries : List ((ℕ × ℕ) × ℕ)) → entry.1 ≤ 1 →
+    first_repeated first (entry ∷ entries) ≡ first_repeated first entries
+unfolding first_repeated
+first_repeated-less first entry entries one = rw (le-ltb 1 entry.1 one) refl
 
 -- one key is not after another
 abbrev pub IsUpTo : Key → Key → Type 0
@@ -151,16 +151,16 @@ two_of_kept (Some other) key two own = elim (cases_Bool (is_lt (key_order key ot
   | inr not_less ↦ rw not_less two
 ]
 
-pub first_in-found : (first : Option Key) (entries : List ((ℕ × ℕ) × ℕ)) → IfSome first (λ key. 1 < key.count) →
-    IsFound first entries (first_in first entries)
-first_in-found first [] two = unfold first_in in found_none first two
-first_in-found first (entry ∷ entries) two = elim (cases_lt 1 entry.1) [
+pub first_repeated-found : (first : Option Key) (entries : List ((ℕ × ℕ) × ℕ)) → IfSome first (λ key. 1 < key.count) →
+    IsFound first entries (first_repeated first entries)
+first_repeated-found first [] two = unfold first_repeated in found_none first two
+first_repeated-found first (entry ∷ entries) two = elim (cases_lt 1 entry.1) [
   | inl above ↦ let kept = earlier_of first (key_at entry) in
-      rw (first_in-more first entry entries above) (take_in first entry entries kept (first_in (Some kept) entries)
+      rw (first_repeated-more first entry entries above) (take_in first entry entries kept (first_repeated (Some kept) entries)
       (earlier-is first (key_at entry))
-      (first_in-found (Some kept) entries (two_of_kept first (key_at entry) two above)))
-  | inr one ↦ rw (first_in-less first entry entries one)
-      (pass first entry entries (first_in first entries) one (first_in-found first entries two))
+      (first_repeated-found (Some kept) entries (two_of_kept first (key_at entry) two above)))
+  | inr one ↦ rw (first_repeated-less first entry entries one)
+      (pass first entry entries (first_repeated first entries) one (first_repeated-found first entries two))
 ]
 
 -- a key that counts less is not taken before
@@ -194,8 +194,8 @@ module _ {S : Type 0} (counts : HashMap (ℕ × ℕ) ℕ S)
   entry_of pair count is = Contains-from_lookup same_pair pair count counts.entries is
 
   -- no entry counts two
-  pub first_in-none : first_in None counts.entries ≡ None → AllBelowTwo (count_in counts)
-  first_in-none none = let found = rw none at (first_in-found None counts.entries (search rules)) in
+  pub first_repeated-none : first_repeated None counts.entries ≡ None → AllBelowTwo (count_in counts)
+  first_repeated-none none = let found = rw none at (first_repeated-found None counts.entries (search rules)) in
       λ pair. below_two (get (λ x y. nat_eq x.0 y.0 && nat_eq x.1 y.1) counts pair)
       (λ count is. found.1 (pair, count) (entry_of pair count is))
 
@@ -208,9 +208,9 @@ module _ {S : Type 0} (counts : HashMap (ℕ × ℕ) ℕ S)
   ]
 
   -- the first key's pair is the first pair
-  pub first_in-some : (key : Key) → first_in None counts.entries ≡ Some key → IsFirst (count_in counts) key.pair
-  first_in-some key some =
-      let found : IsFirstIn None counts.entries key = rw some at (first_in-found None counts.entries (search rules)) in
+  pub first_repeated-some : (key : Key) → first_repeated None counts.entries ≡ Some key → IsFirst (count_in counts) key.pair
+  first_repeated-some key some =
+      let found : IsFirstIn None counts.entries key = rw some at (first_repeated-found None counts.entries (search rules)) in
       let count : count_in counts key.pair ≡ key.count = count_of_first key found in
       record {
         two = rw count found.two;

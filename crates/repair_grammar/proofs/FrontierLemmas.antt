@@ -1,12 +1,12 @@
 -- A pass along the threads: what is done up to a place, and where a pair stands after a join.
 use Rattle.std.proofs.Common.{◌≡◌, ◌≢◌, ◌⊎◌, ℕ, zero, suc, ◌+◌, ◌<◌, ◌≤◌, ◌==◌, true, false, Some, List, [], ◌∷◌, ◌++◌, length, get_or, take, drop, refl, sym, ◌∙◌, ap, arith, inl, inr, append_assoc}
 use Rattle.std.proofs.lemmas.Bool.{cases_Bool, cases_lt, and_parts, not-true, eqb-true, eqb-false, ne_eqb}
-use Rattle.repair_grammar.specs.RePair.{is_pair, met, replaced}
+use Rattle.repair_grammar.specs.RePair.{is_pair, replacement_count, block_after_pass}
 use Rattle.repair_grammar.specs.Counts.{stands_first}
 use Rattle.repair_grammar.specs.Kept.{times_of}
 use Rattle.repair_grammar.specs.Runs.{left_gone, right_gone, left_come}
 use Rattle.repair_grammar.specs.Threads.{at, live, stands_at, passed_from, AreNeighbours, AreThreads}
-use Rattle.repair_grammar.proofs.PassLemmas.{replaced-passed}
+use Rattle.repair_grammar.proofs.PassLemmas.{block_after_pass-passed}
 use Rattle.repair_grammar.proofs.ThreadLemmas.{same_or, same_left, live-here, live-last_here, live-stands, live-gap, live-last_gap, live-neighbours, live-before, after, after-place, after-gone, after-other, kept, joined, rest-live, upto-live, was-live, is-live}
 use Rattle.repair_grammar.proofs.RunLemmas.{changed}
 use Rattle.repair_grammar.specs.declared.text.TheConstants.{GAP}
@@ -16,8 +16,8 @@ unfolding stands_first
 stands_first-two pair x y rest = refl
 
 replaced_two : (pair : ℕ × ℕ) (c x y : ℕ) (rest : List ℕ) → is_pair pair x y ≡ true →
-    replaced pair c (x ∷ y ∷ rest) ≡ c ∷ replaced pair c rest
-unfolding replaced
+    block_after_pass pair c (x ∷ y ∷ rest) ≡ c ∷ block_after_pass pair c rest
+unfolding block_after_pass
 replaced_two pair c x y rest is = rw is refl
 
 -- a pair stands where it does at two neighbours
@@ -36,15 +36,15 @@ pub frontier-step : (symbols : List ℕ) (pair : ℕ × ℕ) (c k : ℕ) → k <
 unfolding stands_at
 frontier-step symbols pair c k within none = elim (cases_Bool (at symbols k == GAP)) [
   | inl is ↦ let gap_is : at symbols k ≡ GAP = eqb-true (at symbols k) GAP is in
-      ap (λ front. front ++ replaced pair c (live (drop (k + 1) symbols))) (live-last_gap symbols k within gap_is)
-      ∙ ap (λ rest. live (take k symbols) ++ replaced pair c rest) (sym (live-gap symbols k within gap_is))
+      ap (λ front. front ++ block_after_pass pair c (live (drop (k + 1) symbols))) (live-last_gap symbols k within gap_is)
+      ∙ ap (λ rest. live (take k symbols) ++ block_after_pass pair c rest) (sym (live-gap symbols k within gap_is))
   | inr symbol ↦ let passed : stands_first pair (at symbols k ∷ live (drop (k + 1) symbols)) ≡ false =
       rw symbol at (rw (live-here symbols k within symbol) at none) in
-      ap (λ front. front ++ replaced pair c (live (drop (k + 1) symbols))) (live-last_here symbols k within symbol)
-      ∙ append_assoc (live (take k symbols)) (at symbols k ∷ []) (replaced pair c (live (drop (k + 1) symbols)))
+      ap (λ front. front ++ block_after_pass pair c (live (drop (k + 1) symbols))) (live-last_here symbols k within symbol)
+      ∙ append_assoc (live (take k symbols)) (at symbols k ∷ []) (block_after_pass pair c (live (drop (k + 1) symbols)))
       ∙ ap (λ rest. live (take k symbols) ++ rest)
-      (sym (ap (replaced pair c) (live-here symbols k within symbol)
-      ∙ replaced-passed pair c (at symbols k) (live (drop (k + 1) symbols)) passed))
+      (sym (ap (block_after_pass pair c) (live-here symbols k within symbol)
+      ∙ block_after_pass-passed pair c (at symbols k) (live (drop (k + 1) symbols)) passed))
 ]
 
 pub frontier-moves : (symbols : List ℕ) (pair : ℕ × ℕ) (c n k : ℕ) → k + n ≤ length symbols →
@@ -65,11 +65,11 @@ module _ (symbols : List ℕ) (p m r c : ℕ) (near : AreNeighbours symbols p m)
   pub frontier-join : (pair : ℕ × ℕ) → is_pair pair (at symbols p) (at symbols m) ≡ true →
       passed_from then pair c (p + 1) ≡ passed_from symbols pair c p
   frontier-join pair is =
-      ap (λ front. front ++ replaced pair c (live (drop (p + 1) then))) (upto-live symbols p m r c near next_near fits)
-      ∙ append_assoc (live (take p symbols)) (c ∷ []) (replaced pair c (live (drop (p + 1) then)))
-      ∙ ap (λ rest. live (take p symbols) ++ c ∷ replaced pair c rest) (rest-live symbols p m r c near next_near fits)
+      ap (λ front. front ++ block_after_pass pair c (live (drop (p + 1) then))) (upto-live symbols p m r c near next_near fits)
+      ∙ append_assoc (live (take p symbols)) (c ∷ []) (block_after_pass pair c (live (drop (p + 1) then)))
+      ∙ ap (λ rest. live (take p symbols) ++ c ∷ block_after_pass pair c rest) (rest-live symbols p m r c near next_near fits)
       ∙ ap (λ rest. live (take p symbols) ++ rest)
-      (sym (ap (replaced pair c) (live-neighbours symbols p m near
+      (sym (ap (block_after_pass pair c) (live-neighbours symbols p m near
       ∙ ap (λ rest. at symbols p ∷ rest) (live-stands symbols m near.within near.right_stands))
       ∙ replaced_two pair c (at symbols p) (at symbols m) (live (drop (m + 1) symbols)) is))
 
@@ -162,9 +162,9 @@ module _ (symbols : List ℕ) (p m r c : ℕ) (near : AreNeighbours symbols p m)
     pub counts-joined : (other : ℕ × ℕ) → ((at symbols p == at symbols m) ≡ true → (at symbols l == at symbols p)
         ≡ false) →
         (c == at symbols p) ≡ false → (c == at symbols m) ≡ false → (c == at symbols r) ≡ false →
-        met other (live symbols) + times_of (left_come (live (take l symbols)) (at symbols l) c) other
+        replacement_count other (live symbols) + times_of (left_come (live (take l symbols)) (at symbols l) c) other
         + times_of (Some (c, at symbols r)) other
-        ≡ met other (live then)
+        ≡ replacement_count other (live then)
         + times_of (left_gone (live (take l symbols)) (at symbols l) (at symbols p) (at symbols m)) other
         + times_of (Some (at symbols p, at symbols m)) other
         + times_of (right_gone (at symbols p) (at symbols m) (at symbols r) rest) other

@@ -10,9 +10,9 @@ use Rattle.repair_grammar.specs.RePair.{is_pair}
 use Rattle.repair_grammar.specs.Counts.{met_after}
 use Rattle.repair_grammar.specs.Kept.{noted_at, times_of}
 use Rattle.repair_grammar.specs.Runs.{begins_odd, ends_odd, left_gone, right_gone, left_come}
-use Rattle.repair_grammar.specs.Threads.{at, live, AreThreads, HasEnds, IsPlain, IsCounted, IsPassing, IsAround, AreNeighbours, stands_at}
+use Rattle.repair_grammar.specs.Threads.{at, live, AreThreads, HasEnds, IsUnmarked, IsCounted, IsPassing, IsAround, AreNeighbours, stands_at}
 use Rattle.repair_grammar.specs.Joins.{plain_of, gone_left, gone_right, only_if, counts_left}
-use Rattle.repair_grammar.proofs.PassLemmas.{met-le, left_of_pair, right_of_pair, whole_pair, overlap_step, counted_step}
+use Rattle.repair_grammar.proofs.PassLemmas.{replacement_count-le, left_of_pair, right_of_pair, whole_pair, overlap_step, counted_step}
 use Rattle.repair_grammar.proofs.CountLemmas.{own_pair, times_of-own, times_of-some, times_of-none}
 use Rattle.repair_grammar.proofs.ThreadLemmas.{live-before, live-stands, upto-live}
 use Rattle.repair_grammar.proofs.RunLemmas.{ends_odd-last}
@@ -20,7 +20,7 @@ use Rattle.repair_grammar.proofs.FrontierLemmas.{counts-joined, stands-neighbour
 use Rattle.repair_grammar.proofs.CountedLemmas.{counted-joined, passing-join}
 use Rattle.repair_grammar.specs.declared.text.TheConstants.{END, GAP}
 
-module _ (other : ℕ × ℕ) (plain : IsPlain other) where
+module _ (other : ℕ × ℕ) (plain : IsUnmarked other) where
   pub plain_times : (x y : ℕ) → times_of (plain_of x y) other ≡ times_of (Some (x, y)) other
   unfolding plain_of times_of
   plain_times x y = elim (cases_Bool (nat_lt x END && nat_lt y END)) [
@@ -112,12 +112,12 @@ times_le (Some pair) other = elim (cases_Bool (is_pair other pair.0 pair.1)) [
 ]
 
 -- a pair that is to count once less, counts
-pub some_counts : (pair : Option (ℕ × ℕ)) (count : ℕ × ℕ → ℕ) → IfSome pair IsPlain →
-    ((own : ℕ × ℕ) → IsPlain own → times_of pair own ≤ count own) → IfSome pair (λ own. 0 < count own)
+pub some_counts : (pair : Option (ℕ × ℕ)) (count : ℕ × ℕ → ℕ) → IfSome pair IsUnmarked →
+    ((own : ℕ × ℕ) → IsUnmarked own → times_of pair own ≤ count own) → IfSome pair (λ own. 0 < count own)
 some_counts None count plain enough = search rules
 some_counts (Some pair) count plain enough = omega (arith, enough pair plain, times_of-own pair)
 
-pub plain_is : (x y : ℕ) → IfSome (plain_of x y) IsPlain
+pub plain_is : (x y : ℕ) → IfSome (plain_of x y) IsUnmarked
 unfolding plain_of
 plain_is x y = elim (cases_Bool (nat_lt x END && nat_lt y END)) [
   | inl both ↦ let parts = and_parts (nat_lt x END) (nat_lt y END) both in
@@ -125,7 +125,7 @@ plain_is x y = elim (cases_Bool (nat_lt x END && nat_lt y END)) [
   | inr mark ↦ rw mark (search rules)
 ]
 
-pub gone_left-plain : (odd : Bool) (x a b : ℕ) → a < END → IfSome (gone_left odd x a b) IsPlain
+pub gone_left-plain : (odd : Bool) (x a b : ℕ) → a < END → IfSome (gone_left odd x a b) IsUnmarked
 unfolding gone_left
 gone_left-plain odd x a b fits = elim (cases_Bool (x == a)) [
   | inl is ↦ rw is (elim (cases_Bool (not (a == b) && odd)) [
@@ -135,7 +135,7 @@ gone_left-plain odd x a b fits = elim (cases_Bool (x == a)) [
   | inr apart ↦ rw apart (plain_is x a)
 ]
 
-pub gone_right-plain : (odd : Bool) (a b y : ℕ) → b < END → IfSome (gone_right odd a b y) IsPlain
+pub gone_right-plain : (odd : Bool) (a b y : ℕ) → b < END → IfSome (gone_right odd a b y) IsUnmarked
 unfolding gone_right
 gone_right-plain odd a b y fits = elim (cases_Bool (y == b)) [
   | inl is ↦ rw is (elim (cases_Bool (not (a == b) && odd)) [
@@ -147,7 +147,7 @@ gone_right-plain odd a b y fits = elim (cases_Bool (y == b)) [
 
 -- a pair that counts by a step is plain
 pub counted_plain : (counts : Bool) (x y : ℕ) (other : ℕ × ℕ) → 0 < times_of (only_if counts (plain_of x y)) other →
-    IsPlain other
+    IsUnmarked other
 unfolding plain_of times_of
 counted_plain false x y other some = absurd (omega (arith, some))
 counted_plain true x y other some = elim (cases_Bool (nat_lt x END && nat_lt y END)) [
@@ -171,11 +171,11 @@ live-length (x ∷ symbols) = elim (cases_Bool (x == GAP)) [
 
 -- there is room for counts
 pub counted_room : (symbols : List ℕ) (count : ℕ × ℕ → ℕ) (places : ℕ × ℕ → List ℕ) (own : ℕ × ℕ) →
-    IsCounted symbols count places → IsPlain own → 2 * count own ≤ length symbols
+    IsCounted symbols count places → IsUnmarked own → 2 * count own ≤ length symbols
 counted_room symbols count places own counted plain = omega (
   arith,
   counted.counts own plain,
-  met-le own (live symbols),
+  replacement_count-le own (live symbols),
   live-length symbols,
 )
 
@@ -228,14 +228,14 @@ module _ (symbols : List ℕ) (p l m r before beyond c : ℕ) (around : IsAround
       + times_of (Some (a, b)) other
       + times_of (gone_right (begins_odd b (live (drop r symbols))) a b beyond) other
 
-  came-plain : (other : ℕ × ℕ) → 0 < came other → IsPlain other
+  came-plain : (other : ℕ × ℕ) → 0 < came other → IsUnmarked other
   came-plain other some = elim (cases_lt 0 (times_of (plain_of c beyond) other)) [
     | inl right ↦ counted_plain true c beyond other right
     | inr none ↦ counted_plain (counts_left (ends_odd c false (live (take p symbols))) before c) before c other
         (omega (arith, some, none))
   ]
 
-  pub came_is : (other : ℕ × ℕ) → IsPlain other → came other
+  pub came_is : (other : ℕ × ℕ) → IsUnmarked other → came other
       ≡ times_of (left_come (live (take l symbols)) (at symbols l) c) other + times_of (Some (c, at symbols r)) other
   came_is other plain = rw (
     sym around.before_is,
@@ -245,7 +245,7 @@ module _ (symbols : List ℕ) (p l m r before beyond c : ℕ) (around : IsAround
     plain_times other plain c (at symbols r),
   ) refl
 
-  pub went_is : (other : ℕ × ℕ) → IsPlain other → went other
+  pub went_is : (other : ℕ × ℕ) → IsUnmarked other → went other
       ≡ times_of (left_gone (live (take l symbols)) (at symbols l) (at symbols p) (at symbols m)) other
       + times_of (Some (at symbols p, at symbols m)) other
       + times_of (right_gone (at symbols p) (at symbols m) (at symbols r) (live (drop (r + 1) symbols))) other
@@ -264,7 +264,7 @@ module _ (symbols : List ℕ) (p l m r before beyond c : ℕ) (around : IsAround
   pub went_counts : (count : ℕ × ℕ → ℕ) (places : ℕ × ℕ → List ℕ) → IsCounted symbols count places →
       ((a == b) ≡ true → (before == a) ≡ false) →
       (c == a) ≡ false → (c == b) ≡ false → (c == beyond) ≡ false →
-      (other : ℕ × ℕ) → IsPlain other → went other ≤ count other + came other
+      (other : ℕ × ℕ) → IsUnmarked other → went other ≤ count other + came other
   went_counts count places counted begins new_a new_b new_r other plain = omega (
     arith,
     counted.counts other plain,
@@ -322,7 +322,7 @@ module _ (symbols : List ℕ) (p l m r before beyond c : ℕ) (around : IsAround
       (rw (is_a, is_b) (own_pair a b))
 
 -- one step of the first count
-pub first_step : (taken : Bool) (pair : ℕ × ℕ) (x : ℕ) (rest : List ℕ) (i : ℕ) → i < length rest → IsPlain pair →
+pub first_step : (taken : Bool) (pair : ℕ × ℕ) (x : ℕ) (rest : List ℕ) (i : ℕ) → i < length rest → IsUnmarked pair →
     met_after taken pair (x ∷ drop i rest)
     ≡ times_of (only_if (not (taken && (x == get_or rest i 0))) (plain_of x (get_or rest i 0))) pair
     + met_after (not (taken && (x == get_or rest i 0)) && (x == get_or rest i 0)) pair
@@ -353,8 +353,8 @@ pub first_noted : (row : List ℕ) (old new : ℕ × ℕ → List ℕ) (i x y : 
     ((j : ℕ) → j < length row → at row j < GAP) → i + 1 < length row → at row i ≡ x → at row (i + 1) ≡ y →
     ((pair : ℕ × ℕ) (k : ℕ) → Contains (old pair) k → Contains (new pair) k) →
     IfSome (plain_of x y) (λ own. Contains (new own) i) →
-    ((pair : ℕ × ℕ) (k : ℕ) → IsPlain pair → k < i → stands_at row pair k ≡ true → Contains (old pair) k) →
-    (pair : ℕ × ℕ) (k : ℕ) → IsPlain pair → k < i + 1 → stands_at row pair k ≡ true → Contains (new pair) k
+    ((pair : ℕ × ℕ) (k : ℕ) → IsUnmarked pair → k < i → stands_at row pair k ≡ true → Contains (old pair) k) →
+    (pair : ℕ × ℕ) (k : ℕ) → IsUnmarked pair → k < i + 1 → stands_at row pair k ≡ true → Contains (new pair) k
 first_noted row old new i x y words inside is_x is_y keeps own before pair k plain below stands =
     elim (cases_lt k i) [
       | inl less ↦ keeps pair k (before pair k plain less stands)

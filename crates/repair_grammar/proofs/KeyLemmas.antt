@@ -11,7 +11,7 @@ use Rattle.std.proofs.lemmas.List.Elements.{Contains-append_left, Contains-appen
 use Rattle.std.proofs.lemmas.List.Sums.{sum_by-cons}
 use Rattle.list_laws.proofs.MemberLemmas.{Contains-map, Contains-filter, find-only, filter-none, member_of_filter, member_of_map, member_of_find, list_any-none, none_from_list_any}
 use Rattle.repair_grammar.specs.declared.key.Key.{Key}
-use Rattle.repair_grammar.specs.RePair.{met, pair_count, pairs_in, key_of, key_cmp, key_order, is_first_of, keys_of, first_key}
+use Rattle.repair_grammar.specs.RePair.{replacement_count, pair_count, pairs_in, key_of, key_cmp, key_order, is_first_of, keys_of, first_key}
 use Rattle.repair_grammar.specs.Counts.{IsFirst, AllBelowTwo}
 use Rattle.repair_grammar.proofs.PassLemmas.{met_stands}
 
@@ -56,13 +56,13 @@ first_key-only keys key inside none = find-only (is_first_of keys) keys key insi
     (none_from_list_any (λ third. is_lt (key_order third other)) keys key (not-true _ is) inside))
 
 -- a pair that counts stands in some block
-pub counted_stands : (blocks : List (List ℕ)) (pair : ℕ × ℕ) → 0 < sum_by (met pair) blocks →
+pub counted_stands : (blocks : List (List ℕ)) (pair : ℕ × ℕ) → 0 < sum_by (replacement_count pair) blocks →
     Contains (flat_map pairs_in blocks) pair
 counted_stands [] pair some = absurd (omega arith)
-counted_stands (block ∷ blocks) pair some = elim (cases_lt 0 (met pair block)) [
+counted_stands (block ∷ blocks) pair some = elim (cases_lt 0 (replacement_count pair block)) [
   | inl here ↦ Contains-append_left (pairs_in block) (flat_map pairs_in blocks) pair (met_stands pair block here)
   | inr none ↦ Contains-append_right (pairs_in block) (flat_map pairs_in blocks) pair
-      (counted_stands blocks pair (omega (arith, sum_by-cons (met pair) block blocks)))
+      (counted_stands blocks pair (omega (arith, sum_by-cons (replacement_count pair) block blocks)))
 ]
 
 -- a pair that counts two has a key

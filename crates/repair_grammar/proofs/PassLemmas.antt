@@ -5,7 +5,7 @@ use Rattle.std.proofs.lemmas.Bool.{cases_Bool, and_parts, and_left, and_right, a
 use Rattle.std.proofs.lemmas.List.{take_more_set, drop-set-lt, drop-drop}
 use Rattle.std.proofs.Math.Seq.{drop-cons}
 use Rattle.list_laws.proofs.MemberLemmas.{first_member, later_member}
-use Rattle.repair_grammar.specs.RePair.{is_pair, met, replaced, pairs_in}
+use Rattle.repair_grammar.specs.RePair.{is_pair, replacement_count, block_after_pass, pairs_in}
 use Rattle.repair_grammar.specs.Counts.{met_after, stands_first}
 
 -- the two symbols of a pair that is met
@@ -19,29 +19,29 @@ pub whole_pair : (pair : ℕ × ℕ) (x y : ℕ) → is_pair pair x y ≡ true �
 whole_pair pair x y is = λ i. (left_of_pair pair x y is i, right_of_pair pair x y is i)
 
 -- each replacement takes one symbol away
-pub length-replaced : (pair : ℕ × ℕ) (symbol : ℕ) (block : List ℕ) →
-    length (replaced pair symbol block) + met pair block ≡ length block
-unfolding replaced met
-length-replaced pair symbol [] = refl
-length-replaced pair symbol (x ∷ []) = refl
-length-replaced pair symbol (x ∷ y ∷ rest) = elim (cases_Bool (is_pair pair x y)) [
-  | inl is ↦ rw is (omega (arith, length-replaced pair symbol rest))
-  | inr other ↦ rw other (omega (arith, length-replaced pair symbol (y ∷ rest)))
+pub length-block_after_pass : (pair : ℕ × ℕ) (symbol : ℕ) (block : List ℕ) →
+    length (block_after_pass pair symbol block) + replacement_count pair block ≡ length block
+unfolding block_after_pass replacement_count
+length-block_after_pass pair symbol [] = refl
+length-block_after_pass pair symbol (x ∷ []) = refl
+length-block_after_pass pair symbol (x ∷ y ∷ rest) = elim (cases_Bool (is_pair pair x y)) [
+  | inl is ↦ rw is (omega (arith, length-block_after_pass pair symbol rest))
+  | inr other ↦ rw other (omega (arith, length-block_after_pass pair symbol (y ∷ rest)))
 ]
 
 -- each one takes two
-pub met-le : (pair : ℕ × ℕ) (block : List ℕ) → 2 * met pair block ≤ length block
-unfolding met
-met-le pair [] = omega arith
-met-le pair (x ∷ []) = omega arith
-met-le pair (x ∷ y ∷ rest) = elim (cases_Bool (is_pair pair x y)) [
-  | inl is ↦ rw is (omega (arith, met-le pair rest))
-  | inr other ↦ rw other (omega (arith, met-le pair (y ∷ rest)))
+pub replacement_count-le : (pair : ℕ × ℕ) (block : List ℕ) → 2 * replacement_count pair block ≤ length block
+unfolding replacement_count
+replacement_count-le pair [] = omega arith
+replacement_count-le pair (x ∷ []) = omega arith
+replacement_count-le pair (x ∷ y ∷ rest) = elim (cases_Bool (is_pair pair x y)) [
+  | inl is ↦ rw is (omega (arith, replacement_count-le pair rest))
+  | inr other ↦ rw other (omega (arith, replacement_count-le pair (y ∷ rest)))
 ]
 
 -- a pair that is met stands side by side
-pub met_stands : (pair : ℕ × ℕ) (block : List ℕ) → 0 < met pair block → Contains (pairs_in block) pair
-unfolding met pairs_in
+pub met_stands : (pair : ℕ × ℕ) (block : List ℕ) → 0 < replacement_count pair block → Contains (pairs_in block) pair
+unfolding replacement_count pairs_in
 met_stands pair [] some = absurd (omega arith)
 met_stands pair (x ∷ []) some = absurd (omega arith)
 met_stands pair (x ∷ y ∷ rest) some = elim (cases_Bool (is_pair pair x y)) [
@@ -50,37 +50,37 @@ met_stands pair (x ∷ y ∷ rest) some = elim (cases_Bool (is_pair pair x y)) [
 ]
 
 -- a symbol that isn't the left one is passed
-pub met-other : (pair : ℕ × ℕ) (x : ℕ) (rest : List ℕ) → (x == pair.0) ≡ false → met pair (x ∷ rest) ≡ met pair rest
-unfolding met
-met-other pair x [] other = refl
-met-other pair x (y ∷ rest) other = rw (and_left (x == pair.0) (y == pair.1) other) refl
+pub replacement_count-other : (pair : ℕ × ℕ) (x : ℕ) (rest : List ℕ) → (x == pair.0) ≡ false → replacement_count pair (x ∷ rest) ≡ replacement_count pair rest
+unfolding replacement_count
+replacement_count-other pair x [] other = refl
+replacement_count-other pair x (y ∷ rest) other = rw (and_left (x == pair.0) (y == pair.1) other) refl
 
 -- nothing is met where no two symbols stand
-pub met-none : (pair : ℕ × ℕ) → met pair [] ≡ 0
-unfolding met
-met-none pair = refl
+pub replacement_count-none : (pair : ℕ × ℕ) → replacement_count pair [] ≡ 0
+unfolding replacement_count
+replacement_count-none pair = refl
 
 pub met_after-single : (taken : Bool) (pair : ℕ × ℕ) (x : ℕ) → met_after taken pair (x ∷ []) ≡ 0
-unfolding met_after met
+unfolding met_after replacement_count
 met_after-single taken pair x =
     elim (cases_Bool (taken && is_pair pair x x)) [ inl is ↦ rw is refl | inr other ↦ rw other refl ]
 
 -- with nothing taken, what is still met is what is met
-pub met_after-fresh : (pair : ℕ × ℕ) (block : List ℕ) → met_after false pair block ≡ met pair block
-unfolding met_after met
+pub met_after-fresh : (pair : ℕ × ℕ) (block : List ℕ) → met_after false pair block ≡ replacement_count pair block
+unfolding met_after replacement_count
 met_after-fresh pair [] = refl
 met_after-fresh pair (x ∷ rest) = refl
 
 -- in a run, a pair that overlaps the one taken before it is passed
 pub met_after-overlap : (pair : ℕ × ℕ) (x : ℕ) (rest : List ℕ) →
     met_after true pair (x ∷ x ∷ rest) ≡ met_after false pair (x ∷ rest)
-unfolding met_after met
+unfolding met_after replacement_count
 met_after-overlap pair x rest = elim (cases_Bool (is_pair pair x x)) [ inl is ↦ rw is refl | inr other ↦ rw other refl ]
 
 -- each other pair counts: of two alike symbols, where nothing is taken
 counted_alike : (pair : ℕ × ℕ) (x : ℕ) (rest : List ℕ) →
     met_after false pair (x ∷ x ∷ rest) ≡ cond (is_pair pair x x) 1 0 + met_after true pair (x ∷ rest)
-unfolding met_after met
+unfolding met_after replacement_count
 counted_alike pair x rest = elim (cases_Bool (is_pair pair x x)) [
   | inl is ↦ rw is (omega arith)
   | inr other ↦ rw other (omega arith)
@@ -96,12 +96,12 @@ passed_next pair x y apart is = ne_eqb y pair.0 (λ same. eqb-false x y apart (l
 
 counted_apart : (taken : Bool) (pair : ℕ × ℕ) (x y : ℕ) (rest : List ℕ) → (x == y) ≡ false →
     met_after taken pair (x ∷ y ∷ rest) ≡ cond (is_pair pair x y) 1 0 + met_after false pair (y ∷ rest)
-unfolding met_after met
+unfolding met_after replacement_count
 counted_apart taken pair x y rest apart = elim (cases_Bool (is_pair pair x y)) [
   | inl is ↦ rw (
     and_right taken (is_pair pair x x) (apart_from pair x y apart is),
     is,
-    met-other pair y rest (passed_next pair x y apart is),
+    replacement_count-other pair y rest (passed_next pair x y apart is),
   ) (omega arith)
   | inr other ↦ elim (cases_Bool (taken && is_pair pair x x)) [
     | inl alike ↦ rw (alike, other) (omega arith)
@@ -158,18 +158,18 @@ stands_first-long pair (x ∷ []) long = absurd (omega arith)
 stands_first-long pair (x ∷ y ∷ rest) long = refl
 
 -- one step of the pass
-pub replaced-met : (pair : ℕ × ℕ) (symbol : ℕ) (block : List ℕ) → stands_first pair block ≡ true →
-    replaced pair symbol block ≡ symbol ∷ replaced pair symbol (drop 2 block)
-unfolding replaced stands_first
-replaced-met pair symbol [] stands = absurd (cc)
-replaced-met pair symbol (x ∷ []) stands = absurd (cc)
-replaced-met pair symbol (x ∷ y ∷ rest) stands = rw stands refl
+pub block_after_pass-replacement_count : (pair : ℕ × ℕ) (symbol : ℕ) (block : List ℕ) → stands_first pair block ≡ true →
+    block_after_pass pair symbol block ≡ symbol ∷ block_after_pass pair symbol (drop 2 block)
+unfolding block_after_pass stands_first
+block_after_pass-replacement_count pair symbol [] stands = absurd (cc)
+block_after_pass-replacement_count pair symbol (x ∷ []) stands = absurd (cc)
+block_after_pass-replacement_count pair symbol (x ∷ y ∷ rest) stands = rw stands refl
 
-pub replaced-passed : (pair : ℕ × ℕ) (symbol x : ℕ) (rest : List ℕ) → stands_first pair (x ∷ rest) ≡ false →
-    replaced pair symbol (x ∷ rest) ≡ x ∷ replaced pair symbol rest
-unfolding replaced stands_first
-replaced-passed pair symbol x [] passed = refl
-replaced-passed pair symbol x (y ∷ rest) passed = rw passed refl
+pub block_after_pass-passed : (pair : ℕ × ℕ) (symbol x : ℕ) (rest : List ℕ) → stands_first pair (x ∷ rest) ≡ false →
+    block_after_pass pair symbol (x ∷ rest) ≡ x ∷ block_after_pass pair symbol rest
+unfolding block_after_pass stands_first
+block_after_pass-passed pair symbol x [] passed = refl
+block_after_pass-passed pair symbol x (y ∷ rest) passed = rw passed refl
 
 -- a symbol that is written before what is still to be read
 pub put_before : (f : List ℕ → List ℕ) (items : List ℕ) (written read x : ℕ) → written < read → written < length items →
@@ -182,33 +182,33 @@ put_before f items written read x before below =
 module _ (pair : ℕ × ℕ) (symbol : ℕ) (items : List ℕ) (written read : ℕ) (behind : written ≤ read)
     (within : read < length items) where
   pub step_met : stands_first pair (drop read items) ≡ true →
-      take (written + 1) (set items written symbol) ++ replaced pair symbol (drop (read + 2) (set items written symbol))
-      ≡ take written items ++ replaced pair symbol (drop read items)
-  step_met stands = put_before (replaced pair symbol) items written (read + 2) symbol (omega arith) (omega arith)
+      take (written + 1) (set items written symbol) ++ block_after_pass pair symbol (drop (read + 2) (set items written symbol))
+      ≡ take written items ++ block_after_pass pair symbol (drop read items)
+  step_met stands = put_before (block_after_pass pair symbol) items written (read + 2) symbol (omega arith) (omega arith)
       ∙ sym (ap (λ rest. take written items ++ rest)
-      (replaced-met pair symbol (drop read items) stands
-      ∙ ap (λ rest. symbol ∷ replaced pair symbol rest) (drop-drop 2 read items)))
+      (block_after_pass-replacement_count pair symbol (drop read items) stands
+      ∙ ap (λ rest. symbol ∷ block_after_pass pair symbol rest) (drop-drop 2 read items)))
 
   pub step_passed : (x : ℕ) → x ≡ get_or items read 0 → stands_first pair (drop read items) ≡ false →
-      take (written + 1) (set items written x) ++ replaced pair symbol (drop (read + 1) (set items written x))
-      ≡ take written items ++ replaced pair symbol (drop read items)
+      take (written + 1) (set items written x) ++ block_after_pass pair symbol (drop (read + 1) (set items written x))
+      ≡ take written items ++ block_after_pass pair symbol (drop read items)
   step_passed x is passed = let here : drop read items ≡ x ∷ drop (read + 1) items =
       rw (is, add-one) (drop-cons items read 0 within) in
-      put_before (replaced pair symbol) items written (read + 1) x (omega arith) (omega arith)
-      ∙ sym (ap (λ rest. take written items ++ rest) (ap (replaced pair symbol) here
-      ∙ replaced-passed pair symbol x (drop (read + 1) items) (rw here at passed)))
+      put_before (block_after_pass pair symbol) items written (read + 1) x (omega arith) (omega arith)
+      ∙ sym (ap (λ rest. take written items ++ rest) (ap (block_after_pass pair symbol) here
+      ∙ block_after_pass-passed pair symbol x (drop (read + 1) items) (rw here at passed)))
 
 -- nothing is left
-pub replaced-none : (pair : ℕ × ℕ) (symbol : ℕ) → replaced pair symbol [] ≡ []
-unfolding replaced
-replaced-none pair symbol = refl
+pub block_after_pass-none : (pair : ℕ × ℕ) (symbol : ℕ) → block_after_pass pair symbol [] ≡ []
+unfolding block_after_pass
+block_after_pass-none pair symbol = refl
 
 -- a symbol more counts at most once
-pub met-step : (pair : ℕ × ℕ) (x : ℕ) (rest : List ℕ) →
-    (met pair rest ≤ met pair (x ∷ rest)) × (met pair (x ∷ rest) ≤ suc (met pair rest))
-unfolding met
-met-step pair x [] = (omega arith, omega arith)
-met-step pair x (y ∷ rest) = let later = met-step pair y rest in elim (cases_Bool (is_pair pair x y)) [
+pub replacement_count-step : (pair : ℕ × ℕ) (x : ℕ) (rest : List ℕ) →
+    (replacement_count pair rest ≤ replacement_count pair (x ∷ rest)) × (replacement_count pair (x ∷ rest) ≤ suc (replacement_count pair rest))
+unfolding replacement_count
+replacement_count-step pair x [] = (omega arith, omega arith)
+replacement_count-step pair x (y ∷ rest) = let later = replacement_count-step pair y rest in elim (cases_Bool (is_pair pair x y)) [
   | inl is ↦ rw is (later.1, omega (arith, later.0))
   | inr apart ↦ rw apart (omega arith, omega arith)
 ]

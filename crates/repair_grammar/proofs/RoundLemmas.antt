@@ -5,35 +5,35 @@ use Rattle.std.proofs.lemmas.List.{length-append}
 use Rattle.std.proofs.lemmas.List.Sums.{sum_by-cons}
 use Rattle.repair_grammar.specs.declared.grammar.Grammar.{Grammar}
 use Rattle.repair_grammar.specs.declared.key.Key.{Key}
-use Rattle.repair_grammar.specs.RePair.{met, replaced, pair_count, key_of, keys_of, first_key, after_round, rounds, re_pair}
+use Rattle.repair_grammar.specs.RePair.{replacement_count, block_after_pass, pair_count, key_of, keys_of, first_key, after_round, rounds, re_pair}
 use Rattle.repair_grammar.specs.Counts.{IsFirst, AllBelowTwo}
-use Rattle.repair_grammar.proofs.PassLemmas.{length-replaced, met-le}
+use Rattle.repair_grammar.proofs.PassLemmas.{length-block_after_pass, replacement_count-le}
 use Rattle.repair_grammar.proofs.KeyLemmas.{key_taken, no_key, taken_is}
 use Rattle.repair_grammar.proofs.FirstLemmas.{none_counts_two}
 
 -- how many symbols the passes leave
-pub symbols-replaced : (pair : ℕ × ℕ) (symbol : ℕ) (blocks : List (List ℕ)) →
-    sum_by length (map (replaced pair symbol) blocks) + sum_by (met pair) blocks ≡ sum_by length blocks
-symbols-replaced pair symbol [] = refl
-symbols-replaced pair symbol (block ∷ blocks) =
+pub symbols-block_after_pass : (pair : ℕ × ℕ) (symbol : ℕ) (blocks : List (List ℕ)) →
+    sum_by length (map (block_after_pass pair symbol) blocks) + sum_by (replacement_count pair) blocks ≡ sum_by length blocks
+symbols-block_after_pass pair symbol [] = refl
+symbols-block_after_pass pair symbol (block ∷ blocks) =
     omega (
       arith,
-      length-replaced pair symbol block,
-      symbols-replaced pair symbol blocks,
+      length-block_after_pass pair symbol block,
+      symbols-block_after_pass pair symbol blocks,
       sum_by-cons length block blocks,
-      sum_by-cons (met pair) block blocks,
-      sum_by-cons length (replaced pair symbol block) (map (replaced pair symbol) blocks),
+      sum_by-cons (replacement_count pair) block blocks,
+      sum_by-cons length (block_after_pass pair symbol block) (map (block_after_pass pair symbol) blocks),
     )
 
 -- a pair's count is at most half of the symbols
-pub counts-le : (pair : ℕ × ℕ) (blocks : List (List ℕ)) → 2 * sum_by (met pair) blocks ≤ sum_by length blocks
+pub counts-le : (pair : ℕ × ℕ) (blocks : List (List ℕ)) → 2 * sum_by (replacement_count pair) blocks ≤ sum_by length blocks
 counts-le pair [] = omega arith
 counts-le pair (block ∷ blocks) = omega (
   arith,
-  met-le pair block,
+  replacement_count-le pair block,
   counts-le pair blocks,
   sum_by-cons length block blocks,
-  sum_by-cons (met pair) block blocks,
+  sum_by-cons (replacement_count pair) block blocks,
 )
 
 -- a round takes two symbols away
@@ -41,7 +41,7 @@ pub round_shorter : (alphabet : ℕ) (grammar : Grammar) (key : Key) → first_k
     2 + sum_by length (after_round alphabet grammar key.pair).blocks ≤ sum_by length grammar.blocks
 unfolding after_round pair_count
 round_shorter alphabet grammar key taken = let known = taken_is grammar.blocks key taken in
-    omega (arith, symbols-replaced key.pair (alphabet + length grammar.rules) grammar.blocks, known.count, known.two)
+    omega (arith, symbols-block_after_pass key.pair (alphabet + length grammar.rules) grammar.blocks, known.count, known.two)
 
 -- a round more, or none
 pub rounds-some : (more alphabet : ℕ) (grammar : Grammar) (key : Key) → first_key (keys_of grammar.blocks) ≡ Some key →
@@ -145,7 +145,7 @@ pub record IsNext (alphabet : ℕ) (rules : List (ℕ × ℕ)) (blocks : List (L
 
 pub next_is : (alphabet : ℕ) (rules : List (ℕ × ℕ)) (blocks : List (List ℕ)) (pair : ℕ × ℕ) →
     IsFirst (pair_count blocks) pair →
-    IsNext alphabet rules blocks (rules ++ pair ∷ []) (map (replaced pair (alphabet + length rules)) blocks)
+    IsNext alphabet rules blocks (rules ++ pair ∷ []) (map (block_after_pass pair (alphabet + length rules)) blocks)
 unfolding after_round
 next_is alphabet rules blocks pair first =
     let grammar : Grammar = record { rules = rules; blocks = blocks } in

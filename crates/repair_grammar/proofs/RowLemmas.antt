@@ -4,16 +4,16 @@ use Rattle.std.specs.List.{AllByRecursion}
 use Rattle.std.proofs.lemmas.Bool.{cases_Bool, and_right, eqb-true, eq-eqb, ne_eqb}
 use Rattle.std.proofs.lemmas.List.{append-nil, get_or_past, get_or_push, length-append}
 use Rattle.std.proofs.lemmas.List.Sums.{sum_by-cons}
-use Rattle.repair_grammar.specs.RePair.{is_pair, met, replaced, pair_count, AreBelow}
-use Rattle.repair_grammar.specs.Threads.{at, live, row_of, HasEnds}
-use Rattle.repair_grammar.proofs.PassLemmas.{met-none, met-other, replaced-none}
+use Rattle.repair_grammar.specs.RePair.{is_pair, replacement_count, block_after_pass, pair_count, AreBelow}
+use Rattle.repair_grammar.specs.Threads.{at, live, marked_row, HasEnds}
+use Rattle.repair_grammar.proofs.PassLemmas.{replacement_count-none, replacement_count-other, block_after_pass-none}
 use Rattle.repair_grammar.proofs.ThreadLemmas.{live_first}
 use Rattle.repair_grammar.specs.declared.text.TheConstants.{END, GAP}
 
-row-cons : (blocks : List (List ℕ)) → (rest : List ℕ) × (row_of blocks ≡ END ∷ rest)
-unfolding row_of
+row-cons : (blocks : List (List ℕ)) → (rest : List ℕ) × (marked_row blocks ≡ END ∷ rest)
+unfolding marked_row
 row-cons [] = ([], refl)
-row-cons (block ∷ blocks) = (block ++ row_of blocks, refl)
+row-cons (block ∷ blocks) = (block ++ marked_row blocks, refl)
 
 module _ (pair : ℕ × ℕ) (left : pair.0 < END) (right : pair.1 < END) where
   not_left : (END == pair.0) ≡ false
@@ -23,68 +23,68 @@ module _ (pair : ℕ × ℕ) (left : pair.0 < END) (right : pair.1 < END) where
   not_right x = let none : (END == pair.1) ≡ false =
       ne_eqb END pair.1 (λ same. omega (arith, same, right)) in rw none (and_right (x == pair.0) false refl)
 
-  met-mark : (rest : List ℕ) → met pair (END ∷ rest) ≡ met pair rest
-  met-mark rest = met-other pair END rest not_left
+  replacement_count-mark : (rest : List ℕ) → replacement_count pair (END ∷ rest) ≡ replacement_count pair rest
+  replacement_count-mark rest = replacement_count-other pair END rest not_left
 
-  met-block : (block rest : List ℕ) → met pair (block ++ END ∷ rest) ≡ met pair block + met pair rest
-  unfolding met
-  met-block [] rest = omega (arith, met-mark rest)
-  met-block (x ∷ []) rest = rw (not_right x) (omega (arith, met-mark rest))
-  met-block (x ∷ y ∷ block) rest = elim (cases_Bool (is_pair pair x y)) [
-    | inl is ↦ rw is (omega (arith, met-block block rest))
-    | inr other ↦ rw other (met-block (y ∷ block) rest)
+  replacement_count-block : (block rest : List ℕ) → replacement_count pair (block ++ END ∷ rest) ≡ replacement_count pair block + replacement_count pair rest
+  unfolding replacement_count
+  replacement_count-block [] rest = omega (arith, replacement_count-mark rest)
+  replacement_count-block (x ∷ []) rest = rw (not_right x) (omega (arith, replacement_count-mark rest))
+  replacement_count-block (x ∷ y ∷ block) rest = elim (cases_Bool (is_pair pair x y)) [
+    | inl is ↦ rw is (omega (arith, replacement_count-block block rest))
+    | inr other ↦ rw other (replacement_count-block (y ∷ block) rest)
   ]
 
   -- the count over the row
-  pub met-row : (blocks : List (List ℕ)) → met pair (row_of blocks) ≡ pair_count blocks pair
-  unfolding row_of pair_count
-  met-row [] = met-mark [] ∙ met-none pair
-  met-row (block ∷ blocks) = let tail = row-cons blocks in
-      met-mark (block ++ row_of blocks)
-      ∙ ap (λ row. met pair (block ++ row)) tail.1
-      ∙ met-block block tail.0
-      ∙ ap (λ n. met pair block + n) (sym (met-mark tail.0) ∙ ap (met pair) (sym tail.1) ∙ met-row blocks)
-      ∙ omega (arith, sum_by-cons (met pair) block blocks)
+  pub replacement_count-row : (blocks : List (List ℕ)) → replacement_count pair (marked_row blocks) ≡ pair_count blocks pair
+  unfolding marked_row pair_count
+  replacement_count-row [] = replacement_count-mark [] ∙ replacement_count-none pair
+  replacement_count-row (block ∷ blocks) = let tail = row-cons blocks in
+      replacement_count-mark (block ++ marked_row blocks)
+      ∙ ap (λ row. replacement_count pair (block ++ row)) tail.1
+      ∙ replacement_count-block block tail.0
+      ∙ ap (λ n. replacement_count pair block + n) (sym (replacement_count-mark tail.0) ∙ ap (replacement_count pair) (sym tail.1) ∙ replacement_count-row blocks)
+      ∙ omega (arith, sum_by-cons (replacement_count pair) block blocks)
 
   module _ (symbol : ℕ) where
-    replaced-mark : (rest : List ℕ) →
-        replaced pair symbol (END ∷ rest) ≡ END ∷ replaced pair symbol rest
-    unfolding replaced
-    replaced-mark [] = refl
-    replaced-mark (x ∷ rest) = rw not_left refl
+    block_after_pass-mark : (rest : List ℕ) →
+        block_after_pass pair symbol (END ∷ rest) ≡ END ∷ block_after_pass pair symbol rest
+    unfolding block_after_pass
+    block_after_pass-mark [] = refl
+    block_after_pass-mark (x ∷ rest) = rw not_left refl
 
-    replaced-block : (block rest : List ℕ) → replaced pair symbol (block ++ END ∷ rest)
-        ≡ replaced pair symbol block ++ END ∷ replaced pair symbol rest
-    unfolding replaced
-    replaced-block [] rest = replaced-mark rest
-    replaced-block (x ∷ []) rest = rw (not_right x) (ap (λ tail. x ∷ tail) (replaced-mark rest))
-    replaced-block (x ∷ y ∷ block) rest = elim (cases_Bool (is_pair pair x y)) [
-      | inl is ↦ rw is (ap (λ tail. symbol ∷ tail) (replaced-block block rest))
-      | inr other ↦ rw other (ap (λ tail. x ∷ tail) (replaced-block (y ∷ block) rest))
+    block_after_pass-block : (block rest : List ℕ) → block_after_pass pair symbol (block ++ END ∷ rest)
+        ≡ block_after_pass pair symbol block ++ END ∷ block_after_pass pair symbol rest
+    unfolding block_after_pass
+    block_after_pass-block [] rest = block_after_pass-mark rest
+    block_after_pass-block (x ∷ []) rest = rw (not_right x) (ap (λ tail. x ∷ tail) (block_after_pass-mark rest))
+    block_after_pass-block (x ∷ y ∷ block) rest = elim (cases_Bool (is_pair pair x y)) [
+      | inl is ↦ rw is (ap (λ tail. symbol ∷ tail) (block_after_pass-block block rest))
+      | inr other ↦ rw other (ap (λ tail. x ∷ tail) (block_after_pass-block (y ∷ block) rest))
     ]
 
     -- the pass through the row
-    pub replaced-row : (blocks : List (List ℕ)) →
-        replaced pair symbol (row_of blocks) ≡ row_of (map (replaced pair symbol) blocks)
-    unfolding row_of
-    replaced-row [] = replaced-mark [] ∙ ap (λ rest. END ∷ rest) (replaced-none pair symbol)
-    replaced-row (block ∷ blocks) = let tail = row-cons blocks in
-        replaced-mark (block ++ row_of blocks)
-        ∙ ap (λ rest. END ∷ rest) (ap (λ row. replaced pair symbol (block ++ row)) tail.1
-        ∙ replaced-block block tail.0
-        ∙ ap (λ row. replaced pair symbol block ++ row) (sym (replaced-mark tail.0)
-        ∙ ap (replaced pair symbol) (sym tail.1) ∙ replaced-row blocks))
+    pub block_after_pass-row : (blocks : List (List ℕ)) →
+        block_after_pass pair symbol (marked_row blocks) ≡ marked_row (map (block_after_pass pair symbol) blocks)
+    unfolding marked_row
+    block_after_pass-row [] = block_after_pass-mark [] ∙ ap (λ rest. END ∷ rest) (block_after_pass-none pair symbol)
+    block_after_pass-row (block ∷ blocks) = let tail = row-cons blocks in
+        block_after_pass-mark (block ++ marked_row blocks)
+        ∙ ap (λ rest. END ∷ rest) (ap (λ row. block_after_pass pair symbol (block ++ row)) tail.1
+        ∙ block_after_pass-block block tail.0
+        ∙ ap (λ row. block_after_pass pair symbol block ++ row) (sym (block_after_pass-mark tail.0)
+        ∙ ap (block_after_pass pair symbol) (sym tail.1) ∙ block_after_pass-row blocks))
 
 -- the row of no block, and of one more
-pub row_none : row_of [] ≡ END ∷ []
-unfolding row_of
+pub row_none : marked_row [] ≡ END ∷ []
+unfolding marked_row
 row_none = refl
 
 pub row_more : (front block : List ℕ) (blocks : List (List ℕ)) →
-    ((front ++ END ∷ []) ++ block) ++ row_of blocks ≡ front ++ row_of (block ∷ blocks)
-unfolding row_of
-row_more front block blocks = append_assoc (front ++ END ∷ []) block (row_of blocks)
-    ∙ append_assoc front (END ∷ []) (block ++ row_of blocks)
+    ((front ++ END ∷ []) ++ block) ++ marked_row blocks ≡ front ++ marked_row (block ∷ blocks)
+unfolding marked_row
+row_more front block blocks = append_assoc (front ++ END ∷ []) block (marked_row blocks)
+    ∙ append_assoc front (END ∷ []) (block ++ marked_row blocks)
 
 -- what is cut from a row with gaps, where a block was begun
 pub cut : List ℕ → List ℕ → List (List ℕ)
@@ -134,9 +134,9 @@ cut-block front (x ∷ block) rest below =
     ∙ cut-block (front ++ x ∷ []) block rest below.1
     ∙ ap (λ xs. xs ∷ cut [] rest) (append_assoc front (x ∷ []) block)
 
-cut-row : (blocks : List (List ℕ)) (tail : List ℕ) → AreBelow END blocks → row_of blocks ≡ END ∷ tail →
+cut-row : (blocks : List (List ℕ)) (tail : List ℕ) → AreBelow END blocks → marked_row blocks ≡ END ∷ tail →
     cut [] tail ≡ blocks
-unfolding row_of AreBelow
+unfolding marked_row AreBelow
 cut-row [] tail below is = ap (cut []) (sym (ap (drop 1) is)) ∙ cut-none []
 cut-row (block ∷ blocks) tail below is =
     let rest = row-cons blocks in
@@ -145,7 +145,7 @@ cut-row (block ∷ blocks) tail below is =
     ∙ ap (λ later. block ∷ later) (cut-row blocks rest.0 below.1 rest.1)
 
 pub cut-all : (blocks : List (List ℕ)) (row rest : List ℕ) (first : ℕ) → row ≡ first ∷ rest → HasEnds row →
-    AreBelow END blocks → live row ≡ row_of blocks → cut [] rest ≡ blocks
+    AreBelow END blocks → live row ≡ marked_row blocks → cut [] rest ≡ blocks
 cut-all blocks row rest first whole ends below is =
     let mark : first ≡ END = sym (ap (λ xs. at xs 0) whole) ∙ ends.first in
     let tail = row-cons blocks in
@@ -165,12 +165,12 @@ new_block c (x ∷ block) rest below new =
     (ne_eqb c x (λ same. omega (arith, same, below.0)), new_block c block rest below.1 new)
 
 new_row : (c : ℕ) (blocks : List (List ℕ)) → c < END → AreBelow c blocks →
-    AllByRecursion (λ symbol. (c == symbol) ≡ false) (row_of blocks)
-unfolding row_of AreBelow
+    AllByRecursion (λ symbol. (c == symbol) ≡ false) (marked_row blocks)
+unfolding marked_row AreBelow
 new_row c [] fits below = (ne_eqb c END (λ same. omega (arith, same, fits)), tt)
 new_row c (block ∷ blocks) fits below = (
   ne_eqb c END (λ same. omega (arith, same, fits)),
-  new_block c block (row_of blocks) below.0 (new_row c blocks fits below.1),
+  new_block c block (marked_row blocks) below.0 (new_row c blocks fits below.1),
 )
 
 new_live : (c : ℕ) (symbols : List ℕ) → c < GAP →
@@ -191,17 +191,17 @@ new_live c (x ∷ symbols) fits new k = elim (cases_Bool (x == GAP)) [
     by (suc j) here later = later j
 
 pub new_text : (c : ℕ) (symbols : List ℕ) (blocks : List (List ℕ)) → c < END → AreBelow c blocks →
-    live symbols ≡ row_of blocks → (k : ℕ) → (c == at symbols k) ≡ false
+    live symbols ≡ marked_row blocks → (k : ℕ) → (c == at symbols k) ≡ false
 new_text c symbols blocks fits below is =
     new_live c symbols (omega (arith, fits)) (rw is (new_row c blocks fits below))
 
 -- every symbol of a row is a symbol or a mark, and marks stand at both ends
 pub row_words : (limit : ℕ) (blocks : List (List ℕ)) → limit < END → AreBelow limit blocks →
-    AllByRecursion (λ symbol. symbol < GAP) (row_of blocks)
-unfolding row_of AreBelow
+    AllByRecursion (λ symbol. symbol < GAP) (marked_row blocks)
+unfolding marked_row AreBelow
 row_words limit [] fits below = (omega arith, tt)
 row_words limit (block ∷ blocks) fits below =
-    (omega arith, words_block limit block (row_of blocks) fits below.0 (row_words limit blocks fits below.1))
+    (omega arith, words_block limit block (marked_row blocks) fits below.0 (row_words limit blocks fits below.1))
   where
     words_block : (limit : ℕ) (block rest : List ℕ) → limit < END → AllByRecursion
         (λ symbol. symbol < limit) block →
@@ -217,8 +217,8 @@ word_at [] words k within = absurd (omega (arith, within))
 word_at (x ∷ row) words zero within = words.0
 word_at (x ∷ row) words (suc k) within = word_at row words.1 k (omega (arith, within))
 
-row_front : (blocks : List (List ℕ)) → (front : List ℕ) × (row_of blocks ≡ front ++ END ∷ [])
-unfolding row_of
+row_front : (blocks : List (List ℕ)) → (front : List ℕ) × (marked_row blocks ≡ front ++ END ∷ [])
+unfolding marked_row
 row_front [] = ([], refl)
 row_front (block ∷ blocks) = let later = row_front blocks in (
   END ∷ block ++ later.0,
@@ -226,7 +226,7 @@ row_front (block ∷ blocks) = let later = row_front blocks in (
       ∙ ap (λ row. END ∷ row) (sym (append_assoc block later.0 (END ∷ []))),
 )
 
-pub row_ends : (blocks : List (List ℕ)) → HasEnds (row_of blocks)
+pub row_ends : (blocks : List (List ℕ)) → HasEnds (marked_row blocks)
 row_ends blocks =
     let tail = row-cons blocks in
     let front = row_front blocks in

@@ -1,21 +1,21 @@
 -- The run rule: counts of a list that is cut at a place.
 use Rattle.std.proofs.Common.{◌≡◌, ℕ, suc, ◌+◌, ◌==◌, Bool, true, false, cond, not, ◌&&◌, if◌then◌else◌, Some, None, List, [], ◌∷◌, ◌++◌, refl, sym, ◌∙◌, ap, subst, arith, inl, inr, append_assoc}
 use Rattle.std.proofs.lemmas.Bool.{cases_Bool, and_right, eqb-true, eqb-false, eq-eqb, ne_eqb, both_ways}
-use Rattle.repair_grammar.specs.RePair.{is_pair, met}
+use Rattle.repair_grammar.specs.RePair.{is_pair, replacement_count}
 use Rattle.repair_grammar.specs.Kept.{times_of}
 use Rattle.repair_grammar.specs.Runs.{begins_odd, ends_odd, left_gone, right_gone, left_come}
-use Rattle.repair_grammar.proofs.PassLemmas.{met-other, left_of_pair, right_of_pair}
+use Rattle.repair_grammar.proofs.PassLemmas.{replacement_count-other, left_of_pair, right_of_pair}
 
 -- a pass at two symbols
-met-is : (pair : ℕ × ℕ) (x y : ℕ) (rest : List ℕ) → is_pair pair x y ≡ true →
-    met pair (x ∷ y ∷ rest) ≡ suc (met pair rest)
-unfolding met
-met-is pair x y rest is = rw is refl
+replacement_count-is : (pair : ℕ × ℕ) (x y : ℕ) (rest : List ℕ) → is_pair pair x y ≡ true →
+    replacement_count pair (x ∷ y ∷ rest) ≡ suc (replacement_count pair rest)
+unfolding replacement_count
+replacement_count-is pair x y rest is = rw is refl
 
-met-not : (pair : ℕ × ℕ) (x y : ℕ) (rest : List ℕ) → is_pair pair x y ≡ false →
-    met pair (x ∷ y ∷ rest) ≡ met pair (y ∷ rest)
-unfolding met
-met-not pair x y rest apart = rw apart refl
+replacement_count-not : (pair : ℕ × ℕ) (x y : ℕ) (rest : List ℕ) → is_pair pair x y ≡ false →
+    replacement_count pair (x ∷ y ∷ rest) ≡ replacement_count pair (y ∷ rest)
+unfolding replacement_count
+replacement_count-not pair x y rest apart = rw apart refl
 
 -- a symbol of a run, and another
 begins_odd-same : (u y : ℕ) (ys : List ℕ) → (y == u) ≡ true → begins_odd u (y ∷ ys) ≡ not (begins_odd u ys)
@@ -31,22 +31,22 @@ unfolding begins_odd
 begins_odd-front u x ys = refl
 
 -- one symbol of a run comes before a list
-pub met-run_cons : (u : ℕ) (ys : List ℕ) → met (u, u) (u ∷ ys) ≡ cond (begins_odd u ys) 1 0 + met (u, u) ys
-met-run_cons u [] = unfold met begins_odd in refl
-met-run_cons u (y ∷ ys) = elim (cases_Bool (y == u)) [
+pub replacement_count-run_cons : (u : ℕ) (ys : List ℕ) → replacement_count (u, u) (u ∷ ys) ≡ cond (begins_odd u ys) 1 0 + replacement_count (u, u) ys
+replacement_count-run_cons u [] = unfold replacement_count begins_odd in refl
+replacement_count-run_cons u (y ∷ ys) = elim (cases_Bool (y == u)) [
   | inl is ↦ let same : y ≡ u = eqb-true y u is in
-      let whole : met (u, u) (u ∷ y ∷ ys) ≡ suc (met (u, u) ys) =
-      met-is (u, u) u y ys (rw (is, eq-eqb u u refl) refl) in
-      let later : met (u, u) (y ∷ ys) ≡ cond (begins_odd u ys) 1 0 + met (u, u) ys =
-      ap (λ z. met (u, u) (z ∷ ys)) same ∙ met-run_cons u ys in
+      let whole : replacement_count (u, u) (u ∷ y ∷ ys) ≡ suc (replacement_count (u, u) ys) =
+      replacement_count-is (u, u) u y ys (rw (is, eq-eqb u u refl) refl) in
+      let later : replacement_count (u, u) (y ∷ ys) ≡ cond (begins_odd u ys) 1 0 + replacement_count (u, u) ys =
+      ap (λ z. replacement_count (u, u) (z ∷ ys)) same ∙ replacement_count-run_cons u ys in
       rw (begins_odd-same u y ys is) (elim (cases_Bool (begins_odd u ys)) [
-        | inl odd ↦ rw odd (let after : met (u, u) (y ∷ ys) ≡ 1 + met (u, u) ys = rw odd at later in
+        | inl odd ↦ rw odd (let after : replacement_count (u, u) (y ∷ ys) ≡ 1 + replacement_count (u, u) ys = rw odd at later in
             omega (arith, whole, after))
-        | inr even ↦ rw even (let after : met (u, u) (y ∷ ys) ≡ 0 + met (u, u) ys = rw even at later in
+        | inr even ↦ rw even (let after : replacement_count (u, u) (y ∷ ys) ≡ 0 + replacement_count (u, u) ys = rw even at later in
             omega (arith, whole, after))
       ])
   | inr apart ↦ rw (begins_odd-other u y ys apart)
-      (omega (arith, met-not (u, u) u y ys (rw (apart, and_right (u == u) false refl) refl)))
+      (omega (arith, replacement_count-not (u, u) u y ys (rw (apart, and_right (u == u) false refl) refl)))
 ]
 
 -- a list after a run that was odd or not
@@ -55,18 +55,18 @@ run_then u true ys = u ∷ ys
 run_then u false ys = ys
 
 -- the count over two lists: that of each, and one more where two odd runs meet
-met_run_then-append : (u : ℕ) (odd : Bool) (xs ys : List ℕ) → met (u, u) (run_then u odd (xs ++ ys))
-    ≡ met (u, u) (run_then u odd xs) + cond (ends_odd u odd xs && begins_odd u ys) 1 0 + met (u, u) ys
-unfolding met begins_odd ends_odd
-met_run_then-append u true [] ys = omega (arith, met-run_cons u ys)
+met_run_then-append : (u : ℕ) (odd : Bool) (xs ys : List ℕ) → replacement_count (u, u) (run_then u odd (xs ++ ys))
+    ≡ replacement_count (u, u) (run_then u odd xs) + cond (ends_odd u odd xs && begins_odd u ys) 1 0 + replacement_count (u, u) ys
+unfolding replacement_count begins_odd ends_odd
+met_run_then-append u true [] ys = omega (arith, replacement_count-run_cons u ys)
 met_run_then-append u false [] ys = omega arith
 met_run_then-append u true (x ∷ xs) ys = elim (cases_Bool (x == u)) [
   | inl is ↦ rw (is, eq-eqb u u refl) (omega (arith, met_run_then-append u false xs ys))
   | inr apart ↦ rw (
     apart,
     and_right (u == u) false refl,
-    met-other (u, u) x (xs ++ ys) apart,
-    met-other
+    replacement_count-other (u, u) x (xs ++ ys) apart,
+    replacement_count-other
         (u, u) x xs apart,
   )
       (met_run_then-append u false xs ys)
@@ -76,48 +76,48 @@ met_run_then-append u false (x ∷ xs) ys = elim (cases_Bool (x == u)) [
       rw is (omega (
         arith,
         met_run_then-append u true xs ys,
-        ap (λ z. met (u, u) (z ∷ xs ++ ys)) same,
-        ap (λ z. met (u, u) (z ∷ xs)) same,
+        ap (λ z. replacement_count (u, u) (z ∷ xs ++ ys)) same,
+        ap (λ z. replacement_count (u, u) (z ∷ xs)) same,
       ))
-  | inr apart ↦ rw (apart, met-other (u, u) x (xs ++ ys) apart, met-other (u, u) x xs apart)
+  | inr apart ↦ rw (apart, replacement_count-other (u, u) x (xs ++ ys) apart, replacement_count-other (u, u) x xs apart)
       (met_run_then-append u false xs ys)
 ]
 
-pub met-run_append : (u : ℕ) (xs ys : List ℕ) → met (u, u) (xs ++ ys)
-    ≡ met (u, u) xs + cond (ends_odd u false xs && begins_odd u ys) 1 0 + met (u, u) ys
-met-run_append u xs ys = met_run_then-append u false xs ys
+pub replacement_count-run_append : (u : ℕ) (xs ys : List ℕ) → replacement_count (u, u) (xs ++ ys)
+    ≡ replacement_count (u, u) xs + cond (ends_odd u false xs && begins_odd u ys) 1 0 + replacement_count (u, u) ys
+replacement_count-run_append u xs ys = met_run_then-append u false xs ys
 
 -- any other list may be cut at a symbol of which two alike are not the pair
 met_two : (other : ℕ × ℕ) (x y : ℕ) (ys : List ℕ) → is_pair other y y ≡ false →
-    met other (x ∷ y ∷ ys) ≡ cond (is_pair other x y) 1 0 + met other (y ∷ ys)
-unfolding met
+    replacement_count other (x ∷ y ∷ ys) ≡ cond (is_pair other x y) 1 0 + replacement_count other (y ∷ ys)
+unfolding replacement_count
 met_two other x y ys free = elim (cases_Bool (is_pair other x y)) [
   | inl is ↦ let left : (y == other.0) ≡ false = elim (cases_Bool (y == other.0)) [
     | inl same ↦ absurd (both_ways (is_pair other y y) free
         (rw (same, eq-eqb y other.1 (right_of_pair other x y is)) refl))
     | inr apart ↦ apart
-  ] in rw (is, met-other other y ys left) (omega arith)
+  ] in rw (is, replacement_count-other other y ys left) (omega arith)
   | inr apart ↦ rw apart (omega arith)
 ]
 
-pub met-cut : (other : ℕ × ℕ) (xs : List ℕ) (y : ℕ) (ys : List ℕ) → is_pair other y y ≡ false →
-    met other (xs ++ y ∷ ys) ≡ met other (xs ++ y ∷ []) + met other (y ∷ ys)
-unfolding met
-met-cut other [] y ys free = omega arith
-met-cut other (x ∷ []) y ys free =
-    let none : met other (y ∷ []) ≡ 0 = refl in omega
+pub replacement_count-cut : (other : ℕ × ℕ) (xs : List ℕ) (y : ℕ) (ys : List ℕ) → is_pair other y y ≡ false →
+    replacement_count other (xs ++ y ∷ ys) ≡ replacement_count other (xs ++ y ∷ []) + replacement_count other (y ∷ ys)
+unfolding replacement_count
+replacement_count-cut other [] y ys free = omega arith
+replacement_count-cut other (x ∷ []) y ys free =
+    let none : replacement_count other (y ∷ []) ≡ 0 = refl in omega
     (arith, met_two other x y ys free, met_two other x y [] free, none)
-met-cut other (x ∷ z ∷ xs) y ys free = elim (cases_Bool (is_pair other x z)) [
-  | inl is ↦ rw is (omega (arith, met-cut other xs y ys free))
-  | inr apart ↦ rw apart (met-cut other (z ∷ xs) y ys free)
+replacement_count-cut other (x ∷ z ∷ xs) y ys free = elim (cases_Bool (is_pair other x z)) [
+  | inl is ↦ rw is (omega (arith, replacement_count-cut other xs y ys free))
+  | inr apart ↦ rw apart (replacement_count-cut other (z ∷ xs) y ys free)
 ]
 
 -- the symbol in front: its run is longer by one
-pub met-run_front : (u x : ℕ) (ys : List ℕ) →
-    met (u, u) (x ∷ ys) ≡ cond ((x == u) && begins_odd u ys) 1 0 + met (u, u) ys
-met-run_front u x ys = elim (cases_Bool (x == u)) [
-  | inl is ↦ rw is (ap (λ z. met (u, u) (z ∷ ys)) (eqb-true x u is) ∙ met-run_cons u ys)
-  | inr apart ↦ rw apart (omega (arith, met-other (u, u) x ys apart))
+pub replacement_count-run_front : (u x : ℕ) (ys : List ℕ) →
+    replacement_count (u, u) (x ∷ ys) ≡ cond ((x == u) && begins_odd u ys) 1 0 + replacement_count (u, u) ys
+replacement_count-run_front u x ys = elim (cases_Bool (x == u)) [
+  | inl is ↦ rw is (ap (λ z. replacement_count (u, u) (z ∷ ys)) (eqb-true x u is) ∙ replacement_count-run_cons u ys)
+  | inr apart ↦ rw apart (omega (arith, replacement_count-other (u, u) x ys apart))
 ]
 
 -- the symbol at the end of a run
@@ -175,8 +175,8 @@ module _ (front : List ℕ) (l a b c r : ℕ) (rest : List ℕ) (begins : (a == 
 
   abbrev pub IsChanged : ℕ × ℕ → Type 0
   IsChanged other =
-      met other (front ++ l ∷ a ∷ b ∷ r ∷ rest) + times_of (left_come front l c) other + times_of (Some (c, r)) other
-      ≡ met other (front ++ l ∷ c ∷ r ∷ rest) + times_of (left_gone front l a b) other + times_of (Some (a, b)) other
+      replacement_count other (front ++ l ∷ a ∷ b ∷ r ∷ rest) + times_of (left_come front l c) other + times_of (Some (c, r)) other
+      ≡ replacement_count other (front ++ l ∷ c ∷ r ∷ rest) + times_of (left_gone front l a b) other + times_of (Some (a, b)) other
       + times_of (right_gone a b r rest) other
 
   -- two different symbols: each two neighbours count by themselves
@@ -235,8 +235,8 @@ module _ (front : List ℕ) (l a b c r : ℕ) (rest : List ℕ) (begins : (a == 
     changed-apart : IsChanged other
     changed-apart = omega (
       arith,
-      met-cut other front l (a ∷ b ∷ r ∷ rest) (free l),
-      met-cut other front l (c ∷ r ∷ rest) (free l),
+      replacement_count-cut other front l (a ∷ b ∷ r ∷ rest) (free l),
+      replacement_count-cut other front l (c ∷ r ∷ rest) (free l),
       met_two other l a (b ∷ r ∷ rest) (free a),
       met_two other a b (r ∷ rest) (free b),
       met_two other b r rest (free r),
@@ -355,8 +355,8 @@ module _ (front : List ℕ) (l a b c r : ℕ) (rest : List ℕ) (begins : (a == 
     turned : (x y : ℕ) → (x == y) ≡ false → (y == x) ≡ false
     turned x y differ = ne_eqb y x (λ same. eqb-false x y differ (sym same))
 
-    whole : (zs : List ℕ) → met (u, u) (front ++ l ∷ zs) ≡ met (u, u) ((front ++ l ∷ []) ++ zs)
-    whole zs = ap (met (u, u)) (rw append_assoc refl)
+    whole : (zs : List ℕ) → replacement_count (u, u) (front ++ l ∷ zs) ≡ replacement_count (u, u) ((front ++ l ∷ []) ++ zs)
+    whole zs = ap (replacement_count (u, u)) (rw append_assoc refl)
 
     abbrev one : Bool → ℕ
     one test = cond test 1 0
@@ -366,16 +366,16 @@ module _ (front : List ℕ) (l a b c r : ℕ) (rest : List ℕ) (begins : (a == 
       arith,
       whole (a ∷ b ∷ r ∷ rest),
       whole (c ∷ r ∷ rest),
-      met-run_append u (front ++ l ∷ []) (a ∷ b ∷ r ∷ rest),
-      met-run_append u (front ++ l ∷ []) (c ∷ r ∷ rest),
-      met-run_front u a (b ∷ r ∷ rest),
-      met-run_front u b (r ∷ rest),
-      met-run_front u c (r ∷ rest),
+      replacement_count-run_append u (front ++ l ∷ []) (a ∷ b ∷ r ∷ rest),
+      replacement_count-run_append u (front ++ l ∷ []) (c ∷ r ∷ rest),
+      replacement_count-run_front u a (b ∷ r ∷ rest),
+      replacement_count-run_front u b (r ∷ rest),
+      replacement_count-run_front u c (r ∷ rest),
       ap (λ (t : Bool). one (ends u && t)) (begins_odd-front u a (b ∷ r ∷ rest)
           ∙ ap (λ t. (a == u) && not t) (begins_odd-front u b (r ∷ rest))),
       ap (λ (t : Bool). one (ends u && t)) (begins_odd-front u c (r ∷ rest)),
       ap (λ (t : Bool). one ((a == u) && t)) (begins_odd-front u b (r ∷ rest)),
-      bits (a == u) (b == u) (c == u) (ends u) odd (met (u, u) (front ++ l ∷ [])) (met (u, u) (r ∷ rest))
+      bits (a == u) (b == u) (c == u) (ends u) odd (replacement_count (u, u) (front ++ l ∷ [])) (replacement_count (u, u) (r ∷ rest))
           (not_both a c (turned c a new_a)) (not_both b c (turned c b new_b)) both_odd new_even,
       left_gone-twin,
       right_gone-twin,

@@ -8,13 +8,13 @@ use Rattle.std.proofs.Math.ListN.{get_or-append, get_or-map}
 use Rattle.std.proofs.Math.Seq.{get_or-append_seam}
 use Rattle.repair_grammar.specs.declared.grammar.Grammar.{Grammar}
 use Rattle.repair_grammar.specs.declared.key.Key.{Key}
-use Rattle.repair_grammar.specs.RePair.{met, replaced, pair_count, keys_of, first_key, after_round, rounds, re_pair, AreBelow}
+use Rattle.repair_grammar.specs.RePair.{replacement_count, block_after_pass, pair_count, keys_of, first_key, after_round, rounds, re_pair, AreBelow}
 use Rattle.repair_grammar.specs.GrammarOf.{IsGrammarOf, is_used}
-use Rattle.repair_grammar.proofs.PassLemmas.{length-replaced}
+use Rattle.repair_grammar.proofs.PassLemmas.{length-block_after_pass}
 use Rattle.repair_grammar.proofs.KeyLemmas.{IsTaken, taken_is}
 use Rattle.repair_grammar.proofs.RoundLemmas.{round_shorter, rounds-some, rounds-none}
-use Rattle.repair_grammar.proofs.ExpansionLemmas.{expanded-round, expanded-none, all_below-replaced, parts_below}
-use Rattle.repair_grammar.proofs.UseLemmas.{has, any_has-replaced, any_has_new}
+use Rattle.repair_grammar.proofs.ExpansionLemmas.{expanded-round, expanded-none, all_below-block_after_pass, parts_below}
+use Rattle.repair_grammar.proofs.UseLemmas.{has, any_has-block_after_pass, any_has_new}
 
 -- what each round keeps, all rounds keep
 module _ (alphabet : ℕ) (P : Grammar → Type 0)
@@ -42,9 +42,9 @@ is_part symbol pair (inr right) = or_right (pair.0 == symbol) (pair.1 == symbol)
 
 -- one block after the pass
 block_replaced : (pair : ℕ × ℕ) (symbol : ℕ) (blocks : List (List ℕ)) (i : ℕ) →
-    get_or (map (replaced pair symbol) blocks) i [] ≡ replaced pair symbol (get_or blocks i [])
-unfolding replaced
-block_replaced pair symbol blocks i = get_or-map (replaced pair symbol) blocks i []
+    get_or (map (block_after_pass pair symbol) blocks) i [] ≡ block_after_pass pair symbol (get_or blocks i [])
+unfolding block_after_pass
+block_replaced pair symbol blocks i = get_or-map (block_after_pass pair symbol) blocks i []
 
 module _ (alphabet : ℕ) (rules : List (ℕ × ℕ)) (blocks : List (List ℕ)) (pair : ℕ × ℕ) where
   -- the rules, and one more
@@ -59,9 +59,9 @@ module _ (alphabet : ℕ) (rules : List (ℕ × ℕ)) (blocks : List (List ℕ))
       is_used (after_round alphabet (record { rules = rules; blocks = blocks }) pair) symbol ≡ true
   unfolding is_used after_round
   still_used symbol used =
-      let blocks_use : Bool = list_any (has symbol) (map (replaced pair (alphabet + length rules)) blocks) in
+      let blocks_use : Bool = list_any (has symbol) (map (block_after_pass pair (alphabet + length rules)) blocks) in
       elim (or_cases (list_any (has symbol) blocks) (list_any (part_of symbol) rules) used) [
-        | inl stands ↦ elim (any_has-replaced pair (alphabet + length rules) symbol blocks stands) [
+        | inl stands ↦ elim (any_has-block_after_pass pair (alphabet + length rules) symbol blocks stands) [
           | inl still ↦ or_left blocks_use _ still
           | inr part ↦ or_right blocks_use _ (rw (list_any-append (part_of symbol) rules (pair ∷ []))
               (or_right (list_any (part_of symbol) rules) _ (or_left (part_of symbol pair) false
@@ -72,7 +72,7 @@ module _ (alphabet : ℕ) (rules : List (ℕ × ℕ)) (blocks : List (List ℕ))
       ]
 
   -- the new one is used
-  new_used : 0 < sum_by (met pair) blocks →
+  new_used : 0 < sum_by (replacement_count pair) blocks →
       is_used (after_round alphabet (record { rules = rules; blocks = blocks }) pair) (alphabet + length rules) ≡ true
   unfolding is_used after_round
   new_used some = or_left _ _ (any_has_new pair (alphabet + length rules) blocks some)
@@ -90,7 +90,7 @@ round_sound alphabet blocks grammar key taken sound =
     let known : IsTaken grammar.blocks key = taken_is grammar.blocks key taken in
     record {
       expands = expanded-round alphabet grammar.rules pair grammar.blocks sound.below ∙ sound.expands;
-      below = rw more_rules (all_below-replaced pair symbol grammar.blocks sound.below);
+      below = rw more_rules (all_below-block_after_pass pair symbol grammar.blocks sound.below);
       parts = λ rule within. elim (cases_lt rule (length grammar.rules)) [
         | inl old ↦ rw (old_rule alphabet grammar.rules grammar.blocks pair rule old) (sound.parts rule old)
         | inr last ↦ let at : rule ≡ length grammar.rules =
@@ -107,7 +107,7 @@ round_sound alphabet blocks grammar key taken sound =
       few = omega (arith, round_shorter alphabet grammar key taken, sound.few, length-append grammar.rules (pair ∷ []));
       same = rw length-map sound.same;
       shorter = λ block. rw (block_replaced pair symbol grammar.blocks block)
-          (omega (arith, length-replaced pair symbol (get_or grammar.blocks block []), sound.shorter block));
+          (omega (arith, length-block_after_pass pair symbol (get_or grammar.blocks block []), sound.shorter block));
     }
 
 -- the blocks themselves, with no rule

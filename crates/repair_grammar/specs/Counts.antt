@@ -4,7 +4,7 @@ use Rattle.std.specs.HashMap.{HashMap, get}
 use Rattle.std.specs.Ordering.{is_lt}
 use Rattle.std.specs.Global.{Vec}
 use Rattle.repair_grammar.specs.declared.key.Key.{Key}
-use Rattle.repair_grammar.specs.RePair.{key_order, is_pair, met}
+use Rattle.repair_grammar.specs.RePair.{key_order, is_pair, replacement_count}
 
 -- the lists that vectors contain
 abbrev pub lists_of : List (Vec ℕ) → List (List ℕ)
@@ -38,17 +38,17 @@ earlier_of None key = key
 earlier_of (Some first) key = if is_lt (key_order key first) then key else first
 
 -- the first of the entries that count two or more, and of a key that stood before them
-unfoldable pub first_in : Option Key → List ((ℕ × ℕ) × ℕ) → Option Key
-first_in first [] = first
-first_in first (entry ∷ entries) =
-    first_in (if nat_lt 1 entry.1 then Some (earlier_of first (key_at entry)) else first) entries
+unfoldable pub first_repeated : Option Key → List ((ℕ × ℕ) × ℕ) → Option Key
+first_repeated first [] = first
+first_repeated first (entry ∷ entries) =
+    first_repeated (if nat_lt 1 entry.1 then Some (earlier_of first (key_at entry)) else first) entries
 
 -- what a pass still meets from a symbol on, where the pair of this symbol and the one before it, which was
 -- the same, may have been taken
 unfoldable pub met_after : Bool → ℕ × ℕ → List ℕ → ℕ
 met_after taken pair [] = 0
 met_after taken pair (left ∷ rest) =
-    if taken && is_pair pair left left then met pair rest else met pair (left ∷ rest)
+    if taken && is_pair pair left left then replacement_count pair rest else replacement_count pair (left ∷ rest)
 
 -- whether the pair stands at the front
 unfoldable pub stands_first : ℕ × ℕ → List ℕ → Bool

@@ -17,8 +17,8 @@ noted_at None place pair = []
 noted_at (Some other) place pair = if is_pair pair other.0 other.1 then place ∷ [] else []
 
 -- the keys, in no order
-abbrev pub items_of : Keys → List Key
-items_of keys = heap_items keys.heap
+abbrev pub keys_in : Keys → List Key
+keys_in keys = heap_items keys.heap
 
 -- each pair that counts two has a key that says at least its count
 unfoldable pub Covers : (ℕ × ℕ → ℕ) → List Key → Type 0

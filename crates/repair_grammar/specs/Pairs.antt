@@ -16,16 +16,16 @@ places_in_entry None = []
 places_in_entry (Some seen) = seen.places.items
 
 -- the entry of a pair
-abbrev pub entry_of : {S : Type 0} → HashMap (ℕ × ℕ) Seen S → ℕ × ℕ → Option Seen
-entry_of table pair = get (λ x y. nat_eq x.0 y.0 && nat_eq x.1 y.1) table pair
+abbrev pub seen_entry : {S : Type 0} → HashMap (ℕ × ℕ) Seen S → ℕ × ℕ → Option Seen
+seen_entry table pair = get (λ x y. nat_eq x.0 y.0 && nat_eq x.1 y.1) table pair
 
 -- how often a pair counts by a table
 abbrev pub count_in_table : {S : Type 0} → HashMap (ℕ × ℕ) Seen S → ℕ × ℕ → ℕ
-count_in_table table pair = count_in_entry (entry_of table pair)
+count_in_table table pair = count_in_entry (seen_entry table pair)
 
 -- the places that a table has for a pair
 abbrev pub places_in_table : {S : Type 0} → HashMap (ℕ × ℕ) Seen S → ℕ × ℕ → List ℕ
-places_in_table table pair = places_in_entry (entry_of table pair)
+places_in_table table pair = places_in_entry (seen_entry table pair)
 
 -- how often a pair counts
 abbrev pub count_of : Pairs → ℕ × ℕ → ℕ

@@ -11,20 +11,20 @@ abbrev pub is_pair : ℕ × ℕ → ℕ → ℕ → Bool
 is_pair pair left right = left == pair.0 && right == pair.1
 
 -- how many replacements of the pair one pass from left to right through a block makes
-unfoldable pub met : ℕ × ℕ → List ℕ → ℕ
-met pair (left ∷ right ∷ rest) =
-    if is_pair pair left right then suc (met pair rest) else met pair (right ∷ rest)
-met pair block = 0
+unfoldable pub replacement_count : ℕ × ℕ → List ℕ → ℕ
+replacement_count pair (left ∷ right ∷ rest) =
+    if is_pair pair left right then suc (replacement_count pair rest) else replacement_count pair (right ∷ rest)
+replacement_count pair block = 0
 
 -- what the pass leaves of the block, with a symbol in place of each pair that it meets
-unfoldable pub replaced : ℕ × ℕ → ℕ → List ℕ → List ℕ
-replaced pair symbol (left ∷ right ∷ rest) =
-    if is_pair pair left right then symbol ∷ replaced pair symbol rest else left ∷ replaced pair symbol (right ∷ rest)
-replaced pair symbol block = block
+unfoldable pub block_after_pass : ℕ × ℕ → ℕ → List ℕ → List ℕ
+block_after_pass pair symbol (left ∷ right ∷ rest) =
+    if is_pair pair left right then symbol ∷ block_after_pass pair symbol rest else left ∷ block_after_pass pair symbol (right ∷ rest)
+block_after_pass pair symbol block = block
 
 -- the count of a pair: the replacements in all blocks, so that no pair spans two of them
 unfoldable pub pair_count : List (List ℕ) → ℕ × ℕ → ℕ
-pair_count blocks pair = sum_by (met pair) blocks
+pair_count blocks pair = sum_by (replacement_count pair) blocks
 
 -- the pairs that stand side by side in a block
 unfoldable pub pairs_in : List ℕ → List (ℕ × ℕ)
@@ -62,7 +62,7 @@ first_key keys = find (is_first_of keys) keys
 unfoldable pub after_round : ℕ → Grammar → ℕ × ℕ → Grammar
 after_round alphabet grammar pair = record {
   rules = grammar.rules ++ pair ∷ [];
-  blocks = map (replaced pair (alphabet + length grammar.rules)) grammar.blocks;
+  blocks = map (block_after_pass pair (alphabet + length grammar.rules)) grammar.blocks;
 }
 
 -- the grammar after at most so many rounds; there are fewer if no pair is left that counts two

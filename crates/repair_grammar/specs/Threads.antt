@@ -1,6 +1,6 @@
 -- Symbols of all blocks in one row, where a place that is taken out stays as a gap, and neighbours know each other.
 -- Marks (`END`) and gaps (`GAP`) are above all symbols.
-use Rattle.repair_grammar.specs.RePair.{met, replaced}
+use Rattle.repair_grammar.specs.RePair.{replacement_count, block_after_pass}
 use Rattle.std.specs.List.{Contains}
 use Rattle.repair_grammar.specs.Counts.{stands_first}
 use Rattle.repair_grammar.specs.Runs.{ends_odd}
@@ -50,27 +50,27 @@ stands_at symbols pair place = not (at symbols place == GAP) && stands_first pai
 
 -- what a pass from a place on leaves of the whole, where all before the place is done
 abbrev pub passed_from : List ℕ → ℕ × ℕ → ℕ → ℕ → List ℕ
-passed_from symbols pair symbol place = live (take place symbols) ++ replaced pair symbol (live (drop place symbols))
+passed_from symbols pair symbol place = live (take place symbols) ++ block_after_pass pair symbol (live (drop place symbols))
 
 -- the blocks in one row, with a mark before each and after the last
-unfoldable pub row_of : List (List ℕ) → List ℕ
-row_of [] = END ∷ []
-row_of (block ∷ blocks) = END ∷ block ++ row_of blocks
+unfoldable pub marked_row : List (List ℕ) → List ℕ
+marked_row [] = END ∷ []
+marked_row (block ∷ blocks) = END ∷ block ++ marked_row blocks
 
 -- a pair of symbols, without a mark
-abbrev pub IsPlain : ℕ × ℕ → Type 0
-IsPlain pair = (pair.0 < END) × (pair.1 < END)
+abbrev pub IsUnmarked : ℕ × ℕ → Type 0
+IsUnmarked pair = (pair.0 < END) × (pair.1 < END)
 
 -- the counts of all pairs of symbols, and for each the places at which it stands; the list may have others too
 pub record IsCounted (symbols : List ℕ) (count : ℕ × ℕ → ℕ) (places : ℕ × ℕ → List ℕ) : Type 0 where
-  pub counts : (pair : ℕ × ℕ) → IsPlain pair → count pair ≡ met pair (live symbols)
-  pub noted : (pair : ℕ × ℕ) (k : ℕ) → IsPlain pair → stands_at symbols pair k ≡ true → Contains (places pair) k
-  pub plain : (pair : ℕ × ℕ) → 0 < count pair → IsPlain pair
+  pub counts : (pair : ℕ × ℕ) → IsUnmarked pair → count pair ≡ replacement_count pair (live symbols)
+  pub noted : (pair : ℕ × ℕ) (k : ℕ) → IsUnmarked pair → stands_at symbols pair k ≡ true → Contains (places pair) k
+  pub plain : (pair : ℕ × ℕ) → 0 < count pair → IsUnmarked pair
 
 -- in the midst of a pass: what is before q is done, and the pair stands after it at places of the list alone
 pub record IsPassing (first symbols : List ℕ) (pair : ℕ × ℕ) (c : ℕ) (places : List ℕ) (q : ℕ) : Type 0 where
   pub inside : q ≤ length symbols
-  pub done : passed_from symbols pair c q ≡ replaced pair c (live first)
+  pub done : passed_from symbols pair c q ≡ block_after_pass pair c (live first)
   pub ahead : (k : ℕ) → stands_at symbols pair k ≡ true → (q ≤ k) × Contains places k
   pub new : (k : ℕ) → q ≤ k → (c == at symbols k) ≡ false
 

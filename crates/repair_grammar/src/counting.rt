@@ -1,6 +1,6 @@
 ghost use Rattle.std.specs.Prelude.{◌≡◌, ℕ, ◌+◌, ◌^◌, ◌<◌, length, IfOk, OnOk, MatchOption, cond};
 ghost use Rattle.std.specs.List.{sum_by};
-ghost use Rattle.repair_grammar.specs.RePair.{is_pair, met, pair_count};
+ghost use Rattle.repair_grammar.specs.RePair.{is_pair, replacement_count, pair_count};
 ghost use Rattle.repair_grammar.specs.Counts.{count_in, earlier_of, lists_of, IsFirst, AllBelowTwo};
 
 use crate::key::Key;
@@ -28,7 +28,7 @@ pub fn recount(counts: &mut Counts, blocks: &[Vec<u32>]) -> Result<(), Memory>
 fn count_block(counts: &mut Counts, block: &[u32]) -> Result<(), Memory>
     requires room { (pair : ℕ × ℕ) → count_in counts.old pair + length block.now < 2 ^ 32 }
     ensures ok { OnOk result ((pair : ℕ × ℕ) →
-        count_in counts.new pair ≡ count_in counts.old pair + met pair block.now) }
+        count_in counts.new pair ≡ count_in counts.old pair + replacement_count pair block.now) }
 {
     let Some((first, rest)) = block.split_first() else {
         return Ok(());

@@ -4,7 +4,7 @@ ghost use Rattle.std.specs.List.{Contains};
 ghost use Rattle.repair_grammar.specs.Kept.{noted_at, times_of};
 ghost use Rattle.repair_grammar.specs.Pairs.{count_of, places_of, HasCome};
 ghost use Rattle.repair_grammar.specs.Runs.{begins_odd, ends_odd};
-ghost use Rattle.repair_grammar.specs.Threads.{at, live, IsCounted, IsPassing, IsPlain};
+ghost use Rattle.repair_grammar.specs.Threads.{at, live, IsCounted, IsPassing, IsUnmarked};
 ghost use Rattle.repair_grammar.specs.Joins.{IsText, plain_of, gone_left, gone_right, only_if};
 ghost use Rattle.repair_grammar.specs.Joins.{counts_left};
 ghost use Rattle.repair_grammar.specs.declared.text.TheConstants.{END, GAP};
@@ -131,7 +131,7 @@ pub fn join_at(
     requires inside { place < length text.old.symbols.items }
     requires left { at text.old.symbols.items place ≡ pair.0 }
     requires right { at text.old.symbols.items (slice_index_or text.old.next.items place 0) ≡ pair.1 }
-    requires plain { IsPlain pair }
+    requires plain { IsUnmarked pair }
     requires fits { symbol < END }
     requires begins { (pair.0 == pair.1) ≡ true → (at text.old.symbols.items
         (slice_index_or text.old.previous.items place 0) == pair.0) ≡ false }

@@ -1,9 +1,9 @@
 ghost use Rattle.std.specs.Prelude.{◌≡◌, ℕ, ◌<◌, ◌==◌, true, false, length, slice_index_or, OnOk};
 ghost use Rattle.std.specs.List.{Contains};
 ghost use Rattle.std.specs.List.Sorted.{IsNonDecreasing};
-ghost use Rattle.repair_grammar.specs.RePair.{replaced};
+ghost use Rattle.repair_grammar.specs.RePair.{block_after_pass};
 ghost use Rattle.repair_grammar.specs.Pairs.{count_of, places_of, HasCome};
-ghost use Rattle.repair_grammar.specs.Threads.{at, live, stands_at, IsCounted, IsPlain};
+ghost use Rattle.repair_grammar.specs.Threads.{at, live, stands_at, IsCounted, IsUnmarked};
 ghost use Rattle.repair_grammar.specs.Joins.{IsText};
 ghost use Rattle.repair_grammar.specs.declared.text.TheConstants.{END};
 
@@ -24,7 +24,7 @@ pub fn replace_all(
 ) -> Result<(), Memory>
     requires text { IsText text.old }
     requires counted { IsCounted text.old.symbols.items (count_of pairs.old) (places_of pairs.old) }
-    requires plain { IsPlain pair }
+    requires plain { IsUnmarked pair }
     requires fits { symbol < END }
     requires new { (k : ℕ) → (symbol == at text.old.symbols.items k) ≡ false }
     requires other { (symbol == pair.1) ≡ false }
@@ -35,7 +35,7 @@ pub fn replace_all(
         (IsCounted text.new.symbols.items (count_of pairs.new) (places_of pairs.new)) }
     ensures come { OnOk result (HasCome pairs.old pairs.new) }
     ensures all { OnOk result
-        (live text.new.symbols.items ≡ replaced pair symbol (live text.old.symbols.items)) }
+        (live text.new.symbols.items ≡ block_after_pass pair symbol (live text.old.symbols.items)) }
 {
     let mut odd = false;
     'places: for place in places {
@@ -50,7 +50,7 @@ pub fn replace_all(
 // Whether the pair stands at a place.
 fn stands(text: &Text, place: usize, pair: (u32, u32)) -> bool
     requires text { IsText text.now }
-    requires plain { IsPlain pair }
+    requires plain { IsUnmarked pair }
     ensures yes { result ≡ true → (place < length text.now.symbols.items)
         × (at text.now.symbols.items place ≡ pair.0)
         × (at text.now.symbols.items (slice_index_or text.now.next.items place 0) ≡ pair.1) }

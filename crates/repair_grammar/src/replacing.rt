@@ -1,10 +1,10 @@
 ghost use Rattle.std.specs.Prelude.{◌≡◌, ◌<◌, length, map, drop};
-ghost use Rattle.repair_grammar.specs.RePair.{replaced};
+ghost use Rattle.repair_grammar.specs.RePair.{block_after_pass};
 ghost use Rattle.repair_grammar.specs.Counts.{lists_of, stands_first};
 
 /// Puts the symbol in place of each pair that a pass from left to right through each block meets.
 pub fn replace_all(blocks: &mut Vec<Vec<u32>>, pair: (u32, u32), symbol: u32)
-    ensures { lists_of blocks.new.items ≡ map (replaced pair symbol) (lists_of blocks.old.items) }
+    ensures { lists_of blocks.new.items ≡ map (block_after_pass pair symbol) (lists_of blocks.old.items) }
 {
     for place in 0..blocks.len() {
         replace(&mut blocks[place], pair, symbol);
@@ -13,7 +13,7 @@ pub fn replace_all(blocks: &mut Vec<Vec<u32>>, pair: (u32, u32), symbol: u32)
 
 /// The pass through one block.
 pub fn replace(block: &mut Vec<u32>, pair: (u32, u32), symbol: u32)
-    ensures { block.new.items ≡ replaced pair symbol block.old.items }
+    ensures { block.new.items ≡ block_after_pass pair symbol block.old.items }
 {
     // What is written never passes what is still to be read.
     let mut read = 0;

@@ -5,12 +5,12 @@ use Rattle.std.proofs.lemmas.Grind.{flat_map-append}
 use Rattle.std.specs.Option.{option_to_list}
 use Rattle.spiral_code.specs.Spiral.{move_of}
 use Rattle.track_types.specs.declared.cell.Cell.{Cell}
-use Rattle.rule_store.specs.Cells.{cell_at, cells_along, displacement_of, moved, present_in}
+use Rattle.rule_store.specs.Cells.{cell_with, cells_along, displacement_of, moved, present_in}
 use Rattle.rule_store.specs.Boxes.{origin}
 
 -- cells of the same column and line are the same
-pub same_cell : (x y u v : ℤ) → x ≡ u → y ≡ v → cell_at x y ≡ cell_at u v
-same_cell x y u v columns lines = ap (λ z. cell_at z y) columns ∙ ap (cell_at u) lines
+pub same_cell : (x y u v : ℤ) → x ≡ u → y ≡ v → cell_with x y ≡ cell_with u v
+same_cell x y u v columns lines = ap (λ z. cell_with z y) columns ∙ ap (cell_with u) lines
 
 -- two movements one after the other
 pub moved-moved : (cell : Cell) (a b : ℤ × ℤ) → moved (moved cell a) b ≡ moved cell (a.0 +ℤ b.0, a.1 +ℤ b.1)

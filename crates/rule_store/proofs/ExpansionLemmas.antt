@@ -8,8 +8,8 @@ use Rattle.list_laws.specs.Grown.{table_of_rules}
 use Rattle.list_laws.proofs.GrownLemmas.{length-table_of_rules}
 use Rattle.list_laws.proofs.RuleLemmas.{table_of_rules-at_rule, table_of_rules-at_terminal}
 use Rattle.rule_store.specs.View.{RulesView, symbols_in}
-use Rattle.rule_store.specs.Expansion.{deeper, depth_of, depths, expansion_of, values_of}
-use Rattle.rule_store.specs.Flaws.{rule_at}
+use Rattle.rule_store.specs.Expansion.{depth_above, depth_of, depths, expansion_of, values_of}
+use Rattle.rule_store.specs.Flaws.{rule_parts}
 use Rattle.rule_store.specs.Entry.{duration_of}
 
 -- a table's length counts the terminals, so that rule j stands at their number and j
@@ -31,10 +31,10 @@ module _ (view : RulesView) where
   pub depth_of-terminal : (symbol : ℕ) → symbol < length view.alphabet → depth_of view symbol ≡ 0
   unfolding depth_of
   depth_of-terminal symbol below =
-      table_of_rules-at_terminal deeper 0 (λ terminal. 0) (length view.alphabet) view.rules symbol below
+      table_of_rules-at_terminal depth_above 0 (λ terminal. 0) (length view.alphabet) view.rules symbol below
 
   -- of a rule
-  module _ (j : ℕ) (left right : ℕ) (within : j < length view.rules) (is : rule_at view.rules j ≡ (left, right))
+  module _ (j : ℕ) (left right : ℕ) (within : j < length view.rules) (is : rule_parts view.rules j ≡ (left, right))
       (left_below : left < length view.alphabet + j) (right_below : right < length view.alphabet + j) where
     pub expansion_of-rule :
         expansion_of view (length view.alphabet + j) ≡ expansion_of view left ++ expansion_of view right
@@ -57,15 +57,15 @@ module _ (view : RulesView) where
     depth_of-rule =
         let known = map (λ (terminal : ℕ). 0) (range_with_len 0 (length view.alphabet)) in
         let place : length known + j ≡ length view.alphabet + j = rule_place (λ terminal. 0) (length view.alphabet) j in
-        ap (λ k. get_or (table_of_rules deeper 0 known view.rules) k 0) (sym place)
-        ∙ table_of_rules-at_rule deeper 0 known view.rules j (left, right) within is (omega arith) (omega arith)
+        ap (λ k. get_or (table_of_rules depth_above 0 known view.rules) k 0) (sym place)
+        ∙ table_of_rules-at_rule depth_above 0 known view.rules j (left, right) within is (omega arith) (omega arith)
 
   -- there is a depth for each symbol
   pub length-depths : length (depths (length view.alphabet) view.rules) ≡ symbols_in view
   length-depths =
       omega (
         arith,
-        length-table_of_rules deeper 0 (map (λ terminal. 0) (range_with_len 0 (length view.alphabet))) view.rules,
+        length-table_of_rules depth_above 0 (map (λ terminal. 0) (range_with_len 0 (length view.alphabet))) view.rules,
         length-map-range_with_len {X = ℕ} (λ terminal. 0) 0 (length view.alphabet),
       )
 

@@ -11,7 +11,7 @@ use Rattle.list_laws.proofs.FindLemmas.{find_in_range-all, find_in_range-first, 
 use Rattle.list_laws.proofs.FirstLemmas.{map-none, or-none}
 use Rattle.rule_store.specs.View.{RulesView, symbols_in}
 use Rattle.rule_store.specs.Entry.{entry_of}
-use Rattle.rule_store.specs.Flaws.{are_below, box_passes, code_flaw, is_far, is_long, is_rule_flawed, reach_limit, rule_at, rule_flaw, rules_flaw, symbol_flaw}
+use Rattle.rule_store.specs.Flaws.{are_below, box_passes, code_flaw, is_far, leads_out, is_rule_flawed, reach_limit, rule_parts, rule_flaw, rules_flaw, symbol_flaw}
 use Rattle.rule_store.specs.declared.entry.Entry.{Entry}
 
 pub record NoFlaws (view : RulesView) : Type 0 where
@@ -54,11 +54,11 @@ reach_limit-high height high =
     let some : 2 ^ height ≤ 2 ^ MAX_HEIGHT = pow-le-pow_right (omega arith) high in
     omega (arith, reach_limit-is height)
 
--- a value is long exactly where it is above the square of all codes of movements within reach
-pub is_long-above : (height value : ℕ) → square (2 * reach_limit height + 1) < value → is_long height value ≡ true
-is_long-above height zero above = absurd (omega arith)
-is_long-above height (suc code) above =
-    elim (cases_Bool (is_long height (suc code))) [
+-- a value is long if and only if it is above the square of all codes of movements within reach
+pub leads_out-above : (height value : ℕ) → square (2 * reach_limit height + 1) < value → leads_out height value ≡ true
+leads_out-above height zero above = absurd (omega arith)
+leads_out-above height (suc code) above =
+    elim (cases_Bool (leads_out height (suc code))) [
       | inl long ↦ long
       | inr short ↦
           let within = ltb-false (reach_limit height) (ring_of (move_of code).0 (move_of code).1) short in
@@ -66,9 +66,9 @@ is_long-above height (suc code) above =
           absurd (omega arith)
     ]
 
-pub is_long-below : (height value : ℕ) → value ≤ square (2 * reach_limit height + 1) → is_long height value ≡ false
-is_long-below height zero below = le-ltb (reach_limit height) 0 (omega arith)
-is_long-below height (suc code) below =
+pub leads_out-below : (height value : ℕ) → value ≤ square (2 * reach_limit height + 1) → leads_out height value ≡ false
+leads_out-below height zero below = le-ltb (reach_limit height) 0 (omega arith)
+leads_out-below height (suc code) below =
     let low : code < square (2 * reach_limit height + 1) = omega arith in
     le-ltb (reach_limit height) _ ((move_of-below code (reach_limit height)).0 low)
 
@@ -77,28 +77,28 @@ pub value-short : (height : ℕ) (alphabet : List ℕ) (place : ℕ) → code_fl
 unfolding code_flaw
 value-short height alphabet place none within =
     let value = slice_index alphabet place in
-    let short : is_long height value ≡ false =
-    find_in_range-all (λ i. is_long height (slice_index alphabet i)) 0 (length alphabet) none place (omega arith)
+    let short : leads_out height value ≡ false =
+    find_in_range-all (λ i. leads_out height (slice_index alphabet i)) 0 (length alphabet) none place (omega arith)
     (omega arith) in
     elim (cases_lt (square (2 * reach_limit height + 1)) value) [
-      | inl above ↦ let long = is_long-above height value above in absurd (cc)
+      | inl above ↦ let long = leads_out-above height value above in absurd (cc)
       | inr below ↦ below
     ]
 
 -- what holds of a rule that is not flawed
 pub record IsSoundRule (view : RulesView) (j : ℕ) : Type 0 where
-  pub left : (rule_at view.rules j).0 < length view.alphabet + j
-  pub right : (rule_at view.rules j).1 < length view.alphabet + j
+  pub left : (rule_parts view.rules j).0 < length view.alphabet + j
+  pub right : (rule_parts view.rules j).1 < length view.alphabet + j
   pub near : is_far view.height view.period (entry_of view (length view.alphabet + j)) ≡ false
 
 pub sound_rule : (view : RulesView) (j : ℕ) → is_rule_flawed view j ≡ false → IsSoundRule view j
 unfolding is_rule_flawed
 sound_rule view j sound =
     let symbol = length view.alphabet + j in
-    let both = or_parts (not (are_below symbol (rule_at view.rules j)))
+    let both = or_parts (not (are_below symbol (rule_parts view.rules j)))
     (is_far view.height view.period (entry_of view symbol)) sound in
-    let below = and_parts (nat_lt (rule_at view.rules j).0 symbol) (nat_lt (rule_at view.rules j).1 symbol)
-    (not-false (are_below symbol (rule_at view.rules j)) both.0) in
+    let below = and_parts (nat_lt (rule_parts view.rules j).0 symbol) (nat_lt (rule_parts view.rules j).1 symbol)
+    (not-false (are_below symbol (rule_parts view.rules j)) both.0) in
     record { left = ltb-true _ _ below.0; right = ltb-true _ _ below.1; near = both.1 }
 
 pub rule-sound : (view : RulesView) (j : ℕ) → rule_flaw view ≡ None → j < length view.rules → IsSoundRule view j
@@ -142,18 +142,18 @@ box_passes-higher height (Some area) high near =
 
 -- the first place of each kind, and that there is none
 pub code_flaw-at : (height : ℕ) (alphabet : List ℕ) (place : ℕ) → place < length alphabet →
-    ((j : ℕ) → j < place → is_long height (slice_index alphabet j) ≡ false) →
-    is_long height (slice_index alphabet place) ≡ true → code_flaw height alphabet ≡ Some place
+    ((j : ℕ) → j < place → leads_out height (slice_index alphabet j) ≡ false) →
+    leads_out height (slice_index alphabet place) ≡ true → code_flaw height alphabet ≡ Some place
 unfolding code_flaw
 code_flaw-at height alphabet place within before here =
-    find_in_range-first (λ i. is_long height (slice_index alphabet i)) 0 (length alphabet) place (omega arith)
+    find_in_range-first (λ i. leads_out height (slice_index alphabet i)) 0 (length alphabet) place (omega arith)
     (omega arith) (λ j above below. before j below) here
 
 pub code_flaw-none : (height : ℕ) (alphabet : List ℕ) →
-    ((j : ℕ) → j < length alphabet → is_long height (slice_index alphabet j) ≡ false) → code_flaw height alphabet ≡ None
+    ((j : ℕ) → j < length alphabet → leads_out height (slice_index alphabet j) ≡ false) → code_flaw height alphabet ≡ None
 unfolding code_flaw
 code_flaw-none height alphabet short =
-    find_in_range-none (λ i. is_long height (slice_index alphabet i)) 0 (length alphabet)
+    find_in_range-none (λ i. leads_out height (slice_index alphabet i)) 0 (length alphabet)
     (λ j above below. short j (omega arith))
 
 pub symbol_flaw-at : (many : ℕ) (symbols : List ℕ) (place : ℕ) → place < length symbols →
@@ -185,7 +185,7 @@ rule_flaw-none view sound =
     find_in_range-none (is_rule_flawed view) 0 (length view.rules) (λ j above below. sound j (omega arith))
 
 -- a rule by its parts
-module _ (view : RulesView) (j left right : ℕ) (is : rule_at view.rules j ≡ (left, right)) where
+module _ (view : RulesView) (j left right : ℕ) (is : rule_parts view.rules j ≡ (left, right)) where
   pub flawed_rule-left : length view.alphabet + j ≤ left → is_rule_flawed view j ≡ true
   unfolding is_rule_flawed
   flawed_rule-left above =

@@ -7,7 +7,7 @@ use Rattle.rule_store.specs.View.{RulesView}
 use Rattle.rule_store.specs.Expansion.{values_of}
 use Rattle.rule_store.specs.Cells.{cells_along, displacement_of, moved}
 use Rattle.rule_store.specs.Entry.{duration_of}
-use Rattle.rule_store.specs.Flaws.{rule_at}
+use Rattle.rule_store.specs.Flaws.{rule_parts}
 use Rattle.rule_store.specs.Log.{log_values, stop_at, stops_after, stops_from}
 use Rattle.rule_store.proofs.CellLemmas.{cells_along-append, length-cells_along}
 use Rattle.rule_store.proofs.ExpansionLemmas.{length-values_of, values_of-rule}
@@ -55,7 +55,7 @@ stops_after-cons rules instant cell symbol log =
 
 -- a rule has the stops of its two parts
 pub stops_after-rule : (rules : RulesView) (instant : ℤ) (cell : Cell) (j left right : ℕ) (log : List ℕ) →
-    j < length rules.rules → rule_at rules.rules j ≡ (left, right) → left < length rules.alphabet + j →
+    j < length rules.rules → rule_parts rules.rules j ≡ (left, right) → left < length rules.alphabet + j →
     right < length rules.alphabet + j →
     stops_after rules instant cell ((length rules.alphabet + j) ∷ log) ≡ stops_after rules instant cell
     (left ∷ right ∷ log)

@@ -17,15 +17,15 @@ use Rattle.rule_store.specs.View.{RulesView}
 use Rattle.rule_store.proofs.ExpansionLemmas.{expansion_of-rule}
 use Rattle.rule_store.specs.Expansion.{expansion_of}
 use Rattle.rule_store.specs.Entry.{duration_of}
-use Rattle.rule_store.specs.Flaws.{rule_at}
-use Rattle.rule_store.specs.Nodes.{Node, Parsed, after, has_box, is_opened, leaf, nodes_in, opened_count, parsed, parsed_with, unparsed}
+use Rattle.rule_store.specs.Flaws.{rule_parts}
+use Rattle.rule_store.specs.Nodes.{RuleNode, Parsed, after, has_box, is_opened, leaf, nodes_in, opened_count, parsed, parsed_with, unparsed}
 
 -- after two lists of terminals
-after-after : (xs ys : List ℕ) (node : Node) → after xs (after ys node) ≡ after (xs ++ ys) node
+after-after : (xs ys : List ℕ) (node : RuleNode) → after xs (after ys node) ≡ after (xs ++ ys) node
 after-after xs ys node =
-    ap {B = Node} (λ before. record { before = before; inside = node.inside }) (sym (append_assoc xs ys node.before))
+    ap {B = RuleNode} (λ before. record { before = before; inside = node.inside }) (sym (append_assoc xs ys node.before))
 
-map_after-map_after : (xs ys : List ℕ) (nodes : List Node) →
+map_after-map_after : (xs ys : List ℕ) (nodes : List RuleNode) →
     map (after xs) (map (after ys) nodes) ≡ map (after (xs ++ ys)) nodes
 map_after-map_after xs ys [] = refl
 map_after-map_after xs ys (node ∷ nodes) =
@@ -37,7 +37,7 @@ module _ (view : RulesView) where
   parsed-terminal symbol below =
       table_of_rules-at_terminal parsed_with unparsed leaf (length view.alphabet) view.rules symbol below
 
-  pub parsed-rule : (j left right : ℕ) → j < length view.rules → rule_at view.rules j ≡ (left, right) →
+  pub parsed-rule : (j left right : ℕ) → j < length view.rules → rule_parts view.rules j ≡ (left, right) →
       left < length view.alphabet + j → right < length view.alphabet + j →
       parsed view (length view.alphabet + j) ≡ parsed_with (parsed view left) (parsed view right)
   unfolding parsed
@@ -50,7 +50,7 @@ module _ (view : RulesView) where
       (omega (arith, many))
 
   -- the nodes of a rule and of a log after it are its own, and those of its two parts and the log
-  pub nodes_in-rule : (j left right : ℕ) (log : List ℕ) → j < length view.rules → rule_at view.rules j ≡ (left, right) →
+  pub nodes_in-rule : (j left right : ℕ) (log : List ℕ) → j < length view.rules → rule_parts view.rules j ≡ (left, right) →
       left < length view.alphabet + j → right < length view.alphabet + j →
       nodes_in view ((length view.alphabet + j) ∷ log)
       ≡ record { before = []; inside = (parsed view left).terminals ++ (parsed view right).terminals }
@@ -71,7 +71,7 @@ module _ (view : RulesView) where
       ∙ sym (map-append (after one.terminals) other.nodes (map (after other.terminals) later))))
 
   -- a node after some terminals is opened as it is where these instants have passed
-  is_opened-after : (instant from to : ℤ) (terminals : List ℕ) (node : Node) →
+  is_opened-after : (instant from to : ℤ) (terminals : List ℕ) (node : RuleNode) →
       is_opened view instant from to (after terminals node)
       ≡ is_opened view (instant +ℤ pos (length terminals)) from to node
   is_opened-after instant from to terminals node =
@@ -88,7 +88,7 @@ module _ (view : RulesView) where
       && (le_z ((instant +ℤ pos (length terminals)) +ℤ pos (length node.before + 1)) to && le_z from z))
       && has_box view node) last
 
-  filter-after : (instant from to : ℤ) (terminals : List ℕ) (nodes : List Node) →
+  filter-after : (instant from to : ℤ) (terminals : List ℕ) (nodes : List RuleNode) →
       length (filter (is_opened view instant from to) (map (after terminals) nodes))
       ≡ length (filter (is_opened view (instant +ℤ pos (length terminals)) from to) nodes)
   filter-after instant from to terminals [] = refl
@@ -150,7 +150,7 @@ module _ (view : RulesView) where
       ∙ zero-add (opened_count view (instant +ℤ pos (duration_of view symbol)) log from to)
 
   -- a rule counts itself where it is opened, and its two parts
-  module _ (j left right : ℕ) (within : j < length view.rules) (is : rule_at view.rules j ≡ (left, right))
+  module _ (j left right : ℕ) (within : j < length view.rules) (is : rule_parts view.rules j ≡ (left, right))
       (left_below : left < length view.alphabet + j) (right_below : right < length view.alphabet + j)
       (instant from to : ℤ) (log : List ℕ) where
     own_node :
@@ -165,7 +165,7 @@ module _ (view : RulesView) where
         ∷ nodes_in view (left ∷ right ∷ log)
     all_nodes =
         nodes_in-rule j left right log within is left_below right_below
-        ∙ ap {B = List Node} (λ inside. record { before = []; inside = inside } ∷ nodes_in view
+        ∙ ap {B = List RuleNode} (λ inside. record { before = []; inside = inside } ∷ nodes_in view
         (left ∷ right ∷ log)) own_node
 
     pub opened_count-opened : opens instant from to (length view.alphabet + j) ≡ true →

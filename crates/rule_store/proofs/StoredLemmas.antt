@@ -15,8 +15,8 @@ use Rattle.rule_store.specs.Expansion.{depth_in, depth_of, depths, values_of}
 use Rattle.rule_store.specs.Cells.{cells_along, displacement_of, movement_of}
 use Rattle.rule_store.specs.Boxes.{bounding_box_of, box_round}
 use Rattle.rule_store.specs.Entry.{entry_of, entry_with}
-use Rattle.rule_store.specs.Flaws.{AreRules, box_passes, is_long, left_of, reach_limit, right_of, rule_at}
-use Rattle.rule_store.specs.Stored.{AreEntries, IsEntryOf, IsPacked, IsReadRule}
+use Rattle.rule_store.specs.Flaws.{AreRules, box_passes, leads_out, left_of, reach_limit, right_of, rule_parts}
+use Rattle.rule_store.specs.Stored.{AreEntries, IsEntryOf, IsPackedEntry, IsReadRule}
 use Rattle.rule_store.specs.declared.entry.Entry.{Entry}
 use Rattle.rule_store.specs.declared.packed_entry.PackedEntry.{PackedEntry}
 use Rattle.rule_store.proofs.ExpansionLemmas.{depth_of-rule, length-depths, values_of-rule}
@@ -81,14 +81,14 @@ depth_in-entries view entries many known =
     ∙ ap (λ numbers. fold max 0 numbers) (same_depths view entries many known)
 
 -- a movement within reach, as the entry of its terminal
-pub terminal-reach : (height symbol value : ℕ) → is_long height value ≡ false →
+pub terminal-reach : (height symbol value : ℕ) → leads_out height value ≡ false →
     ring_of (entry_with symbol (value ∷ [])).dx (entry_with symbol (value ∷ [])).dy ≤ reach_limit height
 unfolding displacement_of
 terminal-reach height symbol value short =
     let near = ltb-false (reach_limit height) (ring_of (movement_of value).0 (movement_of value).1) short in
     omega (arith, ints)
 
-pub terminal-box : (height symbol value : ℕ) → is_long height value ≡ false →
+pub terminal-box : (height symbol value : ℕ) → leads_out height value ≡ false →
     box_passes height (entry_with symbol (value ∷ [])).hull ≡ false
 unfolding bounding_box_of cells_along box_round
 terminal-box height symbol zero short = refl
@@ -101,11 +101,11 @@ terminal-box height symbol (suc code) short =
 
 -- a rule's entry, from those of its parts
 module _ (view : RulesView) (j : ℕ) (parts : ℕ × ℕ) (within : j < length view.rules)
-    (is : rule_at view.rules j ≡ parts) (left_below : parts.0 < length view.alphabet + j)
+    (is : rule_parts view.rules j ≡ parts) (left_below : parts.0 < length view.alphabet + j)
     (right_below : parts.1 < length view.alphabet + j)
     (left right : PackedEntry) (left_is : IsEntryOf view parts.0 left) (right_is : IsEntryOf view parts.1 right) where
   pub entry_of-rule : (entry : Entry) (symbol : ℕ) → symbol ≡ length view.alphabet + j →
-      ((lefts rights : List ℕ) → IsPacked lefts left → IsPacked rights right →
+      ((lefts rights : List ℕ) → IsPackedEntry lefts left → IsPackedEntry rights right →
       entry ≡ entry_with symbol (lefts ++ rights)) →
       entry ≡ entry_of view (length view.alphabet + j)
   unfolding entry_of
@@ -116,7 +116,7 @@ module _ (view : RulesView) (j : ℕ) (parts : ℕ × ℕ) (within : j < length 
       (sym (values_of-rule view j parts.0 parts.1 within is left_below right_below))
 
   pub is_entry_of-rule : (entry : Entry) (packed : PackedEntry) → entry ≡ entry_of view (length view.alphabet + j) →
-      ((symbol : ℕ) (values : List ℕ) → entry ≡ entry_with symbol values → IsPacked values packed) →
+      ((symbol : ℕ) (values : List ℕ) → entry ≡ entry_with symbol values → IsPackedEntry values packed) →
       packed.depth ≡ 1 + max left.depth right.depth → IsEntryOf view (length view.alphabet + j) packed
   unfolding entry_of
   is_entry_of-rule entry packed of packs deep = record {
@@ -132,7 +132,7 @@ pub read_rule : (view : RulesView) (symbol place : ℕ) (parts : ℕ × ℕ) →
     symbol < symbols_in view → place ≡ symbol - length view.alphabet → slice_get view.rules place ≡ Some parts →
     IsReadRule view symbol parts
 read_rule view symbol place parts rules rule within here read =
-    let is : rule_at view.rules (symbol - length view.alphabet) ≡ parts =
+    let is : rule_parts view.rules (symbol - length view.alphabet) ≡ parts =
     get_or_from_slice_get view.rules (symbol - length view.alphabet) parts (0, 0)
     (subst (λ k. slice_get view.rules k ≡ Some parts) here read) in
     let sound = rule-sound view (symbol - length view.alphabet) (no_flaws view rules.flawless).rules (omega arith) in

@@ -6,7 +6,7 @@ use Rattle.std.proofs.lemmas.Int.{ints, fold-int_max_bounds, fold-int_min_bounds
 use Rattle.track_types.specs.Quantities.{greatest, least}
 use Rattle.track_types.specs.declared.cell.Cell.{Cell}
 use Rattle.track_types.specs.declared.cell_box.CellBox.{CellBox}
-use Rattle.rule_store.specs.Cells.{cell_at, cells_along, present_in}
+use Rattle.rule_store.specs.Cells.{cell_with, cells_along, present_in}
 
 -- the least of some numbers is at most the greatest
 pub least-greatest : (z : ℤ) (zs : List ℤ) → least (z ∷ zs) ≤ℤ greatest (z ∷ zs)
@@ -37,7 +37,7 @@ box_round (cell ∷ cells) = Some (record {
 
 -- the cell at (0, 0)
 abbrev pub origin : Cell
-origin = cell_at (pos 0) (pos 0)
+origin = cell_with (pos 0) (pos 0)
 
 -- the least box round the cells in which an object is present, from a start at (0, 0) that is not itself counted
 unfoldable pub bounding_box_of : List ℕ → Option CellBox

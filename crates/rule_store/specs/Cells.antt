@@ -6,12 +6,12 @@ use Rattle.spiral_code.specs.Spiral.{move_of}
 use Rattle.track_types.specs.declared.cell.Cell.{Cell}
 
 -- the cell in this column and line
-abbrev pub cell_at : ℤ → ℤ → Cell
-cell_at x y = record { x = x; y = y }
+abbrev pub cell_with : ℤ → ℤ → Cell
+cell_with x y = record { x = x; y = y }
 
 -- the cell that a movement from a cell leads to
 abbrev pub moved : Cell → ℤ × ℤ → Cell
-moved cell by = cell_at (cell.x +ℤ by.0) (cell.y +ℤ by.1)
+moved cell by = cell_with (cell.x +ℤ by.0) (cell.y +ℤ by.1)
 
 -- the movement of a value: that of its code, and none where it is an absence
 abbrev pub movement_of : ℕ → ℤ × ℤ

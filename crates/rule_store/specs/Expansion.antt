@@ -13,16 +13,16 @@ unfoldable pub values_of : RulesView → ℕ → List ℕ
 values_of view symbol = map (slice_index view.alphabet) (expansion_of view symbol)
 
 -- the depth of a rule: one more than the greater depth of its parts
-abbrev pub deeper : ℕ → ℕ → ℕ
-deeper left right = 1 + max left right
+abbrev pub depth_above : ℕ → ℕ → ℕ
+depth_above left right = 1 + max left right
 
 -- the depth of each symbol: 0 for a terminal
 abbrev pub depths : ℕ → List (ℕ × ℕ) → List ℕ
-depths size rules = table_of_rules deeper 0 (map (λ terminal. 0) (range_with_len 0 size)) rules
+depths size rules = table_of_rules depth_above 0 (map (λ terminal. 0) (range_with_len 0 size)) rules
 
 -- the depth of a symbol
 unfoldable pub depth_of : RulesView → ℕ → ℕ
-depth_of view symbol = known_of deeper 0 (depths (length view.alphabet) view.rules) symbol
+depth_of view symbol = known_of depth_above 0 (depths (length view.alphabet) view.rules) symbol
 
 -- the depth of the deepest symbol, which is the height of the grammar, and 0 without rules
 unfoldable pub depth_in : RulesView → ℕ

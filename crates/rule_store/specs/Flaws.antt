@@ -9,7 +9,7 @@ use Rattle.track_types.specs.declared.flaw.Kind.TheVariants as kind
 use Rattle.track_types.specs.declared.flaw.Section.TheVariants as section
 use Rattle.track_types.specs.declared.format_fault.FormatFault.{FormatFault}
 use Rattle.track_types.specs.declared.format_fault.FormatFault.TheVariants as format
-use Rattle.rule_store.specs.View.{RulesView, IsShaped, symbols_in}
+use Rattle.rule_store.specs.View.{RulesView, AreShapedRules, symbols_in}
 use Rattle.rule_store.specs.Cells.{movement_of}
 use Rattle.rule_store.specs.Entry.{entry_of}
 use Rattle.rule_store.specs.declared.entry.Entry.{Entry}
@@ -21,8 +21,8 @@ abbrev pub reach_limit : ℕ → ℕ
 reach_limit height = 2 ^ height - 1
 
 -- the value is a movement that leads from each cell out of the grid: its ring is above the limit
-abbrev pub is_long : ℕ → ℕ → Bool
-is_long height value = nat_lt (reach_limit height) (ring_of (movement_of value).0 (movement_of value).1)
+abbrev pub leads_out : ℕ → ℕ → Bool
+leads_out height value = nat_lt (reach_limit height) (ring_of (movement_of value).0 (movement_of value).1)
 
 -- the box, moved to a start in the grid, can only lie outside: a bound is more than the limit away from 0
 abbrev pub box_passes : ℕ → Option CellBox → Bool
@@ -36,16 +36,16 @@ is_far height period entry = nat_lt (period - 1) entry.duration
     || (nat_lt (reach_limit height) (ring_of entry.dx entry.dy) || box_passes height entry.hull)
 
 -- the parts of rule j
-abbrev pub rule_at : List (ℕ × ℕ) → ℕ → ℕ × ℕ
-rule_at rules j = slice_index_or rules j (0, 0)
+abbrev pub rule_parts : List (ℕ × ℕ) → ℕ → ℕ × ℕ
+rule_parts rules j = slice_index_or rules j (0, 0)
 
 -- the left part of a rule, by its symbol
 abbrev pub left_of : RulesView → ℕ → ℕ
-left_of view symbol = (rule_at view.rules (symbol - length view.alphabet)).0
+left_of view symbol = (rule_parts view.rules (symbol - length view.alphabet)).0
 
 -- the right part of a rule, by its symbol
 abbrev pub right_of : RulesView → ℕ → ℕ
-right_of view symbol = (rule_at view.rules (symbol - length view.alphabet)).1
+right_of view symbol = (rule_parts view.rules (symbol - length view.alphabet)).1
 
 -- the parts of rule j are below its own symbol
 abbrev pub are_below : ℕ → ℕ × ℕ → Bool
@@ -54,12 +54,12 @@ are_below symbol parts = nat_lt parts.0 symbol && nat_lt parts.1 symbol
 -- rule j has a part that is not below its own symbol, or its entry is too long or too far
 unfoldable pub is_rule_flawed : RulesView → ℕ → Bool
 is_rule_flawed view j = let symbol = length view.alphabet + j in
-    not (are_below symbol (rule_at view.rules j)) || is_far view.height view.period (entry_of view symbol)
+    not (are_below symbol (rule_parts view.rules j)) || is_far view.height view.period (entry_of view symbol)
 
 -- the first value that is flawed
 unfoldable pub code_flaw : ℕ → List ℕ → Option ℕ
 code_flaw height alphabet =
-    find (λ i. is_long height (slice_index alphabet i)) (range_with_len 0 (length alphabet))
+    find (λ i. leads_out height (slice_index alphabet i)) (range_with_len 0 (length alphabet))
 
 -- the first rule that is flawed
 unfoldable pub rule_flaw : RulesView → Option ℕ
@@ -78,11 +78,11 @@ rules_flaw view =
     (option_map fault.Symbol (symbol_flaw (symbols_in view) view.symbols)))
 
 -- a fault is this flaw; memory may be wanting for any lists
-abbrev pub IsFaultFor : Option RuleFault → RuleFault → Type 0
-IsFaultFor first (fault.Code index) = first ≡ Some (fault.Code index)
-IsFaultFor first (fault.Rule rule) = first ≡ Some (fault.Rule rule)
-IsFaultFor first (fault.Symbol index) = first ≡ Some (fault.Symbol index)
-IsFaultFor first fault.Memory = ⊤
+abbrev pub IsRuleFaultFor : Option RuleFault → RuleFault → Type 0
+IsRuleFaultFor first (fault.Code index) = first ≡ Some (fault.Code index)
+IsRuleFaultFor first (fault.Rule rule) = first ≡ Some (fault.Rule rule)
+IsRuleFaultFor first (fault.Symbol index) = first ≡ Some (fault.Symbol index)
+IsRuleFaultFor first fault.Memory = ⊤
 
 -- what a fault of the rules is in an index
 abbrev pub format_fault_of_rules : RuleFault → FormatFault
@@ -93,5 +93,5 @@ format_fault_of_rules fault.Memory = format.Memory
 
 -- what holds of every rule store: its lists are shaped and have no flaw
 pub record AreRules (view : RulesView) : Type 0 where
-  pub shaped : IsShaped view
+  pub shaped : AreShapedRules view
   pub flawless : rules_flaw view ≡ None

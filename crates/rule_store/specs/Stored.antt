@@ -17,7 +17,7 @@ IsHull packed (Some box) =
     (packed.x1 ≡ box.x1) × (packed.y1 ≡ box.y1) × (packed.x2 ≡ box.x2) × (packed.y2 ≡ box.y2)
 
 -- the packed entry is that of a symbol which stands for these values
-pub record IsPacked (values : List ℕ) (packed : PackedEntry) : Type 0 where
+pub record IsPackedEntry (values : List ℕ) (packed : PackedEntry) : Type 0 where
   pub duration : packed.duration ≡ length values
   pub dx : packed.dx ≡ (displacement_of values).0
   pub dy : packed.dy ≡ (displacement_of values).1
@@ -25,7 +25,7 @@ pub record IsPacked (values : List ℕ) (packed : PackedEntry) : Type 0 where
 
 -- the packed entry is that of a symbol of the rules
 pub record IsEntryOf (view : RulesView) (symbol : ℕ) (packed : PackedEntry) : Type 0 where
-  pub values : IsPacked (values_of view symbol) packed
+  pub values : IsPackedEntry (values_of view symbol) packed
   pub depth : packed.depth ≡ depth_of view symbol
   pub shallow : packed.depth ≤ symbol
 
@@ -35,11 +35,11 @@ pub record AreEntries (view : RulesView) (entries : List PackedEntry) : Type 0 w
       IsEntryOf view symbol (get_or entries symbol other)
 
 -- the lists that are judged
-abbrev pub view_of : RawRules → RulesView
-view_of raw = rules_with raw.alphabet.now raw.rules.now raw.symbols.now raw.height raw.period
+abbrev pub rules_view : RawRules → RulesView
+rules_view raw = rules_with raw.alphabet.now raw.rules.now raw.symbols.now raw.height raw.period
 
 -- what a rule store keeps beside its lists: an entry for each symbol, and the height of the grammar
-pub record IsStored (view : RulesView) (entries : List PackedEntry) (depth : ℕ) : Type 0 where
+pub record AreStoredRules (view : RulesView) (entries : List PackedEntry) (depth : ℕ) : Type 0 where
   pub rules : AreRules view
   pub many : length entries ≡ symbols_in view
   pub entries_are : AreEntries view entries

@@ -24,7 +24,7 @@ abbrev pub symbols_in : RulesView → ℕ
 symbols_in view = length view.alphabet + length view.rules
 
 -- what is known of lists before they are judged
-pub record IsShaped (view : RulesView) : Type 0 where
+pub record AreShapedRules (view : RulesView) : Type 0 where
   pub ascending : IsStrictlyIncreasing view.alphabet
   pub alphabet_fits : length view.alphabet ≤ limit_of Symbols
   pub rules_fit : length view.rules ≤ limit_of Symbols

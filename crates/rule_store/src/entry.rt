@@ -11,7 +11,7 @@ pub struct Entry {
     /// How many cells it moves up in all.
     pub dy: i64,
     /// The least box round the cells in which the object is present (its minimum bounding
-    /// rectangle), from a start at (0, 0) that is not itself counted. `None` exactly where all of
+    /// rectangle), from a start at (0, 0) that is not itself counted. `None` if and only if all of
     /// its instants are absences.
     pub hull: Option<CellBox>,
 }

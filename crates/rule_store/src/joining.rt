@@ -7,7 +7,7 @@ ghost use Rattle.rule_store.specs.Cells.{moved};
 ghost use Rattle.rule_store.specs.Boxes.{box_round};
 ghost use Rattle.rule_store.specs.Entry.{entry_with};
 ghost use Rattle.rule_store.specs.Flaws.{reach_limit};
-ghost use Rattle.rule_store.specs.Stored.{IsPacked};
+ghost use Rattle.rule_store.specs.Stored.{IsPackedEntry};
 
 use crate::entry::Entry;
 use crate::packed_entry::PackedEntry;
@@ -43,7 +43,7 @@ pub(crate) fn terminal_entry(symbol: u32, value: u64) -> Entry
 ///
 /// The right part begins where the left one leads, so its box is moved by the left displacement.
 pub(crate) fn join(symbol: u32, left: PackedEntry, right: PackedEntry) -> Entry
-    ensures { (lefts rights : List ℕ) → IsPacked lefts left → IsPacked rights right
+    ensures { (lefts rights : List ℕ) → IsPackedEntry lefts left → IsPackedEntry rights right
         → result ≡ entry_with symbol (lefts ++ rights) }
 {
     let (x, y) = left.displacement();

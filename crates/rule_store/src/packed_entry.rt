@@ -21,7 +21,7 @@ pub(crate) struct PackedEntry {
 impl PackedEntry {
     ghost use Rattle.rule_store.specs.Entry.{entry_with, IsEntryWithin};
     ghost use Rattle.rule_store.specs.Flaws.{box_passes};
-    ghost use Rattle.rule_store.specs.Stored.{IsPacked};
+    ghost use Rattle.rule_store.specs.Stored.{IsPackedEntry};
 
     /// Packs an entry, whose distances stay within the reach of the highest grid.
     pub(crate) fn pack(entry: Entry, depth: u32) -> PackedEntry
@@ -30,7 +30,7 @@ impl PackedEntry {
         requires near { ring_of entry.dx entry.dy < 2 ^ MAX_HEIGHT }
         requires within { box_passes MAX_HEIGHT entry.hull ≡ false }
         ensures packed { (symbol : ℕ) (values : List ℕ) → entry ≡ entry_with symbol values
-            → IsPacked values result }
+            → IsPackedEntry values result }
         ensures depth { result.depth ≡ depth }
     {
         PackedEntry {
@@ -54,7 +54,7 @@ impl PackedEntry {
 
     /// The entry, as that of a symbol.
     pub(crate) fn unpack(self, symbol: u32) -> Entry
-        ensures value { (values : List ℕ) → IsPacked values self
+        ensures value { (values : List ℕ) → IsPackedEntry values self
             → result ≡ entry_with symbol values }
         ensures within { IsEntryWithin result }
     {

@@ -29,7 +29,7 @@ impl RawRules<'_> {
     ghost use Rattle.rule_store.specs.Flaws.{code_flaw, is_far, is_rule_flawed, reach_limit};
     ghost use Rattle.rule_store.specs.Flaws.{rule_flaw, symbol_flaw};
     ghost use Rattle.rule_store.specs.View.{symbols_in};
-    ghost use Rattle.rule_store.specs.Stored.{AreEntries, IsEntryOf, view_of};
+    ghost use Rattle.rule_store.specs.Stored.{AreEntries, IsEntryOf, rules_view};
 
     // How far apart two cells of the grid may be in each axis.
     fn reach_limit(&self) -> u64
@@ -55,7 +55,7 @@ impl RawRules<'_> {
 
     /// The place of the first stored symbol that is neither a terminal nor a rule.
     pub(crate) fn find_unknown(&self) -> Option<u32>
-        ensures { result ≡ symbol_flaw (symbols_in (view_of self.now)) self.now.symbols.now }
+        ensures { result ≡ symbol_flaw (symbols_in (rules_view self.now)) self.now.symbols.now }
     {
         let known = self.alphabet.len() + self.rules.len();
         for (index, symbol) in self.symbols.iter().enumerate() {
@@ -72,7 +72,7 @@ impl RawRules<'_> {
         requires { code_flaw self.now.height self.now.alphabet.now ≡ None }
         ensures many { IfOk result (λ entries.
             length entries.items ≡ length self.now.alphabet.now) }
-        ensures ok { IfOk result (λ entries. AreEntries (view_of self.now) entries.items) }
+        ensures ok { IfOk result (λ entries. AreEntries (rules_view self.now) entries.items) }
     {
         let mut entries = Vec::with_capacity(alloc, self.alphabet.len() + self.rules.len())?;
         for (symbol, value) in self.alphabet.iter().enumerate() {
@@ -86,12 +86,12 @@ impl RawRules<'_> {
     /// within its limits, or answers the first rule that does not.
     pub(crate) fn add_rules(&self, entries: &mut Vec<PackedEntry>) -> Result<Option<u32>, Memory>
         requires many { length entries.old.items ≡ length self.now.alphabet.now }
-        requires entries { AreEntries (view_of self.now) entries.old.items }
-        ensures flaw { IfOk result (λ flaw. flaw ≡ rule_flaw (view_of self.now)) }
+        requires entries { AreEntries (rules_view self.now) entries.old.items }
+        ensures flaw { IfOk result (λ flaw. flaw ≡ rule_flaw (rules_view self.now)) }
         ensures many { IfOk result (λ flaw. flaw ≡ None
-            → length entries.new.items ≡ symbols_in (view_of self.now)) }
+            → length entries.new.items ≡ symbols_in (rules_view self.now)) }
         ensures ok { IfOk result (λ flaw. flaw ≡ None
-            → AreEntries (view_of self.now) entries.new.items) }
+            → AreEntries (rules_view self.now) entries.new.items) }
     {
         for rule in 0..self.rules.len() {
             let Some(entry) = self.rule_entry(rule, entries.as_slice()) else {
@@ -120,10 +120,10 @@ impl RawRules<'_> {
     fn rule_entry(&self, rule: usize, entries: &[PackedEntry]) -> Option<PackedEntry>
         requires within { rule < length self.now.rules.now }
         requires many { length entries.now ≡ length self.now.alphabet.now + rule }
-        requires entries { AreEntries (view_of self.now) entries.now }
-        ensures { MatchOption result (is_rule_flawed (view_of self.now) rule ≡ true)
-            (λ entry. (is_rule_flawed (view_of self.now) rule ≡ false)
-            × IsEntryOf (view_of self.now) (length self.now.alphabet.now + rule) entry) }
+        requires entries { AreEntries (rules_view self.now) entries.now }
+        ensures { MatchOption result (is_rule_flawed (rules_view self.now) rule ≡ true)
+            (λ entry. (is_rule_flawed (rules_view self.now) rule ≡ false)
+            × IsEntryOf (rules_view self.now) (length self.now.alphabet.now + rule) entry) }
     {
         let (left, right) = self.rules[rule];
         let (left, right) = (left as usize, right as usize);

@@ -1,9 +1,9 @@
 ghost use Rattle.std.specs.Prelude.{◌≡◌, ◌+◌, ◌<◌, ◌≤◌, ◌^◌, None, Some, length, max, fold, slice_get};
 ghost use Rattle.std.specs.Prelude.{nat_le, IfErr, IfOk, OnOk};
-ghost use Rattle.rule_store.specs.View.{rules_with, symbols_in, IsShaped};
+ghost use Rattle.rule_store.specs.View.{rules_with, symbols_in, AreShapedRules};
 ghost use Rattle.rule_store.specs.Expansion.{depth_in, depth_of};
 ghost use Rattle.rule_store.specs.Entry.{entry_of, IsEntryWithin};
-ghost use Rattle.rule_store.specs.Flaws.{rules_flaw, AreRules, IsFaultFor, left_of, right_of};
+ghost use Rattle.rule_store.specs.Flaws.{rules_flaw, AreRules, IsRuleFaultFor, left_of, right_of};
 ghost use Rattle.rule_store.specs.Stored.{IsEntryOf, IsReadRule};
 ghost use Rattle.rule_store.specs.Cost.{parts_reads};
 
@@ -36,13 +36,13 @@ pub struct RuleStore {
 
 impl Model for RuleStore {
     ghost use Rattle.rule_store.specs.View.{RulesView, rules_with};
-    ghost use Rattle.rule_store.specs.Stored.{IsStored};
+    ghost use Rattle.rule_store.specs.Stored.{AreStoredRules};
 
     ghost Value = { RulesView };
 
     ghost view = { λ s. rules_with s.alphabet s.rules s.symbols s.height s.period };
 
-    ghost invariant = { λ s. IsStored (rules_with s.alphabet s.rules s.symbols s.height s.period)
+    ghost invariant = { λ s. AreStoredRules (rules_with s.alphabet s.rules s.symbols s.height s.period)
         s.entries.items s.depth };
 }
 
@@ -66,13 +66,13 @@ impl RuleStore {
         height: u32,
         period: u32,
     ) -> Result<RuleStore, RuleFault>
-        requires { IsShaped (rules_with alphabet rules symbols height period) }
+        requires { AreShapedRules (rules_with alphabet rules symbols height period) }
         ensures ok { IfOk result (λ store.
             store ≡ rules_with alphabet rules symbols height period) }
         ensures exact { OnOk result
             (rules_flaw (rules_with alphabet rules symbols height period) ≡ None) }
         ensures flaw { IfErr result (λ fault.
-            IsFaultFor (rules_flaw (rules_with alphabet rules symbols height period)) fault) }
+            IsRuleFaultFor (rules_flaw (rules_with alphabet rules symbols height period)) fault) }
     {
         let raw = RawRules {
             alphabet: alphabet.as_slice(),

@@ -35,7 +35,7 @@ AreSpotsAt-first objects seed = record {
       get_or-map-range_with_len first_spot 0 objects object object (first_spot 0) (omega (arith, many, below)) same;
 }
 
--- Of an instant's objects those before one were moved on, and their rows came behind the earlier ones.
+-- Of an instant's objects those before one were moved on, and their rows came after the earlier ones.
 pub record IsUnderWay (seed before object : ℕ) (spots : List Spot) (state : ℕ) (earlier rows : List RawRow) :
     Type 0 where
   pub generator : state ≡ state_after seed (before * length spots + object)

@@ -25,7 +25,7 @@ use Rattle.k2_tree.proofs.KeptLemmas.{passes-wanted}
 use Rattle.snapshots.specs.View.{SnapshotView, all_blocks, block_of, is_at, leaf_at, objects_at, place_in}
 use Rattle.snapshots.specs.View.{present_block, rank_in, tree_in}
 use Rattle.snapshots.specs.Sound.{IsBlock, IsSnapshot}
-use Rattle.snapshots.specs.Objects.{objects_of, passing_blocks, wanted_blocks, WeighSame}
+use Rattle.snapshots.specs.Objects.{objects_of_leaves, passing_blocks, wanted_blocks, WeighSame}
 use Rattle.snapshots.specs.declared.anchored.Anchored.{Anchored}
 use Rattle.snapshots.proofs.BlockLemmas.{leaf_known, rank_in-within}
 use Rattle.snapshots.proofs.BlocksLemmas.{index_at-place_in}
@@ -94,8 +94,8 @@ module _ (view : SnapshotView) (is : IsSnapshot view) where
       (filter_passes (is_at view leaf) indices))
 
   -- and those of leaves
-  pub All-objects_of : (leaves : List (ℕ × Cell)) → All (IsBlock view) (objects_of view leaves)
-  All-objects_of leaves =
+  pub All-objects_of_leaves : (leaves : List (ℕ × Cell)) → All (IsBlock view) (objects_of_leaves view leaves)
+  All-objects_of_leaves leaves =
       All-flat_map (IsBlock view) (λ leaf. objects_at view leaf.0) leaves
       (λ k d within. All-objects_at (get_or leaves k d).0)
 
@@ -164,10 +164,10 @@ shared view passes weight index is within = elim (cases_Bool (slice_index_or vie
 ]
 
 -- the blocks of leaves that pass weigh what all blocks of the period weigh whose cells pass
-pub WeighSame-objects_of : (view : SnapshotView) (keep : CellBox → Bool) → IsSnapshot view
-    → WeighSame (objects_of view (kept_leaves keep (tree_in view))) (passing_blocks keep view)
+pub WeighSame-objects_of_leaves : (view : SnapshotView) (keep : CellBox → Bool) → IsSnapshot view
+    → WeighSame (objects_of_leaves view (kept_leaves keep (tree_in view))) (passing_blocks keep view)
 unfolding WeighSame passing_blocks all_blocks
-WeighSame-objects_of view keep is = λ weight.
+WeighSame-objects_of_leaves view keep is = λ weight.
     let passes : Cell → Bool = passes_at keep (tree_in view) in
     let leaves : List (ℕ × Cell) = leaves_of (tree_in view) in
     let indices : List ℕ = range_with_len 0 view.objects in

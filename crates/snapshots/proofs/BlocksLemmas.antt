@@ -19,7 +19,7 @@ use Rattle.k2_tree.proofs.RisingLemmas.{same_from_rising}
 use Rattle.track_types.specs.declared.cell.Cell.{Cell}
 use Rattle.snapshots.specs.View.{SnapshotView, block_at, block_of, block_with, blocks_in, is_at, leaf_at, objects_at}
 use Rattle.snapshots.specs.View.{place_in, places_from, present_block, rank_in}
-use Rattle.snapshots.specs.Objects.{blocks_of, objects_of}
+use Rattle.snapshots.specs.Objects.{blocks_of, objects_of_leaves}
 use Rattle.snapshots.specs.Sound.{IsSnapshot}
 use Rattle.snapshots.proofs.BlockLemmas.{block_found, rank_within}
 use Rattle.snapshots.proofs.ChosenLemmas.{in-from_made, IsMade-from_in, Rises-made}
@@ -155,7 +155,7 @@ blocks_in-by_object view leaf is =
 
 -- so are the blocks of leaves, leaf by leaf
 pub blocks_of-objects : (view : SnapshotView) (leaves : List (ℕ × Cell)) → IsSnapshot view
-    → blocks_of view leaves ≡ objects_of view leaves
+    → blocks_of view leaves ≡ objects_of_leaves view leaves
 blocks_of-objects view [] is = refl
 blocks_of-objects view (leaf ∷ leaves) is =
     ap (λ blocks. blocks ++ blocks_of view leaves) (blocks_in-by_object view leaf.0 is)

@@ -16,11 +16,11 @@ use Rattle.track_types.specs.declared.frame.Frame.{Frame}
 use Rattle.track_types.specs.declared.parts.Parts.{Parts}
 use Rattle.track_types.specs.declared.period_parts.PeriodParts.{PeriodParts}
 use Rattle.rule_store.specs.Boxes.{bounding_box_of, box_round}
-use Rattle.rule_store.specs.Cells.{cell_at, cells_along, displacement_of}
+use Rattle.rule_store.specs.Cells.{cell_with, cells_along, displacement_of}
 use Rattle.rule_store.specs.Entry.{duration_of, entry_of}
 use Rattle.rule_store.specs.Expansion.{expansion_of, values_of}
 use Rattle.rule_store.specs.Log.{block_stops, log_values, stop_at, stops_after, stops_from}
-use Rattle.snapshots.specs.JoinFlaws.{cell_after, lasting}
+use Rattle.snapshots.specs.JoinFlaws.{cell_after, duration_of_log}
 use Rattle.snapshots.specs.Parts.{numbers_in, start_in, stops_in}
 use Rattle.snapshots.specs.Speed.{blocks_speed, log_speed, speed_of}
 use Rattle.snapshots.specs.View.{SnapshotView, all_blocks, block_at, block_of, blocks_in}
@@ -193,15 +193,15 @@ wanderer = record {
 }
 
 its_blocks_stop_where_it_is : map (stops_in wanderer 0) (numbers_in wanderer.frame)
-    ≡ (stop_at (pos 0) (cell_at (pos 0) (pos 0)) ∷ stop_at (pos 1) (cell_at (pos 5) (pos 5)) ∷ [])
-    ∷ (stop_at (pos 2) (cell_at (pos 0) (pos 0)) ∷ [])
-    ∷ (stop_at (pos 4) (cell_at (pos 5) (pos 6)) ∷ stop_at (pos 5) (cell_at (pos 5) (pos 5)) ∷ []) ∷ []
+    ≡ (stop_at (pos 0) (cell_with (pos 0) (pos 0)) ∷ stop_at (pos 1) (cell_with (pos 5) (pos 5)) ∷ [])
+    ∷ (stop_at (pos 2) (cell_with (pos 0) (pos 0)) ∷ [])
+    ∷ (stop_at (pos 4) (cell_with (pos 5) (pos 6)) ∷ stop_at (pos 5) (cell_with (pos 5) (pos 5)) ∷ []) ∷ []
 unfolding morton_row morton_column cell_of where_set codes_below codes_in children_of_prefixes levels_with rank_of select_of ones_of start_in stops_in
     block_stops stops_after stops_from log_values values_of expansion_of table_of_rules cells_along move_of
 its_blocks_stop_where_it_is = refl
 
 each_period_has_its_speed : map (speed_of wanderer) (numbers_in wanderer.frame) ≡ 5 ∷ 0 ∷ 1 ∷ []
 unfolding morton_row morton_column cell_of where_set codes_below codes_in children_of_prefixes levels_with rank_of select_of ones_of start_in all_blocks
-    blocks_speed log_speed cell_after lasting entry_of bounding_box_of box_round displacement_of
+    blocks_speed log_speed cell_after duration_of_log entry_of bounding_box_of box_round displacement_of
     values_of expansion_of table_of_rules cells_along move_of duration_of
 each_period_has_its_speed = refl

@@ -14,7 +14,7 @@ use Rattle.list_laws.proofs.SumLemmas.{sum_by-range_next}
 use Rattle.track_types.specs.Frame.{periods_of}
 use Rattle.track_types.specs.declared.parts.Parts.{Parts}
 use Rattle.rule_store.specs.View.{RulesView}
-use Rattle.snapshots.specs.Flaws.{IsFaultFor}
+use Rattle.snapshots.specs.Flaws.{IsSnapFaultFor}
 use Rattle.snapshots.specs.IndexCost.{blocks_reads, open_cost}
 use Rattle.snapshots.specs.JoinFlaws.{blocks_flaw, join_flaw, logs_flaw}
 use Rattle.snapshots.specs.Parts.{no_period, rules_in, snapshot_in, start_in, symbols_of}
@@ -95,7 +95,7 @@ module _ (parts : Parts) (rules : RulesView) (snaps : List SnapshotView) (of : A
 
   -- the flaw of a period, after periods that have none, is the first
   pub logs_flaw-at : (number before steps : ℕ) (found : SnapFault) → IsJoining parts number before steps
-      → number < periods_of parts.frame → IsFaultFor (join_flaw parts number) found → IsFaultFor (logs_flaw parts) found
+      → number < periods_of parts.frame → IsSnapFaultFor (join_flaw parts number) found → IsSnapFaultFor (logs_flaw parts) found
   unfolding logs_flaw
   logs_flaw-at number before steps fault.Memory is within fault = fault
   logs_flaw-at number before steps (fault.Flaw flaw) is within fault =
@@ -193,11 +193,11 @@ module _ (parts : Parts) (rules : RulesView) (snaps : List SnapshotView) (number
 
   module _ (before steps : ℕ) (is : IsJoining parts number before steps) where
     -- its flaw is the first
-    pub turn-flaw : (found : SnapFault) → IsFaultFor (blocks_flaw rules item) found
-        → IsFaultFor (logs_flaw parts) found
+    pub turn-flaw : (found : SnapFault) → IsSnapFaultFor (blocks_flaw rules item) found
+        → IsSnapFaultFor (logs_flaw parts) found
     turn-flaw found fault =
         logs_flaw-at parts rules snaps turn.of number before steps found is turn.within
-        (subst (λ first. IsFaultFor first found) turn-flaw_is fault)
+        (subst (λ first. IsSnapFaultFor first found) turn-flaw_is fault)
 
     module _ (after : ℕ) (reads : after ≤ steps + (blocks_reads item + sum item.parts.lengths)) where
       reads_in : after ≤ steps + (blocks_reads (snapshot_in parts number)

@@ -10,10 +10,10 @@ use Rattle.k2_tree.specs.Tree.{Tree, codes_in, tree_of}
 use Rattle.k2_tree.specs.Flaws.{StandsFor}
 use Rattle.k2_tree.proofs.CellLemmas.{tree_of-StandsFor}
 use Rattle.snapshots.specs.View.{SnapshotView, tree_in, view_with}
-use Rattle.snapshots.specs.Flaws.{bits_flaw, flaw_in, flaw_of, have_cells, offset_flaw, perm_flaw, IsShaped}
-use Rattle.snapshots.specs.Stored.{parts_with, starts_in, starts_of, tree_stored, view_of, IsStored}
+use Rattle.snapshots.specs.Flaws.{bits_flaw, flaw_in, flaw_of, have_cells, offset_flaw, perm_flaw, IsShapedView}
+use Rattle.snapshots.specs.Stored.{parts_with, starts_in, starts_of, tree_stored, snapshot_view, IsStoredSnapshot}
 use Rattle.snapshots.specs.declared.blocks.Blocks.{Blocks}
-use Rattle.snapshots.proofs.SoundLemmas.{IsSound-flawless}
+use Rattle.snapshots.proofs.SoundLemmas.{IsSoundPeriod-flawless}
 
 -- the anchors and the tree have no flaw, and it is known whether the last objects fit the leaves
 pub record IsBegun (view : SnapshotView) (fit : Bool) : Type 0 where
@@ -73,17 +73,17 @@ module _ (view : SnapshotView) (tree : Tree) (blocks : Option (Box Blocks))
     (stands : StandsFor view.frame.height (wide_of view.frame) view.frame.base view.parts.tree tree)
     (told : parts_with view.objects blocks ≡ view.parts) (kept : IfSome blocks (λ it. it.value.tree ≡ tree)) where
   -- tells them
-  pub view_of-parts : view_of view.frame view.number view.objects view.start blocks ≡ view
-  view_of-parts = ap (λ parts. view_with view.frame view.number view.objects view.start parts) told
+  pub snapshot_view-parts : snapshot_view view.frame view.number view.objects view.start blocks ≡ view
+  snapshot_view-parts = ap (λ parts. view_with view.frame view.number view.objects view.start parts) told
 
   -- and is stored as it should be
-  pub IsStored-flawless : IsShaped view → flaw_of view ≡ None
+  pub IsStoredSnapshot-flawless : IsShapedView view → flaw_of view ≡ None
       → starts_in blocks ≡ starts_of view.start view.parts.lengths
-      → IsStored (view_of view.frame view.number view.objects view.start blocks) (tree_stored view.frame blocks)
+      → IsStoredSnapshot (snapshot_view view.frame view.number view.objects view.start blocks) (tree_stored view.frame blocks)
       (starts_in blocks)
-  IsStored-flawless shaped none begin =
-      subst (λ v. IsStored v (tree_stored view.frame blocks) (starts_in blocks)) (sym view_of-parts) (record {
-        is = record { shaped = shaped; sound = IsSound-flawless view shaped none };
+  IsStoredSnapshot-flawless shaped none begin =
+      subst (λ v. IsStoredSnapshot v (tree_stored view.frame blocks) (starts_in blocks)) (sym snapshot_view-parts) (record {
+        is = record { shaped = shaped; sound = IsSoundPeriod-flawless view shaped none };
         tree_is = tree_stored-is view tree blocks stands told kept;
         begin = begin;
       })

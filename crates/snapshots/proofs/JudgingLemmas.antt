@@ -20,7 +20,7 @@ use Rattle.list_laws.proofs.FirstLemmas.{first_given-filter_map, first_of_range-
 use Rattle.track_types.specs.declared.flaw.Flaw.{Flaw}
 use Rattle.track_types.specs.declared.limit.TheConstants.{MAX_HEIGHT}
 use Rattle.rule_store.specs.View.{RulesView}
-use Rattle.snapshots.specs.Flaws.{IsFaultFor}
+use Rattle.snapshots.specs.Flaws.{IsSnapFaultFor}
 use Rattle.snapshots.specs.JoinFlaws.{block_flaw, blocks_flaw}
 use Rattle.snapshots.specs.Sound.{IsSnapshot}
 use Rattle.snapshots.specs.View.{SnapshotView, all_blocks, block_of, present_block, rank_in}
@@ -38,7 +38,7 @@ module _ (rules : RulesView) (view : SnapshotView) where
   -- the flaw of a block, after objects that have none, is the first
   pub blocks_flaw-at : (index : ℕ) (block : Anchored) (found : SnapFault) → index < view.objects
       → ((j : ℕ) → j < index → flaw_at j ≡ None) → block_of view index ≡ Some block
-      → IsFaultFor (block_flaw rules view block) found → IsFaultFor (blocks_flaw rules view) found
+      → IsSnapFaultFor (block_flaw rules view block) found → IsSnapFaultFor (blocks_flaw rules view) found
   unfolding blocks_flaw all_blocks
   blocks_flaw-at index block fault.Memory within before has is = is
   blocks_flaw-at index block (fault.Flaw flaw) within before has is =

@@ -39,11 +39,11 @@ use Rattle.box_tree.specs.declared.node_ref.TheConstants.{SLOTS}
 use Rattle.rule_store.specs.View.{RulesView}
 use Rattle.rule_store.specs.Entry.{entry_of}
 use Rattle.snapshots.specs.JoinFlaws.{cell_before}
-use Rattle.snapshots.specs.Parts.{log_at}
+use Rattle.snapshots.specs.Parts.{block_log}
 use Rattle.snapshots.specs.Sound.{IsBlock, IsSnapshot}
-use Rattle.snapshots.specs.SoundParts.{AreSoundLogs, IsPlaced, IsSoundLog}
-use Rattle.snapshots.specs.Tracks.{blocks_by_leaf, cell_box, joined, log_box, moved_box, placed_box, placed_boxes, track_box}
-use Rattle.snapshots.specs.TrackTree.{code_of, level_count, narrow_count, places_of}
+use Rattle.snapshots.specs.SoundParts.{AreSoundLogs, IsInGridAt, IsSoundLog}
+use Rattle.snapshots.specs.Tracks.{blocks_by_leaf, cell_box, common_box, log_box, moved_box, symbol_box, placed_boxes, track_box}
+use Rattle.snapshots.specs.TrackTree.{morton_of_block, level_count, narrow_count, block_places}
 use Rattle.snapshots.specs.View.{SnapshotView, all_blocks, block_at, block_of, leaf_at, tree_in}
 use Rattle.snapshots.specs.declared.anchored.Anchored.{Anchored}
 use Rattle.snapshots.proofs.BlockLemmas.{leaf_known}
@@ -145,20 +145,20 @@ both-any false false to from = refl
 module _ (view : SnapshotView) (is : IsSnapshot view) where
   -- the Morton number at a place is that of its leaf
   code-at : (place : ℕ) → place < length view.parts.perm
-      → code_of view.frame (block_at view place) ≡ get_or (codes_of (tree_in view)) (leaf_at view place) 0
+      → morton_of_block view.frame (block_at view place) ≡ get_or (codes_of (tree_in view)) (leaf_at view place) 0
   code-at place within =
       sym (get_or-map (morton_of view.frame.height view.frame.base) (tree_in view).cells
       (leaf_at view place) view.frame.base 0
       (leaf_known view place is within))
 
-  codes_made : map (code_of view.frame) (blocks_by_leaf view)
-      ≡ map (λ place. code_of view.frame (block_at view place)) (range_with_len 0 (length view.parts.perm))
-  codes_made = map-map (code_of view.frame) (block_at view) (range_with_len 0 (length view.parts.perm))
+  codes_made : map (morton_of_block view.frame) (blocks_by_leaf view)
+      ≡ map (λ place. morton_of_block view.frame (block_at view place)) (range_with_len 0 (length view.parts.perm))
+  codes_made = map-map (morton_of_block view.frame) (block_at view) (range_with_len 0 (length view.parts.perm))
 
-  codes-ascend : Ascends 0 (map (code_of view.frame) (blocks_by_leaf view))
+  codes-ascend : Ascends 0 (map (morton_of_block view.frame) (blocks_by_leaf view))
   codes-ascend =
       subst (Ascends 0) (sym codes_made)
-      (ascends-range (λ place. code_of view.frame (block_at view place)) 0 (length view.parts.perm) 0
+      (ascends-range (λ place. morton_of_block view.frame (block_at view place)) 0 (length view.parts.perm) 0
       (λ some. omega arith)
       (λ p from to.
       let a = code-at p (omega arith) in
@@ -171,7 +171,7 @@ module _ (view : SnapshotView) (is : IsSnapshot view) where
       (omega (arith, long, leaf_known view (p + 1) is (omega arith))))))
 
   -- the blocks are places of a tree of boxes
-  pub are_places : (rules : RulesView) → ArePlaces (places_of view.frame rules (blocks_by_leaf view))
+  pub are_places : (rules : RulesView) → ArePlaces (block_places view.frame rules (blocks_by_leaf view))
   are_places rules =
       let frame : Frame = view.frame in
       let blocks : List Anchored = blocks_by_leaf view in
@@ -179,27 +179,27 @@ module _ (view : SnapshotView) (is : IsSnapshot view) where
       let limit : 4 ^ frame.height ≤ 4 ^ MAX_HEIGHT = pow-le-pow_right (omega arith) is.shaped.header.limit in
       record {
         ascend = codes-ascend;
-        same = length-map blocks (track_box rules) ∙ sym (length-map blocks (code_of frame));
-        small = All-map (λ code. code < code_limit) (code_of frame) blocks
+        same = length-map blocks (track_box rules) ∙ sym (length-map blocks (morton_of_block frame));
+        small = All-map (λ code. code < code_limit) (morton_of_block frame) blocks
             (λ k d within. omega (arith, limit, morton_of-lt frame.height frame.base (get_or blocks k d).cell));
         inside = All-map (λ code. code < 4 ^ digits (levels_below (narrow_count frame) (level_count frame)))
-            (code_of frame) blocks
+            (morton_of_block frame) blocks
             (λ k d within. rw (digits_in_frame frame) (morton_of-lt frame.height frame.base (get_or blocks k d).cell));
         narrow = levels.narrow;
       }
 
   -- their numbers are those of the tree of anchors
-  pub same_codes : (p : ℕ → Bool) → list_any p (map (code_of view.frame) (blocks_by_leaf view))
+  pub same_codes : (p : ℕ → Bool) → list_any p (map (morton_of_block view.frame) (blocks_by_leaf view))
       ≡ list_any p (codes_of (tree_in view))
   same_codes p =
       let n : ℕ = length view.parts.perm in
-      let made : List ℕ = map (λ place. code_of view.frame (block_at view place)) (range_with_len 0 n) in
+      let made : List ℕ = map (λ place. morton_of_block view.frame (block_at view place)) (range_with_len 0 n) in
       let codes : List ℕ = codes_of (tree_in view) in
       let long : length codes ≡ length (tree_in view).cells =
       length-map (tree_in view).cells (morton_of view.frame.height view.frame.base) in
-      let count = length-map-range_with_len (λ place. code_of view.frame (block_at view place)) 0 n in
+      let count = length-map-range_with_len (λ place. morton_of_block view.frame (block_at view place)) 0 n in
       let read : (place : ℕ) → place < n → get_or made place 0 ≡ get_or codes (leaf_at view place) 0 =
-      λ place within. get_or-map-range_with_len (λ k. code_of view.frame (block_at view k)) 0 n place place 0 within
+      λ place within. get_or-map-range_with_len (λ k. morton_of_block view.frame (block_at view k)) 0 n place place 0 within
       (omega arith)
       ∙ code-at place within in
       ap (list_any p) codes_made ∙ both-any (list_any p made) (list_any p codes)
@@ -233,11 +233,11 @@ grid_box frame = box_from frame.base.x frame.base.y (2 ^ frame.height - 1)
 -- boxes in one are, and so is the least box with all of them
 fold-within : (whole area : CellBox) (areas : List CellBox) → IsBoxInside area whole
     → All (λ other. IsBoxInside other whole) areas
-    → IsBoxInside (fold joined area areas) whole
+    → IsBoxInside (fold common_box area areas) whole
 fold-within whole area [] own each = own
 fold-within whole area (other ∷ areas) own each =
     let first : IsBoxInside other whole = All-head (λ b. IsBoxInside b whole) other areas each in
-    fold-within whole (joined area other) areas (record {
+    fold-within whole (common_box area other) areas (record {
       left = omega (arith, ints, clamps, own.left, first.left);
       right = omega (arith, ints, clamps, own.right, first.right);
       below = omega (arith, ints, clamps, own.below, first.below);
@@ -246,7 +246,7 @@ fold-within whole area (other ∷ areas) own each =
 
 -- a placed box is in the grid
 placed-inside : (frame : Frame) (cell : Cell) (hull : Option CellBox) (area : CellBox)
-    → IfSome hull (IsPlaced frame cell)
+    → IfSome hull (IsInGridAt frame cell)
     → option_map (moved_box cell) hull ≡ Some area → IsBoxInside area (grid_box frame)
 placed-inside frame cell None area placed is = absurd (none-some area is)
 placed-inside frame cell (Some hull) area placed is =
@@ -264,14 +264,14 @@ pub track-inside : (view : SnapshotView) (rules : RulesView) (block : Anchored) 
 unfolding log_box
 track-inside view rules block its sound =
     let frame : Frame = view.frame in
-    let log : List ℕ = log_at rules block in
+    let log : List ℕ = block_log rules block in
     let some : 1 ≤ 2 ^ frame.height = pow_pos frame.height in
     fold-within (grid_box frame) (cell_box block.cell) (placed_boxes rules block.cell log (length log)) (record {
       left = its.cell.left;
       right = omega (arith, ints, its.cell.left, its.cell.right, some);
       below = its.cell.below;
       above = omega (arith, ints, its.cell.below, its.cell.above, some);
-    }) (All-made (placed_box rules block.cell log) (λ place. place < length log) (λ b. IsBoxInside b (grid_box frame))
+    }) (All-made (symbol_box rules block.cell log) (λ place. place < length log) (λ b. IsBoxInside b (grid_box frame))
     (λ place area within made. placed-inside frame (cell_before rules block.cell log place)
     (entry_of rules (slice_index log place)).hull area (sound.placed place within) made)
     (range_with_len 0 (length log)) (λ k d within.
@@ -308,7 +308,7 @@ length-by_leaf view = length-map-range_with_len (block_at view) 0 (length view.p
 -- what it takes that they are kept
 pub record IsStorable (frame : Frame) (blocks : List Anchored) (boxes : List CellBox) : Type 0 where
   pub header : IsFrame frame
-  pub places : ArePlaces (places_with (level_count frame) (narrow_count frame) (map (code_of frame) blocks) boxes)
+  pub places : ArePlaces (places_with (level_count frame) (narrow_count frame) (map (morton_of_block frame) blocks) boxes)
   pub inside : All (λ block. IsInGrid frame.height frame.base block.cell) blocks
   pub from : All (IsFrom frame.base) boxes
   pub few : length blocks < 2 ^ 31

@@ -18,7 +18,7 @@ use Rattle.snapshots.specs.Sound.{IsBlock, IsSnapshot}
 use Rattle.snapshots.specs.Tracks.{blocks_by_leaf}
 use Rattle.snapshots.specs.View.{SnapshotView, all_blocks, block_at, blocks_in, leaf_at, places_from, tree_in}
 use Rattle.snapshots.specs.declared.anchored.Anchored.{Anchored}
-use Rattle.snapshots.proofs.BlockFactsLemmas.{IsBlock-from_block_of, WeighSame-objects_of}
+use Rattle.snapshots.proofs.BlockFactsLemmas.{IsBlock-from_block_of, WeighSame-objects_of_leaves}
 use Rattle.snapshots.proofs.BlockLemmas.{leaf_known}
 use Rattle.snapshots.proofs.BlocksLemmas.{block_at-is_block, blocks_of-objects}
 
@@ -86,4 +86,4 @@ module _ (view : SnapshotView) (is : IsSnapshot view) where
       (λ k d within. list_all-true (digits_left (tree_widths (tree_in view)))) in
       subst (λ xs. WeighSame xs all)
       (sym (blocks_of-objects view (kept_leaves everywhere (tree_in view)) is) ∙ by_leaf-all)
-      (subst (WeighSame _) kept (WeighSame-objects_of view everywhere is))
+      (subst (WeighSame _) kept (WeighSame-objects_of_leaves view everywhere is))

@@ -10,7 +10,7 @@ use Rattle.track_types.specs.Near.{IsCellWithin}
 use Rattle.track_types.specs.declared.cell.Cell.{Cell}
 use Rattle.track_types.specs.declared.frame.Frame.{Frame}
 use Rattle.rule_store.specs.View.{RulesView}
-use Rattle.rule_store.specs.Cells.{cell_at, displacement_of, moved}
+use Rattle.rule_store.specs.Cells.{cell_with, displacement_of, moved}
 use Rattle.rule_store.specs.Log.{log_of}
 use Rattle.rule_store.specs.declared.log_view.LogView.{LogView}
 use Rattle.rule_store.proofs.CellLemmas.{same_cell}
@@ -20,8 +20,8 @@ use Rattle.rule_store.specs.declared.entry.Entry.{Entry}
 use Rattle.track_types.specs.declared.flaw.Kind.TheVariants as kind
 use Rattle.track_types.specs.declared.flaw.Section.TheVariants.{Lengths, Log}
 use Rattle.snapshots.specs.Flaws.{flaw_in}
-use Rattle.snapshots.specs.Parts.{log_at}
-use Rattle.snapshots.specs.JoinFlaws.{cell_after, cell_before, instants_after, is_along, is_off_grid, lasting, log_flaw}
+use Rattle.snapshots.specs.Parts.{block_log}
+use Rattle.snapshots.specs.JoinFlaws.{cell_after, cell_before, instants_after, is_along, is_off_grid, duration_of_log, log_flaw}
 use Rattle.snapshots.specs.JoinFlaws.{off_grid_at, passes_grid}
 use Rattle.snapshots.specs.declared.anchored.Anchored.{Anchored}
 
@@ -40,10 +40,10 @@ module _ (rules : RulesView) where
   unfolding entry_of duration_of values_of
   duration_of-entry symbol = length-map (expansion_of rules symbol) (slice_index rules.alphabet)
 
-  pub lasting-more : (log : List ℕ) (symbol : ℕ)
-      → lasting rules (log ++ symbol ∷ []) ≡ lasting rules log + (entry_of rules symbol).duration
-  unfolding lasting
-  lasting-more log symbol = omega (arith, sum_by_push (duration_of rules) log symbol, duration_of-entry symbol)
+  pub duration_of_log-more : (log : List ℕ) (symbol : ℕ)
+      → duration_of_log rules (log ++ symbol ∷ []) ≡ duration_of_log rules log + (entry_of rules symbol).duration
+  unfolding duration_of_log
+  duration_of_log-more log symbol = omega (arith, sum_by_push (duration_of rules) log symbol, duration_of-entry symbol)
 
   -- an entry moves as far as its symbol
   pub moved-entry : (cell : Cell) (symbol : ℕ) → moved cell ((entry_of rules symbol).dx, (entry_of rules symbol).dy)
@@ -69,7 +69,7 @@ pub record IsReading (frame : Frame) (rules : RulesView) (start : Cell) (log : L
     (duration : ℕ) : Type 0 where
   pub inside : (j : ℕ) → j < place → is_off_grid frame rules start log j ≡ false
   pub stands : cell ≡ cell_before rules start log place
-  pub lasted : duration ≡ lasting rules (take place log)
+  pub lasted : duration ≡ duration_of_log rules (take place log)
   pub left : neg_ℤ (pos (2 ^ 42 + 2 ^ 31 * place)) ≤ℤ cell.x
   pub right : cell.x ≤ℤ pos (2 ^ 42 + 2 ^ 31 * place)
   pub below : neg_ℤ (pos (2 ^ 42 + 2 ^ 31 * place)) ≤ℤ cell.y
@@ -79,7 +79,7 @@ pub record IsReading (frame : Frame) (rules : RulesView) (start : Cell) (log : L
 -- before the first symbol
 pub reading-none : (frame : Frame) (rules : RulesView) (start : Cell) (log : List ℕ) → IsCellWithin start
     → IsReading frame rules start log 0 start 0
-unfolding cell_after lasting
+unfolding cell_after duration_of_log
 reading-none frame rules start log within = record {
   inside = λ j low. absurd (omega arith);
   stands = refl;
@@ -111,11 +111,11 @@ module _ (frame : Frame) (rules : RulesView) (start : Cell) (log : List ℕ) (pl
     -- one symbol more
     pub reading-more : (x y : ℤ) (d : ℕ) → false ≡ passes_grid frame cell entry.hull → IsEntryWithin entry
         → x ≡ (cell.x +ℤ entry.dx) → y ≡ (cell.y +ℤ entry.dy) → d ≡ entry.duration
-        → IsReading frame rules start log (place + 1) (cell_at x y) (duration + d)
+        → IsReading frame rules start log (place + 1) (cell_with x y) (duration + d)
     reading-more x y d tested short column line long =
         let symbol : ℕ = slice_index log place in
         let more = take_more log place 0 within in
-        let moves : cell_at x y ≡ moved cell (entry.dx, entry.dy) = same_cell x y _ _ column line in
+        let moves : cell_with x y ≡ moved cell (entry.dx, entry.dy) = same_cell x y _ _ column line in
         record {
           inside = λ j low. elim (cases_lt j place) [
             | inl before ↦ is.inside j before
@@ -129,8 +129,8 @@ module _ (frame : Frame) (rules : RulesView) (start : Cell) (log : List ℕ) (pl
           lasted = omega (
             arith,
             is.lasted,
-            lasting-more rules (take place log) symbol,
-            ap (lasting rules) more,
+            duration_of_log-more rules (take place log) symbol,
+            ap (duration_of_log rules) more,
             ap (λ (e : Entry). e.duration) its,
             long,
           );
@@ -150,9 +150,9 @@ module _ (frame : Frame) (rules : RulesView) (start : Cell) (log : List ℕ) (ce
       find_in_range-none (is_off_grid frame rules start log) 0 (length log) (λ j low below. is.inside j (omega arith))
 
 -- a block's log has so many symbols
-pub length-log_at : (rules : RulesView) (block : Anchored) → block.from + block.len ≤ length rules.symbols
-    → length (log_at rules block) ≡ block.len
-length-log_at rules block within =
+pub length-block_log : (rules : RulesView) (block : Anchored) → block.from + block.len ≤ length rules.symbols
+    → length (block_log rules block) ≡ block.len
+length-block_log rules block within =
     let taken = length-take (block.from + block.len - block.from) (drop block.from rules.symbols) in
     let left = length-drop block.from rules.symbols in
     omega (arith, taken, left)
@@ -160,36 +160,36 @@ length-log_at rules block within =
 -- a view of a block's log
 module _ (view : LogView) (rules : RulesView) (block : Anchored) (of : view.rules.now ≡ rules)
     (from : view.from ≡ block.from) (len : view.len ≡ block.len) where
-  pub log_of-is : log_of view ≡ log_at rules block
+  pub log_of-is : log_of view ≡ block_log rules block
   log_of-is = rw (of, from, len) refl
 
   pub entry-at : (place : ℕ) (entry : Entry) → entry ≡ entry_of view.rules.now (slice_index (log_of view) place)
-      → entry ≡ entry_of rules (slice_index (log_at rules block) place)
+      → entry ≡ entry_of rules (slice_index (block_log rules block) place)
   entry-at place entry is =
       is ∙ ap (λ (r : RulesView). entry_of r (slice_index (log_of view) place)) of
       ∙ ap (λ log. entry_of rules (slice_index log place)) log_of-is
 
 -- the first flaw of a log
 module _ (frame : Frame) (rules : RulesView) (number rank : ℕ) (block : Anchored) where
-  pub log_flaw-off_grid : (place : ℕ) → off_grid_at frame rules block.cell (log_at rules block) ≡ Some place
+  pub log_flaw-off_grid : (place : ℕ) → off_grid_at frame rules block.cell (block_log rules block) ≡ Some place
       → log_flaw frame rules number rank block ≡ Some (flaw_in number Log kind.OffGrid (block.from + place))
   unfolding log_flaw
   log_flaw-off_grid place off = rw off refl
 
-  pub log_flaw-none : off_grid_at frame rules block.cell (log_at rules block) ≡ None
-      → lasting rules (log_at rules block) ≡ instants_after frame number block
+  pub log_flaw-none : off_grid_at frame rules block.cell (block_log rules block) ≡ None
+      → duration_of_log rules (block_log rules block) ≡ instants_after frame number block
       → log_flaw frame rules number rank block ≡ None
   unfolding log_flaw
   log_flaw-none inside lasts =
-      let same : eqb (lasting rules (log_at rules block)) (instants_after frame number block) ≡ true =
+      let same : eqb (duration_of_log rules (block_log rules block)) (instants_after frame number block) ≡ true =
       eq-eqb _ _ lasts in
       rw (inside, same) refl
 
-  pub log_flaw-duration : off_grid_at frame rules block.cell (log_at rules block) ≡ None
-      → (lasting rules (log_at rules block) ≡ instants_after frame number block → ⊥)
+  pub log_flaw-duration : off_grid_at frame rules block.cell (block_log rules block) ≡ None
+      → (duration_of_log rules (block_log rules block) ≡ instants_after frame number block → ⊥)
       → log_flaw frame rules number rank block ≡ Some (flaw_in number Lengths kind.Duration rank)
   unfolding log_flaw
   log_flaw-duration inside lasts =
-      let apart : eqb (lasting rules (log_at rules block)) (instants_after frame number block) ≡ false =
+      let apart : eqb (duration_of_log rules (block_log rules block)) (instants_after frame number block) ≡ false =
       ne_eqb _ _ lasts in
       rw (inside, apart) refl

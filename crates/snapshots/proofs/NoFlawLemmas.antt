@@ -14,12 +14,12 @@ use Rattle.track_types.specs.declared.frame.Frame.{Frame}
 use Rattle.track_types.specs.declared.parts.Parts.{Parts}
 use Rattle.rule_store.specs.View.{RulesView, symbols_in}
 use Rattle.rule_store.specs.Entry.{entry_of}
-use Rattle.rule_store.specs.Flaws.{box_passes, is_far, is_rule_flawed, reach_limit, rule_at, rules_flaw}
+use Rattle.rule_store.specs.Flaws.{box_passes, is_far, is_rule_flawed, reach_limit, rule_parts, rules_flaw}
 use Rattle.rule_store.specs.declared.entry.Entry.{Entry}
 use Rattle.rule_store.proofs.FlawLemmas.{code_flaw-none, rule_flaw-none, rules_flaw-none, symbol_flaw-none}
 use Rattle.snapshots.specs.JoinFlaws.{block_flaw, blocks_flaw, cell_before, is_along, is_off_grid, log_flaw, logs_flaw, off_grid_at, passes_grid}
-use Rattle.snapshots.specs.Parts.{log_at, rules_in, snapshot_in}
-use Rattle.snapshots.specs.SoundParts.{AreSoundLogs, AreSoundRules, IsBoxInReach, IsPlaced, IsRule, IsShortEntry, IsSoundLog}
+use Rattle.snapshots.specs.Parts.{block_log, rules_in, snapshot_in}
+use Rattle.snapshots.specs.SoundParts.{AreSoundLogs, AreSoundRules, IsBoxInReach, IsInGridAt, IsRule, IsShortEntry, IsSoundLog}
 use Rattle.snapshots.specs.View.{SnapshotView, all_blocks, rank_in}
 use Rattle.snapshots.specs.declared.anchored.Anchored.{Anchored}
 use Rattle.snapshots.proofs.LogsLemmas.{log_flaw-none}
@@ -45,8 +45,8 @@ is_rule_flawed-sound : (rules : RulesView) (j : ℕ) → IsRule rules j → is_r
 unfolding is_rule_flawed
 is_rule_flawed-sound rules j is =
     let symbol : ℕ = length rules.alphabet + j in
-    let left : nat_lt (rule_at rules.rules j).0 symbol ≡ true = lt-ltb _ _ is.left in
-    let right : nat_lt (rule_at rules.rules j).1 symbol ≡ true = lt-ltb _ _ is.right in
+    let left : nat_lt (rule_parts rules.rules j).0 symbol ≡ true = lt-ltb _ _ is.left in
+    let right : nat_lt (rule_parts rules.rules j).1 symbol ≡ true = lt-ltb _ _ is.right in
     rw (left, right) (is_far-short rules.height rules.period (entry_of rules symbol) is.entry)
 
 -- sound rules have no flaw
@@ -63,7 +63,7 @@ is_along-within : (height : ℕ) (least amount first last : ℤ) → least ≤�
 is_along-within height least amount first last low high = grind (arith, ints)
 
 -- a box that is placed in the grid does not pass it
-passes_grid-placed : (frame : Frame) (cell : Cell) (hull : Option CellBox) → IfSome hull (IsPlaced frame cell)
+passes_grid-placed : (frame : Frame) (cell : Cell) (hull : Option CellBox) → IfSome hull (IsInGridAt frame cell)
     → passes_grid frame cell hull ≡ false
 passes_grid-placed frame cell None placed = refl
 passes_grid-placed frame cell (Some hull) placed =
@@ -78,7 +78,7 @@ pub log_flaw-sound : (frame : Frame) (rules : RulesView) (number rank : ℕ) (bl
     → IsSoundLog frame rules number block → log_flaw frame rules number rank block ≡ None
 unfolding off_grid_at is_off_grid
 log_flaw-sound frame rules number rank block is =
-    let log : List ℕ = log_at rules block in
+    let log : List ℕ = block_log rules block in
     log_flaw-none frame rules number rank block
     (find_in_range-none (is_off_grid frame rules block.cell log) 0 (length log) (λ place low within.
     passes_grid-placed frame (cell_before rules block.cell log place) (entry_of rules (slice_index log place)).hull

@@ -31,11 +31,11 @@ use Rattle.rule_store.specs.Log.{block_stops, stop_at, stops_after, stops_from}
 use Rattle.rule_store.proofs.BoxLemmas.{box_round-bounds, box_round-none}
 use Rattle.rule_store.proofs.CellLemmas.{present-moved, same_cell}
 use Rattle.rule_store.proofs.LogLemmas.{stops_after-cons, stops_after-none}
-use Rattle.snapshots.specs.Flaws.{IsShaped}
-use Rattle.snapshots.specs.JoinFlaws.{cell_after, cell_before, lasting}
-use Rattle.snapshots.specs.Parts.{anchored_at, first_in, log_at, no_period, period_at, rules_in, snapshot_in, start_in, stops_of}
+use Rattle.snapshots.specs.Flaws.{IsShapedView}
+use Rattle.snapshots.specs.JoinFlaws.{cell_after, cell_before, duration_of_log}
+use Rattle.snapshots.specs.Parts.{anchored_at, first_in, block_log, no_period, period_at, rules_in, snapshot_in, start_in, stops_of}
 use Rattle.snapshots.specs.Sound.{IsBlock, IsSnapshot}
-use Rattle.snapshots.specs.SoundParts.{IsPlaced, IsSoundLog, IsValid}
+use Rattle.snapshots.specs.SoundParts.{IsInGridAt, IsSoundLog, IsValid}
 use Rattle.snapshots.specs.Speed.{block_speed, far_of, gap, hull_speed, log_speed, speed_of, symbol_speed, width_at, IsReached, IsWithinReach}
 use Rattle.snapshots.specs.Stores.{snapshots_in, AreOf}
 use Rattle.snapshots.specs.View.{all_blocks, view_with}
@@ -145,7 +145,7 @@ hull_of-entry rules symbol = refl
 module _ (parts : Parts) (number : ℕ) (block : Anchored) where
   -- a placed box is in the grid, and not farther away than the period's speed tells
   record IsHeld (cell : Cell) (before : ℕ) (hull : CellBox) : Type 0 where
-    pub placed : IsPlaced parts.frame cell hull
+    pub placed : IsInGridAt parts.frame cell hull
     pub slow : div_ceil (far_of block.cell cell hull) (before + 1) ≤ speed_of parts number
 
   -- the first instant after so many
@@ -197,22 +197,22 @@ module _ (parts : Parts) (number : ℕ) (block : Anchored) where
     abbrev AreHeld : Cell → ℕ → List ℕ → Type 0
     AreHeld cell before log = (place : ℕ) → place < length log
         → IfSome (entry_of rules (slice_index log place)).hull
-        (IsHeld (cell_before rules cell log place) (before + lasting rules (take place log)))
+        (IsHeld (cell_before rules cell log place) (before + duration_of_log rules (take place log)))
 
     first-held : (cell : Cell) (before : ℕ) (symbol : ℕ) (log : List ℕ) → AreHeld cell before (symbol ∷ log)
         → IfSome (entry_of rules symbol).hull (IsHeld cell before)
-    unfolding cell_after lasting
+    unfolding cell_after duration_of_log
     first-held cell before symbol log held =
         let none : before + 0 ≡ before = omega arith in
         subst (λ n. IfSome (entry_of rules symbol).hull (IsHeld cell n)) none (held 0 (omega arith))
 
     rest-held : (cell : Cell) (before : ℕ) (symbol : ℕ) (log : List ℕ) → AreHeld cell before (symbol ∷ log)
         → AreHeld (moved cell (displacement_of (values_of rules symbol))) (before + duration_of rules symbol) log
-    unfolding cell_after lasting
+    unfolding cell_after duration_of_log
     rest-held cell before symbol log held place within =
         let next : Cell = moved cell (displacement_of (values_of rules symbol)) in
-        let same : before + lasting rules (take (suc place) (symbol ∷ log))
-        ≡ before + duration_of rules symbol + lasting rules (take place log) =
+        let same : before + duration_of_log rules (take (suc place) (symbol ∷ log))
+        ≡ before + duration_of rules symbol + duration_of_log rules (take place log) =
         omega (arith, sum_by-cons (duration_of rules) symbol (take place log)) in
         subst (λ n. IfSome (entry_of rules (slice_index log place)).hull
         (IsHeld (cell_before rules next log place) n)) same (held (suc place) (omega arith))
@@ -238,7 +238,7 @@ module _ (parts : Parts) (number : ℕ) (block : Anchored) where
         (reached-after log next later (rest-held cell before symbol log held))))
 
   -- a box that is placed in the grid and not too far away is held
-  held-if : (hull : Option CellBox) (cell : Cell) (before : ℕ) → IfSome hull (IsPlaced parts.frame cell)
+  held-if : (hull : Option CellBox) (cell : Cell) (before : ℕ) → IfSome hull (IsInGridAt parts.frame cell)
       → hull_speed block.cell cell before hull ≤ speed_of parts number → IfSome hull (IsHeld cell before)
   held-if None cell before placed slow = tt
   held-if (Some hull) cell before placed slow = record { placed = placed; slow = slow }
@@ -250,7 +250,7 @@ module _ (parts : Parts) (number : ℕ) (block : Anchored) where
   unfolding block_stops log_speed
   reached-block its sound slow =
       let rules : RulesView = rules_in parts in
-      let log : List ℕ = log_at rules block in
+      let log : List ℕ = block_log rules block in
       let at : ℤ = anchored_at parts.frame number block in
       let none : at +ℤ pos 0 ≡ at = omega (arith, ints) in
       let each = fold_max-each (symbol_speed rules block.cell log) (range_with_len 0 (length log)) 0 in
@@ -260,11 +260,11 @@ module _ (parts : Parts) (number : ℕ) (block : Anchored) where
       omega (arith, get_or-range_with_len 0 (length log) place 0 within) in
       let one : symbol_speed rules block.cell log place ≤ log_speed rules block.cell log =
       subst (λ k. symbol_speed rules block.cell log k ≤ log_speed rules block.cell log) here (each place 0 known) in
-      let same : lasting rules (take place log) ≡ 0 + lasting rules (take place log) = omega arith in
+      let same : duration_of_log rules (take place log) ≡ 0 + duration_of_log rules (take place log) = omega arith in
       subst (λ n. IfSome (entry_of rules (slice_index log place)).hull
       (IsHeld (cell_before rules block.cell log place) n)) same
       (held-if (entry_of rules (slice_index log place)).hull (cell_before rules block.cell log place)
-      (lasting rules (take place log)) (sound.placed place within) (le_trans one slow)) in
+      (duration_of_log rules (take place log)) (sound.placed place within) (le_trans one slow)) in
       All-cons (IsReached parts number block) (stop_at at block.cell) (stops_after rules at block.cell log)
       (record {
         column = omega (arith, ints);
@@ -275,10 +275,10 @@ module _ (parts : Parts) (number : ℕ) (block : Anchored) where
       (reached-after rules log block.cell 0 held))
 
 -- the snapshot of a shaped period is shaped
-pub IsShaped-view : (frame : Frame) (number objects start : ℕ) (period : PeriodParts) → IsFrame frame
+pub IsShapedView-view : (frame : Frame) (number objects start : ℕ) (period : PeriodParts) → IsFrame frame
     → number < periods_of frame → 1 ≤ objects → objects ≤ limit_of Objects → IsShapedPeriod objects period
-    → start + sum period.lengths ≤ limit_of Symbols → IsShaped (view_with frame number objects start period)
-IsShaped-view frame number objects start period header within some few shaped total = record {
+    → start + sum period.lengths ≤ limit_of Symbols → IsShapedView (view_with frame number objects start period)
+IsShapedView-view frame number objects start period header within some few shaped total = record {
   header = header;
   period = within;
   some = some;
@@ -306,7 +306,7 @@ IsSnapshot-valid parts valid number within =
       total = valid.sound.total;
     } in
     record {
-      shaped = IsShaped-view parts.frame number (length parts.objects) (start_in parts number)
+      shaped = IsShapedView-view parts.frame number (length parts.objects) (start_in parts number)
           (period_at parts.periods number) valid.shaped.header within valid.shaped.some valid.shaped.few shaped (omega (
             arith,
             start_in-within parts (rules_in parts) (snapshots_in parts) own number within,

@@ -25,8 +25,8 @@ use Rattle.k2_tree.proofs.CellLemmas.{codes_back, IsTree-stored}
 use Rattle.k2_tree.proofs.FlawlessLemmas.{AreTreeBits-flawless}
 use Rattle.k2_tree.proofs.FlawedLemmas.{AreNoTree-flawed}
 use Rattle.snapshots.specs.View.{SnapshotView, leaf_at, tree_in, widths_in}
-use Rattle.snapshots.specs.Flaws.{flaw_of, have_cells, is_disordered, offset_flaw, order_flaw, IsShaped}
-use Rattle.snapshots.specs.Sound.{IsSound}
+use Rattle.snapshots.specs.Flaws.{flaw_of, have_cells, is_disordered, offset_flaw, order_flaw, IsShapedView}
+use Rattle.snapshots.specs.Sound.{IsSoundPeriod}
 use Rattle.snapshots.proofs.FlawlessLemmas.{cells_from, IsFlawless-from_none}
 
 -- behind a place that is not the last of its leaf stands a greater rank
@@ -110,8 +110,8 @@ stands height wide base bits grid fits few none =
     }
 
 -- parts without a flaw are sound
-pub IsSound-flawless : (view : SnapshotView) → IsShaped view → flaw_of view ≡ None → IsSound view
-IsSound-flawless view shaped none =
+pub IsSoundPeriod-flawless : (view : SnapshotView) → IsShapedView view → flaw_of view ≡ None → IsSoundPeriod view
+IsSoundPeriod-flawless view shaped none =
     let flawless = IsFlawless-from_none view none in
     let cells = cells_from view.parts.lasts (length (tree_in view).cells) flawless.cells in
     record {
@@ -127,7 +127,7 @@ IsSound-flawless view shaped none =
     }
 
 -- the tests of sound parts, from the last to the first
-module _ (view : SnapshotView) (shaped : IsShaped view) (sound : IsSound view) where
+module _ (view : SnapshotView) (shaped : IsShapedView view) (sound : IsSoundPeriod view) where
   no_late : offset_flaw (instants_in view.frame view.number) view.parts.offsets ≡ None
   no_late = find_in_range-none _ 0 (length view.parts.offsets) (λ i low within.
       lt-leb (instants_in view.frame view.number) (get_or view.parts.offsets i 0)
@@ -181,6 +181,6 @@ module _ (view : SnapshotView) (shaped : IsShaped view) (sound : IsSound view) w
       rw (no_late, no_tree_flaw, have, permutes, no_disorder) refl
 
 -- shaped parts have no flaw if and only if they are sound
-pub flaw_of-none : (view : SnapshotView) → IsShaped view
-    → (flaw_of view ≡ None → IsSound view) × (IsSound view → flaw_of view ≡ None)
-flaw_of-none view shaped = (IsSound-flawless view shaped, flaw_of-sound view shaped)
+pub flaw_of-none : (view : SnapshotView) → IsShapedView view
+    → (flaw_of view ≡ None → IsSoundPeriod view) × (IsSoundPeriod view → flaw_of view ≡ None)
+flaw_of-none view shaped = (IsSoundPeriod-flawless view shaped, flaw_of-sound view shaped)

@@ -17,13 +17,13 @@ use Rattle.track_types.specs.declared.parts.Parts.{Parts}
 use Rattle.rule_store.specs.View.{RulesView, symbols_in}
 use Rattle.rule_store.specs.Cells.{movement_of}
 use Rattle.rule_store.specs.Entry.{entry_of}
-use Rattle.rule_store.specs.Flaws.{box_passes, code_flaw, is_long, reach_limit, AreRules}
+use Rattle.rule_store.specs.Flaws.{box_passes, code_flaw, leads_out, reach_limit, AreRules}
 use Rattle.rule_store.proofs.FlawLemmas.{box_passes-false, near_entry, no_flaws, rule-sound, symbol-known}
 use Rattle.snapshots.specs.Flaws.{flaw_in}
 use Rattle.snapshots.specs.JoinFlaws.{block_flaw, blocks_flaw, cell_before, duration_flaw, has_columns, has_lines}
-use Rattle.snapshots.specs.JoinFlaws.{instants_after, is_along, is_off_grid, lasting, log_flaw, off_grid_at, passes_grid}
-use Rattle.snapshots.specs.Parts.{log_at, numbers_in, rules_in, snapshot_in}
-use Rattle.snapshots.specs.SoundParts.{AreSoundLogs, AreSoundRules, IsBoxInReach, IsPlaced, IsSound, IsSoundLog}
+use Rattle.snapshots.specs.JoinFlaws.{instants_after, is_along, is_off_grid, duration_of_log, log_flaw, off_grid_at, passes_grid}
+use Rattle.snapshots.specs.Parts.{block_log, numbers_in, rules_in, snapshot_in}
+use Rattle.snapshots.specs.SoundParts.{AreSoundLogs, AreSoundRules, IsBoxInReach, IsInGridAt, IsSound, IsSoundLog}
 use Rattle.snapshots.specs.Speed.{speed_of}
 use Rattle.snapshots.specs.declared.track_tree.TrackTree.{TrackTree}
 use Rattle.std.specs.Global.{Box}
@@ -47,7 +47,7 @@ AreSoundRules-flawless view is =
       codes = λ i within.
           ltb-false (reach_limit view.height) (ring_of (movement_of (slice_index view.alphabet i)).0
           (movement_of (slice_index view.alphabet i)).1)
-          (find_in_range-all (λ k. is_long view.height (slice_index view.alphabet k)) 0 (length view.alphabet) none.codes
+          (find_in_range-all (λ k. leads_out view.height (slice_index view.alphabet k)) 0 (length view.alphabet) none.codes
           i (omega arith) (omega arith));
       rules_are = λ j within.
           let sound = rule-sound view j none.rules within in
@@ -71,7 +71,7 @@ along-bounds height least amount first last holds = (grind (arith, ints), grind 
 
 -- a box that does not pass the grid is in it
 placed : (frame : Frame) (cell : Cell) (hull : Option CellBox) → passes_grid frame cell hull ≡ false
-    → IfSome hull (IsPlaced frame cell)
+    → IfSome hull (IsInGridAt frame cell)
 placed frame cell None within = tt
 placed frame cell (Some hull) within =
     let both = and_parts (has_columns frame cell hull) (has_lines frame cell hull)
@@ -85,7 +85,7 @@ pub IsSoundLog-flawless : (frame : Frame) (rules : RulesView) (number rank : ℕ
     → log_flaw frame rules number rank block ≡ None → IsSoundLog frame rules number block
 unfolding log_flaw off_grid_at is_off_grid
 IsSoundLog-flawless frame rules number rank block none =
-    let log : List ℕ = log_at rules block in
+    let log : List ℕ = block_log rules block in
     let both = or-none _ _ none in
     let inside : off_grid_at frame rules block.cell log ≡ None =
     map-none (λ place. flaw_in number Log kind.OffGrid (block.from + place)) (off_grid_at frame rules block.cell log)
@@ -95,7 +95,7 @@ IsSoundLog-flawless frame rules number rank block none =
           placed frame (cell_before rules block.cell log place) (entry_of rules (slice_index log place)).hull
           (find_in_range-all (is_off_grid frame rules block.cell log) 0 (length log) inside place (omega arith)
           (omega arith));
-      lasts = elim (cases_Bool (eqb (lasting rules log) (instants_after frame number block))) [
+      lasts = elim (cases_Bool (eqb (duration_of_log rules log) (instants_after frame number block))) [
         | inl same ↦ eqb-true _ _ same
         | inr apart ↦
             let flaw : duration_flaw frame rules number rank block ≡ None = both.1 in

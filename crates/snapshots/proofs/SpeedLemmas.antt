@@ -10,7 +10,7 @@ use Rattle.rule_store.specs.View.{RulesView}
 use Rattle.rule_store.specs.Entry.{entry_of}
 use Rattle.rule_store.specs.declared.entry.Entry.{Entry}
 use Rattle.snapshots.specs.View.{SnapshotView, all_blocks, block_of}
-use Rattle.snapshots.specs.JoinFlaws.{cell_before, lasting}
+use Rattle.snapshots.specs.JoinFlaws.{cell_before, duration_of_log}
 use Rattle.snapshots.specs.Speed.{block_speed, blocks_speed, hull_speed, log_speed, symbol_speed}
 use Rattle.snapshots.specs.declared.anchored.Anchored.{Anchored}
 
@@ -22,12 +22,12 @@ module _ (rules : RulesView) (start : Cell) (log : List ℕ) where
   -- the speed of one symbol, where the walk stands after those before it
   pub speed-here : (place : ℕ) (cell : Cell) (before : ℕ) (entry : Entry) (more : ℕ)
       → more ≡ hull_speed start cell before entry.hull → cell ≡ cell_before rules start log place
-      → before ≡ lasting rules (take place log) → entry ≡ entry_of rules (slice_index log place)
+      → before ≡ duration_of_log rules (take place log) → entry ≡ entry_of rules (slice_index log place)
       → more ≡ symbol_speed rules start log place
   speed-here place cell before entry more found stands lasted its =
       found ∙ ap (λ c. hull_speed start c before entry.hull) stands
       ∙ ap (λ n. hull_speed start (cell_before rules start log place) n entry.hull) lasted
-      ∙ ap (λ (e : Entry). hull_speed start (cell_before rules start log place) (lasting rules (take place log)) e.hull)
+      ∙ ap (λ (e : Entry). hull_speed start (cell_before rules start log place) (duration_of_log rules (take place log)) e.hull)
       its
 
   -- one symbol more

@@ -28,18 +28,18 @@ use Rattle.rule_store.specs.declared.entry.Entry.{Entry}
 use Rattle.rule_store.specs.Log.{block_stops, stop_at, stops_after, stops_from}
 use Rattle.rule_store.proofs.LogLemmas.{stops_after-cons, stops_after-none}
 use Rattle.snapshots.specs.JoinFlaws.{cell_after, cell_before}
-use Rattle.snapshots.specs.Parts.{anchored_at, log_at, rules_in, snapshot_in}
+use Rattle.snapshots.specs.Parts.{anchored_at, block_log, rules_in, snapshot_in}
 use Rattle.snapshots.specs.Sound.{IsBlock, IsSnapshot}
-use Rattle.snapshots.specs.Tracks.{cell_box, joined, log_box, moved_box, placed_box, placed_boxes, track_box, with_hull}
+use Rattle.snapshots.specs.Tracks.{cell_box, common_box, log_box, moved_box, symbol_box, placed_boxes, track_box, with_hull}
 use Rattle.snapshots.specs.Tracks.{AreOnTracks, IsOnTrack}
 use Rattle.snapshots.specs.View.{SnapshotView, all_blocks, block_of}
 use Rattle.snapshots.specs.declared.anchored.Anchored.{Anchored}
 use Rattle.snapshots.proofs.ReachLemmas.{covered-along, hull_of-entry, present-none, All-stops_from, IsCovered}
 
 -- two boxes lie in the least box with both
-pub inside-joined : (area other : CellBox)
-    → IsBoxInside area (joined area other) × IsBoxInside other (joined area other)
-inside-joined area other = (
+pub inside-common_box : (area other : CellBox)
+    → IsBoxInside area (common_box area other) × IsBoxInside other (common_box area other)
+inside-common_box area other = (
   record {
     left = omega (arith, ints, clamps);
     right = omega (arith, ints, clamps);
@@ -58,15 +58,15 @@ inside-joined area other = (
 
 -- each of some boxes lies in the least box with all of them, and so does the first
 pub inside-fold : (area : CellBox) (areas : List CellBox)
-    → IsBoxInside area (fold joined area areas) × All (λ other. IsBoxInside other (fold joined area areas)) areas
+    → IsBoxInside area (fold common_box area areas) × All (λ other. IsBoxInside other (fold common_box area areas)) areas
 inside-fold area [] = (inside-self area, All-nil (λ other. IsBoxInside other area))
 inside-fold area (other ∷ areas) =
-    let both = inside-joined area other in
-    let rest = inside-fold (joined area other) areas in
-    let whole : CellBox = fold joined (joined area other) areas in (
-      inside-inside area (joined area other) whole both.0 rest.0,
+    let both = inside-common_box area other in
+    let rest = inside-fold (common_box area other) areas in
+    let whole : CellBox = fold common_box (common_box area other) areas in (
+      inside-inside area (common_box area other) whole both.0 rest.0,
       All-cons (λ b. IsBoxInside b whole) other areas
-          (inside-inside other (joined area other) whole both.1 rest.0) rest.1,
+          (inside-inside other (common_box area other) whole both.1 rest.0) rest.1,
     )
 
 -- a cell of a box that lies in another is in that one
@@ -136,7 +136,7 @@ pub on-track : (parts : Parts) (number : ℕ) (block : Anchored) → IsOnTrack p
 unfolding block_stops log_box
 on-track parts number block =
     let rules : RulesView = rules_in parts in
-    let log : List ℕ = log_at rules block in
+    let log : List ℕ = block_log rules block in
     let whole : CellBox = track_box rules block in
     let all = inside-fold (cell_box block.cell) (placed_boxes rules block.cell log (length log)) in
     All-cons (IsIn whole) (stop_at (anchored_at parts.frame number block) block.cell)
@@ -147,7 +147,7 @@ on-track parts number block =
     (λ place within. IfSome-moved (λ other. IsBoxInside other whole)
     (moved_box (cell_before rules block.cell log place))
     (entry_of rules (slice_index log place)).hull
-    (All-from_filter_map (λ other. IsBoxInside other whole) (placed_box rules block.cell log) 0 (length log) all.1 place
+    (All-from_filter_map (λ other. IsBoxInside other whole) (symbol_box rules block.cell log) 0 (length log) all.1 place
     (omega arith) (omega arith))))
 
 -- those of all blocks
@@ -156,14 +156,14 @@ on-tracks parts number = λ k d within. on-track parts number (get_or (all_block
 
 -- a box with the hull of one symbol more
 with_hull-is : (area : CellBox) (cell : Cell) (hull : Option CellBox)
-    → with_hull area cell hull ≡ fold joined area (cons_option (option_map (moved_box cell) hull) [])
+    → with_hull area cell hull ≡ fold common_box area (cons_option (option_map (moved_box cell) hull) [])
 with_hull-is area cell None = refl
 with_hull-is area cell (Some hull) = refl
 
 module _ (rules : RulesView) (start : Cell) (log : List ℕ) where
   -- the box of a log's first symbols
   abbrev pub box_before : ℕ → CellBox
-  box_before count = fold joined (cell_box start) (placed_boxes rules start log count)
+  box_before count = fold common_box (cell_box start) (placed_boxes rules start log count)
 
   -- one symbol more
   pub box_before-more : (place : ℕ) (cell : Cell) (entry : Entry) (area now : CellBox)
@@ -176,9 +176,9 @@ module _ (rules : RulesView) (start : Cell) (log : List ℕ) where
       let hull : Option CellBox = (entry_of rules (slice_index log place)).hull in
       made ∙ ap (λ a. with_hull a cell entry.hull) so_far ∙ ap (λ c. with_hull (box_before place) c entry.hull) stands
       ∙ ap (λ (e : Entry). with_hull (box_before place) there e.hull) its ∙ with_hull-is (box_before place) there hull
-      ∙ sym (fold-append joined (cell_box start) (placed_boxes rules start log place)
-      (cons_option (placed_box rules start log place) []))
-      ∙ ap (fold joined (cell_box start)) (sym (filter_map-range_more (placed_box rules start log) place))
+      ∙ sym (fold-append common_box (cell_box start) (placed_boxes rules start log place)
+      (cons_option (symbol_box rules start log place) []))
+      ∙ ap (fold common_box (cell_box start)) (sym (filter_map-range_more (symbol_box rules start log) place))
 
   -- all symbols
   pub box_before-all : (place : ℕ) → place ≡ length log → box_before place ≡ log_box rules start log

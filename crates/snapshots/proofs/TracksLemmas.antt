@@ -36,8 +36,8 @@ use Rattle.std.specs.Global.{Box}
 use Rattle.std.proofs.Math.Bool.{and_comm}
 use Rattle.snapshots.specs.Parts.{rules_in, snapshot_in}
 use Rattle.snapshots.specs.Stores.{AreStores}
-use Rattle.snapshots.specs.TrackTree.{begin_of, code_of, log_of, AreKept, IsKept}
-use Rattle.snapshots.specs.TrackWalk.{block_kept, corner_of, tracks_budget, tracks_left, walk_budget, walk_left}
+use Rattle.snapshots.specs.TrackTree.{begin_of, morton_of_block, length_and_index, AreKept, IsKept}
+use Rattle.snapshots.specs.TrackWalk.{block_kept, corner_of, tracks_budget, tracks_left, blocks_budget, blocks_left}
 use Rattle.snapshots.specs.declared.tracks.Tracks.{Tracks}
 use Rattle.snapshots.specs.View.{SnapshotView, all_blocks, tree_in}
 use Rattle.snapshots.specs.declared.anchored.Anchored.{Anchored}
@@ -84,12 +84,12 @@ module _ (view : SnapshotView) (is : IsSnapshot view) (rules : RulesView) (kept 
       let area : area_at kept.tree.base (node 0 (slice_index kept.tree.places.codes k)) ≡ cell_box block.cell =
       ap (λ b. area_at b (node 0 (slice_index kept.tree.places.codes k))) are.base
       ∙ ap (λ (p : Places). area_at frame.base (node 0 (slice_index p.codes k))) are.places
-      ∙ ap (λ c. area_at frame.base (node 0 c)) (get_or-map (code_of frame) blocks k d 0 within)
+      ∙ ap (λ c. area_at frame.base (node 0 c)) (get_or-map (morton_of_block frame) blocks k d 0 within)
       ∙ area_at-code frame.height frame.base block.cell is.shaped.header.limit (by_leaf-inside view is k d within) in
       let begin : get_or kept.begins k (0, 0) ≡ begin_of block =
       ap (λ (xs : List (ℕ × ℕ)). get_or xs k (0, 0)) are.begins ∙ get_or-map begin_of blocks k d (0, 0) within in
-      let log : get_or kept.logs k (0, 0) ≡ log_of block =
-      ap (λ (xs : List (ℕ × ℕ)). get_or xs k (0, 0)) are.logs ∙ get_or-map log_of blocks k d (0, 0) within in
+      let log : get_or kept.logs k (0, 0) ≡ length_and_index block =
+      ap (λ (xs : List (ℕ × ℕ)). get_or xs k (0, 0)) are.logs ∙ get_or-map length_and_index blocks k d (0, 0) within in
       record {
         box = ap (λ (p : Places). box_at p.boxes k) are.places ∙ get_or-map (track_box rules) blocks k d no_box within;
         area = area;
@@ -99,7 +99,7 @@ module _ (view : SnapshotView) (is : IsSnapshot view) (rules : RulesView) (kept 
 
   -- there are as many places
   pub count_is : length kept.tree.places.codes ≡ length (blocks_by_leaf view)
-  count_is = ap (λ (p : Places). length p.codes) are.places ∙ length-map (blocks_by_leaf view) (code_of view.frame)
+  count_is = ap (λ (p : Places). length p.codes) are.places ∙ length-map (blocks_by_leaf view) (morton_of_block view.frame)
 
   -- all of them are the blocks
   pub all-kept : map (block_kept kept) (range_with_len 0 (length kept.tree.places.codes)) ≡ blocks_by_leaf view
@@ -154,7 +154,7 @@ module _ (view : SnapshotView) (is : IsSnapshot view) (rules : RulesView) (kept 
         ap (λ b. held_square_count (squares_at b squares) kept.tree.places) are.base
         ∙ ap (held_square_count (squares_at view.frame.base squares)) are.places
         ∙ held_square_count-tree (tree_in view) is.sound.tree.is_tree squares
-        (map (code_of view.frame) (blocks_by_leaf view))
+        (map (morton_of_block view.frame) (blocks_by_leaf view))
         (map (track_box rules) (blocks_by_leaf view)) (same_codes view is)
 
     -- so the reads are within those of the squares and the blocks that pass
@@ -185,12 +185,12 @@ module _ (view : SnapshotView) (is : IsSnapshot view) (rules : RulesView) (kept 
 
 -- what is left of a walk over a period's blocks
 module _ {S : Type 0} (squares boxes : S → CellBox → Bool) where
-  pub tracks_left-is : (tracks : Tracks S) → tracks_left squares boxes tracks ≡ walk_left squares boxes tracks.walk
+  pub tracks_left-is : (tracks : Tracks S) → tracks_left squares boxes tracks ≡ blocks_left squares boxes tracks.walk
   unfolding tracks_left
   tracks_left-is tracks = refl
 
   pub tracks_budget-is : (tracks : Tracks S)
-      → tracks_budget squares boxes tracks ≡ walk_budget squares boxes tracks.walk
+      → tracks_budget squares boxes tracks ≡ blocks_budget squares boxes tracks.walk
   unfolding tracks_budget
   tracks_budget-is tracks = refl
 

@@ -21,8 +21,8 @@ use Rattle.k2_tree.proofs.CellLemmas.{tree_of-StandsFor}
 use Rattle.rule_store.specs.View.{RulesView}
 use Rattle.snapshots.specs.Parts.{chart_in, last_in, no_period, period_at, rows_in, row_of, rules_in, snapshot_in, start_in}
 use Rattle.snapshots.specs.Parts.{stops_in, stops_in_block, symbols_of}
-use Rattle.snapshots.specs.Sound.{IsSnapshot, IsSound as IsSoundPeriod}
-use Rattle.snapshots.specs.SoundParts.{AreSoundLogs, IsPlaced, IsSound, IsSoundLog, IsValid}
+use Rattle.snapshots.specs.Sound.{IsSnapshot, IsSoundPeriod}
+use Rattle.snapshots.specs.SoundParts.{AreSoundLogs, IsInGridAt, IsSound, IsSoundLog, IsValid}
 use Rattle.snapshots.specs.Upgrade.{newest, newest_tree, upgrade_of, upgraded_parts, upgraded_period}
 use Rattle.snapshots.specs.View.{SnapshotView, all_blocks, block_of, tree_in}
 use Rattle.snapshots.specs.declared.anchored.Anchored.{Anchored}
@@ -54,8 +54,8 @@ flat_map-range_agree f g a (suc n) same =
     rw (same a (omega arith) (omega arith), rest) refl
 
 -- a placed box is in the same grid
-placed-upgraded : (frame : Frame) (cell : Cell) (hull : Option CellBox) → IfSome hull (IsPlaced frame cell)
-    → IfSome hull (IsPlaced (newest frame) cell)
+placed-upgraded : (frame : Frame) (cell : Cell) (hull : Option CellBox) → IfSome hull (IsInGridAt frame cell)
+    → IfSome hull (IsInGridAt (newest frame) cell)
 placed-upgraded frame cell None is = tt
 placed-upgraded frame cell (Some hull) is =
     record { left = is.left; right = is.right; below = is.below; above = is.above }

@@ -14,7 +14,7 @@ use Rattle.k2_tree.specs.TreeBits.{Rises}
 use Rattle.snapshots.specs.IndexCost.{blocks_reads, everywhere, open_cost}
 use Rattle.snapshots.specs.Parts.{numbers_in, snapshot_in}
 use Rattle.snapshots.specs.Sound.{IsSnapshot}
-use Rattle.snapshots.specs.Stores.{parts_of, snapshots_in}
+use Rattle.snapshots.specs.Stores.{period_parts_of, snapshots_in}
 use Rattle.snapshots.specs.Upgrade.{newest, tree_reads, upgrade_of, upgraded_parts, upgraded_period}
 use Rattle.snapshots.specs.View.{SnapshotView, tree_in}
 use Rattle.snapshots.proofs.LeafOrderLemmas.{all_kept}
@@ -54,7 +54,7 @@ cells-kept view = ap (map (λ leaf. leaf.1)) (all_kept view) ∙ cells-numbered 
 
 -- the parts of snapshots of one index change by its header
 pub periods-upgraded : (parts : Parts) (numbers : List ℕ) → map upgraded_parts (map (snapshot_in parts) numbers)
-    ≡ map (upgraded_period parts.frame) (map parts_of (map (snapshot_in parts) numbers))
+    ≡ map (upgraded_period parts.frame) (map period_parts_of (map (snapshot_in parts) numbers))
 periods-upgraded parts [] = refl
 periods-upgraded parts (number ∷ numbers) =
     ap (λ rest. upgraded_parts (snapshot_in parts number) ∷ rest) (periods-upgraded parts numbers)

@@ -21,7 +21,7 @@ use Rattle.snapshots.specs.declared.fault.SnapFault.{SnapFault}
 use Rattle.snapshots.specs.declared.fault.SnapFault.TheVariants as fault
 
 -- what is known of parts before they are judged: the header's ranges, and lists as long as the presence bits say
-pub record IsShaped (view : SnapshotView) : Type 0 where
+pub record IsShapedView (view : SnapshotView) : Type 0 where
   pub header : IsFrame view.frame
   pub period : view.number < periods_of view.frame
   pub some : 1 ≤ view.objects
@@ -76,6 +76,6 @@ flaw_of view =
     (perm_flaw view.number view.parts.lasts view.parts.perm)))
 
 -- a flaw is this one; memory may be wanting for any parts
-abbrev pub IsFaultFor : Option Flaw → SnapFault → Type 0
-IsFaultFor first (fault.Flaw flaw) = first ≡ Some flaw
-IsFaultFor first fault.Memory = ⊤
+abbrev pub IsSnapFaultFor : Option Flaw → SnapFault → Type 0
+IsSnapFaultFor first (fault.Flaw flaw) = first ≡ Some flaw
+IsSnapFaultFor first fault.Memory = ⊤

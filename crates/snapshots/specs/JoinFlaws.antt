@@ -19,7 +19,7 @@ use Rattle.rule_store.specs.Cells.{displacement_of, moved}
 use Rattle.rule_store.specs.Entry.{duration_of, entry_of}
 use Rattle.snapshots.specs.View.{SnapshotView, all_blocks, rank_in}
 use Rattle.snapshots.specs.Flaws.{flaw_in}
-use Rattle.snapshots.specs.Parts.{log_at, numbers_in, rules_in, snapshot_in}
+use Rattle.snapshots.specs.Parts.{block_log, numbers_in, rules_in, snapshot_in}
 use Rattle.snapshots.specs.declared.anchored.Anchored.{Anchored}
 
 -- the cell in which an object is after these symbols, from a cell
@@ -32,8 +32,8 @@ abbrev pub cell_before : RulesView → Cell → List ℕ → ℕ → Cell
 cell_before rules cell log place = cell_after rules cell (take place log)
 
 -- how many instants these symbols stand for
-unfoldable pub lasting : RulesView → List ℕ → ℕ
-lasting rules log = sum_by (duration_of rules) log
+unfoldable pub duration_of_log : RulesView → List ℕ → ℕ
+duration_of_log rules log = sum_by (duration_of rules) log
 
 -- numbers from one to another, moved by an amount, lie in a row of 2 ^ height numbers from its least one on
 abbrev pub is_along : ℕ → ℤ → ℤ → ℤ → ℤ → Bool
@@ -74,14 +74,14 @@ instants_after frame number block = instants_in frame number - 1 - block.offset
 -- the flaw of a log which does not last as long as its period, by the block's place among those of the period
 abbrev pub duration_flaw : Frame → RulesView → ℕ → ℕ → Anchored → Option Flaw
 duration_flaw frame rules number rank block =
-    if lasting rules (log_at rules block) == instants_after frame number block then None
+    if duration_of_log rules (block_log rules block) == instants_after frame number block then None
     else Some (flaw_in number Lengths kind.Duration rank)
 
 -- the first flaw of a block's log: a placed box that passes the grid comes before a wrong duration
 unfoldable pub log_flaw : Frame → RulesView → ℕ → ℕ → Anchored → Option Flaw
 log_flaw frame rules number rank block = option_or
     (option_map (λ place. flaw_in number Log kind.OffGrid (block.from + place))
-    (off_grid_at frame rules block.cell (log_at rules block)))
+    (off_grid_at frame rules block.cell (block_log rules block)))
     (duration_flaw frame rules number rank block)
 
 -- the first flaw of a block of a snapshot

@@ -23,16 +23,16 @@ members_left view leaf (Place place) = blocks_from view leaf place
 members_left view leaf End = []
 
 -- the reads by which the first place is looked for
-abbrev pub search_reads : Next → ℕ
-search_reads First = first_reads
-search_reads (Place place) = 0
-search_reads End = 0
+abbrev pub first_place_reads : Next → ℕ
+first_place_reads First = first_reads
+first_place_reads (Place place) = 0
+first_place_reads End = 0
 
 -- the view of such a walk
 abbrev pub members_of : SnapshotView → ℕ → Next → MembersView
 members_of view leaf next = record {
   blocks = members_left view leaf next;
-  reads = search_reads next + block_reads * length (members_left view leaf next);
+  reads = first_place_reads next + block_reads * length (members_left view leaf next);
 }
 
 -- a place is one of the leaf's

@@ -16,8 +16,8 @@ abbrev pub blocks_of : SnapshotView → List (ℕ × Cell) → List Anchored
 blocks_of view leaves = flat_map (λ leaf. blocks_in view leaf.0) leaves
 
 -- the same, each leaf's found by going through all objects in order
-abbrev pub objects_of : SnapshotView → List (ℕ × Cell) → List Anchored
-objects_of view leaves = flat_map (λ leaf. objects_at view leaf.0) leaves
+abbrev pub objects_of_leaves : SnapshotView → List (ℕ × Cell) → List Anchored
+objects_of_leaves view leaves = flat_map (λ leaf. objects_at view leaf.0) leaves
 
 -- the blocks of the period whose cells pass a test on each square from the whole grid down, by object
 unfoldable pub passing_blocks : (CellBox → Bool) → SnapshotView → List Anchored
@@ -32,8 +32,8 @@ unfoldable pub WeighSame : List Anchored → List Anchored → Type 0
 WeighSame blocks others = (weight : Anchored → ℕ) → sum_by weight blocks ≡ sum_by weight others
 
 -- the reads by which the blocks of leaves are found
-abbrev pub reads_of : SnapshotView → List (ℕ × Cell) → ℕ
-reads_of view leaves = sum_by (λ leaf. first_reads + block_reads * length (blocks_in view leaf.0)) leaves
+abbrev pub reads_of_leaves : SnapshotView → List (ℕ × Cell) → ℕ
+reads_of_leaves view leaves = sum_by (λ leaf. first_reads + block_reads * length (blocks_in view leaf.0)) leaves
 
 -- the blocks that are left of the cell that was begun, if one was
 abbrev pub begun_left : Option MembersView → List Anchored
@@ -53,4 +53,4 @@ module _ {F : Type 0} (keeps : F → CellBox → Bool) where
   -- a bound on the reads that are still to be made for them
   abbrev pub objects_budget : ObjectsIn F → ℕ
   objects_budget objects = begun_reads objects.members
-      + (pruned_budget keeps objects.pruned + reads_of objects.snapshot.now (pruned_left keeps objects.pruned))
+      + (pruned_budget keeps objects.pruned + reads_of_leaves objects.snapshot.now (pruned_left keeps objects.pruned))

@@ -46,12 +46,12 @@ abbrev pub numbers_in : Frame → List ℕ
 numbers_in frame = range_with_len 0 (periods_of frame)
 
 -- the symbols of a block's log
-abbrev pub log_at : RulesView → Anchored → List ℕ
-log_at rules block = slice_range rules.symbols block.from (block.from + block.len)
+abbrev pub block_log : RulesView → Anchored → List ℕ
+block_log rules block = slice_range rules.symbols block.from (block.from + block.len)
 
 -- the symbols of a block's log
 abbrev pub log_in : Parts → Anchored → List ℕ
-log_in parts block = log_at (rules_in parts) block
+log_in parts block = block_log (rules_in parts) block
 
 -- the first instant of a period
 abbrev pub first_in : Frame → ℕ → ℤ

@@ -6,13 +6,13 @@ use Rattle.track_types.specs.Frame.{instants_in, wide_of}
 use Rattle.k2_tree.specs.Morton.{IsInGrid}
 use Rattle.k2_tree.specs.Flaws.{StandsFor}
 use Rattle.snapshots.specs.View.{SnapshotView, block_of, leaf_at, tree_in}
-use Rattle.snapshots.specs.Flaws.{IsShaped}
+use Rattle.snapshots.specs.Flaws.{IsShapedView}
 use Rattle.snapshots.specs.declared.anchored.Anchored.{Anchored}
 
 -- each anchor is at one of the period's instants; the tree bits are those of a set of cells; as many objects are the
 -- last of their cell as there are cells, and the last one of all is; leaf order is a permutation of the present
 -- objects, and those of one cell ascend in it
-pub record IsSound (view : SnapshotView) : Type 0 where
+pub record IsSoundPeriod (view : SnapshotView) : Type 0 where
   pub offsets : All (λ offset. offset < instants_in view.frame view.number) view.parts.offsets
   pub tree : StandsFor view.frame.height (wide_of view.frame) view.frame.base view.parts.tree (tree_in view)
   pub cells : ones_of view.parts.lasts ≡ length (tree_in view).cells
@@ -23,8 +23,8 @@ pub record IsSound (view : SnapshotView) : Type 0 where
 
 -- what holds of every snapshot: its parts are shaped and sound
 pub record IsSnapshot (view : SnapshotView) : Type 0 where
-  pub shaped : IsShaped view
-  pub sound : IsSound view
+  pub shaped : IsShapedView view
+  pub sound : IsSoundPeriod view
 
 -- what holds of every block that a snapshot gives: it is its object's, which is present; its anchor is at one of the
 -- period's instants and in the grid; and its log is one of the period's

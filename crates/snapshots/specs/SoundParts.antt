@@ -12,12 +12,12 @@ use Rattle.track_types.specs.declared.parts.Parts.{Parts}
 use Rattle.rule_store.specs.View.{RulesView, symbols_in}
 use Rattle.rule_store.specs.Cells.{movement_of}
 use Rattle.rule_store.specs.Entry.{entry_of}
-use Rattle.rule_store.specs.Flaws.{reach_limit, rule_at}
+use Rattle.rule_store.specs.Flaws.{reach_limit, rule_parts}
 use Rattle.rule_store.specs.declared.entry.Entry.{Entry}
 use Rattle.snapshots.specs.View.{SnapshotView, all_blocks}
-use Rattle.snapshots.specs.Sound.{IsSound as IsSoundPeriod}
-use Rattle.snapshots.specs.Parts.{log_at, rules_in, snapshot_in, start_in}
-use Rattle.snapshots.specs.JoinFlaws.{cell_before, instants_after, lasting}
+use Rattle.snapshots.specs.Sound.{IsSoundPeriod}
+use Rattle.snapshots.specs.Parts.{block_log, rules_in, snapshot_in, start_in}
+use Rattle.snapshots.specs.JoinFlaws.{cell_before, instants_after, duration_of_log}
 use Rattle.snapshots.specs.declared.anchored.Anchored.{Anchored}
 
 -- a movement or a corner is not farther away than two cells of the grid may be
@@ -36,8 +36,8 @@ pub record IsShortEntry (height period : ℕ) (entry : Entry) : Type 0 where
 
 -- the parts of rule j are below its own symbol, whose entry is short
 pub record IsRule (rules : RulesView) (j : ℕ) : Type 0 where
-  pub left : (rule_at rules.rules j).0 < length rules.alphabet + j
-  pub right : (rule_at rules.rules j).1 < length rules.alphabet + j
+  pub left : (rule_parts rules.rules j).0 < length rules.alphabet + j
+  pub right : (rule_parts rules.rules j).1 < length rules.alphabet + j
   pub entry : IsShortEntry rules.height rules.period (entry_of rules (length rules.alphabet + j))
 
 -- each value is a movement in reach, each rule is one, and each stored symbol is a terminal or a rule
@@ -48,7 +48,7 @@ pub record AreSoundRules (rules : RulesView) : Type 0 where
   pub symbols : (i : ℕ) → i < length rules.symbols → slice_index rules.symbols i < symbols_in rules
 
 -- a box, moved to a cell, is in the grid
-pub record IsPlaced (frame : Frame) (cell : Cell) (hull : CellBox) : Type 0 where
+pub record IsInGridAt (frame : Frame) (cell : Cell) (hull : CellBox) : Type 0 where
   pub left : frame.base.x ≤ℤ (cell.x +ℤ hull.x1)
   pub right : (cell.x +ℤ hull.x2) <ℤ (frame.base.x +ℤ pos (2 ^ frame.height))
   pub below : frame.base.y ≤ℤ (cell.y +ℤ hull.y1)
@@ -56,10 +56,10 @@ pub record IsPlaced (frame : Frame) (cell : Cell) (hull : CellBox) : Type 0 wher
 
 -- each placed box of a block's log is in the grid, and the log lasts to the end of the period
 pub record IsSoundLog (frame : Frame) (rules : RulesView) (number : ℕ) (block : Anchored) : Type 0 where
-  pub placed : (place : ℕ) → place < length (log_at rules block)
-      → IfSome (entry_of rules (slice_index (log_at rules block) place)).hull
-      (IsPlaced frame (cell_before rules block.cell (log_at rules block) place))
-  pub lasts : lasting rules (log_at rules block) ≡ instants_after frame number block
+  pub placed : (place : ℕ) → place < length (block_log rules block)
+      → IfSome (entry_of rules (slice_index (block_log rules block) place)).hull
+      (IsInGridAt frame (cell_before rules block.cell (block_log rules block) place))
+  pub lasts : duration_of_log rules (block_log rules block) ≡ instants_after frame number block
 
 -- each block of a snapshot has a sound log
 abbrev pub AreSoundLogs : RulesView → SnapshotView → Type 0

@@ -13,8 +13,8 @@ use Rattle.k2_tree.specs.Morton.{IsInGrid}
 use Rattle.rule_store.specs.View.{RulesView}
 use Rattle.rule_store.specs.Entry.{entry_of}
 use Rattle.snapshots.specs.View.{SnapshotView, all_blocks}
-use Rattle.snapshots.specs.JoinFlaws.{cell_before, lasting}
-use Rattle.snapshots.specs.Parts.{first_in, log_at, rules_in, snapshot_in, stops_of}
+use Rattle.snapshots.specs.JoinFlaws.{cell_before, duration_of_log}
+use Rattle.snapshots.specs.Parts.{first_in, block_log, rules_in, snapshot_in, stops_of}
 use Rattle.snapshots.specs.declared.anchored.Anchored.{Anchored}
 
 -- how far two numbers are apart
@@ -36,7 +36,7 @@ hull_speed from cell before (Some hull) = div_ceil (far_of from cell hull) (befo
 -- that of a log's symbol, from the log's first cell on
 abbrev pub symbol_speed : RulesView → Cell → List ℕ → ℕ → ℕ
 symbol_speed rules from log place = hull_speed from (cell_before rules from log place)
-    (lasting rules (take place log)) (entry_of rules (slice_index log place)).hull
+    (duration_of_log rules (take place log)) (entry_of rules (slice_index log place)).hull
 
 -- the greatest of a log's symbols
 unfoldable pub log_speed : RulesView → Cell → List ℕ → ℕ
@@ -44,7 +44,7 @@ log_speed rules from log = fold max 0 (map (symbol_speed rules from log) (range_
 
 -- the speed of a block
 abbrev pub block_speed : RulesView → Anchored → ℕ
-block_speed rules block = log_speed rules block.cell (log_at rules block)
+block_speed rules block = log_speed rules block.cell (block_log rules block)
 
 -- the greatest speed of a snapshot's blocks
 unfoldable pub blocks_speed : RulesView → SnapshotView → ℕ

@@ -52,8 +52,8 @@ tree_stored frame None = tree_without frame
 tree_stored frame (Some blocks) = blocks.value.tree
 
 -- the view of what is stored
-abbrev pub view_of : Frame → ℕ → ℕ → ℕ → Option (Box Blocks) → SnapshotView
-view_of frame number objects start blocks = record {
+abbrev pub snapshot_view : Frame → ℕ → ℕ → ℕ → Option (Box Blocks) → SnapshotView
+snapshot_view frame number objects start blocks = record {
   frame = frame;
   number = number;
   objects = objects;
@@ -62,13 +62,13 @@ view_of frame number objects start blocks = record {
 }
 
 -- what is stored belongs to the view
-pub record IsStored (view : SnapshotView) (tree : Tree) (starts : List ℕ) : Type 0 where
+pub record IsStoredSnapshot (view : SnapshotView) (tree : Tree) (starts : List ℕ) : Type 0 where
   pub is : IsSnapshot view
   pub tree_is : tree_in view ≡ tree
   pub begin : starts ≡ starts_of view.start view.parts.lengths
 
 -- what is stored of the view's blocks
-pub record AreBlocksOf (view : SnapshotView) (blocks : Blocks) : Type 0 where
+pub record AreStoredBlocks (view : SnapshotView) (blocks : Blocks) : Type 0 where
   pub present : blocks.present ≡ view.parts.present
   pub offsets : blocks.offsets ≡ view.parts.offsets
   pub lasts : blocks.lasts ≡ view.parts.lasts

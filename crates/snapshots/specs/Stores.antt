@@ -16,8 +16,8 @@ use Rattle.snapshots.specs.TrackTree.{IsKept}
 use Rattle.snapshots.specs.declared.track_tree.TrackTree.{TrackTree}
 
 -- the parts of a snapshot
-abbrev pub parts_of : SnapshotView → PeriodParts
-parts_of view = view.parts
+abbrev pub period_parts_of : SnapshotView → PeriodParts
+period_parts_of view = view.parts
 
 -- the parts that a header, objects, rules and snapshots make up
 abbrev pub join_of : Frame → List ℕ → RulesView → List SnapshotView → Parts
@@ -26,7 +26,7 @@ join_of frame objects rules snaps = record {
   objects = objects;
   alphabet = rules.alphabet;
   rules = rules.rules;
-  periods = map parts_of snaps;
+  periods = map period_parts_of snaps;
   symbols = rules.symbols;
 }
 

@@ -12,16 +12,16 @@ use Rattle.snapshots.specs.declared.anchored.Anchored.{Anchored}
 use Rattle.snapshots.specs.declared.track_tree.TrackTree.{TrackTree}
 
 -- the Morton number of a block's cell
-abbrev pub code_of : Frame → Anchored → ℕ
-code_of frame block = morton_of frame.height frame.base block.cell
+abbrev pub morton_of_block : Frame → Anchored → ℕ
+morton_of_block frame block = morton_of frame.height frame.base block.cell
 
 -- how many instants after the period's first a block begins, and where its log does
 abbrev pub begin_of : Anchored → ℕ × ℕ
 begin_of block = (block.offset, block.from)
 
 -- how long its log is, and of which object
-abbrev pub log_of : Anchored → ℕ × ℕ
-log_of block = (block.len, block.index)
+abbrev pub length_and_index : Anchored → ℕ × ℕ
+length_and_index block = (block.len, block.index)
 
 -- how many levels a period's tree has, of which the upper ones take two digits of the Morton numbers each
 abbrev pub level_count : Frame → ℕ
@@ -32,16 +32,16 @@ abbrev pub narrow_count : Frame → ℕ
 narrow_count frame = frame.height - 2 * wide_of frame
 
 -- blocks as places of a tree of boxes: their cells, and the boxes of their tracks
-abbrev pub places_of : Frame → RulesView → List Anchored → Places
-places_of frame rules blocks = places_with (level_count frame) (narrow_count frame) (map (code_of frame) blocks)
+abbrev pub block_places : Frame → RulesView → List Anchored → Places
+block_places frame rules blocks = places_with (level_count frame) (narrow_count frame) (map (morton_of_block frame) blocks)
     (map (track_box rules) blocks)
 
 -- these blocks are kept
 pub record AreKept (frame : Frame) (rules : RulesView) (blocks : List Anchored) (kept : TrackTree) : Type 0 where
   pub base : kept.tree.base ≡ frame.base
-  pub places : kept.tree.places ≡ places_of frame rules blocks
+  pub places : kept.tree.places ≡ block_places frame rules blocks
   pub begins : kept.begins ≡ map begin_of blocks
-  pub logs : kept.logs ≡ map log_of blocks
+  pub logs : kept.logs ≡ map length_and_index blocks
 
 -- where nothing is kept, there is no block
 abbrev pub IsKept : Frame → RulesView → List Anchored → Option (Box TrackTree) → Type 0

@@ -35,19 +35,19 @@ module _ {S : Type 0} (squares boxes : S → CellBox → Bool) where
   kept_budget walk = box_budget squares boxes walk.walk + record_reads * length (box_left squares boxes walk.walk)
 
   -- the blocks that are left
-  abbrev pub walk_left : Option (KeptWalk S) → List Anchored
-  walk_left None = []
-  walk_left (Some walk) = kept_left walk
+  abbrev pub blocks_left : Option (KeptWalk S) → List Anchored
+  blocks_left None = []
+  blocks_left (Some walk) = kept_left walk
 
   -- the reads that are still to be made for them
-  abbrev pub walk_budget : Option (KeptWalk S) → ℕ
-  walk_budget None = 0
-  walk_budget (Some walk) = kept_budget walk
+  abbrev pub blocks_budget : Option (KeptWalk S) → ℕ
+  blocks_budget None = 0
+  blocks_budget (Some walk) = kept_budget walk
 
   -- the blocks that are left of a period's
   unfoldable pub tracks_left : Tracks S → List Anchored
-  tracks_left tracks = walk_left tracks.walk
+  tracks_left tracks = blocks_left tracks.walk
 
   -- a bound on the reads that are still to be made for them
   unfoldable pub tracks_budget : Tracks S → ℕ
-  tracks_budget tracks = walk_budget tracks.walk
+  tracks_budget tracks = blocks_budget tracks.walk

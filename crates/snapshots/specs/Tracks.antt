@@ -15,7 +15,7 @@ use Rattle.k2_tree.specs.Areas.{box_from}
 use Rattle.rule_store.specs.View.{RulesView}
 use Rattle.rule_store.specs.Entry.{entry_of}
 use Rattle.snapshots.specs.JoinFlaws.{cell_before}
-use Rattle.snapshots.specs.Parts.{log_at, rules_in, snapshot_in, stops_of}
+use Rattle.snapshots.specs.Parts.{block_log, rules_in, snapshot_in, stops_of}
 use Rattle.snapshots.specs.View.{SnapshotView, all_blocks, block_at}
 use Rattle.snapshots.specs.declared.anchored.Anchored.{Anchored}
 
@@ -43,8 +43,8 @@ pub min-le-max : (a b c d : ℤ) → a ≤ℤ b → int_min a c ≤ℤ int_max b
 min-le-max a b c d low = omega (arith, ints, clamps)
 
 -- the least box with two boxes
-abbrev pub joined : CellBox → CellBox → CellBox
-joined area other = record {
+abbrev pub common_box : CellBox → CellBox → CellBox
+common_box area other = record {
   x1 = int_min area.x1 other.x1;
   y1 = int_min area.y1 other.y1;
   x2 = int_max area.x2 other.x2;
@@ -56,24 +56,24 @@ joined area other = record {
 -- the least box with an area and with a hull, if there is one, that is moved to a cell
 abbrev pub with_hull : CellBox → Cell → Option CellBox → CellBox
 with_hull area cell None = area
-with_hull area cell (Some hull) = joined area (moved_box cell hull)
+with_hull area cell (Some hull) = common_box area (moved_box cell hull)
 
 -- the placed box of a log's symbol: its entry's, moved to the cell from which the symbol moves on
-abbrev pub placed_box : RulesView → Cell → List ℕ → ℕ → Option CellBox
-placed_box rules cell log place =
+abbrev pub symbol_box : RulesView → Cell → List ℕ → ℕ → Option CellBox
+symbol_box rules cell log place =
     option_map (moved_box (cell_before rules cell log place)) (entry_of rules (slice_index log place)).hull
 
 -- the placed boxes of a log's first symbols
 abbrev pub placed_boxes : RulesView → Cell → List ℕ → ℕ → List CellBox
-placed_boxes rules cell log count = filter_map (placed_box rules cell log) (range_with_len 0 count)
+placed_boxes rules cell log count = filter_map (symbol_box rules cell log) (range_with_len 0 count)
 
 -- the least box with a log's first cell and all of its placed boxes
 unfoldable pub log_box : RulesView → Cell → List ℕ → CellBox
-log_box rules cell log = fold joined (cell_box cell) (placed_boxes rules cell log (length log))
+log_box rules cell log = fold common_box (cell_box cell) (placed_boxes rules cell log (length log))
 
 -- the box of a block's track: the least one with its anchor's cell and the placed boxes of its log
 abbrev pub track_box : RulesView → Anchored → CellBox
-track_box rules block = log_box rules block.cell (log_at rules block)
+track_box rules block = log_box rules block.cell (block_log rules block)
 
 -- all blocks of the period in leaf order
 abbrev pub blocks_by_leaf : SnapshotView → List Anchored

@@ -2,7 +2,7 @@ ghost use Rattle.std.specs.Prelude.{◌≡◌, ◌+◌, ◌^◌, ◌<◌, ◌≤
 ghost use Rattle.object_perm.specs.Permutation.{PermutesPlaces};
 ghost use Rattle.track_types.specs.Frame.{instants_in, periods_of, wide_of, IsFrame};
 ghost use Rattle.k2_tree.specs.Flaws.{StandsFor};
-ghost use Rattle.snapshots.specs.Flaws.{bits_flaw, flaw_in, have_cells, offset_flaw, order_flaw, perm_flaw, IsFaultFor};
+ghost use Rattle.snapshots.specs.Flaws.{bits_flaw, flaw_in, have_cells, offset_flaw, order_flaw, perm_flaw, IsSnapFaultFor};
 ghost use Rattle.snapshots.specs.Stored.{starts_of};
 ghost use Rattle.snapshots.specs.declared.fault.SnapFault.TheVariants.{Flaw as IsFlaw};
 
@@ -90,7 +90,7 @@ pub fn check_tree(
         bits tree) }
     ensures exact { OnOk result (bits_flaw number frame.now bits ≡ None) }
     ensures flaw { IfErr result (λ fault.
-        IsFaultFor (bits_flaw number frame.now bits) fault) }
+        IsSnapFaultFor (bits_flaw number frame.now bits) fault) }
 {
     match K2Tree::check(alloc, bits, frame.height, frame.wide_levels(), frame.base) {
         Ok(tree) => Ok(tree),
@@ -113,7 +113,7 @@ pub fn check_perm(
     ensures ok { IfOk result (λ perm. perm ≡ list) }
     ensures permutes { OnOk result (PermutesPlaces list) }
     ensures exact { OnOk result (perm_flaw number lasts.now list ≡ None) }
-    ensures flaw { IfErr result (λ fault. IsFaultFor (perm_flaw number lasts.now list) fault) }
+    ensures flaw { IfErr result (λ fault. IsSnapFaultFor (perm_flaw number lasts.now list) fault) }
 {
     let disorder = find_disorder(lasts, list.as_slice());
     let perm = match Perm::check(alloc, list) {

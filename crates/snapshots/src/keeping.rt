@@ -6,7 +6,7 @@ ghost use Rattle.box_tree.specs.Places.{ArePlaces};
 ghost use Rattle.box_tree.specs.Tree.{places_with};
 ghost use Rattle.rule_store.specs.View.{RulesView};
 ghost use Rattle.snapshots.specs.Cost.{record_reads};
-ghost use Rattle.snapshots.specs.TrackTree.{begin_of, code_of, level_count, log_of, narrow_count, IsKept};
+ghost use Rattle.snapshots.specs.TrackTree.{begin_of, morton_of_block, level_count, length_and_index, narrow_count, IsKept};
 ghost use Rattle.snapshots.specs.TrackWalk.{block_kept};
 ghost use Rattle.snapshots.specs.Tracks.{track_box};
 
@@ -29,7 +29,7 @@ impl TrackTree {
     ) -> Result<Option<Box<TrackTree>>, Memory>
         requires header { IsFrame frame.now }
         requires places { ArePlaces (places_with (level_count frame.now) (narrow_count frame.now)
-            (map (code_of frame.now) blocks.now) boxes.now) }
+            (map (morton_of_block frame.now) blocks.now) boxes.now) }
         requires inside { All
             (λ block. IsInGrid frame.now.height frame.now.base block.cell) blocks.now }
         requires from { All (IsFrom frame.now.base) boxes.now }
@@ -80,7 +80,7 @@ fn codes_of(alloc: Global, frame: &Frame, blocks: &[Anchored]) -> Result<Vec<u64
     requires header { IsFrame frame.now }
     requires inside { All
         (λ block. IsInGrid frame.now.height frame.now.base block.cell) blocks.now }
-    ensures { IfOk result (λ codes. codes.items ≡ map (code_of frame.now) blocks.now) }
+    ensures { IfOk result (λ codes. codes.items ≡ map (morton_of_block frame.now) blocks.now) }
 {
     let mut codes = Vec::with_capacity(alloc, blocks.len())?;
     for block in blocks {
@@ -102,7 +102,7 @@ fn begins_of(alloc: Global, blocks: &[Anchored]) -> Result<Vec<(u32, u32)>, Memo
 
 // How long their logs are, and of which objects.
 fn logs_of(alloc: Global, blocks: &[Anchored]) -> Result<Vec<(u32, u32)>, Memory>
-    ensures { IfOk result (λ logs. logs.items ≡ map log_of blocks.now) }
+    ensures { IfOk result (λ logs. logs.items ≡ map length_and_index blocks.now) }
 {
     let mut logs = Vec::with_capacity(alloc, blocks.len())?;
     for block in blocks {

@@ -3,11 +3,11 @@ ghost use Rattle.std.specs.Prelude.{map, max, sum, slice_index_or, All, pos, ◌
 ghost use Rattle.track_types.specs.Frame.{instants_in, periods_of, IsFrame};
 ghost use Rattle.track_types.specs.Near.{IsBoxWithin, IsCellWithin, IsNear, IsWithin};
 ghost use Rattle.track_types.specs.declared.limit.TheConstants.{MAX_HEIGHT};
-ghost use Rattle.snapshots.specs.Flaws.{IsFaultFor};
-ghost use Rattle.snapshots.specs.Parts.{log_at};
+ghost use Rattle.snapshots.specs.Flaws.{IsSnapFaultFor};
+ghost use Rattle.snapshots.specs.Parts.{block_log};
 ghost use Rattle.snapshots.specs.Sound.{IsSnapshot};
 ghost use Rattle.snapshots.specs.IndexCost.{blocks_reads};
-ghost use Rattle.snapshots.specs.JoinFlaws.{blocks_flaw, has_columns, has_lines, is_along, lasting, log_flaw};
+ghost use Rattle.snapshots.specs.JoinFlaws.{blocks_flaw, has_columns, has_lines, is_along, duration_of_log, log_flaw};
 ghost use Rattle.snapshots.specs.JoinFlaws.{off_grid_at, passes_grid, IsReachable};
 ghost use Rattle.snapshots.specs.TrackTree.{IsKept};
 ghost use Rattle.box_tree.specs.Places.{no_box};
@@ -62,7 +62,7 @@ pub fn judge_snapshot<L: Ledger>(
     ensures speed { IfOk result (λ judged. judged.speed ≡ blocks_speed rules.now snapshot.now) }
     ensures tracks { IfOk result (λ judged.
         IsKept snapshot.now.frame rules.now (blocks_by_leaf snapshot.now) judged.tracks) }
-    ensures flaw { IfErr result (λ fault. IsFaultFor (blocks_flaw rules.now snapshot.now) fault) }
+    ensures flaw { IfErr result (λ fault. IsSnapFaultFor (blocks_flaw rules.now snapshot.now) fault) }
     ensures cost { steps.new
         ≤ steps.old + (blocks_reads snapshot.now + sum snapshot.now.parts.lengths) }
 {
@@ -117,7 +117,7 @@ fn judge_log<L: Ledger>(
     requires long { block.now.from + block.now.len ≤ 2 ^ 25 }
     ensures exact { OnOk result (log_flaw frame.now rules.now number rank block.now ≡ None) }
     ensures flaw { IfErr result (λ fault.
-        IsFaultFor (log_flaw frame.now rules.now number rank block.now) fault) }
+        IsSnapFaultFor (log_flaw frame.now rules.now number rank block.now) fault) }
     ensures speed { IfOk result (λ log. log.speed ≡ block_speed rules.now block.now) }
     ensures area { IfOk result (λ log. log.area ≡ track_box rules.now block.now) }
     ensures cost { steps.new ≤ steps.old + block.now.len }
@@ -148,13 +148,13 @@ fn read_log<L: Ledger>(
     requires log { block.now.from + block.now.len ≤ length rules.now.symbols }
     requires long { block.now.from + block.now.len ≤ 2 ^ 25 }
     ensures inside { OnOk result
-        (off_grid_at frame.now rules.now block.now.cell (log_at rules.now block.now) ≡ None) }
+        (off_grid_at frame.now rules.now block.now.cell (block_log rules.now block.now) ≡ None) }
     ensures ok { IfOk result (λ summary.
-        summary.duration ≡ lasting rules.now (log_at rules.now block.now)) }
+        summary.duration ≡ duration_of_log rules.now (block_log rules.now block.now)) }
     ensures speed { IfOk result (λ summary. summary.speed ≡ block_speed rules.now block.now) }
     ensures area { IfOk result (λ summary. summary.area ≡ track_box rules.now block.now) }
     ensures err { IfErr result (λ place.
-        off_grid_at frame.now rules.now block.now.cell (log_at rules.now block.now) ≡ Some place) }
+        off_grid_at frame.now rules.now block.now.cell (block_log rules.now block.now) ≡ Some place) }
     ensures within { IfErr result (λ place. place < block.now.len) }
     ensures cost { steps.new ≤ steps.old + block.now.len }
 {

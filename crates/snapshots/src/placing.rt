@@ -2,7 +2,7 @@ ghost use Rattle.std.specs.Prelude.{◌≡◌, IfSome};
 ghost use Rattle.track_types.specs.Near.{IsBoxWithin};
 ghost use Rattle.box_tree.specs.Places.{no_box};
 ghost use Rattle.snapshots.specs.JoinFlaws.{IsReachable};
-ghost use Rattle.snapshots.specs.Tracks.{cell_box, joined, moved_box, with_hull};
+ghost use Rattle.snapshots.specs.Tracks.{cell_box, common_box, moved_box, with_hull};
 
 use track_types::{Cell, CellBox};
 
@@ -55,7 +55,7 @@ fn moved(cell: Cell, hull: &CellBox) -> CellBox
 
 // The least box with two boxes.
 fn joined(area: &CellBox, other: &CellBox) -> CellBox
-    ensures { result ≡ joined area.now other.now }
+    ensures { result ≡ common_box area.now other.now }
 {
     CellBox {
         x1: area.x1.min(other.x1),

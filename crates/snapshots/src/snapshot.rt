@@ -1,11 +1,11 @@
 ghost use Rattle.std.specs.Prelude.{◌≡◌, ◌+◌, ◌*◌, ◌<◌, ◌≤◌, ◌^◌, ◌∷◌, false, if◌then◌else◌, length, take, sum, Some, slice_get, slice_index};
 ghost use Rattle.std.specs.Prelude.{All, Bool, None, map, IfErr, IfOk, IfSome, OnOk};
 ghost use Rattle.snapshots.specs.View.{all_blocks, block_at, block_of, blocks_in, leaf_at, objects_at, tree_in, view_with};
-ghost use Rattle.snapshots.specs.Flaws.{flaw_of, IsFaultFor, IsShaped};
-ghost use Rattle.snapshots.specs.Sound.{IsBlock, IsSnapshot, IsSound};
-ghost use Rattle.snapshots.specs.Stored.{AreBlocksOf};
+ghost use Rattle.snapshots.specs.Flaws.{flaw_of, IsSnapFaultFor, IsShapedView};
+ghost use Rattle.snapshots.specs.Sound.{IsBlock, IsSnapshot, IsSoundPeriod};
+ghost use Rattle.snapshots.specs.Stored.{AreStoredBlocks};
 ghost use Rattle.snapshots.specs.Members.{blocks_from, members_left, IsAt};
-ghost use Rattle.snapshots.specs.Objects.{blocks_of, objects_budget, objects_left, objects_of};
+ghost use Rattle.snapshots.specs.Objects.{blocks_of, objects_budget, objects_left, objects_of_leaves};
 ghost use Rattle.snapshots.specs.Objects.{passing_blocks, wanted_blocks, WeighSame};
 ghost use Rattle.std.specs.List.Sorted.{IsStrictlyIncreasing};
 ghost use Rattle.k2_tree.specs.Pruning.{kept_leaves, square_count, IsKeptFor};
@@ -46,14 +46,14 @@ pub struct Snapshot {
 
 impl Model for Snapshot {
     ghost use Rattle.snapshots.specs.View.{SnapshotView};
-    ghost use Rattle.snapshots.specs.Stored.{starts_in, tree_stored, view_of, IsStored};
+    ghost use Rattle.snapshots.specs.Stored.{starts_in, tree_stored, snapshot_view, IsStoredSnapshot};
 
     ghost Value = { SnapshotView };
 
-    ghost view = { λ s. view_of s.header.value s.number s.objects s.start s.blocks };
+    ghost view = { λ s. snapshot_view s.header.value s.number s.objects s.start s.blocks };
 
-    ghost invariant = { λ s. IsStored
-        (view_of s.header.value s.number s.objects s.start s.blocks)
+    ghost invariant = { λ s. IsStoredSnapshot
+        (snapshot_view s.header.value s.number s.objects s.start s.blocks)
         (tree_stored s.header.value s.blocks) (starts_in s.blocks) };
 }
 
@@ -79,15 +79,15 @@ impl Snapshot {
         start: u32,
         parts: PeriodParts,
     ) -> Result<Snapshot, SnapFault>
-        requires { IsShaped (view_with frame.now number objects start parts) }
+        requires { IsShapedView (view_with frame.now number objects start parts) }
         ensures ok { IfOk result (λ snapshot.
             snapshot ≡ view_with frame.now number objects start parts) }
         ensures exact { OnOk result
             (flaw_of (view_with frame.now number objects start parts) ≡ None) }
         ensures sound { OnOk result
-            (IsSound (view_with frame.now number objects start parts)) }
+            (IsSoundPeriod (view_with frame.now number objects start parts)) }
         ensures flaw { IfErr result (λ fault.
-            IsFaultFor (flaw_of (view_with frame.now number objects start parts)) fault) }
+            IsSnapFaultFor (flaw_of (view_with frame.now number objects start parts)) fault) }
     {
         let header = Header::new(alloc, frame)?;
         Snapshot::check_under(alloc, &header, number, objects, start, parts)
@@ -102,15 +102,15 @@ impl Snapshot {
         start: u32,
         parts: PeriodParts,
     ) -> Result<Snapshot, SnapFault>
-        requires { IsShaped (view_with header.now.value number objects start parts) }
+        requires { IsShapedView (view_with header.now.value number objects start parts) }
         ensures ok { IfOk result (λ snapshot.
             snapshot ≡ view_with header.now.value number objects start parts) }
         ensures exact { OnOk result
             (flaw_of (view_with header.now.value number objects start parts) ≡ None) }
         ensures sound { OnOk result
-            (IsSound (view_with header.now.value number objects start parts)) }
+            (IsSoundPeriod (view_with header.now.value number objects start parts)) }
         ensures flaw { IfErr result (λ fault.
-            IsFaultFor (flaw_of (view_with header.now.value number objects start parts)) fault) }
+            IsSnapFaultFor (flaw_of (view_with header.now.value number objects start parts)) fault) }
     {
         let frame = header.frame();
         let PeriodParts {
@@ -221,7 +221,7 @@ impl Snapshot {
         ensures left { objects_left F.keeps result
             ≡ blocks_of self.now (kept_leaves (F.keeps keep) (tree_in self.now)) }
         ensures objects { objects_left F.keeps result
-            ≡ objects_of self.now (kept_leaves (F.keeps keep) (tree_in self.now)) }
+            ≡ objects_of_leaves self.now (kept_leaves (F.keeps keep) (tree_in self.now)) }
         ensures blocks { All (IsBlock self.now) (objects_left F.keeps result) }
         ensures weights { WeighSame
             (objects_left F.keeps result) (passing_blocks (F.keeps keep) self.now) }
@@ -333,7 +333,7 @@ impl Snapshot {
     // What is stored of the blocks of a period that has one.
     fn blocks(&self) -> &Blocks
         requires { 0 < length self.now.parts.perm }
-        ensures blocks { AreBlocksOf self.now result.now }
+        ensures blocks { AreStoredBlocks self.now result.now }
         ensures snapshot { IsSnapshot self.now }
     {
         match &self.blocks {

@@ -1,7 +1,7 @@
 ghost use Rattle.std.specs.Prelude.{◌≡◌, ℕ, ◌+◌, ◌<◌, ◌≤◌, [], None, length, slice_get, IfErr, IfNone, IfOk, IfSome, OnOk, Some};
 ghost use Rattle.track_types.specs.Frame.{periods_of};
 ghost use Rattle.track_types.specs.Shape.{IsShaped};
-ghost use Rattle.snapshots.specs.Flaws.{IsFaultFor};
+ghost use Rattle.snapshots.specs.Flaws.{IsSnapFaultFor};
 ghost use Rattle.snapshots.specs.IndexCost.{open_cost};
 ghost use Rattle.snapshots.specs.JoinFlaws.{logs_flaw};
 ghost use Rattle.snapshots.specs.Parts.{chart_in, index_in, period_in, rules_in, snapshot_in};
@@ -94,7 +94,7 @@ impl Stores {
         ensures tracks { OnOk result ((number : ℕ) → number < periods_of frame
             → AreOnTracks (join_of frame objects rules snaps.items) number) }
         ensures flaw { IfErr result (λ fault.
-            IsFaultFor (logs_flaw (join_of frame objects rules snaps.items)) fault) }
+            IsSnapFaultFor (logs_flaw (join_of frame objects rules snaps.items)) fault) }
         ensures cost { steps.new ≤ steps.old + open_cost (join_of frame objects rules snaps.items) }
     {
         let mut speeds = Vec::with_capacity(alloc, snaps.len())?;

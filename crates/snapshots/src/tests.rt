@@ -3,7 +3,7 @@ ghost use Rattle.packed_bits.specs.Bits.{ones_of};
 ghost use Rattle.track_types.specs.Frame.{periods_of, IsFrame};
 ghost use Rattle.track_types.specs.declared.frame.Frame.{Frame as FrameView};
 ghost use Rattle.snapshots.specs.View.{view_with};
-ghost use Rattle.snapshots.specs.Flaws.{IsShaped};
+ghost use Rattle.snapshots.specs.Flaws.{IsShapedView};
 
 use crate::{Anchored, SnapFault, Snapshot};
 use std::alloc::Global;
@@ -125,7 +125,7 @@ fn total_of(numbers: &[u32]) -> Option<u32>
 fn have_shape(parts: &PeriodParts) -> bool
     ensures { result ≡ true → (frame : FrameView) → (number start : ℕ)
         → IsFrame frame → number < periods_of frame → start ≤ 32
-        → IsShaped (view_with frame number (length parts.now.present) start parts.now) }
+        → IsShapedView (view_with frame number (length parts.now.present) start parts.now) }
 {
     let objects = parts.present.len();
     let count = count_ones(&parts.present) as usize;

@@ -9,7 +9,7 @@ use Rattle.track_types.specs.declared.parts.Parts.{Parts}
 use Rattle.rule_store.specs.View.{RulesView, symbols_in}
 use Rattle.rule_store.specs.Flaws.{code_flaw, rule_flaw, rules_flaw, symbol_flaw}
 use Rattle.rule_store.specs.declared.fault.RuleFault.TheVariants as fault
-use Rattle.snapshots.specs.Flaws.{flaw_of, IsShaped as IsShapedView}
+use Rattle.snapshots.specs.Flaws.{flaw_of, IsShapedView}
 use Rattle.snapshots.specs.JoinFlaws.{join_flaw, logs_flaw}
 use Rattle.snapshots.specs.Parts.{rules_in, snapshot_in, start_in}
 use Rattle.snapshots.specs.SoundParts.{IsSound, IsValid}
@@ -19,7 +19,7 @@ use Rattle.snapshots.proofs.SoundLemmas.{flaw_of-none}
 use Rattle.snapshots.proofs.SoundPartsLemmas.{AreSoundLogs-flawless, AreSoundRules-flawless}
 use Rattle.track_index.specs.CheckFlaws.{check_flaw, grammar_flaw, rule_flaw_of, snapshots_flaw, total_flaw}
 use Rattle.track_index.proofs.OpeningLemmas.{check_flaw-judged, start_in-all, total_flaw-none, total_flaw-some, AreShaped-periods, AreShaped-rules}
-use Rattle.track_index.proofs.PeriodLemmas.{IsShaped-at}
+use Rattle.track_index.proofs.PeriodLemmas.{IsShapedView-at}
 
 -- each fault of the rules is a flaw of the parts
 grammar_flaw-none : (rules : RulesView) → grammar_flaw rules ≡ None → rules_flaw rules ≡ None
@@ -44,7 +44,7 @@ module _ (parts : Parts) (shaped : IsShaped parts) where
       → IsShapedView (snapshot_in parts number)
   unfolding start_in
   shaped_at none number within =
-      IsShaped-at parts.frame (length parts.objects) parts.periods number (AreShaped-periods parts shaped none)
+      IsShapedView-at parts.frame (length parts.objects) parts.periods number (AreShaped-periods parts shaped none)
       (omega (arith, within, shaped.periods))
 
   -- parts without a flaw are sound

@@ -12,8 +12,8 @@ use Rattle.index_format.specs.Reading.{parts_in}
 use Rattle.index_format.specs.Spelling.{bytes_of_parts}
 use Rattle.index_format.proofs.BitLemmas.{IsBytes}
 use Rattle.index_format.proofs.PartsLaws.{parts_in-again, parts_in-takes}
-use Rattle.track_index.specs.CheckFlaws.{check_flaw, IsFaultFor}
-use Rattle.track_index.specs.Opening.{first_flaw, flaw_behind, IsFile}
+use Rattle.track_index.specs.CheckFlaws.{check_flaw, IsFormatFaultFor}
+use Rattle.track_index.specs.Opening.{first_flaw, flaw_after, IsFile}
 use Rattle.track_index.proofs.CheckLemmas.{check_flaw-sound, IsSound-unflawed}
 use Rattle.track_index.proofs.OpeningLemmas.{first_flaw-read}
 
@@ -28,7 +28,7 @@ first_flaw-file bytes parts file =
 
 -- where parts are those of the file, nothing but these are answered
 pub decided : (read whole : Parts) (answer : Result Parts FormatFault) → ◌≡◌ {A = Result Parts Flaw} (Ok whole) (Ok read)
-    → IsValid whole → IfOk answer (λ index. index ≡ read) → IfErr answer (IsFaultFor (check_flaw read))
+    → IsValid whole → IfOk answer (λ index. index ≡ read) → IfErr answer (IsFormatFaultFor (check_flaw read))
     → Gives (λ index. index) answer (Ok whole)
 decided read whole (Ok index) same valid is fault = same ∙ ap Ok (sym is)
 decided read whole (Err fault.Memory) same valid is fault = tt
@@ -41,11 +41,11 @@ decided read whole (Err (fault.Flaw flaw)) same valid is fault =
 -- bytes without a flaw are those of an index file
 pub IsFile-unflawed : (bytes : List ℕ) → IsBytes bytes → first_flaw bytes ≡ None
     → (parts : Parts) × IsFile bytes parts
-unfolding flaw_behind
+unfolding flaw_after
 IsFile-unflawed bytes fits none = by_read (parts_in bytes) (parts_in-takes bytes fits) none
   where
     by_read : (read : Result Parts Flaw) → IfOk read (λ parts. IsShaped parts × (bytes ≡ bytes_of_parts parts))
-        → flaw_behind read ≡ None → (parts : Parts) × IsFile bytes parts
+        → flaw_after read ≡ None → (parts : Parts) × IsFile bytes parts
     by_read (Ok parts) taken none = (
       parts,
       record {

@@ -26,7 +26,7 @@ use Rattle.rule_store.specs.Nodes.{block_budget, nodes_in, opened_count, parsed}
 use Rattle.snapshots.specs.View.{all_blocks}
 use Rattle.snapshots.specs.Flaws.{flaw_in}
 use Rattle.snapshots.specs.IndexCost.{blocks_reads, open_cost, path_cost, position_cost}
-use Rattle.snapshots.specs.JoinFlaws.{blocks_flaw, cell_after, is_off_grid, lasting, log_flaw, logs_flaw, off_grid_at}
+use Rattle.snapshots.specs.JoinFlaws.{blocks_flaw, cell_after, is_off_grid, duration_of_log, log_flaw, logs_flaw, off_grid_at}
 use Rattle.snapshots.specs.Parts.{start_in}
 use Rattle.track_index.specs.CheckFlaws.{check_flaw, grammar_flaw, lengths_flaw, snapshots_flaw}
 
@@ -190,7 +190,7 @@ told =
 
 each_is_told : map (λ row. check_flaw row.0) told ≡ map (λ row. row.1) told
 unfolding check_flaw grammar_flaw lengths_flaw snapshots_flaw first_given logs_flaw blocks_flaw all_blocks log_flaw
-    off_grid_at is_off_grid cell_after lasting start_in code_flaw rule_flaw symbol_flaw is_rule_flawed entry_of values_of
+    off_grid_at is_off_grid cell_after duration_of_log start_in code_flaw rule_flaw symbol_flaw is_rule_flawed entry_of values_of
     expansion_of table_of_rules displacement_of bounding_box_of box_round cells_along duration_of move_of ring_moves ring_of_code
     side_moves morton_row morton_column cell_of where_set codes_below codes_in levels_with digits_in children_of_prefixes rank_of ones_of group_flaw level_flaw tree_flaw
 each_is_told = refl

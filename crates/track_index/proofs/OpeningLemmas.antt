@@ -12,54 +12,54 @@ use Rattle.track_types.specs.declared.limit.LimitKind.TheVariants.{Symbols}
 use Rattle.track_types.specs.Shape.{IsShaped}
 use Rattle.track_types.specs.declared.parts.Parts.{Parts}
 use Rattle.track_types.specs.declared.period_parts.PeriodParts.{PeriodParts}
-use Rattle.rule_store.specs.View.{RulesView, IsShaped as AreShapedRules}
+use Rattle.rule_store.specs.View.{RulesView, AreShapedRules}
 use Rattle.snapshots.specs.View.{SnapshotView}
 use Rattle.snapshots.specs.JoinFlaws.{logs_flaw}
 use Rattle.snapshots.specs.Parts.{no_period, period_at, rules_in, snapshot_in, start_in, symbols_of}
-use Rattle.snapshots.specs.Stores.{join_of, parts_of, snapshots_in, AreOf}
+use Rattle.snapshots.specs.Stores.{join_of, period_parts_of, snapshots_in, AreOf}
 use Rattle.track_types.specs.declared.format_fault.FormatFault.{FormatFault}
 use Rattle.track_types.specs.declared.format_fault.FormatFault.TheVariants as fault
 use Rattle.track_types.specs.declared.flaw.Flaw.{Flaw}
 use Rattle.snapshots.specs.IndexCost.{open_cost}
-use Rattle.index_format.specs.Answers.{IsFaultOf}
+use Rattle.index_format.specs.Answers.{IsFormatFault}
 use Rattle.index_format.specs.Reading.{parts_in}
-use Rattle.track_index.specs.Opening.{bytes_cost, cost_behind, first_flaw, flaw_behind}
-use Rattle.track_index.specs.CheckFlaws.{check_flaw, grammar_flaw, lengths_flaw, snapshots_flaw, snapshots_with, total_flaw, AreShapedPeriods, IsFaultFor}
+use Rattle.track_index.specs.Opening.{bytes_cost, cost_after, first_flaw, flaw_after}
+use Rattle.track_index.specs.CheckFlaws.{check_flaw, grammar_flaw, lengths_flaw, snapshots_flaw, snapshots_with, total_flaw, AreShapedPeriods, IsFormatFaultFor}
 
 -- the fault of the first of two
-fault-first : (a b : Option Flaw) (found : FormatFault) → IsFaultFor a found → IsFaultFor (option_or a b) found
+fault-first : (a b : Option Flaw) (found : FormatFault) → IsFormatFaultFor a found → IsFormatFaultFor (option_or a b) found
 fault-first a b fault.Memory is = is
 fault-first a b (fault.Flaw flaw) is = rw is refl
 
 -- the fault of the second of two, where the first is none
-fault-second : (a b : Option Flaw) (found : FormatFault) → a ≡ None → IsFaultFor b found
-    → IsFaultFor (option_or a b) found
+fault-second : (a b : Option Flaw) (found : FormatFault) → a ≡ None → IsFormatFaultFor b found
+    → IsFormatFaultFor (option_or a b) found
 fault-second a b found none is = rw none is
 
 module _ (parts : Parts) where
   -- the fault of parts by where it is met: in the rules, in the total, in a snapshot, in a log
-  pub fault-rules : (found : FormatFault) → IsFaultFor (grammar_flaw (rules_in parts)) found
-      → IsFaultFor (check_flaw parts) found
+  pub fault-rules : (found : FormatFault) → IsFormatFaultFor (grammar_flaw (rules_in parts)) found
+      → IsFormatFaultFor (check_flaw parts) found
   unfolding check_flaw
   fault-rules found is = fault-first (grammar_flaw (rules_in parts)) _ found is
 
   module _ (rules : grammar_flaw (rules_in parts) ≡ None) where
-    pub fault-total : (found : FormatFault) → IsFaultFor (total_flaw parts) found → IsFaultFor (check_flaw parts) found
+    pub fault-total : (found : FormatFault) → IsFormatFaultFor (total_flaw parts) found → IsFormatFaultFor (check_flaw parts) found
     unfolding check_flaw
     fault-total found is =
         fault-second (grammar_flaw (rules_in parts)) _ found rules (fault-first (total_flaw parts) _ found is)
 
     module _ (total : total_flaw parts ≡ None) where
-      pub fault-snapshots : (found : FormatFault) → IsFaultFor (snapshots_flaw (snapshots_in parts)) found
-          → IsFaultFor (check_flaw parts) found
+      pub fault-snapshots : (found : FormatFault) → IsFormatFaultFor (snapshots_flaw (snapshots_in parts)) found
+          → IsFormatFaultFor (check_flaw parts) found
       unfolding check_flaw
       fault-snapshots found is =
           fault-second (grammar_flaw (rules_in parts)) _ found rules (fault-second (total_flaw parts) _ found total
           (fault-first (snapshots_flaw (snapshots_in parts)) _ found is))
 
       module _ (snaps : snapshots_flaw (snapshots_in parts) ≡ None) where
-        pub fault-logs : (found : FormatFault) → IsFaultFor (logs_flaw parts) found
-            → IsFaultFor (check_flaw parts) found
+        pub fault-logs : (found : FormatFault) → IsFormatFaultFor (logs_flaw parts) found
+            → IsFormatFaultFor (check_flaw parts) found
         unfolding check_flaw
         fault-logs found is =
             fault-second (grammar_flaw (rules_in parts)) _ found rules (fault-second (total_flaw parts) _ found total
@@ -116,10 +116,10 @@ module _ (parts : Parts) (shaped : IsShaped parts) where
       ap (sum_by symbols_of) (take_all (periods_of parts.frame) parts.periods (omega (arith, shaped.periods)))
 
   -- the parts of all snapshots are those of the periods
-  periods-again : map parts_of (snapshots_in parts) ≡ parts.periods
+  periods-again : map period_parts_of (snapshots_in parts) ≡ parts.periods
   periods-again =
       let long = length-map-range_with_len (period_at parts.periods) 0 (periods_of parts.frame) in
-      map-map parts_of (snapshot_in parts) (range_with_len 0 (periods_of parts.frame))
+      map-map period_parts_of (snapshot_in parts) (range_with_len 0 (periods_of parts.frame))
       ∙ ext_get_or no_period _ parts.periods (omega (arith, long, shaped.periods)) (λ i below.
       get_or-map-range_with_len (period_at parts.periods) 0 (periods_of parts.frame) i i no_period
       (omega (arith, long, below)) (omega arith))
@@ -180,27 +180,27 @@ module _ (parts : Parts) (shaped : IsShaped parts) (rules : RulesView) (snaps : 
 
   -- the fault of its logs is that of the parts
   pub fault-joined : (found : FormatFault)
-      → IsFaultFor (logs_flaw (join_of parts.frame parts.objects rules snaps)) found → IsFaultFor (check_flaw parts) found
+      → IsFormatFaultFor (logs_flaw (join_of parts.frame parts.objects rules snaps)) found → IsFormatFaultFor (check_flaw parts) found
   fault-joined found is = fault-logs parts are.flawless are.total are.snapshots found
-      (subst (λ p. IsFaultFor (logs_flaw p) found) joined-parts is)
+      (subst (λ p. IsFormatFaultFor (logs_flaw p) found) joined-parts is)
 
   pub check_flaw-joined : logs_flaw (join_of parts.frame parts.objects rules snaps) ≡ None → check_flaw parts ≡ None
   check_flaw-joined none = check_flaw-judged parts are.flawless are.total are.snapshots
       (ap logs_flaw (sym joined-parts) ∙ none)
 
 -- bytes from which no parts are read
-pub fault-unread : (bytes : List ℕ) (found : FormatFault) → IsFaultOf (parts_in bytes) found
-    → IsFaultFor (first_flaw bytes) found
-unfolding flaw_behind
+pub fault-unread : (bytes : List ℕ) (found : FormatFault) → IsFormatFault (parts_in bytes) found
+    → IsFormatFaultFor (first_flaw bytes) found
+unfolding flaw_after
 fault-unread bytes fault.Memory is = tt
 fault-unread bytes (fault.Flaw flaw) is = rw is refl
 
 module _ (bytes : List ℕ) (parts : Parts) (read : parts_in bytes ≡ Ok parts) where
   -- bytes from which parts are read have the flaw of these, and cost what these cost
   pub first_flaw-read : first_flaw bytes ≡ check_flaw parts
-  unfolding flaw_behind
+  unfolding flaw_after
   first_flaw-read = rw read refl
 
   pub bytes_cost-read : bytes_cost bytes ≡ open_cost parts
-  unfolding cost_behind
+  unfolding cost_after
   bytes_cost-read = rw read refl

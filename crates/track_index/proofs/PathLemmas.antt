@@ -5,7 +5,7 @@ use Rattle.rule_store.specs.View.{RulesView}
 use Rattle.rule_store.specs.Log.{in_window}
 use Rattle.log_cursor.specs.Start.{start_at}
 use Rattle.log_cursor.specs.declared.start.Start.{Start}
-use Rattle.log_cursor.specs.Walk.{begun, WalkView}
+use Rattle.log_cursor.specs.Walk.{walk_from, WalkView}
 use Rattle.snapshots.specs.Cost.{find_reads}
 use Rattle.snapshots.specs.IndexCost.{period_cost, walk_cost}
 use Rattle.snapshots.specs.Parts.{anchored_at, log_in, rules_in, snapshot_in, stops_in}
@@ -59,20 +59,20 @@ module _ (parts : Parts) (index : ℕ) (from to : ℤ) where
           (rw (← none) (sym left ∙ empty)) (omega (arith, cost, found_here, own))
 
       -- there is one, over which a walk is begun
-      pub drawing-begun : (block : Anchored) (walk : WalkView) (rules : RulesView) (log : List ℕ) (start : Start)
+      pub drawing-walk_from : (block : Anchored) (walk : WalkView) (rules : RulesView) (log : List ℕ) (start : Start)
           (low high : ℤ) → Some block ≡ block_of seen index → rules ≡ rules_in stores → log ≡ log_in stores block
           → start ≡ start_at (anchored_at stores.frame next block) block.cell → low ≡ from → high ≡ to
-          → walk ≡ begun rules log start low high
+          → walk ≡ walk_from rules log start low high
           → IsDrawing first before stores parts index from to (next + 1) behind walk looked
       unfolding stops_in
-      drawing-begun block walk rules log start low high some of its_log its_start is_from is_to is_begun =
+      drawing-walk_from block walk rules log start low high some of its_log its_start is_from is_to is_begun =
           let one : Some block ≡ block_of (snapshot_in parts next) index = some ∙ ap (λ s. block_of s index) here in
           let own : period_cost parts index from to next
           ≡ find_reads parts.frame.height + walk_cost parts from to next (Some block) = rw (← one) refl in
-          let same : walk ≡ begun (rules_in parts) (log_in parts block)
+          let same : walk ≡ walk_from (rules_in parts) (log_in parts block)
           (start_at (anchored_at parts.frame next block) block.cell) from to =
           is_begun ∙ (rw (of, its_log, its_start, is_from, is_to)
-          (ap (λ (p : Parts). begun (rules_in p) (log_in p block)
+          (ap (λ (p : Parts). walk_from (rules_in p) (log_in p block)
           (start_at (anchored_at p.frame next block) block.cell) from to) (sym is.its))) in
           drawing-next stores first now walk before steps looked is empty
           (ap (λ (w : WalkView). w.rules) same ∙ sym is.walk.rules_are)

@@ -14,12 +14,12 @@ use Rattle.track_types.specs.Shape.{IsShapedPeriod}
 use Rattle.track_types.specs.declared.frame.Frame.{Frame}
 use Rattle.track_types.specs.declared.period_parts.PeriodParts.{PeriodParts}
 use Rattle.snapshots.specs.View.{SnapshotView, view_with}
-use Rattle.snapshots.specs.Flaws.{flaw_of, IsShaped}
+use Rattle.snapshots.specs.Flaws.{flaw_of, IsShapedView}
 use Rattle.snapshots.specs.Parts.{no_period, period_at, symbols_of}
-use Rattle.snapshots.proofs.ReachLemmas.{IsShaped-view}
+use Rattle.snapshots.proofs.ReachLemmas.{IsShapedView-view}
 use Rattle.track_types.specs.declared.format_fault.FormatFault.{FormatFault}
 use Rattle.track_types.specs.declared.format_fault.FormatFault.TheVariants as fault
-use Rattle.track_index.specs.CheckFlaws.{snapshot_with, snapshots_flaw, snapshots_with, AreShapedPeriods, IsFaultFor}
+use Rattle.track_index.specs.CheckFlaws.{snapshot_with, snapshots_flaw, snapshots_with, AreShapedPeriods, IsFormatFaultFor}
 
 -- what is known once the first periods were checked: where the next logs begin, their snapshots, and that none has a
 -- flaw
@@ -30,14 +30,14 @@ pub record AreChecked (frame : Frame) (objects : ℕ) (periods : List PeriodPart
   pub none : (number : ℕ) → number < count → flaw_of (snapshot_with frame objects periods number) ≡ None
 
 -- the snapshot of a shaped period is shaped
-pub IsShaped-at : (frame : Frame) (objects : ℕ) (periods : List PeriodParts) (number : ℕ)
+pub IsShapedView-at : (frame : Frame) (objects : ℕ) (periods : List PeriodParts) (number : ℕ)
     → AreShapedPeriods frame objects periods → number < length periods
-    → IsShaped (snapshot_with frame objects periods number)
-IsShaped-at frame objects periods number shaped within =
+    → IsShapedView (snapshot_with frame objects periods number)
+IsShapedView-at frame objects periods number shaped within =
     let its = All-get_or (IsShapedPeriod objects) periods number no_period within shaped.each in
     let most = sum_by_more_le symbols_of periods number no_period within in
     let limit : sum_by symbols_of periods ≤ 2 ^ 25 = shaped.total in
-    IsShaped-view frame number objects (sum_by symbols_of (take number periods)) (period_at periods number)
+    IsShapedView-view frame number objects (sum_by symbols_of (take number periods)) (period_at periods number)
     shaped.header (omega (arith, within, shaped.many)) shaped.some shaped.few its (omega (arith, most, limit))
 
 module _ (frame : Frame) (objects : ℕ) (periods : List PeriodParts) where
@@ -71,8 +71,8 @@ module _ (frame : Frame) (objects : ℕ) (periods : List PeriodParts) where
           ∙ ap (view_with frame count objects (sum_by symbols_of (take count periods))) period-is
 
       -- it has the form of one
-      pub IsShaped-next : IsShaped (view_with frame count objects start period)
-      IsShaped-next = subst IsShaped (sym snapshot-is) (IsShaped-at frame objects periods count shaped within)
+      pub IsShapedView-next : IsShapedView (view_with frame count objects start period)
+      IsShapedView-next = subst IsShapedView (sym snapshot-is) (IsShapedView-at frame objects periods count shaped within)
 
       -- one period more
       pub checked-more : (item : SnapshotView) (next : ℕ) → item ≡ view_with frame count objects start period
@@ -94,8 +94,8 @@ module _ (frame : Frame) (objects : ℕ) (periods : List PeriodParts) where
       }
 
       -- its flaw, after periods that have none, is the first
-      pub flaw-next : (found : FormatFault) → IsFaultFor (flaw_of (view_with frame count objects start period)) found
-          → IsFaultFor (snapshots_flaw (snapshots_with frame objects periods)) found
+      pub flaw-next : (found : FormatFault) → IsFormatFaultFor (flaw_of (view_with frame count objects start period)) found
+          → IsFormatFaultFor (snapshots_flaw (snapshots_with frame objects periods)) found
       unfolding snapshots_flaw
       flaw-next fault.Memory is = is
       flaw-next (fault.Flaw flaw) is =

@@ -21,7 +21,7 @@ use Rattle.rule_store.specs.Expansion.{depth_in, expansion_of, values_of}
 use Rattle.rule_store.specs.Log.{block_stops, log_values, stops_after, stops_from}
 use Rattle.rule_store.specs.Nodes.{block_budget, nodes_in, opened_count, parsed}
 use Rattle.snapshots.specs.IndexCost.{path_cost, position_cost}
-use Rattle.snapshots.specs.JoinFlaws.{cell_after, lasting}
+use Rattle.snapshots.specs.JoinFlaws.{cell_after, duration_of_log}
 use Rattle.snapshots.specs.Parts.{chart_in, rows_in, start_in, stops_in}
 use Rattle.snapshots.specs.Speed.{blocks_speed, log_speed}
 use Rattle.snapshots.specs.View.{all_blocks}
@@ -58,7 +58,7 @@ reads =
     []
 
 each_reads_so : map (λ row. row.0) reads ≡ map (λ row. row.1) reads
-unfolding slice_cost period_search_cost touching_count blocks_speed log_speed cell_after lasting duration_of entry_of
+unfolding slice_cost period_search_cost touching_count blocks_speed log_speed cell_after duration_of_log duration_of entry_of
     interval_cost nearest_cost period_near_cost is_near_enough nears_of nearest_among nears_at ordered insert_in_order chart_in rows_in
     stops_in block_stops stops_after stops_from log_values position_cost path_cost depth_in table_of_rules all_blocks squares_above squares_from prefixes where_set
     codes_below codes_in levels_with digits_in children_of_prefixes morton_row morton_column cell_of morton_of interleaved rank_of ones_of start_in block_budget nodes_in opened_count parsed

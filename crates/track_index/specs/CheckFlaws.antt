@@ -57,9 +57,9 @@ check_flaw parts = option_or (grammar_flaw (rules_in parts)) (option_or (total_f
     (option_or (snapshots_flaw (snapshots_in parts)) (logs_flaw parts)))
 
 -- a fault is this flaw; memory may be wanting for any parts
-abbrev pub IsFaultFor : Option Flaw → FormatFault → Type 0
-IsFaultFor first (fault.Flaw flaw) = first ≡ Some flaw
-IsFaultFor first fault.Memory = ⊤
+abbrev pub IsFormatFaultFor : Option Flaw → FormatFault → Type 0
+IsFormatFaultFor first (fault.Flaw flaw) = first ≡ Some flaw
+IsFormatFaultFor first fault.Memory = ⊤
 
 -- the snapshot of a period, by the header, the number of objects and the parts of all periods
 abbrev pub snapshot_with : Frame → ℕ → List PeriodParts → ℕ → SnapshotView

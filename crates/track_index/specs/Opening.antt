@@ -14,19 +14,19 @@ pub record IsFile (bytes : List ℕ) (parts : Parts) : Type 0 where
   pub spelled : bytes ≡ bytes_of_parts parts
 
 -- the first flaw of what was read: that of the reading, else that of the parts
-unfoldable pub flaw_behind : Result Parts Flaw → Option Flaw
-flaw_behind (Ok parts) = check_flaw parts
-flaw_behind (Err flaw) = Some flaw
+unfoldable pub flaw_after : Result Parts Flaw → Option Flaw
+flaw_after (Ok parts) = check_flaw parts
+flaw_after (Err flaw) = Some flaw
 
 -- the first flaw of bytes that are not those of an index file
 abbrev pub first_flaw : List ℕ → Option Flaw
-first_flaw bytes = flaw_behind (parts_in bytes)
+first_flaw bytes = flaw_after (parts_in bytes)
 
 -- the reads by which what was read is checked: none where there are no parts
-unfoldable pub cost_behind : Result Parts Flaw → ℕ
-cost_behind (Ok parts) = open_cost parts
-cost_behind (Err flaw) = 0
+unfoldable pub cost_after : Result Parts Flaw → ℕ
+cost_after (Ok parts) = open_cost parts
+cost_after (Err flaw) = 0
 
 -- how many reads it takes at most to open bytes
 abbrev pub bytes_cost : List ℕ → ℕ
-bytes_cost bytes = cost_behind (parts_in bytes)
+bytes_cost bytes = cost_after (parts_in bytes)

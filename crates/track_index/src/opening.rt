@@ -4,10 +4,10 @@ ghost use Rattle.std.specs.List.{sum_by};
 ghost use Rattle.std.specs.Option.{option_and_then};
 ghost use Rattle.track_types.specs.Frame.{IsFrame};
 ghost use Rattle.track_types.specs.Shape.{IsShaped};
-ghost use Rattle.rule_store.specs.Flaws.{IsFaultFor as IsRuleFaultFor};
+ghost use Rattle.rule_store.specs.Flaws.{IsRuleFaultFor};
 ghost use Rattle.rule_store.specs.declared.fault.RuleFault.{RuleFault};
-ghost use Rattle.rule_store.specs.View.{rules_with, IsShaped as AreShapedRules};
-ghost use Rattle.snapshots.specs.Flaws.{flaw_of, IsShaped as IsShapedView};
+ghost use Rattle.rule_store.specs.View.{rules_with, AreShapedRules};
+ghost use Rattle.snapshots.specs.Flaws.{flaw_of, IsShapedView};
 ghost use Rattle.snapshots.specs.IndexCost.{open_cost};
 ghost use Rattle.snapshots.specs.Parts.{chart_in, symbols_of};
 ghost use Rattle.snapshots.specs.JoinFlaws.{logs_flaw};
@@ -19,7 +19,7 @@ ghost use Rattle.index_format.specs.Answers.{Gives};
 ghost use Rattle.track_types.specs.declared.parts.Parts.{Parts as WholeParts};
 ghost use Rattle.track_index.specs.Opening.{bytes_cost, first_flaw, IsFile};
 ghost use Rattle.track_index.specs.CheckFlaws.{check_flaw, grammar_flaw, lengths_flaw, snapshots_flaw};
-ghost use Rattle.track_index.specs.CheckFlaws.{rule_flaw_of, snapshots_with, AreShapedPeriods, IsFaultFor};
+ghost use Rattle.track_index.specs.CheckFlaws.{rule_flaw_of, snapshots_with, AreShapedPeriods, IsFormatFaultFor};
 
 use crate::index::Index;
 use chart_parts::parts_of;
@@ -59,7 +59,7 @@ impl Index {
         ensures exact { OnOk result (check_flaw parts ≡ None) }
         ensures valid { OnOk result (IsValid parts) }
         ensures flawless { IsValid parts → check_flaw parts ≡ None }
-        ensures flaw { IfErr result (λ fault. IsFaultFor (check_flaw parts) fault) }
+        ensures flaw { IfErr result (λ fault. IsFormatFaultFor (check_flaw parts) fault) }
         ensures cost { steps.new ≤ steps.old + open_cost parts }
     {
         let Parts {
@@ -117,7 +117,7 @@ pub fn open<L: Ledger>(
         → Gives (λ index. index) result (Ok parts) }
     ensures flawless { (parts : WholeParts) → IsFile bytes.now parts
         → first_flaw bytes.now ≡ None }
-    ensures flaw { IfErr result (λ fault. IsFaultFor (first_flaw bytes.now) fault) }
+    ensures flaw { IfErr result (λ fault. IsFormatFaultFor (first_flaw bytes.now) fault) }
     ensures cost { steps.new ≤ steps.old + bytes_cost bytes.now }
     ensures cost_opened { IfOk result (λ index. bytes_cost bytes.now ≡ open_cost index) }
 {
@@ -139,7 +139,7 @@ pub fn open_bytes<L: Ledger>(
         → Gives (λ index. index) result (Ok parts) }
     ensures flawless { (parts : WholeParts) → IsFile bytes.items parts
         → first_flaw bytes.items ≡ None }
-    ensures flaw { IfErr result (λ fault. IsFaultFor (first_flaw bytes.items) fault) }
+    ensures flaw { IfErr result (λ fault. IsFormatFaultFor (first_flaw bytes.items) fault) }
     ensures cost { steps.new ≤ steps.old + bytes_cost bytes.items }
     ensures cost_opened { IfOk result (λ index. bytes_cost bytes.items ≡ open_cost index) }
 {
@@ -162,7 +162,7 @@ fn check_rules(
         store ≡ rules_with alphabet rules symbols frame.now.height frame.now.period) }
     ensures exact { OnOk result
         (grammar_flaw (rules_with alphabet rules symbols frame.now.height frame.now.period) ≡ None) }
-    ensures flaw { IfErr result (λ fault. IsFaultFor
+    ensures flaw { IfErr result (λ fault. IsFormatFaultFor
         (grammar_flaw (rules_with alphabet rules symbols frame.now.height frame.now.period)) fault) }
 {
     match RuleStore::check(alloc, alphabet, rules, symbols, frame.height, frame.period) {
@@ -174,7 +174,7 @@ fn check_rules(
 // What a fault of the rules is in an index.
 fn fault_of(fault: RuleFault) -> FormatFault
     ensures { (first : Option RuleFault) → IsRuleFaultFor first fault
-        → IsFaultFor (option_and_then rule_flaw_of first) result }
+        → IsFormatFaultFor (option_and_then rule_flaw_of first) result }
 {
     let (section, kind, index) = match fault {
         RuleFault::Code { index } => (Section::Alphabet, Kind::Code, index),
@@ -196,7 +196,7 @@ fn check_total(frame: &Frame, periods: &[PeriodParts], symbols: u32) -> Result<(
     requires { IsFrame frame.now }
     ensures exact { OnOk result (lengths_flaw frame.now periods.now symbols ≡ None) }
     ensures flaw { IfErr result (λ fault.
-        IsFaultFor (lengths_flaw frame.now periods.now symbols) fault) }
+        IsFormatFaultFor (lengths_flaw frame.now periods.now symbols) fault) }
 {
     if add_up(periods, symbols) {
         return Ok(());
@@ -246,7 +246,7 @@ fn check_periods(
     ensures ok { IfOk result (λ snaps. snaps.items ≡ snapshots_with frame.now objects periods) }
     ensures exact { OnOk result (snapshots_flaw (snapshots_with frame.now objects periods) ≡ None) }
     ensures flaw { IfErr result (λ fault.
-        IsFaultFor (snapshots_flaw (snapshots_with frame.now objects periods)) fault) }
+        IsFormatFaultFor (snapshots_flaw (snapshots_with frame.now objects periods)) fault) }
 {
     let Ok(header) = Header::new(alloc, frame) else {
         return Err(FormatFault::Memory);
@@ -267,7 +267,7 @@ fn check_each(
     ensures exact { OnOk result
         (snapshots_flaw (snapshots_with header.now.value objects periods) ≡ None) }
     ensures flaw { IfErr result (λ fault.
-        IsFaultFor (snapshots_flaw (snapshots_with header.now.value objects periods)) fault) }
+        IsFormatFaultFor (snapshots_flaw (snapshots_with header.now.value objects periods)) fault) }
 {
     let mut snaps = Vec::with_capacity(alloc, periods.as_slice().len())?;
     let mut start = 0;
@@ -303,7 +303,7 @@ fn check_period(
     ensures exact { OnOk result
         (flaw_of (view_with header.now.value number objects start parts) ≡ None) }
     ensures flaw { IfErr result (λ fault.
-        IsFaultFor (flaw_of (view_with header.now.value number objects start parts)) fault) }
+        IsFormatFaultFor (flaw_of (view_with header.now.value number objects start parts)) fault) }
 {
     match Snapshot::check_under(alloc, header, number, objects, start, parts) {
         Ok(snapshot) => Ok(snapshot),
@@ -326,7 +326,7 @@ fn join<L: Ledger>(
     ensures exact { OnOk result (logs_flaw (join_of frame objects rules snaps.items) ≡ None) }
     ensures sound { OnOk result (IsSound (join_of frame objects rules snaps.items)) }
     ensures flaw { IfErr result (λ fault.
-        IsFaultFor (logs_flaw (join_of frame objects rules snaps.items)) fault) }
+        IsFormatFaultFor (logs_flaw (join_of frame objects rules snaps.items)) fault) }
     ensures cost { steps.new ≤ steps.old + open_cost (join_of frame objects rules snaps.items) }
 {
     match Stores::join(alloc, frame, objects, rules, snaps, steps) {

@@ -35,9 +35,9 @@ impl<'a> Model for PathWalk<'a> {
     ghost Value = { WalkView };
 
     ghost view = { λ w. path_walk_of w.index.now w.object w.from w.to
-        w.periods.next w.periods.behind w.block };
+        w.periods.next w.periods.end w.block };
 
-    ghost invariant = { λ w. IsPathWalk w.index.now w.object w.periods.behind w.block };
+    ghost invariant = { λ w. IsPathWalk w.index.now w.object w.periods.end w.block };
 }
 
 impl<'a> PathWalk<'a> {
@@ -52,11 +52,11 @@ impl<'a> PathWalk<'a> {
         to: i64,
     ) -> Result<PathWalk<'a>, Memory>
         requires object { object < length index.now.objects }
-        requires periods { periods.behind ≤ periods_of index.now.frame }
+        requires periods { periods.end ≤ periods_of index.now.frame }
         ensures left { IfOk result (λ walk. walk.stops
-            ≡ stops_between index.now object from to periods.next periods.behind) }
+            ≡ stops_between index.now object from to periods.next periods.end) }
         ensures budget { IfOk result (λ walk. walk.reads
-            ≡ cost_between index.now object from to periods.next periods.behind) }
+            ≡ cost_between index.now object from to periods.next periods.end) }
     {
         let block = BlockWalk::new(alloc, index.stores().rules())?;
         Ok(PathWalk {
@@ -88,7 +88,7 @@ impl<'a> Lazy for PathWalk<'a> {
             if let Some(stop) = self.block.draw(steps) {
                 return Some(stop);
             }
-            if self.periods.next >= self.periods.behind {
+            if self.periods.next >= self.periods.end {
                 return None;
             }
             let period = self.periods.next;

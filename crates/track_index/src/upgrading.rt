@@ -4,7 +4,7 @@ ghost use Rattle.snapshots.specs.IndexCost.{open_cost};
 ghost use Rattle.snapshots.specs.Parts.{chart_in};
 ghost use Rattle.snapshots.specs.SoundParts.{IsValid};
 ghost use Rattle.snapshots.specs.Upgrade.{upgrade_of};
-ghost use Rattle.track_index.specs.CheckFlaws.{check_flaw, IsFaultFor};
+ghost use Rattle.track_index.specs.CheckFlaws.{check_flaw, IsFormatFaultFor};
 ghost use Rattle.track_index.specs.Facts.{facts_of};
 
 use crate::index::Index;
@@ -34,7 +34,7 @@ pub fn upgraded<L: Ledger>(
     ensures valid { IfOk result IsValid }
     ensures chart { IfOk result (λ newest. chart_in newest ≡ chart_in parts) }
     ensures facts { IfOk result (λ newest. facts_of newest ≡ facts_of parts) }
-    ensures flaw { IfErr result (λ fault. IsFaultFor (check_flaw parts) fault) }
+    ensures flaw { IfErr result (λ fault. IsFormatFaultFor (check_flaw parts) fault) }
     ensures cost { steps.new ≤ steps.old + 2 * open_cost parts }
 {
     let Index { stores } = Index::check(alloc, parts, steps)?;

@@ -39,11 +39,11 @@ abbrev pub signed_value : Bool → ℕ → Numeral
 signed_value is_negative magnitude =
     if nat_le magnitude (2 ^ 62) then Value (if is_negative then neg_ℤ (pos magnitude) else pos magnitude) else Large
 
--- digits behind a sign
+-- digits after a sign
 abbrev pub signed_of : Bool → List ℕ → Numeral
 signed_of is_negative digits = if is_decimal digits then signed_value is_negative (magnitude_of digits) else Not
 
--- a word without blanks at its ends: digits, behind one sign or none; `-` is 45 and `+` is 43
+-- a word without blanks at its ends: digits, after one sign or none; `-` is 45 and `+` is 43
 abbrev pub unblanked_of : List ℕ → Numeral
 unblanked_of [] = Not
 unblanked_of (byte ∷ rest) =

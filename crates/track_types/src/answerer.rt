@@ -42,7 +42,7 @@ pub trait Answerer: Copy {
         ensures value { result ≡ facts self }
         ensures table { IsTable (chart self) };
 
-    /// The cell of an object at an instant, and `None` exactly where it is absent. It takes no memory.
+    /// The cell of an object at an instant, and `None` if and only if it is absent. It takes no memory.
     fn position<L: Ledger>(self, object: u32, instant: i64, steps: &mut Steps<L>) -> Option<Cell>
         requires { IsAsked instant }
         ensures value { result ≡ cell_at (chart self).rows object instant }

@@ -60,7 +60,7 @@ pub enum Kind {
     /// The lengths of all blocks do not add up to the log's length. It is told at the last period's
     /// first length.
     Total,
-    /// An anchor is behind its period's end.
+    /// An anchor is after its period's end.
     Offset,
     /// Bits are those of no tree. The index is that of a bit.
     Tree,

@@ -22,7 +22,7 @@ pub trait Lazy {
 
     ghost budget: { Self → ℕ };
 
-    /// Takes the first item of `left` off and answers it, or `None` exactly where `left` is empty, and
+    /// Takes the first item of `left` off and answers it, or `None` if and only if `left` is empty, and
     /// then it stays empty. What is read is taken from the budget. It takes no memory.
     fn draw<L: Ledger>(&mut self, steps: &mut Steps<L>) -> Option<Self::Item>
         ensures found { left self.old ≡ option_to_list result ++ left self.new }

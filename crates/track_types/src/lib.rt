@@ -4,7 +4,7 @@
 //! numbers in text.
 //!
 //! `number` is exact: a word is no numeral, or one that is too large, or its value. A `Chart` keeps
-//! in its type all that holds of gridded rows. `Region::touches` is true exactly where a cell of the
+//! in its type all that holds of gridded rows. `Region::touches` is true if and only if a cell of the
 //! box is in the region. The crate stands on packed_bits, step_count and
 //! list_laws.
 #![tactic(auto)]

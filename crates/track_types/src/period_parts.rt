@@ -6,7 +6,7 @@ use packed_bits::BitList;
 pub struct PeriodParts {
     /// A bit for each object: whether it has a block, and so is present in the period.
     pub present: BitList,
-    /// How many instants each present object's anchor is behind the period's first, by object.
+    /// How many instants each present object's anchor is after the period's first, by object.
     pub offsets: List32,
     /// The bits of the k2-tree of the anchors' cells.
     pub tree: BitList,

@@ -41,7 +41,7 @@ where
     drawn(walk, steps).collect(alloc)
 }
 
-// All but the first of these numbers, and what comes behind the last.
+// All but the first of these numbers, and what comes after the last.
 fn numbers_drawn<L: Ledger>(
     rt: &HostRuntime,
     blank: Blank,

@@ -1,6 +1,6 @@
 use Rattle.std.proofs.Common.{ℕ, ◌∙◌, ◌++◌, ◌∷◌, [], ap, arith, get_or, sym}
 use Rattle.std.proofs.lemmas.List.FromFn.{map-range_with_len_more}
-use Rattle.chart_parts.specs.PeriodWith.{leaf_at, no_head}
+use Rattle.chart_parts.specs.PeriodWith.{block_leaf, no_head}
 use Rattle.chart_parts.specs.declared.leaves.Leaf.{Leaf}
 use Rattle.chart_parts.proofs.leaves.leaves_by_object.Goals as goal
 
@@ -12,5 +12,5 @@ loop-place-preserved c =
     let leaf : ℕ → Leaf = λ code. record { code = code; cell = cell; place = place } in
     c.in_ok-push.ensures.items
     ∙ ap (λ code. leaves ++ leaf code ∷ []) c.morton-code.ensures
-    ∙ ap (λ all. all ++ leaf_at c.args.frame c.args.heads.now place ∷ []) c.loop-place.invariant
-    ∙ sym (map-range_with_len_more (leaf_at c.args.frame c.args.heads.now) 0 place place (omega arith))
+    ∙ ap (λ all. all ++ block_leaf c.args.frame c.args.heads.now place ∷ []) c.loop-place.invariant
+    ∙ sym (map-range_with_len_more (block_leaf c.args.frame c.args.heads.now) 0 place place (omega arith))

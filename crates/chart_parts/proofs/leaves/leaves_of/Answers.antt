@@ -2,7 +2,7 @@ use Rattle.std.proofs.Common.{◌∙◌, length, rules, subst, sym}
 use Rattle.std.specs.Prelude.{All}
 use Rattle.std.proofs.lemmas.List.FromFn.{length-map-range_with_len}
 use Rattle.std.proofs.lemmas.List.Sorted.{IsNonDecreasingBy-from_sort_by_key, answers_always, length_permutation}
-use Rattle.chart_parts.specs.PeriodWith.{IsLeafIn, leaf_at}
+use Rattle.chart_parts.specs.PeriodWith.{IsLeafIn, block_leaf}
 use Rattle.chart_parts.specs.declared.leaves.Leaf.{Leaf}
 use Rattle.chart_parts.proofs.LeafListLemmas.{All-leaves, IsSorted-codes, leaves_from, sorted_leaves}
 use Rattle.chart_parts.proofs.leaves.leaves_of.Goals as goal
@@ -24,5 +24,5 @@ returns c =
       each = subst (All (IsLeafIn frame)) (sym is) (All-leaves frame heads c.requires);
       few =
           length_permutation (leaves_from frame heads) sorted (rw made at moved)
-          ∙ length-map-range_with_len (leaf_at frame heads) 0 (length heads);
+          ∙ length-map-range_with_len (block_leaf frame heads) 0 (length heads);
     }

@@ -7,7 +7,7 @@ use Rattle.snapshots.specs.Parts.{chart_in, numbers_in}
 use Rattle.chart_parts.specs.Header.{frame_of}
 use Rattle.chart_parts.specs.PartsOf.{grammar_of, parts_of, period_of_chart}
 use Rattle.chart_parts.proofs.BytesLemmas.{bytes-short}
-use Rattle.chart_parts.proofs.OwnBlockLemmas.{AreBlocksOf-own}
+use Rattle.chart_parts.proofs.OwnBlockLemmas.{AreBlocksByPeriod-own}
 use Rattle.chart_parts.proofs.OwnPeriodLemmas.{as_many-logs, periods_are}
 use Rattle.chart_parts.proofs.BlockStopLemmas.{chart_in-chart}
 use Rattle.chart_parts.proofs.ValidLemmas.{IsValid-parts_of}
@@ -39,7 +39,7 @@ periods_of-requires-clause-blocks c =
     let objects : c.in_ok-objects.objects.items ≡ objects_of chart.rows =
     c.in_ok-objects.ensures.ok ∙ ap objects_of c.rows.ensures.value in
     let count : c.len-count.result ≡ object_count chart.rows = omega (arith, ap length objects) in
-    rw (c.frame_of-frame.ensures, count, its.0, its.1) (AreBlocksOf-own chart c.rows.ensures.chart)
+    rw (c.frame_of-frame.ensures, count, its.0, its.1) (AreBlocksByPeriod-own chart c.rows.ensures.chart)
 
 pub returns : goal.returns
 unfolding parts_of

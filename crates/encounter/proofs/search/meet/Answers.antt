@@ -33,14 +33,14 @@ meet_in_periods-requires-clause-right g c =
 
 -- the periods that the window meets
 are_met : (g : Over) (c : After-met-periods g) → AreMet c.args.stores.now.frame c.args.window.now.from
-    c.args.window.now.to c.met-periods.result.next c.met-periods.result.behind
+    c.args.window.now.to c.met-periods.result.next c.met-periods.result.end
 are_met g c =
     let low : to_z w64 (of_z w64 c.args.window.now.from) ≡ c.args.window.now.from = omega (arith, ints) in
     let high : to_z w64 (of_z w64 c.args.window.now.to) ≡ c.args.window.now.to = omega (arith, ints) in
     subst (λ z. AreMet c.args.stores.now.frame c.args.window.now.from z c.met-periods.result.next
-    c.met-periods.result.behind) high
+    c.met-periods.result.end) high
     (subst (λ z. AreMet c.args.stores.now.frame z (to_z w64 (of_z w64 c.args.window.now.to)) c.met-periods.result.next
-    c.met-periods.result.behind) low c.met-periods.ensures)
+    c.met-periods.result.end) low c.met-periods.ensures)
 
 pub returns-clause-ok : goal.returns-clause-ok
 returns-clause-ok g c =
@@ -49,7 +49,7 @@ returns-clause-ok g c =
     let met = are_met g (goal.at.returns-clause-ok g c).After-met-periods in
     subst (λ one. IfOk c.meet_in_periods.result (λ found. found ≡ one))
     (meeting_of-known c.args.stores.now valid c.args.left c.args.right window.from window.to window.reach c.in-Some.one
-    c.in-Some-index_of.other c.met-periods.result.next c.met-periods.result.behind (sym c.in-Some.ensures.value)
+    c.in-Some-index_of.other c.met-periods.result.next c.met-periods.result.end (sym c.in-Some.ensures.value)
     (sym c.in-Some-index_of.ensures.value) met) c.meet_in_periods.ensures.ok
 
 pub returns-clause-cost : goal.returns-clause-cost
@@ -57,6 +57,6 @@ returns-clause-cost g c =
     let window = c.args.window.now in
     let met = are_met g (goal.at.returns-clause-cost g c).After-met-periods in
     let most = meet_cost_between-met c.args.stores.now c.args.left c.args.right c.in-Some.one c.in-Some-index_of.other
-    window.from window.to window.reach c.met-periods.result.next c.met-periods.result.behind
+    window.from window.to window.reach c.met-periods.result.next c.met-periods.result.end
     (sym c.in-Some.ensures.value) (sym c.in-Some-index_of.ensures.value) met in
     omega (arith, c.meet_in_periods.ensures.cost, most)

@@ -8,7 +8,7 @@ use Rattle.question_shell.specs.Desk.{budget_of, held_of}
 use Rattle.question_shell.specs.Items.{items_of}
 use Rattle.question_shell.specs.Reply.{ok_line}
 use Rattle.gract_top.specs.Sampling.{speech}
-use Rattle.gract_top.specs.Summary.{IsCounted, count_line}
+use Rattle.gract_top.specs.Summary.{IsSlotless, count_line}
 use Rattle.gract_top.proofs.SummaryLemmas.{IsCounting-begun, IsCounting-cut, IsCounting-done, IsCounting-next, IsCounting-read, counted-cost, counted-desk}
 use Rattle.gract_top.proofs.summarizing.say_counts.Given.{Over}
 use Rattle.gract_top.proofs.summarizing.say_counts.Goals as goal
@@ -16,7 +16,7 @@ use Rattle.gract_top.proofs.summarizing.say_counts.Goals.{After-count_found}
 
 -- the question of a turn is counted, and the first of those that are left
 record Drawn (all : List Question) (index : ℕ) (asked : Question) : Type 0 where
-  counted : IsCounted asked
+  counted : IsSlotless asked
   more : drop index all ≡ asked ∷ drop (index + 1) all
 
 drawn : (g : Over) (c : After-count_found g) → Drawn c.args.questions.now c.loop-question.question-index c.question-item.result
@@ -26,7 +26,7 @@ drawn g c =
     let asked = c.question-item.result in
     let same : get_or all index asked ≡ asked = sym c.question-item.is in
     record {
-      counted = subst IsCounted same (c.requires.counted index asked c.loop-question-test.true);
+      counted = subst IsSlotless same (c.requires.counted index asked c.loop-question-test.true);
       more = drop_more all index asked c.loop-question-test.true ∙ ap (λ first. first ∷ drop (index + 1) all) same;
     }
 

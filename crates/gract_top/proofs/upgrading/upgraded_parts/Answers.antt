@@ -1,7 +1,7 @@
 use Rattle.std.proofs.Common.{◌∙◌, ap, arith, subst, sym}
 use Rattle.std.specs.Prelude.{IfErr}
 use Rattle.std.proofs.lemmas.Result.{err_from_is_err_and}
-use Rattle.track_index.specs.CheckFlaws.{IsFaultFor}
+use Rattle.track_index.specs.CheckFlaws.{IsFormatFaultFor}
 use Rattle.track_index.proofs.OpeningLemmas.{bytes_cost-read, fault-unread, first_flaw-read}
 use Rattle.gract_top.proofs.UpgradingLemmas.{upgraded-file}
 use Rattle.gract_top.proofs.upgrading.upgraded_parts.Goals as goal
@@ -21,7 +21,7 @@ returns-clause-ok g c =
 pub returns-clause-flaw : goal.returns-clause-flaw
 returns-clause-flaw g c =
     rw (sym c.deref.ensures.value)
-    (subst (λ flaw. IfErr c.upgraded.result (λ fault. IsFaultFor flaw fault))
+    (subst (λ flaw. IfErr c.upgraded.result (λ fault. IsFormatFaultFor flaw fault))
     (sym (first_flaw-read c.deref.result.now c.in_ok-parts.parts c.in_ok-parts.ensures.ok)) c.upgraded.ensures.flaw)
 
 pub returns-clause-cost : goal.returns-clause-cost

@@ -2,7 +2,7 @@ use Rattle.std.proofs.Common.{◌≡◌, ◌<◌, List, All, Err, length, arith,
 use Rattle.std.proofs.lemmas.Bool.Decides.{nat_tests}
 use Rattle.track_types.specs.Near.{IsRowInRange}
 use Rattle.track_types.specs.declared.row.Row.{Row}
-use Rattle.gridding.proofs.BaseLemmas.{base_fault, chart_fault-none, chart_fault-within, IsFaultFor-is, IsFaultFor-refusal, IsRowInRange-near}
+use Rattle.gridding.proofs.BaseLemmas.{base_fault, chart_fault-none, chart_fault-within, IsGridFaultFor-is, IsGridFaultFor-refusal, IsRowInRange-near}
 use Rattle.gridding.proofs.LimitLemmas.{chart_with-IsChart}
 use Rattle.gridding.proofs.SurveyLemmas.{IsMeasureOf-survey}
 use Rattle.gridding.specs.Survey.{IsMeasureOf}
@@ -18,7 +18,7 @@ returns-in_err-check_base-clause-fault c =
     let some : 0 < length c.args.rows.items = grind (arith, nat_tests, c.if-is_empty.false, c.is_empty.ensures) in
     let told : c.from_residual.result ≡ Err c.in_err-check_base.field-0.0 = search rules in
     let err = rw c.as_slice.ensures.value at c.in_err-check_base.ensures.err in
-    rw told (IsFaultFor-is c.args.rows.items c.args.period c.in_err-check_base.field-0.0 err.0
+    rw told (IsGridFaultFor-is c.args.rows.items c.args.period c.in_err-check_base.field-0.0 err.0
     (base_fault c.args.rows.items c.args.period some err.1))
 
 -- the rows are in range
@@ -46,7 +46,7 @@ pub returns-in_err-check_limits-clause-fault : goal.returns-in_err-check_limits-
 returns-in_err-check_limits-clause-fault c =
     let some : 0 < length c.args.rows.items = grind (arith, nat_tests, c.if-is_empty.false, c.is_empty.ensures) in
     let told : c.from_residual-in_err-check_limits.result ≡ Err c.in_err-check_limits.field-0.0 = search rules in
-    rw told (IsFaultFor-refusal c.args.rows.items c.args.period some
+    rw told (IsGridFaultFor-refusal c.args.rows.items c.args.period some
     (rw c.as_slice.ensures.value at c.in_ok-check_base.ensures.ok) c.in_err-check_limits.field-0.0
     (rw c.as_slice-3.ensures.value at c.in_err-check_limits.ensures.limit))
 

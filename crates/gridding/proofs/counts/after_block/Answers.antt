@@ -15,7 +15,7 @@ use Rattle.list_laws.proofs.SliceLemmas.{take-rest}
 use Rattle.track_types.specs.Row.{IsAscending, row_order}
 use Rattle.track_types.specs.declared.row.Row.{Row}
 use Rattle.track_types.proofs.RowLemmas.{object_le}
-use Rattle.gridding.specs.Block.{BeginsWith, is_of_block}
+use Rattle.gridding.specs.Block.{BeginsBlock, is_of_block}
 use Rattle.gridding.specs.declared.counts.Block.{Block}
 use Rattle.gridding.proofs.ObjectCountLemmas.{no_row}
 use Rattle.gridding.proofs.SymbolLemmas.{order_cases}
@@ -45,7 +45,7 @@ module _ (rows : List Row) (d : Row) (up : IsAscending rows) where
       ]
 
 -- the first of rows that begin with a block
-first_row : (block : Block) (period : ℕ) (rows : List Row) (d : Row) → BeginsWith block period rows →
+first_row : (block : Block) (period : ℕ) (rows : List Row) (d : Row) → BeginsBlock block period rows →
     ((get_or rows 0 d).object ≡ block.object) × (block.end ≤ℤ ((get_or rows 0 d).instant +ℤ pos period))
 first_row block period [] d begins = absurd begins
 first_row block period (anchor ∷ later) d begins = begins
@@ -64,7 +64,7 @@ is_of_block-from_parts block row object before_end =
     rw (eq-eqb block.object row.object object) early
 
 module _ (block : Block) (period : ℕ) (rows : List Row) (up : IsAscending rows)
-    (begins : BeginsWith block period rows) where
+    (begins : BeginsBlock block period rows) where
   -- a row before one of the block is of the block
   before_in_block : (i j : ℕ) (d : Row) → i ≤ j → j < length rows → is_of_block block (get_or rows j d) ≡ true →
       is_of_block block (get_or rows i d) ≡ true

@@ -7,7 +7,7 @@ use Rattle.list_laws.proofs.PartLemmas.{IsStrictlySortedBy-drop}
 use Rattle.track_types.specs.Quantities.{log_length}
 use Rattle.track_types.specs.declared.row.Row.{Row}
 use Rattle.track_types.specs.Row.{row_order}
-use Rattle.gridding.specs.Block.{IsInSpan, block_of, is_of_block}
+use Rattle.gridding.specs.Block.{IsInSpan, block_of_row, is_of_block}
 use Rattle.gridding.proofs.ObjectCountLemmas.{no_row}
 use Rattle.gridding.proofs.SymbolLemmas.{terminals-ascending, terminals-block, terminals-none}
 use Rattle.gridding.proofs.counts.symbol_count.Goals as goal
@@ -24,7 +24,7 @@ loop-left-preserved c =
     let so_far = c.loop-left.invariant.so_far in
     let log : c.log_length.result ≡ log_length first span period anchor =
     rw same at c.log_length.ensures.value in
-    let block_length = prefix_len (is_of_block (block_of first period anchor)) left in
+    let block_length = prefix_len (is_of_block (block_of_row first period anchor)) left in
     let rest : c.after_block-left.result.now ≡ drop block_length left =
     rw c.block_of.ensures.exact at c.after_block-left.ensures in
     let step =

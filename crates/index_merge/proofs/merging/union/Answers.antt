@@ -2,7 +2,7 @@ use Rattle.std.proofs.Common.{◌≡◌, ◌∙◌, Err, ap, rules}
 use Rattle.track_types.specs.declared.frame.Frame.{Frame}
 use Rattle.track_types.specs.declared.parts.Parts.{Parts}
 use Rattle.index_merge.specs.MergeFault.{common_fault, merge_fault, merge_fault_of, settings_fault}
-use Rattle.index_merge.proofs.FaultLemmas.{common_fault-alike, IsFaultFor-is, merge_fault-chart, merge_fault-common, merge_fault-count, merge_fault-none, merge_fault-settings, settings_fault-alike}
+use Rattle.index_merge.proofs.FaultLemmas.{common_fault-alike, IsMergeFaultFor-is, merge_fault-chart, merge_fault-common, merge_fault-count, merge_fault-none, merge_fault-settings, settings_fault-alike}
 use Rattle.index_merge.proofs.UnionLemmas.{timely-both, union_of-rows}
 use Rattle.index_merge.proofs.merging.union.Given.{Over}
 use Rattle.index_merge.proofs.merging.union.Goals as goal
@@ -33,7 +33,7 @@ returns-in_err-check_settings-clause-fault g c =
     let left : Parts = c.args.left.now in
     let right : Parts = c.args.right.now in
     let told : c.from_residual.result ≡ Err c.in_err-check_settings.field-0.0 = search rules in
-    rw told (IsFaultFor-is (merge_fault left right) c.in_err-check_settings.field-0.0
+    rw told (IsMergeFaultFor-is (merge_fault left right) c.in_err-check_settings.field-0.0
     (merge_fault-settings left right c.in_err-check_settings.field-0.0 (settings g at ∙ c.in_err-check_settings.ensures.err)))
 
 pub returns-in_err-check_common-clause-fault : goal.returns-in_err-check_common-clause-fault
@@ -42,7 +42,7 @@ returns-in_err-check_common-clause-fault g c =
     let left : Parts = c.args.left.now in
     let right : Parts = c.args.right.now in
     let told : c.from_residual-in_err-check_common.result ≡ Err c.in_err-check_common.field-0.0 = search rules in
-    rw told (IsFaultFor-is (merge_fault left right) c.in_err-check_common.field-0.0
+    rw told (IsMergeFaultFor-is (merge_fault left right) c.in_err-check_common.field-0.0
     (merge_fault-common left right (settings g at ∙ c.in_ok-check_settings.ensures.ok) c.in_err-check_common.field-0.0
     (common g at ∙ c.in_err-check_common.ensures.err)))
 

@@ -31,14 +31,14 @@ loop-period-init g c =
     let high : ℤ = to_z w64 (of_z w64 c.args.to) in
     let valid : IsValid parts = record { shaped = c.frame.ensures.shaped; sound = c.frame.ensures.sound } in
     let next : ℕ = c.met-periods.result.next in
-    let begins = first-at parts valid low high region next c.met-periods.result.behind c.met-periods.ensures in
+    let begins = first-at parts valid low high region next c.met-periods.result.end c.met-periods.ensures in
     record {
       most = c.met-periods.ensures.ordered;
       first = subst (λ known. AreFirst parts low high region next known c.in_ok-hits.hits.found.items)
           (sym (c.in_ok-hits.ensures.known ∙ ap (λ n. replicate n false) c.objects.ensures.value))
           (subst (λ found. AreFirst parts low high region next (replicate (length parts.objects) false) found)
           (sym c.in_ok-hits.ensures.found) begins);
-      reads = omega (arith, cost-met parts low high region next c.met-periods.result.behind c.met-periods.ensures);
+      reads = omega (arith, cost-met parts low high region next c.met-periods.result.end c.met-periods.ensures);
     }
 
 pub invariant_of-sought : goal.invariant_of-sought
@@ -61,7 +61,7 @@ loop-period-preserved g c =
         c.loop-period.invariant.reads,
         c.look.ensures.cost,
         c.blocks-blocks.ensures.cost,
-        cost-step parts low high region c.loop-period.period c.met-periods.result.behind
+        cost-step parts low high region c.loop-period.period c.met-periods.result.end
             (omega (arith, c.loop-period-test.true)),
       );
     }
@@ -74,7 +74,7 @@ returns-in_err-look-clause-cost g c =
     let high : ℤ = to_z w64 (of_z w64 c.args.to) in
     let from : low ≡ c.args.from = omega (arith, ints) in
     let to : high ≡ c.args.to = omega (arith, ints) in
-    let behind : ℕ = c.met-periods.result.behind in
+    let behind : ℕ = c.met-periods.result.end in
     omega (
       arith,
       c.loop-period.invariant.reads,
@@ -94,7 +94,7 @@ returns-clause-ok g c =
     let valid : IsValid parts = record { shaped = c.frame.ensures.shaped; sound = c.frame.ensures.sound } in
     let from : low ≡ c.args.from = omega (arith, ints) in
     let to : high ≡ c.args.to = omega (arith, ints) in
-    let behind : ℕ = c.met-periods.result.behind in
+    let behind : ℕ = c.met-periods.result.end in
     let done : c.loop-period.period ≡ behind = omega (arith, c.loop-period.invariant.most, c.loop-period-test.false) in
     let known : List Bool = c.loop-period.hits.known.items in
     let found : List Hit = c.loop-period.hits.found.items in

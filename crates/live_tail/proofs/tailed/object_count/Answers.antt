@@ -6,7 +6,7 @@ use Rattle.track_types.specs.declared.facts.Facts.{Facts}
 use Rattle.track_types.specs.declared.parts.Parts.{Parts}
 use Rattle.track_index.specs.Facts.{facts_of}
 use Rattle.track_index.specs.Listed.{is_listed}
-use Rattle.live_tail.specs.Facts.{count_with}
+use Rattle.live_tail.specs.Facts.{joint_object_count}
 use Rattle.live_tail.specs.Join.{rows_of_tail}
 use Rattle.live_tail.proofs.ObjectLemmas.{objects_of-any}
 use Rattle.live_tail.proofs.tailed.object_count.Goals as goal
@@ -36,7 +36,7 @@ overflow_add-result c =
     omega (arith, c.len.ensures, c.retain.ensures.bound, few, listed (goal.at.overflow_add-result c).After-len, c.stores.ensures.valid.shaped.few)
 
 pub returns : goal.returns
-unfolding count_with
+unfolding joint_object_count
 returns c =
     let at = (goal.at.returns c).After-len in
     let known : List ℕ = c.args.index.now.objects in

@@ -1,6 +1,6 @@
 use Rattle.std.proofs.Common.{Err, ◌≡◌, ◌∙◌, Result, Option, subst, arith}
 use Rattle.track_types.specs.declared.question.Question.{Question}
-use Rattle.question_shell.specs.Lines.{lines_of, unended_line}
+use Rattle.question_shell.specs.Lines.{input_lines, unended_line}
 use Rattle.question_shell.specs.Session.{meaning_by}
 use Rattle.question_shell.specs.Turns.{AnswerTold, moment}
 use Rattle.question_shell.specs.declared.bad.Bad.{Bad}
@@ -16,7 +16,7 @@ returns-clause-told g c start came heard =
     let between = moment (g.K.Sink.said said.new.sink) said.new.text said.new.desk said.new.steps in
     let told = subst (λ (asked : Result (Option Question) Bad). AnswerTold meaning here between asked said.result)
     (c.question-asked.ensures.value (unended_line came) heard.kept) said.ensures.told in
-    rest-lines meaning start between (g.K.Sink.said c.say_rest.new.sink) (lines_of came) said.result c.say_rest.result
+    rest-lines meaning start between (g.K.Sink.said c.say_rest.new.sink) (input_lines came) said.result c.say_rest.result
     (told-end meaning start here between came c.args.talk.now.line said.result told heard) c.say_rest.ensures.told
 
 pub returns-clause-faults : goal.returns-clause-faults

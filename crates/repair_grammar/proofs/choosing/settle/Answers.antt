@@ -1,5 +1,5 @@
 use Rattle.std.proofs.Common.{rules, ◌≡◌, [], ◌∷◌, ◌++◌, sym, ◌∙◌, ap}
-use Rattle.repair_grammar.specs.Kept.{items_of}
+use Rattle.repair_grammar.specs.Kept.{keys_in}
 use Rattle.repair_grammar.specs.Pairs.{count_of, count_in_table}
 use Rattle.repair_grammar.proofs.CoverLemmas.{covers_settled, covers_all}
 use Rattle.repair_grammar.proofs.choosing.settle.Goals as goal
@@ -17,7 +17,7 @@ loop-pair-preserved c =
     record {
       table = c.loop-pair.invariant.table;
       keys = covers_settled (count_of c.args.pairs.now) c.pop.new.self.items c.in-Some.pair
-          (items_of c.loop-pair.keys) (items_of c.add.new.self)
+          (keys_in c.loop-pair.keys) (keys_in c.add.new.self)
           (λ other inside. c.in_ok-add.ensures.kept other inside)
           (λ two. rw (sym (count at)) (c.in_ok-add.ensures.added (rw (count at) two)))
           (rw whole at c.loop-pair.invariant.keys);
@@ -26,5 +26,5 @@ loop-pair-preserved c =
 pub returns-clause-keys : goal.returns-clause-keys
 returns-clause-keys c =
     let none : c.loop-pair.pairs.fresh.items ≡ [] = search rules in
-    covers_all (count_of c.args.pairs.now) c.loop-pair.pairs.fresh.items (items_of c.loop-pair.keys) none
+    covers_all (count_of c.args.pairs.now) c.loop-pair.pairs.fresh.items (keys_in c.loop-pair.keys) none
     c.loop-pair.invariant.keys

@@ -1,13 +1,13 @@
 use Rattle.std.proofs.Common.{◌≡◌, ℕ, ◌+◌, ◌<◌, List, length, map, arith, sym, ◌∙◌, ap, add-zero}
 use Rattle.std.specs.List.{sum_by}
 use Rattle.std.proofs.lemmas.Bool.{ne_eqb}
-use Rattle.repair_grammar.specs.RePair.{AreBelow, pair_count, replaced}
+use Rattle.repair_grammar.specs.RePair.{AreBelow, pair_count, block_after_pass}
 use Rattle.repair_grammar.specs.Counts.{IsFirst, AllBelowTwo}
-use Rattle.repair_grammar.specs.Kept.{items_of}
+use Rattle.repair_grammar.specs.Kept.{keys_in}
 use Rattle.repair_grammar.specs.Pairs.{count_of, places_of}
-use Rattle.repair_grammar.specs.Threads.{live, row_of, IsPlain}
-use Rattle.repair_grammar.proofs.PassLemmas.{length-replaced}
-use Rattle.repair_grammar.proofs.ExpansionLemmas.{all_below-replaced}
+use Rattle.repair_grammar.specs.Threads.{live, marked_row, IsUnmarked}
+use Rattle.repair_grammar.proofs.PassLemmas.{length-block_after_pass}
+use Rattle.repair_grammar.proofs.ExpansionLemmas.{all_below-block_after_pass}
 use Rattle.repair_grammar.proofs.RoundLemmas.{IsNext, next_is, first_same, re_pair-is, rounds-end}
 use Rattle.repair_grammar.proofs.CoverLemmas.{counted_below, covers_after, covers_fresh}
 use Rattle.repair_grammar.proofs.RowLemmas.{below_marks, new_text, row_words, row_ends, word_at}
@@ -19,13 +19,13 @@ use Rattle.repair_grammar.specs.declared.text.TheConstants.{END}
 
 pub count_row-requires-clause-words : goal.count_row-requires-clause-words
 count_row-requires-clause-words c =
-    let is : c.as_slice.result.now ≡ row_of c.args.blocks.now = c.as_slice.ensures.value ∙ c.in_ok-row.ensures in
-    rw is (word_at (row_of c.args.blocks.now) (row_words c.args.alphabet c.args.blocks.now
+    let is : c.as_slice.result.now ≡ marked_row c.args.blocks.now = c.as_slice.ensures.value ∙ c.in_ok-row.ensures in
+    rw is (word_at (marked_row c.args.blocks.now) (row_words c.args.alphabet c.args.blocks.now
     (omega (arith, c.requires.small)) c.requires.below))
 
 pub count_row-requires-clause-ends : goal.count_row-requires-clause-ends
 count_row-requires-clause-ends c =
-    let is : c.as_slice.result.now ≡ row_of c.args.blocks.now = c.as_slice.ensures.value ∙ c.in_ok-row.ensures in
+    let is : c.as_slice.result.now ≡ marked_row c.args.blocks.now = c.as_slice.ensures.value ∙ c.in_ok-row.ensures in
     rw is (row_ends c.args.blocks.now)
 
 pub new-requires-clause-plain : goal.new-requires-clause-plain
@@ -37,7 +37,7 @@ new-requires-clause-ends c = rw c.in_ok-row.ensures (row_ends c.args.blocks.now)
 
 pub settle-requires : goal.settle-requires
 settle-requires c = record {
-  keys = covers_fresh (count_of c.in_ok-pairs.pairs) c.in_ok-pairs.pairs.fresh.items (items_of c.new-keys.result)
+  keys = covers_fresh (count_of c.in_ok-pairs.pairs) c.in_ok-pairs.pairs.fresh.items (keys_in c.new-keys.result)
       c.in_ok-pairs.ensures.fresh;
 }
 
@@ -45,18 +45,18 @@ pub rounds-init : goal.rounds-init
 rounds-init c =
     let blocks : List (List ℕ) = c.args.blocks.now in
     let fits : c.args.alphabet < END = omega (arith, c.requires.small) in
-    let symbols : c.in_ok-text.text.symbols.items ≡ row_of blocks =
+    let symbols : c.in_ok-text.text.symbols.items ≡ marked_row blocks =
     c.in_ok-text.ensures.symbols ∙ c.in_ok-row.ensures in
     let read : c.as_slice.result.now ≡ c.in_ok-text.text.symbols.items =
     c.as_slice.ensures.value ∙ sym c.in_ok-text.ensures.symbols in
     record {
       now = blocks;
       row = ap live symbols
-          ∙ live-all (row_of blocks) (word_at (row_of blocks) (row_words c.args.alphabet blocks fits c.requires.below));
+          ∙ live-all (marked_row blocks) (word_at (marked_row blocks) (row_words c.args.alphabet blocks fits c.requires.below));
       text = c.in_ok-text.ensures.text;
       counted = counted_same c.in_ok-text.text.symbols.items c.in_ok-pairs.pairs c.settle.new.pairs
           c.settle.ensures.table (rw read at c.in_ok-pairs.ensures.counted);
-      keys = covers_same c.in_ok-pairs.pairs c.settle.new.pairs (items_of c.settle.new.keys) c.settle.ensures.table
+      keys = covers_same c.in_ok-pairs.pairs c.settle.new.pairs (keys_in c.settle.new.keys) c.settle.ensures.table
           c.in_ok-settle.ensures.keys;
       below = rw (c.new-rules.ensures.items, add-zero) c.requires.below;
       few = rw c.new-rules.ensures.items (omega arith);
@@ -83,7 +83,7 @@ parts : (c : In-Some) → (c.in-Some.pair.0 < limit c) × (c.in-Some.pair.1 < li
 parts c = counted_below (limit c) c.rounds.invariant.now c.in-Some.pair c.rounds.invariant.below
     (omega (arith, (first c).two))
 
-plain : (c : In-Some) → IsPlain c.in-Some.pair
+plain : (c : In-Some) → IsUnmarked c.in-Some.pair
 plain c = (omega (arith, (parts c).0, fits c), omega (arith, (parts c).1, fits c))
 
 pub replace_all-requires-clause-plain : goal.replace_all-requires-clause-plain
@@ -114,22 +114,22 @@ replace_all-requires-clause-noted c = let o = (goal.at.replace_all-requires-clau
 
 -- what is left after the round
 all : (c : In_ok-replace_all) → live c.replace_all.new.text.symbols.items
-    ≡ replaced c.in-Some.pair (c.args.alphabet + length c.rounds.rules.items) (live c.rounds.text.symbols.items)
+    ≡ block_after_pass c.in-Some.pair (c.args.alphabet + length c.rounds.rules.items) (live c.rounds.text.symbols.items)
 all c =
     let symbol : c.args.alphabet + c.len-in-Some.result ≡ c.args.alphabet + length c.rounds.rules.items =
     omega (arith, c.len-in-Some.ensures) in
     c.in_ok-replace_all.ensures.all
-    ∙ ap (λ new. replaced c.in-Some.pair new (live c.rounds.text.symbols.items)) symbol
+    ∙ ap (λ new. block_after_pass c.in-Some.pair new (live c.rounds.text.symbols.items)) symbol
 
 abbrev after : In_ok-replace_all → List (List ℕ)
-after c = map (replaced c.in-Some.pair (c.args.alphabet + length c.rounds.rules.items)) c.rounds.invariant.now
+after c = map (block_after_pass c.in-Some.pair (c.args.alphabet + length c.rounds.rules.items)) c.rounds.invariant.now
 
-row : (c : In_ok-replace_all) → IsPlain c.in-Some.pair → live c.replace_all.new.text.symbols.items ≡ row_of (after c)
+row : (c : In_ok-replace_all) → IsUnmarked c.in-Some.pair → live c.replace_all.new.text.symbols.items ≡ marked_row (after c)
 row c is = row_after c.rounds.text.symbols.items c.replace_all.new.text.symbols.items c.in-Some.pair
     (c.args.alphabet + length c.rounds.rules.items) c.rounds.invariant.now is c.rounds.invariant.row (all c)
 
 below : (c : In_ok-replace_all) → AreBelow (c.args.alphabet + length c.rounds.rules.items + 1) (after c)
-below c = all_below-replaced c.in-Some.pair (c.args.alphabet + length c.rounds.rules.items) c.rounds.invariant.now
+below c = all_below-block_after_pass c.in-Some.pair (c.args.alphabet + length c.rounds.rules.items) c.rounds.invariant.now
     c.rounds.invariant.below
 
 -- the round's rule and blocks
@@ -146,7 +146,7 @@ settle-requires-in-Some c =
     omega (arith, c.rounds.invariant.few, c.requires.few, c.requires.small) in
     record {
       keys = covers_after (limit o) c.in-Some.pair c.rounds.invariant.now (count_of c.rounds.pairs)
-          (count_of c.replace_all.new.pairs) c.replace_all.new.pairs.fresh.items (items_of c.first_pair.new.keys)
+          (count_of c.replace_all.new.pairs) c.replace_all.new.pairs.fresh.items (keys_in c.first_pair.new.keys)
           c.rounds.invariant.below (parts o) (counts o)
           (counts_all (limit o + 1) c.replace_all.new.text.symbols.items (after p) (count_of c.replace_all.new.pairs)
           (places_of c.replace_all.new.pairs) fits_more (below p) (row p (plain o)) c.in_ok-replace_all.ensures.counted)
@@ -160,7 +160,7 @@ rounds-smaller c =
     omega (
       arith,
       ap length (all p),
-      length-replaced c.in-Some.pair (limit o) (live c.rounds.text.symbols.items),
+      length-block_after_pass c.in-Some.pair (limit o) (live c.rounds.text.symbols.items),
       c.rounds.invariant.counted.counts c.in-Some.pair (plain o),
       counts o c.in-Some.pair,
       (first o).two,
@@ -179,7 +179,7 @@ rounds-preserved c =
       text = c.in_ok-replace_all.ensures.text;
       counted = counted_same c.replace_all.new.text.symbols.items c.replace_all.new.pairs c.settle-in-Some.new.pairs
           c.settle-in-Some.ensures.table c.in_ok-replace_all.ensures.counted;
-      keys = covers_same c.replace_all.new.pairs c.settle-in-Some.new.pairs (items_of c.settle-in-Some.new.keys)
+      keys = covers_same c.replace_all.new.pairs c.settle-in-Some.new.pairs (keys_in c.settle-in-Some.new.keys)
           c.settle-in-Some.ensures.table c.in_ok-settle-2.ensures.keys;
       below = rw more (below p);
       few = omega (arith, step.rules_are, step.fewer, c.rounds.invariant.few);
@@ -196,7 +196,7 @@ returns c =
     λ pair. rw (sym (counts_all bound c.rounds.text.symbols.items now (count_of c.rounds.pairs)
     (places_of c.rounds.pairs) small_enough c.rounds.invariant.below c.rounds.invariant.row
     c.rounds.invariant.counted pair)) (counted pair) in
-    let row_is : live c.as_slice-2.result.now ≡ row_of now =
+    let row_is : live c.as_slice-2.result.now ≡ marked_row now =
     ap live c.as_slice-2.ensures.value ∙ c.rounds.invariant.row in
     record {
       ok = rw (

@@ -1,9 +1,9 @@
 use Rattle.std.proofs.Common.{◌≡◌, ℕ, ◌+◌, ◌*◌, ◌≤◌, List, length}
 use Rattle.std.specs.List.{sum_by}
 use Rattle.repair_grammar.specs.RePair.{AreBelow, rounds, re_pair}
-use Rattle.repair_grammar.specs.Kept.{Covers, items_of}
+use Rattle.repair_grammar.specs.Kept.{Covers, keys_in}
 use Rattle.repair_grammar.specs.Pairs.{count_of, places_of}
-use Rattle.repair_grammar.specs.Threads.{live, row_of, IsCounted}
+use Rattle.repair_grammar.specs.Threads.{live, marked_row, IsCounted}
 use Rattle.repair_grammar.specs.Joins.{IsText}
 use Rattle.repair_grammar.proofs.compressing.by_places.Given as goal
 
@@ -11,10 +11,10 @@ use Rattle.repair_grammar.proofs.compressing.by_places.Given as goal
 abbrev pub invariant-rounds : goal.invariant-rounds
 invariant-rounds l = record {
   now : List (List ℕ);
-  row : live l.text.symbols.items ≡ row_of now;
+  row : live l.text.symbols.items ≡ marked_row now;
   text : IsText l.text;
   counted : IsCounted l.text.symbols.items (count_of l.pairs) (places_of l.pairs);
-  keys : Covers (count_of l.pairs) (items_of l.keys);
+  keys : Covers (count_of l.pairs) (keys_in l.keys);
   below : AreBelow (l.alphabet + length l.rules.items) now;
   few : 2 * length l.rules.items + sum_by length now ≤ sum_by length l.blocks;
   left : rounds (sum_by length now) l.alphabet (record { rules = l.rules.items; blocks = now })

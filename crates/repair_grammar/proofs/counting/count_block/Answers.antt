@@ -1,8 +1,8 @@
 use Rattle.std.proofs.Common.{arith, ℕ, ◌≡◌, ◌==◌, ◌+◌, [], ◌∷◌, drop, get_or, sym, ◌∙◌, ap, add-zero, add_assoc}
 use Rattle.std.proofs.lemmas.List.{drop_all, nil_from_length}
-use Rattle.repair_grammar.specs.RePair.{met}
+use Rattle.repair_grammar.specs.RePair.{replacement_count}
 use Rattle.repair_grammar.specs.Counts.{count_in, met_after}
-use Rattle.repair_grammar.proofs.PassLemmas.{met-none, met_after-fresh, met_after-single, overlap_step, counted_step, met-le}
+use Rattle.repair_grammar.proofs.PassLemmas.{replacement_count-none, met_after-fresh, met_after-single, overlap_step, counted_step, replacement_count-le}
 use Rattle.repair_grammar.proofs.CountLemmas.{own_pair}
 use Rattle.repair_grammar.proofs.counting.count_block.Goals as goal
 use Rattle.repair_grammar.proofs.counting.count_block.Goals.{then-overlaps, else-overlaps+in_ok-count_pair}
@@ -10,12 +10,12 @@ use Rattle.repair_grammar.proofs.counting.count_block.Goals.{then-overlaps, else
 pub returns-in_default : goal.returns-in_default
 returns-in_default c = record {
   ok = λ pair. let empty : c.args.block.now ≡ [] = nil_from_length _ c.in_default.ensures.cases in
-      sym (rw (empty, met-none) (add-zero (count_in c.args.counts.now pair)));
+      sym (rw (empty, replacement_count-none) (add-zero (count_in c.args.counts.now pair)));
 }
 
 pub loop-right-init : goal.loop-right-init
 loop-right-init c = λ pair. ap (λ n. count_in c.args.counts.now pair + n)
-    (met_after-fresh pair (c.in-Some.first.now ∷ c.in-Some.rest.now) ∙ ap (met pair) (sym c.in-Some.ensures.cases.0))
+    (met_after-fresh pair (c.in-Some.first.now ∷ c.in-Some.rest.now) ∙ ap (replacement_count pair) (sym c.in-Some.ensures.cases.0))
 
 pub count_pair-requires : goal.count_pair-requires
 count_pair-requires c = record {
@@ -25,7 +25,7 @@ count_pair-requires c = record {
       let step = counted_step c.loop-right.taken pair c.loop-right.left c.in-Some.rest.now c.loop-right.right-index
       c.loop-right-test.true c.if-overlaps.false in
       let one = rw (own_pair c.loop-right.left x) at step in
-      omega (arith, one, c.loop-right.invariant pair, c.requires.room pair, met-le pair c.args.block.now);
+      omega (arith, one, c.loop-right.invariant pair, c.requires.room pair, replacement_count-le pair c.args.block.now);
 }
 
 pub loop-right-preserved : goal.loop-right-preserved

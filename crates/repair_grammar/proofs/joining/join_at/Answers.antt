@@ -3,7 +3,7 @@ use Rattle.std.specs.List.{Contains}
 use Rattle.std.proofs.lemmas.List.{length-append}
 use Rattle.repair_grammar.specs.Kept.{noted_at}
 use Rattle.repair_grammar.specs.Pairs.{count_of, places_of}
-use Rattle.repair_grammar.specs.Threads.{at, live, IsPlain}
+use Rattle.repair_grammar.specs.Threads.{at, live, IsUnmarked}
 use Rattle.repair_grammar.specs.Joins.{only_if, counts_left}
 use Rattle.repair_grammar.specs.Runs.{ends_odd}
 use Rattle.std.proofs.lemmas.Bool.{cases_Bool}
@@ -17,7 +17,7 @@ use Rattle.repair_grammar.specs.declared.text.TheConstants.{GAP}
 
 pub note_some-requires : goal.note_some-requires
 note_some-requires c = record {
-  room = rw c.plain_pair.ensures (some_weaker _ IsPlain (λ own. count_of c.args.pairs.now own + 1 < 4294967296)
+  room = rw c.plain_pair.ensures (some_weaker _ IsUnmarked (λ own. count_of c.args.pairs.now own + 1 < 4294967296)
       (λ own plain. omega (
         arith,
         counted_room c.args.text.now.symbols.items (count_of c.args.pairs.now)
@@ -30,7 +30,7 @@ note_some-requires c = record {
 pub note_some-requires-2 : goal.note_some-requires-2
 note_some-requires-2 c = record {
   room = rw c.plain_pair-2.ensures
-      (some_weaker _ IsPlain (λ own. count_of c.note_some.new.pairs own + 1 < 4294967296)
+      (some_weaker _ IsUnmarked (λ own. count_of c.note_some.new.pairs own + 1 < 4294967296)
       (λ own plain. omega (
         arith,
         c.in_ok-note_some.ensures.counts own,
@@ -95,7 +95,7 @@ total c other = omega (
 )
 
 -- so what goes is there
-enough : (c : In_ok-note_some-2) (other : ℕ × ℕ) → IsPlain other →
+enough : (c : In_ok-note_some-2) (other : ℕ × ℕ) → IsUnmarked other →
     went c.args.text.now.symbols.items c.args.place c.around-around.result.left
     c.around-around.result.gone c.around-around.result.right c.around-around.result.before
     c.around-around.result.after c.args.symbol c.around-around.ensures (fits c) c.args.pair.0 c.args.pair.1

@@ -1,6 +1,6 @@
 use Rattle.std.proofs.Common.{rules, ◌-◌, refl, sym, ◌∙◌, ap, arith}
 use Rattle.std.specs.Option.{option_copied_mut}
-use Rattle.repair_grammar.specs.Pairs.{entry_of}
+use Rattle.repair_grammar.specs.Pairs.{seen_entry}
 use Rattle.repair_grammar.proofs.PairLemmas.{places_same}
 use Rattle.std.proofs.lemmas.Grind.{common_steps}
 use Rattle.std.proofs.lemmas.Bool.Decides.{nat_tests}
@@ -18,7 +18,7 @@ returns-in-Some-clause-counts c = λ other.
 
 pub returns-in-Some-clause-places : goal.returns-in-Some-clause-places
 returns-in-Some-clause-places c = λ other.
-    places_same (entry_of c.args.table.now) (entry_of (c.get_mut.follows.lender
+    places_same (seen_entry c.args.table.now) (seen_entry (c.get_mut.follows.lender
     (record { count = c.in-Some.seen.now.count - 1; places = c.in-Some.seen.now.places }))) c.args.pair other
     (record { count = c.in-Some.seen.now.count - 1; places = c.in-Some.seen.now.places })
     (((c.get_mut.follows.holds (record { count = c.in-Some.seen.now.count - 1; places = c.in-Some.seen.now.places })).3

@@ -1,9 +1,9 @@
 use Rattle.std.proofs.Common.{◌≡◌, ◌<◌, ◌++◌, ℕ, List, [], length, get_or, take, drop, arith, sym, ◌∙◌, ap}
 use Rattle.std.proofs.lemmas.List.{append-nil, drop_all}
 use Rattle.std.proofs.lemmas.Grind.{get_or_default_zero}
-use Rattle.repair_grammar.specs.RePair.{replaced}
+use Rattle.repair_grammar.specs.RePair.{block_after_pass}
 use Rattle.repair_grammar.specs.Counts.{stands_first}
-use Rattle.repair_grammar.proofs.PassLemmas.{step_met, step_passed, replaced-none}
+use Rattle.repair_grammar.proofs.PassLemmas.{step_met, step_passed, block_after_pass-none}
 use Rattle.repair_grammar.proofs.replacing.replace.Goals as goal
 use Rattle.repair_grammar.proofs.replacing.replace.Goals.{then-stands_at, else-stands_at}
 
@@ -43,7 +43,7 @@ returns c =
     let items : List ℕ = c.loop-read.block.items in
     let ends : drop c.loop-read.read items ≡ [] =
     drop_all c.loop-read.read items (omega (arith, c.loop-read-test.false, c.len.ensures)) in
-    let nothing : replaced c.args.pair c.args.symbol (drop c.loop-read.read items) ≡ [] =
-    ap (replaced c.args.pair c.args.symbol) ends ∙ replaced-none c.args.pair c.args.symbol in
+    let nothing : block_after_pass c.args.pair c.args.symbol (drop c.loop-read.read items) ≡ [] =
+    ap (block_after_pass c.args.pair c.args.symbol) ends ∙ block_after_pass-none c.args.pair c.args.symbol in
     c.truncate.ensures.items ∙ sym (append-nil (take c.loop-read.written items))
     ∙ ap (λ rest. take c.loop-read.written items ++ rest) (sym nothing) ∙ c.loop-read.invariant.whole

@@ -1,11 +1,11 @@
 use Rattle.std.proofs.Common.{◌≡◌, ℕ, ◌+◌, ◌<◌, ◌≤◌, ◌==◌, not, ◌&&◌, List, [], ◌∷◌, length, get_or, drop, arith, add-one, inl, inr, ◌∙◌, ap}
 use Rattle.std.proofs.lemmas.Bool.{cases_lt}
 use Rattle.std.proofs.lemmas.List.{drop_all, get_or_default, nil_from_length}
-use Rattle.repair_grammar.specs.RePair.{met}
+use Rattle.repair_grammar.specs.RePair.{replacement_count}
 use Rattle.repair_grammar.specs.Counts.{met_after}
 use Rattle.repair_grammar.specs.Pairs.{count_of, places_of}
-use Rattle.repair_grammar.specs.Threads.{at, IsPlain}
-use Rattle.repair_grammar.proofs.PassLemmas.{met-le, met_after-fresh, met_after-single}
+use Rattle.repair_grammar.specs.Threads.{at, IsUnmarked}
+use Rattle.repair_grammar.proofs.PassLemmas.{replacement_count-le, met_after-fresh, met_after-single}
 use Rattle.repair_grammar.proofs.CountedLemmas.{stands-inside}
 use Rattle.repair_grammar.proofs.JoinLemmas.{counted_plain, some_weaker, plain_is, first_step, first_noted, live-all}
 use Rattle.repair_grammar.proofs.tallying.count_row.Goals as goal
@@ -24,7 +24,7 @@ symbols-init c =
         arith,
         c.new-pairs.ensures pair,
         met_after-fresh pair (c.in-Some.first.now ∷ c.in-Some.rest.now),
-        ap (met pair) whole,
+        ap (replacement_count pair) whole,
       );
       noted = λ pair k plain below stands. absurd (omega (arith, below));
       plain = λ pair some. absurd (omega (arith, some, c.new-pairs.ensures pair));
@@ -33,11 +33,11 @@ symbols-init c =
 
 pub note_some-requires : goal.note_some-requires
 note_some-requires c = record {
-  room = rw c.plain_pair.ensures (some_weaker _ IsPlain (λ own. count_of c.symbols.pairs own + 1 < 4294967296)
+  room = rw c.plain_pair.ensures (some_weaker _ IsUnmarked (λ own. count_of c.symbols.pairs own + 1 < 4294967296)
       (λ own plain. omega (
         arith,
         c.symbols.invariant.counts own plain,
-        met-le own c.args.row.now,
+        replacement_count-le own c.args.row.now,
         c.requires.few,
       )) (plain_is c.symbols.left (get_or c.in-Some.rest.now c.symbols.place 0)));
 }
@@ -87,7 +87,7 @@ returns c =
           c.symbols.invariant.counts pair plain,
           ap (λ later. met_after c.symbols.taken pair (c.symbols.left ∷ later)) none,
           met_after-single c.symbols.taken pair c.symbols.left,
-          ap (met pair) (live-all c.args.row.now c.requires.words),
+          ap (replacement_count pair) (live-all c.args.row.now c.requires.words),
         );
         noted = λ pair k plain stands. c.symbols.invariant.noted pair k plain
             (omega (arith, stands-inside c.args.row.now pair k c.requires.ends plain.0 stands, past, ap length whole))

@@ -1,6 +1,6 @@
 use Rattle.std.proofs.Common.{◌≡◌, map, take}
-use Rattle.snapshots.specs.TrackTree.{log_of}
+use Rattle.snapshots.specs.TrackTree.{length_and_index}
 use Rattle.snapshots.proofs.keeping.logs_of.Given as goal
 
 abbrev pub invariant-loop-block : goal.invariant-loop-block
-invariant-loop-block l = l.logs.items ≡ map log_of (take l.block-index l.fn.blocks)
+invariant-loop-block l = l.logs.items ≡ map length_and_index (take l.block-index l.fn.blocks)

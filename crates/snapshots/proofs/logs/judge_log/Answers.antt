@@ -1,12 +1,12 @@
 use Rattle.std.proofs.Common.{arith, subst, sym}
-use Rattle.snapshots.specs.Flaws.{IsFaultFor}
+use Rattle.snapshots.specs.Flaws.{IsSnapFaultFor}
 use Rattle.snapshots.specs.JoinFlaws.{log_flaw}
 use Rattle.snapshots.proofs.LogsLemmas.{log_flaw-duration, log_flaw-none, log_flaw-off_grid}
 use Rattle.snapshots.proofs.logs.judge_log.Goals as goal
 
 pub returns-in-Err-clause-flaw : goal.returns-in-Err-clause-flaw
 returns-in-Err-clause-flaw g c =
-    subst (IsFaultFor (log_flaw c.args.frame.now c.args.rules.now c.args.number c.args.rank c.args.block.now))
+    subst (IsSnapFaultFor (log_flaw c.args.frame.now c.args.rules.now c.args.number c.args.rank c.args.block.now))
     (sym c.flaw.ensures)
     (log_flaw-off_grid c.args.frame.now c.args.rules.now c.args.number c.args.rank c.args.block.now c.in-Err.place
     c.in-Err.ensures.err)
@@ -18,7 +18,7 @@ returns-then-summary-from-clause-exact g c =
 
 pub returns-else-summary-from-clause-flaw : goal.returns-else-summary-from-clause-flaw
 returns-else-summary-from-clause-flaw g c =
-    subst (IsFaultFor (log_flaw c.args.frame.now c.args.rules.now c.args.number c.args.rank c.args.block.now))
+    subst (IsSnapFaultFor (log_flaw c.args.frame.now c.args.rules.now c.args.number c.args.rank c.args.block.now))
     (sym c.flaw-else-summary-from.ensures)
     (log_flaw-duration c.args.frame.now c.args.rules.now c.args.number c.args.rank c.args.block.now
     c.in-Ok.ensures.inside

@@ -3,7 +3,7 @@ use Rattle.std.specs.Prelude.{sum}
 use Rattle.packed_bits.proofs.OnesLemmas.{ones_of-le-length}
 use Rattle.std.proofs.lemmas.Result.{err_from_is_err_and}
 use Rattle.list_laws.proofs.FirstLemmas.{made_first}
-use Rattle.snapshots.specs.Flaws.{IsFaultFor}
+use Rattle.snapshots.specs.Flaws.{IsSnapFaultFor}
 use Rattle.snapshots.specs.JoinFlaws.{block_flaw, log_flaw}
 use Rattle.snapshots.specs.Sound.{IsBlock}
 use Rattle.snapshots.specs.Tracks.{blocks_by_leaf, track_box}
@@ -90,7 +90,7 @@ returns-in_err-log-clause-flaw g c =
     let found = c.in_err-log.field-0.0 in
     let known = blocks_flaw-at c.args.rules.now c.args.snapshot.now c.loop-slot.slot-index c.in-Some.block found
     (within g at) c.loop-slot.invariant.none (has g at)
-    (subst (λ first. IsFaultFor first found) (same_flaw g at) c.in_err-log.ensures.flaw) in
+    (subst (λ first. IsSnapFaultFor first found) (same_flaw g at) c.in_err-log.ensures.flaw) in
     let given = err_from_is_err_and c.from_residual-in_err-log.result
     c.from_residual-in_err-log.ensures.1 in
     rw (given.1, given.2) known

@@ -2,7 +2,7 @@ use Rattle.std.proofs.Common.{arith, subst, sym}
 use Rattle.std.proofs.lemmas.Int.{ints}
 use Rattle.track_types.specs.Frame.{IsFrame}
 use Rattle.snapshots.specs.View.{view_with}
-use Rattle.snapshots.specs.Flaws.{IsShaped}
+use Rattle.snapshots.specs.Flaws.{IsShapedView}
 use Rattle.snapshots.specs.declared.tests.TheConstants.{ONE_PERIOD, TWO_PERIODS}
 use Rattle.snapshots.proofs.tests.checked.Goals as goal
 
@@ -44,10 +44,10 @@ IsFrame-TWO_PERIODS = record {
 
 pub check-requires : goal.check-requires
 check-requires g c =
-    subst (λ n. IsShaped (view_with TWO_PERIODS 1 n 5 c.in_ok-parts.parts)) (sym c.len-objects.ensures)
+    subst (λ n. IsShapedView (view_with TWO_PERIODS 1 n 5 c.in_ok-parts.parts)) (sym c.len-objects.ensures)
     (c.have_shape.ensures c.if-not-have_shape.false TWO_PERIODS 1 5 IsFrame-TWO_PERIODS (omega arith) (omega arith))
 
 pub check-requires-else-is_second : goal.check-requires-else-is_second
 check-requires-else-is_second g c =
-    subst (λ n. IsShaped (view_with ONE_PERIOD 0 n 0 c.in_ok-parts.parts)) (sym c.len-objects.ensures)
+    subst (λ n. IsShapedView (view_with ONE_PERIOD 0 n 0 c.in_ok-parts.parts)) (sym c.len-objects.ensures)
     (c.have_shape.ensures c.if-not-have_shape.false ONE_PERIOD 0 0 IsFrame-ONE_PERIOD (omega arith) (omega arith))

@@ -4,10 +4,10 @@ use Rattle.std.proofs.lemmas.Iterator.Adapters.{YieldsList-from_vec}
 use Rattle.std.proofs.lemmas.Iterator.Consumers.{YieldsList-end, YieldsList-turn}
 use Rattle.std.proofs.lemmas.List.{length_push}
 use Rattle.std.proofs.lemmas.Result.{err_from_is_err_and}
-use Rattle.snapshots.specs.Flaws.{flaw_of, IsShaped}
+use Rattle.snapshots.specs.Flaws.{flaw_of, IsShapedView}
 use Rattle.snapshots.specs.View.{view_with}
-use Rattle.track_index.specs.CheckFlaws.{IsFaultFor}
-use Rattle.track_index.proofs.PeriodLemmas.{checked-more, flaw-next, length-snaps, number-short, snapshots_flaw-none, AreChecked, IsShaped-next}
+use Rattle.track_index.specs.CheckFlaws.{IsFormatFaultFor}
+use Rattle.track_index.proofs.PeriodLemmas.{checked-more, flaw-next, length-snaps, number-short, snapshots_flaw-none, AreChecked, IsShapedView-next}
 use Rattle.track_index.proofs.opening.check_each.Goals as goal
 use Rattle.track_index.proofs.opening.check_each.Goals.{After-len-number, After-symbols_of-symbols}
 
@@ -41,9 +41,9 @@ pub check_period-requires : goal.check_period-requires
 check_period-requires c =
     let at = (goal.at.check_period-requires c).After-len-number in
     let turn = turn at in
-    subst (λ n. IsShaped (view_with c.args.header.now.value n c.args.objects c.loop-period.start c.in-Some.period))
+    subst (λ n. IsShapedView (view_with c.args.header.now.value n c.args.objects c.loop-period.start c.in-Some.period))
     (sym (counted at))
-    (IsShaped-next _ _ _ _ _ _ c.loop-period.invariant c.requires c.in-Some.period turn.0 turn.1)
+    (IsShapedView-next _ _ _ _ _ _ c.loop-period.invariant c.requires c.in-Some.period turn.0 turn.1)
 
 pub returns-in_err-check_period-clause-flaw : goal.returns-in_err-check_period-clause-flaw
 returns-in_err-check_period-clause-flaw c =
@@ -51,7 +51,7 @@ returns-in_err-check_period-clause-flaw c =
     let turn = turn at in
     let found = c.in_err-check_period.field-0.0 in
     let known = flaw-next _ _ _ _ _ _ c.loop-period.invariant c.requires c.in-Some.period turn.0 turn.1 found
-    (subst (λ n. IsFaultFor (flaw_of (view_with c.args.header.now.value n c.args.objects c.loop-period.start
+    (subst (λ n. IsFormatFaultFor (flaw_of (view_with c.args.header.now.value n c.args.objects c.loop-period.start
     c.in-Some.period)) found) (counted at) c.in_err-check_period.ensures.flaw) in
     let given = err_from_is_err_and c.from_residual-in_err-check_period.result
     c.from_residual-in_err-check_period.ensures.1 in

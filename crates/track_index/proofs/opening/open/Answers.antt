@@ -2,7 +2,7 @@ use Rattle.std.proofs.Common.{◌≡◌, None, Result, Ok, Err, arith, ap, subst
 use Rattle.std.specs.Prelude.{IfErr, IfOk, OnOk}
 use Rattle.std.proofs.lemmas.Result.{err_from_is_err_and, IfOk-weaker}
 use Rattle.snapshots.specs.IndexCost.{open_cost}
-use Rattle.track_index.specs.CheckFlaws.{check_flaw, IsFaultFor}
+use Rattle.track_index.specs.CheckFlaws.{check_flaw, IsFormatFaultFor}
 use Rattle.track_index.proofs.DecidingLemmas.{decided, first_flaw-file}
 use Rattle.track_index.proofs.OpeningLemmas.{bytes_cost-read, fault-unread, first_flaw-read}
 use Rattle.track_index.proofs.opening.open.Goals as goal
@@ -31,7 +31,7 @@ returns-clause-decides g c = λ whole file.
 
 pub returns-clause-flaw : goal.returns-clause-flaw
 returns-clause-flaw g c =
-    subst (λ flaw. IfErr c.check.result (λ fault. IsFaultFor flaw fault))
+    subst (λ flaw. IfErr c.check.result (λ fault. IsFormatFaultFor flaw fault))
     (sym (first_flaw-read c.args.bytes.now c.in_ok-parts.parts c.in_ok-parts.ensures.ok)) c.check.ensures.flaw
 
 pub returns-clause-cost : goal.returns-clause-cost

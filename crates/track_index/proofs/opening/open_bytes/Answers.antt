@@ -2,7 +2,7 @@ use Rattle.std.proofs.Common.{◌≡◌, None, arith, ap, subst, sym, ◌∙◌}
 use Rattle.std.specs.Prelude.{IfErr, OnOk}
 use Rattle.std.proofs.lemmas.Result.{err_from_is_err_and, IfOk-weaker}
 use Rattle.snapshots.specs.IndexCost.{open_cost}
-use Rattle.track_index.specs.CheckFlaws.{IsFaultFor}
+use Rattle.track_index.specs.CheckFlaws.{IsFormatFaultFor}
 use Rattle.track_index.proofs.DecidingLemmas.{decided, first_flaw-file}
 use Rattle.track_index.proofs.OpeningLemmas.{bytes_cost-read, fault-unread, first_flaw-read}
 use Rattle.track_index.proofs.opening.open_bytes.Goals as goal
@@ -35,7 +35,7 @@ returns-clause-decides g c = λ whole file.
 pub returns-clause-flaw : goal.returns-clause-flaw
 returns-clause-flaw g c =
     let read = rw (c.as_slice.ensures.value) at c.in_ok-parts.ensures.ok in
-    subst (λ flaw. IfErr c.check.result (λ fault. IsFaultFor flaw fault))
+    subst (λ flaw. IfErr c.check.result (λ fault. IsFormatFaultFor flaw fault))
     (sym (first_flaw-read c.args.bytes.items c.in_ok-parts.parts read)) c.check.ensures.flaw
 
 pub returns-clause-cost : goal.returns-clause-cost

@@ -3,7 +3,7 @@ use Rattle.rule_store.specs.Flaws.{AreRules}
 use Rattle.rule_store.specs.Log.{block_stops, log_of}
 use Rattle.log_cursor.specs.Start.{IsWayOf}
 use Rattle.log_cursor.proofs.WayLemmas.{IsWayOf-placed, length-log_of}
-use Rattle.encounter.specs.Span.{tree_of}
+use Rattle.encounter.specs.Span.{log_tree}
 use Rattle.encounter.proofs.side.Side.new.Goals as goal
 
 pub invariant_of-result : goal.invariant_of-result
@@ -26,5 +26,5 @@ unfolding block_stops
 returns-clause-rest c =
     let now = c.begin.new.self in
     let same : now.rules ≡ c.args.view.rules.now = c.begin.ensures.rules ∙ c.in_ok-pending.ensures.rules ∙ c.rules.ensures in
-    ap (λ r. tree_of r c.args.start now.symbols) same
-    ∙ ap (tree_of c.args.view.rules.now c.args.start) c.begin.ensures.symbols
+    ap (λ r. log_tree r c.args.start now.symbols) same
+    ∙ ap (log_tree c.args.view.rules.now c.args.start) c.begin.ensures.symbols

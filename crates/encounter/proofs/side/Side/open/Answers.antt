@@ -1,5 +1,5 @@
 use Rattle.std.proofs.Common.{Some, subst}
-use Rattle.encounter.specs.Side.{IsOpened, IsSide, side_of}
+use Rattle.encounter.specs.Side.{OpensNode, IsSide, side_of}
 use Rattle.encounter.proofs.SideLemmas.{opened-is, opened-to, opens-rule, view-is}
 use Rattle.encounter.proofs.side.Side.open.Goals as goal
 
@@ -19,7 +19,7 @@ returns-clause-opened g c =
     let entry = c.in-Some.entry in
     let is : IsSide old.pending old.at (Some entry) = subst (IsSide old.pending old.at) c.in-Some.is c.self.invariant in
     let view = view-is old.pending old.at old.top (Some entry) c.args.self.now c.in-Some.is c.self.view_is in
-    subst (λ side. IsOpened side (side_of c.next.new.self old.at (Some c.in-Some-next.left))) view
+    subst (λ side. OpensNode side (side_of c.next.new.self old.at (Some c.in-Some-next.left))) view
     (opened-to old.pending c.open.new.self c.next.new.self old.at entry c.in-Some-next.left is
     (opens-rule old.pending old.at entry c.args.self.now view c.requires) c.open.ensures.rules c.open.ensures.symbols
     c.in-Some-next.ensures.found c.next.ensures.rules c.next.ensures.sound)

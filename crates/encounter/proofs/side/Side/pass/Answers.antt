@@ -3,7 +3,7 @@ use Rattle.rule_store.proofs.LogLemmas.{stops_after-none}
 use Rattle.log_cursor.specs.Start.{IsWayOf}
 use Rattle.rule_store.specs.Log.{stops_after}
 use Rattle.encounter.specs.Side.{IsPassed, IsSide, SideView, past_of, side_of}
-use Rattle.encounter.specs.Span.{Tree}
+use Rattle.encounter.specs.Span.{BlockTree}
 use Rattle.encounter.proofs.SideLemmas.{past-later, past-start, past-way, passed, passed-is}
 use Rattle.encounter.proofs.side.Side.pass.Goals as goal
 
@@ -27,7 +27,7 @@ returns-in_default-clause-end g c _ =
     let old = c.self.inside in
     let past = past_of old.at old.top in
     ap (λ (s : SideView). s.later.stops) (sym c.self.view_is)
-    ∙ ap (λ (t : Tree). t.stops) (past-later old.pending old.at old.top c.self.invariant)
+    ∙ ap (λ (t : BlockTree). t.stops) (past-later old.pending old.at old.top c.self.invariant)
     ∙ ap (stops_after old.pending.rules past.instant past.cell) c.in_default.ensures.none
     ∙ stops_after-none old.pending.rules past.instant past.cell
 

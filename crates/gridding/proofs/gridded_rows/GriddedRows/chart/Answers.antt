@@ -10,7 +10,7 @@ use Rattle.gridding.specs.ChartOf.{chart_rows}
 use Rattle.gridding.specs.GriddedRows.{HasGridded}
 use Rattle.gridding.specs.Survey.{IsMeasureOf}
 use Rattle.gridding.proofs.ChartLemmas.{chart_rows-few, chart_rows-in_range, chart_rows-none}
-use Rattle.gridding.proofs.GriddedLemmas.{IsFaultOf-refusal, chart_rows-held}
+use Rattle.gridding.proofs.GriddedLemmas.{IsGridFault-refusal, chart_rows-held}
 use Rattle.gridding.proofs.LimitLemmas.{chart_with-IsChart}
 use Rattle.gridding.proofs.SurveyLemmas.{IsMeasureOf-survey}
 use Rattle.gridding.proofs.gridded_rows.GriddedRows.chart.Goals.{After-is_empty}
@@ -75,7 +75,7 @@ returns-in_err-check_limits-clause-fault c =
     rw told (λ cell tick raws has.
     let here = (goal.at.returns-in_err-check_limits-clause-fault c).After-is_empty in
     let is = made here cell tick raws has in
-    IsFaultOf-refusal raws cell tick c.args.period c.in_err-check_limits.field-0.0 (some here cell tick raws has more)
+    IsGridFault-refusal raws cell tick c.args.period c.in_err-check_limits.field-0.0 (some here cell tick raws has more)
     (rw (c.as_slice.ensures.value, is) at c.in_err-check_limits.ensures.limit))
 
 pub with_extents-requires-clause-chart : goal.with_extents-requires-clause-chart

@@ -3,8 +3,8 @@ use Rattle.std.specs.Prelude.{ℤ, pos, ◌+ℤ◌}
 use Rattle.std.proofs.lemmas.Int.{ints, to_z-of_z, fits_signed_from_abs}
 use Rattle.track_types.specs.Near.{IsWithin}
 use Rattle.gridding.proofs.RecountingLemmas.{within_word}
-use Rattle.gridding.specs.Origin.{IsCounted, IsOrigin}
-use Rattle.gridding.specs.PackedPlace.{cell_of, elapsed_of}
+use Rattle.gridding.specs.Origin.{IsOneOf, IsOrigin}
+use Rattle.gridding.specs.PackedPlace.{packed_cell, elapsed_of}
 use Rattle.gridding.specs.declared.packed_place.TheConstants.{CELLS, INSTANTS}
 use Rattle.gridding.proofs.packed_place.Origin.place.Goals as goal
 
@@ -28,12 +28,12 @@ origin_word z near = to_z-of_z w64 z (fits_signed_from_abs w64 z (omega (arith, 
 
 -- a number that is not found among so many as words is none of them
 not_counted : (least : ℤ) (count : ℕ) (number : ℤ) → IsOrigin least → IsWithin number →
-    (IsCounted (to_z w64 (of_z w64 least)) count (to_z w64 (of_z w64 number)) → ⊥) → IsCounted least count number → ⊥
+    (IsOneOf (to_z w64 (of_z w64 least)) count (to_z w64 (of_z w64 number)) → ⊥) → IsOneOf least count number → ⊥
 not_counted least count number origin within none counted = none (rw (origin_word least origin, within_word number within) counted)
 
 -- one that is found among so many is one of them
 found : {least : ℤ} {count offset : ℕ} {number : ℤ} → (offset < count) × ((least +ℤ pos offset) ≡ number) →
-    IsCounted least count number
+    IsOneOf least count number
 found (below, is) = (omega (arith, ints, is), omega (arith, ints, below, is))
 
 pub returns-in_err-instant-clause-none : goal.returns-in_err-instant-clause-none
@@ -53,7 +53,7 @@ returns-in_err-y-clause-none c =
     not_counted c.args.self.cell.y CELLS c.args.row.cell.y c.args.self.y_near c.requires.y c.in_err-y.ensures.none within.y)
 
 pub returns-clause-some : goal.returns-clause-some
-unfolding elapsed_of cell_of
+unfolding elapsed_of packed_cell
 returns-clause-some c =
     let t = c.in_ok-instant.instant in
     let x = c.in_ok-x.x in

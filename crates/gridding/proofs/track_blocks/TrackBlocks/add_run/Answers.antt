@@ -3,7 +3,7 @@ use Rattle.std.proofs.lemmas.List.{append-nil, get_or-map, length-map, take_all}
 use Rattle.track_types.specs.declared.row.Row.{Row}
 use Rattle.gridding.proofs.MergeLemmas.{no_place, placed-more}
 use Rattle.gridding.specs.GriddedRows.{AreBlocksOf}
-use Rattle.gridding.specs.PackedPlace.{HasPlace, row_at}
+use Rattle.gridding.specs.PackedPlace.{HasPlace, packed_row}
 use Rattle.gridding.specs.declared.packed_place.Origin.{Origin}
 use Rattle.gridding.specs.declared.packed_place.PackedPlace.{PackedPlace}
 use Rattle.gridding.specs.declared.track_blocks.TrackBlocks.{TrackBlocks}
@@ -12,9 +12,9 @@ use Rattle.gridding.proofs.track_blocks.TrackBlocks.add_run.Goals as goal
 -- the row of one place more is there
 one_more : (origin own : Origin) (object : ℕ) (rows : List Row) (places : List PackedPlace) (i : ℕ) (place : PackedPlace)
     (tracks : TrackBlocks) → i < length places →
-    row_at own object place ≡ row_at origin object (get_or places i no_place) →
-    AreBlocksOf ((rows ++ map (row_at origin object) (take i places)) ++ (row_at own object place ∷ [])) tracks →
-    AreBlocksOf (rows ++ map (row_at origin object) (take (i + 1) places)) tracks
+    packed_row own object place ≡ packed_row origin object (get_or places i no_place) →
+    AreBlocksOf ((rows ++ map (packed_row origin object) (take i places)) ++ (packed_row own object place ∷ [])) tracks →
+    AreBlocksOf (rows ++ map (packed_row origin object) (take (i + 1) places)) tracks
 one_more origin own object rows places i place tracks below is blocks =
     rw (placed-more origin object rows places i no_place below) at (rw is at blocks)
 
@@ -35,7 +35,7 @@ loop-place-preserved c =
     let left = c.put.ensures.left_out c.if-put.false in
     record {
       blocks = λ rows blocks.
-          let done : List Row = rows ++ map (row_at c.args.origin c.args.object) (take c.loop-place.place-index c.args.places.now) in
+          let done : List Row = rows ++ map (packed_row c.args.origin c.args.object) (take c.loop-place.place-index c.args.places.now) in
           let before : AreBlocksOf done c.put.new.self = rw left (c.loop-place.invariant.blocks rows blocks) in
           one_more c.args.origin c.loop-place.self.origin c.args.object rows c.args.places.now c.loop-place.place-index
           c.in-Some.place c.put_known.new.self c.loop-place-test.true (rw c.row.ensures.row at c.in-Some.ensures.some)
@@ -46,7 +46,7 @@ loop-place-preserved c =
 -- a place of which the row has none from the origin of the blocks
 pub returns-in_default-clause-far : goal.returns-in_default-clause-far
 returns-in_default-clause-far c = λ _ all.
-    let f : PackedPlace → Row = row_at c.args.origin c.args.object in
+    let f : PackedPlace → Row = packed_row c.args.origin c.args.object in
     let places : List PackedPlace = c.args.places.now in
     let i = c.loop-place.place-index in
     let row : Row = f (get_or places i no_place) in

@@ -8,7 +8,7 @@ use Rattle.track_types.specs.declared.parts.Parts.{Parts}
 use Rattle.snapshots.specs.Parts.{chart_in}
 use Rattle.track_index.specs.Facts.{facts_of}
 use Rattle.live_tail.proofs.FactsLemmas.{facts-made, first-none, first-some, last-none, last-some}
-use Rattle.live_tail.proofs.JoinLemmas.{IsTable-chart_with}
+use Rattle.live_tail.proofs.JoinLemmas.{IsTable-joint_chart}
 use Rattle.live_tail.proofs.answering.TailRefAnswerer.facts.Goals as goal
 
 pub returns-in_default-clause-value : goal.returns-in_default-clause-value
@@ -29,7 +29,7 @@ returns-in_default-clause-table c =
     let tail : Option ChartView = c.args.self.tailed.now.tail in
     let none : tail ≡ None = sym c.tail.ensures ∙ c.in_default.ensures.none in
     let table : IsTable (chart_in parts) = subst (λ (p : Parts). IsTable (chart_in p)) (c.view.ensures ∙ c.index.ensures) c.facts-facts.ensures.table in
-    IsTable-chart_with (chart_in parts) tail table (subst (λ t. IfSome t IsChart) (sym none) tt)
+    IsTable-joint_chart (chart_in parts) tail table (subst (λ t. IfSome t IsChart) (sym none) tt)
 
 pub returns-clause-value : goal.returns-clause-value
 returns-clause-value c =
@@ -62,4 +62,4 @@ returns-clause-table c =
     let tail : Option ChartView = c.args.self.tailed.now.tail in
     let some : tail ≡ Some c.in-Some.chart.now = sym c.tail.ensures ∙ c.in-Some.ensures.some in
     let table : IsTable (chart_in parts) = subst (λ (p : Parts). IsTable (chart_in p)) (c.view.ensures ∙ c.index.ensures) c.facts-facts.ensures.table in
-    IsTable-chart_with (chart_in parts) tail table (subst (λ t. IfSome t IsChart) (sym some) c.first.ensures.chart)
+    IsTable-joint_chart (chart_in parts) tail table (subst (λ t. IfSome t IsChart) (sym some) c.first.ensures.chart)

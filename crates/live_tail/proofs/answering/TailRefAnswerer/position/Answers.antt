@@ -10,7 +10,7 @@ use Rattle.snapshots.specs.Parts.{chart_in}
 use Rattle.track_index.specs.Cost.{cost_of}
 use Rattle.live_tail.specs.Cost.{cost_beside}
 use Rattle.live_tail.specs.Join.{rows_of_tail}
-use Rattle.live_tail.proofs.JoinLemmas.{cell_at-chart_with}
+use Rattle.live_tail.proofs.JoinLemmas.{cell_at-joint_chart}
 use Rattle.live_tail.proofs.answering.TailRefAnswerer.position.Goals as goal
 
 pub returns-in-Some-clause-value : goal.returns-in-Some-clause-value
@@ -23,7 +23,7 @@ returns-in-Some-clause-value g c =
     let own : cell_at (rows_of_tail tail) c.args.object at ≡ Some c.in-Some.cell =
     sym (c.cell_at.ensures ∙ ap (λ z. cell_at (rows_of_tail c.tail.result.now) c.args.object z) same
     ∙ ap (λ t. cell_at (rows_of_tail t) c.args.object at) c.tail.ensures) ∙ c.in-Some.is in
-    sym (cell_at-chart_with (chart_in parts) tail table c.args.object at
+    sym (cell_at-joint_chart (chart_in parts) tail table c.args.object at
     ∙ ap (λ found. option_or found (cell_at (chart_in parts).rows c.args.object at)) own)
 
 pub returns-in-None-clause-value : goal.returns-in-None-clause-value
@@ -40,7 +40,7 @@ returns-in-None-clause-value g c =
     c.position.ensures.value
     ∙ ap (λ z. cell_at (chart_in c.view-index.result.index.now).rows c.args.object z) same
     ∙ ap (λ (p : Parts). cell_at (chart_in p).rows c.args.object at) its
-    ∙ sym (cell_at-chart_with (chart_in parts) tail table c.args.object at
+    ∙ sym (cell_at-joint_chart (chart_in parts) tail table c.args.object at
     ∙ ap (λ found. option_or found (cell_at (chart_in parts).rows c.args.object at)) own)
 
 pub returns-in-None-clause-cost : goal.returns-in-None-clause-cost

@@ -10,7 +10,7 @@ use Rattle.snapshots.specs.Parts.{chart_in}
 use Rattle.track_index.specs.Cost.{cost_of}
 use Rattle.live_tail.specs.Cost.{cost_beside}
 use Rattle.live_tail.specs.Join.{rows_of_tail}
-use Rattle.live_tail.proofs.JoinLemmas.{path_of-chart_with}
+use Rattle.live_tail.proofs.JoinLemmas.{path_of-joint_chart}
 use Rattle.live_tail.proofs.answering.TailRefAnswerer.walk.Goals as goal
 
 pub returns-clause-left : goal.returns-clause-left
@@ -35,7 +35,7 @@ returns-clause-left c =
     ∙ ap (λ z. path_of (chart_in c.view-index.result.index.now).rows c.args.object from z) high
     ∙ ap (λ (p : Parts). path_of (chart_in p).rows c.args.object from to) its in
     rw (c.new.ensures.rows, c.new.ensures.ahead, c.new.ensures.walk, own, left)
-    (sym (path_of-chart_with (chart_in parts) tail table (subst IsAscending rows c.rows.ensures.ascending) c.args.object from to))
+    (sym (path_of-joint_chart (chart_in parts) tail table (subst IsAscending rows c.rows.ensures.ascending) c.args.object from to))
 
 pub returns-clause-budget : goal.returns-clause-budget
 unfolding cost_beside

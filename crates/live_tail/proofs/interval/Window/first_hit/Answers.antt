@@ -8,10 +8,10 @@ use Rattle.track_types.specs.Row.{IsAscending}
 use Rattle.track_types.specs.declared.row.Row.{Row}
 use Rattle.track_types.specs.declared.stop.Stop.{Stop}
 use Rattle.interval_search.specs.FirstHits.{hit_at}
-use Rattle.live_tail.specs.Join.{rows_of_tail, rows_with}
+use Rattle.live_tail.specs.Join.{rows_of_tail, joint_rows}
 use Rattle.live_tail.specs.Walk.{stops_with}
 use Rattle.live_tail.proofs.HitLemmas.{near-path}
-use Rattle.live_tail.proofs.JoinLemmas.{path_of-rows_with}
+use Rattle.live_tail.proofs.JoinLemmas.{path_of-joint_rows}
 use Rattle.live_tail.proofs.interval.Window.first_hit.Given.{Over}
 use Rattle.live_tail.proofs.interval.Window.first_hit.Goals as goal
 use Rattle.live_tail.proofs.interval.Window.first_hit.Goals.{After-new-walk}
@@ -19,7 +19,7 @@ use Rattle.live_tail.proofs.interval.Window.first_hit.Goals.{After-new-walk}
 -- the walk is over the path in both
 walked : (g : Over) (c : After-new-walk g)
     → stops_with c.new-walk.result.rows.now (option_to_list c.new-walk.result.ahead ++ g.A.Walk.Lazy.left c.new-walk.result.walk)
-    ≡ path_of (rows_with (g.A.Answerer.chart c.args.self.now.answerer).rows (rows_of_tail c.args.self.now.tail.now))
+    ≡ path_of (joint_rows (g.A.Answerer.chart c.args.self.now.answerer).rows (rows_of_tail c.args.self.now.tail.now))
     c.args.object c.args.self.now.from c.args.self.now.to
 walked g c =
     let self = c.args.self.now in
@@ -36,7 +36,7 @@ walked g c =
     ∙ ap (λ z. path_of rows c.args.object z (to_z w64 (of_z w64 self.to))) low
     ∙ ap (λ z. path_of rows c.args.object self.from z) high in
     rw (c.new-walk.ensures.rows, c.new-walk.ensures.ahead, c.new-walk.ensures.walk, own, left)
-    (sym (path_of-rows_with rows tail c.requires.table.ascending (subst IsAscending c.rows.ensures.value c.rows.ensures.ascending)
+    (sym (path_of-joint_rows rows tail c.requires.table.ascending (subst IsAscending c.rows.ensures.value c.rows.ensures.ascending)
     c.args.object self.from self.to))
 
 pub first_in-requires-clause-near : goal.first_in-requires-clause-near

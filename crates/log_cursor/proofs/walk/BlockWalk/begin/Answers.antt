@@ -5,7 +5,7 @@ use Rattle.rule_store.specs.Log.{in_window, log_of, stop_at}
 use Rattle.log_cursor.specs.Pending.{PendingView}
 use Rattle.log_cursor.specs.Start.{IsWayOf}
 use Rattle.log_cursor.specs.Walk.{WalkView}
-use Rattle.log_cursor.proofs.WalkLemmas.{begun-empty, walk_of-begun, walk_of-none}
+use Rattle.log_cursor.proofs.WalkLemmas.{walk_from-empty, walk_of-walk_from, walk_of-none}
 use Rattle.log_cursor.proofs.WayLemmas.{IsWayOf-none, IsWayOf-placed, length-log_of}
 use Rattle.log_cursor.proofs.walk.BlockWalk.begin.Goals as goal
 
@@ -26,7 +26,7 @@ returns-then-to-from c =
     let rules = c.args.view.rules.now in
     let same = c.end.ensures.rules ∙ ap (λ (w : WalkView). w.rules) c.self.view_is ∙ sym c.requires.rules in
     walk_of-none c.end.new.self walk.at walk.from walk.to rules same c.end.ensures.symbols c.end.ensures.unread
-    ∙ begun-empty rules (log_of c.args.view) c.args.start c.args.from c.args.to (omega (arith, ints, c.if-to-from.true))
+    ∙ walk_from-empty rules (log_of c.args.view) c.args.start c.args.from c.args.to (omega (arith, ints, c.if-to-from.true))
 
 pub invariant_of-self-2 : goal.invariant_of-self-2
 invariant_of-self-2 c =
@@ -56,5 +56,5 @@ returns c =
     let first = ap (λ z. in_window z (to_z w64 (of_z w64 c.args.to))
     (stop_at c.args.start.instant c.args.start.cell ∷ [])) low
     ∙ ap (λ z. in_window c.args.from z (stop_at c.args.start.instant c.args.start.cell ∷ [])) high in
-    walk_of-begun now anchor c.args.start c.args.from c.args.to rules (log_of c.args.view) same
+    walk_of-walk_from now anchor c.args.start c.args.from c.args.to rules (log_of c.args.view) same
     c.begin.ensures.symbols c.begin.ensures.unread (c.stop_within-self-inside.ensures ∙ first) _ _ low high window

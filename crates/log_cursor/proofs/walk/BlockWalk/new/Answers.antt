@@ -1,6 +1,6 @@
 use Rattle.std.proofs.Common.{pos, subst, sym, arith}
 use Rattle.std.proofs.lemmas.Int.{ints}
-use Rattle.rule_store.specs.Cells.{cell_at}
+use Rattle.rule_store.specs.Cells.{cell_with}
 use Rattle.log_cursor.specs.Start.{IsWayOf, start_at}
 use Rattle.log_cursor.specs.declared.start.Start.{Start}
 use Rattle.log_cursor.proofs.WalkLemmas.{walk_of-none}
@@ -9,7 +9,7 @@ use Rattle.log_cursor.proofs.walk.BlockWalk.new.Goals as goal
 
 -- where a walk is before it begins
 abbrev nowhere : Start
-nowhere = start_at (pos 0) (cell_at (pos 0) (pos 0))
+nowhere = start_at (pos 0) (cell_with (pos 0) (pos 0))
 
 pub invariant_of-result : goal.invariant_of-result
 invariant_of-result c =

@@ -4,7 +4,7 @@ use Rattle.track_types.specs.Widening.{widened}
 use Rattle.track_types.specs.declared.cell.Cell.{Cell}
 use Rattle.track_types.specs.declared.cell_box.CellBox.{CellBox}
 use Rattle.nearest_search.specs.Cost.{box_dist2}
-use Rattle.nearest_search.specs.Reach.{key_of}
+use Rattle.nearest_search.specs.Reach.{queue_key}
 use Rattle.nearest_search.proofs.reach.Reach.key.Goals as goal
 
 -- a box that is made wider by nothing is as near
@@ -15,7 +15,7 @@ box_dist2-narrow cell area =
     rw (less area.x1, less area.y1, more area.x2, more area.y2) refl
 
 pub returns : goal.returns
-unfolding key_of
+unfolding queue_key
 returns c =
     let near : c.dist2_to-near.result ≡ box_dist2 c.args.self.now.cell c.args.area.now =
     c.dist2_to-near.ensures ∙ box_dist2-narrow c.args.self.now.cell c.args.area.now in

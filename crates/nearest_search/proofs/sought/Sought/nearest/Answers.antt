@@ -7,9 +7,9 @@ use Rattle.std.proofs.lemmas.List.Sums.{sum_by-cons}
 use Rattle.list_laws.specs.Ordered.{ordered}
 use Rattle.track_types.specs.ByFilter.{near_order}
 use Rattle.track_types.specs.declared.near.Near.{Near}
-use Rattle.nearest_search.specs.Cost.{is_no_farther, last_of}
+use Rattle.nearest_search.specs.Cost.{is_no_farther, last_answer}
 use Rattle.nearest_search.specs.Kept.{ClosestView}
-use Rattle.nearest_search.specs.Seeking.{near_at, near_squares, quest_of, square_in, turns_left, worth_left, AreSeeking}
+use Rattle.nearest_search.specs.Seeking.{near_at, near_squares, quest_of, square_in, waiting_turns, worth_left, AreSeeking}
 use Rattle.nearest_search.specs.declared.waiting.Element.{Element}
 use Rattle.nearest_search.specs.declared.waiting.Waiting.{Waiting}
 use Rattle.nearest_search.proofs.SearchLemmas.{nears-none, nears-some, seeking-apart, seeking-beyond, seeking-end, seeking-enough}
@@ -29,9 +29,9 @@ moved g c =
 
 -- the call told whether it is near enough
 told : (g : Over) (c : After-has_room_for g)
-    → is_no_farther (last_of c.args.count c.loop-taken.closest.nears) c.in-Some.taken.key ≡ c.has_room_for.result
+    → is_no_farther (last_answer c.args.count c.loop-taken.closest.nears) c.in-Some.taken.key ≡ c.has_room_for.result
 told g c =
-    sym (ap (λ k. is_no_farther (last_of k c.loop-taken.closest.nears) c.in-Some.taken.key) c.loop-taken.invariant.wanted)
+    sym (ap (λ k. is_no_farther (last_answer k c.loop-taken.closest.nears) c.in-Some.taken.key) c.loop-taken.invariant.wanted)
     ∙ sym c.has_room_for.ensures
 
 -- and where it is, its square passes
@@ -64,9 +64,9 @@ loop-taken-smaller-in-Continue-branch-2 g c =
     omega (
       arith,
       c.in_ok-open-in-Node.ensures.opened.turns,
-      sum_by_popped (λ (e : Element). turns_left (quest_of c.args.self.now) e.waiting) c.in-Some.taken
+      sum_by_popped (λ (e : Element). waiting_turns (quest_of c.args.self.now) e.waiting) c.in-Some.taken
           (heap_items c.loop-taken.queue.heap) (heap_items c.take.new.self.heap) c.in-Some.ensures.moved,
-      ap (turns_left (quest_of c.args.self.now)) c.in-Node.is,
+      ap (waiting_turns (quest_of c.args.self.now)) c.in-Node.is,
     )
 
 pub loop-taken-preserved-in-Continue-branch-2 : goal.loop-taken-preserved-in-Continue-branch-2
@@ -109,9 +109,9 @@ pub loop-taken-smaller-in-Continue-branch-3 : goal.loop-taken-smaller-in-Continu
 loop-taken-smaller-in-Continue-branch-3 g c =
     omega (
       arith,
-      sum_by_popped (λ (e : Element). turns_left (quest_of c.args.self.now) e.waiting) c.in-Some.taken
+      sum_by_popped (λ (e : Element). waiting_turns (quest_of c.args.self.now) e.waiting) c.in-Some.taken
           (heap_items c.loop-taken.queue.heap) (heap_items c.take.new.self.heap) c.in-Some.ensures.moved,
-      ap (turns_left (quest_of c.args.self.now)) c.in-Place.is,
+      ap (waiting_turns (quest_of c.args.self.now)) c.in-Place.is,
     )
 
 pub loop-taken-preserved-in-Continue-branch-3 : goal.loop-taken-preserved-in-Continue-branch-3
@@ -140,9 +140,9 @@ pub loop-taken-smaller : goal.loop-taken-smaller
 loop-taken-smaller g c =
     omega (
       arith,
-      sum_by_popped (λ (e : Element). turns_left (quest_of c.args.self.now) e.waiting) c.in-Some.taken
+      sum_by_popped (λ (e : Element). waiting_turns (quest_of c.args.self.now) e.waiting) c.in-Some.taken
           (heap_items c.loop-taken.queue.heap) (heap_items c.take.new.self.heap) c.in-Some.ensures.moved,
-      ap (turns_left (quest_of c.args.self.now)) c.in-Place.is,
+      ap (waiting_turns (quest_of c.args.self.now)) c.in-Place.is,
     )
 
 pub loop-taken-preserved : goal.loop-taken-preserved

@@ -10,7 +10,7 @@ pub returns-then-low-high : goal.returns-then-low-high
 returns-then-low-high c =
     let frame : Frame = c.frame-frame.result.now in
     let header = subst IsFrame (sym c.frame-frame.ensures.value) c.frame-frame.ensures.shaped.header in
-    rw (c.none.ensures.next, c.none.ensures.behind)
+    rw (c.none.ensures.next, c.none.ensures.end)
     (subst (λ f. AreMet f c.args.from c.args.to 0 0) c.frame-frame.ensures.value
     (AreMet-none frame header c.args.from c.args.to
     (λ z above below early late. omega (arith, ints, clamps, above, below, early, late, c.last_of.ensures))))

@@ -1,5 +1,5 @@
 use Rattle.std.proofs.Common.{◌≡◌, ◌+◌, ap, arith, length, ◌∙◌}
-use Rattle.repair_grammar.specs.Pairs.{entry_of, count_in_table}
+use Rattle.repair_grammar.specs.Pairs.{seen_entry, count_in_table}
 use Rattle.repair_grammar.proofs.CountLemmas.{own_pair}
 use Rattle.repair_grammar.proofs.PairLemmas.{removed-count, removed-few, removed-places}
 use Rattle.repair_grammar.proofs.pairs.Pairs.lower.Goals as goal
@@ -18,20 +18,20 @@ returns-then-lower_in-eq0-clause-counts c = λ other.
     omega (
       arith,
       c.lower_in.ensures.counts other,
-      removed-count (entry_of c.lower_in.new.table) (entry_of c.remove.new.self) c.args.pair other
+      removed-count (seen_entry c.lower_in.new.table) (seen_entry c.remove.new.self) c.args.pair other
           (c.remove.ensures.updates.0 other) (none at),
     )
 
 pub returns-then-lower_in-eq0-clause-places : goal.returns-then-lower_in-eq0-clause-places
 returns-then-lower_in-eq0-clause-places c = λ other some.
     let at = (goal.at.returns-then-lower_in-eq0-clause-places c).After-remove in
-    removed-places (entry_of c.lower_in.new.table) (entry_of c.remove.new.self) c.args.pair other
+    removed-places (seen_entry c.lower_in.new.table) (seen_entry c.remove.new.self) c.args.pair other
     (c.remove.ensures.updates.0 other) (none at) some ∙ c.lower_in.ensures.places other
 
 pub returns-then-lower_in-eq0-clause-few : goal.returns-then-lower_in-eq0-clause-few
 returns-then-lower_in-eq0-clause-few c = λ other. omega (
   arith,
-  removed-few (entry_of c.lower_in.new.table) (entry_of c.remove.new.self) c.args.pair other
+  removed-few (seen_entry c.lower_in.new.table) (seen_entry c.remove.new.self) c.args.pair other
       (c.remove.ensures.updates.0 other),
   ap length (c.lower_in.ensures.places other),
 )

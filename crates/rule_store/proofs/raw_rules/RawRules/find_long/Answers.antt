@@ -1,7 +1,7 @@
 use Rattle.std.proofs.Common.{◌+◌, ◌*◌, ◌<◌, ◌≤◌, arith, below_more, get_or, sym}
 use Rattle.spiral_code.specs.Spiral.{square}
 use Rattle.rule_store.specs.Flaws.{reach_limit}
-use Rattle.rule_store.proofs.FlawLemmas.{code_flaw-at, code_flaw-none, is_long-above, is_long-below}
+use Rattle.rule_store.proofs.FlawLemmas.{code_flaw-at, code_flaw-none, leads_out-above, leads_out-below}
 use Rattle.rule_store.proofs.raw_rules.RawRules.find_long.Goals as goal
 
 pub returns-then-value-side : goal.returns-then-value-side
@@ -11,7 +11,7 @@ returns-then-value-side c =
     let above : square (2 * reach_limit height + 1) < value = rw
     (sym c.reach_limit.ensures.value) c.if-value-side.true in
     sym (code_flaw-at height c.args.self.now.alphabet.now c.loop-index.index c.loop-index-test.true
-    c.loop-index.invariant (is_long-above height value above))
+    c.loop-index.invariant (leads_out-above height value above))
 
 pub loop-index-preserved : goal.loop-index-preserved
 loop-index-preserved c =
@@ -19,7 +19,7 @@ loop-index-preserved c =
     let value = get_or c.args.self.now.alphabet.now c.loop-index.index 0 in
     let below : value ≤ square (2 * reach_limit height + 1) = rw
     (sym c.reach_limit.ensures.value) c.if-value-side.false in
-    below_more _ _ c.loop-index.invariant (is_long-below height value below)
+    below_more _ _ c.loop-index.invariant (leads_out-below height value below)
 
 pub returns : goal.returns
 returns c =

@@ -1,7 +1,7 @@
 use Rattle.std.proofs.Common.{◌≡◌, ℕ, ◌+◌, ◌<◌, length, true, false, arith, sym, ◌∙◌, ap, refl}
 use Rattle.rule_store.specs.Entry.{entry_of}
-use Rattle.rule_store.specs.Flaws.{is_far, rule_at}
-use Rattle.rule_store.specs.Stored.{IsEntryOf, view_of}
+use Rattle.rule_store.specs.Flaws.{is_far, rule_parts}
+use Rattle.rule_store.specs.Stored.{IsEntryOf, rules_view}
 use Rattle.rule_store.specs.View.{RulesView}
 use Rattle.rule_store.specs.declared.entry.Entry.{Entry}
 use Rattle.rule_store.specs.declared.packed_entry.PackedEntry.{PackedEntry}
@@ -13,19 +13,19 @@ use Rattle.rule_store.proofs.raw_rules.RawRules.rule_entry.Goals.{then-left-entr
 
 -- the entries of the rule's two parts, which are below it, and their join
 record IsJoined (view : RulesView) (rule : ℕ) (left right : PackedEntry) (entry : Entry) : Type 0 where
-  pub left_below : (rule_at view.rules rule).0 < length view.alphabet + rule
-  pub right_below : (rule_at view.rules rule).1 < length view.alphabet + rule
-  pub left_is : IsEntryOf view (rule_at view.rules rule).0 left
-  pub right_is : IsEntryOf view (rule_at view.rules rule).1 right
+  pub left_below : (rule_parts view.rules rule).0 < length view.alphabet + rule
+  pub right_below : (rule_parts view.rules rule).1 < length view.alphabet + rule
+  pub left_is : IsEntryOf view (rule_parts view.rules rule).0 left
+  pub right_is : IsEntryOf view (rule_parts view.rules rule).1 right
   pub entry_is : entry ≡ entry_of view (length view.alphabet + rule)
 
 joined : (c : After-join-entry)
-    → IsJoined (view_of c.args.self.now) c.args.rule c.index-entries-left.result c.index-entries-right.result
+    → IsJoined (rules_view c.args.self.now) c.args.rule c.index-entries-left.result c.index-entries-right.result
     c.join-entry.result
 joined c =
-    let view = view_of c.args.self.now in
+    let view = rules_view c.args.self.now in
     let rule = c.args.rule in
-    let parts = rule_at view.rules rule in
+    let parts = rule_parts view.rules rule in
     let many = c.requires.many in
     let left_below : parts.0 < length view.alphabet + rule = omega (arith, c.if-left-entries.false, many) in
     let right_below : parts.1 < length view.alphabet + rule = omega (arith, c.if-right-entries.false, many) in
@@ -48,8 +48,8 @@ joined c =
 
 pub returns-then-left-entries : goal.returns-then-left-entries
 returns-then-left-entries c =
-    let view = view_of c.args.self.now in
-    let parts = rule_at view.rules c.args.rule in
+    let view = rules_view c.args.self.now in
+    let parts = rule_parts view.rules c.args.rule in
     elim c.then-left-entries.branch [
       | then-left-entries-via-then-left-entries w ↦
           flawed_rule-left view c.args.rule parts.0 parts.1 refl
@@ -61,9 +61,9 @@ returns-then-left-entries c =
 
 pub returns-then-is_far : goal.returns-then-is_far
 returns-then-is_far c =
-    let view = view_of c.args.self.now in
+    let view = rules_view c.args.self.now in
     let rule = c.args.rule in
-    let parts = rule_at view.rules rule in
+    let parts = rule_parts view.rules rule in
     let at = joined (goal.at.returns-then-is_far c).After-join-entry in
     let far : is_far view.height view.period (entry_of view (length view.alphabet + rule)) ≡ true =
     ap (is_far view.height view.period) (sym at.entry_is) ∙ sym c.is_far.ensures ∙ c.if-is_far.true in
@@ -90,9 +90,9 @@ pack-requires-clause-within c =
 
 pub returns : goal.returns
 returns c =
-    let view = view_of c.args.self.now in
+    let view = rules_view c.args.self.now in
     let rule = c.args.rule in
-    let parts = rule_at view.rules rule in
+    let parts = rule_parts view.rules rule in
     let at = joined (goal.at.returns c).After-join-entry in
     let near : is_far view.height view.period (entry_of view (length view.alphabet + rule)) ≡ false =
     ap (is_far view.height view.period) (sym at.entry_is) ∙ sym c.is_far.ensures ∙ c.if-is_far.false in (

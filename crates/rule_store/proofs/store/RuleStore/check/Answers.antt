@@ -2,8 +2,8 @@ use Rattle.std.proofs.Common.{◌≡◌, None, ap, max, subst, sym, ◌∙◌}
 use Rattle.std.specs.Prelude.{fold}
 use Rattle.rule_store.specs.declared.packed_entry.PackedEntry.{PackedEntry}
 use Rattle.rule_store.specs.Flaws.{rule_flaw}
-use Rattle.rule_store.specs.Stored.{IsStored}
-use Rattle.rule_store.specs.View.{IsShaped, RulesView, rules_with}
+use Rattle.rule_store.specs.Stored.{AreStoredRules}
+use Rattle.rule_store.specs.View.{AreShapedRules, RulesView, rules_with}
 use Rattle.rule_store.proofs.FlawLemmas.{rules_flaw-none}
 use Rattle.rule_store.proofs.StoredLemmas.{depth_in-entries, same_view}
 use Rattle.rule_store.proofs.store.RuleStore.check.Goals as goal
@@ -18,9 +18,9 @@ invariant_of-result c =
     (c.as_slice-2.ensures ∙ sym c.into_vec-2.ensures ∙ sym c.new-2.ensures)
     (c.as_slice-3.ensures ∙ sym c.into_vec-3.ensures ∙ sym c.new-3.ensures) in
     let none : rule_flaw judged ≡ None = sym c.in_ok-rule.ensures.flaw ∙ c.in_default-2.is in
-    let stored : IsStored judged c.add_rules.new.entries.items c.greatest_depth-depth.result = record {
+    let stored : AreStoredRules judged c.add_rules.new.entries.items c.greatest_depth-depth.result = record {
       rules = record {
-        shaped = subst IsShaped (sym given) c.requires;
+        shaped = subst AreShapedRules (sym given) c.requires;
         flawless = rules_flaw-none judged (record {
           codes = sym c.find_long.ensures ∙ c.in_default.is;
           rules = none;
@@ -35,4 +35,4 @@ invariant_of-result c =
           (c.in_ok-rule.ensures.ok c.in_default-2.is);
       depth_fits = c.greatest_depth-depth.ensures.within;
     } in
-    subst (λ view. IsStored view c.add_rules.new.entries.items c.greatest_depth-depth.result) kept stored
+    subst (λ view. AreStoredRules view c.add_rules.new.entries.items c.greatest_depth-depth.result) kept stored

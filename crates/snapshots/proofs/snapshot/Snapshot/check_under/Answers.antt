@@ -4,11 +4,11 @@ use Rattle.track_types.specs.Frame.{instants_in, wide_of}
 use Rattle.track_types.specs.declared.frame.Frame.{Frame}
 use Rattle.k2_tree.specs.Flaws.{StandsFor}
 use Rattle.snapshots.specs.View.{SnapshotView, view_with}
-use Rattle.snapshots.specs.Flaws.{bits_flaw, flaw_of, IsFaultFor}
-use Rattle.snapshots.specs.Stored.{parts_with, starts_in, tree_stored, view_of, IsStored}
-use Rattle.snapshots.proofs.JudgedLemmas.{flaw_of-cells, flaw_of-perm, view_of-parts, with_checked, IsBegun}
-use Rattle.snapshots.proofs.JudgedLemmas.{IsBegun-found, IsStored-flawless}
-use Rattle.snapshots.proofs.SoundLemmas.{IsSound-flawless}
+use Rattle.snapshots.specs.Flaws.{bits_flaw, flaw_of, IsSnapFaultFor}
+use Rattle.snapshots.specs.Stored.{parts_with, starts_in, tree_stored, snapshot_view, IsStoredSnapshot}
+use Rattle.snapshots.proofs.JudgedLemmas.{flaw_of-cells, flaw_of-perm, snapshot_view-parts, with_checked, IsBegun}
+use Rattle.snapshots.proofs.JudgedLemmas.{IsBegun-found, IsStoredSnapshot-flawless}
+use Rattle.snapshots.proofs.SoundLemmas.{IsSoundPeriod-flawless}
 use Rattle.snapshots.proofs.snapshot.Snapshot.check_under.Goals as goal
 use Rattle.snapshots.proofs.snapshot.Snapshot.check_under.Goals.{After-has_cells}
 
@@ -39,7 +39,7 @@ returns-then-not-has_cells-clause-flaw c =
     let view : SnapshotView =
     view_with c.args.header.now.value c.args.number c.args.objects c.args.start c.args.parts in
     let begun = begun_of (goal.at.returns-then-not-has_cells-clause-flaw c).After-has_cells in
-    subst (IsFaultFor (flaw_of view)) (sym c.flaw-then-not-has_cells.ensures)
+    subst (IsSnapFaultFor (flaw_of view)) (sym c.flaw-then-not-has_cells.ensures)
     (rw c.len.ensures (flaw_of-cells view c.has_cells.result begun c.if-not-has_cells.true))
 
 pub returns-in_err-perm-clause-flaw : goal.returns-in_err-perm-clause-flaw
@@ -47,8 +47,8 @@ returns-in_err-perm-clause-flaw c =
     let view : SnapshotView =
     view_with c.args.header.now.value c.args.number c.args.objects c.args.start c.args.parts in
     let begun = begun_of (goal.at.returns-in_err-perm-clause-flaw c).After-has_cells in
-    let known : IsFaultFor (flaw_of view) c.in_err-perm.field-0.0 =
-    subst (λ first. IsFaultFor first c.in_err-perm.field-0.0)
+    let known : IsSnapFaultFor (flaw_of view) c.in_err-perm.field-0.0 =
+    subst (λ first. IsSnapFaultFor first c.in_err-perm.field-0.0)
     (sym (flaw_of-perm view c.has_cells.result begun c.if-not-has_cells.false)) c.in_err-perm.ensures.flaw in
     let given = err_from_is_err_and c.from_residual-in_err-perm.result c.from_residual-in_err-perm.ensures.1 in
     rw (given.1, given.2) known
@@ -64,9 +64,9 @@ invariant_of-result c =
     ∙ ap (λ bits. with_checked view.parts bits c.in_ok-perm.perm) (stands_of at).same
     ∙ ap (with_checked view.parts view.parts.tree) c.in_ok-perm.ensures.ok in
     let none = flaw_of-perm view c.has_cells.result begun c.if-not-has_cells.false ∙ c.in_ok-perm.ensures.exact in
-    subst (λ (f : Frame). IsStored (view_of f c.args.number c.args.objects c.args.start c.in_ok-blocks.blocks)
+    subst (λ (f : Frame). IsStoredSnapshot (snapshot_view f c.args.number c.args.objects c.args.start c.in_ok-blocks.blocks)
     (tree_stored f c.in_ok-blocks.blocks) (starts_in c.in_ok-blocks.blocks)) (sym c.in_ok-clone.ensures.cases)
-    (IsStored-flawless view c.in_ok-tree.tree c.in_ok-blocks.blocks (stands_of at) told c.in_ok-blocks.ensures.tree
+    (IsStoredSnapshot-flawless view c.in_ok-tree.tree c.in_ok-blocks.blocks (stands_of at) told c.in_ok-blocks.ensures.tree
     c.requires none c.in_ok-blocks.ensures.starts)
 
 pub returns-clause-ok : goal.returns-clause-ok
@@ -78,16 +78,16 @@ returns-clause-ok c =
     ∙ c.in_ok-blocks.ensures.parts
     ∙ ap (λ bits. with_checked view.parts bits c.in_ok-perm.perm) (stands_of at).same
     ∙ ap (with_checked view.parts view.parts.tree) c.in_ok-perm.ensures.ok in
-    ap (λ (f : Frame). view_of f c.args.number c.args.objects c.args.start c.in_ok-blocks.blocks)
+    ap (λ (f : Frame). snapshot_view f c.args.number c.args.objects c.args.start c.in_ok-blocks.blocks)
     c.in_ok-clone.ensures.cases
-    ∙ view_of-parts view c.in_ok-tree.tree c.in_ok-blocks.blocks (stands_of at) told c.in_ok-blocks.ensures.tree
+    ∙ snapshot_view-parts view c.in_ok-tree.tree c.in_ok-blocks.blocks (stands_of at) told c.in_ok-blocks.ensures.tree
 
 pub returns-clause-sound : goal.returns-clause-sound
 returns-clause-sound c =
     let view : SnapshotView =
     view_with c.args.header.now.value c.args.number c.args.objects c.args.start c.args.parts in
     let begun = begun_of (goal.at.returns-clause-sound c).After-has_cells in
-    IsSound-flawless view c.requires
+    IsSoundPeriod-flawless view c.requires
     (flaw_of-perm view c.has_cells.result begun c.if-not-has_cells.false ∙ c.in_ok-perm.ensures.exact)
 
 pub returns-clause-exact : goal.returns-clause-exact

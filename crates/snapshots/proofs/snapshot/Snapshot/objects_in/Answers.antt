@@ -5,7 +5,7 @@ use Rattle.k2_tree.proofs.FewLemmas.{kept_leaves-few}
 use Rattle.snapshots.specs.View.{tree_in}
 use Rattle.snapshots.specs.Sound.{IsBlock}
 use Rattle.snapshots.specs.Objects.{blocks_of, objects_left, passing_blocks, WeighSame}
-use Rattle.snapshots.proofs.BlockFactsLemmas.{All-objects_of, WeighSame-objects_of, WeighSame-wanted}
+use Rattle.snapshots.proofs.BlockFactsLemmas.{All-objects_of_leaves, WeighSame-objects_of_leaves, WeighSame-wanted}
 use Rattle.snapshots.proofs.BlocksLemmas.{blocks_of-objects}
 use Rattle.snapshots.proofs.ObjectsLemmas.{objects_budget-unbegun, objects_left-unbegun}
 use Rattle.snapshots.proofs.snapshot.Snapshot.objects_in.Goals as goal
@@ -38,14 +38,14 @@ returns-clause-objects g c =
 pub returns-clause-blocks : goal.returns-clause-blocks
 returns-clause-blocks g c =
     subst (All (IsBlock c.args.self.now)) (sym (returns-clause-objects g c))
-    (All-objects_of c.args.self.now c.tree.ensures.snapshot
+    (All-objects_of_leaves c.args.self.now c.tree.ensures.snapshot
     (kept_leaves (g.F.Keep.keeps c.args.keep) (tree_in c.args.self.now)))
 
 pub returns-clause-weights : goal.returns-clause-weights
 returns-clause-weights g c =
     let keep = g.F.Keep.keeps c.args.keep in
     subst (λ blocks. WeighSame blocks (passing_blocks keep c.args.self.now)) (sym (returns-clause-objects g c))
-    (WeighSame-objects_of c.args.self.now keep c.tree.ensures.snapshot)
+    (WeighSame-objects_of_leaves c.args.self.now keep c.tree.ensures.snapshot)
 
 pub returns-clause-wanted : goal.returns-clause-wanted
 returns-clause-wanted g c = λ wanted only.

@@ -4,7 +4,7 @@ use Rattle.track_types.specs.declared.parts.Parts.{Parts}
 use Rattle.snapshots.specs.IndexCost.{open_cost}
 use Rattle.snapshots.specs.Parts.{chart_in, numbers_in}
 use Rattle.snapshots.specs.SoundParts.{IsValid}
-use Rattle.snapshots.specs.Stores.{join_of, parts_of}
+use Rattle.snapshots.specs.Stores.{join_of, period_parts_of}
 use Rattle.snapshots.specs.Upgrade.{tree_reads, upgrade_of, upgraded_parts, upgraded_period}
 use Rattle.snapshots.proofs.UpgradeLawLemmas.{chart_in-upgrade, IsValid-upgrade}
 use Rattle.snapshots.proofs.UpgradeLemmas.{periods-upgraded, reads-opening, upgrade-joined}
@@ -37,7 +37,7 @@ returns-clause-ok g c =
     let snaps = c.self.invariant.snaps_are in
     let periods = c.in_ok-periods.ensures.ok ∙ ap (map upgraded_parts) snaps
     ∙ periods-upgraded parts (numbers_in parts.frame)
-    ∙ ap (λ views. map (upgraded_period parts.frame) (map parts_of views)) (sym snaps) in
+    ∙ ap (λ views. map (upgraded_period parts.frame) (map period_parts_of views)) (sym snaps) in
     upgrade-joined parts c.newest.result c.into_lists-alphabet.result.0 c.into_lists-alphabet.result.2
     c.into_lists-alphabet.result.1 c.in_ok-periods.periods c.newest.ensures lists.alphabet lists.rules periods
     lists.symbols

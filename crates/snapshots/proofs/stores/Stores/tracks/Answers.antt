@@ -9,7 +9,7 @@ use Rattle.snapshots.specs.Sound.{IsBlock, IsSnapshot}
 use Rattle.snapshots.specs.Stores.{join_of}
 use Rattle.snapshots.specs.Tracks.{blocks_by_leaf, may_hold}
 use Rattle.snapshots.specs.TrackTree.{IsKept}
-use Rattle.snapshots.specs.TrackWalk.{block_kept, kept_budget, walk_budget, walk_left}
+use Rattle.snapshots.specs.TrackWalk.{block_kept, kept_budget, blocks_budget, blocks_left}
 use Rattle.snapshots.specs.View.{SnapshotView}
 use Rattle.snapshots.specs.declared.track_tree.TrackTree.{TrackTree}
 use Rattle.snapshots.proofs.LeafOrderLemmas.{by_leaf-are, by_leaf-weighs}
@@ -46,7 +46,7 @@ returns-in-Some-clause-left g c =
     let its = known g (goal.at.returns-in-Some-clause-left g c).After-index in
     let view : SnapshotView = snapshot_in c.args.self.now c.args.period in
     let are = subst (IsKept view.frame (rules_in c.args.self.now) (blocks_by_leaf view)) c.in-Some.is its.0 in
-    tracks_left-is squares boxes c.new-in-Some.result ∙ ap (walk_left squares boxes) c.new-in-Some.ensures
+    tracks_left-is squares boxes c.new-in-Some.result ∙ ap (blocks_left squares boxes) c.new-in-Some.ensures
     ∙ c.new.ensures.left
     ∙ ap (λ (k : TrackTree). map (block_kept k)
     (found_places (squares c.args.search) (boxes c.args.search) k.tree)) c.deref.ensures
@@ -76,7 +76,7 @@ returns-in-Some-clause-budget g c =
     let view : SnapshotView = snapshot_in c.args.self.now c.args.period in
     let are = subst (IsKept view.frame (rules_in c.args.self.now) (blocks_by_leaf view)) c.in-Some.is its.0 in
     let same = tracks_budget-is squares boxes c.new-in-Some.result
-    ∙ ap (walk_budget squares boxes) c.new-in-Some.ensures in
+    ∙ ap (blocks_budget squares boxes) c.new-in-Some.ensures in
     let read = subst (λ (k : TrackTree). kept_budget squares boxes c.new.result
     ≤ search_reads (squares c.args.search) k.tree
     + record_reads * length (found_places (squares c.args.search) (boxes c.args.search) k.tree)) c.deref.ensures
@@ -96,7 +96,7 @@ returns-in-None-clause-left g c =
     let view : SnapshotView = snapshot_in c.args.self.now c.args.period in
     let none : blocks_by_leaf view ≡ [] =
     subst (IsKept view.frame (rules_in c.args.self.now) (blocks_by_leaf view)) c.in-None.is its.0 in
-    tracks_left-is squares boxes c.new-in-None.result ∙ ap (walk_left squares boxes) c.new-in-None.ensures
+    tracks_left-is squares boxes c.new-in-None.result ∙ ap (blocks_left squares boxes) c.new-in-None.ensures
     ∙ sym (ap (filter (may_hold (squares c.args.search) (boxes c.args.search) (rules_in c.args.self.now))) none)
 
 pub returns-in-None-clause-blocks : goal.returns-in-None-clause-blocks
@@ -117,7 +117,7 @@ returns-in-None-clause-weights g c =
 pub returns-in-None-clause-budget : goal.returns-in-None-clause-budget
 returns-in-None-clause-budget g c =
     let same = tracks_budget-is g.S.Search.squares g.S.Search.boxes c.new-in-None.result
-    ∙ ap (walk_budget g.S.Search.squares g.S.Search.boxes) c.new-in-None.ensures in
+    ∙ ap (blocks_budget g.S.Search.squares g.S.Search.boxes) c.new-in-None.ensures in
     omega (arith, same)
 
 pub returns-in-None-clause-on_tracks : goal.returns-in-None-clause-on_tracks

@@ -17,9 +17,9 @@ returns-in_default-clause-left c =
     let unknown = c.in_default.ensures.value
     ∙ ap (λ (p : Parts). index_in p.objects c.args.object) c.stores-stores.ensures.value in
     let next = c.none.ensures.next in
-    let behind = c.none.ensures.behind in
+    let behind = c.none.ensures.end in
     let nothing = stops_between-none parts 0 (to_z w64 (of_z w64 c.args.from)) (to_z w64 (of_z w64 c.args.to))
-    c.none.result.next c.none.result.behind (omega (arith, next, behind)) in
+    c.none.result.next c.none.result.end (omega (arith, next, behind)) in
     let path = path_of-unknown parts c.stores-stores.ensures.valid c.args.object (sym unknown) c.args.from c.args.to in
     IfOk-weaker c.new.result _
     (λ (w : WalkView). w.stops ≡ path_of (chart_in parts).rows c.args.object c.args.from c.args.to)
@@ -30,9 +30,9 @@ unfolding cost_of
 returns-in_default-clause-budget c =
     let parts : Parts = c.args.self.index.now in
     let next = c.none.ensures.next in
-    let behind = c.none.ensures.behind in
+    let behind = c.none.ensures.end in
     let nothing = cost_between-none parts 0 (to_z w64 (of_z w64 c.args.from)) (to_z w64 (of_z w64 c.args.to))
-    c.none.result.next c.none.result.behind (omega (arith, next, behind)) in
+    c.none.result.next c.none.result.end (omega (arith, next, behind)) in
     IfOk-weaker c.new.result _ (λ (w : WalkView). w.reads ≤ path_cost parts c.args.object c.args.from c.args.to)
     (λ walk budget. omega (arith, budget, nothing)) c.new.ensures.budget
 
@@ -48,7 +48,7 @@ returns-clause-left c =
     let low : to_z w64 (of_z w64 c.args.from) ≡ c.args.from = omega (arith, ints) in
     let high : to_z w64 (of_z w64 c.args.to) ≡ c.args.to = omega (arith, ints) in
     let path = stops_between-path parts c.stores-stores.result.now c.stores-stores.ensures.value c.args.object c.in-Some.place
-    _ _ c.args.from c.args.to low high c.met-periods.result.next c.met-periods.result.behind c.in-Some.ensures.value
+    _ _ c.args.from c.args.to low high c.met-periods.result.next c.met-periods.result.end c.in-Some.ensures.value
     c.met-periods.ensures c.stores-stores.ensures.valid in
     IfOk-weaker c.new-2.result _
     (λ (w : WalkView). w.stops ≡ path_of (chart_in parts).rows c.args.object c.args.from c.args.to)
@@ -61,7 +61,7 @@ returns-clause-budget c =
     let low : to_z w64 (of_z w64 c.args.from) ≡ c.args.from = omega (arith, ints) in
     let high : to_z w64 (of_z w64 c.args.to) ≡ c.args.to = omega (arith, ints) in
     let cost = cost_between-path parts c.stores-stores.result.now c.stores-stores.ensures.value c.args.object c.in-Some.place
-    _ _ c.args.from c.args.to low high c.met-periods.result.next c.met-periods.result.behind c.in-Some.ensures.value
+    _ _ c.args.from c.args.to low high c.met-periods.result.next c.met-periods.result.end c.in-Some.ensures.value
     c.met-periods.ensures in
     IfOk-weaker c.new-2.result _ (λ (w : WalkView). w.reads ≤ path_cost parts c.args.object c.args.from c.args.to)
     (λ walk budget. omega (arith, budget, cost)) c.new-2.ensures.budget

@@ -3,7 +3,7 @@ use Rattle.std.proofs.lemmas.Result.{err_from_is_err_and}
 use Rattle.track_types.specs.declared.parts.Parts.{Parts}
 use Rattle.snapshots.specs.IndexCost.{open_cost}
 use Rattle.snapshots.specs.SoundParts.{IsSound}
-use Rattle.track_index.specs.CheckFlaws.{snapshots_flaw, total_flaw, AreShapedPeriods, IsFaultFor}
+use Rattle.track_index.specs.CheckFlaws.{snapshots_flaw, total_flaw, AreShapedPeriods, IsFormatFaultFor}
 use Rattle.track_index.proofs.OpeningLemmas.{check_flaw-joined, fault-joined, fault-rules, fault-snapshots, fault-total, joined-parts, snapshots_in-read, total_flaw-read, AreJudged, AreOf-joined, AreShaped-periods}
 use Rattle.track_index.proofs.index.Index.check.Given.{Over}
 use Rattle.track_index.proofs.index.Index.check.Goals as goal
@@ -35,7 +35,7 @@ returns-in_err-check_total-clause-flaw g c =
     c.in_ok-rules.ensures.ok c.as_slice.ensures c.sizes.ensures.symbols in
     let found = c.in_err-check_total.field-0.0 in
     let known = fault-total c.args.parts c.in_ok-rules.ensures.exact found
-    (subst (λ first. IsFaultFor first found) same c.in_err-check_total.ensures.flaw) in
+    (subst (λ first. IsFormatFaultFor first found) same c.in_err-check_total.ensures.flaw) in
     let given = err_from_is_err_and c.from_residual-in_err-check_total.result
     c.from_residual-in_err-check_total.ensures.1 in
     rw (given.1, given.2) known
@@ -58,7 +58,7 @@ returns-in_err-snaps-clause-flaw g c =
     let found = c.in_err-snaps.field-0.0 in
     let same = snapshots_in-read c.args.parts c.as_slice-2.result.now c.as_slice-2.ensures in
     let known = fault-snapshots c.args.parts c.in_ok-rules.ensures.exact none found
-    (subst (λ snaps. IsFaultFor (snapshots_flaw snaps) found) same c.in_err-snaps.ensures.flaw) in
+    (subst (λ snaps. IsFormatFaultFor (snapshots_flaw snaps) found) same c.in_err-snaps.ensures.flaw) in
     let given = err_from_is_err_and c.from_residual-in_err-snaps.result c.from_residual-in_err-snaps.ensures.1 in
     rw (given.1, given.2) known
 

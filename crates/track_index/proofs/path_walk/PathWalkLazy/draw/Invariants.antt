@@ -6,7 +6,7 @@ abbrev pub invariant-loop-stop : goal.invariant-loop-stop
 invariant-loop-stop g l =
     let walk = l.self-inside in
     IsDrawing l.fn.self l.fn.steps l.stores walk.index.now walk.object walk.from walk.to walk.periods.next
-    walk.periods.behind walk.block l.steps
+    walk.periods.end walk.block l.steps
 
 abbrev pub decreases-loop-stop : goal.decreases-loop-stop
-decreases-loop-stop g l = l.self-inside.periods.behind - l.self-inside.periods.next
+decreases-loop-stop g l = l.self-inside.periods.end - l.self-inside.periods.next
