@@ -1,5 +1,5 @@
 -- Ways: values that are walked without leaving the numbers, in two parts, of a rule, and of a block that is placed.
-use Rattle.std.proofs.Common.{◌≡◌, ℕ, zero, suc, ◌+◌, ◌-◌, ◌*◌, ◌^◌, drop, ◌<◌, ◌≤◌, ℤ, ◌≤ℤ◌, List, [], ◌∷◌, ◌++◌, length, Some, None, map, refl, ap, sym, subst, ◌∙◌, arith, All, inl, inr}
+use Rattle.std.proofs.Common.{◌≡◌, ℕ, zero, suc, ◌+◌, ◌-◌, ◌*◌, drop, ◌<◌, ◌≤◌, ℤ, ◌≤ℤ◌, List, [], ◌∷◌, ◌++◌, length, Some, None, map, refl, ap, sym, subst, ◌∙◌, arith, All, inl, inr}
 use Rattle.std.specs.Prelude.{Option, fold, get_or}
 use Rattle.std.specs.Int.{int_max, int_min}
 use Rattle.std.specs.List.{range_with_len}
@@ -18,6 +18,7 @@ use Rattle.list_laws.proofs.GrownLemmas.{length-table_of_rules}
 use Rattle.track_types.specs.Near.{IsCellAsked}
 use Rattle.track_types.specs.declared.cell.Cell.{Cell}
 use Rattle.track_types.specs.declared.cell_box.CellBox.{CellBox}
+use Rattle.track_types.specs.declared.limit.TheConstants.{MAX_PERIOD, MAX_SYMBOLS}
 use Rattle.track_types.proofs.RegionLemmas.{IsBounded}
 use Rattle.rule_store.specs.View.{RulesView, symbols_in}
 use Rattle.rule_store.specs.Expansion.{expansion_of, values_of}
@@ -147,7 +148,7 @@ duration_of-past rules symbol above =
     ap length (get_or_past (table_of_rules ◌++◌ [] known rules.rules) symbol [] past)
 
 -- no symbol lasts longer than a period
-duration_of-limit : (rules : RulesView) → AreRules rules → (symbol : ℕ) → duration_of rules symbol ≤ 2 ^ 22
+duration_of-limit : (rules : RulesView) → AreRules rules → (symbol : ℕ) → duration_of rules symbol ≤ MAX_PERIOD
 unfolding entry_of
 duration_of-limit rules sound symbol = elim (cases_lt symbol (length rules.alphabet)) [
   | inl terminal ↦ omega (arith, duration_of-terminal rules symbol terminal)
@@ -166,7 +167,7 @@ duration_of-limit rules sound symbol = elim (cases_lt symbol (length rules.alpha
 ]
 
 length-log_values : (rules : RulesView) → AreRules rules → (log : List ℕ) →
-    length (log_values rules log) ≤ 2 ^ 22 * length log
+    length (log_values rules log) ≤ MAX_PERIOD * length log
 unfolding log_values
 length-log_values rules sound [] = omega arith
 length-log_values rules sound (symbol ∷ log) =
@@ -269,7 +270,7 @@ log-near rules cell (symbol ∷ log) near =
     (values-near cell values near.0) (log-near rules next log near.1))
 
 -- the way of a block that is placed
-pub IsWayOf-placed : (rules : RulesView) (start : Start) (log : List ℕ) → AreRules rules → length log ≤ 2 ^ 25 →
+pub IsWayOf-placed : (rules : RulesView) (start : Start) (log : List ℕ) → AreRules rules → length log ≤ MAX_SYMBOLS →
     IsPlaced rules start log → IsWayOf rules start log
 IsWayOf-placed rules start log sound short placed =
     let long = length-log_values rules sound log in
@@ -286,7 +287,7 @@ IsWayOf-placed rules start log sound short placed =
     }
 
 -- a log is no longer than all stored symbols may be
-pub length-log_of : (view : LogView) → AreRules view.rules.now → length (log_of view) ≤ 2 ^ 25
+pub length-log_of : (view : LogView) → AreRules view.rules.now → length (log_of view) ≤ MAX_SYMBOLS
 length-log_of view sound =
     omega (
       arith,

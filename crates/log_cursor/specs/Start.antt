@@ -24,7 +24,7 @@ start_after start entry =
 abbrev pub start_past : Start → List ℕ → Start
 start_past start values = start_at (start.instant +ℤ pos (length values)) (moved start.cell (displacement_of values))
 
--- a box, moved to the cell where its symbol begins, is at most 2^41 away from 0
+-- a box, moved to the cell where its symbol begins, is at most `MAX_ASKED` away from 0
 pub record IsBoxAsked (cell : Cell) (hull : CellBox) : Type 0 where
   pub x1 : IsAsked (cell.x +ℤ hull.x1)
   pub y1 : IsAsked (cell.y +ℤ hull.y1)
@@ -44,7 +44,7 @@ AreHullsAsked rules cell (symbol ∷ log) =
     × AreHullsAsked rules (moved cell (displacement_of (values_of rules symbol))) log
 
 -- The condition of each walk over a block: its anchor's instant and cell, and the placed box of each symbol of its log,
--- are at most 2^41 away from 0.
+-- are at most `MAX_ASKED` away from 0.
 pub record IsPlaced (rules : RulesView) (start : Start) (log : List ℕ) : Type 0 where
   pub instant : IsAsked start.instant
   pub cell : IsCellAsked start.cell

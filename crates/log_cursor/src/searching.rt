@@ -27,11 +27,11 @@ use track_types::{Cell, CellBox, Memory, Stop};
 /// The first stop of a block in a window, whose ends count, and in a region, the anchor included.
 /// `None` exactly where there is none.
 ///
-/// The instant and the cell of the anchor, and each symbol's box where it is placed, are at most 2^41
-/// away from 0. A symbol whose instants miss the window, or whose placed box has no cell of the
-/// region, is passed over unopened. It makes at most as many reads as the log has symbols and its
-/// parse trees have rule nodes that are not passed over, and none in a window that ends before it
-/// begins. Memory is taken for the parts of opened rules where the grammar is deep.
+/// The instant and the cell of the anchor, and each symbol's box where it is placed, are at most
+/// `MAX_ASKED` away from 0. A symbol whose instants miss the window, or whose placed box has no
+/// cell of the region, is passed over unopened. It makes at most as many reads as the log has
+/// symbols and its parse trees have rule nodes that are not passed over, and none in a window that
+/// ends before it begins. Memory is taken for the parts of opened rules where the grammar is deep.
 pub fn first_hit<L: Ledger>(
     alloc: Global,
     view: LogView<'_>,

@@ -16,10 +16,10 @@ use track_types::Cell;
 /// The cell of a block's object at an instant, by the block's log and its anchor. `None` exactly where
 /// the instant is before the anchor, beyond the log, or an absence.
 ///
-/// The instant and the cell of the anchor, and each symbol's box where it is placed, are at most 2^41
-/// away from 0. It passes over each symbol that ends before the instant, opens one rule at each depth
-/// below the symbol that has it, and takes no memory. It makes at most as many reads as the log has
-/// symbols and the grammar is deep, and none by the anchor's instant.
+/// The instant and the cell of the anchor, and each symbol's box where it is placed, are at most
+/// `MAX_ASKED` away from 0. It passes over each symbol that ends before the instant, opens one rule
+/// at each depth below the symbol that has it, and takes no memory. It makes at most as many reads
+/// as the log has symbols and the grammar is deep, and none by the anchor's instant.
 pub fn seek<L: Ledger>(
     view: LogView<'_>,
     start: Start,

@@ -62,7 +62,7 @@ impl<'a> BlockWalk<'a> {
     /// left of the block before is gone.
     ///
     /// The log is one of the walk's rules. The instant and the cell of the anchor, and each symbol's
-    /// box where it is placed, are at most 2^41 away from 0. It takes no memory.
+    /// box where it is placed, are at most `MAX_ASKED` away from 0. It takes no memory.
     pub fn begin(&mut self, view: LogView<'a>, start: Start, from: i64, to: i64)
         requires rules { view.rules.now ≡ self.old.rules }
         requires placed { IsPlaced view.rules.now start (log_of view) }
