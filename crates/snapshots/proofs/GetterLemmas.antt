@@ -16,7 +16,7 @@ use Rattle.track_types.specs.Frame.{periods_of}
 use Rattle.track_types.specs.declared.frame.Frame.{Frame}
 use Rattle.track_types.specs.declared.parts.Parts.{Parts}
 use Rattle.track_types.proofs.RegionLemmas.{is_between-from}
-use Rattle.snapshots.specs.Parts.{index_in, last_in, numbers_in, period_in, snapshot_in}
+use Rattle.snapshots.specs.Parts.{index_in, numbers_in, snapshot_in}
 use Rattle.snapshots.specs.Speed.{speed_of}
 use Rattle.snapshots.specs.Stores.{snapshots_in}
 use Rattle.snapshots.specs.View.{SnapshotView}
@@ -47,24 +47,6 @@ index_in-searched objects object (Err i) rising answer =
       | inl before ↦ apart (get_or objects j 0) object (stands.1 j before)
       | inr after ↦ apart-greater (get_or objects j 0) object (stands.2 j after (omega arith))
     ]))
-
--- an instant of the index is in a period
-pub period_in-inside : (frame : Frame) (instant : ℤ) → frame.first ≤ℤ instant → instant ≤ℤ last_in frame
-    → Some (unsigned_abs (instant -ℤ frame.first) / frame.period) ≡ period_in frame instant
-period_in-inside frame instant low high =
-    let inside = is_between-from frame.first (last_in frame) instant low high in
-    rw inside refl
-
--- one before it or after it is in none
-pub period_in-before : (frame : Frame) (instant : ℤ) → instant <ℤ frame.first → None ≡ period_in frame instant
-period_in-before frame instant early =
-    let outside : is_between frame.first (last_in frame) instant ≡ false = grind (arith, ints) in
-    rw outside refl
-
-pub period_in-after : (frame : Frame) (instant : ℤ) → last_in frame <ℤ instant → None ≡ period_in frame instant
-period_in-after frame instant late =
-    let outside : is_between frame.first (last_in frame) instant ≡ false = grind (arith, ints) in
-    rw outside refl
 
 -- the snapshot at a place
 pub snapshot-at : (parts : Parts) (snaps : List SnapshotView) (number : ℕ) (d : SnapshotView)

@@ -6,7 +6,7 @@ use Rattle.std.specs.List.{list_any, range_with_len}
 use Rattle.std.specs.Option.{option_map}
 use Rattle.std.proofs.lemmas.Bool.{cases_Bool, false≢true}
 use Rattle.std.proofs.lemmas.Bool.Decides.{nat_tests}
-use Rattle.std.proofs.lemmas.Int.{clamps, ints}
+use Rattle.std.proofs.lemmas.Int.{ints}
 use Rattle.std.proofs.lemmas.List.{get_or-map, length-map}
 use Rattle.std.proofs.lemmas.List.Elements.{All-cons, All-head, All-map, All-nil, All-tail}
 use Rattle.std.proofs.lemmas.List.Folds.{list_any_at}
@@ -20,12 +20,14 @@ use Rattle.list_laws.proofs.RangeLemmas.{All-from_filter_map}
 use Rattle.packed_bits.proofs.OnesLemmas.{ones_of-le-length}
 use Rattle.bit_rank.specs.Bits.{select_of}
 use Rattle.bit_rank.proofs.RankLemmas.{rank_of-le, IsSelected-select_of}
-use Rattle.track_types.specs.Frame.{wide_of, IsFrame}
+use Rattle.track_types.specs.Frame.{grid_of, wide_of, IsFrame}
 use Rattle.track_types.specs.declared.cell.Cell.{Cell}
 use Rattle.track_types.specs.declared.cell_box.CellBox.{CellBox}
 use Rattle.track_types.specs.declared.frame.Frame.{Frame}
 use Rattle.track_types.specs.declared.limit.TheConstants.{MAX_HEIGHT}
-use Rattle.k2_tree.specs.Areas.{box_from, IsBoxInside}
+use Rattle.track_types.specs.Boxes.{cell_box, joined_box, moved_box}
+use Rattle.k2_tree.specs.Areas.{IsBoxInside}
+use Rattle.k2_tree.proofs.InsideLemmas.{joined-inside}
 use Rattle.k2_tree.specs.Morton.{morton_of, IsInGrid}
 use Rattle.k2_tree.specs.Tree.{codes_of}
 use Rattle.k2_tree.specs.TreeBits.{code_limit, Rises}
@@ -42,7 +44,7 @@ use Rattle.snapshots.specs.JoinFlaws.{cell_before}
 use Rattle.snapshots.specs.Parts.{block_log}
 use Rattle.snapshots.specs.Sound.{IsBlock, IsSnapshot}
 use Rattle.snapshots.specs.SoundParts.{AreSoundLogs, IsInGridAt, IsSoundLog}
-use Rattle.snapshots.specs.Tracks.{blocks_by_leaf, cell_box, common_box, log_box, moved_box, symbol_box, placed_boxes, track_box}
+use Rattle.snapshots.specs.Tracks.{blocks_by_leaf, log_box, symbol_box, placed_boxes, track_box}
 use Rattle.snapshots.specs.TrackTree.{morton_of_block, level_count, narrow_count, block_places}
 use Rattle.snapshots.specs.View.{SnapshotView, all_blocks, block_at, block_of, leaf_at, tree_in}
 use Rattle.snapshots.specs.declared.anchored.Anchored.{Anchored}
@@ -226,32 +228,24 @@ module _ (view : SnapshotView) (is : IsSnapshot view) where
       subst (λ found. IfSome found P) its.its
       (All-from_filter_map P (block_of view) 0 view.objects all block.index (omega arith) (omega arith))
 
--- the box of all cells of a grid
-abbrev pub grid_box : Frame → CellBox
-grid_box frame = box_from frame.base.x frame.base.y (2 ^ frame.height - 1)
-
 -- boxes in one are, and so is the least box with all of them
 fold-within : (whole area : CellBox) (areas : List CellBox) → IsBoxInside area whole
     → All (λ other. IsBoxInside other whole) areas
-    → IsBoxInside (fold common_box area areas) whole
+    → IsBoxInside (fold joined_box area areas) whole
 fold-within whole area [] own each = own
 fold-within whole area (other ∷ areas) own each =
     let first : IsBoxInside other whole = All-head (λ b. IsBoxInside b whole) other areas each in
-    fold-within whole (common_box area other) areas (record {
-      left = omega (arith, ints, clamps, own.left, first.left);
-      right = omega (arith, ints, clamps, own.right, first.right);
-      below = omega (arith, ints, clamps, own.below, first.below);
-      above = omega (arith, ints, clamps, own.above, first.above);
-    }) (All-tail (λ b. IsBoxInside b whole) other areas each)
+    fold-within whole (joined_box area other) areas (joined-inside area other whole own first)
+    (All-tail (λ b. IsBoxInside b whole) other areas each)
 
 -- a placed box is in the grid
 placed-inside : (frame : Frame) (cell : Cell) (hull : Option CellBox) (area : CellBox)
     → IfSome hull (IsInGridAt frame cell)
-    → option_map (moved_box cell) hull ≡ Some area → IsBoxInside area (grid_box frame)
+    → option_map (moved_box cell) hull ≡ Some area → IsBoxInside area (grid_of frame)
 placed-inside frame cell None area placed is = absurd (none-some area is)
 placed-inside frame cell (Some hull) area placed is =
     let some : 1 ≤ 2 ^ frame.height = pow_pos frame.height in
-    subst (λ a. IsBoxInside a (grid_box frame)) (same_Some (moved_box cell hull) area is) (record {
+    subst (λ a. IsBoxInside a (grid_of frame)) (same_Some (moved_box cell hull) area is) (record {
       left = placed.left;
       right = omega (arith, ints, placed.right, some);
       below = placed.below;
@@ -260,18 +254,18 @@ placed-inside frame cell (Some hull) area placed is =
 
 -- the track of a block whose log is sound lies in the grid
 pub track-inside : (view : SnapshotView) (rules : RulesView) (block : Anchored) → IsBlock view block
-    → IsSoundLog view.frame rules view.number block → IsBoxInside (track_box rules block) (grid_box view.frame)
+    → IsSoundLog view.frame rules view.number block → IsBoxInside (track_box rules block) (grid_of view.frame)
 unfolding log_box
 track-inside view rules block its sound =
     let frame : Frame = view.frame in
     let log : List ℕ = block_log rules block in
     let some : 1 ≤ 2 ^ frame.height = pow_pos frame.height in
-    fold-within (grid_box frame) (cell_box block.cell) (placed_boxes rules block.cell log (length log)) (record {
+    fold-within (grid_of frame) (cell_box block.cell) (placed_boxes rules block.cell log (length log)) (record {
       left = its.cell.left;
       right = omega (arith, ints, its.cell.left, its.cell.right, some);
       below = its.cell.below;
       above = omega (arith, ints, its.cell.below, its.cell.above, some);
-    }) (All-made (symbol_box rules block.cell log) (λ place. place < length log) (λ b. IsBoxInside b (grid_box frame))
+    }) (All-made (symbol_box rules block.cell log) (λ place. place < length log) (λ b. IsBoxInside b (grid_of frame))
     (λ place area within made. placed-inside frame (cell_before rules block.cell log place)
     (entry_of rules (slice_index log place)).hull area (sound.placed place within) made)
     (range_with_len 0 (length log)) (λ k d within.

@@ -3,13 +3,14 @@ use Rattle.std.proofs.Common.{◌≡◌, ℕ, suc, ◌+◌, ◌<◌, ℤ, pos, �
 use Rattle.std.specs.Prelude.{slice_index, slice_index_or, fold}
 use Rattle.std.specs.List.{cons_option, range_with_len}
 use Rattle.std.specs.Option.{option_map}
-use Rattle.std.proofs.lemmas.Int.{clamps, ints}
+use Rattle.std.proofs.lemmas.Int.{ints}
 use Rattle.std.proofs.lemmas.List.FromFn.{get_or-map-range_with_len, length-map-range_with_len, map-range_with_len_more}
 use Rattle.std.proofs.lemmas.List.Sums.{fold-append}
 use Rattle.std.proofs.lemmas.Option.{slice_get_within}
 use Rattle.std.proofs.lemmas.List.Elements.{All-append, All-cons, All-nil, All-weaker}
 use Rattle.list_laws.proofs.RangeLemmas.{filter_map-range_more, All-from_filter_map}
 use Rattle.list_laws.proofs.MapLemmas.{map_alike}
+use Rattle.track_types.specs.Boxes.{cell_box, joined_box, moved_box}
 use Rattle.track_types.specs.Region.{in_box}
 use Rattle.track_types.specs.declared.cell.Cell.{Cell}
 use Rattle.track_types.specs.declared.cell_box.CellBox.{CellBox}
@@ -17,7 +18,7 @@ use Rattle.track_types.specs.declared.parts.Parts.{Parts}
 use Rattle.track_types.specs.declared.stop.Stop.{Stop}
 use Rattle.track_types.proofs.RegionLemmas.{in_box-from}
 use Rattle.k2_tree.specs.Areas.{IsBoxInside}
-use Rattle.k2_tree.proofs.InsideLemmas.{inside-inside, inside-self}
+use Rattle.k2_tree.proofs.InsideLemmas.{inside-inside, inside-joined, inside-self}
 use Rattle.box_tree.specs.Places.{no_box}
 use Rattle.rule_store.specs.View.{RulesView}
 use Rattle.rule_store.specs.Boxes.{bounding_box_of}
@@ -30,43 +31,23 @@ use Rattle.rule_store.proofs.LogLemmas.{stops_after-cons, stops_after-none}
 use Rattle.snapshots.specs.JoinFlaws.{cell_after, cell_before}
 use Rattle.snapshots.specs.Parts.{anchored_at, block_log, rules_in, snapshot_in}
 use Rattle.snapshots.specs.Sound.{IsBlock, IsSnapshot}
-use Rattle.snapshots.specs.Tracks.{cell_box, common_box, log_box, moved_box, symbol_box, placed_boxes, track_box, with_hull}
+use Rattle.snapshots.specs.Tracks.{log_box, symbol_box, placed_boxes, track_box, with_hull}
 use Rattle.snapshots.specs.Tracks.{AreOnTracks, IsOnTrack}
 use Rattle.snapshots.specs.View.{SnapshotView, all_blocks, block_of}
 use Rattle.snapshots.specs.declared.anchored.Anchored.{Anchored}
 use Rattle.snapshots.proofs.ReachLemmas.{covered-along, hull_of-entry, present-none, All-stops_from, IsCovered}
 
--- two boxes lie in the least box with both
-pub inside-common_box : (area other : CellBox)
-    → IsBoxInside area (common_box area other) × IsBoxInside other (common_box area other)
-inside-common_box area other = (
-  record {
-    left = omega (arith, ints, clamps);
-    right = omega (arith, ints, clamps);
-    below =
-        omega (arith, ints, clamps);
-    above = omega (arith, ints, clamps);
-  },
-  record {
-    left = omega (arith, ints, clamps);
-    right = omega (arith, ints, clamps);
-    below =
-        omega (arith, ints, clamps);
-    above = omega (arith, ints, clamps);
-  },
-)
-
 -- each of some boxes lies in the least box with all of them, and so does the first
 pub inside-fold : (area : CellBox) (areas : List CellBox)
-    → IsBoxInside area (fold common_box area areas) × All (λ other. IsBoxInside other (fold common_box area areas)) areas
+    → IsBoxInside area (fold joined_box area areas) × All (λ other. IsBoxInside other (fold joined_box area areas)) areas
 inside-fold area [] = (inside-self area, All-nil (λ other. IsBoxInside other area))
 inside-fold area (other ∷ areas) =
-    let both = inside-common_box area other in
-    let rest = inside-fold (common_box area other) areas in
-    let whole : CellBox = fold common_box (common_box area other) areas in (
-      inside-inside area (common_box area other) whole both.0 rest.0,
+    let both = inside-joined area other in
+    let rest = inside-fold (joined_box area other) areas in
+    let whole : CellBox = fold joined_box (joined_box area other) areas in (
+      inside-inside area (joined_box area other) whole both.0 rest.0,
       All-cons (λ b. IsBoxInside b whole) other areas
-          (inside-inside other (common_box area other) whole both.1 rest.0) rest.1,
+          (inside-inside other (joined_box area other) whole both.1 rest.0) rest.1,
     )
 
 -- a cell of a box that lies in another is in that one
@@ -156,14 +137,14 @@ on-tracks parts number = λ k d within. on-track parts number (get_or (all_block
 
 -- a box with the hull of one symbol more
 with_hull-is : (area : CellBox) (cell : Cell) (hull : Option CellBox)
-    → with_hull area cell hull ≡ fold common_box area (cons_option (option_map (moved_box cell) hull) [])
+    → with_hull area cell hull ≡ fold joined_box area (cons_option (option_map (moved_box cell) hull) [])
 with_hull-is area cell None = refl
 with_hull-is area cell (Some hull) = refl
 
 module _ (rules : RulesView) (start : Cell) (log : List ℕ) where
   -- the box of a log's first symbols
   abbrev pub box_before : ℕ → CellBox
-  box_before count = fold common_box (cell_box start) (placed_boxes rules start log count)
+  box_before count = fold joined_box (cell_box start) (placed_boxes rules start log count)
 
   -- one symbol more
   pub box_before-more : (place : ℕ) (cell : Cell) (entry : Entry) (area now : CellBox)
@@ -176,9 +157,9 @@ module _ (rules : RulesView) (start : Cell) (log : List ℕ) where
       let hull : Option CellBox = (entry_of rules (slice_index log place)).hull in
       made ∙ ap (λ a. with_hull a cell entry.hull) so_far ∙ ap (λ c. with_hull (box_before place) c entry.hull) stands
       ∙ ap (λ (e : Entry). with_hull (box_before place) there e.hull) its ∙ with_hull-is (box_before place) there hull
-      ∙ sym (fold-append common_box (cell_box start) (placed_boxes rules start log place)
+      ∙ sym (fold-append joined_box (cell_box start) (placed_boxes rules start log place)
       (cons_option (symbol_box rules start log place) []))
-      ∙ ap (fold common_box (cell_box start)) (sym (filter_map-range_more (symbol_box rules start log) place))
+      ∙ ap (fold joined_box (cell_box start)) (sym (filter_map-range_more (symbol_box rules start log) place))
 
   -- all symbols
   pub box_before-all : (place : ℕ) → place ≡ length log → box_before place ≡ log_box rules start log

@@ -1,11 +1,11 @@
 -- What the parts of an index mean: its rules, its snapshots, the log of each block, and the chart.
-use Rattle.std.specs.Prelude.{ℕ, ◌+◌, ◌-◌, ◌*◌, ◌/◌, ◌==◌, ℤ, pos, ◌+ℤ◌, ◌-ℤ◌, unsigned_abs, Bool}
-use Rattle.std.specs.Prelude.{if◌then◌else◌, List, [], length, map, take, find, sum, slice_index, slice_index_or}
+use Rattle.std.specs.Prelude.{ℕ, ◌+◌, ◌==◌, ℤ, pos, ◌+ℤ◌}
+use Rattle.std.specs.Prelude.{List, [], length, map, take, find, sum, slice_index, slice_index_or}
 use Rattle.std.specs.Prelude.{Option, None, Some}
 use Rattle.std.specs.List.{flat_map, range_with_len, slice_range, sum_by}
 use Rattle.track_types.specs.Chart.{ChartView}
-use Rattle.track_types.specs.Frame.{instants_in, periods_of}
-use Rattle.track_types.specs.Region.{is_between}
+use Rattle.track_types.specs.Frame.{periods_of}
+pub use Rattle.track_types.specs.Frame.{end_in, first_in, is_covered, last_in, period_in}
 use Rattle.track_types.specs.declared.frame.Frame.{Frame}
 use Rattle.track_types.specs.declared.parts.Parts.{Parts}
 use Rattle.track_types.specs.declared.period_parts.PeriodParts.{PeriodParts}
@@ -53,14 +53,6 @@ block_log rules block = slice_range rules.symbols block.from (block.from + block
 abbrev pub log_in : Parts → Anchored → List ℕ
 log_in parts block = block_log (rules_in parts) block
 
--- the first instant of a period
-abbrev pub first_in : Frame → ℕ → ℤ
-first_in frame number = frame.first +ℤ pos (number * frame.period)
-
--- the last instant of a period
-abbrev pub end_in : Frame → ℕ → ℤ
-end_in frame number = frame.first +ℤ pos (number * frame.period + (instants_in frame number - 1))
-
 -- the instant of a block's anchor, in a period
 abbrev pub anchored_at : Frame → ℕ → Anchored → ℤ
 anchored_at frame number block = first_in frame number +ℤ pos block.offset
@@ -88,10 +80,6 @@ unfoldable pub rows_in : Parts → ℕ → List Row
 rows_in parts index =
     map (row_of (slice_index parts.objects index)) (flat_map (stops_in parts index) (numbers_in parts.frame))
 
--- the last instant of an index
-abbrev pub last_in : Frame → ℤ
-last_in frame = frame.first +ℤ pos (frame.span - 1)
-
 -- the chart that parts hold: for each object the rows of its blocks in order, with the numbers of the header
 unfoldable pub chart_in : Parts → ChartView
 chart_in parts = record {
@@ -106,12 +94,3 @@ chart_in parts = record {
 -- the place of an object among ascending ones, if it is one of them
 abbrev pub index_in : List ℕ → ℕ → Option ℕ
 index_in objects object = find (λ i. slice_index objects i == object) (range_with_len 0 (length objects))
-
--- the instant is one of the index's
-abbrev pub is_covered : Frame → ℤ → Bool
-is_covered frame instant = is_between frame.first (last_in frame) instant
-
--- the period of an instant, if it is one of the index's
-abbrev pub period_in : Frame → ℤ → Option ℕ
-period_in frame instant =
-    if is_covered frame instant then Some (unsigned_abs (instant -ℤ frame.first) / frame.period) else None

@@ -20,7 +20,7 @@ pub fn instants_in(frame: &Frame, number: u32) -> u32
     requires period { number < periods_of frame.now }
     ensures { result ≡ instants_in frame.now number }
 {
-    frame.period.min(frame.span - number * frame.period)
+    frame.timeline().instants_in(number)
 }
 
 /// A flaw of the period with this number.

@@ -18,7 +18,7 @@ use crate::anchored::Anchored;
 use crate::checking::{flaw, instants_in};
 use crate::fault::SnapFault;
 use crate::finding::find_blocks;
-use crate::placing::{cell_box, no_box, with_hull};
+use crate::placing::{no_box, with_hull};
 use crate::snapshot::Snapshot;
 use crate::track_tree::TrackTree;
 use rule_store::RuleStore;
@@ -162,7 +162,7 @@ fn read_log<L: Ledger>(
     let mut cell = block.cell;
     let mut duration = 0;
     let mut speed = 0u64;
-    let mut area = cell_box(block.cell);
+    let mut area = CellBox::of(block.cell);
     for place in 0..block.len {
         let entry = log.entry(place, steps);
         if passes_grid(frame, cell, &entry.hull) {

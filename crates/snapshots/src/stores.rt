@@ -160,12 +160,7 @@ impl Stores {
     pub fn period_of(&self, instant: i64) -> Option<u32>
         ensures value { result ≡ period_in self.now.frame instant }
     {
-        let last = self.frame.first + i64::from(self.frame.span - 1);
-        if instant < self.frame.first || instant > last {
-            return None;
-        }
-        let elapsed = (instant - self.frame.first).unsigned_abs();
-        Some((elapsed / u64::from(self.frame.period)) as u32)
+        self.frame.timeline().period_of(instant)
     }
 
     /// The snapshot of a period, which is one of the header's.

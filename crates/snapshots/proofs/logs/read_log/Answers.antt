@@ -12,7 +12,7 @@ loop-place-init g c = record {
   reading = reading-none c.args.frame.now c.args.rules.now c.args.block.now.cell
       (block_log c.args.rules.now c.args.block.now) c.requires.cell;
   fastest = refl;
-  boxed = c.cell_box-area.ensures;
+  boxed = c.of-area.ensures;
   reads = omega arith;
 }
 
