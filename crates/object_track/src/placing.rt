@@ -27,10 +27,9 @@ impl<'a> Placed<'a> {
             ≡ start_at (anchored_at stores.now.frame period block.now) block.now.cell }
         ensures placed { IsPlaced result.log.rules.now result.start (log_of result.log) }
     {
-        let frame = stores.frame();
-        let elapsed = u64::from(period) * u64::from(frame.period) + u64::from(block.offset);
+        let time = stores.frame().timeline();
         let start = Start {
-            instant: frame.first + elapsed as i64,
+            instant: time.first_of(period) + i64::from(block.offset),
             cell: block.cell,
         };
         let log = stores.rules().block(block.from, block.len);
