@@ -34,7 +34,7 @@ use Rattle.object_track.proofs.BlockLemmas.{block-known}
 use Rattle.object_track.proofs.ChartLemmas.{path_of-known}
 use Rattle.object_track.proofs.TableLemmas.{index_in-own}
 use Rattle.slice_search.specs.Sought.{first_stop_in, has_stop_in, AreSought}
-use Rattle.slice_search.specs.Reach.{grid_of}
+use Rattle.track_types.specs.Frame.{grid_of}
 use Rattle.slice_search.proofs.SoughtLemmas.{first_stop-beside, sought-each}
 use Rattle.interval_search.specs.FirstHits.{first_before, first_here, first_hit, hit_at, is_block_at, is_known, known_after, known_hits}
 use Rattle.interval_search.specs.FirstHits.{AreFirst, IsFirstHit, IsLooking}

@@ -32,7 +32,7 @@ use Rattle.snapshots.specs.SoundParts.{IsValid}
 use Rattle.object_track.specs.Met.{AreMet, IsMissed}
 use Rattle.object_track.proofs.ChartLemmas.{in_window-missed}
 use Rattle.object_track.proofs.TableLemmas.{IsTable-chart_in}
-use Rattle.slice_search.specs.Reach.{grid_of}
+use Rattle.track_types.specs.Frame.{grid_of}
 use Rattle.interval_search.specs.FirstHits.{first_here, first_hit, hit_at, is_known, known_hits, AreFirst, IsFirstHit}
 use Rattle.interval_search.proofs.FirstLemmas.{counted, first-begins, first-through, here-beside, hit-before, known-weigh}
 use Rattle.interval_search.proofs.ListingLemmas.{hits-listed}

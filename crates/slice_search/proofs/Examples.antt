@@ -4,9 +4,9 @@ use Rattle.track_types.specs.declared.cell.Cell.{Cell}
 use Rattle.track_types.specs.declared.cell_box.CellBox.{CellBox}
 use Rattle.track_types.specs.declared.region.Region.{Region}
 use Rattle.track_types.specs.declared.region.Region.TheVariants.{Disc, Rect}
-use Rattle.k2_tree.specs.Areas.{box_from}
 use Rattle.snapshots.specs.Tracks.{cell_box}
-use Rattle.slice_search.specs.Reach.{cut, may_reach}
+use Rattle.track_types.specs.Boxes.{box_from, cut}
+use Rattle.slice_search.specs.Reach.{may_reach}
 use Rattle.slice_search.proofs.ReachLemmas.{may_reach-beside}
 
 -- a grid of 32 columns and 32 lines

@@ -20,8 +20,9 @@ use Rattle.k2_tree.specs.Pruning.{IsWeaker}
 use Rattle.snapshots.specs.Speed.{gap, width_at}
 use Rattle.snapshots.specs.Tracks.{cell_box}
 use Rattle.slice_search.specs.Cost.{is_within_reach}
-use Rattle.box_tree.specs.Touching.{touches}
-use Rattle.slice_search.specs.Reach.{cut, cut_box, grid_of, may_reach, may_reach_in, short_width}
+use Rattle.track_types.specs.Boxes.{cut, cut_box, touches}
+use Rattle.track_types.specs.Frame.{grid_of}
+use Rattle.slice_search.specs.Reach.{may_reach, may_reach_in, short_width}
 
 -- what both tests say, from the first
 pub both-hold : (a b result : Bool) → a ≡ true → result ≡ b → result ≡ (a && b)

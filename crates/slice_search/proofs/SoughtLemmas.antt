@@ -38,7 +38,8 @@ use Rattle.snapshots.proofs.ReachLemmas.{IsSnapshot-valid}
 use Rattle.object_track.proofs.BlockLemmas.{block-known, IsPlaced-block}
 use Rattle.object_track.proofs.StopsLemmas.{All-stops_in, IsStopIn}
 use Rattle.slice_search.specs.Cost.{hit_cost, is_block_within_reach, is_within_reach, period_search_cost}
-use Rattle.slice_search.specs.Reach.{grid_of, may_reach_in}
+use Rattle.track_types.specs.Frame.{grid_of}
+use Rattle.slice_search.specs.Reach.{may_reach_in}
 use Rattle.slice_search.specs.Sought.{first_stop_in, has_stop_in, latest_in, log_reads, AreSought}
 use Rattle.slice_search.proofs.ReachLemmas.{in_box-grid, may_reach-near, may_reach-uncut, IsWeaker-may_reach}
 

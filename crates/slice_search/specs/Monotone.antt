@@ -8,10 +8,11 @@ use Rattle.track_types.specs.Widening.{widened}
 use Rattle.track_types.specs.declared.cell_box.CellBox.{CellBox}
 use Rattle.track_types.specs.declared.region.Region.{Region}
 use Rattle.box_tree.specs.Tests.{AreMonotone, IsWider}
-use Rattle.box_tree.specs.Touching.{touches, wider-touches}
+use Rattle.box_tree.specs.Touching.{wider-touches}
 use Rattle.box_tree.proofs.MonotoneLemmas.{wider-intersects}
 use Rattle.k2_tree.specs.Areas.{IsBoxInside}
-use Rattle.slice_search.specs.Reach.{cut-le, cut_box, may_reach}
+use Rattle.track_types.specs.Boxes.{cut-le, cut_box, touches}
+use Rattle.slice_search.specs.Reach.{may_reach}
 
 -- a box within another stays so where both are made wider
 widened-inside : (width : ℕ) (inner outer : CellBox) → IsBoxInside inner outer

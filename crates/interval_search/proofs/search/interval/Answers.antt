@@ -7,7 +7,7 @@ use Rattle.track_types.specs.declared.region.Region.{Region}
 use Rattle.track_types.specs.Region.{intersects_region}
 use Rattle.snapshots.specs.Parts.{chart_in}
 use Rattle.snapshots.specs.SoundParts.{IsValid}
-use Rattle.slice_search.specs.Reach.{grid_of}
+use Rattle.track_types.specs.Frame.{grid_of}
 use Rattle.interval_search.specs.Cost.{interval_cost}
 use Rattle.interval_search.specs.FirstHits.{AreFirst}
 use Rattle.interval_search.proofs.CostLemmas.{cost-met, cost-step}
