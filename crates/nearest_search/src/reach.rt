@@ -2,13 +2,12 @@ ghost use Rattle.std.specs.Prelude.{◌≡◌, ◌+ℤ◌, ◌-ℤ◌, ◌≤ℤ
 ghost use Rattle.std.specs.Int.{int_max, int_min};
 ghost use Rattle.track_types.specs.Near.{IsAsked, IsBoxWithin, IsCellAsked, IsWithin};
 ghost use Rattle.track_types.specs.Widening.{widened};
-ghost use Rattle.track_types.specs.Frame.{periods_of, IsFrame};
-ghost use Rattle.snapshots.specs.Parts.{first_in};
+ghost use Rattle.track_types.specs.Frame.{periods_of};
 ghost use Rattle.nearest_search.specs.Cost.{box_dist2};
 ghost use Rattle.nearest_search.specs.Reach.{queue_key, width_in_64_bits};
 
 use snapshots::Stores;
-use track_types::{Cell, CellBox, Frame};
+use track_types::{Cell, CellBox};
 
 /// Where a search asks from, and how far objects get from their anchors by its instant.
 #[derive(Clone, Copy)]
@@ -26,7 +25,7 @@ impl Reach {
         ensures cell { result.cell ≡ cell }
         ensures width { result.width ≡ width_in_64_bits stores.now period instant }
     {
-        let elapsed = instant.abs_diff(first_of(stores.frame(), period));
+        let elapsed = instant.abs_diff(stores.frame().timeline().first_of(period));
         let width = stores.speed(period).saturating_mul(elapsed);
         Reach { cell, width }
     }
@@ -42,15 +41,6 @@ impl Reach {
         let near = dist2_to(self.cell, area, 0);
         near.max(dist2_to(self.cell, square, self.width))
     }
-}
-
-// The first instant of a period.
-fn first_of(frame: &Frame, period: u32) -> i64
-    requires header { IsFrame frame.now }
-    requires period { period < periods_of frame.now }
-    ensures { result ≡ first_in frame.now period }
-{
-    frame.first + (u64::from(period) * u64::from(frame.period)) as i64
 }
 
 // The least squared distance from a cell to those of a box that is made wider on all sides.
