@@ -19,27 +19,13 @@ use Rattle.track_types.specs.Quantities.{columns_of, extent_of, first_of, greate
 use Rattle.track_types.specs.declared.limit.LimitKind.TheVariants.{Blocks, Extent}
 use Rattle.track_types.specs.declared.limit.TheConstants.{MAX_HEIGHT}
 use Rattle.track_types.specs.declared.row.Row.{Row}
+use Rattle.track_types.proofs.QuantityLemmas.{greatest_keeps, least_keeps}
 use Rattle.chart_parts.specs.Header.{frame_of, height_for}
 
 -- the grid is as wide as what it is made for, and no greater than a header may say
 height_for-wide : (extent : ℕ) → extent ≤ limit_of Extent
     → (height_for extent ≤ MAX_HEIGHT) × (extent ≤ 2 ^ height_for extent)
 height_for-wide extent short = least_power MAX_HEIGHT extent (omega arith) short
-
--- what holds of all numbers holds of the least and of the greatest
-least_keeps : (P : ℤ → Type 0) (zs : List ℤ) → 0 < length zs → All P zs → P (least zs)
-least_keeps P [] some all = absurd (omega arith)
-least_keeps P (z ∷ zs) some all = elim (fold-int_min_reached z zs (fold int_min z zs) refl) [
-  | inl first ↦ rw first (All-head P z zs all)
-  | inr among ↦ All-contains P zs (fold int_min z zs) (All-tail P z zs all) among
-]
-
-greatest_keeps : (P : ℤ → Type 0) (zs : List ℤ) → 0 < length zs → All P zs → P (greatest zs)
-greatest_keeps P [] some all = absurd (omega arith)
-greatest_keeps P (z ∷ zs) some all = elim (fold-int_max_reached z zs (fold int_max z zs) refl) [
-  | inl first ↦ rw first (All-head P z zs all)
-  | inr among ↦ All-contains P zs (fold int_max z zs) (All-tail P z zs all) among
-]
 
 -- what is made of a row lies between the least and the greatest of what is made of rows
 between : (f : Row → ℤ) (rows : List Row) (row : Row) → Contains rows row →

@@ -2,12 +2,12 @@
 use Rattle.std.proofs.Common.{◌≡◌, ℕ, suc, ◌+◌, ◌<◌, true, false, List, [], ◌∷◌, get_or, length, map, filter, refl, sym, ◌∙◌, ap, arith}
 use Rattle.std.specs.Prelude.{All, max, slice_index}
 use Rattle.std.specs.List.{range_with_len}
-use Rattle.std.specs.List.Sorted.{IsNonDecreasingBy, IsPermutation, IsSorted, IsStableByKey}
+use Rattle.std.specs.List.Sorted.{IsNonDecreasingBy, IsPermutation, IsStableByKey}
 use Rattle.std.specs.Ordering.{is_lt, nat_cmp}
 use Rattle.std.proofs.lemmas.Bool.Decides.{nat_tests}
 use Rattle.std.proofs.lemmas.Cmp.{nat_cmp_total}
 use Rattle.std.proofs.lemmas.List.{get_or-map, length-map}
-use Rattle.std.proofs.lemmas.List.Elements.{All-cons, All-map, All-nil}
+use Rattle.std.proofs.lemmas.List.Elements.{All-cons, All-nil}
 use Rattle.std.proofs.lemmas.List.FromFn.{get_or-map-range_with_len, get_or-range_with_len, length-map-range_with_len, length-range_with_len}
 use Rattle.std.proofs.lemmas.List.MinMax.{ranks_by}
 use Rattle.std.proofs.lemmas.List.Sorted.{All-permutation, IsNonDecreasingBy-from_sort}
@@ -18,11 +18,8 @@ use Rattle.track_types.specs.declared.frame.Frame.{Frame}
 use Rattle.movement_log.specs.declared.head.Head.{Head}
 use Rattle.k2_tree.specs.Morton.{morton_of}
 use Rattle.chart_parts.specs.LeafOrder.{by_code, leaf_order}
-use Rattle.chart_parts.specs.PeriodWith.{ArePlaced, IsLeafIn, codes_of_heads, block_leaf, no_head}
+use Rattle.chart_parts.specs.PeriodWith.{codes_of_heads, block_leaf, no_head}
 use Rattle.chart_parts.specs.declared.leaves.Leaf.{Leaf}
-
-no_leaf : Leaf
-no_leaf = record { code = 0; cell = no_head.cell; place = 0 }
 
 -- a number above those of all leaves
 bounded : (leaves : List Leaf) → (limit : ℕ) × All (λ leaf. leaf.code < limit) leaves
@@ -103,7 +100,7 @@ module _ (frame : Frame) (heads : List Head) where
       ∙ sym (ap (map (block_leaf frame heads)) (leaf_order-by_key codes limit small))
     where
       any_of : ℕ → Leaf
-      any_of code = record { code = code; cell = no_head.cell; place = 0 }
+      any_of code = record { code = code; place = 0 }
 
       at : (k d : ℕ) → k < length (range_with_len 0 (length heads)) → get_or (range_with_len 0 (length heads)) k d ≡ k
       at k d within =
@@ -121,24 +118,3 @@ module _ (frame : Frame) (heads : List Head) where
           rw (get_or-map-range_with_len (block_leaf frame heads) 0 (length heads) place place (any_of 0) within
           (omega arith))
           at (low place (any_of 0) (omega (arith, length-map-range_with_len (block_leaf frame heads) 0 (length heads))))
-
-  -- each is a leaf of its header's cell
-  pub All-leaves : ArePlaced frame heads →
-      All (IsLeafIn frame) (map (block_leaf frame heads) (leaf_order (codes_of_heads frame heads)))
-  All-leaves placed =
-      All-map (IsLeafIn frame) (block_leaf frame heads) (leaf_order (codes_of_heads frame heads))
-      (All-leaf_order (codes_of_heads frame heads) (λ place. IsLeafIn frame (block_leaf frame heads place))
-      (λ place within.
-      let many : length (codes_of_heads frame heads) ≡ length heads =
-      length-map heads (λ head. morton_of frame.height frame.base head.cell) in
-      record { code = refl; inside = placed.inside place no_head (omega arith) }))
-
--- the numbers of leaves in order ascend
-pub IsSorted-codes : (leaves : List Leaf) → IsNonDecreasingBy (λ leaf. leaf.code) leaves →
-    IsSorted nat_cmp (map (λ leaf. leaf.code) leaves)
-IsSorted-codes leaves up k d low high =
-    let long = length-map leaves (λ (leaf : Leaf). leaf.code) in
-    let here = get_or-map (λ (leaf : Leaf). leaf.code) leaves k no_leaf d (omega arith) in
-    let next = get_or-map (λ (leaf : Leaf). leaf.code) leaves (k + 1) no_leaf d (omega arith) in
-    let rises = up k (k + 1) no_leaf (omega arith) (omega arith) in
-    grind (arith, nat_tests)

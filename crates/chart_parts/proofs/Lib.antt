@@ -32,7 +32,6 @@ pub mod ObjectListLemmas
 pub mod PresenceBitLemmas
 pub mod LeafListLemmas
 pub mod LeafEndBodyLemmas
-pub mod TreeLemmas
 pub mod RunLemmas
 pub mod PeriodPartLemmas
 pub mod BlockRunLemmas

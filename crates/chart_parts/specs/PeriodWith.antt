@@ -98,14 +98,8 @@ cell_of_head heads place = (slice_index_or heads place no_head).cell
 abbrev pub block_leaf : Frame → List Head → ℕ → Leaf
 block_leaf frame heads place = record {
   code = morton_of frame.height frame.base (cell_of_head heads place);
-  cell = cell_of_head heads place;
   place = place;
 }
-
--- a leaf's number is that of its cell, which is in the header's grid
-pub record IsLeafIn (frame : Frame) (leaf : Leaf) : Type 0 where
-  pub code : leaf.code ≡ morton_of frame.height frame.base leaf.cell
-  pub inside : IsInGrid frame.height frame.base leaf.cell
 
 -- whether no next number is the one at a place
 abbrev pub is_end : List ℕ → ℕ → Bool

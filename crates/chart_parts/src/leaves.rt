@@ -1,24 +1,21 @@
-ghost use Rattle.std.specs.Prelude.{◌≡◌, ◌^◌, ◌<◌, ◌≤◌, ◌==◌, All, IfOk, length, map};
+ghost use Rattle.std.specs.Prelude.{◌≡◌, ◌^◌, ◌<◌, ◌≤◌, ◌==◌, IfOk, length, map};
 ghost use Rattle.std.specs.List.{dedup, range_with_len};
-ghost use Rattle.std.specs.List.Sorted.{IsSorted};
-ghost use Rattle.std.specs.Ordering.{nat_cmp};
 ghost use Rattle.chart_parts.specs.LeafOrder.{ends_of, leaf_order};
-ghost use Rattle.chart_parts.specs.PeriodWith.{ArePlaced, IsLeafIn, codes_of_heads, is_end, block_leaf};
+ghost use Rattle.chart_parts.specs.PeriodWith.{ArePlaced, codes_of_heads, is_end, block_leaf};
 ghost use Rattle.snapshots.specs.View.{widths_in};
-ghost use Rattle.k2_tree.specs.Morton.{IsGrid};
-ghost use Rattle.k2_tree.specs.TreeBits.{morton_bits};
+ghost use Rattle.k2_tree.specs.TreeBits.{Rises, morton_bits};
+ghost use Rattle.track_types.specs.declared.limit.TheConstants.{MAX_HEIGHT};
 
-use k2_tree::{K2Tree, morton};
+use k2_tree::{bits_of_codes, morton};
 use movement_log::Head;
 use std::alloc::{AllocError, Global};
-use track_types::{BitList, Cell, Frame, Memory};
+use track_types::{BitList, Frame, Memory};
 
 /// A block as a leaf of its period's tree.
 #[derive(Clone, Copy)]
 pub(crate) struct Leaf {
     /// The Morton number of the anchor's cell.
     pub(crate) code: u64,
-    pub(crate) cell: Cell,
     /// The block's place in its period, by object.
     pub(crate) place: u32,
 }
@@ -32,8 +29,6 @@ pub(crate) fn leaves_of(
     requires { ArePlaced frame heads.now }
     ensures ok { IfOk result (λ leaves. leaves.items
         ≡ map (block_leaf frame heads.now) (leaf_order (codes_of_heads frame heads.now))) }
-    ensures sorted { IfOk result (λ leaves. IsSorted nat_cmp (map (λ leaf. leaf.code) leaves.items)) }
-    ensures each { IfOk result (λ leaves. All (IsLeafIn frame) leaves.items) }
     ensures few { IfOk result (λ leaves. length leaves.items ≡ length heads.now) }
 {
     let mut leaves = leaves_by_object(alloc, frame, heads)?;
@@ -50,11 +45,9 @@ fn leaves_by_object(alloc: Global, frame: Frame, heads: &[Head]) -> Result<Vec<L
 {
     let mut leaves = Vec::with_capacity(alloc, heads.len())?;
     for place in 0..heads.len() {
-        let cell = heads[place].cell;
-        let code = morton(cell, frame.height, frame.base);
+        let code = morton(heads[place].cell, frame.height, frame.base);
         leaves.push(Leaf {
             code,
-            cell,
             place: place as u32,
         })?;
     }
@@ -90,24 +83,22 @@ fn is_end(leaves: &[Leaf], place: usize) -> bool
 
 /// The bits of the tree of the leaves' cells, each once.
 pub(crate) fn tree_of(alloc: Global, frame: Frame, leaves: Vec<Leaf>) -> Result<BitList, Memory>
-    requires grid { IsGrid frame.height frame.base }
+    requires low { frame.height ≤ MAX_HEIGHT }
     requires few { length leaves.items ≤ 2 ^ 16 }
-    requires each { All (IsLeafIn frame) leaves.items }
-    requires sorted { IsSorted nat_cmp (map (λ leaf. leaf.code) leaves.items) }
+    requires ascending { Rises 0 (dedup (λ a b. a == b) (map (λ leaf. leaf.code) leaves.items)) }
     ensures ok { IfOk result (λ bits. bits
         ≡ morton_bits (widths_in frame) (dedup (λ a b. a == b) (map (λ leaf. leaf.code) leaves.items))) }
 {
     let mut leaves = leaves;
     leaves.dedup_by_key(|leaf| leaf.code);
-    let cells = cells_of(alloc, leaves.as_slice())?;
+    let codes = codes_of(alloc, leaves.as_slice())?;
     let wide = frame.wide_levels();
-    let tree = K2Tree::build(alloc, cells.as_slice(), frame.height, wide, frame.base)?;
-    Ok(tree.bits())
+    bits_of_codes(alloc, codes.as_slice(), frame.height, wide)
 }
 
-// The cell of each leaf.
-fn cells_of(alloc: Global, leaves: &[Leaf]) -> Result<Vec<Cell>, AllocError>
-    ensures { IfOk result (λ cells. cells.items ≡ map (λ leaf. leaf.cell) leaves.now) }
+// The Morton number of each leaf.
+fn codes_of(alloc: Global, leaves: &[Leaf]) -> Result<Vec<u64>, AllocError>
+    ensures { IfOk result (λ codes. codes.items ≡ map (λ leaf. leaf.code) leaves.now) }
 {
-    leaves.iter().map(|leaf| leaf.cell).collect(alloc)
+    leaves.iter().map(|leaf| leaf.code).collect(alloc)
 }

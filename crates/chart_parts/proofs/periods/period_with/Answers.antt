@@ -5,6 +5,7 @@ use Rattle.k2_tree.specs.TreeBits.{morton_bits}
 use Rattle.snapshots.specs.View.{widths_in}
 use Rattle.chart_parts.specs.LeafOrder.{distinct_codes, ends_of, leaf_codes, leaf_order}
 use Rattle.chart_parts.specs.PeriodWith.{codes_of_heads, without_blocks}
+use Rattle.chart_parts.proofs.LeafEndLemmas.{Rises-distinct_codes}
 use Rattle.chart_parts.proofs.PeriodPartLemmas.{codes-leaves, period_with-none, places-leaves}
 use Rattle.chart_parts.proofs.periods.period_with.Goals as goal
 
@@ -14,6 +15,12 @@ returns-then-is_empty c =
     let parts = ap without_blocks c.in_ok-present.ensures
     ∙ period_with-none c.args.frame c.args.objects c.args.heads.now c.args.logs.now none c.requires.same in
     rw parts at c.without_blocks.ensures
+
+pub tree_of-requires-clause-ascending : goal.tree_of-requires-clause-ascending
+unfolding distinct_codes
+tree_of-requires-clause-ascending c =
+    let codes = codes_of_heads c.args.frame c.args.heads.now in
+    rw (c.in_ok-leaves.ensures.ok, codes-leaves c.args.frame c.args.heads.now) (Rises-distinct_codes codes)
 
 pub returns : goal.returns
 unfolding distinct_codes
