@@ -1,5 +1,5 @@
 -- The values of a log, from one row to the next.
-use Rattle.std.proofs.Common.{◌≡◌, ℕ, zero, suc, ◌+◌, ◌-◌, ◌^◌, ◌<◌, ◌≤◌, true, false, List, [], ◌∷◌, ◌++◌, length, map, take, replicate, get_or, arith, refl, sym, ◌∙◌, ap}
+use Rattle.std.proofs.Common.{◌≡◌, ℕ, zero, suc, ◌+◌, ◌-◌, ◌<◌, ◌≤◌, true, false, List, [], ◌∷◌, ◌++◌, length, map, take, replicate, get_or, arith, refl, sym, ◌∙◌, ap}
 use Rattle.std.specs.Prelude.{ℤ, pos, ◌+ℤ◌, ◌-ℤ◌, ◌≤ℤ◌, unsigned_abs, fold}
 use Rattle.std.specs.Int.{int_max, int_min}
 use Rattle.std.specs.List.{range_with_len}
@@ -14,6 +14,7 @@ use Rattle.track_types.specs.Limits.{limit_of}
 use Rattle.track_types.specs.Quantities.{extent_of, greatest, least, width_of}
 use Rattle.track_types.specs.Row.{IsAscending}
 use Rattle.track_types.specs.declared.limit.LimitKind.TheVariants.{Extent}
+use Rattle.track_types.specs.declared.limit.TheConstants.{MAX_EXTENT}
 use Rattle.track_types.specs.declared.row.Row.{Row}
 use Rattle.movement_log.specs.Blocks.{is_in_log, no_row, row_at}
 use Rattle.movement_log.specs.Values.{move_value, value_at}
@@ -159,7 +160,7 @@ module _ (f : Row → ℤ) (rows : List Row) where
 
 -- so a movement between two rows of a chart has a code
 pub ring_of-extent : (rows : List Row) (j k : ℕ) → j < length rows → k < length rows → extent_of rows ≤ limit_of Extent →
-    ring_of ((row_at rows k).cell.x -ℤ (row_at rows j).cell.x) ((row_at rows k).cell.y -ℤ (row_at rows j).cell.y) < 2 ^ 24
+    ring_of ((row_at rows k).cell.x -ℤ (row_at rows j).cell.x) ((row_at rows k).cell.y -ℤ (row_at rows j).cell.y) < MAX_EXTENT
 ring_of-extent rows j k low high extent =
     let columns = apart-width (λ row. row.cell.x) rows j k low high in
     let lines = apart-width (λ row. row.cell.y) rows j k low high in

@@ -1,4 +1,5 @@
-ghost use Rattle.std.specs.Prelude.{◌≡◌, ◌^◌, ◌<◌, ◌-ℤ◌, All, IfOk, length, map, unsigned_abs};
+ghost use Rattle.std.specs.Prelude.{◌≡◌, ◌<◌, ◌-ℤ◌, All, IfOk, length, map, unsigned_abs};
+ghost use Rattle.track_types.specs.declared.limit.TheConstants.{MAX_EXTENT};
 ghost use Rattle.movement_log.specs.Blocks.{IsBlockIn, anchor_in, is_in_log, row_at};
 ghost use Rattle.movement_log.specs.Logs.{values_after};
 ghost use Rattle.movement_log.specs.Values.{move_value};
@@ -62,7 +63,7 @@ fn instants_between(anchor: &Row, row: &Row) -> usize
 
 // The value of a row: the movement from the cell of the row before, as its code and one.
 fn move_value(before: &Row, row: &Row) -> u64
-    requires { ring_of (row.now.cell.x -ℤ before.now.cell.x) (row.now.cell.y -ℤ before.now.cell.y) < 2 ^ 24 }
+    requires { ring_of (row.now.cell.x -ℤ before.now.cell.x) (row.now.cell.y -ℤ before.now.cell.y) < MAX_EXTENT }
     ensures { result ≡ move_value before.now.cell row.now.cell }
 {
     encode_move(row.cell.x - before.cell.x, row.cell.y - before.cell.y) + 1

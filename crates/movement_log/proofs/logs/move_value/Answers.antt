@@ -1,9 +1,10 @@
-use Rattle.std.proofs.Common.{◌<◌, ◌^◌, rules, FitsSigned, w64, arith}
+use Rattle.std.proofs.Common.{◌<◌, rules, FitsSigned, w64, arith}
 use Rattle.std.specs.Prelude.{ℤ, pos, negsuc, ◌-ℤ◌, unsigned_abs}
 use Rattle.std.proofs.lemmas.Int.{to_z-of_z}
+use Rattle.track_types.specs.declared.limit.TheConstants.{MAX_EXTENT}
 use Rattle.movement_log.proofs.logs.move_value.Goals as goal
 
-small_fits : (z : ℤ) → unsigned_abs z < 2 ^ 24 → FitsSigned w64 z
+small_fits : (z : ℤ) → unsigned_abs z < MAX_EXTENT → FitsSigned w64 z
 small_fits (pos n) small = record { sfits = omega arith }
 small_fits (negsuc n) small = record { sfits = omega arith }
 
