@@ -1,5 +1,5 @@
 -- The parts of a chart take few bytes, so that an index of them may be opened.
-use Rattle.std.proofs.Common.{◌≡◌, ℕ, ◌+◌, ◌*◌, ◌^◌, ◌<◌, ◌≤◌, List, length, ap, arith}
+use Rattle.std.proofs.Common.{◌≡◌, ℕ, ◌+◌, ◌*◌, ◌<◌, ◌≤◌, List, length, ap, arith}
 use Rattle.std.specs.List.{flat_map}
 use Rattle.std.proofs.Math.Nat.{mul-le-mul_right}
 use Rattle.std.proofs.lemmas.List.Concat.{length-flat_map}
@@ -13,6 +13,7 @@ use Rattle.track_types.specs.Quantities.{objects_of}
 use Rattle.track_types.specs.Shape.{IsShapedPeriod}
 use Rattle.track_types.specs.declared.limit.LimitKind.TheVariants.{Blocks}
 use Rattle.track_types.specs.declared.frame.Frame.{Frame}
+use Rattle.track_types.specs.declared.limit.TheConstants.{MAX_INDEX}
 use Rattle.track_types.specs.declared.period_parts.PeriodParts.{PeriodParts}
 use Rattle.k2_tree.proofs.BuiltLemmas.{length-morton_bits, path_bits, path_bits-widths_of}
 use Rattle.snapshots.specs.View.{widths_in}
@@ -81,7 +82,7 @@ module _ (chart : ChartView) (is : IsChart chart) where
       omega (arith, all, blocks, same, counted)
 
   -- the parts of a chart take fewer bytes than an index may have
-  pub bytes-short : length (bytes_of_parts (parts_of chart)) < 2 ^ 30
+  pub bytes-short : length (bytes_of_parts (parts_of chart)) < MAX_INDEX
   unfolding parts_of
   bytes-short =
       omega (

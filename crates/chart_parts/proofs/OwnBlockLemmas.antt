@@ -1,5 +1,5 @@
 -- The blocks of a chart by period: few in each, with cells in the grid and logs that are not long.
-use Rattle.std.proofs.Common.{◌≡◌, ℕ, ◌^◌, ◌<◌, ◌≤◌, List, get_or, length, map, sym, ◌∙◌, ap, arith, subst}
+use Rattle.std.proofs.Common.{◌≡◌, ℕ, ◌<◌, ◌≤◌, List, get_or, length, map, sym, ◌∙◌, ap, arith, subst}
 use Rattle.std.specs.Prelude.{All}
 use Rattle.std.proofs.lemmas.List.{length-map}
 use Rattle.std.proofs.lemmas.List.Elements.{All-map, Contains-get_or}
@@ -10,6 +10,7 @@ use Rattle.list_laws.proofs.KeyRangeLemmas.{IsNonDecreasingBy-by_key}
 use Rattle.track_types.specs.Chart.{ChartView, IsChart}
 use Rattle.track_types.specs.Frame.{periods_of}
 use Rattle.track_types.specs.Quantities.{anchors_of, first_of, object_count, objects_of, period_count}
+use Rattle.track_types.specs.declared.limit.TheConstants.{MAX_OBJECTS}
 use Rattle.track_types.specs.declared.row.Row.{Row}
 use Rattle.movement_log.specs.Logs.{anchors_in, block_anchors, head_of, logs_of}
 use Rattle.movement_log.specs.declared.head.Head.{Head}
@@ -39,7 +40,7 @@ module _ (chart : ChartView) (is : IsChart chart) where
       ∙ ap (map (row_period chart)) (firsts-logged_anchors chart) in
       subst (Climbs 0) (sym periods) (Climbs-rising (row_period chart) 0 anchors (λ k d within. omega arith) rising)
 
-  few_in : (number : ℕ) → number < periods_of (frame_of chart) → length (blocks_of_period number (own_blocks chart)) ≤ 2 ^ 16
+  few_in : (number : ℕ) → number < periods_of (frame_of chart) → length (blocks_of_period number (own_blocks chart)) ≤ MAX_OBJECTS
   unfolding frame_of
   few_in number below =
       let heads = ap length (heads-own chart number below) in

@@ -5,6 +5,7 @@ use Rattle.track_types.specs.Chart.{ChartView}
 use Rattle.track_types.specs.Frame.{periods_of}
 use Rattle.track_types.specs.declared.frame.Frame.{Frame}
 use Rattle.track_types.specs.declared.cell.Cell.{Cell}
+use Rattle.track_types.specs.declared.limit.TheConstants.{MAX_OBJECTS}
 use Rattle.track_types.specs.declared.period_parts.PeriodParts.{PeriodParts}
 use Rattle.k2_tree.specs.Morton.{IsGrid, IsInGrid, morton_of}
 use Rattle.k2_tree.specs.TreeBits.{morton_bits}
@@ -65,7 +66,7 @@ period_run_length number heads = prefix_len (λ head. head.period == number) hea
 -- headers of a period's blocks, with cells in the header's grid
 pub record ArePlaced (frame : Frame) (heads : List Head) : Type 0 where
   pub grid : IsGrid frame.height frame.base
-  pub few : length heads ≤ 2 ^ 16
+  pub few : length heads ≤ MAX_OBJECTS
   pub inside : All (λ head. IsInGrid frame.height frame.base head.cell) heads
 
 -- the numbers are at least n, and none is below the one before
@@ -83,7 +84,7 @@ pub record IsBlockOf (frame : Frame) (objects : ℕ) (block : Head × List ℕ) 
 pub record AreBlocksByPeriod (frame : Frame) (objects : ℕ) (blocks : List (Head × List ℕ)) : Type 0 where
   pub grid : IsGrid frame.height frame.base
   pub by_period : Climbs 0 (map (λ block. block.0.period) blocks)
-  pub few : (number : ℕ) → number < periods_of frame → length (blocks_of_period number blocks) ≤ 2 ^ 16
+  pub few : (number : ℕ) → number < periods_of frame → length (blocks_of_period number blocks) ≤ MAX_OBJECTS
   pub each : All (IsBlockOf frame objects) blocks
 
 -- what a place past the end reads

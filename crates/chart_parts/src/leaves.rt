@@ -4,7 +4,7 @@ ghost use Rattle.chart_parts.specs.LeafOrder.{ends_of, leaf_order};
 ghost use Rattle.chart_parts.specs.PeriodWith.{ArePlaced, codes_of_heads, is_end, block_leaf};
 ghost use Rattle.snapshots.specs.View.{widths_in};
 ghost use Rattle.k2_tree.specs.TreeBits.{Rises, morton_bits};
-ghost use Rattle.track_types.specs.declared.limit.TheConstants.{MAX_HEIGHT};
+ghost use Rattle.track_types.specs.declared.limit.TheConstants.{MAX_HEIGHT, MAX_OBJECTS};
 
 use k2_tree::{bits_of_codes, morton};
 use movement_log::Head;
@@ -84,7 +84,7 @@ fn is_end(leaves: &[Leaf], place: usize) -> bool
 /// The bits of the tree of the leaves' cells, each once.
 pub(crate) fn tree_of(alloc: Global, frame: Frame, leaves: Vec<Leaf>) -> Result<BitList, Memory>
     requires low { frame.height ≤ MAX_HEIGHT }
-    requires few { length leaves.items ≤ 2 ^ 16 }
+    requires few { length leaves.items ≤ MAX_OBJECTS }
     requires ascending { Rises 0 (dedup (λ a b. a == b) (map (λ leaf. leaf.code) leaves.items)) }
     ensures ok { IfOk result (λ bits. bits
         ≡ morton_bits (widths_in frame) (dedup (λ a b. a == b) (map (λ leaf. leaf.code) leaves.items))) }

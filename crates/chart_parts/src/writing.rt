@@ -1,6 +1,7 @@
-ghost use Rattle.std.specs.Prelude.{◌≡◌, ◌<◌, ◌^◌, length, IfOk};
+ghost use Rattle.std.specs.Prelude.{◌≡◌, ◌<◌, length, IfOk};
 ghost use Rattle.std.specs.List.{flat_map};
 ghost use Rattle.track_types.specs.Chart.{IsChart};
+ghost use Rattle.track_types.specs.declared.limit.TheConstants.{MAX_INDEX};
 ghost use Rattle.snapshots.specs.Parts.{chart_in};
 ghost use Rattle.snapshots.specs.SoundParts.{IsValid};
 ghost use Rattle.chart_parts.specs.PartsOf.{parts_of};
@@ -18,15 +19,16 @@ use track_types::{Chart, List32, List64, Lists32, Memory, PairList, Parts, Perio
 /// The parts that a chart is written as: header, objects, alphabet, Re-Pair's rules over the logs of all
 /// blocks, the parts of each period, and the logs that the rules leave.
 ///
-/// They are those of an index, hold the very chart that they were made from, and take fewer than 2^30
-/// bytes in a file. Beside what `compress` takes, it takes memory for the parts and for the raw logs,
-/// which are let go once there are rules. It takes time for the rows, the terminals and one sort of
-/// each period's anchors; a period without a block costs what its presence bits take.
+/// They are those of an index, hold the very chart that they were made from, and take fewer than
+/// `MAX_INDEX` bytes in a file. Beside what `compress` takes, it takes memory for the parts and for
+/// the raw logs, which are let go once there are rules. It takes time for the rows, the terminals
+/// and one sort of each period's anchors; a period without a block costs what its presence bits
+/// take.
 pub fn parts_of(alloc: Global, chart: &Chart) -> Result<Parts, Memory>
     ensures ok { IfOk result (λ parts. parts ≡ parts_of chart.now) }
     ensures valid { IfOk result (λ parts. IsValid parts) }
     ensures reads_back { IfOk result (λ parts. chart_in parts ≡ chart.now) }
-    ensures short { IfOk result (λ parts. length (bytes_of_parts parts) < 2 ^ 30) }
+    ensures short { IfOk result (λ parts. length (bytes_of_parts parts) < MAX_INDEX) }
 {
     let frame = frame_of(chart);
     let objects = objects_of(alloc, chart.rows())?;
