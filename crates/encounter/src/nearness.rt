@@ -1,12 +1,13 @@
 ghost use Rattle.std.specs.Prelude.{◌≡◌, ◌≤◌, ◌^◌, IfSome, ◌≤ℤ◌};
 ghost use Rattle.track_types.specs.Near.{IsBoxWithin, IsWithin};
+ghost use Rattle.track_types.specs.declared.limit.TheConstants.{MAX_REACH};
 ghost use Rattle.encounter.specs.Span.{are_near, box_distance, gap_of};
 
 use track_types::CellBox;
 
 /// Whether there are two boxes, within a distance of each other.
 pub fn are_near(reach: u64, left: Option<CellBox>, right: Option<CellBox>) -> bool
-    requires reach { reach ≤ 2 ^ 42 }
+    requires reach { reach ≤ MAX_REACH }
     requires left { IfSome left IsBoxWithin }
     requires right { IfSome right IsBoxWithin }
     ensures { result ≡ are_near reach left right }

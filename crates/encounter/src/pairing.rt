@@ -1,5 +1,6 @@
-ghost use Rattle.std.specs.Prelude.{◌≡◌, ◌+◌, ◌≤◌, ◌^◌, option_map, true, false};
+ghost use Rattle.std.specs.Prelude.{◌≡◌, ◌+◌, ◌≤◌, option_map, true, false};
 ghost use Rattle.track_types.specs.Meeting.{meeting_at};
+ghost use Rattle.track_types.specs.declared.limit.TheConstants.{MAX_REACH};
 ghost use Rattle.encounter.specs.Turn.{IsTurned, meeting_ahead, sides, reads_ahead};
 
 use crate::block_node::BlockNode;
@@ -25,7 +26,7 @@ pub fn first_meeting<L: Ledger>(
     window: &Window,
     steps: &mut Steps<L>,
 ) -> Option<Meeting>
-    requires { window.now.reach ≤ 2 ^ 42 }
+    requires { window.now.reach ≤ MAX_REACH }
     ensures value { result ≡ option_map meeting_at (meeting_ahead
         window.now.from window.now.to window.now.reach left.old right.old) }
     ensures cost { steps.new ≤ steps.old + reads_ahead
@@ -48,7 +49,7 @@ fn take_turn<L: Ledger>(
     window: &Window,
     steps: &mut Steps<L>,
 ) -> Turn
-    requires { window.now.reach ≤ 2 ^ 42 }
+    requires { window.now.reach ≤ MAX_REACH }
     ensures { IsTurned window.now.from window.now.to window.now.reach
         (sides left.old right.old steps.old) (sides left.new right.new steps.new) result }
 {

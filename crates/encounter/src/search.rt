@@ -1,6 +1,7 @@
-ghost use Rattle.std.specs.Prelude.{◌≡◌, ◌+◌, ◌<◌, ◌≤◌, ◌^◌, length, option_map, IfOk};
+ghost use Rattle.std.specs.Prelude.{◌≡◌, ◌+◌, ◌<◌, ◌≤◌, length, option_map, IfOk};
 ghost use Rattle.track_types.specs.Frame.{periods_of};
 ghost use Rattle.track_types.specs.Meeting.{meeting_at, meeting_of};
+ghost use Rattle.track_types.specs.declared.limit.TheConstants.{MAX_REACH};
 ghost use Rattle.snapshots.specs.Parts.{chart_in, stops_in};
 ghost use Rattle.encounter.specs.MeetCost.{meet_cost, period_meet_cost};
 ghost use Rattle.encounter.specs.Seeking.{meet_cost_between, meeting_between};
@@ -19,9 +20,9 @@ use track_types::{Meeting, Memory};
 /// The first instant of a window, whose ends count, at which two objects have a row within its
 /// distance, and their cells; `None` exactly where there is none, as for an unknown object.
 ///
-/// The distance is at most 2^42. Both blocks of each period that the window meets are gone through
-/// together, up to the meeting. `Memory` is the only refusal: memory is taken where the grammar is
-/// deep, for the parts of rules.
+/// The distance is at most `MAX_REACH`. Both blocks of each period that the window meets are gone
+/// through together, up to the meeting. `Memory` is the only refusal: memory is taken where the
+/// grammar is deep, for the parts of rules.
 pub fn meet<L: Ledger>(
     alloc: Global,
     stores: &Stores,
@@ -30,7 +31,7 @@ pub fn meet<L: Ledger>(
     window: &Window,
     steps: &mut Steps<L>,
 ) -> Result<Option<Meeting>, Memory>
-    requires { window.now.reach ≤ 2 ^ 42 }
+    requires { window.now.reach ≤ MAX_REACH }
     ensures ok { IfOk result (λ found. found ≡ meeting_of (chart_in stores.now).rows left right
         window.now.from window.now.to window.now.reach) }
     ensures cost { steps.new ≤ steps.old + meet_cost stores.now left right
@@ -67,7 +68,7 @@ fn meet_in_periods<L: Ledger>(
     periods: Periods,
     steps: &mut Steps<L>,
 ) -> Result<Option<Meeting>, Memory>
-    requires reach { window.now.reach ≤ 2 ^ 42 }
+    requires reach { window.now.reach ≤ MAX_REACH }
     requires left { places.left < length stores.now.objects }
     requires right { places.right < length stores.now.objects }
     requires periods { periods.end ≤ periods_of stores.now.frame }
@@ -96,7 +97,7 @@ fn meet_in_period<L: Ledger>(
     period: u32,
     steps: &mut Steps<L>,
 ) -> Result<Option<Meeting>, Memory>
-    requires reach { window.now.reach ≤ 2 ^ 42 }
+    requires reach { window.now.reach ≤ MAX_REACH }
     requires left { places.left < length stores.now.objects }
     requires right { places.right < length stores.now.objects }
     requires period { period < periods_of stores.now.frame }

@@ -1,6 +1,7 @@
-ghost use Rattle.std.specs.Prelude.{◌≡◌, ◌+◌, ◌*◌, ◌≤◌, ◌^◌, option_map};
+ghost use Rattle.std.specs.Prelude.{◌≡◌, ◌+◌, ◌*◌, ◌≤◌, option_map};
 ghost use Rattle.track_types.specs.Near.{IsCellWithin};
 ghost use Rattle.track_types.specs.Meeting.{are_together, first_together, meeting_at};
+ghost use Rattle.track_types.specs.declared.limit.TheConstants.{MAX_REACH};
 ghost use Rattle.encounter.specs.Walked.{IsTrack};
 
 use std::sync::ledger::Ledger;
@@ -15,7 +16,7 @@ pub fn first_of_walks<W: Lazy<Item = Stop>, L: Ledger>(
     reach: u64,
     steps: &mut Steps<L>,
 ) -> Option<Meeting>
-    requires reach { reach ≤ 2 ^ 42 }
+    requires reach { reach ≤ MAX_REACH }
     requires one { IsTrack (W.left one.old) }
     requires other { IsTrack (W.left other.old) }
     ensures value { result
@@ -42,7 +43,7 @@ pub fn first_of_walks<W: Lazy<Item = Stop>, L: Ledger>(
 
 // Whether two stops are at one instant, within a distance of each other.
 fn are_together(here: Stop, there: Stop, reach: u64) -> bool
-    requires reach { reach ≤ 2 ^ 42 }
+    requires reach { reach ≤ MAX_REACH }
     requires here { IsCellWithin here.cell }
     requires there { IsCellWithin there.cell }
     ensures { result ≡ are_together reach here there }

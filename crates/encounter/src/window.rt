@@ -1,7 +1,8 @@
-ghost use Rattle.std.specs.Prelude.{◌≡◌, ◌≤◌, ◌^◌, IfSome, ◌+ℤ◌, pos};
+ghost use Rattle.std.specs.Prelude.{◌≡◌, ◌≤◌, IfSome, ◌+ℤ◌, pos};
 ghost use Rattle.std.specs.Int.{int_max, int_min};
 ghost use Rattle.std.specs.Int.Signed.{le_z};
 ghost use Rattle.track_types.specs.Near.{IsBoxWithin};
+ghost use Rattle.track_types.specs.declared.limit.TheConstants.{MAX_REACH};
 ghost use Rattle.encounter.specs.Span.{is_close};
 
 use crate::block_node::BlockNode;
@@ -21,7 +22,7 @@ impl Window {
     /// Whether two nodes may have a meeting: an instant of the window in common, and boxes within the
     /// distance.
     pub fn may_meet(&self, left: &BlockNode, right: &BlockNode) -> bool
-        requires reach { self.now.reach ≤ 2 ^ 42 }
+        requires reach { self.now.reach ≤ MAX_REACH }
         requires left { IfSome left.now.area IsBoxWithin }
         requires right { IfSome right.now.area IsBoxWithin }
         ensures { result ≡ is_close self.now.from self.now.to self.now.reach
