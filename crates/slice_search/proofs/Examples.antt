@@ -1,7 +1,8 @@
 -- Boxes within reach of a region, on worked values.
-use Rattle.std.proofs.Common.{◌≡◌, ℕ, ◌^◌, pos, neg_ℤ, true, false, refl}
+use Rattle.std.proofs.Common.{◌≡◌, ℕ, pos, neg_ℤ, true, false, refl}
 use Rattle.track_types.specs.declared.cell.Cell.{Cell}
 use Rattle.track_types.specs.declared.cell_box.CellBox.{CellBox}
+use Rattle.track_types.specs.declared.limit.TheConstants.{MAX_REACH}
 use Rattle.track_types.specs.declared.region.Region.{Region}
 use Rattle.track_types.specs.declared.region.Region.TheVariants.{Disc, Rect}
 use Rattle.snapshots.specs.Tracks.{cell_box}
@@ -35,7 +36,7 @@ beside : Region
 beside = Rect (pos 32) (pos 0) (pos 40) (pos 31)
 
 -- it keeps no square, not even the whole grid, of which the last column is one away from it
-beside-grid : may_reach beside grid (2 ^ 42) grid ≡ false
+beside-grid : may_reach beside grid MAX_REACH grid ≡ false
 unfolding may_reach grid beside
 beside-grid = refl
 

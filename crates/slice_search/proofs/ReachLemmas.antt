@@ -1,6 +1,6 @@
 -- Which boxes are within reach, where they are cut to the grid: each that is, is within reach uncut, and the cell of an anchor
 -- is where a cell of the region is near it.
-use Rattle.std.proofs.Common.{◌≡◌, ℕ, ◌^◌, ◌≤◌, ℤ, pos, ◌+ℤ◌, ◌-ℤ◌, ◌≤ℤ◌, true, Bool, refl, sym}
+use Rattle.std.proofs.Common.{◌≡◌, ℕ, ◌≤◌, ℤ, pos, ◌+ℤ◌, ◌-ℤ◌, ◌≤ℤ◌, true, Bool, refl, sym}
 use Rattle.std.proofs.Common.{false, inl, inr, ap, ◌∙◌, arith}
 use Rattle.std.specs.Prelude.{min, ◌&&◌}
 use Rattle.std.proofs.lemmas.Bool.{and_from, and_parts, cases_Bool}
@@ -11,6 +11,7 @@ use Rattle.track_types.specs.Widening.{widened}
 use Rattle.track_types.specs.declared.cell.Cell.{Cell}
 use Rattle.track_types.specs.declared.cell_box.CellBox.{CellBox}
 use Rattle.track_types.specs.declared.frame.Frame.{Frame}
+use Rattle.track_types.specs.declared.limit.TheConstants.{MAX_REACH}
 use Rattle.track_types.specs.declared.parts.Parts.{Parts}
 use Rattle.track_types.specs.declared.region.Region.{Region}
 use Rattle.track_types.proofs.RegionLemmas.{in_box-from, intersects_region-exact, is_between-from}
@@ -80,9 +81,9 @@ in_box-grid frame cell inside = in_box-from (grid_of frame) cell (record {
 
 -- a number near another is between the bounds around it
 is_between-around : (at z : ℤ) (n : ℕ) → IsAsked at → IsAsked z → gap z at ≤ n
-    → is_between (at -ℤ pos (min n (2 ^ 42))) (at +ℤ pos 0 +ℤ pos (min n (2 ^ 42))) z ≡ true
+    → is_between (at -ℤ pos (min n MAX_REACH)) (at +ℤ pos 0 +ℤ pos (min n MAX_REACH)) z ≡ true
 is_between-around at z n near also close =
-    is_between-from (at -ℤ pos (min n (2 ^ 42))) (at +ℤ pos 0 +ℤ pos (min n (2 ^ 42))) z
+    is_between-from (at -ℤ pos (min n MAX_REACH)) (at +ℤ pos 0 +ℤ pos (min n MAX_REACH)) z
     (omega (arith, ints, clamps, near.high, also.low)) (omega (arith, ints, clamps, near.low, also.high))
 
 -- a cell of the grid and of the region is at most so far from a box
@@ -123,9 +124,9 @@ module _ (region : Region) (grid : CellBox) where
   -- an anchor is within reach where a cell of the region in the grid is near it
   pub may_reach-near : (n : ℕ) (at cell : Cell) → IsCellAsked at → IsCellAsked cell → in_box grid cell ≡ true
       → gap cell.x at.x ≤ n → gap cell.y at.y ≤ n → in_region region cell ≡ true
-      → may_reach region grid (min n (2 ^ 42)) (cell_box at) ≡ true
+      → may_reach region grid (min n MAX_REACH) (cell_box at) ≡ true
   may_reach-near n at cell near also inside across along held =
-      may_reach-from (min n (2 ^ 42)) (cell_box at) (record {
+      may_reach-from (min n MAX_REACH) (cell_box at) (record {
         cell = cell;
         grid_has = inside;
         near = and_from _ _ (is_between-around at.x cell.x n near.x also.x across)

@@ -8,10 +8,7 @@ ghost use Rattle.slice_search.specs.Sought.{latest_in};
 use box_tree::Search;
 use region_test::RegionTest;
 use snapshots::Stores;
-use track_types::{CellBox, Frame};
-
-// No box is made wider by more columns or lines, since all cells of a grid are nearer to each other.
-const MAX_WIDTH: u64 = 1 << 42;
+use track_types::{CellBox, Frame, MAX_REACH};
 
 /// The reach of a period at an instant, as a search tells it: the squares from which an object may get
 /// into a region by then, and the boxes that the region touches.
@@ -23,7 +20,7 @@ pub struct Reach<'a> {
     // By how many cells a square is made wider on each side.
     width: u64,
     ghost near: { IsBoxWithin grid },
-    ghost narrow: { width ≤ 2 ^ 42 },
+    ghost narrow: { width ≤ MAX_REACH },
 }
 
 impl<'a> Reach<'a> {
@@ -40,7 +37,7 @@ impl<'a> Reach<'a> {
         Reach {
             test,
             grid: frame.grid(),
-            width: width.min(MAX_WIDTH),
+            width: width.min(MAX_REACH), // all cells of a grid are nearer to each other
         }
     }
 }
