@@ -1,5 +1,6 @@
 -- The definitions, run on periods of two objects.
 use Rattle.std.proofs.Common.{◌≡◌, ℕ, Bool, true, false, pos, List, [], ◌∷◌, length, map, take, refl, None, Some}
+use Rattle.track_types.specs.Flaws.{flaw_in}
 use Rattle.track_types.specs.declared.flaw.Section.TheVariants.{Offsets, Tree, Lasts, Perm}
 use Rattle.track_types.specs.declared.flaw.Kind.TheVariants.{Offset, Cells, CellOrder}
 use Rattle.track_types.specs.declared.flaw.Kind.TheVariants as kind
@@ -24,7 +25,7 @@ use Rattle.snapshots.specs.JoinFlaws.{cell_after, duration_of_log}
 use Rattle.snapshots.specs.Parts.{numbers_in, start_in, stops_in}
 use Rattle.snapshots.specs.Speed.{blocks_speed, log_speed, speed_of}
 use Rattle.snapshots.specs.View.{SnapshotView, all_blocks, block_at, block_of, blocks_in}
-use Rattle.snapshots.specs.Flaws.{bits_flaw, flaw_of, flaw_in}
+use Rattle.snapshots.specs.Flaws.{bits_flaw, flaw_of}
 use Rattle.snapshots.specs.declared.anchored.Anchored.{Anchored}
 
 abbrev I : Bool

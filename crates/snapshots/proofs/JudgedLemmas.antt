@@ -2,6 +2,7 @@
 use Rattle.std.proofs.Common.{◌≡◌, ℕ, Bool, true, false, List, length, Option, None, Some, IfSome}
 use Rattle.std.proofs.Common.{refl, ap, sym, subst, ◌∙◌}
 use Rattle.std.specs.Global.{Box}
+use Rattle.track_types.specs.Flaws.{flaw_in}
 use Rattle.track_types.specs.Frame.{instants_in, wide_of}
 use Rattle.track_types.specs.declared.flaw.Section.TheVariants.{Lasts}
 use Rattle.track_types.specs.declared.flaw.Kind.TheVariants.{Cells}
@@ -10,7 +11,7 @@ use Rattle.k2_tree.specs.Tree.{Tree, codes_in, tree_of}
 use Rattle.k2_tree.specs.Flaws.{StandsFor}
 use Rattle.k2_tree.proofs.CellLemmas.{tree_of-StandsFor}
 use Rattle.snapshots.specs.View.{SnapshotView, tree_in, view_with}
-use Rattle.snapshots.specs.Flaws.{bits_flaw, flaw_in, flaw_of, have_cells, offset_flaw, perm_flaw, IsShapedView}
+use Rattle.snapshots.specs.Flaws.{bits_flaw, flaw_of, have_cells, offset_flaw, perm_flaw, IsShapedView}
 use Rattle.snapshots.specs.Stored.{parts_with, starts_in, starts_of, tree_stored, snapshot_view, IsStoredSnapshot}
 use Rattle.snapshots.specs.declared.blocks.Blocks.{Blocks}
 use Rattle.snapshots.proofs.SoundLemmas.{IsSoundPeriod-flawless}

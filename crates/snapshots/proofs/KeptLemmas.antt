@@ -24,7 +24,7 @@ use Rattle.track_types.specs.Frame.{grid_of, wide_of, IsFrame}
 use Rattle.track_types.specs.declared.cell.Cell.{Cell}
 use Rattle.track_types.specs.declared.cell_box.CellBox.{CellBox}
 use Rattle.track_types.specs.declared.frame.Frame.{Frame}
-use Rattle.track_types.specs.declared.limit.TheConstants.{MAX_HEIGHT}
+use Rattle.track_types.specs.declared.limit.TheConstants.{MAX_HEIGHT, MAX_OBJECTS}
 use Rattle.track_types.specs.Boxes.{cell_box, joined_box, moved_box}
 use Rattle.k2_tree.specs.Areas.{IsBoxInside}
 use Rattle.k2_tree.proofs.InsideLemmas.{joined-inside}
@@ -312,7 +312,7 @@ pub IsStorable-judged : (view : SnapshotView) (rules : RulesView) (frame : Frame
     → IsSnapshot view → AreSoundLogs rules view → frame ≡ view.frame → blocks ≡ blocks_by_leaf view
     → boxes ≡ map (track_box rules) (blocks_by_leaf view) → IsStorable frame blocks boxes
 IsStorable-judged view rules frame blocks boxes is sound same blocks_are boxes_are =
-    let few : view.objects ≤ 2 ^ 16 = is.shaped.few in
+    let few : view.objects ≤ MAX_OBJECTS = is.shaped.few in
     subst (λ (f : Frame). IsStorable f blocks boxes) (sym same)
     (subst (λ bs. IsStorable view.frame bs boxes) (sym blocks_are)
     (subst (IsStorable view.frame (blocks_by_leaf view)) (sym boxes_are) (record {

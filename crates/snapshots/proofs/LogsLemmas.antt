@@ -6,6 +6,7 @@ use Rattle.std.proofs.lemmas.Int.{ints}
 use Rattle.std.proofs.lemmas.List.{length-drop, length-map, length-take, take_more}
 use Rattle.std.proofs.lemmas.List.Sums.{sum_by_push}
 use Rattle.list_laws.proofs.FindLemmas.{find_in_range-first, find_in_range-none}
+use Rattle.track_types.specs.Flaws.{flaw_in}
 use Rattle.track_types.specs.Near.{IsCellWithin}
 use Rattle.track_types.specs.declared.cell.Cell.{Cell}
 use Rattle.track_types.specs.declared.frame.Frame.{Frame}
@@ -19,7 +20,7 @@ use Rattle.rule_store.specs.Entry.{duration_of, entry_of, IsEntryWithin}
 use Rattle.rule_store.specs.declared.entry.Entry.{Entry}
 use Rattle.track_types.specs.declared.flaw.Kind.TheVariants as kind
 use Rattle.track_types.specs.declared.flaw.Section.TheVariants.{Lengths, Log}
-use Rattle.snapshots.specs.Flaws.{flaw_in}
+use Rattle.track_types.specs.declared.limit.TheConstants.{MAX_PERIOD, MAX_REACH}
 use Rattle.snapshots.specs.Parts.{block_log}
 use Rattle.snapshots.specs.JoinFlaws.{cell_after, cell_before, instants_after, is_along, is_off_grid, duration_of_log, log_flaw}
 use Rattle.snapshots.specs.JoinFlaws.{off_grid_at, passes_grid}
@@ -70,11 +71,11 @@ pub record IsReading (frame : Frame) (rules : RulesView) (start : Cell) (log : L
   pub inside : (j : ℕ) → j < place → is_off_grid frame rules start log j ≡ false
   pub stands : cell ≡ cell_before rules start log place
   pub lasted : duration ≡ duration_of_log rules (take place log)
-  pub left : neg_ℤ (pos (2 ^ 42 + 2 ^ 31 * place)) ≤ℤ cell.x
-  pub right : cell.x ≤ℤ pos (2 ^ 42 + 2 ^ 31 * place)
-  pub below : neg_ℤ (pos (2 ^ 42 + 2 ^ 31 * place)) ≤ℤ cell.y
-  pub above : cell.y ≤ℤ pos (2 ^ 42 + 2 ^ 31 * place)
-  pub short : duration ≤ 2 ^ 22 * place
+  pub left : neg_ℤ (pos (MAX_REACH + 2 ^ 31 * place)) ≤ℤ cell.x
+  pub right : cell.x ≤ℤ pos (MAX_REACH + 2 ^ 31 * place)
+  pub below : neg_ℤ (pos (MAX_REACH + 2 ^ 31 * place)) ≤ℤ cell.y
+  pub above : cell.y ≤ℤ pos (MAX_REACH + 2 ^ 31 * place)
+  pub short : duration ≤ MAX_PERIOD * place
 
 -- before the first symbol
 pub reading-none : (frame : Frame) (rules : RulesView) (start : Cell) (log : List ℕ) → IsCellWithin start

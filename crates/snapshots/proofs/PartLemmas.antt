@@ -2,9 +2,10 @@
 use Rattle.std.proofs.Common.{◌≡◌, ℕ, Bool, List, None, Some, refl}
 use Rattle.object_perm.specs.Permutation.{PermutesPlaces, first_flawed_place}
 use Rattle.object_perm.proofs.FlawLemmas.{first_flawed_place-permutes}
+use Rattle.track_types.specs.Flaws.{flaw_in}
 use Rattle.track_types.specs.declared.flaw.Section.TheVariants.{Perm}
 use Rattle.track_types.specs.declared.flaw.Kind.TheVariants.{CellOrder}
-use Rattle.snapshots.specs.Flaws.{flaw_in, order_flaw, perm_flaw}
+use Rattle.snapshots.specs.Flaws.{order_flaw, perm_flaw}
 
 -- a permutation whose cells do not all ascend
 pub perm_flaw-order : (number : ℕ) (lasts : List Bool) (perm : List ℕ) (place : ℕ) → PermutesPlaces perm

@@ -1,10 +1,11 @@
 -- The places of a leaf of a snapshot.
-use Rattle.std.proofs.Common.{◌≡◌, ℕ, ◌+◌, ◌-◌, ◌<◌, ◌≤◌, ◌^◌, Bool, true, false, List, ◌∷◌, length, get_or}
+use Rattle.std.proofs.Common.{◌≡◌, ℕ, ◌+◌, ◌-◌, ◌<◌, ◌≤◌, Bool, true, false, List, ◌∷◌, length, get_or}
 use Rattle.std.proofs.Common.{map, sym, ap, subst, ◌∙◌, arith}
 use Rattle.std.specs.Prelude.{if◌then◌else◌}
 use Rattle.std.proofs.lemmas.Option.{get_or_from_slice_get}
 use Rattle.packed_bits.proofs.OnesLemmas.{ones_of-le-length}
 use Rattle.bit_rank.specs.Bits.{IsSelected}
+use Rattle.track_types.specs.declared.limit.TheConstants.{MAX_OBJECTS}
 use Rattle.snapshots.specs.View.{SnapshotView, block_at, blocks_in, leaf_at, places_from, tree_in}
 use Rattle.snapshots.specs.Members.{blocks_from, members_left, IsAt}
 use Rattle.snapshots.specs.Sound.{IsSnapshot}
@@ -22,7 +23,7 @@ some_place view is some =
     omega (arith, same_length view is, is.sound.cells, ones_of-le-length view.parts.lasts)
 
 -- there are few objects
-pub few_places : (view : SnapshotView) → IsSnapshot view → length view.parts.perm ≤ 2 ^ 16
+pub few_places : (view : SnapshotView) → IsSnapshot view → length view.parts.perm ≤ MAX_OBJECTS
 few_places view is =
     omega (arith, is.shaped.perm, is.shaped.presence, is.shaped.few, ones_of-le-length view.parts.present)
 

@@ -1,5 +1,5 @@
 -- Shaped parts have no flaw if and only if they are sound.
-use Rattle.std.proofs.Common.{◌≡◌, ℕ, zero, suc, ◌+◌, ◌-◌, ◌^◌, ◌<◌, ◌≤◌, Bool, true, false, leb, cond, List, length}
+use Rattle.std.proofs.Common.{◌≡◌, ℕ, zero, suc, ◌+◌, ◌-◌, ◌<◌, ◌≤◌, Bool, true, false, leb, cond, List, length}
 use Rattle.std.proofs.Common.{get_or}
 use Rattle.std.proofs.Common.{Option, None, Some, inl, inr, refl, sym, ap, ◌∙◌, arith}
 use Rattle.std.specs.Prelude.{◌*◌, ◌==◌, ◌&&◌, ◌||◌, not, nat_lt}
@@ -15,6 +15,7 @@ use Rattle.object_perm.proofs.FlawLemmas.{first_flawed_place-permutes, permutes-
 use Rattle.track_types.specs.Frame.{instants_in, wide_of, IsFrame}
 use Rattle.track_types.specs.declared.cell.Cell.{Cell}
 use Rattle.track_types.specs.declared.frame.Frame.{Frame}
+use Rattle.track_types.specs.declared.limit.TheConstants.{MAX_TREE}
 use Rattle.k2_tree.specs.Morton.{IsGrid}
 use Rattle.k2_tree.specs.Groups.{upper_squares}
 use Rattle.k2_tree.specs.Tree.{codes_in, codes_of, tree_bits, tree_of, IsStoredTree}
@@ -94,7 +95,7 @@ wide_of-fits frame = omega (arith, wide_of-few frame)
 
 -- bits without a flaw are those of the tree that they tell
 stands : (height wide : ℕ) (base : Cell) (bits : List Bool) → IsGrid height base → 2 * wide ≤ height
-    → length bits ≤ 2 ^ 31 → tree_flaw (widths_of height wide) bits ≡ None
+    → length bits ≤ MAX_TREE → tree_flaw (widths_of height wide) bits ≡ None
     → StandsFor height wide base bits (tree_of height wide base bits)
 unfolding tree_bits
 stands height wide base bits grid fits few none =

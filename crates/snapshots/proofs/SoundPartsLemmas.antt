@@ -7,6 +7,7 @@ use Rattle.std.proofs.lemmas.List.Elements.{All-weaker}
 use Rattle.list_laws.proofs.FindLemmas.{find_in_range-all}
 use Rattle.list_laws.proofs.FirstLemmas.{All-first_given, map-none, or-none}
 use Rattle.spiral_code.specs.Spiral.{ring_of}
+use Rattle.track_types.specs.Flaws.{flaw_in}
 use Rattle.track_types.specs.Frame.{periods_of}
 use Rattle.track_types.specs.declared.cell.Cell.{Cell}
 use Rattle.track_types.specs.declared.cell_box.CellBox.{CellBox}
@@ -19,7 +20,6 @@ use Rattle.rule_store.specs.Cells.{movement_of}
 use Rattle.rule_store.specs.Entry.{entry_of}
 use Rattle.rule_store.specs.Flaws.{box_passes, code_flaw, leads_out, reach_limit, AreRules}
 use Rattle.rule_store.proofs.FlawLemmas.{box_passes-false, near_entry, no_flaws, rule-sound, symbol-known}
-use Rattle.snapshots.specs.Flaws.{flaw_in}
 use Rattle.snapshots.specs.JoinFlaws.{block_flaw, blocks_flaw, cell_before, duration_flaw, has_columns, has_lines}
 use Rattle.snapshots.specs.JoinFlaws.{instants_after, is_along, is_off_grid, duration_of_log, log_flaw, off_grid_at, passes_grid}
 use Rattle.snapshots.specs.Parts.{block_log, numbers_in, rules_in, snapshot_in}

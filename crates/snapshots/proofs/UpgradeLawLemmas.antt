@@ -12,6 +12,7 @@ use Rattle.track_types.specs.Shape.{IsShaped, IsShapedPeriod, width_for, symbol_
 use Rattle.track_types.specs.declared.cell.Cell.{Cell}
 use Rattle.track_types.specs.declared.cell_box.CellBox.{CellBox}
 use Rattle.track_types.specs.declared.frame.Frame.{Frame}
+use Rattle.track_types.specs.declared.limit.TheConstants.{MAX_TREE}
 use Rattle.track_types.specs.declared.parts.Parts.{Parts}
 use Rattle.track_types.specs.declared.row.Row.{Row}
 use Rattle.k2_tree.specs.Tree.{Tree, codes_of, tree_bits, IsTree}
@@ -103,7 +104,7 @@ module _ (view : SnapshotView) (is : IsSnapshot view) where
       record { grid = tree.grid; fits = wide_of-fits (newest frame); inside = tree.inside; codes = tree.codes }
 
   -- its bits are few
-  pub few-upgraded : length (upgraded_parts view).tree ≤ 2 ^ 31
+  pub few-upgraded : length (upgraded_parts view).tree ≤ MAX_TREE
   unfolding tree_bits
   few-upgraded =
       let long : length (codes_of own) ≡ length old.cells = length-map old.cells _ in
@@ -198,7 +199,7 @@ module _ (parts : Parts) (valid : IsValid parts) where
       record {
         presence = shaped.presence;
         offsets = shaped.offsets;
-        bits = subst (λ period. length (upgraded_period header period).tree ≤ 2 ^ 31) same
+        bits = subst (λ period. length (upgraded_period header period).tree ≤ MAX_TREE) same
             (few-upgraded (snapshot_in parts number) (its number below));
         lasts = shaped.lasts;
         perm = shaped.perm;

@@ -1,5 +1,5 @@
 -- A period's tree in the newest version: it is made of the same cells, which are few and ascend.
-use Rattle.std.proofs.Common.{◌≡◌, ℕ, zero, suc, ◌+◌, ◌^◌, ◌<◌, ◌≤◌, List, [], ◌∷◌, length, map, refl, ap, ◌∙◌, arith}
+use Rattle.std.proofs.Common.{◌≡◌, ℕ, zero, suc, ◌+◌, ◌<◌, ◌≤◌, List, [], ◌∷◌, length, map, refl, ap, ◌∙◌, arith}
 use Rattle.std.specs.Prelude.{slice_index}
 use Rattle.std.specs.List.{enumerate_from, sum_by}
 use Rattle.std.proofs.lemmas.List.Sums.{sum_by-le-sum_by}
@@ -7,6 +7,7 @@ use Rattle.list_laws.proofs.FlatLemmas.{sum_by-map}
 use Rattle.packed_bits.proofs.OnesLemmas.{ones_of-le-length}
 use Rattle.track_types.specs.declared.cell.Cell.{Cell}
 use Rattle.track_types.specs.declared.frame.Frame.{Frame}
+use Rattle.track_types.specs.declared.limit.TheConstants.{MAX_OBJECTS}
 use Rattle.track_types.specs.declared.parts.Parts.{Parts}
 use Rattle.track_types.specs.declared.period_parts.PeriodParts.{PeriodParts}
 use Rattle.k2_tree.specs.Pruning.{kept_leaves}
@@ -30,7 +31,7 @@ increasing-rises n (x ∷ y ∷ ys) up (suc k) within =
     rw e (increasing-rises (suc x) (y ∷ ys) up.1 k (omega arith))
 
 -- a set of cells has few of them, since each is the cell of an object
-pub few_cells : (view : SnapshotView) → IsSnapshot view → length (tree_in view).cells ≤ 2 ^ 16
+pub few_cells : (view : SnapshotView) → IsSnapshot view → length (tree_in view).cells ≤ MAX_OBJECTS
 few_cells view is =
     omega (
       arith,

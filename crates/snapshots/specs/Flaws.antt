@@ -1,20 +1,22 @@
 -- The first flaw of parts that are not those of a period.
 use Rattle.std.specs.Prelude.{◌≡◌, ℕ, ◌+◌, ◌-◌, ◌<◌, ◌≤◌, ◌==◌, Bool, not, ◌&&◌, ◌||◌, nat_le, false}
 use Rattle.std.specs.Prelude.{if◌then◌else◌, List, length, sum, find, slice_index, slice_index_or, Option}
-use Rattle.std.specs.Prelude.{None, Some, ⊤, ◌^◌}
+use Rattle.std.specs.Prelude.{None, Some}
 use Rattle.std.specs.Option.{option_map, option_or}
 use Rattle.std.specs.List.{range_with_len}
 use Rattle.packed_bits.specs.Bits.{ones_of}
 use Rattle.object_perm.specs.Permutation.{first_flawed_place}
+use Rattle.track_types.specs.Flaws.{flaw_in, IsFormatFaultFor}
 use Rattle.track_types.specs.Frame.{IsFrame, instants_in, periods_of}
 use Rattle.track_types.specs.Limits.{limit_of}
 use Rattle.track_types.specs.declared.limit.LimitKind.TheVariants.{Objects, Symbols}
 use Rattle.track_types.specs.declared.flaw.Flaw.{Flaw}
 use Rattle.track_types.specs.declared.frame.Frame.{Frame}
-use Rattle.track_types.specs.declared.flaw.Section.{Section}
 use Rattle.track_types.specs.declared.flaw.Section.TheVariants.{Offsets, Tree, Lasts, Perm}
-use Rattle.track_types.specs.declared.flaw.Kind.{Kind}
 use Rattle.track_types.specs.declared.flaw.Kind.TheVariants as kind
+use Rattle.track_types.specs.declared.format_fault.FormatFault.{FormatFault}
+use Rattle.track_types.specs.declared.format_fault.FormatFault.TheVariants as format
+use Rattle.track_types.specs.declared.limit.TheConstants.{MAX_TREE}
 use Rattle.k2_tree.specs.Flaws.{tree_flaw}
 use Rattle.snapshots.specs.View.{SnapshotView, tree_in, widths_in}
 use Rattle.snapshots.specs.declared.fault.SnapFault.{SnapFault}
@@ -26,7 +28,7 @@ pub record IsShapedView (view : SnapshotView) : Type 0 where
   pub period : view.number < periods_of view.frame
   pub some : 1 ≤ view.objects
   pub few : view.objects ≤ limit_of Objects
-  pub bits : length view.parts.tree ≤ 2 ^ 31
+  pub bits : length view.parts.tree ≤ MAX_TREE
   pub presence : length view.parts.present ≡ view.objects
   pub offsets : length view.parts.offsets ≡ ones_of view.parts.present
   pub lasts : length view.parts.lasts ≡ ones_of view.parts.present
@@ -52,10 +54,6 @@ is_disordered lasts perm place = not (slice_index_or lasts (place - 1) false)
 abbrev pub order_flaw : List Bool → List ℕ → Option ℕ
 order_flaw lasts perm = find (is_disordered lasts perm) (range_with_len 1 (length perm - 1))
 
--- a flaw of the period with this number
-abbrev pub flaw_in : ℕ → Section → Kind → ℕ → Flaw
-flaw_in number section kind index = record { section = section; period = number; index = index; kind = kind }
-
 -- the first flaw of bits that are no tree's of this header
 abbrev pub bits_flaw : ℕ → Frame → List Bool → Option Flaw
 bits_flaw number frame bits = option_map (flaw_in number Tree kind.Tree) (tree_flaw (widths_in frame) bits)
@@ -75,7 +73,11 @@ flaw_of view =
     else Some (flaw_in view.number Lasts kind.Cells (length view.parts.lasts)))
     (perm_flaw view.number view.parts.lasts view.parts.perm)))
 
+-- what a fault of a period is in an index
+abbrev pub format_fault_of_period : SnapFault → FormatFault
+format_fault_of_period (fault.Flaw flaw) = format.Flaw flaw
+format_fault_of_period fault.Memory = format.Memory
+
 -- a flaw is this one; memory may be wanting for any parts
 abbrev pub IsSnapFaultFor : Option Flaw → SnapFault → Type 0
-IsSnapFaultFor first (fault.Flaw flaw) = first ≡ Some flaw
-IsSnapFaultFor first fault.Memory = ⊤
+IsSnapFaultFor first fault = IsFormatFaultFor first (format_fault_of_period fault)

@@ -5,6 +5,7 @@ use Rattle.std.specs.Int.Signed.{le_z, lt_z}
 use Rattle.std.specs.List.{range_with_len, sum_by}
 use Rattle.std.specs.Option.{option_map, option_or}
 use Rattle.list_laws.specs.First.{first_given}
+use Rattle.track_types.specs.Flaws.{flaw_in}
 use Rattle.track_types.specs.Frame.{instants_in}
 use Rattle.track_types.specs.declared.cell.Cell.{Cell}
 use Rattle.track_types.specs.declared.cell_box.CellBox.{CellBox}
@@ -18,7 +19,6 @@ use Rattle.rule_store.specs.Expansion.{values_of}
 use Rattle.rule_store.specs.Cells.{displacement_of, moved}
 use Rattle.rule_store.specs.Entry.{duration_of, entry_of}
 use Rattle.snapshots.specs.View.{SnapshotView, all_blocks, rank_in}
-use Rattle.snapshots.specs.Flaws.{flaw_in}
 use Rattle.snapshots.specs.Parts.{block_log, numbers_in, rules_in, snapshot_in}
 use Rattle.snapshots.specs.declared.anchored.Anchored.{Anchored}
 

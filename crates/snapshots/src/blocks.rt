@@ -1,5 +1,6 @@
-ghost use Rattle.std.specs.Prelude.{◌≡◌, ◌+◌, ◌^◌, ◌≤◌, length, sum, IfOk, IfSome};
+ghost use Rattle.std.specs.Prelude.{◌≡◌, ◌+◌, ◌≤◌, length, sum, IfOk, IfSome};
 ghost use Rattle.packed_bits.specs.Bits.{ones_of};
+ghost use Rattle.track_types.specs.declared.limit.TheConstants.{MAX_SYMBOLS};
 ghost use Rattle.k2_tree.specs.Tree.{tree_bits};
 ghost use Rattle.std.specs.Prelude.{None};
 ghost use Rattle.snapshots.specs.Stored.{parts_of_blocks, parts_with, starts_in, starts_of};
@@ -33,7 +34,7 @@ pub struct Blocks {
 impl Blocks {
     /// Stores the blocks of these parts, whose logs begin at `start`, and nothing where no object
     /// is present: most periods of an index may have no block. As many objects are the last of their
-    /// cell as the tree has cells. The start and all lengths add up to at most 2^25.
+    /// cell as the tree has cells. The start and all lengths add up to at most `MAX_SYMBOLS`.
     pub fn store(
         alloc: Global,
         tree: K2Tree,
@@ -49,7 +50,7 @@ impl Blocks {
         requires cells { ones_of lasts ≡ length tree.cells }
         requires perm { length perm ≡ ones_of present }
         requires lengths { length lengths ≡ ones_of present }
-        requires total { start + sum lengths ≤ 2 ^ 25 }
+        requires total { start + sum lengths ≤ MAX_SYMBOLS }
         ensures parts { IfOk result (λ blocks. parts_with (length present) blocks ≡ record {
           present = present;
           offsets = offsets;

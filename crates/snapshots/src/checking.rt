@@ -1,8 +1,10 @@
 ghost use Rattle.std.specs.Prelude.{◌≡◌, ◌+◌, ◌^◌, ◌<◌, ◌≤◌, None, length, sum, IfErr, IfOk, OnOk};
 ghost use Rattle.object_perm.specs.Permutation.{PermutesPlaces};
+ghost use Rattle.track_types.specs.Flaws.{flaw_in};
 ghost use Rattle.track_types.specs.Frame.{instants_in, periods_of, wide_of, IsFrame};
+ghost use Rattle.track_types.specs.declared.limit.TheConstants.{MAX_SYMBOLS, MAX_TREE};
 ghost use Rattle.k2_tree.specs.Flaws.{StandsFor};
-ghost use Rattle.snapshots.specs.Flaws.{bits_flaw, flaw_in, have_cells, offset_flaw, order_flaw, perm_flaw, IsSnapFaultFor};
+ghost use Rattle.snapshots.specs.Flaws.{bits_flaw, have_cells, offset_flaw, order_flaw, perm_flaw, IsSnapFaultFor};
 ghost use Rattle.snapshots.specs.Stored.{starts_of};
 ghost use Rattle.snapshots.specs.declared.fault.SnapFault.TheVariants.{Flaw as IsFlaw};
 
@@ -76,8 +78,8 @@ pub fn find_disorder(lasts: &BitList, perm: &[u32]) -> Option<u32>
     None
 }
 
-/// Takes bits, of which there are at most 2^31, as the tree of a period's anchors, or says at which
-/// place they first fail to be a tree's. Memory is taken for the directory.
+/// Takes bits, of which there are at most `MAX_TREE`, as the tree of a period's anchors, or says at
+/// which place they first fail to be a tree's. Memory is taken for the directory.
 pub fn check_tree(
     alloc: Global,
     bits: BitList,
@@ -85,7 +87,7 @@ pub fn check_tree(
     number: u32,
 ) -> Result<K2Tree, SnapFault>
     requires header { IsFrame frame.now }
-    requires few { length bits ≤ 2 ^ 31 }
+    requires few { length bits ≤ MAX_TREE }
     ensures ok { IfOk result (λ tree. StandsFor frame.now.height (wide_of frame.now) frame.now.base
         bits tree) }
     ensures exact { OnOk result (bits_flaw number frame.now bits ≡ None) }
@@ -140,9 +142,9 @@ pub fn indexed(alloc: Global, list: BitList) -> Result<Bits, Memory>
 }
 
 /// Where each log begins, of which the first one begins at `start`. All lengths and the start add
-/// up to at most 2^25.
+/// up to at most `MAX_SYMBOLS`.
 pub fn starts_of(alloc: Global, start: u32, lengths: &[u32]) -> Result<List32, Memory>
-    requires { start + sum lengths.now ≤ 2 ^ 25 }
+    requires { start + sum lengths.now ≤ MAX_SYMBOLS }
     ensures { IfOk result (λ starts. starts ≡ starts_of start lengths.now) }
 {
     let mut starts = Vec::with_capacity(alloc, lengths.len())?;

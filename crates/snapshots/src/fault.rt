@@ -1,10 +1,11 @@
 ghost use Rattle.std.specs.Prelude.{◌≡◌};
+ghost use Rattle.snapshots.specs.Flaws.{format_fault_of_period};
 ghost use Rattle.snapshots.specs.declared.fault.SnapFault.TheVariants.{Memory};
 
 use std::alloc::AllocError;
 use std::error::Error;
 use std::fmt::{self, Display, Formatter, Write};
-use track_types::Flaw;
+use track_types::{Flaw, FormatFault};
 
 /// Why parts are not taken as a period's snapshot.
 #[derive(Clone, Copy, Debug, PartialEq, Eq)]
@@ -43,5 +44,16 @@ impl From<AllocError> for SnapFault {
 
     fn from(_error: AllocError) -> Self {
         SnapFault::Memory
+    }
+}
+
+impl From<SnapFault> for FormatFault {
+    ghost from_gives = { λ cause fault. fault ≡ format_fault_of_period cause };
+
+    fn from(cause: SnapFault) -> Self {
+        match cause {
+            SnapFault::Flaw(flaw) => FormatFault::Flaw(flaw),
+            SnapFault::Memory => FormatFault::Memory,
+        }
     }
 }

@@ -2,7 +2,7 @@ ghost use Rattle.std.specs.Prelude.{◌≡◌, ◌+◌, ◌<◌, ◌≤◌, ◌^
 ghost use Rattle.std.specs.Prelude.{map, max, sum, slice_index_or, All, pos, ◌+ℤ◌, ◌≤ℤ◌, IfSome};
 ghost use Rattle.track_types.specs.Frame.{instants_in, periods_of, IsFrame};
 ghost use Rattle.track_types.specs.Near.{IsBoxWithin, IsCellWithin, IsNear, IsWithin};
-ghost use Rattle.track_types.specs.declared.limit.TheConstants.{MAX_HEIGHT};
+ghost use Rattle.track_types.specs.declared.limit.TheConstants.{MAX_HEIGHT, MAX_SYMBOLS};
 ghost use Rattle.snapshots.specs.Flaws.{IsSnapFaultFor};
 ghost use Rattle.snapshots.specs.Parts.{block_log};
 ghost use Rattle.snapshots.specs.Sound.{IsSnapshot};
@@ -114,7 +114,7 @@ fn judge_log<L: Ledger>(
     requires offset { block.now.offset < instants_in frame.now number }
     requires cell { IsCellWithin block.now.cell }
     requires log { block.now.from + block.now.len ≤ length rules.now.symbols }
-    requires long { block.now.from + block.now.len ≤ 2 ^ 25 }
+    requires long { block.now.from + block.now.len ≤ MAX_SYMBOLS }
     ensures exact { OnOk result (log_flaw frame.now rules.now number rank block.now ≡ None) }
     ensures flaw { IfErr result (λ fault.
         IsSnapFaultFor (log_flaw frame.now rules.now number rank block.now) fault) }
@@ -146,7 +146,7 @@ fn read_log<L: Ledger>(
     requires header { IsFrame frame.now }
     requires cell { IsCellWithin block.now.cell }
     requires log { block.now.from + block.now.len ≤ length rules.now.symbols }
-    requires long { block.now.from + block.now.len ≤ 2 ^ 25 }
+    requires long { block.now.from + block.now.len ≤ MAX_SYMBOLS }
     ensures inside { OnOk result
         (off_grid_at frame.now rules.now block.now.cell (block_log rules.now block.now) ≡ None) }
     ensures ok { IfOk result (λ summary.

@@ -40,7 +40,7 @@ pub struct Snapshot {
     number: u32,
     objects: u32,
     start: u32,
-    // An index may have 2^22 periods, most of them without a block: these keep nothing else.
+    // An index may have `MAX_SPAN` periods, most of them without a block: these keep nothing else.
     blocks: Option<Box<Blocks>>,
 }
 
@@ -67,10 +67,11 @@ impl Snapshot {
     /// first place. That of the cells stands at the end of `lasts`.
     ///
     /// The header is in its ranges, and the number is that of one of its periods. There are 1 to
-    /// 2^16 objects and at most 2^31 tree bits. `present` has a bit for each object, and the other
-    /// lists have a member for each of its ones. `start` and all lengths add up to at most 2^25.
-    /// Memory is taken for the directories of the three lists of bits, the shortcuts of the
-    /// permutation, where each log begins, the header, and marks while the call runs.
+    /// `MAX_OBJECTS` objects and at most `MAX_TREE` tree bits. `present` has a bit for each object,
+    /// and the other lists have a member for each of its ones. `start` and all lengths add up to at
+    /// most `MAX_SYMBOLS`. Memory is taken for the directories of the three lists of bits, the
+    /// shortcuts of the permutation, where each log begins, the header, and marks while the call
+    /// runs.
     pub fn check(
         alloc: Global,
         frame: &Frame,

@@ -47,7 +47,7 @@ pub struct Stores {
     snaps: Vec<Snapshot>,
     // For each period, in cells an instant.
     speeds: Vec<u64>,
-    // For each period. An index may have 2^22 of them, most of them without a block.
+    // For each period. An index may have `MAX_SPAN` of them, most of them without a block.
     tracks: Vec<Option<Box<TrackTree>>>,
 }
 
@@ -131,7 +131,7 @@ impl Stores {
         &self.rules
     }
 
-    /// How many objects are listed: 1 to 2^16.
+    /// How many objects are listed: 1 to `MAX_OBJECTS`.
     pub fn objects(&self) -> u32
         ensures value { result ≡ length self.now.objects }
     {

@@ -1,4 +1,4 @@
-use Rattle.std.proofs.Common.{◌≡◌, ◌<◌, ◌≤◌, ◌+◌, ◌^◌, None, Some, arith, ap, refl, subst, sym, take, All, map, ◌∙◌}
+use Rattle.std.proofs.Common.{◌≡◌, ◌<◌, ◌≤◌, ◌+◌, None, Some, arith, ap, refl, subst, sym, take, All, map, ◌∙◌}
 use Rattle.std.specs.Prelude.{sum}
 use Rattle.packed_bits.proofs.OnesLemmas.{ones_of-le-length}
 use Rattle.std.proofs.lemmas.Result.{err_from_is_err_and}
@@ -14,6 +14,7 @@ use Rattle.snapshots.proofs.JudgingLemmas.{passed_over, rank_in-zero, taken, IsT
 use Rattle.snapshots.proofs.SpeedLemmas.{blocks_speed-all, blocks_speed-block, blocks_speed-none}
 use Rattle.snapshots.proofs.TrackLemmas.{box_in, boxes_before-more, boxes_before-picked, boxes_before-within}
 use Rattle.track_types.specs.declared.frame.Frame.{Frame}
+use Rattle.track_types.specs.declared.limit.TheConstants.{MAX_OBJECTS, MAX_SYMBOLS}
 use Rattle.snapshots.specs.TrackTree.{IsKept}
 use Rattle.snapshots.proofs.KeptLemmas.{IsStorable-judged}
 use Rattle.snapshots.proofs.SoundPartsLemmas.{AreSoundLogs-flawless}
@@ -71,7 +72,7 @@ judge_log-requires-clause-log g c =
 
 pub judge_log-requires-clause-long : goal.judge_log-requires-clause-long
 judge_log-requires-clause-long g c =
-    let total : c.args.snapshot.now.start + sum c.args.snapshot.now.parts.lengths ≤ 2 ^ 25 =
+    let total : c.args.snapshot.now.start + sum c.args.snapshot.now.parts.lengths ≤ MAX_SYMBOLS =
     c.frame-frame.ensures.snapshot.shaped.total in
     omega (arith, (its g (goal.at.judge_log-requires-clause-long g c).In-Some).to, total)
 
@@ -109,7 +110,7 @@ overflow_add-rank g c =
     let at = (goal.at.overflow_add-rank g c).In-Some in
     let view = c.args.snapshot.now in
     let is = c.frame-frame.ensures.snapshot in
-    let few : view.objects ≤ 2 ^ 16 = is.shaped.few in
+    let few : view.objects ≤ MAX_OBJECTS = is.shaped.few in
     omega (
       arith,
       (takes g at).within,
