@@ -2,9 +2,9 @@ ghost use Rattle.std.specs.Prelude.{◌≡◌, ◌≢◌, ℕ, ◌+◌, ◌*◌,
 ghost use Rattle.host_ports.specs.Counting.{SaveCounts};
 ghost use Rattle.host_ports.specs.Meanings.{files_at};
 ghost use Rattle.snapshots.specs.SoundParts.{IsValid};
-ghost use Rattle.track_index.specs.CheckFlaws.{IsFormatFaultFor};
 ghost use Rattle.track_index.specs.Opening.{bytes_cost, first_flaw, IsFile};
 ghost use Rattle.snapshots.specs.Upgrade.{upgrade_of};
+ghost use Rattle.track_types.specs.Flaws.{IsFormatFaultFor};
 ghost use Rattle.track_types.specs.Limits.{limit_of};
 ghost use Rattle.track_types.specs.declared.parts.Parts.{Parts as WholeParts};
 ghost use Rattle.gract_top.specs.Beginning.{SavesNothing};

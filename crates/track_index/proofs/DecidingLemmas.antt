@@ -1,6 +1,7 @@
 -- Bytes have no flaw if and only if they are those of an index file.
 use Rattle.std.proofs.Common.{◌≡◌, ℕ, List, None, Result, Ok, Err, ap, sym, ◌∙◌}
 use Rattle.std.specs.Prelude.{IfErr, IfOk}
+use Rattle.track_types.specs.Flaws.{IsFormatFaultFor}
 use Rattle.track_types.specs.Shape.{IsShaped}
 use Rattle.track_types.specs.declared.flaw.Flaw.{Flaw}
 use Rattle.track_types.specs.declared.parts.Parts.{Parts}
@@ -12,7 +13,7 @@ use Rattle.index_format.specs.Reading.{parts_in}
 use Rattle.index_format.specs.Spelling.{bytes_of_parts}
 use Rattle.index_format.proofs.BitLemmas.{IsBytes}
 use Rattle.index_format.proofs.PartsLaws.{parts_in-again, parts_in-takes}
-use Rattle.track_index.specs.CheckFlaws.{check_flaw, IsFormatFaultFor}
+use Rattle.track_index.specs.CheckFlaws.{check_flaw}
 use Rattle.track_index.specs.Opening.{first_flaw, flaw_after, IsFile}
 use Rattle.track_index.proofs.CheckLemmas.{check_flaw-sound, IsSound-unflawed}
 use Rattle.track_index.proofs.OpeningLemmas.{first_flaw-read}

@@ -1,18 +1,22 @@
 -- The flaws of lower crates make up those of an index, and what was checked makes up its parts.
 use Rattle.std.proofs.Common.{◌≡◌, ℕ, ◌≤◌, eqb, true, List, length, map, Ok, Option, None, inl, inr, refl, ap, subst, sym, ◌∙◌, arith}
 use Rattle.std.specs.List.{range_with_len, sum_by}
-use Rattle.std.specs.Option.{option_or}
+use Rattle.std.specs.Option.{option_and_then, option_or}
 use Rattle.std.proofs.lemmas.Bool.{cases_Bool, eq-eqb, eqb-true}
 use Rattle.std.proofs.lemmas.List.{ext_get_or, take_all}
 use Rattle.std.proofs.lemmas.List.FromFn.{get_or-map-range_with_len, length-map-range_with_len}
 use Rattle.std.proofs.lemmas.Simd.{map-map}
+use Rattle.track_types.specs.Flaws.{IsFormatFaultFor}
 use Rattle.track_types.specs.Frame.{periods_of}
 use Rattle.track_types.specs.Limits.{limit_of}
 use Rattle.track_types.specs.declared.limit.LimitKind.TheVariants.{Symbols}
 use Rattle.track_types.specs.Shape.{IsShaped}
 use Rattle.track_types.specs.declared.parts.Parts.{Parts}
 use Rattle.track_types.specs.declared.period_parts.PeriodParts.{PeriodParts}
+use Rattle.rule_store.specs.Flaws.{format_fault_of_rules, rules_flaw, IsRuleFaultFor}
 use Rattle.rule_store.specs.View.{RulesView, AreShapedRules}
+use Rattle.rule_store.specs.declared.fault.RuleFault.{RuleFault}
+use Rattle.rule_store.specs.declared.fault.RuleFault.TheVariants as rule_fault
 use Rattle.snapshots.specs.View.{SnapshotView}
 use Rattle.snapshots.specs.JoinFlaws.{logs_flaw}
 use Rattle.snapshots.specs.Parts.{no_period, period_at, rules_in, snapshot_in, start_in, symbols_of}
@@ -24,7 +28,7 @@ use Rattle.snapshots.specs.IndexCost.{open_cost}
 use Rattle.index_format.specs.Answers.{IsFormatFault}
 use Rattle.index_format.specs.Reading.{parts_in}
 use Rattle.track_index.specs.Opening.{bytes_cost, cost_after, first_flaw, flaw_after}
-use Rattle.track_index.specs.CheckFlaws.{check_flaw, grammar_flaw, lengths_flaw, snapshots_flaw, snapshots_with, total_flaw, AreShapedPeriods, IsFormatFaultFor}
+use Rattle.track_index.specs.CheckFlaws.{check_flaw, grammar_flaw, lengths_flaw, rule_flaw_of, snapshots_flaw, snapshots_with, total_flaw, AreShapedPeriods}
 
 -- the fault of the first of two
 fault-first : (a b : Option Flaw) (found : FormatFault) → IsFormatFaultFor a found → IsFormatFaultFor (option_or a b) found
@@ -36,12 +40,26 @@ fault-second : (a b : Option Flaw) (found : FormatFault) → a ≡ None → IsFo
     → IsFormatFaultFor (option_or a b) found
 fault-second a b found none is = rw none is
 
+-- the fault of rules is that of their flaw in an index
+fault-of_rule : (first : Option RuleFault) (found : RuleFault) → IsRuleFaultFor first found
+    → IsFormatFaultFor (option_and_then rule_flaw_of first) (format_fault_of_rules found)
+fault-of_rule first (rule_fault.Code index) is = rw is refl
+fault-of_rule first (rule_fault.Rule rule) is = rw is refl
+fault-of_rule first (rule_fault.Symbol index) is = rw is refl
+fault-of_rule first rule_fault.Memory is = is
+
+-- rules without a flaw have none in an index
+pub grammar_flaw-flawless : (rules : RulesView) → rules_flaw rules ≡ None → grammar_flaw rules ≡ None
+unfolding grammar_flaw
+grammar_flaw-flawless rules none = rw none refl
+
 module _ (parts : Parts) where
   -- the fault of parts by where it is met: in the rules, in the total, in a snapshot, in a log
-  pub fault-rules : (found : FormatFault) → IsFormatFaultFor (grammar_flaw (rules_in parts)) found
-      → IsFormatFaultFor (check_flaw parts) found
-  unfolding check_flaw
-  fault-rules found is = fault-first (grammar_flaw (rules_in parts)) _ found is
+  pub fault-rules : (found : RuleFault) → IsRuleFaultFor (rules_flaw (rules_in parts)) found
+      → IsFormatFaultFor (check_flaw parts) (format_fault_of_rules found)
+  unfolding check_flaw grammar_flaw
+  fault-rules found is =
+      fault-first (grammar_flaw (rules_in parts)) _ (format_fault_of_rules found) (fault-of_rule _ found is)
 
   module _ (rules : grammar_flaw (rules_in parts) ≡ None) where
     pub fault-total : (found : FormatFault) → IsFormatFaultFor (total_flaw parts) found → IsFormatFaultFor (check_flaw parts) found

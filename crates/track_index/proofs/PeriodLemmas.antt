@@ -9,9 +9,11 @@ use Rattle.std.proofs.lemmas.List.Elements.{All-get_or}
 use Rattle.std.proofs.lemmas.List.FromFn.{length-map-range_with_len, map-range_with_len_more}
 use Rattle.std.proofs.lemmas.List.Sums.{sum_by_more, sum_by_more_le}
 use Rattle.list_laws.proofs.FirstLemmas.{first_given-map, first_of_range-at, first_of_range-none}
+use Rattle.track_types.specs.Flaws.{IsFormatFaultFor}
 use Rattle.track_types.specs.Frame.{periods_of}
 use Rattle.track_types.specs.Shape.{IsShapedPeriod}
 use Rattle.track_types.specs.declared.frame.Frame.{Frame}
+use Rattle.track_types.specs.declared.limit.TheConstants.{MAX_SPAN, MAX_SYMBOLS}
 use Rattle.track_types.specs.declared.period_parts.PeriodParts.{PeriodParts}
 use Rattle.snapshots.specs.View.{SnapshotView, view_with}
 use Rattle.snapshots.specs.Flaws.{flaw_of, IsShapedView}
@@ -19,7 +21,7 @@ use Rattle.snapshots.specs.Parts.{no_period, period_at, symbols_of}
 use Rattle.snapshots.proofs.ReachLemmas.{IsShapedView-view}
 use Rattle.track_types.specs.declared.format_fault.FormatFault.{FormatFault}
 use Rattle.track_types.specs.declared.format_fault.FormatFault.TheVariants as fault
-use Rattle.track_index.specs.CheckFlaws.{snapshot_with, snapshots_flaw, snapshots_with, AreShapedPeriods, IsFormatFaultFor}
+use Rattle.track_index.specs.CheckFlaws.{snapshot_with, snapshots_flaw, snapshots_with, AreShapedPeriods}
 
 -- what is known once the first periods were checked: where the next logs begin, their snapshots, and that none has a
 -- flaw
@@ -36,7 +38,7 @@ pub IsShapedView-at : (frame : Frame) (objects : ℕ) (periods : List PeriodPart
 IsShapedView-at frame objects periods number shaped within =
     let its = All-get_or (IsShapedPeriod objects) periods number no_period within shaped.each in
     let most = sum_by_more_le symbols_of periods number no_period within in
-    let limit : sum_by symbols_of periods ≤ 2 ^ 25 = shaped.total in
+    let limit : sum_by symbols_of periods ≤ MAX_SYMBOLS = shaped.total in
     IsShapedView-view frame number objects (sum_by symbols_of (take number periods)) (period_at periods number)
     shaped.header (omega (arith, within, shaped.many)) shaped.some shaped.few its (omega (arith, most, limit))
 
@@ -61,7 +63,7 @@ module _ (frame : Frame) (objects : ℕ) (periods : List PeriodParts) where
       -- whose numbers fit 32 bits
       pub number-short : count < 2 ^ 32
       number-short =
-          let span : frame.span ≤ 2 ^ 22 = shaped.header.short in
+          let span : frame.span ≤ MAX_SPAN = shaped.header.short in
           omega (arith, number-within, span, div-le_self frame.span frame.period)
 
       -- its snapshot

@@ -1,9 +1,10 @@
 -- The first flaw of parts that are not those of an index.
 use Rattle.std.specs.Prelude.{◌≡◌, ℕ, ◌-◌, ◌≤◌, ◌==◌, if◌then◌else◌, List, All, length, map, take}
-use Rattle.std.specs.Prelude.{Option, None, Some, ⊤}
+use Rattle.std.specs.Prelude.{Option, None, Some}
 use Rattle.std.specs.List.{sum_by}
 use Rattle.std.specs.Option.{option_and_then, option_or}
 use Rattle.list_laws.specs.First.{first_given}
+use Rattle.track_types.specs.Flaws.{fault_flaw, flaw_in}
 use Rattle.track_types.specs.Frame.{IsFrame, periods_of}
 use Rattle.track_types.specs.Limits.{limit_of}
 use Rattle.track_types.specs.Shape.{IsShapedPeriod}
@@ -15,23 +16,17 @@ use Rattle.track_types.specs.declared.limit.LimitKind.TheVariants.{Objects, Symb
 use Rattle.track_types.specs.declared.parts.Parts.{Parts}
 use Rattle.track_types.specs.declared.period_parts.PeriodParts.{PeriodParts}
 use Rattle.rule_store.specs.View.{RulesView}
-use Rattle.rule_store.specs.Flaws.{rules_flaw}
+use Rattle.rule_store.specs.Flaws.{format_fault_of_rules, rules_flaw}
 use Rattle.rule_store.specs.declared.fault.RuleFault.{RuleFault}
-use Rattle.rule_store.specs.declared.fault.RuleFault.TheVariants as rule_fault
 use Rattle.snapshots.specs.View.{SnapshotView, view_with}
-use Rattle.snapshots.specs.Flaws.{flaw_in, flaw_of}
+use Rattle.snapshots.specs.Flaws.{flaw_of}
 use Rattle.snapshots.specs.JoinFlaws.{logs_flaw}
 use Rattle.snapshots.specs.Parts.{numbers_in, period_at, rules_in, symbols_of}
 use Rattle.snapshots.specs.Stores.{snapshots_in}
-use Rattle.track_types.specs.declared.format_fault.FormatFault.{FormatFault}
-use Rattle.track_types.specs.declared.format_fault.FormatFault.TheVariants as fault
 
 -- where a fault of the rules is, and how the index is not of its format there
 abbrev pub rule_flaw_of : RuleFault → Option Flaw
-rule_flaw_of (rule_fault.Code index) = Some (flaw_in 0 section.Alphabet kind.Code index)
-rule_flaw_of (rule_fault.Rule rule) = Some (flaw_in 0 section.Rules kind.Rule rule)
-rule_flaw_of (rule_fault.Symbol index) = Some (flaw_in 0 section.Log kind.Symbol index)
-rule_flaw_of rule_fault.Memory = None
+rule_flaw_of fault = fault_flaw (format_fault_of_rules fault)
 
 -- the first flaw of alphabet, rules and stored symbols
 unfoldable pub grammar_flaw : RulesView → Option Flaw
@@ -55,11 +50,6 @@ snapshots_flaw snaps = first_given flaw_of snaps
 unfoldable pub check_flaw : Parts → Option Flaw
 check_flaw parts = option_or (grammar_flaw (rules_in parts)) (option_or (total_flaw parts)
     (option_or (snapshots_flaw (snapshots_in parts)) (logs_flaw parts)))
-
--- a fault is this flaw; memory may be wanting for any parts
-abbrev pub IsFormatFaultFor : Option Flaw → FormatFault → Type 0
-IsFormatFaultFor first (fault.Flaw flaw) = first ≡ Some flaw
-IsFormatFaultFor first fault.Memory = ⊤
 
 -- the snapshot of a period, by the header, the number of objects and the parts of all periods
 abbrev pub snapshot_with : Frame → ℕ → List PeriodParts → ℕ → SnapshotView

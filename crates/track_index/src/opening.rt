@@ -1,38 +1,30 @@
-ghost use Rattle.std.specs.Prelude.{◌≡◌, ◌+◌, ◌==◌, ◌<◌, ◌≤◌, ◌^◌, length, None, Ok, Option, sum, IfErr, IfOk, OnOk};
+ghost use Rattle.std.specs.Prelude.{◌≡◌, ◌+◌, ◌==◌, ◌<◌, ◌≤◌, length, None, Ok, Option, sum, IfErr, IfOk, OnOk};
 ghost use Rattle.std.specs.Prelude.{MatchOption};
 ghost use Rattle.std.specs.List.{sum_by};
-ghost use Rattle.std.specs.Option.{option_and_then};
+ghost use Rattle.track_types.specs.Flaws.{IsFormatFaultFor};
 ghost use Rattle.track_types.specs.Frame.{IsFrame};
 ghost use Rattle.track_types.specs.Shape.{IsShaped};
-ghost use Rattle.rule_store.specs.Flaws.{IsRuleFaultFor};
-ghost use Rattle.rule_store.specs.declared.fault.RuleFault.{RuleFault};
-ghost use Rattle.rule_store.specs.View.{rules_with, AreShapedRules};
-ghost use Rattle.snapshots.specs.Flaws.{flaw_of, IsShapedView};
 ghost use Rattle.snapshots.specs.IndexCost.{open_cost};
 ghost use Rattle.snapshots.specs.Parts.{chart_in, symbols_of};
-ghost use Rattle.snapshots.specs.JoinFlaws.{logs_flaw};
-ghost use Rattle.snapshots.specs.SoundParts.{IsSound, IsValid};
-ghost use Rattle.snapshots.specs.Stores.{join_of, AreOf};
-ghost use Rattle.snapshots.specs.View.{view_with};
+ghost use Rattle.snapshots.specs.SoundParts.{IsValid};
 ghost use Rattle.chart_parts.specs.PartsOf.{parts_of};
 ghost use Rattle.index_format.specs.Answers.{Gives};
+ghost use Rattle.track_types.specs.declared.limit.TheConstants.{MAX_INDEX, MAX_SYMBOLS};
 ghost use Rattle.track_types.specs.declared.parts.Parts.{Parts as WholeParts};
 ghost use Rattle.track_index.specs.Opening.{bytes_cost, first_flaw, IsFile};
-ghost use Rattle.track_index.specs.CheckFlaws.{check_flaw, grammar_flaw, lengths_flaw, snapshots_flaw};
-ghost use Rattle.track_index.specs.CheckFlaws.{rule_flaw_of, snapshots_with, AreShapedPeriods, IsFormatFaultFor};
+ghost use Rattle.track_index.specs.CheckFlaws.{check_flaw, lengths_flaw, snapshots_flaw, snapshots_with, AreShapedPeriods};
 
 use crate::index::Index;
 use chart_parts::parts_of;
-use index_format::{FormatFault, decode};
-use rule_store::{RuleFault, RuleStore};
-use snapshots::{Header, SnapFault, Snapshot, Stores};
+use index_format::decode;
+use rule_store::RuleStore;
+use snapshots::{Header, Snapshot, Stores};
 use std::alloc::Global;
 use std::rc::Rc;
 use std::sync::ledger::Ledger;
 use step_count::Steps;
 use track_types::{
-    Chart, Flaw, Frame, Kind, List32, List64, Memory, PairList, Parts, PeriodList, PeriodParts,
-    Section,
+    Chart, Flaw, FormatFault, Frame, Kind, Memory, Parts, PeriodList, PeriodParts, Section,
 };
 
 impl Index {
@@ -70,11 +62,12 @@ impl Index {
             periods,
             symbols,
         } = parts;
-        let rules = check_rules(alloc, &frame, alphabet, rules, symbols)?;
+        let rules =
+            RuleStore::check(alloc, alphabet, rules, symbols, frame.height, frame.period)?;
         check_total(&frame, periods.as_slice(), rules.sizes().2)?;
         let count = objects.as_slice().len() as u32;
         let snaps = check_periods(alloc, &frame, count, periods)?;
-        let stores = join(alloc, frame, objects, rules, snaps, steps)?;
+        let stores = Stores::join(alloc, frame, objects, rules, snaps, steps)?;
         Ok(Index { stores })
     }
 
@@ -99,7 +92,7 @@ impl Index {
     }
 }
 
-/// Opens the bytes of an index file, of which there are at most 2^30.
+/// Opens the bytes of an index file, of which there are at most `MAX_INDEX`.
 ///
 /// `Flaw` is the first flaw of the bytes, as `decode` reads them from the front, or else that of the
 /// parts that they hold, in the order of `Index::check`. So an index is opened only from the bytes of
@@ -110,7 +103,7 @@ pub fn open<L: Ledger>(
     bytes: &[u8],
     steps: &mut Steps<L>,
 ) -> Result<Index, FormatFault>
-    requires { length bytes.now ≤ 2 ^ 30 }
+    requires { length bytes.now ≤ MAX_INDEX }
     ensures ok { IfOk result (λ index. IsFile bytes.now index) }
     ensures exact { OnOk result (first_flaw bytes.now ≡ None) }
     ensures decides { (parts : WholeParts) → IsFile bytes.now parts
@@ -132,7 +125,7 @@ pub fn open_bytes<L: Ledger>(
     bytes: Vec<u8>,
     steps: &mut Steps<L>,
 ) -> Result<Index, FormatFault>
-    requires { length bytes.items ≤ 2 ^ 30 }
+    requires { length bytes.items ≤ MAX_INDEX }
     ensures ok { IfOk result (λ index. IsFile bytes.items index) }
     ensures exact { OnOk result (first_flaw bytes.items ≡ None) }
     ensures decides { (parts : WholeParts) → IsFile bytes.items parts
@@ -146,48 +139,6 @@ pub fn open_bytes<L: Ledger>(
     let parts = decode(alloc, bytes.as_slice())?;
     drop(bytes);
     Index::check(alloc, parts, steps)
-}
-
-// Takes alphabet, rules and stored symbols as the rules of the index.
-#[tactic(auto, unfolding(crate::specs::CheckFlaws::grammar_flaw))]
-fn check_rules(
-    alloc: Global,
-    frame: &Frame,
-    alphabet: List64,
-    rules: PairList,
-    symbols: List32,
-) -> Result<RuleStore, FormatFault>
-    requires { AreShapedRules (rules_with alphabet rules symbols frame.now.height frame.now.period) }
-    ensures ok { IfOk result (λ store.
-        store ≡ rules_with alphabet rules symbols frame.now.height frame.now.period) }
-    ensures exact { OnOk result
-        (grammar_flaw (rules_with alphabet rules symbols frame.now.height frame.now.period) ≡ None) }
-    ensures flaw { IfErr result (λ fault. IsFormatFaultFor
-        (grammar_flaw (rules_with alphabet rules symbols frame.now.height frame.now.period)) fault) }
-{
-    match RuleStore::check(alloc, alphabet, rules, symbols, frame.height, frame.period) {
-        Ok(store) => Ok(store),
-        Err(fault) => Err(fault_of(fault)),
-    }
-}
-
-// What a fault of the rules is in an index.
-fn fault_of(fault: RuleFault) -> FormatFault
-    ensures { (first : Option RuleFault) → IsRuleFaultFor first fault
-        → IsFormatFaultFor (option_and_then rule_flaw_of first) result }
-{
-    let (section, kind, index) = match fault {
-        RuleFault::Code { index } => (Section::Alphabet, Kind::Code, index),
-        RuleFault::Rule { rule } => (Section::Rules, Kind::Rule, rule),
-        RuleFault::Symbol { index } => (Section::Log, Kind::Symbol, index),
-        RuleFault::Memory => return FormatFault::Memory,
-    };
-    FormatFault::Flaw(Flaw {
-        section,
-        period: 0,
-        index: u64::from(index),
-        kind,
-    })
 }
 
 // Whether the lengths of all logs add up to the number of symbols.
@@ -248,9 +199,7 @@ fn check_periods(
     ensures flaw { IfErr result (λ fault.
         IsFormatFaultFor (snapshots_flaw (snapshots_with frame.now objects periods)) fault) }
 {
-    let Ok(header) = Header::new(alloc, frame) else {
-        return Err(FormatFault::Memory);
-    };
+    let header = Header::new(alloc, frame)?;
     check_each(alloc, &header, objects, periods)
 }
 
@@ -274,7 +223,7 @@ fn check_each(
     for period in periods.into_vec() {
         let number = snaps.len() as u32;
         let symbols = symbols_of(period.lengths.as_slice());
-        snaps.push(check_period(alloc, header, number, objects, start, period)?)?;
+        snaps.push(Snapshot::check_under(alloc, header, number, objects, start, period)?)?;
         start += symbols;
     }
     Ok(snaps)
@@ -282,56 +231,8 @@ fn check_each(
 
 // How many symbols the logs of a period have.
 fn symbols_of(lengths: &[u32]) -> u32
-    requires { sum lengths.now ≤ 2 ^ 25 }
+    requires { sum lengths.now ≤ MAX_SYMBOLS }
     ensures { result ≡ sum lengths.now }
 {
     lengths.iter().sum()
-}
-
-// Takes the parts of a period as its snapshot.
-fn check_period(
-    alloc: Global,
-    header: &Rc<Header>,
-    number: u32,
-    objects: u32,
-    start: u32,
-    parts: PeriodParts,
-) -> Result<Snapshot, FormatFault>
-    requires { IsShapedView (view_with header.now.value number objects start parts) }
-    ensures ok { IfOk result (λ snapshot.
-        snapshot ≡ view_with header.now.value number objects start parts) }
-    ensures exact { OnOk result
-        (flaw_of (view_with header.now.value number objects start parts) ≡ None) }
-    ensures flaw { IfErr result (λ fault.
-        IsFormatFaultFor (flaw_of (view_with header.now.value number objects start parts)) fault) }
-{
-    match Snapshot::check_under(alloc, header, number, objects, start, parts) {
-        Ok(snapshot) => Ok(snapshot),
-        Err(SnapFault::Flaw(flaw)) => Err(FormatFault::Flaw(flaw)),
-        Err(SnapFault::Memory) => Err(FormatFault::Memory),
-    }
-}
-
-// Joins what was checked, once the log of each block is judged.
-fn join<L: Ledger>(
-    alloc: Global,
-    frame: Frame,
-    objects: List32,
-    rules: RuleStore,
-    snaps: Vec<Snapshot>,
-    steps: &mut Steps<L>,
-) -> Result<Stores, FormatFault>
-    requires { AreOf (join_of frame objects rules snaps.items) rules snaps.items }
-    ensures ok { IfOk result (λ stores. stores ≡ join_of frame objects rules snaps.items) }
-    ensures exact { OnOk result (logs_flaw (join_of frame objects rules snaps.items) ≡ None) }
-    ensures sound { OnOk result (IsSound (join_of frame objects rules snaps.items)) }
-    ensures flaw { IfErr result (λ fault.
-        IsFormatFaultFor (logs_flaw (join_of frame objects rules snaps.items)) fault) }
-    ensures cost { steps.new ≤ steps.old + open_cost (join_of frame objects rules snaps.items) }
-{
-    match Stores::join(alloc, frame, objects, rules, snaps, steps) {
-        Ok(stores) => Ok(stores),
-        Err(SnapFault::Flaw(flaw)) => Err(FormatFault::Flaw(flaw)),
-        Err(SnapFault::Memory) => Err(FormatFault::Memory),
-    }
 }

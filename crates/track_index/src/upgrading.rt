@@ -1,18 +1,18 @@
 ghost use Rattle.std.specs.Prelude.{◌≡◌, ◌+◌, ◌*◌, ◌≤◌, None, IfErr, IfOk, OnOk};
+ghost use Rattle.track_types.specs.Flaws.{IsFormatFaultFor};
 ghost use Rattle.track_types.specs.Shape.{IsShaped};
 ghost use Rattle.snapshots.specs.IndexCost.{open_cost};
 ghost use Rattle.snapshots.specs.Parts.{chart_in};
 ghost use Rattle.snapshots.specs.SoundParts.{IsValid};
 ghost use Rattle.snapshots.specs.Upgrade.{upgrade_of};
-ghost use Rattle.track_index.specs.CheckFlaws.{check_flaw, IsFormatFaultFor};
+ghost use Rattle.track_index.specs.CheckFlaws.{check_flaw};
 ghost use Rattle.track_index.specs.Facts.{facts_of};
 
 use crate::index::Index;
-use index_format::FormatFault;
 use std::alloc::Global;
 use std::sync::ledger::Ledger;
 use step_count::Steps;
-use track_types::{Memory, Parts};
+use track_types::{FormatFault, Parts};
 
 /// The same index in the newest version of the format, from parts which have the form of an index.
 ///
@@ -38,8 +38,5 @@ pub fn upgraded<L: Ledger>(
     ensures cost { steps.new ≤ steps.old + 2 * open_cost parts }
 {
     let Index { stores } = Index::check(alloc, parts, steps)?;
-    match stores.into_upgraded(alloc, steps) {
-        Ok(newest) => Ok(newest),
-        Err(Memory) => Err(FormatFault::Memory),
-    }
+    Ok(stores.into_upgraded(alloc, steps)?)
 }

@@ -1,7 +1,7 @@
 use Rattle.std.proofs.Common.{◌∙◌, ap, arith, subst, sym}
 use Rattle.std.specs.Prelude.{IfErr}
 use Rattle.std.proofs.lemmas.Result.{err_from_is_err_and}
-use Rattle.track_index.specs.CheckFlaws.{IsFormatFaultFor}
+use Rattle.track_types.specs.Flaws.{IsFormatFaultFor}
 use Rattle.track_index.proofs.OpeningLemmas.{bytes_cost-read, fault-unread, first_flaw-read}
 use Rattle.gract_top.proofs.UpgradingLemmas.{upgraded-file}
 use Rattle.gract_top.proofs.upgrading.upgraded_parts.Goals as goal

@@ -4,9 +4,9 @@ use Rattle.std.proofs.lemmas.Iterator.Adapters.{YieldsList-from_vec}
 use Rattle.std.proofs.lemmas.Iterator.Consumers.{YieldsList-end, YieldsList-turn}
 use Rattle.std.proofs.lemmas.List.{length_push}
 use Rattle.std.proofs.lemmas.Result.{err_from_is_err_and}
-use Rattle.snapshots.specs.Flaws.{flaw_of, IsShapedView}
+use Rattle.track_types.specs.Flaws.{IsFormatFaultFor}
+use Rattle.snapshots.specs.Flaws.{flaw_of, format_fault_of_period, IsShapedView}
 use Rattle.snapshots.specs.View.{view_with}
-use Rattle.track_index.specs.CheckFlaws.{IsFormatFaultFor}
 use Rattle.track_index.proofs.PeriodLemmas.{checked-more, flaw-next, length-snaps, number-short, snapshots_flaw-none, AreChecked, IsShapedView-next}
 use Rattle.track_index.proofs.opening.check_each.Goals as goal
 use Rattle.track_index.proofs.opening.check_each.Goals.{After-len-number, After-symbols_of-symbols}
@@ -37,24 +37,24 @@ overflow_cast-number c =
     number-short _ _ _ _ _ _ c.loop-period.invariant c.requires c.in-Some.period turn.0 turn.1 in
     omega (arith, counted at, short)
 
-pub check_period-requires : goal.check_period-requires
-check_period-requires c =
-    let at = (goal.at.check_period-requires c).After-len-number in
+pub check_under-requires : goal.check_under-requires
+check_under-requires c =
+    let at = (goal.at.check_under-requires c).After-len-number in
     let turn = turn at in
     subst (λ n. IsShapedView (view_with c.args.header.now.value n c.args.objects c.loop-period.start c.in-Some.period))
     (sym (counted at))
     (IsShapedView-next _ _ _ _ _ _ c.loop-period.invariant c.requires c.in-Some.period turn.0 turn.1)
 
-pub returns-in_err-check_period-clause-flaw : goal.returns-in_err-check_period-clause-flaw
-returns-in_err-check_period-clause-flaw c =
-    let at = (goal.at.returns-in_err-check_period-clause-flaw c).After-len-number in
+pub returns-in_err-check_under-clause-flaw : goal.returns-in_err-check_under-clause-flaw
+returns-in_err-check_under-clause-flaw c =
+    let at = (goal.at.returns-in_err-check_under-clause-flaw c).After-len-number in
     let turn = turn at in
-    let found = c.in_err-check_period.field-0.0 in
+    let found = format_fault_of_period c.in_err-check_under.field-0.0 in
     let known = flaw-next _ _ _ _ _ _ c.loop-period.invariant c.requires c.in-Some.period turn.0 turn.1 found
     (subst (λ n. IsFormatFaultFor (flaw_of (view_with c.args.header.now.value n c.args.objects c.loop-period.start
-    c.in-Some.period)) found) (counted at) c.in_err-check_period.ensures.flaw) in
-    let given = err_from_is_err_and c.from_residual-in_err-check_period.result
-    c.from_residual-in_err-check_period.ensures.1 in
+    c.in-Some.period)) found) (counted at) c.in_err-check_under.ensures.flaw) in
+    let given = err_from_is_err_and c.from_residual-in_err-check_under.result
+    c.from_residual-in_err-check_under.ensures.1 in
     rw (given.1, given.2) known
 
 pub loop-period-preserved : goal.loop-period-preserved
@@ -64,12 +64,12 @@ loop-period-preserved c =
     let adds : c.loop-period.start + c.symbols_of-symbols.result
     ≡ c.loop-period.start + sum c.in-Some.period.lengths =
     omega (arith, c.symbols_of-symbols.ensures, ap sum c.as_slice-in-loop-period.ensures) in
-    let item = c.in_ok-check_period.field-0 in
+    let item = c.in_ok-check_under.field-0 in
     let named : (number : ℕ) → Type 0 = λ number.
     (item ≡ view_with c.args.header.now.value number c.args.objects c.loop-period.start c.in-Some.period)
     × (flaw_of (view_with c.args.header.now.value number c.args.objects c.loop-period.start c.in-Some.period) ≡ None) in
     let judged : named (length c.loop-period.yielded) =
-    subst named (counted at) (c.in_ok-check_period.ensures.ok, c.in_ok-check_period.ensures.exact) in
+    subst named (counted at) (c.in_ok-check_under.ensures.ok, c.in_ok-check_under.ensures.exact) in
     let more = checked-more _ _ _ _ _ _ c.loop-period.invariant c.requires c.in-Some.period turn.0 turn.1 item _
     judged.0 judged.1 adds in
     rw (length_push c.loop-period.yielded c.in-Some.period, c.in_ok-push.ensures.items) more

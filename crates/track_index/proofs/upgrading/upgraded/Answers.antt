@@ -4,7 +4,7 @@ use Rattle.track_index.specs.Facts.{facts_of}
 use Rattle.track_index.proofs.UpgradeLemmas.{facts_of-upgrade}
 use Rattle.track_index.proofs.upgrading.upgraded.Goals as goal
 
-pub returns-in-Ok-clause-facts : goal.returns-in-Ok-clause-facts
-returns-in-Ok-clause-facts g c =
+pub returns-clause-facts : goal.returns-clause-facts
+returns-clause-facts g c =
     let checked = c.stores.view_is ∙ c.in_ok-stores.ensures.ok in
-    ap facts_of (c.in-Ok.ensures.ok ∙ ap upgrade_of checked) ∙ facts_of-upgrade c.args.parts
+    ap facts_of (c.in_ok-into_upgraded.ensures.ok ∙ ap upgrade_of checked) ∙ facts_of-upgrade c.args.parts

@@ -1,10 +1,13 @@
 use Rattle.std.proofs.Common.{◌≡◌, length, None, arith, ap, subst, sym, ◌∙◌}
 use Rattle.std.proofs.lemmas.Result.{err_from_is_err_and}
+use Rattle.track_types.specs.Flaws.{IsFormatFaultFor}
 use Rattle.track_types.specs.declared.parts.Parts.{Parts}
 use Rattle.snapshots.specs.IndexCost.{open_cost}
+use Rattle.snapshots.specs.Parts.{rules_in}
 use Rattle.snapshots.specs.SoundParts.{IsSound}
-use Rattle.track_index.specs.CheckFlaws.{snapshots_flaw, total_flaw, AreShapedPeriods, IsFormatFaultFor}
-use Rattle.track_index.proofs.OpeningLemmas.{check_flaw-joined, fault-joined, fault-rules, fault-snapshots, fault-total, joined-parts, snapshots_in-read, total_flaw-read, AreJudged, AreOf-joined, AreShaped-periods}
+use Rattle.snapshots.specs.Flaws.{format_fault_of_period}
+use Rattle.track_index.specs.CheckFlaws.{snapshots_flaw, total_flaw, AreShapedPeriods}
+use Rattle.track_index.proofs.OpeningLemmas.{check_flaw-joined, fault-joined, fault-rules, fault-snapshots, fault-total, grammar_flaw-flawless, joined-parts, snapshots_in-read, total_flaw-read, AreJudged, AreOf-joined, AreShaped-periods}
 use Rattle.track_index.proofs.index.Index.check.Given.{Over}
 use Rattle.track_index.proofs.index.Index.check.Goals as goal
 use Rattle.track_index.proofs.index.Index.check.Goals.{In_ok-check_total, In_ok-snaps}
@@ -17,7 +20,7 @@ judged g c =
     record {
       rules_are = c.in_ok-rules.ensures.ok;
       snaps_are = c.in_ok-snaps.ensures.ok ∙ snaps;
-      flawless = c.in_ok-rules.ensures.exact;
+      flawless = grammar_flaw-flawless (rules_in parts) c.in_ok-rules.ensures.exact;
       total = sym (total_flaw-read parts c.in_ok-rules.rules c.as_slice.result.now c.sizes.result.2
           c.in_ok-rules.ensures.ok c.as_slice.ensures c.sizes.ensures.symbols) ∙ c.in_ok-check_total.ensures.exact;
       snapshots = ap snapshots_flaw (sym snaps) ∙ c.in_ok-snaps.ensures.exact;
@@ -34,7 +37,8 @@ returns-in_err-check_total-clause-flaw g c =
     let same = total_flaw-read c.args.parts c.in_ok-rules.rules c.as_slice.result.now c.sizes.result.2
     c.in_ok-rules.ensures.ok c.as_slice.ensures c.sizes.ensures.symbols in
     let found = c.in_err-check_total.field-0.0 in
-    let known = fault-total c.args.parts c.in_ok-rules.ensures.exact found
+    let flawless = grammar_flaw-flawless (rules_in c.args.parts) c.in_ok-rules.ensures.exact in
+    let known = fault-total c.args.parts flawless found
     (subst (λ first. IsFormatFaultFor first found) same c.in_err-check_total.ensures.flaw) in
     let given = err_from_is_err_and c.from_residual-in_err-check_total.result
     c.from_residual-in_err-check_total.ensures.1 in
@@ -57,7 +61,8 @@ returns-in_err-snaps-clause-flaw g c =
     let none = no_total g (goal.at.returns-in_err-snaps-clause-flaw g c).In_ok-check_total in
     let found = c.in_err-snaps.field-0.0 in
     let same = snapshots_in-read c.args.parts c.as_slice-2.result.now c.as_slice-2.ensures in
-    let known = fault-snapshots c.args.parts c.in_ok-rules.ensures.exact none found
+    let flawless = grammar_flaw-flawless (rules_in c.args.parts) c.in_ok-rules.ensures.exact in
+    let known = fault-snapshots c.args.parts flawless none found
     (subst (λ snaps. IsFormatFaultFor (snapshots_flaw snaps) found) same c.in_err-snaps.ensures.flaw) in
     let given = err_from_is_err_and c.from_residual-in_err-snaps.result c.from_residual-in_err-snaps.ensures.1 in
     rw (given.1, given.2) known
@@ -71,7 +76,7 @@ pub returns-in_err-stores-clause-flaw : goal.returns-in_err-stores-clause-flaw
 returns-in_err-stores-clause-flaw g c =
     let are = judged g (goal.at.returns-in_err-stores-clause-flaw g c).In_ok-snaps in
     let known = fault-joined c.args.parts c.requires c.in_ok-rules.rules c.in_ok-snaps.snaps.items are
-    c.in_err-stores.field-0.0 c.in_err-stores.ensures.flaw in
+    (format_fault_of_period c.in_err-stores.field-0.0) c.in_err-stores.ensures.flaw in
     let given = err_from_is_err_and c.from_residual-in_err-stores.result c.from_residual-in_err-stores.ensures.1 in
     rw (given.1, given.2) known
 
