@@ -3,12 +3,12 @@ use super::{Outcome, gract};
 use script::first_wrong;
 use std::test::Fail;
 
-mod answers;
 mod damage;
 mod devices;
 mod doubling;
 mod merging;
 mod refusals;
+mod replies;
 mod samples;
 mod script;
 mod stage;
@@ -16,7 +16,7 @@ mod tails;
 
 #[test]
 fn lines_have_their_replies(rt: HostRuntime) -> Result<(), Fail> {
-    assert_eq!(rt; first_wrong(&rt, &answers::SCRIPT)?, None);
+    assert_eq!(rt; first_wrong(&rt, &replies::SCRIPT)?, None);
     Ok(())
 }
 

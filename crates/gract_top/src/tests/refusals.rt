@@ -7,6 +7,7 @@ const REFUSED: Part = (
     asks 4096 position 7 0|
     run $0
     ends $2
+    heard 0
     said
     free 16",
     "once t.csv 1 1 1 ; ; 3 gract: no rows
@@ -18,13 +19,13 @@ const REFUSED: Part = (
     once t.csv 1 1 1 ; 1,0,0,0|1,1,16777216,0| ; 4 gract: limit extent passed at 16777217
     once t.csv 1 1 1 ; 1,0,0,0|2,0,0,0|3,0,0,0|4,0,0,0|5,0,0,0|1,4194303,0,0| ; \
         4 gract: limit blocks passed at 20971520
-    once none.csv +1 01 4194304 ; 7,0,10,10| ; 6 gract: a file could not be read
-    ask t.csv ; 7,0,10,10| ; 5 gract: index header period 0 place 0: magic
+    once none.csv +1 01 4194304 ; @rows ; 6 gract: a file could not be read
+    ask t.csv ; @rows ; 5 gract: index header period 0 place 0: magic
     ask t.csv ; ; 5 gract: index header period 0 place 0: short
-    ask none.idx ; 7,0,10,10| ; 6 gract: a file could not be read
-    upgrade t.csv t.idx ; 7,0,10,10| ; 5 gract: index header period 0 place 0: magic
-    upgrade none.idx t.idx ; 7,0,10,10| ; 6 gract: a file could not be read
-    sample 4097 4096 0 4 ; 7,0,10,10| ; 4 gract: limit rows passed at 16781312",
+    ask none.idx ; @rows ; 6 gract: a file could not be read
+    upgrade t.csv t.idx ; @rows ; 5 gract: index header period 0 place 0: magic
+    upgrade none.idx t.idx ; @rows ; 6 gract: a file could not be read
+    sample 4097 4096 0 4 ; @rows ; 4 gract: limit rows passed at 16781312",
 );
 
 /// Words without a form, and the place of the first bad one.

@@ -159,11 +159,10 @@ impl Stage {
     }
 
     fn run(&mut self, rt: &HostRuntime, command: &str) -> Result<Outcome, AllocError> {
-        let words = command
-            .split(' ')
-            .filter(|word| !word.is_empty())
-            .map(|word| String::from_str(rt.alloc(), word))
-            .try_collect(rt.alloc())?;
+        let mut words = Vec::new(rt.alloc());
+        for word in command.split_whitespace() {
+            words.push(String::from_str(rt.alloc(), word)?)?;
+        }
         self.call::<Brand>(rt, &words, Blank::new(1))
     }
 
@@ -177,11 +176,14 @@ impl Stage {
         requires parts { blank.parts ≡ L.parts }
         requires some { 0 < L.parts }
     {
-        let words: Vec<&str> = words.iter().map(|word| word.as_str()).collect(rt.alloc())?;
+        let mut slices = Vec::new(rt.alloc());
+        for word in words {
+            slices.push(word.as_str())?;
+        }
         let mut steps = Steps::<L>::new(rt, blank);
         Ok(gract(
             rt.alloc(),
-            words.as_slice(),
+            slices.as_slice(),
             &mut self.files,
             &mut self.source,
             &mut self.sink,
