@@ -24,7 +24,7 @@ use Rattle.rule_store.specs.Expansion.{depth_in, expansion_of, values_of}
 use Rattle.rule_store.specs.Flaws.{code_flaw, is_rule_flawed, rule_flaw, symbol_flaw}
 use Rattle.rule_store.specs.Nodes.{block_budget, nodes_in, opened_count, parsed}
 use Rattle.snapshots.specs.View.{all_blocks}
-use Rattle.snapshots.specs.Flaws.{flaw_in}
+use Rattle.track_types.specs.Flaws.{flaw_in}
 use Rattle.snapshots.specs.IndexCost.{blocks_reads, open_cost, path_cost, position_cost}
 use Rattle.snapshots.specs.JoinFlaws.{blocks_flaw, cell_after, is_off_grid, duration_of_log, log_flaw, logs_flaw, off_grid_at}
 use Rattle.snapshots.specs.Parts.{start_in}
