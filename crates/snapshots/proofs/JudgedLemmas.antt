@@ -6,6 +6,7 @@ use Rattle.track_types.specs.Flaws.{flaw_in}
 use Rattle.track_types.specs.Frame.{instants_in, wide_of}
 use Rattle.track_types.specs.declared.flaw.Section.TheVariants.{Lasts}
 use Rattle.track_types.specs.declared.flaw.Kind.TheVariants.{Cells}
+use Rattle.track_types.specs.declared.frame.Frame.{Frame}
 use Rattle.track_types.specs.declared.period_parts.PeriodParts.{PeriodParts}
 use Rattle.k2_tree.specs.Tree.{Tree, codes_in, tree_of}
 use Rattle.k2_tree.specs.Flaws.{StandsFor}
@@ -69,21 +70,23 @@ tree_stored-is view tree None stands told kept =
 tree_stored-is view tree (Some blocks) stands told kept =
     tree_of-StandsFor view.frame.height (wide_of view.frame) view.frame.base view.parts.tree tree stands ∙ sym kept
 
--- what is stored of parts without a flaw
-module _ (view : SnapshotView) (tree : Tree) (blocks : Option (Box Blocks))
+-- what is stored of parts without a flaw, with the view's numbers
+module _ (view : SnapshotView) (tree : Tree) (frame : Frame) (number objects start : ℕ) (blocks : Option (Box Blocks))
+    (same : view_with frame number objects start view.parts ≡ view)
     (stands : StandsFor view.frame.height (wide_of view.frame) view.frame.base view.parts.tree tree)
     (told : parts_with view.objects blocks ≡ view.parts) (kept : IfSome blocks (λ it. it.value.tree ≡ tree)) where
   -- tells them
-  pub snapshot_view-parts : snapshot_view view.frame view.number view.objects view.start blocks ≡ view
-  snapshot_view-parts = ap (λ parts. view_with view.frame view.number view.objects view.start parts) told
+  pub snapshot_view-parts : snapshot_view frame number objects start blocks ≡ view
+  snapshot_view-parts =
+      let count : objects ≡ view.objects = ap (λ (v : SnapshotView). v.objects) same in
+      ap (view_with frame number objects start) (ap (λ n. parts_with n blocks) count ∙ told) ∙ same
 
   -- and is stored as it should be
   pub IsStoredSnapshot-flawless : IsShapedView view → flaw_of view ≡ None
       → starts_in blocks ≡ starts_of view.start view.parts.lengths
-      → IsStoredSnapshot (snapshot_view view.frame view.number view.objects view.start blocks) (tree_stored view.frame blocks)
-      (starts_in blocks)
+      → IsStoredSnapshot (snapshot_view frame number objects start blocks) (tree_stored frame blocks) (starts_in blocks)
   IsStoredSnapshot-flawless shaped none begin =
-      subst (λ v. IsStoredSnapshot v (tree_stored view.frame blocks) (starts_in blocks)) (sym snapshot_view-parts) (record {
+      subst (λ v. IsStoredSnapshot v (tree_stored v.frame blocks) (starts_in blocks)) (sym snapshot_view-parts) (record {
         is = record { shaped = shaped; sound = IsSoundPeriod-flawless view shaped none };
         tree_is = tree_stored-is view tree blocks stands told kept;
         begin = begin;

@@ -1,14 +1,30 @@
 -- How a snapshot is stored: what there is of its tree and its blocks where it has one.
-use Rattle.std.specs.Prelude.{◌≡◌, ℕ, ◌+◌, Bool, false, List, [], length, map, take, sum, Option, None, Some, replicate}
+use Rattle.std.specs.Prelude.{◌≡◌, ℕ, ◌+◌, false, List, [], length, map, take, sum, Option, None, Some, replicate}
 use Rattle.std.specs.List.{range_with_len}
 use Rattle.std.specs.Global.{Box}
-use Rattle.track_types.specs.Frame.{wide_of}
 use Rattle.track_types.specs.declared.frame.Frame.{Frame}
 use Rattle.track_types.specs.declared.period_parts.PeriodParts.{PeriodParts}
-use Rattle.k2_tree.specs.Tree.{Tree, tree_bits, tree_with}
-use Rattle.snapshots.specs.View.{SnapshotView, tree_in}
+use Rattle.k2_tree.specs.Tree.{Tree, tree_bits}
+use Rattle.snapshots.specs.View.{SnapshotView, tree_in, tree_without}
 use Rattle.snapshots.specs.Sound.{IsSnapshot}
 use Rattle.snapshots.specs.declared.blocks.Blocks.{Blocks}
+use Rattle.snapshots.specs.declared.period_store.PeriodStore.{PeriodStore}
+use Rattle.snapshots.specs.declared.period_store.PeriodStore.TheVariants.{Empty, Filled}
+
+-- what is stored of a period's blocks
+abbrev pub blocks_stored : PeriodStore → Option (Box Blocks)
+blocks_stored (Empty objects header) = None
+blocks_stored (Filled objects blocks) = Some blocks
+
+-- the header that is stored
+abbrev pub frame_stored : PeriodStore → Frame
+frame_stored (Empty objects header) = header.value
+frame_stored (Filled objects blocks) = blocks.value.header.value
+
+-- how many objects there are, as it is stored
+abbrev pub objects_stored : PeriodStore → ℕ
+objects_stored (Empty objects header) = objects
+objects_stored (Filled objects blocks) = objects
 
 -- where the log of each present object begins, the first one at a place
 abbrev pub starts_of : ℕ → List ℕ → List ℕ
@@ -41,10 +57,6 @@ parts_with objects (Some blocks) = parts_of_blocks blocks.value
 abbrev pub starts_in : Option (Box Blocks) → List ℕ
 starts_in None = []
 starts_in (Some blocks) = blocks.value.starts
-
--- the tree of no cell under a header
-abbrev pub tree_without : Frame → Tree
-tree_without frame = tree_with frame.height (wide_of frame) frame.base []
 
 -- the stored tree of the anchors' cells: where nothing is stored of blocks, it is that of no cell
 abbrev pub tree_stored : Frame → Option (Box Blocks) → Tree

@@ -1,5 +1,5 @@
 -- What a period's snapshot says, on plain lists.
-use Rattle.std.specs.Prelude.{ℕ, ◌+◌, ◌==◌, ◌&&◌, Bool, false, if◌then◌else◌, List, length, map, filter, take, sum}
+use Rattle.std.specs.Prelude.{ℕ, ◌+◌, ◌==◌, ◌&&◌, Bool, false, if◌then◌else◌, List, [], length, map, filter, take, sum}
 use Rattle.std.specs.Prelude.{slice_index, slice_index_or, Option, None, Some}
 use Rattle.std.specs.List.{filter_map, range_with_len}
 use Rattle.bit_rank.specs.Bits.{rank_of, select_of}
@@ -7,7 +7,7 @@ use Rattle.object_perm.specs.Permutation.{inverse_of}
 use Rattle.track_types.specs.Frame.{wide_of}
 use Rattle.track_types.specs.declared.frame.Frame.{Frame}
 use Rattle.track_types.specs.declared.period_parts.PeriodParts.{PeriodParts}
-use Rattle.k2_tree.specs.Tree.{Tree, tree_of}
+use Rattle.k2_tree.specs.Tree.{Tree, tree_of, tree_with}
 use Rattle.k2_tree.specs.Widths.{widths_of}
 use Rattle.snapshots.specs.declared.anchored.Anchored.{Anchored}
 
@@ -31,6 +31,10 @@ widths_in frame = widths_of frame.height (wide_of frame)
 -- the tree of the anchors' cells
 abbrev pub tree_in : SnapshotView → Tree
 tree_in view = tree_of view.frame.height (wide_of view.frame) view.frame.base view.parts.tree
+
+-- the tree of no cell under a header
+abbrev pub tree_without : Frame → Tree
+tree_without frame = tree_with frame.height (wide_of frame) frame.base []
 
 -- the leaf of a place in leaf order
 abbrev pub leaf_at : SnapshotView → ℕ → ℕ

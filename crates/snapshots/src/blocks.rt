@@ -3,18 +3,24 @@ ghost use Rattle.packed_bits.specs.Bits.{ones_of};
 ghost use Rattle.track_types.specs.declared.limit.TheConstants.{MAX_SYMBOLS};
 ghost use Rattle.k2_tree.specs.Tree.{tree_bits};
 ghost use Rattle.std.specs.Prelude.{None};
+ghost use Rattle.snapshots.specs.Stored.{blocks_stored, frame_stored, objects_stored};
 ghost use Rattle.snapshots.specs.Stored.{parts_of_blocks, parts_with, starts_in, starts_of};
 
 use crate::checking::{indexed, starts_of};
+use crate::header::Header;
+use crate::period_store::PeriodStore;
 use bit_rank::Bits;
 use k2_tree::K2Tree;
 use object_perm::Perm;
 use std::alloc::Global;
+use std::rc::Rc;
 use track_types::{BitList, List32, Memory, PeriodParts};
 
-/// What is stored of a period that has a block: its parts, and where each log begins.
+/// What is stored of a period that has a block: its parts, where each log begins, and the header.
 #[derive(Drop)]
 pub struct Blocks {
+    /// The header of the index.
+    pub header: Rc<Header>,
     /// The tree of the anchors' cells.
     pub tree: K2Tree,
     /// For each object whether it has a block.
@@ -32,11 +38,12 @@ pub struct Blocks {
 }
 
 impl Blocks {
-    /// Stores the blocks of these parts, whose logs begin at `start`, and nothing where no object
-    /// is present: most periods of an index may have no block. As many objects are the last of their
-    /// cell as the tree has cells. The start and all lengths add up to at most `MAX_SYMBOLS`.
+    /// Stores a period of these parts, whose logs begin at `start`, and nothing of blocks where no
+    /// object is present. As many objects are the last of their cell as the tree has cells. The start
+    /// and all lengths add up to at most `MAX_SYMBOLS`.
     pub fn store(
         alloc: Global,
+        header: Rc<Header>,
         tree: K2Tree,
         present: BitList,
         offsets: List32,
@@ -44,14 +51,16 @@ impl Blocks {
         perm: Perm,
         lengths: List32,
         start: u32,
-    ) -> Result<Option<Box<Blocks>>, Memory>
+    ) -> Result<PeriodStore, Memory>
         requires offsets { length offsets ≡ ones_of present }
         requires lasts { length lasts ≡ ones_of present }
         requires cells { ones_of lasts ≡ length tree.cells }
         requires perm { length perm ≡ ones_of present }
         requires lengths { length lengths ≡ ones_of present }
         requires total { start + sum lengths ≤ MAX_SYMBOLS }
-        ensures parts { IfOk result (λ blocks. parts_with (length present) blocks ≡ record {
+        ensures header { IfOk result (λ store. frame_stored store ≡ header.value) }
+        ensures objects { IfOk result (λ store. objects_stored store ≡ length present) }
+        ensures parts { IfOk result (λ store. parts_with (length present) (blocks_stored store) ≡ record {
           present = present;
           offsets = offsets;
           tree = tree_bits tree;
@@ -59,14 +68,18 @@ impl Blocks {
           perm = perm;
           lengths = lengths;
         }) }
-        ensures tree { IfOk result (λ blocks. IfSome blocks (λ kept. kept.value.tree ≡ tree)) }
-        ensures starts { IfOk result (λ blocks. starts_in blocks ≡ starts_of start lengths) }
+        ensures tree { IfOk result (λ store.
+            IfSome (blocks_stored store) (λ blocks. blocks.value.tree ≡ tree)) }
+        ensures starts { IfOk result (λ store.
+            starts_in (blocks_stored store) ≡ starts_of start lengths) }
     {
+        let objects = present.len();
         if offsets.as_slice().is_empty() {
-            return Ok(None);
+            return Ok(PeriodStore::Empty { objects, header });
         }
         let starts = starts_of(alloc, start, lengths.as_slice())?;
         let blocks = Blocks {
+            header,
             tree,
             present: indexed(alloc, present)?,
             offsets,
@@ -75,7 +88,10 @@ impl Blocks {
             lengths,
             starts,
         };
-        Ok(Some(Box::new(alloc, blocks)?))
+        Ok(PeriodStore::Filled {
+            objects,
+            blocks: Box::new(alloc, blocks)?,
+        })
     }
 
     /// The parts that are stored. They are given up, and no memory is taken.

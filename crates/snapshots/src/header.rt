@@ -1,6 +1,6 @@
 ghost use Rattle.std.specs.Prelude.{◌≡◌, IfOk};
 ghost use Rattle.track_types.specs.Frame.{IsFrame};
-ghost use Rattle.snapshots.specs.Stored.{tree_without};
+ghost use Rattle.snapshots.specs.View.{tree_without};
 
 use k2_tree::K2Tree;
 use std::alloc::Global;
@@ -21,7 +21,7 @@ pub struct Header {
 impl Model for Header {
     ghost use Rattle.std.specs.Prelude.{◌≡◌};
     ghost use Rattle.track_types.specs.declared.frame.Frame.{Frame};
-    ghost use Rattle.snapshots.specs.Stored.{tree_without};
+    ghost use Rattle.snapshots.specs.View.{tree_without};
 
     ghost Value = { Frame };
 

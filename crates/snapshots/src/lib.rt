@@ -21,6 +21,7 @@ mod logs;
 mod members;
 mod next;
 mod objects_in;
+mod period_store;
 mod placing;
 mod snapshot;
 mod stores;

@@ -47,14 +47,16 @@ pub struct Judged {
     pub tracks: Option<Box<TrackTree>>,
 }
 
-/// Judges the logs of all blocks of a snapshot, by object, and answers the first flaw, or what they
-/// tell. It reads each symbol of these logs once, and what leads to the blocks.
+/// Judges the logs of all blocks of a snapshot, whose period has this number, by object, and answers the
+/// first flaw, or what they tell. It reads each symbol of these logs once, and what leads to the blocks.
 pub fn judge_snapshot<L: Ledger>(
     alloc: Global,
     rules: &RuleStore,
     snapshot: &Snapshot,
+    number: u32,
     steps: &mut Steps<L>,
 ) -> Result<Judged, SnapFault>
+    requires number { number ≡ snapshot.now.number }
     requires symbols { snapshot.now.start + sum snapshot.now.parts.lengths
         ≤ length rules.now.symbols }
     ensures exact { OnOk result (blocks_flaw rules.now snapshot.now ≡ None) }
@@ -67,7 +69,7 @@ pub fn judge_snapshot<L: Ledger>(
         ≤ steps.old + (blocks_reads snapshot.now + sum snapshot.now.parts.lengths) }
 {
     let found = find_blocks(alloc, snapshot, steps)?;
-    let (frame, number) = (snapshot.frame(), snapshot.number());
+    let frame = snapshot.frame();
     let mut rank = 0;
     let mut speed = 0u64;
     let mut areas = Vec::with_capacity(alloc, snapshot.objects() as usize)?;

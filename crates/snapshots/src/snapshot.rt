@@ -22,6 +22,7 @@ use crate::fault::SnapFault;
 use crate::header::Header;
 use crate::members::Members;
 use crate::objects_in::ObjectsIn;
+use crate::period_store::PeriodStore;
 use k2_tree::{K2Tree, Keep};
 use std::alloc::Global;
 use std::marker::Model;
@@ -36,25 +37,27 @@ use track_types::{Cell, Frame, Kind, Memory, PeriodParts, Section};
 /// number of objects, and where its logs begin among all symbols.
 #[derive(Drop)]
 pub struct Snapshot {
-    header: Rc<Header>,
-    number: u32,
-    objects: u32,
-    start: u32,
-    // An index may have `MAX_SPAN` periods, most of them without a block: these keep nothing else.
-    blocks: Option<Box<Blocks>>,
+    store: PeriodStore,
+    // Contracts alone speak of the next two: they take no bytes.
+    number: std::snapshot::Snapshot<u32>,
+    start: std::snapshot::Snapshot<u32>,
 }
 
 impl Model for Snapshot {
     ghost use Rattle.snapshots.specs.View.{SnapshotView};
+    ghost use Rattle.snapshots.specs.Stored.{blocks_stored, frame_stored, objects_stored};
     ghost use Rattle.snapshots.specs.Stored.{starts_in, tree_stored, snapshot_view, IsStoredSnapshot};
 
     ghost Value = { SnapshotView };
 
-    ghost view = { λ s. snapshot_view s.header.value s.number s.objects s.start s.blocks };
+    ghost view = { λ s. snapshot_view (frame_stored s.store) s.number.value (objects_stored s.store)
+        s.start.value (blocks_stored s.store) };
 
     ghost invariant = { λ s. IsStoredSnapshot
-        (snapshot_view s.header.value s.number s.objects s.start s.blocks)
-        (tree_stored s.header.value s.blocks) (starts_in s.blocks) };
+        (snapshot_view (frame_stored s.store) s.number.value (objects_stored s.store)
+        s.start.value (blocks_stored s.store))
+        (tree_stored (frame_stored s.store) (blocks_stored s.store))
+        (starts_in (blocks_stored s.store)) };
 }
 
 impl Snapshot {
@@ -130,13 +133,14 @@ impl Snapshot {
             return Err(flaw(number, Section::Lasts, Kind::Cells, lasts.len()));
         }
         let perm = check_perm(alloc, perm, &lasts, number)?;
-        let blocks = Blocks::store(alloc, tree, present, offsets, lasts, perm, lengths, start)?;
+        let header = header.clone()?;
+        let store = Blocks::store(
+            alloc, header, tree, present, offsets, lasts, perm, lengths, start,
+        )?;
         Ok(Snapshot {
-            header: header.clone()?,
-            number,
-            objects,
-            start,
-            blocks,
+            store,
+            number: std::snapshot::Snapshot::of(&number),
+            start: std::snapshot::Snapshot::of(&start),
         })
     }
 
@@ -168,14 +172,10 @@ impl Snapshot {
         ensures value { result.now ≡ self.now.frame }
         ensures snapshot { IsSnapshot self.now }
     {
-        self.header.frame()
-    }
-
-    /// The period's number.
-    pub(crate) fn number(&self) -> u32
-        ensures value { result ≡ self.now.number }
-    {
-        self.number
+        match &self.store {
+            PeriodStore::Empty { header, .. } => header.frame(),
+            PeriodStore::Filled { blocks, .. } => blocks.header.frame(),
+        }
     }
 
     /// How many objects there are.
@@ -183,7 +183,10 @@ impl Snapshot {
         ensures value { result ≡ self.now.objects }
         ensures snapshot { IsSnapshot self.now }
     {
-        self.objects
+        match &self.store {
+            PeriodStore::Empty { objects, .. } => *objects,
+            PeriodStore::Filled { objects, .. } => *objects,
+        }
     }
 
     /// The tree of the cells in which the anchors are. It reads nothing that is counted.
@@ -191,9 +194,9 @@ impl Snapshot {
         ensures value { result.now ≡ tree_in self.now }
         ensures snapshot { IsSnapshot self.now }
     {
-        match &self.blocks {
-            Some(blocks) => &blocks.tree,
-            None => self.header.no_cells(),
+        match &self.store {
+            PeriodStore::Empty { header, .. } => header.no_cells(),
+            PeriodStore::Filled { blocks, .. } => &blocks.tree,
         }
     }
 
@@ -241,14 +244,10 @@ impl Snapshot {
     pub fn into_parts(self, alloc: Global) -> Result<PeriodParts, Memory>
         ensures { IfOk result (λ parts. parts ≡ self.parts) }
     {
-        let Snapshot {
-            objects,
-            blocks,
-            ..
-        } = self;
-        match blocks {
-            Some(blocks) => Ok(Box::into_inner(blocks).into_parts()),
-            None => without_blocks(alloc, objects),
+        let Snapshot { store, .. } = self;
+        match store {
+            PeriodStore::Empty { objects, .. } => without_blocks(alloc, objects),
+            PeriodStore::Filled { blocks, .. } => Ok(Box::into_inner(blocks).into_parts()),
         }
     }
 
@@ -325,9 +324,9 @@ impl Snapshot {
         ensures snapshot { IsSnapshot self.now }
         ensures cost { steps.new ≤ steps.old + get_reads }
     {
-        match &self.blocks {
-            Some(blocks) => blocks.present.get(index, steps),
-            None => false,
+        match &self.store {
+            PeriodStore::Empty { .. } => false,
+            PeriodStore::Filled { blocks, .. } => blocks.present.get(index, steps),
         }
     }
 
@@ -337,9 +336,9 @@ impl Snapshot {
         ensures blocks { AreStoredBlocks self.now result.now }
         ensures snapshot { IsSnapshot self.now }
     {
-        match &self.blocks {
-            Some(blocks) => blocks,
-            None => unreachable!(),
+        match &self.store {
+            PeriodStore::Empty { .. } => unreachable!(),
+            PeriodStore::Filled { blocks, .. } => blocks,
         }
     }
 }

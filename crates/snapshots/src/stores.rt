@@ -100,7 +100,8 @@ impl Stores {
         let mut speeds = Vec::with_capacity(alloc, snaps.len())?;
         let mut tracks = Vec::with_capacity(alloc, snaps.len())?;
         for snapshot in &snaps {
-            let judged = judge_snapshot(alloc, &rules, snapshot, steps)?;
+            let number = speeds.len() as u32;
+            let judged = judge_snapshot(alloc, &rules, snapshot, number, steps)?;
             speeds.push_reserved(judged.speed);
             tracks.push_reserved(judged.tracks);
         }

@@ -245,7 +245,7 @@ fn parts_are_refused_at_their_first_flaw(rt: HostRuntime) -> Result<(), Fail> {
         assert_eq!(rt; flaw_in(checked(&rt, rt.alloc(), is_second, spelt))?, flaw);
     }
     // A period without a block allocates nothing: its snapshot is all that it takes.
-    assert!(rt; size_of::<Snapshot>() <= 40);
+    assert!(rt; size_of::<Snapshot>() <= 16);
     Ok(())
 }
 

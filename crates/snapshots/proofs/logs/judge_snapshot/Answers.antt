@@ -58,7 +58,7 @@ loop-slot-init g c = record {
 
 pub judge_log-requires-clause-offset : goal.judge_log-requires-clause-offset
 judge_log-requires-clause-offset g c =
-    rw (c.frame-frame.ensures.value, c.number-number.ensures.value)
+    rw (c.frame-frame.ensures.value, c.requires.number)
     (its g (goal.at.judge_log-requires-clause-offset g c).In-Some).offset
 
 pub judge_log-requires-clause-cell : goal.judge_log-requires-clause-cell
@@ -78,12 +78,12 @@ judge_log-requires-clause-long g c =
 
 -- what is judged is the block's flaw
 same_flaw : (g : Over) (c : In-Some g)
-    → log_flaw c.frame-frame.result.now c.args.rules.now c.number-number.result c.loop-slot.rank c.in-Some.block
+    → log_flaw c.frame-frame.result.now c.args.rules.now c.args.number c.loop-slot.rank c.in-Some.block
     ≡ block_flaw c.args.rules.now c.args.snapshot.now c.in-Some.block
 same_flaw g c =
     let rank : c.loop-slot.rank ≡ rank_in c.args.snapshot.now c.in-Some.block.index =
     c.loop-slot.invariant.rank ∙ ap (rank_in c.args.snapshot.now) (sym (takes g c).index_is) in
-    rw (c.frame-frame.ensures.value, c.number-number.ensures.value, rank) refl
+    rw (c.frame-frame.ensures.value, c.requires.number, rank) refl
 
 pub returns-in_err-log-clause-flaw : goal.returns-in_err-log-clause-flaw
 returns-in_err-log-clause-flaw g c =
@@ -155,9 +155,9 @@ loop-slot-preserved g c =
           let takes = taken view is index block has in
           let rank : c.loop-slot.rank ≡ rank_in view block.index =
           before.rank ∙ ap (rank_in view) (sym takes.index_is) in
-          let flaw : log_flaw c.frame-frame.result.now c.args.rules.now c.number-number.result c.loop-slot.rank block
+          let flaw : log_flaw c.frame-frame.result.now c.args.rules.now c.args.number c.loop-slot.rank block
           ≡ block_flaw c.args.rules.now view block =
-          rw (c.frame-frame.ensures.value, c.number-number.ensures.value, rank) refl in
+          rw (c.frame-frame.ensures.value, c.requires.number, rank) refl in
           let next : c.match-slot.rank ≡ rank_in view index + 1 = omega (arith, w.rank-is, before.rank) in
           let log = takes.log in
           let old = ap (λ r. sum (take r view.parts.lengths)) before.rank in

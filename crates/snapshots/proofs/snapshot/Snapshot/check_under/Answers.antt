@@ -1,11 +1,11 @@
-use Rattle.std.proofs.Common.{◌≡◌, None, ap, sym, subst, ◌∙◌}
+use Rattle.std.proofs.Common.{◌≡◌, None, ap, refl, sym, subst, ◌∙◌}
 use Rattle.std.proofs.lemmas.Result.{err_from_is_err_and}
 use Rattle.track_types.specs.Frame.{instants_in, wide_of}
 use Rattle.track_types.specs.declared.frame.Frame.{Frame}
 use Rattle.k2_tree.specs.Flaws.{StandsFor}
 use Rattle.snapshots.specs.View.{SnapshotView, view_with}
 use Rattle.snapshots.specs.Flaws.{bits_flaw, flaw_of, IsSnapFaultFor}
-use Rattle.snapshots.specs.Stored.{parts_with, starts_in, tree_stored, snapshot_view, IsStoredSnapshot}
+use Rattle.snapshots.specs.Stored.{blocks_stored, frame_stored, objects_stored, parts_with}
 use Rattle.snapshots.proofs.JudgedLemmas.{flaw_of-cells, flaw_of-perm, snapshot_view-parts, with_checked, IsBegun}
 use Rattle.snapshots.proofs.JudgedLemmas.{IsBegun-found, IsStoredSnapshot-flawless}
 use Rattle.snapshots.proofs.SoundLemmas.{IsSoundPeriod-flawless}
@@ -59,28 +59,44 @@ invariant_of-result c =
     view_with c.args.header.now.value c.args.number c.args.objects c.args.start c.args.parts in
     let at = (goal.at.invariant_of-result c).After-has_cells in
     let begun = begun_of at in
-    let told = ap (λ objects. parts_with objects c.in_ok-blocks.blocks) (sym c.requires.presence)
-    ∙ c.in_ok-blocks.ensures.parts
+    let blocks = blocks_stored c.in_ok-store.store in
+    let told = ap (λ objects. parts_with objects blocks) (sym c.requires.presence) ∙ c.in_ok-store.ensures.parts
     ∙ ap (λ bits. with_checked view.parts bits c.in_ok-perm.perm) (stands_of at).same
     ∙ ap (with_checked view.parts view.parts.tree) c.in_ok-perm.ensures.ok in
+    let same : view_with (frame_stored c.in_ok-store.store) c.of.result.value (objects_stored c.in_ok-store.store)
+    c.of-2.result.value view.parts ≡ view =
+    rw (
+      c.in_ok-store.ensures.header,
+      c.in_ok-header.ensures.cases,
+      c.of.ensures,
+      c.in_ok-store.ensures.objects,
+      c.requires.presence,
+      c.of-2.ensures,
+    ) refl in
     let none = flaw_of-perm view c.has_cells.result begun c.if-not-has_cells.false ∙ c.in_ok-perm.ensures.exact in
-    subst (λ (f : Frame). IsStoredSnapshot (snapshot_view f c.args.number c.args.objects c.args.start c.in_ok-blocks.blocks)
-    (tree_stored f c.in_ok-blocks.blocks) (starts_in c.in_ok-blocks.blocks)) (sym c.in_ok-clone.ensures.cases)
-    (IsStoredSnapshot-flawless view c.in_ok-tree.tree c.in_ok-blocks.blocks (stands_of at) told c.in_ok-blocks.ensures.tree
-    c.requires none c.in_ok-blocks.ensures.starts)
+    IsStoredSnapshot-flawless view c.in_ok-tree.tree _ _ _ _ blocks same (stands_of at) told c.in_ok-store.ensures.tree
+    c.requires none c.in_ok-store.ensures.starts
 
 pub returns-clause-ok : goal.returns-clause-ok
 returns-clause-ok c =
     let view : SnapshotView =
     view_with c.args.header.now.value c.args.number c.args.objects c.args.start c.args.parts in
     let at = (goal.at.returns-clause-ok c).After-has_cells in
-    let told = ap (λ objects. parts_with objects c.in_ok-blocks.blocks) (sym c.requires.presence)
-    ∙ c.in_ok-blocks.ensures.parts
+    let blocks = blocks_stored c.in_ok-store.store in
+    let told = ap (λ objects. parts_with objects blocks) (sym c.requires.presence) ∙ c.in_ok-store.ensures.parts
     ∙ ap (λ bits. with_checked view.parts bits c.in_ok-perm.perm) (stands_of at).same
     ∙ ap (with_checked view.parts view.parts.tree) c.in_ok-perm.ensures.ok in
-    ap (λ (f : Frame). snapshot_view f c.args.number c.args.objects c.args.start c.in_ok-blocks.blocks)
-    c.in_ok-clone.ensures.cases
-    ∙ snapshot_view-parts view c.in_ok-tree.tree c.in_ok-blocks.blocks (stands_of at) told c.in_ok-blocks.ensures.tree
+    let same : view_with (frame_stored c.in_ok-store.store) c.of.result.value (objects_stored c.in_ok-store.store)
+    c.of-2.result.value view.parts ≡ view =
+    rw (
+      c.in_ok-store.ensures.header,
+      c.in_ok-header.ensures.cases,
+      c.of.ensures,
+      c.in_ok-store.ensures.objects,
+      c.requires.presence,
+      c.of-2.ensures,
+    ) refl in
+    snapshot_view-parts view c.in_ok-tree.tree _ _ _ _ blocks same (stands_of at) told c.in_ok-store.ensures.tree
 
 pub returns-clause-sound : goal.returns-clause-sound
 returns-clause-sound c =

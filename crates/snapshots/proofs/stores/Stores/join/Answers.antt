@@ -1,9 +1,11 @@
-use Rattle.std.proofs.Common.{◌≡◌, ◌+◌, arith, ap, length, map, subst, sym, ◌∙◌}
+use Rattle.std.proofs.Common.{◌≡◌, ◌+◌, ◌^◌, ◌≤◌, arith, ap, length, map, subst, sym, ◌∙◌}
+use Rattle.std.proofs.Math.Nat.{div-le_self}
 use Rattle.std.specs.List.{range_with_len}
 use Rattle.std.proofs.lemmas.Result.{err_from_is_err_and}
 use Rattle.track_types.specs.Frame.{periods_of}
 use Rattle.track_types.specs.declared.parts.Parts.{Parts}
 use Rattle.snapshots.specs.Speed.{speed_of}
+use Rattle.snapshots.specs.View.{SnapshotView}
 use Rattle.snapshots.specs.Stores.{join_of, AreTracks}
 use Rattle.snapshots.proofs.JoinLemmas.{length-snaps, logs_flaw-none, reads-within, turn-flaw, turn-more, turn-reads}
 use Rattle.snapshots.proofs.JoinLemmas.{turn-speeds, turn-symbols, turn-tracks, IsJoining, IsTurn, IsTurn-read}
@@ -42,10 +44,30 @@ all_joined g c =
     × AreTracks parts n c.loop-snapshot.tracks.items) last
     (c.loop-snapshot.invariant.joining, c.loop-snapshot.invariant.speeds, c.loop-snapshot.invariant.tracks)
 
+-- the turn's number is that of a period
+pub overflow_cast-number : goal.overflow_cast-number
+overflow_cast-number g c =
+    let parts : Parts = join_of c.args.frame c.args.objects c.args.rules c.args.snaps.items in
+    let short : c.args.frame.span ≤ 2 ^ 22 = c.requires.shaped.header.short in
+    omega (
+      arith,
+      c.len-number.ensures,
+      c.loop-snapshot.invariant.filled,
+      c.loop-snapshot-test.true,
+      ap length c.deref-snapshot-items.ensures.value,
+      length-snaps parts c.args.rules c.args.snaps.items c.requires,
+      short,
+      div-le_self c.args.frame.span c.args.frame.period,
+    )
+
 pub judge_snapshot-requires : goal.judge_snapshot-requires
-judge_snapshot-requires g c = record {
-  symbols = turn-symbols _ _ _ _ _ (turn_of g (goal.at.judge_snapshot-requires g c).After-judge_snapshot-arg-1);
-}
+judge_snapshot-requires g c =
+    let turn = turn_of g (goal.at.judge_snapshot-requires g c).After-judge_snapshot-arg-1 in
+    record {
+      number = c.len-number.ensures ∙ c.loop-snapshot.invariant.filled
+          ∙ sym (ap (λ (view : SnapshotView). view.number) turn.item_is);
+      symbols = turn-symbols _ _ _ _ _ turn;
+    }
 
 pub returns-in_err-judged-clause-flaw : goal.returns-in_err-judged-clause-flaw
 returns-in_err-judged-clause-flaw g c =
