@@ -33,7 +33,7 @@ module _ (blocks : List (Head × List ℕ)) where
         sym (filter-run period_in number (drop start blocks) so_far.by_period)
         ∙ sym (so_far.behind number (omega arith))
 
-    -- and behind them are those of later periods
+    -- and after them are those of later periods
     pub behind_more : IsBehind blocks (number + 1) (start + run period_in number (drop start blocks))
     behind_more =
         let count = run period_in number (drop start blocks) in

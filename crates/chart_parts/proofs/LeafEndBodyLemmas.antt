@@ -23,7 +23,7 @@ is_end-later code codes from (suc n) =
 first_end : (code next : ℕ) (codes : List ℕ) → is_end (code ∷ next ∷ codes) 0 ≡ not (code == next)
 first_end code next codes = grind (arith, nat_tests)
 
--- the ends are the places behind which no number is the same
+-- the ends are the places after which no number is the same
 pub ends_of-map : (codes : List ℕ) → ends_of codes ≡ map (is_end codes) (range_with_len 0 (length codes))
 unfolding ends_of
 ends_of-map [] = refl

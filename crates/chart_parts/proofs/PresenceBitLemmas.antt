@@ -16,7 +16,7 @@ module _ (heads : List Head) (head : Head) where
   abbrev presence_from : ℕ → ℕ → List Head → List Bool
   presence_from from n all = map (λ index. list_any (λ h. h.index == index) all) (range_with_len from n)
 
-  -- objects behind that of one header more are as before
+  -- objects after that of one header more are as before
   presence_from-later : (from n : ℕ) → head.index < from →
       presence_from from n (heads ++ head ∷ []) ≡ presence_from from n heads
   presence_from-later from zero later = refl

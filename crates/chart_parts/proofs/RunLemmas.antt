@@ -35,7 +35,7 @@ module _ {X : Type 0} (key : X → ℕ) where
         rw later (filter-above (key x) n xs above up.1)
   ]
 
-  -- those behind them climb from the next key on
+  -- those after them climb from the next key on
   pub Climbs-behind_run : (n : ℕ) (xs : List X) → Climbs n (map key xs) → Climbs (n + 1) (map key (drop (run n xs) xs))
   Climbs-behind_run n [] up = tt
   Climbs-behind_run n (x ∷ xs) up = elim (cases_Bool (key x == n)) [
@@ -48,7 +48,7 @@ module _ {X : Type 0} (key : X → ℕ) where
         rw later (above, up.1)
   ]
 
-  -- those of each other key are behind them
+  -- those of each other key are after them
   pub filter-behind_run : (n k : ℕ) (xs : List X) → n < k →
       filter (of_key key k) xs ≡ filter (of_key key k) (drop (run n xs) xs)
   filter-behind_run n k [] above = refl

@@ -16,7 +16,7 @@ use Rattle.encounter.specs.Span.{BlockTree, close_count, count_with, spans_in, l
 abbrev grammar : RulesView
 grammar = rules_with (1 ∷ 2 ∷ []) ((1, 1) ∷ []) (2 ∷ []) 4 9
 
--- a block with its anchor at instant 10 in (5, 5), and a rule behind it
+-- a block with its anchor at instant 10 in (5, 5), and a rule after it
 abbrev moving : BlockTree
 moving = log_tree grammar (start_at (pos 10) (cell_with (pos 5) (pos 5))) (2 ∷ [])
 

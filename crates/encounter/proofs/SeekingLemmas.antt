@@ -103,7 +103,7 @@ module _ (reach : ℕ) (z : ℤ) (early late : List Stop) (low : All (λ stop. s
 
 module _ (parts : Parts) (valid : IsValid parts) (from to : ℤ) (next behind : ℕ) (less : next < behind)
     (within : behind ≤ periods_of parts.frame) where
-  -- the stops of a period are not later than its end, and those of the periods behind it are
+  -- the stops of a period are not later than its end, and those of the periods after it are
   stops-early : (index : ℕ) →
       All (λ stop. stop.instant ≤ℤ end_in parts.frame next) (in_window from to (stops_in parts index next))
   unfolding in_window
@@ -133,7 +133,7 @@ module _ (parts : Parts) (valid : IsValid parts) (from to : ℤ) (next behind : 
       omega (arith, ints, low, before)))
 
   module _ (left right reach : ℕ) where
-    -- the first meeting is that of the next period, or else that of those behind it
+    -- the first meeting is that of the next period, or else that of those after it
     meeting_between-step : meeting_between parts left right from to reach next behind
         ≡ option_or (meeting_among from to reach (stops_in parts left next) (stops_in parts right next))
         (meeting_between parts left right from to reach (next + 1) behind)
@@ -162,7 +162,7 @@ module _ (parts : Parts) (left right : ℕ) (from to : ℤ) (reach next behind :
       (stops_between-none parts left from to next behind over)
       ∙ none-left reach (stops_between parts right from to next behind)
 
-  -- the reads of the next period, and of those behind it
+  -- the reads of the next period, and of those after it
   meet_cost_between-step : next < behind → meet_cost_between parts left right from to reach next behind
       ≡ period_meet_cost parts left right from to reach next
       + meet_cost_between parts left right from to reach (next + 1) behind

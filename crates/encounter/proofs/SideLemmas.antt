@@ -142,7 +142,7 @@ module _ (pending : PendingView) (at : Start) where
       (start_after-is pending.rules at entry entry.symbol is.top_is.0) in
       omega (arith, both, long, same)
 
-  -- the symbol behind it was taken off
+  -- the symbol after it was taken off
   module _ (now : PendingView) (top : Option Entry) (entry : Entry) (is : IsSide pending at top)
       (taken : IsTaken pending now entry) (rules_are : now.rules ≡ pending.rules) (sound : AreRules now.rules) where
     abbrev next : Start

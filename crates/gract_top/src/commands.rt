@@ -48,7 +48,7 @@ pub fn gract<F: Files, S: Source, K: Sink, L: Ledger>(
     sink: &mut K,
     steps: &mut Steps<L>,
 ) -> Outcome
-    // The words have no form exactly where the outcome says so, with the first bad one's place.
+    // The words have no form if and only if the outcome says so, with the first bad one's place.
     ensures words { (place : ℕ) →
         (result ≡ Outcome.Words place) ↔ (request_of words.now ≡ Request.Refused place) }
     ensures words_untouched { (place : ℕ) → result ≡ Outcome.Words place →

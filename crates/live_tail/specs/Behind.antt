@@ -1,4 +1,4 @@
--- What is left of a walk behind the first stop in a region.
+-- What is left of a walk after the first stop in a region.
 use Rattle.std.specs.Prelude.{◌≡◌, List, [], ◌∷◌, ◌++◌, filter}
 use Rattle.track_types.specs.Region.{in_region}
 use Rattle.track_types.specs.declared.region.Region.{Region}

@@ -70,7 +70,7 @@ struct Window<'a, A: Answerer> {
 }
 
 impl<'a, A: Answerer> Window<'a, A> {
-    // Puts the first hits of objects behind what was found.
+    // Puts the first hits of objects after what was found.
     fn push_first_hits<L: Ledger>(
         &self,
         alloc: Global,
@@ -126,7 +126,7 @@ impl<'a, A: Answerer> Window<'a, A> {
     }
 }
 
-// Puts a hit behind what was found, if there is one.
+// Puts a hit after what was found, if there is one.
 fn push_found(found: &mut Vec<Hit>, hit: Option<Hit>) -> Result<(), Memory>
     ensures { OnOk result (found.new.items ≡ found.old.items ++ option_to_list hit) }
 {
@@ -136,7 +136,7 @@ fn push_found(found: &mut Vec<Hit>, hit: Option<Hit>) -> Result<(), Memory>
     Ok(())
 }
 
-// The first stop of a walk that is in a region. No stop behind it is drawn.
+// The first stop of a walk that is in a region. No stop after it is drawn.
 fn first_in<W: Lazy<Item = Stop>, L: Ledger>(
     walk: &mut W,
     region: &Region,

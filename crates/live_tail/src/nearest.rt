@@ -56,7 +56,7 @@ fn raised_count(count: u32, more: usize) -> u32
     count.saturating_add(u32::try_from(more).unwrap_or(u32::MAX))
 }
 
-// Puts how near rows are to a cell behind what was found.
+// Puts how near rows are to a cell after what was found.
 fn push_nears(found: &mut Vec<Near>, rows: &[Row], cell: Cell) -> Result<(), Memory>
     requires cell { IsCellWithin cell }
     requires near { All (λ (row : RowView). IsCellWithin row.cell) rows.now }

@@ -41,7 +41,7 @@ pub fn slice<A: Answerer, L: Ledger>(
     Ok(found)
 }
 
-// Puts the rows in a region behind what was found.
+// Puts the rows in a region after what was found.
 fn push_seen(found: &mut Vec<Sighting>, rows: &[Row], region: &Region) -> Result<(), Memory>
     requires region { IsRegionWithin region.now }
     requires near { All (λ (row : RowView). IsCellWithin row.cell) rows.now }

@@ -97,7 +97,7 @@ impl Tail {
         window(rows_of_object(self.rows(), object), from, to)
     }
 
-    /// The cell of the row of an object and an instant, and none exactly where there is no such row.
+    /// The cell of the row of an object and an instant, and none if and only if there is no such row.
     pub fn cell_at(&self, object: u32, instant: i64) -> Option<Cell>
         ensures { result ≡ cell_at (rows_of_tail self.now) object instant }
     {

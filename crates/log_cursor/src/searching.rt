@@ -25,7 +25,7 @@ use step_count::Steps;
 use track_types::{Cell, CellBox, Memory, Stop};
 
 /// The first stop of a block in a window, whose ends count, and in a region, the anchor included.
-/// `None` exactly where there is none.
+/// `None` if and only if there is none.
 ///
 /// The instant and the cell of the anchor, and each symbol's box where it is placed, are at most
 /// `MAX_ASKED` away from 0. A symbol whose instants miss the window, or whose placed box has no

@@ -13,7 +13,7 @@ use std::sync::ledger::Ledger;
 use step_count::Steps;
 use track_types::Cell;
 
-/// The cell of a block's object at an instant, by the block's log and its anchor. `None` exactly where
+/// The cell of a block's object at an instant, by the block's log and its anchor. `None` if and only if
 /// the instant is before the anchor, beyond the log, or an absence.
 ///
 /// The instant and the cell of the anchor, and each symbol's box where it is placed, are at most

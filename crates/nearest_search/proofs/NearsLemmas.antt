@@ -75,7 +75,7 @@ is_nearer dist2 near = if nat_lt near.dist2 dist2 then 1 else 0
 abbrev pub nearer_count : ℕ → List Near → ℕ
 nearer_count dist2 nears = sum_by (is_nearer dist2) nears
 
--- none is behind one that is not
+-- none is after one that is not
 nearer-none : (dist2 : ℕ) (x : Near) (xs : List Near) → dist2 ≤ far x → IsRising far (x ∷ xs) → nearer_count dist2 xs ≡ 0
 nearer-none dist2 x [] most rise = refl
 nearer-none dist2 x (y ∷ ys) most rise =

@@ -12,7 +12,7 @@ use step_count::Steps;
 use track_types::Cell;
 
 /// The cell of the object at a place among all objects, at an instant, by its block of a period, which
-/// is one of the header's. `None` exactly where the period has no stop of it at the instant. It takes
+/// is one of the header's. `None` if and only if the period has no stop of it at the instant. It takes
 /// no memory.
 pub fn cell_in<L: Ledger>(
     stores: &Stores,

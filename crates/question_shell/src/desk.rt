@@ -76,7 +76,7 @@ impl<W: Lazy<Item = Stop> + Drop> Desk<W> {
         walk.draw(steps)
     }
 
-    /// Empties the place of this slot and answers the walk that it held, `None` exactly where it was
+    /// Empties the place of this slot and answers the walk that it held, `None` if and only if it was
     /// empty. The other places stay.
     pub fn release(&mut self, slot: u8) -> Option<W>
         requires { slot < 16 }

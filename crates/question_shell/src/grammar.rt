@@ -10,7 +10,7 @@ use track_types::Question;
 /// How many bytes a question line may have, without its line feed.
 const LONGEST_LINE: usize = 1024;
 
-/// Reads a question line, without its line feed: `Ok(None)` exactly where it has no word, however
+/// Reads a question line, without its line feed: `Ok(None)` if and only if it has no word, however
 /// long it is, else what it asks, or the first thing that is wrong with it. Whether a slot is held or
 /// empty only a desk can tell, so it is not judged here.
 pub fn read_question(line: &[u8]) -> Result<Option<Question>, Bad>

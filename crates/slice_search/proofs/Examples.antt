@@ -31,7 +31,7 @@ beyond-corner : may_reach (Disc (pos 9) (pos 4) 4) grid 1 (cell_box anchor) ≡ 
 unfolding may_reach grid anchor
 beyond-corner = refl
 
--- a rect that begins with the column behind the grid's last one
+-- a rect that begins with the column after the grid's last one
 beside : Region
 beside = Rect (pos 32) (pos 0) (pos 40) (pos 31)
 

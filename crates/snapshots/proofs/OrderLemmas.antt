@@ -8,7 +8,7 @@ use Rattle.std.proofs.lemmas.Option.{get_or_from_slice_get}
 use Rattle.snapshots.specs.Flaws.{offset_flaw, is_disordered, order_flaw}
 use Rattle.list_laws.proofs.FindLemmas.{find_in_range-first, find_in_range-none}
 
--- an offset that is not below the instants, behind others that are
+-- an offset that is not below the instants, after others that are
 pub offset_flaw-at : (instants : ℕ) (offsets : List ℕ) (place : ℕ) → place < length offsets
     → ((j : ℕ) → j < place → leb instants (get_or offsets j 0) ≡ false) → instants ≤ get_or offsets place 0
     → offset_flaw instants offsets ≡ Some place

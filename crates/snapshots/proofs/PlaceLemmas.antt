@@ -1,4 +1,4 @@
--- The places of a leaf in leaf order: the first of them, and the one behind another.
+-- The places of a leaf in leaf order: the first of them, and the one after another.
 use Rattle.std.proofs.Common.{◌≡◌, ℕ, zero, suc, ◌+◌, ◌-◌, ◌<◌, ◌≤◌, Bool, true, false, List, [], ◌∷◌, length}
 use Rattle.std.proofs.Common.{get_or, filter, refl, sym, ap, ◌∙◌, arith, cond, inl, inr}
 use Rattle.std.specs.List.{range_with_len}
@@ -28,7 +28,7 @@ skipped lasts leaf first (suc k) count early =
     let rest = skipped lasts leaf (first + 1) k count (λ p from to. early p (omega arith) (omega arith)) in
     ap (kept_from lasts leaf first) more ∙ (rw off (rest ∙ ap (λ f. kept_from lasts leaf f count) next))
 
--- behind the last place of a leaf there is none
+-- after the last place of a leaf there is none
 none_behind : (lasts : List Bool) (leaf first count : ℕ) → ((p : ℕ) → first ≤ p → leaf < rank_of lasts p)
     → kept_from lasts leaf first count ≡ []
 none_behind lasts leaf first zero late = refl
@@ -37,7 +37,7 @@ none_behind lasts leaf first (suc count) late =
     let off : (rank_of lasts first == leaf) ≡ false = ne_eqb (rank_of lasts first) leaf (λ e. omega arith) in
     rw off (none_behind lasts leaf (first + 1) count (λ p from. late p (omega arith)))
 
--- the place behind the last one of the leaf before
+-- the place after the last one of the leaf before
 pub record IsFirst (lasts : List Bool) (leaf first : ℕ) : Type 0 where
   pub within : first < length lasts
   pub here : rank_of lasts first ≡ leaf
@@ -72,7 +72,7 @@ first_behind lasts leaf place some selected =
           ∙ ap (λ f. kept_from lasts leaf f (length lasts - (place + 1))) from;
     }
 
--- a place, and what is behind it
+-- a place, and what is after it
 pub place_first : (lasts : List Bool) (place : ℕ) → place < length lasts
     → kept_from lasts (rank_of lasts place) place (length lasts - place)
     ≡ place ∷ kept_from lasts (rank_of lasts place) (place + 1) (length lasts - (place + 1))
@@ -82,7 +82,7 @@ place_first lasts place within =
     eq-eqb (rank_of lasts place) (rank_of lasts place) refl in
     ap (kept_from lasts (rank_of lasts place) place) more ∙ (rw on refl)
 
--- behind the last object of a cell the leaf has no place
+-- after the last object of a cell the leaf has no place
 pub last_ends : (lasts : List Bool) (place : ℕ) → place < length lasts → get_or lasts place false ≡ true
     → kept_from lasts (rank_of lasts place) (place + 1) (length lasts - (place + 1)) ≡ []
 last_ends lasts place within last =
@@ -90,7 +90,7 @@ last_ends lasts place within last =
     none_behind lasts (rank_of lasts place) (place + 1) (length lasts - (place + 1))
     (λ p from. let le = rank_of-le lasts (place + 1) p from in omega arith)
 
--- behind another object the leaf goes on
+-- after another object the leaf goes on
 pub goes_on : (lasts : List Bool) (place : ℕ) → place < length lasts → get_or lasts place false ≡ false
     → get_or lasts (length lasts - 1) false ≡ true
     → (place + 1 < length lasts) × (rank_of lasts (place + 1) ≡ rank_of lasts place)

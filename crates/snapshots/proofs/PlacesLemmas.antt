@@ -60,7 +60,7 @@ first_place_behind view lasts leaf place is same within selected =
     (first_behind view.parts.lasts leaf place (omega (arith, is.sound.cells))
     (subst (λ bits. IsSelected bits leaf place) same selected))
 
--- where a walk goes on behind a place
+-- where a walk goes on after a place
 pub goes_on_at : (view : SnapshotView) (place : ℕ) → IsSnapshot view → place < length view.parts.perm
     → get_or view.parts.lasts place false ≡ false → IsAt view (leaf_at view place) (Place (place + 1))
 goes_on_at view place is within other =
@@ -70,7 +70,7 @@ goes_on_at view place is within other =
     let both = goes_on view.parts.lasts place (omega arith) other last in
     (omega (arith, both.0), both.1)
 
--- the block at a place comes first, and then those behind it
+-- the block at a place comes first, and then those after it
 pub place_left : (view : SnapshotView) (place : ℕ) (b : Bool) → IsSnapshot view → place < length view.parts.perm
     → get_or view.parts.lasts place false ≡ b
     → blocks_from view (leaf_at view place) place

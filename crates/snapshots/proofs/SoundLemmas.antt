@@ -30,7 +30,7 @@ use Rattle.snapshots.specs.Flaws.{flaw_of, have_cells, is_disordered, offset_fla
 use Rattle.snapshots.specs.Sound.{IsSoundPeriod}
 use Rattle.snapshots.proofs.FlawlessLemmas.{cells_from, IsFlawless-from_none}
 
--- behind a place that is not the last of its leaf stands a greater rank
+-- after a place that is not the last of its leaf stands a greater rank
 next_greater : (lasts : List Bool) (perm : List ℕ) (place : ℕ) → order_flaw lasts perm ≡ None
     → length perm ≡ length lasts → place + 1 < length perm → rank_of lasts place ≡ rank_of lasts (place + 1)
     → get_or perm place 0 < get_or perm (place + 1) 0

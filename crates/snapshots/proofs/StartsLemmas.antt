@@ -14,7 +14,7 @@ starts-more start lengths starts new n next begun is pushed =
     ∙ ap (λ x. map (λ rank. start + sum (take rank lengths)) (range_with_len 0 n) ++ x ∷ []) is
     ∙ sym (map-range_with_len_more (λ rank. start + sum (take rank lengths)) 0 n n (omega arith))
 
--- where the log behind it begins
+-- where the log after it begins
 pub next-more : (start : ℕ) (lengths : List ℕ) (n next : ℕ) → n < length lengths → next ≡ start + sum (take n lengths)
     → next + get_or lengths n 0 ≡ start + sum (take (n + 1) lengths)
 next-more start lengths n next within is = omega (arith, sum_by_more (λ x. x) lengths n 0 within)

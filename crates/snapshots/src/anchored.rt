@@ -5,7 +5,7 @@ use track_types::Cell;
 pub struct Anchored {
     /// The object's place among all objects of the index, from 0.
     pub index: u32,
-    /// How many instants its anchor, which is its first row in the period, is behind the period's
+    /// How many instants its anchor, which is its first row in the period, is after the period's
     /// first.
     pub offset: u32,
     /// The cell of the anchor.

@@ -25,7 +25,7 @@ pub struct Blocks {
     pub tree: K2Tree,
     /// For each object whether it has a block.
     pub present: Bits,
-    /// By object: how many instants each anchor is behind the period's first.
+    /// By object: how many instants each anchor is after the period's first.
     pub offsets: List32,
     /// In leaf order: whether the object is the last of its cell.
     pub lasts: Bits,

@@ -144,7 +144,7 @@ impl Snapshot {
         })
     }
 
-    /// The block of an object, and `None` exactly where the object has none in this period. The
+    /// The block of an object, and `None` if and only if the object has none in this period. The
     /// object is told by its place among all objects, which is below their number.
     ///
     /// It goes from the object to its place among the present ones, by the inverse permutation to

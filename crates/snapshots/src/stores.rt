@@ -147,7 +147,7 @@ impl Stores {
         self.objects.as_slice()[index as usize]
     }
 
-    /// The place of an object, and none exactly where it is no object of the index.
+    /// The place of an object, and none if and only if it is no object of the index.
     pub fn index_of(&self, object: u32) -> Option<u32>
         ensures value { result ≡ index_in self.now.objects object }
     {
@@ -157,7 +157,7 @@ impl Stores {
         }
     }
 
-    /// The period of an instant, and none exactly where the instant is outside the header's span.
+    /// The period of an instant, and none if and only if the instant is outside the header's span.
     pub fn period_of(&self, instant: i64) -> Option<u32>
         ensures value { result ≡ period_in self.now.frame instant }
     {
@@ -198,7 +198,7 @@ impl Stores {
     }
 
     /// What is kept of the blocks of a period, which is one of the header's, in leaf order, for
-    /// searches that go another way over them than `tracks`. `None` exactly where it has no block.
+    /// searches that go another way over them than `tracks`. `None` if and only if it has no block.
     pub fn kept(&self, period: u32) -> Option<&TrackTree>
         requires { period < periods_of self.now.frame }
         ensures none { IfNone result (blocks_by_leaf (snapshot_in self.now period) ≡ []) }

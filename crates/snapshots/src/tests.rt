@@ -309,7 +309,7 @@ fn each_object_has_its_block(rt: HostRuntime) -> Result<(), Fail> {
     Ok(())
 }
 
-// What the walks over the blocks of all leaves draw, leaf by leaf, and once more behind each leaf.
+// What the walks over the blocks of all leaves draw, leaf by leaf, and once more after each leaf.
 fn drawn_from_leaves<L: Ledger>(
     rt: &HostRuntime,
     snapshot: &Snapshot,

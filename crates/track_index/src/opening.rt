@@ -62,8 +62,7 @@ impl Index {
             periods,
             symbols,
         } = parts;
-        let rules =
-            RuleStore::check(alloc, alphabet, rules, symbols, frame.height, frame.period)?;
+        let rules = RuleStore::check(alloc, alphabet, rules, symbols, frame.height, frame.period)?;
         check_total(&frame, periods.as_slice(), rules.sizes().2)?;
         let count = objects.as_slice().len() as u32;
         let snaps = check_periods(alloc, &frame, count, periods)?;
