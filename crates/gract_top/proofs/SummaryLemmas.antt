@@ -8,12 +8,13 @@ use Rattle.std.specs.Io.KnownBytes.{Appends}
 use Rattle.std.specs.List.{sum_by}
 use Rattle.host_ports.specs.declared.fault.Cut.{Cut}
 use Rattle.question_shell.specs.Desk.{DeskView, budget_of, empty_desk, held_of}
-use Rattle.question_shell.specs.Reply.{asked_cost, desk_of, listed, ok_line}
+use Rattle.question_shell.specs.Reply.{asked_cost, desk_of, listed, ok_line, slot_desk}
 use Rattle.question_shell.specs.Session.{Meaning}
 use Rattle.question_shell.specs.Turns.{AnswerTold, moment}
 use Rattle.question_shell.specs.declared.turn_fault.TurnFault.{TurnFault}
 use Rattle.question_shell.specs.declared.turn_fault.TurnFault.TheVariants as fault
 use Rattle.question_shell.proofs.SaysLemmas.{Appends-append, Appends-nothing, Appends-says}
+use Rattle.question_shell.proofs.SlotLemmas.{own_cost-within}
 use Rattle.track_types.specs.Chart.{ChartView}
 use Rattle.track_types.specs.declared.facts.Facts.{Facts}
 use Rattle.track_types.specs.declared.question.Question.{Question}
@@ -25,30 +26,12 @@ use Rattle.gract_top.specs.Summary.{IsSlotless, count_line, counts_of, found_by}
 -- a question of no slot leaves the desk as it is
 pub counted-desk : (chart : ChartView) (desk : List (Option (List Stop))) (asked : Question) → IsSlotless asked →
     desk_of chart desk asked ≡ desk
-counted-desk chart desk (question.Position object instant) counted = refl
-counted-desk chart desk (question.Path object from to) counted = refl
-counted-desk chart desk (question.Slice instant region) counted = refl
-counted-desk chart desk (question.Interval from to region) counted = refl
-counted-desk chart desk (question.Nearest count instant cell) counted = refl
-counted-desk chart desk (question.Meet left right from to reach) counted = refl
-counted-desk chart desk question.Info counted = refl
-counted-desk chart desk (question.Hold slot object from to) counted = absurd counted
-counted-desk chart desk (question.More slot count) counted = absurd counted
-counted-desk chart desk (question.Free slot) counted = absurd counted
+counted-desk chart desk asked counted = ap (slot_desk chart desk) counted.1
 
 -- and costs no more than it may
 pub counted-cost : (cost : Question → ℕ) (desk : List (Option (List Stop))) (asked : Question) → IsSlotless asked →
     asked_cost cost desk (Ok (Some asked)) ≤ cost asked
-counted-cost cost desk (question.Position object instant) counted = omega arith
-counted-cost cost desk (question.Path object from to) counted = omega arith
-counted-cost cost desk (question.Slice instant region) counted = omega arith
-counted-cost cost desk (question.Interval from to region) counted = omega arith
-counted-cost cost desk (question.Nearest count instant cell) counted = omega arith
-counted-cost cost desk (question.Meet left right from to reach) counted = omega arith
-counted-cost cost desk question.Info counted = omega arith
-counted-cost cost desk (question.Hold slot object from to) counted = absurd counted
-counted-cost cost desk (question.More slot count) counted = absurd counted
-counted-cost cost desk (question.Free slot) counted = absurd counted
+counted-cost cost desk asked counted = rw counted.1 (own_cost-within cost asked)
 
 -- the reply to `info` was said, or a front of it
 module _ (meaning : Meaning) (said0 said : Option (List ℕ)) (desk : DeskView) (steps0 steps : ℕ) where

@@ -1,5 +1,5 @@
 -- The replies to the lines of a slot are its own.
-use Rattle.std.proofs.Common.{◌≡◌, ℕ, ◌==◌, true, false, List, [], ◌∷◌, length, set, refl, sym, ◌∙◌}
+use Rattle.std.proofs.Common.{◌≡◌, ℕ, ◌==◌, ◌≤◌, true, false, List, [], ◌∷◌, length, set, refl, sym, ◌∙◌}
 use Rattle.std.proofs.Common.{Option, Some, None, Result, Ok, Err, inl, inr, arith}
 use mathlib.Core.Bool.{false≢true}
 use Rattle.std.proofs.lemmas.Bool.{cases_Bool, cases_lt, eqb-false, eqb-true}
@@ -10,12 +10,14 @@ use Rattle.track_types.specs.declared.question.Question.{Question}
 use Rattle.track_types.specs.declared.question.Question.TheVariants as question
 use Rattle.track_types.specs.declared.stop.Stop.{Stop}
 use Rattle.question_shell.specs.Grammar.{question_of}
-use Rattle.question_shell.specs.Items.{stops_at}
+use Rattle.question_shell.specs.Items.{items_in, slot_items, stops_at}
 use Rattle.question_shell.specs.Replies.{turn_of}
-use Rattle.question_shell.specs.Reply.{Turn, asked_turn}
+use Rattle.question_shell.specs.Reply.{Turn, asked_turn, listed, own_cost, slot_desk, slot_refusal}
 use Rattle.question_shell.specs.Session.{AreIndependent, Meaning}
-use Rattle.question_shell.specs.Slots.{asks_slot, lines_of_slot, replies_to_each, replies_to_slot}
+use Rattle.question_shell.specs.SlotParts.{OfNoSlot, SlotPart, ToDraw, ToEmpty, ToHold, slot_part}
+use Rattle.question_shell.specs.Slots.{asks_slot, is_of_slot, lines_of_slot, replies_to_each, replies_to_slot}
 use Rattle.question_shell.specs.declared.bad.Bad.{Bad}
+use Rattle.question_shell.specs.declared.item.Item.{Item}
 
 -- Two desks have as many places, and hold the same in that of a slot.
 record AreAlike (slot : ℕ) (desk other : List (Option (List Stop))) : Type 0 where
@@ -52,20 +54,38 @@ module _ (slot : ℕ) where
   }
 
 module _ (chart : ChartView) (facts : Facts) (slot : ℕ) where
+  -- what is asked of another slot leaves the place of this one as it is
+  part-other : (desk : List (Option (List Stop))) (part : SlotPart) → is_of_slot slot part ≡ false →
+      AreAlike slot (slot_desk chart desk part) desk
+  part-other desk (ToHold held object from to) differs = alike-other slot desk held _ differs
+  part-other desk (ToDraw held count) differs = alike-other slot desk held _ differs
+  part-other desk (ToEmpty held) differs = alike-other slot desk held _ differs
+  part-other desk OfNoSlot differs = record { as_many = refl; same = refl }
+
+  -- what a line brings by what it asks of a slot
+  abbrev part_turn : List Item → List (Option (List Stop)) → SlotPart → Turn
+  part_turn found desk part = record {
+    text = listed (slot_items found desk part) (slot_refusal desk part);
+    desk = slot_desk chart desk part;
+  }
+
+  -- what is asked of the slot brings the same to desks that hold the same there
+  part-alike : (found : List Item) (desk other : List (Option (List Stop))) (part : SlotPart) →
+      is_of_slot slot part ≡ true → AreAlike slot desk other →
+      TurnAlike slot (part_turn found desk part) (part_turn found other part)
+  part-alike found desk other (ToHold held object from to) asks alike =
+      rw (eqb-true held slot asks, alike.same) (record { text = refl; desk = alike-set slot desk other _ alike })
+  part-alike found desk other (ToDraw held count) asks alike =
+      rw (eqb-true held slot asks, alike.same) (record { text = refl; desk = alike-set slot desk other _ alike })
+  part-alike found desk other (ToEmpty held) asks alike =
+      rw (eqb-true held slot asks, alike.same) (record { text = refl; desk = alike-set slot desk other _ alike })
+  part-alike found desk other OfNoSlot asks alike = absurd (false≢true asks)
+
   -- a line that asks nothing of the slot leaves its place as it is
   turn-other : (desk : List (Option (List Stop))) (asked : Result (Option Question) Bad) →
       asks_slot slot asked ≡ false → AreAlike slot (asked_turn chart facts desk asked).desk desk
   turn-other desk (Ok None) differs = record { as_many = refl; same = refl }
-  turn-other desk (Ok (Some (question.Position object instant))) differs = record { as_many = refl; same = refl }
-  turn-other desk (Ok (Some (question.Path object from to))) differs = record { as_many = refl; same = refl }
-  turn-other desk (Ok (Some (question.Slice instant region))) differs = record { as_many = refl; same = refl }
-  turn-other desk (Ok (Some (question.Interval from to region))) differs = record { as_many = refl; same = refl }
-  turn-other desk (Ok (Some (question.Nearest count instant cell))) differs = record { as_many = refl; same = refl }
-  turn-other desk (Ok (Some (question.Meet left right from to reach))) differs = record { as_many = refl; same = refl }
-  turn-other desk (Ok (Some question.Info)) differs = record { as_many = refl; same = refl }
-  turn-other desk (Ok (Some (question.Hold held object from to))) differs = alike-other slot desk held _ differs
-  turn-other desk (Ok (Some (question.More held count))) differs = alike-other slot desk held _ differs
-  turn-other desk (Ok (Some (question.Free held))) differs = alike-other slot desk held _ differs
+  turn-other desk (Ok (Some asked)) differs = part-other desk (slot_part asked) differs
   turn-other desk (Err bad) differs = record { as_many = refl; same = refl }
 
   -- a line that asks something of the slot brings the same to desks that hold the same there
@@ -73,19 +93,8 @@ module _ (chart : ChartView) (facts : Facts) (slot : ℕ) where
       asks_slot slot asked ≡ true → AreAlike slot desk other →
       TurnAlike slot (asked_turn chart facts desk asked) (asked_turn chart facts other asked)
   turn-alike desk other (Ok None) asks alike = absurd (false≢true asks)
-  turn-alike desk other (Ok (Some (question.Position object instant))) asks alike = absurd (false≢true asks)
-  turn-alike desk other (Ok (Some (question.Path object from to))) asks alike = absurd (false≢true asks)
-  turn-alike desk other (Ok (Some (question.Slice instant region))) asks alike = absurd (false≢true asks)
-  turn-alike desk other (Ok (Some (question.Interval from to region))) asks alike = absurd (false≢true asks)
-  turn-alike desk other (Ok (Some (question.Nearest count instant cell))) asks alike = absurd (false≢true asks)
-  turn-alike desk other (Ok (Some (question.Meet left right from to reach))) asks alike = absurd (false≢true asks)
-  turn-alike desk other (Ok (Some question.Info)) asks alike = absurd (false≢true asks)
-  turn-alike desk other (Ok (Some (question.Hold held object from to))) asks alike =
-      rw (eqb-true held slot asks, alike.same) (record { text = refl; desk = alike-set slot desk other _ alike })
-  turn-alike desk other (Ok (Some (question.More held count))) asks alike =
-      rw (eqb-true held slot asks, alike.same) (record { text = refl; desk = alike-set slot desk other _ alike })
-  turn-alike desk other (Ok (Some (question.Free held))) asks alike =
-      rw (eqb-true held slot asks, alike.same) (record { text = refl; desk = alike-set slot desk other _ alike })
+  turn-alike desk other (Ok (Some asked)) asks alike =
+      part-alike (items_in chart facts asked) desk other (slot_part asked) asks alike
   turn-alike desk other (Err bad) asks alike = absurd (false≢true asks)
 
   -- over two desks that hold the same in the slot's place
@@ -112,3 +121,8 @@ pub slots-independent : (meaning : Meaning) (desk : List (Option (List Stop))) (
     AreIndependent meaning desk lines
 slots-independent meaning desk lines slot =
     replies-alike meaning.chart meaning.facts slot desk desk lines (record { as_many = refl; same = refl })
+
+-- a question of no slot costs no more than it may
+pub own_cost-within : (cost : Question → ℕ) (asked : Question) → own_cost cost asked ≤ cost asked
+own_cost-within cost question.Info = omega arith
+own_cost-within cost other = omega arith

@@ -10,6 +10,7 @@ use Rattle.track_types.specs.declared.facts.Facts.{Facts}
 use Rattle.track_types.specs.declared.question.Question.{Question}
 use Rattle.track_types.specs.declared.question.Question.TheVariants as question
 use Rattle.track_types.specs.declared.stop.Stop.{Stop}
+use Rattle.question_shell.specs.SlotParts.{OfNoSlot, SlotPart, ToDraw, ToEmpty, ToHold, slot_part}
 use Rattle.question_shell.specs.declared.item.Item.{Item}
 use Rattle.question_shell.specs.declared.item.Item.TheVariants as item
 
@@ -76,17 +77,26 @@ line_of (item.Fact fact) = fact_line fact
 abbrev pub stops_at : List (Option (List Stop)) → ℕ → Option (List Stop)
 stops_at desk slot = slice_index_or desk slot None
 
+-- what a question finds in a chart and its facts
+abbrev pub items_in : ChartView → Facts → Question → List Item
+items_in chart facts (question.Position object instant) =
+    map item.Cell (option_to_list (cell_at chart.rows object instant))
+items_in chart facts (question.Path object from to) = map item.Stop (path_of chart.rows object from to)
+items_in chart facts (question.Slice instant region) = map item.Sighting (sightings_of chart.rows instant region)
+items_in chart facts (question.Interval from to region) = map item.Hit (hits_of chart.rows from to region)
+items_in chart facts (question.Nearest count instant cell) = map item.Near (nears_of chart.rows count instant cell)
+items_in chart facts (question.Meet left right from to reach) =
+    map item.Meeting (option_to_list (meeting_of chart.rows left right from to reach))
+items_in chart facts question.Info = map item.Fact (named_facts facts)
+items_in chart facts other = []
+
+-- what is found by what is asked of a slot: the next stops where they are drawn, and these items where nothing is asked
+abbrev pub slot_items : List Item → List (Option (List Stop)) → SlotPart → List Item
+slot_items found desk (ToHold slot object from to) = []
+slot_items found desk (ToDraw slot count) = map item.Stop (take count (unwrap_or (stops_at desk slot) []))
+slot_items found desk (ToEmpty slot) = []
+slot_items found desk OfNoSlot = found
+
 -- what a question finds, where the desk holds these walks
 abbrev pub items_of : ChartView → Facts → List (Option (List Stop)) → Question → List Item
-items_of chart facts desk (question.Position object instant) =
-    map item.Cell (option_to_list (cell_at chart.rows object instant))
-items_of chart facts desk (question.Path object from to) = map item.Stop (path_of chart.rows object from to)
-items_of chart facts desk (question.Slice instant region) = map item.Sighting (sightings_of chart.rows instant region)
-items_of chart facts desk (question.Interval from to region) = map item.Hit (hits_of chart.rows from to region)
-items_of chart facts desk (question.Nearest count instant cell) =
-    map item.Near (nears_of chart.rows count instant cell)
-items_of chart facts desk (question.Meet left right from to reach) =
-    map item.Meeting (option_to_list (meeting_of chart.rows left right from to reach))
-items_of chart facts desk question.Info = map item.Fact (named_facts facts)
-items_of chart facts desk (question.More slot count) = map item.Stop (take count (unwrap_or (stops_at desk slot) []))
-items_of chart facts desk other = []
+items_of chart facts desk asked = slot_items (items_in chart facts asked) desk (slot_part asked)

@@ -10,6 +10,7 @@ use Rattle.track_types.specs.declared.question.Question.{Question}
 use Rattle.track_types.specs.declared.question.Question.TheVariants as question
 use Rattle.track_types.specs.declared.stop.Stop.{Stop}
 use Rattle.question_shell.specs.Items.{items_of, line_of, said_line, stops_at}
+use Rattle.question_shell.specs.SlotParts.{OfNoSlot, SlotPart, ToDraw, ToEmpty, ToHold, slot_part}
 use Rattle.question_shell.specs.declared.bad.Bad.{Bad}
 use Rattle.question_shell.specs.declared.bad.Bad.TheVariants as bad
 use Rattle.question_shell.specs.declared.item.Item.{Item}
@@ -55,21 +56,29 @@ held_line = said_line (codes "bad held")
 abbrev pub free_line : List ℕ
 free_line = said_line (codes "bad free")
 
--- why a question does nothing, by what its slot holds: it would hold a held one, or draw from an empty one or empty it
-abbrev pub refusal_of : List (Option (List Stop)) → Question → Option (List ℕ)
-refusal_of desk (question.Hold slot object from to) = if is_some (stops_at desk slot) then Some held_line else None
-refusal_of desk (question.More slot count) = if is_some (stops_at desk slot) then None else Some free_line
-refusal_of desk (question.Free slot) = if is_some (stops_at desk slot) then None else Some free_line
-refusal_of desk other = None
+-- why nothing is done, by what the slot holds: a held one would be held, or an empty one be drawn from or emptied
+abbrev pub slot_refusal : List (Option (List Stop)) → SlotPart → Option (List ℕ)
+slot_refusal desk (ToHold slot object from to) = if is_some (stops_at desk slot) then Some held_line else None
+slot_refusal desk (ToDraw slot count) = if is_some (stops_at desk slot) then None else Some free_line
+slot_refusal desk (ToEmpty slot) = if is_some (stops_at desk slot) then None else Some free_line
+slot_refusal desk OfNoSlot = None
 
--- the desk after a question: an empty slot holds the path that it should hold, what is drawn from a slot is taken off,
--- and a slot that should be free is empty
-abbrev pub desk_of : ChartView → List (Option (List Stop)) → Question → List (Option (List Stop))
-desk_of chart desk (question.Hold slot object from to) =
+-- why a question does nothing, if so
+abbrev pub refusal_of : List (Option (List Stop)) → Question → Option (List ℕ)
+refusal_of desk asked = slot_refusal desk (slot_part asked)
+
+-- the desk after what is asked of a slot: an empty slot holds the path that it should hold, what is drawn from a slot is
+-- taken off, and a slot that should be free is empty
+abbrev pub slot_desk : ChartView → List (Option (List Stop)) → SlotPart → List (Option (List Stop))
+slot_desk chart desk (ToHold slot object from to) =
     slice_set desk slot (Some (unwrap_or (stops_at desk slot) (path_of chart.rows object from to)))
-desk_of chart desk (question.More slot count) = slice_set desk slot (option_map (drop count) (stops_at desk slot))
-desk_of chart desk (question.Free slot) = slice_set desk slot None
-desk_of chart desk other = desk
+slot_desk chart desk (ToDraw slot count) = slice_set desk slot (option_map (drop count) (stops_at desk slot))
+slot_desk chart desk (ToEmpty slot) = slice_set desk slot None
+slot_desk chart desk OfNoSlot = desk
+
+-- the desk after a question
+abbrev pub desk_of : ChartView → List (Option (List Stop)) → Question → List (Option (List Stop))
+desk_of chart desk asked = slot_desk chart desk (slot_part asked)
 
 -- what a question brings
 abbrev pub question_turn : ChartView → Facts → List (Option (List Stop)) → Question → Turn
@@ -89,14 +98,21 @@ abbrev pub hold_cost : ℕ → Option (List Stop) → ℕ
 hold_cost cost None = cost
 hold_cost cost (Some held) = 0
 
--- what a line's question may cost in reads, where the desk holds these walks: nothing for a blank or bad line, for
--- `info`, `more` and `free`
+-- what a question costs that is of no slot: nothing for `info`
+abbrev pub own_cost : (Question → ℕ) → Question → ℕ
+own_cost cost question.Info = 0
+own_cost cost other = cost other
+
+-- what is asked of a slot costs: what holding does, nothing for `more` and `free`, and this where nothing is asked
+abbrev pub slot_cost : ℕ → (Question → ℕ) → List (Option (List Stop)) → SlotPart → ℕ
+slot_cost own cost desk (ToHold slot object from to) =
+    hold_cost (cost (question.Path object from to)) (stops_at desk slot)
+slot_cost own cost desk (ToDraw slot count) = 0
+slot_cost own cost desk (ToEmpty slot) = 0
+slot_cost own cost desk OfNoSlot = own
+
+-- what a line's question may cost in reads, where the desk holds these walks: nothing for a blank or bad line
 abbrev pub asked_cost : (Question → ℕ) → List (Option (List Stop)) → Result (Option Question) Bad → ℕ
 asked_cost cost desk (Ok None) = 0
-asked_cost cost desk (Ok (Some question.Info)) = 0
-asked_cost cost desk (Ok (Some (question.Hold slot object from to))) =
-    hold_cost (cost (question.Path object from to)) (stops_at desk slot)
-asked_cost cost desk (Ok (Some (question.More slot count))) = 0
-asked_cost cost desk (Ok (Some (question.Free slot))) = 0
-asked_cost cost desk (Ok (Some asked)) = cost asked
+asked_cost cost desk (Ok (Some asked)) = slot_cost (own_cost cost asked) cost desk (slot_part asked)
 asked_cost cost desk (Err bad) = 0

@@ -4,19 +4,23 @@ use Rattle.std.specs.Prelude.{Option, Some, None, Result, Ok, Err}
 use Rattle.track_types.specs.Chart.{ChartView}
 use Rattle.track_types.specs.declared.facts.Facts.{Facts}
 use Rattle.track_types.specs.declared.question.Question.{Question}
-use Rattle.track_types.specs.declared.question.Question.TheVariants as question
 use Rattle.track_types.specs.declared.stop.Stop.{Stop}
 use Rattle.question_shell.specs.Grammar.{question_of}
 use Rattle.question_shell.specs.Replies.{turn_of}
+use Rattle.question_shell.specs.SlotParts.{OfNoSlot, SlotPart, ToDraw, ToEmpty, ToHold, slot_part}
 use Rattle.question_shell.specs.declared.bad.Bad.{Bad}
+
+-- whether it is this slot of which something is asked
+abbrev pub is_of_slot : ℕ → SlotPart → Bool
+is_of_slot slot (ToHold held object from to) = held == slot
+is_of_slot slot (ToDraw held count) = held == slot
+is_of_slot slot (ToEmpty held) = held == slot
+is_of_slot slot OfNoSlot = false
 
 -- whether a line asks something of this slot: to hold it, more of it, or to free it
 abbrev pub asks_slot : ℕ → Result (Option Question) Bad → Bool
 asks_slot slot (Ok None) = false
-asks_slot slot (Ok (Some (question.Hold held object from to))) = held == slot
-asks_slot slot (Ok (Some (question.More held count))) = held == slot
-asks_slot slot (Ok (Some (question.Free held))) = held == slot
-asks_slot slot (Ok (Some asked)) = false
+asks_slot slot (Ok (Some asked)) = is_of_slot slot (slot_part asked)
 asks_slot slot (Err bad) = false
 
 -- the lines that ask something of a slot
