@@ -1,10 +1,11 @@
 ghost use Rattle.std.specs.Prelude.{◌≡◌, ℕ, ◌+◌, ◌<◌, ◌≤◌, IfOk, OnErr, Ok, Some, true};
 ghost use Rattle.track_types.specs.declared.question.Question.TheVariants as question;
-ghost use Rattle.question_shell.specs.Desk.{held_of};
+ghost use Rattle.question_shell.specs.Desk.{DeskView, held_of};
 ghost use Rattle.question_shell.specs.Drawing.{IsAnswer};
 ghost use Rattle.question_shell.specs.Grammar.{AreAsked};
 ghost use Rattle.question_shell.specs.Reply.{asked_cost};
 ghost use Rattle.question_shell.specs.Session.{Meaning, meaning_by, takes_memory};
+ghost use Rattle.question_shell.specs.SlotParts.{OfNoSlot, slot_part};
 
 use crate::answer::Answer;
 use crate::desk::Desk;
@@ -31,6 +32,36 @@ pub(crate) fn ask<A: Meets, L: Ledger>(
     ensures desk { OnErr result (desk.new ≡ desk.old) }
     ensures reads { OnErr result (steps.new
         ≤ steps.old + asked_cost (A.cost answerer) (held_of desk.old) (Ok (Some question))) }
+{
+    match question {
+        Question::Hold {
+            slot,
+            object,
+            from,
+            to,
+        } => hold(alloc, answerer, desk, slot, object, from, to),
+        Question::More { slot, count } => Ok(more(desk, slot, count)),
+        Question::Free { slot } => Ok(free(desk, slot)),
+        _ => ask_chart(alloc, answerer, question, steps),
+    }
+}
+
+// Asks a question of no slot, whatever the desk holds.
+fn ask_chart<A: Meets, L: Ledger>(
+    alloc: Global,
+    answerer: A,
+    question: Question,
+    steps: &mut Steps<L>,
+) -> Result<Answer<A::Walk>, Memory>
+    requires asked { AreAsked question }
+    requires part { slot_part question ≡ OfNoSlot }
+    ensures ok { (desk : DeskView) → IfOk result (λ answer. IsAnswer A.Walk.left A.Walk.budget
+        (meaning_by A.Answerer answerer)
+        question desk steps.old answer desk steps.new) }
+    ensures takes { (desk : DeskView) → OnErr result
+        (takes_memory (held_of desk) (Ok (Some question)) ≡ true) }
+    ensures reads { (desk : DeskView) → OnErr result (steps.new
+        ≤ steps.old + asked_cost (A.cost answerer) (held_of desk) (Ok (Some question))) }
 {
     // The rows of what has facts ascend, so that a count of stops fits.
     let facts = answerer.facts();
@@ -69,22 +100,34 @@ pub(crate) fn ask<A: Meets, L: Ledger>(
             Ok(Answer::Meet(found))
         }
         Question::Info => Ok(Answer::Info(NamedFacts::new(facts))),
-        Question::Hold {
-            slot,
-            object,
-            from,
-            to,
-        } => {
-            if desk.is_held(slot) {
-                return Ok(Answer::Held);
-            }
-            let walk = answerer.walk(alloc, object, from, to)?;
-            desk.hold(slot, walk);
-            Ok(Answer::Done)
-        }
-        Question::More { slot, count } => Ok(more(desk, slot, count)),
-        Question::Free { slot } => Ok(free(desk, slot)),
+        Question::Hold { .. } | Question::More { .. } | Question::Free { .. } => unreachable!(),
     }
+}
+
+// Holds a walk over a path in an empty slot.
+fn hold<A: Meets>(
+    alloc: Global,
+    answerer: A,
+    desk: &mut Desk<A::Walk>,
+    slot: u8,
+    object: u32,
+    from: i64,
+    to: i64,
+) -> Result<Answer<A::Walk>, Memory>
+    requires { AreAsked (question.Hold slot object from to) }
+    ensures ok { (steps : ℕ) → IfOk result (λ answer. IsAnswer A.Walk.left A.Walk.budget
+        (meaning_by A.Answerer answerer)
+        (question.Hold slot object from to) desk.old steps answer desk.new steps) }
+    ensures takes { OnErr result (takes_memory (held_of desk.old)
+        (Ok (Some (question.Hold slot object from to))) ≡ true) }
+    ensures desk { OnErr result (desk.new ≡ desk.old) }
+{
+    if desk.is_held(slot) {
+        return Ok(Answer::Held);
+    }
+    let walk = answerer.walk(alloc, object, from, to)?;
+    desk.hold(slot, walk);
+    Ok(Answer::Done)
 }
 
 // The next stops of a slot.
