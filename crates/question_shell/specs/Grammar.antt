@@ -1,9 +1,10 @@
 -- What a line asks.
 use Rattle.std.specs.Prelude.{ℕ, nat_lt, ◌==◌, Bool, if◌then◌else◌, List, [], ◌∷◌, drop, length, codes, ℤ, Option, Some, None}
-use Rattle.std.specs.Prelude.{Result, Ok, Err, unsigned_abs, ◌<◌, ◌≤◌, ◌^◌, ⊤}
+use Rattle.std.specs.Prelude.{Result, Ok, Err, unsigned_abs, ◌<◌, ◌≤◌, ⊤}
 use Rattle.std.specs.Str.{bytes_eq}
 use Rattle.track_types.specs.Near.{IsAsked, IsCellAsked}
 use Rattle.track_types.specs.Region.{IsRegionAsked}
+use Rattle.track_types.specs.declared.limit.TheConstants.{MAX_REACH}
 use Rattle.track_types.specs.declared.question.Question.{Question}
 use Rattle.track_types.specs.declared.question.Question.TheVariants as question
 use Rattle.track_types.specs.declared.region.Region.{Region}
@@ -123,7 +124,7 @@ AreAsked (question.Path object from to) = IsAsked from × IsAsked to
 AreAsked (question.Slice instant region) = IsAsked instant × IsRegionAsked region
 AreAsked (question.Interval from to region) = IsAsked from × IsAsked to × IsRegionAsked region
 AreAsked (question.Nearest count instant cell) = IsAsked instant × IsCellAsked cell
-AreAsked (question.Meet left right from to reach) = IsAsked from × IsAsked to × (reach ≤ 2 ^ 42)
+AreAsked (question.Meet left right from to reach) = IsAsked from × IsAsked to × (reach ≤ MAX_REACH)
 AreAsked question.Info = ⊤
 AreAsked (question.Hold slot object from to) = (slot < 16) × IsAsked from × IsAsked to
 AreAsked (question.More slot count) = slot < 16

@@ -5,6 +5,7 @@ use Rattle.track_types.specs.Bounds.{number_within}
 use Rattle.track_types.specs.Numeral.{numeral_of}
 use Rattle.track_types.specs.declared.bounds.NumberFault.{NumberFault}
 use Rattle.track_types.specs.declared.bounds.NumberFault.TheVariants.{NotNumber, Range}
+use Rattle.track_types.specs.declared.limit.TheConstants.{MAX_ASKED, MAX_REACH}
 use Rattle.track_types.specs.declared.numeral.Numeral.{Numeral}
 use Rattle.track_types.specs.declared.numeral.Numeral.TheVariants.{Value, Large, Not}
 use Rattle.question_shell.specs.declared.bad.Bad.{Bad}
@@ -20,11 +21,11 @@ object_word = (pos 0, pos (2 ^ 32 - 1))
 
 -- an instant or a coordinate
 abbrev pub place_word : NumberWord
-place_word = (neg_ℤ (pos (2 ^ 41)), pos (2 ^ 41))
+place_word = (neg_ℤ (pos MAX_ASKED), pos MAX_ASKED)
 
 -- a radius or a distance
 abbrev pub radius_word : NumberWord
-radius_word = (pos 0, pos (2 ^ 42))
+radius_word = (pos 0, pos MAX_REACH)
 
 -- a slot
 abbrev pub slot_word : NumberWord

@@ -1,10 +1,10 @@
-ghost use Rattle.std.specs.Prelude.{◌≡◌, ◌<◌, ◌≤◌, ◌^◌, ◌≤ℤ◌, IfOk, IfErr, Some, None, unsigned_abs};
+ghost use Rattle.std.specs.Prelude.{◌≡◌, ◌<◌, ◌≤◌, ◌≤ℤ◌, IfOk, IfErr, Some, None, unsigned_abs};
 ghost use Rattle.track_types.specs.Near.{IsAsked};
 ghost use Rattle.question_shell.specs.NumberWords.{word_number, object_word, place_word, radius_word};
 ghost use Rattle.question_shell.specs.NumberWords.{shapes_word, slot_word, word_fault};
 
 use crate::bad::Bad;
-use track_types::{NumberFault, number_within};
+use track_types::{MAX_ASKED, MAX_REACH, NumberFault, number_within};
 
 // Reads an object's number, O, or a count, K or N.
 pub(crate) fn read_object(word: &[u8], place: u32) -> Result<u32, Bad>
@@ -16,24 +16,24 @@ pub(crate) fn read_object(word: &[u8], place: u32) -> Result<u32, Bad>
     Ok(number as u32)
 }
 
-// Reads an instant, T, or a coordinate, X or Y: at most 2^41 away from 0.
+// Reads an instant, T, or a coordinate, X or Y: at most `MAX_ASKED` away from 0.
 pub(crate) fn read_place(word: &[u8], place: u32) -> Result<i64, Bad>
     ensures none { IfOk result (λ _. word_fault place_word place word.now ≡ None) }
     ensures value { IfOk result (λ number. number ≡ word_number word.now) }
     ensures asked { IfOk result IsAsked }
     ensures err { IfErr result (λ bad. word_fault place_word place word.now ≡ Some bad) }
 {
-    read_number(word, place, -0x200_0000_0000, 0x200_0000_0000)
+    read_number(word, place, -(MAX_ASKED as i64), MAX_ASKED as i64)
 }
 
-// Reads a radius, R, or a distance, D: at most 2^42.
+// Reads a radius, R, or a distance, D: at most `MAX_REACH`.
 pub(crate) fn read_radius(word: &[u8], place: u32) -> Result<u64, Bad>
     ensures none { IfOk result (λ _. word_fault radius_word place word.now ≡ None) }
     ensures value { IfOk result (λ radius. radius ≡ unsigned_abs (word_number word.now)) }
-    ensures asked { IfOk result (λ radius. radius ≤ 2 ^ 42) }
+    ensures asked { IfOk result (λ radius. radius ≤ MAX_REACH) }
     ensures err { IfErr result (λ bad. word_fault radius_word place word.now ≡ Some bad) }
 {
-    let number = read_number(word, place, 0, 0x400_0000_0000)?;
+    let number = read_number(word, place, 0, MAX_REACH as i64)?;
     Ok(number as u64)
 }
 

@@ -5,6 +5,7 @@ use Rattle.track_types.specs.ByFilter.{hits_of, nears_of, path_of, sightings_of}
 use Rattle.track_types.specs.Meeting.{meeting_of}
 use Rattle.track_types.specs.Near.{IsAsked, IsCellAsked}
 use Rattle.track_types.specs.Region.{IsRegionAsked}
+use Rattle.track_types.specs.declared.limit.TheConstants.{MAX_REACH}
 use Rattle.track_types.specs.declared.question.Question.TheVariants as question
 use Rattle.question_shell.specs.declared.item.Item.TheVariants as item
 use Rattle.question_shell.proofs.CountLemmas.{asked_kept, few-meeting, length-path_of}
@@ -85,7 +86,7 @@ pub returns-in_ok-found-in-Meet-clause-ok : goal.returns-in_ok-found-in-Meet-cla
 returns-in_ok-found-in-Meet-clause-ok g c desk =
     let arm = c.in-Meet in
     let asked : c.args.question ≡ question.Meet arm.left arm.right arm.from arm.to arm.reach = arm.is in
-    let near : IsAsked arm.from × IsAsked arm.to × (arm.reach ≤ 2 ^ 42) = rw asked at c.requires.asked in
+    let near : IsAsked arm.from × IsAsked arm.to × (arm.reach ≤ MAX_REACH) = rw asked at c.requires.asked in
     let rows = (g.A.Answerer.chart c.args.answerer).rows in
     let found : c.in_ok-found-in-Meet.found ≡ meeting_of rows arm.left arm.right arm.from arm.to arm.reach =
     simp (asked_kept arm.from near.0, asked_kept arm.to near.1) at c.in_ok-found-in-Meet.ensures.ok in
