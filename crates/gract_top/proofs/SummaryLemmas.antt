@@ -8,8 +8,9 @@ use Rattle.std.specs.Io.KnownBytes.{Appends}
 use Rattle.std.specs.List.{sum_by}
 use Rattle.host_ports.specs.declared.fault.Cut.{Cut}
 use Rattle.question_shell.specs.Desk.{DeskView, budget_of, empty_desk, held_of}
-use Rattle.question_shell.specs.Reply.{asked_cost, desk_of, listed, ok_line, slot_desk}
+use Rattle.question_shell.specs.Reply.{asked_cost, desk_of, listed, ok_line, own_cost, slot_cost, slot_desk}
 use Rattle.question_shell.specs.Session.{Meaning}
+use Rattle.question_shell.specs.SlotParts.{OfNoSlot, SlotPart, slot_part}
 use Rattle.question_shell.specs.Turns.{AnswerTold, moment}
 use Rattle.question_shell.specs.declared.turn_fault.TurnFault.{TurnFault}
 use Rattle.question_shell.specs.declared.turn_fault.TurnFault.TheVariants as fault
@@ -21,17 +22,24 @@ use Rattle.track_types.specs.declared.question.Question.{Question}
 use Rattle.track_types.specs.declared.question.Question.TheVariants as question
 use Rattle.track_types.specs.declared.stop.Stop.{Stop}
 use Rattle.gract_top.specs.Sampling.{SaysFront, Speech}
-use Rattle.gract_top.specs.Summary.{IsSlotless, count_line, counts_of, found_by}
+use Rattle.gract_top.specs.Summary.{IsSlotless, IsOfNoSlot, count_line, counts_of, found_by}
 
--- a question of no slot leaves the desk as it is
+-- a question that is counted asks nothing of a slot
+of-no-slot : (asked : Question) (part : SlotPart) → IsOfNoSlot asked part → part ≡ OfNoSlot
+of-no-slot asked OfNoSlot counted = refl
+of-no-slot asked other counted = absurd counted
+
+-- it leaves the desk as it is
 pub counted-desk : (chart : ChartView) (desk : List (Option (List Stop))) (asked : Question) → IsSlotless asked →
     desk_of chart desk asked ≡ desk
-counted-desk chart desk asked counted = ap (slot_desk chart desk) counted.1
+counted-desk chart desk asked counted = ap (slot_desk chart desk) (of-no-slot asked (slot_part asked) counted)
 
 -- and costs no more than it may
 pub counted-cost : (cost : Question → ℕ) (desk : List (Option (List Stop))) (asked : Question) → IsSlotless asked →
     asked_cost cost desk (Ok (Some asked)) ≤ cost asked
-counted-cost cost desk asked counted = rw counted.1 (own_cost-within cost asked)
+counted-cost cost desk asked counted =
+    subst (λ (part : SlotPart). slot_cost (own_cost cost asked) cost desk part ≤ cost asked)
+    (sym (of-no-slot asked (slot_part asked) counted)) (own_cost-within cost asked)
 
 -- the reply to `info` was said, or a front of it
 module _ (meaning : Meaning) (said0 said : Option (List ℕ)) (desk : DeskView) (steps0 steps : ℕ) where

@@ -1,11 +1,11 @@
 -- What `sample` says of a chart: the reply to `info`, and the last line of the reply to each of five questions more.
-use Rattle.std.specs.Prelude.{◌≡◌, ℕ, ◌-◌, ◌/◌, min, pos, List, [], ◌∷◌, ◌++◌, length, None}
+use Rattle.std.specs.Prelude.{ℕ, ◌-◌, ◌/◌, min, pos, List, [], ◌∷◌, ◌++◌, length, None}
 use Rattle.std.specs.List.{flat_map, sum_by}
 use Rattle.question_shell.specs.Desk.{empty_desk, held_of}
 use Rattle.question_shell.specs.Grammar.{AreAsked}
 use Rattle.question_shell.specs.Items.{items_of}
 use Rattle.question_shell.specs.Reply.{listed, ok_line}
-use Rattle.question_shell.specs.SlotParts.{OfNoSlot, slot_part}
+use Rattle.question_shell.specs.SlotParts.{OfNoSlot, SlotPart, slot_part}
 use Rattle.question_shell.specs.declared.item.Item.{Item}
 use Rattle.track_types.specs.Chart.{ChartView}
 use Rattle.track_types.specs.declared.cell.Cell.{Cell}
@@ -62,6 +62,11 @@ summary_of chart facts instants =
 abbrev pub summary_cost : (Question → ℕ) → ℕ → ℕ
 summary_cost cost instants = sum_by cost (counted_questions instants)
 
+-- A question that may be asked, where this is what it asks of a slot: nothing.
+abbrev pub IsOfNoSlot : Question → SlotPart → Type 0
+IsOfNoSlot asked OfNoSlot = AreAsked asked
+IsOfNoSlot asked other = ⊥
+
 -- A question that may be asked, and is of no slot.
 abbrev pub IsSlotless : Question → Type 0
-IsSlotless asked = AreAsked asked × (slot_part asked ≡ OfNoSlot)
+IsSlotless asked = IsOfNoSlot asked (slot_part asked)
