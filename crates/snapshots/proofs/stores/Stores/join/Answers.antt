@@ -1,8 +1,9 @@
-use Rattle.std.proofs.Common.{◌≡◌, ◌+◌, ◌^◌, ◌≤◌, arith, ap, length, map, subst, sym, ◌∙◌}
+use Rattle.std.proofs.Common.{◌≡◌, ◌+◌, ◌≤◌, arith, ap, length, map, subst, sym, ◌∙◌}
 use Rattle.std.proofs.Math.Nat.{div-le_self}
 use Rattle.std.specs.List.{range_with_len}
 use Rattle.std.proofs.lemmas.Result.{err_from_is_err_and}
 use Rattle.track_types.specs.Frame.{periods_of}
+use Rattle.track_types.specs.declared.limit.TheConstants.{MAX_SPAN}
 use Rattle.track_types.specs.declared.parts.Parts.{Parts}
 use Rattle.snapshots.specs.Speed.{speed_of}
 use Rattle.snapshots.specs.View.{SnapshotView}
@@ -48,7 +49,7 @@ all_joined g c =
 pub overflow_cast-number : goal.overflow_cast-number
 overflow_cast-number g c =
     let parts : Parts = join_of c.args.frame c.args.objects c.args.rules c.args.snaps.items in
-    let short : c.args.frame.span ≤ 2 ^ 22 = c.requires.shaped.header.short in
+    let short : c.args.frame.span ≤ MAX_SPAN = c.requires.shaped.header.short in
     omega (
       arith,
       c.len-number.ensures,

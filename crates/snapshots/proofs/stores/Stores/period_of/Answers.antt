@@ -1,4 +1,5 @@
-use Rattle.std.proofs.Common.{ap, ◌∙◌}
+use Rattle.std.proofs.Common.{◌≡◌, ap, of_z, to_z, w64, ◌∙◌}
+use Rattle.std.proofs.lemmas.Int.{to_z-of_z}
 use Rattle.track_types.specs.declared.parts.Parts.{Parts}
 use Rattle.snapshots.specs.Parts.{period_in}
 use Rattle.snapshots.proofs.stores.Stores.period_of.Goals as goal
@@ -6,7 +7,8 @@ use Rattle.snapshots.proofs.stores.Stores.period_of.Goals as goal
 pub returns : goal.returns
 returns c =
     let time = c.timeline.ensures in
+    let same : to_z w64 (of_z w64 c.args.instant) ≡ c.args.instant = to_z-of_z w64 c.args.instant c.ranges.instant in
     record {
-      value = (rw (time.first, time.span, time.period) at c.period_of.ensures.value)
+      value = (rw (time.first, time.span, time.period, same) at c.period_of.ensures.value)
           ∙ ap (λ (p : Parts). period_in p.frame c.args.instant) c.self.view_is;
     }
