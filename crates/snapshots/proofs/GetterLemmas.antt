@@ -1,21 +1,16 @@
 -- What the getters of an index's stores find: an object's place, and an instant's period.
-use Rattle.std.proofs.Common.{◌≡◌, ℕ, ◌/◌, ◌<◌, ℤ, ◌≤ℤ◌, ◌<ℤ◌, ◌-ℤ◌, false, eqb, List, length, get_or, map, None, Some, Result, Ok, Err, MatchResult, inl, inr, refl, ap, sym, ◌∙◌, arith}
-use Rattle.std.specs.Prelude.{unsigned_abs}
+use Rattle.std.proofs.Common.{◌≡◌, ℕ, ◌<◌, false, eqb, List, length, get_or, map, None, Some, Result, Ok, Err, MatchResult, inl, inr, ap, sym, ◌∙◌, arith}
 use Rattle.std.specs.Ordering.{nat_cmp}
 use Rattle.std.specs.List.Sorted.{IsBinarySearchResult}
 use Rattle.std.specs.List.Sorted.{IsStrictlyIncreasing}
 use Rattle.std.proofs.lemmas.Bool.{cases_lt}
 use Rattle.std.proofs.lemmas.Bool.Decides.{nat_tests}
-use Rattle.std.proofs.lemmas.Int.{ints}
 use Rattle.std.proofs.lemmas.List.FromFn.{get_or-map-range_with_len}
 use Rattle.std.proofs.lemmas.List.Sorted.{searched}
 use Rattle.list_laws.proofs.FindLemmas.{find_in_range-first, find_in_range-none}
 use Rattle.list_laws.proofs.IncreasingLemmas.{increasing-at_most, increasing-below}
-use Rattle.track_types.specs.Region.{is_between}
 use Rattle.track_types.specs.Frame.{periods_of}
-use Rattle.track_types.specs.declared.frame.Frame.{Frame}
 use Rattle.track_types.specs.declared.parts.Parts.{Parts}
-use Rattle.track_types.proofs.RegionLemmas.{is_between-from}
 use Rattle.snapshots.specs.Parts.{index_in, numbers_in, snapshot_in}
 use Rattle.snapshots.specs.Speed.{speed_of}
 use Rattle.snapshots.specs.Stores.{snapshots_in}
