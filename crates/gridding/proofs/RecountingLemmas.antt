@@ -12,12 +12,12 @@ use Rattle.track_types.specs.Near.{IsNear, IsWithin}
 use Rattle.track_types.specs.Quantities.{instants_of}
 use Rattle.track_types.specs.declared.row.Row.{Row}
 use Rattle.gridding.specs.Blocks.{ObjectRun, RunRef, rows_of_run, rows_of_runs, run_in, runs_in, runs_of}
-use Rattle.gridding.specs.Extents.{extent_over, no_extent, extent_with_number}
+use Rattle.track_types.specs.Extents.{extent_over, no_extent, widened}
 use Rattle.gridding.specs.GriddedRows.{IsApart}
 use Rattle.gridding.specs.Origin.{IsOneOf}
 use Rattle.gridding.specs.PackedPlace.{HasPlace, packed_cell, packed_row}
 use Rattle.gridding.specs.Recounting.{IsCentred, IsExtentWithin, IsOfExtent}
-use Rattle.gridding.specs.declared.extents.Extent.{Extent}
+use Rattle.track_types.specs.declared.extents.Extent.{Extent}
 use Rattle.gridding.specs.declared.packed_place.Origin.{Origin}
 use Rattle.gridding.specs.declared.packed_place.PackedPlace.{PackedPlace}
 use Rattle.gridding.specs.declared.packed_place.TheConstants.{CELLS, INSTANTS}
@@ -31,31 +31,31 @@ pub within_near : (z : ℤ) → IsNear z → IsWithin z
 within_near z near = record { low = omega (arith, ints, near.low); high = omega (arith, ints, near.high) }
 
 -- an extent that is widened by a number
-pub IsExtentWithin-extent_with_number : (extent : Extent) (z : ℤ) → IsExtentWithin extent → IsWithin z → IsExtentWithin (extent_with_number extent z)
-IsExtentWithin-extent_with_number extent z within near = record {
+pub IsExtentWithin-widened : (extent : Extent) (z : ℤ) → IsExtentWithin extent → IsWithin z → IsExtentWithin (widened extent z)
+IsExtentWithin-widened extent z within near = record {
   least = omega (arith, ints, int_min_is extent.least z, within.least, near.low);
   greatest = omega (arith, ints, int_max_is extent.greatest z, within.greatest, near.high);
 }
 
-pub IsOfExtent-extent_with_number : (extent : Extent) (z : ℤ) → IsOfExtent (extent_with_number extent z) z
-IsOfExtent-extent_with_number extent z =
+pub IsOfExtent-widened : (extent : Extent) (z : ℤ) → IsOfExtent (widened extent z) z
+IsOfExtent-widened extent z =
     (omega (arith, ints, int_min_is extent.least z), omega (arith, ints, int_max_is extent.greatest z))
 
-wider : (extent : Extent) (y z : ℤ) → IsOfExtent extent y → IsOfExtent (extent_with_number extent z) y
+wider : (extent : Extent) (y z : ℤ) → IsOfExtent extent y → IsOfExtent (widened extent z) y
 wider extent y z (low, high) =
     (omega (arith, ints, int_min_is extent.least z, low), omega (arith, ints, int_max_is extent.greatest z, high))
 
 -- instants are in an extent that was widened by them
-stays : (extent : Extent) (rows : List Row) (y : ℤ) → IsOfExtent extent y → IsOfExtent (fold extent_with_number extent (instants_of rows)) y
+stays : (extent : Extent) (rows : List Row) (y : ℤ) → IsOfExtent extent y → IsOfExtent (fold widened extent (instants_of rows)) y
 stays extent [] y inside = inside
-stays extent (row ∷ rows) y inside = stays (extent_with_number extent row.instant) rows y (wider extent y row.instant inside)
+stays extent (row ∷ rows) y inside = stays (widened extent row.instant) rows y (wider extent y row.instant inside)
 
 covers : (extent : Extent) (rows : List Row) →
-    AllByRecursion (λ row. IsOfExtent (fold extent_with_number extent (instants_of rows)) row.instant) rows
+    AllByRecursion (λ row. IsOfExtent (fold widened extent (instants_of rows)) row.instant) rows
 covers extent [] = tt
 covers extent (row ∷ rows) = (
-  stays (extent_with_number extent row.instant) rows row.instant (IsOfExtent-extent_with_number extent row.instant),
-  covers (extent_with_number extent row.instant) rows,
+  stays (widened extent row.instant) rows row.instant (IsOfExtent-widened extent row.instant),
+  covers (widened extent row.instant) rows,
 )
 
 module _ (origin : Origin) where
@@ -63,28 +63,28 @@ module _ (origin : Origin) where
   abbrev IsAmong : Extent → Type 0
   IsAmong extent = (origin.instant ≤ℤ extent.least) × (extent.greatest <ℤ (origin.instant +ℤ pos INSTANTS))
 
-  among-extent_with_number : (extent : Extent) (z : ℤ) → IsAmong extent → IsOneOf origin.instant INSTANTS z → IsAmong (extent_with_number extent z)
-  among-extent_with_number extent z (low, high) (after, before) = (
+  among-widened : (extent : Extent) (z : ℤ) → IsAmong extent → IsOneOf origin.instant INSTANTS z → IsAmong (widened extent z)
+  among-widened extent z (low, high) (after, before) = (
     omega (arith, ints, int_min_is extent.least z, low, after),
     omega (arith, ints, int_max_is extent.greatest z, high, before),
   )
 
   among : (extent : Extent) (rows : List Row) → IsAmong extent → AllByRecursion (HasPlace origin) rows →
-      IsAmong (fold extent_with_number extent (instants_of rows))
+      IsAmong (fold widened extent (instants_of rows))
   among extent [] inside all = inside
   among extent (row ∷ rows) inside all =
-      among (extent_with_number extent row.instant) rows (among-extent_with_number extent row.instant inside all.0.instant) all.1
+      among (widened extent row.instant) rows (among-widened extent row.instant inside all.0.instant) all.1
 
   among_none : IsAmong no_extent
   among_none = (omega (arith, ints, origin.instant_near.1), omega (arith, ints, origin.instant_near.0))
 
-module _ (row : Row) (tracks : TrackBlocks) (extent : Extent) (is : extent ≡ extent_with_number (extent_over (instants_of (rows_of_runs tracks.origin (runs_of tracks)))) row.instant) where
+module _ (row : Row) (tracks : TrackBlocks) (extent : Extent) (is : extent ≡ widened (extent_over (instants_of (rows_of_runs tracks.origin (runs_of tracks)))) row.instant) where
   -- where the instants of rows are too far apart, they have no places from any origin
   pub apart_by_instants : (extent.least +ℤ pos INSTANTS) ≤ℤ extent.greatest → IsApart row tracks
   apart_by_instants wide origin cell all own =
       let inside : IsAmong origin extent =
       rw is
-      (among-extent_with_number origin (extent_over (instants_of (rows_of_runs tracks.origin (runs_of tracks)))) row.instant
+      (among-widened origin (extent_over (instants_of (rows_of_runs tracks.origin (runs_of tracks)))) row.instant
       (among origin no_extent (rows_of_runs tracks.origin (runs_of tracks)) (among_none origin) all)
       own.instant) in
       omega (arith, ints, wide, inside.0, inside.1)
@@ -138,7 +138,7 @@ part P origin (entry ∷ entries) (suc i) d below all =
 -- from the origin that is centred all rows have places
 pub reached_from : (origin moved : Origin) (row : Row) (entries : List RunRef) (extent : Extent) (before : ℕ) →
     moved.cell ≡ origin.cell → (moved.instant +ℤ pos before) ≡ row.instant →
-    extent ≡ extent_with_number (extent_over (instants_of (rows_of_runs origin (runs_in entries)))) row.instant →
+    extent ≡ widened (extent_over (instants_of (rows_of_runs origin (runs_in entries)))) row.instant →
     IsCentred extent row.instant before → (i : ℕ) (d : RunRef) → i < length entries →
     All (HasPlace moved) (rows_of_run origin (run_in (get_or entries i d)))
 reached_from origin moved row entries extent before same exact is centred i d below =
@@ -155,20 +155,20 @@ reached_from origin moved row entries extent before same exact is centred i d be
 -- the extent of a run's places and one more
 pub extent-place : (origin : Origin) (extent : Extent) (object : ℕ) (places : List PackedPlace) (i : ℕ) (d : PackedPlace) →
     i < length places →
-    extent_with_number (fold extent_with_number extent (instants_of (rows_of_run origin (object, take i places)))) (packed_row origin object (get_or places i d)).instant
-    ≡ fold extent_with_number extent (instants_of (rows_of_run origin (object, take (i + 1) places)))
+    widened (fold widened extent (instants_of (rows_of_run origin (object, take i places)))) (packed_row origin object (get_or places i d)).instant
+    ≡ fold widened extent (instants_of (rows_of_run origin (object, take (i + 1) places)))
 extent-place origin extent object places i d below =
     let f : PackedPlace → Row = packed_row origin object in
     let one : Row = f (get_or places i d) in
     sym
-    (ap (λ some. fold extent_with_number extent (instants_of (map f some))) (take_more places i d below)
-    ∙ ap (λ rows. fold extent_with_number extent (instants_of rows)) (map-append f (take i places) (get_or places i d ∷ []))
-    ∙ ap (fold extent_with_number extent) (map-append (λ row. row.instant) (map f (take i places)) (one ∷ []))
-    ∙ fold-append extent_with_number extent (instants_of (map f (take i places))) (one.instant ∷ []))
+    (ap (λ some. fold widened extent (instants_of (map f some))) (take_more places i d below)
+    ∙ ap (λ rows. fold widened extent (instants_of rows)) (map-append f (take i places) (get_or places i d ∷ []))
+    ∙ ap (fold widened extent) (map-append (λ row. row.instant) (map f (take i places)) (one ∷ []))
+    ∙ fold-append widened extent (instants_of (map f (take i places))) (one.instant ∷ []))
 
 -- the extent of runs and one more
 pub extent-run : (origin : Origin) (entries : List RunRef) (i : ℕ) (d : RunRef) → i < length entries →
-    fold extent_with_number (extent_over (instants_of (rows_of_runs origin (runs_in (take i entries))))) (instants_of (rows_of_run origin (run_in (get_or entries i d))))
+    fold widened (extent_over (instants_of (rows_of_runs origin (runs_in (take i entries))))) (instants_of (rows_of_run origin (run_in (get_or entries i d))))
     ≡ extent_over (instants_of (rows_of_runs origin (runs_in (take (i + 1) entries))))
 extent-run origin entries i d below =
     let one : ObjectRun = run_in (get_or entries i d) in
@@ -179,4 +179,4 @@ extent-run origin entries i d below =
     ∙ ap (λ rows. extent_over (instants_of rows)) (flat_map-append (rows_of_run origin) before (one ∷ []))
     ∙ ap (λ last. extent_over (instants_of (rows_of_runs origin before ++ last))) (append-nil (rows_of_run origin one))
     ∙ ap extent_over (map-append (λ row. row.instant) (rows_of_runs origin before) (rows_of_run origin one))
-    ∙ fold-append extent_with_number no_extent (instants_of (rows_of_runs origin before)) (instants_of (rows_of_run origin one)))
+    ∙ fold-append widened no_extent (instants_of (rows_of_runs origin before)) (instants_of (rows_of_run origin one)))

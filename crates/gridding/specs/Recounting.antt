@@ -1,6 +1,6 @@
 -- The origin from which the places of blocks are counted anew.
 use Rattle.std.specs.Prelude.{◌≡◌, ◌+◌, ◌≤◌, ◌^◌, ℕ, ℤ, pos, neg_ℤ, ◌+ℤ◌, ◌≤ℤ◌}
-use Rattle.gridding.specs.declared.extents.Extent.{Extent}
+use Rattle.track_types.specs.declared.extents.Extent.{Extent}
 use Rattle.gridding.specs.declared.packed_place.TheConstants.{INSTANTS}
 
 -- an extent of numbers that are at most 2^42 away from 0, if of any

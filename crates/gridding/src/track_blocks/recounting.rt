@@ -2,7 +2,7 @@
 
 ghost use Rattle.std.specs.Prelude.{◌≡◌, ◌<◌, ◌≤ℤ◌, ◌+ℤ◌, pos, ◌++◌, List, All, true, false, fold, IfNone, IfOk, IfSome, Ok};
 ghost use Rattle.gridding.specs.Blocks.{rows_of_run, rows_of_runs, runs_in};
-ghost use Rattle.gridding.specs.Extents.{extent_over, extent_with_number};
+ghost use Rattle.track_types.specs.Extents.{extent_over, widened};
 ghost use Rattle.gridding.specs.Recounting.{IsCentred, IsExtentWithin, IsOfExtent};
 ghost use Rattle.gridding.specs.declared.packed_place.TheConstants.{INSTANTS};
 ghost use Rattle.track_types.specs.Near.{IsRowInRange};
@@ -126,7 +126,7 @@ fn extent_of(origin: Origin, runs: &[Run<'_>]) -> Extent
 // An extent, and so much more that the instants of a run are in it.
 fn extent_with(extent: Extent, origin: Origin, object: u32, places: &[PackedPlace]) -> Extent
     requires near { IsExtentWithin extent }
-    ensures exact { result ≡ fold extent_with_number extent (instants_of (rows_of_run origin (object, places.now))) }
+    ensures exact { result ≡ fold widened extent (instants_of (rows_of_run origin (object, places.now))) }
     ensures near { IsExtentWithin result }
 {
     let mut extent = extent;

@@ -8,31 +8,31 @@ use Rattle.track_types.specs.Quantities.{instants_of}
 use Rattle.track_types.specs.declared.row.Row.{Row}
 use Rattle.gridding.proofs.GriddedLemmas.{blocks_anew}
 use Rattle.gridding.proofs.MergeLemmas.{no_run}
-use Rattle.gridding.proofs.RecountingLemmas.{IsExtentWithin-extent_with_number, IsOfExtent-extent_with_number, apart_by_cell, apart_by_instants, reached_from, within_near, within_word}
+use Rattle.gridding.proofs.RecountingLemmas.{IsExtentWithin-widened, IsOfExtent-widened, apart_by_cell, apart_by_instants, reached_from, within_near, within_word}
 use Rattle.gridding.specs.Blocks.{RunRef, rows_of_run, rows_of_runs, run_in, runs_in, runs_of}
-use Rattle.gridding.specs.Extents.{extent_over, extent_with_number}
-use Rattle.gridding.specs.declared.extents.Extent.{Extent}
+use Rattle.track_types.specs.Extents.{extent_over, widened}
+use Rattle.track_types.specs.declared.extents.Extent.{Extent}
 use Rattle.gridding.specs.declared.packed_place.Origin.{Origin}
 use Rattle.gridding.proofs.track_blocks.TrackBlocks.recounted.Goals as goal
 
 -- the extent is of the instants of all runs, and of the row's
-extent_is : (origin : Origin) (instant : ℤ) (entries found : List RunRef) (of extent : Extent) → extent ≡ extent_with_number of instant →
+extent_is : (origin : Origin) (instant : ℤ) (entries found : List RunRef) (of extent : Extent) → extent ≡ widened of instant →
     of ≡ extent_over (instants_of (rows_of_runs origin (runs_in found))) → found ≡ entries →
-    extent ≡ extent_with_number (extent_over (instants_of (rows_of_runs origin (runs_in entries)))) instant
+    extent ≡ widened (extent_over (instants_of (rows_of_runs origin (runs_in entries)))) instant
 extent_is origin instant entries found of extent is exact same =
-    is ∙ ap (λ own. extent_with_number own instant)
+    is ∙ ap (λ own. widened own instant)
     (exact ∙ ap (λ runs. extent_over (instants_of (rows_of_runs origin (runs_in runs)))) same)
 
 pub instants_before-requires-clause-near : goal.instants_before-requires-clause-near
 instants_before-requires-clause-near c =
     let within = within_near c.args.row.instant c.requires.instant in
     rw (c.widened-extent.ensures, within_word c.args.row.instant within)
-    (IsExtentWithin-extent_with_number c.extent_of.result c.args.row.instant c.extent_of.ensures.near within)
+    (IsExtentWithin-widened c.extent_of.result c.args.row.instant c.extent_of.ensures.near within)
 
 pub instants_before-requires-clause-inside : goal.instants_before-requires-clause-inside
 instants_before-requires-clause-inside c =
     let word = within_word c.args.row.instant (within_near c.args.row.instant c.requires.instant) in
-    rw (c.widened-extent.ensures, word) (IsOfExtent-extent_with_number c.extent_of.result c.args.row.instant)
+    rw (c.widened-extent.ensures, word) (IsOfExtent-widened c.extent_of.result c.args.row.instant)
 
 pub returns-in_default-clause-apart : goal.returns-in_default-clause-apart
 returns-in_default-clause-apart c =

@@ -1,7 +1,7 @@
 use Rattle.std.proofs.Common.{◌≡◌, take}
 use Rattle.track_types.specs.Quantities.{instants_of}
 use Rattle.gridding.specs.Blocks.{rows_of_runs, runs_in}
-use Rattle.gridding.specs.Extents.{extent_over}
+use Rattle.track_types.specs.Extents.{extent_over}
 use Rattle.gridding.specs.Recounting.{IsExtentWithin}
 use Rattle.gridding.proofs.track_blocks.recounting.extent_of.Given as goal
 

@@ -1,7 +1,7 @@
 use Rattle.std.proofs.Common.{◌∙◌, ap}
 use Rattle.gridding.proofs.MergeLemmas.{no_place}
-use Rattle.gridding.proofs.RecountingLemmas.{IsExtentWithin-extent_with_number, extent-place, within_word}
-use Rattle.gridding.specs.Extents.{extent_with_number}
+use Rattle.gridding.proofs.RecountingLemmas.{IsExtentWithin-widened, extent-place, within_word}
+use Rattle.track_types.specs.Extents.{widened}
 use Rattle.gridding.proofs.track_blocks.recounting.extent_with.Goals as goal
 
 pub loop-place-preserved : goal.loop-place-preserved
@@ -14,5 +14,5 @@ loop-place-preserved c =
           c.loop-place-test.true;
       near =
           rw (c.widened-extent.ensures, word)
-          (IsExtentWithin-extent_with_number c.loop-place.extent c.row.result.instant c.loop-place.invariant.near c.row.ensures.instant);
+          (IsExtentWithin-widened c.loop-place.extent c.row.result.instant c.loop-place.invariant.near c.row.ensures.instant);
     }
