@@ -1,5 +1,6 @@
-ghost use Rattle.std.specs.Prelude.{◌≡◌};
-ghost use Rattle.track_types.specs.Frame.{last_in, IsFrame};
+ghost use Rattle.std.specs.Prelude.{◌≡◌, ◌<◌, ◌≤ℤ◌, ◌+ℤ◌, pos};
+ghost use Rattle.track_types.specs.Frame.{IsFrame};
+ghost use Rattle.snapshots.specs.Parts.{last_in};
 ghost use Rattle.object_track.specs.Met.{AreMet};
 
 use snapshots::Stores;
@@ -26,15 +27,15 @@ impl Periods {
         ensures { AreMet stores.now.frame from to result.next result.end }
     {
         let frame = stores.frame();
-        let time = frame.timeline();
-        let low = from.max(time.first);
-        let high = to.min(time.last());
+        let low = from.max(frame.first);
+        let high = to.min(last_of(frame));
         if low > high {
             return Periods::none();
         }
+        let period = u64::from(frame.period);
         Periods {
-            next: time.period_at(low),
-            end: time.period_at(high) + 1,
+            next: (elapsed(frame, low) / period) as u32,
+            end: (elapsed(frame, high) / period) as u32 + 1,
         }
     }
 }
@@ -44,5 +45,16 @@ pub fn last_of(frame: &Frame) -> i64
     requires { IsFrame frame.now }
     ensures { result ≡ last_in frame.now }
 {
-    frame.timeline().last()
+    frame.first + i64::from(frame.span - 1)
+}
+
+// How many instants of the index come before one of them.
+fn elapsed(frame: &Frame, instant: i64) -> u64
+    requires header { IsFrame frame.now }
+    requires low { frame.now.first ≤ℤ instant }
+    requires high { instant ≤ℤ last_in frame.now }
+    ensures value { instant ≡ (frame.now.first +ℤ pos result) }
+    ensures within { result < frame.now.span }
+{
+    (instant - frame.first).unsigned_abs()
 }

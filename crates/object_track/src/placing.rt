@@ -27,9 +27,10 @@ impl<'a> Placed<'a> {
             ≡ start_at (anchored_at stores.now.frame period block.now) block.now.cell }
         ensures placed { IsPlaced result.log.rules.now result.start (log_of result.log) }
     {
-        let time = stores.frame().timeline();
+        let frame = stores.frame();
+        let elapsed = u64::from(period) * u64::from(frame.period) + u64::from(block.offset);
         let start = Start {
-            instant: time.first_of(period) + i64::from(block.offset),
+            instant: frame.first + elapsed as i64,
             cell: block.cell,
         };
         let log = stores.rules().block(block.from, block.len);
