@@ -1,6 +1,7 @@
 ghost use Rattle.std.specs.Prelude.{◌≡◌, ◌<◌, ◌≤◌, ◌^◌};
 ghost use Rattle.track_types.specs.Frame.{grid_of, periods_of, IsFrame};
 ghost use Rattle.track_types.specs.Near.{IsBoxWithin};
+ghost use Rattle.track_types.specs.declared.limit.TheConstants.{MAX_REACH};
 ghost use Rattle.track_types.specs.Region.{intersects_region};
 ghost use Rattle.slice_search.specs.Reach.{may_reach, short_width};
 ghost use Rattle.slice_search.specs.Sought.{latest_in};
