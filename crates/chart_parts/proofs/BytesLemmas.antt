@@ -1,25 +1,19 @@
 -- The parts of a chart take few bytes, so that an index of them may be opened.
-use Rattle.std.proofs.Common.{◌≡◌, ℕ, ◌+◌, ◌*◌, ◌<◌, ◌≤◌, List, length, ap, arith}
-use Rattle.std.specs.List.{flat_map}
+use Rattle.std.proofs.Common.{◌≡◌, ℕ, ◌*◌, ◌<◌, ◌≤◌, List, length, ap, ◌∙◌, arith}
+use Rattle.std.specs.List.{All}
 use Rattle.std.proofs.Math.Nat.{mul-le-mul_right}
 use Rattle.std.proofs.lemmas.List.Concat.{length-flat_map}
 use Rattle.std.proofs.lemmas.List.FromFn.{length-map-range_with_len}
-use Rattle.packed_bits.proofs.OnesLemmas.{ones_of-le-length}
-use Rattle.list_laws.proofs.LengthLemmas.{length-flat_map-within}
 use Rattle.track_types.specs.Chart.{ChartView, IsChart}
 use Rattle.track_types.specs.Frame.{periods_of, wide_of}
-use Rattle.track_types.specs.Limits.{limit_of}
 use Rattle.track_types.specs.Quantities.{objects_of}
-use Rattle.track_types.specs.Shape.{IsShapedPeriod}
-use Rattle.track_types.specs.declared.limit.LimitKind.TheVariants.{Blocks}
 use Rattle.track_types.specs.declared.frame.Frame.{Frame}
 use Rattle.track_types.specs.declared.limit.TheConstants.{MAX_INDEX}
-use Rattle.track_types.specs.declared.period_parts.PeriodParts.{PeriodParts}
 use Rattle.k2_tree.proofs.BuiltLemmas.{length-morton_bits, path_bits, path_bits-widths_of}
 use Rattle.snapshots.specs.View.{widths_in}
 use Rattle.snapshots.proofs.SoundLemmas.{wide_of-few, wide_of-fits}
-use Rattle.index_format.specs.Spelling.{bytes_of_parts, period_bytes}
-use Rattle.index_format.proofs.LengthLaws.{length-bytes_of_parts, length-period_bytes, log_length-short}
+use Rattle.index_format.specs.Spelling.{bytes_of_parts}
+use Rattle.index_format.proofs.LengthLaws.{length-bytes_of_parts-few, IsShallow}
 use Rattle.chart_parts.specs.Header.{frame_of}
 use Rattle.chart_parts.specs.LeafOrder.{distinct_codes}
 use Rattle.chart_parts.specs.PartsOf.{anchor_codes, grammar_of, parts_of, period_of_chart}
@@ -28,21 +22,6 @@ use Rattle.chart_parts.proofs.HeaderLawLemmas.{IsFrame-frame_of, blocks-frame_of
 use Rattle.chart_parts.proofs.ObjectLemmas.{objects_of-some}
 use Rattle.chart_parts.proofs.PeriodShapeLemmas.{All-periods, IsShapedPeriod-own, few_distinct}
 use Rattle.chart_parts.proofs.ShapeLemmas.{few_values}
-
--- a period with few bits in its tree takes at most 37 bytes for each object
-period-short : (objects : ℕ) (period : PeriodParts) → IsShapedPeriod objects period → 1 ≤ objects →
-    length period.tree ≤ 144 * objects → length (period_bytes period) ≤ 37 * objects
-period-short objects period shaped some few =
-    let present = shaped.presence in
-    let ones = ones_of-le-length period.present in
-    omega (
-      arith,
-      length-period_bytes period,
-      shaped.offsets,
-      shaped.lasts,
-      shaped.perm,
-      shaped.lengths,
-    )
 
 module _ (chart : ChartView) (is : IsChart chart) where
   abbrev objects : ℕ
@@ -65,34 +44,26 @@ module _ (chart : ChartView) (is : IsChart chart) where
   unfolding parts_of
   length-periods = length-map-range_with_len (period_of_chart chart) 0 (periods_of (frame_of chart))
 
-  -- the periods take at most 37 bytes for each block that there may be
-  periods-short : length (flat_map period_bytes (parts_of chart).periods) ≤ 37 * limit_of Blocks
-  periods-short =
-      let count : ℕ = periods_of (frame_of chart) in
-      let all : length (flat_map period_bytes (parts_of chart).periods) ≤ 37 * objects * length (parts_of chart).periods =
-      length-flat_map-within period_bytes (37 * objects) (parts_of chart).periods
-      (All-periods chart (λ period. length (period_bytes period) ≤ 37 * objects)
-      (λ number below.
-      period-short objects (period_of_chart chart number) (IsShapedPeriod-own chart is number below)
-      (objects_of-some chart.rows is.some) (few_bits number below))) in
-      let blocks : 37 * (objects * count) ≤ 37 * limit_of Blocks = omega (arith, blocks-frame_of chart is) in
-      let same : 37 * objects * count ≡ 37 * (objects * count) = grind arith in
-      let counted : 37 * objects * length (parts_of chart).periods ≡ 37 * objects * count =
-      ap (λ n. 37 * objects * n) length-periods in
-      omega (arith, all, blocks, same, counted)
+  -- no tree is deep
+  shallow : All (IsShallow objects) (parts_of chart).periods
+  shallow =
+      All-periods chart (IsShallow objects)
+      (λ number below. (IsShapedPeriod-own chart is number below, few_bits number below))
 
   -- the parts of a chart take fewer bytes than an index may have
   pub bytes-short : length (bytes_of_parts (parts_of chart)) < MAX_INDEX
   unfolding parts_of
   bytes-short =
+      let count : ℕ = periods_of (frame_of chart) in
+      let counted : 37 * objects * length (parts_of chart).periods ≡ 37 * (objects * count) =
+      ap (λ n. 37 * objects * n) length-periods ∙ grind arith in
       omega (
         arith,
-        length-bytes_of_parts (parts_of chart),
-        log_length-short (parts_of chart).frame.version
-            (length (parts_of chart).alphabet + length (parts_of chart).rules) (length (parts_of chart).symbols),
+        length-bytes_of_parts-few (parts_of chart) objects (objects_of-some chart.rows is.some) shallow,
+        counted,
+        blocks-frame_of chart is,
         is.objects,
         few_values chart is,
-        periods-short,
         length-flat_map (λ (log : List ℕ). log) (grammar_of chart).blocks,
         (IsGrammarOf-chart chart).few,
         few_terminals chart is,

@@ -3,13 +3,15 @@ use Rattle.std.proofs.Common.{◌≡◌, ℕ, ◌+◌, ◌*◌, ◌≤◌, List,
 use Rattle.std.specs.Prelude.{nat_lt, if◌then◌else◌}
 use Rattle.std.proofs.Math.Nat.{mul-le-mul_right}
 use Rattle.std.proofs.lemmas.Bool.{cases_lt, lt-ltb, le-ltb}
-use Rattle.std.specs.List.{flat_map}
+use Rattle.std.specs.List.{All, flat_map}
 use Rattle.std.proofs.lemmas.List.{length-append}
-use Rattle.list_laws.proofs.LengthLemmas.{length-flat_map-alike}
+use Rattle.std.proofs.lemmas.List.Elements.{All-weaker}
+use Rattle.packed_bits.proofs.OnesLemmas.{ones_of-le-length}
+use Rattle.list_laws.proofs.LengthLemmas.{length-flat_map-alike, length-flat_map-within}
+use Rattle.track_types.specs.Shape.{IsShapedPeriod, width_for, symbol_width}
 use Rattle.track_types.specs.declared.parts.Parts.{Parts}
 use Rattle.track_types.specs.declared.period_parts.PeriodParts.{PeriodParts}
 use Rattle.index_format.specs.declared.header.Header.{Header}
-use Rattle.track_types.specs.Shape.{width_for, symbol_width}
 use Rattle.index_format.specs.Spelling.{bits_with, bytes_for, bytes_of_parts, header_bytes, log_bytes, long_bytes}
 use Rattle.index_format.specs.Spelling.{period_bytes, rule_bytes, short_bytes, signed_bytes, size_bytes}
 use Rattle.index_format.proofs.BitLemmas.{length-bit_bytes}
@@ -70,7 +72,7 @@ length-log_bytes version width symbols = elim (cases_lt version 2) [
 ]
 
 -- in every version a symbol takes at most four bytes
-pub log_length-short : (version symbols count : ℕ) → log_length version (width_for symbols) count ≤ 4 * count
+log_length-short : (version symbols count : ℕ) → log_length version (width_for symbols) count ≤ 4 * count
 log_length-short version symbols count = elim (cases_lt version 2) [
   | inl first ↦ rw (lt-ltb version 2 first) (omega arith)
   | inr later ↦
@@ -93,3 +95,37 @@ length-bytes_of_parts parts = simp (
   length-rules,
   length-log_bytes,
 ) (omega arith)
+
+-- a period whose tree has at most 144 bits for each object
+abbrev pub IsShallow : ℕ → PeriodParts → Type 0
+IsShallow objects period = IsShapedPeriod objects period × (length period.tree ≤ 144 * objects)
+
+-- it takes at most 37 bytes for each
+length-period_bytes-few : (objects : ℕ) → 1 ≤ objects → (period : PeriodParts) → IsShallow objects period →
+    length (period_bytes period) ≤ 37 * objects
+length-period_bytes-few objects some period (shaped, few) =
+    omega (
+      arith,
+      ones_of-le-length period.present,
+      length-period_bytes period,
+      shaped.presence,
+      shaped.offsets,
+      shaped.lasts,
+      shaped.perm,
+      shaped.lengths,
+    )
+
+-- how many bytes the parts take at most, in every version, where no tree is deep for so many objects
+pub length-bytes_of_parts-few : (parts : Parts) (objects : ℕ) → 1 ≤ objects → All (IsShallow objects) parts.periods →
+    length (bytes_of_parts parts)
+    ≤ 76 + 4 * length parts.objects + 8 * length parts.alphabet + 8 * length parts.rules
+    + 37 * objects * length parts.periods + 4 * length parts.symbols
+length-bytes_of_parts-few parts objects some shallow =
+    omega (
+      arith,
+      length-bytes_of_parts parts,
+      log_length-short parts.frame.version (length parts.alphabet + length parts.rules) (length parts.symbols),
+      length-flat_map-within period_bytes (37 * objects) parts.periods
+          (All-weaker (IsShallow objects) (λ period. length (period_bytes period) ≤ 37 * objects)
+          (length-period_bytes-few objects some) parts.periods shallow),
+    )
