@@ -1,7 +1,8 @@
 -- How a call ends once its file was loaded.
-use Rattle.std.proofs.Common.{◌≡◌, ◌≢◌, ℕ, ◌+◌, ◌<◌, ◌≤◌, ◌^◌, true, false, List, length, Result, Ok, Err}
+use Rattle.std.proofs.Common.{◌≡◌, ◌≢◌, ℕ, ◌+◌, ◌<◌, ◌≤◌, true, false, List, length, Result, Ok, Err}
 use Rattle.std.proofs.Common.{inl, inr, refl, sym, ap, ◌∙◌, subst, arith}
 use mathlib.Core.Bool.{false≢true}
+use Rattle.track_types.specs.declared.limit.TheConstants.{MAX_INDEX}
 use Rattle.host_ports.specs.FileMap.{IsMissing}
 use Rattle.host_ports.specs.FilesState.{FilesState}
 use Rattle.host_ports.specs.NumberedCalls.{one_more}
@@ -56,7 +57,7 @@ module _ (result : Outcome) (csv : List ℕ) (settings : Settings) (untouched : 
   -- what the files gave for the bytes of a chart's index was opened and asked
   pub AnswersChart-passed : (chart : ChartView) (bytes passed : List ℕ) →
       IsAccepted before.files.map now.files.taken csv settings chart → IsFile bytes (parts_of chart) →
-      length bytes < 2 ^ 30 → passed ≡ before.given bytes →
+      length bytes < MAX_INDEX → passed ≡ before.given bytes →
       EndsOpened result passed untouched before.talk now.talk →
       ((parts : Parts) → IsFile passed parts → EndsOver result passed parts untouched before.talk now.talk) →
       AnswersChart result csv settings untouched before now

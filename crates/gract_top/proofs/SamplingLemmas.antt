@@ -1,8 +1,9 @@
 -- How a call of `sample` ends once there are bytes to open.
-use Rattle.std.proofs.Common.{◌≡◌, ◌≢◌, ℕ, ◌+◌, ◌<◌, ◌≤◌, ◌^◌, true, false, List, length, Option, None, Some, inl, inr, refl, sym, ap, ◌∙◌}
+use Rattle.std.proofs.Common.{◌≡◌, ◌≢◌, ℕ, ◌+◌, ◌<◌, ◌≤◌, true, false, List, length, Option, None, Some, inl, inr, refl, sym, ap, ◌∙◌}
 use Rattle.std.proofs.Common.{Result, Ok, Err, IfOk, OnOk, OnErr, ◌⊎◌, subst, arith}
 use mathlib.Core.Bool.{false≢true}
 use Rattle.std.specs.Io.KnownBytes.{Appends}
+use Rattle.track_types.specs.declared.limit.TheConstants.{MAX_INDEX}
 use Rattle.host_ports.specs.FilesState.{FilesState}
 use Rattle.track_types.specs.declared.parts.Parts.{Parts}
 use Rattle.chart_parts.specs.PartsOf.{parts_of}
@@ -42,7 +43,7 @@ module _ (result : Outcome) (instants : ℕ) (before now : Speech) where
 module _ (result : Outcome) (settings : SampleSettings) (unsaid : Type 0) (before now : Speech) where
   -- what the files gave for the bytes of a sample's index was opened and summed up
   pub SumsSample-passed : (given : List ℕ → List ℕ) (bytes passed : List ℕ) → sample_refusal settings ≡ None →
-      IsFile bytes (parts_of (sample_chart settings)) → length bytes < 2 ^ 30 → passed ≡ given bytes →
+      IsFile bytes (parts_of (sample_chart settings)) → length bytes < MAX_INDEX → passed ≡ given bytes →
       EndsSummed result passed settings.instants unsaid before now →
       ((parts : Parts) → IsFile passed parts → EndsSummedOver result passed parts settings.instants unsaid before now) →
       SumsSample result settings unsaid given before now

@@ -1,4 +1,5 @@
-ghost use Rattle.std.specs.Prelude.{◌≡◌, ◌≢◌, ℕ, ◌+◌, ◌≤◌, ◌^◌, false, length};
+ghost use Rattle.std.specs.Prelude.{◌≡◌, ◌≢◌, ℕ, ◌+◌, ◌≤◌, false, length};
+ghost use Rattle.track_types.specs.declared.limit.TheConstants.{MAX_INDEX};
 ghost use Rattle.host_ports.specs.Counting.{SinkCounts, SourceCounts};
 ghost use Rattle.track_types.specs.Limits.{limit_of};
 ghost use Rattle.question_shell.specs.Session.{meaning_by};
@@ -26,7 +27,7 @@ pub(crate) fn answer_bytes<S: Source, K: Sink, L: Ledger>(
     sink: &mut K,
     steps: &mut Steps<L>,
 ) -> Outcome
-    requires { length bytes.items ≤ 2 ^ 30 }
+    requires { length bytes.items ≤ MAX_INDEX }
     ensures late { is_early result ≡ false }
     ensures words { (place : ℕ) → result ≢ Outcome.Words place }
     ensures ended { EndsOpened result bytes.items ((source.new ≡ source.old) × (sink.new ≡ sink.old))

@@ -1,4 +1,5 @@
-ghost use Rattle.std.specs.Prelude.{◌≡◌, ◌≢◌, ℕ, ◌<◌, ◌≤◌, ◌^◌, ◌⊎◌, true, None, Some, Err, IfOk, IfErr, length};
+ghost use Rattle.std.specs.Prelude.{◌≡◌, ◌≢◌, ℕ, ◌<◌, ◌≤◌, ◌⊎◌, true, None, Some, Err, IfOk, IfErr, length};
+ghost use Rattle.track_types.specs.declared.limit.TheConstants.{MAX_INDEX};
 ghost use Rattle.host_ports.specs.Counting.{SinkCounts};
 ghost use Rattle.host_ports.specs.Meanings.{files_at};
 ghost use Rattle.track_index.specs.Opening.{IsFile};
@@ -91,7 +92,7 @@ fn sum_bytes<K: Sink, L: Ledger>(
     sink: &mut K,
     steps: &mut Steps<L>,
 ) -> Outcome
-    requires short { length bytes.items ≤ 2 ^ 30 }
+    requires short { length bytes.items ≤ MAX_INDEX }
     requires instants { 1 ≤ instants }
     ensures ended { EndsSummed result bytes.items instants (sink.new ≡ sink.old)
         (speech (K.said sink.old) steps.old) (speech (K.said sink.new) steps.new) }

@@ -1,4 +1,4 @@
-ghost use Rattle.std.specs.Prelude.{◌≡◌, ◌≢◌, ℕ, ◌+◌, ◌*◌, ◌≤◌, ◌^◌, ◌⊎◌, length, IfOk, IfErr};
+ghost use Rattle.std.specs.Prelude.{◌≡◌, ◌≢◌, ℕ, ◌+◌, ◌*◌, ◌≤◌, ◌⊎◌, length, IfOk, IfErr};
 ghost use Rattle.host_ports.specs.Counting.{SaveCounts};
 ghost use Rattle.host_ports.specs.Meanings.{files_at};
 ghost use Rattle.snapshots.specs.SoundParts.{IsValid};
@@ -55,7 +55,7 @@ fn save_upgraded<F: Files, L: Ledger>(
     files: &mut F,
     steps: &mut Steps<L>,
 ) -> Outcome
-    requires { length bytes.items ≤ 2 ^ 30 }
+    requires { length bytes.items ≤ MAX_INDEX }
     ensures ended { (NotUpgraded result bytes.items × SavesNothing
         (files_at F.Files files.old) (files_at F.Files files.new))
         ⊎ SavesUpgrade result bytes.items new.now
@@ -79,7 +79,7 @@ fn upgraded_bytes<L: Ledger>(
     bytes: Vec<u8>,
     steps: &mut Steps<L>,
 ) -> Result<Vec<u8>, Outcome>
-    requires { length bytes.items ≤ 2 ^ 30 }
+    requires { length bytes.items ≤ MAX_INDEX }
     ensures ok { IfOk result (λ newest. IsUpgrade bytes.items newest.items) }
     ensures short { IfOk result (λ newest. length newest.items ≤ limit_of LimitKind.Index) }
     ensures err { IfErr result (λ outcome. NotUpgraded outcome bytes.items) }
@@ -109,7 +109,7 @@ fn upgraded_parts<L: Ledger>(
     bytes: Vec<u8>,
     steps: &mut Steps<L>,
 ) -> Result<Parts, FormatFault>
-    requires { length bytes.items ≤ 2 ^ 30 }
+    requires { length bytes.items ≤ MAX_INDEX }
     ensures ok { IfOk result (λ newest.
         (parts : WholeParts) × IsFile bytes.items parts × (newest ≡ upgrade_of parts)) }
     ensures valid { IfOk result IsValid }

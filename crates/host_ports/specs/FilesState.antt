@@ -1,5 +1,6 @@
 -- What is known of files, all but what the next pass gives.
-use Rattle.std.specs.Prelude.{◌≡◌, ℕ, ◌≤◌, ◌^◌, List, length, Option}
+use Rattle.std.specs.Prelude.{◌≡◌, ℕ, ◌≤◌, List, length, Option}
+use Rattle.track_types.specs.declared.limit.TheConstants.{MAX_INDEX}
 use Rattle.host_ports.specs.FileMap.{FileMap}
 
 -- the map, what is still to come of the begun file and how much of it came, the faults, and the counts of calls
@@ -27,4 +28,4 @@ state_of map rest taken load_faults save_faults saves begins =
 
 -- every pass gives what it is handed
 abbrev pub IsPlain : (List ℕ → List ℕ) → Type 0
-IsPlain given = (bytes : List ℕ) → length bytes ≤ 2 ^ 30 → given bytes ≡ bytes
+IsPlain given = (bytes : List ℕ) → length bytes ≤ MAX_INDEX → given bytes ≡ bytes

@@ -1,6 +1,7 @@
-ghost use Rattle.std.specs.Prelude.{◌≡◌, ◌<◌, ◌≤◌, ◌^◌, Some, None, [], OnOk, OnErr, is_err, length};
+ghost use Rattle.std.specs.Prelude.{◌≡◌, ◌<◌, ◌≤◌, Some, None, [], OnOk, OnErr, is_err, length};
 ghost use Rattle.std.specs.Io.{ReadsAtMost};
 ghost use Rattle.std.specs.Io.KnownBytes.{IsAtEnd, ReadConsumes};
+ghost use Rattle.track_types.specs.declared.limit.TheConstants.{MAX_INDEX};
 ghost use Rattle.host_ports.specs.Device.{new_disk, after_read, after_disk_save};
 ghost use Rattle.host_ports.specs.NumberedCalls.{one_more, one_more_if};
 
@@ -138,7 +139,7 @@ impl<'a, R: rt::Files> Files for DiskFiles<'a, R> {
     }
 
     fn pass(&mut self, bytes: Vec<u8>) -> Vec<u8>
-        requires { length bytes.items ≤ 2 ^ 30 }
+        requires { length bytes.items ≤ MAX_INDEX }
         ensures given { result.items ≡ bytes.items }
         ensures after { self.new ≡ self.old }
     {

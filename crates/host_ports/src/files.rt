@@ -1,6 +1,7 @@
-ghost use Rattle.std.specs.Prelude.{◌≡◌, ℕ, ◌+◌, ◌<◌, ◌≤◌, ◌^◌, ◌⊎◌, List, Option, length, OnOk, OnErr};
+ghost use Rattle.std.specs.Prelude.{◌≡◌, ℕ, ◌+◌, ◌<◌, ◌≤◌, ◌⊎◌, List, Option, length, OnOk, OnErr};
 ghost use Rattle.std.specs.Io.{ReadsAtMost};
 ghost use Rattle.std.specs.Io.KnownBytes.{ReadConsumes};
+ghost use Rattle.track_types.specs.declared.limit.TheConstants.{MAX_INDEX};
 ghost use Rattle.host_ports.specs.Faults.{Rose, read_count};
 ghost use Rattle.host_ports.specs.FileMap.{FileMap, IsMissing, IsOpened, IsSaved, KeepsOthers, LeavesNothing};
 ghost use Rattle.host_ports.specs.FilesState.{state_of};
@@ -96,9 +97,9 @@ pub trait Files {
     /// Passes at most 2^30 bytes through, by which written bytes come back to be read: it answers at most
     /// 2^30 bytes, which the files determine before the call. It takes no memory and does not fail.
     fn pass(&mut self, bytes: Vec<u8>) -> Vec<u8>
-        requires { length bytes.items ≤ 2 ^ 30 }
+        requires { length bytes.items ≤ MAX_INDEX }
         ensures given { result.items ≡ given self.old bytes.items }
-        ensures within { length result.items ≤ 2 ^ 30 }
+        ensures within { length result.items ≤ MAX_INDEX }
         ensures kept { state_of (map self.new) (rest self.new) (taken self.new) (load_faults self.new)
             (save_faults self.new) (saves self.new) (begins self.new)
             ≡ state_of (map self.old) (rest self.old) (taken self.old) (load_faults self.old)

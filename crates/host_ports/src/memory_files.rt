@@ -1,5 +1,6 @@
-ghost use Rattle.std.specs.Prelude.{◌≡◌, ◌↔◌, ◌⊎◌, ◌<◌, ◌≤◌, ◌^◌, Some, None, IsTrue, IsErr, OnOk, OnErr, IfOk, length, take, drop, ◌++◌};
+ghost use Rattle.std.specs.Prelude.{◌≡◌, ◌↔◌, ◌⊎◌, ◌<◌, ◌≤◌, Some, None, IsTrue, IsErr, OnOk, OnErr, IfOk, length, take, drop, ◌++◌};
 ghost use Rattle.std.specs.Io.KnownBytes.{ReadConsumes};
+ghost use Rattle.track_types.specs.declared.limit.TheConstants.{MAX_INDEX};
 ghost use Rattle.host_ports.specs.NumberedCalls.{fails_next};
 ghost use Rattle.host_ports.specs.FileMap.{file_named};
 ghost use Rattle.host_ports.specs.MemFiles.{new_files, after_put, after_begin, next_pull, after_pull, is_refused, after_save, given_by};
@@ -29,7 +30,8 @@ pub struct MemFiles {
 }
 
 impl Model for MemFiles {
-    ghost use Rattle.std.specs.Prelude.{◌≤◌, ◌+◌, ◌^◌, length};
+    ghost use Rattle.std.specs.Prelude.{◌≤◌, ◌+◌, length};
+    ghost use Rattle.track_types.specs.declared.limit.TheConstants.{MAX_INDEX};
     ghost use Rattle.std.specs.Option.{option_map, IfSome};
     ghost use Rattle.host_ports.specs.MemFiles.{MemFilesView};
     ghost use Rattle.host_ports.specs.FileStore.{bytes_left, taken_count, IsBegun};
@@ -52,7 +54,7 @@ impl Model for MemFiles {
     ghost invariant = { λ f. IsBegun f.store.stored f.begun
         × (f.room ≤ f.store.room)
         × (16 ≤ f.saves + f.store.places)
-        × IfSome f.laid (λ bytes. length bytes.items ≤ 2 ^ 30) };
+        × IfSome f.laid (λ bytes. length bytes.items ≤ MAX_INDEX) };
 }
 
 impl MemFiles {
@@ -96,7 +98,7 @@ impl MemFiles {
 
     /// Lays at most 2^30 bytes, which the next `pass` gives in place of what it is handed.
     pub fn lay(&mut self, bytes: Vec<u8>)
-        requires { length bytes.items ≤ 2 ^ 30 }
+        requires { length bytes.items ≤ MAX_INDEX }
         ensures { self.new ≡ record self.old { laid = Some bytes.items } }
     {
         self.laid = Some(bytes);
@@ -179,9 +181,9 @@ impl Files for MemFiles {
 
     /// Gives the bytes that were laid, once, and else those that it is handed.
     fn pass(&mut self, bytes: Vec<u8>) -> Vec<u8>
-        requires { length bytes.items ≤ 2 ^ 30 }
+        requires { length bytes.items ≤ MAX_INDEX }
         ensures given { result.items ≡ given_by self.old.laid bytes.items }
-        ensures within { length result.items ≤ 2 ^ 30 }
+        ensures within { length result.items ≤ MAX_INDEX }
         ensures after { self.new ≡ record self.old { laid = None } }
     {
         match self.laid.take() {

@@ -7,7 +7,7 @@ use std::marker::Brand;
 use std::mem::replace;
 use std::sync::ledger::{Blank, Ledger};
 use step_count::Steps;
-use track_types::Memory;
+use track_types::{MAX_INDEX, Memory};
 
 /// Rows of one object.
 const ROWS: &[u8] = b"7,0,10,10\n7,1,11,10\n7,2,12,10\n7,2,12,11\n";
@@ -97,7 +97,7 @@ impl Stage {
     }
 
     fn lay(&mut self, bytes: Vec<u8>) {
-        if bytes.len() <= 1 << 30 {
+        if bytes.len() as u64 <= MAX_INDEX {
             self.files.lay(bytes);
         }
     }
