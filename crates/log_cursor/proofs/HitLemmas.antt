@@ -1,13 +1,12 @@
 -- Boxes where their symbols are placed, and the hits of a region that such a box tells of or rules out.
-use Rattle.std.proofs.Common.{◌≡◌, ℕ, zero, suc, ◌<◌, ℤ, pos, ◌+ℤ◌, ◌≤ℤ◌, ◌<ℤ◌, Bool, true, false, List, [], ◌∷◌, ◌++◌, length, filter, map, Option, Some, None, refl, ap, sym, subst, ◌∙◌, arith, All, inl, inr}
-use Rattle.std.specs.Option.{is_some, option_map, option_or}
-use Rattle.std.specs.Prelude.{find, get_or, slice_index}
+use Rattle.std.proofs.Common.{◌≡◌, ℕ, zero, suc, ◌<◌, ℤ, pos, ◌+ℤ◌, Bool, true, false, List, [], ◌∷◌, length, filter, map, Option, Some, None, refl, ap, sym, subst, ◌∙◌, arith, All, inl, inr}
+use Rattle.std.specs.Option.{is_some, option_map}
+use Rattle.std.specs.Prelude.{get_or, slice_index}
 use Rattle.std.specs.Int.{int_max, int_min}
 use Rattle.std.specs.Prelude.{fold}
 use Rattle.std.proofs.lemmas.Bool.{cases_Bool}
 use Rattle.std.proofs.lemmas.Int.{clamps, ints}
-use Rattle.std.proofs.lemmas.List.Elements.{All-head, All-nil, All-tail, filter-append}
-use Rattle.std.proofs.lemmas.List.Folds.{find-append}
+use Rattle.std.proofs.lemmas.List.Elements.{All-head, All-nil, All-tail}
 use Rattle.spiral_code.specs.Spiral.{move_of}
 use Rattle.track_types.specs.Near.{IsAsked, IsCellAsked}
 use Rattle.track_types.specs.Region.{in_region, intersects_region, is_between}
@@ -20,17 +19,15 @@ use Rattle.rule_store.specs.View.{RulesView}
 use Rattle.rule_store.specs.Expansion.{values_of}
 use Rattle.rule_store.specs.Cells.{cells_along, displacement_of, moved, present_in}
 use Rattle.rule_store.specs.Boxes.{bounding_box_of, box_round, column, line, origin}
-use Rattle.rule_store.specs.Log.{in_window, stop_at, stops_after, stops_from}
+use Rattle.rule_store.specs.Log.{in_window, stop_at, stops_from}
 use Rattle.rule_store.proofs.BoxLemmas.{box_round-bounds, box_round-moved, box_round-moved_none, box_round-none}
 use Rattle.rule_store.proofs.CellLemmas.{present-moved, same_cell}
-use Rattle.rule_store.proofs.ExpansionLemmas.{length-values_of, values_of-terminal}
-use Rattle.rule_store.proofs.LogLemmas.{stops_after-cons}
+use Rattle.rule_store.proofs.ExpansionLemmas.{values_of-terminal}
 use Rattle.track_types.specs.Boxes.{moved_box}
 use Rattle.log_cursor.specs.Start.{IsHullAsked, start_past}
-use Rattle.log_cursor.specs.Touching.{first_among, hit_left, touches_at}
-use Rattle.log_cursor.specs.Walk.{stops_left}
+use Rattle.log_cursor.specs.Touching.{first_among, touches_at}
 use Rattle.log_cursor.specs.declared.start.Start.{Start}
-use Rattle.log_cursor.proofs.WalkLemmas.{stops_left-terminal}
+use Rattle.log_cursor.proofs.WalkLemmas.{own_stops}
 use Rattle.log_cursor.proofs.WayLemmas.{box_round-bounded}
 
 -- the box of values, placed at a cell, is the least round the cells along them from there
@@ -169,45 +166,20 @@ module _ (region : Region) where
   held-move cell zero touches = absurd (cc)
   held-move cell (suc code) touches = held-box cell code (bounding_box_of (suc code ∷ [])) refl touches
 
-  module _ (rules : RulesView) (from to : ℤ) (start : Start) (symbol : ℕ) (log : List ℕ) where
-    -- where the symbol leads
-    abbrev past : Start
-    past = start_past start (values_of rules symbol)
-
-    -- a symbol whose placed box has no cell of the region
-    pub hit_left-apart : touches_at region start.cell (bounding_box_of (values_of rules symbol)) ≡ false →
-        hit_left rules from to region start (symbol ∷ log) ≡ hit_left rules from to region past log
+  module _ (rules : RulesView) (start : Start) (symbol : ℕ) where
+    -- a symbol whose placed box has no cell of the region has no hit
+    pub own_stops-apart : (from to : ℤ) (hull : Option CellBox) → hull ≡ bounding_box_of (values_of rules symbol) →
+        touches_at region start.cell hull ≡ false → first_among region (own_stops rules from to start symbol) ≡ None
     unfolding in_window
-    hit_left-apart apart =
-        let test : Stop → Bool = λ stop. is_between from to stop.instant in
-        let held : Stop → Bool = λ stop. in_region region stop.cell in
-        let own = stops_from (start.instant +ℤ pos 1) (cells_along start.cell (values_of rules symbol)) in
-        let later = stops_after rules (start.instant +ℤ pos (length (values_of rules symbol))) past.cell log in
-        let none = no_hit test (start.instant +ℤ pos 1) (cells_along start.cell (values_of rules symbol))
-        (outside-along start.cell (values_of rules symbol) _ refl apart) in
-        ap (λ stops. find held (filter test stops)) (stops_after-cons rules start.instant start.cell symbol log)
-        ∙ ap (λ n. find held (filter test (own ++ stops_after rules (start.instant +ℤ pos n) past.cell log)))
-        (sym (length-values_of rules symbol))
-        ∙ ap (find held) (filter-append test own later)
-        ∙ find-append held (filter test own) (filter test later)
-        ∙ ap (λ found. option_or found (find held (filter test later))) none
+    own_stops-apart from to hull is apart =
+        no_hit (λ stop. is_between from to stop.instant) (start.instant +ℤ pos 1)
+        (cells_along start.cell (values_of rules symbol))
+        (outside-along start.cell (values_of rules symbol) hull is apart)
 
-    -- a terminal in the window, whose placed box has a cell of the region
-    pub hit_left-terminal : symbol < length rules.alphabet →
-        touches_at region start.cell (bounding_box_of (values_of rules symbol)) ≡ true → start.instant <ℤ to →
-        from ≤ℤ past.instant →
-        hit_left rules from to region start (symbol ∷ log) ≡ Some (stop_at past.instant past.cell)
-    hit_left-terminal terminal touches open_end reached =
+    -- a terminal whose placed box has one leads to it
+    pub held-terminal : symbol < length rules.alphabet →
+        touches_at region start.cell (bounding_box_of (values_of rules symbol)) ≡ true →
+        in_region region (start_past start (values_of rules symbol)).cell ≡ true
+    held-terminal terminal touches =
         let one = values_of-terminal rules symbol terminal in
-        let held : in_region region past.cell ≡ true =
-        subst (λ values. in_region region (moved start.cell (displacement_of values)) ≡ true) (sym one)
-        (held-move start.cell (slice_index rules.alphabet symbol)
-        (subst (λ values. touches_at region start.cell (bounding_box_of values) ≡ true) one touches)) in
-        let some = touches_at-some start.cell (bounding_box_of (values_of rules symbol)) touches in
-        ap (first_among region) (stops_left-terminal rules from to start symbol log terminal some open_end reached)
-        ∙ first_held held
-      where
-        first_held : in_region region past.cell ≡ true →
-            first_among region (stop_at past.instant past.cell ∷ stops_left rules from to past log)
-            ≡ Some (stop_at past.instant past.cell)
-        first_held held = rw held refl
+        rw one (held-move start.cell (slice_index rules.alphabet symbol) (rw one at touches))

@@ -6,7 +6,7 @@ mod StackLemmas
 mod WalkLemmas
 pub mod TouchLemmas
 pub mod HitLemmas
+mod TurnLemmas
 mod SearchLemmas
-mod LeftLemmas
 mod SeekLemmas
 mod Examples

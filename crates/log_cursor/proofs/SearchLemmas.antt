@@ -1,33 +1,18 @@
--- A search for the first hit: the anchor, and one turn, in which a symbol is passed over, is opened, or is the hit.
-use Rattle.std.proofs.Common.{◌≡◌, ℕ, suc, ◌+◌, ◌<◌, ◌≤◌, ℤ, ◌≤ℤ◌, ◌<ℤ◌, Bool, true, false, List, [], ◌∷◌, length, Option, Some, None, refl, ap, sym, subst, ◌∙◌, arith, All, inl, inr}
+-- A search for the first hit: the anchor, and else that of the log.
+use Rattle.std.proofs.Common.{◌≡◌, ℕ, ℤ, ◌≤ℤ◌, ◌<ℤ◌, Bool, true, false, List, [], ◌∷◌, Option, Some, None, refl, ap, sym, subst, ◌∙◌, inl, inr}
 use Rattle.std.specs.Option.{is_some, option_or, option_to_list}
 use Rattle.std.specs.Prelude.{filter, find, get_or}
 use Rattle.std.proofs.lemmas.Bool.{cases_Bool}
 use Rattle.std.proofs.lemmas.List.Elements.{filter-append}
 use Rattle.std.proofs.lemmas.List.Folds.{find-append}
-use Rattle.track_types.specs.Near.{IsCellAsked}
 use Rattle.track_types.specs.Region.{in_region, is_between}
 use Rattle.track_types.specs.declared.region.Region.{Region}
 use Rattle.track_types.specs.declared.stop.Stop.{Stop}
-use Rattle.rule_store.specs.View.{RulesView, symbols_in}
-use Rattle.rule_store.specs.Expansion.{values_of}
-use Rattle.rule_store.specs.Boxes.{bounding_box_of}
-use Rattle.rule_store.specs.Cells.{cells_along, present_in}
-use Rattle.rule_store.specs.Cost.{parts_reads}
-use Rattle.rule_store.specs.Entry.{entry_of}
-use Rattle.rule_store.specs.Flaws.{AreRules, left_of, right_of}
-use Rattle.rule_store.specs.Log.{block_stops, in_window, log_values, stop_at, stops_after}
-use Rattle.rule_store.specs.declared.entry.Entry.{Entry}
-use Rattle.std.proofs.lemmas.List.{append-nil}
-use Rattle.log_cursor.specs.Pending.{IsTaken, PendingView}
-use Rattle.log_cursor.specs.Start.{IsHullAsked, IsStart, start_after, start_past}
-use Rattle.log_cursor.specs.Touching.{IsSearching, first_among, first_hit_of, hit_left, touches_at, touching_left, turns_left}
+use Rattle.rule_store.specs.View.{RulesView}
+use Rattle.rule_store.specs.Log.{block_stops, in_window, stop_at, stops_after}
+use Rattle.log_cursor.specs.Touching.{first_among, first_hit_of, hit_left}
 use Rattle.log_cursor.specs.declared.start.Start.{Start}
-use Rattle.log_cursor.proofs.HitLemmas.{IsHullAsked-along, hit_left-apart, hit_left-terminal}
-use Rattle.log_cursor.proofs.RuleLemmas.{parts-below}
-use Rattle.log_cursor.proofs.TouchLemmas.{touching_count-later, touching_count-parts}
-use Rattle.log_cursor.proofs.WalkLemmas.{in_window-empty, stops_left-before, stops_left-end, stops_left-over, stops_left-parts}
-use Rattle.log_cursor.proofs.WayLemmas.{IsWayOf-first, IsWayOf-next, IsWayOf-parts, IsWayOf-rest, hull_is, start_after-is}
+use Rattle.log_cursor.proofs.WalkLemmas.{in_window-empty, stops_left-over}
 
 -- the one stop of a window
 window-only : (from to : ℤ) (stop other : Stop) → other ∷ [] ≡ in_window from to (stop ∷ []) → other ≡ stop
@@ -70,18 +55,7 @@ hit_left-same rules from to a b region start symbols low high =
     ap (λ z. hit_left rules z to region start symbols) (sym low)
     ∙ ap (λ z. hit_left rules a z region start symbols) (sym high)
 
-pub touching_left-same : (rules : RulesView) (from to a b : ℤ) (region : Region) (start : Start) (symbols : List ℕ) →
-    a ≡ from → b ≡ to → touching_left rules from to region start symbols ≡ touching_left rules a b region start symbols
-touching_left-same rules from to a b region start symbols low high =
-    ap (λ z. touching_left rules z to region start symbols) (sym low)
-    ∙ ap (λ z. touching_left rules a z region start symbols) (sym high)
-
--- no symbols have no hit, and neither have symbols after the window
-pub hit_left-end : (rules : RulesView) (from to : ℤ) (region : Region) (start : Start) (symbols : List ℕ) →
-    symbols ≡ [] → hit_left rules from to region start symbols ≡ None
-hit_left-end rules from to region start symbols end =
-    ap (first_among region) (stops_left-end rules from to start symbols end)
-
+-- symbols after the window have no hit
 pub hit_left-over : (rules : RulesView) (from to : ℤ) (region : Region) (start : Start) (symbols : List ℕ) →
     to ≤ℤ start.instant → hit_left rules from to region start symbols ≡ None
 hit_left-over rules from to region start symbols over =
@@ -129,142 +103,3 @@ module _ (rules : RulesView) (log : List ℕ) (start : Start) (from to : ℤ) (r
   pub first_hit_of-later : is_some anchor ≡ false →
       hit_left rules from to region start log ≡ first_hit_of rules log start from to region
   first_hit_of-later none = sym (either ∙ or-later anchor (hit_left rules from to region start log) none)
-
--- a turn: the next symbol was taken off
-module _ (found : Option Stop) (budget : ℕ) (old now : PendingView) (at : Start) (from to : ℤ) (region : Region)
-    (steps reads : ℕ) (entry : Entry)
-    (before : IsSearching found budget old.rules old.symbols old.unread at from to region steps)
-    (taken : IsTaken old now entry) (rules_are : now.rules ≡ old.rules) (cost : reads + now.unread ≤ steps + old.unread)
-  where
-    -- the same, in words of what is there now
-    searching :
-        IsSearching found budget now.rules (entry.symbol ∷ now.symbols) old.unread at from to region steps
-    searching =
-        subst (λ (r : RulesView). IsSearching found budget r (entry.symbol ∷ now.symbols) old.unread at from to region
-        steps) (sym rules_are)
-        (subst (λ s. IsSearching found budget old.rules s old.unread at from to region steps) taken.symbols before)
-
-    own : entry ≡ entry_of now.rules entry.symbol
-    own = subst (λ (r : RulesView). entry ≡ entry_of r entry.symbol) (sym rules_are) taken.is
-
-    -- where the symbol leads
-    abbrev past : Start
-    past = start_past at (values_of now.rules entry.symbol)
-
-    next_is : start_after at entry ≡ past
-    next_is = start_after-is now.rules at entry entry.symbol own
-
-    hull : entry.hull ≡ bounding_box_of (values_of now.rules entry.symbol)
-    hull = hull_is now.rules entry entry.symbol own
-
-    turns_were : turns_left old.rules from to region at old.symbols
-        ≡ turns_left now.rules from to region at (entry.symbol ∷ now.symbols)
-    turns_were =
-        ap (λ s. turns_left old.rules from to region at s) taken.symbols
-        ∙ ap (λ (r : RulesView). turns_left r from to region at (entry.symbol ∷ now.symbols)) (sym rules_are)
-
-    -- it leads to a place within the numbers, and its box is near where it is placed
-    pub turn-start : IsStart (start_after at entry)
-    turn-start = subst IsStart (sym next_is) (IsWayOf-next now.rules entry.symbol now.symbols at searching.way)
-
-    pub turn-near : IsHullAsked at.cell entry.hull
-    unfolding log_values
-    turn-near =
-        let way = (IsWayOf-first now.rules entry.symbol now.symbols at searching.way).cells in
-        IsHullAsked-along at.cell (values_of now.rules entry.symbol) entry.hull hull
-        (subst (λ values. All IsCellAsked (present_in (cells_along at.cell values)))
-        (append-nil (values_of now.rules entry.symbol)) way)
-
-    pub turn-fewer : turns_left now.rules from to region (start_after at entry) now.symbols
-        < turns_left old.rules from to region at old.symbols
-    turn-fewer =
-        let fewer = touching_count-later now.rules from to region at entry.symbol now.symbols in
-        subst (λ (next : Start). turns_left now.rules from to region next now.symbols
-        < turns_left old.rules from to region at old.symbols) (sym next_is) (omega (arith, fewer, turns_were))
-
-    -- it is passed over, where its instants are before the window or its box is apart from the region
-    passed : hit_left now.rules from to region at (entry.symbol ∷ now.symbols)
-        ≡ hit_left now.rules from to region past now.symbols →
-        IsSearching found budget now.rules now.symbols now.unread (start_after at entry) from to region reads
-    passed skipped =
-        let fewer = touching_count-later now.rules from to region at entry.symbol now.symbols in
-        subst (λ (next : Start). IsSearching found budget now.rules now.symbols now.unread next from to region reads)
-        (sym next_is) (record {
-          way = IsWayOf-rest now.rules entry.symbol now.symbols at searching.way;
-          same = searching.same ∙ skipped;
-          reads = omega (arith, searching.reads, cost, fewer);
-        })
-
-    pub turn-before : (start_after at entry).instant <ℤ from →
-        IsSearching found budget now.rules now.symbols now.unread (start_after at entry) from to region reads
-    turn-before ended =
-        passed (ap (first_among region) (stops_left-before now.rules from to at entry.symbol now.symbols
-        (subst (λ (next : Start). next.instant <ℤ from) next_is ended)))
-
-    pub turn-apart : touches_at region at.cell entry.hull ≡ false →
-        IsSearching found budget now.rules now.symbols now.unread (start_after at entry) from to region reads
-    turn-apart apart =
-        passed (hit_left-apart region now.rules from to at entry.symbol now.symbols
-        (subst (λ h. touches_at region at.cell h ≡ false) hull apart))
-
-    -- its instants meet the window, and its box has a cell of the region
-    module _ (touches : touches_at region at.cell entry.hull ≡ true) (open_end : at.instant <ℤ to)
-        (reached : from ≤ℤ (start_after at entry).instant) where
-      touching : touches_at region at.cell (bounding_box_of (values_of now.rules entry.symbol)) ≡ true
-      touching = subst (λ h. touches_at region at.cell h ≡ true) hull touches
-
-      reached_past : from ≤ℤ past.instant
-      reached_past = subst (λ (next : Start). from ≤ℤ next.instant) next_is reached
-
-      -- a terminal is the hit
-      pub turn-found : entry.symbol < length now.rules.alphabet →
-          found ≡ Some (stop_at (start_after at entry).instant (start_after at entry).cell)
-      turn-found terminal =
-          searching.same
-          ∙ hit_left-terminal region now.rules from to at entry.symbol now.symbols terminal touching open_end reached_past
-          ∙ ap (λ (next : Start). Some (stop_at next.instant next.cell)) (sym next_is)
-
-      -- a rule is opened
-      module _ (window : from ≤ℤ to) (sound : AreRules now.rules) (rule : length now.rules.alphabet ≤ entry.symbol) (later : PendingView)
-          (after : ℕ) (same_rules : later.rules ≡ now.rules)
-          (symbols : later.symbols ≡ left_of now.rules entry.symbol ∷ right_of now.rules entry.symbol ∷ now.symbols)
-          (unread : later.unread ≡ now.unread) (read : after ≡ reads + parts_reads) where
-        known : entry.symbol < symbols_in now.rules
-        known = subst (λ (r : RulesView). entry.symbol < symbols_in r) (sym rules_are) taken.roomy.known
-
-        below : (left_of now.rules entry.symbol < entry.symbol) × (right_of now.rules entry.symbol < entry.symbol)
-        below = parts-below now.rules entry.symbol sound rule known
-
-        -- the parts in place of the rule
-        abbrev parts : List ℕ
-        parts = left_of now.rules entry.symbol ∷ right_of now.rules entry.symbol ∷ now.symbols
-
-        one_less : touching_left now.rules from to region at (entry.symbol ∷ now.symbols)
-            ≡ suc (touching_left now.rules from to region at parts)
-        one_less =
-            touching_count-parts now.rules from to region entry.symbol now.symbols rule known below.0 below.1 at window
-            open_end reached_past touching
-
-        inside : IsSearching found budget now.rules parts now.unread at from to region after
-        inside = record {
-          way = IsWayOf-parts now.rules entry.symbol now.symbols rule known below.0 below.1 at searching.way;
-          same = searching.same ∙ ap (first_among region)
-              (stops_left-parts now.rules from to at entry.symbol now.symbols rule known below.0 below.1);
-          reads = omega (arith, searching.reads, cost, one_less, read);
-        }
-
-        pub turn-opened : IsSearching found budget later.rules later.symbols later.unread at from to region after
-        turn-opened =
-            subst (λ (r : RulesView). IsSearching found budget r later.symbols later.unread at from to region after)
-            (sym same_rules)
-            (subst (λ s. IsSearching found budget now.rules s later.unread at from to region after) (sym symbols)
-            (subst (λ n. IsSearching found budget now.rules parts n at from to region after) (sym unread) inside))
-
-        pub turn-opened-fewer :
-            turns_left later.rules from to region at later.symbols < turns_left old.rules from to region at old.symbols
-        turn-opened-fewer =
-            let same : turns_left later.rules from to region at later.symbols
-            ≡ turns_left now.rules from to region at parts =
-            ap (λ (r : RulesView). turns_left r from to region at later.symbols) same_rules
-            ∙ ap (λ s. turns_left now.rules from to region at s) symbols in
-            omega (arith, same, one_less, turns_were)

@@ -51,6 +51,10 @@ pub own_symbol : (rules : RulesView) (symbol : ℕ) (entry : Entry) → entry �
 unfolding entry_of
 own_symbol rules symbol entry is = ap (λ (e : Entry). e.symbol) is
 
+pub own_entry : (rules : RulesView) (symbol : ℕ) (entry : Entry) → entry ≡ entry_of rules symbol →
+    entry ≡ entry_of rules entry.symbol
+own_entry rules symbol entry is = is ∙ ap (entry_of rules) (sym (own_symbol rules symbol entry is))
+
 module _ (view : LogView) (next : ℕ) (entry : Entry) where
   -- the part on top was taken off
   pub IsTaken-top : (stack rest : List ℕ) (symbol : ℕ) → stack ≡ rest ++ symbol ∷ [] → AreRoomy view.rules.now stack →
@@ -58,7 +62,7 @@ module _ (view : LogView) (next : ℕ) (entry : Entry) where
   IsTaken-top stack rest symbol top roomy is =
       let own = own_symbol view.rules.now symbol entry is in
       record {
-        is = is ∙ ap (entry_of view.rules.now) (sym own);
+        is = own_entry view.rules.now symbol entry is;
         symbols = ap (λ parts. reverse parts ++ log_from view next) top
             ∙ reverse-push rest symbol (log_from view next)
             ∙ ap (λ s. s ∷ reverse rest ++ log_from view next) (sym own);
@@ -80,7 +84,7 @@ module _ (view : LogView) (next : ℕ) (entry : Entry) where
       let deep = depth_of-deepest view.rules.now entry.symbol in
       let empty : length rest ≡ 0 = ap length still in
       record {
-        is = is ∙ ap (entry_of view.rules.now) (sym own);
+        is = own_entry view.rules.now symbol entry is;
         symbols = ap (λ parts. reverse parts ++ log_from view next) none ∙ read
             ∙ ap (λ s. s ∷ log_from view (next + 1)) (sym own)
             ∙ ap (λ parts. entry.symbol ∷ reverse parts ++ log_from view (next + 1)) (sym still);

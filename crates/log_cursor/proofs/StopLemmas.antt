@@ -5,7 +5,6 @@ use Rattle.std.specs.Ordering.{int_eq}
 use Rattle.std.proofs.lemmas.Int.{ints}
 use Rattle.std.proofs.lemmas.Bool.{cases_Bool}
 use Rattle.std.proofs.lemmas.Bool.Decides.{Decides-int_eq}
-use Rattle.std.proofs.lemmas.List.Elements.{filter-append}
 use Rattle.track_types.specs.Region.{is_between}
 use Rattle.track_types.specs.declared.cell.Cell.{Cell}
 use Rattle.track_types.specs.declared.stop.Stop.{Stop}
@@ -19,6 +18,8 @@ use Rattle.rule_store.proofs.BoxLemmas.{box_round-none}
 use Rattle.rule_store.proofs.CellLemmas.{length-cells_along, same_cell}
 use Rattle.rule_store.proofs.ExpansionLemmas.{length-values_of, values_of-terminal}
 use Rattle.rule_store.proofs.LogLemmas.{stops_after-cons}
+use Rattle.log_cursor.specs.Start.{start_past}
+use Rattle.log_cursor.specs.declared.start.Start.{Start}
 
 -- from an instant on there are so many stops' instants
 abbrev IsFalseFrom : (Stop → Bool) → ℤ → ℕ → Type 0
@@ -53,25 +54,6 @@ int_eq-apart a b apart =
       | inr other ↦ other
     ]
 
-module _ (rules : RulesView) (test : Stop → Bool) (instant : ℤ) (cell : Cell) (symbol : ℕ) (log : List ℕ) where
-  -- the cell to which the symbol leads
-  abbrev next : Cell
-  next = moved cell (displacement_of (values_of rules symbol))
-
-  -- the stops of a symbol whose instants all fail the test may be passed over
-  pub filter-passed : IsFalseFrom test (instant +ℤ pos 1) (duration_of rules symbol) →
-      filter test (stops_after rules instant cell (symbol ∷ log))
-      ≡ filter test (stops_after rules (instant +ℤ pos (duration_of rules symbol)) next log)
-  filter-passed fails =
-      let cells = cells_along cell (values_of rules symbol) in
-      let long : length cells ≡ duration_of rules symbol =
-      length-cells_along cell (values_of rules symbol) ∙ length-values_of rules symbol in
-      let none = filter-stops_from test (instant +ℤ pos 1) cells (rw long fails) in
-      let later = stops_after rules (instant +ℤ pos (duration_of rules symbol)) next log in
-      ap (filter test) (stops_after-cons rules instant cell symbol log)
-      ∙ filter-append test (stops_from (instant +ℤ pos 1) cells) later
-      ∙ ap (λ stops. stops ++ filter test later) none
-
 -- cells of which none is present, from any start
 absent-anywhere : (instant : ℤ) (cell other : Cell) (values : List ℕ) → present_in (cells_along other values) ≡ [] →
     stops_from instant (cells_along cell values) ≡ []
@@ -80,21 +62,6 @@ absent-anywhere instant cell other [] none = refl
 absent-anywhere instant cell other (zero ∷ values) none =
     absent-anywhere (instant +ℤ pos 1) cell other values none
 absent-anywhere instant cell other (suc code ∷ values) none = absurd (cc)
-
--- a symbol with no box has no stop
-pub stops_after-absent : (rules : RulesView) (instant : ℤ) (cell : Cell) (symbol : ℕ) (log : List ℕ) →
-    bounding_box_of (values_of rules symbol) ≡ None →
-    stops_after rules instant cell (symbol ∷ log)
-    ≡ stops_after rules (instant +ℤ pos (duration_of rules symbol))
-    (moved cell (displacement_of (values_of rules symbol))) log
-unfolding bounding_box_of
-stops_after-absent rules instant cell symbol log none =
-    let values = values_of rules symbol in
-    let empty = box_round-none (present_in (cells_along origin values)) (sym none) in
-    stops_after-cons rules instant cell symbol log
-    ∙ ap (λ stops. stops ++ stops_after rules (instant +ℤ pos (duration_of rules symbol))
-    (moved cell (displacement_of values)) log)
-    (absent-anywhere (instant +ℤ pos 1) cell origin values empty)
 
 -- a movement has one stop
 stops_from-move : (instant : ℤ) (cell : Cell) (value : ℕ) → is_some (bounding_box_of (value ∷ [])) ≡ true →
@@ -105,24 +72,44 @@ stops_from-move instant cell zero some = absurd (cc)
 stops_from-move instant cell (suc code) some =
     ap (λ here. stop_at instant here ∷ []) (same_cell _ _ _ _ (omega (arith, ints)) (omega (arith, ints)))
 
--- so has a terminal with a box
-pub stops_after-terminal : (rules : RulesView) (instant : ℤ) (cell : Cell) (symbol : ℕ) (log : List ℕ) →
-    symbol < length rules.alphabet → is_some (bounding_box_of (values_of rules symbol)) ≡ true →
-    stops_after rules instant cell (symbol ∷ log)
-    ≡ stop_at (instant +ℤ pos 1) (moved cell (displacement_of (values_of rules symbol)))
-    ∷ stops_after rules (instant +ℤ pos (duration_of rules symbol))
-    (moved cell (displacement_of (values_of rules symbol))) log
-stops_after-terminal rules instant cell symbol log terminal some =
-    let one = values_of-terminal rules symbol terminal in
-    let later = stops_after rules (instant +ℤ pos (duration_of rules symbol))
-    (moved cell (displacement_of (values_of rules symbol))) log in
-    let here : stops_from (instant +ℤ pos 1) (cells_along cell (values_of rules symbol))
-    ≡ stop_at (instant +ℤ pos 1) (moved cell (displacement_of (values_of rules symbol))) ∷ [] =
-    rw one (stops_from-move (instant +ℤ pos 1) cell _ (rw one at some)) in
-    stops_after-cons rules instant cell symbol log ∙ ap (λ stops. stops ++ later) here
-
 -- a terminal lasts one instant
 pub duration_of-terminal : (rules : RulesView) (symbol : ℕ) → symbol < length rules.alphabet →
     duration_of rules symbol ≡ 1
 duration_of-terminal rules symbol terminal =
     sym (length-values_of rules symbol) ∙ ap length (values_of-terminal rules symbol terminal)
+
+module _ (rules : RulesView) (start : Start) (symbol : ℕ) where
+  -- where the symbol leads
+  abbrev past : Start
+  past = start_past start (values_of rules symbol)
+
+  -- its own stops
+  abbrev pub symbol_stops : List Stop
+  symbol_stops = stops_from (start.instant +ℤ pos 1) (cells_along start.cell (values_of rules symbol))
+
+  -- they come before those of the symbols after it
+  pub stops_after-first : (log : List ℕ) →
+      stops_after rules start.instant start.cell (symbol ∷ log)
+      ≡ symbol_stops ++ stops_after rules past.instant past.cell log
+  stops_after-first log = rw length-values_of (stops_after-cons rules start.instant start.cell symbol log)
+
+  -- where a test is false at all of its instants, none of them passes
+  pub symbol_stops-fail : (test : Stop → Bool) → IsFalseFrom test (start.instant +ℤ pos 1) (length (values_of rules symbol)) →
+      filter test symbol_stops ≡ []
+  symbol_stops-fail test fails =
+      filter-stops_from test (start.instant +ℤ pos 1) (cells_along start.cell (values_of rules symbol))
+      (rw length-cells_along fails)
+
+  -- a symbol with no box has none
+  pub symbol_stops-absent : bounding_box_of (values_of rules symbol) ≡ None → symbol_stops ≡ []
+  unfolding bounding_box_of
+  symbol_stops-absent none =
+      absent-anywhere (start.instant +ℤ pos 1) start.cell origin (values_of rules symbol)
+      (box_round-none (present_in (cells_along origin (values_of rules symbol))) (sym none))
+
+  -- a terminal with a box has one, where it leads
+  pub symbol_stops-terminal : symbol < length rules.alphabet → is_some (bounding_box_of (values_of rules symbol)) ≡ true →
+      symbol_stops ≡ stop_at past.instant past.cell ∷ []
+  symbol_stops-terminal terminal some =
+      let one = values_of-terminal rules symbol terminal in
+      rw one (stops_from-move (start.instant +ℤ pos 1) start.cell _ (rw one at some))

@@ -127,6 +127,13 @@ pub start_after-is : (rules : RulesView) (start : Start) (entry : Entry) (symbol
 unfolding entry_of
 start_after-is rules start entry symbol is = ap (start_after start) is
 
+-- the way of the symbols after an entry's, from where it leads
+pub next-way : (rules : RulesView) (start : Start) (entry : Entry) (log : List ℕ) → entry ≡ entry_of rules entry.symbol →
+    IsWayOf rules start (entry.symbol ∷ log) → IsWayOf rules (start_after start entry) log
+next-way rules start entry log is way =
+    subst (λ next. IsWayOf rules next log) (sym (start_after-is rules start entry entry.symbol is))
+    (IsWayOf-rest rules entry.symbol log start way)
+
 pub hull_is : (rules : RulesView) (entry : Entry) (symbol : ℕ) → entry ≡ entry_of rules symbol →
     entry.hull ≡ bounding_box_of (values_of rules symbol)
 unfolding entry_of

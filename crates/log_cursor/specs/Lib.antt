@@ -3,4 +3,5 @@ pub mod Seek
 pub mod Pending
 pub mod Walk
 pub mod Touching
+pub mod Turn
 pub mod Cost

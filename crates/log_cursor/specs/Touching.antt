@@ -1,5 +1,5 @@
 -- What a search for the first stop in a region finds, and how many rules it opens.
-use Rattle.std.specs.Prelude.{◌≡◌, ℕ, ◌+◌, ◌*◌, ◌≤◌, ℤ, Bool, false, ◌&&◌, List, ◌∷◌, ◌++◌, length, map, filter, find, slice_index, Option, Some, None}
+use Rattle.std.specs.Prelude.{◌≡◌, ℕ, ℤ, Bool, false, ◌&&◌, List, ◌∷◌, ◌++◌, length, map, filter, find, slice_index, Option, Some, None}
 use Rattle.track_types.specs.Region.{in_region, intersects_region}
 use Rattle.track_types.specs.declared.cell.Cell.{Cell}
 use Rattle.track_types.specs.declared.cell_box.CellBox.{CellBox}
@@ -11,7 +11,6 @@ use Rattle.rule_store.specs.Cells.{displacement_of, moved}
 use Rattle.rule_store.specs.Log.{block_stops, in_window, stops_after}
 use Rattle.rule_store.specs.Nodes.{RuleNode, meets, nodes_in}
 use Rattle.track_types.specs.Boxes.{moved_box}
-use Rattle.log_cursor.specs.Start.{IsWayOf}
 use Rattle.log_cursor.specs.Walk.{stops_left}
 use Rattle.log_cursor.specs.declared.start.Start.{Start}
 
@@ -57,25 +56,7 @@ hit_left rules from to region start symbols = first_among region (stops_left rul
 abbrev pub touching_left : RulesView → ℤ → ℤ → Region → Start → List ℕ → ℕ
 touching_left rules from to region start symbols = touching_count rules start symbols from to region
 
--- What a search that has found nothing has done: what it passed over or opened left the same first hit to the symbols
--- from a place on, for reads from its budget.
-pub record IsSearching (found : Option Stop) (budget : ℕ) (rules : RulesView) (symbols : List ℕ) (unread : ℕ) (at : Start)
-    (from to : ℤ) (region : Region) (steps : ℕ) : Type 0 where
-  pub way : IsWayOf rules at symbols
-  pub same : found ≡ hit_left rules from to region at symbols
-  pub reads : steps + (unread + touching_left rules from to region at symbols) ≤ budget
-
--- of these stops some were passed, and the others are those of symbols from a place on
-pub record IsLeftOf (stops : List Stop) (rules : RulesView) (symbols : List ℕ) (at : Start) (from to : ℤ) : Type 0 where
-  pub passed : List Stop
-  pub all : stops ≡ passed ++ stops_left rules from to at symbols
-
 -- one of these stops was hit, and those after it are those of the symbols that are left
 pub record IsHitOf (rules : RulesView) (from to : ℤ) (stops : List Stop) (symbols : List ℕ) (hit : Stop) : Type 0 where
   pub passed : List Stop
   pub all : stops ≡ passed ++ (hit ∷ in_window from to (stops_after rules hit.instant hit.cell symbols))
-
--- how often a search still turns at most: a symbol that is opened gives way to two
-abbrev pub turns_left : RulesView → ℤ → ℤ → Region → Start → List ℕ → ℕ
-turns_left rules from to region start symbols =
-    2 * touching_left rules from to region start symbols + length symbols

@@ -1,5 +1,5 @@
 -- What is left of a walk over the stops of a block.
-use Rattle.std.specs.Prelude.{◌≡◌, ℕ, ◌+◌, ◌*◌, ◌≤◌, ℤ, ◌≤ℤ◌, List, [], ◌++◌, length, Option, None}
+use Rattle.std.specs.Prelude.{ℕ, ◌+◌, ℤ, ◌≤ℤ◌, List, [], ◌++◌, Option}
 use Rattle.std.specs.Option.{option_to_list}
 use Rattle.track_types.specs.declared.stop.Stop.{Stop}
 use Rattle.rule_store.specs.View.{RulesView}
@@ -47,18 +47,3 @@ walk_of pending anchor start from to = record {
 pub record IsGoing (pending : PendingView) (at : Start) (from to : ℤ) : Type 0 where
   pub way : IsWayOf pending.rules at pending.symbols
   pub window : from ≤ℤ to
-
--- What a walk that has not begun a block's next stop has done: its anchor is gone, and what it passed over or opened left
--- the same stops, for reads from its budget.
-pub record IsWalking (first : WalkView) (before : ℕ) (pending : PendingView) (anchor : Option Stop) (at : Start)
-    (from to : ℤ) (steps : ℕ) : Type 0 where
-  pub none : anchor ≡ None
-  pub window : from ≤ℤ to
-  pub way : IsWayOf pending.rules at pending.symbols
-  pub same : pending.rules ≡ first.rules
-  pub stops : first.stops ≡ stops_left pending.rules from to at pending.symbols
-  pub reads : steps + (pending.unread + opened_left pending.rules from to at pending.symbols) ≤ before + first.reads
-
--- how often a walk still turns at most: a symbol that is opened gives way to two
-abbrev pub turns_of : PendingView → Start → ℤ → ℤ → ℕ
-turns_of pending at from to = 2 * opened_left pending.rules from to at pending.symbols + length pending.symbols

@@ -1,125 +1,143 @@
-use Rattle.std.proofs.Common.{◌≡◌, ◌+◌, ◌<◌, ◌≤◌, ◌≤ℤ◌, ◌<ℤ◌, ◌∷◌, ◌++◌, true, not, to_z, of_z, w64, length, Option, subst, sym, ap, ◌∙◌, arith}
-use Rattle.std.specs.Option.{is_some, option_to_list}
+use Rattle.std.proofs.Common.{◌≡◌, ◌+◌, ◌≤ℤ◌, ◌<ℤ◌, [], true, not, to_z, of_z, w64, None, refl, subst, sym, ap, ◌∙◌, arith}
+use Rattle.std.specs.Option.{is_some}
 use Rattle.std.proofs.lemmas.Bool.{leb-false, leb-true}
 use Rattle.std.proofs.lemmas.Int.{ints}
-use Rattle.track_types.specs.declared.stop.Stop.{Stop}
-use Rattle.rule_store.specs.Log.{stop_at}
-use Rattle.log_cursor.specs.Start.{IsWayOf, start_after}
-use Rattle.log_cursor.specs.Walk.{IsWalking, opened_left, stops_left, turns_of}
-use Rattle.log_cursor.specs.declared.start.Start.{Start}
-use Rattle.log_cursor.proofs.WalkLemmas.{none_unless, stops_left-end, stops_left-over, turn-absent, turn-before, turn-fewer, turn-found, turn-opened, turn-opened-fewer, turn-reads, turn-start, turn-way}
+use Rattle.log_cursor.specs.Turn.{IsWalking, has_hull, is_any}
+use Rattle.log_cursor.specs.Walk.{WalkView}
+use Rattle.log_cursor.proofs.TouchLemmas.{opened_left-count}
+use Rattle.log_cursor.proofs.TurnLemmas.{IsTurn, all-left, none-passed, taken-next, turn-absent, turn-before, turn-fewer, turn-opened, turn-opened-fewer, turn-reads, turn-rules, turn-stop, turn-way, walking-end, walking-over, walking-view}
+use Rattle.log_cursor.proofs.WalkLemmas.{none_unless}
 use Rattle.log_cursor.proofs.walk.BlockWalkLazy.draw.Given.{Over}
 use Rattle.log_cursor.proofs.walk.BlockWalkLazy.draw.Goals as goal
-use Rattle.log_cursor.proofs.walk.BlockWalkLazy.draw.Goals.{After-is_rule}
+use Rattle.log_cursor.proofs.walk.BlockWalkLazy.draw.Goals.{After-after-next, After-is_rule}
 use Rattle.log_cursor.proofs.walk.BlockWalkLazy.draw.Goals.{then-next-self-via-then-next-self, then-next-self-via-else-next-self+then-is_none}
 
-pub returns-in_err-entry-clause-none : goal.returns-in_err-entry-clause-none
-returns-in_err-entry-clause-none g c =
-    let walk = c.loop-self.self-inside in
-    rw c.from_residual.ensures
-    (c.loop-self.invariant.stops
-    ∙ stops_left-end walk.pending.rules walk.from walk.to walk.at walk.pending.symbols c.in_err-entry.ensures.none)
+pub loop-self-init : goal.loop-self-init
+loop-self-init g c =
+    let walk = c.self.inside in
+    let none : walk.anchor ≡ None = sym c.take.ensures.value ∙ c.in_default.is in
+    let count = opened_left-count walk.pending.rules walk.from walk.to walk.at walk.pending.symbols in
+    record {
+      anchor = c.take.ensures.after;
+      walking = subst (λ (first : WalkView). IsWalking is_any has_hull first.rules first.stops
+          (c.args.steps.now + first.reads) walk.from walk.to walk.pending walk.at c.args.steps.now) c.self.view_is (record {
+            passed = [];
+            same = refl;
+            window = c.self.invariant.window;
+            way = c.self.invariant.way;
+            all = rw none refl;
+            unwanted = refl;
+            reads = omega (arith, count);
+          });
+    }
+
+pub returns-in_err-entry : goal.returns-in_err-entry
+returns-in_err-entry g c =
+    let walking = c.loop-self.invariant.walking in
+    let facts = c.in_err-entry.ensures in
+    let view = walking-view walking c.next.new.self c.next.new.steps c.next.ensures.rules (facts.end ∙ sym facts.none)
+    c.next.ensures.cost in
+    rw (c.from_residual.ensures, c.loop-self.invariant.anchor) (record {
+      found = view.0;
+      none = none-passed _ (walking-end walking facts.none);
+      cost = view.1;
+      rules = c.next.ensures.rules ∙ walking.same;
+    })
 
 pub after-next-requires : goal.after-next-requires
-after-next-requires g c =
-    turn-start _ _ _ _ _ _ _ _ _ c.next.new.steps _ c.loop-self.invariant c.in_ok-entry.ensures.found
-    c.next.ensures.rules c.next.ensures.cost
+after-next-requires g c = (taken-next c.loop-self.invariant.walking c.in_ok-entry.ensures.found).start_is
+
+-- the turn in which a symbol was taken off
+turn : (g : Over) (c : After-after-next g) → IsTurn is_any has_hull c.args.self.now.rules c.args.self.now.stops
+    (c.args.steps.now + c.args.self.now.reads) c.loop-self.self-inside.from c.loop-self.self-inside.to
+    c.loop-self.self-inside.pending c.next.new.self c.loop-self.self-inside.at c.after-next.result c.loop-self.steps
+    c.next.new.steps c.in_ok-entry.entry
+turn g c = record {
+  walking = c.loop-self.invariant.walking;
+  taken = c.in_ok-entry.ensures.found;
+  same = c.next.ensures.rules;
+  cost = c.next.ensures.cost;
+  leads = c.after-next.ensures;
+}
 
 pub loop-self-smaller-then-next-self : goal.loop-self-smaller-then-next-self
 loop-self-smaller-then-next-self g c =
-    let walk = c.loop-self.self-inside in
-    subst (λ (next : Start). turns_of c.next.new.self next walk.from walk.to
-    < turns_of walk.pending walk.at walk.from walk.to) (sym c.after-next.ensures)
-    (turn-fewer _ _ _ _ _ _ _ _ _ c.next.new.steps _ c.loop-self.invariant c.in_ok-entry.ensures.found
-    c.next.ensures.rules c.next.ensures.cost)
+    turn-fewer (turn g (goal.at.loop-self-smaller-then-next-self g c).After-after-next)
 
 pub loop-self-preserved-then-next-self : goal.loop-self-preserved-then-next-self
 loop-self-preserved-then-next-self g c =
-    let walk = c.loop-self.self-inside in
-    let next_is = ap (λ (s : Start). s.instant) c.after-next.ensures in
-    subst (λ (next : Start). IsWalking c.args.self.now c.args.steps.now c.next.new.self walk.anchor next walk.from
-    walk.to c.next.new.steps) (sym c.after-next.ensures)
-    (elim c.then-next-self.branch [
-      | then-next-self-via-then-next-self w ↦
-          let ended : (start_after walk.at c.in_ok-entry.entry).instant <ℤ walk.from =
-          omega (arith, ints, next_is, w.if-next-self.true) in
-          turn-before _ _ _ _ _ _ _ _ _ c.next.new.steps _ c.loop-self.invariant c.in_ok-entry.ensures.found
-          c.next.ensures.rules c.next.ensures.cost ended
-      | then-next-self-via-else-next-self+then-is_none w ↦
-          turn-absent _ _ _ _ _ _ _ _ _ c.next.new.steps _ c.loop-self.invariant c.in_ok-entry.ensures.found
-          c.next.ensures.rules c.next.ensures.cost
-          (none_unless c.in_ok-entry.entry.hull (w.is_none.ensures ∙ ap not w.if-is_none.true))
-    ])
+    let its = turn g (goal.at.loop-self-preserved-then-next-self g c).After-after-next in
+    record {
+      anchor = c.loop-self.invariant.anchor;
+      walking = elim c.then-next-self.branch [
+        | then-next-self-via-then-next-self w ↦
+            let ended : c.after-next.result.instant <ℤ c.loop-self.self-inside.from =
+            omega (arith, ints, w.if-next-self.true) in
+            turn-before its ended
+        | then-next-self-via-else-next-self+then-is_none w ↦
+            turn-absent its (none_unless c.in_ok-entry.entry.hull (w.is_none.ensures ∙ ap not w.if-is_none.true))
+      ];
+    }
 
 -- where its entry is not passed over, it has a box, and the window has instants after it and up to its end
 within : (g : Over) (c : After-is_rule g) → (is_some c.in_ok-entry.entry.hull ≡ true)
     × (c.loop-self.self-inside.at.instant <ℤ c.loop-self.self-inside.to)
-    × (c.loop-self.self-inside.from ≤ℤ (start_after c.loop-self.self-inside.at c.in_ok-entry.entry).instant)
-within g c =
-    let next_is = ap (λ (s : Start). s.instant) c.after-next.ensures in (
-      c.is_none.ensures ∙ ap not c.if-is_none.false,
-      omega (arith, ints, c.loop-self-test.true),
-      omega (arith, ints, next_is, c.if-next-self.false),
-    )
+    × (c.loop-self.self-inside.from ≤ℤ c.after-next.result.instant)
+within g c = (
+  c.is_none.ensures ∙ ap not c.if-is_none.false,
+  omega (arith, ints, c.loop-self-test.true),
+  omega (arith, ints, c.if-next-self.false),
+)
 
 pub loop-self-smaller : goal.loop-self-smaller
 loop-self-smaller g c =
-    let its = within g (goal.at.loop-self-smaller g c).After-is_rule in
-    let rule : length c.next.new.self.rules.alphabet ≤ c.in_ok-entry.entry.symbol =
-    leb-true _ _ (sym c.is_rule.ensures ∙ c.if-is_rule.true) in
-    turn-opened-fewer _ _ _ _ _ _ _ _ _ c.next.new.steps _ c.loop-self.invariant c.in_ok-entry.ensures.found
-    c.next.ensures.rules c.next.ensures.cost its.0 its.1 its.2 c.next.ensures.sound rule c.open.new.self
-    c.open.new.steps c.open.ensures.rules c.open.ensures.symbols c.open.ensures.unread c.open.ensures.cost
+    let at = goal.at.loop-self-smaller g c in
+    let its = within g at.After-is_rule in
+    turn-opened-fewer (turn g at.After-after-next) its.1 its.2 its.0 c.next.ensures.sound
+    (leb-true _ _ (sym c.is_rule.ensures ∙ c.if-is_rule.true)) c.open.new.self c.open.new.steps c.open.ensures.rules
+    c.open.ensures.symbols c.open.ensures.unread c.open.ensures.cost
 
 pub loop-self-preserved : goal.loop-self-preserved
 loop-self-preserved g c =
-    let its = within g (goal.at.loop-self-preserved g c).After-is_rule in
-    let rule : length c.next.new.self.rules.alphabet ≤ c.in_ok-entry.entry.symbol =
-    leb-true _ _ (sym c.is_rule.ensures ∙ c.if-is_rule.true) in
-    turn-opened _ _ _ _ _ _ _ _ _ c.next.new.steps _ c.loop-self.invariant c.in_ok-entry.ensures.found
-    c.next.ensures.rules c.next.ensures.cost its.0 its.1 its.2 c.next.ensures.sound rule c.open.new.self
-    c.open.new.steps c.open.ensures.rules c.open.ensures.symbols c.open.ensures.unread c.open.ensures.cost
+    let at = goal.at.loop-self-preserved g c in
+    let its = within g at.After-is_rule in
+    record {
+      anchor = c.loop-self.invariant.anchor;
+      walking = turn-opened (turn g at.After-after-next) its.1 its.2 its.0 c.next.ensures.sound
+          (leb-true _ _ (sym c.is_rule.ensures ∙ c.if-is_rule.true)) c.open.new.self c.open.new.steps
+          c.open.ensures.rules c.open.ensures.symbols c.open.ensures.unread c.open.ensures.cost;
+    }
 
 pub invariant_of-self-in-loop-self-2 : goal.invariant_of-self-in-loop-self-2
 invariant_of-self-in-loop-self-2 g c =
-    record {
-      way = subst (λ (next : Start). IsWayOf c.next.new.self.rules next c.next.new.self.symbols)
-          (sym c.after-next.ensures)
-          (turn-way _ _ _ _ _ _ _ _ _ c.next.new.steps _ c.loop-self.invariant c.in_ok-entry.ensures.found
-          c.next.ensures.rules c.next.ensures.cost);
-      window = c.loop-self.invariant.window;
-    }
+    let its = turn g (goal.at.invariant_of-self-in-loop-self-2 g c).After-after-next in
+    record { way = rw (turn-rules its) (turn-way its); window = c.loop-self.invariant.walking.window }
 
 pub returns-in-loop-self-clause-found : goal.returns-in-loop-self-clause-found
 returns-in-loop-self-clause-found g c =
-    let walk = c.loop-self.self-inside in
-    let now = c.next.new.self in
-    let its = within g (goal.at.returns-in-loop-self-clause-found g c).After-is_rule in
-    let terminal : c.in_ok-entry.entry.symbol < length now.rules.alphabet =
-    leb-false _ _ (sym c.is_rule.ensures ∙ c.if-is_rule.false) in
+    let at = goal.at.returns-in-loop-self-clause-found g c in
+    let its = within g at.After-is_rule in
+    let turn = turn g at.After-after-next in
     let here = c.after-next.result in
-    let kept : here.instant ≡ to_z w64 (of_z w64 here.instant) = omega (arith, ints) in
-    let rest = stops_left now.rules walk.from walk.to here now.symbols in
-    turn-found _ _ _ _ _ _ _ _ _ c.next.new.steps _ c.loop-self.invariant c.in_ok-entry.ensures.found
-    c.next.ensures.rules c.next.ensures.cost its.0 its.1 its.2 terminal
-    ∙ ap (λ (next : Start). stop_at next.instant next.cell ∷ stops_left now.rules walk.from walk.to next now.symbols)
-    (sym c.after-next.ensures)
-    ∙ ap (λ z. stop_at z here.cell ∷ rest) kept
-    ∙ ap (λ (anchor : Option Stop). stop_at (to_z w64 (of_z w64 here.instant)) here.cell
-    ∷ option_to_list anchor ++ rest) (sym c.loop-self.invariant.none)
+    let kept : to_z w64 (of_z w64 here.instant) ≡ here.instant = omega (arith, ints) in
+    rw (kept, c.loop-self.invariant.anchor, turn-rules turn)
+    (all-left _ _ _ (turn-stop turn its.1 its.2 (leb-false _ _ (sym c.is_rule.ensures ∙ c.if-is_rule.false)) its.0)
+    turn.walking.unwanted)
 
 pub returns-in-loop-self-clause-cost : goal.returns-in-loop-self-clause-cost
 returns-in-loop-self-clause-cost g c =
+    let its = turn g (goal.at.returns-in-loop-self-clause-cost g c).After-after-next in
     let walk = c.loop-self.self-inside in
-    let now = c.next.new.self in
-    subst (λ (next : Start). c.next.new.steps + (now.unread + opened_left now.rules walk.from walk.to next now.symbols)
-    ≤ c.args.steps.now + c.args.self.now.reads) (sym c.after-next.ensures)
-    (turn-reads _ _ _ _ _ _ _ _ _ c.next.new.steps _ c.loop-self.invariant c.in_ok-entry.ensures.found
-    c.next.ensures.rules c.next.ensures.cost)
+    let same = opened_left-count c.next.new.self.rules walk.from walk.to c.after-next.result c.next.new.self.symbols in
+    rw (same, turn-rules its) (turn-reads its)
 
-pub returns-clause-none : goal.returns-clause-none
-returns-clause-none g c =
-    let walk = c.loop-self.self-inside in
-    let over : walk.to ≤ℤ walk.at.instant = omega (arith, ints, c.loop-self-test.false) in
-    c.loop-self.invariant.stops
-    ∙ stops_left-over walk.pending.rules walk.from walk.to walk.at walk.pending.symbols over
+pub returns : goal.returns
+returns g c =
+    let walking = c.loop-self.invariant.walking in
+    let view = walking-view walking c.loop-self.self-inside.pending c.loop-self.steps refl refl (omega arith) in
+    rw c.loop-self.invariant.anchor (record {
+      found = view.0;
+      none = none-passed _ (walking-over walking (omega (arith, ints, c.loop-self-test.false)));
+      cost = view.1;
+      rules = walking.same;
+    })

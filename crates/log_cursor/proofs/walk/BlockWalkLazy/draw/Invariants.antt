@@ -1,10 +1,17 @@
-use Rattle.log_cursor.specs.Walk.{IsWalking, turns_of}
+use Rattle.std.proofs.Common.{◌≡◌, ◌+◌, None}
+use Rattle.log_cursor.specs.Turn.{IsWalking, has_hull, is_any, turns_left}
 use Rattle.log_cursor.proofs.walk.BlockWalkLazy.draw.Given as goal
 
+-- the anchor is gone, and of the others none was passed
 abbrev pub invariant-loop-self : goal.invariant-loop-self
 invariant-loop-self g l =
     let walk = l.self-inside in
-    IsWalking l.fn.self l.fn.steps walk.pending walk.anchor walk.at walk.from walk.to l.steps
+    let first = l.fn.self in record {
+      anchor : walk.anchor ≡ None;
+      walking : IsWalking is_any has_hull first.rules first.stops (l.fn.steps + first.reads) walk.from walk.to walk.pending
+          walk.at l.steps;
+    }
 
 abbrev pub decreases-loop-self : goal.decreases-loop-self
-decreases-loop-self g l = turns_of l.self-inside.pending l.self-inside.at l.self-inside.from l.self-inside.to
+decreases-loop-self g l =
+    let walk = l.self-inside in turns_left l.fn.self.rules has_hull walk.from walk.to walk.at walk.pending.symbols

@@ -1,0 +1,55 @@
+-- What a walk over symbols has done that looks for a stop: the one invariant of drawing stops and of searching a region.
+use Rattle.std.specs.Prelude.{◌≡◌, ℕ, ◌+◌, ◌*◌, ◌≤◌, ℤ, ◌≤ℤ◌, Bool, true, ◌&&◌, List, ◌++◌, length, filter, find, Option, None}
+use Rattle.std.specs.Option.{is_some}
+use Rattle.track_types.specs.Region.{in_region}
+use Rattle.track_types.specs.declared.cell.Cell.{Cell}
+use Rattle.track_types.specs.declared.cell_box.CellBox.{CellBox}
+use Rattle.track_types.specs.declared.region.Region.{Region}
+use Rattle.track_types.specs.declared.stop.Stop.{Stop}
+use Rattle.rule_store.specs.View.{RulesView}
+use Rattle.rule_store.specs.Boxes.{bounding_box_of}
+use Rattle.rule_store.specs.Cells.{displacement_of, moved}
+use Rattle.rule_store.specs.Nodes.{RuleNode, meets, nodes_in}
+use Rattle.log_cursor.specs.Pending.{PendingView}
+use Rattle.log_cursor.specs.Start.{IsWayOf}
+use Rattle.log_cursor.specs.Touching.{terminal_values}
+use Rattle.log_cursor.specs.Walk.{stops_left}
+use Rattle.log_cursor.specs.declared.start.Start.{Start}
+
+-- every stop is wanted by a walk, and its boxes are those of symbols that have one
+abbrev pub is_any : Stop → Bool
+is_any stop = true
+
+abbrev pub has_hull : Cell → Option CellBox → Bool
+has_hull cell hull = is_some hull
+
+-- a search wants those in its region
+abbrev pub is_hit : Region → Stop → Bool
+is_hit region stop = in_region region stop.cell
+
+-- the instants of a node meet the window, and its box passes a test for the boxes placed at a cell
+abbrev pub is_opening : RulesView → (Cell → Option CellBox → Bool) → ℤ → ℤ → Start → RuleNode → Bool
+is_opening rules may from to start node =
+    meets start.instant from to node
+    && may (moved start.cell (displacement_of (terminal_values rules node.before)))
+    (bounding_box_of (terminal_values rules node.inside))
+
+-- how many rules of symbols a walk opens by such a test
+unfoldable pub opening_count : RulesView → (Cell → Option CellBox → Bool) → ℤ → ℤ → Start → List ℕ → ℕ
+opening_count rules may from to start symbols = length (filter (is_opening rules may from to start) (nodes_in rules symbols))
+
+-- What a walk that has come to no wanted stop has done: it passed stops of which none is wanted, those of the symbols that
+-- are left come after them, and its reads, with those that are still to be made, are within a budget.
+pub record IsWalking (wanted : Stop → Bool) (may : Cell → Option CellBox → Bool) (rules : RulesView) (stops : List Stop)
+    (budget : ℕ) (from to : ℤ) (pending : PendingView) (at : Start) (steps : ℕ) : Type 0 where
+  pub passed : List Stop
+  pub same : pending.rules ≡ rules
+  pub window : from ≤ℤ to
+  pub way : IsWayOf rules at pending.symbols
+  pub all : stops ≡ passed ++ stops_left rules from to at pending.symbols
+  pub unwanted : find wanted passed ≡ None
+  pub reads : steps + (pending.unread + opening_count rules may from to at pending.symbols) ≤ budget
+
+-- how often it still turns at most: a symbol that is opened gives way to two
+abbrev pub turns_left : RulesView → (Cell → Option CellBox → Bool) → ℤ → ℤ → Start → List ℕ → ℕ
+turns_left rules may from to start symbols = 2 * opening_count rules may from to start symbols + length symbols
