@@ -1,12 +1,11 @@
 -- Boxes where their symbols are placed, and the hits of a region that such a box tells of or rules out.
 use Rattle.std.proofs.Common.{◌≡◌, ℕ, zero, suc, ◌<◌, ℤ, pos, ◌+ℤ◌, Bool, true, false, List, [], ◌∷◌, length, filter, map, Option, Some, None, refl, ap, sym, subst, ◌∙◌, arith, All, inl, inr}
 use Rattle.std.specs.Option.{is_some, option_map}
-use Rattle.std.specs.Prelude.{get_or, slice_index}
-use Rattle.std.specs.Int.{int_max, int_min}
-use Rattle.std.specs.Prelude.{fold}
+use Rattle.std.specs.List.{Contains}
+use Rattle.std.specs.Prelude.{◌⊎◌, get_or, slice_index}
 use Rattle.std.proofs.lemmas.Bool.{cases_Bool}
-use Rattle.std.proofs.lemmas.Int.{clamps, ints}
-use Rattle.std.proofs.lemmas.List.Elements.{All-head, All-nil, All-tail}
+use Rattle.std.proofs.lemmas.Int.{fold-int_max_reached, fold-int_min_reached, ints}
+use Rattle.std.proofs.lemmas.List.Elements.{All-contains, All-map, All-head, All-nil, All-tail}
 use Rattle.spiral_code.specs.Spiral.{move_of}
 use Rattle.track_types.specs.Near.{IsAsked, IsCellAsked}
 use Rattle.track_types.specs.Region.{in_region, intersects_region, is_between}
@@ -49,25 +48,11 @@ placed-round cell values hull is =
         (omega (arith, ints)) (omega (arith, ints)) (omega (arith, ints)) (omega (arith, ints))
 
 -- one of several numbers that may be asked for
-module _ (pick : ℤ → ℤ → ℤ) (picks : (a b : ℤ) → IsAsked a → IsAsked b → IsAsked (pick a b)) where
-  picked-asked : (f : Cell → ℤ) (z : ℤ) (cells : List Cell) → IsAsked z → All (λ cell. IsAsked (f cell)) cells →
-      IsAsked (fold pick z (map f cells))
-  picked-asked f z [] start each = start
-  picked-asked f z (cell ∷ cells) start each =
-      picked-asked f (pick z (f cell)) cells (picks z (f cell) start (All-head (λ c. IsAsked (f c)) cell cells each))
-      (All-tail (λ c. IsAsked (f c)) cell cells each)
-
-min-asked : (a b : ℤ) → IsAsked a → IsAsked b → IsAsked (int_min a b)
-min-asked a b one other = record {
-  low = omega (arith, ints, clamps, one.low, other.low);
-  high = omega (arith, ints, clamps, one.high, other.high);
-}
-
-max-asked : (a b : ℤ) → IsAsked a → IsAsked b → IsAsked (int_max a b)
-max-asked a b one other = record {
-  low = omega (arith, ints, clamps, one.low, other.low);
-  high = omega (arith, ints, clamps, one.high, other.high);
-}
+reached-asked : (r z : ℤ) (xs : List ℤ) → (r ≡ z) ⊎ Contains xs r → IsAsked z → All IsAsked xs → IsAsked r
+reached-asked r z xs reached start each = elim reached [
+  | inl same ↦ subst IsAsked (sym same) start
+  | inr inside ↦ All-contains IsAsked xs r each inside
+]
 
 -- the bounds of the least box round cells that may be asked for
 box_round-asked : (area : CellBox) (cells : List Cell) → Some area ≡ box_round cells → All IsCellAsked cells →
@@ -78,15 +63,17 @@ box_round-asked area (first ∷ rest) is near =
     let bounds = box_round-bounds area first rest is in
     let here = All-head IsCellAsked first rest near in
     let later = All-tail IsCellAsked first rest near in
-    let columns : All (λ cell. IsAsked (column cell)) rest = λ k d within. (later k d within).x in
-    let lines : All (λ cell. IsAsked (line cell)) rest = λ k d within. (later k d within).y in (
+    let xs = map column rest in
+    let ys = map line rest in
+    let columns : All IsAsked xs = All-map IsAsked column rest (λ k d within. (later k d within).x) in
+    let lines : All IsAsked ys = All-map IsAsked line rest (λ k d within. (later k d within).y) in (
       (
-        subst IsAsked (sym bounds.x1) (picked-asked int_min min-asked column first.x rest here.x columns),
-        subst IsAsked (sym bounds.y1) (picked-asked int_min min-asked line first.y rest here.y lines),
+        reached-asked area.x1 first.x xs (fold-int_min_reached first.x xs area.x1 bounds.x1) here.x columns,
+        reached-asked area.y1 first.y ys (fold-int_min_reached first.y ys area.y1 bounds.y1) here.y lines,
       ),
       (
-        subst IsAsked (sym bounds.x2) (picked-asked int_max max-asked column first.x rest here.x columns),
-        subst IsAsked (sym bounds.y2) (picked-asked int_max max-asked line first.y rest here.y lines),
+        reached-asked area.x2 first.x xs (fold-int_max_reached first.x xs area.x2 bounds.x2) here.x columns,
+        reached-asked area.y2 first.y ys (fold-int_max_reached first.y ys area.y2 bounds.y2) here.y lines,
       ),
     )
 

@@ -1,5 +1,5 @@
 -- A rule by its symbol: what its two parts, which are below it, tell of it.
-use Rattle.std.proofs.Common.{◌≡◌, ℕ, suc, ◌+◌, ◌-◌, ◌<◌, ◌≤◌, ℤ, true, List, [], ◌∷◌, ◌++◌, length, max, refl, ap, sym, ◌∙◌, arith}
+use Rattle.std.proofs.Common.{◌≡◌, ℕ, ◌+◌, ◌-◌, ◌<◌, ◌≤◌, ℤ, List, [], ◌∷◌, ◌++◌, length, max, refl, ap, sym, ◌∙◌, arith}
 use Rattle.std.proofs.lemmas.List.{append_assoc}
 use Rattle.list_laws.proofs.GreatestLemmas.{fold_max-at}
 use Rattle.track_types.specs.declared.cell.Cell.{Cell}
@@ -7,11 +7,11 @@ use Rattle.rule_store.specs.View.{RulesView, symbols_in}
 use Rattle.rule_store.specs.Expansion.{depth_in, depth_of, depths, expansion_of, values_of}
 use Rattle.rule_store.specs.Flaws.{AreRules, left_of, right_of}
 use Rattle.rule_store.specs.Log.{log_values, stops_after}
-use Rattle.rule_store.specs.Nodes.{RuleNode, nodes_in, opened_count, parsed}
+use Rattle.rule_store.specs.Nodes.{RuleNode, nodes_in, parsed}
 use Rattle.rule_store.proofs.ExpansionLemmas.{depth_of-rule, expansion_of-rule, values_of-rule}
 use Rattle.rule_store.proofs.FlawLemmas.{no_flaws, rule-sound}
 use Rattle.rule_store.proofs.LogLemmas.{stops_after-rule}
-use Rattle.rule_store.proofs.NodeLemmas.{nodes_in-rule, opened_count-opened, opens, parsed-terminals}
+use Rattle.rule_store.proofs.NodeLemmas.{nodes_in-rule, parsed-terminals}
 
 -- no symbol is deeper than the deepest
 pub depth_of-deepest : (rules : RulesView) (symbol : ℕ) → depth_of rules symbol ≤ depth_in rules
@@ -95,13 +95,3 @@ module _ (rules : RulesView) (symbol : ℕ) (rule : length rules.alphabet ≤ sy
         ap (λ s. nodes_in rules (s ∷ log)) (sym place)
         ∙ nodes_in-rule rules number left right log within refl left_low right_low
         ∙ ap {B = List RuleNode} (λ i. record { before = []; inside = i } ∷ nodes_in rules (left ∷ right ∷ log)) inside
-
-    -- where a walk opens it, it counts one and its parts
-    pub opened_count-parts : (instant from to : ℤ) → opens rules instant from to symbol ≡ true →
-        opened_count rules instant (symbol ∷ log) from to
-        ≡ suc (opened_count rules instant (left_of rules symbol ∷ right_of rules symbol ∷ log) from to)
-    unfolding number
-    opened_count-parts instant from to opened =
-        ap (λ s. opened_count rules instant (s ∷ log) from to) (sym place)
-        ∙ opened_count-opened rules number (left_of rules symbol) (right_of rules symbol) within refl left_low
-        right_low instant from to log (ap (opens rules instant from to) place ∙ opened)

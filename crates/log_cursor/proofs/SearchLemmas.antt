@@ -1,10 +1,11 @@
 -- A search for the first hit: the anchor, and else that of the log.
-use Rattle.std.proofs.Common.{◌≡◌, ℕ, ℤ, ◌≤ℤ◌, ◌<ℤ◌, Bool, true, false, List, [], ◌∷◌, Option, Some, None, refl, ap, sym, subst, ◌∙◌, inl, inr}
-use Rattle.std.specs.Option.{is_some, option_or, option_to_list}
-use Rattle.std.specs.Prelude.{filter, find, get_or}
+use Rattle.std.proofs.Common.{◌≡◌, ℕ, ℤ, ◌≤ℤ◌, ◌<ℤ◌, Bool, true, false, List, [], ◌∷◌, Option, Some, None, refl, ap, sym, ◌∙◌, inl, inr}
+use Rattle.std.specs.Option.{is_some, option_or}
+use Rattle.std.specs.Prelude.{filter, find}
 use Rattle.std.proofs.lemmas.Bool.{cases_Bool}
 use Rattle.std.proofs.lemmas.List.Elements.{filter-append}
 use Rattle.std.proofs.lemmas.List.Folds.{find-append}
+use Rattle.list_laws.proofs.FirstLemmas.{option_or-none}
 use Rattle.track_types.specs.Region.{in_region, is_between}
 use Rattle.track_types.specs.declared.region.Region.{Region}
 use Rattle.track_types.specs.declared.stop.Stop.{Stop}
@@ -14,26 +15,14 @@ use Rattle.log_cursor.specs.Touching.{first_among, first_hit_of, hit_left}
 use Rattle.log_cursor.specs.declared.start.Start.{Start}
 use Rattle.log_cursor.proofs.WalkLemmas.{in_window-empty, stops_left-over}
 
--- the one stop of a window
-window-only : (from to : ℤ) (stop other : Stop) → other ∷ [] ≡ in_window from to (stop ∷ []) → other ≡ stop
+-- the anchor in a window is a hit, if it is in the region
+pub anchor-held : (from to : ℤ) (region : Region) (stop other : Stop) → other ∷ [] ≡ in_window from to (stop ∷ []) →
+    in_region region stop.cell ≡ true → Some other ≡ first_among region (in_window from to (stop ∷ []))
 unfolding in_window
-window-only from to stop other same = elim (cases_Bool (is_between from to stop.instant)) [
-  | inl kept ↦
-      let one : other ∷ [] ≡ stop ∷ [] = rw kept at same in
-      ap (λ (stops : List Stop). get_or stops 0 stop) one
+anchor-held from to region stop other same held = elim (cases_Bool (is_between from to stop.instant)) [
+  | inl kept ↦ let one : other ∷ [] ≡ stop ∷ [] = rw kept at same in rw (kept, held) (cc)
   | inr gone ↦ let none : other ∷ [] ≡ [] = rw gone at same in absurd (cc)
 ]
-
--- the anchor in a window is a hit, if it is in the region
-pub anchor-held : (from to : ℤ) (region : Region) (stop : Stop) (found : Option Stop) →
-    option_to_list found ≡ in_window from to (stop ∷ []) → in_region region stop.cell ≡ true →
-    found ≡ first_among region (in_window from to (stop ∷ []))
-anchor-held from to region stop None same held = ap (first_among region) same
-anchor-held from to region stop (Some other) same held =
-    let passes : in_region region other.cell ≡ true =
-    subst (λ (s : Stop). in_region region s.cell ≡ true) (sym (window-only from to stop other same)) held in
-    let first : Some other ≡ first_among region (other ∷ []) = rw passes refl in
-    first ∙ ap (first_among region) same
 
 pub anchor-apart : (from to : ℤ) (region : Region) (stop : Stop) → in_region region stop.cell ≡ false →
     None ≡ first_among region (in_window from to (stop ∷ []))
@@ -43,27 +32,11 @@ anchor-apart from to region stop apart = elim (cases_Bool (is_between from to st
   | inr gone ↦ rw gone refl
 ]
 
--- the same window, the same hit and the same count, where the ends are other words for the same
-pub in_window-same : (from to a b : ℤ) (stops : List Stop) → a ≡ from → b ≡ to →
-    in_window a b stops ≡ in_window from to stops
-in_window-same from to a b stops low high =
-    ap (λ z. in_window z b stops) low ∙ ap (λ z. in_window from z stops) high
-
-pub hit_left-same : (rules : RulesView) (from to a b : ℤ) (region : Region) (start : Start) (symbols : List ℕ) →
-    a ≡ from → b ≡ to → hit_left rules from to region start symbols ≡ hit_left rules a b region start symbols
-hit_left-same rules from to a b region start symbols low high =
-    ap (λ z. hit_left rules z to region start symbols) (sym low)
-    ∙ ap (λ z. hit_left rules a z region start symbols) (sym high)
-
 -- symbols after the window have no hit
 pub hit_left-over : (rules : RulesView) (from to : ℤ) (region : Region) (start : Start) (symbols : List ℕ) →
     to ≤ℤ start.instant → hit_left rules from to region start symbols ≡ None
 hit_left-over rules from to region start symbols over =
     ap (first_among region) (stops_left-over rules from to start symbols over)
-
-or-none : (anchor : Option Stop) → option_or anchor None ≡ anchor
-or-none None = refl
-or-none (Some stop) = refl
 
 or-some : (anchor other : Option Stop) → is_some anchor ≡ true → option_or anchor other ≡ anchor
 or-some None other some = absurd (cc)
@@ -98,7 +71,7 @@ module _ (rules : RulesView) (log : List ℕ) (start : Start) (from to : ℤ) (r
 
   pub first_hit_of-over : to ≤ℤ start.instant → anchor ≡ first_hit_of rules log start from to region
   first_hit_of-over over =
-      sym (either ∙ ap (option_or anchor) (hit_left-over rules from to region start log over) ∙ or-none anchor)
+      sym (either ∙ ap (option_or anchor) (hit_left-over rules from to region start log over) ∙ option_or-none anchor)
 
   pub first_hit_of-later : is_some anchor ≡ false →
       hit_left rules from to region start log ≡ first_hit_of rules log start from to region

@@ -1,5 +1,5 @@
 -- The stack of parts that wait.
-use Rattle.std.proofs.Common.{◌≡◌, ℕ, suc, max, ◌+◌, ◌<◌, ◌≤◌, List, [], ◌∷◌, ◌++◌, length, get_or, reverse, drop, take, refl, ap, sym, subst, ◌∙◌, arith, inl, inr}
+use Rattle.std.proofs.Common.{◌≡◌, ℕ, max, ◌+◌, ◌<◌, ◌≤◌, List, [], ◌∷◌, ◌++◌, length, get_or, reverse, take, refl, ap, sym, subst, ◌∙◌, add-one, arith, inl, inr}
 use Rattle.std.specs.Prelude.{slice_index, IsSome, Option, None, ◌↔◌, ◌-◌}
 use Rattle.std.proofs.lemmas.Bool.{cases_lt}
 use Rattle.std.proofs.lemmas.List.{length-append, get_or_append_left, reverse-append}
@@ -63,11 +63,8 @@ module _ (view : LogView) (next : ℕ) (entry : Entry) where
       let own = own_symbol view.rules.now symbol entry is in
       record {
         is = own_entry view.rules.now symbol entry is;
-        symbols = ap (λ parts. reverse parts ++ log_from view next) top
-            ∙ reverse-push rest symbol (log_from view next)
-            ∙ ap (λ s. s ∷ reverse rest ++ log_from view next) (sym own);
-        roomy = subst (IsRoomy view.rules.now (length rest)) (sym own)
-            (AreRoomy-top view.rules.now rest symbol (subst (AreRoomy view.rules.now) top roomy));
+        symbols = rw (top, own) (reverse-push rest symbol (log_from view next));
+        roomy = rw own (AreRoomy-top view.rules.now rest symbol (rw top at roomy));
       }
 
   -- no part waited, and the next symbol of the log was read
@@ -78,63 +75,55 @@ module _ (view : LogView) (next : ℕ) (entry : Entry) where
   IsTaken-read stack rest none still within is known =
       let symbol = slice_index (log_of view) next in
       let own = own_symbol view.rules.now symbol entry is in
-      let later : suc next ≡ next + 1 = omega arith in
       let read : log_from view next ≡ symbol ∷ log_from view (next + 1) =
-      drop-cons (log_of view) next 0 within ∙ ap (λ k. symbol ∷ drop k (log_of view)) later in
+      rw add-one (drop-cons (log_of view) next 0 within) in
       let deep = depth_of-deepest view.rules.now entry.symbol in
       let empty : length rest ≡ 0 = ap length still in
       record {
         is = own_entry view.rules.now symbol entry is;
-        symbols = ap (λ parts. reverse parts ++ log_from view next) none ∙ read
-            ∙ ap (λ s. s ∷ log_from view (next + 1)) (sym own)
-            ∙ ap (λ parts. entry.symbol ∷ reverse parts ++ log_from view (next + 1)) (sym still);
+        symbols = rw (none, still, own) read;
         roomy = record { known = omega (arith, own, known); shallow = omega (arith, empty, deep) };
       }
 
--- a rule that was taken off, whose parts are below it, is opened
-module _ (rules : RulesView) (stack : List ℕ) (rule : ℕ) (is_rule : length rules.alphabet ≤ rule)
-    (roomy : IsRoomy rules (length stack) rule) (left_below : left_of rules rule < rule)
-    (right_below : right_of rules rule < rule) where
-  -- the stack with both parts on it, the left one on top
-  abbrev pub opened_stack : List ℕ
-  opened_stack = (stack ++ right_of rules rule ∷ []) ++ left_of rules rule ∷ []
+-- a rule that was taken off is opened: its parts are below it
+pub record IsOpening (rules : RulesView) (stack : List ℕ) (rule : ℕ) : Type 0 where
+  pub is_rule : length rules.alphabet ≤ rule
+  pub roomy : IsRoomy rules (length stack) rule
+  pub left_below : left_of rules rule < rule
+  pub right_below : right_of rules rule < rule
 
+-- the stack with both parts on it, the left one on top
+abbrev pub opened_stack : RulesView → List ℕ → ℕ → List ℕ
+opened_stack rules stack rule = (stack ++ right_of rules rule ∷ []) ++ left_of rules rule ∷ []
+
+module _ {rules : RulesView} {stack : List ℕ} {rule : ℕ} (opening : IsOpening rules stack rule) where
   deeper :
       depth_of rules rule ≡ 1 + max (depth_of rules (left_of rules rule)) (depth_of rules (right_of rules rule))
-  deeper = depth_of-parts rules rule is_rule roomy.known left_below right_below
+  deeper = depth_of-parts rules rule opening.is_rule opening.roomy.known opening.left_below opening.right_below
 
   -- there is room for both
   pub opened_stack-fits : length stack + 2 ≤ depth_in rules + 1
-  opened_stack-fits = omega (arith, deeper, roomy.shallow)
+  opened_stack-fits = omega (arith, deeper, opening.roomy.shallow)
 
-  pub opened_stack-roomy : AreRoomy rules stack → AreRoomy rules opened_stack
+  pub opened_stack-roomy : AreRoomy rules stack → AreRoomy rules (opened_stack rules stack rule)
   opened_stack-roomy waiting =
-      let right : IsRoomy rules (length stack) (right_of rules rule) =
-      record { known = omega (arith, roomy.known); shallow = omega (arith, deeper, roomy.shallow) } in
       let one : length (stack ++ right_of rules rule ∷ []) ≡ length stack + 1 =
       length-append stack (right_of rules rule ∷ []) in
-      let left : IsRoomy rules (length (stack ++ right_of rules rule ∷ [])) (left_of rules rule) = record {
-        known = omega (arith, roomy.known);
-        shallow = omega (arith, one, deeper, roomy.shallow);
-      } in
       AreRoomy-push rules (stack ++ right_of rules rule ∷ []) (left_of rules rule)
-      (AreRoomy-push rules stack (right_of rules rule) waiting right) left
+      (AreRoomy-push rules stack (right_of rules rule) waiting (record {
+        known = omega (arith, opening.right_below, opening.roomy.known);
+        shallow = omega (arith, deeper, opening.roomy.shallow);
+      }))
+      (record {
+        known = omega (arith, opening.left_below, opening.roomy.known);
+        shallow = omega (arith, one, deeper, opening.roomy.shallow);
+      })
 
-  pub reverse-opened : (rest : List ℕ) →
-      reverse opened_stack ++ rest ≡ left_of rules rule ∷ right_of rules rule ∷ reverse stack ++ rest
-  reverse-opened rest =
-      reverse-push (stack ++ right_of rules rule ∷ []) (left_of rules rule) rest
-      ∙ ap (λ symbols. left_of rules rule ∷ symbols) (reverse-push stack (right_of rules rule) rest)
-
--- the stack after both pushes
-pub pushed-both : (rules : RulesView) (rule : ℕ) (stack one two : List ℕ) (left right : Entry) →
-    left ≡ entry_of rules (left_of rules rule) → right ≡ entry_of rules (right_of rules rule) →
-    one ≡ stack ++ right.symbol ∷ [] → two ≡ one ++ left.symbol ∷ [] →
-    two ≡ (stack ++ right_of rules rule ∷ []) ++ left_of rules rule ∷ []
-pushed-both rules rule stack one two left right left_is right_is first second =
-    second ∙ ap (λ s. one ++ s ∷ []) (own_symbol rules (left_of rules rule) left left_is)
-    ∙ ap (λ s. s ++ left_of rules rule ∷ []) (first
-    ∙ ap (λ s. stack ++ s ∷ []) (own_symbol rules (right_of rules rule) right right_is))
+pub reverse-opened : (rules : RulesView) (stack : List ℕ) (rule : ℕ) (rest : List ℕ) →
+    reverse (opened_stack rules stack rule) ++ rest ≡ left_of rules rule ∷ right_of rules rule ∷ reverse stack ++ rest
+reverse-opened rules stack rule rest =
+    reverse-push (stack ++ right_of rules rule ∷ []) (left_of rules rule) rest
+    ∙ ap (λ symbols. left_of rules rule ∷ symbols) (reverse-push stack (right_of rules rule) rest)
 
 -- where nothing is taken off, nothing waits
 abbrev nothing : Option ℕ

@@ -1,11 +1,11 @@
 -- How many rules a walk opens: symbol by symbol, and of a rule by its parts.
-use Rattle.std.proofs.Common.{◌≡◌, ℕ, suc, ◌+◌, ◌<◌, ◌≤◌, ℤ, pos, ◌+ℤ◌, ◌≤ℤ◌, ◌<ℤ◌, Bool, true, List, [], ◌∷◌, ◌++◌, length, map, Option, refl, ap, ◌∙◌, arith, inl, inr}
+use Rattle.std.proofs.Common.{◌≡◌, ℕ, suc, ◌+◌, ◌<◌, ◌≤◌, ℤ, pos, ◌+ℤ◌, ◌≤ℤ◌, ◌<ℤ◌, Bool, true, List, [], ◌∷◌, ◌++◌, length, map, Option, refl, ap, ◌∙◌, arith}
 use Rattle.std.specs.Prelude.{filter, slice_index}
 use Rattle.std.specs.Int.Signed.{le_z}
-use Rattle.std.proofs.lemmas.Bool.{cases_Bool}
 use Rattle.std.proofs.lemmas.Int.{ints}
 use Rattle.std.proofs.lemmas.List.{length-append, length-map, map-append}
-use Rattle.std.proofs.lemmas.List.Elements.{filter-append}
+use Rattle.std.proofs.lemmas.List.Elements.{filter-append, filter_agree}
+use Rattle.list_laws.proofs.MapLemmas.{filter-map}
 use Rattle.track_types.specs.declared.cell.Cell.{Cell}
 use Rattle.track_types.specs.declared.cell_box.CellBox.{CellBox}
 use Rattle.track_types.specs.declared.region.Region.{Region}
@@ -56,15 +56,11 @@ module _ (rules : RulesView) (from to : ℤ) (may : Cell → Option CellBox → 
   filter-after : (start : Start) (terminals : List ℕ) (nodes : List RuleNode) →
       length (filter (is_opening rules may from to start) (map (after terminals) nodes))
       ≡ length (filter (is_opening rules may from to (start_past start (terminal_values rules terminals))) nodes)
-  filter-after start terminals [] = refl
-  filter-after start terminals (node ∷ nodes) =
-      let same = is_opening-after start terminals node in
-      let rest = filter-after start terminals nodes in
+  filter-after start terminals nodes =
       let past = start_past start (terminal_values rules terminals) in
-      elim (cases_Bool (is_opening rules may from to past node)) [
-        | inl opened ↦ rw (same, opened) (ap suc rest)
-        | inr fails ↦ rw (same, fails) rest
-      ]
+      ap length (filter-map (is_opening rules may from to start) (after terminals) nodes)
+      ∙ length-map (filter (λ node. is_opening rules may from to start (after terminals node)) nodes) (after terminals)
+      ∙ ap length (filter_agree _ (is_opening rules may from to past) (is_opening-after start terminals) nodes)
 
   -- the symbols after the first count no more than all
   pub opening_count-later : (start : Start) (symbol : ℕ) (log : List ℕ) →

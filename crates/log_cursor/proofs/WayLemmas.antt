@@ -1,9 +1,9 @@
 -- Ways: values that are walked without leaving the numbers, in two parts, of a rule, and of a block that is placed.
 use Rattle.std.proofs.Common.{◌≡◌, ℕ, zero, suc, ◌+◌, ◌-◌, ◌*◌, drop, ◌<◌, ◌≤◌, ℤ, ◌≤ℤ◌, List, [], ◌∷◌, ◌++◌, length, Some, None, map, refl, ap, sym, subst, ◌∙◌, arith, All, inl, inr}
-use Rattle.std.specs.Prelude.{Option, fold, get_or}
-use Rattle.std.specs.Int.{int_max, int_min}
+use Rattle.std.specs.Prelude.{Option, get_or}
 use Rattle.std.specs.List.{range_with_len}
-use Rattle.std.proofs.lemmas.Int.{ints}
+use Rattle.std.proofs.lemmas.Int.{fold-int_max_bounds, fold-int_min_bounds, ints}
+use Rattle.list_laws.proofs.MapLemmas.{All-from_map}
 use Rattle.std.proofs.lemmas.Bool.{cases_lt}
 use Rattle.std.proofs.lemmas.Grind.{flat_map-append}
 use Rattle.std.proofs.lemmas.List.{append-nil, get_or_past, length-append, length-drop, length-take}
@@ -112,9 +112,6 @@ module _ (rules : RulesView) (symbol : ℕ) (log : List ℕ) (start : Start) (wa
   unfolding log_values
   IsWayOf-rest = IsWay-back start (values_of rules symbol) (log_values rules log) way
 
-  pub IsWayOf-next : IsStart (start_past start (values_of rules symbol))
-  IsWayOf-next = IsWayOf-rest.start_is
-
 -- a way over nothing
 pub IsWayOf-none : (rules : RulesView) (start : Start) → IsStart start → IsWayOf rules start []
 unfolding log_values cells_along
@@ -138,11 +135,6 @@ pub hull_is : (rules : RulesView) (entry : Entry) (symbol : ℕ) → entry ≡ e
     entry.hull ≡ bounding_box_of (values_of rules symbol)
 unfolding entry_of
 hull_is rules entry symbol is = ap (λ (e : Entry). e.hull) is
-
-pub duration_is : (rules : RulesView) (entry : Entry) (symbol : ℕ) → entry ≡ entry_of rules symbol →
-    entry.duration ≡ duration_of rules symbol
-unfolding entry_of
-duration_is rules entry symbol is = ap (λ (e : Entry). e.duration) is ∙ length-values_of rules symbol
 
 -- a symbol that is not there lasts no instant
 duration_of-past : (rules : RulesView) (symbol : ℕ) → symbols_in rules ≤ symbol → duration_of rules symbol ≡ 0
@@ -186,31 +178,6 @@ length-log_values rules sound (symbol ∷ log) =
       length-log_values rules sound log,
     )
 
--- the least and the greatest of a coordinate of cells, which begin at some number
-least-each : (f : Cell → ℤ) (z : ℤ) (cells : List Cell) →
-    (fold int_min z (map f cells) ≤ℤ z) × All (λ cell. fold int_min z (map f cells) ≤ℤ f cell) cells
-least-each f z [] = (omega (arith, ints), All-nil (λ cell. z ≤ℤ f cell))
-least-each f z (cell ∷ cells) =
-    let rest = least-each f (int_min z (f cell)) cells in
-    let low : int_min z (f cell) ≤ℤ z = grind (arith, ints) in
-    let here : int_min z (f cell) ≤ℤ f cell = grind (arith, ints) in (
-      omega (arith, ints, rest.0, low),
-      All-cons (λ c. fold int_min (int_min z (f cell)) (map f cells) ≤ℤ f c) cell cells
-          (omega (arith, ints, rest.0, here)) rest.1,
-    )
-
-greatest-each : (f : Cell → ℤ) (z : ℤ) (cells : List Cell) →
-    (z ≤ℤ fold int_max z (map f cells)) × All (λ cell. f cell ≤ℤ fold int_max z (map f cells)) cells
-greatest-each f z [] = (omega (arith, ints), All-nil (λ cell. f cell ≤ℤ z))
-greatest-each f z (cell ∷ cells) =
-    let rest = greatest-each f (int_max z (f cell)) cells in
-    let high : z ≤ℤ int_max z (f cell) = grind (arith, ints) in
-    let here : f cell ≤ℤ int_max z (f cell) = grind (arith, ints) in (
-      omega (arith, ints, rest.0, high),
-      All-cons (λ c. f c ≤ℤ fold int_max (int_max z (f cell)) (map f cells)) cell cells
-          (omega (arith, ints, rest.0, here)) rest.1,
-    )
-
 none-round : (first : Cell) (rest : List Cell) → None ≡ box_round (first ∷ rest) → ⊥
 unfolding box_round
 none-round first rest is = absurd (cc)
@@ -220,21 +187,16 @@ pub box_round-bounded : (area : CellBox) (cells : List Cell) → Some area ≡ b
 box_round-bounded area [] is = All-nil (IsBounded area)
 box_round-bounded area (first ∷ rest) is =
     let bounds = box_round-bounds area first rest is in
-    let x1 = least-each column first.x rest in
-    let y1 = least-each line first.y rest in
-    let x2 = greatest-each column first.x rest in
-    let y2 = greatest-each line first.y rest in
-    All-cons (IsBounded area) first rest (record {
-      left = omega (arith, ints, bounds.x1, x1.0);
-      below = omega (arith, ints, bounds.y1, y1.0);
-      right = omega (arith, ints, bounds.x2, x2.0);
-      above = omega (arith, ints, bounds.y2, y2.0);
-    })
+    let x1 = fold-int_min_bounds first.x (map column rest) area.x1 bounds.x1 in
+    let y1 = fold-int_min_bounds first.y (map line rest) area.y1 bounds.y1 in
+    let x2 = fold-int_max_bounds first.x (map column rest) area.x2 bounds.x2 in
+    let y2 = fold-int_max_bounds first.y (map line rest) area.y2 bounds.y2 in
+    All-cons (IsBounded area) first rest (record { left = x1.0; below = y1.0; right = x2.0; above = y2.0 })
     (λ k d within. record {
-      left = omega (arith, ints, bounds.x1, x1.1 k d within);
-      below = omega (arith, ints, bounds.y1, y1.1 k d within);
-      right = omega (arith, ints, bounds.x2, x2.1 k d within);
-      above = omega (arith, ints, bounds.y2, y2.1 k d within);
+      left = All-from_map (λ x. area.x1 ≤ℤ x) column rest x1.1 k d within;
+      below = All-from_map (λ y. area.y1 ≤ℤ y) line rest y1.1 k d within;
+      right = All-from_map (λ x. x ≤ℤ area.x2) column rest x2.1 k d within;
+      above = All-from_map (λ y. y ≤ℤ area.y2) line rest y2.1 k d within;
     })
 
 -- where the box round cells is moved to a near place, they are near

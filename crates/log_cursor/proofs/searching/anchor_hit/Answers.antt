@@ -1,7 +1,7 @@
-use Rattle.std.proofs.Common.{◌≡◌, to_z, of_z, w64, [], ◌∷◌, Some, sym, ◌∙◌, arith}
+use Rattle.std.proofs.Common.{◌≡◌, to_z, of_z, w64, sym, ◌∙◌, arith}
 use Rattle.std.proofs.lemmas.Int.{ints}
 use Rattle.rule_store.specs.Log.{stop_at}
-use Rattle.log_cursor.proofs.SearchLemmas.{anchor-apart, anchor-held, in_window-same}
+use Rattle.log_cursor.proofs.SearchLemmas.{anchor-apart, anchor-held}
 use Rattle.log_cursor.proofs.searching.anchor_hit.Goals as goal
 
 pub returns-then-not-holds : goal.returns-then-not-holds
@@ -14,6 +14,5 @@ returns g c =
     let stop = stop_at c.args.start.instant c.args.start.cell in
     let from : to_z w64 (of_z w64 c.args.from) ≡ c.args.from = omega (arith, ints) in
     let to : to_z w64 (of_z w64 c.args.to) ≡ c.args.to = omega (arith, ints) in
-    anchor-held c.args.from c.args.to c.args.test.now.region stop (Some c.in_ok-anchor.anchor)
-    (c.in_ok-anchor.ensures ∙ in_window-same c.args.from c.args.to _ _ (stop ∷ []) from to)
-    (sym c.holds.ensures ∙ c.if-not-holds.false)
+    anchor-held c.args.from c.args.to c.args.test.now.region stop c.in_ok-anchor.anchor
+    (rw (from, to) at c.in_ok-anchor.ensures) (sym c.holds.ensures ∙ c.if-not-holds.false)
