@@ -1,5 +1,5 @@
 -- Boxes of a log's symbols, one after the other: for who tests whether a block is placed.
-use Rattle.std.proofs.Common.{◌≡◌, ℕ, suc, ◌+◌, ◌<◌, ◌≤◌, List, ◌∷◌, drop, length, ap, sym, subst, ◌∙◌, arith}
+use Rattle.std.proofs.Common.{◌≡◌, ℕ, ◌+◌, ◌<◌, ◌≤◌, List, ◌∷◌, drop, length, add-one, ap, sym, subst, ◌∙◌}
 use Rattle.std.specs.Prelude.{slice_index}
 use Rattle.std.proofs.Math.ListN.{drop_of_length-le}
 use Rattle.std.proofs.Math.Seq.{drop-cons}
@@ -26,13 +26,8 @@ pub AreHullsAsked-step : (rules : RulesView) (cell next : Cell) (log : List ℕ)
 unfolding AreHullsAsked
 AreHullsAsked-step rules cell next log i entry within is near leads rest =
     let symbol = slice_index log i in
-    let later : suc i ≡ i + 1 = omega arith in
-    let split : drop i log ≡ symbol ∷ drop (i + 1) log =
-    drop-cons log i 0 within ∙ ap (λ k. symbol ∷ drop k log) later in
-    subst (AreHullsAsked rules cell) (sym split) (
-      subst (IsHullAsked cell) (hull_is rules entry symbol is) near,
-      subst (λ start. AreHullsAsked rules start (drop (i + 1) log)) (leads ∙ leads_to rules cell entry symbol is) rest,
-    )
+    let split : drop i log ≡ symbol ∷ drop (i + 1) log = rw add-one (drop-cons log i 0 within) in
+    rw split (rw (hull_is rules entry symbol is) at near, rw (leads ∙ leads_to rules cell entry symbol is) at rest)
 
 -- after the last symbol there is no box
 pub AreHullsAsked-end : (rules : RulesView) (cell : Cell) (log : List ℕ) (i : ℕ) → length log ≤ i →

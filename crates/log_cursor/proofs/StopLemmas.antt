@@ -1,5 +1,5 @@
 -- The stops of symbols, and which of them pass a test for the instant.
-use Rattle.std.proofs.Common.{◌≡◌, ℕ, zero, suc, ◌<◌, ℤ, pos, ◌+ℤ◌, ◌≤ℤ◌, ◌<ℤ◌, Bool, true, false, List, [], ◌∷◌, ◌++◌, length, filter, Option, Some, None, refl, ap, sym, ◌∙◌, arith, inl, inr}
+use Rattle.std.proofs.Common.{◌≡◌, ℕ, zero, suc, ◌<◌, ℤ, pos, ◌+ℤ◌, ◌≤ℤ◌, ◌<ℤ◌, Bool, true, false, List, [], ◌∷◌, ◌++◌, length, filter, Option, Some, None, refl, ap, sym, ◌∙◌, to_z, of_z, w64, arith, inl, inr}
 use Rattle.std.specs.Option.{is_some}
 use Rattle.std.specs.Ordering.{int_eq}
 use Rattle.std.proofs.lemmas.Int.{ints}
@@ -20,6 +20,10 @@ use Rattle.rule_store.proofs.ExpansionLemmas.{length-values_of, values_of-termin
 use Rattle.rule_store.proofs.LogLemmas.{stops_after-cons}
 use Rattle.log_cursor.specs.Start.{start_past}
 use Rattle.log_cursor.specs.declared.start.Start.{Start}
+
+-- an instant, as it is once it went through a machine's word
+abbrev pub word : ℤ → ℤ
+word z = to_z w64 (of_z w64 z)
 
 -- from an instant on there are so many stops' instants
 abbrev IsFalseFrom : (Stop → Bool) → ℤ → ℕ → Type 0

@@ -1,5 +1,5 @@
 -- One turn of a walk over a window: a symbol is passed over, is opened, or has the next stop.
-use Rattle.std.proofs.Common.{◌≡◌, ℕ, ◌+◌, ◌<◌, ◌≤◌, ℤ, pos, ◌+ℤ◌, ◌≤ℤ◌, ◌<ℤ◌, Bool, true, false, List, [], ◌∷◌, ◌++◌, length, filter, Option, Some, None, refl, ap, sym, ◌∙◌, arith}
+use Rattle.std.proofs.Common.{◌≡◌, ℕ, ◌<◌, ◌≤◌, ℤ, pos, ◌+ℤ◌, ◌≤ℤ◌, ◌<ℤ◌, Bool, true, false, List, [], ◌∷◌, ◌++◌, length, filter, Option, Some, None, refl, ap, sym, ◌∙◌, arith}
 use Rattle.std.specs.Option.{is_some, option_to_list}
 use Rattle.track_types.specs.declared.cell_box.CellBox.{CellBox}
 use Rattle.std.specs.Int.Signed.{le_z}
@@ -16,7 +16,7 @@ use Rattle.rule_store.specs.Cells.{cells_along}
 use Rattle.rule_store.specs.Boxes.{bounding_box_of}
 use Rattle.rule_store.specs.Flaws.{left_of, right_of}
 use Rattle.rule_store.specs.Log.{block_stops, in_window, log_values, stop_at, stops_after}
-use Rattle.rule_store.specs.Nodes.{block_budget, opened_count}
+use Rattle.rule_store.specs.Nodes.{block_budget}
 use Rattle.rule_store.proofs.ExpansionLemmas.{values_of-terminal}
 use Rattle.rule_store.proofs.LogLemmas.{stops_after-none}
 use Rattle.rule_store.proofs.NodeLemmas.{opened_count-none}
@@ -39,35 +39,35 @@ unfolding in_window
 window-one from to instant cell between = rw between refl
 
 -- a walk that was begun over a window with an instant
-pub walk_of-walk_from : (pending : PendingView) (anchor : Option Stop) (start : Start) (from to : ℤ) (rules : RulesView)
-    (log : List ℕ) → pending.rules ≡ rules → pending.symbols ≡ log → pending.unread ≡ length log →
-    option_to_list anchor ≡ in_window from to (stop_at start.instant start.cell ∷ []) → (a b : ℤ) → a ≡ from →
-    b ≡ to → from ≤ℤ to → walk_of pending anchor start a b ≡ walk_from rules log start from to
+pub walk_of-walk_from : (pending : PendingView) (anchor : Option Stop) (start : Start) (from to : ℤ) (log : List ℕ) →
+    pending.symbols ≡ log → pending.unread ≡ length log →
+    option_to_list anchor ≡ in_window from to (stop_at start.instant start.cell ∷ []) → from ≤ℤ to →
+    walk_of pending anchor start from to ≡ walk_from pending.rules log start from to
 unfolding in_window block_stops block_budget
-walk_of-walk_from pending anchor start from to rules log rules_are symbols unread first a b low high window =
+walk_of-walk_from pending anchor start from to log symbols unread first window =
     let stop = stop_at start.instant start.cell in
     let test : Stop → Bool = λ stop. is_between from to stop.instant in
-    let stops : option_to_list anchor ++ stops_left rules from to start log
-    ≡ filter test (stop ∷ stops_after rules start.instant start.cell log) =
-    ap (λ stops. stops ++ stops_left rules from to start log) first
-    ∙ sym (filter-append test (stop ∷ []) (stops_after rules start.instant start.cell log)) in
-    rw (low, high, rules_are, symbols, unread, le_z-from from to window)
-    (ap (λ stops. record {
-      rules = rules;
-      stops = stops;
-      reads = length log + opened_count rules start.instant log from to;
-    }) stops)
+    let later = stops_after pending.rules start.instant start.cell log in
+    let stops : option_to_list anchor ++ filter test later ≡ filter test (stop ∷ later) =
+    ap (λ stops. stops ++ filter test later) first ∙ sym (filter-append test (stop ∷ []) later) in
+    rw (symbols, unread, le_z-from from to window, stops) refl
+
+-- no symbols have no stops
+pub stops_left-end : (rules : RulesView) (from to : ℤ) (start : Start) (symbols : List ℕ) → symbols ≡ [] →
+    stops_left rules from to start symbols ≡ []
+unfolding in_window
+stops_left-end rules from to start symbols end = rw (end, stops_after-none rules start.instant start.cell) refl
 
 -- a walk with nothing left
-pub walk_of-none : (pending : PendingView) (start : Start) (from to : ℤ) (rules : RulesView) → pending.rules ≡ rules →
-    pending.symbols ≡ [] → pending.unread ≡ 0 → walk_of pending None start from to ≡ at_rest rules
-unfolding in_window
-walk_of-none pending start from to rules rules_are symbols unread =
-    let test : Stop → Bool = λ stop. is_between from to stop.instant in
-    let stops : stops_left rules from to start [] ≡ [] =
-    ap (filter test) (stops_after-none rules start.instant start.cell) in
-    rw (rules_are, symbols, unread, opened_count-none rules start.instant from to)
-    (ap (λ stops. record { rules = rules; stops = stops; reads = 0 }) stops)
+pub walk_of-none : (pending : PendingView) (start : Start) (from to : ℤ) → pending.symbols ≡ [] → pending.unread ≡ 0 →
+    walk_of pending None start from to ≡ at_rest pending.rules
+walk_of-none pending start from to symbols unread =
+    rw (
+      stops_left-end pending.rules from to start pending.symbols symbols,
+      symbols,
+      unread,
+      opened_count-none pending.rules start.instant from to,
+    ) refl
 
 -- a window with no instant has no stops
 pub in_window-empty : (from to : ℤ) (stops : List Stop) → to <ℤ from → in_window from to stops ≡ []
@@ -84,14 +84,6 @@ unfolding block_budget
 walk_from-empty rules log start from to empty =
     let none : le_z from to ≡ false = grind (arith, ints) in
     rw (in_window-empty from to (block_stops rules start.instant start.cell log) empty, none) refl
-
--- no symbols have no stops
-pub stops_left-end : (rules : RulesView) (from to : ℤ) (start : Start) (symbols : List ℕ) → symbols ≡ [] →
-    stops_left rules from to start symbols ≡ []
-unfolding in_window
-stops_left-end rules from to start symbols end =
-    ap (λ s. stops_left rules from to start s) end
-    ∙ ap (filter (λ stop. is_between from to stop.instant)) (stops_after-none rules start.instant start.cell)
 
 -- what a test for a box says
 pub none_unless : (hull : Option CellBox) → is_some hull ≡ false → hull ≡ None

@@ -61,21 +61,21 @@ module _ (start : Start) (xs ys : List ℕ) (way : IsWay start (xs ++ ys)) where
   long : length (xs ++ ys) ≡ length xs + length ys
   long = length-append xs ys
 
-  cells_are : present_in (cells_along start.cell (xs ++ ys))
-      ≡ present_in (cells_along start.cell xs)
-      ++ present_in (cells_along (moved start.cell (displacement_of xs)) ys)
+  cells_are : All IsCellAsked (present_in (cells_along start.cell xs)
+      ++ present_in (cells_along (moved start.cell (displacement_of xs)) ys))
   cells_are =
-      ap present_in (cells_along-append start.cell xs ys)
-      ∙ flat_map-append option_to_list (cells_along start.cell xs)
-      (cells_along (moved start.cell (displacement_of xs)) ys)
+      rw (
+        ← flat_map-append option_to_list (cells_along start.cell xs)
+            (cells_along (moved start.cell (displacement_of xs)) ys),
+        ← cells_along-append start.cell xs ys,
+      ) way.cells
 
   -- the way over the first values
   pub IsWay-front : IsWay start xs
   IsWay-front = record {
     start_is = way.start_is;
     last = omega (arith, ints, long, way.last);
-    cells = All-front IsCellAsked (present_in (cells_along start.cell xs)) _
-        (subst (All IsCellAsked) cells_are way.cells);
+    cells = All-front IsCellAsked (present_in (cells_along start.cell xs)) _ cells_are;
   }
 
   -- and that over the others, from where they lead
@@ -89,8 +89,7 @@ module _ (start : Start) (xs ys : List ℕ) (way : IsWay start (xs ++ ys)) where
       cell = end-near start.cell xs way.start_is.cell IsWay-front.cells;
     };
     last = omega (arith, ints, long, way.last);
-    cells = All-back IsCellAsked (present_in (cells_along start.cell xs)) _
-        (subst (All IsCellAsked) cells_are way.cells);
+    cells = All-back IsCellAsked (present_in (cells_along start.cell xs)) _ cells_are;
   }
 
 -- a rule's way is that of its two parts, and of the symbols after it
@@ -178,10 +177,6 @@ length-log_values rules sound (symbol ∷ log) =
       length-log_values rules sound log,
     )
 
-none-round : (first : Cell) (rest : List Cell) → None ≡ box_round (first ∷ rest) → ⊥
-unfolding box_round
-none-round first rest is = absurd (cc)
-
 -- the cells round which a box is the least lie within its bounds
 pub box_round-bounded : (area : CellBox) (cells : List Cell) → Some area ≡ box_round cells → All (IsBounded area) cells
 box_round-bounded area [] is = All-nil (IsBounded area)
@@ -202,8 +197,9 @@ box_round-bounded area (first ∷ rest) is =
 -- where the box round cells is moved to a near place, they are near
 cells-near : (cell : Cell) (cells : List Cell) (hull : Option CellBox) → hull ≡ box_round cells →
     IsHullAsked cell hull → All IsCellAsked (map (λ c. moved c (cell.x, cell.y)) cells)
+unfolding box_round
 cells-near cell [] hull is near = All-nil IsCellAsked
-cells-near cell (first ∷ rest) None is near = absurd (none-round first rest is)
+cells-near cell (first ∷ rest) None is near = absurd (cc)
 cells-near cell (first ∷ rest) (Some area) is near =
     All-map IsCellAsked (λ c. moved c (cell.x, cell.y)) (first ∷ rest)
     (λ k d within. in_bounds (get_or (first ∷ rest) k d) (box_round-bounded area (first ∷ rest) is k d within))

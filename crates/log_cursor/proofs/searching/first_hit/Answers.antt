@@ -1,8 +1,9 @@
-use Rattle.std.proofs.Common.{◌≡◌, ◌≤ℤ◌, ℤ, to_z, of_z, w64, [], ◌∷◌, sym, subst, ◌∙◌, arith}
+use Rattle.std.proofs.Common.{◌≡◌, ◌≤ℤ◌, [], ◌∷◌, sym, subst, ◌∙◌, arith}
 use Rattle.std.proofs.lemmas.Int.{ints}
 use Rattle.rule_store.specs.Flaws.{AreRules}
 use Rattle.rule_store.specs.Log.{in_window, log_of, stop_at}
 use Rattle.log_cursor.specs.Touching.{first_among}
+use Rattle.log_cursor.proofs.StopLemmas.{word}
 use Rattle.log_cursor.proofs.SearchLemmas.{first_hit_of-anchor, first_hit_of-empty, first_hit_of-later, first_hit_of-over}
 use Rattle.log_cursor.proofs.WayLemmas.{IsWayOf-placed, length-log_of}
 use Rattle.log_cursor.proofs.searching.first_hit.Given.{Over}
@@ -13,10 +14,6 @@ pub returns-then-to-from-clause-value : goal.returns-then-to-from-clause-value
 returns-then-to-from-clause-value g c =
     sym (first_hit_of-empty c.args.view.rules.now (log_of c.args.view) c.args.start c.args.from c.args.to
     c.args.test.now.region (omega (arith, ints, c.if-to-from.true)))
-
--- an instant as a callee has it
-abbrev word : ℤ → ℤ
-word z = to_z w64 (of_z w64 z)
 
 -- what the anchor's own call answers
 anchor_is : (g : Over) (c : After-anchor_hit-anchor g) → c.anchor_hit-anchor.result

@@ -1,10 +1,11 @@
-use Rattle.std.proofs.Common.{◌≡◌, ◌+◌, ◌<◌, ◌≤ℤ◌, ◌<ℤ◌, ℤ, to_z, of_z, w64, length, [], true, refl, sym, ◌∙◌, arith}
+use Rattle.std.proofs.Common.{◌≡◌, ◌+◌, ◌<◌, ◌≤ℤ◌, ◌<ℤ◌, length, [], true, refl, sym, ◌∙◌, arith}
 use Rattle.std.proofs.lemmas.Bool.{leb-false, leb-true}
 use Rattle.std.proofs.lemmas.Int.{ints}
 use Rattle.rule_store.specs.Log.{stop_at}
 use Rattle.log_cursor.specs.Touching.{IsHitOf, touches_at, touching_left}
 use Rattle.log_cursor.specs.Turn.{is_hit}
 use Rattle.log_cursor.specs.Walk.{stops_left}
+use Rattle.log_cursor.proofs.StopLemmas.{word}
 use Rattle.log_cursor.proofs.HitLemmas.{own_stops-apart, touches_at-some}
 use Rattle.log_cursor.proofs.TouchLemmas.{touching_left-count}
 use Rattle.log_cursor.proofs.TurnLemmas.{IsTurn, find-passed, taken-near, taken-next, turn-before, turn-fewer, turn-held, turn-hull, turn-opened, turn-opened-fewer, turn-over, turn-reads, turn-stop, walking-end, walking-over}
@@ -12,10 +13,6 @@ use Rattle.log_cursor.proofs.searching.hit_after.Given.{Over}
 use Rattle.log_cursor.proofs.searching.hit_after.Goals as goal
 use Rattle.log_cursor.proofs.searching.hit_after.Goals.{After-after-next, After-is_rule}
 use Rattle.log_cursor.proofs.searching.hit_after.Goals.{then-next-from-via-then-next-from, then-next-from-via-else-next-from+then-not-touches}
-
--- an instant as the loop has it
-abbrev word : ℤ → ℤ
-word z = to_z w64 (of_z w64 z)
 
 pub loop-at-init : goal.loop-at-init
 loop-at-init g c =

@@ -1,15 +1,12 @@
-use Rattle.std.proofs.Common.{◌≡◌, ◌≤ℤ◌, ◌<ℤ◌, ℤ, to_z, of_z, w64, sym, ◌∙◌, arith}
+use Rattle.std.proofs.Common.{◌≡◌, ◌≤ℤ◌, ◌<ℤ◌, sym, ◌∙◌, arith}
 use Rattle.std.proofs.lemmas.Bool.{leb-false, leb-true}
 use Rattle.std.proofs.lemmas.Int.{ints}
+use Rattle.log_cursor.proofs.StopLemmas.{word}
 use Rattle.log_cursor.proofs.SeekLemmas.{IsOpened, inside-absent, inside-found, inside-left, inside-left_smaller, inside-middle, inside-right, inside-right_smaller, inside-start}
 use Rattle.log_cursor.proofs.WalkLemmas.{none_unless}
 use Rattle.log_cursor.proofs.seeking.cell_within.Goals as goal
 use Rattle.log_cursor.proofs.seeking.cell_within.Goals.{After-parts}
 use Rattle.log_cursor.proofs.seeking.cell_within.Given.{Over}
-
--- an instant as the loop has it
-abbrev word : ℤ → ℤ
-word z = to_z w64 (of_z w64 z)
 
 pub after-requires : goal.after-requires
 after-requires g c = inside-start c.loop-inner.invariant

@@ -1,4 +1,4 @@
-use Rattle.std.proofs.Common.{◌≡◌, [], ◌∷◌, ℤ, to_z, of_z, w64, ◌<◌, ◌≤ℤ◌, ◌<ℤ◌, length, subst, sym, ap, ◌∙◌, arith}
+use Rattle.std.proofs.Common.{◌≡◌, [], ◌∷◌, ◌<◌, ◌≤ℤ◌, ◌<ℤ◌, length, subst, sym, ap, ◌∙◌, arith}
 use Rattle.std.proofs.lemmas.Int.{ints}
 use Rattle.rule_store.specs.Flaws.{AreRules}
 use Rattle.rule_store.specs.View.{RulesView}
@@ -6,16 +6,13 @@ use Rattle.rule_store.specs.Expansion.{depth_of}
 use Rattle.rule_store.specs.Log.{log_of, stops_after}
 use Rattle.log_cursor.specs.Seek.{cell_among}
 use Rattle.log_cursor.specs.declared.start.Start.{Start}
+use Rattle.log_cursor.proofs.StopLemmas.{word}
 use Rattle.log_cursor.proofs.RuleLemmas.{depth_of-deepest}
 use Rattle.log_cursor.proofs.SeekLemmas.{IsReading, cell_among-anchor, cell_among-early, seeking-entry, seeking-first, seeking-found, seeking-known, seeking-last, seeking-next, seeking-start, seeking-way}
 use Rattle.log_cursor.proofs.WayLemmas.{IsWayOf-placed, length-log_of}
 use Rattle.log_cursor.proofs.seeking.seek.Given.{Over}
 use Rattle.log_cursor.proofs.seeking.seek.Goals as goal
 use Rattle.log_cursor.proofs.seeking.seek.Goals.{After-entry-entry}
-
--- an instant as the loop has it
-abbrev word : ℤ → ℤ
-word z = to_z w64 (of_z w64 z)
 
 pub returns-then-instant-start-2-clause-value : goal.returns-then-instant-start-2-clause-value
 returns-then-instant-start-2-clause-value g c =

@@ -1,8 +1,9 @@
-use Rattle.std.proofs.Common.{pos, subst, sym, arith}
+use Rattle.std.proofs.Common.{pos, ap, ◌∙◌, arith}
 use Rattle.std.proofs.lemmas.Int.{ints}
 use Rattle.rule_store.specs.Cells.{cell_with}
-use Rattle.log_cursor.specs.Start.{IsWayOf, start_at}
+use Rattle.log_cursor.specs.Start.{start_at}
 use Rattle.log_cursor.specs.declared.start.Start.{Start}
+use Rattle.log_cursor.specs.Walk.{at_rest}
 use Rattle.log_cursor.proofs.WalkLemmas.{walk_of-none}
 use Rattle.log_cursor.proofs.WayLemmas.{IsWayOf-none}
 use Rattle.log_cursor.proofs.walk.BlockWalk.new.Goals as goal
@@ -15,21 +16,17 @@ pub invariant_of-result : goal.invariant_of-result
 invariant_of-result c =
     let pending = c.in_ok-pending.pending in
     record {
-      way = subst (IsWayOf pending.rules nowhere) (sym c.in_ok-pending.ensures.symbols)
-          (IsWayOf-none pending.rules nowhere (record {
-            instant = record { low = omega (arith, ints); high = omega (arith, ints) };
-            cell = record {
-              x = record { low = omega (arith, ints); high = omega (arith, ints) };
-              y = record { low = omega (arith, ints); high = omega (arith, ints) };
-            };
-          }));
+      way = rw c.in_ok-pending.ensures.symbols (IsWayOf-none pending.rules nowhere (record {
+        instant = record { low = omega (arith, ints); high = omega (arith, ints) };
+        cell = record {
+          x = record { low = omega (arith, ints); high = omega (arith, ints) };
+          y = record { low = omega (arith, ints); high = omega (arith, ints) };
+        };
+      }));
       window = omega (arith, ints);
     }
 
 pub returns : goal.returns
 returns c =
     let facts = c.in_ok-pending.ensures in
-    record {
-      ok = walk_of-none c.in_ok-pending.pending nowhere (pos 0) (pos 0) c.args.rules.now facts.rules facts.symbols
-          facts.unread;
-    }
+    record { ok = walk_of-none c.in_ok-pending.pending nowhere (pos 0) (pos 0) facts.symbols facts.unread ∙ ap at_rest facts.rules }
