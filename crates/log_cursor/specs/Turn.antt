@@ -16,18 +16,19 @@ use Rattle.log_cursor.specs.Touching.{terminal_values}
 use Rattle.log_cursor.specs.Walk.{stops_left}
 use Rattle.log_cursor.specs.declared.start.Start.{Start}
 
--- every stop is wanted by a walk, and its boxes are those of symbols that have one
+-- a walk that draws stops wants every one
 abbrev pub is_any : Stop → Bool
 is_any stop = true
 
+-- it opens the rules that have a box, wherever they are placed
 abbrev pub has_hull : Cell → Option CellBox → Bool
 has_hull cell hull = is_some hull
 
--- a search wants those in its region
+-- a search wants the stops in its region
 abbrev pub is_hit : Region → Stop → Bool
 is_hit region stop = in_region region stop.cell
 
--- the instants of a node meet the window, and its box passes a test for the boxes placed at a cell
+-- the instants of a node meet the window, and its box, placed where the node begins, passes a test
 abbrev pub is_opening : RulesView → (Cell → Option CellBox → Bool) → ℤ → ℤ → Start → RuleNode → Bool
 is_opening rules may from to start node =
     meets start.instant from to node
@@ -38,8 +39,8 @@ is_opening rules may from to start node =
 unfoldable pub opening_count : RulesView → (Cell → Option CellBox → Bool) → ℤ → ℤ → Start → List ℕ → ℕ
 opening_count rules may from to start symbols = length (filter (is_opening rules may from to start) (nodes_in rules symbols))
 
--- What a walk that has come to no wanted stop has done: it passed stops of which none is wanted, those of the symbols that
--- are left come after them, and its reads, with those that are still to be made, are within a budget.
+-- What a walk has done that has come to no wanted stop: it passed stops of which none is wanted, the others are those of
+-- the symbols that are left, and its reads, with those that are still to be made, are within a budget.
 pub record IsWalking (wanted : Stop → Bool) (may : Cell → Option CellBox → Bool) (rules : RulesView) (stops : List Stop)
     (budget : ℕ) (from to : ℤ) (pending : PendingView) (at : Start) (steps : ℕ) : Type 0 where
   pub passed : List Stop
