@@ -1,7 +1,6 @@
 -- The definitions, run on inputs that were worked out by hand.
 use Rattle.std.proofs.Common.{◌≡◌, ℕ, List, [], ◌∷◌, codes, refl, Bor, map, Ok, Some}
 use Rattle.std.specs.Fmt.{digits}
-use Rattle.question_shell.specs.RegionWords.{shapes_fault}
 use Rattle.question_shell.specs.Grammar.{question_of}
 use Rattle.track_types.specs.declared.limit.LimitKind.TheVariants as limit
 use Rattle.track_types.specs.declared.raw_row.RowFault.TheVariants as fault
@@ -94,7 +93,6 @@ summary_lines : map question_of
     (codes "position 0 32" ∷ codes "path 0 0 63" ∷ codes "slice 32 rect 0 0 511 511"
     ∷ codes "interval 0 63 disc 512 512 100" ∷ codes "nearest 5 63 512 512" ∷ [])
     ≡ map (λ asked. Ok (Some asked)) (counted_questions 64)
-unfolding shapes_fault
 summary_lines = refl
 
 -- texts

@@ -10,7 +10,7 @@ use Rattle.track_types.specs.declared.question.Question.TheVariants as question
 use Rattle.track_types.specs.declared.region.Region.TheVariants as region
 use Rattle.question_shell.specs.Grammar.{question_of}
 use Rattle.track_types.specs.declared.shape.Shape.TheVariants as shape
-use Rattle.question_shell.specs.RegionWords.{shapes_fault, shapes_of}
+use Rattle.question_shell.specs.RegionWords.{shapes_cut, shapes_of}
 use Rattle.question_shell.specs.Lines.{input_lines, unended_line, whole_lines, words_of}
 use Rattle.question_shell.specs.Replies.{costs_of, desk_after, replies_of}
 use Rattle.question_shell.specs.Reply.{listed}
@@ -78,12 +78,10 @@ instant_above = refl
 
 slice_question : question_of (codes "slice -2 rect 0 1 2 3")
     ≡ Ok (Some (question.Slice (negsuc 1) (region.Rect (pos 0) (pos 1) (pos 2) (pos 3))))
-unfolding shapes_fault
 slice_question = refl
 
 interval_question : question_of (codes "interval 1 2 disc -3 4 4398046511104")
     ≡ Ok (Some (question.Interval (pos 1) (pos 2) (region.Disc (negsuc 2) (pos 4) 4398046511104)))
-unfolding shapes_fault
 interval_question = refl
 
 nearest_question : question_of (codes "nearest 3 2 0 -1")
@@ -105,7 +103,7 @@ distance_above = refl
 
 zone_question : question_of (codes "slice 0 any 2 rect 2 0 2 0 disc 0 3 0")
     ≡ Ok (Some (question.Slice (pos 0) (region.Any (shape.Rect (pos 2) (pos 0) (pos 2) (pos 0) ∷ shape.Disc (pos 0) (pos 3) 0 ∷ []))))
-unfolding shapes_fault shapes_of
+unfolding shapes_cut shapes_of
 zone_question = refl
 
 -- after `any` their number is judged first, and then the names and the number of the words of all shapes
@@ -113,39 +111,33 @@ too_many_shapes : question_of (codes "slice x any 17 ring") ≡ Err (bad.Range 4
 too_many_shapes = refl
 
 name_in_zone : question_of (codes "slice x any 2 disc 0 0 y ring") ≡ Err bad.Word
-unfolding shapes_fault
+unfolding shapes_cut
 name_in_zone = refl
 
 number_in_zone : question_of (codes "slice 0 any 2 disc 0 0 1 rect 0 0 y 1") ≡ Err (bad.Number 12)
-unfolding shapes_fault shapes_of
+unfolding shapes_cut shapes_of
 number_in_zone = refl
 
 -- the word of a region's shape is judged before the number of words, and that before the numbers
 other_shape : question_of (codes "slice x ring") ≡ Err bad.Word
-unfolding shapes_fault
 other_shape = refl
 
 number_as_shape : question_of (codes "interval 0 rect 1 1 2 2") ≡ Err bad.Word
-unfolding shapes_fault
 number_as_shape = refl
 
 shape_missing : question_of (codes "slice x") ≡ Err bad.Count
 shape_missing = refl
 
 side_missing : question_of (codes "slice x rect 1 2 3") ≡ Err bad.Count
-unfolding shapes_fault
 side_missing = refl
 
 instant_bad : question_of (codes "slice x disc y 2 -3") ≡ Err (bad.Number 2)
-unfolding shapes_fault
 instant_bad = refl
 
 radius_below : question_of (codes "slice 0 disc 0 0 -1") ≡ Err (bad.Range 6)
-unfolding shapes_fault
 radius_below = refl
 
 radius_above : question_of (codes "slice 0 disc 0 0 4398046511105") ≡ Err (bad.Range 6)
-unfolding shapes_fault
 radius_above = refl
 
 hold_question : question_of (codes "hold 15 7 -1 2") ≡ Ok (Some (question.Hold 15 7 (negsuc 0) (pos 2)))
@@ -198,7 +190,7 @@ replies_to_regions : (facts : Facts) →
     ≡ codes "7 12 11\nok 1\nok 0\n7 0 10 -10\nok 1\n7 10 -10 25\nok 1\n"
 unfolding
     chart digits replies_of listed whole_lines unended_line sightings_of hits_of nears_of nears_at nearest_among
-    ordered insert_in_order shapes_fault
+    ordered insert_in_order shapes_cut
 replies_to_regions facts = refl
 
 -- objects 1 and 2 come towards each other, and are in one cell in the end

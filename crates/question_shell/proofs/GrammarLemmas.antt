@@ -6,7 +6,7 @@ use Rattle.track_types.specs.Bounds.{number_within, value_within}
 use Rattle.track_types.specs.Numeral.{numeral_of}
 use Rattle.track_types.specs.declared.numeral.Numeral.{Numeral}
 use Rattle.track_types.specs.declared.numeral.Numeral.TheVariants.{Value, Large, Not}
-use Rattle.question_shell.specs.NumberWords.{first_fault, word_number, value_of}
+use Rattle.question_shell.specs.NumberWords.{word_number, value_of}
 use Rattle.question_shell.specs.Lines.{texts}
 use Rattle.question_shell.specs.Grammar.{form_of, form_question, form_words, question_in, some_question}
 use Rattle.question_shell.specs.Grammar.{worded_question}
@@ -14,11 +14,9 @@ use Rattle.question_shell.specs.declared.bad.Bad.{Bad}
 use Rattle.question_shell.specs.declared.form.Form.{Form}
 use Rattle.question_shell.specs.declared.form.Form.TheVariants.{Position, Path, Slice, Interval, Nearest, Meet, Info, Hold, More}
 use Rattle.question_shell.specs.declared.form.Form.TheVariants.{Free}
-use Rattle.track_types.specs.declared.question.Question.TheVariants as question
 use Rattle.std.proofs.lemmas.Bool.{cases_lt}
 use Rattle.std.proofs.lemmas.List.{length-take}
-use Rattle.question_shell.proofs.FrontLemmas.{laid-front}
-use Rattle.question_shell.proofs.LineLemmas.{length-texts}
+use Rattle.question_shell.proofs.FrontLemmas.{layout-front}
 
 -- a word that is a number within its bounds is a numeral with that value
 pub value_of-within : (least greatest : ℤ) (word : List ℕ) (number : ℤ) →
@@ -31,40 +29,15 @@ value_of-within least greatest word number within = by_numeral (numeral_of word)
     by_numeral Large within = cc
     by_numeral Not within = cc
 
--- enough words are not too few
-pub texts-enough : (words : List (Bor (List ℕ))) (count : ℕ) → count ≤ length words → nat_lt (length (texts words)) count ≡ false
-texts-enough words count enough = grind (arith, nat_tests, length-texts words)
-
--- three words, and those after them
-pub texts-three : (words : List (Bor (List ℕ))) (none : Bor (List ℕ)) → 3 ≤ length words →
-    texts words ≡ (get_or words 0 none).now ∷ (get_or words 1 none).now ∷ (get_or words 2 none).now
-    ∷ texts (drop 3 words)
-texts-three [] none count = absurd (omega (arith, count))
-texts-three (a ∷ []) none count = absurd (omega (arith, count))
-texts-three (a ∷ b ∷ []) none count = absurd (omega (arith, count))
-texts-three (a ∷ b ∷ c ∷ words) none count = refl
-
--- four words, and those after them
-pub texts-four : (words : List (Bor (List ℕ))) (none : Bor (List ℕ)) → 4 ≤ length words →
-    texts words ≡ (get_or words 0 none).now ∷ (get_or words 1 none).now ∷ (get_or words 2 none).now
-    ∷ (get_or words 3 none).now ∷ texts (drop 4 words)
-texts-four [] none count = absurd (omega (arith, count))
-texts-four (a ∷ []) none count = absurd (omega (arith, count))
-texts-four (a ∷ b ∷ []) none count = absurd (omega (arith, count))
-texts-four (a ∷ b ∷ c ∷ []) none count = absurd (omega (arith, count))
-texts-four (a ∷ b ∷ c ∷ d ∷ words) none count = refl
-
 -- a question about a region is told by the words that are kept
 slice-kept : (words : List (List ℕ)) → form_question Slice (take 85 words) ≡ form_question Slice words
 slice-kept [] = refl
-slice-kept (instant ∷ words) = laid-front 82 (omega arith) (first_fault (form_words Slice) 2 (instant ∷ []))
-    (question.Slice (word_number instant)) 3 words
+slice-kept (instant ∷ words) = rw (layout-front 82 (omega arith) 3 words) refl
 
 interval-kept : (words : List (List ℕ)) → form_question Interval (take 85 words) ≡ form_question Interval words
 interval-kept [] = refl
 interval-kept (from ∷ []) = refl
-interval-kept (from ∷ to ∷ words) = laid-front 81 (omega arith) (first_fault (form_words Interval) 2 (from ∷ to ∷ []))
-    (question.Interval (word_number from) (word_number to)) 4 words
+interval-kept (from ∷ to ∷ words) = rw (layout-front 81 (omega arith) 4 words) refl
 
 -- a question without a region has fewer words than are kept
 module _ (words : List (List ℕ)) (long : 85 < length words) where

@@ -1,103 +1,87 @@
--- Judging and reading the words of shapes, one after another.
-use Rattle.std.proofs.Common.{◌≡◌, ◌∙◌, ◌+◌, ◌-◌, ◌<◌, ◌≤◌, ℕ, zero, suc, List, [], ◌∷◌, Bor, length, drop, Ok, Err, None, Some, Result, ◌++◌, append_assoc, append-nil, ap, sym, arith, refl}
-use Rattle.std.proofs.lemmas.List.{drop-map}
-use Rattle.question_shell.specs.Lines.{texts}
-use Rattle.question_shell.specs.RegionWords.{and_then, before_shapes, region_of, shape_at, shape_size, shapes_fault, shapes_of}
+-- Cutting shapes off words and reading them, one after another.
+use Rattle.std.proofs.Common.{◌≡◌, ◌∙◌, ◌+◌, ◌-◌, ◌<◌, ◌≤◌, ℕ, zero, suc, List, [], ◌∷◌, Ok, Err, Result, ◌++◌, Bor, length, append_assoc, append-nil, arith, refl, sym}
+use Rattle.question_shell.specs.RegionWords.{DiscTexts, RectTexts, ShapeTexts, and_then, if_last, shape_cut, shape_of, shape_size, shapes_cut, shapes_of}
 use Rattle.track_types.specs.declared.shape.Shape.{Shape}
+use Rattle.question_shell.specs.Lines.{texts}
 use Rattle.question_shell.specs.declared.bad.Bad.{Bad}
 use Rattle.question_shell.specs.declared.bad.Bad.TheVariants as bad
-use Rattle.question_shell.specs.declared.form.Layout.TheVariants.{Any}
 
--- what is left of the words, as texts
-pub texts-drop : (size : ℕ) (words : List (Bor (List ℕ))) → drop size (texts words) ≡ texts (drop size words)
-texts-drop size words = drop-map (λ word. word.now) size words
+-- some before others, unless those are bad
+abbrev pub joined : {A : Type 0} → List A → Result (List A) Bad → Result (List A) Bad
+joined before rest = and_then rest (λ more. Ok (before ++ more))
 
--- one shape is left, and those after it
-pub one_more : (count done : ℕ) → done < count → count - done ≡ suc (count - (done + 1))
-one_more count done below = omega (arith, below)
-
-module _ (count done : ℕ) (below : done < count) (words : List (Bor (List ℕ))) where
-  -- a shape that is none
-  pub judge-bad : (fault : Bad) → Err fault ≡ shape_size (texts words) →
-      shapes_fault (count - done) (texts words) ≡ Some fault
-  unfolding shapes_fault
-  judge-bad fault is = rw (one_more count done below, ← is) refl
-
-  -- a shape and those after it
-  pub judge-next : (size : ℕ) → Ok size ≡ shape_size (texts words) →
-      shapes_fault (count - done) (texts words) ≡ shapes_fault (count - (done + 1)) (texts (drop size words))
-  unfolding shapes_fault
-  judge-next size is =
-      let next : shapes_fault (count - done) (texts words) ≡ shapes_fault (count - (done + 1)) (drop size (texts words)) =
-      rw (one_more count done below, ← is) refl in
-      next ∙ ap (shapes_fault (count - (done + 1))) (texts-drop size words)
-
-module _ (count done : ℕ) (all : count ≤ done) where
-  -- no shape and no word is left
-  pub judge-end : (words : List (Bor (List ℕ))) → length words ≡ 0 → shapes_fault (count - done) (texts words) ≡ None
-  unfolding shapes_fault
-  judge-end [] empty = let end : count - done ≡ 0 = omega (arith, all) in rw end refl
-  judge-end (word ∷ words) empty = absurd (omega (arith, empty))
-
-  -- no shape is left, but a word
-  pub judge-more : (words : List (Bor (List ℕ))) → 0 < length words →
-      shapes_fault (count - done) (texts words) ≡ Some bad.Count
-  unfolding shapes_fault
-  judge-more [] some = absurd (omega (arith, some))
-  judge-more (word ∷ words) some = let end : count - done ≡ 0 = omega (arith, all) in rw end refl
-
--- shapes before others, unless those are bad
-abbrev pub joined : List Shape → Result (List Shape) Bad → Result (List Shape) Bad
-joined shapes rest = and_then rest (λ more. Ok (shapes ++ more))
-
-joined-none : (rest : Result (List Shape) Bad) → joined [] rest ≡ rest
-joined-none (Ok shapes) = refl
+joined-none : {A : Type 0} (rest : Result (List A) Bad) → joined [] rest ≡ rest
+joined-none (Ok values) = refl
 joined-none (Err fault) = refl
 
-joined-next : (shapes : List Shape) (shape : Shape) (rest : Result (List Shape) Bad) →
-    joined shapes (before_shapes shape rest) ≡ joined (shapes ++ shape ∷ []) rest
-joined-next shapes shape (Ok more) = rw append_assoc refl
-joined-next shapes shape (Err fault) = refl
+joined-next : {A : Type 0} (before : List A) (value : A) (rest : Result (List A) Bad) →
+    joined before (and_then rest (λ more. Ok (value ∷ more))) ≡ joined (before ++ value ∷ []) rest
+joined-next before value (Ok more) = rw append_assoc refl
+joined-next before value (Err fault) = refl
 
-module _ (all more place : ℕ) (left : List (Bor (List ℕ))) (shapes : List Shape) (some : all ≡ suc more) where
-  -- no words for a shape
-  pub read-bad_size : (fault : Bad) → Err fault ≡ shape_size (texts left) →
-      joined shapes (shapes_of all place (texts left)) ≡ Err fault
-  unfolding shapes_of
-  read-bad_size fault is = rw (some, ← is) refl
+-- a shape has at most five words
+pub size-few : (words : ShapeTexts) → shape_size words ≤ 5
+size-few (RectTexts x1 y1 x2 y2) = omega arith
+size-few (DiscTexts x y r) = omega arith
 
-  -- a shape with a bad number
-  pub read-bad : (size : ℕ) (fault : Bad) → Ok size ≡ shape_size (texts left) → Err fault ≡ shape_at place (texts left) →
-      joined shapes (shapes_of all place (texts left)) ≡ Err fault
-  unfolding shapes_of
-  read-bad size fault sized is = rw (some, ← sized, ← is) refl
+-- whether a word is left
+pub last-none : {A : Type 0} (words : List (Bor (List ℕ))) (value : A) → length words ≡ 0 → if_last (texts words) value ≡ Ok value
+last-none [] value none = refl
+last-none (word ∷ words) value none = absurd (omega (arith, none))
 
-  -- a shape and those after it
-  pub read-next : (size : ℕ) (shape : Shape) → Ok size ≡ shape_size (texts left) → Ok shape ≡ shape_at place (texts left) →
-      joined shapes (shapes_of all place (texts left))
-      ≡ joined (shapes ++ shape ∷ []) (shapes_of more (place + size) (texts (drop size left)))
-  unfolding shapes_of
-  read-next size shape sized is =
-      let next : joined shapes (shapes_of all place (texts left))
-      ≡ joined shapes (before_shapes shape (shapes_of more (place + size) (drop size (texts left)))) =
-      rw (some, ← sized, ← is) refl in
-      next ∙ (joined-next shapes shape _ ∙ ap (λ words. joined (shapes ++ shape ∷ []) (shapes_of more (place + size) words)) (texts-drop size left))
+pub last-some : {A : Type 0} (words : List (Bor (List ℕ))) (value : A) → 0 < length words → if_last (texts words) value ≡ Err bad.Count
+last-some [] value some = absurd (omega (arith, some))
+last-some (word ∷ words) value some = refl
 
 -- nothing before them
-pub read-first : (count place : ℕ) (words : List (List ℕ)) → shapes_of count place words ≡ joined [] (shapes_of count place words)
-read-first count place words = sym (joined-none (shapes_of count place words))
+pub cut-begin : (count : ℕ) (words : List (List ℕ)) → shapes_cut count words ≡ joined [] (shapes_cut (count - 0) words)
+cut-begin count words = let same : count - 0 ≡ count = omega arith in rw same (sym (joined-none (shapes_cut count words)))
+
+module _ (count done : ℕ) (before : List ShapeTexts) (words : List (List ℕ)) where
+  -- no shape comes where one should
+  pub cut-bad : (fault : Bad) → done < count → shape_cut words ≡ Err fault →
+      joined before (shapes_cut (count - done) words) ≡ Err fault
+  unfolding shapes_cut
+  cut-bad fault below is =
+      let some : count - done ≡ suc (count - (done + 1)) = omega (arith, below) in rw (some, is) refl
+
+  -- a shape and those after it
+  pub cut-next : (shape : ShapeTexts) (after : List (List ℕ)) → done < count → shape_cut words ≡ Ok (shape, after) →
+      joined before (shapes_cut (count - done) words)
+      ≡ joined (before ++ shape ∷ []) (shapes_cut (count - (done + 1)) after)
+  unfolding shapes_cut
+  cut-next shape after below is =
+      let some : count - done ≡ suc (count - (done + 1)) = omega (arith, below) in
+      rw (some, is) (joined-next before shape _)
+
+  -- all of them, after which a word may come
+  pub cut-all : count ≤ done → joined before (shapes_cut (count - done) words) ≡ if_last words before
+  unfolding shapes_cut
+  cut-all all = let none : count - done ≡ 0 = omega (arith, all) in rw none (by_words words)
+    where
+      by_words : (words : List (List ℕ)) → joined before (if_last words []) ≡ if_last words before
+      by_words [] = rw (append-nil before) refl
+      by_words (word ∷ words) = refl
+
+-- nothing before them
+pub read-begin : (place : ℕ) (words : List ShapeTexts) → shapes_of place words ≡ joined [] (shapes_of place words)
+read-begin place words = sym (joined-none (shapes_of place words))
+
+module _ (place : ℕ) (words : ShapeTexts) (more : List ShapeTexts) (before : List Shape) where
+  -- a shape with a bad number
+  pub read-bad : (fault : Bad) → shape_of place words ≡ Err fault →
+      joined before (shapes_of place (words ∷ more)) ≡ Err fault
+  unfolding shapes_of
+  read-bad fault is = rw is refl
+
+  -- a shape and those after it
+  pub read-next : (shape : Shape) → shape_of place words ≡ Ok shape →
+      joined before (shapes_of place (words ∷ more))
+      ≡ joined (before ++ shape ∷ []) (shapes_of (place + shape_size words) more)
+  unfolding shapes_of
+  read-next shape is = rw is (joined-next before shape _)
 
 -- all of them
-pub read-all : (count done place : ℕ) (words : List (List ℕ)) (shapes : List Shape) → count ≤ done →
-    joined shapes (shapes_of (count - done) place words) ≡ Ok shapes
+pub read-all : (place : ℕ) (before : List Shape) → joined before (shapes_of place []) ≡ Ok before
 unfolding shapes_of
-read-all count done place words shapes all = let end : count - done ≡ 0 = omega (arith, all) in rw (end, append-nil shapes) refl
-
--- too few words for `any` and a number of shapes
-pub region-none : (count place : ℕ) (words : List (Bor (List ℕ))) → 1 ≤ count → length words < 2 →
-    region_of (Any count) place (texts words) ≡ Err bad.Count
-unfolding shapes_of
-region-none zero place words some few = absurd (omega (arith, some))
-region-none (suc count) place [] some few = refl
-region-none (suc count) place (word ∷ []) some few = refl
-region-none (suc count) place (word ∷ other ∷ words) some few = absurd (omega (arith, few))
+read-all place before = rw (append-nil before) refl

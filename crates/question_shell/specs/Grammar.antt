@@ -11,13 +11,12 @@ use Rattle.track_types.specs.declared.region.Region.{Region}
 use Rattle.question_shell.specs.Lines.{words_of}
 use Rattle.question_shell.specs.NumberWords.{NumberWord, first_fault, nth_number, numbers_of, object_word}
 use Rattle.question_shell.specs.NumberWords.{place_word, radius_word, slot_word}
-use Rattle.question_shell.specs.RegionWords.{layout_of, region_of, unless_bad}
+use Rattle.question_shell.specs.RegionWords.{RegionTexts, layout_of, region_of, unless_bad}
 use Rattle.question_shell.specs.declared.bad.Bad.{Bad}
 use Rattle.question_shell.specs.declared.bad.Bad.TheVariants as bad
 use Rattle.question_shell.specs.declared.form.Form.{Form}
 use Rattle.question_shell.specs.declared.form.Form.TheVariants.{Position, Path, Slice, Interval, Nearest, Meet, Info, Hold, More}
 use Rattle.question_shell.specs.declared.form.Form.TheVariants.{Free}
-use Rattle.question_shell.specs.declared.form.Layout.{Layout}
 
 -- the numbers of a question before its region, if it has one
 abbrev pub form_words : Form → List NumberWord
@@ -59,11 +58,11 @@ abbrev pub about : (Region → Question) → Result Region Bad → Result Questi
 about asks (Ok region) = Ok (asks region)
 about asks (Err fault) = Err fault
 
--- a question about a region whose words stand at that place of the line, after numbers with that first fault
-abbrev pub laid_question : Result Layout Bad → Option Bad → (Region → Question) → ℕ → List (List ℕ) → Result Question Bad
-laid_question (Err fault) before asks place words = Err fault
-laid_question (Ok layout) (Some fault) asks place words = Err fault
-laid_question (Ok layout) None asks place words = about asks (region_of layout place words)
+-- a question about a region whose words are laid out so from that place of the line, after numbers with that first fault
+abbrev pub laid_question : Result RegionTexts Bad → Option Bad → (Region → Question) → ℕ → Result Question Bad
+laid_question (Err fault) before asks place = Err fault
+laid_question (Ok words) (Some fault) asks place = Err fault
+laid_question (Ok words) None asks place = about asks (region_of place words)
 
 -- what the words after a form's first ask
 abbrev pub form_question : Form → List (List ℕ) → Result Question Bad
@@ -72,11 +71,11 @@ form_question Position words = plain_question Position
 form_question Path words = plain_question Path
     (λ numbers. question.Path (unsigned_abs (nth_number numbers 0)) (nth_number numbers 1) (nth_number numbers 2)) words
 form_question Slice words = laid_question (layout_of 3 (drop 1 words)) (first_fault (form_words Slice) 2 words)
-    (question.Slice (nth_number (numbers_of (form_words Slice) words) 0)) 3 (drop 1 words)
+    (question.Slice (nth_number (numbers_of (form_words Slice) words) 0)) 3
 form_question Interval words =
     let numbers = numbers_of (form_words Interval) words in
     laid_question (layout_of 4 (drop 2 words)) (first_fault (form_words Interval) 2 words)
-    (question.Interval (nth_number numbers 0) (nth_number numbers 1)) 4 (drop 2 words)
+    (question.Interval (nth_number numbers 0) (nth_number numbers 1)) 4
 form_question Nearest words = plain_question Nearest
     (λ numbers. question.Nearest (unsigned_abs (nth_number numbers 0)) (nth_number numbers 1)
     (record { x = nth_number numbers 2; y = nth_number numbers 3 })) words

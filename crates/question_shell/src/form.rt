@@ -1,6 +1,5 @@
-ghost use Rattle.std.specs.Prelude.{◌≡◌, length};
+ghost use Rattle.std.specs.Prelude.{◌≡◌};
 ghost use Rattle.question_shell.specs.Grammar.{form_of};
-ghost use Rattle.question_shell.specs.RegionWords.{kind_of, kind_words};
 
 use crate::bad::Bad;
 
@@ -27,24 +26,6 @@ pub enum Form {
     More,
     /// `free S`
     Free,
-}
-
-/// The kind of a shape, by the word that names it.
-#[derive(Clone, Copy, Debug, PartialEq, Eq)]
-pub enum Kind {
-    /// `rect X1 Y1 X2 Y2`
-    Rect,
-    /// `disc X Y R`
-    Disc,
-}
-
-/// How the words of a region are laid out.
-#[derive(Clone, Copy, Debug, PartialEq, Eq)]
-pub enum Layout {
-    /// One shape.
-    One,
-    /// `any N`, and then so many shapes, 1 to 16.
-    Any(u32),
 }
 
 impl Form {
@@ -74,31 +55,6 @@ impl Form {
             Ok(Form::Free)
         } else {
             Err(Bad::Word)
-        }
-    }
-}
-
-impl Kind {
-    // The kind that a word names.
-    pub(crate) fn named(word: &[u8]) -> Result<Kind, Bad>
-        ensures { result ≡ kind_of word.now }
-    {
-        if word == b"rect".as_slice() {
-            Ok(Kind::Rect)
-        } else if word == b"disc".as_slice() {
-            Ok(Kind::Disc)
-        } else {
-            Err(Bad::Word)
-        }
-    }
-
-    // How many numbers it has.
-    pub(crate) fn count(self) -> usize
-        ensures { result ≡ length (kind_words self) }
-    {
-        match self {
-            Kind::Rect => 4,
-            Kind::Disc => 3,
         }
     }
 }

@@ -1,70 +1,74 @@
-ghost use Rattle.std.specs.Prelude.{◌≡◌, ◌≤◌, IfOk, IfErr, Some, None, length};
+ghost use Rattle.std.specs.Prelude.{◌≡◌, ◌≤◌, Ok, Err, None, IfOk, IfErr};
 ghost use Rattle.question_shell.specs.Lines.{texts};
-ghost use Rattle.question_shell.specs.RegionWords.{IsLayout, any_layout, layout_of, shape_size, shapes_fault};
+ghost use Rattle.question_shell.specs.RegionWords.{any_counted, any_layout, layout_of, region_texts};
 
 use crate::bad::Bad;
-use crate::form::{Kind, Layout};
 use crate::number_word::read_shape_count;
+use crate::shape_words::{ShapeWords, cut_shape};
+use arrayvec::ArrayVec;
 
-// How the words of a region are laid out, after which no word comes. Its first stands at that place
-// of the line.
-pub(crate) fn read_layout(words: &[&[u8]], place: u32) -> Result<Layout, Bad>
+/// The words of a region, as they are laid out.
+#[derive(Drop)]
+pub enum Layout<'a> {
+    /// One shape.
+    One(ShapeWords<'a>),
+    /// `any N`, and then so many shapes, 1 to 16.
+    Any {
+        first: ShapeWords<'a>,
+        more: ArrayVec<ShapeWords<'a>, 15>,
+    },
+}
+
+// Lays out the words of a region, after which no word comes. Its first stands at that place of the
+// line.
+pub(crate) fn read_layout<'a>(words: &'a [&'a [u8]], place: u32) -> Result<Layout<'a>, Bad>
     requires { place ≤ 16 }
-    ensures value { result ≡ layout_of place (texts words.now) }
-    ensures few { IfOk result IsLayout }
+    ensures ok { IfOk result (λ layout. layout_of place (texts words.now) ≡ Ok (region_texts layout)) }
+    ensures err { IfErr result (λ bad. layout_of place (texts words.now) ≡ Err bad) }
 {
-    let [name, rest @ ..] = words else {
+    let [name, after @ ..] = words else {
         return Err(Bad::Count);
     };
     if *name == b"any".as_slice() {
-        return read_any_layout(rest, place + 1);
+        return read_any_layout(after, place + 1);
     }
-    judge_shapes(1, words)?;
-    Ok(Layout::One)
-}
-
-// The same after the word `any`.
-fn read_any_layout(words: &[&[u8]], place: u32) -> Result<Layout, Bad>
-    ensures value { result ≡ any_layout place (texts words.now) }
-    ensures few { IfOk result IsLayout }
-{
-    let [count, shapes @ ..] = words else {
-        return Err(Bad::Count);
-    };
-    let count = read_shape_count(count, place)?;
-    judge_shapes(count, shapes)?;
-    Ok(Layout::Any(count))
-}
-
-// Judges the names and the number of the words of so many shapes, after which no word comes.
-fn judge_shapes(count: u32, words: &[&[u8]]) -> Result<(), Bad>
-    ensures ok { IfOk result (λ _. shapes_fault count (texts words.now) ≡ None) }
-    ensures err { IfErr result (λ bad. shapes_fault count (texts words.now) ≡ Some bad) }
-{
-    let mut left = words;
-    for _ in 0..count {
-        let size = shape_size(left)?;
-        left = &left[size..];
-    }
-    if left.is_empty() {
-        Ok(())
+    let (shape, rest) = cut_shape(words)?;
+    if rest.is_empty() {
+        Ok(Layout::One(shape))
     } else {
         Err(Bad::Count)
     }
 }
 
-// How many words the first shape has, its name among them.
-pub(crate) fn shape_size(words: &[&[u8]]) -> Result<usize, Bad>
-    ensures value { result ≡ shape_size (texts words.now) }
-    ensures within { IfOk result (λ size. size ≤ length words.now) }
-    ensures few { IfOk result (λ size. size ≤ 5) }
+// The same after the word `any`.
+fn read_any_layout<'a>(words: &'a [&'a [u8]], place: u32) -> Result<Layout<'a>, Bad>
+    ensures ok { IfOk result (λ layout. any_layout place (texts words.now) ≡ Ok (region_texts layout)) }
+    ensures err { IfErr result (λ bad. any_layout place (texts words.now) ≡ Err bad) }
 {
-    let [name, numbers @ ..] = words else {
+    let [count, shapes @ ..] = words else {
         return Err(Bad::Count);
     };
-    let count = Kind::named(name)?.count();
-    if numbers.len() < count {
-        return Err(Bad::Count);
+    let count = read_shape_count(count, place)?;
+    lay_shapes(count, shapes)
+}
+
+// The same after `any N`.
+fn lay_shapes<'a>(count: u32, words: &'a [&'a [u8]]) -> Result<Layout<'a>, Bad>
+    requires some { 1 ≤ count }
+    requires few { count ≤ 16 }
+    ensures ok { IfOk result (λ layout. any_counted None count (texts words.now) ≡ Ok (region_texts layout)) }
+    ensures err { IfErr result (λ bad. any_counted None count (texts words.now) ≡ Err bad) }
+{
+    let (first, mut left) = cut_shape(words)?;
+    let mut more = ArrayVec::new();
+    for _ in 1..count {
+        let (shape, after) = cut_shape(left)?;
+        more.push(shape);
+        left = after;
     }
-    Ok(count + 1)
+    if left.is_empty() {
+        Ok(Layout::Any { first, more })
+    } else {
+        Err(Bad::Count)
+    }
 }

@@ -26,6 +26,7 @@ mod reading;
 mod reply;
 mod saying;
 mod shape_reading;
+mod shape_words;
 mod shell;
 mod shell_fault;
 #[cfg(test)]

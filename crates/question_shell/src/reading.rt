@@ -63,7 +63,7 @@ fn read_slice(words: &[&[u8]]) -> Result<Question, Bad>
     };
     let layout = read_layout(region, 3)?;
     let instant = read_place(instant, 2)?;
-    let region = read_region(layout, region, 3)?;
+    let region = read_region(&layout, 3)?;
     Ok(Question::Slice { instant, region })
 }
 
@@ -77,7 +77,7 @@ fn read_interval(words: &[&[u8]]) -> Result<Question, Bad>
     let layout = read_layout(region, 4)?;
     let from = read_place(from, 2)?;
     let to = read_place(to, 3)?;
-    let region = read_region(layout, region, 4)?;
+    let region = read_region(&layout, 4)?;
     Ok(Question::Interval { from, to, region })
 }
 

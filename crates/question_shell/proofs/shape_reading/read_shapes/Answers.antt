@@ -1,105 +1,76 @@
-use Rattle.std.proofs.Common.{rules, ◌≡◌, ◌∙◌, ◌+◌, ◌-◌, ◌≤◌, suc, [], ◌∷◌, ◌++◌, length, drop, Ok, Err, sym, refl, arith, length-append}
-use Rattle.std.proofs.lemmas.List.{drop-drop, length-drop}
+use Rattle.std.proofs.Common.{rules, ◌≡◌, ◌∙◌, ◌+◌, ◌<◌, ◌∷◌, [], ◌++◌, ℕ, List, Bor, Err, arith, drop, get_or, length, map, length-append, refl, sym, ap}
+use Rattle.std.proofs.lemmas.List.{drop_all, drop_more}
 use Rattle.std.proofs.lemmas.List.Elements.{All-append}
-use Rattle.list_laws.proofs.SliceLemmas.{take-rest}
 use Rattle.track_types.specs.Region.{IsShapeAsked}
-use Rattle.question_shell.specs.Lines.{texts}
-use Rattle.question_shell.specs.RegionWords.{shape_at, shape_size, shapes_of}
-use Rattle.question_shell.proofs.LayoutLemmas.{joined, one_more, read-all, read-bad, read-bad_size, read-first, read-next}
+use Rattle.question_shell.specs.RegionWords.{shape_of, shape_texts, shapes_of}
+use Rattle.question_shell.specs.declared.shape_words.ShapeWords.{ShapeWords}
+use Rattle.question_shell.specs.declared.shape_words.ShapeWords.TheVariants.{Rect}
+use Rattle.question_shell.proofs.LayoutLemmas.{read-all, read-bad, read-begin, read-next, size-few}
 use Rattle.question_shell.proofs.shape_reading.read_shapes.Goals as goal
-
-pub returns-in_err-taken-clause-value : goal.returns-in_err-taken-clause-value
-returns-in_err-taken-clause-value c =
-    let count = c.args.count in
-    let words = c.args.words.now in
-    let some : count ≡ suc (count - 1) = omega arith in
-    let fault : shapes_of count c.args.place (texts words) ≡ Err c.in_err-taken.field-0.0 =
-    read-first count c.args.place (texts words)
-    ∙ read-bad_size count (count - 1) c.args.place words [] some _ c.in_err-taken.ensures.value in
-    search rules
 
 pub returns-in_err-read_shape-clause-value : goal.returns-in_err-read_shape-clause-value
 returns-in_err-read_shape-clause-value c =
-    let count = c.args.count in
-    let words = c.args.words.now in
-    let some : count ≡ suc (count - 1) = omega arith in
-    let fault : shapes_of count c.args.place (texts words) ≡ Err c.in_err-read_shape.field-0.0 =
-    read-first count c.args.place (texts words)
-    ∙ read-bad count (count - 1) c.args.place words [] some _ _ c.in_ok-taken.ensures.value c.in_err-read_shape.ensures.value in
+    let first = shape_texts c.args.first.now in
+    let more = map shape_texts c.args.more.now in
+    let fault = c.in_err-read_shape.field-0.0 in
+    let value : shapes_of c.args.place (first ∷ more) ≡ Err fault =
+    read-begin c.args.place (first ∷ more) ∙ read-bad c.args.place first more [] fault (sym c.in_err-read_shape.ensures.value) in
     search rules
 
-pub loop-init : goal.loop-init
-loop-init c =
-    let count = c.args.count in
-    let words = c.args.words.now in
-    let some : count ≡ suc (count - 1) = omega arith in
-    rw c.new-shapes.ensures (record {
-      value = read-first count c.args.place (texts words)
-          ∙ read-next count (count - 1) c.args.place words [] some _ _ c.in_ok-taken.ensures.value c.in_ok-read_shape.ensures.value;
+pub loop-words-init : goal.loop-words-init
+loop-words-init c =
+    let place = c.args.place in
+    let first = shape_texts c.args.first.now in
+    let more = map shape_texts c.args.more.now in
+    rw (c.new-shapes.ensures, c.count.ensures) (record {
+      value = read-begin place (first ∷ more)
+          ∙ read-next place first more [] c.in_ok-read_shape.field-0 (sym c.in_ok-read_shape.ensures.value);
       read = refl;
-      within = c.in_ok-taken.ensures.within;
-      short = c.in_ok-taken.ensures.few;
+      short = omega (arith, size-few first, c.requires.short);
       asked = search rules;
     })
 
-pub returns-in_err-size-clause-value : goal.returns-in_err-size-clause-value
-returns-in_err-size-clause-value c =
-    let count = c.args.count in
-    let words = c.args.words.now in
-    let taken = c.loop.taken in
-    let left = drop taken words in
-    let bad : Err c.in_err-size.field-0.0 ≡ shape_size (texts left) = rw (take-rest taken words) at c.in_err-size.ensures.value in
-    let fault : shapes_of count c.args.place (texts words) ≡ Err c.in_err-size.field-0.0 =
-    c.loop.invariant.value
-    ∙ read-bad_size _ _ (c.args.place + taken) left c.loop.shapes (one_more count c.loop.counter c.loop-test.true) _ bad in
-    search rules
+-- what the loop's item would be past the end
+abbrev blank : ShapeWords
+blank = let none : Bor (List ℕ) = record { ref_ptr = (0, 0); now = [] } in Rect none none none none
+
+-- the shapes that are left, where one is
+left_more : (more : List ShapeWords) (index : ℕ) → index < length more →
+    map shape_texts (drop index more) ≡ shape_texts (get_or more index blank) ∷ map shape_texts (drop (index + 1) more)
+left_more more index below = ap (map shape_texts) (drop_more more index blank below)
 
 pub returns-in_err-read_shape-2-clause-value : goal.returns-in_err-read_shape-2-clause-value
 returns-in_err-read_shape-2-clause-value c =
-    let count = c.args.count in
-    let words = c.args.words.now in
-    let taken = c.loop.taken in
-    let left = drop taken words in
-    let place = c.args.place + taken in
-    let sized : Ok c.in_ok-size.size ≡ shape_size (texts left) = rw (take-rest taken words) at c.in_ok-size.ensures.value in
-    let bad : Err c.in_err-read_shape-2.field-0.0 ≡ shape_at place (texts left) =
-    rw (take-rest taken words) at c.in_err-read_shape-2.ensures.value in
-    let fault : shapes_of count c.args.place (texts words) ≡ Err c.in_err-read_shape-2.field-0.0 =
-    c.loop.invariant.value
-    ∙ read-bad _ _ place left c.loop.shapes (one_more count c.loop.counter c.loop-test.true) _ _ sized bad in
+    let more = c.args.more.now in
+    let index = c.loop-words.words-index in
+    let shapes = c.loop-words.shapes in
+    let fault = c.in_err-read_shape-2.field-0.0 in
+    let words = shape_texts (get_or more index blank) in
+    let after = map shape_texts (drop (index + 1) more) in
+    let value : shapes_of c.args.place (shape_texts c.args.first.now ∷ map shape_texts more) ≡ Err fault =
+    (rw (left_more more index c.loop-words-test.true) at c.loop-words.invariant.value)
+    ∙ read-bad c.loop-words.next words after shapes fault (sym c.in_err-read_shape-2.ensures.value) in
     search rules
 
-pub loop-preserved : goal.loop-preserved
-loop-preserved c =
-    let count = c.args.count in
-    let words = c.args.words.now in
-    let taken = c.loop.taken in
-    let size = c.in_ok-size.size in
-    let left = drop taken words in
+pub loop-words-preserved : goal.loop-words-preserved
+loop-words-preserved c =
+    let more = c.args.more.now in
+    let index = c.loop-words.words-index in
+    let shapes = c.loop-words.shapes in
     let shape = c.in_ok-read_shape-2.field-0 in
-    let shapes = c.loop.shapes ++ shape ∷ [] in
-    let place = c.args.place + taken in
-    let after = count - (c.loop.counter + 1) in
-    let sized : Ok size ≡ shape_size (texts left) = rw (take-rest taken words) at c.in_ok-size.ensures.value in
-    let is : Ok shape ≡ shape_at place (texts left) = rw (take-rest taken words) at c.in_ok-read_shape-2.ensures.value in
-    let room : size ≤ length left = rw (take-rest taken words) at c.in_ok-size.ensures.within in
-    let cut : drop size left ≡ drop (taken + size) words = drop-drop size taken words in
-    let place_after : place + size ≡ c.args.place + (taken + size) = omega arith in
-    let next : shapes_of count c.args.place (texts words)
-    ≡ joined shapes (shapes_of after (place + size) (texts (drop size left))) =
-    c.loop.invariant.value
-    ∙ read-next _ _ place left c.loop.shapes (one_more count c.loop.counter c.loop-test.true) _ _ sized is in
-    rw c.add.ensures (record {
-      value = rw (cut, place_after) at next;
-      read = omega (arith, length-append c.loop.shapes (shape ∷ []), c.loop.invariant.read);
-      within = omega (arith, length-drop taken words, room, c.loop.invariant.within);
-      short = omega (arith, c.in_ok-size.ensures.few, c.loop.invariant.short);
-      asked = All-append IsShapeAsked c.loop.shapes (shape ∷ []) c.loop.invariant.asked (search rules);
+    let words = shape_texts (get_or more index blank) in
+    let after = map shape_texts (drop (index + 1) more) in
+    rw (c.add.ensures, c.count-in-loop-words.ensures) (record {
+      value = (rw (left_more more index c.loop-words-test.true) at c.loop-words.invariant.value)
+          ∙ read-next c.loop-words.next words after shapes shape (sym c.in_ok-read_shape-2.ensures.value);
+      read = omega (arith, length-append shapes (shape ∷ []), c.loop-words.invariant.read);
+      short = omega (arith, size-few words, c.loop-words.invariant.short);
+      asked = All-append IsShapeAsked shapes (shape ∷ []) c.loop-words.invariant.asked (search rules);
     })
 
 pub returns-clause-value : goal.returns-clause-value
 returns-clause-value c =
-    let taken = c.loop.taken in
-    let words = c.args.words.now in
-    let all = read-all c.args.count c.loop.counter (c.args.place + taken) (texts (drop taken words)) c.loop.shapes c.loop-test.false in
-    sym (c.loop.invariant.value ∙ all)
+    let more = c.args.more.now in
+    let none : drop c.loop-words.words-index more ≡ [] = drop_all c.loop-words.words-index more (omega (arith, c.loop-words-test.false)) in
+    let value = c.loop-words.invariant.value in
+    sym ((rw none at value) ∙ read-all c.loop-words.next c.loop-words.shapes)

@@ -1,19 +1,18 @@
-use Rattle.std.proofs.Common.{◌≡◌, ◌+◌, ◌-◌, ◌*◌, ◌≤◌, ℕ, List, Bor, length, drop, All}
+use Rattle.std.proofs.Common.{◌≡◌, ◌+◌, ◌*◌, ◌≤◌, ℕ, List, ◌∷◌, length, drop, map, All}
 use Rattle.track_types.specs.Region.{IsShapeAsked}
 use Rattle.track_types.specs.declared.shape.Shape.{Shape}
-use Rattle.question_shell.specs.Lines.{texts}
-use Rattle.question_shell.specs.RegionWords.{shapes_of}
+use Rattle.question_shell.specs.RegionWords.{shape_texts, shapes_of}
+use Rattle.question_shell.specs.declared.shape_words.ShapeWords.{ShapeWords}
 use Rattle.question_shell.proofs.LayoutLemmas.{joined}
 use Rattle.question_shell.proofs.shape_reading.read_shapes.Given as goal
 
--- after `done` of `count` shapes
-pub record AreRead (count place done taken : ℕ) (words : List (Bor (List ℕ))) (shapes : List Shape) : Type 0 where
-  pub value : shapes_of count place (texts words)
-      ≡ joined shapes (shapes_of (count - done) (place + taken) (texts (drop taken words)))
-  pub read : length shapes ≡ done
-  pub within : taken ≤ length words
-  pub short : taken ≤ 5 * done
+-- after the first shape and `done` of those after it
+pub record AreRead (place next done : ℕ) (first : ShapeWords) (more : List ShapeWords) (shapes : List Shape) : Type 0 where
+  pub value : shapes_of place (shape_texts first ∷ map shape_texts more)
+      ≡ joined shapes (shapes_of next (map shape_texts (drop done more)))
+  pub read : length shapes ≡ done + 1
+  pub short : next ≤ 5 * done + 23
   pub asked : All IsShapeAsked shapes
 
-abbrev pub invariant-loop : goal.invariant-loop
-invariant-loop l = AreRead l.count l.place l.counter l.taken l.words l.shapes
+abbrev pub invariant-loop-words : goal.invariant-loop-words
+invariant-loop-words l = AreRead l.place l.next l.words-index l.fn.first l.more l.shapes
