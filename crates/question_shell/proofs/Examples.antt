@@ -9,6 +9,7 @@ use Rattle.track_types.specs.declared.facts.Facts.{Facts}
 use Rattle.track_types.specs.declared.question.Question.TheVariants as question
 use Rattle.track_types.specs.declared.region.Region.TheVariants as region
 use Rattle.question_shell.specs.Grammar.{question_of}
+use Rattle.question_shell.specs.LineKept.{kept_of}
 use Rattle.track_types.specs.declared.shape.Shape.TheVariants as shape
 use Rattle.question_shell.specs.RegionWords.{shapes_cut, shapes_of}
 use Rattle.question_shell.specs.Lines.{input_lines, unended_line, whole_lines, words_of}
@@ -164,6 +165,13 @@ long_line = refl
 
 long_blank : question_of (replicate 1100 32) ≡ Ok None
 long_blank = refl
+
+-- of the bytes after the first 1,024 one is kept: the first that is no gap, or the last
+word_kept : kept_of (replicate 1100 32 ++ codes "xy ") ≡ replicate 1024 32 ++ codes "x"
+word_kept = refl
+
+gap_kept : kept_of (replicate 1024 120 ++ codes " \t") ≡ replicate 1024 120 ++ codes "\t"
+gap_kept = refl
 
 -- replies over two rows of object 7
 chart : ChartView

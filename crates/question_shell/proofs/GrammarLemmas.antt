@@ -1,14 +1,14 @@
 -- Number words, one after another.
-use Rattle.std.proofs.Common.{◌≡◌, ◌≤◌, ℕ, ℤ, List, [], ◌∷◌, length, drop, get_or, nat_lt, nat_eq, false, arith, refl, sym, ap, take, take_all, inl, inr, Ok, Err, Result, ◌<◌}
+use Rattle.std.proofs.Common.{◌≡◌, ◌≤◌, ℕ, ℤ, List, [], ◌∷◌, length, drop, get_or, nat_eq, false, arith, refl, sym, ap, take, take_all, inl, inr, Ok, Err, Result, ◌<◌}
 use Rattle.std.proofs.lemmas.Bool.Decides.{nat_tests}
 use denote.Ref.{Bor}
 use Rattle.track_types.specs.Bounds.{number_within, value_within}
 use Rattle.track_types.specs.Numeral.{numeral_of}
 use Rattle.track_types.specs.declared.numeral.Numeral.{Numeral}
 use Rattle.track_types.specs.declared.numeral.Numeral.TheVariants.{Value, Large, Not}
-use Rattle.question_shell.specs.NumberWords.{word_number, value_of}
+use Rattle.question_shell.specs.NumberWords.{value_of}
 use Rattle.question_shell.specs.Lines.{texts}
-use Rattle.question_shell.specs.Grammar.{form_of, form_question, form_words, question_in, some_question}
+use Rattle.question_shell.specs.Grammar.{form_of, form_question, question_in, some_question}
 use Rattle.question_shell.specs.Grammar.{worded_question}
 use Rattle.question_shell.specs.declared.bad.Bad.{Bad}
 use Rattle.question_shell.specs.declared.form.Form.{Form}

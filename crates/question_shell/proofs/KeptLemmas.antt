@@ -1,56 +1,21 @@
--- What is kept of a line, byte after byte, and what it tells of the line.
-use Rattle.std.proofs.Common.{◌≡◌, ℕ, zero, suc, ◌<◌, ◌≤◌, Bool, true, false, not, ◌||◌, if◌then◌else◌, List, [], ◌∷◌}
-use Rattle.std.proofs.Common.{◌++◌, length, take, filter, refl, sym, ap, ◌∙◌, arith, inl, inr, take_all, Result}
-use Rattle.std.proofs.Common.{Ok, None, Some, Option, drop}
-use Rattle.std.specs.Prelude.{is_some}
-use Rattle.std.proofs.Common.{Err, IsOk, OnOk, OnErr, ◌↔◌}
+-- What is kept of a line, byte after byte, and that it asks what the line asks.
+use Rattle.std.proofs.Common.{◌≡◌, ℕ, ◌<◌, ◌≤◌, Bool, true, false, not, ◌||◌, if◌then◌else◌, List, [], ◌∷◌}
+use Rattle.std.proofs.Common.{◌++◌, length, take, drop, filter, get_or, set, refl, sym, ap, ◌∙◌, arith, inl, inr, take_all}
+use Rattle.std.proofs.Common.{Ok, Err, None, append-nil, length-append}
 use Rattle.std.specs.List.{list_any}
-use Rattle.std.proofs.lemmas.Bool.{cases_lt, lt-ltb}
-use Rattle.std.proofs.Math.Bool.{or-false}
-use mathlib.Core.Bool.{false≢true}
-use Rattle.std.proofs.lemmas.List.{length-take, take-append-drop, take-append-le}
+use Rattle.std.proofs.lemmas.Bool.{cases_Bool, cases_lt, lt-ltb}
+use Rattle.std.proofs.Math.Seq.{get_or-append_seam, set-append_seam}
+use Rattle.std.proofs.lemmas.List.{drop-append-le, drop_all, length-drop, length-take, take-append-drop, take-append-le}
 use Rattle.std.proofs.lemmas.List.Folds.{list_any-append}
 use Rattle.question_shell.specs.Lines.{words_of, is_gap, has_byte}
-use Rattle.question_shell.specs.LineKept.{is_in_word}
-use Rattle.question_shell.specs.Grammar.{form_of, form_question, is_long, question_in, question_of, some_question}
-use Rattle.question_shell.specs.Grammar.{worded_question}
-use Rattle.question_shell.specs.declared.bad.Bad.{Bad}
-use Rattle.question_shell.specs.declared.form.Form.{Form}
-use Rattle.track_types.specs.declared.question.Question.{Question}
+use Rattle.question_shell.specs.LineKept.{kept_of, telling_byte}
+use Rattle.question_shell.specs.Grammar.{question_in, question_of}
 use Rattle.question_shell.specs.declared.bad.Bad.TheVariants.{Long}
 use Rattle.question_shell.proofs.LineLemmas.{Pieces, begin_first, separated, words_of-is}
 
-take-nil : (k : ℕ) → take k (let none : List ℕ = [] in none) ≡ []
-take-nil zero = refl
-take-nil (suc k) = refl
-
--- a front with room takes one more
-take-push : (n : ℕ) (xs : List ℕ) (x : ℕ) → length (take n xs) < n → take n (xs ++ x ∷ []) ≡ take n xs ++ x ∷ []
-take-push zero xs x room = absurd (omega arith)
-take-push (suc n) [] x room = ap (λ rest. x ∷ rest) (take-nil n)
-take-push (suc n) (y ∷ xs) x room = ap (λ rest. y ∷ rest) (take-push n xs x (omega arith))
-
--- a full front stays
-take-push_full : (n : ℕ) (xs : List ℕ) (x : ℕ) → length (take n xs) ≡ n → take n (xs ++ x ∷ []) ≡ take n xs
-take-push_full n xs x full = take-append-le n xs (x ∷ []) (omega (arith, length-take n xs))
-
--- the front of a line, after one more byte
-pub front-push : (line : List ℕ) (byte : ℕ) (new : List ℕ) →
-    (length (take 1025 line) < 1025 → new ≡ take 1025 line ++ byte ∷ []) →
-    (length (take 1025 line) ≡ 1025 → new ≡ take 1025 line) → new ≡ take 1025 (line ++ byte ∷ [])
-front-push line byte new room full = elim (cases_lt (length (take 1025 line)) 1025) [
-  | inl below ↦ room below ∙ sym (take-push 1025 line byte below)
-  | inr at_least ↦
-      let whole : length (take 1025 line) ≡ 1025 = omega (arith, length-take 1025 line) in
-      full whole ∙ sym (take-push_full 1025 line byte whole)
-]
-
--- whether a line has a word, after one more byte
-pub list_any-push : (line : List ℕ) (byte : ℕ) →
-    list_any is_in_word (line ++ byte ∷ []) ≡ (list_any is_in_word line || not (is_gap byte))
-list_any-push line byte =
-    rw (list_any-append is_in_word line (byte ∷ []))
-    (ap (λ last. list_any is_in_word line || last) (or-false (not (is_gap byte))))
+-- a byte that is no gap
+abbrev is_in_word : ℕ → Bool
+is_in_word byte = not (is_gap byte)
 
 -- a line has a word where a byte of it is in one
 any-byte : (is_end : Bool) (byte : ℕ) (ended : List (List ℕ)) (left : List ℕ) →
@@ -81,104 +46,117 @@ too_long-any line =
     ap (question_in true) (words_of-is line) ∙ (too_long-filter all
     ∙ ap (λ some. if some then Err Long else Ok None) (any-piece line))
 
--- a line that is kept whole
-pub question_of-short : (line front : List ℕ) → front ≡ take 1025 line → length front ≤ 1024 →
-    question_of front ≡ question_of line
-question_of-short line front is_front short =
-    let whole : length line ≤ 1025 = omega (arith, length-take 1025 line, ap length is_front) in
-    ap question_of (is_front ∙ take_all 1025 line whole)
-
--- a line that is kept in part
-pub question_of-long : (line front : List ℕ) → front ≡ take 1025 line → 1024 < length front →
+-- what a line of more than 1,024 bytes asks
+question_of-long : (line : List ℕ) → 1024 < length line →
     question_of line ≡ (if list_any is_in_word line then Err Long else Ok None)
-question_of-long line front is_front long =
-    let too_many : 1024 < length line = omega (arith, length-take 1025 line, ap length is_front) in
-    rw (lt-ltb 1024 (length line) too_many) (too_long-any line)
+question_of-long line long = rw (lt-ltb 1024 (length line) long) (too_long-any line)
 
--- what a front of more than 1,024 bytes asks
-question_of-full : (front : List ℕ) → 1024 < length front →
-    question_of front ≡ (if list_any is_in_word front then Err Long else Ok None)
-question_of-full front long = rw (lt-ltb 1024 (length front) long) (too_long-any front)
-
--- a line that asks nothing has no word
-wordless : (is_long : Bool) (words : List (List ℕ)) → question_in is_long words ≡ Ok None → words ≡ []
-wordless is_long [] nothing = refl
-wordless true (first ∷ words) nothing = cc
-wordless false (first ∷ words) nothing = by_form (form_of first) nothing
-  where
-    by_question : (asked : Result Question Bad) → some_question asked ≡ Ok None → first ∷ words ≡ []
-    by_question (Ok asked) nothing = cc
-    by_question (Err fault) nothing = cc
-
-    by_form : (form : Result Form Bad) → worded_question form words ≡ Ok None → first ∷ words ≡ []
-    by_form (Ok form) nothing = by_question (form_question form words) nothing
-    by_form (Err fault) nothing = cc
-
-pub question_of-wordless : (line : List ℕ) → question_of line ≡ Ok None → list_any is_in_word line ≡ false
-question_of-wordless line nothing =
-    let none : words_of line ≡ [] = wordless (is_long line) (words_of line) nothing in
-    let both : Ok None ≡ (if list_any is_in_word line then Err Long else Ok None) =
-    ap (question_in true) (sym none) ∙ too_long-any line in
-    by_word (list_any is_in_word line) both
-  where
-    by_word : (some : Bool) → ◌≡◌ {A = Result (Option Question) Bad} (Ok None) (if some then Err Long else Ok None) → some ≡ false
-    by_word true both = cc
-    by_word false both = refl
-
--- a line is asked by its front, unless it has a word and its front has none
-pub front-asks : (line front : List ℕ) → front ≡ take 1025 line →
-    (question_of front ≡ Ok None → list_any is_in_word line ≡ false) → question_of front ≡ question_of line
-front-asks line front is_front unless = elim (cases_lt 1024 (length front)) [
-  | inl long ↦ by_word (list_any is_in_word front) refl long
-  | inr short ↦ question_of-short line front is_front (omega (arith, short))
-]
-  where
-    any_of_front : list_any is_in_word front ≡ true → list_any is_in_word line ≡ true
-    any_of_front some =
-        let parts = list_any-append is_in_word (take 1025 line) (drop 1025 line) in
-        rw (take-append-drop 1025 line, ← is_front, some) at parts
-
-    by_word : (some : Bool) → list_any is_in_word front ≡ some → 1024 < length front → question_of front ≡ question_of line
-    by_word true some long =
-        rw (question_of-full front long, question_of-long line front is_front long, some, any_of_front some) refl
-    by_word false some long =
-        let nothing : question_of front ≡ Ok None = rw (question_of-full front long, some) refl in
-        rw (nothing, question_of-long line front is_front long, unless nothing) refl
-
--- a line with a word whose front has none is too long
-pub front-long : (line front : List ℕ) → front ≡ take 1025 line → question_of front ≡ Ok None →
-    list_any is_in_word line ≡ true → question_of line ≡ Err Long
-front-long line front is_front nothing some = elim (cases_lt 1024 (length front)) [
-  | inl long ↦ rw (question_of-long line front is_front long, some) refl
-  | inr short ↦
-      let same = question_of-short line front is_front (omega (arith, short)) in
-      absurd (false≢true (sym (question_of-wordless line (sym same ∙ nothing)) ∙ some))
+-- the byte that is kept of some tells whether any is in a word
+any-telling : (bytes : List ℕ) → list_any is_in_word (telling_byte bytes) ≡ list_any is_in_word bytes
+any-telling [] = refl
+any-telling (byte ∷ []) = refl
+any-telling (byte ∷ next ∷ rest) = elim (cases_Bool (is_gap byte)) [
+  | inl gap ↦ rw gap (any-telling (next ∷ rest))
+  | inr inside ↦ rw (inside, inside) refl
 ]
 
--- a front that asks something asks no nothing
-pub some-asked : (asked : Option Question) (front : List ℕ) (some : Bool) → Ok asked ≡ question_of front →
-    is_some asked ≡ true → question_of front ≡ Ok None → some ≡ false
-some-asked (Some asked) front some is none nothing =
-    let both : Ok (Some asked) ≡ Ok None = is ∙ nothing in cc
-some-asked None front some is none nothing = absurd (false≢true none)
+-- it is one, where there are any
+telling-one : (bytes : List ℕ) → 0 < length bytes → length (telling_byte bytes) ≡ 1
+telling-one [] some = absurd (omega (arith, some))
+telling-one (byte ∷ []) some = refl
+telling-one (byte ∷ next ∷ rest) some = elim (cases_Bool (is_gap byte)) [
+  | inl gap ↦ rw gap (telling-one (next ∷ rest) (omega arith))
+  | inr inside ↦ rw inside refl
+]
 
--- a front that asks nothing
-pub none-asked : (asked : Option Question) (front : List ℕ) → Ok asked ≡ question_of front → is_some asked ≡ false →
-    question_of front ≡ Ok None
-none-asked (Some asked) front is none = absurd (false≢true (sym none))
-none-asked None front is none = sym is
+-- a further byte takes its place where it is a gap
+telling-push : (bytes : List ℕ) (kept byte : ℕ) → telling_byte bytes ≡ kept ∷ [] →
+    telling_byte (bytes ++ byte ∷ []) ≡ (if is_gap kept then byte else kept) ∷ []
+telling-push [] kept byte is = cc
+telling-push (first ∷ []) kept byte is =
+    let same : first ≡ kept = cc in elim (cases_Bool (is_gap kept)) [
+      | inl gap ↦ rw (same, gap) refl
+      | inr inside ↦ rw (same, inside) refl
+    ]
+telling-push (first ∷ next ∷ rest) kept byte is = elim (cases_Bool (is_gap first)) [
+  | inl gap ↦ rw gap (telling-push (next ∷ rest) kept byte (rw gap at is))
+  | inr inside ↦
+      let whole : first ∷ [] ≡ kept ∷ [] = rw inside at is in
+      let same : first ≡ kept = cc in
+      rw (inside, ← same, inside) refl
+]
 
--- a push that a full front turns away
-pub front-try_push : {T E V : Type 0} (items : V → List ℕ) (result : Result T E) (line : List ℕ) (byte : ℕ)
-    (old new : V) →
-    items old ≡ take 1025 line → (IsOk result ↔ (length (items old) < 1025)) →
-    OnOk result (items new ≡ items old ++ byte ∷ []) → OnErr result (new ≡ old) →
-    items new ≡ take 1025 (line ++ byte ∷ [])
-front-try_push items (Ok done) line byte old new is_front room pushed turned_away =
-    front-push line byte (items new)
-    (λ below. pushed ∙ ap (λ text. text ++ byte ∷ []) is_front)
-    (λ full. let below : length (items old) < 1025 = room.0 refl in absurd (omega (arith, ap length is_front)))
-front-try_push items (Err refused) line byte old new is_front room pushed turned_away =
-    front-push line byte (items new)
-    (λ below. absurd (false≢true (room.1 (rw is_front below))))
-    (λ full. ap items turned_away ∙ is_front)
+-- all of a line of at most 1,024 bytes is kept, and else 1,025
+kept-short : (line : List ℕ) → length line ≤ 1024 → kept_of line ≡ line
+kept-short line short =
+    let none : drop 1024 line ≡ [] = drop_all 1024 line short in
+    let all : take 1024 line ≡ line = take_all 1024 line short in
+    rw (none, all) (append-nil line)
+
+kept-long : (line : List ℕ) → 1024 < length line → length (kept_of line) ≡ 1025
+kept-long line long =
+    let front = take 1024 line in
+    let rest = drop 1024 line in
+    let one : length (telling_byte rest) ≡ 1 = telling-one rest (omega (arith, long, length-drop 1024 line)) in
+    omega (arith, one, long, length-append front (telling_byte rest), length-take 1024 line)
+
+-- what is kept asks what the line asks
+pub question_of-kept : (line : List ℕ) → question_of (kept_of line) ≡ question_of line
+question_of-kept line = elim (cases_lt 1024 (length line)) [
+  | inl long ↦
+      let front = take 1024 line in
+      let rest = drop 1024 line in
+      let any : list_any is_in_word (kept_of line) ≡ list_any is_in_word line =
+      list_any-append is_in_word front (telling_byte rest) ∙ (ap (λ some. list_any is_in_word front || some) (any-telling rest)
+      ∙ (sym (list_any-append is_in_word front rest) ∙ ap (list_any is_in_word) (take-append-drop 1024 line))) in
+      question_of-long (kept_of line) (omega (arith, kept-long line long))
+      ∙ (ap (λ some. if some then Err Long else Ok None) any ∙ sym (question_of-long line long))
+  | inr short ↦ ap question_of (kept-short line (omega (arith, short)))
+]
+
+-- a byte more, where there is room
+pub kept-room : (line kept : List ℕ) (byte : ℕ) → kept ≡ kept_of line → length kept ≤ 1024 →
+    kept ++ byte ∷ [] ≡ kept_of (line ++ byte ∷ [])
+kept-room line kept byte is room = elim (cases_lt 1024 (length line)) [
+  | inl long ↦ absurd (omega (arith, room, ap length is, kept-long line long))
+  | inr short ↦ elim (cases_lt (length line) 1024) [
+    | inl below ↦
+        let next : kept_of (line ++ byte ∷ []) ≡ line ++ byte ∷ [] =
+        kept-short (line ++ byte ∷ []) (omega (arith, below, length-append line (byte ∷ []))) in
+        ap (λ bytes. bytes ++ byte ∷ []) (is ∙ kept-short line (omega (arith, below))) ∙ sym next
+    | inr full ↦
+        let none : drop 1024 line ≡ [] = drop_all 1024 line (omega (arith, short)) in
+        let front : take 1024 (line ++ byte ∷ []) ≡ take 1024 line = take-append-le 1024 line (byte ∷ []) (omega (arith, full)) in
+        let back : drop 1024 (line ++ byte ∷ []) ≡ drop 1024 line ++ byte ∷ [] = drop-append-le 1024 line (byte ∷ []) (omega (arith, full)) in
+        rw (is, front, back, none, append-nil (take 1024 line)) refl
+  ]
+]
+
+one-byte : (bytes : List ℕ) (d : ℕ) → length bytes ≡ 1 → bytes ≡ get_or bytes 0 d ∷ []
+one-byte [] d one = cc
+one-byte (byte ∷ []) d one = refl
+one-byte (byte ∷ other ∷ bytes) d one = absurd (omega (arith, one))
+
+full-at : (line : List ℕ) (kept last byte : ℕ) → 1024 < length line → telling_byte (drop 1024 line) ≡ kept ∷ [] →
+    get_or (kept_of line) 1024 last ≡ last → set (kept_of line) 1024 (if is_gap last then byte else last) ≡ kept_of (line ++ byte ∷ [])
+full-at line kept last byte long is here =
+    let front = take 1024 line in
+    let whole : length front ≡ 1024 = omega (arith, long, length-take 1024 line) in
+    let first : take 1024 (line ++ byte ∷ []) ≡ front = take-append-le 1024 line (byte ∷ []) (omega (arith, long)) in
+    let after : drop 1024 (line ++ byte ∷ []) ≡ drop 1024 line ++ byte ∷ [] = drop-append-le 1024 line (byte ∷ []) (omega (arith, long)) in
+    let found : get_or (front ++ kept ∷ []) 1024 last ≡ kept = rw whole at (get_or-append_seam front kept [] last) in
+    let same : kept ≡ last = sym found ∙ (rw is at here) in
+    let value = if is_gap last then byte else last in
+    let put : set (front ++ kept ∷ []) 1024 value ≡ front ++ value ∷ [] = rw whole at (set-append_seam front kept [] value) in
+    rw (first, after, telling-push (drop 1024 line) kept byte is, is, put, same) refl
+
+-- a byte more, where there is none
+pub kept-full : (line kept : List ℕ) (last byte : ℕ) → kept ≡ kept_of line → 1024 < length kept → get_or kept 1024 last ≡ last →
+    set kept 1024 (if is_gap last then byte else last) ≡ kept_of (line ++ byte ∷ [])
+kept-full line kept last byte is full here = elim (cases_lt 1024 (length line)) [
+  | inl long ↦
+      let bytes = telling_byte (drop 1024 line) in
+      let one : length bytes ≡ 1 = telling-one (drop 1024 line) (omega (arith, long, length-drop 1024 line)) in
+      rw is (full-at line (get_or bytes 0 last) last byte long (one-byte bytes last one) (rw is at here))
+  | inr short ↦ absurd (omega (arith, full, short, ap length (is ∙ kept-short line (omega (arith, short)))))
+]

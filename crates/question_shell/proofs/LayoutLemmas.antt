@@ -1,5 +1,5 @@
 -- Cutting shapes off words and reading them, one after another.
-use Rattle.std.proofs.Common.{◌≡◌, ◌∙◌, ◌+◌, ◌-◌, ◌<◌, ◌≤◌, ℕ, zero, suc, List, [], ◌∷◌, Ok, Err, Result, ◌++◌, Bor, length, append_assoc, append-nil, arith, refl, sym}
+use Rattle.std.proofs.Common.{◌≡◌, ◌+◌, ◌-◌, ◌<◌, ◌≤◌, ℕ, suc, List, [], ◌∷◌, Ok, Err, Result, ◌++◌, Bor, length, append_assoc, append-nil, arith, refl, sym}
 use Rattle.question_shell.specs.RegionWords.{DiscTexts, RectTexts, ShapeTexts, and_then, if_last, shape_cut, shape_of, shape_size, shapes_cut, shapes_of}
 use Rattle.track_types.specs.declared.shape.Shape.{Shape}
 use Rattle.question_shell.specs.Lines.{texts}

@@ -6,7 +6,6 @@ use Rattle.std.proofs.lemmas.List.{take-append-drop}
 use Rattle.track_types.specs.Limits.{limit_of}
 use Rattle.track_types.specs.declared.limit.LimitKind.TheVariants.{Questions}
 use Rattle.question_shell.specs.Desk.{held_of}
-use Rattle.question_shell.specs.LineKept.{LineKept}
 use Rattle.question_shell.specs.Lines.{input_lines, unended_line, whole_lines}
 use Rattle.question_shell.specs.Session.{AnswersAll, AnswersBefore, AnswersFirst, AnswersFront, AnswersToPiece}
 use Rattle.question_shell.specs.Session.{AnswersWhole, AreTaken, Came, Meaning, Run}
@@ -22,13 +21,13 @@ abbrev pub moment_of : Run → Moment
 moment_of here = moment here.said [] here.desk here.steps
 
 -- what is told of bytes is told of their whole lines
-pub told-whole : (meaning : Meaning) (start now : Moment) (all : List ℕ) (line : LineKept) (refused : TurnFault) →
+pub told-whole : (meaning : Meaning) (start now : Moment) (all : List ℕ) (line : List ℕ) (refused : TurnFault) →
     BytesTold meaning start now all line (Err refused) → AnswersLines meaning start now (whole_lines all) (Err refused)
 told-whole meaning start now all line fault.Say told = told
 told-whole meaning start now all line fault.Memory told = told
 
 -- what was refused at the bytes up to the longest input is refused at all that came
-pub refused-first : (meaning : Meaning) (start now : Moment) (first all : List ℕ) (line : LineKept)
+pub refused-first : (meaning : Meaning) (start now : Moment) (first all : List ℕ) (line : List ℕ)
     (refused : TurnFault) →
     take (limit_of Questions) all ≡ first → BytesTold meaning start now first line (Err refused) →
     AnswersLines meaning start now (whole_lines all) (Err refused)
@@ -46,7 +45,7 @@ front-say meaning start now lines fault.Say told is = told
 front-say meaning start now lines fault.Memory told is = absurd (cc)
 
 -- the sink failed at a piece of the bytes, after all before it was answered
-pub last-piece : (meaning : Meaning) (before between now : Run) (bytes front piece : List ℕ) (line : LineKept)
+pub last-piece : (meaning : Meaning) (before between now : Run) (bytes front piece : List ℕ) (line : List ℕ)
     (lines : List (List ℕ)) (refused : TurnFault) → bytes ≡ front ++ piece → length piece ≤ 4096 →
     Heard meaning (moment_of before) (moment_of between) front line →
     AnswersLines meaning (moment_of between) (moment_of now) lines (Err refused) → refused ≡ fault.Say →
@@ -106,14 +105,14 @@ module _ (meaning : Meaning) (before now : Run) (bytes : List ℕ) (came : Came 
         }
 
 -- Where a run stands as it listens again: what came was heard, and nothing is held back.
-pub record Stands (meaning : Meaning) (before here : Run) (line : LineKept) : Type 0 where
+pub record Stands (meaning : Meaning) (before here : Run) (line : List ℕ) : Type 0 where
   pub bytes : List ℕ
   pub came : Came before here bytes
   pub short : length bytes ≤ limit_of Questions
   pub heard : Heard meaning (moment_of before) (moment_of here) bytes line
 
 -- one byte too many came
-pub answers-first : (meaning : Meaning) (before now : Run) (bytes : List ℕ) (line : LineKept) →
+pub answers-first : (meaning : Meaning) (before now : Run) (bytes : List ℕ) (line : List ℕ) →
     Came before now bytes → length bytes ≡ limit_of Questions + 1 →
     Heard meaning (moment_of before) (moment_of now) (take (limit_of Questions) bytes) line →
     AnswersFirst meaning before now
@@ -141,7 +140,7 @@ pub record Brings (bytes : List ℕ) (here now : Run) (piece counted : List ℕ)
   pub within : length (bytes ++ piece) ≤ limit_of Questions + 1
   pub front : take (limit_of Questions) (bytes ++ piece) ≡ bytes ++ counted
 
-module _ {meaning : Meaning} {before here now : Run} {line : LineKept} (stands : Stands meaning before here line) where
+module _ {meaning : Meaning} {before here now : Run} {line : List ℕ} (stands : Stands meaning before here line) where
   -- the source failed, and nothing else changed
   pub answers-whole : Keeps here.rest now.rest → now.taken ≡ here.taken → moment_of now ≡ moment_of here →
       AnswersWhole meaning before now
@@ -189,7 +188,7 @@ module _ {meaning : Meaning} {before here now : Run} {line : LineKept} (stands :
             (inr (ends.at_end, refl)) refused (told (moment_of before) stands.bytes stands.heard) memory
 
   -- a piece more came, and was answered as far as it may be
-  module _ {piece counted : List ℕ} (brings : Brings stands.bytes here now piece counted) (new : LineKept) (refused : TurnFault)
+  module _ {piece counted : List ℕ} (brings : Brings stands.bytes here now piece counted) (new : List ℕ) (refused : TurnFault)
       (told : AnswersBytes meaning (moment_of here) line counted (moment_of now) new (Err refused))
     where
       came-piece : Came before now (stands.bytes ++ piece)

@@ -13,7 +13,7 @@ use Rattle.track_types.specs.Limits.{limit_of}
 use Rattle.track_types.specs.declared.limit.LimitKind.TheVariants.{Questions}
 use Rattle.question_shell.specs.Desk.{DeskView, held_of}
 use Rattle.question_shell.specs.Grammar.{question_of}
-use Rattle.question_shell.specs.LineKept.{LineKept, kept_of}
+use Rattle.question_shell.specs.LineKept.{kept_of}
 use Rattle.question_shell.specs.Lines.{if_any, is_line_feed, input_lines, unended_line, whole_lines}
 use Rattle.question_shell.specs.Says.{Cuts, voice}
 use Rattle.question_shell.specs.Session.{Answers, Came, Meaning, Run, replies_by, run_of}
@@ -88,13 +88,13 @@ unended_line-byte came byte inside =
     (ap (λ (pieces : Pieces). pieces.left) (separated-byte is_line_feed came byte inside))
 
 -- nothing came
-pub heard-nothing : (meaning : Meaning) (here : Moment) (line : LineKept) → line ≡ kept_of [] →
+pub heard-nothing : (meaning : Meaning) (here : Moment) (line : List ℕ) → line ≡ kept_of [] →
     Heard meaning here here [] line
 unfolding whole_lines unended_line
 heard-nothing meaning here line kept = record { turns = turns-nothing meaning here; kept = kept }
 
 -- the line that is coming is heard from here on
-pub heard-again : (meaning : Meaning) (start here : Moment) (came : List ℕ) (line : LineKept) →
+pub heard-again : (meaning : Meaning) (start here : Moment) (came : List ℕ) (line : List ℕ) →
     Heard meaning start here came line → Heard meaning here here (unended_line came) line
 heard-again meaning start here came line heard = record {
   turns = rw (whole_lines-unended came) (turns-nothing meaning here);
@@ -103,7 +103,7 @@ heard-again meaning start here came line heard = record {
 
 module _ (meaning : Meaning) (start : Moment) where
   -- a byte that is no line feed
-  pub heard-byte : (now : Moment) (came : List ℕ) (byte : ℕ) (line new : LineKept) → is_line_feed byte ≡ false →
+  pub heard-byte : (now : Moment) (came : List ℕ) (byte : ℕ) (line new : List ℕ) → is_line_feed byte ≡ false →
       new ≡ kept_of (unended_line came ++ byte ∷ []) → Heard meaning start now came line →
       Heard meaning start now (came ++ byte ∷ []) new
   heard-byte now came byte line new inside pushed heard = record {
@@ -112,7 +112,7 @@ module _ (meaning : Meaning) (start : Moment) where
   }
 
   -- a line feed, and what is told of the answer to the line that it ends
-  pub told-feed : (between now : Moment) (came : List ℕ) (line new : LineKept) (result : Result Unit TurnFault) →
+  pub told-feed : (between now : Moment) (came : List ℕ) (line new : List ℕ) (result : Result Unit TurnFault) →
       AnswerTold meaning between now (question_of (unended_line came)) result → new ≡ kept_of [] →
       Heard meaning start between came line → BytesTold meaning start now (came ++ 10 ∷ []) new result
   told-feed between now came line new (Ok done) told cleared heard =
@@ -146,7 +146,7 @@ module _ (meaning : Meaning) (start : Moment) where
       (before-more meaning start now (whole_lines came) (whole_lines (unended_line came ++ more)) stopped)
 
   -- a last line that no line feed ends, and what is told of its answer; where it has no byte, it asks nothing
-  pub told-end : (between now : Moment) (came : List ℕ) (line : LineKept) (result : Result Unit TurnFault) →
+  pub told-end : (between now : Moment) (came : List ℕ) (line : List ℕ) (result : Result Unit TurnFault) →
       AnswerTold meaning between now (question_of (unended_line came)) result →
       Heard meaning start between came line → AnswersLines meaning start now (input_lines came) result
   told-end between now came line result told heard = by_line (unended_line came) result told
@@ -192,7 +192,7 @@ module _ (meaning : Meaning) (start : Moment) where
   rest-lines between now lines (Err fault.Memory) (Err fault.Memory) told rest =
       before-say meaning start between (record between { voice = voice now [] }) lines told rest refl (omega arith)
 
-  pub rest-bytes : (between : Moment) (now : Option (List ℕ)) (came : List ℕ) (line : LineKept)
+  pub rest-bytes : (between : Moment) (now : Option (List ℕ)) (came : List ℕ) (line : List ℕ)
       (answered result : Result Unit TurnFault) → BytesTold meaning start between came line answered →
       Flushes between.voice now answered result →
       BytesTold meaning start (record between { voice = voice now [] }) came line result
@@ -214,7 +214,7 @@ module _ (meaning : Meaning) (start : Moment) where
       rest-lines between now (whole_lines came) (Err fault.Memory) (Err fault.Memory) told rest
 
   -- what was refused at some bytes is refused at more
-  pub told-more : (now : Moment) (came more : List ℕ) (line other : LineKept) (refused : TurnFault) →
+  pub told-more : (now : Moment) (came more : List ℕ) (line other : List ℕ) (refused : TurnFault) →
       BytesTold meaning start now came line (Err refused) →
       BytesTold meaning start now (came ++ more) other (Err refused)
   told-more now came more line other fault.Say told = front-bytes now came more told
@@ -285,7 +285,7 @@ came-kept before between now bytes came kept counted = record {
     consumes_kept (Some xs) (Some ys) (Some zs) consumed kept = consumed ∙ ap (λ rest. bytes ++ rest) (sym kept)
 
 -- as long as the input is not too long, all of it is heard
-pub heard-all : (meaning : Meaning) (start now : Moment) (bytes : List ℕ) (line : LineKept) →
+pub heard-all : (meaning : Meaning) (start now : Moment) (bytes : List ℕ) (line : List ℕ) →
     length bytes ≤ limit_of Questions →
     Heard meaning start now (take (limit_of Questions) bytes) line → Heard meaning start now bytes line
 heard-all meaning start now bytes line within heard =

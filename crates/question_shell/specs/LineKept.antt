@@ -1,17 +1,14 @@
 -- What is kept of a line while its bytes come.
-use Rattle.std.specs.Prelude.{ℕ, Bool, not, List, take}
-use Rattle.std.specs.List.{list_any}
+use Rattle.std.specs.Prelude.{ℕ, if◌then◌else◌, List, [], ◌∷◌, ◌++◌, take, drop}
 use Rattle.question_shell.specs.Lines.{is_gap}
 
--- The front of a line, long enough to tell that it is too long, and whether the line has a word.
-pub record LineKept : Type 0 where
-  pub front : List ℕ
-  pub has_word : Bool
+-- the first byte that is no gap, or where all are gaps the last
+abbrev pub telling_byte : List ℕ → List ℕ
+telling_byte [] = []
+telling_byte (byte ∷ []) = byte ∷ []
+telling_byte (byte ∷ next ∷ rest) = if is_gap byte then telling_byte (next ∷ rest) else byte ∷ []
 
--- a byte that is no gap
-abbrev pub is_in_word : ℕ → Bool
-is_in_word byte = not (is_gap byte)
-
--- what is kept of these bytes of a line
-abbrev pub kept_of : List ℕ → LineKept
-kept_of line = record { front = take 1025 line; has_word = list_any is_in_word line }
+-- What is kept of these bytes of a line, which asks what they ask: all up to 1,024 bytes, else the first 1,024, and of those
+-- after them the first that is no gap, or where all are gaps the last.
+abbrev pub kept_of : List ℕ → List ℕ
+kept_of line = take 1024 line ++ telling_byte (drop 1024 line)

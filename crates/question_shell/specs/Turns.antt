@@ -3,7 +3,7 @@ use Rattle.std.specs.Prelude.{◌≡◌, ℕ, ◌+◌, ◌≤◌, List, [], ◌�
 use Rattle.track_types.specs.declared.question.Question.{Question}
 use Rattle.track_types.specs.declared.stop.Stop.{Stop}
 use Rattle.question_shell.specs.Desk.{DeskView, budget_of, held_of}
-use Rattle.question_shell.specs.LineKept.{LineKept, kept_of}
+use Rattle.question_shell.specs.LineKept.{kept_of}
 use Rattle.question_shell.specs.Lines.{unended_line, whole_lines}
 use Rattle.question_shell.specs.Reply.{Turn, asked_cost, asked_turn}
 use Rattle.question_shell.specs.Says.{Cuts, Says, Voice, voice}
@@ -65,7 +65,7 @@ pub record TurnsBefore (meaning : Meaning) (before now : Moment) (all : List (Li
   pub reads : now.due ≤ before.due + costs_by meaning before.desk (lines ++ stops.line ∷ [])
 
 -- The whole lines of the bytes that came were answered, and the line that is coming is kept.
-pub record Heard (meaning : Meaning) (before now : Moment) (came : List ℕ) (line : LineKept) : Type 0 where
+pub record Heard (meaning : Meaning) (before now : Moment) (came : List ℕ) (line : List ℕ) : Type 0 where
   pub turns : Turns meaning before now (whole_lines came)
   pub kept : line ≡ kept_of (unended_line came)
 
@@ -82,13 +82,13 @@ LineTold before now line (Err fault.Say) = Cuts before now.said line
 LineTold before now line (Err fault.Memory) = ⊥
 
 -- What is told of bytes that came: they were heard, a front of the replies was said, or memory was refused.
-abbrev pub BytesTold : Meaning → Moment → Moment → List ℕ → LineKept → Result Unit TurnFault → Type 0
+abbrev pub BytesTold : Meaning → Moment → Moment → List ℕ → List ℕ → Result Unit TurnFault → Type 0
 BytesTold meaning before now came line (Ok done) = Heard meaning before now came line
 BytesTold meaning before now came line (Err fault.Say) = TurnsFront meaning before now (whole_lines came)
 BytesTold meaning before now came line (Err fault.Memory) = TurnsBefore meaning before now (whole_lines came)
 
 -- What bytes more tell at a moment: with those that were heard before, they were heard, or told of as above.
-abbrev pub AnswersBytes : Meaning → Moment → LineKept → List ℕ → Moment → LineKept → Result Unit TurnFault → Type 0
+abbrev pub AnswersBytes : Meaning → Moment → List ℕ → List ℕ → Moment → List ℕ → Result Unit TurnFault → Type 0
 AnswersBytes meaning before coming bytes now line result = (start : Moment) (came : List ℕ) →
     Heard meaning start before came coming → BytesTold meaning start now (came ++ bytes) line result
 

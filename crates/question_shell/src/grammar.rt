@@ -8,7 +8,7 @@ use crate::words::split_words;
 use track_types::Question;
 
 /// How many bytes a question line may have, without its line feed.
-const LONGEST_LINE: usize = 1024;
+pub(crate) const LONGEST_LINE: usize = 1024;
 
 /// Reads a question line, without its line feed: `Ok(None)` if and only if it has no word, however
 /// long it is, else what it asks, or the first thing that is wrong with it. Whether a slot is held or

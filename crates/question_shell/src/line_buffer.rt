@@ -1,9 +1,9 @@
 ghost use Rattle.std.specs.Prelude.{◌≡◌, ℕ, ◌∷◌, [], ◌++◌, List, IfOk, IfSome};
 ghost use Rattle.question_shell.specs.Grammar.{AreAsked, question_of};
-ghost use Rattle.question_shell.specs.LineKept.{LineKept, kept_of};
+ghost use Rattle.question_shell.specs.LineKept.{kept_of};
 
 use crate::bad::Bad;
-use crate::grammar::read_question;
+use crate::grammar::{LONGEST_LINE, read_question};
 use crate::words::is_gap_byte;
 use arrayvec::ArrayVec;
 use std::marker::Model;
@@ -11,17 +11,18 @@ use track_types::Question;
 
 /// A line of questions whose bytes are still coming, of any length in bounded room.
 ///
-/// Its front is kept, a byte more than a line may have, and of the rest only whether it has a word.
+/// What is kept of it, at most a byte more than a line may have, asks what the line asks.
 #[derive(Drop)]
 pub(crate) struct LineBuffer {
-    front: ArrayVec<u8, 1025>,
-    has_word: bool,
+    kept: ArrayVec<u8, 1025>,
 }
 
 impl Model for LineBuffer {
-    ghost Value = { LineKept };
+    ghost use Rattle.std.specs.Prelude.{List, ℕ};
 
-    ghost view = { λ b. record { front = b.front.items; has_word = b.has_word } };
+    ghost Value = { List ℕ };
+
+    ghost view = { λ b. b.kept.items };
 }
 
 impl LineBuffer {
@@ -29,8 +30,7 @@ impl LineBuffer {
         ensures { result ≡ kept_of [] }
     {
         LineBuffer {
-            front: ArrayVec::new(),
-            has_word: false,
+            kept: ArrayVec::new(),
         }
     }
 
@@ -38,16 +38,21 @@ impl LineBuffer {
         ensures { (line : List ℕ) → self.old ≡ kept_of line →
             self.new ≡ kept_of (line ++ byte ∷ []) }
     {
-        // A full front stays as it is: the line is too long already.
-        let _ = self.front.try_push(byte);
-        self.has_word |= !is_gap_byte(byte);
+        match self.kept.get_mut(LONGEST_LINE) {
+            // The line is too long already, so that this byte tells no more than whether it has a word.
+            Some(last) => {
+                if is_gap_byte(*last) {
+                    *last = byte;
+                }
+            }
+            None => self.kept.push(byte),
+        }
     }
 
     pub(crate) fn clear(&mut self)
         ensures { self.new ≡ kept_of [] }
     {
-        self.front.clear();
-        self.has_word = false;
+        self.kept.clear();
     }
 
     // What the line asks.
@@ -55,11 +60,6 @@ impl LineBuffer {
         ensures value { (line : List ℕ) → self.now ≡ kept_of line → result ≡ question_of line }
         ensures asked { IfOk result (λ asked. IfSome asked AreAsked) }
     {
-        let asked = read_question(self.front.as_slice())?;
-        // A line with a word whose front has none is longer than its front, so it is too long.
-        if asked.is_none() && self.has_word {
-            return Err(Bad::Long);
-        }
-        Ok(asked)
+        read_question(self.kept.as_slice())
     }
 }

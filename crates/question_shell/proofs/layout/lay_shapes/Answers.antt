@@ -1,4 +1,4 @@
-use Rattle.std.proofs.Common.{rules, ◌≡◌, ◌∙◌, ◌+◌, ◌∷◌, [], ◌<◌, Err, None, Ok, arith, map, length, length-append, refl}
+use Rattle.std.proofs.Common.{rules, ◌≡◌, ◌∙◌, ◌∷◌, [], ◌<◌, Err, None, Ok, arith, map, length, length-append, refl}
 use Rattle.std.proofs.lemmas.List.{map-append}
 use Rattle.question_shell.specs.Lines.{texts}
 use Rattle.question_shell.specs.RegionWords.{any_counted, shape_texts, shapes_cut}

@@ -1,4 +1,4 @@
-use Rattle.std.proofs.Common.{◌≡◌, ◌+◌, ◌-◌, ◌≤◌, ℕ, List, Bor, ◌∷◌, length, map}
+use Rattle.std.proofs.Common.{◌≡◌, ◌+◌, ◌-◌, ℕ, List, Bor, ◌∷◌, length, map}
 use Rattle.question_shell.specs.Lines.{texts}
 use Rattle.question_shell.specs.RegionWords.{shape_texts, shapes_cut}
 use Rattle.question_shell.specs.declared.shape_words.ShapeWords.{ShapeWords}

@@ -1,8 +1,8 @@
-use Rattle.std.proofs.Common.{rules, ◌≡◌, ◌∙◌, ◌+◌, ◌<◌, ◌∷◌, [], ◌++◌, ℕ, List, Bor, Err, arith, drop, get_or, length, map, length-append, refl, sym, ap}
+use Rattle.std.proofs.Common.{rules, ◌≡◌, ◌∙◌, ◌+◌, ◌<◌, ◌∷◌, [], ℕ, List, Bor, Err, arith, drop, get_or, length, map, length-append, refl, sym, ap}
 use Rattle.std.proofs.lemmas.List.{drop_all, drop_more}
 use Rattle.std.proofs.lemmas.List.Elements.{All-append}
 use Rattle.track_types.specs.Region.{IsShapeAsked}
-use Rattle.question_shell.specs.RegionWords.{shape_of, shape_texts, shapes_of}
+use Rattle.question_shell.specs.RegionWords.{shape_texts, shapes_of}
 use Rattle.question_shell.specs.declared.shape_words.ShapeWords.{ShapeWords}
 use Rattle.question_shell.specs.declared.shape_words.ShapeWords.TheVariants.{Rect}
 use Rattle.question_shell.proofs.LayoutLemmas.{read-all, read-bad, read-begin, read-next, size-few}

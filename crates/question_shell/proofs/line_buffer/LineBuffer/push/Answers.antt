@@ -1,14 +1,26 @@
-use Rattle.std.proofs.Common.{◌∙◌, ap, refl}
-use Rattle.question_shell.specs.LineKept.{LineKept}
-use Rattle.question_shell.proofs.KeptLemmas.{front-try_push, list_any-push}
+use Rattle.std.proofs.Common.{rules, ◌≡◌, ◌∙◌, ◌<◌, ◌≤◌, false, length, refl, sym, true}
+use Rattle.question_shell.specs.Lines.{is_gap}
+use Rattle.question_shell.proofs.KeptLemmas.{kept-full, kept-room}
 use Rattle.question_shell.proofs.line_buffer.LineBuffer.push.Goals as goal
 
-pub returns : goal.returns
-returns c line is_kept =
-    let front = ap (λ (kept : LineKept). kept.front) (c.self.view_is ∙ is_kept) in
-    let words = ap (λ (kept : LineKept). kept.has_word) (c.self.view_is ∙ is_kept) in
-    let old = c.self.inside.front in
-    let new = c.try_push.new.self in
-    let new_front = front-try_push (λ front. front.items) c.try_push.result line c.args.byte old new front
-    c.try_push.ensures.variant c.try_push.ensures.ok c.try_push.ensures.err in
-    rw (new_front, list_any-push line c.args.byte, words, c.is_gap_byte.ensures) refl
+pub returns-then-is_gap_byte : goal.returns-then-is_gap_byte
+returns-then-is_gap_byte c line is_kept =
+    let kept = c.self.inside.kept.items in
+    let last = c.in-Some.last.now in
+    let full : 1024 < length kept = c.in-Some.ensures.variant.0 refl in
+    let gap : is_gap last ≡ true = sym c.is_gap_byte.ensures ∙ c.if-is_gap_byte.true in
+    rw gap at (kept-full line kept last c.args.byte (c.self.view_is ∙ is_kept) full (sym c.in-Some.ensures.value))
+
+pub returns-else-is_gap_byte : goal.returns-else-is_gap_byte
+returns-else-is_gap_byte c line is_kept =
+    let kept = c.self.inside.kept.items in
+    let last = c.in-Some.last.now in
+    let full : 1024 < length kept = c.in-Some.ensures.variant.0 refl in
+    let inside : is_gap last ≡ false = sym c.is_gap_byte.ensures ∙ c.if-is_gap_byte.false in
+    rw inside at (kept-full line kept last c.args.byte (c.self.view_is ∙ is_kept) full (sym c.in-Some.ensures.value))
+
+pub returns-in-None : goal.returns-in-None
+returns-in-None c line is_kept =
+    let kept = c.self.inside.kept.items in
+    let room : length kept ≤ 1024 = search rules in
+    c.push.ensures.items ∙ kept-room line kept c.args.byte (c.self.view_is ∙ is_kept) room
