@@ -12,8 +12,7 @@ use Rattle.question_shell.specs.Grammar.{form_of, form_question, question_in, so
 use Rattle.question_shell.specs.Grammar.{worded_question}
 use Rattle.question_shell.specs.declared.bad.Bad.{Bad}
 use Rattle.question_shell.specs.declared.form.Form.{Form}
-use Rattle.question_shell.specs.declared.form.Form.TheVariants.{Position, Path, Slice, Interval, Nearest, Meet, Info, Hold, More}
-use Rattle.question_shell.specs.declared.form.Form.TheVariants.{Free}
+use Rattle.question_shell.specs.declared.form.Form.TheVariants.{Slice, Interval}
 use Rattle.std.proofs.lemmas.Bool.{cases_lt}
 use Rattle.std.proofs.lemmas.List.{length-take}
 use Rattle.question_shell.proofs.FrontLemmas.{layout-front}
@@ -45,16 +44,11 @@ module _ (words : List (List ℕ)) (long : 85 < length words) where
   other count few = (grind (arith, nat_tests, length-take 85 words), grind (arith, nat_tests))
 
   long-kept : (form : Form) → form_question form (take 85 words) ≡ form_question form words
-  long-kept Position = rw ((other 2 (omega arith)).0, (other 2 (omega arith)).1) refl
-  long-kept Path = rw ((other 3 (omega arith)).0, (other 3 (omega arith)).1) refl
   long-kept Slice = slice-kept words
   long-kept Interval = interval-kept words
-  long-kept Nearest = rw ((other 4 (omega arith)).0, (other 4 (omega arith)).1) refl
-  long-kept Meet = rw ((other 5 (omega arith)).0, (other 5 (omega arith)).1) refl
-  long-kept Info = rw ((other 0 (omega arith)).0, (other 0 (omega arith)).1) refl
-  long-kept Hold = rw ((other 4 (omega arith)).0, (other 4 (omega arith)).1) refl
-  long-kept More = rw ((other 2 (omega arith)).0, (other 2 (omega arith)).1) refl
-  long-kept Free = rw ((other 1 (omega arith)).0, (other 1 (omega arith)).1) refl
+  long-kept form =
+      let count : ℕ = length (form_words form) in
+      rw ((other count (omega arith)).0, (other count (omega arith)).1) refl
 
 form_question-kept : (form : Form) (words : List (List ℕ)) → form_question form (take 85 words) ≡ form_question form words
 form_question-kept form words = elim (cases_lt 85 (length words)) [

@@ -123,15 +123,11 @@ pub record AnswersFirst (meaning : Meaning) (before now : Run) : Type 0 where
 abbrev pub takes_memory : List (Option (List Stop)) → Result (Option Question) Bad → Bool
 takes_memory desk (Ok None) = false
 takes_memory desk (Ok (Some (question.Position object instant))) = false
-takes_memory desk (Ok (Some (question.Path object from to))) = true
-takes_memory desk (Ok (Some (question.Slice instant region))) = true
-takes_memory desk (Ok (Some (question.Interval from to region))) = true
-takes_memory desk (Ok (Some (question.Nearest count instant cell))) = true
-takes_memory desk (Ok (Some (question.Meet left right from to reach))) = true
 takes_memory desk (Ok (Some question.Info)) = false
 takes_memory desk (Ok (Some (question.Hold slot object from to))) = is_none (stops_at desk slot)
 takes_memory desk (Ok (Some (question.More slot count))) = false
 takes_memory desk (Ok (Some (question.Free slot))) = false
+takes_memory desk (Ok (Some other)) = true
 takes_memory desk (Err bad) = false
 
 -- One of the lines takes memory, where the desk is the one after the lines before it, which are these.
