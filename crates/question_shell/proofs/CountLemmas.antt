@@ -1,7 +1,7 @@
 -- A path has few stops: no two are at one instant.
 use Rattle.std.proofs.Common.{◌≡◌, ℕ, zero, suc, ◌^◌, ◌≤◌, true, ◌&&◌, List, [], ◌∷◌, length, filter, refl}
 use Rattle.std.proofs.Common.{sym, arith, ℤ, pos, ◌+ℤ◌, ◌≤ℤ◌, ◌<ℤ◌, ◌==◌, subst, to_z, of_z, w64, inl, inr}
-use Rattle.std.specs.Prelude.{◌<◌, map, Option, Some, None, option_to_list}
+use Rattle.std.specs.Prelude.{◌<◌, Option, Some, None, option_to_list}
 use Rattle.std.specs.List.{AllByRecursion}
 use Rattle.std.specs.Ordering.{int_cmp, nat_cmp, ordering_then}
 use Rattle.std.specs.declared.cmp.Ordering.TheVariants.{Less}
@@ -14,9 +14,8 @@ use Rattle.track_types.specs.ByFilter.{is_row_between, path_of, stop_of}
 use Rattle.track_types.specs.Near.{IsAsked}
 use Rattle.track_types.specs.Region.{is_between}
 use Rattle.track_types.specs.Row.{IsAscending, row_order}
-use Rattle.track_types.specs.declared.meeting.Meeting.{Meeting}
 use Rattle.track_types.specs.declared.row.Row.{Row}
-use Rattle.question_shell.specs.declared.item.Item.TheVariants as item
+use Rattle.question_shell.specs.declared.item.Item.{Item}
 
 -- what a row between is
 between-facts : (object : ℕ) (from to : ℤ) (row : Row) → is_row_between object from to row ≡ true →
@@ -83,7 +82,7 @@ length-path_of rows object from to up low high =
 pub asked_kept : (z : ℤ) → IsAsked z → to_z w64 (of_z w64 z) ≡ z
 asked_kept z asked = to_z-of_z w64 z (omega (arith, ints, asked.low, asked.high))
 
--- a meeting is one item
-pub few-meeting : (found : Option Meeting) → length (map item.Meeting (option_to_list found)) < 2 ^ 64
-few-meeting None = omega arith
-few-meeting (Some meeting) = omega arith
+-- at most one item is few
+pub few-one : (found : Option Item) → length (option_to_list found) < 2 ^ 64
+few-one None = omega arith
+few-one (Some found) = omega arith

@@ -26,13 +26,12 @@ refusal_left other = None
 module _ {W : Type 0} (left : W → List Stop) (budget : W → ℕ) where
   -- the items that are left
   abbrev pub items_left : Answer W → DeskView → List Item
-  items_left (answer.Position cell) desk = map item.Cell (option_to_list cell)
-  items_left (answer.Path walk) desk = map item.Stop (left walk)
-  items_left (answer.Slice found) desk = map item.Sighting found
-  items_left (answer.Interval found) desk = map item.Hit found
-  items_left (answer.Nearest found) desk = map item.Near found
-  items_left (answer.Meet found) desk = map item.Meeting (option_to_list found)
-  items_left (answer.Info facts) desk = map item.Fact facts
+  items_left (answer.One found) desk = option_to_list found
+  items_left (answer.Walk walk) desk = map item.Stop (left walk)
+  items_left (answer.Sightings found) desk = map item.Sighting found
+  items_left (answer.Hits found) desk = map item.Hit found
+  items_left (answer.Nears found) desk = map item.Near found
+  items_left (answer.Facts facts) desk = map item.Fact facts
   items_left (answer.More slot count) desk = map item.Stop (take count (slot_stops desk slot))
   items_left other desk = []
 
@@ -44,7 +43,7 @@ module _ {W : Type 0} (left : W → List Stop) (budget : W → ℕ) where
 
   -- how many reads the answer and the desk may still make
   abbrev pub reads_left : Answer W → DeskView → ℕ
-  reads_left (answer.Path walk) desk = budget walk + budget_of desk
+  reads_left (answer.Walk walk) desk = budget walk + budget_of desk
   reads_left other desk = budget_of desk
 
   -- These items were drawn in between, and what was read is taken from what may be read.

@@ -10,25 +10,23 @@ use crate::named_fact::NamedFacts;
 use crate::reply::{ReplyLine, free_line, held_line, ok_line};
 use std::sync::ledger::Ledger;
 use step_count::Steps;
-use track_types::{Cell, Hit, Lazy, Meeting, Near, Sighting, Stop};
+use track_types::{Hit, Lazy, Near, Sighting, Stop};
 
 /// An answer to a question, of which one item after another is drawn.
 #[derive(Drop)]
 pub enum Answer<W> {
-    /// The cell of an object, where it is present.
-    Position(Option<Cell>),
-    /// The stops of an object.
-    Path(W),
-    /// The rows of an instant in a region.
-    Slice(Found<Sighting>),
-    /// The first row of each object in a window and a region.
-    Interval(Found<Hit>),
-    /// The rows of an instant that are nearest to a cell.
-    Nearest(Found<Near>),
-    /// The first meeting of two objects, where they meet.
-    Meet(Option<Meeting>),
+    /// One item, where there is one.
+    One(Option<Item>),
+    /// Stops that are read as they are drawn.
+    Walk(W),
+    /// Objects with their cells.
+    Sightings(Found<Sighting>),
+    /// Objects with their instants and cells.
+    Hits(Found<Hit>),
+    /// Objects with their cells and distances.
+    Nears(Found<Near>),
     /// The facts.
-    Info(NamedFacts),
+    Facts(NamedFacts),
     /// At most so many stops of the walk that a slot holds.
     More { slot: u8, count: u32 },
     /// Nothing: a slot was held or emptied.
@@ -52,13 +50,12 @@ impl<W: Lazy<Item = Stop> + Drop> Answer<W> {
         ensures none { IfNone result (IsDrawn W.left W.budget self.new desk.new) }
     {
         match self {
-            Answer::Position(cell) => Some(Item::Cell(cell.take()?)),
-            Answer::Path(walk) => Some(Item::Stop(walk.draw(steps)?)),
-            Answer::Slice(found) => Some(Item::Sighting(found.draw()?)),
-            Answer::Interval(found) => Some(Item::Hit(found.draw()?)),
-            Answer::Nearest(found) => Some(Item::Near(found.draw()?)),
-            Answer::Meet(found) => Some(Item::Meeting(found.take()?)),
-            Answer::Info(facts) => Some(Item::Fact(facts.draw()?)),
+            Answer::One(item) => item.take(),
+            Answer::Walk(walk) => Some(Item::Stop(walk.draw(steps)?)),
+            Answer::Sightings(found) => Some(Item::Sighting(found.draw()?)),
+            Answer::Hits(found) => Some(Item::Hit(found.draw()?)),
+            Answer::Nears(found) => Some(Item::Near(found.draw()?)),
+            Answer::Facts(facts) => Some(Item::Fact(facts.draw()?)),
             Answer::More { slot, count } => Some(Item::Stop(draw_more(desk, *slot, count, steps)?)),
             Answer::Done | Answer::Held | Answer::Free => None,
         }

@@ -1,4 +1,5 @@
 ghost use Rattle.std.specs.Prelude.{◌≡◌, ℕ, ◌+◌, ◌<◌, ◌≤◌, IfOk, OnErr, Ok, Some, true};
+ghost use Rattle.std.specs.Prelude.{map, option_to_list};
 ghost use Rattle.track_types.specs.declared.question.Question.TheVariants as question;
 ghost use Rattle.question_shell.specs.Desk.{DeskView, held_of};
 ghost use Rattle.question_shell.specs.Drawing.{IsAnswer};
@@ -6,15 +7,17 @@ ghost use Rattle.question_shell.specs.Grammar.{AreAsked};
 ghost use Rattle.question_shell.specs.Reply.{asked_cost};
 ghost use Rattle.question_shell.specs.Session.{Meaning, meaning_by, takes_memory};
 ghost use Rattle.question_shell.specs.SlotParts.{OfNoSlot, slot_part};
+ghost use Rattle.question_shell.specs.declared.item.Item.TheVariants as item;
 
 use crate::answer::Answer;
 use crate::desk::Desk;
 use crate::found::Found;
+use crate::item::Item;
 use crate::named_fact::NamedFacts;
 use std::alloc::Global;
 use std::sync::ledger::Ledger;
 use step_count::Steps;
-use track_types::{Lazy, Meets, Memory, Question, Stop};
+use track_types::{Cell, Lazy, Meeting, Meets, Memory, Question, Stop};
 
 // Asks a question. Walks and lists take memory, and are made before anything changes.
 pub(crate) fn ask<A: Meets, L: Ledger>(
@@ -67,19 +70,20 @@ fn ask_chart<A: Meets, L: Ledger>(
     let facts = answerer.facts();
     match question {
         Question::Position { object, instant } => {
-            Ok(Answer::Position(answerer.position(object, instant, steps)))
+            let found = answerer.position(object, instant, steps);
+            Ok(Answer::One(one_cell(found)))
         }
         Question::Path { object, from, to } => {
             let stops = answerer.walk(alloc, object, from, to)?;
-            Ok(Answer::Path(stops))
+            Ok(Answer::Walk(stops))
         }
         Question::Slice { instant, region } => {
             let found = answerer.slice(alloc, instant, &region, steps)?;
-            Ok(Answer::Slice(Found::new(found)))
+            Ok(Answer::Sightings(Found::new(found)))
         }
         Question::Interval { from, to, region } => {
             let found = answerer.interval(alloc, from, to, &region, steps)?;
-            Ok(Answer::Interval(Found::new(found)))
+            Ok(Answer::Hits(Found::new(found)))
         }
         Question::Nearest {
             count,
@@ -87,7 +91,7 @@ fn ask_chart<A: Meets, L: Ledger>(
             cell,
         } => {
             let found = answerer.nearest(alloc, count, instant, cell, steps)?;
-            Ok(Answer::Nearest(Found::new(found)))
+            Ok(Answer::Nears(Found::new(found)))
         }
         Question::Meet {
             left,
@@ -97,11 +101,25 @@ fn ask_chart<A: Meets, L: Ledger>(
             reach,
         } => {
             let found = answerer.meet(alloc, left, right, from, to, reach, steps)?;
-            Ok(Answer::Meet(found))
+            Ok(Answer::One(one_meeting(found)))
         }
-        Question::Info => Ok(Answer::Info(NamedFacts::new(facts))),
+        Question::Info => Ok(Answer::Facts(NamedFacts::new(facts))),
         Question::Hold { .. } | Question::More { .. } | Question::Free { .. } => unreachable!(),
     }
+}
+
+// The item that a cell is, where there is one.
+fn one_cell(found: Option<Cell>) -> Option<Item>
+    ensures { option_to_list result ≡ map item.Cell (option_to_list found) }
+{
+    Some(Item::Cell(found?))
+}
+
+// The item that a meeting is, where there is one.
+fn one_meeting(found: Option<Meeting>) -> Option<Item>
+    ensures { option_to_list result ≡ map item.Meeting (option_to_list found) }
+{
+    Some(Item::Meeting(found?))
 }
 
 // Holds a walk over a path in an empty slot.

@@ -241,7 +241,7 @@ fn say_alike<L: Ledger>(rt: &HostRuntime, sink: &mut MemSink, blank: Blank) -> R
     let Ok(mut desk) = Desk::new(rt.alloc()) else {
         return Err(Cut { sent: 0 });
     };
-    let mut answer = Answer::Path(Alike { left: 600 });
+    let mut answer = Answer::Walk(Alike { left: 600 });
     say_answer(&mut answer, &mut desk, &mut text, sink, &mut steps)?;
     text.say(sink)
 }

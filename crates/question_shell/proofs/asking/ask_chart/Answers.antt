@@ -8,7 +8,7 @@ use Rattle.track_types.specs.Region.{IsRegionAsked}
 use Rattle.track_types.specs.declared.limit.TheConstants.{MAX_REACH}
 use Rattle.track_types.specs.declared.question.Question.TheVariants as question
 use Rattle.question_shell.specs.declared.item.Item.TheVariants as item
-use Rattle.question_shell.proofs.CountLemmas.{asked_kept, few-meeting, length-path_of}
+use Rattle.question_shell.proofs.CountLemmas.{asked_kept, few-one, length-path_of}
 use Rattle.question_shell.proofs.asking.ask_chart.Goals as goal
 
 pub returns-in_ok-stops-in-Path-clause-ok : goal.returns-in_ok-stops-in-Path-clause-ok
@@ -93,8 +93,8 @@ returns-in_ok-found-in-Meet-clause-ok g c desk =
     let cost = simp (asked_kept arm.from near.0, asked_kept arm.to near.1) at c.meet.ensures.cost in
     rw asked (record {
       slot = tt;
-      items = ap (λ found. map item.Meeting (option_to_list found)) found;
-      few = few-meeting c.in_ok-found-in-Meet.found;
+      items = c.one_meeting.ensures ∙ ap (λ found. map item.Meeting (option_to_list found)) found;
+      few = few-one c.one_meeting.result;
       refusal = refl;
       held = refl;
       reads = omega (arith, cost);
