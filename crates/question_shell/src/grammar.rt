@@ -2,8 +2,7 @@ ghost use Rattle.std.specs.Prelude.{◌≡◌, IfOk, IfSome};
 ghost use Rattle.question_shell.specs.Grammar.{AreAsked, question_of};
 
 use crate::bad::Bad;
-use crate::form::Form;
-use crate::reading::read_form;
+use crate::form::{Form, read_form};
 use crate::words::split_words;
 use track_types::Question;
 

@@ -22,7 +22,6 @@ mod line_buffer;
 mod listening;
 mod named_fact;
 mod number_word;
-mod reading;
 mod reply;
 mod saying;
 mod shape_reading;
