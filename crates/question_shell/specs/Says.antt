@@ -1,11 +1,6 @@
 -- What was said of a text, and what is held back.
-use Rattle.std.specs.Prelude.{◌≡◌, ℕ, ℤ, List, ◌++◌, Option, Result, Ok, Err}
-use Rattle.std.specs.Borrow.{Bor}
+use Rattle.std.specs.Prelude.{◌≡◌, ℕ, List, ◌++◌, Option, Result, Ok, Err}
 use Rattle.std.specs.Io.KnownBytes.{Appends}
-
--- a fact's name and number
-abbrev pub told_of : Bor (List ℕ) × ℤ → List ℕ × ℤ
-told_of fact = (fact.0.now, fact.1)
 
 -- what was said, where it is told, and the text that is held back
 pub record Voice : Type 0 where

@@ -1,8 +1,5 @@
-ghost use Rattle.std.specs.Prelude.{◌≡◌, ◌++◌, ◌^◌, ◌≤◌, ◌≤ℤ◌, [], length, map, neg_ℤ, pos};
-ghost use Rattle.std.specs.Prelude.{IfNone, option_to_list};
-ghost use Rattle.std.specs.List.{All};
+ghost use Rattle.std.specs.Prelude.{◌≡◌, ◌+◌, ◌++◌, ◌∷◌, [], IfNone, IfSome, drop, option_to_list};
 ghost use Rattle.question_shell.specs.Items.{fact_line, named_facts};
-ghost use Rattle.question_shell.specs.Says.{told_of};
 
 use crate::reply::ReplyLine;
 use arrayvec::ArrayString;
@@ -69,30 +66,31 @@ impl NamedFacts {
         ensures found { self.old ≡ option_to_list result ++ self.new }
         ensures none { IfNone result (self.old ≡ []) }
     {
-        let facts = named_facts(self.facts);
-        let (name, number) = *facts.get(self.told)?;
+        let fact = named_fact(&self.facts, self.told)?;
         self.told += 1;
-        Some(NamedFact { name, number })
+        Some(fact)
     }
 }
 
-fn named_facts(facts: Facts) -> [(&'static str, i128); 11]
-    ensures told { map told_of result ≡ named_facts facts }
-    ensures short { All (λ fact. length fact.0.now ≤ 8) result }
-    ensures range { All (λ fact. (neg_ℤ (pos (2 ^ 64)) ≤ℤ fact.1) × (fact.1 ≤ℤ pos (2 ^ 64)))
-        result }
+// The fact at this place of the reply, if there is one.
+fn named_fact(facts: &Facts, place: usize) -> Option<NamedFact>
+    ensures some { IfSome result (λ fact. drop place (named_facts facts.now)
+        ≡ fact ∷ drop (place + 1) (named_facts facts.now)) }
+    ensures none { IfNone result (drop place (named_facts facts.now) ≡ []) }
 {
-    [
-        ("objects", facts.objects as i128),
-        ("first", facts.first as i128),
-        ("last", facts.last as i128),
-        ("period", facts.period as i128),
-        ("cell", facts.cell as i128),
-        ("tick", facts.tick as i128),
-        ("height", facts.height as i128),
-        ("alphabet", facts.alphabet as i128),
-        ("rules", facts.rules as i128),
-        ("log", facts.entries as i128),
-        ("depth", facts.depth as i128),
-    ]
+    let (name, number) = match place {
+        0 => ("objects", facts.objects as i128),
+        1 => ("first", facts.first as i128),
+        2 => ("last", facts.last as i128),
+        3 => ("period", facts.period as i128),
+        4 => ("cell", facts.cell as i128),
+        5 => ("tick", facts.tick as i128),
+        6 => ("height", facts.height as i128),
+        7 => ("alphabet", facts.alphabet as i128),
+        8 => ("rules", facts.rules as i128),
+        9 => ("log", facts.entries as i128),
+        10 => ("depth", facts.depth as i128),
+        _ => return None,
+    };
+    Some(NamedFact { name, number })
 }
