@@ -8,7 +8,7 @@ use Rattle.track_types.specs.declared.numeral.Numeral.{Numeral}
 use Rattle.track_types.specs.declared.numeral.Numeral.TheVariants.{Value, Large, Not}
 use Rattle.question_shell.specs.NumberWords.{value_of}
 use Rattle.question_shell.specs.Lines.{texts}
-use Rattle.question_shell.specs.Grammar.{form_of, form_question, question_in, some_question}
+use Rattle.question_shell.specs.Grammar.{form_of, form_question, form_words, question_in, some_question}
 use Rattle.question_shell.specs.Grammar.{worded_question}
 use Rattle.question_shell.specs.declared.bad.Bad.{Bad}
 use Rattle.question_shell.specs.declared.form.Form.{Form}
