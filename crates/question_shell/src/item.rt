@@ -1,4 +1,4 @@
-ghost use Rattle.std.specs.Prelude.{◌≡◌, ◌≤◌, length};
+ghost use Rattle.std.specs.Prelude.{◌≡◌, ◌≤◌, ◌++◌, length};
 ghost use Rattle.question_shell.specs.Items.{cell_line, fact_line, line_of, stop_line};
 ghost use Rattle.question_shell.specs.declared.item.Item.TheVariants as item;
 
@@ -39,16 +39,23 @@ impl Item {
 
 // X Y
 fn cell_line(cell: Cell) -> ReplyLine
-    ensures value { result.bytes ≡ cell_line cell }
-    ensures short { length result.bytes ≤ 42 }
+    ensures { result.bytes ≡ cell_line cell }
 {
     let mut line = ArrayString::new();
+    push_cell(&mut line, cell);
+    line
+}
+
+// Ends a line with X Y.
+fn push_cell(line: &mut ReplyLine, cell: Cell)
+    requires { length line.old.bytes ≤ 70 }
+    ensures { line.new.bytes ≡ line.old.bytes ++ cell_line cell }
+{
     let mut digits = Buffer::new();
     line.push_str(digits.format(cell.x));
     line.push_str(" ");
     line.push_str(digits.format(cell.y));
     line.push_str("\n");
-    line
 }
 
 // T X Y
@@ -58,7 +65,7 @@ fn stop_line(stop: Stop) -> ReplyLine
     let mut line = ArrayString::new();
     line.push_str(Buffer::new().format(stop.instant));
     line.push_str(" ");
-    line.push_str(cell_line(stop.cell).as_str());
+    push_cell(&mut line, stop.cell);
     line
 }
 
@@ -69,7 +76,7 @@ fn sighting_line(sighting: Sighting) -> ReplyLine
     let mut line = ArrayString::new();
     line.push_str(Buffer::new().format(sighting.object));
     line.push_str(" ");
-    line.push_str(cell_line(sighting.cell).as_str());
+    push_cell(&mut line, sighting.cell);
     line
 }
 
@@ -83,7 +90,7 @@ fn hit_line(hit: Hit) -> ReplyLine
     line.push_str(" ");
     line.push_str(digits.format(hit.instant));
     line.push_str(" ");
-    line.push_str(cell_line(hit.cell).as_str());
+    push_cell(&mut line, hit.cell);
     line
 }
 
@@ -116,6 +123,6 @@ fn meeting_line(meeting: Meeting) -> ReplyLine
     line.push_str(" ");
     line.push_str(digits.format(meeting.left.y));
     line.push_str(" ");
-    line.push_str(cell_line(meeting.right).as_str());
+    push_cell(&mut line, meeting.right);
     line
 }
