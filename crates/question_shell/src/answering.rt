@@ -38,7 +38,7 @@ pub(crate) fn answer<A: Meets, K: Sink, L: Ledger>(
     match asked {
         Ok(None) => Ok(()),
         Ok(Some(question)) => {
-            answer_question(alloc, answerer, question, desk, text, sink, steps)
+            answer_question(alloc, answerer, &question, desk, text, sink, steps)
         }
         Err(bad) => answer_line(&bad_line(bad), text, sink),
     }
@@ -66,7 +66,7 @@ pub fn say_reply<A: Meets, K: Sink, L: Ledger>(
     ensures faults { K.faults sink.old ≤ K.faults sink.new }
 {
     let mut text = HeldText::new();
-    answer_question(alloc, answerer, question, desk, &mut text, sink, steps)?;
+    answer_question(alloc, answerer, &question, desk, &mut text, sink, steps)?;
     let Ok(()) = text.say(sink) else {
         return Err(TurnFault::Say);
     };
@@ -77,16 +77,16 @@ pub fn say_reply<A: Meets, K: Sink, L: Ledger>(
 fn answer_question<A: Meets, K: Sink, L: Ledger>(
     alloc: Global,
     answerer: A,
-    question: Question,
+    question: &Question,
     desk: &mut Desk<A::Walk>,
     text: &mut HeldText,
     sink: &mut K,
     steps: &mut Steps<L>,
 ) -> Result<(), TurnFault>
-    requires { AreAsked question }
+    requires { AreAsked question.now }
     ensures told { AnswerTold (meaning_by A.Answerer answerer)
         (moment (K.said sink.old) text.old desk.old steps.old)
-        (moment (K.said sink.new) text.new desk.new steps.new) (Ok (Some question)) result }
+        (moment (K.said sink.new) text.new desk.new steps.new) (Ok (Some question.now)) result }
     ensures faults { SinkCounts K.Sink sink.old sink.new (result ≡ Err fault.Say) }
 {
     let Ok(mut answer) = ask(alloc, answerer, question, desk, steps) else {

@@ -23,18 +23,18 @@ use track_types::{Cell, Lazy, Meeting, Meets, Memory, Question, Stop};
 pub(crate) fn ask<A: Meets, L: Ledger>(
     alloc: Global,
     answerer: A,
-    question: Question,
+    question: &Question,
     desk: &mut Desk<A::Walk>,
     steps: &mut Steps<L>,
 ) -> Result<Answer<A::Walk>, Memory>
-    requires { AreAsked question }
+    requires { AreAsked question.now }
     ensures ok { IfOk result (λ answer. IsAnswer A.Walk.left A.Walk.budget
         (meaning_by A.Answerer answerer)
-        question desk.old steps.old answer desk.new steps.new) }
-    ensures takes { OnErr result (takes_memory (held_of desk.old) (Ok (Some question)) ≡ true) }
+        question.now desk.old steps.old answer desk.new steps.new) }
+    ensures takes { OnErr result (takes_memory (held_of desk.old) (Ok (Some question.now)) ≡ true) }
     ensures desk { OnErr result (desk.new ≡ desk.old) }
     ensures reads { OnErr result (steps.new
-        ≤ steps.old + asked_cost (A.cost answerer) (held_of desk.old) (Ok (Some question))) }
+        ≤ steps.old + asked_cost (A.cost answerer) (held_of desk.old) (Ok (Some question.now))) }
 {
     match question {
         Question::Hold {
@@ -42,9 +42,9 @@ pub(crate) fn ask<A: Meets, L: Ledger>(
             object,
             from,
             to,
-        } => hold(alloc, answerer, desk, slot, object, from, to),
-        Question::More { slot, count } => Ok(more(desk, slot, count)),
-        Question::Free { slot } => Ok(free(desk, slot)),
+        } => hold(alloc, answerer, desk, *slot, *object, *from, *to),
+        Question::More { slot, count } => Ok(more(desk, *slot, *count)),
+        Question::Free { slot } => Ok(free(desk, *slot)),
         _ => ask_chart(alloc, answerer, question, steps),
     }
 }
@@ -53,36 +53,36 @@ pub(crate) fn ask<A: Meets, L: Ledger>(
 fn ask_chart<A: Meets, L: Ledger>(
     alloc: Global,
     answerer: A,
-    question: Question,
+    question: &Question,
     steps: &mut Steps<L>,
 ) -> Result<Answer<A::Walk>, Memory>
-    requires asked { AreAsked question }
-    requires part { slot_part question ≡ OfNoSlot }
+    requires asked { AreAsked question.now }
+    requires part { slot_part question.now ≡ OfNoSlot }
     ensures ok { (desk : DeskView) → IfOk result (λ answer. IsAnswer A.Walk.left A.Walk.budget
         (meaning_by A.Answerer answerer)
-        question desk steps.old answer desk steps.new) }
+        question.now desk steps.old answer desk steps.new) }
     ensures takes { (desk : DeskView) → OnErr result
-        (takes_memory (held_of desk) (Ok (Some question)) ≡ true) }
+        (takes_memory (held_of desk) (Ok (Some question.now)) ≡ true) }
     ensures reads { (desk : DeskView) → OnErr result (steps.new
-        ≤ steps.old + asked_cost (A.cost answerer) (held_of desk) (Ok (Some question))) }
+        ≤ steps.old + asked_cost (A.cost answerer) (held_of desk) (Ok (Some question.now))) }
 {
     // The rows of what has facts ascend, so that a count of stops fits.
     let facts = answerer.facts();
     match question {
         Question::Position { object, instant } => {
-            let found = answerer.position(object, instant, steps);
+            let found = answerer.position(*object, *instant, steps);
             Ok(Answer::One(one_cell(found)))
         }
         Question::Path { object, from, to } => {
-            let stops = answerer.walk(alloc, object, from, to)?;
+            let stops = answerer.walk(alloc, *object, *from, *to)?;
             Ok(Answer::Walk(stops))
         }
         Question::Slice { instant, region } => {
-            let found = answerer.slice(alloc, instant, &region, steps)?;
+            let found = answerer.slice(alloc, *instant, region, steps)?;
             Ok(Answer::Sightings(Found::new(found)))
         }
         Question::Interval { from, to, region } => {
-            let found = answerer.interval(alloc, from, to, &region, steps)?;
+            let found = answerer.interval(alloc, *from, *to, region, steps)?;
             Ok(Answer::Hits(Found::new(found)))
         }
         Question::Nearest {
@@ -90,7 +90,7 @@ fn ask_chart<A: Meets, L: Ledger>(
             instant,
             cell,
         } => {
-            let found = answerer.nearest(alloc, count, instant, cell, steps)?;
+            let found = answerer.nearest(alloc, *count, *instant, *cell, steps)?;
             Ok(Answer::Nears(Found::new(found)))
         }
         Question::Meet {
@@ -100,7 +100,7 @@ fn ask_chart<A: Meets, L: Ledger>(
             to,
             reach,
         } => {
-            let found = answerer.meet(alloc, left, right, from, to, reach, steps)?;
+            let found = answerer.meet(alloc, *left, *right, *from, *to, *reach, steps)?;
             Ok(Answer::One(one_meeting(found)))
         }
         Question::Info => Ok(Answer::Facts(NamedFacts::new(facts))),

@@ -32,7 +32,7 @@ pub fn count_found<A: Meets, L: Ledger>(
     ensures cost { steps.new + budget_of desk.new ≤ steps.old + budget_of desk.old
         + asked_cost (A.cost answerer) (held_of desk.old) (Ok (Some question)) }
 {
-    let mut answer = ask(alloc, answerer, question, desk, steps)?;
+    let mut answer = ask(alloc, answerer, &question, desk, steps)?;
     Ok(count_left(&mut answer, desk, steps))
 }
 

@@ -8,7 +8,7 @@ use Rattle.question_shell.proofs.asking.ask.Goals as goal
 pub returns-in-Hold-clause-ok : goal.returns-in-Hold-clause-ok
 returns-in-Hold-clause-ok g c =
     let arm = c.in-Hold in
-    let asked : c.args.question ≡ question.Hold arm.slot arm.object arm.from arm.to = arm.is in
+    let asked : c.args.question.now ≡ question.Hold arm.slot arm.object arm.from arm.to = arm.is in
     let near : (arm.slot < 16) × IsAsked arm.from × IsAsked arm.to = rw asked at c.requires in
     let held = c.hold.ensures.ok c.args.steps.now in
     rw asked (rw (asked_kept arm.from near.1, asked_kept arm.to near.2) at held)
@@ -16,13 +16,13 @@ returns-in-Hold-clause-ok g c =
 pub returns-in-More-clause-ok : goal.returns-in-More-clause-ok
 returns-in-More-clause-ok g c =
     let arm = c.in-More in
-    let asked : c.args.question ≡ question.More arm.slot arm.count = arm.is in
+    let asked : c.args.question.now ≡ question.More arm.slot arm.count = arm.is in
     rw asked (c.more.ensures _ c.args.steps.now)
 
 pub returns-in-Free-clause-ok : goal.returns-in-Free-clause-ok
 returns-in-Free-clause-ok g c =
     let arm = c.in-Free in
-    let asked : c.args.question ≡ question.Free arm.slot = arm.is in
+    let asked : c.args.question.now ≡ question.Free arm.slot = arm.is in
     rw asked (c.free.ensures _ c.args.steps.now)
 
 -- the desk is not touched

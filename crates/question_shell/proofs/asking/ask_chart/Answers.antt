@@ -14,7 +14,7 @@ use Rattle.question_shell.proofs.asking.ask_chart.Goals as goal
 pub returns-in_ok-stops-in-Path-clause-ok : goal.returns-in_ok-stops-in-Path-clause-ok
 returns-in_ok-stops-in-Path-clause-ok g c desk =
     let arm = c.in-Path in
-    let asked : c.args.question ≡ question.Path arm.object arm.from arm.to = arm.is in
+    let asked : c.args.question.now ≡ question.Path arm.object arm.from arm.to = arm.is in
     let near : IsAsked arm.from × IsAsked arm.to = rw asked at c.requires.asked in
     let rows = (g.A.Answerer.chart c.args.answerer).rows in
     let walk = c.in_ok-stops-in-Path.stops in
@@ -34,7 +34,7 @@ returns-in_ok-stops-in-Path-clause-ok g c desk =
 pub returns-in_ok-found-in-Slice-clause-ok : goal.returns-in_ok-found-in-Slice-clause-ok
 returns-in_ok-found-in-Slice-clause-ok g c desk =
     let arm = c.in-Slice in
-    let asked : c.args.question ≡ question.Slice arm.instant arm.region = arm.is in
+    let asked : c.args.question.now ≡ question.Slice arm.instant arm.region = arm.is in
     let near : IsAsked arm.instant × IsRegionAsked arm.region = rw asked at c.requires.asked in
     let found : c.in_ok-found-in-Slice.found.items ≡ sightings_of (g.A.Answerer.chart c.args.answerer).rows arm.instant arm.region =
     simp (asked_kept arm.instant near.0) at c.in_ok-found-in-Slice.ensures.ok in
@@ -51,7 +51,7 @@ returns-in_ok-found-in-Slice-clause-ok g c desk =
 pub returns-in_ok-found-in-Interval-clause-ok : goal.returns-in_ok-found-in-Interval-clause-ok
 returns-in_ok-found-in-Interval-clause-ok g c desk =
     let arm = c.in-Interval in
-    let asked : c.args.question ≡ question.Interval arm.from arm.to arm.region = arm.is in
+    let asked : c.args.question.now ≡ question.Interval arm.from arm.to arm.region = arm.is in
     let near : IsAsked arm.from × IsAsked arm.to × IsRegionAsked arm.region = rw asked at c.requires.asked in
     let found : c.in_ok-found-in-Interval.found.items ≡ hits_of (g.A.Answerer.chart c.args.answerer).rows arm.from arm.to arm.region =
     simp (asked_kept arm.from near.0, asked_kept arm.to near.1) at c.in_ok-found-in-Interval.ensures.ok in
@@ -68,7 +68,7 @@ returns-in_ok-found-in-Interval-clause-ok g c desk =
 pub returns-in_ok-found-in-Nearest-clause-ok : goal.returns-in_ok-found-in-Nearest-clause-ok
 returns-in_ok-found-in-Nearest-clause-ok g c desk =
     let arm = c.in-Nearest in
-    let asked : c.args.question ≡ question.Nearest arm.count arm.instant arm.cell = arm.is in
+    let asked : c.args.question.now ≡ question.Nearest arm.count arm.instant arm.cell = arm.is in
     let near : IsAsked arm.instant × IsCellAsked arm.cell = rw asked at c.requires.asked in
     let found : c.in_ok-found-in-Nearest.found.items ≡ nears_of (g.A.Answerer.chart c.args.answerer).rows arm.count arm.instant arm.cell =
     simp (asked_kept arm.instant near.0) at c.in_ok-found-in-Nearest.ensures.ok in
@@ -85,7 +85,7 @@ returns-in_ok-found-in-Nearest-clause-ok g c desk =
 pub returns-in_ok-found-in-Meet-clause-ok : goal.returns-in_ok-found-in-Meet-clause-ok
 returns-in_ok-found-in-Meet-clause-ok g c desk =
     let arm = c.in-Meet in
-    let asked : c.args.question ≡ question.Meet arm.left arm.right arm.from arm.to arm.reach = arm.is in
+    let asked : c.args.question.now ≡ question.Meet arm.left arm.right arm.from arm.to arm.reach = arm.is in
     let near : IsAsked arm.from × IsAsked arm.to × (arm.reach ≤ MAX_REACH) = rw asked at c.requires.asked in
     let rows = (g.A.Answerer.chart c.args.answerer).rows in
     let found : c.in_ok-found-in-Meet.found ≡ meeting_of rows arm.left arm.right arm.from arm.to arm.reach =
