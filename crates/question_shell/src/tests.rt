@@ -87,85 +87,89 @@ fn answer(rt: &HostRuntime, outside: &mut Outside) -> Result<Result<(), ShellFau
 
 #[test]
 fn each_line_has_its_reply(rt: HostRuntime) -> Result<(), Fail> {
-    let cases: [(&[u8], &[u8]); 21] = [
-        (b"position 7 2\n", b"12 -11\nok 1\n"),
-        (b"position 7 1\nposition 9 2", b"ok 0\nok 0\n"),
-        (b"path 7 2 2\n", b"2 12 -11\nok 1\n"),
-        (b"path 7 -9 9\npath 7 3 9\n", b"2 12 -11\nok 1\nok 0\n"),
-        (b"\n \t\r\n\tpath  +7 \r 002 2 \r\n", b"2 12 -11\nok 1\n"),
+    let cases: [(&str, &str); 21] = [
+        ("position 7 2\n", "12 -11\nok 1\n"),
+        ("position 7 1\nposition 9 2", "ok 0\nok 0\n"),
+        ("path 7 2 2\n", "2 12 -11\nok 1\n"),
+        ("path 7 -9 9\npath 7 3 9\n", "2 12 -11\nok 1\nok 0\n"),
+        ("\n \t\r\n\tpath  +7 \r 002 2 \r\n", "2 12 -11\nok 1\n"),
         (
-            b" info\r\n",
-            b"objects 2\nfirst 0\nlast 3\nperiod 4\ncell 1\ntick 1\nheight 2\nalphabet 2\nrules 0\nlog 3\ndepth 0\nok 11\n",
+            " info\r\n",
+            "objects 2\nfirst 0\nlast 3\nperiod 4\ncell 1\ntick 1\nheight 2\nalphabet 2\nrules 0\nlog 3\ndepth 0\nok 11\n",
         ),
         (
-            b"slice 2 rect 12 -11 12 -11\nslice 2 disc 12 -11 0\nslice 2 rect 13 -11 12 -11\n",
-            b"7 12 -11\nok 1\n7 12 -11\nok 1\nok 0\n",
+            "slice 2 rect 12 -11 12 -11\nslice 2 disc 12 -11 0\nslice 2 rect 13 -11 12 -11\n",
+            "7 12 -11\nok 1\n7 12 -11\nok 1\nok 0\n",
         ),
         (
-            b"interval 0 9 disc 0 0 17\ninterval 0 9 disc 0 0 16\ninterval 3 9 rect 0 -99 99 99\n",
-            b"7 2 12 -11\nok 1\nok 0\nok 0\n",
+            "interval 0 9 disc 0 0 17\ninterval 0 9 disc 0 0 16\ninterval 3 9 rect 0 -99 99 99\n",
+            "7 2 12 -11\nok 1\nok 0\nok 0\n",
         ),
         (
-            b"nearest 4 2 0 0\nnearest 0 2 0 0\n",
-            b"7 12 -11 265\nok 1\nok 0\n",
+            "nearest 4 2 0 0\nnearest 0 2 0 0\n",
+            "7 12 -11 265\nok 1\nok 0\n",
         ),
         (
-            b"meet 7 7 0 9 0\nmeet 7 9 0 9 4398046511104\nmeet 7 7 3 9 0\n",
-            b"2 12 -11 12 -11\nok 1\nok 0\nok 0\n",
+            "meet 7 7 0 9 0\nmeet 7 9 0 9 4398046511104\nmeet 7 7 3 9 0\n",
+            "2 12 -11 12 -11\nok 1\nok 0\nok 0\n",
         ),
         (
-            b"meet 1 2 0 9\nmeet 1 2 0 9 3 0\nmeet a 2 0 9 -1\nmeet 1 2 0 9 -1\nmeet 1 2 0 9 4398046511105\nmeet 1 4294967296 0 9 3\n",
-            b"bad count\nbad count\nbad number 2\nbad range 6\nbad range 6\nbad range 3\n",
+            "meet 1 2 0 9\nmeet 1 2 0 9 3 0\nmeet a 2 0 9 -1\nmeet 1 2 0 9 -1\nmeet 1 2 0 9 4398046511105\nmeet 1 4294967296 0 9 3\n",
+            "bad count\nbad count\nbad number 2\nbad range 6\nbad range 6\nbad range 3\n",
         ),
         (
-            b"Position 7 2\nslice 0 ring 1 2 3\nslice x ring\ninterval 0 rect 1 1 2 2\n",
-            b"bad word\nbad word\nbad word\nbad word\n",
+            "Position 7 2\nslice 0 ring 1 2 3\nslice x ring\ninterval 0 rect 1 1 2 2\n",
+            "bad word\nbad word\nbad word\nbad word\n",
         ),
         (
-            b"slice 0\nslice 0 rect 1 2 3\nnearest 1 0 0\nslice x disc 0 0\nposition 7\npath 7 2\nposition 7 2 1\ninfo x\n",
-            b"bad count\nbad count\nbad count\nbad count\nbad count\nbad count\nbad count\nbad count\n",
+            "slice 0\nslice 0 rect 1 2 3\nnearest 1 0 0\nslice x disc 0 0\nposition 7\npath 7 2\nposition 7 2 1\ninfo x\n",
+            "bad count\nbad count\nbad count\nbad count\nbad count\nbad count\nbad count\nbad count\n",
         ),
         (
-            b"slice 2 any 2 rect 13 -11 99 99 disc 12 -11 0\nslice 2 any 1 rect 13 -11 99 99\ninterval 0 9 any 2 disc 0 0 16 rect 12 -11 12 -11\nslice 0 any 0\nslice 0 any 17\nslice 0 any x\nslice x any 0\ninterval 0 1 any 17\nslice 0 any 1 disc 0 0 -1\nslice 0 any\nslice 0 any 2 rect 0 0 1 1\nslice 0 any 1 rect 0 0 1 1 5\nslice 0 any 2 rect 0 0 1 disc 0 0 1\nslice 0 any 1 ring 1\nslice 0 any 1 any 1\nslice x any 2 disc 0 0 y ring\nslice 0 any 2 disc 0 0 1 rect 0 0 y 1\n",
-            b"7 12 -11\nok 1\nok 0\n7 2 12 -11\nok 1\nbad range 4\nbad range 4\nbad number 4\nbad range 4\nbad range 5\nbad range 8\nbad count\nbad count\nbad count\nbad word\nbad word\nbad word\nbad word\nbad number 12\n",
+            "slice 2 any 2 rect 13 -11 99 99 disc 12 -11 0\nslice 2 any 1 rect 13 -11 99 99\ninterval 0 9 any 2 disc 0 0 16 rect 12 -11 12 -11\nslice 0 any 0\nslice 0 any 17\nslice 0 any x\nslice x any 0\ninterval 0 1 any 17\nslice 0 any 1 disc 0 0 -1\nslice 0 any\nslice 0 any 2 rect 0 0 1 1\nslice 0 any 1 rect 0 0 1 1 5\nslice 0 any 2 rect 0 0 1 disc 0 0 1\nslice 0 any 1 ring 1\nslice 0 any 1 any 1\nslice x any 2 disc 0 0 y ring\nslice 0 any 2 disc 0 0 1 rect 0 0 y 1\n",
+            "7 12 -11\nok 1\nok 0\n7 2 12 -11\nok 1\nbad range 4\nbad range 4\nbad number 4\nbad range 4\nbad range 5\nbad range 8\nbad count\nbad count\nbad count\nbad word\nbad word\nbad word\nbad word\nbad number 12\n",
         ),
         // Sixteen shapes are 85 words, and one word more is one too many.
         (
-            b"interval 0 9 any 16 rect 0 0 1 1 rect 0 0 1 1 rect 0 0 1 1 rect 0 0 1 1 rect 0 0 1 1 rect 0 0 1 1 rect 0 0 1 1 rect 0 0 1 1 rect 0 0 1 1 rect 0 0 1 1 rect 0 0 1 1 rect 0 0 1 1 rect 0 0 1 1 rect 0 0 1 1 rect 0 0 1 1 rect 12 -11 12 -11\ninterval 0 9 any 16 rect 0 0 1 1 rect 0 0 1 1 rect 0 0 1 1 rect 0 0 1 1 rect 0 0 1 1 rect 0 0 1 1 rect 0 0 1 1 rect 0 0 1 1 rect 0 0 1 1 rect 0 0 1 1 rect 0 0 1 1 rect 0 0 1 1 rect 0 0 1 1 rect 0 0 1 1 rect 0 0 1 1 rect 12 -11 12 -11 1\n",
-            b"7 2 12 -11\nok 1\nbad count\n",
+            "interval 0 9 any 16 rect 0 0 1 1 rect 0 0 1 1 rect 0 0 1 1 rect 0 0 1 1 rect 0 0 1 1 rect 0 0 1 1 rect 0 0 1 1 rect 0 0 1 1 rect 0 0 1 1 rect 0 0 1 1 rect 0 0 1 1 rect 0 0 1 1 rect 0 0 1 1 rect 0 0 1 1 rect 0 0 1 1 rect 12 -11 12 -11\ninterval 0 9 any 16 rect 0 0 1 1 rect 0 0 1 1 rect 0 0 1 1 rect 0 0 1 1 rect 0 0 1 1 rect 0 0 1 1 rect 0 0 1 1 rect 0 0 1 1 rect 0 0 1 1 rect 0 0 1 1 rect 0 0 1 1 rect 0 0 1 1 rect 0 0 1 1 rect 0 0 1 1 rect 0 0 1 1 rect 12 -11 12 -11 1\n",
+            "7 2 12 -11\nok 1\nbad count\n",
         ),
         (
-            b"position a 2\npath 7 2 --1\npath 7 2x 2x\nnearest a 0 0 0\n",
-            b"bad number 2\nbad number 4\nbad number 3\nbad number 2\n",
+            "position a 2\npath 7 2 --1\npath 7 2x 2x\nnearest a 0 0 0\n",
+            "bad number 2\nbad number 4\nbad number 3\nbad number 2\n",
         ),
         (
-            b"position -1 x\nposition 4294967296 2\npath 7 0 2199023255553\nslice 0 disc 0 0 -1\nslice 0 disc 0 0 4398046511105\n",
-            b"bad range 2\nbad range 2\nbad range 4\nbad range 6\nbad range 6\n",
+            "position -1 x\nposition 4294967296 2\npath 7 0 2199023255553\nslice 0 disc 0 0 -1\nslice 0 disc 0 0 4398046511105\n",
+            "bad range 2\nbad range 2\nbad range 4\nbad range 6\nbad range 6\n",
         ),
         (
-            b"hold 0 7 0\nhold\nmore 0\nmore 0 1 1\nfree\nfree 0 0\n",
-            b"bad count\nbad count\nbad count\nbad count\nbad count\nbad count\n",
+            "hold 0 7 0\nhold\nmore 0\nmore 0 1 1\nfree\nfree 0 0\n",
+            "bad count\nbad count\nbad count\nbad count\nbad count\nbad count\n",
         ),
         (
-            b"hold a 7 16 x\nhold 0 7 0 x\nmore 0 -\nhold 16 7 0 2\nhold -1 7 0 2\nmore 16 1\nmore 0 4294967296\nfree -1\n",
-            b"bad number 2\nbad number 5\nbad number 3\nbad range 2\nbad range 2\nbad range 2\nbad range 3\nbad range 2\n",
+            "hold a 7 16 x\nhold 0 7 0 x\nmore 0 -\nhold 16 7 0 2\nhold -1 7 0 2\nmore 16 1\nmore 0 4294967296\nfree -1\n",
+            "bad number 2\nbad number 5\nbad number 3\nbad range 2\nbad range 2\nbad range 2\nbad range 3\nbad range 2\n",
         ),
         // A walk that has ended stays held, and a held slot takes no memory for another.
         (
-            b"hold 0 7 0 2\nhold 0 8 0 2\nmore 3 1\nfree 3\nmore 0 0\nmore 0 4294967295\nmore 0 9\nfree 0\nfree 0\n",
-            b"ok 0\nbad held\nbad free\nbad free\nok 0\n2 12 -11\nok 1\nok 0\nok 0\nbad free\n",
+            "hold 0 7 0 2\nhold 0 8 0 2\nmore 3 1\nfree 3\nmore 0 0\nmore 0 4294967295\nmore 0 9\nfree 0\nfree 0\n",
+            "ok 0\nbad held\nbad free\nbad free\nok 0\n2 12 -11\nok 1\nok 0\nok 0\nbad free\n",
         ),
         // Walks in three slots are drawn from in turn.
         (
-            b"hold 0 7 0 2\nhold 15 7 2 9\nhold 1 7 3 9\nmore 15 1\nmore 1 1\nmore 0 1\nmore 15 1\nfree 0\nmore 0 1\nhold 0 7 2 2\nmore 15 1\nmore 0 1\n",
-            b"ok 0\nok 0\nok 0\n2 12 -11\nok 1\nok 0\n2 12 -11\nok 1\nok 0\nok 0\nbad free\nok 0\nok 0\n2 12 -11\nok 1\n",
+            "hold 0 7 0 2\nhold 15 7 2 9\nhold 1 7 3 9\nmore 15 1\nmore 1 1\nmore 0 1\nmore 15 1\nfree 0\nmore 0 1\nhold 0 7 2 2\nmore 15 1\nmore 0 1\n",
+            "ok 0\nok 0\nok 0\n2 12 -11\nok 1\nok 0\n2 12 -11\nok 1\nok 0\nok 0\nbad free\nok 0\nok 0\n2 12 -11\nok 1\n",
         ),
     ];
     for (lines, said) in cases {
         for piece in [1, 2, 3, 4096] {
-            let mut outside = make_outside(rt.alloc(), lines, piece)?;
+            let mut outside = make_outside(rt.alloc(), lines.as_bytes(), piece)?;
             assert_eq!(rt; answer(&rt, &mut outside)?, Ok(()));
-            assert_eq!(rt; outside.sink.as_slice(), said, "pieces of {piece}");
+            assert_eq!(rt;
+                outside.sink.as_slice(),
+                said.as_bytes(),
+                "pieces of {piece}"
+            );
         }
     }
     Ok(())
