@@ -39,13 +39,9 @@ nearest_cost_beside cost rows (suc count) instant cell =
 
 -- what questions cost with a tail of these rows, by what they cost without
 unfoldable pub cost_beside : (Question → ℕ) → List Row → Question → ℕ
-cost_beside cost rows (question.Position object instant) = cost (question.Position object instant)
-cost_beside cost rows (question.Path object from to) = cost (question.Path object from to)
-cost_beside cost rows (question.Slice instant region) = cost (question.Slice instant region)
 cost_beside cost rows (question.Interval from to region) = interval_cost_beside cost rows from to region
 cost_beside cost rows (question.Nearest count instant cell) = nearest_cost_beside cost rows count instant cell
-cost_beside cost rows (question.Hold slot object from to) = cost (question.Hold slot object from to)
-cost_beside cost rows other = 0
+cost_beside cost rows other = cost other
 
 -- what a question costs with an index and a tail
 abbrev pub cost_with : Parts → Option ChartView → Question → ℕ
