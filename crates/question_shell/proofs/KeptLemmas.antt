@@ -1,5 +1,5 @@
 -- What is kept of a line, byte after byte, and that it asks what the line asks.
-use Rattle.std.proofs.Common.{◌≡◌, ℕ, ◌<◌, ◌≤◌, Bool, true, false, not, ◌||◌, if◌then◌else◌, List, [], ◌∷◌}
+use Rattle.std.proofs.Common.{◌≡◌, ℕ, ◌+◌, ◌<◌, ◌≤◌, Bool, true, false, not, ◌||◌, if◌then◌else◌, List, [], ◌∷◌}
 use Rattle.std.proofs.Common.{◌++◌, length, take, drop, filter, get_or, set, refl, sym, ap, ◌∙◌, arith, inl, inr, take_all}
 use Rattle.std.proofs.Common.{Ok, Err, None, append-nil, length-append}
 use Rattle.std.specs.List.{list_any}
@@ -112,6 +112,17 @@ question_of-kept line = elim (cases_lt 1024 (length line)) [
       question_of-long (kept_of line) (omega (arith, kept-long line long))
       ∙ (ap (λ some. if some then Err Long else Ok None) any ∙ sym (question_of-long line long))
   | inr short ↦ ap question_of (kept-short line (omega (arith, short)))
+]
+
+-- bytes more, where there is room for all of them
+pub kept-bytes : (line kept bytes : List ℕ) → kept ≡ kept_of line → length kept + length bytes ≤ 1024 →
+    kept ++ bytes ≡ kept_of (line ++ bytes)
+kept-bytes line kept bytes is room = elim (cases_lt 1024 (length line)) [
+  | inl long ↦ absurd (omega (arith, room, ap length is, kept-long line long))
+  | inr short ↦
+      let same : kept ≡ line = is ∙ kept-short line (omega (arith, short)) in
+      let within : length (line ++ bytes) ≤ 1024 = omega (arith, room, ap length same, length-append line bytes) in
+      ap (λ front. front ++ bytes) same ∙ sym (kept-short (line ++ bytes) within)
 ]
 
 -- a byte more, where there is room

@@ -1,10 +1,8 @@
 -- Cutting shapes off words and reading them, one after another.
-use Rattle.std.proofs.Common.{◌≡◌, ◌+◌, ◌-◌, ◌<◌, ◌≤◌, ℕ, suc, List, [], ◌∷◌, Ok, Err, Result, ◌++◌, Bor, length, append_assoc, append-nil, arith, refl, sym}
+use Rattle.std.proofs.Common.{◌≡◌, ◌+◌, ◌-◌, ◌<◌, ◌≤◌, ℕ, suc, List, [], ◌∷◌, Ok, Err, Result, ◌++◌, append_assoc, append-nil, arith, refl, sym}
 use Rattle.question_shell.specs.RegionWords.{DiscTexts, RectTexts, ShapeTexts, and_then, if_last, shape_cut, shape_of, shape_size, shapes_cut, shapes_of}
 use Rattle.track_types.specs.declared.shape.Shape.{Shape}
-use Rattle.question_shell.specs.Lines.{texts}
 use Rattle.question_shell.specs.declared.bad.Bad.{Bad}
-use Rattle.question_shell.specs.declared.bad.Bad.TheVariants as bad
 
 -- some before others, unless those are bad
 abbrev pub joined : {A : Type 0} → List A → Result (List A) Bad → Result (List A) Bad
@@ -23,15 +21,6 @@ joined-next before value (Err fault) = refl
 pub size-few : (words : ShapeTexts) → shape_size words ≤ 5
 size-few (RectTexts x1 y1 x2 y2) = omega arith
 size-few (DiscTexts x y r) = omega arith
-
--- whether a word is left
-pub last-none : {A : Type 0} (words : List (Bor (List ℕ))) (value : A) → length words ≡ 0 → if_last (texts words) value ≡ Ok value
-last-none [] value none = refl
-last-none (word ∷ words) value none = absurd (omega (arith, none))
-
-pub last-some : {A : Type 0} (words : List (Bor (List ℕ))) (value : A) → 0 < length words → if_last (texts words) value ≡ Err bad.Count
-last-some [] value some = absurd (omega (arith, some))
-last-some (word ∷ words) value some = refl
 
 -- nothing before them
 pub cut-begin : (count : ℕ) (words : List (List ℕ)) → shapes_cut count words ≡ joined [] (shapes_cut (count - 0) words)

@@ -1,6 +1,5 @@
 pub mod LineLemmas
 pub mod KeptLemmas
-pub mod FrontLemmas
 pub mod GrammarLemmas
 pub mod LayoutLemmas
 pub mod SaysLemmas

@@ -1,19 +1,17 @@
 -- Separating a text byte by byte, and cutting words off a line.
 use Rattle.std.proofs.Common.{◌≡◌, ℕ, Bool, true, false, not, if◌then◌else◌, List, [], ◌∷◌, ◌++◌, refl, sym, ◌∙◌, ap}
 use Rattle.std.proofs.Common.{append-nil, zero, suc, take, drop, subst, filter, length, length-append, nat_eq}
-use Rattle.std.proofs.Common.{cond, arith}
+use Rattle.std.proofs.Common.{cond, arith, ◌<◌, ◌≤◌, get_or, inl, inr}
 use Rattle.std.specs.List.{list_all}
 use Rattle.std.proofs.lemmas.List.{take-append-drop}
 use mathlib.Core.Bool.{false≢true}
 use Rattle.std.proofs.lemmas.List.Folds.{list_all-append}
-use Rattle.std.proofs.lemmas.Bool.{and_parts, not-true}
+use Rattle.std.proofs.lemmas.Bool.{and_parts, cases_Bool, not-true}
 use Rattle.std.specs.List.{count_by, onto_first, slice_split}
 use Rattle.std.proofs.lemmas.List.Splits.{length-slice_split}
 use Rattle.std.proofs.Math.Seq.{take-append_seam, get_or-append_seam}
 use Rattle.question_shell.specs.Lines.{is_gap, is_line_feed, BeginsWord, EndsWord, has_byte}
-use Rattle.question_shell.specs.Lines.{texts, words_of, whole_lines, unended_line}
-use denote.Ref.{Bor}
-use Rattle.std.proofs.lemmas.List.{length-map}
+use Rattle.question_shell.specs.Lines.{words_of, whole_lines, unended_line}
 
 -- What a text is separated into: the pieces that an end byte ends, and what follows the last end byte.
 pub record Pieces : Type 0 where
@@ -91,6 +89,18 @@ piece_head is_end byte piece whole =
 piece_tail : (is_end : ℕ → Bool) (byte : ℕ) (piece : List ℕ) → IsPiece is_end (byte ∷ piece) → IsPiece is_end piece
 piece_tail is_end byte piece whole =
     (and_parts (not (is_end byte)) (list_all (λ other. not (is_end other)) piece) whole).1
+
+-- the first n bytes of a text are one where none of them is an end
+pub piece-take : (is_end : ℕ → Bool) (text : List ℕ) (n : ℕ) → n ≤ length text →
+    ((k : ℕ) → k < n → ¬ (is_end (get_or text k 0) ≡ true)) → IsPiece is_end (take n text)
+piece-take is_end text zero within none = refl
+piece-take is_end [] (suc n) within none = refl
+piece-take is_end (byte ∷ text) (suc n) within none =
+    let later = piece-take is_end text n (omega arith) (λ k below. none (suc k) (omega arith)) in
+    elim (cases_Bool (is_end byte)) [
+      | inl ends ↦ absurd (none 0 (omega arith) ends)
+      | inr inside ↦ rw (inside, later) refl
+    ]
 
 -- a piece, and the end byte after it
 pub separated-piece : (is_end : ℕ → Bool) (piece : List ℕ) (end : ℕ) (rest : List ℕ) → IsPiece is_end piece →
@@ -180,10 +190,10 @@ piece-left is_end (byte ∷ text) =
     step is_end byte [] left whole false e = rw (e, e) whole
     step is_end byte (piece ∷ ended) left whole false e = rw e whole
 
-piece-push : (is_end : ℕ → Bool) (piece : List ℕ) (byte : ℕ) → IsPiece is_end piece → is_end byte ≡ false →
-    IsPiece is_end (piece ++ byte ∷ [])
-piece-push is_end piece byte whole inside =
-    rw (list_all-append (λ other. not (is_end other)) piece (byte ∷ []), whole, inside) refl
+piece-append : (is_end : ℕ → Bool) (piece more : List ℕ) → IsPiece is_end piece → IsPiece is_end more →
+    IsPiece is_end (piece ++ more)
+piece-append is_end piece more whole inside =
+    rw (list_all-append (λ other. not (is_end other)) piece more, whole, inside) refl
 
 -- a text, and an end byte after it
 pub separated-end : (is_end : ℕ → Bool) (text : List ℕ) (end : ℕ) → is_end end ≡ true →
@@ -193,16 +203,12 @@ separated-end is_end text end ends =
     let after = separated-piece is_end (separated is_end text).left end [] (piece-left is_end text) ends in
     rw (separated-append is_end text (end ∷ []), after) refl
 
--- a text, and another byte after it
-pub separated-byte : (is_end : ℕ → Bool) (text : List ℕ) (byte : ℕ) → is_end byte ≡ false →
-    separated is_end (text ++ byte ∷ [])
-    ≡ record { ended = (separated is_end text).ended; left = (separated is_end text).left ++ byte ∷ [] }
-separated-byte is_end text byte inside =
+-- a text, and after it bytes of which none is an end
+pub separated-bytes : (is_end : ℕ → Bool) (text bytes : List ℕ) → IsPiece is_end bytes →
+    separated is_end (text ++ bytes)
+    ≡ record { ended = (separated is_end text).ended; left = (separated is_end text).left ++ bytes }
+separated-bytes is_end text bytes inside =
     let left = (separated is_end text).left in
-    let whole : IsPiece is_end (left ++ byte ∷ []) = piece-push is_end left byte (piece-left is_end text) inside in
-    let after = separated-unended is_end (left ++ byte ∷ []) whole in
-    rw (separated-append is_end text (byte ∷ []), after, append-nil (separated is_end text).ended) refl
-
--- there is a text for each word
-pub length-texts : (words : List (Bor (List ℕ))) → length (texts words) ≡ length words
-length-texts words = length-map words (λ word. word.now)
+    let whole : IsPiece is_end (left ++ bytes) = piece-append is_end left bytes (piece-left is_end text) inside in
+    let after = separated-unended is_end (left ++ bytes) whole in
+    rw (separated-append is_end text bytes, after, append-nil (separated is_end text).ended) refl

@@ -1,11 +1,11 @@
 -- Bytes that come, and the lines that they are.
-use Rattle.std.proofs.Common.{◌≡◌, ℕ, ◌+◌, ◌<◌, ◌≤◌, ◌-◌, false, List, [], ◌∷◌, ◌++◌, length, refl, sym}
+use Rattle.std.proofs.Common.{◌≡◌, ℕ, ◌+◌, ◌≤◌, ◌-◌, List, [], ◌∷◌, ◌++◌, length, refl, sym}
 use Rattle.std.proofs.Common.{ap, ◌∙◌, subst, append_assoc}
-use Rattle.std.proofs.Common.{append-nil, length-append, arith, ◌⊎◌, Option, Some, None, Result, Ok, Err, take, drop}
-use Rattle.std.proofs.Common.{get_or, min, take_all, take-take, inl, inr}
+use Rattle.std.proofs.Common.{append-nil, length-append, arith, ◌⊎◌, Option, Some, None, Result, Ok, Err, take}
+use Rattle.std.proofs.Common.{min, take_all, take-take, inl, inr}
 use mathlib.Core.Bool.{false≢true}
 use Rattle.std.proofs.lemmas.Bool.{cases_lt}
-use Rattle.std.proofs.lemmas.List.{take_more, take-append-drop, take-append-le, length-take}
+use Rattle.std.proofs.lemmas.List.{take-append-le, length-take}
 use Rattle.std.proofs.Math.Seq.{take-append-add}
 use Rattle.std.specs.Io.KnownBytes.{Consumes, Keeps}
 use Rattle.host_ports.specs.Faults.{Rose}
@@ -21,7 +21,7 @@ use Rattle.question_shell.specs.Turns.{AnswerTold, BytesTold, Heard, AnswersLine
 use Rattle.question_shell.specs.Turns.{TurnsBefore, TurnsFront, moment}
 use Rattle.question_shell.specs.declared.turn_fault.TurnFault.{TurnFault}
 use Rattle.question_shell.specs.declared.turn_fault.TurnFault.TheVariants as fault
-use Rattle.question_shell.proofs.LineLemmas.{Pieces, piece-left, separated, separated-append, separated-byte}
+use Rattle.question_shell.proofs.LineLemmas.{IsPiece, Pieces, piece-left, separated, separated-append, separated-bytes}
 use Rattle.question_shell.proofs.LineLemmas.{separated-end, separated-unended}
 use Rattle.question_shell.proofs.LineLemmas.{unended_line-is, whole_lines-is}
 use Rattle.question_shell.proofs.SaysLemmas.{Appends-says}
@@ -74,18 +74,17 @@ pub unended_line-feed : (came : List ℕ) → unended_line (came ++ 10 ∷ []) �
 unended_line-feed came =
     unended_line-is (came ++ 10 ∷ []) ∙ ap (λ (pieces : Pieces). pieces.left) (separated-end is_line_feed came 10 refl)
 
--- any other byte belongs to it
-pub whole_lines-byte : (came : List ℕ) (byte : ℕ) → is_line_feed byte ≡ false →
-    whole_lines (came ++ byte ∷ []) ≡ whole_lines came
-whole_lines-byte came byte inside =
-    rw (whole_lines-is (came ++ byte ∷ []), whole_lines-is came)
-    (ap (λ (pieces : Pieces). pieces.ended) (separated-byte is_line_feed came byte inside))
+-- bytes without a line feed belong to it
+pub whole_lines-bytes : (came bytes : List ℕ) → IsPiece is_line_feed bytes → whole_lines (came ++ bytes) ≡ whole_lines came
+whole_lines-bytes came bytes inside =
+    rw (whole_lines-is (came ++ bytes), whole_lines-is came)
+    (ap (λ (pieces : Pieces). pieces.ended) (separated-bytes is_line_feed came bytes inside))
 
-pub unended_line-byte : (came : List ℕ) (byte : ℕ) → is_line_feed byte ≡ false →
-    unended_line (came ++ byte ∷ []) ≡ unended_line came ++ byte ∷ []
-unended_line-byte came byte inside =
-    rw (unended_line-is (came ++ byte ∷ []), unended_line-is came)
-    (ap (λ (pieces : Pieces). pieces.left) (separated-byte is_line_feed came byte inside))
+pub unended_line-bytes : (came bytes : List ℕ) → IsPiece is_line_feed bytes →
+    unended_line (came ++ bytes) ≡ unended_line came ++ bytes
+unended_line-bytes came bytes inside =
+    rw (unended_line-is (came ++ bytes), unended_line-is came)
+    (ap (λ (pieces : Pieces). pieces.left) (separated-bytes is_line_feed came bytes inside))
 
 -- nothing came
 pub heard-nothing : (meaning : Meaning) (here : Moment) (line : List ℕ) → line ≡ kept_of [] →
@@ -102,13 +101,13 @@ heard-again meaning start here came line heard = record {
 }
 
 module _ (meaning : Meaning) (start : Moment) where
-  -- a byte that is no line feed
-  pub heard-byte : (now : Moment) (came : List ℕ) (byte : ℕ) (line new : List ℕ) → is_line_feed byte ≡ false →
-      new ≡ kept_of (unended_line came ++ byte ∷ []) → Heard meaning start now came line →
-      Heard meaning start now (came ++ byte ∷ []) new
-  heard-byte now came byte line new inside pushed heard = record {
-    turns = rw (whole_lines-byte came byte inside) heard.turns;
-    kept = pushed ∙ ap kept_of (sym (unended_line-byte came byte inside));
+  -- bytes without a line feed
+  pub heard-bytes : (now : Moment) (came bytes : List ℕ) (line new : List ℕ) → IsPiece is_line_feed bytes →
+      new ≡ kept_of (unended_line came ++ bytes) → Heard meaning start now came line →
+      Heard meaning start now (came ++ bytes) new
+  heard-bytes now came bytes line new inside extended heard = record {
+    turns = rw (whole_lines-bytes came bytes inside) heard.turns;
+    kept = extended ∙ ap kept_of (sym (unended_line-bytes came bytes inside));
   }
 
   -- a line feed, and what is told of the answer to the line that it ends
@@ -131,6 +130,21 @@ module _ (meaning : Meaning) (start : Moment) where
   told-feed between now came line new (Err fault.Memory) told cleared heard =
       let last = unended_line came in
       rw (whole_lines-feed came) (stops-here meaning start between now (whole_lines came) last heard.turns told)
+
+  -- the rest of a line, its line feed, and what is told of the answer to it
+  pub told-line : (between now : Moment) (came front bytes : List ℕ) (line new : List ℕ)
+      (result : Result Unit TurnFault) → IsPiece is_line_feed bytes →
+      AnswerTold meaning between now (question_of (unended_line (came ++ front) ++ bytes)) result →
+      new ≡ kept_of [] → Heard meaning start between (came ++ front) line →
+      BytesTold meaning start now (came ++ (front ++ (bytes ++ 10 ∷ []))) new result
+  told-line between now came front bytes line new result inside told cleared heard =
+      let all = came ++ front in
+      let kept = kept_of (unended_line all ++ bytes) in
+      let P : List ℕ → Type 0 = λ last. AnswerTold meaning between now (question_of last) result in
+      let Q : List ℕ → Type 0 = λ input. BytesTold meaning start now input new result in
+      subst Q (append_assoc all bytes (10 ∷ []) ∙ append_assoc came front (bytes ++ 10 ∷ []))
+      (told-feed between now (all ++ bytes) kept new result (subst P (sym (unended_line-bytes all bytes inside)) told)
+      cleared (heard-bytes between all bytes line kept inside refl heard))
 
   -- what is told of some bytes after a refusal is told of more
   pub front-bytes : (now : Moment) (came more : List ℕ) → TurnsFront meaning start now (whole_lines came) →
@@ -292,13 +306,12 @@ heard-all meaning start now bytes line within heard =
     let P : List ℕ → Type 0 = λ input. Heard meaning start now input line in
     subst P (take_all (limit_of Questions) bytes within) heard
 
--- a piece around one of its bytes
-pub around_byte : (came piece : List ℕ) (i : ℕ) → i < length piece →
-    ((came ++ take i piece) ++ get_or piece i 0 ∷ []) ++ drop (i + 1) piece ≡ came ++ piece
-around_byte came piece i below =
-    let apart = append_assoc came (take (i + 1) piece) (drop (i + 1) piece) in
-    rw (append_assoc came (take i piece) (get_or piece i 0 ∷ []), ← take_more piece i 0 below, apart)
-    (ap (λ text. came ++ text) (take-append-drop (i + 1) piece))
+-- what is left of a piece after one more of its lines
+pub piece_after : (piece front left line after : List ℕ) → piece ≡ front ++ left → left ≡ line ++ 10 ∷ after →
+    piece ≡ (front ++ (line ++ 10 ∷ [])) ++ after
+piece_after piece front left line after whole cut =
+    whole ∙ (ap (λ rest. front ++ rest) (cut ∙ sym (append_assoc line (10 ∷ []) after))
+    ∙ sym (append_assoc front (line ++ 10 ∷ []) after))
 
 take_least : (n m : ℕ) (xs : List ℕ) (least : ℕ) → least ≡ min m n → take n (take m xs) ≡ take least xs
 take_least n m xs least is_least = elim (cases_lt m n) [

@@ -1,6 +1,6 @@
 -- What a line asks.
 use Rattle.std.specs.Prelude.{ℕ, nat_lt, ◌==◌, Bool, if◌then◌else◌, List, [], ◌∷◌, drop, length, codes, ℤ, Option, Some, None}
-use Rattle.std.specs.Prelude.{Result, Ok, Err, unsigned_abs, ◌<◌, ◌≤◌, ⊤}
+use Rattle.std.specs.Prelude.{Result, Ok, Err, true, false, unsigned_abs, ◌<◌, ◌≤◌, ⊤}
 use Rattle.std.specs.Str.{bytes_eq}
 use Rattle.track_types.specs.Near.{IsAsked, IsCellAsked}
 use Rattle.track_types.specs.Region.{IsRegionAsked}
@@ -17,6 +17,8 @@ use Rattle.question_shell.specs.declared.bad.Bad.TheVariants as bad
 use Rattle.question_shell.specs.declared.form.Form.{Form}
 use Rattle.question_shell.specs.declared.form.Form.TheVariants.{Position, Path, Slice, Interval, Nearest, Meet, Info, Hold, More}
 use Rattle.question_shell.specs.declared.form.Form.TheVariants.{Free}
+use Rattle.question_shell.specs.declared.time.Time.{Time}
+use Rattle.question_shell.specs.declared.time.Time.TheVariants.{At, During}
 
 -- the numbers of a question before its region, if it has one
 abbrev pub form_words : Form → List NumberWord
@@ -58,11 +60,11 @@ abbrev pub about : (Region → Question) → Result Region Bad → Result Questi
 about asks (Ok region) = Ok (asks region)
 about asks (Err fault) = Err fault
 
--- a question about a region whose words are laid out so from that place of the line, after numbers with that first fault
-abbrev pub laid_question : Result RegionTexts Bad → Option Bad → (Region → Question) → ℕ → Result Question Bad
-laid_question (Err fault) before asks place = Err fault
-laid_question (Ok words) (Some fault) asks place = Err fault
-laid_question (Ok words) None asks place = about asks (region_of place words)
+-- a question about a region whose words are laid out so from that place of the line, after numbers that ask so
+abbrev pub laid_question : Result RegionTexts Bad → Result (Region → Question) Bad → ℕ → Result Question Bad
+laid_question (Err fault) asks place = Err fault
+laid_question (Ok words) (Err fault) place = Err fault
+laid_question (Ok words) (Ok asks) place = about asks (region_of place words)
 
 -- what the words after a form's first ask
 abbrev pub form_question : Form → List (List ℕ) → Result Question Bad
@@ -70,12 +72,12 @@ form_question Position words = plain_question Position
     (λ numbers. question.Position (unsigned_abs (nth_number numbers 0)) (nth_number numbers 1)) words
 form_question Path words = plain_question Path
     (λ numbers. question.Path (unsigned_abs (nth_number numbers 0)) (nth_number numbers 1) (nth_number numbers 2)) words
-form_question Slice words = laid_question (layout_of 3 (drop 1 words)) (first_fault (form_words Slice) 2 words)
-    (question.Slice (nth_number (numbers_of (form_words Slice) words) 0)) 3
+form_question Slice words = laid_question (layout_of 3 (drop 1 words))
+    (unless_bad (first_fault (form_words Slice) 2 words) (question.Slice (nth_number (numbers_of (form_words Slice) words) 0))) 3
 form_question Interval words =
     let numbers = numbers_of (form_words Interval) words in
-    laid_question (layout_of 4 (drop 2 words)) (first_fault (form_words Interval) 2 words)
-    (question.Interval (nth_number numbers 0) (nth_number numbers 1)) 4
+    laid_question (layout_of 4 (drop 2 words)) (unless_bad (first_fault (form_words Interval) 2 words)
+    (question.Interval (nth_number numbers 0) (nth_number numbers 1))) 4
 form_question Nearest words = plain_question Nearest
     (λ numbers. question.Nearest (unsigned_abs (nth_number numbers 0)) (nth_number numbers 1)
     (record { x = nth_number numbers 2; y = nth_number numbers 3 })) words
@@ -105,6 +107,32 @@ abbrev pub question_in : Bool → List (List ℕ) → Result (Option Question) B
 question_in is_long [] = Ok None
 question_in is_long (first ∷ words) =
     if is_long then Err bad.Long else worded_question (form_of first) words
+
+-- the question that a reading with this result wrote into its place
+abbrev pub place_told : Result Unit Bad → Question → Result Question Bad
+place_told (Ok done) place = Ok place
+place_told (Err fault) place = Err fault
+
+-- what a line asks whose reading told whether it has a word, and wrote its question into this place
+abbrev pub line_told : Result Bool Bad → Question → Result (Option Question) Bad
+line_told (Ok true) place = Ok (Some place)
+line_told (Ok false) place = Ok None
+line_told (Err fault) place = Err fault
+
+-- the question about a region at a time
+abbrev pub time_question : Time → Region → Question
+time_question (At instant) region = question.Slice instant region
+time_question (During from to) region = question.Interval from to region
+
+-- what a time that was read asks about a region
+abbrev pub asks_of : Result Time Bad → Result (Region → Question) Bad
+asks_of (Ok time) = Ok (time_question time)
+asks_of (Err fault) = Err fault
+
+-- the instants of a time may be asked for
+abbrev pub IsTimeAsked : Time → Type 0
+IsTimeAsked (At instant) = IsAsked instant
+IsTimeAsked (During from to) = IsAsked from × IsAsked to
 
 -- whether a line has more than 1,024 bytes
 abbrev pub is_long : List ℕ → Bool

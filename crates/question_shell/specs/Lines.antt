@@ -1,8 +1,7 @@
 -- Bytes separated into lines, and a line into words.
-use Rattle.std.specs.Prelude.{◌≡◌, ℕ, ◌==◌, ◌||◌, ⊤, Bool, true, false, List, [], ◌∷◌, ◌++◌, filter, map, take}
+use Rattle.std.specs.Prelude.{◌≡◌, ℕ, ◌==◌, ◌||◌, ⊤, Bool, true, false, List, [], ◌∷◌, ◌++◌, filter, take}
 use Rattle.std.specs.Prelude.{slice_index_or}
 use Rattle.std.specs.List.{count_by, slice_split}
-use denote.Ref.{Bor}
 
 -- the byte that ends a line
 abbrev pub is_line_feed : ℕ → Bool
@@ -37,10 +36,6 @@ has_byte (byte ∷ rest) = true
 -- the words of a line: what stands between gaps
 abbrev pub words_of : List ℕ → List (List ℕ)
 words_of line = filter has_byte (slice_split is_gap line)
-
--- the bytes of words that are borrowed
-abbrev pub texts : List (Bor (List ℕ)) → List (List ℕ)
-texts words = map (λ word. word.now) words
 
 -- what is left of a line begins with a word, or has no byte
 abbrev pub BeginsWord : List ℕ → Type 0

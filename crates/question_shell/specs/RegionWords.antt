@@ -11,7 +11,6 @@ use Rattle.question_shell.specs.NumberWords.{place_word, radius_word, shapes_wor
 use Rattle.question_shell.specs.declared.bad.Bad.{Bad}
 use Rattle.question_shell.specs.declared.bad.Bad.TheVariants as bad
 use Rattle.question_shell.specs.declared.layout.Layout.{Layout}
-use Rattle.question_shell.specs.declared.layout.Layout.TheVariants.{One, Any}
 use Rattle.question_shell.specs.declared.shape_words.ShapeWords.{ShapeWords}
 use Rattle.question_shell.specs.declared.shape_words.ShapeWords.TheVariants.{Rect, Disc}
 
@@ -30,10 +29,9 @@ abbrev pub shape_texts : ShapeWords → ShapeTexts
 shape_texts (Rect x1 y1 x2 y2) = RectTexts x1.now y1.now x2.now y2.now
 shape_texts (Disc x y r) = DiscTexts x.now y.now r.now
 
--- and of a region's
-abbrev pub region_texts : Layout → RegionTexts
-region_texts (One shape) = OneTexts (shape_texts shape)
-region_texts (Any first more) = AnyTexts (shape_texts first ∷ map shape_texts more.items)
+-- and of shapes that are laid out
+abbrev pub layout_texts : Layout → List ShapeTexts
+layout_texts layout = shape_texts layout.first ∷ map shape_texts layout.more.items
 
 -- what comes after a value, or what is wrong
 abbrev pub and_then : {A B : Type 0} → Result A Bad → (A → Result B Bad) → Result B Bad

@@ -39,6 +39,7 @@ pub enum Answer<W> {
 
 impl<W: Lazy<Item = Stop> + Drop> Answer<W> {
     // Takes the first item off. What is read is taken from the budget of the walk that it is of.
+    #[inline(always)]
     pub(crate) fn draw<L: Ledger>(
         &mut self,
         desk: &mut Desk<W>,

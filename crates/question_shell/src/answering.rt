@@ -1,4 +1,4 @@
-ghost use Rattle.std.specs.Prelude.{◌≡◌, ◌≢◌, ◌≤◌, [], IfOk, IfSome, Some, Ok, Err};
+ghost use Rattle.std.specs.Prelude.{◌≡◌, ◌≢◌, ◌≤◌, [], Some, Ok, Err};
 ghost use Rattle.host_ports.specs.Faults.{Rose};
 ghost use Rattle.host_ports.specs.Counting.{SinkCounts};
 ghost use Rattle.question_shell.specs.Grammar.{AreAsked};
@@ -7,42 +7,15 @@ ghost use Rattle.question_shell.specs.Turns.{AnswerTold, moment};
 ghost use Rattle.question_shell.specs.declared.turn_fault.TurnFault.TheVariants as fault;
 
 use crate::asking::ask;
-use crate::bad::Bad;
 use crate::desk::Desk;
 use crate::held_text::HeldText;
-use crate::reply::bad_line;
-use crate::saying::{answer_line, say_answer};
+use crate::saying::say_answer;
 use crate::turn_fault::TurnFault;
 use host_ports::Sink;
 use std::alloc::Global;
 use std::sync::ledger::Ledger;
 use step_count::Steps;
 use track_types::{Meets, Question};
-
-// Answers what a line asks. Walks and lists take memory, and are made before anything is said.
-pub(crate) fn answer<A: Meets, K: Sink, L: Ledger>(
-    alloc: Global,
-    answerer: A,
-    asked: Result<Option<Question>, Bad>,
-    desk: &mut Desk<A::Walk>,
-    text: &mut HeldText,
-    sink: &mut K,
-    steps: &mut Steps<L>,
-) -> Result<(), TurnFault>
-    requires { IfOk asked (λ asked. IfSome asked AreAsked) }
-    ensures told { AnswerTold (meaning_by A.Answerer answerer)
-        (moment (K.said sink.old) text.old desk.old steps.old)
-        (moment (K.said sink.new) text.new desk.new steps.new) asked result }
-    ensures faults { SinkCounts K.Sink sink.old sink.new (result ≡ Err fault.Say) }
-{
-    match asked {
-        Ok(None) => Ok(()),
-        Ok(Some(question)) => {
-            answer_question(alloc, answerer, &question, desk, text, sink, steps)
-        }
-        Err(bad) => answer_line(&bad_line(bad), text, sink),
-    }
-}
 
 /// Says the reply to a question, as `run` does for its line.
 ///
@@ -73,8 +46,8 @@ pub fn say_reply<A: Meets, K: Sink, L: Ledger>(
     Ok(())
 }
 
-// Answers a question.
-fn answer_question<A: Meets, K: Sink, L: Ledger>(
+// Answers a question. Walks and lists take memory, and are made before anything is said.
+pub(crate) fn answer_question<A: Meets, K: Sink, L: Ledger>(
     alloc: Global,
     answerer: A,
     question: &Question,

@@ -20,6 +20,7 @@ use step_count::Steps;
 use track_types::{Cell, Lazy, Meeting, Meets, Memory, Question, Stop};
 
 // Asks a question. Walks and lists take memory, and are made before anything changes.
+#[inline(always)]
 pub(crate) fn ask<A: Meets, L: Ledger>(
     alloc: Global,
     answerer: A,
@@ -50,6 +51,7 @@ pub(crate) fn ask<A: Meets, L: Ledger>(
 }
 
 // Asks a question of no slot, whatever the desk holds.
+#[inline(always)]
 fn ask_chart<A: Meets, L: Ledger>(
     alloc: Global,
     answerer: A,

@@ -1,12 +1,13 @@
-ghost use Rattle.std.specs.Prelude.{◌≡◌, IfOk};
-ghost use Rattle.question_shell.specs.Grammar.{AreAsked, form_of, form_question};
-ghost use Rattle.question_shell.specs.Lines.{texts};
+ghost use Rattle.std.specs.Prelude.{◌≡◌, OnOk};
+ghost use Rattle.question_shell.specs.Grammar.{AreAsked, form_of, form_question, place_told};
+ghost use Rattle.question_shell.specs.Lines.{words_of};
 ghost use Rattle.question_shell.specs.declared.form.Form.TheVariants as form;
 
 use crate::bad::Bad;
-use crate::layout::read_layout;
 use crate::number_word::{read_object, read_place, read_radius, read_slot};
-use crate::shape_reading::read_region;
+use crate::region_reading::read_region;
+use crate::time::{read_instant, read_window};
+use crate::words::{cut_word, next_word};
 use track_types::{Cell, Question};
 
 /// A form of question, by its first word.
@@ -65,100 +66,108 @@ impl Form {
     }
 }
 
-// Reads the words after a form's first, the second and later ones of a line.
-pub(crate) fn read_form(form: Form, words: &[&[u8]]) -> Result<Question, Bad>
-    ensures value { result ≡ form_question form (texts words.now) }
-    ensures asked { IfOk result AreAsked }
+// Reads the rest of a line, after its first word, which names that form, into the place of a
+// question: one has room for 16 shapes, so that it would be long on its way from call to call.
+pub(crate) fn read_form(form: Form, line: &[u8], question: &mut Question) -> Result<(), Bad>
+    ensures value { place_told result question.new ≡ form_question form (words_of line.now) }
+    ensures asked { OnOk result (AreAsked question.new) }
 {
     match form {
-        Form::Position => read_position(words),
-        Form::Path => read_path(words),
-        Form::Slice => read_slice(words),
-        Form::Interval => read_interval(words),
-        Form::Nearest => read_nearest(words),
-        Form::Meet => read_meet(words),
-        Form::Info => read_info(words),
-        Form::Hold => read_hold(words),
-        Form::More => read_more(words),
-        Form::Free => read_free(words),
+        Form::Position => read_position(line, question),
+        Form::Path => read_path(line, question),
+        Form::Slice => read_slice(line, question),
+        Form::Interval => read_interval(line, question),
+        Form::Nearest => read_nearest(line, question),
+        Form::Meet => read_meet(line, question),
+        Form::Info => read_info(line, question),
+        Form::Hold => read_hold(line, question),
+        Form::More => read_more(line, question),
+        Form::Free => read_free(line, question),
     }
 }
 
-fn read_position(words: &[&[u8]]) -> Result<Question, Bad>
-    ensures value { result ≡ form_question form.Position (texts words.now) }
-    ensures asked { IfOk result AreAsked }
+fn read_position(line: &[u8], question: &mut Question) -> Result<(), Bad>
+    ensures value { place_told result question.new ≡ form_question form.Position (words_of line.now) }
+    ensures asked { OnOk result (AreAsked question.new) }
 {
-    let [object, instant] = words else {
+    let (object, line) = cut_word(line)?;
+    let (instant, line) = cut_word(line)?;
+    let None = next_word(line) else {
         return Err(Bad::Count);
     };
     let object = read_object(object, 2)?;
     let instant = read_place(instant, 3)?;
-    Ok(Question::Position { object, instant })
+    *question = Question::Position { object, instant };
+    Ok(())
 }
 
-fn read_path(words: &[&[u8]]) -> Result<Question, Bad>
-    ensures value { result ≡ form_question form.Path (texts words.now) }
-    ensures asked { IfOk result AreAsked }
+fn read_path(line: &[u8], question: &mut Question) -> Result<(), Bad>
+    ensures value { place_told result question.new ≡ form_question form.Path (words_of line.now) }
+    ensures asked { OnOk result (AreAsked question.new) }
 {
-    let [object, from, to] = words else {
+    let (object, line) = cut_word(line)?;
+    let (from, line) = cut_word(line)?;
+    let (to, line) = cut_word(line)?;
+    let None = next_word(line) else {
         return Err(Bad::Count);
     };
     let object = read_object(object, 2)?;
     let from = read_place(from, 3)?;
     let to = read_place(to, 4)?;
-    Ok(Question::Path { object, from, to })
+    *question = Question::Path { object, from, to };
+    Ok(())
 }
 
-fn read_slice(words: &[&[u8]]) -> Result<Question, Bad>
-    ensures value { result ≡ form_question form.Slice (texts words.now) }
-    ensures asked { IfOk result AreAsked }
+fn read_slice(line: &[u8], question: &mut Question) -> Result<(), Bad>
+    ensures value { place_told result question.new ≡ form_question form.Slice (words_of line.now) }
+    ensures asked { OnOk result (AreAsked question.new) }
 {
-    let [instant, region @ ..] = words else {
-        return Err(Bad::Count);
-    };
-    let layout = read_layout(region, 3)?;
-    let instant = read_place(instant, 2)?;
-    let region = read_region(&layout, 3)?;
-    Ok(Question::Slice { instant, region })
+    let (instant, region) = cut_word(line)?;
+    read_region(region, 3, read_instant(instant), question)
 }
 
-fn read_interval(words: &[&[u8]]) -> Result<Question, Bad>
-    ensures value { result ≡ form_question form.Interval (texts words.now) }
-    ensures asked { IfOk result AreAsked }
+fn read_interval(line: &[u8], question: &mut Question) -> Result<(), Bad>
+    ensures value { place_told result question.new ≡ form_question form.Interval (words_of line.now) }
+    ensures asked { OnOk result (AreAsked question.new) }
 {
-    let [from, to, region @ ..] = words else {
-        return Err(Bad::Count);
-    };
-    let layout = read_layout(region, 4)?;
-    let from = read_place(from, 2)?;
-    let to = read_place(to, 3)?;
-    let region = read_region(&layout, 4)?;
-    Ok(Question::Interval { from, to, region })
+    let (from, line) = cut_word(line)?;
+    let (to, region) = cut_word(line)?;
+    read_region(region, 4, read_window(from, to), question)
 }
 
-fn read_nearest(words: &[&[u8]]) -> Result<Question, Bad>
-    ensures value { result ≡ form_question form.Nearest (texts words.now) }
-    ensures asked { IfOk result AreAsked }
+fn read_nearest(line: &[u8], question: &mut Question) -> Result<(), Bad>
+    ensures value { place_told result question.new ≡ form_question form.Nearest (words_of line.now) }
+    ensures asked { OnOk result (AreAsked question.new) }
 {
-    let [count, instant, x, y] = words else {
+    let (count, line) = cut_word(line)?;
+    let (instant, line) = cut_word(line)?;
+    let (x, line) = cut_word(line)?;
+    let (y, line) = cut_word(line)?;
+    let None = next_word(line) else {
         return Err(Bad::Count);
     };
     let count = read_object(count, 2)?;
     let instant = read_place(instant, 3)?;
     let x = read_place(x, 4)?;
     let y = read_place(y, 5)?;
-    Ok(Question::Nearest {
+    *question = Question::Nearest {
         count,
         instant,
         cell: Cell { x, y },
-    })
+    };
+    Ok(())
 }
 
-fn read_meet(words: &[&[u8]]) -> Result<Question, Bad>
-    ensures value { result ≡ form_question form.Meet (texts words.now) }
-    ensures asked { IfOk result AreAsked }
+fn read_meet(line: &[u8], question: &mut Question) -> Result<(), Bad>
+    ensures value { place_told result question.new ≡ form_question form.Meet (words_of line.now) }
+    ensures asked { OnOk result (AreAsked question.new) }
 {
-    let [left, right, from, to, reach] = words else {
+    let (left, line) = cut_word(line)?;
+    let (right, line) = cut_word(line)?;
+    let (from, line) = cut_word(line)?;
+    let (to, line) = cut_word(line)?;
+    let (reach, line) = cut_word(line)?;
+    let None = next_word(line) else {
         return Err(Bad::Count);
     };
     let left = read_object(left, 2)?;
@@ -166,63 +175,75 @@ fn read_meet(words: &[&[u8]]) -> Result<Question, Bad>
     let from = read_place(from, 4)?;
     let to = read_place(to, 5)?;
     let reach = read_radius(reach, 6)?;
-    Ok(Question::Meet {
+    *question = Question::Meet {
         left,
         right,
         from,
         to,
         reach,
-    })
+    };
+    Ok(())
 }
 
-fn read_info(words: &[&[u8]]) -> Result<Question, Bad>
-    ensures value { result ≡ form_question form.Info (texts words.now) }
-    ensures asked { IfOk result AreAsked }
+fn read_info(line: &[u8], question: &mut Question) -> Result<(), Bad>
+    ensures value { place_told result question.new ≡ form_question form.Info (words_of line.now) }
+    ensures asked { OnOk result (AreAsked question.new) }
 {
-    let [] = words else {
+    let None = next_word(line) else {
         return Err(Bad::Count);
     };
-    Ok(Question::Info)
+    *question = Question::Info;
+    Ok(())
 }
 
-fn read_hold(words: &[&[u8]]) -> Result<Question, Bad>
-    ensures value { result ≡ form_question form.Hold (texts words.now) }
-    ensures asked { IfOk result AreAsked }
+fn read_hold(line: &[u8], question: &mut Question) -> Result<(), Bad>
+    ensures value { place_told result question.new ≡ form_question form.Hold (words_of line.now) }
+    ensures asked { OnOk result (AreAsked question.new) }
 {
-    let [slot, object, from, to] = words else {
+    let (slot, line) = cut_word(line)?;
+    let (object, line) = cut_word(line)?;
+    let (from, line) = cut_word(line)?;
+    let (to, line) = cut_word(line)?;
+    let None = next_word(line) else {
         return Err(Bad::Count);
     };
     let slot = read_slot(slot, 2)?;
     let object = read_object(object, 3)?;
     let from = read_place(from, 4)?;
     let to = read_place(to, 5)?;
-    Ok(Question::Hold {
+    *question = Question::Hold {
         slot,
         object,
         from,
         to,
-    })
+    };
+    Ok(())
 }
 
-fn read_more(words: &[&[u8]]) -> Result<Question, Bad>
-    ensures value { result ≡ form_question form.More (texts words.now) }
-    ensures asked { IfOk result AreAsked }
+fn read_more(line: &[u8], question: &mut Question) -> Result<(), Bad>
+    ensures value { place_told result question.new ≡ form_question form.More (words_of line.now) }
+    ensures asked { OnOk result (AreAsked question.new) }
 {
-    let [slot, count] = words else {
+    let (slot, line) = cut_word(line)?;
+    let (count, line) = cut_word(line)?;
+    let None = next_word(line) else {
         return Err(Bad::Count);
     };
     let slot = read_slot(slot, 2)?;
     let count = read_object(count, 3)?;
-    Ok(Question::More { slot, count })
+    *question = Question::More { slot, count };
+    Ok(())
 }
 
-fn read_free(words: &[&[u8]]) -> Result<Question, Bad>
-    ensures value { result ≡ form_question form.Free (texts words.now) }
-    ensures asked { IfOk result AreAsked }
+fn read_free(line: &[u8], question: &mut Question) -> Result<(), Bad>
+    ensures value { place_told result question.new ≡ form_question form.Free (words_of line.now) }
+    ensures asked { OnOk result (AreAsked question.new) }
 {
-    let [slot] = words else {
+    let (slot, line) = cut_word(line)?;
+    let None = next_word(line) else {
         return Err(Bad::Count);
     };
     let slot = read_slot(slot, 2)?;
-    Ok(Question::Free { slot })
+    *question = Question::Free { slot };
+    Ok(())
 }

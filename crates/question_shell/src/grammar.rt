@@ -1,9 +1,9 @@
-ghost use Rattle.std.specs.Prelude.{◌≡◌, IfOk, IfSome};
-ghost use Rattle.question_shell.specs.Grammar.{AreAsked, question_of};
+ghost use Rattle.std.specs.Prelude.{◌≡◌, IfOk, IfSome, Ok, true};
+ghost use Rattle.question_shell.specs.Grammar.{AreAsked, line_told, question_of};
 
 use crate::bad::Bad;
 use crate::form::{Form, read_form};
-use crate::words::split_words;
+use crate::words::next_word;
 use track_types::Question;
 
 /// How many bytes a question line may have, without its line feed.
@@ -16,13 +16,26 @@ pub fn read_question(line: &[u8]) -> Result<Option<Question>, Bad>
     ensures value { result ≡ question_of line.now }
     ensures asked { IfOk result (λ asked. IfSome asked AreAsked) }
 {
-    let words = split_words(line);
-    let [first, rest @ ..] = words.as_slice() else {
-        return Ok(None);
+    let mut question = Question::Info;
+    if read_line(line, &mut question)? {
+        Ok(Some(question))
+    } else {
+        Ok(None)
+    }
+}
+
+// Reads a line into the place of a question. Whether it has a word, so that its question is there.
+pub(crate) fn read_line(line: &[u8], question: &mut Question) -> Result<bool, Bad>
+    ensures value { line_told result question.new ≡ question_of line.now }
+    ensures asked { result ≡ Ok true → AreAsked question.new }
+{
+    let Some((first, rest)) = next_word(line) else {
+        return Ok(false);
     };
     if line.len() > LONGEST_LINE {
         return Err(Bad::Long);
     }
     let form = Form::named(first)?;
-    Ok(Some(read_form(form, rest)?))
+    read_form(form, rest, question)?;
+    Ok(true)
 }

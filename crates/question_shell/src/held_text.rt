@@ -34,6 +34,7 @@ impl HeldText {
     }
 
     // Holds a line back; what was held before is said first where there is no room.
+    #[inline(always)]
     pub(crate) fn put<K: Sink>(&mut self, line: &ReplyLine, sink: &mut K) -> Result<(), Cut>
         ensures told { Puts (voice (K.said sink.old) self.old)
             (voice (K.said sink.new) self.new) line.now.bytes result }

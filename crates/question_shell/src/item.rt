@@ -1,10 +1,9 @@
-ghost use Rattle.std.specs.Prelude.{◌≡◌, ◌≤◌, ◌++◌, length};
-ghost use Rattle.question_shell.specs.Items.{cell_line, fact_line, line_of, stop_line};
+ghost use Rattle.std.specs.Prelude.{◌≡◌, ◌≤◌, ◌++◌, [], length};
+ghost use Rattle.question_shell.specs.Items.{cell_line, line_of, stop_line};
 ghost use Rattle.question_shell.specs.declared.item.Item.TheVariants as item;
 
 use crate::named_fact::NamedFact;
 use crate::reply::ReplyLine;
-use arrayvec::ArrayString;
 use itoa::Buffer;
 use track_types::{Cell, Hit, Meeting, Near, Sighting, Stop};
 
@@ -21,32 +20,26 @@ pub enum Item {
 }
 
 impl Item {
-    // Its line of the reply.
-    pub(crate) fn line(&self) -> ReplyLine
-        ensures { result.bytes ≡ line_of self.now }
+    // Writes its line of the reply into an empty one.
+    #[inline(always)]
+    pub(crate) fn write(&self, line: &mut ReplyLine)
+        requires { line.old.bytes ≡ [] }
+        ensures { line.new.bytes ≡ line_of self.now }
     {
         match self {
-            Item::Cell(cell) => cell_line(*cell),
-            Item::Stop(stop) => stop_line(*stop),
-            Item::Sighting(sighting) => sighting_line(*sighting),
-            Item::Hit(hit) => hit_line(*hit),
-            Item::Near(near) => near_line(*near),
-            Item::Meeting(meeting) => meeting_line(*meeting),
-            Item::Fact(fact) => fact.line(),
+            Item::Cell(cell) => push_cell(line, *cell),
+            Item::Stop(stop) => write_stop(line, *stop),
+            Item::Sighting(sighting) => write_sighting(line, *sighting),
+            Item::Hit(hit) => write_hit(line, *hit),
+            Item::Near(near) => write_near(line, *near),
+            Item::Meeting(meeting) => write_meeting(line, *meeting),
+            Item::Fact(fact) => fact.write(line),
         }
     }
 }
 
-// X Y
-fn cell_line(cell: Cell) -> ReplyLine
-    ensures { result.bytes ≡ cell_line cell }
-{
-    let mut line = ArrayString::new();
-    push_cell(&mut line, cell);
-    line
-}
-
 // Ends a line with X Y.
+#[inline(always)]
 fn push_cell(line: &mut ReplyLine, cell: Cell)
     requires { length line.old.bytes ≤ 70 }
     ensures { line.new.bytes ≡ line.old.bytes ++ cell_line cell }
@@ -59,46 +52,44 @@ fn push_cell(line: &mut ReplyLine, cell: Cell)
 }
 
 // T X Y
-fn stop_line(stop: Stop) -> ReplyLine
-    ensures { result.bytes ≡ stop_line stop }
+#[inline(always)]
+fn write_stop(line: &mut ReplyLine, stop: Stop)
+    requires { line.old.bytes ≡ [] }
+    ensures { line.new.bytes ≡ stop_line stop }
 {
-    let mut line = ArrayString::new();
     line.push_str(Buffer::new().format(stop.instant));
     line.push_str(" ");
-    push_cell(&mut line, stop.cell);
-    line
+    push_cell(line, stop.cell);
 }
 
 // O X Y
-fn sighting_line(sighting: Sighting) -> ReplyLine
-    ensures { result.bytes ≡ line_of (item.Sighting sighting) }
+fn write_sighting(line: &mut ReplyLine, sighting: Sighting)
+    requires { line.old.bytes ≡ [] }
+    ensures { line.new.bytes ≡ line_of (item.Sighting sighting) }
 {
-    let mut line = ArrayString::new();
     line.push_str(Buffer::new().format(sighting.object));
     line.push_str(" ");
-    push_cell(&mut line, sighting.cell);
-    line
+    push_cell(line, sighting.cell);
 }
 
 // O T X Y
-fn hit_line(hit: Hit) -> ReplyLine
-    ensures { result.bytes ≡ line_of (item.Hit hit) }
+fn write_hit(line: &mut ReplyLine, hit: Hit)
+    requires { line.old.bytes ≡ [] }
+    ensures { line.new.bytes ≡ line_of (item.Hit hit) }
 {
-    let mut line = ArrayString::new();
     let mut digits = Buffer::new();
     line.push_str(digits.format(hit.object));
     line.push_str(" ");
     line.push_str(digits.format(hit.instant));
     line.push_str(" ");
-    push_cell(&mut line, hit.cell);
-    line
+    push_cell(line, hit.cell);
 }
 
 // O X Y D2
-fn near_line(near: Near) -> ReplyLine
-    ensures { result.bytes ≡ line_of (item.Near near) }
+fn write_near(line: &mut ReplyLine, near: Near)
+    requires { line.old.bytes ≡ [] }
+    ensures { line.new.bytes ≡ line_of (item.Near near) }
 {
-    let mut line = ArrayString::new();
     let mut digits = Buffer::new();
     line.push_str(digits.format(near.object));
     line.push_str(" ");
@@ -108,14 +99,13 @@ fn near_line(near: Near) -> ReplyLine
     line.push_str(" ");
     line.push_str(digits.format(near.dist2));
     line.push_str("\n");
-    line
 }
 
 // T XA YA XB YB
-fn meeting_line(meeting: Meeting) -> ReplyLine
-    ensures { result.bytes ≡ line_of (item.Meeting meeting) }
+fn write_meeting(line: &mut ReplyLine, meeting: Meeting)
+    requires { line.old.bytes ≡ [] }
+    ensures { line.new.bytes ≡ line_of (item.Meeting meeting) }
 {
-    let mut line = ArrayString::new();
     let mut digits = Buffer::new();
     line.push_str(digits.format(meeting.instant));
     line.push_str(" ");
@@ -123,6 +113,5 @@ fn meeting_line(meeting: Meeting) -> ReplyLine
     line.push_str(" ");
     line.push_str(digits.format(meeting.left.y));
     line.push_str(" ");
-    push_cell(&mut line, meeting.right);
-    line
+    push_cell(line, meeting.right);
 }

@@ -3,7 +3,7 @@
 //! `run` answers the lines of a source one after another and says exactly the replies that
 //! filtering the answerer's chart gives, through a buffer of fixed size. Its `Desk` holds up to 16
 //! walks over paths, which lines draw from in turn. The crate stands on track_types, list_laws,
-//! host_ports, step_count, arrayvec and itoa.
+//! host_ports, step_count, memchr, arrayvec and itoa.
 #![tactic(auto)]
 
 mod answer;
@@ -19,9 +19,11 @@ mod held_text;
 mod item;
 mod layout;
 mod line_buffer;
+mod line_cut;
 mod listening;
 mod named_fact;
 mod number_word;
+mod region_reading;
 mod reply;
 mod saying;
 mod shape_reading;
@@ -30,6 +32,7 @@ mod shell;
 mod shell_fault;
 #[cfg(test)]
 mod tests;
+mod time;
 mod turn_fault;
 mod words;
 

@@ -1,9 +1,9 @@
-ghost use Rattle.std.specs.Prelude.{◌≡◌, ℕ, ◌∷◌, [], ◌++◌, List, IfOk, IfSome};
-ghost use Rattle.question_shell.specs.Grammar.{AreAsked, question_of};
+ghost use Rattle.std.specs.Prelude.{◌≡◌, ℕ, ◌∷◌, [], ◌++◌, List, Ok, true};
+ghost use Rattle.question_shell.specs.Grammar.{AreAsked, line_told, question_of};
 ghost use Rattle.question_shell.specs.LineKept.{kept_of};
 
 use crate::bad::Bad;
-use crate::grammar::{LONGEST_LINE, read_question};
+use crate::grammar::{LONGEST_LINE, read_line};
 use crate::words::is_gap_byte;
 use arrayvec::ArrayVec;
 use std::marker::Model;
@@ -34,7 +34,24 @@ impl LineBuffer {
         }
     }
 
-    pub(crate) fn push(&mut self, byte: u8)
+    // Takes more bytes of the line.
+    pub(crate) fn extend(&mut self, bytes: &[u8])
+        ensures { (line : List ℕ) → self.old ≡ kept_of line →
+            self.new ≡ kept_of (line ++ bytes.now) }
+    {
+        if LONGEST_LINE < self.kept.len() + bytes.len() {
+            for byte in bytes {
+                self.push(*byte);
+            }
+            return;
+        }
+        // All that there is of a line is kept while it is short.
+        let Ok(()) = self.kept.try_extend_from_slice(bytes) else {
+            unreachable!();
+        };
+    }
+
+    fn push(&mut self, byte: u8)
         ensures { (line : List ℕ) → self.old ≡ kept_of line →
             self.new ≡ kept_of (line ++ byte ∷ []) }
     {
@@ -55,11 +72,12 @@ impl LineBuffer {
         self.kept.clear();
     }
 
-    // What the line asks.
-    pub(crate) fn question(&self) -> Result<Option<Question>, Bad>
-        ensures value { (line : List ℕ) → self.now ≡ kept_of line → result ≡ question_of line }
-        ensures asked { IfOk result (λ asked. IfSome asked AreAsked) }
+    // Reads what the line asks into the place of a question. Whether it asks anything.
+    pub(crate) fn read(&self, question: &mut Question) -> Result<bool, Bad>
+        ensures value { (line : List ℕ) → self.now ≡ kept_of line →
+            line_told result question.new ≡ question_of line }
+        ensures asked { result ≡ Ok true → AreAsked question.new }
     {
-        read_question(self.kept.as_slice())
+        read_line(self.kept.as_slice(), question)
     }
 }

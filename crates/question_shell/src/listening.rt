@@ -1,29 +1,35 @@
-ghost use Rattle.std.specs.Prelude.{◌≡◌, ◌≢◌, ℕ, ◌≤◌, [], ◌∷◌, List, Err, OnOk, ◌⊎◌};
+ghost use Rattle.std.specs.Prelude.{◌≡◌, ◌≢◌, ℕ, ◌≤◌, [], List, Err, OnOk, ◌⊎◌};
 ghost use Rattle.host_ports.specs.Faults.{Rose};
 ghost use Rattle.host_ports.specs.Counting.{SinkCounts};
+ghost use Rattle.question_shell.specs.Grammar.{question_of};
 ghost use Rattle.question_shell.specs.LineKept.{kept_of};
 ghost use Rattle.question_shell.specs.Lines.{input_lines};
 ghost use Rattle.question_shell.specs.Says.{voice};
 ghost use Rattle.question_shell.specs.Session.{meaning_by};
-ghost use Rattle.question_shell.specs.Turns.{Heard, AnswersLines, Moment, AnswersBytes, Flushes};
+ghost use Rattle.question_shell.specs.Turns.{Heard, AnswerTold, AnswersLines, Moment, AnswersBytes, Flushes};
 ghost use Rattle.question_shell.specs.Turns.{moment};
 ghost use Rattle.question_shell.specs.declared.turn_fault.TurnFault.TheVariants as fault;
 
-use crate::answering::answer;
+use crate::answering::answer_question;
 use crate::desk::Desk;
 use crate::held_text::HeldText;
 use crate::line_buffer::LineBuffer;
+use crate::line_cut::cut_line;
+use crate::reply::bad_line;
+use crate::saying::answer_line;
 use crate::turn_fault::TurnFault;
 use host_ports::Sink;
 use std::alloc::Global;
 use std::sync::ledger::Ledger;
 use step_count::Steps;
-use track_types::Meets;
+use track_types::{Meets, Question};
 
-/// The line that is coming, and the text of replies that is held back.
+/// The line that is coming, what the last one asked, and the text of replies that is held back.
 #[derive(Drop)]
 pub(crate) struct Talk {
     line: LineBuffer,
+    // Each line's question is written here: it is large, and filled and moved wherever it is made.
+    question: Question,
     text: HeldText,
 }
 
@@ -34,6 +40,7 @@ impl Talk {
     {
         Talk {
             line: LineBuffer::new(),
+            question: Question::Info,
             text: HeldText::new(),
         }
     }
@@ -59,7 +66,7 @@ pub(crate) fn take_piece<A: Meets, K: Sink, L: Ledger>(
     say_rest(answered, &mut talk.text, sink)
 }
 
-// Answers bytes more of question input.
+// Answers bytes more of question input, line by line.
 fn take_bytes<A: Meets, K: Sink, L: Ledger>(
     alloc: Global,
     answerer: A,
@@ -74,34 +81,40 @@ fn take_bytes<A: Meets, K: Sink, L: Ledger>(
         (moment (K.said sink.new) talk.new.text desk.new steps.new) talk.new.line result }
     ensures faults { SinkCounts K.Sink sink.old sink.new (result ≡ Err fault.Say) }
 {
-    for byte in bytes {
-        take_byte(alloc, answerer, talk, *byte, desk, sink, steps)?;
+    let mut left = bytes;
+    while let Some((line, after)) = cut_line(left) {
+        talk.line.extend(line);
+        take_line(alloc, answerer, talk, desk, sink, steps)?;
+        left = after;
     }
+    talk.line.extend(left);
     Ok(())
 }
 
-// Answers one byte more of question input: a line is answered as its line feed comes.
-fn take_byte<A: Meets, K: Sink, L: Ledger>(
+// Answers the line that has come, and begins another.
+fn take_line<A: Meets, K: Sink, L: Ledger>(
     alloc: Global,
     answerer: A,
     talk: &mut Talk,
-    byte: u8,
     desk: &mut Desk<A::Walk>,
     sink: &mut K,
     steps: &mut Steps<L>,
 ) -> Result<(), TurnFault>
-    ensures told { AnswersBytes (meaning_by A.Answerer answerer)
-        (moment (K.said sink.old) talk.old.text desk.old steps.old) talk.old.line (byte ∷ [])
-        (moment (K.said sink.new) talk.new.text desk.new steps.new) talk.new.line result }
+    ensures told { (line : List ℕ) → talk.old.line ≡ kept_of line →
+        AnswerTold (meaning_by A.Answerer answerer)
+        (moment (K.said sink.old) talk.old.text desk.old steps.old)
+        (moment (K.said sink.new) talk.new.text desk.new steps.new) (question_of line) result }
+    ensures line { talk.new.line ≡ kept_of [] }
     ensures faults { SinkCounts K.Sink sink.old sink.new (result ≡ Err fault.Say) }
 {
-    if byte != b'\n' {
-        talk.line.push(byte);
-        return Ok(());
-    }
-    let asked = talk.line.question();
+    let read = talk.line.read(&mut talk.question);
     talk.line.clear();
-    answer(alloc, answerer, asked, desk, &mut talk.text, sink, steps)
+    let text = &mut talk.text;
+    match read {
+        Ok(true) => answer_question(alloc, answerer, &talk.question, desk, text, sink, steps),
+        Ok(false) => Ok(()),
+        Err(bad) => answer_line(&bad_line(bad), text, sink),
+    }
 }
 
 // Answers a last line that no line feed ends, and says all that was held back.
@@ -121,8 +134,7 @@ pub(crate) fn take_end<A: Meets, K: Sink, L: Ledger>(
         AnswersLines meaning start now (input_lines came) result }
     ensures faults { SinkCounts K.Sink sink.old sink.new (result ≡ Err fault.Say) }
 {
-    let asked = talk.line.question();
-    let answered = answer(alloc, answerer, asked, desk, &mut talk.text, sink, steps);
+    let answered = take_line(alloc, answerer, talk, desk, sink, steps);
     say_rest(answered, &mut talk.text, sink)
 }
 

@@ -2,7 +2,6 @@ ghost use Rattle.std.specs.Prelude.{◌≡◌, ◌+◌, ◌++◌, ◌∷◌, [],
 ghost use Rattle.question_shell.specs.Items.{fact_line, named_facts};
 
 use crate::reply::ReplyLine;
-use arrayvec::ArrayString;
 use itoa::Buffer;
 use std::marker::Model;
 use track_types::Facts;
@@ -26,15 +25,15 @@ impl Model for NamedFact {
 
 impl NamedFact {
     // NAME N
-    pub(crate) fn line(&self) -> ReplyLine
-        ensures { result.bytes ≡ fact_line self.now }
+    #[inline(always)]
+    pub(crate) fn write(&self, line: &mut ReplyLine)
+        requires { line.old.bytes ≡ [] }
+        ensures { line.new.bytes ≡ fact_line self.now }
     {
-        let mut line = ArrayString::new();
         line.push_str(self.name);
         line.push_str(" ");
         line.push_str(Buffer::new().format(self.number));
         line.push_str("\n");
-        line
     }
 }
 
@@ -62,6 +61,7 @@ impl NamedFacts {
     }
 
     // Takes the first of them off.
+    #[inline(always)]
     pub(crate) fn draw(&mut self) -> Option<NamedFact>
         ensures found { self.old ≡ option_to_list result ++ self.new }
         ensures none { IfNone result (self.old ≡ []) }
@@ -73,6 +73,7 @@ impl NamedFacts {
 }
 
 // The fact at this place of the reply, if there is one.
+#[inline(always)]
 fn named_fact(facts: &Facts, place: usize) -> Option<NamedFact>
     ensures some { IfSome result (λ fact. drop place (named_facts facts.now)
         ≡ fact ∷ drop (place + 1) (named_facts facts.now)) }

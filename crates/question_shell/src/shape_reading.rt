@@ -1,33 +1,18 @@
 ghost use Rattle.std.specs.Prelude.{◌≡◌, ◌≤◌, ◌∷◌, All, IfOk, length, map};
-ghost use Rattle.track_types.specs.Region.{IsRegionAsked, IsShapeAsked};
-ghost use Rattle.question_shell.specs.RegionWords.{region_of, region_texts, shape_of, shape_texts, shapes_of};
+ghost use Rattle.track_types.specs.Region.{IsShapeAsked};
+ghost use Rattle.question_shell.specs.RegionWords.{shape_of, shape_texts, shapes_of};
 
 use crate::bad::Bad;
-use crate::layout::Layout;
 use crate::number_word::{read_place, read_radius};
 use crate::shape_words::ShapeWords;
-use track_types::{Region, Shape, Shapes};
-
-// Reads the numbers of a region, whose first word stands at that place of the line.
-pub(crate) fn read_region(layout: &Layout, place: u32) -> Result<Region, Bad>
-    requires { place ≤ 16 }
-    ensures value { result ≡ region_of place (region_texts layout.now) }
-    ensures asked { IfOk result IsRegionAsked }
-{
-    match layout {
-        Layout::One(words) => match read_shape(words, place)? {
-            Shape::Rect { x1, y1, x2, y2 } => Ok(Region::Rect { x1, y1, x2, y2 }),
-            Shape::Disc { x, y, r } => Ok(Region::Disc { x, y, r }),
-        },
-        Layout::Any { first, more } => {
-            let shapes = read_shapes(first, more.as_slice(), place + 2)?;
-            Ok(Region::Any { shapes })
-        }
-    }
-}
+use track_types::{Shape, Shapes};
 
 // Reads the numbers of shapes, where the name of the first stands at that place of the line.
-fn read_shapes(first: &ShapeWords, more: &[ShapeWords], place: u32) -> Result<Shapes, Bad>
+pub(crate) fn read_shapes(
+    first: &ShapeWords,
+    more: &[ShapeWords],
+    place: u32,
+) -> Result<Shapes, Bad>
     requires few { length more.now ≤ 15 }
     requires short { place ≤ 18 }
     ensures value { result ≡ shapes_of place (shape_texts first.now ∷ map shape_texts more.now) }
@@ -43,7 +28,7 @@ fn read_shapes(first: &ShapeWords, more: &[ShapeWords], place: u32) -> Result<Sh
 }
 
 // Reads the numbers of a shape, whose name stands at that place of the line.
-fn read_shape(words: &ShapeWords, place: u32) -> Result<Shape, Bad>
+pub(crate) fn read_shape(words: &ShapeWords, place: u32) -> Result<Shape, Bad>
     requires short { place ≤ 1024 }
     ensures value { result ≡ shape_of place (shape_texts words.now) }
     ensures asked { IfOk result IsShapeAsked }

@@ -1,35 +1,22 @@
-ghost use Rattle.std.specs.Prelude.{◌≡◌, ℕ, ◌≤◌, ◌∷◌, [], true, false, not, length, take};
-ghost use Rattle.std.specs.Prelude.{drop, slice_index, IfSome, IfNone};
+ghost use Rattle.std.specs.Prelude.{◌≡◌, ◌≤◌, ◌∷◌, [], true, not, length, take};
+ghost use Rattle.std.specs.Prelude.{drop, IfOk, IfErr, IfSome, IfNone};
 ghost use Rattle.std.specs.List.{list_all};
-ghost use Rattle.question_shell.specs.Lines.{BeginsWord, EndsWord, is_gap, texts, words_of};
+ghost use Rattle.question_shell.specs.Lines.{BeginsWord, EndsWord, is_gap, words_of};
+ghost use Rattle.question_shell.specs.declared.bad.Bad.TheVariants as bad;
 
-use arrayvec::ArrayVec;
+use crate::bad::Bad;
 
-/// How many words of a line are kept. No question has as many, so that these tell all that it asks,
-/// and whether it has too many.
-pub(crate) const KEPT_WORDS: usize = 86;
-
-/// The first words of a line.
-pub(crate) type Words<'a> = ArrayVec<&'a [u8], KEPT_WORDS>;
-
-// The first words of a line, cut off it one after another.
-pub(crate) fn split_words<'a>(line: &'a [u8]) -> Words<'a>
-    ensures { texts result.items ≡ take KEPT_WORDS (words_of line.now) }
+// Cuts the first word off a line that should have one.
+pub(crate) fn cut_word(line: &[u8]) -> Result<(&[u8], &[u8]), Bad>
+    ensures ok { IfOk result (λ cut. words_of line.now ≡ cut.0.now ∷ words_of cut.1.now) }
+    ensures none { IfErr result (λ _. words_of line.now ≡ []) }
+    ensures err { IfErr result (λ fault. fault ≡ bad.Count) }
 {
-    let mut words = Words::new();
-    let mut rest = line;
-    for _ in 0..KEPT_WORDS {
-        let Some((word, after)) = next_word(rest) else {
-            return words;
-        };
-        words.push(word);
-        rest = after;
-    }
-    words
+    next_word(line).ok_or(Bad::Count)
 }
 
 // Cuts the first word off a line.
-fn next_word(line: &[u8]) -> Option<(&[u8], &[u8])>
+pub(crate) fn next_word(line: &[u8]) -> Option<(&[u8], &[u8])>
     ensures none { IfNone result (words_of line.now ≡ []) }
     ensures some { IfSome result (λ cut. words_of line.now ≡ cut.0.now ∷ words_of cut.1.now) }
 {
@@ -72,5 +59,5 @@ fn word_length(line: &[u8]) -> usize
 pub(crate) fn is_gap_byte(byte: u8) -> bool
     ensures { result ≡ is_gap byte }
 {
-    byte == b' ' || byte == b'\t' || byte == b'\r'
+    matches!(byte, b' ' | b'\t' | b'\r')
 }

@@ -23,8 +23,8 @@ loop-item-preserved g c =
       done = read.done ++ c.in-Some.item ∷ [];
       gives = gives-more read.gives c.in-Some.ensures.gives;
       says = says-next (voice (g.K.Sink.said c.args.sink.now) c.args.text.now)
-          (voice (g.K.Sink.said c.loop-item.sink) c.loop-item.text) read.done c.in-Some.item c.line.result.bytes
-          c.line.ensures read.says (voice (g.K.Sink.said c.put.new.sink) c.put.new.self) c.in_ok-put.ensures.told;
+          (voice (g.K.Sink.said c.loop-item.sink) c.loop-item.text) read.done c.in-Some.item c.write.new.line.bytes
+          c.write.ensures read.says (voice (g.K.Sink.said c.put.new.sink) c.put.new.self) c.in_ok-put.ensures.told;
       count = omega (arith, read.count, length-append read.done (c.in-Some.item ∷ []));
       faults = c.in_ok-put.ensures.faults.untouched (λ failed. absurd (cc)) ∙ read.faults;
     }
@@ -36,8 +36,8 @@ returns-in_err-put-clause-told g c =
     let all = gives-more read.gives c.in-Some.ensures.gives in
     rw exit.1
     (cuts-next (voice (g.K.Sink.said c.args.sink.now) c.args.text.now)
-    (voice (g.K.Sink.said c.loop-item.sink) c.loop-item.text) read.done c.in-Some.item c.line.result.bytes
-    c.line.ensures read.says (g.K.Sink.said c.put.new.sink)
+    (voice (g.K.Sink.said c.loop-item.sink) c.loop-item.text) read.done c.in-Some.item c.write.new.line.bytes
+    c.write.ensures read.says (g.K.Sink.said c.put.new.sink)
     (items_left g.W.Lazy.left g.W.Lazy.budget c.args.answer.now c.args.desk.now)
     (items_left g.W.Lazy.left g.W.Lazy.budget c.draw.new.self c.draw.new.desk) (refusal_left c.args.answer.now)
     c.in_err-put.ensures.told all.items)

@@ -1,0 +1,16 @@
+use Rattle.std.proofs.Common.{◌≡◌, refl, sym, arith, Ok, None}
+use Rattle.question_shell.specs.Desk.{held_of}
+use Rattle.question_shell.specs.Grammar.{question_of}
+use Rattle.question_shell.specs.Says.{voice}
+use Rattle.question_shell.proofs.SaysLemmas.{says-nothing}
+use Rattle.question_shell.proofs.listening.take_line.Goals as goal
+
+pub returns-in-Ok-false-clause-told : goal.returns-in-Ok-false-clause-told
+returns-in-Ok-false-clause-told g c line is_kept =
+    let asked : question_of line ≡ Ok None =
+    sym (rw c.in-Ok-false.field-0-test at (c.in-Ok-false.ensures.value line is_kept)) in
+    rw asked (record {
+      said = says-nothing (voice (g.K.Sink.said c.args.sink.now) c.args.talk.now.text);
+      desk = refl {a = held_of c.args.desk.now};
+      reads = omega arith;
+    })
