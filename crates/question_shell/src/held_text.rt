@@ -1,19 +1,24 @@
-ghost use Rattle.std.specs.Prelude.{true, is_err, ◌≡◌, [], OnOk};
+ghost use Rattle.std.specs.Prelude.{true, is_err, ◌≡◌, ◌+◌, ◌<◌, ◌++◌, [], OnOk, codes, length};
 ghost use Rattle.host_ports.specs.Counting.{SinkCounts};
+ghost use Rattle.question_shell.specs.Items.{line_of};
 ghost use Rattle.question_shell.specs.Says.{Puts, voice};
 
-use crate::reply::ReplyLine;
-use arrayvec::ArrayVec;
+use crate::item::Item;
+use crate::reply::{LONGEST_REPLY, ReplyLine};
+use arrayvec::ArrayString;
 use host_ports::{Cut, Sink};
 use std::marker::Model;
 
 /// How many bytes of replies are held back at most.
 const ROOM: usize = 4096;
 
+/// Room for text of replies, to which lines are written at once.
+pub(crate) type Room = ArrayString<ROOM>;
+
 /// Text of replies that is held back until there is more of it, so that one `say` takes many lines.
 #[derive(Drop)]
 pub(crate) struct HeldText {
-    bytes: ArrayVec<u8, ROOM>,
+    bytes: Room,
 }
 
 impl Model for HeldText {
@@ -21,7 +26,7 @@ impl Model for HeldText {
 
     ghost Value = { List ℕ };
 
-    ghost view = { λ text. text.bytes.items };
+    ghost view = { λ text. text.bytes.bytes };
 }
 
 impl HeldText {
@@ -29,12 +34,11 @@ impl HeldText {
         ensures { result ≡ [] }
     {
         HeldText {
-            bytes: ArrayVec::new(),
+            bytes: ArrayString::new(),
         }
     }
 
     // Holds a line back; what was held before is said first where there is no room.
-    #[inline(always)]
     pub(crate) fn put<K: Sink>(&mut self, line: &ReplyLine, sink: &mut K) -> Result<(), Cut>
         ensures told { Puts (voice (K.said sink.old) self.old)
             (voice (K.said sink.new) self.new) line.now.bytes result }
@@ -43,9 +47,21 @@ impl HeldText {
         if self.bytes.remaining_capacity() < line.len() {
             self.say(sink)?;
         }
-        let Ok(()) = self.bytes.try_extend_from_slice(line.as_bytes()) else {
-            unreachable!();
-        };
+        self.bytes.push_str(line.as_str());
+        Ok(())
+    }
+
+    // The same for the line of an item, which is written where it is held.
+    #[inline(always)]
+    pub(crate) fn put_item<K: Sink>(&mut self, item: &Item, sink: &mut K) -> Result<(), Cut>
+        ensures told { Puts (voice (K.said sink.old) self.old)
+            (voice (K.said sink.new) self.new) (line_of item.now) result }
+        ensures faults { SinkCounts K.Sink sink.old sink.new (is_err result ≡ true) }
+    {
+        if self.bytes.remaining_capacity() < LONGEST_REPLY {
+            self.say(sink)?;
+        }
+        item.write(&mut self.bytes);
         Ok(())
     }
 
@@ -59,8 +75,18 @@ impl HeldText {
         if self.bytes.is_empty() {
             return Ok(());
         }
-        sink.say(self.bytes.as_slice())?;
+        sink.say(self.bytes.as_str().as_bytes())?;
         self.bytes.clear();
         Ok(())
     }
+}
+
+// Goes on with a word, and a space after it.
+#[inline(always)]
+pub(crate) fn push_word(text: &mut Room, word: &str)
+    requires { length text.old.bytes + length word.now < 4096 }
+    ensures { text.new.bytes ≡ text.old.bytes ++ word.now ++ codes " " }
+{
+    text.push_str(word);
+    text.push_str(" ");
 }

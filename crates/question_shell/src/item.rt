@@ -1,9 +1,9 @@
-ghost use Rattle.std.specs.Prelude.{◌≡◌, ◌≤◌, ◌++◌, [], length};
+ghost use Rattle.std.specs.Prelude.{◌≡◌, ◌≤◌, ◌++◌, length};
 ghost use Rattle.question_shell.specs.Items.{cell_line, line_of, stop_line};
 ghost use Rattle.question_shell.specs.declared.item.Item.TheVariants as item;
 
+use crate::held_text::{Room, push_word};
 use crate::named_fact::NamedFact;
-use crate::reply::ReplyLine;
 use itoa::Buffer;
 use track_types::{Cell, Hit, Meeting, Near, Sighting, Stop};
 
@@ -20,98 +20,87 @@ pub enum Item {
 }
 
 impl Item {
-    // Writes its line of the reply into an empty one.
+    // Writes its line of the reply to the end of a text with room for one.
     #[inline(always)]
-    pub(crate) fn write(&self, line: &mut ReplyLine)
-        requires { line.old.bytes ≡ [] }
-        ensures { line.new.bytes ≡ line_of self.now }
+    pub(crate) fn write(&self, text: &mut Room)
+        requires { length text.old.bytes ≤ 3984 }
+        ensures { text.new.bytes ≡ text.old.bytes ++ line_of self.now }
     {
         match self {
-            Item::Cell(cell) => push_cell(line, *cell),
-            Item::Stop(stop) => write_stop(line, *stop),
-            Item::Sighting(sighting) => write_sighting(line, *sighting),
-            Item::Hit(hit) => write_hit(line, *hit),
-            Item::Near(near) => write_near(line, *near),
-            Item::Meeting(meeting) => write_meeting(line, *meeting),
-            Item::Fact(fact) => fact.write(line),
+            Item::Cell(cell) => push_cell(text, *cell),
+            Item::Stop(stop) => write_stop(text, *stop),
+            Item::Sighting(sighting) => write_sighting(text, *sighting),
+            Item::Hit(hit) => write_hit(text, *hit),
+            Item::Near(near) => write_near(text, *near),
+            Item::Meeting(meeting) => write_meeting(text, *meeting),
+            Item::Fact(fact) => fact.write(text),
         }
     }
 }
 
 // Ends a line with X Y.
 #[inline(always)]
-fn push_cell(line: &mut ReplyLine, cell: Cell)
-    requires { length line.old.bytes ≤ 70 }
-    ensures { line.new.bytes ≡ line.old.bytes ++ cell_line cell }
+fn push_cell(text: &mut Room, cell: Cell)
+    requires { length text.old.bytes ≤ 4054 }
+    ensures { text.new.bytes ≡ text.old.bytes ++ cell_line cell }
 {
     let mut digits = Buffer::new();
-    line.push_str(digits.format(cell.x));
-    line.push_str(" ");
-    line.push_str(digits.format(cell.y));
-    line.push_str("\n");
+    push_word(text, digits.format(cell.x));
+    text.push_str(digits.format(cell.y));
+    text.push_str("\n");
 }
 
 // T X Y
 #[inline(always)]
-fn write_stop(line: &mut ReplyLine, stop: Stop)
-    requires { line.old.bytes ≡ [] }
-    ensures { line.new.bytes ≡ stop_line stop }
+fn write_stop(text: &mut Room, stop: Stop)
+    requires { length text.old.bytes ≤ 3984 }
+    ensures { text.new.bytes ≡ text.old.bytes ++ stop_line stop }
 {
-    line.push_str(Buffer::new().format(stop.instant));
-    line.push_str(" ");
-    push_cell(line, stop.cell);
+    push_word(text, Buffer::new().format(stop.instant));
+    push_cell(text, stop.cell);
 }
 
 // O X Y
-fn write_sighting(line: &mut ReplyLine, sighting: Sighting)
-    requires { line.old.bytes ≡ [] }
-    ensures { line.new.bytes ≡ line_of (item.Sighting sighting) }
+fn write_sighting(text: &mut Room, sighting: Sighting)
+    requires { length text.old.bytes ≤ 3984 }
+    ensures { text.new.bytes ≡ text.old.bytes ++ line_of (item.Sighting sighting) }
 {
-    line.push_str(Buffer::new().format(sighting.object));
-    line.push_str(" ");
-    push_cell(line, sighting.cell);
+    push_word(text, Buffer::new().format(sighting.object));
+    push_cell(text, sighting.cell);
 }
 
 // O T X Y
-fn write_hit(line: &mut ReplyLine, hit: Hit)
-    requires { line.old.bytes ≡ [] }
-    ensures { line.new.bytes ≡ line_of (item.Hit hit) }
+fn write_hit(text: &mut Room, hit: Hit)
+    requires { length text.old.bytes ≤ 3984 }
+    ensures { text.new.bytes ≡ text.old.bytes ++ line_of (item.Hit hit) }
 {
     let mut digits = Buffer::new();
-    line.push_str(digits.format(hit.object));
-    line.push_str(" ");
-    line.push_str(digits.format(hit.instant));
-    line.push_str(" ");
-    push_cell(line, hit.cell);
+    push_word(text, digits.format(hit.object));
+    push_word(text, digits.format(hit.instant));
+    push_cell(text, hit.cell);
 }
 
 // O X Y D2
-fn write_near(line: &mut ReplyLine, near: Near)
-    requires { line.old.bytes ≡ [] }
-    ensures { line.new.bytes ≡ line_of (item.Near near) }
+fn write_near(text: &mut Room, near: Near)
+    requires { length text.old.bytes ≤ 3984 }
+    ensures { text.new.bytes ≡ text.old.bytes ++ line_of (item.Near near) }
 {
     let mut digits = Buffer::new();
-    line.push_str(digits.format(near.object));
-    line.push_str(" ");
-    line.push_str(digits.format(near.cell.x));
-    line.push_str(" ");
-    line.push_str(digits.format(near.cell.y));
-    line.push_str(" ");
-    line.push_str(digits.format(near.dist2));
-    line.push_str("\n");
+    push_word(text, digits.format(near.object));
+    push_word(text, digits.format(near.cell.x));
+    push_word(text, digits.format(near.cell.y));
+    text.push_str(digits.format(near.dist2));
+    text.push_str("\n");
 }
 
 // T XA YA XB YB
-fn write_meeting(line: &mut ReplyLine, meeting: Meeting)
-    requires { line.old.bytes ≡ [] }
-    ensures { line.new.bytes ≡ line_of (item.Meeting meeting) }
+fn write_meeting(text: &mut Room, meeting: Meeting)
+    requires { length text.old.bytes ≤ 3984 }
+    ensures { text.new.bytes ≡ text.old.bytes ++ line_of (item.Meeting meeting) }
 {
     let mut digits = Buffer::new();
-    line.push_str(digits.format(meeting.instant));
-    line.push_str(" ");
-    line.push_str(digits.format(meeting.left.x));
-    line.push_str(" ");
-    line.push_str(digits.format(meeting.left.y));
-    line.push_str(" ");
-    push_cell(line, meeting.right);
+    push_word(text, digits.format(meeting.instant));
+    push_word(text, digits.format(meeting.left.x));
+    push_word(text, digits.format(meeting.left.y));
+    push_cell(text, meeting.right);
 }

@@ -92,6 +92,7 @@ fn take_bytes<A: Meets, K: Sink, L: Ledger>(
 }
 
 // Answers the line that has come, and begins another.
+#[inline(always)]
 fn take_line<A: Meets, K: Sink, L: Ledger>(
     alloc: Global,
     answerer: A,

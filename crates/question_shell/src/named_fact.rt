@@ -1,7 +1,7 @@
-ghost use Rattle.std.specs.Prelude.{◌≡◌, ◌+◌, ◌++◌, ◌∷◌, [], IfNone, IfSome, drop, option_to_list};
+ghost use Rattle.std.specs.Prelude.{◌≡◌, ◌≤◌, ◌+◌, ◌++◌, ◌∷◌, [], IfNone, IfSome, drop, option_to_list, length};
 ghost use Rattle.question_shell.specs.Items.{fact_line, named_facts};
 
-use crate::reply::ReplyLine;
+use crate::held_text::{Room, push_word};
 use itoa::Buffer;
 use std::marker::Model;
 use track_types::Facts;
@@ -26,14 +26,13 @@ impl Model for NamedFact {
 impl NamedFact {
     // NAME N
     #[inline(always)]
-    pub(crate) fn write(&self, line: &mut ReplyLine)
-        requires { line.old.bytes ≡ [] }
-        ensures { line.new.bytes ≡ fact_line self.now }
+    pub(crate) fn write(&self, text: &mut Room)
+        requires { length text.old.bytes ≤ 3984 }
+        ensures { text.new.bytes ≡ text.old.bytes ++ fact_line self.now }
     {
-        line.push_str(self.name);
-        line.push_str(" ");
-        line.push_str(Buffer::new().format(self.number));
-        line.push_str("\n");
+        push_word(text, self.name);
+        text.push_str(Buffer::new().format(self.number));
+        text.push_str("\n");
     }
 }
 

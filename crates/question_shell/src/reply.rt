@@ -7,8 +7,11 @@ use crate::bad::Bad;
 use arrayvec::ArrayString;
 use itoa::Buffer;
 
-/// A line of a reply, with its line feed. The longest is that of `meet`, of 105 bytes.
-pub(crate) type ReplyLine = ArrayString<112>;
+/// No line of a reply is longer; that of `meet` has up to 105 bytes.
+pub(crate) const LONGEST_REPLY: usize = 112;
+
+/// A line of a reply, with its line feed.
+pub(crate) type ReplyLine = ArrayString<LONGEST_REPLY>;
 
 // ok N
 pub(crate) fn ok_line(count: u64) -> ReplyLine

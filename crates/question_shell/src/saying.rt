@@ -51,12 +51,9 @@ pub(crate) fn say_answer<W: Lazy<Item = Stop> + Drop, K: Sink, L: Ledger>(
         ≤ steps.old + reads_left W.left W.budget answer.old desk.old }
     ensures faults { SinkCounts K.Sink sink.old sink.new (is_err result ≡ true) }
 {
-    let mut line = ReplyLine::new();
     let mut count = 0u64;
     while let Some(item) = answer.draw(desk, steps) {
-        line.clear();
-        item.write(&mut line);
-        text.put(&line, sink)?;
+        text.put_item(&item, sink)?;
         count += 1;
     }
     text.put(&answer.last_line(count), sink)

@@ -1,6 +1,7 @@
 use Rattle.std.proofs.Common.{◌∙◌, ◌∷◌, [], ◌++◌, ap, refl, arith, length-append}
 use Rattle.std.proofs.lemmas.Result.{err_from_is_err_and}
 use Rattle.question_shell.specs.Drawing.{items_left, refusal_left}
+use Rattle.question_shell.specs.Items.{line_of}
 use Rattle.question_shell.specs.Reply.{last_line}
 use Rattle.question_shell.specs.Says.{voice}
 use Rattle.question_shell.proofs.DrawingLemmas.{cuts-next, gives-more, gives-nothing, says-next, told-last}
@@ -23,24 +24,24 @@ loop-item-preserved g c =
       done = read.done ++ c.in-Some.item ∷ [];
       gives = gives-more read.gives c.in-Some.ensures.gives;
       says = says-next (voice (g.K.Sink.said c.args.sink.now) c.args.text.now)
-          (voice (g.K.Sink.said c.loop-item.sink) c.loop-item.text) read.done c.in-Some.item c.write.new.line.bytes
-          c.write.ensures read.says (voice (g.K.Sink.said c.put.new.sink) c.put.new.self) c.in_ok-put.ensures.told;
+          (voice (g.K.Sink.said c.loop-item.sink) c.loop-item.text) read.done c.in-Some.item (line_of c.in-Some.item)
+          refl read.says (voice (g.K.Sink.said c.put_item.new.sink) c.put_item.new.self) c.in_ok-put_item.ensures.told;
       count = omega (arith, read.count, length-append read.done (c.in-Some.item ∷ []));
-      faults = c.in_ok-put.ensures.faults.untouched (λ failed. absurd (cc)) ∙ read.faults;
+      faults = c.in_ok-put_item.ensures.faults.untouched (λ failed. absurd (cc)) ∙ read.faults;
     }
 
-pub returns-in_err-put-clause-told : goal.returns-in_err-put-clause-told
-returns-in_err-put-clause-told g c =
+pub returns-in_err-put_item-clause-told : goal.returns-in_err-put_item-clause-told
+returns-in_err-put_item-clause-told g c =
     let exit = err_from_is_err_and c.from_residual.result c.from_residual.ensures.1 in
     let read = c.loop-item.invariant in
     let all = gives-more read.gives c.in-Some.ensures.gives in
     rw exit.1
     (cuts-next (voice (g.K.Sink.said c.args.sink.now) c.args.text.now)
-    (voice (g.K.Sink.said c.loop-item.sink) c.loop-item.text) read.done c.in-Some.item c.write.new.line.bytes
-    c.write.ensures read.says (g.K.Sink.said c.put.new.sink)
+    (voice (g.K.Sink.said c.loop-item.sink) c.loop-item.text) read.done c.in-Some.item (line_of c.in-Some.item)
+    refl read.says (g.K.Sink.said c.put_item.new.sink)
     (items_left g.W.Lazy.left g.W.Lazy.budget c.args.answer.now c.args.desk.now)
     (items_left g.W.Lazy.left g.W.Lazy.budget c.draw.new.self c.draw.new.desk) (refusal_left c.args.answer.now)
-    c.in_err-put.ensures.told all.items)
+    c.in_err-put_item.ensures.told all.items)
 
 pub returns-clause-told : goal.returns-clause-told
 returns-clause-told g c =
@@ -48,11 +49,11 @@ returns-clause-told g c =
     let last = c.in_default.ensures in
     let refusal = last.gives.refusal ∙ read.gives.refusal in
     told-last (voice (g.K.Sink.said c.args.sink.now) c.args.text.now)
-    (voice (g.K.Sink.said c.loop-item.sink) c.loop-item.text) (voice (g.K.Sink.said c.put-2.new.sink) c.put-2.new.self)
+    (voice (g.K.Sink.said c.loop-item.sink) c.loop-item.text) (voice (g.K.Sink.said c.put.new.sink) c.put.new.self)
     read.done (items_left g.W.Lazy.left g.W.Lazy.budget c.args.answer.now c.args.desk.now)
     (items_left g.W.Lazy.left g.W.Lazy.budget c.loop-item.answer c.loop-item.desk)
-    (refusal_left c.args.answer.now) c.last_line.result.bytes c.put-2.result read.gives.items
+    (refusal_left c.args.answer.now) c.last_line.result.bytes c.put.result read.gives.items
     (last.gives.items ∙ last.none.items)
     (c.last_line.ensures ∙ (ap (λ refusal. last_line refusal c.loop-item.count) refusal
     ∙ ap (last_line (refusal_left c.args.answer.now)) read.count))
-    read.says c.put-2.ensures.told
+    read.says c.put.ensures.told
