@@ -1,3 +1,6 @@
+ghost use Rattle.std.specs.Prelude.{◌≡◌, None, MatchOption, Some};
+ghost use Rattle.gract_cli.specs.About.{about_of};
+
 /// What `gract --version` prints.
 const VERSION: &str = "gract 0.1.0\n";
 
@@ -67,11 +70,13 @@ that differ in CELL, TICK or PERIOD, 9 two that have an object in common.
 ";
 
 /// The text that the command words ask for, if they are `--help` or `--version` alone.
-pub fn about_text(words: &[String]) -> Option<&'static str> {
+pub fn about_text(words: &[&str]) -> Option<&'static str>
+    ensures { MatchOption result (about_of words.now ≡ None) (λ text. about_of words.now ≡ Some text.now) }
+{
     let [word] = words else {
         return None;
     };
-    match word.as_str() {
+    match *word {
         "--help" => Some(HELP),
         "--version" => Some(VERSION),
         _ => None,

@@ -1,4 +1,5 @@
 use gract_top::Outcome;
+use std::alloc::Global;
 use std::env::FillError;
 use std::rt::Env;
 
@@ -25,6 +26,15 @@ pub fn command_words<R: Env + AllocGlobal>(rt: &R) -> Result<Vec<String>, Outcom
         }
     }
     Ok(words)
+}
+
+/// The words, each as a text.
+pub fn texts_of(alloc: Global, words: &[String]) -> Result<Vec<&str>, Outcome> {
+    words
+        .iter()
+        .map(|word| word.as_str())
+        .collect::<Vec<&str>>(alloc)
+        .map_err(|_| Outcome::Memory)
 }
 
 // The bytes of the word at a place, if there is one.

@@ -16,6 +16,7 @@ use Rattle.track_index.specs.Opening.{IsFile}
 use Rattle.gract_top.specs.Outcome.{EndsOpened, EndsOver, Talk}
 use Rattle.gract_top.specs.Beginning.{EndsLoading, SavesNothing}
 use Rattle.gract_top.specs.Ends.{AnswersChart, EndsBuild, EndsOnce, OutsideView, Saved, SavesChart, written}
+use Rattle.gract_top.specs.Loading.{BeginsFile}
 use Rattle.gract_top.specs.Refusal.{IsAccepted, is_early, is_bytes_refusal}
 use Rattle.gract_top.specs.declared.outcome.Outcome.{Outcome}
 use Rattle.gract_top.specs.declared.outcome.Outcome.TheVariants as outcome
@@ -41,14 +42,15 @@ is_early-refusal outcome.Memory refusal = refusal
 pub EndsLoading-loaded : {T : Type 0} (loaded : Result T Outcome) (value : T) (result : Outcome) (name : List ℕ)
     (kind : LimitKind) (before now : FilesState) → loaded ≡ Ok value →
     (IsMissing before.map name → loaded ≡ Err outcome.LoadFailed) → now.taken ≤ limit_of kind + 1 →
-    now.begins ≡ one_more before.begins → is_early result ≡ false →
+    now.begins ≡ one_more before.begins → BeginsFile name before.loads now.loads → is_early result ≡ false →
     ((size : ℕ) → is_early (outcome.Limit kind size) ≡ true) → EndsLoading result name kind before now
-EndsLoading-loaded loaded value result name kind before now is missing taken begins later early = record {
+EndsLoading-loaded loaded value result name kind before now is missing taken begins loads later early = record {
   one = record {
     load_failed = λ failed. absurd (false≢true (sym later ∙ ap is_early failed));
     missing = λ none. let failed = missing none in absurd (cc);
     taken = taken;
     begins = begins;
+    loads = loads;
   };
   too_long = λ size long. absurd (false≢true (sym later ∙ ap is_early long ∙ early size));
 }
@@ -56,7 +58,7 @@ EndsLoading-loaded loaded value result name kind before now is missing taken beg
 module _ (result : Outcome) (csv : List ℕ) (settings : Settings) (untouched : Type 0) (before now : OutsideView) where
   -- what the files gave for the bytes of a chart's index was opened and asked
   pub AnswersChart-passed : (chart : ChartView) (bytes passed : List ℕ) →
-      IsAccepted before.files.map now.files.taken csv settings chart → IsFile bytes (parts_of chart) →
+      IsAccepted before.files.map now.files.loads csv settings chart → IsFile bytes (parts_of chart) →
       length bytes < MAX_INDEX → passed ≡ before.given bytes →
       EndsOpened result passed untouched before.talk now.talk →
       ((parts : Parts) → IsFile passed parts → EndsOver result passed parts untouched before.talk now.talk) →
@@ -132,20 +134,22 @@ EndsBuild-late result csv index settings before now loading later saves = record
   unsaved = Saved-either index (written saves.chart) before now result saves.saved;
 }
 
--- what a save left of files in which only counts of loading had changed before
+-- what a save left of files that had only been loaded from before
 pub Saved-loaded : (result : Outcome) (index bytes spelled : List ℕ) (before loaded now : FilesState) →
-    Saved result index bytes loaded now → loaded.map ≡ before.map → loaded.saves ≡ before.saves → bytes ≡ spelled →
+    Saved result index bytes loaded now → SavesNothing before loaded → bytes ≡ spelled →
     Saved result index spelled before now
-Saved-loaded outcome.Done index bytes spelled before loaded now saved map saves is = rw (sym map, sym saves, sym is) saved
-Saved-loaded outcome.SaveFailed index bytes spelled before loaded now saved map saves is = rw (sym map, sym saves) saved
-Saved-loaded (outcome.Words place) index bytes spelled before loaded now saved map saves is = absurd (saved)
-Saved-loaded outcome.LoadFailed index bytes spelled before loaded now saved map saves is = absurd (saved)
-Saved-loaded (outcome.Limit kind value) index bytes spelled before loaded now saved map saves is = absurd (saved)
-Saved-loaded (outcome.Row nth field fault) index bytes spelled before loaded now saved map saves is = absurd (saved)
-Saved-loaded outcome.Empty index bytes spelled before loaded now saved map saves is = absurd (saved)
-Saved-loaded (outcome.Flaw flaw) index bytes spelled before loaded now saved map saves is = absurd (saved)
-Saved-loaded (outcome.Settings setting left right) index bytes spelled before loaded now saved map saves is = absurd (saved)
-Saved-loaded (outcome.Common object) index bytes spelled before loaded now saved map saves is = absurd (saved)
-Saved-loaded outcome.ListenFailed index bytes spelled before loaded now saved map saves is = absurd (saved)
-Saved-loaded outcome.SayFailed index bytes spelled before loaded now saved map saves is = absurd (saved)
-Saved-loaded outcome.Memory index bytes spelled before loaded now saved map saves is = absurd (saved)
+Saved-loaded outcome.Done index bytes spelled before loaded now saved unsaved is =
+    rw (sym unsaved.map, sym unsaved.saves, sym unsaved.saved, sym is) saved
+Saved-loaded outcome.SaveFailed index bytes spelled before loaded now saved unsaved is =
+    rw (sym unsaved.map, sym unsaved.saves, sym unsaved.saved) saved
+Saved-loaded (outcome.Words place) index bytes spelled before loaded now saved unsaved is = absurd (saved)
+Saved-loaded outcome.LoadFailed index bytes spelled before loaded now saved unsaved is = absurd (saved)
+Saved-loaded (outcome.Limit kind value) index bytes spelled before loaded now saved unsaved is = absurd (saved)
+Saved-loaded (outcome.Row nth field fault) index bytes spelled before loaded now saved unsaved is = absurd (saved)
+Saved-loaded outcome.Empty index bytes spelled before loaded now saved unsaved is = absurd (saved)
+Saved-loaded (outcome.Flaw flaw) index bytes spelled before loaded now saved unsaved is = absurd (saved)
+Saved-loaded (outcome.Settings setting left right) index bytes spelled before loaded now saved unsaved is = absurd (saved)
+Saved-loaded (outcome.Common object) index bytes spelled before loaded now saved unsaved is = absurd (saved)
+Saved-loaded outcome.ListenFailed index bytes spelled before loaded now saved unsaved is = absurd (saved)
+Saved-loaded outcome.SayFailed index bytes spelled before loaded now saved unsaved is = absurd (saved)
+Saved-loaded outcome.Memory index bytes spelled before loaded now saved unsaved is = absurd (saved)

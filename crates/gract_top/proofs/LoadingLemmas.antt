@@ -1,9 +1,10 @@
 -- What came of a file that is too long.
-use Rattle.std.proofs.Common.{◌≡◌, ◌+◌, ◌≤◌, ◌++◌, ℕ, Option, Some, None, length, List}
-use Rattle.std.proofs.Common.{sym, ◌∙◌, arith, append_assoc, length-append}
+use Rattle.std.proofs.Common.{◌≡◌, ◌+◌, ◌<◌, ◌≤◌, ◌++◌, ℕ, true, false, not, nat_lt, Option, Some, None, length, List, [], ◌∷◌}
+use Rattle.std.proofs.Common.{append-nil, take_all, refl, sym, ◌∙◌, arith, append_assoc, length-append}
 use Rattle.std.proofs.lemmas.Bool.Decides.{nat_tests}
 use Rattle.std.proofs.Math.Seq.{take-append_seam}
-use Rattle.std.specs.Io.KnownBytes.{Consumes, prepend_known}
+use Rattle.std.specs.Io.KnownBytes.{Consumes, IsAtEnd, prepend_known}
+use Rattle.history.specs.Loads.{Load, is_end}
 use Rattle.host_ports.specs.FileMap.{FileMap, IsOpened}
 use Rattle.track_types.specs.Limits.{limit_of}
 use Rattle.track_types.specs.declared.limit.LimitKind.{LimitKind}
@@ -27,21 +28,66 @@ module _ (name : List ℕ) (limit : ℕ) (before piece : List ℕ) (past : lengt
       let whole : opened.0 ≡ (before ++ piece) ++ left = grind (arith, append_assoc before piece left, opened.2, came) in
       (opened.0, opened.1, sym (rw (whole, sym past) (take-append_seam (before ++ piece) left)))
 
+-- a piece with a byte is no end
+piece-left : (piece : List ℕ) → 0 < length piece → is_end piece ≡ false
+piece-left [] some = absurd (omega (arith, some))
+piece-left (byte ∷ others) some = refl
+
+-- what is longer than its limit is not all of a file
+past-is : (limit : ℕ) (bytes : List ℕ) → limit < length bytes → not (nat_lt limit (length bytes)) ≡ false
+past-is limit bytes past = grind (arith, nat_tests, past)
+
+-- what is not longer is all of it
+short-is : (limit : ℕ) (bytes : List ℕ) → length bytes ≤ limit → not (nat_lt limit (length bytes)) ≡ true
+short-is limit bytes short = grind (arith, nat_tests, short)
+
 -- a file of which one byte more came than it may have is refused
-pub IsLengthRefused-past : (kind : LimitKind) (map : Option FileMap) (taken : ℕ) (name before piece : List ℕ)
-    (rest now : Option (List ℕ)) → IsOpened map name (prepend_known before rest) → Consumes rest now piece →
-    taken ≡ limit_of kind + 1 → length before + length piece ≡ taken →
-    IsLengthRefused kind map taken name (outcome.Limit kind (limit_of kind + 1))
-IsLengthRefused-past kind map taken name before piece rest now opened came counted past =
-    let all : length (before ++ piece) ≡ limit_of kind + 1 = omega (arith, length-append before piece, counted, past) in
+pub IsLengthRefused-past : (kind : LimitKind) (map : Option FileMap) (loads : List Load) (name before piece : List ℕ)
+    (older : List Load) (rest now : Option (List ℕ)) → IsOpened map name (prepend_known before rest) → Consumes rest now piece →
+    loads ≡ record { name = name; begun = true; bytes = before ++ piece; ended = is_end piece } ∷ older →
+    length before ≤ limit_of kind → length before + length piece ≡ limit_of kind + 1 →
+    IsLengthRefused kind map loads name (outcome.Limit kind (limit_of kind + 1))
+IsLengthRefused-past kind map loads name before piece older rest now opened came added within past =
+    let all : length (before ++ piece) ≡ limit_of kind + 1 = omega (arith, length-append before piece, past) in
     record {
       bytes = before ++ piece;
       came = record {
-        counted = counted ∙ sym all;
+        history = rw (
+          added,
+          piece-left piece (omega (arith, within, past)),
+          past-is (limit_of kind) (before ++ piece) (omega (arith, all)),
+        ) refl;
         held = HoldsFront-past name (limit_of kind) before piece all map rest now opened came;
       };
       refusal = grind (arith, nat_tests, all);
     }
+
+-- what came of an opened file until its end is all of it
+HoldsFront-all : (map : Option FileMap) (name : List ℕ) (limit : ℕ) (bytes piece : List ℕ) (rest now : Option (List ℕ)) →
+    length bytes ≤ limit → piece ≡ [] → IsOpened map name (prepend_known bytes rest) → Consumes rest now piece →
+    IsAtEnd now → HoldsFront map name limit bytes
+HoldsFront-all None name limit bytes piece rest now short empty opened came at_end = tt
+HoldsFront-all (Some files) name limit bytes piece None now short empty opened came at_end =
+    absurd (let none = opened.2 in cc)
+HoldsFront-all (Some files) name limit bytes piece (Some next) None short empty opened came at_end = absurd (came)
+HoldsFront-all (Some files) name limit bytes piece (Some next) (Some left) short empty opened came at_end =
+    let none : next ≡ [] = rw (came, empty) at_end in
+    let whole : opened.0 ≡ bytes = grind (arith, opened.2, none, append-nil bytes) in
+    (opened.0, opened.1, sym (rw whole (take_all (limit + 1) bytes (omega (arith, short)))))
+
+-- a file of which all came is loaded
+pub IsLoaded-end : (kind : LimitKind) (map : Option FileMap) (loads older : List Load) (name bytes piece : List ℕ)
+    (rest now : Option (List ℕ)) → length bytes ≤ limit_of kind → piece ≡ [] →
+    IsOpened map name (prepend_known bytes rest) → Consumes rest now piece → IsAtEnd now →
+    loads ≡ record { name = name; begun = true; bytes = bytes ++ piece; ended = is_end piece } ∷ older →
+    IsLoaded kind map loads name bytes
+IsLoaded-end kind map loads older name bytes piece rest now short empty opened came at_end added = record {
+  came = record {
+    history = rw (added, empty, append-nil bytes, short-is (limit_of kind) bytes short) refl;
+    held = HoldsFront-all map name (limit_of kind) bytes piece rest now short empty opened came at_end;
+  };
+  short = short;
+}
 
 -- a file that is not too long is not refused for its length
 pub length_refusal-short : (kind : LimitKind) (bytes : List ℕ) → length bytes ≤ limit_of kind →
@@ -49,10 +95,10 @@ pub length_refusal-short : (kind : LimitKind) (bytes : List ℕ) → length byte
 length_refusal-short kind bytes short = grind (arith, nat_tests, short)
 
 -- a file of which all bytes came is refused for its rows
-pub IsRefused-rows : (map : Option FileMap) (taken : ℕ) (csv bytes : List ℕ) (settings : Settings) (fault : RowsFault)
-    (cause : Outcome) → IsLoaded limit.Csv map taken csv bytes → csv_fault bytes ≡ Some fault →
-    rows_refusal (Some fault) (raws_of bytes) settings ≡ Some cause → IsRefused map taken csv settings cause
-IsRefused-rows map taken csv bytes settings fault cause loaded first answered = record {
+pub IsRefused-rows : (map : Option FileMap) (loads : List Load) (csv bytes : List ℕ) (settings : Settings) (fault : RowsFault)
+    (cause : Outcome) → IsLoaded limit.Csv map loads csv bytes → csv_fault bytes ≡ Some fault →
+    rows_refusal (Some fault) (raws_of bytes) settings ≡ Some cause → IsRefused map loads csv settings cause
+IsRefused-rows map loads csv bytes settings fault cause loaded first answered = record {
   bytes = bytes;
   came = loaded.came;
   refusal = rw (length_refusal-short limit.Csv bytes loaded.short, first) answered;

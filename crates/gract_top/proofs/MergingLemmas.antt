@@ -15,27 +15,35 @@ use Rattle.gract_top.proofs.EndsLemmas.{Saved-done, Saved-loaded}
 use Rattle.gract_top.specs.declared.outcome.Outcome.{Outcome}
 use Rattle.gract_top.specs.declared.outcome.Outcome.TheVariants as outcome
 
+-- nothing was saved twice
+unsaved-twice : (before between now : FilesState) → SavesNothing before between → SavesNothing between now →
+    SavesNothing before now
+unsaved-twice before between now one two = record {
+  map = two.map ∙ one.map;
+  saves = two.saves ∙ one.saves;
+  saved = two.saved ∙ one.saved;
+}
+
 module _ (result : Outcome) (first second : Parts) (left right name : List ℕ) (before between opened now : Progress) where
   -- a merge whose files were both opened ends as what was made of them ended
   pub EndsMerge-opened : OpensFile left first before between → OpensFile right second between opened →
       ((NotMerged result first second × SavesNothing opened.files now.files)
       ⊎ SavesUnion result first second name opened.files now.files) →
-      now.steps ≤ opened.steps + union_cost first second → now.files.taken ≡ opened.files.taken →
+      now.steps ≤ opened.steps + union_cost first second → now.files.loads ≡ opened.files.loads →
       now.files.begins ≡ opened.files.begins → EndsMerge result left right name before now
-  EndsMerge-opened one two ended cost taken begins =
-      let map = two.unsaved.map ∙ one.unsaved.map in
-      let saves = two.unsaved.saves ∙ one.unsaved.saves in
+  EndsMerge-opened one two ended cost loads begins =
+      let loaded = unsaved-twice before.files between.files opened.files one.unsaved two.unsaved in
       let merges : MergesParts result first second name before.files opened now = record {
         ended = elim ended [
-          | inl unsaved ↦ inl (unsaved.0, record { map = unsaved.1.map ∙ map; saves = unsaved.1.saves ∙ saves })
+          | inl unsaved ↦ inl (unsaved.0, unsaved-twice before.files opened.files now.files loaded unsaved.1)
           | inr union ↦ inr (record {
             merged = union.merged;
             saved = Saved-loaded result name (union_bytes first second) (union_bytes first second) before.files opened.files
-                now.files union.saved map saves refl;
+                now.files union.saved loaded refl;
           })
         ];
         cost = cost;
-        taken = taken;
+        loads = loads;
         begins = begins;
       } in
       inr (first, between, one, inr (second, opened, two, merges))

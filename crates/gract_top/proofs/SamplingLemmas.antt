@@ -2,7 +2,7 @@
 use Rattle.std.proofs.Common.{◌≡◌, ◌≢◌, ℕ, ◌+◌, ◌<◌, ◌≤◌, true, false, List, length, Option, None, Some, inl, inr, refl, sym, ap, ◌∙◌}
 use Rattle.std.proofs.Common.{Result, Ok, Err, IfOk, OnOk, OnErr, ◌⊎◌, subst, arith}
 use mathlib.Core.Bool.{false≢true}
-use Rattle.std.specs.Io.KnownBytes.{Appends}
+use Rattle.host_ports.specs.Histories.{Gains}
 use Rattle.track_types.specs.declared.limit.TheConstants.{MAX_INDEX}
 use Rattle.host_ports.specs.FilesState.{FilesState}
 use Rattle.track_types.specs.declared.parts.Parts.{Parts}
@@ -63,9 +63,9 @@ module _ (result : Outcome) (settings : SampleSettings) (unsaid : Type 0) (befor
       }
 
 -- what an outcome tells of a summary that was said, or why it was not
-pub Told-after : (said : Result (Unit {0}) TurnFault) (result : Outcome) (text : List ℕ) (before now : Option (List ℕ)) →
+pub Told-after : (said : Result (Unit {0}) TurnFault) (result : Outcome) (text : List ℕ) (before now : List ℕ) →
     IfOk said (λ _. result ≡ outcome.Done) → (said ≡ Err fault.Say → result ≡ outcome.SayFailed) →
-    (said ≡ Err fault.Memory → result ≡ outcome.Memory) → OnOk said (Appends before now text) →
+    (said ≡ Err fault.Memory → result ≡ outcome.Memory) → OnOk said (Gains before now text) →
     OnErr said (SaysFront before now text) → Told result text before now
 Told-after (Ok value) result text before now done say memory ok err =
     let Tells : Outcome → Type 0 = λ these. Told these text before now in subst Tells (sym done) ok

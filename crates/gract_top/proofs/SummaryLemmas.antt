@@ -4,7 +4,7 @@ use Rattle.std.proofs.Common.{IfErr, OnErr, None, refl, sym, ap, ◌∙◌, arit
 use Rattle.std.proofs.lemmas.List.{take-append-drop}
 use Rattle.std.proofs.lemmas.List.Sums.{sum_by-cons}
 use mathlib.Core.Bool.{false≢true}
-use Rattle.std.specs.Io.KnownBytes.{Appends}
+use Rattle.host_ports.specs.Histories.{Gains}
 use Rattle.std.specs.List.{sum_by}
 use Rattle.host_ports.specs.declared.fault.Cut.{Cut}
 use Rattle.question_shell.specs.Desk.{DeskView, budget_of, empty_desk, held_of}
@@ -14,7 +14,7 @@ use Rattle.question_shell.specs.SlotParts.{OfNoSlot, SlotPart, slot_part}
 use Rattle.question_shell.specs.Turns.{AnswerTold, moment}
 use Rattle.question_shell.specs.declared.turn_fault.TurnFault.{TurnFault}
 use Rattle.question_shell.specs.declared.turn_fault.TurnFault.TheVariants as fault
-use Rattle.question_shell.proofs.SaysLemmas.{Appends-append, Appends-nothing, Appends-says}
+use Rattle.question_shell.proofs.SaysLemmas.{Gains-append, Gains-nothing, Gains-says}
 use Rattle.question_shell.proofs.SlotLemmas.{own_cost-within}
 use Rattle.track_types.specs.Chart.{ChartView}
 use Rattle.track_types.specs.declared.facts.Facts.{Facts}
@@ -42,7 +42,7 @@ counted-cost cost desk asked counted =
     (sym (of-no-slot asked (slot_part asked) counted)) (own_cost-within cost asked)
 
 -- the reply to `info` was said, or a front of it
-module _ (meaning : Meaning) (said0 said : Option (List ℕ)) (desk : DeskView) (steps0 steps : ℕ) where
+module _ (meaning : Meaning) (said0 said : List ℕ) (desk : DeskView) (steps0 steps : ℕ) where
   abbrev info : List ℕ
   info = listed (found_by meaning.chart meaning.facts question.Info) None
 
@@ -64,11 +64,11 @@ module _ (meaning : Meaning) (said0 said : Option (List ℕ)) (desk : DeskView) 
   info-front fault.Memory told = absurd (false≢true told.takes)
 
 -- nothing of a text was said
-pub SaysFront-none : (said : Option (List ℕ)) (text : List ℕ) → SaysFront said said text
-SaysFront-none said text = record { front = []; unsaid = text; split = refl; said = Appends-nothing said }
+pub SaysFront-none : (said : List ℕ) (text : List ℕ) → SaysFront said said text
+SaysFront-none said text = record { front = []; unsaid = text; split = refl; said = Gains-nothing said }
 
 -- a front of a text is one of a longer text
-pub SaysFront-more : (before now : Option (List ℕ)) (text more : List ℕ) → SaysFront before now text →
+pub SaysFront-more : (before now : List ℕ) (text more : List ℕ) → SaysFront before now text →
     SaysFront before now (text ++ more)
 SaysFront-more before now text more says = record {
   front = says.front;
@@ -78,18 +78,18 @@ SaysFront-more before now text more says = record {
 }
 
 -- a front of a text was said after another text
-pub SaysFront-after : (before between now : Option (List ℕ)) (first second : List ℕ) → Appends before between first →
+pub SaysFront-after : (before between now : List ℕ) (first second : List ℕ) → Gains before between first →
     SaysFront between now second → SaysFront before now (first ++ second)
 SaysFront-after before between now first second one says = record {
   front = first ++ says.front;
   unsaid = says.unsaid;
   split = ap (λ text. first ++ text) says.split ∙ sym (append_assoc first says.front says.unsaid);
-  said = Appends-append before between now first says.front one says.said;
+  said = Gains-append before between now first says.front one says.said;
 }
 
 -- a piece that was cut
-pub SaysFront-cut : {T : Type 0} (result : Result T Cut) (before now : Option (List ℕ)) (piece : List ℕ) →
-    IfErr result (λ cut. Appends before now (take cut.sent piece)) → OnErr result (SaysFront before now piece)
+pub SaysFront-cut : {T : Type 0} (result : Result T Cut) (before now : List ℕ) (piece : List ℕ) →
+    IfErr result (λ cut. Gains before now (take cut.sent piece)) → OnErr result (SaysFront before now piece)
 SaysFront-cut (Ok value) before now piece said = tt
 SaysFront-cut (Err cut) before now piece said = record {
   front = take cut.sent piece;
@@ -103,7 +103,7 @@ module _ (chart : ChartView) (facts : Facts) (cost : Question → ℕ) where
   pub record IsCounting (all left : List Question) (before now : Speech) : Type 0 where
     pub done : List ℕ
     pub whole : counts_of chart facts all ≡ done ++ counts_of chart facts left
-    pub said : Appends before.said now.said done
+    pub said : Gains before.said now.said done
     pub reads : now.steps + sum_by cost left ≤ before.steps + sum_by cost all
 
   -- no line yet
@@ -111,13 +111,13 @@ module _ (chart : ChartView) (facts : Facts) (cost : Question → ℕ) where
   IsCounting-begun all here = record {
     done = [];
     whole = refl;
-    said = Appends-nothing here.said;
+    said = Gains-nothing here.said;
     reads = omega arith;
   }
 
   -- all lines
   pub IsCounting-done : (all left : List Question) (before now : Speech) → IsCounting all left before now → left ≡ [] →
-      Appends before.said now.said (counts_of chart facts all)
+      Gains before.said now.said (counts_of chart facts all)
   unfolding counts_of
   IsCounting-done all left before now counting none =
       let whole : counts_of chart facts all ≡ counting.done = counting.whole ∙ rw none (append-nil counting.done) in
@@ -136,17 +136,17 @@ module _ (chart : ChartView) (facts : Facts) (cost : Question → ℕ) where
 
       -- the line of one question more was said
       pub IsCounting-next : (after : Speech) → after.steps ≤ now.steps + cost asked →
-          Appends now.said after.said (ok_line count) → IsCounting all rest before after
+          Gains now.said after.said (ok_line count) → IsCounting all rest before after
       IsCounting-next after read says = record {
         done = counting.done ++ ok_line count;
         whole = whole-next;
-        said = Appends-append before.said now.said after.said counting.done (ok_line count) counting.said says;
+        said = Gains-append before.said now.said after.said counting.done (ok_line count) counting.said says;
         reads = let sums = ap (sum_by cost) cut ∙ sum_by-cons cost asked rest in
             omega (arith, counting.reads, read, sums);
       }
 
       -- it was cut
-      pub IsCounting-cut : (after : Option (List ℕ)) → SaysFront now.said after (ok_line count) →
+      pub IsCounting-cut : (after : List ℕ) → SaysFront now.said after (ok_line count) →
           SaysFront before.said after (counts_of chart facts all)
       IsCounting-cut after says = rw whole-next (SaysFront-more before.said after (counting.done ++ ok_line count)
           (counts_of chart facts rest)

@@ -4,6 +4,7 @@ use Rattle.std.proofs.Common.{inl, inr, refl, sym, ap, ◌∙◌, subst, arith}
 use Rattle.std.proofs.lemmas.Bool.{cases_Bool}
 use Rattle.std.proofs.lemmas.Bool.Decides.{nat_tests}
 use mathlib.Core.Bool.{false≢true}
+use Rattle.history.specs.Loads.{Load}
 use Rattle.host_ports.specs.FileMap.{FileMap, IsMissing}
 use Rattle.host_ports.specs.FilesState.{FilesState}
 use Rattle.host_ports.specs.Faults.{Rose}
@@ -38,13 +39,13 @@ bytes_cost-file bytes parts file =
 
 -- the lines were answered over an index and a tail that were joined
 pub AnswersTailed-joined : (result : Outcome) (parts : Parts) (csv : List ℕ) (untouched : Type 0) (map : Option FileMap)
-    (taken : ℕ) (before now : Talk) (tail : Option ChartView) (settings : Settings) (asked joined : TailedView) →
-    is_early result ≡ false → settings ≡ settings_in parts → IsTail map taken csv settings tail → asked ≡ joined →
+    (loads : List Load) (before now : Talk) (tail : Option ChartView) (settings : Settings) (asked joined : TailedView) →
+    is_early result ≡ false → settings ≡ settings_in parts → IsTail map loads csv settings tail → asked ≡ joined →
     joined ≡ record { parts = parts; tail = tail } →
     AnswersSource result untouched (tailed_meaning asked.parts asked.tail) before now →
-    AnswersTailed result parts csv untouched map taken before now
-AnswersTailed-joined result parts csv untouched map taken before now tail settings asked joined late by is same both answers =
-    let Is : Settings → Type 0 = λ these. IsTail map taken csv these tail in
+    AnswersTailed result parts csv untouched map loads before now
+AnswersTailed-joined result parts csv untouched map loads before now tail settings asked joined late by is same both answers =
+    let Is : Settings → Type 0 = λ these. IsTail map loads csv these tail in
     let Over : TailedView → Type 0 = λ these. AnswersSource result untouched (tailed_meaning these.parts these.tail) before now in
     record { late = late; tail = tail; is_tail = subst Is by is; answers = subst Over (same ∙ both) answers }
 
@@ -60,13 +61,13 @@ module _ (result : Outcome) (index csv : List ℕ) (untouched : Type 0) (files_b
     pub EndsAskTail-opened : (parts : Parts) (between : Progress) →
         OpensFile index parts (progress files_before before.steps) between →
         EndsLoading result csv limit.Csv between.files files_now →
-        EndsTailed result parts csv untouched between.files.map files_now.taken (record before { steps = between.steps }) now →
-        files_now.map ≡ between.files.map → files_now.saves ≡ between.files.saves →
+        EndsTailed result parts csv untouched between.files.map files_now.loads (record before { steps = between.steps }) now →
+        files_now.map ≡ between.files.map → files_now.saves ≡ between.files.saves → files_now.saved ≡ between.files.saved →
         EndsAskTail result index csv untouched files_before files_now before now
-    EndsAskTail-opened parts between opens loading ended map saves =
+    EndsAskTail-opened parts between opens loading ended map saves files =
         let same : bytes_cost opens.bytes ≡ open_cost parts = bytes_cost-file opens.bytes parts opens.file in
         record {
-          unsaved = record { map = map ∙ opens.unsaved.map; saves = saves ∙ opens.unsaved.saves };
+          unsaved = record { map = map ∙ opens.unsaved.map; saves = saves ∙ opens.unsaved.saves; saved = files ∙ opens.unsaved.saved };
           ended = inr (record {
             parts = parts;
             between = between;
@@ -87,12 +88,12 @@ tail-short bytes settings accepted = elim (cases_Bool (nat_lt (limit_of limit.Cs
 ]
 
 -- a tail that is there and accepted, or has no row, is not refused
-tail-kept : (map : Option FileMap) (taken : ℕ) (csv : List ℕ) (settings : Settings) (cause : Outcome) →
-    HasTail map csv settings → HasNoTail cause map taken csv settings → is_bytes_refusal cause ≡ true → ⊥
-tail-kept map taken csv settings cause ready none refusal =
+tail-kept : (map : Option FileMap) (loads : List Load) (csv : List ℕ) (settings : Settings) (cause : Outcome) →
+    HasTail map csv settings → HasNoTail cause map loads csv settings → is_bytes_refusal cause ≡ true → ⊥
+tail-kept map loads csv settings cause ready none refusal =
     let refused = none.refused refusal in
     let same : refused.bytes ≡ ready.bytes =
-    came-whole map ready.files taken csv ready.bytes (limit_of limit.Csv) refused.bytes ready.told ready.holds
+    came-whole map ready.files loads csv ready.bytes (limit_of limit.Csv) refused.bytes ready.told ready.holds
     (tail-short ready.bytes settings ready.accepted) refused.came in
     let is : file_refusal ready.bytes settings ≡ Some cause =
     ap (λ bytes. file_refusal bytes settings) (sym same) ∙ refused.refusal in
@@ -124,21 +125,21 @@ module _ (result : Outcome) (index csv : List ℕ) (untouched : Type 0) (files_b
         ])
         save listen say
         (λ refusal. elim asks.ended [
-          | inl none ↦ tail-kept asks.between.files.map files_now.taken csv (settings_in asks.parts) result held none.0 refusal
+          | inl none ↦ tail-kept asks.between.files.map files_now.loads csv (settings_in asks.parts) result held none.0 refusal
           | inr answers ↦ false≢true (sym answers.late ∙ is_early-refusal result refusal)
         ])
         (λ flaw is. elim asks.ended [
           | inl none ↦ false≢true (sym none.0.early ∙ ap is_late is)
           | inr answers ↦
               let Over : Outcome → Type 0 = λ other. AnswersTailed other asks.parts csv untouched asks.between.files.map
-              files_now.taken (record before { steps = asks.between.steps }) now in
+              files_now.loads (record before { steps = asks.between.steps }) now in
               (subst Over is answers).answers.answered
         ])
         (λ value is. elim asks.ended [
           | inl none ↦ false≢true (sym none.0.early ∙ ap is_late is)
           | inr answers ↦
               let Over : Outcome → Type 0 = λ other. AnswersTailed other asks.parts csv untouched asks.between.files.map
-              files_now.taken (record before { steps = asks.between.steps }) now in
+              files_now.loads (record before { steps = asks.between.steps }) now in
               let first = (subst Over is answers).answers.answered.1 in
               questions-short before.rest now.rest first.bytes lines first.came.consumed first.past
         ])
@@ -146,14 +147,14 @@ module _ (result : Outcome) (index csv : List ℕ) (untouched : Type 0) (files_b
           | inl none ↦ false≢true (sym none.0.early ∙ ap is_late is)
           | inr answers ↦
               let Over : Outcome → Type 0 = λ other. AnswersTailed other asks.parts csv untouched asks.between.files.map
-              files_now.taken (record before { steps = asks.between.steps }) now in
+              files_now.loads (record before { steps = asks.between.steps }) now in
               (subst Over is answers).answers.answered
         ])
         (λ object is. elim asks.ended [
           | inl none ↦ false≢true (sym none.0.early ∙ ap is_late is)
           | inr answers ↦
               let Over : Outcome → Type 0 = λ other. AnswersTailed other asks.parts csv untouched asks.between.files.map
-              files_now.taken (record before { steps = asks.between.steps }) now in
+              files_now.loads (record before { steps = asks.between.steps }) now in
               (subst Over is answers).answers.answered
         ])
 

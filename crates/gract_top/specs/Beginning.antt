@@ -10,6 +10,7 @@ use Rattle.track_types.specs.declared.limit.LimitKind.{LimitKind}
 use Rattle.track_types.specs.declared.limit.LimitKind.TheVariants as limit
 use Rattle.track_types.specs.declared.parts.Parts.{Parts}
 use Rattle.track_index.specs.Opening.{bytes_cost, first_flaw, IsFile}
+use Rattle.gract_top.specs.Loading.{BeginsFile}
 use Rattle.gract_top.specs.Refusal.{IsIndexLoaded, IsLengthRefused}
 use Rattle.gract_top.specs.declared.outcome.Outcome.{Outcome}
 use Rattle.gract_top.specs.declared.outcome.Outcome.TheVariants as outcome
@@ -18,6 +19,7 @@ use Rattle.gract_top.specs.declared.outcome.Outcome.TheVariants as outcome
 pub record SavesNothing (before now : FilesState) : Type 0 where
   pub map : now.map ≡ before.map
   pub saves : now.saves ≡ before.saves
+  pub saved : now.saved ≡ before.saved
 
 -- What a call tells of the file that it begins, whose length has a limit: no other file is begun.
 pub record BeginsOne (result : Outcome) (name : List ℕ) (kind : LimitKind) (before now : FilesState) : Type 0 where
@@ -28,6 +30,7 @@ pub record BeginsOne (result : Outcome) (name : List ℕ) (kind : LimitKind) (be
   -- no byte of the file beyond its limit and one is asked for
   pub taken : now.taken ≤ limit_of kind + 1
   pub begins : now.begins ≡ one_more before.begins
+  pub loads : BeginsFile name before.loads now.loads
 
 -- The same, where the length of that file is all that has this limit.
 pub record EndsLoading (result : Outcome) (name : List ℕ) (kind : LimitKind) (before now : FilesState) : Type 0 where
@@ -39,7 +42,7 @@ pub record EndsLoading (result : Outcome) (name : List ℕ) (kind : LimitKind) (
 abbrev pub NotLoaded : Outcome → LimitKind → List ℕ → FilesState → FilesState → Type 0
 NotLoaded outcome.LoadFailed kind name before now = ⊤
 NotLoaded outcome.Memory kind name before now = ⊤
-NotLoaded other kind name before now = IsLengthRefused kind before.map now.taken name other
+NotLoaded other kind name before now = IsLengthRefused kind before.map now.loads name other
 
 -- Why the bytes of a file were not opened: out of memory, or for their first flaw.
 abbrev pub NotOpened : Outcome → List ℕ → Type 0
@@ -58,7 +61,7 @@ progress files steps = record { files = files; steps = steps }
 -- All of an index file was loaded, but its bytes were not opened.
 pub record StopsUnopened (result : Outcome) (name : List ℕ) (before now : Progress) : Type 0 where
   pub bytes : List ℕ
-  pub loaded : IsIndexLoaded before.files.map now.files.taken name bytes
+  pub loaded : IsIndexLoaded before.files.map now.files.loads name bytes
   pub unopened : NotOpened result bytes
   pub cost : now.steps ≤ before.steps + bytes_cost bytes
 
@@ -74,10 +77,11 @@ pub record StopsAtIndex (result : Outcome) (name : List ℕ) (before now : Progr
 -- No device failed, and nothing was saved.
 pub record OpensFile (name : List ℕ) (parts : Parts) (before now : Progress) : Type 0 where
   pub bytes : List ℕ
-  pub loaded : IsIndexLoaded before.files.map now.files.taken name bytes
+  pub loaded : IsIndexLoaded before.files.map now.files.loads name bytes
   pub file : IsFile bytes parts
   pub cost : now.steps ≤ before.steps + bytes_cost bytes
   pub begins : now.files.begins ≡ one_more before.files.begins
+  pub loads : BeginsFile name before.files.loads now.files.loads
   pub unsaved : SavesNothing before.files now.files
   pub load_faults : now.files.load_faults ≡ before.files.load_faults
   pub save_faults : now.files.save_faults ≡ before.files.save_faults

@@ -1,5 +1,5 @@
 -- How a call ends, by its command: what came of the file that it loads, what was saved, and what was answered.
-use Rattle.std.specs.Prelude.{◌≡◌, ◌≢◌, ℕ, ◌+◌, ◌*◌, ◌≤◌, ⊤, true, List, length, None, ◌⊎◌}
+use Rattle.std.specs.Prelude.{◌≡◌, ◌≢◌, ℕ, ◌+◌, ◌*◌, ◌≤◌, ⊤, true, List, ◌∷◌, length, None, ◌⊎◌}
 use Rattle.host_ports.specs.FileMap.{IsSaved, KeepsOthers}
 use Rattle.host_ports.specs.FilesState.{FilesState, IsPlain}
 use Rattle.host_ports.specs.Meanings.{files_at}
@@ -54,7 +54,7 @@ StaysSilent untouched before now = untouched × (now.talk.steps ≡ before.talk.
 pub record AnswersChart (result : Outcome) (csv : List ℕ) (settings : Settings) (untouched : Type 0)
     (before now : OutsideView) : Type 0 where
   pub chart : ChartView
-  pub accepted : IsAccepted before.files.map now.files.taken csv settings chart
+  pub accepted : IsAccepted before.files.map now.files.loads csv settings chart
   pub ended : EndsOpened result (before.given (written chart)) untouched before.talk now.talk
   pub plain : IsPlain before.given → EndsOver result (written chart) (parts_of chart) untouched before.talk now.talk
 
@@ -64,7 +64,7 @@ pub record EndsOnce (result : Outcome) (csv : List ℕ) (settings : Settings) (u
   pub loading : EndsLoading result csv limit.Csv before.files now.files
   pub unsaved : SavesNothing before.files now.files
   -- the file was refused for its bytes
-  pub refused : is_bytes_refusal result ≡ true → IsRefused before.files.map now.files.taken csv settings result
+  pub refused : is_bytes_refusal result ≡ true → IsRefused before.files.map now.files.loads csv settings result
   pub early : is_early result ≡ true → StaysSilent untouched before now
   -- the file was accepted
   pub late : is_late result ≡ true → AnswersChart result csv settings untouched before now
@@ -72,19 +72,21 @@ pub record EndsOnce (result : Outcome) (csv : List ℕ) (settings : Settings) (u
   pub memory : result ≡ outcome.Memory →
       StaysSilent untouched before now ⊎ AnswersChart result csv settings untouched before now
 
--- What a save left: that name holds the bytes, or anything after a failure. The other names hold what they held.
+-- What a save left: that name holds the bytes, which were handed over, or anything after a failure. The other names hold
+-- what they held, and nothing else was handed over.
 abbrev pub Saved : Outcome → List ℕ → List ℕ → FilesState → FilesState → Type 0
 Saved outcome.Done index bytes before now =
     IsSaved now.map index bytes × KeepsOthers before.map now.map index × (now.saves ≡ one_more before.saves)
+    × (now.saved ≡ (index, bytes) ∷ before.saved)
 Saved outcome.SaveFailed index bytes before now =
-    KeepsOthers before.map now.map index × (now.saves ≡ one_more before.saves)
+    KeepsOthers before.map now.map index × (now.saves ≡ one_more before.saves) × (now.saved ≡ before.saved)
 Saved other index bytes before now = ⊥
 
 -- The CSV file was accepted, and the bytes of its index were saved, or the save failed.
 pub record SavesChart (result : Outcome) (csv index : List ℕ) (settings : Settings) (before now : FilesState) :
     Type 0 where
   pub chart : ChartView
-  pub accepted : IsAccepted before.map now.taken csv settings chart
+  pub accepted : IsAccepted before.map now.loads csv settings chart
   pub saved : Saved result index (written chart) before now
 
 -- How a call of `build` ends.
@@ -92,7 +94,7 @@ pub record EndsBuild (result : Outcome) (csv index : List ℕ) (settings : Setti
     Type 0 where
   pub loading : EndsLoading result csv limit.Csv before now
   -- the file was refused for its bytes
-  pub refused : is_bytes_refusal result ≡ true → IsRefused before.map now.taken csv settings result
+  pub refused : is_bytes_refusal result ≡ true → IsRefused before.map now.loads csv settings result
   -- the file was accepted
   pub late : is_late result ≡ true → SavesChart result csv index settings before now
   pub unsaved : result ≢ outcome.Done → result ≢ outcome.SaveFailed → SavesNothing before now
@@ -100,7 +102,7 @@ pub record EndsBuild (result : Outcome) (csv index : List ℕ) (settings : Setti
 -- The index file was loaded, opened and asked.
 pub record AnswersFile (result : Outcome) (index : List ℕ) (untouched : Type 0) (before now : OutsideView) : Type 0 where
   pub bytes : List ℕ
-  pub loaded : IsIndexLoaded before.files.map now.files.taken index bytes
+  pub loaded : IsIndexLoaded before.files.map now.files.loads index bytes
   pub ended : EndsOpened result bytes untouched before.talk now.talk
 
 -- How a call of `ask` ends.
@@ -109,7 +111,7 @@ pub record EndsAsk (result : Outcome) (index : List ℕ) (untouched : Type 0) (b
   pub unsaved : SavesNothing before.files now.files
   pub given : now.given ≡ before.given
   -- the file was refused for its length
-  pub refused : is_bytes_refusal result ≡ true → IsIndexRefused before.files.map now.files.taken index result
+  pub refused : is_bytes_refusal result ≡ true → IsIndexRefused before.files.map now.files.loads index result
   pub early : is_early result ≡ true → StaysSilent untouched before now
   -- the file was loaded
   pub late : is_late result ≡ true → AnswersFile result index untouched before now
@@ -128,7 +130,7 @@ pub record SavesUpgrade (result : Outcome) (bytes name : List ℕ) (before now :
 pub record UpgradesFile (result : Outcome) (index name : List ℕ) (before now : FilesState) (steps_before steps_now : ℕ) :
     Type 0 where
   pub bytes : List ℕ
-  pub loaded : IsIndexLoaded before.map now.taken index bytes
+  pub loaded : IsIndexLoaded before.map now.loads index bytes
   pub ended : (NotUpgraded result bytes × SavesNothing before now) ⊎ SavesUpgrade result bytes name before now
   pub cost : steps_now ≤ steps_before + 2 * bytes_cost bytes
 
@@ -151,7 +153,7 @@ pub record MergesParts (result : Outcome) (left right : Parts) (name : List ℕ)
   pub ended : (NotMerged result left right × SavesNothing before now.files)
       ⊎ SavesUnion result left right name before now.files
   pub cost : now.steps ≤ opened.steps + union_cost left right
-  pub taken : now.files.taken ≡ opened.files.taken
+  pub loads : now.files.loads ≡ opened.files.loads
   pub begins : now.files.begins ≡ opened.files.begins
 
 -- How a call of `merge` ends: at the first file, else at the second, else over what both hold. The second file is begun

@@ -1,5 +1,5 @@
 -- What an outcome tells of what came, what was said and what was read.
-use Rattle.std.specs.Prelude.{◌≡◌, ℕ, ◌+◌, ◌≤◌, List, Option, Some, ◌⊎◌}
+use Rattle.std.specs.Prelude.{◌≡◌, ℕ, ◌+◌, ◌≤◌, Bool, List, Option, Some, ◌⊎◌}
 use Rattle.host_ports.specs.declared.sink.Sink.{Ghosts as OfSink}
 use Rattle.host_ports.specs.declared.source.Source.{Ghosts as OfSource}
 use Rattle.track_types.specs.Limits.{limit_of}
@@ -16,22 +16,31 @@ use Rattle.gract_top.specs.Cost.{question_cost}
 use Rattle.gract_top.specs.declared.outcome.Outcome.{Outcome}
 use Rattle.gract_top.specs.declared.outcome.Outcome.TheVariants as outcome
 
--- What is known of a source and a sink at a moment: the bytes still to come, how many came, what was said, and how many
--- reads were counted.
+-- What is known of a source and a sink at a moment: the bytes still to come, those that came, whether the source ended,
+-- how many bytes came, what was said, and how many reads were counted.
 pub record Talk : Type 0 where
   pub rest : Option (List ℕ)
+  pub came : List ℕ
+  pub ended : Bool
   pub taken : ℕ
-  pub said : Option (List ℕ)
+  pub said : List ℕ
   pub steps : ℕ
 
 -- what is known of this source and this sink, by the meanings of their traits
 abbrev pub talk_of : {S K : Type 0} → OfSource S → OfSink K → S → K → ℕ → Talk
 talk_of s k source sink steps =
-    record { rest = s.rest source; taken = s.taken source; said = k.said sink; steps = steps }
+    record {
+      rest = s.rest source;
+      came = s.came source;
+      ended = s.ended source;
+      taken = s.taken source;
+      said = k.said sink;
+      steps = steps;
+    }
 
 -- a moment at which a desk is held
 abbrev pub run_at : Talk → DeskView → Run
-run_at here desk = run_of here.rest here.taken here.said desk here.steps
+run_at here desk = run_of here.rest here.came here.ended here.taken here.said desk here.steps
 
 -- Which lines were answered: all, the whole ones that came, a front of the replies, those within the limit, or those
 -- before one that wanted memory, unless that was wanted before the first question.

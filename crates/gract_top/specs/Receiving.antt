@@ -1,5 +1,6 @@
 -- What came of a CSV file as rows that are gridded.
 use Rattle.std.specs.Prelude.{ℕ, List, [], Option}
+use Rattle.history.specs.Loads.{Load}
 use Rattle.host_ports.specs.FileMap.{FileMap}
 use Rattle.track_types.specs.declared.limit.LimitKind.TheVariants as limit
 use Rattle.track_types.specs.declared.raw_row.RawRow.{RawRow}
@@ -28,8 +29,8 @@ pub record AreGriddedRowsOf (cell tick : ℕ) (bytes : List ℕ) (rows : Gridded
   pub gridded : HasGridded cell tick raws rows
 
 -- The bytes that came of the CSV file are accepted, and their rows were gridded.
-pub record HasGriddedRows (map : Option FileMap) (taken : ℕ) (csv : List ℕ) (settings : Settings) (rows : GriddedRows) :
+pub record HasGriddedRows (map : Option FileMap) (loads : List Load) (csv : List ℕ) (settings : Settings) (rows : GriddedRows) :
     Type 0 where
   pub bytes : List ℕ
-  pub loaded : IsLoaded limit.Csv map taken csv bytes
+  pub loaded : IsLoaded limit.Csv map loads csv bytes
   pub gridded : AreGriddedRowsOf settings.cell settings.tick bytes rows

@@ -1,6 +1,6 @@
 -- How a call of `sample` ends.
 use Rattle.std.specs.Prelude.{◌≡◌, ℕ, ◌+◌, ◌*◌, ◌≤◌, true, false, nat_lt, if◌then◌else◌, List, ◌++◌, Option, Some, None, ◌⊎◌}
-use Rattle.std.specs.Io.KnownBytes.{Appends}
+use Rattle.host_ports.specs.Histories.{Gains}
 use Rattle.host_ports.specs.FilesState.{FilesState, IsPlain}
 use Rattle.track_types.specs.Chart.{ChartView}
 use Rattle.track_types.specs.Limits.{limit_of}
@@ -36,23 +36,23 @@ sample_refusal settings =
 
 -- What is known of a sink at a moment, and how many reads were counted.
 pub record Speech : Type 0 where
-  pub said : Option (List ℕ)
+  pub said : List ℕ
   pub steps : ℕ
 
 -- what is known, put together
-abbrev pub speech : Option (List ℕ) → ℕ → Speech
+abbrev pub speech : List ℕ → ℕ → Speech
 speech said steps = record { said = said; steps = steps }
 
 -- A front of a text was said.
-pub record SaysFront (before now : Option (List ℕ)) (text : List ℕ) : Type 0 where
+pub record SaysFront (before now : List ℕ) (text : List ℕ) : Type 0 where
   pub front : List ℕ
   pub unsaid : List ℕ
   pub split : text ≡ front ++ unsaid
-  pub said : Appends before now front
+  pub said : Gains before now front
 
 -- What an outcome tells of a text: all of it was said, or a front of it.
-abbrev pub Told : Outcome → List ℕ → Option (List ℕ) → Option (List ℕ) → Type 0
-Told outcome.Done text before now = Appends before now text
+abbrev pub Told : Outcome → List ℕ → List ℕ → List ℕ → Type 0
+Told outcome.Done text before now = Gains before now text
 Told outcome.SayFailed text before now = SaysFront before now text
 Told outcome.Memory text before now = SaysFront before now text
 Told other text before now = ⊥

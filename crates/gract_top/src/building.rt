@@ -50,6 +50,7 @@ pub(crate) fn save_as<F: Files>(files: &mut F, index: &str, bytes: &[u8]) -> Out
     ensures unheard { result ≢ Outcome.ListenFailed }
     ensures unsaid { result ≢ Outcome.SayFailed }
     ensures save_faults { SaveCounts F.Files files.old files.new (result ≡ Outcome.SaveFailed) }
+    ensures loads { F.loads files.new ≡ F.loads files.old }
     ensures taken { F.taken files.new ≡ F.taken files.old }
     ensures load_faults { F.load_faults files.new ≡ F.load_faults files.old }
     ensures begins { F.begins files.new ≡ F.begins files.old }

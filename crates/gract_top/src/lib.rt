@@ -6,7 +6,7 @@
 //! the chart gives. Or it makes a sample's rows and says a summary of their index. Files, source and
 //! sink are handed in, so the call's contract can speak of all that came, was saved and was said.
 //! The crate stands on row_reader, gridding, sample_rows, chart_parts, snapshots, index_format,
-//! track_index, live_tail, index_merge, encounter, question_shell, host_ports, track_types, step_count,
+//! track_index, live_tail, index_merge, encounter, question_shell, host_ports, history, track_types, step_count,
 //! list_laws,
 //! arrayvec and itoa.
 #![tactic(auto)]
@@ -30,8 +30,6 @@ mod rows_receiver;
 mod sampling;
 mod summarizing;
 mod tail_asking;
-#[cfg(test)]
-mod tests;
 mod upgrading;
 
 pub use commands::gract;

@@ -67,6 +67,7 @@ fn save_union<F: Files, L: Ledger>(
     ensures unsaid { result ≢ Outcome.SayFailed }
     ensures loaded { result ≢ Outcome.LoadFailed }
     ensures save_faults { SaveCounts F.Files files.old files.new (result ≡ Outcome.SaveFailed) }
+    ensures loads { F.loads files.new ≡ F.loads files.old }
     ensures taken { F.taken files.new ≡ F.taken files.old }
     ensures load_faults { F.load_faults files.new ≡ F.load_faults files.old }
     ensures begins { F.begins files.new ≡ F.begins files.old }

@@ -1,5 +1,5 @@
 ghost use Rattle.std.specs.Prelude.{true, is_err, ◌≡◌, ◌+◌, ◌≤◌, All, Err, OnOk, OnErr};
-ghost use Rattle.std.specs.Io.KnownBytes.{Appends};
+ghost use Rattle.host_ports.specs.Histories.{Gains};
 ghost use Rattle.std.specs.List.{sum_by};
 ghost use Rattle.host_ports.specs.Counting.{SinkCounts};
 ghost use Rattle.question_shell.specs.Desk.{budget_of, empty_desk, held_of};
@@ -28,7 +28,7 @@ pub(crate) fn say_summary<A: Meets, K: Sink, L: Ledger>(
     steps: &mut Steps<L>,
 ) -> Result<(), TurnFault>
     requires { 1 ≤ instants }
-    ensures ok { OnOk result (Appends (K.said sink.old) (K.said sink.new)
+    ensures ok { OnOk result (Gains (K.said sink.old) (K.said sink.new)
         (summary_of (A.chart answerer) (A.facts answerer) instants)) }
     ensures err { OnErr result (SaysFront (K.said sink.old) (K.said sink.new)
         (summary_of (A.chart answerer) (A.facts answerer) instants)) }
@@ -54,7 +54,7 @@ fn say_counts<A: Meets, K: Sink, L: Ledger>(
 ) -> Result<(), TurnFault>
     requires counted { All IsSlotless questions.now }
     requires empty { held_of desk.old ≡ held_of empty_desk }
-    ensures ok { OnOk result (Appends (K.said sink.old) (K.said sink.new)
+    ensures ok { OnOk result (Gains (K.said sink.old) (K.said sink.new)
         (counts_of (A.chart answerer) (A.facts answerer) questions.now)) }
     ensures err { OnErr result (SaysFront (K.said sink.old) (K.said sink.new)
         (counts_of (A.chart answerer) (A.facts answerer) questions.now)) }
@@ -75,7 +75,7 @@ fn say_counts<A: Meets, K: Sink, L: Ledger>(
 
 // Says the last line of a reply that has so many lines before it.
 fn say_count<K: Sink>(count: u64, sink: &mut K) -> Result<(), Cut>
-    ensures ok { OnOk result (Appends (K.said sink.old) (K.said sink.new) (ok_line count)) }
+    ensures ok { OnOk result (Gains (K.said sink.old) (K.said sink.new) (ok_line count)) }
     ensures err { OnErr result (SaysFront (K.said sink.old) (K.said sink.new) (ok_line count)) }
     ensures faults { SinkCounts K.Sink sink.old sink.new (is_err result ≡ true) }
 {

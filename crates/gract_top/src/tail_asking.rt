@@ -71,7 +71,7 @@ fn ask_opened<F: Files, S: Source, K: Sink, L: Ledger>(
     ensures loading { EndsLoading result tail.now LimitKind.Csv
         (files_at F.Files files.old) (files_at F.Files files.new) }
     ensures ended { EndsTailed result index.now tail.now
-        ((source.new ≡ source.old) × (sink.new ≡ sink.old)) (F.map files.old) (F.taken files.new)
+        ((source.new ≡ source.old) × (sink.new ≡ sink.old)) (F.map files.old) (F.loads files.new)
         (talk_of S.Source K.Sink source.old sink.old steps.old)
         (talk_of S.Source K.Sink source.new sink.new steps.new) }
     ensures words { (place : ℕ) → result ≢ Outcome.Words place }
@@ -84,6 +84,7 @@ fn ask_opened<F: Files, S: Source, K: Sink, L: Ledger>(
     ensures within { S.taken source.new ≤ S.taken source.old + (limit_of LimitKind.Questions + 1) }
     ensures map { F.map files.new ≡ F.map files.old }
     ensures saves { F.saves files.new ≡ F.saves files.old }
+    ensures saved { F.saved files.new ≡ F.saved files.old }
     ensures given { F.given files.new ≡ F.given files.old }
 {
     let tail = match load_tail(alloc, tail, settings_of(index), files) {
@@ -138,9 +139,9 @@ fn load_tail<F: Files>(
     files: &mut F,
 ) -> Result<Option<Chart>, Outcome>
     requires { AreSettings settings }
-    ensures tail { IfOk result (IsTail (F.map files.old) (F.taken files.new) csv.now settings) }
+    ensures tail { IfOk result (IsTail (F.map files.old) (F.loads files.new) csv.now settings) }
     ensures none { IfErr result (λ outcome.
-        HasNoTail outcome (F.map files.old) (F.taken files.new) csv.now settings) }
+        HasNoTail outcome (F.map files.old) (F.loads files.new) csv.now settings) }
     ensures words { IfErr result (λ outcome. (place : ℕ) → outcome ≢ Outcome.Words place) }
     ensures loads { LoadsOnly F.Files files.old files.new csv.now (result ≡ Err Outcome.LoadFailed) }
     ensures csv_taken { (value : ℕ) → result ≡ Err (Outcome.Limit LimitKind.Csv value) →

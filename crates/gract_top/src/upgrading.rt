@@ -62,6 +62,7 @@ fn save_upgraded<F: Files, L: Ledger>(
         (files_at F.Files files.old) (files_at F.Files files.new) }
     ensures cost { steps.new ≤ steps.old + 2 * bytes_cost bytes.items }
     ensures save_faults { SaveCounts F.Files files.old files.new (result ≡ Outcome.SaveFailed) }
+    ensures loads { F.loads files.new ≡ F.loads files.old }
     ensures taken { F.taken files.new ≡ F.taken files.old }
     ensures load_faults { F.load_faults files.new ≡ F.load_faults files.old }
     ensures begins { F.begins files.new ≡ F.begins files.old }

@@ -1,5 +1,6 @@
 -- The definitions, run on small cases.
 use Rattle.std.proofs.Common.{◌≡◌, ◌-◌, ◌^◌, [], ◌∷◌, Some, None, true, false, refl, codes}
+use Rattle.history.specs.Loads.{new_load}
 use Rattle.host_ports.specs.FileMap.{FileMap, file_named}
 use Rattle.host_ports.specs.NumberedCalls.{one_more, no_calls, fails_next, counted}
 use Rattle.host_ports.specs.FilesState.{IsPlain}
@@ -44,15 +45,30 @@ one_piece : (after_listen source 8).rest ≡ codes "defg"
 unfolding source
 one_piece = refl
 
+-- the same, of which no call fails
+calm : MemSourceView
+calm = new_source (codes "abcdefg") 3 []
+
 -- its second call fails: it takes nothing, and is a fault
 no_piece : after_listen (after_listen source 8) 8 ≡ record {
   rest = codes "defg";
+  came = codes "abc";
+  ended = false;
   taken = 3;
   piece = 3;
   calls = record { made = 2; fails = 2 ∷ []; faults = 1 };
 }
 unfolding source
 no_piece = refl
+
+-- three pieces are all of it, and the next one, which is empty, is its end
+all_came : (after_listen (after_listen (after_listen calm 8) 8) 8).ended ≡ false
+unfolding calm
+all_came = refl
+
+at_end : (after_listen (after_listen (after_listen (after_listen calm 8) 8) 8) 8).ended ≡ true
+unfolding calm
+at_end = refl
 
 -- a sink with room for eight bytes
 sink : MemSinkView
@@ -78,6 +94,10 @@ silent_by_number = refl
 files : MemFilesView
 files = record (new_files 0 (2 ∷ [])) { files = two }
 
+-- files whose calls succeed
+whole : MemFilesView
+whole = record (new_files 0 []) { files = two }
+
 begun : (after_begin files (codes "a")).rest ≡ codes "new"
 unfolding files two
 begun = refl
@@ -85,6 +105,20 @@ begun = refl
 failed_pull : (after_pull (after_begin files (codes "a")) 2).rest ≡ codes "new"
 unfolding files two
 failed_pull = refl
+
+-- what came of the two files that were begun, and of a name that is not held
+loaded : (after_begin (after_pull (after_begin (after_begin whole (codes "c")) (codes "b")) 9) (codes "a")).loads
+    ≡ new_load (codes "a") true
+    ∷ record { name = codes "b"; begun = true; bytes = codes "other"; ended = false }
+    ∷ new_load (codes "c") false
+    ∷ []
+unfolding whole two
+loaded = refl
+
+ended : (after_pull (after_pull (after_begin whole (codes "b")) 9) 9).loads
+    ≡ record { name = codes "b"; begun = true; bytes = codes "other"; ended = true } ∷ []
+unfolding whole two
+ended = refl
 
 pulled : (after_pull (after_pull (after_begin files (codes "a")) 2) 2).rest ≡ codes "w"
 unfolding files two
@@ -100,6 +134,7 @@ saved : after_save (new_files 5 []) (codes "a") (codes "new") ≡ record (new_fi
   files = (codes "a", codes "new") ∷ [];
   calls = record { made = 1; fails = []; faults = 0 };
   saves = 1;
+  saved = (codes "a", codes "new") ∷ [];
 }
 saved = refl
 

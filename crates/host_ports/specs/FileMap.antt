@@ -1,5 +1,5 @@
 -- Files by name, as far as they are told.
-use Rattle.std.specs.Prelude.{◌≡◌, ◌≢◌, ℕ, List, [], Option, Some, None, ⊤}
+use Rattle.std.specs.Prelude.{◌≡◌, ◌≢◌, ℕ, Bool, true, false, List, [], ◌∷◌, Option, Some, None, ⊤}
 use Rattle.std.specs.Io.KnownBytes.{IsAtEnd}
 use Rattle.std.specs.Map.{lookup}
 use Rattle.std.specs.Str.{bytes_eq}
@@ -11,6 +11,11 @@ FileMap = List (List ℕ × List ℕ)
 -- the bytes of the file of that name, if there is one
 abbrev pub file_named : FileMap → List ℕ → Option (List ℕ)
 file_named files name = lookup (λ key. bytes_eq key name) files
+
+-- the files after a save, of which it is the newest unless it failed
+abbrev pub with_file : Bool → List ℕ → List ℕ → FileMap → FileMap
+with_file true name bytes files = files
+with_file false name bytes files = (name, bytes) ∷ files
 
 -- where the files are told, there is one of that name, and all its bytes are still to come
 abbrev pub IsOpened : Option FileMap → List ℕ → Option (List ℕ) → Type 0

@@ -1,4 +1,5 @@
 pub mod Faults
+pub mod Histories
 pub mod FileMap
 pub mod FilesState
 pub mod NumberedCalls

@@ -6,6 +6,7 @@ ghost use Rattle.host_ports.specs.declared.fault.Failed.{Failed};
 pub(crate) fn copy_front(bytes: &[u8], buf: &mut [u8]) -> usize
     ensures count { result ≡ min (length buf.old) (length bytes.now) }
     ensures filled { buf.new ≡ take result bytes.now ++ drop result buf.old }
+    ensures front { take result buf.new ≡ take result bytes.now }
     ensures read { let left = drop result bytes.now in
         ReadConsumes {E = Failed} (Some bytes.now) (Some left) (Ok result) buf.new }
 {

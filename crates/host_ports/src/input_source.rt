@@ -1,19 +1,23 @@
-ghost use Rattle.std.specs.Prelude.{◌≡◌, ◌<◌, ◌≤◌, None, OnOk, length};
+ghost use Rattle.std.specs.Prelude.{◌≡◌, ◌<◌, ◌≤◌, None, [], false, OnOk, take, length};
 ghost use Rattle.std.specs.Io.{ReadsAtMost};
 ghost use Rattle.std.specs.Io.KnownBytes.{ReadConsumes};
 ghost use Rattle.host_ports.specs.Device.{no_counts, after_read};
+ghost use Rattle.host_ports.specs.Faults.{read_count};
+ghost use Rattle.host_ports.specs.Histories.{Gains, ended_after};
 
 use crate::meter::Meter;
 use crate::retrying::read_piece;
 use crate::{Failed, Source};
+use history::History;
 use std::io::Read;
 use std::marker::Model;
 
-/// A source over std's reading. It tells none of its bytes.
+/// A source over std's reading. It tells the bytes that came and whether all did, and none that are still to come.
 #[derive(Drop)]
 pub struct InputSource<R: Read> {
     reader: R,
     meter: Meter,
+    history: History,
 }
 
 impl<R: Read> Model for InputSource<R> {
@@ -21,23 +25,28 @@ impl<R: Read> Model for InputSource<R> {
 
     ghost Value = { ReaderView };
 
-    ghost view = { λ s. record { left = R.remaining s.reader; counts = s.meter } };
+    ghost view = { λ s. record { left = R.remaining s.reader; came = s.history.bytes; ended = s.history.ended; counts = s.meter } };
 }
 
 impl<R: Read> InputSource<R> {
     /// A source of what the reader will give.
     pub fn new(reader: R) -> Self
-        ensures { result ≡ record { left = R.remaining reader; counts = no_counts } }
+        ensures { result ≡ record { left = R.remaining reader; came = []; ended = false; counts = no_counts } }
     {
         InputSource {
             reader,
             meter: Meter::new(),
+            history: History::new(),
         }
     }
 }
 
 impl<R: Read> Source for InputSource<R> {
     ghost rest = { λ _. None };
+
+    ghost came = { λ s. s.came };
+
+    ghost ended = { λ s. s.ended };
 
     ghost taken = { λ s. s.counts.taken };
 
@@ -48,10 +57,14 @@ impl<R: Read> Source for InputSource<R> {
         requires { 0 < length buf.old }
         ensures within { ReadsAtMost result buf.new }
         ensures read { OnOk result (ReadConsumes self.old.left self.new.left result buf.new) }
+        ensures came { Gains self.old.came self.new.came (take (read_count result) buf.new) }
+        ensures ended { self.new.ended ≡ ended_after result buf.new self.old.ended }
         ensures counts { self.new.counts ≡ after_read self.old.counts result }
         ensures faults { self.old.counts.faults ≤ self.new.counts.faults }
     {
-        self.meter.count_read(read_piece(&mut self.reader, buf))
+        let count = self.meter.count_read(read_piece(&mut self.reader, buf))?;
+        self.history.append(&buf[..count]);
+        Ok(count)
     }
 
     fn taken(&self) -> u64 {

@@ -9,6 +9,7 @@ use crate::copying::copy_front;
 use crate::file_store::{Begun, FileStore};
 use crate::numbered_calls::NumberedCalls;
 use crate::{Failed, Files};
+use history::{FileHistory, LoadHistory};
 use std::alloc::Global;
 use std::marker::Model;
 use track_types::Memory;
@@ -21,12 +22,14 @@ const MOST_SAVES: usize = 16;
 pub struct MemFiles {
     store: FileStore,
     begun: Option<Begun>,
+    loads: LoadHistory,
     calls: NumberedCalls,
     room: usize,
     begins: u64,
     saves: u64,
     save_faults: u64,
     laid: Option<Vec<u8>>,
+    saved: FileHistory,
 }
 
 impl Model for MemFiles {
@@ -41,6 +44,7 @@ impl Model for MemFiles {
     ghost view = { λ f. record {
       files = f.store.files;
       rest = bytes_left f.store.stored f.begun;
+      loads = f.loads;
       taken = taken_count f.begun;
       calls = f.calls;
       room = f.room;
@@ -48,6 +52,7 @@ impl Model for MemFiles {
       saves = f.saves;
       save_faults = f.save_faults;
       laid = option_map (λ bytes. bytes.items) f.laid;
+      saved = f.saved;
     } };
 
     // Room and places for the saves are reserved, so that saving takes no memory.
@@ -71,12 +76,14 @@ impl MemFiles {
         Ok(MemFiles {
             store,
             begun: None,
+            loads: LoadHistory::new(),
             calls: NumberedCalls::new(fails),
             room,
             begins: 0,
             saves: 0,
             save_faults: 0,
             laid: None,
+            saved: FileHistory::new(),
         })
     }
 
@@ -110,6 +117,10 @@ impl Files for MemFiles {
 
     ghost rest = { λ f. Some f.rest };
 
+    ghost loads = { λ f. f.loads };
+
+    ghost saved = { λ f. f.saved };
+
     ghost taken = { λ f. f.taken };
 
     ghost load_faults = { λ f. f.calls.faults };
@@ -131,8 +142,12 @@ impl Files for MemFiles {
     {
         self.begins = self.begins.saturating_add(1);
         self.begun = None;
-        self.calls.make()?;
-        let file = self.store.newest(name).ok_or(Failed)?;
+        let found = match self.calls.make() {
+            Ok(()) => self.store.newest(name),
+            Err(Failed) => None,
+        };
+        self.loads.open(name.as_bytes(), found.is_some());
+        let file = found.ok_or(Failed)?;
         self.begun = Some(Begun { file, taken: 0 });
         Ok(())
     }
@@ -153,6 +168,7 @@ impl Files for MemFiles {
         if let Some(begun) = &mut self.begun {
             begun.taken += count;
         }
+        self.loads.grow(&buf[..count]);
         Ok(count)
     }
 
@@ -172,6 +188,7 @@ impl Files for MemFiles {
         }
         self.room -= length;
         self.store.push(name, bytes);
+        self.saved.put(name.as_bytes(), bytes);
         Ok(())
     }
 

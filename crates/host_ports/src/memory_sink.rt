@@ -1,8 +1,10 @@
-ghost use Rattle.std.specs.Prelude.{◌≡◌, ◌↔◌, ◌≤◌, Some, None, IsTrue, IsOk, IsErr, IfOk, IfErr, length};
+ghost use Rattle.std.specs.Prelude.{◌≡◌, ◌↔◌, ◌≤◌, IsTrue, IsOk, IsErr, IfOk, IfErr, length};
+ghost use Rattle.host_ports.specs.Histories.{Gains};
 ghost use Rattle.host_ports.specs.MemSink.{new_sink, is_cut, sent_count, after_say};
 
 use crate::numbered_calls::NumberedCalls;
 use crate::{Cut, Sink};
+use history::History;
 use std::alloc::Global;
 use std::marker::Model;
 use track_types::Memory;
@@ -51,7 +53,7 @@ impl MemSink {
 }
 
 impl Sink for MemSink {
-    ghost said = { λ s. Some s.said };
+    ghost said = { λ s. s.said };
 
     ghost faults = { λ s. s.calls.faults };
 
@@ -78,17 +80,29 @@ impl Sink for MemSink {
 }
 
 /// A sink that drops what it is told, and never fails.
-#[derive(Clone, Copy, Debug, Default)]
-pub struct NullSink;
+#[derive(Drop)]
+pub struct NullSink {
+    history: History,
+}
+
+impl NullSink {
+    pub fn new() -> Self {
+        NullSink {
+            history: History::new(),
+        }
+    }
+}
 
 impl Sink for NullSink {
-    ghost said = { λ _. None };
+    ghost said = { λ s. s.history.bytes };
 
     ghost faults = { λ _. 0 };
 
-    fn say(&mut self, _piece: &[u8]) -> Result<(), Cut>
-        ensures { IsOk result }
+    fn say(&mut self, piece: &[u8]) -> Result<(), Cut>
+        ensures ok { IsOk result }
+        ensures said { Gains self.old.history.bytes self.new.history.bytes piece.now }
     {
+        self.history.append(piece);
         Ok(())
     }
 }

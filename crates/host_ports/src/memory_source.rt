@@ -1,4 +1,4 @@
-ghost use Rattle.std.specs.Prelude.{◌≡◌, ◌↔◌, ◌<◌, ◌≤◌, min, Some, Ok, IsTrue, IsErr, IfOk, length, take, drop, ◌++◌};
+ghost use Rattle.std.specs.Prelude.{◌≡◌, ◌↔◌, ◌<◌, ◌≤◌, min, Some, Ok, [], false, IsTrue, IsErr, IfOk, length, take, drop, ◌++◌};
 ghost use Rattle.std.specs.Io.KnownBytes.{ReadConsumes};
 ghost use Rattle.host_ports.specs.NumberedCalls.{fails_next};
 ghost use Rattle.host_ports.specs.MemSource.{new_source, next_count, after_listen, after_bytes};
@@ -6,6 +6,7 @@ ghost use Rattle.host_ports.specs.MemSource.{new_source, next_count, after_liste
 use crate::copying::copy_front;
 use crate::numbered_calls::NumberedCalls;
 use crate::{Failed, Source};
+use history::History;
 use std::marker::Model;
 
 /// A source in memory that never fails.
@@ -13,6 +14,7 @@ use std::marker::Model;
 pub struct CalmSource {
     bytes: Vec<u8>,
     at: usize,
+    history: History,
 }
 
 impl Model for CalmSource {
@@ -21,7 +23,7 @@ impl Model for CalmSource {
 
     ghost Value = { CalmSourceView };
 
-    ghost view = { λ s. record { rest = drop s.at s.bytes.items; taken = s.at } };
+    ghost view = { λ s. record { rest = drop s.at s.bytes.items; came = s.history.bytes; ended = s.history.ended; taken = s.at } };
 
     ghost invariant = { λ s. s.at ≤ length s.bytes.items };
 }
@@ -29,14 +31,22 @@ impl Model for CalmSource {
 impl CalmSource {
     /// A source of those bytes, from the first on.
     pub fn new(bytes: Vec<u8>) -> Self
-        ensures { result ≡ record { rest = bytes.items; taken = 0 } }
+        ensures { result ≡ record { rest = bytes.items; came = []; ended = false; taken = 0 } }
     {
-        CalmSource { bytes, at: 0 }
+        CalmSource {
+            bytes,
+            at: 0,
+            history: History::new(),
+        }
     }
 }
 
 impl Source for CalmSource {
     ghost rest = { λ s. Some s.rest };
+
+    ghost came = { λ s. s.came };
+
+    ghost ended = { λ s. s.ended };
 
     ghost taken = { λ s. s.taken };
 
@@ -53,6 +63,7 @@ impl Source for CalmSource {
     {
         let count = copy_front(&self.bytes[self.at..], buf);
         self.at += count;
+        self.history.append(&buf[..count]);
         Ok(count)
     }
 
@@ -77,6 +88,8 @@ impl Model for MemSource {
 
     ghost view = { λ s. record {
       rest = s.bytes.rest;
+      came = s.bytes.came;
+      ended = s.bytes.ended;
       taken = s.bytes.taken;
       piece = s.piece;
       calls = s.calls;
@@ -103,6 +116,10 @@ impl MemSource {
 
 impl Source for MemSource {
     ghost rest = { λ s. Some s.rest };
+
+    ghost came = { λ s. s.came };
+
+    ghost ended = { λ s. s.ended };
 
     ghost taken = { λ s. s.taken };
 

@@ -1,7 +1,8 @@
-ghost use Rattle.std.specs.Prelude.{◌≡◌, ℕ, ◌+◌, ◌<◌, ◌≤◌, List, Option, length, OnOk, OnErr};
+ghost use Rattle.std.specs.Prelude.{◌≡◌, ℕ, ◌+◌, ◌<◌, ◌≤◌, Bool, List, Option, take, length, OnOk, OnErr};
 ghost use Rattle.std.specs.Io.{ReadsAtMost};
 ghost use Rattle.std.specs.Io.KnownBytes.{ReadConsumes};
 ghost use Rattle.host_ports.specs.Faults.{Rose, read_count};
+ghost use Rattle.host_ports.specs.Histories.{Gains, ended_after};
 
 use crate::Failed;
 
@@ -9,6 +10,12 @@ use crate::Failed;
 pub trait Source {
     /// The bytes that are still to come, where they are told.
     ghost rest: { Self → Option (List ℕ) };
+
+    /// The bytes that came, oldest first. Every source tells them.
+    ghost came: { Self → List ℕ };
+
+    /// Whether the last answer was 0 bytes: all of the source came. Every source tells it.
+    ghost ended: { Self → Bool };
 
     /// How many bytes came.
     ghost taken: { Self → ℕ };
@@ -23,6 +30,8 @@ pub trait Source {
         requires { 0 < length buf.old }
         ensures within { ReadsAtMost result buf.new }
         ensures read { ReadConsumes (rest self.old) (rest self.new) result buf.new }
+        ensures came { Gains (came self.old) (came self.new) (take (read_count result) buf.new) }
+        ensures ended { ended self.new ≡ ended_after result buf.new (ended self.old) }
         ensures taken { taken self.new ≡ taken self.old + read_count result }
         ensures cause { OnErr result (Rose (faults self.old) (faults self.new)) }
         ensures untouched { OnOk result (faults self.new ≡ faults self.old) }

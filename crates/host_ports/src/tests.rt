@@ -180,7 +180,7 @@ fn sinks_say_what_they_take(rt: HostRuntime) -> Result<(), Fail> {
         assert_eq!(rt; sink.say(piece), want, "{what}");
     }
     assert_eq!(rt; sink.as_slice(), b"12345678".as_slice());
-    assert_eq!(rt; NullSink.say(b"dropped"), Ok(()));
+    assert_eq!(rt; NullSink::new().say(b"dropped"), Ok(()));
     outputs(&rt, rt.alloc());
     Ok(())
 }

@@ -48,13 +48,13 @@ module _ {W : Type 0} {left : W → List Stop} {budget : W → ℕ} where
 
   -- an answer that was drawn whole brings what its question does
   module _ {meaning : Meaning} {asked : Question} {before desk : DeskView} {start end : ℕ} {answer : Answer W}
-      (is : IsAnswer left budget meaning asked before start answer desk end) (said0 : Option (List ℕ)) (text0 : List ℕ)
+      (is : IsAnswer left budget meaning asked before start answer desk end) (said0 : List ℕ) (text0 : List ℕ)
     where
       same : listed (items_left left budget answer desk) (refusal_left answer)
           ≡ listed (items_of meaning.chart meaning.facts (held_of before) asked) (refusal_of (held_of before) asked)
       same = rw (is.items, is.refusal) refl
 
-      pub takes-answer : (said : Option (List ℕ)) (text : List ℕ) (after : DeskView) (last : ℕ) →
+      pub takes-answer : (said : List ℕ) (text : List ℕ) (after : DeskView) (last : ℕ) →
           Says (voice said0 text0) (voice said text) (listed (items_left left budget answer desk) (refusal_left answer)) →
           held_of after ≡ desk_left left budget answer desk →
           last + budget_of after ≤ end + reads_left left budget answer desk →
@@ -65,7 +65,7 @@ module _ {W : Type 0} {left : W → List Stop} {budget : W → ℕ} where
         reads = omega (arith, reads, is.reads);
       }
 
-      pub front-answer : (said : Option (List ℕ)) (text : List ℕ) (after : DeskView) (last : ℕ) →
+      pub front-answer : (said : List ℕ) (text : List ℕ) (after : DeskView) (last : ℕ) →
           Cuts (voice said0 text0) said (listed (items_left left budget answer desk) (refusal_left answer)) →
           last + budget_of after ≤ end + reads_left left budget answer desk →
           TakesFront meaning (moment said0 text0 before start) (moment said text after last) (Ok (Some asked))
@@ -88,7 +88,7 @@ module _ (start between : Voice) (done : List Item) (found : Item) (line : List 
         rw lines-next (says-append start between now (flat_map line_of done) line says next)
 
     -- was cut
-    pub cuts-next : (now : Option (List ℕ)) (items rest : List Item) (refusal : Option (List ℕ)) → Cuts between now line →
+    pub cuts-next : (now : List ℕ) (items rest : List Item) (refusal : Option (List ℕ)) → Cuts between now line →
         items ≡ (done ++ found ∷ []) ++ rest → Cuts start now (listed items refusal)
     unfolding listed
     cuts-next now items rest refusal cuts cut =

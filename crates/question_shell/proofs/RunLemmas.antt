@@ -1,24 +1,21 @@
 -- From what is told of lines to what a run promises.
 use Rattle.std.proofs.Common.{◌≡◌, ℕ, ◌+◌, ◌≤◌, List, [], ◌++◌, length, sym, ap, ◌∙◌, subst, arith, Err, refl}
 use Rattle.std.proofs.Common.{append-nil, inl, inr, take, drop}
-use Rattle.std.specs.Io.KnownBytes.{Consumes, IsAtEnd, Keeps}
+use Rattle.std.specs.Io.KnownBytes.{Consumes, Keeps}
+use Rattle.host_ports.specs.Histories.{Gains}
 use Rattle.std.proofs.lemmas.List.{take-append-drop}
 use Rattle.track_types.specs.Limits.{limit_of}
 use Rattle.track_types.specs.declared.limit.LimitKind.TheVariants.{Questions}
 use Rattle.question_shell.specs.Desk.{held_of}
 use Rattle.question_shell.specs.Lines.{input_lines, unended_line, whole_lines}
 use Rattle.question_shell.specs.Session.{AnswersAll, AnswersBefore, AnswersFirst, AnswersFront, AnswersToPiece}
-use Rattle.question_shell.specs.Session.{AnswersWhole, AreTaken, Came, Meaning, Run}
+use Rattle.question_shell.specs.Session.{AnswersWhole, AreTaken, Came, HasEnded, Meaning, Run}
 use Rattle.question_shell.specs.Turns.{BytesTold, Heard, AnswersLines, Moment, AnswersBytes, Turns, TurnsFront, moment}
 use Rattle.question_shell.specs.declared.turn_fault.TurnFault.{TurnFault}
 use Rattle.question_shell.specs.declared.turn_fault.TurnFault.TheVariants as fault
 use Rattle.question_shell.proofs.SlotLemmas.{slots-independent}
-use Rattle.question_shell.proofs.SaysLemmas.{Appends-says}
-use Rattle.question_shell.proofs.SessionLemmas.{answers-turns, came-end, came-kept, came-more, heard-again, told-more}
-
--- the moment of a run at which nothing is held back
-abbrev pub moment_of : Run → Moment
-moment_of here = moment here.said [] here.desk here.steps
+use Rattle.question_shell.proofs.SaysLemmas.{Gains-says}
+use Rattle.question_shell.proofs.SessionLemmas.{answers-turns, came-end, came-kept, came-more, heard-again, moment_of, told-more}
 
 -- what is told of bytes is told of their whole lines
 pub told-whole : (meaning : Meaning) (start now : Moment) (all : List ℕ) (line : List ℕ) (refused : TurnFault) →
@@ -58,13 +55,13 @@ last-piece meaning before between now bytes front piece line lines refused split
       split = split;
       short = short;
       spoken = between.said;
-      answered = Appends-says before.said between.said _ heard.turns.said;
+      answered = Gains-says before.said between.said _ heard.turns.said;
       rest = turns.said.says.sent;
       said = turns.said.says.said;
     }
 
 module _ (meaning : Meaning) (before now : Run) (bytes : List ℕ) (came : Came before now bytes)
-    (within : length bytes ≤ limit_of Questions + 1) (lines : List (List ℕ)) (taken : AreTaken now.rest bytes lines)
+    (within : length bytes ≤ limit_of Questions + 1) (lines : List (List ℕ)) (taken : AreTaken now bytes lines)
     (refused : TurnFault) (told : AnswersLines meaning (moment_of before) (moment_of now) lines (Err refused))
   where
     -- the sink failed
@@ -98,7 +95,7 @@ module _ (meaning : Meaning) (before now : Run) (bytes : List ℕ) (came : Came 
           taken = taken;
           lines = stopped.lines;
           stops = stopped.stops;
-          said = Appends-says before.said now.said _ stopped.said;
+          said = Gains-says before.said now.said _ stopped.said;
           desk = stopped.desk;
           slots = slots-independent meaning (held_of before.desk) stopped.lines;
           reads = stopped.reads;
@@ -120,20 +117,21 @@ answers-first meaning before now bytes line came past heard = record {
   bytes = bytes;
   came = came;
   past = past;
-  answers = answers-turns meaning before.rest now.rest before.said now.said before.taken now.taken before.steps now.steps
-      before.desk now.desk (whole_lines (take (limit_of Questions) bytes)) heard.turns;
+  answers = answers-turns meaning before now (whole_lines (take (limit_of Questions) bytes)) heard.turns;
 }
 
 -- The end came where a run listened.
 pub record Ends (here now : Run) : Type 0 where
   pub piece : List ℕ
   pub nothing : piece ≡ []
+  pub history : Gains here.came now.came piece
   pub consumed : Consumes here.rest now.rest piece
   pub taken : now.taken ≡ here.taken + length piece
-  pub at_end : IsAtEnd now.rest
+  pub ended : HasEnded now
 
 -- A piece came after these bytes, of which so much may be answered.
 pub record Brings (bytes : List ℕ) (here now : Run) (piece counted : List ℕ) : Type 0 where
+  pub history : Gains here.came now.came piece
   pub consumed : Consumes here.rest now.rest piece
   pub taken : now.taken ≡ here.taken + length piece
   pub few : length piece ≤ 4096
@@ -142,14 +140,13 @@ pub record Brings (bytes : List ℕ) (here now : Run) (piece counted : List ℕ)
 
 module _ {meaning : Meaning} {before here now : Run} {line : List ℕ} (stands : Stands meaning before here line) where
   -- the source failed, and nothing else changed
-  pub answers-whole : Keeps here.rest now.rest → now.taken ≡ here.taken → moment_of now ≡ moment_of here →
+  pub answers-whole : now.came ≡ here.came → Keeps here.rest now.rest → now.taken ≡ here.taken → moment_of now ≡ moment_of here →
       AnswersWhole meaning before now
-  answers-whole kept taken same = record {
+  answers-whole silent kept taken same = record {
     bytes = stands.bytes;
-    came = came-kept before here now stands.bytes stands.came kept taken;
+    came = came-kept before here now stands.bytes stands.came silent kept taken;
     within = stands.short;
-    answers = answers-turns meaning before.rest now.rest before.said now.said before.taken now.taken before.steps
-        now.steps before.desk now.desk (whole_lines stands.bytes)
+    answers = answers-turns meaning before now (whole_lines stands.bytes)
         (subst (λ (here : Moment). Turns meaning (moment_of before) here (whole_lines stands.bytes)) (sym same)
         stands.heard.turns);
   }
@@ -157,17 +154,16 @@ module _ {meaning : Meaning} {before here now : Run} {line : List ℕ} (stands :
   -- the end came
   module _ (ends : Ends here now) where
     came-here : Came before now stands.bytes
-    came-here = came-end before here now stands.bytes ends.piece ends.nothing stands.came ends.consumed ends.taken
+    came-here = came-end before here now stands.bytes ends.piece ends.nothing stands.came ends.history ends.consumed ends.taken
 
     pub answers-all : ((start : Moment) (came : List ℕ) → Heard meaning start (moment_of here) came line →
         Turns meaning start (moment_of now) (input_lines came)) → AnswersAll meaning before now
     answers-all told = record {
       bytes = stands.bytes;
       came = came-here;
-      at_end = ends.at_end;
+      ended = ends.ended;
       within = stands.short;
-      answers = answers-turns meaning before.rest now.rest before.said now.said before.taken now.taken before.steps
-          now.steps before.desk now.desk (input_lines stands.bytes) (told (moment_of before) stands.bytes stands.heard);
+      answers = answers-turns meaning before now (input_lines stands.bytes) (told (moment_of before) stands.bytes stands.heard);
     }
 
     module _ (refused : TurnFault)
@@ -180,19 +176,19 @@ module _ {meaning : Meaning} {before here now : Run} {line : List ℕ} (stands :
             let last = last-piece meaning before here now stands.bytes stands.bytes [] line _ refused (sym (append-nil stands.bytes))
             (omega arith) stands.heard (told (moment_of here) (unended_line stands.bytes) again) say in
             answers-front meaning before now stands.bytes came-here (omega (arith, stands.short)) (input_lines stands.bytes)
-            (inr (ends.at_end, refl)) refused (told (moment_of before) stands.bytes stands.heard) say last
+            (inr (ends.ended, refl)) refused (told (moment_of before) stands.bytes stands.heard) say last
 
         pub before-end : refused ≡ fault.Memory → AnswersBefore meaning before now
         before-end memory =
             answers-before meaning before now stands.bytes came-here (omega (arith, stands.short)) (input_lines stands.bytes)
-            (inr (ends.at_end, refl)) refused (told (moment_of before) stands.bytes stands.heard) memory
+            (inr (ends.ended, refl)) refused (told (moment_of before) stands.bytes stands.heard) memory
 
   -- a piece more came, and was answered as far as it may be
   module _ {piece counted : List ℕ} (brings : Brings stands.bytes here now piece counted) (new : List ℕ) (refused : TurnFault)
       (told : AnswersBytes meaning (moment_of here) line counted (moment_of now) new (Err refused))
     where
       came-piece : Came before now (stands.bytes ++ piece)
-      came-piece = came-more before here now stands.bytes piece stands.came brings.consumed brings.taken
+      came-piece = came-more before here now stands.bytes piece stands.came brings.history brings.consumed brings.taken
 
       told-piece : AnswersLines meaning (moment_of before) (moment_of now) (whole_lines (stands.bytes ++ piece)) (Err refused)
       told-piece =

@@ -1,27 +1,23 @@
 -- Saying one text after another, while some is held back.
-use Rattle.std.proofs.Common.{◌≡◌, ℕ, List, [], ◌++◌, refl, sym, ap, ◌∙◌, append_assoc, append-nil, Option, Some, None}
+use Rattle.std.proofs.Common.{◌≡◌, ℕ, List, [], ◌++◌, refl, sym, ap, ◌∙◌, append_assoc, append-nil}
 use Rattle.std.proofs.Common.{take, drop, subst, Result, Ok, Err, OnErr}
 use Rattle.std.proofs.lemmas.List.{take-append-drop}
-use Rattle.std.specs.Io.KnownBytes.{Appends}
+use Rattle.host_ports.specs.Histories.{Gains}
 use Rattle.question_shell.specs.Says.{Cuts, Puts, Says, Voice, voice}
 
 -- a text said after another
-pub Appends-append : (before between now : Option (List ℕ)) (first second : List ℕ) →
-    Appends before between first → Appends between now second → Appends before now (first ++ second)
-Appends-append None between now first second one two = tt
-Appends-append (Some said) None now first second one two = absurd one
-Appends-append (Some said) (Some more) None first second one two = absurd two
-Appends-append (Some said) (Some more) (Some all) first second one two =
-    two ∙ (ap (λ text. text ++ second) one ∙ append_assoc said first second)
+pub Gains-append : (before between now : List ℕ) (first second : List ℕ) →
+    Gains before between first → Gains between now second → Gains before now (first ++ second)
+Gains-append before between now first second one two =
+    two ∙ (ap (λ text. text ++ second) one ∙ append_assoc before first second)
 
 -- nothing said
-pub Appends-nothing : (said : Option (List ℕ)) → Appends said said []
-Appends-nothing None = tt
-Appends-nothing (Some text) = sym (append-nil text)
+pub Gains-nothing : (said : List ℕ) → Gains said said []
+Gains-nothing said = sym (append-nil said)
 
 -- no text
 pub says-nothing : (here : Voice) → Says here here []
-says-nothing here = record { sent = []; split = append-nil here.held; said = Appends-nothing here.said }
+says-nothing here = record { sent = []; split = append-nil here.held; said = Gains-nothing here.said }
 
 -- a text after another
 pub says-append : (before between now : Voice) (first second : List ℕ) →
@@ -33,11 +29,11 @@ says-append before between now first second one two = record {
       ∙ (append_assoc one.sent between.held second
       ∙ (ap (λ text. one.sent ++ text) two.split
       ∙ sym (append_assoc one.sent two.sent now.held))));
-  said = Appends-append before.said between.said now.said one.sent two.sent one.said two.said;
+  said = Gains-append before.said between.said now.said one.sent two.sent one.said two.said;
 }
 
 -- a text after another is cut
-pub cuts-append : (before between : Voice) (now : Option (List ℕ)) (first second : List ℕ) →
+pub cuts-append : (before between : Voice) (now : List ℕ) (first second : List ℕ) →
     Says before between first → Cuts between now second → Cuts before now (first ++ second)
 cuts-append before between now first second one two = record {
   unsaid = two.unsaid;
@@ -45,7 +41,7 @@ cuts-append before between now first second one two = record {
 }
 
 -- what is cut of a text is cut of a longer one
-pub cuts-more : (before : Voice) (now : Option (List ℕ)) (text more : List ℕ) →
+pub cuts-more : (before : Voice) (now : List ℕ) (text more : List ℕ) →
     Cuts before now text → Cuts before now (text ++ more)
 cuts-more before now text more cut = record {
   unsaid = cut.unsaid ++ more;
@@ -58,16 +54,16 @@ cuts-more before now text more cut = record {
 }
 
 -- a text is held back
-pub says-held : (said : Option (List ℕ)) (held text : List ℕ) → Says (voice said held) (voice said (held ++ text)) text
-says-held said held text = record { sent = []; split = refl; said = Appends-nothing said }
+pub says-held : (said : List ℕ) (held text : List ℕ) → Says (voice said held) (voice said (held ++ text)) text
+says-held said held text = record { sent = []; split = refl; said = Gains-nothing said }
 
 -- all that was held back is said
-pub says-all : (said now : Option (List ℕ)) (held : List ℕ) → Appends said now held →
+pub says-all : (said now : List ℕ) (held : List ℕ) → Gains said now held →
     Says (voice said held) (voice now []) []
 says-all said now held appended = record { sent = held; split = refl; said = appended }
 
 -- a front of it is said
-pub cuts-front : (said now : Option (List ℕ)) (held : List ℕ) (k : ℕ) → Appends said now (take k held) →
+pub cuts-front : (said now : List ℕ) (held : List ℕ) (k : ℕ) → Gains said now (take k held) →
     Cuts (voice said held) now []
 cuts-front said now held k appended = record {
   unsaid = drop k held;
@@ -79,11 +75,11 @@ cuts-front said now held k appended = record {
 }
 
 -- where nothing was held back and nothing is, the text was said
-pub Appends-says : (said now : Option (List ℕ)) (text : List ℕ) → Says (voice said []) (voice now []) text →
-    Appends said now text
-Appends-says said now text says =
+pub Gains-says : (said now : List ℕ) (text : List ℕ) → Says (voice said []) (voice now []) text →
+    Gains said now text
+Gains-says said now text says =
     let same : says.sent ≡ text = sym (append-nil says.sent) ∙ sym says.split in
-    let P : List ℕ → Type 0 = λ all. Appends said now all in
+    let P : List ℕ → Type 0 = λ all. Gains said now all in
     subst P same says.said
 
 -- a fact holds of an error where it holds at all

@@ -8,6 +8,7 @@ use Rattle.std.proofs.lemmas.Bool.{cases_lt}
 use Rattle.std.proofs.lemmas.List.{take-append-le, length-take}
 use Rattle.std.proofs.Math.Seq.{take-append-add}
 use Rattle.std.specs.Io.KnownBytes.{Consumes, Keeps}
+use Rattle.host_ports.specs.Histories.{Gains}
 use Rattle.host_ports.specs.Faults.{Rose}
 use Rattle.track_types.specs.Limits.{limit_of}
 use Rattle.track_types.specs.declared.limit.LimitKind.TheVariants.{Questions}
@@ -16,7 +17,7 @@ use Rattle.question_shell.specs.Grammar.{question_of}
 use Rattle.question_shell.specs.LineKept.{kept_of}
 use Rattle.question_shell.specs.Lines.{if_any, is_line_feed, input_lines, unended_line, whole_lines}
 use Rattle.question_shell.specs.Says.{Cuts, voice}
-use Rattle.question_shell.specs.Session.{Answers, Came, Meaning, Run, replies_by, run_of}
+use Rattle.question_shell.specs.Session.{Answers, Came, Meaning, Run, replies_by}
 use Rattle.question_shell.specs.Turns.{AnswerTold, BytesTold, Heard, AnswersLines, Moment, Flushes, Turns}
 use Rattle.question_shell.specs.Turns.{TurnsBefore, TurnsFront, moment}
 use Rattle.question_shell.specs.declared.turn_fault.TurnFault.{TurnFault}
@@ -24,7 +25,7 @@ use Rattle.question_shell.specs.declared.turn_fault.TurnFault.TheVariants as fau
 use Rattle.question_shell.proofs.LineLemmas.{IsPiece, Pieces, piece-left, separated, separated-append, separated-bytes}
 use Rattle.question_shell.proofs.LineLemmas.{separated-end, separated-unended}
 use Rattle.question_shell.proofs.LineLemmas.{unended_line-is, whole_lines-is}
-use Rattle.question_shell.proofs.SaysLemmas.{Appends-says}
+use Rattle.question_shell.proofs.SaysLemmas.{Gains-append, Gains-says}
 use Rattle.question_shell.proofs.SlotLemmas.{slots-independent}
 use Rattle.question_shell.proofs.TurnLemmas.{before-cut, before-more, before-say, front-append, front-more}
 use Rattle.question_shell.proofs.TurnLemmas.{front-one, stops-here, turns-append, turns-cut, turns-nothing}
@@ -186,7 +187,7 @@ module _ (meaning : Meaning) (start : Moment) where
           stops-here meaning start between now (whole_lines came) (byte ∷ last) heard.turns told
 
   -- what is told of lines, after what was held back was said too
-  pub rest-lines : (between : Moment) (now : Option (List ℕ)) (lines : List (List ℕ))
+  pub rest-lines : (between : Moment) (now : List ℕ) (lines : List (List ℕ))
       (answered result : Result Unit TurnFault) →
       AnswersLines meaning start between lines answered → Flushes between.voice now answered result →
       AnswersLines meaning start (record between { voice = voice now [] }) lines result
@@ -197,7 +198,7 @@ module _ (meaning : Meaning) (start : Moment) where
   rest-lines between now lines (Ok done) (Err fault.Memory) told rest = absurd rest
   rest-lines between now lines (Err fault.Say) (Ok still) told rest = absurd rest
   rest-lines between now lines (Err fault.Say) (Err fault.Say) told rest =
-      let P : Option (List ℕ) → Type 0 = λ said. Cuts start.voice said (replies_by meaning start.desk lines) in
+      let P : List ℕ → Type 0 = λ said. Cuts start.voice said (replies_by meaning start.desk lines) in
       record { said = subst P (sym rest) told.said; reads = told.reads }
   rest-lines between now lines (Err fault.Say) (Err fault.Memory) told rest = absurd rest
   rest-lines between now lines (Err fault.Memory) (Ok still) told rest = absurd rest
@@ -206,7 +207,7 @@ module _ (meaning : Meaning) (start : Moment) where
   rest-lines between now lines (Err fault.Memory) (Err fault.Memory) told rest =
       before-say meaning start between (record between { voice = voice now [] }) lines told rest refl (omega arith)
 
-  pub rest-bytes : (between : Moment) (now : Option (List ℕ)) (came : List ℕ) (line : List ℕ)
+  pub rest-bytes : (between : Moment) (now : List ℕ) (came : List ℕ) (line : List ℕ)
       (answered result : Result Unit TurnFault) → BytesTold meaning start between came line answered →
       Flushes between.voice now answered result →
       BytesTold meaning start (record between { voice = voice now [] }) came line result
@@ -245,22 +246,28 @@ pub rose-after : (before between now : ℕ) (P : Type 0) → before ≤ between 
 rose-after before between now P up first (inl (failed, same)) = rw same (first failed)
 rose-after before between now P up first (inr rose) = rose-later before between now up rose
 
+-- the moment of a run at which nothing is held back
+abbrev pub moment_of : Run → Moment
+moment_of here = moment here.said [] here.desk here.steps
+
 -- lines that were answered with nothing held back
-pub answers-turns : (meaning : Meaning) (rest0 rest said0 said : Option (List ℕ)) (taken0 taken steps0 steps : ℕ)
-    (desk0 desk : DeskView) (lines : List (List ℕ)) →
-    Turns meaning (moment said0 [] desk0 steps0) (moment said [] desk steps) lines →
-    Answers meaning (run_of rest0 taken0 said0 desk0 steps0) (run_of rest taken said desk steps) lines
-answers-turns meaning rest0 rest said0 said taken0 taken steps0 steps desk0 desk lines turns =
+pub answers-turns : (meaning : Meaning) (before now : Run) (lines : List (List ℕ)) →
+    Turns meaning (moment_of before) (moment_of now) lines → Answers meaning before now lines
+answers-turns meaning before now lines turns =
     record {
-      said = Appends-says said0 said _ turns.said;
+      said = Gains-says before.said now.said _ turns.said;
       desk = turns.desk;
-      slots = slots-independent meaning (held_of desk0) lines;
+      slots = slots-independent meaning (held_of before.desk) lines;
       reads = turns.reads;
     }
 
 -- at first nothing came
 pub came-nothing : (before : Run) → Came before before []
-came-nothing before = record { consumed = consumes_nothing before.rest; counted = omega arith }
+came-nothing before = record {
+  history = sym (append-nil before.came);
+  consumed = consumes_nothing before.rest;
+  counted = omega arith;
+}
   where
     consumes_nothing : (rest : Option (List ℕ)) → Consumes rest rest []
     consumes_nothing None = tt
@@ -268,25 +275,30 @@ came-nothing before = record { consumed = consumes_nothing before.rest; counted 
 
 -- a piece more came
 pub came-more : (before between now : Run) (bytes piece : List ℕ) → Came before between bytes →
-    Consumes between.rest now.rest piece → now.taken ≡ between.taken + length piece → Came before now (bytes ++ piece)
-came-more before between now bytes piece came consumed counted = record {
+    Gains between.came now.came piece → Consumes between.rest now.rest piece →
+    now.taken ≡ between.taken + length piece → Came before now (bytes ++ piece)
+came-more before between now bytes piece came history consumed counted = record {
+  history = Gains-append before.came between.came now.came bytes piece came.history history;
   consumed = Consumes-append before.rest between.rest now.rest bytes piece came.consumed consumed;
   counted = omega (arith, came.counted, length-append bytes piece);
 }
 
 -- the end came
 pub came-end : (before between now : Run) (bytes piece : List ℕ) → piece ≡ [] → Came before between bytes →
-    Consumes between.rest now.rest piece → now.taken ≡ between.taken + length piece → Came before now bytes
-came-end before between now bytes piece empty came consumed counted =
+    Gains between.came now.came piece → Consumes between.rest now.rest piece →
+    now.taken ≡ between.taken + length piece → Came before now bytes
+came-end before between now bytes piece empty came history consumed counted =
     let P : List ℕ → Type 0 = λ all. Came before now all in
     subst P (append-nil bytes) (came-more before between now bytes [] came
+    (subst (λ (text : List ℕ). Gains between.came now.came text) empty history)
     (subst (λ (text : List ℕ). Consumes between.rest now.rest text) empty consumed)
     (subst (λ (text : List ℕ). now.taken ≡ between.taken + length text) empty counted))
 
 -- nothing more came
 pub came-kept : (before between now : Run) (bytes : List ℕ) → Came before between bytes →
-    Keeps between.rest now.rest → now.taken ≡ between.taken → Came before now bytes
-came-kept before between now bytes came kept counted = record {
+    now.came ≡ between.came → Keeps between.rest now.rest → now.taken ≡ between.taken → Came before now bytes
+came-kept before between now bytes came same kept counted = record {
+  history = same ∙ came.history;
   consumed = consumes_kept before.rest between.rest now.rest came.consumed kept;
   counted = counted ∙ came.counted;
 }

@@ -245,7 +245,7 @@ module _ (meaning : Meaning) (before : Moment) where
   told-line now asked text (Err fault.Memory) turn reads told = absurd told
 
 -- an answer to a question alone, of which what is held back is said too
-module _ (meaning : Meaning) (said0 said : Option (List ℕ)) (text : List ℕ) (desk0 desk : DeskView) (steps0 steps : ℕ)
+module _ (meaning : Meaning) (said0 said : List ℕ) (text : List ℕ) (desk0 desk : DeskView) (steps0 steps : ℕ)
     (asked : Result (Option Question) Bad)
   where
     abbrev first : Moment
@@ -261,7 +261,7 @@ module _ (meaning : Meaning) (said0 said : Option (List ℕ)) (text : List ℕ) 
       reads = told.reads;
     }
 
-    pub alone-said : (now : Option (List ℕ)) → Takes meaning first (moment said text desk steps) asked →
+    pub alone-said : (now : List ℕ) → Takes meaning first (moment said text desk steps) asked →
         Says (voice said text) (voice now []) [] → Takes meaning first (moment now [] desk steps) asked
     alone-said now takes says = record {
       said = subst (λ (all : List ℕ). Says (voice said0 []) (voice now []) all)
@@ -271,7 +271,7 @@ module _ (meaning : Meaning) (said0 said : Option (List ℕ)) (text : List ℕ) 
       reads = takes.reads;
     }
 
-    pub alone-cut : (now : Option (List ℕ)) → Takes meaning first (moment said text desk steps) asked →
+    pub alone-cut : (now : List ℕ) → Takes meaning first (moment said text desk steps) asked →
         Cuts (voice said text) now [] → TakesFront meaning first (moment now [] desk steps) asked
     alone-cut now takes cuts = record {
       said = subst (λ (all : List ℕ). Cuts (voice said0 []) now all)

@@ -1,24 +1,24 @@
 -- What was said of a text, and what is held back.
-use Rattle.std.specs.Prelude.{◌≡◌, ℕ, List, ◌++◌, Option, Result, Ok, Err}
-use Rattle.std.specs.Io.KnownBytes.{Appends}
+use Rattle.std.specs.Prelude.{◌≡◌, ℕ, List, ◌++◌, Result, Ok, Err}
+use Rattle.host_ports.specs.Histories.{Gains}
 
--- what was said, where it is told, and the text that is held back
+-- what was said, and the text that is held back
 pub record Voice : Type 0 where
-  pub said : Option (List ℕ)
+  pub said : List ℕ
   pub held : List ℕ
 
 -- the two, put together
-abbrev pub voice : Option (List ℕ) → List ℕ → Voice
+abbrev pub voice : List ℕ → List ℕ → Voice
 voice said held = record { said = said; held = held }
 
 -- What was held back and then the text were said, but for what is held back now.
 pub record Says (before now : Voice) (text : List ℕ) : Type 0 where
   pub sent : List ℕ
   pub split : before.held ++ text ≡ sent ++ now.held
-  pub said : Appends before.said now.said sent
+  pub said : Gains before.said now.said sent
 
 -- A front of what was held back and the text was said.
-pub record Cuts (before : Voice) (now : Option (List ℕ)) (text : List ℕ) : Type 0 where
+pub record Cuts (before : Voice) (now : List ℕ) (text : List ℕ) : Type 0 where
   pub unsaid : List ℕ
   pub says : Says before (voice now unsaid) text
 

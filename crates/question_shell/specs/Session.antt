@@ -2,7 +2,8 @@
 use Rattle.std.specs.Prelude.{◌≡◌, ℕ, ◌+◌, ◌≤◌, Bool, true, false, List, [], ◌∷◌, ◌++◌, ◌⊎◌, length, take}
 use Rattle.std.specs.Prelude.{Option, Some, None, is_none, ⊤}
 use Rattle.std.specs.Prelude.{Result, Ok, Err}
-use Rattle.std.specs.Io.KnownBytes.{Appends, Consumes, IsAtEnd}
+use Rattle.std.specs.Io.KnownBytes.{Consumes, IsAtEnd}
+use Rattle.host_ports.specs.Histories.{Gains}
 use Rattle.host_ports.specs.declared.sink.Sink.{Ghosts as OfSink}
 use Rattle.host_ports.specs.declared.source.Source.{Ghosts as OfSource}
 use Rattle.track_types.specs.Chart.{ChartView}
@@ -49,26 +50,30 @@ desk_by meaning desk lines = desk_after meaning.chart meaning.facts desk lines
 abbrev pub costs_by : Meaning → List (Option (List Stop)) → List (List ℕ) → ℕ
 costs_by meaning desk lines = costs_of meaning.cost meaning.chart meaning.facts desk lines
 
--- What is known at a moment: the bytes still to come, how many came, what was said, the desk, and the reads.
+-- What is known at a moment: the bytes still to come, those that came, whether the source ended, how many bytes came, what
+-- was said, the desk, and the reads.
 pub record Run : Type 0 where
   pub rest : Option (List ℕ)
+  pub came : List ℕ
+  pub ended : Bool
   pub taken : ℕ
-  pub said : Option (List ℕ)
+  pub said : List ℕ
   pub desk : DeskView
   pub steps : ℕ
 
 -- what is known, put together
-abbrev pub run_of : Option (List ℕ) → ℕ → Option (List ℕ) → DeskView → ℕ → Run
-run_of rest taken said desk steps =
-    record { rest = rest; taken = taken; said = said; desk = desk; steps = steps }
+abbrev pub run_of : Option (List ℕ) → List ℕ → Bool → ℕ → List ℕ → DeskView → ℕ → Run
+run_of rest came ended taken said desk steps =
+    record { rest = rest; came = came; ended = ended; taken = taken; said = said; desk = desk; steps = steps }
 
 -- what is known of a source, a sink, a desk and the reads
 abbrev pub run_by : {S K : Type 0} → OfSource S → OfSink K → S → K → DeskView → ℕ → Run
 run_by heard told source sink desk steps =
-    run_of (heard.rest source) (heard.taken source) (told.said sink) desk steps
+    run_of (heard.rest source) (heard.came source) (heard.ended source) (heard.taken source) (told.said sink) desk steps
 
--- These bytes came in between: they were next where the source tells what is to come, and are counted.
+-- These bytes came in between, and no others: they were next where the source tells what is to come, and are counted.
 pub record Came (before now : Run) (bytes : List ℕ) : Type 0 where
+  pub history : Gains before.came now.came bytes
   pub consumed : Consumes before.rest now.rest bytes
   pub counted : now.taken ≡ before.taken + length bytes
 
@@ -83,7 +88,7 @@ AreIndependent meaning desk lines = (slot : ℕ) →
 -- each slot's lines are its own, and what was read, with what the desk may still read, is at most what they cost, with
 -- what the desk could read before.
 pub record Answers (meaning : Meaning) (before now : Run) (lines : List (List ℕ)) : Type 0 where
-  pub said : Appends before.said now.said (replies_by meaning (held_of before.desk) lines)
+  pub said : Gains before.said now.said (replies_by meaning (held_of before.desk) lines)
   pub desk : held_of now.desk ≡ desk_by meaning (held_of before.desk) lines
   pub slots : AreIndependent meaning (held_of before.desk) lines
   pub reads : now.steps + budget_of now.desk
@@ -97,11 +102,16 @@ NamesNoDevice (Err shell_fault.Say) = ⊥
 NamesNoDevice (Err (shell_fault.Limit value)) = ⊤
 NamesNoDevice (Err shell_fault.Memory) = ⊤
 
+-- The source was read to its end: its last answer was no bytes, and where it tells what is to come, that is nothing.
+pub record HasEnded (now : Run) : Type 0 where
+  pub ended : now.ended ≡ true
+  pub at_end : IsAtEnd now.rest
+
 -- The source was read to its end, and all lines were answered.
 pub record AnswersAll (meaning : Meaning) (before now : Run) : Type 0 where
   pub bytes : List ℕ
   pub came : Came before now bytes
-  pub at_end : IsAtEnd now.rest
+  pub ended : HasEnded now
   pub within : length bytes ≤ limit_of Questions
   pub answers : Answers meaning before now (input_lines bytes)
 
@@ -138,8 +148,8 @@ pub record StopsAt (meaning : Meaning) (desk : List (Option (List Stop))) (lines
   pub takes : takes_memory (desk_by meaning desk before) (question_of line) ≡ true
 
 -- The lines that may be answered: the whole ones, and all of them where the source was read to its end.
-abbrev pub AreTaken : Option (List ℕ) → List ℕ → List (List ℕ) → Type 0
-AreTaken rest bytes lines = (lines ≡ whole_lines bytes) ⊎ (IsAtEnd rest × (lines ≡ input_lines bytes))
+abbrev pub AreTaken : Run → List ℕ → List (List ℕ) → Type 0
+AreTaken now bytes lines = (lines ≡ whole_lines bytes) ⊎ (HasEnded now × (lines ≡ input_lines bytes))
 
 -- The lines before one that takes memory were answered, and no other: exactly their replies were said, the desk is the
 -- one after them, and no more was read than they and that line cost.
@@ -148,10 +158,10 @@ pub record AnswersBefore (meaning : Meaning) (before now : Run) : Type 0 where
   pub came : Came before now bytes
   pub within : length bytes ≤ limit_of Questions + 1
   pub all : List (List ℕ)
-  pub taken : AreTaken now.rest bytes all
+  pub taken : AreTaken now bytes all
   pub lines : List (List ℕ)
   pub stops : StopsAt meaning (held_of before.desk) all lines
-  pub said : Appends before.said now.said (replies_by meaning (held_of before.desk) lines)
+  pub said : Gains before.said now.said (replies_by meaning (held_of before.desk) lines)
   pub desk : held_of now.desk ≡ desk_by meaning (held_of before.desk) lines
   pub slots : AreIndependent meaning (held_of before.desk) lines
   pub reads : now.steps + budget_of now.desk
@@ -165,10 +175,10 @@ pub record AnswersToPiece (meaning : Meaning) (before now : Run) (bytes : List �
   pub piece : List ℕ
   pub split : bytes ≡ heard ++ piece
   pub short : length piece ≤ 4096
-  pub spoken : Option (List ℕ)
-  pub answered : Appends before.said spoken (replies_by meaning (held_of before.desk) (whole_lines heard))
+  pub spoken : List ℕ
+  pub answered : Gains before.said spoken (replies_by meaning (held_of before.desk) (whole_lines heard))
   pub rest : List ℕ
-  pub said : Appends spoken now.said rest
+  pub said : Gains spoken now.said rest
 
 -- What was said is a front of the replies to lines that may be answered, nothing came after the piece that was being
 -- answered, and no more was read than these lines cost and the desk could read.
@@ -177,10 +187,10 @@ pub record AnswersFront (meaning : Meaning) (before now : Run) : Type 0 where
   pub came : Came before now bytes
   pub within : length bytes ≤ limit_of Questions + 1
   pub lines : List (List ℕ)
-  pub taken : AreTaken now.rest bytes lines
+  pub taken : AreTaken now bytes lines
   pub text : List ℕ
   pub unsaid : List ℕ
   pub front : replies_by meaning (held_of before.desk) lines ≡ text ++ unsaid
-  pub said : Appends before.said now.said text
+  pub said : Gains before.said now.said text
   pub last : AnswersToPiece meaning before now bytes
   pub reads : now.steps ≤ before.steps + budget_of before.desk + costs_by meaning (held_of before.desk) lines

@@ -19,7 +19,7 @@ pub record Moment : Type 0 where
   pub due : ℕ
 
 -- what is known, put together
-abbrev pub moment : Option (List ℕ) → List ℕ → DeskView → ℕ → Moment
+abbrev pub moment : List ℕ → List ℕ → DeskView → ℕ → Moment
 moment said held desk steps =
     record { voice = voice said held; desk = held_of desk; due = steps + budget_of desk }
 
@@ -100,7 +100,7 @@ AnswersLines meaning before now lines (Err fault.Memory) = TurnsBefore meaning b
 
 -- What is told of the rest of the text after an answer: it was said, or a front of it; after the sink failed, nothing
 -- more.
-abbrev pub Flushes : Voice → Option (List ℕ) → Result Unit TurnFault → Result Unit TurnFault → Type 0
+abbrev pub Flushes : Voice → List ℕ → Result Unit TurnFault → Result Unit TurnFault → Type 0
 Flushes before now (Ok done) (Ok still) = Says before (voice now []) []
 Flushes before now (Ok done) (Err fault.Say) = Cuts before now []
 Flushes before now (Ok done) (Err fault.Memory) = ⊥

@@ -232,7 +232,7 @@ fn answer_calm(rt: &HostRuntime, lines: &[u8]) -> Result<Result<(), ShellFault>,
     ensures { IfOk result NamesNoDevice }
 {
     let mut source = CalmSource::new(Vec::from_slice(rt.alloc(), lines)?);
-    call::<CalmSource, NullSink, Brand>(rt, &mut source, &mut NullSink, Blank::new(1))
+    call::<CalmSource, NullSink, Brand>(rt, &mut source, &mut NullSink::new(), Blank::new(1))
 }
 
 fn say_alike<L: Ledger>(rt: &HostRuntime, sink: &mut MemSink, blank: Blank) -> Result<(), Cut>

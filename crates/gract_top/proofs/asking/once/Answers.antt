@@ -1,31 +1,31 @@
-use Rattle.std.proofs.Common.{◌∙◌, ℕ, List, Option, ap, refl, sym, subst, arith}
-use Rattle.host_ports.specs.FileMap.{FileMap}
+use Rattle.std.proofs.Common.{◌∙◌, ℕ, List, ap, refl, sym, subst}
 use Rattle.host_ports.specs.FilesState.{FilesState}
+use Rattle.host_ports.specs.Meanings.{files_at}
 use Rattle.track_types.specs.declared.limit.LimitKind.TheVariants as limit
+use Rattle.gract_top.specs.Beginning.{EndsLoading, SavesNothing}
 use Rattle.gract_top.specs.Refusal.{IsAccepted}
 use Rattle.gract_top.proofs.EndsLemmas.{AnswersChart-passed, EndsLoading-loaded, EndsOnce-late, EndsOpened-unsaved}
 use Rattle.gract_top.proofs.asking.once.Goals as goal
 
 pub returns-clause-ends : goal.returns-clause-ends
 returns-clause-ends g c =
-    let kept = c.pass-bytes.ensures.kept in
-    let map_of : FilesState → Option FileMap = λ state. state.map in
-    let taken_of : FilesState → ℕ = λ state. state.taken in
-    let saves_of : FilesState → ℕ = λ state. state.saves in
-    let begins_of : FilesState → ℕ = λ state. state.begins in
-    let taken = ap taken_of kept in
-    let map = g.F.Files.map c.args.files.now in
-    let Accepted : ℕ → Type 0 = λ taken. IsAccepted map taken c.args.csv.now c.args.settings c.in-Ok.chart in
+    let csv = c.args.csv.now in
+    let loaded = c.in-Ok.ensures.loads in
+    let before = files_at g.F.Files c.args.files.now in
+    let kept = sym c.pass-bytes.ensures.kept in
+    let Loads : FilesState → Type 0 = λ state. EndsLoading c.answer_bytes.result csv limit.Csv before state in
+    let Unsaved : FilesState → Type 0 = λ state. SavesNothing before state in
+    let Accepted : FilesState → Type 0 = λ state. IsAccepted before.map state.loads csv c.args.settings c.in-Ok.chart in
     let apply : (List ℕ → List ℕ) → List ℕ = λ given. given c.in-Ok-index_bytes.bytes.items in
-    let loaded = EndsLoading-loaded c.load_chart.result c.in-Ok.chart c.answer_bytes.result c.args.csv.now limit.Csv _ _
-    c.in-Ok.is c.load_chart.ensures.loads.missing (omega (arith, taken, c.in-Ok.ensures.taken))
-    (ap begins_of kept ∙ c.in-Ok.ensures.loads.begins) c.answer_bytes.ensures.late (λ size. refl) in
-    EndsOnce-late c.answer_bytes.result c.args.csv.now c.args.settings _ _ _ loaded
-    (record { map = ap map_of kept ∙ c.in-Ok.ensures.loads.map; saves = ap saves_of kept ∙ c.in-Ok.ensures.loads.saves })
+    EndsOnce-late c.answer_bytes.result csv c.args.settings _ _ _
+    (subst Loads kept (EndsLoading-loaded c.load_chart.result c.in-Ok.chart c.answer_bytes.result csv limit.Csv _ _
+    c.in-Ok.is c.load_chart.ensures.loads.missing c.in-Ok.ensures.taken loaded.begins loaded.loads
+    c.answer_bytes.ensures.late (λ size. refl)))
+    (subst Unsaved kept (record { map = loaded.map; saves = loaded.saves; saved = loaded.saved }))
     c.answer_bytes.ensures.late
-    (AnswersChart-passed c.answer_bytes.result c.args.csv.now c.args.settings _ _ _ c.in-Ok.chart
+    (AnswersChart-passed c.answer_bytes.result csv c.args.settings _ _ _ c.in-Ok.chart
     c.in-Ok-index_bytes.bytes.items c.pass-bytes.result.items
-    (subst Accepted (sym taken) c.in-Ok.ensures.chart)
+    (subst Accepted kept c.in-Ok.ensures.chart)
     c.in-Ok-index_bytes.ensures.file c.in-Ok-index_bytes.ensures.short
     (c.pass-bytes.ensures.given ∙ ap apply c.in-Ok.ensures.loads.given)
     c.answer_bytes.ensures.ended c.answer_bytes.ensures.decides)

@@ -1,9 +1,25 @@
-use Rattle.std.proofs.Common.{rules, take, length-take}
-use Rattle.gract_top.proofs.LoadingLemmas.{IsLengthRefused-past}
+use Rattle.std.proofs.Common.{◌<◌, ◌∙◌, ap, refl, rules, List, length, take, length-take}
+use Rattle.history.specs.Loads.{Load, with_piece}
+use Rattle.gract_top.proofs.LoadingLemmas.{IsLengthRefused-past, IsLoaded-end}
 use Rattle.gract_top.proofs.loading.load.Goals as goal
+
+pub returns-then-came-eq0-clause-came : goal.returns-then-came-eq0-clause-came
+returns-then-came-eq0-clause-came g c =
+    let known = c.pieces.invariant in
+    let piece = take c.in-Ok.came c.pull.new.buf in
+    let room : 0 < length c.pull.new.buf = search rules in
+    let added = c.in-Ok.ensures.loads ∙ ap (λ (loads : List Load). with_piece loads piece) known.loads in
+    record {
+      bytes = known.bytes;
+      loaded = IsLoaded-end c.args.kind _ _ _ c.args.name.now known.bytes piece _ _ (search rules)
+          (rw c.if-came-eq0.true refl) known.opened c.in-Ok.ensures.read.0
+          (c.in-Ok.ensures.read.1 c.if-came-eq0.true room) added;
+      received = known.received;
+    }
 
 pub returns-then-count-limit-clause-refused : goal.returns-then-count-limit-clause-refused
 returns-then-count-limit-clause-refused g c = λ refusal.
     let piece = take c.in-Ok.came c.pull.new.buf in
-    rw c.greatest-limit.ensures (IsLengthRefused-past c.args.kind _ _ _ c.pieces.invariant.bytes piece _ _
-    c.pieces.invariant.opened c.in-Ok.ensures.read.0 (search rules) (search (rules, length-take c.in-Ok.came c.pull.new.buf)))
+    let added = c.in-Ok.ensures.loads ∙ ap (λ (loads : List Load). with_piece loads piece) c.pieces.invariant.loads in
+    rw c.greatest-limit.ensures (IsLengthRefused-past c.args.kind _ _ _ c.pieces.invariant.bytes piece _ _ _
+    c.pieces.invariant.opened c.in-Ok.ensures.read.0 added (search rules) (search (rules, length-take c.in-Ok.came c.pull.new.buf)))

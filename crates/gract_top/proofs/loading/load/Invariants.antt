@@ -1,4 +1,4 @@
-use Rattle.std.proofs.Common.{◌≡◌, ◌+◌, ◌-◌, ◌≤◌, ℕ, List, length}
+use Rattle.std.proofs.Common.{◌≡◌, ◌+◌, ◌-◌, ◌≤◌, ℕ, true, false, List, ◌∷◌, length}
 use Rattle.std.specs.Io.KnownBytes.{prepend_known}
 use Rattle.host_ports.specs.FileMap.{IsOpened}
 use Rattle.host_ports.specs.NumberedCalls.{one_more}
@@ -9,6 +9,9 @@ invariant-pieces g l = record {
   bytes : List ℕ;
   received : g.R.Receiver.has_taken l.fn.receiver bytes l.receiver;
   counted : l.count ≡ length bytes;
+  loads : g.F.Files.loads l.files
+      ≡ record { name = l.name; begun = true; bytes = bytes; ended = false } ∷ g.F.Files.loads l.fn.files;
+  saved : g.F.Files.saved l.files ≡ g.F.Files.saved l.fn.files;
   taken : g.F.Files.taken l.files ≡ l.count;
   within : l.count ≤ l.limit;
   map : g.F.Files.map l.files ≡ g.F.Files.map l.fn.files;

@@ -1,6 +1,6 @@
 use Rattle.std.proofs.Common.{◌∙◌, ◌≡◌, ◌+◌, ◌≤◌, [], ℕ, List, OnErr, OnOk, Ok, Some, Err, ap, arith, subst, refl, None}
 use Rattle.std.proofs.lemmas.Result.{err_from_is_err_and, on_err_weaker, on_ok_weaker}
-use Rattle.std.specs.Io.KnownBytes.{Appends}
+use Rattle.host_ports.specs.Histories.{Gains}
 use Rattle.std.specs.List.{sum_by}
 use Rattle.track_types.specs.declared.question.Question.{Question}
 use Rattle.track_types.specs.declared.question.Question.TheVariants as question
@@ -8,7 +8,7 @@ use Rattle.question_shell.specs.Desk.{DeskView, budget_of, empty_desk}
 use Rattle.question_shell.specs.Reply.{listed}
 use Rattle.question_shell.specs.Session.{Meaning, meaning_by}
 use Rattle.question_shell.specs.Turns.{AnswerTold, moment}
-use Rattle.question_shell.proofs.SaysLemmas.{Appends-append, Appends-says, on_err_always}
+use Rattle.question_shell.proofs.SaysLemmas.{Gains-append, Gains-says, on_err_always}
 use Rattle.gract_top.specs.Sampling.{SaysFront}
 use Rattle.gract_top.specs.Summary.{counted_questions, counts_of, found_by, summary_of}
 use Rattle.gract_top.proofs.SummaryLemmas.{SaysFront-after, SaysFront-more, info-front}
@@ -59,10 +59,10 @@ returns-clause-ok g c =
     let between = g.K.Sink.said c.say_reply.new.sink in
     let now = g.K.Sink.said c.say_counts.new.sink in
     let info = listed (found_by of.chart of.facts question.Info) None in
-    let first : Appends before between info = Appends-says before between info c.in_ok-say_reply.ensures.told.said in
-    let Says : List Question → Type 0 = λ asked. OnOk c.say_counts.result (Appends between now (counts_of of.chart of.facts asked)) in
+    let first : Gains before between info = Gains-says before between info c.in_ok-say_reply.ensures.told.said in
+    let Says : List Question → Type 0 = λ asked. OnOk c.say_counts.result (Gains between now (counts_of of.chart of.facts asked)) in
     on_ok_weaker c.say_counts.result
-    (Appends-append before between now info (counts_of of.chart of.facts (counted_questions c.args.instants)) first)
+    (Gains-append before between now info (counts_of of.chart of.facts (counted_questions c.args.instants)) first)
     (subst Says c.counted_questions-questions.ensures.value c.say_counts.ensures.ok)
 
 pub returns-clause-err : goal.returns-clause-err
@@ -72,7 +72,7 @@ returns-clause-err g c =
     let between = g.K.Sink.said c.say_reply.new.sink in
     let now = g.K.Sink.said c.say_counts.new.sink in
     let info = listed (found_by of.chart of.facts question.Info) None in
-    let first : Appends before between info = Appends-says before between info c.in_ok-say_reply.ensures.told.said in
+    let first : Gains before between info = Gains-says before between info c.in_ok-say_reply.ensures.told.said in
     let Says : List Question → Type 0 = λ asked. OnErr c.say_counts.result (SaysFront between now (counts_of of.chart of.facts asked)) in
     on_err_weaker c.say_counts.result
     (SaysFront-after before between now info (counts_of of.chart of.facts (counted_questions c.args.instants)) first)

@@ -6,6 +6,7 @@ pub returns-clause-ends : goal.returns-clause-ends
 returns-clause-ends g c =
     EndsAskTail-opened c.ask_opened.result c.args.index.now c.args.tail.now _ _ _ _ _ c.in-Ok.index _ c.in-Ok.ensures.ok
     c.ask_opened.ensures.loading c.ask_opened.ensures.ended c.ask_opened.ensures.map c.ask_opened.ensures.saves
+    c.ask_opened.ensures.saved
 
 pub returns-in-Err-clause-ends : goal.returns-in-Err-clause-ends
 returns-in-Err-clause-ends g c =

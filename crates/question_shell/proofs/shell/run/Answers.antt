@@ -1,11 +1,11 @@
 use Rattle.std.proofs.Common.{◌≡◌, ◌+◌, ◌<◌, ◌≤◌, [], ◌++◌, length, length-append, take, drop, refl, ap}
-use Rattle.std.proofs.Common.{arith, rules, ◌∙◌}
+use Rattle.std.proofs.Common.{append-nil, arith, rules, ◌∙◌}
 use Rattle.track_types.specs.Limits.{limit_of}
 use Rattle.track_types.specs.declared.limit.LimitKind.TheVariants.{Questions}
 use Rattle.question_shell.specs.Session.{Meaning, Run, meaning_by, run_by}
 use Rattle.question_shell.proofs.RunLemmas.{Brings, Ends, Stands, answers-all, answers-first, answers-whole, before-end}
-use Rattle.question_shell.proofs.RunLemmas.{before-piece, front-end, front-piece, moment_of}
-use Rattle.question_shell.proofs.SessionLemmas.{came-more, came-nothing, heard-all, heard-nothing, piece_heard}
+use Rattle.question_shell.proofs.RunLemmas.{before-piece, front-end, front-piece}
+use Rattle.question_shell.proofs.SessionLemmas.{came-more, came-nothing, heard-all, heard-nothing, moment_of, piece_heard}
 use Rattle.question_shell.proofs.shell.run.Given.{Over}
 use Rattle.question_shell.proofs.shell.run.Goals as goal
 use Rattle.question_shell.proofs.shell.run.Goals.{After-listen, After-take_end, After-take_piece}
@@ -46,9 +46,13 @@ ends g c =
     record {
       piece = piece;
       nothing = nothing;
+      history = c.in-Ok.ensures.came;
       consumed = c.in-Ok.ensures.read.0;
       taken = omega (arith, c.in-Ok.ensures.taken, ap length nothing, c.if-count-eq0.true);
-      at_end = c.in-Ok.ensures.read.1 c.if-count-eq0.true room;
+      ended = record {
+        ended = rw (c.in-Ok.ensures.ended, c.if-count-eq0.true) refl;
+        at_end = c.in-Ok.ensures.read.1 c.if-count-eq0.true room;
+      };
     }
 
 -- a piece more came
@@ -65,6 +69,7 @@ brings g c =
     let short : length read.bytes ≤ limit_of Questions = omega (arith, read.count, c.pieces-test.true) in
     let fits : c.pieces.taken + c.in-Ok.count ≤ limit_of Questions + 1 = search rules in
     record {
+      history = c.in-Ok.ensures.came;
       consumed = c.in-Ok.ensures.read.0;
       taken = omega (arith, c.in-Ok.ensures.taken, c.in-Ok.ensures.within.1);
       few = search rules;
@@ -90,7 +95,8 @@ pieces-init g c =
 
 pub returns-in_default-clause-listen : goal.returns-in_default-clause-listen
 returns-in_default-clause-listen g c is_listen =
-    answers-whole (stands g (goal.at.returns-in_default-clause-listen g c).After-listen) c.in_default.ensures.read
+    answers-whole (stands g (goal.at.returns-in_default-clause-listen g c).After-listen)
+    (c.in_default.ensures.came ∙ append-nil _) c.in_default.ensures.read
     (omega (arith, c.in_default.ensures.taken)) refl
 
 pub returns-in-Ok-take_end-clause-ok : goal.returns-in-Ok-take_end-clause-ok
@@ -124,7 +130,7 @@ pieces-preserved g c =
     let piece = take c.in-Ok.count c.listen.new.buf in
     record {
       bytes = read.bytes ++ piece;
-      came = came-more (before g at) (here g at) _ read.bytes piece read.came new.consumed new.taken;
+      came = came-more (before g at) (here g at) _ read.bytes piece read.came new.history new.consumed new.taken;
       count = omega (arith, read.count, length-append read.bytes piece, c.in-Ok.ensures.within.1);
       within = search rules;
       heard = rw new.front

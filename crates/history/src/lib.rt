@@ -1,0 +1,15 @@
+//! What went through a device, as contracts see it.
+//!
+//! A history takes no bytes of memory, and its calls do nothing when the program runs.
+#![tactic(auto)]
+
+mod file_history;
+mod ghost_loads;
+mod history;
+mod load_history;
+#[cfg(test)]
+mod tests;
+
+pub use file_history::FileHistory;
+pub use history::History;
+pub use load_history::LoadHistory;
