@@ -21,5 +21,3 @@ mod SplitLemmas
 mod MakingLemmas
 mod BuildingLemmas
 mod BuiltLemmas
--- Tests.
-mod MadeLemmas

@@ -15,8 +15,6 @@ mod node_ref;
 mod node_walk;
 mod search;
 mod task;
-#[cfg(test)]
-mod tests;
 mod tree;
 mod walk;
 

@@ -12,8 +12,6 @@ mod leaves;
 mod objects;
 mod periods;
 mod presence;
-#[cfg(test)]
-mod tests;
 mod writing;
 
 pub use writing::parts_of;

@@ -14,8 +14,6 @@ mod pairing;
 mod search;
 mod side;
 mod side_by_side;
-#[cfg(test)]
-mod tests;
 mod walked;
 mod window;
 

@@ -81,6 +81,13 @@ impl GriddedRows {
         Ok(())
     }
 
+    /// How many rows have no block: those from the first on that had none.
+    pub fn loose_count(&self) -> usize
+        ensures { result ≡ length self.now.loose.items }
+    {
+        self.loose.len()
+    }
+
     /// The chart of the rows, as `grid` answers it.
     pub fn chart(self, alloc: Global, period: u32) -> Result<Chart, GridFault>
         requires few { AreFew self }

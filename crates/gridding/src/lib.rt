@@ -17,8 +17,6 @@ mod packed_place;
 mod row_gridding;
 mod row_sorting;
 mod survey;
-#[cfg(test)]
-mod tests;
 mod track_blocks;
 
 pub use chart_making::{chart, grid};

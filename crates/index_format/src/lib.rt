@@ -18,8 +18,6 @@ mod periods;
 mod place;
 mod putting;
 mod room;
-#[cfg(test)]
-mod tests;
 mod unpacking;
 mod width;
 

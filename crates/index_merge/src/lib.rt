@@ -10,8 +10,6 @@ mod comparing;
 mod drawing;
 mod fault;
 mod merging;
-#[cfg(test)]
-mod tests;
 
 pub use fault::MergeFault;
 pub use merging::union;

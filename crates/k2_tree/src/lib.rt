@@ -18,14 +18,12 @@ mod pending;
 mod pruned;
 mod square;
 mod square_walk;
-#[cfg(test)]
-mod tests;
 mod tree;
 
 pub use building::bits_of_codes;
 pub use fault::TreeFault;
 pub use keep::Keep;
-pub use morton_code::{codes_of_cells, morton};
+pub use morton_code::{cell_at, codes_of_cells, morton};
 pub use pruned::Pruned;
 pub use square::Square;
 pub use tree::K2Tree;

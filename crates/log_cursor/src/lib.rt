@@ -10,8 +10,6 @@ mod pending;
 mod searching;
 mod seeking;
 mod start;
-#[cfg(test)]
-mod tests;
 mod walk;
 
 pub use pending::Pending;

@@ -12,8 +12,6 @@ mod cutting;
 mod head;
 mod logs;
 mod raw_logs;
-#[cfg(test)]
-mod tests;
 
 pub use cutting::cut;
 pub use head::{Head, HeadList};

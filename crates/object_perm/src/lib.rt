@@ -10,8 +10,6 @@ mod flaws;
 mod group;
 mod perm;
 mod shortcuts;
-#[cfg(test)]
-mod tests;
 
 pub use fault::PermFault;
 pub use perm::Perm;

@@ -6,7 +6,5 @@
 #![tactic(auto)]
 
 mod region_test;
-#[cfg(test)]
-mod tests;
 
 pub use region_test::{Contains, MayTouch, RegionTest};

@@ -9,22 +9,14 @@
 
 mod choosing;
 mod compressing;
-#[cfg(test)]
-mod counting;
 mod grammar;
 mod joining;
 mod key;
 mod keys;
 mod pairs;
 mod passing;
-#[cfg(test)]
-mod recounting;
-#[cfg(test)]
-mod replacing;
 mod rows;
 mod tallying;
-#[cfg(test)]
-mod tests;
 mod text;
 
 pub use grammar::{Grammar, compress};

@@ -12,8 +12,6 @@ mod parser;
 mod reading;
 mod row;
 mod rows;
-#[cfg(test)]
-mod tests;
 
 pub use fault::RowsFault;
 pub use parser::RowParser;

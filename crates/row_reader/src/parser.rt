@@ -42,8 +42,8 @@ impl RowParser {
         RowParser::with_least(alloc, LEAST)
     }
 
-    // One that reads lines where so many bytes are there.
-    pub(crate) fn with_least(alloc: Global, least: usize) -> Self
+    /// One that reads lines where so many bytes are there. A short file is read in pieces only where these are few.
+    pub fn with_least(alloc: Global, least: usize) -> Self
         requires { least ≤ LEAST }
         ensures { HasTaken [] [] result }
     {

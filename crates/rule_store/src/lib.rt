@@ -14,8 +14,6 @@ mod packed_box;
 mod packed_entry;
 mod raw_rules;
 mod store;
-#[cfg(test)]
-mod tests;
 
 pub use entry::Entry;
 pub use fault::RuleFault;

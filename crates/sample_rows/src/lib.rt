@@ -7,7 +7,5 @@
 mod generator;
 mod sampling;
 mod spot;
-#[cfg(test)]
-mod tests;
 
 pub use sampling::sample_rows;

@@ -25,8 +25,6 @@ mod period_store;
 mod placing;
 mod snapshot;
 mod stores;
-#[cfg(test)]
-mod tests;
 mod track_tree;
 mod tracks;
 mod upgrading;

@@ -8,8 +8,6 @@
 mod moves;
 mod place;
 mod rings;
-#[cfg(test)]
-mod tests;
 
 pub use moves::{decode_move, encode_move};
 pub use rings::ring;

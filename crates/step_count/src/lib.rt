@@ -8,8 +8,6 @@
 mod counted_list;
 mod one_read;
 mod steps;
-#[cfg(test)]
-mod tests;
 
 pub use counted_list::CountedList;
 pub use one_read::OneRead;

@@ -14,8 +14,6 @@ mod index;
 mod opening;
 mod path_walk;
 mod searching;
-#[cfg(test)]
-mod tests;
 mod upgrading;
 
 pub use index::{Index, IndexRef};

@@ -6,8 +6,6 @@ use std::sync::ledger::Ledger;
 use step_count::Steps;
 
 pub mod drawn_items;
-#[cfg(test)]
-mod tests;
 
 use self::drawn_items::Drawn;
 

@@ -2,9 +2,6 @@ ghost use Rattle.std.specs.Prelude.{◌≡◌, ◌+◌, ◌*◌, ◌^◌, ◌<�
 ghost use Rattle.std.specs.List.{list_all};
 ghost use Rattle.track_types.specs.Numeral.{is_blank, is_decimal, is_digit, magnitude_of, numeral_of, signed_of, trimmed, without_blanks_before, without_blanks_behind};
 
-#[cfg(test)]
-mod tests;
-
 /// What a word is as a whole number.
 #[derive(Clone, Copy, Debug, PartialEq, Eq)]
 pub enum Numeral {

@@ -8,9 +8,6 @@ use crate::cell_box::CellBox;
 use crate::shape::Shape;
 use crate::shapes::Shapes;
 
-#[cfg(test)]
-mod tests;
-
 /// A set of cells about which searches ask.
 #[derive(Clone, Copy, Debug, PartialEq, Eq)]
 pub enum Region {

@@ -1,0 +1,44 @@
+//! Cases are text: a row of a table, or a line of its own. Adding one adds nothing that is to be proved.
+use crate::script::{Part, first_wrong};
+use crate::{damage, devices, doubling, merging, refusals, replies, samples, tails};
+use std::test::Fail;
+use track_types::Memory;
+
+// The first row that is not so, and its line, of several scripts.
+fn first_of_all(
+    rt: &HostRuntime,
+    scripts: &[&[Part]],
+) -> Result<Option<(&'static str, &'static str)>, Memory> {
+    for &script in scripts {
+        let wrong = first_wrong(rt, script)?;
+        if wrong.is_some() {
+            return Ok(wrong);
+        }
+    }
+    Ok(None)
+}
+
+#[test]
+fn lines_have_their_replies(rt: HostRuntime) -> Result<(), Fail> {
+    assert_eq!(rt; first_wrong(&rt, &replies::SCRIPT)?, None);
+    Ok(())
+}
+
+#[test]
+fn an_index_is_saved_summed_and_joined(rt: HostRuntime) -> Result<(), Fail> {
+    let scripts: [&[Part]; 4] = [
+        &samples::SCRIPT,
+        &doubling::SCRIPT,
+        &tails::SCRIPT,
+        &merging::SCRIPT,
+    ];
+    assert_eq!(rt; first_of_all(&rt, &scripts)?, None);
+    Ok(())
+}
+
+#[test]
+fn a_call_is_refused_for_its_cause(rt: HostRuntime) -> Result<(), Fail> {
+    let scripts: [&[Part]; 3] = [&refusals::SCRIPT, &damage::SCRIPT, &devices::SCRIPT];
+    assert_eq!(rt; first_of_all(&rt, &scripts)?, None);
+    Ok(())
+}

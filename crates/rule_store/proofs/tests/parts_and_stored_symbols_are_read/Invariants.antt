@@ -1,4 +1,0 @@
-use Rattle.rule_store.proofs.tests.parts_and_stored_symbols_are_read.Given as goal
-
-abbrev pub ghosts-read_at : goal.ghosts-read_at
-ghosts-read_at g a = record { name = a.blank.name; parts = a.blank.parts }

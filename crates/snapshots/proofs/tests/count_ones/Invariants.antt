@@ -1,6 +1,0 @@
-use Rattle.std.proofs.Common.{◌≡◌, take}
-use Rattle.packed_bits.specs.Bits.{ones_of}
-use Rattle.snapshots.proofs.tests.count_ones.Given as goal
-
-abbrev pub invariant-loop-place : goal.invariant-loop-place
-invariant-loop-place l = l.ones ≡ ones_of (take l.place l.bits)
