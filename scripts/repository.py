@@ -89,12 +89,25 @@ def version():
 
 
 def edits(crate):
-    """The names of a crate's wrong bodies."""
+    """The names of a crate's wrong bodies that the gate tries."""
     return sorted(file.name for file in (folder(crate) / "must-fail").glob("*.edit"))
+
+
+def more_edits(crate):
+    """The names of a crate's wrong bodies that scripts/check_edits tries."""
+    return sorted(file.name for file in (folder(crate) / "more-edits").glob("*.edit"))
 
 
 def sources(crate):
     return [file for file in (folder(crate) / "src").rglob("*.rt")]
+
+
+def tests(crate):
+    """The tests of a crate, each by its module and its name."""
+    for file in sources(crate):
+        module = file.relative_to(folder(crate) / "src").with_suffix("").parts
+        for name in re.findall(r"^#\[test\]\nfn (\w+)", file.read_text(), re.MULTILINE):
+            yield "::".join([*(part for part in module if part not in ("lib", "main")), name])
 
 
 def labels(crate):
