@@ -20,6 +20,9 @@ Object = Union[int, str]
 MOST_BATCH = 1 << 15
 MOST_ROWS = 1 << 16
 
+# The last lines of most replies.
+OKS = tuple(b"ok %d" % count for count in range(64))
+
 
 class Ends(Protocol):
     """Facts that have the first and the last instant."""
@@ -34,7 +37,7 @@ class Ends(Protocol):
 
 
 class Asked:
-    """What is asked by lines, and answers with named tuples. It has `program`, `grid` and `facts`, and `_exchange` answers lines.
+    """What is asked by lines, and answers with named tuples. It has `program`, `grid` and `facts`, and `_first` answers lines.
 
     Instants are whole numbers; with a grid also times, as texts or datetimes (UTC, where they have no offset). Objects are numbers;
     with a grid that has names also names. A region is `rect(..)`, `disc(..)` or `zone(..)` in cells, or with a grid `box=(west, south,
@@ -54,11 +57,22 @@ class Asked:
     # Words of questions that `ask` does not take, each with the reason.
     not_asked: ClassVar[Mapping[str, str]] = dict.fromkeys(SLOT_KINDS, "is asked by Index.held alone, which keeps the slots")
 
-    def _exchange(self, lines: Sequence[bytes]) -> List[Reply]:
-        """The replies to lines, each with its end and at least one word."""
+    def _first(self, lines: Sequence[bytes]) -> List[Reply]:
+        """The replies to the first of lines, each with its end and at least one word: to all, but where they would have more bytes than are
+        to be held at once to some, at least to one."""
         raise NotImplementedError
 
-    def _drop(self) -> None:
+    def _exchange(self, lines: Sequence[bytes]) -> List[Reply]:
+        """The replies to lines."""
+        replies: List[Reply] = []
+        most = len(lines)
+        while len(replies) < len(lines):
+            found = self._first(lines[len(replies) : len(replies) + most])
+            replies += found
+            most = 2 * len(found)
+        return replies
+
+    def _distrust(self) -> None:
         """What is done where a reply is none."""
 
     def _no_grid(self) -> str:
@@ -70,17 +84,17 @@ class Asked:
         return notes
 
     def _answer(self, question: Question) -> Any:
-        return self._read(type(question), self._exchange([question.line.encode() + b"\n"])[0])
+        return self._read(type(question), self._first([question.line.encode() + b"\n"])[0])
 
     def _read(self, kind: Type[Question], reply: Reply) -> Any:
         """The answer of a reply. Refuses one whose count of lines or whose lines are not those of a question of that kind."""
         lines, last = reply
         try:
-            if last == b"ok %d" % len(lines):
+            if last == (OKS[len(lines)] if len(lines) < len(OKS) else b"ok %d" % len(lines)):
                 return kind.read(lines)
         except (ValueError, TypeError):
             pass
-        self._drop()
+        self._distrust()
         raise ReplyError(self.program, (lines[0] if lines else last).decode(errors="replace"))
 
     # Arguments.
@@ -126,26 +140,30 @@ class Asked:
         if box is not None:
             grid, edges = self._needs_grid("box", box), numbers_of("box", box, ("west", "south", "east", "north"))
             found: Region = questions.checked_region("box", Rect(*grid.box(*edges)))
-            return found, [f"the box {box_text(box)} is asked as {questions.region_words(found)}, every cell that it touches"]
+            return found, [f"the box {box_text(box)} is asked as {questions.region_words(found)}, {grid.box_words}"]
         if around is not None and metres is not None:
-            grid, place = self._needs_grid("around", around), numbers_of("around", around, ("longitude", "latitude"))
-            circle = grid.circle(*place, metres)
+            grid = self._needs_grid("around", around)
+            longitude, latitude = numbers_of("around", around, ("longitude", "latitude"))
+            circle = grid.circle(longitude, latitude, metres)
             found = questions.checked_region("around", Disc(circle.x, circle.y, circle.radius))
             return found, [
                 f"{metres} metres around {box_text(around)} are asked as {questions.region_words(found)}, a radius in cells that "
-                f"leaves no row out; rows up to {int(circle.reach) + 1} metres away may be among those found"
+                f"leaves no row out; rows up to {int(circle.reach) + 1} metres away may be among those found", *circle.notes,
             ]
         return (questions.EVERYWHERE if region is None else questions.checked_region("region", region)), []
 
     def _rows(self, question: Question, notes: Sequence[str] = ()) -> "Answers[Any]":
         rows = self._answer(question)
-        return Answers(rows, question.row, grid=self.grid, asked=question.asked, notes=self._noted(notes))
+        region = getattr(question, "region", None)
+        return Answers(rows, question.row, grid=self.grid, asked=question.asked, notes=self._noted(notes), region=region)
 
     # One question each.
 
     def position(self, object: Object, at: Instant) -> Optional[Cell]:
         """The cell of an object at an instant, or None where it has no row there. One line."""
-        return self._answer(questions.Position(self.number(object), self.instant(at)))
+        question = questions.Position(self.number(object), self.instant(at))
+        found: Optional[Cell] = self._answer(question)
+        return None if found is None else found.told_by(self.grid, question.instant)
 
     def path(self, object: Object, since: Optional[Instant] = None, until: Optional[Instant] = None) -> "Answers[Stop]":
         """All rows of an object in a window, by time. One line."""
@@ -184,11 +202,13 @@ class Asked:
         if (reach is None) == (metres is None):
             raise ArgumentError("reach" if reach is None else "metres", "either reach=, in cells, or metres= is needed")
         notes: List[str] = []
+        cells: Any = reach
         if metres is not None:
             found = derived.reach_of(self, self._needs_grid("metres", metres), metres, numbers[0], *window)
-            reach, far = found.cells, int(found.metres) + 1
-            notes = [f"{metres} metres are asked as {reach} cells, so that no meeting is missed; the two may be up to {far} metres apart"]
-        return self._rows(questions.Meet(*numbers, *window, reach), notes)
+            cells, far = found.cells, int(found.metres) + 1
+            asked = f"{metres} metres are asked as {cells} cells, so that no meeting is missed"
+            notes = [f"{asked}; the two may be up to {far} metres apart", *found.notes]
+        return self._rows(questions.Meet(*numbers, *window, cells), notes)
 
     # Many questions at once.
 
@@ -202,17 +222,23 @@ class Asked:
         return self._ask(iter(asked))
 
     def _ask(self, waiting: Iterator[Union[Question, str]]) -> Iterator[Any]:
-        batch, first = self.first_batch, 1
+        batch, nth = self.first_batch, itertools.count(1)
+        taken: List[Tuple[Union[Question, str], bytes]] = []
         while True:
-            taken = list(itertools.islice(waiting, batch))
+            more = itertools.islice(waiting, max(0, batch - len(taken)))
+            taken += [(question, line_of(question, next(nth), self.not_asked)) for question in more]
             if not taken:
                 return
-            replies = self._exchange([line_of(question, first + place, self.not_asked) for place, question in enumerate(taken)])
-            for question, reply in zip(taken, replies):
-                yield self._read(type(question), reply) if isinstance(question, Question) else self._read_line(question, reply)
-            first += len(taken)
+            asked = taken[:batch]
+            replies = self._first([line for _, line in asked])
+            del taken[: len(replies)]
             rows = sum(len(lines) for lines, _ in replies)
-            batch = min(2 * batch, MOST_BATCH) if rows < MOST_ROWS else max(batch // 2, 1)
+            for (question, _), reply in zip(asked, replies):
+                yield self._read(type(question), reply) if isinstance(question, Question) else self._read_line(question, reply)
+            if len(replies) < len(asked):
+                batch = len(replies)
+            else:
+                batch = min(2 * batch, MOST_BATCH) if rows < MOST_ROWS else max(batch // 2, 1)
 
     def _read_line(self, line: str, reply: Reply) -> Any:
         if reply[1].startswith(b"bad "):
@@ -230,7 +256,7 @@ class Asked:
         rates. One line `interval`, and one line `path` for each object that was in the region in that time."""
         found, notes = self.region(region, box, around, metres)
         rows = derived.last_known(self, self.instant(at), self.instants(within), found)
-        return Answers(rows, Last, grid=self.grid, notes=self._noted(notes))
+        return Answers(rows, Last, grid=self.grid, notes=self._noted(notes), region=found)
 
     def visits(self, region: Optional[Region] = None, since: Optional[Instant] = None, until: Optional[Instant] = None, *,
                gap: Union[None, int, Duration] = None, box: Optional[Sequence[Degree]] = None,
@@ -241,7 +267,7 @@ class Asked:
         found, notes = self.region(region, box, around, metres)
         most = None if gap is None else self.instants(gap, "gap")
         rows = derived.visits(self, found, *self.window(since, until), most)
-        return Answers(rows, Visit, grid=self.grid, notes=self._noted(notes))
+        return Answers(rows, Visit, grid=self.grid, notes=self._noted(notes), region=found)
 
     def objects(self) -> "Answers[Life]":
         """The first and the last row of each object, by object. One line `interval`, and for each object one to six lines `path`,
@@ -264,7 +290,10 @@ def line_of(question: Union[Question, str], nth: int, not_asked: Mapping[str, st
         raise ArgumentError(argument, f"{question!r} is neither a question of gract.questions nor a line")
     if word in not_asked:
         raise ArgumentError(argument, f"{word} {not_asked[word]}")
-    return line.encode("utf-8", "surrogateescape") + b"\n"
+    try:
+        return line.encode("utf-8", "surrogateescape") + b"\n"
+    except UnicodeEncodeError:
+        raise ArgumentError(argument, f"{line!r} is no text in Unicode") from None
 
 
 def numbers_of(argument: str, value: Any, names: Sequence[str]) -> List[Any]:

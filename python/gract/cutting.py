@@ -9,7 +9,7 @@ import os
 import re
 import shutil
 from pathlib import Path
-from typing import Any, Dict, Iterator, List, Protocol, Sequence, Tuple
+from typing import Dict, Iterator, List, Protocol, Sequence, Tuple
 
 from .errors import LoadError
 from .program import why_unread
@@ -152,6 +152,6 @@ def quoted_records(file: str) -> Iterator[Tuple[int, bytes]]:
                 yield record, line
 
 
-def quoted(field: Any) -> str:
+def quoted(field: str) -> str:
     """A field as it may stand in a CSV file."""
     return field if PLAIN.fullmatch(field) else '"' + field.replace('"', '""') + '"'

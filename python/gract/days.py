@@ -9,35 +9,39 @@ A day is any length of time that is a multiple of TICK, so that none cuts an ins
 """
 
 import datetime
+from pathlib import Path
 from typing import Any, Dict, List, Mapping, Optional, Union
 
+from .building import of_grid
 from .errors import ArgumentError
 from .grid import Grid, whole
+from .index import Index
+from .manifest import LENGTHS, ByTime, Manifest
 from .parted import Opener, Outcome, Parted, load
-from .parts import ByTime, Manifest, Run, of_grid, one_by_one
+from .parts import Run, one_by_one
 from .parts import build as build_parts
 from .program import Name
 from .times import Duration, duration_of
+from .turns import Turn, in_turn
 
 # How many days are open at once, each with a child of its own.
 MOST_OPEN = 64
 
-# The units of time that a day may have.
-LENGTH = (1, 2**40)
-
 
 class Here:
-    """Asks parts in this process, one after the other."""
+    """Asks parts in this process, one after the other, and for one thread at a time."""
 
-    def __init__(self, folder: Any, manifest: Manifest, program: str):
-        self._folder, self._parts = folder, manifest.parts
-        self._opener = Opener(program, MOST_OPEN)
+    def __init__(self, folder: Path, manifest: Manifest, program: str, most: int = MOST_OPEN):
+        self._parts = manifest.listed(folder)
+        self._opener = Opener(program, most)
+        self._turn = Turn(f"the parts of {folder}")
 
+    @in_turn
     def ask(self, lines: Mapping[int, List[bytes]]) -> Dict[int, Outcome]:
-        """The replies of each part to its lines, or that it is damaged."""
-        parts = {number: self._parts[number] for number in lines}
-        return {number: self._opener.ask(str(self._folder / part.file), part.sha256, lines[number]) for number, part in parts.items()}
+        """The replies of each part to the first of its lines, or that it is damaged."""
+        return {number: self._opener.ask(self._parts[number], asked) for number, asked in lines.items()}
 
+    @in_turn
     def close(self) -> None:
         """Closes all indices."""
         self._opener.close()
@@ -47,17 +51,24 @@ class Days(Parted):
     """Days that are asked as one index: `position`, `slice` and `nearest` of the day that has the instant, a `path` of one day after the
     other, and of an `interval` the first hit of each object in the order of days. Each day is opened when it is first asked."""
 
+    def open_indices(self) -> List[Index]:
+        """The days that are open."""
+        return self._asker._opener.indices() if isinstance(self._asker, Here) else []
+
 
 def build(rows: Any, path: Name, *, length: Union[int, Duration], cell: Optional[int] = None, tick: Optional[int] = None,
-          period: int = 120, grid: Optional[Grid] = None, program: Optional[Name] = None, run: Run = one_by_one) -> None:
+          period: int = 120, grid: Optional[Grid] = None, program: Optional[Name] = None, run: Run = one_by_one,
+          replace: bool = False) -> None:
     """Builds an index for each day of rows in the folder `path`, with a list of them. `rows` are those of `gract.build`, or the names of
     several CSV files. A day has `length` units of time of the rows, a multiple of `tick`, or with a grid a length as `1 d`; day N begins
-    with time N * length. The other arguments, and what is refused, are those of `gract.build`; a folder that is there and is no archive is
-    not written into."""
-    size = whole("length", units_of(length, grid), *LENGTH)
+    with time N * length. The other arguments, and what is refused, are those of `gract.build`. A folder that has other things in it is not
+    written into. One that has parts is refused too, by `OverwriteError`, since all of them would be lost: with `replace` these days take
+    their place."""
+    size = whole("length", units_of(length, grid), *LENGTHS)
     if size % of_grid("tick", tick, grid):
         raise ArgumentError("length", f"{size} is no multiple of the tick {of_grid('tick', tick, grid)}: a day would cut an instant")
-    build_parts(rows, path, ByTime(size), cell=cell, tick=tick, period=period, grid=grid, program=program, run=run)
+    build_parts(rows, path, ByTime(size), cell=cell, tick=tick, period=period, grid=grid, program=program, run=run,
+                replace=replace)
 
 
 def units_of(length: Union[int, Duration], grid: Optional[Grid]) -> int:
@@ -75,8 +86,9 @@ def units_of(length: Union[int, Duration], grid: Optional[Grid]) -> int:
     return seconds // grid.unit
 
 
-def open(path: Name, *, program: Optional[Name] = None, grid: Optional[Grid] = None, partial: bool = False) -> Days:
+def open(path: Name, *, program: Optional[Name] = None, grid: Optional[Grid] = None, partial: bool = False,
+         most: int = MOST_OPEN) -> Days:
     """Opens an archive. The grid is the one given, else that with which it was built. With `partial` days answer without those that are
-    damaged. Refuses, by `ManifestError`, a folder that is no archive."""
+    damaged. At most `most` days are open at once, each with a child. Refuses, by `ManifestError`, a folder that is no archive."""
     folder, manifest, found = load(path, ByTime, program, grid)
-    return Days(folder, manifest, Here(folder, manifest, found), found, partial, grid)
+    return Days(folder, manifest, Here(folder, manifest, found, most), found, partial, grid)

@@ -17,7 +17,8 @@ class GractError(Exception):
 def again(kind: Type[GractError], args: Tuple[Any, ...], fields: Dict[str, Any]) -> GractError:
     """A refusal with the sentence and the fields that another one had."""
     # And not by its own `__new__`: that of `MemoryRefused` is MemoryError's, which does not make what is laid out otherwise.
-    refusal: GractError = kind.__base__.__new__(kind, *args)  # type: ignore[union-attr]
+    base: Any = kind.__base__
+    refusal: GractError = base.__new__(kind, *args)
     refusal.args = args
     refusal.__dict__.update(fields)
     return refusal
@@ -42,6 +43,14 @@ class ClosedError(GractError, ValueError):
         super().__init__(f"{what} is closed")
 
 
+class BusyError(GractError):
+    """What is asked by a signal handler, or by anything else that comes within a question, while the same thread asks it. `what` is it."""
+
+    def __init__(self, what: str):
+        super().__init__(f"{what} is being asked by this very thread: a signal handler cannot ask it too, but once it has returned")
+        self.what = what
+
+
 class ChangedError(GractError):
     """An index file that is another one than when it was opened, found where a new child was to open it. `file` is its name."""
 
@@ -58,11 +67,19 @@ class SlotsError(GractError):
         self.slots = slots
 
 
-class PandasMissing(GractError, ImportError):
-    """A DataFrame was asked for, and pandas is not there."""
+class LibraryMissing(GractError, ImportError):
+    """A library is wanted for what was asked, and is not there. `library` is its name."""
+
+    def __init__(self, library: str, advice: str = ""):
+        super().__init__(f"{library} is not installed: Debian has it as python3-{library}{advice}")
+        self.library = library
+
+
+class PandasMissing(LibraryMissing):
+    """A DataFrame was asked for or given, and pandas is not there."""
 
     def __init__(self) -> None:
-        super().__init__("pandas is not installed: use the named tuples, or records(), which has the same columns")
+        super().__init__("pandas", ". Without it use the named tuples, or records(), which has the same columns")
 
 
 class DistributedMissing(GractError, ImportError):
@@ -70,6 +87,10 @@ class DistributedMissing(GractError, ImportError):
 
     def __init__(self) -> None:
         super().__init__("distributed is not installed: Debian has it as python3-distributed. gract.days asks without it")
+
+
+class SourceError(GractError, ValueError):
+    """A file of tracks, of answers, of a coast or of a zone that cannot be read as such. It is told by its name and place."""
 
 
 class ManifestError(GractError, ValueError):
@@ -81,11 +102,11 @@ class ManifestError(GractError, ValueError):
 
 
 class OtherFileError(GractError):
-    """The index file of a part is not the one that was built. `file` is its name."""
+    """The index file of a part is not the one of the list. `file` is its name, `why` what is otherwise."""
 
-    def __init__(self, file: str):
-        super().__init__(f"{file} is an index, and not the one that was built: it has another sha256. Copy that one, or build anew")
-        self.file = file
+    def __init__(self, file: str, why: str):
+        super().__init__(f"{file} is an index, and not the one that was built: {why}. Copy that one, or build anew")
+        self.file, self.why = file, why
 
 
 class PartsError(GractError):
@@ -117,10 +138,11 @@ class ProgramNotFound(GractError, FileNotFoundError):
 
 
 class OverwriteError(GractError, FileExistsError):
-    """`build` was to write over a file that is no index."""
+    """`build` was to write over a file that is no index; or in a folder that has other things in it, or parts that are not to be
+    replaced. `path` is its name."""
 
-    def __init__(self, path: str):
-        super().__init__(f"{path} is there and is no index: it is not written over. Take another name, or remove it")
+    def __init__(self, path: str, there: str = "is there and is no index: it is not written over. Take another name, or remove it"):
+        super().__init__(f"{path} {there}")
         self.path = path
 
 

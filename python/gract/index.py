@@ -1,53 +1,67 @@
-"""`Index`: an index that is asked, and `Cursor`: a path that is drawn row by row."""
+"""`Index`: an index that is asked."""
 
 import os
 import stat
+import weakref
 from types import TracebackType
-from typing import Any, List, Optional, Sequence, Set, Tuple, Type
+from typing import List, Optional, Sequence, Tuple, Type
 
 from . import questions
-from .answers import Facts, Stop
-from .asking import Asked, Instant, Object
+from .answers import Facts
+from .asking import Instant, Object
 from .child import Child, Reply
+from .cursor import Cursor
 from .errors import ArgumentError, ChangedError, ClosedError, GridError, SlotsError
 from .grid import Grid, grid_file
+from .overview import Overview
 from .program import Name, file_word, find_program
 from .questions import SLOT
+from .turns import Turn, in_turn
 
-# How many rows a cursor draws at once.
-DRAWN = 512
+# How high trees are at most.
+MOST_HEIGHT = 24
 
-# More bytes than the lines that free all slots, hold one and draw from it. Where a child takes as many, it is the one they all go to.
-SLOT_LINES = 1024
+INFO = questions.Info().line.encode() + b"\n"
 
 
-class Index(Asked):
+class Index(Overview):
     """An index file that is asked, through one child `gract ask`. It is a context manager; `close` ends the child, and so does the
     end of the last reference to it. `Asked` says what arguments may be, and has its questions.
 
-    After a refusal of the program the next question begins a new child; where the file was written meanwhile it is a `ChangedError`.
+    After a refusal of the program, and after anything else that goes wrong within a question, the next one begins a new child; where
+    the file was written meanwhile it is a `ChangedError`. Threads ask one after the other, and a copy of the process that was forked asks
+    by a child of its own. A question that a signal handler asks within another one is refused, by `BusyError`.
     """
 
     facts: Facts
 
-    def __init__(self, path: Name, *, program: Optional[Name] = None, grid: Optional[Grid] = None):
+    def __init__(self, path: Name, *, program: Optional[Name] = None, grid: Optional[Grid] = None, tail: Optional[Name] = None):
         self.file = file_word("path", path)
+        self.tail = None if tail is None else file_word("tail", tail)
         if grid is not None and not isinstance(grid, Grid):
             raise ArgumentError("grid", f"{grid!r} is no gract.Grid")
         self.program = find_program(program)
+        self._turn = Turn(f"the index {self.file}")
         self._child: Optional[Child] = None
         self._closed = False
-        self._slots: Set[int] = set()
-        self._let_go: List[int] = []
         self._stamp: Optional[Tuple[int, ...]] = None
+        self._known: Optional[Facts] = None
+        # Who has each slot.
+        self._holders: "List[Optional[weakref.ref[Cursor]]]" = [None] * (SLOT[1] + 1)
         beside = grid_file(self.file)
         self.grid = Grid.load(beside) if grid is None and beside.exists() else grid
         try:
-            self.facts = self.info()
+            self.facts = self._opened()
             self._match(self.grid)
         except BaseException:
             self._drop()
             raise
+
+    @in_turn
+    def _opened(self) -> Facts:
+        self._ready(0)
+        assert self._known is not None
+        return self._known
 
     def _match(self, grid: Optional[Grid]) -> None:
         if grid is not None and (grid.cell, grid.tick) != (self.facts.cell, self.facts.tick):
@@ -56,41 +70,83 @@ class Index(Asked):
                 f"tick {self.facts.tick}"
             )
 
-    # The child.
+    # The child. What follows up to `_first` is done in a turn.
 
-    def _begin(self, size: int) -> Child:
-        """The child, which takes so many bytes more: a new one where there is none, or where the one there was cannot."""
+    def _ready(self, size: int) -> Child:
+        """A clean child that takes so many bytes more: a new one where there is none. Any other is ended first."""
         if self._closed:
             raise ClosedError(f"the index {self.file}")
-        if self._child is not None and (self._child.ended or not self._child.has_room(size)):
-            child, self._child = self._child, None
-            child.close()
-        if self._child is None:
-            stamp = stamp_of(self.file)
-            if self._stamp is not None and stamp is not None and stamp != self._stamp:
-                raise ChangedError(self.file)
-            self._stamp = stamp
-            # A new child holds no cursor. Those that are drawn further hold their rest anew.
-            self._slots, self._let_go = set(), []
-            self._child = Child(self.program, self.file)
-        return self._child
+        child = self._child
+        if child is not None:
+            if child.is_clean and child.has_room(size):
+                return child
+            child.kill()
+        return self._begin()
 
-    def _exchange(self, lines: Sequence[bytes]) -> List[Reply]:
-        return self._begin(sum(map(len, lines))).exchange(lines)
+    def _begin(self) -> Child:
+        """A new child. Refuses, by `ChangedError`, where it may have opened another index than the first one did."""
+        stamp = self.refuse_changed()
+        child = Child(self.program, self.file, self.tail)
+        try:
+            child.begin()
+            facts: Facts = self._read(questions.Info, child.exchange([INFO])[0])
+            if stamp != stamp_of(self.file, self.tail) or self._known not in (None, facts):
+                raise ChangedError(self.file)
+        except BaseException:
+            child.kill()
+            raise
+        self._stamp, self._known, self._child = stamp, facts, child
+        return child
+
+    def refuse_changed(self) -> Optional[Tuple[int, ...]]:
+        """Refuses, by `ChangedError`, where the file was written since it was opened; what tells it from others."""
+        stamp = stamp_of(self.file, self.tail)
+        if self._stamp is not None and stamp is not None and stamp != self._stamp:
+            raise ChangedError(self.file)
+        return stamp
+
+    def _asked(self, child: Child, lines: Sequence[bytes]) -> List[Reply]:
+        """The replies of a child to the first of lines. Where anything goes wrong it is ended at once, and nobody waits for its replies."""
+        try:
+            return child.exchange(lines)
+        except BaseException:
+            child.kill()
+            raise
+
+    def _take_slot(self, cursor: Cursor) -> int:
+        """A slot that no cursor has which draws from it; now that one has it."""
+        if self._closed:
+            raise ClosedError(f"the index {self.file}")
+        for slot, holder in enumerate(self._holders):
+            other = None if holder is None else holder()
+            if other is None or not other.wants_slot:
+                self._holders[slot] = weakref.ref(cursor)
+                return slot
+        raise SlotsError(len(self._holders))
+
+    @in_turn
+    def _first(self, lines: Sequence[bytes]) -> List[Reply]:
+        return self._asked(self._ready(sum(map(len, lines))), lines)
 
     def _no_grid(self) -> str:
         return f"give grid=, or save one as {grid_file(self.file)}"
 
+    def _distrust(self) -> None:
+        child = self._child
+        if child is not None:
+            child.distrust()
+
+    @in_turn
     def _drop(self) -> None:
         if self._child is not None:
             self._child.kill()
 
+    @in_turn
     def close(self) -> None:
         """Ends the child. A second time it does nothing. Raises its outcome where it had not ended well by itself."""
         self._closed = True
-        child, self._child = self._child, None
-        if child is not None:
-            child.close()
+        if self._child is not None:
+            self._child.close()
 
     def __enter__(self) -> "Index":
         return self
@@ -107,116 +163,35 @@ class Index(Asked):
         state = "closed" if self._closed else f"{self.facts.objects} objects, instants {self.facts.first} to {self.facts.last}"
         return f"<Index {self.file}: {state}>"
 
+    def _lowest(self, other: int) -> int:
+        # Rows of a tail are in no tree, but within the limit of all trees.
+        return super()._lowest(other) if self.tail is None else other - (1 << MOST_HEIGHT) + 1
+
     def info(self) -> Facts:
         """Facts of the index. One line."""
         facts: Facts = self._answer(questions.Info())
         return facts
 
-    def held(self, object: Object, since: Optional[Instant] = None, until: Optional[Instant] = None) -> "Cursor":
-        """A cursor over an object's path in a window. It holds one of sixteen slots from its first row to its last, or until it is
-        closed; refuses, by `SlotsError`, a seventeenth. One line to hold it, one for each 512 rows, one to free it."""
+    @in_turn
+    def held(self, object: Object, since: Optional[Instant] = None, until: Optional[Instant] = None) -> Cursor:
+        """A cursor over an object's path in a window. It has one of sixteen slots until its last row was drawn, or until it is closed;
+        refuses, by `SlotsError`, a seventeenth. Two lines to hold the path, and one for each 512 rows."""
         return Cursor(self, self.number(object), *self.window(since, until))
 
-    # Slots.
 
-    def _take_slot(self) -> int:
-        self._begin(SLOT_LINES)
-        while self._let_go:
-            self._give_slot(self._let_go.pop())
-        free = next((slot for slot in range(SLOT[1] + 1) if slot not in self._slots), None)
-        if free is None:
-            raise SlotsError(SLOT[1] + 1)
-        self._slots.add(free)
-        return free
-
-    def _give_slot(self, slot: int) -> None:
-        self._answer(questions.Free(slot))
-        self._slots.discard(slot)
-
-
-class Cursor:
-    """An object's path that is drawn row by row: an iterator of `Stop`. Other questions may be asked meanwhile. It is a context
-    manager; `close` frees its slot, and so does the end of the path or of the last reference to it. Where the child was begun anew it
-    goes on after the last row that it drew."""
-
-    def __init__(self, index: Index, number: int, since: int, until: int):
-        self._index, self._number, self._since, self._until = index, number, since, until
-        self._slot: Optional[int] = None
-        self._child: Optional[Child] = None
-        self._drawn: List[Stop] = []
-        self._ended = self._closed = False
-        self._hold()
-
-    def _hold(self) -> None:
-        index = self._index
-        slot = index._take_slot()
-        index._answer(questions.Hold(slot, self._number, self._since, self._until))
-        self._slot, self._child = slot, index._child
-
-    def _holds(self) -> bool:
-        """Whether the child that is asked now has it in a slot."""
-        return self._slot is not None and self._index._begin(SLOT_LINES) is self._child
-
-    def __iter__(self) -> "Cursor":
-        return self
-
-    def __next__(self) -> Stop:
-        if self._closed:
-            raise ClosedError("the cursor")
-        if not self._drawn:
-            self._draw(DRAWN)
-        if not self._drawn:
-            raise StopIteration
-        return self._drawn.pop()
-
-    def _draw(self, count: int) -> None:
-        if self._ended:
-            return
-        if not self._holds():
-            self._hold()
-        stops = self._index._answer(questions.More(self._slot, count))
-        if len(stops) < count:
-            self._ended = True
-            self._free()
-        else:
-            self._since = stops[-1].instant + 1
-        self._drawn = stops[::-1]
-
-    def _free(self) -> None:
-        if self._holds():
-            self._index._give_slot(self._slot)
-        self._slot = None
-
-    def close(self) -> None:
-        """Frees the slot. A second time it does nothing."""
-        if not self._closed:
-            self._closed = True
-            if not self._index._closed:
-                self._free()
-
-    def __enter__(self) -> "Cursor":
-        return self
-
-    def __exit__(self, *_: Any) -> None:
-        self.close()
-
-    def __del__(self) -> None:
-        # No question is asked here, since this may come at any time; the slot is freed before the next is taken.
-        if getattr(self, "_slot", None) is not None and self._index._child is self._child:
-            self._index._let_go.append(self._slot)
-
-
-def stamp_of(file: str) -> Optional[Tuple[int, ...]]:
-    """What tells a file on disk from one that was written in its place: its node, its length, and when it was written."""
+def stamp_of(file: str, tail: Optional[str] = None) -> Optional[Tuple[int, ...]]:
+    """What tells a file on disk from one that was written in its place: its node, its length, and when it was written; of a tail too."""
     try:
         found = os.stat(file)
     except OSError:
         return None
-    return (found.st_dev, found.st_ino, found.st_size, found.st_mtime_ns) if stat.S_ISREG(found.st_mode) else None
+    if not stat.S_ISREG(found.st_mode):
+        return None
+    return (found.st_dev, found.st_ino, found.st_size, found.st_mtime_ns, *((stamp_of(tail) or ()) if tail is not None else ()))
 
 
-def open(path: Name, *, program: Optional[Name] = None, grid: Optional[Grid] = None) -> Index:
+def open(path: Name, *, program: Optional[Name] = None, grid: Optional[Grid] = None, tail: Optional[Name] = None) -> Index:
     """Opens an index: begins `gract ask` and asks for its facts, so that a file that is no index is told at once. The grid is the one
-    given, else that of NAME.grid.json beside it, else none. Refuses by `ProgramNotFound`, by the program's own refusals, and by
-    `GridError` where the grid is not that of the index."""
-    return Index(path, program=program, grid=grid)
+    given, else that of NAME.grid.json beside it, else none. A tail is a CSV file of rows that came since, which are asked together with
+    it. Refuses by `ProgramNotFound`, by the program's own refusals, and by `GridError` where the grid is not that of the index."""
+    return Index(path, program=program, grid=grid, tail=tail)

@@ -3,9 +3,9 @@
 from collections import OrderedDict
 from pathlib import Path
 from types import TracebackType
-from typing import Any, Dict, List, Mapping, NamedTuple, NoReturn, Optional, Protocol, Sequence, Tuple, Type, TypeVar, Union
+from typing import Any, Dict, Iterator, List, Mapping, NamedTuple, NoReturn, Optional, Protocol, Sequence, Tuple, Type, TypeVar, Union
 
-from .answers import Facts
+from .answers import Facts, Hit
 from .asking import Asked
 from .child import Reply
 from .errors import (
@@ -13,9 +13,9 @@ from .errors import (
 )
 from .grid import Grid
 from .index import Index
-from .parts import Manifest, digest_of
+from .manifest import ByObject, Listed, Manifest, digest_of
 from .program import Name, file_word, find_program
-from .questions import Info
+from .questions import EVERYWHERE, Info, Interval
 from .routes import Route, Router
 
 # What a part is refused by whose file is not what it was.
@@ -36,32 +36,36 @@ class Asker(Protocol):
     """Who asks parts: here, or by workers."""
 
     def ask(self, lines: Mapping[int, List[bytes]]) -> Dict[int, Outcome]:
-        """The replies of each part to its lines, or that it is damaged. Raises any other refusal."""
+        """The replies of each part to the first of its lines, or that it is damaged. Raises any other refusal."""
 
     def close(self) -> None:
         """Ends what was begun for it."""
 
 
 class Opener:
-    """Indices of parts that are open, by their files; of more than `most` those are closed that were asked longest ago."""
+    """Indices of parts that are open; of more than `most` those are closed that were asked longest ago."""
 
     def __init__(self, program: str, most: int):
         self.program, self.most = program, most
-        self._open: "OrderedDict[Tuple[str, str], Index]" = OrderedDict()
+        self._open: "OrderedDict[Listed, Index]" = OrderedDict()
 
-    def ask(self, file: str, sha256: str, lines: List[bytes]) -> Outcome:
-        """The replies of a part to lines, or that it is damaged."""
+    def ask(self, listed: Listed, lines: List[bytes]) -> Outcome:
+        """The replies of a part to the first of lines, or that it is damaged."""
         try:
-            return self._index(file, sha256)._exchange(lines)
+            return self._index(listed)._first(lines)
         except DAMAGE as refusal:
             return refusal
 
-    def _index(self, file: str, sha256: str) -> Index:
-        index = self._open.pop((file, sha256), None) or open_part(file, sha256, self.program)
-        self._open[file, sha256] = index
+    def _index(self, listed: Listed) -> Index:
+        index = self._open.pop(listed, None) or open_part(listed, self.program)
+        self._open[listed] = index
         while len(self._open) > self.most:
             self._open.popitem(last=False)[1]._drop()
         return index
+
+    def indices(self) -> List[Index]:
+        """Those that are open."""
+        return list(self._open.values())
 
     def close(self) -> None:
         """Closes all."""
@@ -69,16 +73,30 @@ class Opener:
             self._open.popitem()[1]._drop()
 
 
-def open_part(file: str, sha256: str, program: str) -> Index:
-    """The index of a part. Refuses, by `OtherFileError`, one that is not the one that was built."""
-    index = Index(file, program=program)
+def open_part(listed: Listed, program: str) -> Index:
+    """The index of a part. Refuses, by `OtherFileError`, one that is not what the list says: another file, or of other days, cells or
+    objects."""
+    index = Index(listed.file, program=program)
     try:
-        if digest_of(file) != sha256:
-            raise OtherFileError(file)
+        digest = digest_of(listed.file)
+        index.refuse_changed()
+        if digest != listed.part.sha256:
+            raise OtherFileError(listed.file, "it has another sha256")
+        for why in (*listed.differences(index.facts), *strangers(listed, index)):
+            raise OtherFileError(listed.file, why)
     except BaseException:
         index._drop()
         raise
     return index
+
+
+def strangers(listed: Listed, index: Index) -> Iterator[str]:
+    """What objects an index has that are not of its part, where parts are by object."""
+    if isinstance(listed.cut, ByObject):
+        hits: List[Hit] = next(index.ask([Interval(*index.window(None, None), EVERYWHERE)]))
+        for hit in hits:
+            if listed.cut.part(hit.object) != listed.number:
+                yield f"it has object {hit.object}, which is of part {listed.cut.part(hit.object)}"
 
 
 class Parted(Asked):
@@ -111,7 +129,7 @@ class Parted(Asked):
     def _noted(self, notes: Sequence[str] = ()) -> Sequence[str]:
         return [*notes, *(f"without part {number}: {refusal}" for number, refusal in sorted(self.damaged.items()))]
 
-    def _exchange(self, lines: Sequence[bytes]) -> List[Reply]:
+    def _first(self, lines: Sequence[bytes]) -> List[Reply]:
         while True:
             routes = [self._answered(self._router.route(line)) for line in lines]
             wanted: Dict[int, List[bytes]] = {}
@@ -120,8 +138,7 @@ class Parted(Asked):
                     wanted.setdefault(part, []).append(line)
             found = self._replies(wanted)
             if found.keys() == wanted.keys():
-                given = {part: iter(replies) for part, replies in found.items()}
-                return [route.reply([next(given[part]) for part, _ in route.asked]) for route in routes]
+                return list(joined(routes, {part: iter(replies) for part, replies in found.items()}))
 
     def _answered(self, route: Route) -> Route:
         """A route without damaged parts. Of one that has no other any part is asked, for whether its line is bad."""
@@ -137,7 +154,7 @@ class Parted(Asked):
         raise PartsError(lost, len(self.manifest.parts))
 
     def _replies(self, lines: Mapping[int, List[bytes]]) -> Dict[int, List[Reply]]:
-        """The replies of parts that are not damaged. Those that are found to be are left out from now on, or refused."""
+        """The replies to the first lines of parts that are not damaged. Those that are found to be are left out from now on, or refused."""
         if self._asker is None:
             raise ClosedError(f"the parts of {self.folder}")
         outcomes = self._asker.ask(lines)
@@ -164,6 +181,16 @@ class Parted(Asked):
     def __repr__(self) -> str:
         state = "closed" if self._asker is None else f"instants {self.facts.first} to {self.facts.last}"
         return f"<{type(self).__name__} {self.folder}: {len(self.manifest.parts)} parts, {state}>"
+
+
+def joined(routes: Sequence[Route], given: Mapping[int, Iterator[Reply]]) -> Iterator[Reply]:
+    """The replies to the first lines, as far as the replies of all parts go that they were asked of."""
+    for route in routes:
+        replies = [next(given[part], None) for part, _ in route.asked]
+        told = [reply for reply in replies if reply is not None]
+        if len(told) < len(replies):
+            return
+        yield route.reply(told)
 
 
 def load(path: Name, cut: Type[Any], program: Optional[Name], grid: Optional[Grid]) -> Tuple[Path, Manifest, str]:

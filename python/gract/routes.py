@@ -12,7 +12,7 @@ from typing import Callable, Dict, List, NamedTuple, Optional, Sequence, Tuple
 
 from .child import Reply
 from .errors import ArgumentError
-from .parts import ByObject, Manifest
+from .manifest import ByObject, Manifest
 from .questions import INSTANT, OBJECT, RADIUS, Range
 
 NUMERAL = re.compile(rb"([+-]?)0*([0-9]{1,20})")
@@ -35,7 +35,8 @@ class Route(NamedTuple):
 
     def reply(self, replies: Sequence[Reply]) -> Reply:
         """The reply to the line."""
-        return next((reply for reply in replies if is_bad(reply)), None) or self.join(replies)
+        bad = [reply for reply in replies if is_bad(reply)]
+        return bad[0] if bad else self.join(replies)
 
 
 def is_bad(reply: Reply) -> bool:
@@ -117,12 +118,10 @@ class Router:
     """The routes of lines to the parts of a folder, of which some may be left out."""
 
     def __init__(self, manifest: Manifest, left_out: Sequence[int] = ()):
-        self.cut = manifest.cut
+        self.cut, self.tick = manifest.cut, manifest.tick
         self.all = sorted(manifest.parts)
         # Any part that answers, of which a line is asked that no part has to answer.
         self.any = next((number for number in self.all if number not in left_out), self.all[0])
-        self._firsts = [manifest.parts[number].first for number in self.all]
-        self._lasts = [manifest.parts[number].last for number in self.all]
 
     def route(self, line: bytes) -> Route:
         """The route of a line, with its end."""
@@ -178,11 +177,13 @@ class Router:
         return self._to([], line, functools.partial(refused, word))
 
     def _at(self, words: List[bytes], since: int, until: int) -> List[int]:
-        """The parts with rows in the window between two words, in the order of time."""
+        """The parts of the window between two words, in the order of time. What the list says of their instants is not asked: a part that
+        has none there says so."""
         first, last = number_at(words, since, INSTANT), number_at(words, until, INSTANT)
         if first is None or last is None:
             return []
-        return self.all[bisect_left(self._lasts, first) : bisect_right(self._firsts, last)]
+        since_part, until_part = (self.cut.part(instant * self.tick) for instant in (first, last))
+        return self.all[bisect_left(self.all, since_part) : bisect_right(self.all, until_part)]
 
 
 def number_at(words: Sequence[bytes], place: int, span: Range) -> Optional[int]:

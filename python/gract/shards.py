@@ -15,13 +15,14 @@ import pickle
 import threading
 from contextlib import contextmanager
 from pathlib import Path
-from typing import Any, Callable, Dict, Iterator, List, Mapping, Optional, Tuple
+from typing import Any, Callable, Dict, Iterator, List, Mapping, Optional, Sequence, Tuple
 
 from .errors import DistributedMissing, WorkerLost
 from .grid import Grid, whole
 from .index import Index
+from .manifest import COUNTS, ByObject, Listed, Manifest
 from .parted import DAMAGE, Outcome, Parted, load, open_part
-from .parts import COUNTS, ByObject, Manifest, Run
+from .parts import Run
 from .parts import build as build_parts
 from .program import Name
 
@@ -39,8 +40,8 @@ class Shard:
     """A shard that a worker has, opened when it is first asked. The scheduler sends what is asked of it to the worker that has it, and
     makes another where that worker died. Its copy in another process is opened there."""
 
-    def __init__(self, program: str, file: str, sha256: str):
-        self._words = program, file, sha256
+    def __init__(self, program: str, listed: Listed):
+        self._words = program, listed
         self._index: Optional[Index] = None
         self._lock = threading.Lock()
 
@@ -49,16 +50,17 @@ class Shard:
 
     def __sizeof__(self) -> int:
         # What the scheduler takes it to cost to have it elsewhere: it would be read there.
-        return os.path.getsize(self._words[1]) if os.path.exists(self._words[1]) else object.__sizeof__(self)
+        file = self._words[1].file
+        return os.path.getsize(file) if os.path.exists(file) else object.__sizeof__(self)
 
     def ask(self, lines: List[bytes]) -> Outcome:
-        """The replies to lines, or that it is damaged."""
-        program, file, sha256 = self._words
+        """The replies to the first of lines, or that it is damaged."""
+        program, listed = self._words
         with self._lock:
             try:
                 if self._index is None:
-                    self._index = open_part(file, sha256, program)
-                return self._index._exchange(lines)
+                    self._index = open_part(listed, program)
+                return self._index._first(lines)
             except DAMAGE as refusal:
                 return refusal
 
@@ -74,13 +76,12 @@ class Workers:
 
     def __init__(self, client: Any, folder: Path, manifest: Manifest, program: str, end: Optional[Callable[[], None]]):
         self._client, self._end = client, end
-        self._files = {number: str(folder.resolve() / part.file) for number, part in manifest.parts.items()}
-        words = {number: (program, self._files[number], part.sha256) for number, part in sorted(manifest.parts.items())}
-        self._shards = {number: client.submit(Shard, *said, pure=False) for number, said in words.items()}
+        self._parts = manifest.listed(folder.resolve())
+        self._shards = {number: client.submit(Shard, program, listed, pure=False) for number, listed in self._parts.items()}
 
     def ask(self, lines: Mapping[int, List[bytes]]) -> Dict[int, Outcome]:
-        """The replies of each shard to its lines, or that it is damaged. Refuses, by `WorkerLost`, a shard of which worker after worker
-        died."""
+        """The replies of each shard to the first of its lines, or that it is damaged. Refuses, by `WorkerLost`, a shard of which worker
+        after worker died."""
         from distributed.scheduler import KilledWorker
 
         submit, shards = self._client.submit, self._shards
@@ -89,7 +90,7 @@ class Workers:
             return dict(zip(futures, map(pickle.loads, self._client.gather(list(futures.values())))))
         except KilledWorker:
             lost = next((number for number, future in futures.items() if future.status == "error"), next(iter(futures)))
-            raise WorkerLost(self._files[lost]) from None
+            raise WorkerLost(self._parts[lost].file) from None
 
     def close(self) -> None:
         """Lets go of the shards, which closes them, and ends the workers that were begun for them."""
@@ -130,10 +131,12 @@ def begun(client: Optional[Any], workers: Optional[int]) -> Tuple[Any, Optional[
     # A cluster lets go of a worker that is not there so long after it died. One that dies again by then may be on its way.
     config.set({"distributed.deploy.lost-worker-timeout": LOST})
     any_port = f"{HERE}:0"
-    cluster = LocalCluster(
+    begin_cluster: Any = LocalCluster
+    begin_client: Any = Client
+    cluster = begin_cluster(
         n_workers=count, threads_per_worker=1, processes=True, host=HERE, dashboard_address=any_port, worker_dashboard_address=any_port,
     )
-    known = Client(cluster)
+    known = begin_client(cluster)
 
     def end() -> None:
         known.close()
@@ -144,21 +147,28 @@ def begun(client: Optional[Any], workers: Optional[int]) -> Tuple[Any, Optional[
 
 def by_workers(client: Any) -> Run:
     """Runs a function with each argument by workers. What a worker that died was to do is done anew."""
-    return lambda function, arguments: client.gather(client.map(function, arguments, pure=False))
+    def run(function: Callable[[Any], Any], arguments: Sequence[Any]) -> List[Any]:
+        done: List[Any] = client.gather(client.map(function, arguments, pure=False))
+        return done
+
+    return run
 
 
 def build(rows: Any, path: Name, *, count: int, cell: Optional[int] = None, tick: Optional[int] = None, period: int = 120,
-          grid: Optional[Grid] = None, program: Optional[Name] = None, client: Optional[Any] = None, workers: Optional[int] = None) -> None:
+          grid: Optional[Grid] = None, program: Optional[Name] = None, client: Optional[Any] = None, workers: Optional[int] = None,
+          replace: bool = False) -> None:
     """Builds `count` shards of rows in the folder `path`, with a list of them: an object is in that of its number modulo `count`.
 
     `rows` are those of `gract.build`, or the names of several CSV files, which workers cut side by side. `client` is one of Dask's, whose
     workers have this package, the program, and the files under the same names; else so many `workers` as are said, or as there are
-    processors, are begun on this machine and ended. The other arguments, and what is refused, are those of `gract.build`; a folder that is
-    there and has no shards is not written into.
+    processors, are begun on this machine and ended. The other arguments, and what is refused, are those of `gract.build`. A folder that
+    has other things in it is not written into. One that has parts is refused too, by `OverwriteError`, since all of them would be lost:
+    with `replace` these shards take their place.
     """
     cut = ByObject(whole("count", count, *COUNTS))
     with at_work(client, workers) as known:
-        build_parts(rows, path, cut, cell=cell, tick=tick, period=period, grid=grid, program=program, run=by_workers(known))
+        build_parts(rows, path, cut, cell=cell, tick=tick, period=period, grid=grid, program=program, run=by_workers(known),
+                    replace=replace)
 
 
 def open(path: Name, *, program: Optional[Name] = None, grid: Optional[Grid] = None, partial: bool = False,

@@ -7,7 +7,7 @@ import unittest
 from pathlib import Path
 
 import gract
-from gract import cutting, days, parted, parts, shards
+from gract import cutting, days, manifest, parted, parts, shards
 
 from . import plain
 from .parted import Charts, reply_bytes
@@ -17,13 +17,13 @@ CHARTS = 20
 
 def shards_here(folder, partial=False):
     """Shards without workers."""
-    path, manifest, program = parted.load(folder, parts.ByObject, None, None)
-    return shards.Shards(path, manifest, days.Here(path, manifest, program), program, partial, None)
+    path, listed, program = parted.load(folder, manifest.ByObject, None, None)
+    return shards.Shards(path, listed, days.Here(path, listed, program), program, partial, None)
 
 
 def build_here(rows, folder, count, **words):
     known = {"cell": None, "tick": None, "period": 30, "grid": None, "program": None, "run": parts.one_by_one}
-    parts.build(rows, folder, parts.ByObject(count), **{**known, **words})
+    parts.build(rows, folder, manifest.ByObject(count), **{**known, **words})
 
 
 class Parts(unittest.TestCase):
@@ -37,7 +37,7 @@ class Parts(unittest.TestCase):
         for seed in range(CHARTS):
             with self.subTest(seed=seed):
                 chart = Charts(self, self.folder, seed)
-                build_here(chart.sources(), self.folder / "parts", 3, **chart.words)
+                build_here(chart.sources(), self.folder / "parts", 3, replace=True, **chart.words)
                 with shards_here(self.folder / "parts") as asked:
                     chart.compared(asked)
                     self.assertEqual(sum(facts.objects for facts in asked.info().values()), len(chart.table.objects))
@@ -48,7 +48,7 @@ class Parts(unittest.TestCase):
             with self.subTest(seed=seed):
                 chart = Charts(self, self.folder, seed)
                 length = chart.tick * chart.draw.choice([1, 5, 30, 1000])
-                days.build(chart.sources(), self.folder / "parts", length=length, **chart.words)
+                days.build(chart.sources(), self.folder / "parts", length=length, replace=True, **chart.words)
                 with days.open(self.folder / "parts") as asked:
                     chart.compared(asked)
                     for number, part in asked.manifest.parts.items():
@@ -144,9 +144,9 @@ class Parts(unittest.TestCase):
         with self.assertRaises(gract.RowError):
             bad = self.folder / "bad.csv"
             bad.write_text("1,0,0,0\n2,0,0,x\n")
-            build_here(str(bad), folder, 3)
+            build_here(str(bad), folder, 3, replace=True)
         self.assertEqual(sorted(os.listdir(folder)), before)
-        days.build([(item, item, 0, 0) for item in range(9)], folder, length=3)
+        days.build([(item, item, 0, 0) for item in range(9)], folder, length=3, replace=True)
         self.assertEqual(len(os.listdir(folder)), 4)
         with self.assertRaises(gract.ArgumentError):
             shards_here(folder)
@@ -222,10 +222,10 @@ class Parts(unittest.TestCase):
     def test_a_list_that_is_none(self):
         folder = self.folder / "parts"
         build_here([(1, 0, 0, 0)], folder, 2)
-        told = (folder / parts.LIST).read_text()
+        told = (folder / manifest.LIST).read_text()
         wrong = [('"form": 1', '"form": 2'), ("object", "colour"), ("sha256", "md5"), ("part_", "../part_"), ('"first": 0', '"first": "x"')]
         for text in ("", "[]", '{"form": 1}', *(told.replace(*pair) for pair in wrong)):
-            (folder / parts.LIST).write_text(text)
+            (folder / manifest.LIST).write_text(text)
             with self.assertRaises(gract.ManifestError):
                 shards_here(folder)
 

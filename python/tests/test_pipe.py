@@ -65,7 +65,7 @@ class Pipe(unittest.TestCase):
 
     def test_another_child_in_time(self):
         """Before the program has taken all bytes that it takes a new child is begun, and cursors go on in it."""
-        with mock.patch.object(child, "MOST_QUESTIONS", 1500), mock.patch("gract.index.DRAWN", 3):
+        with mock.patch.object(child, "MOST_QUESTIONS", 1500), mock.patch("gract.cursor.DRAWN", 3):
             with gract.open(plain.STORMS_INDEX) as index:
                 cursor, pids = index.held(278), set()
                 whole, got = self.table.path(278, 0, 10**6), []
@@ -81,7 +81,7 @@ class Pipe(unittest.TestCase):
 
     def test_a_killed_child(self):
         """It is told, the next question begins another, and a cursor goes on where it was, however often."""
-        with gract.open(plain.STORMS_INDEX) as index, mock.patch("gract.index.DRAWN", 1):
+        with gract.open(plain.STORMS_INDEX) as index, mock.patch("gract.cursor.DRAWN", 1):
             cursor, drawn = index.held(278), []
             for _ in range(20):
                 os.kill(index._child.pid, signal.SIGKILL)
@@ -205,7 +205,7 @@ class Pipe(unittest.TestCase):
         """After an interrupt within a question the next one is answered."""
         with gract.open(plain.STORMS_INDEX) as index:
             before = index._child.pid
-            with mock.patch("gract.child.os.read", side_effect=KeyboardInterrupt):
+            with mock.patch("gract.child.Child._await", side_effect=KeyboardInterrupt):
                 with self.assertRaises(KeyboardInterrupt):
                     index.info()
             self.assertFalse(is_there(before))

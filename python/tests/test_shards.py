@@ -68,7 +68,7 @@ class Shards(unittest.TestCase):
         for seed in range(CHARTS):
             with self.subTest(seed=seed):
                 chart = Charts(self, self.folder, seed)
-                shards.build(chart.sources(), self.folder / "parts", count=3, client=self.client, **chart.words)
+                shards.build(chart.sources(), self.folder / "parts", count=3, client=self.client, replace=True, **chart.words)
                 with shards.open(self.folder / "parts", client=self.client) as asked:
                     chart.compared(asked)
 
