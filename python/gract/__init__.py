@@ -10,10 +10,12 @@ It is tested against the program, whose answers are.
 
 from . import questions
 from .answers import Answers, Cell, Facts, Hit, Last, Life, Meeting, Near, Sighting, Stop, Visit
-from .building import build
+from .building import Built, build
+from .cursor import Cursor
 from .errors import (
     ArgumentError,
     BadQuestion,
+    BusyError,
     ChangedError,
     ChildDied,
     ClosedError,
@@ -23,6 +25,7 @@ from .errors import (
     FormatError,
     GractError,
     GridError,
+    LibraryMissing,
     LimitError,
     ListenError,
     LoadError,
@@ -39,22 +42,25 @@ from .errors import (
     SaveError,
     SayError,
     SlotsError,
+    SourceError,
     WordsError,
     WorkerLost,
 )
 from .grid import Circle, Grid, Place, RawRow, Reach
-from .index import Cursor, Index, open
-from .planes import Degrees, Metres
-from .program import find_program
+from .index import Index, open
+from .planes import Degrees, Metres, Projected
+from .program import find_program, program_sum
+from .proposals import Proposal, propose
 from .questions import Disc, Rect, Zone, disc, rect, zone
 
 __version__ = "0.1.0"
 
 __all__ = [
-    "Answers", "ArgumentError", "BadQuestion", "Cell", "ChangedError", "ChildDied", "Circle", "ClosedError", "Cursor", "Degrees",
-    "DeviceError", "Disc", "DistributedMissing", "EmptyError", "Facts", "FormatError", "GractError", "Grid", "GridError", "Hit", "Index",
-    "Last", "Life", "LimitError", "ListenError", "LoadError", "ManifestError", "Meeting", "MemoryRefused", "Metres", "Near",
-    "OtherFileError", "OverwriteError", "PandasMissing", "PartsError", "Place", "ProgramError", "ProgramNotFound", "RawRow", "Reach",
-    "Rect", "ReplyError", "RowError", "SaveError", "SayError", "Sighting", "SlotsError", "Stop", "Visit", "WordsError", "WorkerLost", "Zone",
-    "build", "disc", "find_program", "open", "questions", "rect", "zone",
+    "Answers", "ArgumentError", "BadQuestion", "Built", "BusyError", "Cell", "ChangedError", "ChildDied", "Circle", "ClosedError",
+    "Cursor", "Degrees", "DeviceError", "Disc", "DistributedMissing", "EmptyError", "Facts", "FormatError", "GractError", "Grid",
+    "GridError", "Hit", "Index", "Last", "LibraryMissing", "Life", "LimitError", "ListenError", "LoadError", "ManifestError",
+    "Meeting", "MemoryRefused", "Metres", "Near", "OtherFileError", "OverwriteError", "PandasMissing", "PartsError", "Place",
+    "ProgramError", "ProgramNotFound", "Projected", "Proposal", "RawRow", "Reach", "Rect", "ReplyError", "RowError", "SaveError",
+    "SayError", "Sighting", "SlotsError", "SourceError", "Stop", "Visit", "WordsError", "WorkerLost", "Zone", "build", "disc",
+    "find_program", "open", "program_sum", "propose", "questions", "rect", "zone",
 ]

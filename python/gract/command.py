@@ -1,16 +1,19 @@
 """The command `python3 -m gract`, for those who do not program."""
 
 import argparse
+import importlib
 import os
 import sys
-from typing import Any, Dict, List, Optional, Sequence
+from typing import Any, Callable, Dict, List, NamedTuple, Optional, Sequence
 
 from . import building, output, wording
-from .answers import OBJECTS
 from .errors import GractError
+from .explorer import command as exploring
 from .grid import Grid
 from .index import Index
 from .index import open as open_index
+from .proposals import propose
+from .records import OBJECTS
 
 PROMPT = "gract> "
 ENDS = ("quit", "exit")
@@ -30,10 +33,30 @@ standard error, with status 1.
 """
 
 
-def parser() -> argparse.ArgumentParser:
-    """What the command line may be."""
+class Other(NamedTuple):
+    """A command of a module of its own, which is loaded where it is asked for: `add_to(parser)` gives it its words, `run(given)` runs it
+    and answers with the status."""
+
+    module: str
+    help: str
+
+
+OTHERS: Dict[str, Other] = {
+    "rows": Other("gract.rows.command", "make rows of files of tracks, whatever their format is"),
+    "plot": Other("gract.pictures.plot", "draw questions and their replies as an SVG, or as a page to look around in"),
+    "map": Other("gract.pictures.maps", "write questions and their replies as GeoJSON, GPX or CSV"),
+    "zone": Other("gract.zones", "make question lines of a zone that is a polygon"),
+    "first_hits": Other("gract.pictures.first_hits", "make one reply of the replies to several lines that ask of one zone"),
+    "cell": Other("gract.cells", "print the cell of a longitude and a latitude, or with --back those of a cell's corner"),
+    "instant": Other("gract.instants", "print the instant of a time, or with --back the time at which an instant begins"),
+}
+
+
+def parser(words: Sequence[str] = ()) -> argparse.ArgumentParser:
+    """What the command line may be; of the commands of other modules those are known whole that the words name."""
     top = argparse.ArgumentParser(prog="python3 -m gract", description="Questions to an index of gract, with dates and degrees.")
-    top.add_argument("--program", metavar="FILE", help="the program gract (else that of GRACT, on the path, or of this checkout)")
+    elsewhere = "else that of GRACT, of the wheel, on the path, or of this checkout"
+    top.add_argument("--program", metavar="FILE", help=f"the program gract ({elsewhere})")
     commands = top.add_subparsers(dest="command", required=True)
     ask = commands.add_parser(
         "ask", help="ask an index", epilog=EXAMPLES.format(questions="\n".join(f"    {line}" for line in wording.help_lines())),
@@ -55,25 +78,47 @@ def parser() -> argparse.ArgumentParser:
     build.add_argument("--unit", type=int, default=1, metavar="SECONDS", help="of a unit of time of the rows (1)")
     build.add_argument("--west", type=int, default=-180, metavar="LONGITUDE", help="where the plane is cut (-180)")
     build.add_argument("--names", metavar="FILE", help="a CSV file object,name")
+    for name, other in OTHERS.items():
+        command = commands.add_parser(name, help=other.help, description=f"{other.help[0].upper()}{other.help[1:]}.")
+        if name in words:
+            importlib.import_module(other.module).add_to(command)
+    add_propose(commands)
+    exploring.add_to(commands.add_parser("explore", help="look around in an index on a map, in the browser"))
     return top
+
+
+def add_propose(commands: Any) -> None:
+    """Adds the words of `propose`."""
+    propose = commands.add_parser("propose", help="tell which plane, cell, tick and period suit a CSV file of reports, and why")
+    propose.add_argument("file", metavar="FILE")
+    for word in ("id", "time", "lon", "lat", "x", "y"):
+        propose.add_argument(f"--{word}", metavar="COLUMN", help="a column, where it is not called as usual")
+    for word in ("cell", "tick", "period"):
+        propose.add_argument(f"--{word}", type=int, help="what is taken as it is")
+    propose.add_argument("--stretch", type=float, help="how far metres may stretch before degrees are proposed (0.25)")
 
 
 def run(words: Optional[Sequence[str]] = None) -> int:
     """Runs a command line, and answers with its status."""
-    given = parser().parse_args(words)
+    words = sys.argv[1:] if words is None else words
+    given = parser(words).parse_args(words)
     try:
-        return run_build(given) if given.command == "build" else run_ask(given)
+        if given.command in OTHERS:
+            return int(importlib.import_module(OTHERS[given.command].module).run(given))
+        return RUNS[given.command](given)
     except GractError as refusal:
         return tell(refusal)
     except BrokenPipeError:
         # Whoever reads only the first lines has all that is wanted.
         os.dup2(os.open(os.devnull, os.O_WRONLY), sys.stdout.fileno())
         return 0
+    except OSError as refusal:
+        return tell(refusal)
     except KeyboardInterrupt:
         return 130
 
 
-def tell(refusal: GractError) -> int:
+def tell(refusal: Exception) -> int:
     """Tells a refusal on standard error, and answers with the status that it is worth."""
     print(f"gract: {refusal}", file=sys.stderr)
     return 1
@@ -94,6 +139,13 @@ def run_build(given: argparse.Namespace) -> int:
     return 0
 
 
+def run_propose(given: argparse.Namespace) -> int:
+    """Tells what suits a file."""
+    settings = {name: value for name, value in vars(given).items() if name not in ("command", "program", "file")}
+    print(propose(given.file, **settings).text)
+    return 0
+
+
 def run_ask(given: argparse.Namespace) -> int:
     """Asks one question, or those that are typed."""
     grid = Grid.load(given.grid) if given.grid else None
@@ -102,6 +154,11 @@ def run_ask(given: argparse.Namespace) -> int:
             say(index, given.question, given.format)
             return 0
         return prompt(index, given.format) if sys.stdin.isatty() else read_lines(index, given.format)
+
+
+RUNS: Dict[str, Callable[[argparse.Namespace], int]] = {
+    "ask": run_ask, "build": run_build, "explore": exploring.run, "propose": run_propose,
+}
 
 
 def say(index: Index, words: Sequence[str], form: str) -> None:

@@ -5,7 +5,7 @@ from typing import TYPE_CHECKING, Dict, Iterator, List, Optional
 from .answers import Hit, Last, Life, Stop, Visit
 from .errors import ArgumentError
 from .grid import Grid, Reach
-from .planes import Degree
+from .planes import Degree, Projected
 from .questions import EVERYWHERE, INSTANT, Interval, Path, Region
 
 if TYPE_CHECKING:
@@ -22,7 +22,7 @@ def last_known(index: "Asked", at: int, within: int, region: Region) -> List[Las
     found: List[Hit] = next(index.ask([Interval(since, at, region)]))
     paths = index.ask(Path(hit.object, hit.instant, at) for hit in found)
     rows = ((hit.object, stops[-1]) for hit, stops in zip(found, paths))
-    return [Last(number, *stop, at - stop.instant) for number, stop in rows if region.contains(stop.x, stop.y)]
+    return [Last(number, stop.instant, stop.x, stop.y, at - stop.instant) for number, stop in rows if region.contains(stop.x, stop.y)]
 
 
 def visits(index: "Asked", region: Region, since: int, until: int, gap: Optional[int]) -> List[Visit]:
@@ -69,9 +69,10 @@ def reach_of(index: "Asked", grid: Grid, metres: Degree, number: int, since: int
         # Nobody meets it.
         return grid.reach(metres, 0, 0)
     xs, ys = [stop.x for stop in stops], [stop.y for stop in stops]
-    west, south = grid.corner(min(xs), min(ys))
-    east, north = grid.corner(max(xs) + 1, max(ys) + 1)
-    found = grid.reach(metres, south, north)
+    west, south, east, north = grid.degrees_of(min(xs), min(ys), max(xs), max(ys))
+    found = grid.reach(metres, south, north, west=west, east=east)
+    if isinstance(grid.plane, Projected):
+        return found
     far = grid.corner(found.cells, 0).longitude
     if not grid.west <= west - far <= east + far <= grid.west + 360:
         raise ArgumentError("metres", f"object {number} comes near to longitude {grid.west}, at which the plane is cut: give reach=")

@@ -2,10 +2,22 @@
 
 import csv
 import os
-from typing import Dict, List, Optional, Tuple
+import re
+from typing import Dict, Iterable, List, Optional, Tuple
 
 # The greatest object number that gract takes.
 MOST_OBJECT = 2**32 - 1
+
+# Python reads no number of thousands of digits.
+MOST_DIGITS = 20
+
+# What no picture or map may hold: control characters, halves of surrogate pairs, and what is no character (XML 1.0, 2.2).
+UNSHOWN = re.compile("[\x00-\x1f\x7f-\x9f\ud800-\udfff\ufffe\uffff]")
+
+
+def shown(text: str) -> str:
+    """A name or a title as pictures and maps show it: what cannot stand there becomes U+FFFD."""
+    return UNSHOWN.sub("\ufffd", text)
 
 
 class Numbers:
@@ -26,7 +38,7 @@ class Numbers:
                 self.last += 1
                 self.found[name] = self.last
             return self.found[name]
-        if not (name.isascii() and name.isdigit()) or int(name) > MOST_OBJECT:
+        if not is_number(name):
             raise ValueError(f"{name} is no object number up to {MOST_OBJECT}")
         return int(name)
 
@@ -37,6 +49,17 @@ class Numbers:
                 table = csv.writer(lines, lineterminator="\n")
                 table.writerow(("object", "name"))
                 table.writerows((number, name) for name, number in self.found.items())
+
+
+def is_number(name: str) -> bool:
+    """Whether a name is an object's number."""
+    return name.isascii() and name.isdigit() and len(name) <= MOST_DIGITS and int(name) <= MOST_OBJECT
+
+
+def names_of(called: Iterable[str]) -> Optional[Dict[int, str]]:
+    """The names of objects by their numbers from 1, in their order; None where all are numbers already."""
+    names = list(called)
+    return None if all(map(is_number, names)) else dict(enumerate(names, 1))
 
 
 def read_names(file: str) -> List[Tuple[int, str]]:

@@ -1,6 +1,7 @@
 """The program gract: where it is, and what its outcomes are as exceptions."""
 
 import csv
+import hashlib
 import os
 import re
 import shutil
@@ -12,6 +13,9 @@ from . import errors
 from .errors import ProgramError
 
 Name = Union[str, "os.PathLike[str]"]
+
+# The wheel that has the program has it here.
+IN_WHEEL = Path(__file__).resolve().parent / "bin" / "gract"
 
 # python/gract/program.py stands two folders below the top of a checkout.
 CHECKOUT = Path(__file__).resolve().parent.parent.parent
@@ -25,8 +29,9 @@ WORD = re.compile(r"gract: word (\d+) is not as expected")
 
 
 def find_program(program: Optional[Name] = None) -> str:
-    """The program: the one named, else that of the variable GRACT, else gract on the path, else ./gract of this checkout. The first
-    that is said counts, even where it is not there. Refuses, by `ProgramNotFound`, where there is none that can be run."""
+    """The program: the one named, else that of the variable GRACT, else that of the wheel from which this package was installed, else
+    gract on the path, else ./gract of this checkout. The first that is said counts, even where it is not there. Refuses, by
+    `ProgramNotFound`, where there is none that can be run."""
     if program is not None and not isinstance(program, (str, os.PathLike)):
         raise errors.ArgumentError("program", f"{program!r} is no name of a file")
     tried: List[str] = []
@@ -38,14 +43,31 @@ def find_program(program: Optional[Name] = None) -> str:
                 return found
             raise errors.ProgramNotFound([f"{where} says {name}, which is {'no program' if os.path.exists(name) else 'not there'}"])
         tried.append(f"{where} is not given")
+    if can_run(IN_WHEEL):
+        return str(IN_WHEEL)
+    tried.append("the package was installed from no wheel that has it")
     found = shutil.which("gract")
     if found:
         return found
     tried.append("there is none on the path")
     built = CHECKOUT / "gract"
-    if built.is_file() and os.access(built, os.X_OK):
+    if can_run(built):
         return str(built)
     raise errors.ProgramNotFound([*tried, f"nor is it {built}"])
+
+
+def can_run(file: Path) -> bool:
+    """Whether it is a file that can be run."""
+    return file.is_file() and os.access(file, os.X_OK)
+
+
+def program_sum(program: Optional[Name] = None) -> str:
+    """The sha256 of the program that is run, to compare with that of CHANGELOG.md. Finds and refuses it as `find_program` does."""
+    found = hashlib.sha256()
+    with beginning(file := find_program(program)), open(file, "rb") as data:
+        for piece in iter(lambda: data.read(1 << 20), b""):
+            found.update(piece)
+    return found.hexdigest()
 
 
 @contextmanager

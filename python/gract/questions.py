@@ -5,8 +5,8 @@ program would call its line bad. So no question of these is ever a bad line.
 """
 
 import dataclasses
-import functools
-from typing import Any, ClassVar, Dict, List, NamedTuple, Optional, Tuple, Type, Union
+import operator
+from typing import Any, Callable, ClassVar, Dict, List, NamedTuple, Optional, Tuple, Type, Union
 
 from . import answers
 from .errors import ArgumentError
@@ -75,18 +75,21 @@ EVERYWHERE = Rect(COORDINATE[0], COORDINATE[0], COORDINATE[1], COORDINATE[1])
 
 def rect(x1: int, y1: int, x2: int, y2: int) -> Rect:
     """The cells from x1 to x2 and from y1 to y2, both counted. Refuses what are no coordinates of cells."""
-    return checked_region("rect", Rect(x1, y1, x2, y2))
+    found: Rect = checked_region("rect", Rect(x1, y1, x2, y2))
+    return found
 
 
 def disc(x: int, y: int, r: int) -> Disc:
     """The cells whose distance from (x, y) is at most r. Refuses what are no coordinates, and a radius outside 0 to 2^42."""
-    return checked_region("disc", Disc(x, y, r))
+    found: Disc = checked_region("disc", Disc(x, y, r))
+    return found
 
 
 def zone(*shapes: Shape) -> Zone:
     """The cells that are in at least one of 1 to 16 shapes, each a `rect` or a `disc`. Refuses another number of shapes, and what is no
     shape. A question line has 1,024 bytes, which hold sixteen shapes of usual numbers; the question refuses those that it does not."""
-    return checked_region("zone", Zone(shapes))
+    found: Zone = checked_region("zone", Zone(shapes))
+    return found
 
 
 def checked_region(argument: str, region: Any) -> Any:
@@ -121,10 +124,44 @@ def number(span: Range) -> Any:
     return dataclasses.field(metadata={"span": span})
 
 
-@functools.lru_cache(maxsize=None)
-def fields_of(kind: Type[Any]) -> Tuple[Tuple[str, Optional[Range]], ...]:
-    """The fields of a kind of question, each with its range; a region has none."""
-    return tuple((field.name, field.metadata.get("span")) for field in dataclasses.fields(kind))
+def shaped() -> Any:
+    """A field that is a region."""
+    return dataclasses.field()
+
+
+class Form:
+    """The fields of a kind of question, each with its range, where a region has none, and the form of its line: how its fields become
+    words. It is found once for each kind, since there may be very many questions."""
+
+    def __init__(self, kind: Any):
+        self.fields: Tuple[Tuple[str, Optional[Range]], ...] = tuple(
+            (field.name, field.metadata.get("span")) for field in dataclasses.fields(kind)
+        )
+        names = [name for name, _ in self.fields]
+        self.has_region = any(span is None for _, span in self.fields)
+        self.line = " ".join([kind.word, *["%s" if span is None else "%d" for _, span in self.fields]])
+        self._values: Callable[[Any], Any] = operator.attrgetter(*(names or ["word"]))
+
+    def line_of(self, question: Any) -> str:
+        """The line of a question of this kind, without its end."""
+        if not self.fields:
+            return self.line
+        values = self._values(question)
+        if self.has_region:
+            values = tuple(value if type(value) is int else region_words(value) for value in values)
+        line: str = self.line % values
+        return line
+
+
+FORMS: Dict[Any, Form] = {}
+
+
+def form_of(kind: Any) -> Form:
+    """The form of a kind of question."""
+    found = FORMS.get(kind)
+    if found is None:
+        found = FORMS[kind] = Form(kind)
+    return found
 
 
 @dataclasses.dataclass(frozen=True)
@@ -137,13 +174,14 @@ class Question:
     common: ClassVar[Tuple[str, ...]] = ()
 
     def __post_init__(self) -> None:
-        for name, span in fields_of(type(self)):
+        for name, span in form_of(type(self)).fields:
             value = getattr(self, name)
             if span and type(value) is int and span[0] <= value <= span[1]:
                 continue
             object.__setattr__(self, name, whole(name, value, *span) if span else checked_region(name, value))
             if type(value) is Zone and len(self.line) > MOST_BYTES:
-                raise ArgumentError(name, f"its {len(value.shapes)} shapes make a line of {len(self.line)} bytes, and {MOST_BYTES} is the most")
+                size = f"{len(value.shapes)} shapes make a line of {len(self.line)} bytes"
+                raise ArgumentError(name, f"its {size}, and {MOST_BYTES} is the most")
 
     @classmethod
     def read(cls, lines: List[bytes]) -> Any:
@@ -153,11 +191,7 @@ class Question:
     @property
     def line(self) -> str:
         """The question's line, without its end."""
-        words = [self.word]
-        for name, span in fields_of(type(self)):
-            value = getattr(self, name)
-            words.append(str(value) if span else region_words(value))
-        return " ".join(words)
+        return form_of(type(self)).line_of(self)
 
     @property
     def asked(self) -> Dict[str, int]:
@@ -205,7 +239,7 @@ class Slice(Question):
     row = answers.Sighting
     common = ("instant",)
     instant: int = number(INSTANT)
-    region: Region = dataclasses.field()
+    region: Region = shaped()
 
 
 @dataclasses.dataclass(frozen=True)
@@ -216,7 +250,7 @@ class Interval(Question):
     row = answers.Hit
     since: int = number(INSTANT)
     until: int = number(INSTANT)
-    region: Region = dataclasses.field()
+    region: Region = shaped()
 
 
 @dataclasses.dataclass(frozen=True)
@@ -302,9 +336,8 @@ class Other(Question):
         return [tuple(map(int, line.split())) for line in lines]
 
 
-KINDS: Dict[str, Type[Question]] = {
-    kind.word: kind for kind in (Position, Path, Slice, Interval, Nearest, Meet, Info, Hold, More, Free)
-}
+ALL: Tuple[Type[Question], ...] = (Position, Path, Slice, Interval, Nearest, Meet, Info, Hold, More, Free)
+KINDS: Dict[str, Type[Question]] = {kind.word: kind for kind in ALL}
 
 # The kinds of which a slot is a part: `Index.held` keeps the slots, and so nobody else may ask them.
 SLOT_KINDS = ("hold", "more", "free")

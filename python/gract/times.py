@@ -42,7 +42,10 @@ def seconds_of(time: Time, form: Optional[str] = None) -> int:
     if hour > 23 or minute > 59 or second > 60:
         raise ValueError(f"not a time: {text}")
     days = datetime.date(year, month, day).toordinal() - FIRST_DAY
-    offset = 60 * (60 * int(found.group(8) or 0) + int(found.group(9) or 0))
+    hours, minutes = int(found.group(8) or 0), int(found.group(9) or 0)
+    if hours > 23 or minutes > 59:
+        raise ValueError(f"not an offset from UTC: {text}")
+    offset = 60 * (60 * hours + minutes)
     return 86400 * days + 3600 * hour + 60 * minute + second - (-offset if found.group(7) == "-" else offset)
 
 

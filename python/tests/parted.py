@@ -102,4 +102,3 @@ def written(draw, rows):
         # What follows a closing quote belongs to the field.
         return "".join(f'"{item}"," {when} ","{str(x)[:-1]}"{str(x)[-1]},\t{y}\r' for item, when, x, y in rows)
     return "".join(f"+{line}\n" for line in lines)
-

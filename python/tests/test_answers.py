@@ -173,28 +173,24 @@ class Answers(unittest.TestCase):
         """An index is the same whatever its rows come as."""
         with tempfile.TemporaryDirectory() as folder:
             rows = plain.read_rows(plain.STORMS)
-            frame = Frame(rows, ("object", "time", "x", "y"))
-            for nth, source in enumerate((plain.STORMS, str(plain.STORMS), rows, iter(rows), [list(row) for row in rows], frame)):
+            for nth, source in enumerate((plain.STORMS, str(plain.STORMS), rows, iter(rows), [list(row) for row in rows])):
                 file = Path(folder) / f"{nth}.idx"
                 gract.build(source, file, cell=1, tick=6, period=1461)
                 self.assertEqual(file.read_bytes(), plain.STORMS_INDEX.read_bytes())
-                self.assertEqual(gract.build(rows, str(file), tick=6, period=1461), None)
-            self.assertEqual(len(list(Path(folder).iterdir())), 6)
+                built = gract.build(rows, str(file), tick=6, period=1461)
+                self.assertEqual((built.file, built.rows, built.period), (str(file), len(rows), 1461))
+            self.assertEqual(len(list(Path(folder).iterdir())), 5)
 
-
-class Frame:
-    """As much of a DataFrame as `build` uses, where there is no pandas."""
-
-    def __init__(self, rows, columns):
-        self.rows, self.columns = rows, columns
-
-    def rename(self, columns):
-        return Frame(self.rows, tuple(columns.get(name, name) for name in self.columns))
-
-    def __getitem__(self, names):
-        places = [self.columns.index(name) for name in names]
-        return Frame([tuple(row[place] for place in places) for row in self.rows], tuple(names))
-
-    def itertuples(self, index, name):
-        assert index is False and name is None
-        return iter(self.rows)
+    def test_tail_bounds(self):
+        """Rows of a tail may be far from all rows of the index."""
+        rows = [(number, at, number, at) for number in range(3) for at in range(20)]
+        for far in (8000000, -8000000, 100000):
+            later = [(2, 20, 5, far), (3, 21, -far, 0), (4, 22, 7, 7)]
+            with tempfile.TemporaryDirectory() as folder:
+                file, tail = Path(folder) / "few.idx", Path(folder) / "tail.csv"
+                gract.build(rows, file, period=120)
+                tail.write_text("".join("{},{},{},{}\n".format(*row) for row in later))
+                with gract.open(file, tail=tail) as index:
+                    xs, ys = ([row[axis] for row in rows + later] for axis in (2, 3))
+                    self.assertEqual(index.bounds, (min(xs), min(ys), max(xs), max(ys)))
+                    self.assertEqual((len(index), 4 in index, index.span), (5, True, (0, 22)))

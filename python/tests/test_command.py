@@ -52,6 +52,16 @@ class Command(unittest.TestCase):
     def ask(self, *words, **others):
         return command("ask", self.index, *words, **others)
 
+    def test_propose(self):
+        samples = plain.TOP / "examples" / "samples"
+        proposal = gract.propose(samples / "ais.csv", cell=50)
+        self.assertEqual(command("propose", samples / "ais.csv", "--cell", 50), (0, f"{proposal.text}\n", ""))
+        status, out, err = command("propose", samples / "ais-milliseconds.csv", "--id", "beacon", "--time", "t")
+        self.assertEqual((status, err), (0, ""))
+        self.assertIn("a shorter tick passes the limit span; 1 of 3 reports are lost", out)
+        refused = "gract: id: no column is called as usual: say which by id=. There are lon, lat, t, beacon\n"
+        self.assertEqual(command("propose", samples / "ais-milliseconds.csv"), (1, "", refused))
+
     def test_formats(self):
         question = "position", "object=Katrina", "at=2005-08-29 06:00"
         heading = "object,name,instant,time,x,y,longitude,latitude\n"

@@ -1,5 +1,6 @@
 """Each exception once or more, with its fields; those that no real program can be made to give, by a stand-in."""
 
+import hashlib
 import inspect
 import json
 import os
@@ -13,7 +14,7 @@ from pathlib import Path
 from unittest import mock
 
 import gract
-from gract import days, errors, parted, parts, shards
+from gract import days, errors, manifest, parted, shards, zones
 
 from . import plain
 
@@ -124,7 +125,7 @@ class Errors(unittest.TestCase):
         grid = gract.Grid(cell=5)
         wrong = [
             ("cell", dict(cell=0)), ("cell", dict(cell=1.5)), ("tick", dict(tick=2**30 + 1)), ("period", dict(period=0)),
-            ("period", dict(period=2**22 + 1)), ("period", dict(period=None)), ("cell", dict(cell=4, grid=grid)), ("grid", dict(grid=5)),
+            ("period", dict(period=2**22 + 1)), ("cell", dict(cell=4, grid=grid)), ("grid", dict(grid=5)),
         ]
         for argument, others in wrong:
             with self.refused(gract.ArgumentError, argument, argument=argument):
@@ -147,6 +148,50 @@ class Errors(unittest.TestCase):
         with self.refused(gract.OverwriteError):
             gract.build([(1, 0, 0, 0)], self.folder)
 
+    def test_names_and_pipes(self):
+        """A name that is too long is refused in words, and a pipe is not waited for."""
+        for length in (250, 255, 256):
+            with self.refused(gract.ArgumentError, f"has {length} bytes, and 249 is the most", argument="path"):
+                gract.build([(1, 0, 0, 0)], self.folder / ("a" * length))
+        with self.refused(gract.ArgumentError, "has 240 bytes, and 237 is the most", argument="path"):
+            gract.build([(1, 0, 0, 0)], self.folder / ("\u00e9" * 118 + ".idx"), grid=gract.Grid())
+        gract.build([(1, 0, 0, 0)], self.folder / ("a" * 249))
+        gract.build([(1, 0, 0, 0)], self.folder / ("b" * 233 + ".idx"), grid=gract.Grid())
+        pipe = self.folder / "pipe"
+        os.mkfifo(pipe)
+        with self.refused(gract.OverwriteError, "is no index", path=str(pipe)):
+            gract.build([(1, 0, 0, 0)], pipe)
+
+    def test_texts_and_numbers_that_are_none(self):
+        """No text and no number is so long, and none so wrong, that what is raised is no refusal."""
+        grid = gract.Grid.degrees(10, tick=6, unit=3600, names=plain.NAMES)
+        with gract.open(plain.STORMS_INDEX, grid=grid) as storms:
+            for argument, ask in [
+                ("at", lambda: storms.position(1, 10**5000)), ("at", lambda: storms.position(1, "1" * 5000)), ("object", lambda: storms.path(-10**5000)),
+                ("object", lambda: storms.path("1" * 5000)), ("object", lambda: storms.path("\ud800")), ("within", lambda: storms.last_known(0, "9" * 5000 + " d")),
+                ("asked: question 1", lambda: list(storms.ask(["position 1 \ud800"]))), ("at", lambda: storms.position(1, "2005-08-29 06:00+99:99")),
+                ("at", lambda: storms.position(1, "2005-08-29 06:00-24:00")), ("at", lambda: storms.position(1, "2005-08-29 06:00+02:60")),
+            ]:
+                with self.refused(gract.ArgumentError, argument=argument):
+                    ask()
+            self.assertEqual(storms.position("Katrina", "2005-08-29 08:30+02:30"), (-896, 293))
+        file = self.file("storms.idx", plain.STORMS_INDEX.read_bytes())
+        names = '{"grid": 1, "cell": 1, "tick": 6, "unit": 1, "epoch": %s, "west": 0, "names": {"%s": "%s"}}'
+        for text in ("[" * 100000, names % ("1e999", "1", "a"), names % ("1", "1" * 5000, "a"), names % ("1" * 5000, "1", "a"),
+                     names % ("1", "1", "\\ud800"), names % ("NaN", "1", "a"), names % ("1", "x", "a")):
+            self.file("storms.grid.json", text)
+            with self.refused(gract.GridError, "storms.grid.json"):
+                gract.open(file)
+
+    def test_busy(self):
+        """A question within a question of the same thread."""
+        with gract.open(plain.STORMS_INDEX) as storms, storms._turn.lock:
+            self.assertEqual(storms.position(278, 52097), (-896, 293))
+            storms._turn.is_taken = True
+            with self.refused(gract.BusyError, "is being asked by this very thread", what=f"the index {plain.STORMS_INDEX}"):
+                storms.position(278, 52097)
+            storms._turn.is_taken = False
+
     def test_no_program(self):
         with self.refused(gract.ProgramNotFound, "program= says /none/gract"):
             gract.open(plain.STORMS_INDEX, program="/none/gract")
@@ -162,11 +207,17 @@ class Errors(unittest.TestCase):
         with mock.patch.dict(os.environ, PATH=str(self.folder)), mock.patch("gract.program.CHECKOUT", self.folder):
             os.environ.pop("GRACT", None)
             with self.refused(gract.ProgramNotFound, "none on the path", tried=(
-                "program= is not given", "the variable GRACT is not given", "there is none on the path", f"nor is it {self.folder}/gract",
+                "program= is not given", "the variable GRACT is not given", "the package was installed from no wheel that has it",
+                "there is none on the path", f"nor is it {self.folder}/gract",
             )):
                 gract.find_program()
             (self.folder / "gract").symlink_to(STAND_IN)
             self.assertEqual(gract.find_program(), f"{self.folder}/gract")
+            self.assertEqual(gract.program_sum(), hashlib.sha256(STAND_IN.read_bytes()).hexdigest())
+            with mock.patch("gract.program.IN_WHEEL", STAND_IN):
+                self.assertEqual(gract.find_program(), str(STAND_IN))
+                with mock.patch.dict(os.environ, GRACT=str(self.folder / "gract")):
+                    self.assertEqual(gract.find_program(), f"{self.folder}/gract")
 
     def test_grids(self):
         file = self.file("storms.idx", plain.STORMS_INDEX.read_bytes())
@@ -210,6 +261,9 @@ class Errors(unittest.TestCase):
         with gract.open(plain.STORMS_INDEX) as storms, mock.patch.dict(sys.modules, pandas=None):
             with self.refused(gract.PandasMissing, "pandas is not installed"):
                 storms.slice(52097).frame()
+        with gract.open(plain.STORMS_INDEX) as storms, mock.patch.dict(sys.modules, {"matplotlib": None, "matplotlib.pyplot": None}):
+            with self.refused(gract.LibraryMissing, "python3-matplotlib", library="matplotlib"):
+                storms.slice(52097).plot()
 
     # What the program refuses.
 
@@ -259,6 +313,10 @@ class Errors(unittest.TestCase):
             with self.stand_in(status=4, text=f"gract: limit {kind} passed at 7\n") as index:
                 with self.refused(gract.LimitError, kind=kind, value=7):
                     index.position(1, 1)
+
+    def test_sources(self):
+        with self.refused(gract.SourceError, "line 1 is no corner, which is two numbers: no corner"):
+            zones.polygons_in(self.file("zone.txt", "no corner\n"))
 
     def test_damaged_indices(self):
         data = plain.STORMS_INDEX.read_bytes()
@@ -344,15 +402,15 @@ class Errors(unittest.TestCase):
             with self.refused(gract.PartsError, f"1 of 2 parts cannot be asked: part 0: {one} is an index, and not the one"):
                 asked.path(1)
         with self.refused(gract.OtherFileError, str(one), file=str(one)):
-            raise parted.Opener(gract.find_program(), 1).ask(str(one), "", [b"info\n"])
+            raise parted.Opener(gract.find_program(), 1).ask(asked.manifest.listed(folder)[0], [b"info\n"])
         with self.refused(gract.ManifestError, "no such file", file=str(self.folder / "parts.json")):
             days.open(self.folder)
 
     def test_a_lost_worker(self):
         """A shard of which one worker after the other dies is told."""
-        manifest = parts.Manifest(parts.ByObject(1), 1, 1, 1, {0: parts.Part("part_0.idx", "", 0, 0)})
+        listed = manifest.Manifest(manifest.ByObject(1), 1, 1, 1, {0: manifest.Part("part_0.idx", "", 0, 0)})
         with mock.patch.dict(sys.modules, {"distributed": Scheduler, "distributed.scheduler": Scheduler}):
-            workers = shards.Workers(Scheduler, self.folder, manifest, gract.find_program(), None)
+            workers = shards.Workers(Scheduler, self.folder, listed, gract.find_program(), None)
             with self.refused(gract.WorkerLost, "Is there memory enough?", file=str(self.folder.resolve() / "part_0.idx")):
                 workers.ask({0: [b"info\n"]})
 

@@ -75,7 +75,7 @@ class Times(unittest.TestCase):
 
 class Places(unittest.TestCase):
     grids = [
-        gract.Grid.metres(55, cell=100, tick=60), gract.Grid.metres(-33.5, cell=7), gract.Grid.degrees(10), gract.Grid.degrees(1000, cell=30, west=0),
+        gract.Grid.metres(55, cell=100, tick=60, stretch=1), gract.Grid.metres(-33.5, cell=7, stretch=2), gract.Grid.degrees(10), gract.Grid.degrees(1000, cell=30, west=0),
         gract.Grid.metres(0, cell=1), gract.Grid.metres(55, cell=50000),
     ]
 
@@ -173,7 +173,7 @@ class Places(unittest.TestCase):
                 near = [instant for instant in range(8) if ground(reports[2 * instant][2:], reports[2 * instant + 1][2:]) <= metres]
                 with gract.open(file) as ships:
                     found = ships.meet(1, 2, metres=metres)
-                    note, = found.notes
+                    note = found.notes[0]
                 self.assertTrue(not near or (found and found[0].instant <= near[0]))
                 for row in found:
                     apart = ground(reports[2 * row.instant][2:], reports[2 * row.instant + 1][2:])
@@ -191,6 +191,7 @@ class Places(unittest.TestCase):
             self.assertEqual(answers.notes, (
                 "70000 metres around (-90, 29.9) are asked as disc -900 299 9, a radius in cells that leaves no row out; "
                 f"rows up to {int(grid.circle(-90, 29.9, 70000).reach) + 1} metres away may be among those found",
+                "here a way in the plane is up to 16% longer or shorter than on the ground: Grid.utm and Grid.projected stretch less",
             ))
             self.assertEqual(list(answers.records()), [{
                 "instant": 52097, "time": "2005-08-29 06:00", "object": 278, "name": "Katrina", "x": -896, "y": 293, "longitude": -89.55,
@@ -247,6 +248,28 @@ class Files(unittest.TestCase):
             with self.assertRaises(gract.ArgumentError) as refused:
                 gract.Grid.metres(50).rows([(1, "0", 0, 0), wrong])
             self.assertEqual(refused.exception.argument, f"reports: report 2: {argument}")
+
+    def test_stretch(self):
+        """Reports where metres are wrong by more than a quarter are refused, unless that is allowed; answers in metres say it from 5 % on."""
+        wide = [(1, 0, 10.0, -45.0), (1, 60, 10.0, 54.0)]
+        for ask in (lambda: gract.Grid.of_reports(wide), lambda: gract.Grid.metres(5).rows(wide), lambda: gract.Grid.metres(5, stretch=0.69).rows(wide)):
+            with self.assertRaisesRegex(gract.ArgumentError, "between the latitudes -45 and 54 .* up to (70|69)% longer .* say stretch=0.7"):
+                ask()
+        grid = gract.Grid.of_reports(wide, stretch=0.7)
+        self.assertEqual((grid.plane.middle, len(grid.rows(wide)), len(gract.Grid.degrees(10).rows(wide))), (4, 2, 2))
+        # 1.25 times is the most: cos(50) = 0.643 and cos(59) = 0.515 are that far from each other.
+        self.assertEqual(len(gract.Grid.metres(50).rows([(1, 0, 0, 59.0)])), 1)
+        for latitude in (59.1, 36.4):
+            with self.assertRaises(gract.ArgumentError):
+                gract.Grid.metres(50).rows([(1, 0, 0, latitude)])
+        with tempfile.TemporaryDirectory() as folder:
+            grid = gract.Grid.metres(50, cell=100)
+            gract.build(grid.rows([(item, 0, 0.0, latitude) for item, latitude in enumerate((50.0, 52.0, 57.0))]), Path(folder) / "a.idx", grid=grid)
+            with gract.open(Path(folder) / "a.idx") as index:
+                notes = [index.slice(0, around=(0, latitude), metres=1000).notes for latitude in (50, 52, 57)]
+                self.assertEqual([len(told) for told in notes], [1, 1, 2])
+                self.assertIn("up to 18% longer", notes[2][1])
+                self.assertEqual([len(index.meet(item, item, metres=1000).notes) for item in range(3)], [1, 1, 2])
 
     def test_wrong_grids(self):
         for argument, make in [

@@ -12,7 +12,7 @@ FILES = sorted((plain.TOP / "python").rglob("*.py"))
 OWN = {"gract", "tests"}
 
 # What is used only where it is there.
-OPTIONAL = {"pandas", "readline", "dask", "distributed"}
+OPTIONAL = {"pandas", "geopandas", "matplotlib", "pyproj", "readline", "dask", "distributed"}
 
 
 class Package(unittest.TestCase):
