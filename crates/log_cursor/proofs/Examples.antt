@@ -1,5 +1,6 @@
 -- The definitions, run on a worked block.
-use Rattle.std.proofs.Common.{◌≡◌, ℕ, pos, List, [], ◌∷◌, Some, None, refl}
+use Rattle.std.proofs.Common.{◌≡◌, ℕ, ℤ, pos, List, [], ◌∷◌, Some, None, refl, sym, arith}
+use Rattle.std.proofs.lemmas.Int.{ints}
 use Rattle.track_types.specs.declared.region.Region.{Region}
 use Rattle.track_types.specs.declared.region.Region.TheVariants.{Disc, Rect}
 use Rattle.rule_store.specs.View.{RulesView, rules_with}
@@ -13,8 +14,9 @@ use Rattle.spiral_code.specs.Spiral.{move_of}
 use Rattle.log_cursor.specs.Seek.{cell_among}
 use Rattle.log_cursor.specs.Start.{start_at}
 use Rattle.log_cursor.specs.Touching.{first_hit_of, touching_count}
-use Rattle.log_cursor.specs.Walk.{at_rest, walk_from}
+use Rattle.log_cursor.specs.Walk.{at_rest, begins_left, reads_to, walk_from}
 use Rattle.log_cursor.specs.declared.start.Start.{Start}
+use Rattle.log_cursor.proofs.WalkLemmas.{walk_from-empty}
 
 -- an absence, and a movement to the right; rule 2 is the movement and the absence, and rule 3 is rule 2 twice
 abbrev four : RulesView
@@ -34,16 +36,38 @@ is_absent = refl
 
 -- rule 3 and its second part meet the window
 windowed : walk_from four log (start_at (pos 10) (cell_with (pos 5) (pos 5))) (pos 13) (pos 14)
-    ≡ record { rules = four; stops = stop_at (pos 13) (cell_with (pos 7) (pos 5)) ∷ []; reads = 4 }
-unfolding in_window block_stops stops_after log_values values_of expansion_of table_of_rules cells_along stops_from move_of
+    ≡ record {
+      rules = four;
+      stops = stop_at (pos 13) (cell_with (pos 7) (pos 5)) ∷ [];
+      reads = 4;
+      unread = 2;
+      begins = pos 11 ∷ pos 13 ∷ [];
+    }
+unfolding begins_left in_window block_stops stops_after log_values values_of expansion_of table_of_rules cells_along stops_from move_of
     block_budget opened_count nodes_in parsed bounding_box_of box_round
 windowed = refl
 
+-- the whole block is read for five reads; up to the first movement they are four, since rule 3 and its first part are
+-- opened, and up to the anchor the two of its symbols
+abbrev whole : ℤ → ℕ
+whole = reads_to (walk_from four log (start_at (pos 10) (cell_with (pos 5) (pos 5))) (pos 10) (pos 20))
+
+all_reads : whole (pos 20) ≡ 5
+unfolding begins_left nodes_in parsed table_of_rules bounding_box_of box_round cells_along move_of
+all_reads = refl
+
+reads_to_a_movement : whole (pos 11) ≡ 4
+unfolding begins_left nodes_in parsed table_of_rules bounding_box_of box_round cells_along move_of
+reads_to_a_movement = refl
+
+reads_to_the_anchor : whole (pos 10) ≡ 2
+unfolding begins_left nodes_in parsed table_of_rules bounding_box_of box_round cells_along move_of
+reads_to_the_anchor = refl
+
 -- a window that ends before it begins
 backwards : walk_from four log (start_at (pos 10) (cell_with (pos 5) (pos 5))) (pos 14) (pos 13) ≡ at_rest four
-unfolding in_window block_stops stops_after log_values values_of expansion_of table_of_rules cells_along stops_from move_of
-    block_budget
-backwards = refl
+backwards = sym (walk_from-empty four log (start_at (pos 10) (cell_with (pos 5) (pos 5))) (pos 14) (pos 13)
+    (omega (arith, ints)))
 
 abbrev anchor : Start
 anchor = start_at (pos 10) (cell_with (pos 5) (pos 5))

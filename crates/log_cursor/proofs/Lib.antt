@@ -6,7 +6,9 @@ mod StackLemmas
 mod WalkLemmas
 pub mod TouchLemmas
 pub mod HitLemmas
+pub mod ExtentLemmas
 mod TurnLemmas
+mod InTimeLemmas
 mod SearchLemmas
 mod SeekLemmas
 mod Examples

@@ -1,8 +1,9 @@
 -- One turn of a walk: the next symbol is taken off with its entry, and is passed over, is opened, or has the stop that is
 -- wanted. What is proved here once serves the drawing of stops and the search of a region.
-use Rattle.std.proofs.Common.{◌≡◌, ℕ, suc, ◌+◌, ◌<◌, ◌≤◌, ℤ, ◌≤ℤ◌, ◌<ℤ◌, Bool, true, List, [], ◌∷◌, ◌++◌, length, Option, None, refl, ap, append_assoc, sym, subst, ◌∙◌, arith}
+use Rattle.std.proofs.Common.{◌≡◌, ℕ, suc, ◌+◌, ◌<◌, ◌≤◌, ℤ, pos, ◌+ℤ◌, ◌≤ℤ◌, ◌<ℤ◌, Bool, true, List, [], ◌∷◌, ◌++◌, length, Option, None, refl, ap, append_assoc, sym, subst, ◌∙◌, arith}
 use Rattle.std.specs.Option.{is_some}
 use Rattle.std.specs.Prelude.{find}
+use Rattle.std.proofs.lemmas.Int.{ints}
 use Rattle.std.proofs.lemmas.List.Folds.{find-append}
 use Rattle.track_types.specs.Region.{in_region}
 use Rattle.track_types.specs.declared.cell.Cell.{Cell}
@@ -16,6 +17,7 @@ use Rattle.rule_store.specs.Entry.{entry_of}
 use Rattle.rule_store.specs.Expansion.{values_of}
 use Rattle.rule_store.specs.Flaws.{AreRules, left_of, right_of}
 use Rattle.rule_store.specs.Log.{log_values, stop_at}
+use Rattle.rule_store.proofs.ExpansionLemmas.{values_of-terminal}
 use Rattle.rule_store.specs.declared.entry.Entry.{Entry}
 use Rattle.log_cursor.specs.Pending.{IsTaken, PendingView}
 use Rattle.log_cursor.specs.Start.{IsHullAsked, IsWayOf, start_after, start_past}
@@ -112,6 +114,15 @@ module _ {wanted : Stop → Bool} {may : Cell → Option CellBox → Bool} {rule
 
   pub turn-rules : now.rules ≡ rules
   turn-rules = turn.same ∙ walking.same
+
+  -- it ends no earlier than it begins, and a terminal ends an instant later
+  pub turn-onward : at.instant ≤ℤ next.instant
+  turn-onward = rw past_is (omega (arith, ints))
+
+  pub turn-one : entry.symbol < length now.rules.alphabet → next.instant ≡ at.instant +ℤ pos 1
+  turn-one terminal =
+      let one = ap length (values_of-terminal rules entry.symbol (rw turn-rules at terminal)) in
+      rw past_is (omega (arith, ints, one))
 
   pub turn-way : IsWayOf rules next now.symbols
   turn-way = rw turn.leads (taken-next walking turn.taken)

@@ -1,10 +1,11 @@
 -- One turn of a walk over a window: a symbol is passed over, is opened, or has the next stop.
-use Rattle.std.proofs.Common.{◌≡◌, ℕ, ◌<◌, ◌≤◌, ℤ, pos, ◌+ℤ◌, ◌≤ℤ◌, ◌<ℤ◌, Bool, true, false, List, [], ◌∷◌, ◌++◌, length, filter, Option, Some, None, refl, ap, sym, ◌∙◌, arith}
+use Rattle.std.proofs.Common.{◌≡◌, ℕ, ◌<◌, ◌≤◌, ℤ, pos, ◌+ℤ◌, ◌≤ℤ◌, ◌<ℤ◌, Bool, true, false, List, [], ◌∷◌, ◌++◌, length, filter, map, Option, Some, None, refl, ap, sym, ◌∙◌, arith}
 use Rattle.std.specs.Option.{is_some, option_to_list}
 use Rattle.track_types.specs.declared.cell_box.CellBox.{CellBox}
 use Rattle.std.specs.Int.Signed.{le_z}
 use Rattle.std.proofs.lemmas.Int.{ints}
 use Rattle.std.proofs.lemmas.List.Elements.{filter-append}
+use Rattle.list_laws.proofs.MemberLemmas.{filter-none}
 use Rattle.track_types.specs.Region.{is_between}
 use Rattle.track_types.specs.declared.cell.Cell.{Cell}
 use Rattle.track_types.specs.declared.stop.Stop.{Stop}
@@ -16,13 +17,13 @@ use Rattle.rule_store.specs.Cells.{cells_along}
 use Rattle.rule_store.specs.Boxes.{bounding_box_of}
 use Rattle.rule_store.specs.Flaws.{left_of, right_of}
 use Rattle.rule_store.specs.Log.{block_stops, in_window, log_values, stop_at, stops_after}
-use Rattle.rule_store.specs.Nodes.{block_budget}
+use Rattle.rule_store.specs.Nodes.{block_budget, is_opened, nodes_in}
 use Rattle.rule_store.proofs.ExpansionLemmas.{values_of-terminal}
 use Rattle.rule_store.proofs.LogLemmas.{stops_after-none}
 use Rattle.rule_store.proofs.NodeLemmas.{opened_count-none}
 use Rattle.log_cursor.specs.Pending.{PendingView}
 use Rattle.log_cursor.specs.Start.{start_past}
-use Rattle.log_cursor.specs.Walk.{at_rest, walk_from, stops_left, walk_of}
+use Rattle.log_cursor.specs.Walk.{at_rest, begin_of, begins_left, walk_from, stops_left, walk_of}
 use Rattle.log_cursor.specs.declared.start.Start.{Start}
 use Rattle.log_cursor.proofs.RuleLemmas.{stops_after-parts}
 use Rattle.log_cursor.proofs.StopLemmas.{filter-stops_from, is_between-after, is_between-before, stops_after-first, symbol_stops, symbol_stops-absent, symbol_stops-fail, symbol_stops-terminal}
@@ -61,6 +62,7 @@ stops_left-end rules from to start symbols end = rw (end, stops_after-none rules
 -- a walk with nothing left
 pub walk_of-none : (pending : PendingView) (start : Start) (from to : ℤ) → pending.symbols ≡ [] → pending.unread ≡ 0 →
     walk_of pending None start from to ≡ at_rest pending.rules
+unfolding begins_left nodes_in
 walk_of-none pending start from to symbols unread =
     rw (
       stops_left-end pending.rules from to start pending.symbols symbols,
@@ -77,13 +79,25 @@ in_window-empty from to (stop ∷ stops) empty =
     let none : is_between from to stop.instant ≡ false = grind (arith, ints) in
     rw none (in_window-empty from to stops empty)
 
+-- and in it no rule is opened
+pub begins_left-empty : (rules : RulesView) (log : List ℕ) (start : Start) (from to : ℤ) → le_z from to ≡ false →
+    begins_left rules from to start log ≡ []
+unfolding begins_left
+begins_left-empty rules log start from to none =
+    ap (map (begin_of start.instant)) (filter-none (is_opened rules start.instant from to) (nodes_in rules log)
+    (λ node among. rw none refl))
+
 -- a walk that was begun over it has nothing left
 pub walk_from-empty : (rules : RulesView) (log : List ℕ) (start : Start) (from to : ℤ) → to <ℤ from →
     at_rest rules ≡ walk_from rules log start from to
 unfolding block_budget
 walk_from-empty rules log start from to empty =
     let none : le_z from to ≡ false = grind (arith, ints) in
-    rw (in_window-empty from to (block_stops rules start.instant start.cell log) empty, none) refl
+    rw (
+      in_window-empty from to (block_stops rules start.instant start.cell log) empty,
+      begins_left-empty rules log start from to none,
+      none,
+    ) refl
 
 -- what a test for a box says
 pub none_unless : (hull : Option CellBox) → is_some hull ≡ false → hull ≡ None

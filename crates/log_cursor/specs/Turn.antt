@@ -1,5 +1,6 @@
 -- What a walk over symbols has done that looks for a stop: the one invariant of drawing stops and of searching a region.
-use Rattle.std.specs.Prelude.{◌≡◌, ℕ, ◌+◌, ◌*◌, ◌≤◌, ℤ, ◌≤ℤ◌, Bool, true, ◌&&◌, List, ◌++◌, length, filter, find, Option, None}
+use Rattle.std.specs.Prelude.{◌≡◌, ℕ, ◌+◌, ◌*◌, ◌≤◌, ℤ, ◌≤ℤ◌, ◌<ℤ◌, Bool, true, ◌&&◌, List, ◌++◌, length, filter, find, Option, None}
+use Rattle.std.specs.Int.{int_min}
 use Rattle.std.specs.Option.{is_some}
 use Rattle.track_types.specs.Region.{in_region}
 use Rattle.track_types.specs.declared.cell.Cell.{Cell}
@@ -13,7 +14,7 @@ use Rattle.rule_store.specs.Nodes.{RuleNode, meets, nodes_in}
 use Rattle.log_cursor.specs.Pending.{PendingView}
 use Rattle.log_cursor.specs.Start.{IsWayOf}
 use Rattle.log_cursor.specs.Touching.{terminal_values}
-use Rattle.log_cursor.specs.Walk.{stops_left}
+use Rattle.log_cursor.specs.Walk.{reads_to, stops_left, WalkView}
 use Rattle.log_cursor.specs.declared.start.Start.{Start}
 
 -- a walk that draws stops wants every one
@@ -54,3 +55,16 @@ pub record IsWalking (wanted : Stop → Bool) (may : Cell → Option CellBox →
 -- how often it still turns at most: a symbol that is opened gives way to two
 abbrev pub turns_left : RulesView → (Cell → Option CellBox → Bool) → ℤ → ℤ → Start → List ℕ → ℕ
 turns_left rules may from to start symbols = 2 * opening_count rules may from to start symbols + length symbols
+
+-- a walk that wants every stop has done what one over these rules does, whatever stops it began with
+pub record IsWalkingWithin (rules : RulesView) (budget : ℕ) (from to : ℤ) (pending : PendingView) (at : Start)
+    (steps : ℕ) : Type 0 where
+  pub stops : List Stop
+  pub walking : IsWalking is_any has_hull rules stops budget from to pending at steps
+
+-- For each instant that it has not come to, a walk has done what the walk over the window does that ends there: so its
+-- reads are within those up to the instant.
+pub record IsWalkingInTime (first : WalkView) (begun : ℕ) (from to : ℤ) (pending : PendingView) (at : Start)
+    (steps : ℕ) : Type 0 where
+  pub each : (instant : ℤ) → from ≤ℤ int_min instant to → at.instant <ℤ int_min instant to
+      → IsWalkingWithin first.rules (begun + reads_to first instant) from (int_min instant to) pending at steps

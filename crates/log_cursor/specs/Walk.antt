@@ -1,23 +1,47 @@
 -- What is left of a walk over the stops of a block.
-use Rattle.std.specs.Prelude.{ℕ, ◌+◌, ℤ, ◌≤ℤ◌, List, [], ◌++◌, Option}
+use Rattle.std.specs.Prelude.{ℕ, ◌+◌, ◌≤◌, ℤ, pos, ◌+ℤ◌, ◌≤ℤ◌, List, [], ◌++◌, filter, length, map, Option, if◌then◌else◌}
+use Rattle.std.specs.Int.Signed.{le_z}
 use Rattle.std.specs.Option.{option_to_list}
 use Rattle.track_types.specs.declared.stop.Stop.{Stop}
 use Rattle.rule_store.specs.View.{RulesView}
 use Rattle.rule_store.specs.Log.{block_stops, in_window, stops_after}
-use Rattle.rule_store.specs.Nodes.{block_budget, opened_count}
+use Rattle.rule_store.specs.Nodes.{RuleNode, block_budget, is_opened, nodes_in, opened_count}
 use Rattle.log_cursor.specs.Pending.{PendingView}
 use Rattle.log_cursor.specs.Start.{IsWayOf}
 use Rattle.log_cursor.specs.declared.start.Start.{Start}
 
--- the rules, the stops that are left, and how many reads are still to be made for them at most
+-- the rules, the stops that are left, and how many reads are still to be made for them at most: one for each symbol of
+-- the log that is unread, and one for each rule that is opened, of which the first instants are told
 pub record WalkView : Type 0 where
   pub rules : RulesView
   pub stops : List Stop
   pub reads : ℕ
+  pub unread : ℕ
+  pub begins : List ℤ
+
+-- how many of these reads are made at most until all stops up to an instant are drawn: the rules that begin after it are
+-- not opened
+abbrev pub reads_to : WalkView → ℤ → ℕ
+reads_to walk instant = walk.unread + length (filter (λ begin. le_z begin instant) walk.begins)
+
+-- a stop was drawn by no read that is made for later stops alone: by two counts of the reads that are to be made up to an
+-- instant, before and now
+abbrev pub IsDrawnInTime : (ℤ → ℕ) → (ℤ → ℕ) → ℕ → ℕ → Stop → Type 0
+IsDrawnInTime before now begun steps stop =
+    (instant : ℤ) → stop.instant ≤ℤ instant → steps + now instant ≤ begun + before instant
 
 -- a walk with nothing left
 abbrev pub at_rest : RulesView → WalkView
-at_rest rules = record { rules = rules; stops = []; reads = 0 }
+at_rest rules = record { rules = rules; stops = []; reads = 0; unread = 0; begins = [] }
+
+-- the first instant of a node, in a block whose anchor is at an instant
+abbrev pub begin_of : ℤ → RuleNode → ℤ
+begin_of instant node = instant +ℤ pos (length node.before + 1)
+
+-- those of the rules of symbols that a walk opens
+unfoldable pub begins_left : RulesView → ℤ → ℤ → Start → List ℕ → List ℤ
+begins_left rules from to start symbols =
+    map (begin_of start.instant) (filter (is_opened rules start.instant from to) (nodes_in rules symbols))
 
 -- a walk over the stops of a block in a window
 abbrev pub walk_from : RulesView → List ℕ → Start → ℤ → ℤ → WalkView
@@ -25,6 +49,8 @@ walk_from rules log start from to = record {
   rules = rules;
   stops = in_window from to (block_stops rules start.instant start.cell log);
   reads = block_budget rules start.instant log from to;
+  unread = if le_z from to then length log else 0;
+  begins = begins_left rules from to start log;
 }
 
 -- the stops of symbols in a window
@@ -41,6 +67,8 @@ walk_of pending anchor start from to = record {
   rules = pending.rules;
   stops = option_to_list anchor ++ stops_left pending.rules from to start pending.symbols;
   reads = pending.unread + opened_left pending.rules from to start pending.symbols;
+  unread = pending.unread;
+  begins = begins_left pending.rules from to start pending.symbols;
 }
 
 -- The symbols that are still to come lead from a start within the numbers, and the window has an instant.

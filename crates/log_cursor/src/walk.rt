@@ -1,7 +1,8 @@
-ghost use Rattle.std.specs.Prelude.{◌≡◌, ◌++◌, ◌+◌, ◌≤◌, [], ◌∷◌, IfNone, IfOk, option_to_list};
+ghost use Rattle.std.specs.Prelude.{◌≡◌, ◌++◌, ◌+◌, ◌≤◌, ℤ, ◌≤ℤ◌, [], ◌∷◌, IfNone, IfOk, IfSome, option_to_list};
 ghost use Rattle.rule_store.specs.Log.{in_window, log_of, stop_at};
+ghost use Rattle.rule_store.specs.Nodes.{block_budget};
 ghost use Rattle.log_cursor.specs.Start.{IsPlaced};
-ghost use Rattle.log_cursor.specs.Walk.{at_rest, walk_from};
+ghost use Rattle.log_cursor.specs.Walk.{at_rest, IsDrawnInTime, reads_to, walk_from};
 
 use crate::pending::Pending;
 use crate::start::Start;
@@ -17,7 +18,8 @@ use track_types::{Cell, Lazy, Memory, Stop};
 ///
 /// It passes over each symbol whose instants miss the window, or at all of which the object is absent.
 /// It keeps the parts of rules that are still to come, for which `new` takes all the memory. Contracts
-/// see the rules, the stops that are left, and a bound on the reads that are still to be made for them.
+/// see the rules, the stops that are left, and a bound on the reads that are still to be made for them:
+/// for all of them, and for those up to an instant.
 #[derive(Drop)]
 pub struct BlockWalk<'a> {
     pending: Pending<'a>,
@@ -66,7 +68,9 @@ impl<'a> BlockWalk<'a> {
     pub fn begin(&mut self, view: LogView<'a>, start: Start, from: i64, to: i64)
         requires rules { view.rules.now ≡ self.old.rules }
         requires placed { IsPlaced view.rules.now start (log_of view) }
-        ensures { self.new ≡ walk_from view.entry.rules.now (log_of view.entry) start from to }
+        ensures walk { self.new ≡ walk_from view.entry.rules.now (log_of view.entry) start from to }
+        ensures budget_to { (instant : ℤ) → from ≤ℤ instant → reads_to self.new instant
+            ≤ block_budget view.entry.rules.now start.instant (log_of view.entry) from instant }
     {
         if to < from {
             self.pending.end(); // of a window with no instant nothing is read
@@ -92,6 +96,8 @@ impl<'a> Lazy for BlockWalk<'a> {
         ensures found { self.old.stops ≡ option_to_list result ++ self.new.stops }
         ensures none { IfNone result (self.old.stops ≡ []) }
         ensures cost { steps.new + self.new.reads ≤ steps.old + self.old.reads }
+        ensures in_time { IfSome result
+            (IsDrawnInTime (reads_to self.old) (reads_to self.new) steps.old steps.new) }
         ensures rules { self.new.rules ≡ self.old.rules }
     {
         if let Some(anchor) = self.anchor.take() {

@@ -28,6 +28,7 @@ use Rattle.track_types.specs.Flaws.{flaw_in}
 use Rattle.snapshots.specs.IndexCost.{blocks_reads, open_cost, path_cost, position_cost}
 use Rattle.snapshots.specs.JoinFlaws.{blocks_flaw, cell_after, is_off_grid, duration_of_log, log_flaw, logs_flaw, off_grid_at}
 use Rattle.snapshots.specs.Parts.{start_in}
+use Rattle.track_index.specs.Path.{cost_until}
 use Rattle.track_index.specs.CheckFlaws.{check_flaw, grammar_flaw, lengths_flaw, snapshots_flaw}
 
 -- a header of three instants, whose grid has side 4 and begins at (10, 10)
@@ -85,6 +86,10 @@ halves = record {
   cell = 1;
   tick = 1;
 }
+
+-- one object that moves to the right in each of them
+abbrev twice : Parts
+twice = with halves (2 ∷ []) [] (block 0 (corner 2) 1 ∷ block 0 (corner 2) 1 ∷ []) (0 ∷ 0 ∷ [])
 
 -- one object that is absent at the second instant, in a grid of side 2 that begins at (-1, 5)
 abbrev pub absent : Parts
@@ -218,10 +223,17 @@ reads =
     (position_cost repeated 1 (pos 3), 178) ∷
     -- a path of which one rule meets the window
     (path_cost repeated 1 (pos 2) (pos 3), 179) ∷
+    -- the same rules up to an instant, of which none, one and both begin by then
+    (cost_until repeated 0 (pos 0) (pos 0) 0 1, 177) ∷
+    (cost_until repeated 0 (pos 0) (pos 2) 0 1, 178) ∷
+    (cost_until repeated 0 (pos 0) (pos 3) 0 1, 179) ∷
+    -- two periods up to the last instant of the first, and up to the first of the second
+    (cost_until twice 0 (pos 0) (pos 1) 0 2, 135) ∷
+    (cost_until twice 0 (pos 0) (pos 2) 0 2, 270) ∷
     []
 
 each_reads_so : map (λ row. row.0) reads ≡ map (λ row. row.1) reads
-unfolding position_cost path_cost depth_in table_of_rules all_blocks where_set codes_below codes_in levels_with digits_in children_of_prefixes morton_row morton_column cell_of
+unfolding position_cost path_cost cost_until depth_in table_of_rules all_blocks where_set codes_below codes_in levels_with digits_in children_of_prefixes morton_row morton_column cell_of
     rank_of ones_of start_in block_budget nodes_in opened_count parsed values_of expansion_of bounding_box_of box_round
     cells_along move_of ring_moves ring_of_code side_moves
 each_reads_so = refl

@@ -7,6 +7,7 @@ pub mod DecidingLemmas
 mod UpgradeLemmas
 -- The steps of a check.
 mod PeriodLemmas
+mod UntilLemmas
 mod PathLemmas
 mod Examples
 mod SearchExamples

@@ -1,5 +1,5 @@
 -- The costs of searches, run on the parts of small charts.
-use Rattle.std.proofs.Common.{◌≡◌, ℕ, pos, neg_ℤ, true, false, [], ◌∷◌, refl, List, map}
+use Rattle.std.proofs.Common.{◌≡◌, ℕ, pos, neg_ℤ, [], ◌∷◌, refl, List, map}
 use Rattle.bit_rank.specs.Bits.{rank_of}
 use Rattle.k2_tree.specs.Morton.{cell_of, morton_column, interleaved, morton_of, morton_row}
 use Rattle.k2_tree.specs.Squares.{squares_above, squares_from}
@@ -12,7 +12,6 @@ use Rattle.log_cursor.specs.Touching.{touching_count}
 use Rattle.packed_bits.specs.Bits.{ones_of}
 use Rattle.spiral_code.specs.Spiral.{move_of, ring_moves, ring_of_code, side_moves}
 use Rattle.track_types.specs.ByFilter.{nearest_among, nears_at, nears_of}
-use Rattle.track_types.specs.declared.parts.Parts.{Parts}
 use Rattle.track_types.specs.declared.region.Region.TheVariants.{Disc, Rect}
 use Rattle.rule_store.specs.Boxes.{bounding_box_of, box_round}
 use Rattle.rule_store.specs.Cells.{cells_along, displacement_of}
@@ -28,7 +27,7 @@ use Rattle.snapshots.specs.View.{all_blocks}
 use Rattle.interval_search.specs.Cost.{interval_cost}
 use Rattle.nearest_search.specs.Cost.{is_near_enough, nearest_cost, period_near_cost}
 use Rattle.slice_search.specs.Cost.{period_search_cost, slice_cost}
-use Rattle.track_index.proofs.Examples.{absent, block, corner, path, repeated}
+use Rattle.track_index.proofs.Examples.{absent, path, repeated}
 
 -- what searches read, at most
 abbrev reads : List (ℕ × ℕ)

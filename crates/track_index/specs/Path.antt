@@ -1,29 +1,83 @@
 -- What is left of the walk of a path: that of the block which was begun, and the periods after it.
-use Rattle.std.specs.Prelude.{◌≡◌, ℕ, ◌+◌, ◌<◌, ◌≤◌, ℤ, ◌++◌, length}
+use Rattle.std.specs.Prelude.{◌≡◌, ℕ, ◌+◌, ◌-◌, ◌<◌, ◌≤◌, ℤ, ◌≤ℤ◌, Bool, ◌&&◌, if◌then◌else◌, List, ◌++◌, All, filter, length, min}
+use Rattle.std.specs.Int.Signed.{le_z}
+use Rattle.std.specs.List.{range_with_len, sum_by}
 use Rattle.track_types.specs.Frame.{periods_of}
+use Rattle.track_types.specs.declared.frame.Frame.{Frame}
 use Rattle.track_types.specs.declared.parts.Parts.{Parts}
-use Rattle.log_cursor.specs.Walk.{WalkView}
-use Rattle.snapshots.specs.Parts.{rules_in}
+use Rattle.track_types.specs.declared.stop.Stop.{Stop}
+use Rattle.log_cursor.specs.Walk.{reads_to, WalkView}
+use Rattle.snapshots.specs.IndexCost.{period_cost}
+use Rattle.snapshots.specs.Parts.{first_in, rules_in}
 use Rattle.object_track.specs.Between.{cost_between, stops_between}
 
+-- the window has an instant up to this one, and the period begins by then
+abbrev pub begins_by : Frame → ℤ → ℤ → ℕ → Bool
+begins_by frame from instant number = le_z from instant && le_z (first_in frame number) instant
+
+-- the reads that the periods from one to before another cost up to an instant
+unfoldable pub cost_until : Parts → ℕ → ℤ → ℤ → ℕ → ℕ → ℕ
+cost_until parts index from instant next behind =
+    sum_by (period_cost parts index from instant)
+    (filter (begins_by parts.frame from instant) (range_with_len next (behind - next)))
+
+-- the stops that are left, how many reads are still to be made for them at most, and of what these are made: the walk over
+-- the block that was begun, of the object at a place, in a window from an instant on, and the periods from one to before
+-- another that are still to be looked into
+pub record PathView : Type 0 where
+  pub stops : List Stop
+  pub reads : ℕ
+  pub block : WalkView
+  pub parts : Parts
+  pub index : ℕ
+  pub from : ℤ
+  pub next : ℕ
+  pub behind : ℕ
+
 -- the view of a walk over the stops of an object in a window, in the periods from one to before another
-abbrev pub path_walk_of : Parts → ℕ → ℤ → ℤ → ℕ → ℕ → WalkView → WalkView
+abbrev pub path_walk_of : Parts → ℕ → ℤ → ℤ → ℕ → ℕ → WalkView → PathView
 path_walk_of parts index from to next behind block = record {
-  rules = block.rules;
   stops = block.stops ++ stops_between parts index from to next behind;
   reads = block.reads + cost_between parts index from to next behind;
+  block = block;
+  parts = parts;
+  index = index;
+  from = from;
+  next = next;
+  behind = behind;
 }
 
+-- the reads of the block that was begun up to an instant: all of them where the next period begins by then
+abbrev pub block_reads_to : Frame → ℕ → WalkView → ℤ → ℕ
+block_reads_to frame next block instant =
+    if le_z (first_in frame next) instant then block.reads else min block.reads (reads_to block instant)
+
+-- how many reads are made at most until all stops up to an instant are drawn: those of the block that was begun, and of the
+-- periods that begin by then
+abbrev pub path_reads_to : PathView → ℤ → ℕ
+path_reads_to path instant = block_reads_to path.parts.frame path.next path.block instant
+    + cost_until path.parts path.index path.from instant path.next path.behind
+
+-- a stop is in the window, and not before the period that was looked into last
+pub record IsOfLast (frame : Frame) (from : ℤ) (next : ℕ) (stop : Stop) : Type 0 where
+  pub window : from ≤ℤ stop.instant
+  pub period : first_in frame (next - 1) ≤ℤ stop.instant
+
 -- the object is one of the index's, and the walk is over blocks of its rules, in its periods
-pub record IsPathWalk (parts : Parts) (index behind : ℕ) (block : WalkView) : Type 0 where
+pub record IsPathWalk (parts : Parts) (index : ℕ) (from : ℤ) (next behind : ℕ) (block : WalkView) : Type 0 where
   pub known : index < length parts.objects
   pub within : behind ≤ periods_of parts.frame
   pub rules_are : block.rules ≡ rules_in parts
+  pub stops_are : All (IsOfLast parts.frame from next) block.stops
 
--- what a walk that looks for its next stop has done: the same stops are left, for reads from its budget
-pub record IsDrawing (first : WalkView) (before : ℕ) (stores parts : Parts) (index : ℕ) (from to : ℤ)
+-- what a walk that looks for its next stop has done: the same stops are left, for reads from its budget, and from that
+-- up to each instant from the one on at which the period begins that was looked into last
+pub record IsDrawing (first : PathView) (before : ℕ) (stores parts : Parts) (index : ℕ) (from to : ℤ)
     (next behind : ℕ) (block : WalkView) (steps : ℕ) : Type 0 where
   pub its : parts ≡ stores
-  pub walk : IsPathWalk parts index behind block
+  pub walk : IsPathWalk parts index from next behind block
   pub stops : first.stops ≡ (path_walk_of parts index from to next behind block).stops
   pub reads : steps + (path_walk_of parts index from to next behind block).reads ≤ before + first.reads
+  pub in_time : (instant : ℤ) → from ≤ℤ instant → first_in parts.frame (next - 1) ≤ℤ instant
+      → steps + path_reads_to (path_walk_of parts index from to next behind block) instant
+      ≤ before + path_reads_to first instant

@@ -1,4 +1,7 @@
-ghost use Rattle.std.specs.Prelude.{◌≡◌};
+ghost use Rattle.std.specs.Prelude.{◌≡◌, ◌≤◌, ℤ, IfOk};
+ghost use Rattle.track_types.specs.ByFilter.{path_of};
+ghost use Rattle.track_types.specs.declared.question.Question.TheVariants as asked;
+ghost use Rattle.snapshots.specs.IndexCost.{path_cost};
 
 use crate::index::IndexRef;
 use crate::path_walk::PathWalk;
@@ -14,6 +17,7 @@ impl<'a> Answerer for IndexRef<'a> {
     ghost use Rattle.snapshots.specs.Parts.{chart_in};
     ghost use Rattle.track_index.specs.Cost.{cost_of};
     ghost use Rattle.track_index.specs.Facts.{facts_of};
+    ghost use Rattle.track_index.specs.Path.{path_reads_to};
 
     type Walk = PathWalk<'a>;
 
@@ -50,7 +54,14 @@ impl<'a> Answerer for IndexRef<'a> {
         cell_in(stores, place, period, instant, steps)
     }
 
-    fn walk(self, alloc: Global, object: u32, from: i64, to: i64) -> Result<PathWalk<'a>, Memory> {
+    fn walk(self, alloc: Global, object: u32, from: i64, to: i64) -> Result<PathWalk<'a>, Memory>
+        ensures left { IfOk result (λ walk.
+            walk.stops ≡ path_of (chart_in self.entry.index.now).rows object from to) }
+        ensures budget { IfOk result (λ walk.
+            walk.reads ≤ cost_of self.entry.index.now (asked.Path object from to)) }
+        ensures budget_to { IfOk result (λ walk. (instant : ℤ) →
+            path_reads_to walk instant ≤ path_cost self.entry.index.now object from instant) }
+    {
         let stores = self.index.stores();
         let Some(place) = stores.index_of(object) else {
             return PathWalk::new(alloc, self.index, 0, Periods::none(), from, to);

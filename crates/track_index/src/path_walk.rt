@@ -1,7 +1,9 @@
-ghost use Rattle.std.specs.Prelude.{◌≡◌, ◌++◌, ◌+◌, ◌≤◌, ◌<◌};
-ghost use Rattle.std.specs.Prelude.{[], length, IfNone, IfOk, option_to_list};
+ghost use Rattle.std.specs.Prelude.{◌≡◌, ◌++◌, ◌+◌, ◌≤◌, ◌<◌, ℤ};
+ghost use Rattle.std.specs.Prelude.{[], length, IfNone, IfOk, IfSome, option_to_list};
 ghost use Rattle.track_types.specs.Frame.{periods_of};
+ghost use Rattle.log_cursor.specs.Walk.{IsDrawnInTime};
 ghost use Rattle.object_track.specs.Between.{cost_between, stops_between};
+ghost use Rattle.track_index.specs.Path.{cost_until, path_reads_to};
 
 use crate::index::Index;
 use log_cursor::BlockWalk;
@@ -15,7 +17,8 @@ use track_types::{Lazy, Memory, Stop};
 /// A walk over the stops of an object in a window, period by period.
 ///
 /// It looks for the object's block in the periods that the window meets, and in no other. Contracts
-/// see the stops that are left, and a bound on the reads that are still to be made for them.
+/// see the stops that are left, and a bound on the reads that are still to be made for them: for all
+/// of them, and for those up to an instant.
 #[derive(Drop)]
 pub struct PathWalk<'a> {
     index: &'a Index,
@@ -29,15 +32,15 @@ pub struct PathWalk<'a> {
 }
 
 impl<'a> Model for PathWalk<'a> {
-    ghost use Rattle.log_cursor.specs.Walk.{WalkView};
-    ghost use Rattle.track_index.specs.Path.{path_walk_of, IsPathWalk};
+    ghost use Rattle.track_index.specs.Path.{path_walk_of, IsPathWalk, PathView};
 
-    ghost Value = { WalkView };
+    ghost Value = { PathView };
 
     ghost view = { λ w. path_walk_of w.index.now w.object w.from w.to
         w.periods.next w.periods.end w.block };
 
-    ghost invariant = { λ w. IsPathWalk w.index.now w.object w.periods.end w.block };
+    ghost invariant = { λ w. IsPathWalk w.index.now w.object w.from
+        w.periods.next w.periods.end w.block };
 }
 
 impl<'a> PathWalk<'a> {
@@ -57,6 +60,8 @@ impl<'a> PathWalk<'a> {
             ≡ stops_between index.now object from to periods.next periods.end) }
         ensures budget { IfOk result (λ walk. walk.reads
             ≡ cost_between index.now object from to periods.next periods.end) }
+        ensures budget_to { IfOk result (λ walk. (instant : ℤ) → path_reads_to walk instant
+            ≡ cost_until index.now object from instant periods.next periods.end) }
     {
         let block = BlockWalk::new(alloc, index.stores().rules())?;
         Ok(PathWalk {
@@ -81,6 +86,8 @@ impl<'a> Lazy for PathWalk<'a> {
         ensures found { self.old.stops ≡ option_to_list result ++ self.new.stops }
         ensures none { IfNone result (self.old.stops ≡ []) }
         ensures cost { steps.new + self.new.reads ≤ steps.old + self.old.reads }
+        ensures in_time { IfSome result
+            (IsDrawnInTime (path_reads_to self.old) (path_reads_to self.new) steps.old steps.new) }
     {
         let index = self.index;
         let stores = index.stores();

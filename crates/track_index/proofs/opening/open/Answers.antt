@@ -1,9 +1,8 @@
-use Rattle.std.proofs.Common.{◌≡◌, None, Result, Ok, Err, arith, ap, subst, sym, ◌∙◌}
-use Rattle.std.specs.Prelude.{IfErr, IfOk, OnOk}
+use Rattle.std.proofs.Common.{◌≡◌, None, arith, ap, subst, sym, ◌∙◌}
+use Rattle.std.specs.Prelude.{IfErr, OnOk}
 use Rattle.std.proofs.lemmas.Result.{err_from_is_err_and, IfOk-weaker}
 use Rattle.track_types.specs.Flaws.{IsFormatFaultFor}
 use Rattle.snapshots.specs.IndexCost.{open_cost}
-use Rattle.track_index.specs.CheckFlaws.{check_flaw}
 use Rattle.track_index.proofs.DecidingLemmas.{decided, first_flaw-file}
 use Rattle.track_index.proofs.OpeningLemmas.{bytes_cost-read, fault-unread, first_flaw-read}
 use Rattle.track_index.proofs.opening.open.Goals as goal

@@ -1,5 +1,3 @@
-use Rattle.std.proofs.Common.{subst, sym}
-use Rattle.track_types.specs.Region.{IsRegionWithin}
 use Rattle.track_types.proofs.AskedLemmas.{IsRegionWithin-asked}
 use Rattle.track_index.proofs.searching.near_region.Goals as goal
 

@@ -1,8 +1,10 @@
-use Rattle.std.proofs.Common.{◌≡◌, subst, sym, ap, ◌∙◌, arith}
+use Rattle.std.proofs.Common.{◌≡◌, ◌≤◌, None, subst, sym, ap, ◌∙◌, arith}
 use Rattle.std.proofs.lemmas.Int.{ints}
 use Rattle.rule_store.specs.Flaws.{AreRules}
 use Rattle.rule_store.specs.Log.{log_of}
-use Rattle.log_cursor.specs.Walk.{WalkView, at_rest, walk_from}
+use Rattle.rule_store.specs.Nodes.{block_budget}
+use Rattle.log_cursor.specs.Walk.{WalkView, at_rest, reads_to, walk_from, walk_of}
+use Rattle.log_cursor.proofs.ExtentLemmas.{reads_to-walk_from}
 use Rattle.log_cursor.proofs.StopLemmas.{word}
 use Rattle.log_cursor.proofs.WalkLemmas.{walk_from-empty, walk_of-walk_from, walk_of-none}
 use Rattle.log_cursor.proofs.WayLemmas.{IsWayOf-none, IsWayOf-placed, length-log_of}
@@ -22,9 +24,17 @@ pub returns-then-to-from : goal.returns-then-to-from
 returns-then-to-from c =
     let walk = c.self.inside in
     let rules = c.args.view.rules.now in
+    let log = log_of c.args.view in
     let same = c.end.ensures.rules ∙ ap (λ (w : WalkView). w.rules) c.self.view_is ∙ sym c.requires.rules in
+    let begun : walk_of c.end.new.self None walk.at walk.from walk.to ≡ walk_from rules log c.args.start c.args.from c.args.to =
     walk_of-none c.end.new.self walk.at walk.from walk.to c.end.ensures.symbols c.end.ensures.unread ∙ ap at_rest same
-    ∙ walk_from-empty rules (log_of c.args.view) c.args.start c.args.from c.args.to (omega (arith, ints, c.if-to-from.true))
+    ∙ walk_from-empty rules log c.args.start c.args.from c.args.to (omega (arith, ints, c.if-to-from.true)) in
+    record {
+      walk = begun;
+      budget_to = λ instant window. subst (λ (w : WalkView). reads_to w instant
+          ≤ block_budget rules c.args.start.instant log c.args.from instant) (sym begun)
+          (reads_to-walk_from rules log c.args.start c.args.from c.args.to instant window);
+    }
 
 -- the rules are those of the log
 rules_are : (c : After-begin) → c.begin.new.self.rules ≡ c.args.view.rules.now
@@ -45,9 +55,18 @@ invariant_of-self-2 c =
 pub returns : goal.returns
 returns c =
     let same = rules_are (goal.at.returns c).After-begin in
+    let log = log_of c.args.view in
     let low : word c.args.from ≡ c.args.from = omega (arith, ints) in
     let high : word c.args.to ≡ c.args.to = omega (arith, ints) in
-    rw (low, high) (walk_of-walk_from c.begin.new.self c.stop_within-self-inside.result c.args.start c.args.from c.args.to
-    (log_of c.args.view) c.begin.ensures.symbols c.begin.ensures.unread
-    (rw (low, high) at c.stop_within-self-inside.ensures) (omega (arith, ints, c.if-to-from.false)))
-    ∙ ap (λ r. walk_from r (log_of c.args.view) c.args.start c.args.from c.args.to) same
+    let begun : walk_of c.begin.new.self c.stop_within-self-inside.result c.args.start (word c.args.from) (word c.args.to)
+    ≡ walk_from c.args.view.rules.now log c.args.start c.args.from c.args.to =
+    rw (low, high) (walk_of-walk_from c.begin.new.self c.stop_within-self-inside.result c.args.start c.args.from
+    c.args.to log c.begin.ensures.symbols c.begin.ensures.unread (rw (low, high) at c.stop_within-self-inside.ensures)
+    (omega (arith, ints, c.if-to-from.false)))
+    ∙ ap (λ r. walk_from r log c.args.start c.args.from c.args.to) same in
+    record {
+      walk = begun;
+      budget_to = λ instant window. subst (λ (w : WalkView). reads_to w instant
+          ≤ block_budget c.args.view.rules.now c.args.start.instant log c.args.from instant) (sym begun)
+          (reads_to-walk_from c.args.view.rules.now log c.args.start c.args.from c.args.to instant window);
+    }

@@ -3,7 +3,8 @@ use Rattle.std.specs.Option.{is_some}
 use Rattle.std.proofs.lemmas.Bool.{leb-false, leb-true}
 use Rattle.std.proofs.lemmas.Int.{ints}
 use Rattle.log_cursor.specs.Turn.{IsWalking, has_hull, is_any}
-use Rattle.log_cursor.specs.Walk.{WalkView}
+use Rattle.log_cursor.specs.Walk.{WalkView, walk_of}
+use Rattle.log_cursor.proofs.InTimeLemmas.{in_time-absent, in_time-before, in_time-first, in_time-opened, in_time-stop}
 use Rattle.log_cursor.proofs.TouchLemmas.{opened_left-count}
 use Rattle.log_cursor.proofs.TurnLemmas.{IsTurn, all-left, none-passed, taken-next, turn-absent, turn-before, turn-fewer, turn-opened, turn-opened-fewer, turn-reads, turn-rules, turn-stop, turn-way, walking-end, walking-over, walking-view}
 use Rattle.log_cursor.proofs.WalkLemmas.{none_unless}
@@ -29,6 +30,8 @@ loop-self-init g c =
             unwanted = refl;
             reads = omega (arith, count);
           });
+      in_time = in_time-first walk.pending walk.at walk.from walk.to c.args.self.now c.args.steps.now c.self.invariant.way
+          (ap (λ anchor. walk_of walk.pending anchor walk.at walk.from walk.to) (sym none) ∙ c.self.view_is);
     }
 
 pub returns-in_err-entry : goal.returns-in_err-entry
@@ -41,6 +44,7 @@ returns-in_err-entry g c =
       found = view.0;
       none = none-passed _ (walking-end walking facts.none);
       cost = view.1;
+      in_time = tt;
       rules = c.next.ensures.rules ∙ walking.same;
     })
 
@@ -77,6 +81,15 @@ loop-self-preserved-then-next-self g c =
         | then-next-self-via-else-next-self+then-is_none w ↦
             turn-absent its (none_unless c.in_ok-entry.entry.hull (w.is_none.ensures ∙ ap not w.if-is_none.true))
       ];
+      in_time = elim (c.then-next-self.branch) [
+        | then-next-self-via-then-next-self w ↦
+            let ended : c.after-next.result.instant <ℤ c.loop-self.self-inside.from =
+            omega (arith, ints, w.if-next-self.true) in
+            in_time-before c.loop-self.invariant.in_time its ended
+        | then-next-self-via-else-next-self+then-is_none w ↦
+            in_time-absent c.loop-self.invariant.in_time its
+            (none_unless c.in_ok-entry.entry.hull (w.is_none.ensures ∙ ap not w.if-is_none.true))
+      ];
     }
 
 -- where its entry is not passed over, it has a box, and the window has instants after it and up to its end
@@ -106,6 +119,9 @@ loop-self-preserved g c =
       walking = turn-opened (turn g at.After-after-next) its.1 its.2 its.0 c.next.ensures.sound
           (leb-true _ _ (sym c.is_rule.ensures ∙ c.if-is_rule.true)) c.open.new.self c.open.new.steps
           c.open.ensures.rules c.open.ensures.symbols c.open.ensures.unread c.open.ensures.cost;
+      in_time = in_time-opened c.loop-self.invariant.in_time (turn g at.After-after-next) its.2 its.0 c.next.ensures.sound
+          (leb-true _ _ (sym c.is_rule.ensures ∙ c.if-is_rule.true)) c.open.new.self c.open.new.steps
+          c.open.ensures.rules c.open.ensures.symbols c.open.ensures.unread c.open.ensures.cost;
     }
 
 pub invariant_of-self-in-loop-self-2 : goal.invariant_of-self-in-loop-self-2
@@ -131,6 +147,15 @@ returns-in-loop-self-clause-cost g c =
     let same = opened_left-count c.next.new.self.rules walk.from walk.to c.after-next.result c.next.new.self.symbols in
     rw (same, turn-rules its) (turn-reads its)
 
+pub returns-in-loop-self-clause-in_time : goal.returns-in-loop-self-clause-in_time
+returns-in-loop-self-clause-in_time g c =
+    let at = goal.at.returns-in-loop-self-clause-in_time g c in
+    let its = within g at.After-is_rule in
+    let here = c.after-next.result in
+    let kept : to_z w64 (of_z w64 here.instant) ≡ here.instant = omega (arith, ints) in
+    rw kept (in_time-stop c.loop-self.invariant.in_time (turn g at.After-after-next) its.1 its.2
+    (leb-false _ _ (sym c.is_rule.ensures ∙ c.if-is_rule.false)))
+
 pub returns : goal.returns
 returns g c =
     let walking = c.loop-self.invariant.walking in
@@ -139,5 +164,6 @@ returns g c =
       found = view.0;
       none = none-passed _ (walking-over walking (omega (arith, ints, c.loop-self-test.false)));
       cost = view.1;
+      in_time = tt;
       rules = walking.same;
     })

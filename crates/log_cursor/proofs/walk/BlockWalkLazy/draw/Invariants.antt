@@ -1,8 +1,8 @@
 use Rattle.std.proofs.Common.{◌≡◌, ◌+◌, None}
-use Rattle.log_cursor.specs.Turn.{IsWalking, has_hull, is_any, turns_left}
+use Rattle.log_cursor.specs.Turn.{IsWalking, IsWalkingInTime, has_hull, is_any, turns_left}
 use Rattle.log_cursor.proofs.walk.BlockWalkLazy.draw.Given as goal
 
--- the anchor is gone, and of the others none was passed
+-- the anchor is gone, and of the others none was passed, in any window that the walk has not come to the end of
 abbrev pub invariant-loop-self : goal.invariant-loop-self
 invariant-loop-self g l =
     let walk = l.self-inside in
@@ -10,6 +10,7 @@ invariant-loop-self g l =
       anchor : walk.anchor ≡ None;
       walking : IsWalking is_any has_hull first.rules first.stops (l.fn.steps + first.reads) walk.from walk.to walk.pending
           walk.at l.steps;
+      in_time : IsWalkingInTime first l.fn.steps walk.from walk.to walk.pending walk.at l.steps;
     }
 
 abbrev pub decreases-loop-self : goal.decreases-loop-self

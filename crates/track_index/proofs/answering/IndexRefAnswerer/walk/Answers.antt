@@ -1,14 +1,15 @@
-use Rattle.std.proofs.Common.{◌≡◌, ◌≤◌, w64, to_z, of_z, arith, ap, sym, ◌∙◌}
+use Rattle.std.proofs.Common.{◌≡◌, ℤ, ◌≤◌, w64, to_z, of_z, arith, ap, sym, ◌∙◌}
 use Rattle.std.proofs.lemmas.Int.{ints}
 use Rattle.std.proofs.lemmas.Result.{IfOk-weaker}
 use Rattle.track_types.specs.ByFilter.{path_of}
 use Rattle.track_types.specs.declared.parts.Parts.{Parts}
-use Rattle.log_cursor.specs.Walk.{WalkView}
 use Rattle.snapshots.specs.IndexCost.{path_cost}
 use Rattle.snapshots.specs.Parts.{chart_in, index_in}
 use Rattle.track_index.specs.Cost.{cost_of}
+use Rattle.track_index.specs.Path.{path_reads_to, PathView}
 use Rattle.object_track.proofs.ChartLemmas.{index_in-some, path_of-unknown}
 use Rattle.object_track.proofs.BetweenLemmas.{cost_between-none, cost_between-path, stops_between-path, stops_between-none}
+use Rattle.track_index.proofs.UntilLemmas.{cost_until-none, cost_until-path}
 use Rattle.track_index.proofs.answering.IndexRefAnswerer.walk.Goals as goal
 
 pub returns-in_default-clause-left : goal.returns-in_default-clause-left
@@ -22,7 +23,7 @@ returns-in_default-clause-left c =
     c.none.result.next c.none.result.end (omega (arith, next, behind)) in
     let path = path_of-unknown parts c.stores-stores.ensures.valid c.args.object (sym unknown) c.args.from c.args.to in
     IfOk-weaker c.new.result _
-    (λ (w : WalkView). w.stops ≡ path_of (chart_in parts).rows c.args.object c.args.from c.args.to)
+    (λ (w : PathView). w.stops ≡ path_of (chart_in parts).rows c.args.object c.args.from c.args.to)
     (λ walk left. left ∙ nothing ∙ sym path) c.new.ensures.left
 
 pub returns-in_default-clause-budget : goal.returns-in_default-clause-budget
@@ -33,8 +34,20 @@ returns-in_default-clause-budget c =
     let behind = c.none.ensures.end in
     let nothing = cost_between-none parts 0 (to_z w64 (of_z w64 c.args.from)) (to_z w64 (of_z w64 c.args.to))
     c.none.result.next c.none.result.end (omega (arith, next, behind)) in
-    IfOk-weaker c.new.result _ (λ (w : WalkView). w.reads ≤ path_cost parts c.args.object c.args.from c.args.to)
+    IfOk-weaker c.new.result _ (λ (w : PathView). w.reads ≤ path_cost parts c.args.object c.args.from c.args.to)
     (λ walk budget. omega (arith, budget, nothing)) c.new.ensures.budget
+
+pub returns-in_default-clause-budget_to : goal.returns-in_default-clause-budget_to
+returns-in_default-clause-budget_to c =
+    let parts : Parts = c.args.self.index.now in
+    let next = c.none.ensures.next in
+    let behind = c.none.ensures.end in
+    IfOk-weaker c.new.result _
+    (λ (w : PathView). (instant : ℤ) → path_reads_to w instant ≤ path_cost parts c.args.object c.args.from instant)
+    (λ walk budget instant.
+    let nothing = cost_until-none parts 0 (to_z w64 (of_z w64 c.args.from)) instant c.none.result.next c.none.result.end
+    (omega (arith, next, behind)) in
+    omega (arith, budget instant, nothing)) c.new.ensures.budget_to
 
 pub new-requires-2-clause-object : goal.new-requires-2-clause-object
 new-requires-2-clause-object c =
@@ -51,7 +64,7 @@ returns-clause-left c =
     _ _ c.args.from c.args.to low high c.met-periods.result.next c.met-periods.result.end c.in-Some.ensures.value
     c.met-periods.ensures c.stores-stores.ensures.valid in
     IfOk-weaker c.new-2.result _
-    (λ (w : WalkView). w.stops ≡ path_of (chart_in parts).rows c.args.object c.args.from c.args.to)
+    (λ (w : PathView). w.stops ≡ path_of (chart_in parts).rows c.args.object c.args.from c.args.to)
     (λ walk left. left ∙ path) c.new-2.ensures.left
 
 pub returns-clause-budget : goal.returns-clause-budget
@@ -63,5 +76,17 @@ returns-clause-budget c =
     let cost = cost_between-path parts c.stores-stores.result.now c.stores-stores.ensures.value c.args.object c.in-Some.place
     _ _ c.args.from c.args.to low high c.met-periods.result.next c.met-periods.result.end c.in-Some.ensures.value
     c.met-periods.ensures in
-    IfOk-weaker c.new-2.result _ (λ (w : WalkView). w.reads ≤ path_cost parts c.args.object c.args.from c.args.to)
+    IfOk-weaker c.new-2.result _ (λ (w : PathView). w.reads ≤ path_cost parts c.args.object c.args.from c.args.to)
     (λ walk budget. omega (arith, budget, cost)) c.new-2.ensures.budget
+
+pub returns-clause-budget_to : goal.returns-clause-budget_to
+returns-clause-budget_to c =
+    let parts : Parts = c.args.self.index.now in
+    let low : to_z w64 (of_z w64 c.args.from) ≡ c.args.from = omega (arith, ints) in
+    IfOk-weaker c.new-2.result _
+    (λ (w : PathView). (instant : ℤ) → path_reads_to w instant ≤ path_cost parts c.args.object c.args.from instant)
+    (λ walk budget instant.
+    let cost = cost_until-path parts c.stores-stores.result.now c.stores-stores.ensures.value c.args.object c.in-Some.place
+    _ _ c.args.from instant low c.met-periods.result.next c.met-periods.result.end c.in-Some.ensures.value
+    c.met-periods.ensures in
+    omega (arith, budget instant, cost)) c.new-2.ensures.budget_to

@@ -1,4 +1,4 @@
-use Rattle.std.proofs.Common.{◌≡◌, ◌∙◌, ap}
+use Rattle.std.proofs.Common.{◌∙◌, ap}
 use Rattle.std.specs.Prelude.{is_some}
 use Rattle.track_types.specs.declared.parts.Parts.{Parts}
 use Rattle.snapshots.specs.Parts.{index_in}

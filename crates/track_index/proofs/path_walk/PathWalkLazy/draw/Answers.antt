@@ -1,10 +1,32 @@
-use Rattle.std.proofs.Common.{◌≡◌, ◌++◌, w64, to_z, of_z, arith, ap, ◌∙◌}
+use Rattle.std.proofs.Common.{◌≡◌, ◌++◌, w64, to_z, of_z, arith, ap, subst, sym, ◌∙◌}
 use Rattle.std.proofs.lemmas.Int.{ints}
+use Rattle.track_types.specs.declared.parts.Parts.{Parts}
 use Rattle.rule_store.specs.Log.{log_of}
+use Rattle.snapshots.specs.SoundParts.{IsValid}
 use Rattle.object_track.specs.Between.{stops_between}
 use Rattle.object_track.proofs.BetweenLemmas.{stops_between-none}
-use Rattle.track_index.proofs.PathLemmas.{drawing-absent, drawing-walk_from}
+use Rattle.track_index.proofs.PathLemmas.{drawing-absent, drawing-walk_from, drawn-in_time, drawn-walk}
 use Rattle.track_index.proofs.path_walk.PathWalkLazy.draw.Goals as goal
+
+-- the walk is over an index, whose parts are valid
+valid_here : (stores parts own : Parts) → parts ≡ stores → stores ≡ own → IsValid own → IsValid parts
+valid_here stores parts own its same valid = subst IsValid (sym (its ∙ same)) valid
+
+-- the stop of the block that was begun
+pub invariant_of-self : goal.invariant_of-self
+invariant_of-self g c =
+    let walk = c.loop-stop.self-inside in
+    drawn-walk walk.index.now walk.object walk.from walk.to walk.periods.next walk.periods.end
+    c.stores-stores.result.now c.args.self.now walk.block c.draw.new.self c.args.steps.now c.loop-stop.steps
+    c.draw.new.steps c.in-Some.stop c.loop-stop.invariant c.in-Some.ensures.found c.in-Some.ensures.rules
+
+pub returns-in-Some-clause-in_time : goal.returns-in-Some-clause-in_time
+returns-in-Some-clause-in_time g c =
+    let walk = c.loop-stop.self-inside in
+    drawn-in_time walk.index.now walk.object walk.from walk.to walk.periods.next walk.periods.end
+    c.stores-stores.result.now c.args.self.now walk.block c.draw.new.self c.args.steps.now c.loop-stop.steps
+    c.draw.new.steps c.in-Some.stop c.loop-stop.invariant c.in-Some.ensures.found c.in-Some.ensures.cost
+    c.in-Some.ensures.in_time
 
 pub returns-then-self-clause-none : goal.returns-then-self-clause-none
 returns-then-self-clause-none g c =
@@ -21,19 +43,21 @@ loop-stop-preserved-in-Some-find g c =
     let placed = c.new-placed.ensures in
     let low : to_z w64 (of_z w64 walk.from) ≡ walk.from = omega (arith, ints) in
     let high : to_z w64 (of_z w64 walk.to) ≡ walk.to = omega (arith, ints) in
-    drawing-walk_from walk.index.now walk.object walk.from walk.to walk.periods.next walk.periods.end
+    drawing-walk_from walk.index.now (valid_here c.stores-stores.result.now walk.index.now _ c.loop-stop.invariant.its
+    c.stores-stores.ensures.value c.stores-stores.ensures.valid) walk.object walk.from walk.to walk.periods.next walk.periods.end
     (omega (arith, c.if-self.false)) c.stores-stores.result.now c.args.self.now walk.block c.draw.new.self
     c.args.steps.now c.loop-stop.steps c.draw.new.steps c.find.new.steps c.snapshot.result.now c.loop-stop.invariant
     c.in_default.ensures.none c.in_default.ensures.rules c.in_default.ensures.cost c.snapshot.ensures.value
     c.find.ensures.cost c.in-Some-find.block c.begin.new.self c.new-placed.result.log.rules.now
     (log_of c.new-placed.result.log) c.new-placed.result.start (to_z w64 (of_z w64 walk.from))
-    (to_z w64 (of_z w64 walk.to)) c.in-Some-find.ensures.value placed.rules placed.log placed.start low high
-    c.begin.ensures
+    (to_z w64 (of_z w64 walk.to)) c.in-Some-find.ensures.value c.in-Some-find.ensures.block placed.rules placed.log placed.start low high
+    c.begin.ensures.walk
 
 pub loop-stop-preserved : goal.loop-stop-preserved
 loop-stop-preserved g c =
     let walk = c.loop-stop.self-inside in
-    drawing-absent walk.index.now walk.object walk.from walk.to walk.periods.next walk.periods.end
+    drawing-absent walk.index.now (valid_here c.stores-stores.result.now walk.index.now _ c.loop-stop.invariant.its
+    c.stores-stores.ensures.value c.stores-stores.ensures.valid) walk.object walk.from walk.to walk.periods.next walk.periods.end
     (omega (arith, c.if-self.false)) c.stores-stores.result.now c.args.self.now walk.block c.draw.new.self
     c.args.steps.now c.loop-stop.steps c.draw.new.steps c.find.new.steps c.snapshot.result.now c.loop-stop.invariant
     c.in_default.ensures.none c.in_default.ensures.rules c.in_default.ensures.cost c.snapshot.ensures.value
