@@ -3,11 +3,11 @@ use Rattle.std.proofs.Common.{◌≡◌, ℕ, ℤ, pos, negsuc, [], ◌∷◌, N
 use Rattle.list_laws.specs.Ordered.{ordered, insert_in_order}
 use Rattle.track_types.specs.Chart.{ChartView, chart_with}
 use Rattle.track_types.specs.declared.frame.Frame.{Frame}
-use Rattle.track_types.specs.declared.limit.LimitKind.TheVariants.{Rows}
 use Rattle.track_types.specs.declared.row.Row.{Row}
 use Rattle.track_types.specs.declared.setting.Setting.TheVariants as setting
-use Rattle.index_merge.specs.MergeFault.{common_fault, count_fault, settings_fault}
-use Rattle.index_merge.specs.Union.{rows_of_both, union_of}
+use Rattle.index_merge.specs.MergeFault.{common_fault, settings_fault}
+use Rattle.path_union.specs.Union.{rows_of_both}
+use Rattle.index_merge.specs.Union.{extension_of, union_of}
 use Rattle.index_merge.specs.declared.fault.MergeFault.TheVariants as fault
 
 row : ℕ → ℤ → ℤ → ℤ → Row
@@ -60,12 +60,15 @@ least_common = refl
 none_common : common_fault (1 ∷ 3 ∷ []) (2 ∷ 4 ∷ []) ≡ None
 none_common = refl
 
--- one row too many, and four billion
-one_more : count_fault 16777217 ≡ Some (fault.Limit Rows 16777217)
-one_more = refl
-
-many_more : count_fault 4194304000 ≡ Some (fault.Limit Rows 16777217)
-many_more = refl
-
-enough : count_fault 16777216 ≡ None
-enough = refl
+-- object 7 with a later cell at its last instant, and with a row before the first
+extension_of_some : extension_of some (row 7 (negsuc 0) (pos 9) (pos 9) ∷ row 7 (pos 1) (pos 12) (pos 10) ∷ [])
+    ≡ record {
+      rows = row 7 (negsuc 0) (pos 9) (pos 9) ∷ row 7 (pos 0) (pos 10) (pos 10) ∷ row 7 (pos 1) (pos 12) (pos 10) ∷ row 9 (pos 0) (pos 4) (pos 4) ∷ [];
+      first = negsuc 0;
+      last = pos 1;
+      period = 4;
+      cell = 2;
+      tick = 3;
+    }
+unfolding rows_of_both ordered insert_in_order row
+extension_of_some = refl

@@ -20,8 +20,9 @@ use Rattle.gridding.specs.declared.fault.GridFault.{GridFault}
 use Rattle.gridding.specs.declared.fault.GridFault.TheVariants as gridding
 use Rattle.snapshots.specs.Parts.{chart_in}
 use Rattle.track_index.specs.Listed.{is_listed}
-use Rattle.index_merge.specs.MergeFault.{common_fault, count_fault, merge_fault, merge_fault_of, rows_fault, settings_fault, IsMergeFaultFor}
-use Rattle.index_merge.specs.Union.{rows_of_both}
+use Rattle.path_union.specs.Fault.{rows_fault}
+use Rattle.path_union.specs.Union.{rows_of_both}
+use Rattle.index_merge.specs.MergeFault.{common_fault, merge_fault, merge_fault_of, settings_fault, IsMergeFaultFor}
 use Rattle.index_merge.specs.declared.fault.MergeFault.{MergeFault}
 use Rattle.index_merge.specs.declared.fault.MergeFault.TheVariants as fault
 
@@ -41,22 +42,6 @@ IsMergeFaultFor-from first whole fault.Empty into is = into is
 IsMergeFaultFor-from first whole (fault.Common object) into is = into is
 IsMergeFaultFor-from first whole (fault.Limit kind value) into is = into is
 IsMergeFaultFor-from first whole (fault.Settings which left right) into is = into is
-
--- so many rows are not too many
-pub count_fault-few : (rows : ℕ) → rows ≤ limit_of Rows → count_fault rows ≡ None
-count_fault-few rows few = let within : nat_lt (limit_of Rows) rows ≡ false = grind (arith, nat_tests) in rw within refl
-
-pub count_fault-many : (rows : ℕ) → limit_of Rows < rows → count_fault rows ≡ Some (fault.Limit Rows (limit_of Rows + 1))
-count_fault-many rows many = let past : nat_lt (limit_of Rows) rows ≡ true = grind (arith, nat_tests) in rw past refl
-
--- where some are too many, more are
-pub count_fault-more : (some more : ℕ) (told : MergeFault) → some ≤ more → IsMergeFaultFor (count_fault some) told
-    → IsMergeFaultFor (count_fault more) told
-count_fault-more some more told least is = IsMergeFaultFor-from (count_fault some) (count_fault more) told
-    (λ past. elim (cases_Bool (nat_lt (limit_of Rows) some)) [
-      | inl many ↦ count_fault-many more (grind (arith, nat_tests)) ∙ sym (rw many refl) ∙ past
-      | inr few ↦ let never : None ≡ Some told = sym (rw few refl) ∙ past in absurd (cc)
-    ]) is
 
 -- headers and objects of what is the same have the same faults
 pub settings_fault-alike : (left right one other : Parts) (frame also : Frame) → one ≡ left → other ≡ right
@@ -78,65 +63,43 @@ module _ (left right : Parts) where
   unfolding merge_fault
   merge_fault-settings told is =
       ap (λ first. option_or first (option_or (common_fault left.objects right.objects)
-      (rows_fault (rows_of_both (chart_in left) (chart_in right)) left.frame.period))) is
+      (option_map merge_fault_of (rows_fault (rows_of_both (chart_in left).rows (chart_in right).rows) left.frame.period)))) is
 
   module _ (same : settings_fault left.frame right.frame ≡ None) where
     -- none does
     merge_fault-same : merge_fault left right ≡ option_or (common_fault left.objects right.objects)
-        (rows_fault (rows_of_both (chart_in left) (chart_in right)) left.frame.period)
+        (option_map merge_fault_of (rows_fault (rows_of_both (chart_in left).rows (chart_in right).rows) left.frame.period))
     unfolding merge_fault
     merge_fault-same =
         ap (λ first. option_or first (option_or (common_fault left.objects right.objects)
-        (rows_fault (rows_of_both (chart_in left) (chart_in right)) left.frame.period))) same
+        (option_map merge_fault_of (rows_fault (rows_of_both (chart_in left).rows (chart_in right).rows) left.frame.period)))) same
 
     -- an object is in both
     pub merge_fault-common : (told : MergeFault) → common_fault left.objects right.objects ≡ Some told
         → merge_fault left right ≡ Some told
     merge_fault-common told is =
         merge_fault-same
-        ∙ ap (λ first. option_or first (rows_fault (rows_of_both (chart_in left) (chart_in right)) left.frame.period)) is
+        ∙ ap (λ first. option_or first (option_map merge_fault_of (rows_fault (rows_of_both (chart_in left).rows (chart_in right).rows) left.frame.period))) is
 
     module _ (apart : common_fault left.objects right.objects ≡ None) where
       -- none is
-      merge_fault-apart : merge_fault left right ≡ rows_fault (rows_of_both (chart_in left) (chart_in right)) left.frame.period
+      merge_fault-apart : merge_fault left right ≡ option_map merge_fault_of (rows_fault (rows_of_both (chart_in left).rows (chart_in right).rows) left.frame.period)
       merge_fault-apart =
           merge_fault-same
-          ∙ ap (λ first. option_or first (rows_fault (rows_of_both (chart_in left) (chart_in right)) left.frame.period)) apart
+          ∙ ap (λ first. option_or first (option_map merge_fault_of (rows_fault (rows_of_both (chart_in left).rows (chart_in right).rows) left.frame.period))) apart
 
-      -- there are too many rows
-      pub merge_fault-count : (told : MergeFault)
-          → IsMergeFaultFor (count_fault (length (rows_of_both (chart_in left) (chart_in right)))) told
-          → IsMergeFaultFor (merge_fault left right) told
-      merge_fault-count told =
-          IsMergeFaultFor-from (count_fault (length (rows_of_both (chart_in left) (chart_in right)))) (merge_fault left right) told
-          (λ is. merge_fault-apart
-          ∙ ap (λ first. option_or first (option_map merge_fault_of
-          (chart_fault (rows_of_both (chart_in left) (chart_in right)) left.frame.period))) is)
+      -- what is judged of the rows of both is
+      pub merge_fault-rows : (told : GridFault)
+          → IsGridFaultFor (rows_fault (rows_of_both (chart_in left).rows (chart_in right).rows) left.frame.period) told
+          → IsMergeFaultFor (merge_fault left right) (merge_fault_of told)
+      merge_fault-rows gridding.Memory is = tt
+      merge_fault-rows gridding.Empty is = merge_fault-apart ∙ ap (option_map merge_fault_of) is
+      merge_fault-rows (gridding.Limit kind value) is = merge_fault-apart ∙ ap (option_map merge_fault_of) is
 
-      module _ (rows : List Row) (are : rows ≡ rows_of_both (chart_in left) (chart_in right)) (few : length rows ≤ limit_of Rows) where
-        -- there are not
-        merge_fault-few : merge_fault left right ≡ option_map merge_fault_of (chart_fault rows left.frame.period)
-        merge_fault-few =
-            merge_fault-apart ∙ ap (λ xs. rows_fault xs left.frame.period) (sym are)
-            ∙ ap (λ first. option_or first (option_map merge_fault_of (chart_fault rows left.frame.period)))
-            (count_fault-few (length rows) few)
-
-        -- nothing is refused
-        pub merge_fault-none : chart_fault rows left.frame.period ≡ None → merge_fault left right ≡ None
-        merge_fault-none none = merge_fault-few ∙ ap (option_map merge_fault_of) none
-
-        -- the chart of the rows is
-        pub merge_fault-chart : (told : GridFault) → IsGridFaultFor (chart_fault rows left.frame.period) told
-            → IsMergeFaultFor (merge_fault left right) (merge_fault_of told)
-        merge_fault-chart gridding.Memory is = tt
-        merge_fault-chart gridding.Empty is = merge_fault-few ∙ ap (option_map merge_fault_of) is
-        merge_fault-chart (gridding.Limit kind value) is = merge_fault-few ∙ ap (option_map merge_fault_of) is
-
--- a search that finds none finds none at any place
-find-at : (p : ℕ → Bool) (xs : List ℕ) (place : ℕ) → find p xs ≡ None → place < length xs → p (slice_index xs place) ≡ false
-find-at p [] place none within = absurd (omega arith)
-find-at p (x ∷ xs) zero none within = (find-passed_over p x xs none).0
-find-at p (x ∷ xs) (suc place) none within = find-at p xs place (find-passed_over p x xs none).1 (omega arith)
+      -- nothing is refused
+      pub merge_fault-none : rows_fault (rows_of_both (chart_in left).rows (chart_in right).rows) left.frame.period ≡ None
+          → merge_fault left right ≡ None
+      merge_fault-none none = merge_fault-apart ∙ ap (option_map merge_fault_of) none
 
 -- a search among those from a place on, of which the first is at hand
 module _ (left right : List ℕ) where
@@ -161,19 +124,3 @@ module _ (left right : List ℕ) where
     common-next unlisted =
         let next : place + 1 ≡ suc place = omega arith in
         found-from ∙ rw (unlisted, next) refl
-
-  not_mapped : {X Y : Type 0} (f : X → Y) (found : Option X) → option_map f found ≡ None → found ≡ None
-  not_mapped f None is = refl
-  not_mapped f (Some x) is = absurd (cc)
-
-  -- where no object is in both, two objects differ
-  pub objects-apart : (i j : ℕ) → common_fault left right ≡ None → i < length left → j < length right
-      → slice_index left i ≡ slice_index right j → ⊥
-  objects-apart i j apart in_left in_right same =
-      let one : ℕ = slice_index left i in
-      let unlisted = find-at is_common left i (not_mapped fault.Common (find is_common left) apart) in_left in
-      let differs : (one == slice_index right j) ≡ false =
-      none_from_list_any (λ listed. one == listed) right (slice_index right j) unlisted
-      (Contains-get_or right j 0 in_right) in
-      let equal : (one == slice_index right j) ≡ true = eq-eqb one (slice_index right j) same in
-      cc

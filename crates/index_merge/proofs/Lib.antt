@@ -1,5 +1,6 @@
+mod RowsLemmas
 mod PathLemmas
 mod UnionLemmas
+mod AsBuiltLemmas
 mod FaultLemmas
-mod DrawingLemmas
 mod Examples

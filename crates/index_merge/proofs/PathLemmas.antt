@@ -1,4 +1,4 @@
--- The path of an object over a whole index is its rows.
+-- The paths of an index: each is over the whole index, and their rows are the index's, from an object on.
 use Rattle.std.proofs.Common.{◌≡◌, ℕ, ℤ, ◌<◌, ◌≤◌, List, length, get_or, map, refl, ap, sym, ◌∙◌, arith}
 use Rattle.std.specs.Prelude.{slice_index}
 use Rattle.list_laws.proofs.FilterLemmas.{filter-all}
@@ -14,8 +14,6 @@ use Rattle.snapshots.specs.Parts.{chart_in, last_in, numbers_in, row_of, rows_in
 use Rattle.snapshots.specs.SoundParts.{IsValid}
 use Rattle.track_index.specs.Cost.{cost_of}
 use Rattle.track_index.specs.Facts.{facts_of}
-use Rattle.track_types.specs.Near.{IsAsked}
-use Rattle.track_types.specs.Table.{IsTable}
 use Rattle.track_types.specs.declared.facts.Facts.{Facts}
 use Rattle.track_types.specs.declared.question.Question.TheVariants as question
 use Rattle.object_track.proofs.ChartLemmas.{path_of-known}
@@ -59,15 +57,6 @@ facts-first parts facts is = ap (λ (f : Facts). f.first) is
 pub facts-last : (parts : Parts) (facts : Facts) → facts ≡ facts_of parts → facts.last ≡ last_in parts.frame
 unfolding facts_of
 facts-last parts facts is = ap (λ (f : Facts). f.last) is
-
--- both may be asked for
-pub asked-first : (parts : Parts) → IsTable (chart_in parts) → IsAsked parts.frame.first
-unfolding chart_in
-asked-first parts table = table.first
-
-pub asked-last : (parts : Parts) → IsTable (chart_in parts) → IsAsked (last_in parts.frame)
-unfolding chart_in
-asked-last parts table = table.last
 
 -- an object of parts that are seen, and their ends
 module _ (parts seen : Parts) (place object : ℕ) (from to : ℤ) (its : seen ≡ parts)

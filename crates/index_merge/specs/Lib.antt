@@ -2,4 +2,5 @@
 pub mod Union
 pub mod MergeFault
 pub mod Cost
-pub mod Drawing
+pub mod Extension
+pub mod Paths

@@ -1,19 +1,16 @@
 -- Why two indexes have no union: the first cause in order.
-use Rattle.std.specs.Prelude.{◌≡◌, ⊤, ℕ, ◌+◌, Bool, not, ◌==◌, nat_lt, if◌then◌else◌, List, [], ◌∷◌, length, find, Option, None, Some}
+use Rattle.std.specs.Prelude.{◌≡◌, ⊤, ℕ, Bool, not, ◌==◌, List, [], ◌∷◌, find, Option, Some}
 use Rattle.std.specs.Option.{option_map, option_or}
-use Rattle.track_types.specs.Limits.{limit_of}
 use Rattle.track_types.specs.declared.frame.Frame.{Frame}
-use Rattle.track_types.specs.declared.limit.LimitKind.TheVariants.{Rows}
 use Rattle.track_types.specs.declared.parts.Parts.{Parts}
-use Rattle.track_types.specs.declared.row.Row.{Row}
 use Rattle.track_types.specs.declared.setting.Setting.{Setting}
 use Rattle.track_types.specs.declared.setting.Setting.TheVariants as setting
-use Rattle.gridding.specs.GridLimit.{chart_fault}
 use Rattle.gridding.specs.declared.fault.GridFault.{GridFault}
 use Rattle.gridding.specs.declared.fault.GridFault.TheVariants as gridding
 use Rattle.snapshots.specs.Parts.{chart_in}
 use Rattle.track_index.specs.Listed.{is_listed}
-use Rattle.index_merge.specs.Union.{rows_of_both}
+use Rattle.path_union.specs.Fault.{rows_fault}
+use Rattle.path_union.specs.Union.{rows_of_both}
 use Rattle.index_merge.specs.declared.fault.MergeFault.{MergeFault}
 use Rattle.index_merge.specs.declared.fault.MergeFault.TheVariants as fault
 
@@ -38,26 +35,18 @@ settings_fault left right = option_map setting_fault (find differs (compared_set
 abbrev pub common_fault : List ℕ → List ℕ → Option MergeFault
 common_fault left right = option_map fault.Common (find (λ object. is_listed object right) left)
 
--- more rows than a chart may have: the least number that is too great is told
-abbrev pub count_fault : ℕ → Option MergeFault
-count_fault rows = if nat_lt (limit_of Rows) rows then Some (fault.Limit Rows (limit_of Rows + 1)) else None
-
 -- a fault of the rows of both, as one of the merge
 abbrev pub merge_fault_of : GridFault → MergeFault
 merge_fault_of gridding.Empty = fault.Empty
 merge_fault_of (gridding.Limit kind value) = fault.Limit kind value
 merge_fault_of gridding.Memory = fault.Memory
 
--- what is judged of the rows of both: how many there are, and all that is judged of the rows of a chart
-abbrev pub rows_fault : List Row → ℕ → Option MergeFault
-rows_fault rows period = option_or (count_fault (length rows)) (option_map merge_fault_of (chart_fault rows period))
-
 -- the first cause for which two indexes have no union: a setting that differs, an object in both, or what is judged of
 -- the rows of both
 unfoldable pub merge_fault : Parts → Parts → Option MergeFault
 merge_fault left right = option_or (settings_fault left.frame right.frame)
     (option_or (common_fault left.objects right.objects)
-    (rows_fault (rows_of_both (chart_in left) (chart_in right)) left.frame.period))
+    (option_map merge_fault_of (rows_fault (rows_of_both (chart_in left).rows (chart_in right).rows) left.frame.period)))
 
 -- a fault is this one, or memory was refused
 abbrev pub IsMergeFaultFor : Option MergeFault → MergeFault → Type 0

@@ -1,15 +1,18 @@
-//! The chart of two indexes together, drawn path by path.
+//! The chart of two indexes together, or of an index and later rows, drawn path by path.
 //!
-//! `union` is exact: it answers the chart that has the rows of both (`specs/Union.antt`), or the first
-//! cause for which there is none (`specs/MergeFault.antt`), within the reads that `specs/Cost.antt`
-//! counts. The crate stands on `track_types`, `gridding`, `rule_store`, `snapshots`, `object_track`,
-//! `track_index`, `step_count` and `list_laws`. (Its tests make their charts by `gridding`.)
+//! `union` and `extended` are exact: they answer the chart that has the rows of both
+//! (`specs/Union.antt`), or the first cause for which there is none (`specs/MergeFault.antt`,
+//! `specs/Extension.antt`), within the reads that `specs/Cost.antt` counts. The crate stands on
+//! `track_types`, `gridding`, `rule_store`, `snapshots`, `object_track`, `track_index`, `path_union`,
+//! `step_count` and `list_laws`. (Its tests make their charts by `gridding`.)
 #![tactic(auto)]
 
 mod comparing;
-mod drawing;
+mod extending;
 mod fault;
+mod index_paths;
 mod merging;
 
+pub use extending::extended;
 pub use fault::MergeFault;
 pub use merging::union;

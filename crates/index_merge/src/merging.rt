@@ -1,13 +1,14 @@
 ghost use Rattle.std.specs.Prelude.{◌≡◌, ◌+◌, ◌≤◌, None, IfErr, IfOk, OnOk};
 ghost use Rattle.index_merge.specs.Cost.{union_cost};
+ghost use Rattle.index_merge.specs.Extension.{IsAsBuilt};
 ghost use Rattle.index_merge.specs.MergeFault.{merge_fault, IsMergeFaultFor};
 ghost use Rattle.index_merge.specs.Union.{union_of};
 ghost use Rattle.snapshots.specs.Parts.{chart_in};
 
 use crate::comparing::{check_common, check_settings};
-use crate::drawing::rows_of_both;
 use crate::fault::MergeFault;
-use gridding::chart;
+use crate::index_paths::IndexPaths;
+use path_union::chart_of_both;
 use std::alloc::Global;
 use std::sync::ledger::Ledger;
 use step_count::Steps;
@@ -25,6 +26,7 @@ use track_types::Chart;
 /// The paths of all objects are drawn one after the other, and no row is drawn after one too many: an
 /// index that stands for billions of rows is refused without being expanded. Memory is taken for the
 /// rows of the chart, and for the walk of one path.
+#[tactic(auto, using(crate::proofs::AsBuiltLemmas::is_as_built))]
 pub fn union<L: Ledger>(
     alloc: Global,
     left: &Index,
@@ -34,12 +36,13 @@ pub fn union<L: Ledger>(
     ensures ok { IfOk result (λ chart. chart ≡ union_of (chart_in left.now) (chart_in right.now)) }
     ensures exact { OnOk result (merge_fault left.now right.now ≡ None) }
     ensures fault { IfErr result (IsMergeFaultFor (merge_fault left.now right.now)) }
+    ensures as_built { IsAsBuilt left.now (chart_in right.now).rows }
     ensures cost { steps.new ≤ steps.old + union_cost left.now right.now }
 {
     let (one, other) = (left.stores(), right.stores());
     let frame = one.frame();
     check_settings(frame, other.frame())?;
     check_common(one, other)?;
-    let rows = rows_of_both(alloc, left, right, steps)?;
-    Ok(chart(alloc, rows, frame.cell, frame.tick, frame.period)?)
+    let (paths, others) = (IndexPaths::of(left), IndexPaths::of(right));
+    Ok(chart_of_both(alloc, paths, others, frame, steps)?)
 }

@@ -7,7 +7,7 @@ use Rattle.track_types.specs.declared.cell.Cell.{Cell}
 use Rattle.track_types.specs.declared.row.Row.{Row}
 use Rattle.live_tail.specs.Cost.{objects_between, raised_count}
 use Rattle.live_tail.specs.Facts.{joint_object_count}
-use Rattle.live_tail.specs.Join.{joint_chart, joint_rows}
+use Rattle.live_tail.specs.Join.{joint_chart, rows_of_both}
 
 -- a cell by its coordinates
 abbrev at : ℕ → ℕ → Cell
@@ -25,8 +25,8 @@ abbrev tail : List Row
 tail = row 7 2 (at 9 9) ∷ row 7 5 (at 10 10) ∷ row 8 1 (at 11 10) ∷ []
 
 -- all by object, then instant; the later row counts
-joins : joint_rows rows tail ≡ row 7 0 (at 10 10) ∷ row 7 1 (at 11 10) ∷ row 7 2 (at 9 9) ∷ row 7 5 (at 10 10) ∷ row 8 1 (at 11 10) ∷ []
-unfolding joint_rows ordered insert_in_order
+joins : rows_of_both rows tail ≡ row 7 0 (at 10 10) ∷ row 7 1 (at 11 10) ∷ row 7 2 (at 9 9) ∷ row 7 5 (at 10 10) ∷ row 8 1 (at 11 10) ∷ []
+unfolding rows_of_both ordered insert_in_order
 joins = refl
 
 -- from the lesser first to the greater last

@@ -33,13 +33,13 @@ use Rattle.track_types.specs.declared.stop.Stop.{Stop}
 use Rattle.interval_search.specs.FirstHits.{hit_at, hit_in}
 use Rattle.interval_search.proofs.HitLemmas.{hits_of-objects}
 use Rattle.live_tail.specs.Cost.{objects_between, rows_between}
-use Rattle.live_tail.specs.Join.{joint_rows}
-use Rattle.live_tail.specs.Merge.{merge_of}
+use Rattle.live_tail.specs.Join.{rows_of_both}
+use Rattle.path_union.specs.Merge.{merge_of}
 use Rattle.live_tail.specs.Walk.{stops_with}
 use Rattle.live_tail.proofs.CutLemmas.{All-by_members, any-both}
-use Rattle.live_tail.proofs.JoinLemmas.{IsAscending-joint_rows, member_of_rows_with, path_of-joint_rows}
+use Rattle.live_tail.proofs.JoinLemmas.{IsAscending-rows_of_both, member_of_rows_with, path_of-rows_of_both}
 use Rattle.live_tail.proofs.ObjectLemmas.{any-distinct, any-map, any-member, objects_of-rise}
-use Rattle.live_tail.proofs.UnionLemmas.{IsStrictlySortedBy-union_of, beside, has, union_of}
+use Rattle.path_union.proofs.UnionLemmas.{IsStrictlySortedBy-union_of, beside, has, union_of}
 
 -- the first stop in a region
 module _ (region : Region) (stop : Stop) (rest : List Stop) where
@@ -156,7 +156,7 @@ module _ (rows tail : List Row) (up : IsAscending rows) (also : IsAscending tail
   hit_before = hit_in rows from to region
 
   abbrev hit_now : ℕ → Option Hit
-  hit_now = hit_in (joint_rows rows tail) from to region
+  hit_now = hit_in (rows_of_both rows tail) from to region
 
   is_own-rows : (object : ℕ) → is_own object ≡ list_any (is_row_between object from to) tail
   is_own-rows object =
@@ -164,10 +164,10 @@ module _ (rows tail : List Row) (up : IsAscending rows) (also : IsAscending tail
       ∙ any-both (λ (row : Row). object == row.object) (λ (row : Row). is_between from to row.instant) tail
 
   -- an object of which the tail has none has the same path in both
-  path-others : (object : ℕ) → is_own object ≡ false → path_of (joint_rows rows tail) object from to ≡ path_of rows object from to
+  path-others : (object : ℕ) → is_own object ≡ false → path_of (rows_of_both rows tail) object from to ≡ path_of rows object from to
   unfolding merge_of
   path-others object none =
-      path_of-joint_rows rows tail up also object from to
+      path_of-rows_of_both rows tail up also object from to
       ∙ ap (λ own. stops_with own (path_of rows object from to))
       (filter-none (is_row_between object from to) tail
       (λ row inside. none_from_list_any (is_row_between object from to) tail row (sym (is_own-rows object) ∙ none) inside))
@@ -198,9 +198,9 @@ module _ (rows tail : List Row) (up : IsAscending rows) (also : IsAscending tail
       (union-second (objects_of tail) (objects_of rows) row.object (has_object-own rows row inside))
 
   -- the hits are those of all objects
-  hits-now : hits_of (joint_rows rows tail) from to region ≡ filter_map hit_now all
+  hits-now : hits_of (rows_of_both rows tail) from to region ≡ filter_map hit_now all
   hits-now =
-      hits_of-objects (joint_rows rows tail) (IsAscending-joint_rows rows tail up also) from to region all all-rise
+      hits_of-objects (rows_of_both rows tail) (IsAscending-rows_of_both rows tail up also) from to region all all-rise
       (λ row inside. elim (member_of_rows_with rows tail row inside) [
         | inl later ↦ of-tail row later
         | inr before ↦ of-rows row before
@@ -221,7 +221,7 @@ module _ (rows tail : List Row) (up : IsAscending rows) (also : IsAscending tail
   others-now : filter (λ (hit : Hit). not (is_own hit.object)) (filter_map hit_now all)
       ≡ filter (λ (hit : Hit). not (is_own hit.object)) (hits_of rows from to region)
   others-now =
-      filter-hits (λ object. first_among region (path_of (joint_rows rows tail) object from to)) (λ object. not (is_own object)) all
+      filter-hits (λ object. first_among region (path_of (rows_of_both rows tail) object from to)) (λ object. not (is_own object)) all
       ∙ filter_map-alike hit_now hit_before (filter (λ object. not (is_own object)) all)
       (λ object inside. hit-others object (not-true (is_own object) (member_of_filter (λ object. not (is_own object)) all object inside).1))
       ∙ sym (filter-hits (λ object. first_among region (path_of rows object from to)) (λ object. not (is_own object)) all)
@@ -230,7 +230,7 @@ module _ (rows tail : List Row) (up : IsAscending rows) (also : IsAscending tail
   -- and the hits of these
   own-now : filter (λ (hit : Hit). is_own hit.object) (filter_map hit_now all) ≡ filter_map hit_now own
   own-now =
-      filter-hits (λ object. first_among region (path_of (joint_rows rows tail) object from to)) is_own all
+      filter-hits (λ object. first_among region (path_of (rows_of_both rows tail) object from to)) is_own all
       ∙ ap (filter_map hit_now) own-all
 
   double : (b : Bool) → b ≡ not (not b)
@@ -238,9 +238,9 @@ module _ (rows tail : List Row) (up : IsAscending rows) (also : IsAscending tail
   double false = refl
 
   -- what the tail's objects leave of the chart's hits, and their own, are the hits of both
-  pub hits-moved : IsPermutation (hits_of (joint_rows rows tail) from to region)
+  pub hits-moved : IsPermutation (hits_of (rows_of_both rows tail) from to region)
       (filter (λ (hit : Hit). not (is_own hit.object)) (hits_of rows from to region)
-      ++ filter_map (hit_in (joint_rows rows tail) from to region) (objects_between tail from to))
+      ++ filter_map (hit_in (rows_of_both rows tail) from to region) (objects_between tail from to))
   hits-moved =
       subst (λ hits. IsPermutation hits (filter (λ (hit : Hit). not (is_own hit.object)) (hits_of rows from to region) ++ filter_map hit_now own))
       (sym hits-now)
@@ -251,19 +251,19 @@ module _ (rows tail : List Row) (up : IsAscending rows) (also : IsAscending tail
 
   -- so a sort by object leaves the hits of both
   pub hits-sorted : (sorted : List Hit) → IsPermutation (filter (λ (hit : Hit). not (is_own hit.object)) (hits_of rows from to region)
-      ++ filter_map (hit_in (joint_rows rows tail) from to region) (objects_between tail from to)) sorted
-      → IsSorted (λ (a b : Hit). nat_cmp a.object b.object) sorted → sorted ≡ hits_of (joint_rows rows tail) from to region
+      ++ filter_map (hit_in (rows_of_both rows tail) from to region) (objects_between tail from to)) sorted
+      → IsSorted (λ (a b : Hit). nat_cmp a.object b.object) sorted → sorted ≡ hits_of (rows_of_both rows tail) from to region
   hits-sorted sorted moved order =
-      same_from_sorted (on_total (λ (hit : Hit). hit.object) nat_cmp_total) (hits_of (joint_rows rows tail) from to region) sorted
+      same_from_sorted (on_total (λ (hit : Hit). hit.object) nat_cmp_total) (hits_of (rows_of_both rows tail) from to region) sorted
       (subst (IsStrictlySortedBy (λ (a b : Hit). nat_cmp a.object b.object)) (sym hits-now)
-      (hits-rise (λ object. first_among region (path_of (joint_rows rows tail) object from to)) all all-rise))
+      (hits-rise (λ object. first_among region (path_of (rows_of_both rows tail) object from to)) all all-rise))
       (IsPermutation-trans _ _ sorted hits-moved moved) order
 
 -- the cells of a path in both are near
 pub near-path : (chart : ChartView) (tail : List Row) → IsTable chart → All (λ (row : Row). IsCellWithin row.cell) tail
-    → (object : ℕ) (from to : ℤ) → All (λ (stop : Stop). IsCellWithin stop.cell) (path_of (joint_rows chart.rows tail) object from to)
+    → (object : ℕ) (from to : ℤ) → All (λ (stop : Stop). IsCellWithin stop.cell) (path_of (rows_of_both chart.rows tail) object from to)
 near-path chart tail table near object from to =
-    let rows : List Row = joint_rows chart.rows tail in
+    let rows : List Row = rows_of_both chart.rows tail in
     let own : List Row = filter (is_row_between object from to) rows in
     All-by_members (λ (stop : Stop). IsCellWithin stop.cell) (map stop_of own) (λ stop inside.
     let row = member_of_map stop_of own stop inside in

@@ -23,10 +23,10 @@ use Rattle.track_types.specs.ByFilter.{is_row_at}
 use Rattle.track_types.specs.Row.{IsAscending, row_order}
 use Rattle.track_types.specs.declared.row.Row.{Row}
 use Rattle.track_types.proofs.RowLemmas.{row_order_total}
-use Rattle.live_tail.specs.Join.{has_place, joint_rows}
+use Rattle.live_tail.specs.Join.{has_place, rows_of_both}
 use Rattle.live_tail.proofs.CutLemmas.{any-both}
-use Rattle.live_tail.proofs.JoinLemmas.{IsAscending-joint_rows, beside-rows, union_of-rows}
-use Rattle.live_tail.proofs.UnionLemmas.{beside, filter-swap, filter-union_of}
+use Rattle.live_tail.proofs.JoinLemmas.{IsAscending-rows_of_both, beside-rows, union_of-rows}
+use Rattle.path_union.proofs.UnionLemmas.{beside, filter-swap, filter-union_of}
 
 -- of the rows of an instant, whether some is of an object
 abbrev pub has_object : List Row → ℕ → Bool
@@ -57,12 +57,12 @@ module _ (instant : ℤ) where
 
     -- what is found with the tail is what its rows leave of what was found without, and what is made of these
     pub found-moved : (rows tail : List Row) → IsAscending rows → IsAscending tail →
-        IsPermutation (map f (filter is_found (joint_rows rows tail)))
+        IsPermutation (map f (filter is_found (rows_of_both rows tail)))
         (left_of tail (map f (filter is_found rows)) ++ map f (filter q (filter at tail)))
     found-moved rows tail up also =
         let own : List Row = filter is_found tail in
         let rest : List Row = filter is_found (beside row_order_total tail rows) in
-        let joined : filter is_found (joint_rows rows tail) ≡ ordered row_order (own ++ rest) =
+        let joined : filter is_found (rows_of_both rows tail) ≡ ordered row_order (own ++ rest) =
         ap (filter is_found) (sym (union_of-rows tail rows)) ∙ filter-union_of row_order_total is_found tail rows also up in
         let tails : own ≡ filter q (filter at tail) =
         filter_agree _ _ (λ row. and_comm (at row) (q row)) tail ∙ filter_and q at tail in
@@ -73,10 +73,10 @@ module _ (instant : ℤ) where
         (λ row inside. ap not (has_place-object tail row (and_parts (at row) (q row) (member_of_filter is_found rows row inside).1).0
         ∙ ap (has_object (filter at tail)) (sym (its row)))))
         ∙ sym (filter-map (λ y. not (has_object (filter at tail) (key y))) f (filter is_found rows)) in
-        subst (λ zs. IsPermutation (map f (filter is_found (joint_rows rows tail))) (zs ++ map f (filter q (filter at tail)))) others
-        (subst (λ zs. IsPermutation (map f (filter is_found (joint_rows rows tail))) (map f rest ++ map f zs)) tails
+        subst (λ zs. IsPermutation (map f (filter is_found (rows_of_both rows tail))) (zs ++ map f (filter q (filter at tail)))) others
+        (subst (λ zs. IsPermutation (map f (filter is_found (rows_of_both rows tail))) (map f rest ++ map f zs)) tails
         (IsPermutation-trans _ (map f (own ++ rest)) _
-        (IsPermutation-map f (filter is_found (joint_rows rows tail)) (own ++ rest)
+        (IsPermutation-map f (filter is_found (rows_of_both rows tail)) (own ++ rest)
         (subst (λ zs. IsPermutation zs (own ++ rest)) (sym joined)
         (IsPermutation-sym (own ++ rest) (ordered row_order (own ++ rest)) (IsPermutation-ordered row_order (own ++ rest)))))
         (subst (λ zs. IsPermutation zs (map f rest ++ map f own)) (sym (map-append f own rest))
@@ -110,10 +110,10 @@ module _ (instant : ℤ) where
     -- so a sort by object leaves what is found with the tail
     pub found-sorted : (rows tail : List Row) → IsAscending rows → IsAscending tail → (sorted : List Y) →
         IsPermutation (left_of tail (map f (filter is_found rows)) ++ map f (filter q (filter at tail))) sorted →
-        IsSorted (λ (a b : Y). nat_cmp (key a) (key b)) sorted → sorted ≡ map f (filter is_found (joint_rows rows tail))
+        IsSorted (λ (a b : Y). nat_cmp (key a) (key b)) sorted → sorted ≡ map f (filter is_found (rows_of_both rows tail))
     found-sorted rows tail up also sorted moved order =
-        same_from_sorted (on_total key nat_cmp_total) (map f (filter is_found (joint_rows rows tail))) sorted
-        (found-rises (joint_rows rows tail) (IsAscending-joint_rows rows tail up also))
+        same_from_sorted (on_total key nat_cmp_total) (map f (filter is_found (rows_of_both rows tail))) sorted
+        (found-rises (rows_of_both rows tail) (IsAscending-rows_of_both rows tail up also))
         (IsPermutation-trans _ _ sorted (found-moved rows tail up also) moved) order
 
 -- what an index past the end reads

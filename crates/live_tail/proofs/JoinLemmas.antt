@@ -29,22 +29,14 @@ use Rattle.track_types.specs.Table.{IsRowOf, IsTable}
 use Rattle.track_types.specs.declared.row.Row.{Row}
 use Rattle.track_types.proofs.QuantityLemmas.{first_of-below, last_of-above}
 use Rattle.track_types.proofs.RowLemmas.{eq_by_cmp-row_order, row_order_total}
-use Rattle.live_tail.specs.Join.{joint_chart, has_place, rows_beside, rows_of_tail, joint_rows}
-use Rattle.live_tail.specs.Merge.{merge_of}
+pub use Rattle.path_union.proofs.RowsLemmas.{IsAscending-rows_of_both, beside-rows, rows_of_both-none, union_of-rows}
+use Rattle.live_tail.specs.Join.{joint_chart, has_place, rows_beside, rows_of_tail, rows_of_both}
+use Rattle.path_union.specs.Merge.{merge_of}
 use Rattle.live_tail.specs.Walk.{stop_order, stops_with}
 use Rattle.live_tail.proofs.CutLemmas.{All-by_members}
-use Rattle.live_tail.proofs.MergeLemmas.{map-merge_of, merge_of-union_of}
+use Rattle.path_union.proofs.MergeLemmas.{map-merge_of, merge_of-union_of}
 use Rattle.live_tail.proofs.RangeLemmas.{asked-near, near-chart, near-greatest, near-least}
-use Rattle.live_tail.proofs.UnionLemmas.{IsStrictlySortedBy-union_of, beside, filter-union_of_alike, find-union_of, union_of}
-
--- rows tie where they are of one object and instant
-pub beside-rows : (tail rows : List Row) → beside row_order_total tail rows ≡ rows_beside tail rows
-beside-rows tail rows =
-    filter_agree _ _ (λ y. ap not (list_any-agree _ _ (λ x. eq_by_cmp-row_order y x) tail)) rows
-
-pub union_of-rows : (tail rows : List Row) → union_of row_order_total tail rows ≡ joint_rows rows tail
-unfolding joint_rows
-union_of-rows tail rows = ap (λ others. ordered row_order (tail ++ others)) (beside-rows tail rows)
+use Rattle.path_union.proofs.UnionLemmas.{IsStrictlySortedBy-union_of, beside, filter-union_of_alike, find-union_of, union_of}
 
 find-or : (place : Row) (a b : Option Row) →
     option_map (λ (row : Row). row.cell) (option_or a b)
@@ -52,20 +44,15 @@ find-or : (place : Row) (a b : Option Row) →
 find-or place None b = refl
 find-or place (Some a) b = refl
 
-module _ (rows tail : List Row) (up : IsAscending rows) (also : IsAscending tail) where
-  pub IsAscending-joint_rows : IsAscending (joint_rows rows tail)
-  IsAscending-joint_rows =
-      subst IsAscending (union_of-rows tail rows) (IsStrictlySortedBy-union_of row_order_total tail rows also up)
-
 -- the cell at an instant is the tail's, or else the chart's
-pub cell_at-joint_rows : (rows tail : List Row) (object : ℕ) (instant : ℤ) →
-    cell_at (joint_rows rows tail) object instant ≡ option_or (cell_at tail object instant) (cell_at rows object instant)
-cell_at-joint_rows rows tail object instant =
+pub cell_at-rows_of_both : (rows tail : List Row) (object : ℕ) (instant : ℤ) →
+    cell_at (rows_of_both rows tail) object instant ≡ option_or (cell_at tail object instant) (cell_at rows object instant)
+cell_at-rows_of_both rows tail object instant =
     let place : Row = record { object = object; instant = instant; cell = record { x = pos 0; y = pos 0 } } in
     let tied : (xs : List Row) → find (is_row_of object instant) xs ≡ find (eq_by_cmp row_order place) xs =
     λ xs. find-agree _ _ (λ row. sym (eq_by_cmp-row_order place row)) xs in
     ap (option_map (λ (row : Row). row.cell))
-    (tied (joint_rows rows tail) ∙ ap (find (eq_by_cmp row_order place)) (sym (union_of-rows tail rows))
+    (tied (rows_of_both rows tail) ∙ ap (find (eq_by_cmp row_order place)) (sym (union_of-rows tail rows))
     ∙ find-union_of row_order_total place tail rows
     ∙ ap (λ found. option_or found (find (eq_by_cmp row_order place) rows)) (sym (tied tail))
     ∙ ap (option_or (find (is_row_of object instant) tail)) (sym (tied rows)))
@@ -103,9 +90,9 @@ order-stops object a b one other =
     then-same (nat_cmp a.object b.object) (int_cmp a.instant b.instant) same
 
 -- the path of an object is the tail's merged with the chart's
-pub path_of-joint_rows : (rows tail : List Row) → IsAscending rows → IsAscending tail → (object : ℕ) (from to : ℤ) →
-    path_of (joint_rows rows tail) object from to ≡ stops_with (filter (is_row_between object from to) tail) (path_of rows object from to)
-path_of-joint_rows rows tail up also object from to =
+pub path_of-rows_of_both : (rows tail : List Row) → IsAscending rows → IsAscending tail → (object : ℕ) (from to : ℤ) →
+    path_of (rows_of_both rows tail) object from to ≡ stops_with (filter (is_row_between object from to) tail) (path_of rows object from to)
+path_of-rows_of_both rows tail up also object from to =
     let window : List Row → List Row = filter (is_row_between object from to) in
     ap (map stop_of)
     (ap window (sym (union_of-rows tail rows))
@@ -116,20 +103,15 @@ path_of-joint_rows rows tail up also object from to =
     ∙ map-merge_of row_order stop_order stop_of (λ (row : Row). row.object ≡ object) (order-stops object) (window tail) (window rows)
     (all-window object from to tail) (all-window object from to rows)
 
--- without rows of a tail they are the chart's
-pub joint_rows-none : (rows : List Row) → IsAscending rows → joint_rows rows [] ≡ rows
-unfolding merge_of IsStrictlySortedBy
-joint_rows-none rows up = sym (union_of-rows [] rows) ∙ merge_of-union_of row_order_total [] rows tt up
-
 -- the rows of the chart of both
 pub joint_chart-rows : (chart : ChartView) (tail : Option ChartView) → IsAscending chart.rows →
-    joint_rows chart.rows (rows_of_tail tail) ≡ (joint_chart chart tail).rows
-joint_chart-rows chart None up = joint_rows-none chart.rows up
+    rows_of_both chart.rows (rows_of_tail tail) ≡ (joint_chart chart tail).rows
+joint_chart-rows chart None up = rows_of_both-none chart.rows up
 joint_chart-rows chart (Some tail) up = refl
 
 -- each row of both is a tail's or the chart's
-pub member_of_rows_with : (rows tail : List Row) (row : Row) → Contains (joint_rows rows tail) row → Contains tail row ⊎ Contains rows row
-unfolding joint_rows
+pub member_of_rows_with : (rows tail : List Row) (row : Row) → Contains (rows_of_both rows tail) row → Contains tail row ⊎ Contains rows row
+unfolding rows_of_both
 member_of_rows_with rows tail row inside =
     let all : List Row = tail ++ rows_beside tail rows in
     elim (Contains-append_cases tail (rows_beside tail rows) row
@@ -173,7 +155,7 @@ IsTable-joint_chart chart (Some tail) table is =
     let joined : ChartView = joint_chart chart (Some tail) in
     let ends = asked-end tail is in
     record {
-      ascending = IsAscending-joint_rows chart.rows tail.rows table.ascending is.ascending;
+      ascending = IsAscending-rows_of_both chart.rows tail.rows table.ascending is.ascending;
       rows = All-by_members (IsRowOf joined) joined.rows (λ row inside. elim (member_of_rows_with chart.rows tail.rows row inside) [
         | inl own ↦
             let low : tail.first ≤ℤ row.instant = rw (is.first) (All-contains (λ (z : Row). first_of tail.rows ≤ℤ z.instant) tail.rows row (first_of-below tail.rows) own) in
@@ -201,7 +183,7 @@ pub cell_at-joint_chart : (chart : ChartView) (tail : Option ChartView) → IsTa
     ≡ option_or (cell_at (rows_of_tail tail) object instant) (cell_at chart.rows object instant)
 cell_at-joint_chart chart tail table object instant =
     ap (λ rows. cell_at rows object instant) (sym (joint_chart-rows chart tail table.ascending))
-    ∙ cell_at-joint_rows chart.rows (rows_of_tail tail) object instant
+    ∙ cell_at-rows_of_both chart.rows (rows_of_tail tail) object instant
 
 -- the path of an object in it
 pub path_of-joint_chart : (chart : ChartView) (tail : Option ChartView) → IsTable chart → IsAscending (rows_of_tail tail) →
@@ -209,4 +191,4 @@ pub path_of-joint_chart : (chart : ChartView) (tail : Option ChartView) → IsTa
     ≡ stops_with (filter (is_row_between object from to) (rows_of_tail tail)) (path_of chart.rows object from to)
 path_of-joint_chart chart tail table also object from to =
     ap (λ rows. path_of rows object from to) (sym (joint_chart-rows chart tail table.ascending))
-    ∙ path_of-joint_rows chart.rows (rows_of_tail tail) table.ascending also object from to
+    ∙ path_of-rows_of_both chart.rows (rows_of_tail tail) table.ascending also object from to

@@ -1,10 +1,8 @@
-pub mod UnionLemmas
-pub mod MergeLemmas
 pub mod CutLemmas
-pub mod WalkLemmas
 pub mod ObjectLemmas
 pub mod RangeLemmas
 pub mod JoinLemmas
+pub mod TogetherLemmas
 pub mod InstantLemmas
 pub mod HitLemmas
 pub mod NearLemmas

@@ -32,9 +32,9 @@ use Rattle.track_types.specs.declared.question.Question.TheVariants as asked
 use Rattle.track_types.specs.declared.row.Row.{Row}
 use Rattle.track_types.proofs.NearLemmas.{near_order_total}
 use Rattle.live_tail.specs.Cost.{nearest_cost_beside, raised_count}
-use Rattle.live_tail.specs.Join.{joint_rows}
+use Rattle.live_tail.specs.Join.{rows_of_both}
 use Rattle.live_tail.proofs.InstantLemmas.{found-moved, found-rises, has_object, left_of}
-use Rattle.live_tail.proofs.JoinLemmas.{IsAscending-joint_rows}
+use Rattle.live_tail.proofs.JoinLemmas.{IsAscending-rows_of_both}
 
 module _ {X : Type 0} (order : X → X → Ordering) (o : IsTotalOrder order) where
   less_is : (a : Ordering) → is_lt a ≡ true → a ≡ Less
@@ -275,13 +275,13 @@ module _ (rows tail : List Row) (up : IsAscending rows) (also : IsAscending tail
   all-found rows = ap (map (near_of cell)) (filter_agree _ _ (λ row. and-true (is_row_at instant row)) rows)
 
   -- those of both are the tail's, and what these leave
-  moved-nears : IsPermutation (nears_at (joint_rows rows tail) instant cell)
+  moved-nears : IsPermutation (nears_at (rows_of_both rows tail) instant cell)
       (kept near_order near_order_total overridden (nears_at rows instant cell) ++ others)
   moved-nears =
-      subst (λ zs. IsPermutation zs (kept near_order near_order_total overridden (nears_at rows instant cell) ++ others)) (all-found (joint_rows rows tail))
-      (subst (λ zs. IsPermutation (map (near_of cell) (filter (λ row. is_row_at instant row && true) (joint_rows rows tail)))
+      subst (λ zs. IsPermutation zs (kept near_order near_order_total overridden (nears_at rows instant cell) ++ others)) (all-found (rows_of_both rows tail))
+      (subst (λ zs. IsPermutation (map (near_of cell) (filter (λ row. is_row_at instant row && true) (rows_of_both rows tail)))
       (kept near_order near_order_total overridden zs ++ others)) (all-found rows)
-      (subst (λ zs. IsPermutation (map (near_of cell) (filter (λ row. is_row_at instant row && true) (joint_rows rows tail)))
+      (subst (λ zs. IsPermutation (map (near_of cell) (filter (λ row. is_row_at instant row && true) (rows_of_both rows tail)))
       (left_of instant (near_of cell) (λ (near : Near). near.object) (λ row. refl) (λ row. true) tail
       (map (near_of cell) (filter (λ row. is_row_at instant row && true) rows)) ++ map (near_of cell) zs)) (all-pass own)
       (found-moved instant (near_of cell) (λ (near : Near). near.object) (λ row. refl) (λ row. true) rows tail up also)))
@@ -314,12 +314,12 @@ module _ (rows tail : List Row) (up : IsAscending rows) (also : IsAscending tail
         ]
 
     -- what the tail's rows leave of the nearest in the index, and these, by nearness: the first of them are the nearest of both
-    pub nears_of-joint_rows : (sorted : List Near) →
+    pub nears_of-rows_of_both : (sorted : List Near) →
         IsPermutation (filter (λ (near : Near). not (overridden near)) (nears_of rows raised instant cell) ++ others) sorted →
-        IsSorted near_order sorted → take count sorted ≡ nears_of (joint_rows rows tail) count instant cell
-    nears_of-joint_rows sorted moved order =
+        IsSorted near_order sorted → take count sorted ≡ nears_of (rows_of_both rows tail) count instant cell
+    nears_of-rows_of_both sorted moved order =
         let nears : List Near = nears_at rows instant cell in
-        let both : List Near = nears_at (joint_rows rows tail) instant cell in
+        let both : List Near = nears_at (rows_of_both rows tail) instant cell in
         let front : List Near = kept near_order near_order_total overridden (take raised (ordered near_order nears)) in
         let back : List Near = kept near_order near_order_total overridden (drop raised (ordered near_order nears)) in
         let all_moved : IsPermutation both (back ++ (front ++ others)) =
@@ -327,7 +327,7 @@ module _ (rows tail : List Row) (up : IsAscending rows) (also : IsAscending tail
         (moved-back near_order near_order_total overridden raised nears others (apart-at rows up)) in
         let distinct : IsDistinct (eq_by_cmp object_order) (back ++ (front ++ others)) =
         IsDistinct-IsPermutation (eq_by_cmp object_order) (eq_by_cmp_equiv object_order_total).symm both (back ++ (front ++ others)) all_moved
-        (IsDistinct-from_sorted object_order both (rise (joint_rows rows tail) (IsAscending-joint_rows rows tail up also))) in
+        (IsDistinct-from_sorted object_order both (rise (rows_of_both rows tail) (IsAscending-rows_of_both rows tail up also))) in
         let apart : AreApart near_order (back ++ (front ++ others)) = apart-nears (back ++ (front ++ others)) distinct in
         let first : sorted ≡ ordered near_order (front ++ others) =
         ordered_from_sorted near_order_total (front ++ others) sorted (AreApart-behind near_order back (front ++ others) apart)
@@ -335,8 +335,8 @@ module _ (rows tail : List Row) (up : IsAscending rows) (also : IsAscending tail
         ap (take count) first
         ∙ sym (take-raised near_order near_order_total overridden raised nears others (apart-at rows up) count enough apart)
         ∙ ap (take count) (ordered-moved near_order near_order_total both (back ++ (front ++ others))
-        (apart-at (joint_rows rows tail) (IsAscending-joint_rows rows tail up also)) all_moved)
-        ∙ sym (first-of (joint_rows rows tail) (IsAscending-joint_rows rows tail up also) count)
+        (apart-at (rows_of_both rows tail) (IsAscending-rows_of_both rows tail up also)) all_moved)
+        ∙ sym (first-of (rows_of_both rows tail) (IsAscending-rows_of_both rows tail up also) count)
 
 none-below : (q : Near → ℕ) (xs : List Near) → filter (λ x. nat_lt (q x) 0) xs ≡ []
 none-below q [] = refl

@@ -4,6 +4,5 @@ pub mod View
 pub mod Facts
 pub mod Cost
 pub mod ByInstant
-pub mod Merge
 pub mod Walk
 pub mod Behind

@@ -1,10 +1,17 @@
-ghost use Rattle.std.specs.Prelude.{◌≡◌};
+ghost use Rattle.std.specs.Prelude.{◌≡◌, ◌+◌, ◌≤◌, IfSome};
+ghost use Rattle.track_types.specs.ByFilter.{cell_at};
+ghost use Rattle.track_types.specs.Near.{IsAsked};
+ghost use Rattle.track_types.specs.declared.question.Question.TheVariants as asked;
+ghost use Rattle.snapshots.specs.Parts.{chart_in};
+ghost use Rattle.live_tail.specs.Cost.{cost_with};
+ghost use Rattle.live_tail.specs.Join.{joint_chart, rows_of_tail};
 
 use crate::interval::interval;
 use crate::nearest::nearest;
 use crate::slice::slice;
 use crate::tail_walk::TailWalk;
 use crate::tailed::TailRef;
+use path_union::{RowsWalk, UnionWalk};
 use std::alloc::Global;
 use std::sync::ledger::Ledger;
 use step_count::Steps;
@@ -39,7 +46,15 @@ impl<'a> Answerer for TailRef<'a> {
         }
     }
 
-    fn position<L: Ledger>(self, object: u32, instant: i64, steps: &mut Steps<L>) -> Option<Cell> {
+    fn position<L: Ledger>(self, object: u32, instant: i64, steps: &mut Steps<L>) -> Option<Cell>
+        requires { IsAsked instant }
+        ensures value { result ≡ cell_at
+            (joint_chart (chart_in self.entry.tailed.now.parts) self.entry.tailed.now.tail).rows object instant }
+        ensures cost { steps.new ≤ steps.old
+            + cost_with self.entry.tailed.now.parts self.entry.tailed.now.tail (asked.Position object instant) }
+        ensures at_hand { IfSome (cell_at (rows_of_tail self.entry.tailed.now.tail) object instant)
+            (λ _. steps.new ≡ steps.old) }
+    {
         let index = self.tailed.index().view();
         let _ = index.facts(); // says that its chart is a table
         match self.tailed.tail().cell_at(object, instant) {
@@ -60,7 +75,8 @@ impl<'a> Answerer for TailRef<'a> {
         let tail = self.tailed.tail();
         let _ = tail.rows(); // says that these ascend
         let walk = index.walk(alloc, object, from, to)?;
-        Ok(TailWalk::new(walk, tail.track(object, from, to)))
+        let own = RowsWalk::over(tail.track(object, from, to));
+        Ok(UnionWalk::of(Some(own), Some(walk)))
     }
 
     fn slice<L: Ledger>(

@@ -10,11 +10,11 @@ ghost use Rattle.log_cursor.specs.Touching.{first_among};
 ghost use Rattle.interval_search.specs.FirstHits.{hit_in};
 ghost use Rattle.live_tail.specs.Behind.{AreLeftAfter};
 ghost use Rattle.live_tail.specs.Cost.{interval_cost_beside};
-ghost use Rattle.live_tail.specs.Join.{rows_of_tail, joint_rows};
+ghost use Rattle.live_tail.specs.Join.{rows_of_tail, rows_of_both};
 
 use crate::objects::{is_among, objects_in};
 use crate::tail::Tail;
-use crate::tail_walk::TailWalk;
+use path_union::{RowsWalk, UnionWalk};
 use std::alloc::Global;
 use std::sync::ledger::Ledger;
 use step_count::Steps;
@@ -38,7 +38,7 @@ pub fn interval<A: Answerer, L: Ledger>(
     requires to { IsAsked to }
     requires region { IsRegionAsked region.now }
     ensures ok { IfOk result (λ found. found.items ≡ hits_of
-        (joint_rows (A.chart answerer).rows (rows_of_tail tail.now)) from to region.now) }
+        (rows_of_both (A.chart answerer).rows (rows_of_tail tail.now)) from to region.now) }
     ensures cost { steps.new ≤ steps.old + interval_cost_beside (A.cost answerer)
         (rows_of_tail tail.now) from to region.now }
 {
@@ -83,7 +83,7 @@ impl<'a, A: Answerer> Window<'a, A> {
         requires to { IsAsked self.now.to }
         requires region { IsRegionAsked self.now.region.now }
         ensures found { OnOk result (found.new.items ≡ found.old.items ++ filter_map (hit_in
-            (joint_rows (A.chart self.now.answerer).rows (rows_of_tail self.now.tail.now))
+            (rows_of_both (A.chart self.now.answerer).rows (rows_of_tail self.now.tail.now))
             self.now.from self.now.to self.now.region.now) objects.now) }
         ensures cost { steps.new ≤ steps.old + sum_by (λ object. A.cost self.now.answerer
             (asked.Path object self.now.from self.now.to)) objects.now }
@@ -107,14 +107,15 @@ impl<'a, A: Answerer> Window<'a, A> {
         requires to { IsAsked self.now.to }
         requires region { IsRegionAsked self.now.region.now }
         ensures ok { IfOk result (λ hit. hit ≡ hit_in
-            (joint_rows (A.chart self.now.answerer).rows (rows_of_tail self.now.tail.now))
+            (rows_of_both (A.chart self.now.answerer).rows (rows_of_tail self.now.tail.now))
             self.now.from self.now.to self.now.region.now object) }
         ensures cost { steps.new ≤ steps.old + A.cost self.now.answerer
             (asked.Path object self.now.from self.now.to) }
     {
         let _ = self.tail.rows(); // says that these ascend, in near cells
         let walk = self.answerer.walk(alloc, object, self.from, self.to)?;
-        let mut walk = TailWalk::new(walk, self.tail.track(object, self.from, self.to));
+        let own = RowsWalk::over(self.tail.track(object, self.from, self.to));
+        let mut walk = UnionWalk::of(Some(own), Some(walk));
         let Some(stop) = first_in(&mut walk, self.region, steps) else {
             return Ok(None);
         };

@@ -3,7 +3,7 @@ ghost use Rattle.track_types.specs.ByFilter.{is_row_at, near_of, nears_of};
 ghost use Rattle.track_types.specs.Near.{IsAsked, IsCellAsked, IsCellWithin};
 ghost use Rattle.track_types.specs.declared.row.Row.{Row as RowView};
 ghost use Rattle.live_tail.specs.Cost.{nearest_cost_beside};
-ghost use Rattle.live_tail.specs.Join.{rows_of_tail, joint_rows};
+ghost use Rattle.live_tail.specs.Join.{rows_of_tail, rows_of_both};
 
 use crate::objects::has_object;
 use crate::tail::Tail;
@@ -30,7 +30,7 @@ pub fn nearest<A: Answerer, L: Ledger>(
     requires cell { IsCellAsked cell }
     requires few { length (filter (is_row_at instant) (A.chart answerer).rows) ≤ 2 ^ 32 - 1 }
     ensures ok { IfOk result (λ found. found.items ≡ nears_of
-        (joint_rows (A.chart answerer).rows (rows_of_tail tail.now)) count instant cell) }
+        (rows_of_both (A.chart answerer).rows (rows_of_tail tail.now)) count instant cell) }
     ensures cost { steps.new ≤ steps.old
         + nearest_cost_beside (A.cost answerer) (rows_of_tail tail.now) count instant cell }
 {

@@ -4,7 +4,7 @@ ghost use Rattle.track_types.specs.Near.{IsAsked, IsCellWithin};
 ghost use Rattle.track_types.specs.Region.{IsRegionAsked, IsRegionWithin, in_region};
 ghost use Rattle.track_types.specs.declared.question.Question.TheVariants as asked;
 ghost use Rattle.track_types.specs.declared.row.Row.{Row as RowView};
-ghost use Rattle.live_tail.specs.Join.{rows_of_tail, joint_rows};
+ghost use Rattle.live_tail.specs.Join.{rows_of_tail, rows_of_both};
 
 use crate::objects::has_object;
 use crate::tail::Tail;
@@ -28,7 +28,7 @@ pub fn slice<A: Answerer, L: Ledger>(
     requires instant { IsAsked instant }
     requires region { IsRegionAsked region.now }
     ensures ok { IfOk result (λ found. found.items ≡ sightings_of
-        (joint_rows (A.chart answerer).rows (rows_of_tail tail.now)) instant region.now) }
+        (rows_of_both (A.chart answerer).rows (rows_of_tail tail.now)) instant region.now) }
     ensures cost { steps.new ≤ steps.old + A.cost answerer (asked.Slice instant region.now) }
 {
     let _ = answerer.facts(); // says that the chart is a table

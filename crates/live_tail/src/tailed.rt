@@ -1,5 +1,7 @@
 ghost use Rattle.std.specs.Prelude.{◌≡◌, IfOk, IfSome};
+ghost use Rattle.snapshots.specs.Parts.{chart_in};
 ghost use Rattle.live_tail.specs.Facts.{IsCount};
+ghost use Rattle.live_tail.specs.Join.{IsAsBuiltTogether};
 ghost use Rattle.live_tail.specs.View.{IsOfFrame};
 
 use crate::objects::objects_in;
@@ -35,10 +37,13 @@ impl<'a> Tailed<'a> {
     /// An index with a tail, or with none. The tail was gridded by the index's cell, tick and period.
     ///
     /// Memory is taken for the tail's rows once more, by instant, and for its objects. It makes no read.
+    #[tactic(auto, using(crate::proofs::TogetherLemmas::together))]
     pub fn join(alloc: Global, index: &'a Index, tail: Option<Chart>) -> Result<Tailed<'a>, Memory>
         requires { IfSome tail (IsOfFrame index.now.frame) }
         ensures ok { IfOk result (λ tailed. tailed ≡ record { parts = index.now; tail = tail }) }
+        ensures together { IsAsBuiltTogether (chart_in index.now) tail }
     {
+        let _ = index.stores(); // says that the parts are valid
         let tail = Tail::new(alloc, tail)?;
         let objects = object_count(alloc, index, &tail)?;
         Ok(Tailed {

@@ -1,9 +1,10 @@
-use Rattle.std.proofs.Common.{◌≡◌, ◌∙◌, Err, ap, rules}
+use Rattle.std.proofs.Common.{◌≡◌, ◌∙◌, ◌+◌, Err, ap, arith, rules}
 use Rattle.track_types.specs.declared.frame.Frame.{Frame}
 use Rattle.track_types.specs.declared.parts.Parts.{Parts}
+use Rattle.snapshots.specs.Parts.{chart_in}
 use Rattle.index_merge.specs.MergeFault.{common_fault, merge_fault, merge_fault_of, settings_fault}
-use Rattle.index_merge.proofs.FaultLemmas.{common_fault-alike, IsMergeFaultFor-is, merge_fault-chart, merge_fault-common, merge_fault-count, merge_fault-none, merge_fault-settings, settings_fault-alike}
-use Rattle.index_merge.proofs.UnionLemmas.{timely-both, union_of-rows}
+use Rattle.index_merge.proofs.FaultLemmas.{common_fault-alike, IsMergeFaultFor-is, merge_fault-common, merge_fault-none, merge_fault-rows, merge_fault-settings, settings_fault-alike}
+use Rattle.index_merge.proofs.UnionLemmas.{extension_of-rows}
 use Rattle.index_merge.proofs.merging.union.Given.{Over}
 use Rattle.index_merge.proofs.merging.union.Goals as goal
 use Rattle.index_merge.proofs.merging.union.Goals.{After-frame}
@@ -46,43 +47,45 @@ returns-in_err-check_common-clause-fault g c =
     (merge_fault-common left right (settings g at ∙ c.in_ok-check_settings.ensures.ok) c.in_err-check_common.field-0.0
     (common g at ∙ c.in_err-check_common.ensures.err)))
 
-pub returns-in_err-rows-clause-fault : goal.returns-in_err-rows-clause-fault
-returns-in_err-rows-clause-fault g c =
-    let at = (goal.at.returns-in_err-rows-clause-fault g c).After-frame in
+pub chart_of_both-requires-clause-older : goal.chart_of_both-requires-clause-older
+chart_of_both-requires-clause-older g c = rw c.of-paths.ensures.rows c.of-paths.ensures.timely
+
+pub chart_of_both-requires-clause-later : goal.chart_of_both-requires-clause-later
+chart_of_both-requires-clause-later g c = rw c.of-others.ensures.rows c.of-others.ensures.timely
+
+pub returns-in_err-chart_of_both-clause-fault : goal.returns-in_err-chart_of_both-clause-fault
+returns-in_err-chart_of_both-clause-fault g c =
+    let at = (goal.at.returns-in_err-chart_of_both-clause-fault g c).After-frame in
     let left : Parts = c.args.left.now in
     let right : Parts = c.args.right.now in
-    let told : c.from_residual-in_err-rows.result ≡ Err c.in_err-rows.field-0.0 = search rules in
-    rw told (merge_fault-count left right (settings g at ∙ c.in_ok-check_settings.ensures.ok)
-    (common g at ∙ c.in_ok-check_common.ensures.ok) c.in_err-rows.field-0.0 c.in_err-rows.ensures.fault)
+    let told : c.from_residual-in_err-chart_of_both.result ≡ Err (merge_fault_of c.in_err-chart_of_both.field-0.0) = search rules in
+    let period = ap (λ (f : Frame). f.period) (header g at) in
+    rw told (merge_fault-rows left right (settings g at ∙ c.in_ok-check_settings.ensures.ok)
+    (common g at ∙ c.in_ok-check_common.ensures.ok) c.in_err-chart_of_both.field-0.0
+    (rw (c.of-paths.ensures.rows, c.of-others.ensures.rows, period) at c.in_err-chart_of_both.ensures.fault))
 
-pub chart-requires-clause-near : goal.chart-requires-clause-near
-chart-requires-clause-near g c =
-    rw c.in_ok-rows.ensures.rows
-    (timely-both c.args.left.now c.args.right.now c.stores-one.ensures.valid c.stores-other.ensures.valid)
-
-pub returns-in_err-chart-clause-fault : goal.returns-in_err-chart-clause-fault
-returns-in_err-chart-clause-fault g c =
-    let at = (goal.at.returns-in_err-chart-clause-fault g c).After-frame in
-    let left : Parts = c.args.left.now in
-    let right : Parts = c.args.right.now in
-    let told : c.from_residual-in_err-chart.result ≡ Err (merge_fault_of c.in_err-chart.field-0.0) = search rules in
-    rw told (merge_fault-chart left right (settings g at ∙ c.in_ok-check_settings.ensures.ok)
-    (common g at ∙ c.in_ok-check_common.ensures.ok) c.in_ok-rows.rows.items c.in_ok-rows.ensures.rows c.in_ok-rows.ensures.few
-    c.in_err-chart.field-0.0 (rw (ap (λ (f : Frame). f.period) (header g at)) at c.in_err-chart.ensures.fault))
+pub returns-in_err-chart_of_both-clause-cost : goal.returns-in_err-chart_of_both-clause-cost
+returns-in_err-chart_of_both-clause-cost g c =
+    omega (arith, c.in_err-chart_of_both.ensures.cost, c.of-paths.ensures.budget, c.of-others.ensures.budget)
 
 pub returns-clause-ok : goal.returns-clause-ok
 returns-clause-ok g c =
     let at = (goal.at.returns-clause-ok g c).After-frame in
     let left : Parts = c.args.left.now in
     let right : Parts = c.args.right.now in
-    c.in_ok-chart.ensures.ok
-    ∙ union_of-rows left right c.frame-frame.result.now c.in_ok-rows.rows.items (header g at) c.in_ok-rows.ensures.rows
+    rw (c.of-paths.ensures.rows, c.of-others.ensures.rows) at c.in_ok-chart_of_both.ensures.ok
+    ∙ extension_of-rows left c.frame-frame.result.now (chart_in right).rows (header g at)
 
 pub returns-clause-exact : goal.returns-clause-exact
 returns-clause-exact g c =
     let at = (goal.at.returns-clause-exact g c).After-frame in
     let left : Parts = c.args.left.now in
     let right : Parts = c.args.right.now in
+    let period = ap (λ (f : Frame). f.period) (header g at) in
     merge_fault-none left right (settings g at ∙ c.in_ok-check_settings.ensures.ok)
-    (common g at ∙ c.in_ok-check_common.ensures.ok) c.in_ok-rows.rows.items c.in_ok-rows.ensures.rows c.in_ok-rows.ensures.few
-    (rw (ap (λ (f : Frame). f.period) (header g at)) at c.in_ok-chart.ensures.exact)
+    (common g at ∙ c.in_ok-check_common.ensures.ok)
+    (rw (c.of-paths.ensures.rows, c.of-others.ensures.rows, period) at c.in_ok-chart_of_both.ensures.exact)
+
+pub returns-clause-cost : goal.returns-clause-cost
+returns-clause-cost g c =
+    omega (arith, c.in_ok-chart_of_both.ensures.cost, c.of-paths.ensures.budget, c.of-others.ensures.budget)

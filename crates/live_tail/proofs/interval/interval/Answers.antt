@@ -15,7 +15,7 @@ use Rattle.track_types.specs.declared.region.Region.{Region}
 use Rattle.track_types.specs.declared.row.Row.{Row}
 use Rattle.interval_search.specs.FirstHits.{hit_in}
 use Rattle.live_tail.specs.Cost.{interval_cost_beside, objects_between, rows_between}
-use Rattle.live_tail.specs.Join.{rows_of_tail, joint_rows}
+use Rattle.live_tail.specs.Join.{rows_of_tail, rows_of_both}
 use Rattle.live_tail.proofs.HitLemmas.{hits-sorted}
 use Rattle.live_tail.proofs.ObjectLemmas.{objects_of-any}
 use Rattle.live_tail.proofs.interval.interval.Given.{Over}
@@ -95,7 +95,7 @@ returns-clause-ok g c =
     let region : Region = c.args.region.now in
     let rows : List Row = (g.A.Answerer.chart c.args.answerer).rows in
     let tail : List Row = rows_of_tail c.args.tail.now in
-    let both : List Row = joint_rows rows tail in
+    let both : List Row = rows_of_both rows tail in
     let objects : List ℕ = c.in_ok-objects.objects.items in
     let low : to_z w64 (of_z w64 c.args.from) ≡ from = omega (arith, ints) in
     let high : to_z w64 (of_z w64 c.args.to) ≡ to = omega (arith, ints) in

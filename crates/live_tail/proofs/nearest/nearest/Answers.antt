@@ -11,9 +11,9 @@ use Rattle.track_types.specs.declared.near.Near.{Near}
 use Rattle.track_types.specs.declared.question.Question.TheVariants as asked
 use Rattle.track_types.specs.declared.row.Row.{Row}
 use Rattle.live_tail.specs.Cost.{nearest_cost_beside, raised_count}
-use Rattle.live_tail.specs.Join.{rows_of_tail, joint_rows}
+use Rattle.live_tail.specs.Join.{rows_of_tail, rows_of_both}
 use Rattle.live_tail.proofs.InstantLemmas.{has_object}
-use Rattle.live_tail.proofs.NearLemmas.{cost-some, nears_of-none, nears_of-joint_rows}
+use Rattle.live_tail.proofs.NearLemmas.{cost-some, nears_of-none, nears_of-rows_of_both}
 use Rattle.live_tail.proofs.nearest.nearest.Given.{Over}
 use Rattle.live_tail.proofs.nearest.nearest.Goals as goal
 use Rattle.live_tail.proofs.nearest.nearest.Goals.{After-nearest}
@@ -21,7 +21,7 @@ use Rattle.live_tail.proofs.nearest.nearest.Goals.{After-nearest}
 pub returns-then-count-eq0-clause-ok : goal.returns-then-count-eq0-clause-ok
 returns-then-count-eq0-clause-ok g c =
     c.new.ensures.items
-    ∙ sym (nears_of-none (joint_rows (g.A.Answerer.chart c.args.answerer).rows (rows_of_tail c.args.tail.now)) c.args.count c.args.instant
+    ∙ sym (nears_of-none (rows_of_both (g.A.Answerer.chart c.args.answerer).rows (rows_of_tail c.args.tail.now)) c.args.count c.args.instant
     c.args.cell (omega (arith, c.if-count-eq0.true)))
 
 -- the tail's rows of the instant
@@ -80,6 +80,6 @@ returns-clause-ok g c =
     let order : IsSorted near_order sorted =
     c.sort_unstable_by_key.ensures.sorted (λ (near : Near). (near.dist2, near.object)) (answers_always _ _ _ (λ f a r g h. search rules)) in
     c.truncate.ensures.items
-    ∙ nears_of-joint_rows rows tail c.facts.ensures.table.ascending (subst IsAscending c.rows.ensures.value c.rows.ensures.ascending) at cell
+    ∙ nears_of-rows_of_both rows tail c.facts.ensures.table.ascending (subst IsAscending c.rows.ensures.value c.rows.ensures.ascending) at cell
     c.args.count asked_for (raised g (goal.at.returns-clause-ok g c).After-nearest) c.requires.few sorted
     (subst (λ zs. IsPermutation zs sorted) pushed c.sort_unstable_by_key.ensures.permutation) order

@@ -11,7 +11,7 @@ use Rattle.snapshots.specs.Parts.{chart_in}
 use Rattle.snapshots.specs.SoundParts.{IsValid}
 use Rattle.track_index.specs.Cost.{cost_of}
 use Rattle.live_tail.specs.Cost.{cost_beside, nearest_cost_beside}
-use Rattle.live_tail.specs.Join.{joint_chart, rows_of_tail, joint_rows}
+use Rattle.live_tail.specs.Join.{joint_chart, rows_of_tail, rows_of_both}
 use Rattle.live_tail.proofs.FewLemmas.{rows_at-few}
 use Rattle.live_tail.proofs.JoinLemmas.{joint_chart-rows}
 use Rattle.live_tail.proofs.answering.TailRefAnswerer.nearest.Goals as goal
@@ -31,13 +31,13 @@ returns-clause-ok g c =
     let same : to_z w64 (of_z w64 c.args.instant) ≡ at = omega (arith, ints) in
     let its : c.view-view.result.index.now ≡ parts = c.view-view.ensures ∙ c.index-index.ensures in
     let table : IsTable (chart_in parts) = subst (λ (p : Parts). IsTable (chart_in p)) its c.facts.ensures.table in
-    let rows : joint_rows (chart_in c.view-view.result.index.now).rows (rows_of_tail c.tail.result.now) ≡ (joint_chart (chart_in parts) tail).rows =
-    ap (λ (p : Parts). joint_rows (chart_in p).rows (rows_of_tail c.tail.result.now)) its
-    ∙ ap (λ t. joint_rows (chart_in parts).rows (rows_of_tail t)) c.tail.ensures
+    let rows : rows_of_both (chart_in c.view-view.result.index.now).rows (rows_of_tail c.tail.result.now) ≡ (joint_chart (chart_in parts) tail).rows =
+    ap (λ (p : Parts). rows_of_both (chart_in p).rows (rows_of_tail c.tail.result.now)) its
+    ∙ ap (λ t. rows_of_both (chart_in parts).rows (rows_of_tail t)) c.tail.ensures
     ∙ joint_chart-rows (chart_in parts) tail table.ascending in
     subst (λ (rows : List Row). IfOk c.nearest.result (λ found. found.items ≡ nears_of rows c.args.count at cell)) rows
     (subst (λ z. IfOk c.nearest.result (λ found. found.items ≡ nears_of
-    (joint_rows (chart_in c.view-view.result.index.now).rows (rows_of_tail c.tail.result.now)) c.args.count z cell)) same
+    (rows_of_both (chart_in c.view-view.result.index.now).rows (rows_of_tail c.tail.result.now)) c.args.count z cell)) same
     c.nearest.ensures.ok)
 
 pub returns-clause-cost : goal.returns-clause-cost

@@ -1,4 +1,4 @@
-use Rattle.std.proofs.Common.{◌≡◌, ◌≤◌, ℤ, Option, filter, to_z, of_z, w64, ap, sym, subst, ◌∙◌, arith}
+use Rattle.std.proofs.Common.{◌≡◌, ◌≤◌, ◌+◌, ℕ, ℤ, Option, filter, to_z, of_z, w64, ap, sym, subst, ◌∙◌, arith}
 use Rattle.std.proofs.lemmas.Int.{ints}
 use Rattle.track_types.specs.ByFilter.{is_row_between, path_of}
 use Rattle.track_types.specs.Chart.{ChartView}
@@ -34,8 +34,13 @@ returns-clause-left c =
     ∙ ap (λ z. path_of (chart_in c.view-index.result.index.now).rows c.args.object z (to_z w64 (of_z w64 c.args.to))) low
     ∙ ap (λ z. path_of (chart_in c.view-index.result.index.now).rows c.args.object from z) high
     ∙ ap (λ (p : Parts). path_of (chart_in p).rows c.args.object from to) its in
-    rw (c.new.ensures.rows, c.new.ensures.ahead, c.new.ensures.walk, own, left)
+    c.of.ensures.left
+    ∙ rw (c.over-own.ensures, own, left)
     (sym (path_of-joint_chart (chart_in parts) tail table (subst IsAscending rows c.rows.ensures.ascending) c.args.object from to))
+
+-- the tail's rows cost nothing
+no_more : (reads bound : ℕ) → reads ≤ bound → 0 + reads ≤ bound
+no_more reads bound within = omega (arith, within)
 
 pub returns-clause-budget : goal.returns-clause-budget
 unfolding cost_beside
@@ -44,8 +49,8 @@ returns-clause-budget c =
     let to : ℤ = c.args.to in
     let low : to_z w64 (of_z w64 c.args.from) ≡ from = omega (arith, ints) in
     let high : to_z w64 (of_z w64 c.args.to) ≡ to = omega (arith, ints) in
-    rw (c.new.ensures.walk)
-    (subst (λ (p : Parts). c.in_ok-walk.walk.reads ≤ cost_of p (Path c.args.object from to)) (c.view-index.ensures ∙ c.index.ensures)
+    rw (c.of.ensures.budget)
+    (no_more _ _ (subst (λ (p : Parts). c.in_ok-walk.walk.reads ≤ cost_of p (Path c.args.object from to)) (c.view-index.ensures ∙ c.index.ensures)
     (subst (λ z. c.in_ok-walk.walk.reads ≤ cost_of c.view-index.result.index.now (Path c.args.object from z)) high
     (subst (λ z. c.in_ok-walk.walk.reads ≤ cost_of c.view-index.result.index.now (Path c.args.object z (to_z w64 (of_z w64 c.args.to)))) low
-    c.in_ok-walk.ensures.budget)))
+    c.in_ok-walk.ensures.budget))))

@@ -8,18 +8,18 @@ use Rattle.track_types.specs.Row.{IsAscending}
 use Rattle.track_types.specs.declared.row.Row.{Row}
 use Rattle.track_types.specs.declared.stop.Stop.{Stop}
 use Rattle.interval_search.specs.FirstHits.{hit_at}
-use Rattle.live_tail.specs.Join.{rows_of_tail, joint_rows}
+use Rattle.live_tail.specs.Join.{rows_of_tail, rows_of_both}
 use Rattle.live_tail.specs.Walk.{stops_with}
 use Rattle.live_tail.proofs.HitLemmas.{near-path}
-use Rattle.live_tail.proofs.JoinLemmas.{path_of-joint_rows}
+use Rattle.live_tail.proofs.JoinLemmas.{path_of-rows_of_both}
 use Rattle.live_tail.proofs.interval.Window.first_hit.Given.{Over}
 use Rattle.live_tail.proofs.interval.Window.first_hit.Goals as goal
-use Rattle.live_tail.proofs.interval.Window.first_hit.Goals.{After-new-walk}
+use Rattle.live_tail.proofs.interval.Window.first_hit.Goals.{After-of-walk}
 
 -- the walk is over the path in both
-walked : (g : Over) (c : After-new-walk g)
-    → stops_with c.new-walk.result.rows.now (option_to_list c.new-walk.result.ahead ++ g.A.Walk.Lazy.left c.new-walk.result.walk)
-    ≡ path_of (joint_rows (g.A.Answerer.chart c.args.self.now.answerer).rows (rows_of_tail c.args.self.now.tail.now))
+walked : (g : Over) (c : After-of-walk g)
+    → stops_with c.over-own.result.rows.now (g.A.Walk.Lazy.left c.in_ok-walk.walk)
+    ≡ path_of (rows_of_both (g.A.Answerer.chart c.args.self.now.answerer).rows (rows_of_tail c.args.self.now.tail.now))
     c.args.object c.args.self.now.from c.args.self.now.to
 walked g c =
     let self = c.args.self.now in
@@ -35,28 +35,28 @@ walked g c =
     c.in_ok-walk.ensures.left
     ∙ ap (λ z. path_of rows c.args.object z (to_z w64 (of_z w64 self.to))) low
     ∙ ap (λ z. path_of rows c.args.object self.from z) high in
-    rw (c.new-walk.ensures.rows, c.new-walk.ensures.ahead, c.new-walk.ensures.walk, own, left)
-    (sym (path_of-joint_rows rows tail c.requires.table.ascending (subst IsAscending c.rows.ensures.value c.rows.ensures.ascending)
+    rw (c.over-own.ensures, own, left)
+    (sym (path_of-rows_of_both rows tail c.requires.table.ascending (subst IsAscending c.rows.ensures.value c.rows.ensures.ascending)
     c.args.object self.from self.to))
 
 pub first_in-requires-clause-near : goal.first_in-requires-clause-near
 first_in-requires-clause-near g c =
     let self = c.args.self.now in
-    let at = (goal.at.first_in-requires-clause-near g c).After-new-walk in
-    subst (All (λ (stop : Stop). IsCellWithin stop.cell)) (sym (walked g at))
+    let at = (goal.at.first_in-requires-clause-near g c).After-of-walk in
+    subst (All (λ (stop : Stop). IsCellWithin stop.cell)) (sym (c.of-walk.ensures.left ∙ walked g at))
     (near-path (g.A.Answerer.chart self.answerer) (rows_of_tail self.tail.now) c.requires.table
     (subst (All (λ (row : Row). IsCellWithin row.cell)) c.rows.ensures.value c.rows.ensures.near) c.args.object self.from self.to)
 
 pub returns-in_default-clause-ok : goal.returns-in_default-clause-ok
 returns-in_default-clause-ok g c =
-    let at = (goal.at.returns-in_default-clause-ok g c).After-new-walk in
+    let at = (goal.at.returns-in_default-clause-ok g c).After-of-walk in
     ap (option_map (hit_at c.args.object))
-    (c.in_default.ensures.value ∙ ap (first_among c.args.self.now.region.now) (walked g at))
+    (c.in_default.ensures.value ∙ ap (first_among c.args.self.now.region.now) (c.of-walk.ensures.left ∙ walked g at))
 
 pub returns-clause-ok : goal.returns-clause-ok
 returns-clause-ok g c =
-    let at = (goal.at.returns-clause-ok g c).After-new-walk in
+    let at = (goal.at.returns-clause-ok g c).After-of-walk in
     let same : to_z w64 (of_z w64 c.in-Some.stop.instant) ≡ c.in-Some.stop.instant = search rules in
     ap (λ (z : ℤ). Some (hit_at c.args.object (record { instant = z; cell = c.in-Some.stop.cell }))) same
     ∙ ap (option_map (hit_at c.args.object))
-    (c.in-Some.ensures.value ∙ ap (first_among c.args.self.now.region.now) (walked g at))
+    (c.in-Some.ensures.value ∙ ap (first_among c.args.self.now.region.now) (c.of-walk.ensures.left ∙ walked g at))

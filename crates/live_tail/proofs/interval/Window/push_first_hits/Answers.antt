@@ -6,7 +6,7 @@ use Rattle.std.proofs.lemmas.List.Sums.{sum_by_more, sum_by_more_le}
 use Rattle.track_types.specs.declared.hit.Hit.{Hit}
 use Rattle.track_types.specs.declared.question.Question.TheVariants.{Path}
 use Rattle.interval_search.specs.FirstHits.{hit_in}
-use Rattle.live_tail.specs.Join.{rows_of_tail, joint_rows}
+use Rattle.live_tail.specs.Join.{rows_of_tail, rows_of_both}
 use Rattle.live_tail.proofs.HitLemmas.{filter_map-more}
 use Rattle.live_tail.proofs.interval.Window.push_first_hits.Goals as goal
 
@@ -18,7 +18,7 @@ loop-object-preserved g c =
     let self = c.args.self.now in
     let objects : List ℕ = c.args.objects.now in
     let i : ℕ = c.loop-object.object-index in
-    let make : ℕ → Option Hit = hit_in (joint_rows (g.A.Answerer.chart self.answerer).rows (rows_of_tail self.tail.now)) self.from self.to self.region.now in
+    let make : ℕ → Option Hit = hit_in (rows_of_both (g.A.Answerer.chart self.answerer).rows (rows_of_tail self.tail.now)) self.from self.to self.region.now in
     let reads : ℕ → ℕ = λ object. g.A.Answerer.cost self.answerer (Path object self.from self.to) in
     record {
       found = c.in_ok-push_found.ensures
@@ -54,7 +54,7 @@ returns-in_err-push_found-clause-cost g c =
 pub returns-clause-found : goal.returns-clause-found
 returns-clause-found g c =
     let self = c.args.self.now in
-    let make : ℕ → Option Hit = hit_in (joint_rows (g.A.Answerer.chart self.answerer).rows (rows_of_tail self.tail.now)) self.from self.to self.region.now in
+    let make : ℕ → Option Hit = hit_in (rows_of_both (g.A.Answerer.chart self.answerer).rows (rows_of_tail self.tail.now)) self.from self.to self.region.now in
     c.loop-object.invariant.found
     ∙ ap (λ objects. c.args.found.now.items ++ filter_map make objects)
     (take_all c.loop-object.object-index c.args.objects.now c.loop-object-test.false)

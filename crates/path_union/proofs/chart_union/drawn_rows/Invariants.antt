@@ -1,0 +1,15 @@
+use Rattle.std.proofs.Common.{◌+◌, ◌≤◌, length}
+use Rattle.track_types.specs.Limits.{limit_of}
+use Rattle.track_types.specs.declared.limit.LimitKind.TheVariants.{Rows}
+use Rattle.path_union.specs.Paths.{HasMoved}
+use Rattle.path_union.proofs.chart_union.drawn_rows.Given as goal
+
+abbrev pub invariant-loop-object : goal.invariant-loop-object
+invariant-loop-object g l = record {
+  moved : HasMoved (g.O.Paths.rows l.fn.older) (g.P.Paths.rows l.fn.later) (g.O.Paths.rows l.older) (g.P.Paths.rows l.later) l.rows.items;
+  few : length l.rows.items ≤ limit_of Rows;
+  cost : l.steps + (g.O.Paths.budget l.older + g.P.Paths.budget l.later) ≤ l.fn.steps + (g.O.Paths.budget l.fn.older + g.P.Paths.budget l.fn.later);
+}
+
+abbrev pub decreases-loop-object : goal.decreases-loop-object
+decreases-loop-object g l = g.O.Paths.count l.older + g.P.Paths.count l.later

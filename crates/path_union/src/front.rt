@@ -1,0 +1,50 @@
+ghost use Rattle.std.specs.Prelude.{◌≡◌, ◌++◌, ◌+◌, ◌≤◌, [], None, Some, IfNone, option_to_list};
+ghost use Rattle.path_union.specs.Walk.{budget_of, left_of};
+
+use std::sync::ledger::Ledger;
+use step_count::Steps;
+use track_types::{Lazy, Stop};
+
+/// What is left of a walk, if there is one: a stop may have been drawn from it that is still to be given.
+#[derive(Drop)]
+pub struct Front<W: Lazy<Item = Stop>> {
+    walk: Option<W>,
+    ahead: Option<Stop>,
+}
+
+impl<W: Lazy<Item = Stop>> Front<W> {
+    /// A walk of which nothing was drawn yet.
+    pub fn of(walk: Option<W>) -> Front<W>
+        ensures walk { result.walk ≡ walk }
+        ensures ahead { result.ahead ≡ None }
+    {
+        Front { walk, ahead: None }
+    }
+
+    /// Takes the next stop.
+    pub fn next<L: Ledger>(&mut self, steps: &mut Steps<L>) -> Option<Stop>
+        ensures next { option_to_list self.old.ahead ++ left_of W.left self.old.walk
+            ≡ option_to_list result ++ left_of W.left self.new.walk }
+        ensures none { IfNone result (left_of W.left self.new.walk ≡ []) }
+        ensures ahead { self.new.ahead ≡ None }
+        ensures cost { steps.new + budget_of W.budget self.new.walk
+            ≤ steps.old + budget_of W.budget self.old.walk }
+    {
+        if let Some(stop) = self.ahead.take() {
+            return Some(stop);
+        }
+        match &mut self.walk {
+            Some(walk) => walk.draw(steps),
+            None => None,
+        }
+    }
+
+    /// Puts a stop back before all that are left, if there is one, where none was drawn from them.
+    pub fn put_back(&mut self, stop: Option<Stop>)
+        requires { self.old.ahead ≡ None }
+        ensures walk { self.new.walk ≡ self.old.walk }
+        ensures ahead { self.new.ahead ≡ stop }
+    {
+        self.ahead = stop;
+    }
+}
