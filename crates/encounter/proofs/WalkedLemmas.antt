@@ -1,5 +1,5 @@
 -- Two walks side by side: the stop that comes first may be let go, where it is no meeting.
-use Rattle.std.proofs.Common.{◌≡◌, ℕ, suc, ◌+◌, ◌*◌, ◌<◌, ◌≤◌, ℤ, ◌≤ℤ◌, ◌<ℤ◌, Bool, true, false, List, [], ◌∷◌, length, map, filter, get_or, Some, None, refl, ap, sym, subst, ◌∙◌, arith, All, inl, inr}
+use Rattle.std.proofs.Common.{◌≡◌, ℕ, suc, ◌+◌, ◌*◌, ◌<◌, ◌≤◌, ℤ, ◌≤ℤ◌, ◌<ℤ◌, Bool, true, false, List, [], ◌∷◌, ◌++◌, append_assoc, length, map, filter, get_or, Some, None, refl, ap, sym, subst, ◌∙◌, arith, All, inl, inr}
 use Rattle.std.specs.Prelude.{nat_le}
 use Rattle.std.specs.Ordering.{int_eq}
 use Rattle.std.proofs.lemmas.Bool.{and_parts, cases_Bool}
@@ -77,7 +77,20 @@ at-first stop stops is =
     All-cons (λ (s : Stop). stop.instant ≤ℤ s.instant) stop stops (omega (arith, ints))
     (λ k d within. let late = after-first stop stops is k d within in omega (arith, ints, late))
 
+-- a stop goes over to those that were drawn
+one-more : (all drawn : List Stop) (stop : Stop) (left now : List Stop) → all ≡ drawn ++ (stop ∷ left) → left ≡ now →
+    all ≡ (drawn ++ (stop ∷ [])) ++ now
+one-more all drawn stop left now is are =
+    is ∙ ap (λ stops. drawn ++ (stop ∷ stops)) are ∙ sym (append_assoc drawn (stop ∷ []) now)
+
 module _ (reach : ℕ) where
+  -- two stops that are together are at one instant
+  pub together-instant : (left right : Stop) → are_together reach left right ≡ true → right.instant ≡ left.instant
+  together-instant left right met =
+      let parts = and_parts (int_eq left.instant right.instant)
+      (nat_le (squared_distance left.cell right.cell) (reach * reach)) met in
+      grind (arith, ints, parts.0)
+
   pub untogether : (left right : Stop) → (left.instant ≡ right.instant → ⊥) → are_together reach left right ≡ false
   untogether left right differ = elim (cases_Bool (are_together reach left right)) [
     | inl met ↦
@@ -128,6 +141,21 @@ module _ (reach : ℕ) where
   none-right lefts =
       first_pair-apart (are_together reach) lefts [] (λ k d within i e inside. absurd (omega (arith, inside)))
 
+  -- what two walks have done by their first draws
+  pub drawn-both : (lefts rights : List Stop) (budget : ℕ) (left right : Stop) (more others : List Stop) (steps rest : ℕ) →
+      IsTrack lefts → IsTrack rights → lefts ≡ left ∷ more → rights ≡ right ∷ others → steps + rest ≤ budget →
+      AreWalked reach lefts rights budget left right more others steps rest
+  drawn-both lefts rights budget left right more others steps rest one other is are reads = record {
+    same = ap (λ stops. first_together reach stops rights) is ∙ ap (first_together reach (left ∷ more)) are;
+    left_is = subst IsTrack is one;
+    right_is = subst IsTrack are other;
+    reads = reads;
+    drawn = [];
+    left_all = is;
+    passed = [];
+    right_all = are;
+  }
+
   -- what two walks have done, by one more draw
   module _ (lefts rights : List Stop) (budget : ℕ) (left right : Stop) (more others : List Stop) (steps rest : ℕ)
       (is : AreWalked reach lefts rights budget left right more others steps rest) where
@@ -140,6 +168,10 @@ module _ (reach : ℕ) where
       left_is = is.left_is;
       right_is = subst IsTrack are (track-tail right others is.right_is);
       reads = omega (arith, is.reads, cost);
+      drawn = is.drawn;
+      left_all = is.left_all;
+      passed = is.passed ++ (right ∷ []);
+      right_all = one-more rights is.passed right others (next ∷ later) is.right_all are;
     }
 
     pub ended-right : right.instant <ℤ left.instant → others ≡ [] → first_together reach lefts rights ≡ None
@@ -156,6 +188,10 @@ module _ (reach : ℕ) where
         left_is = subst IsTrack are (track-tail left more is.left_is);
         right_is = is.right_is;
         reads = omega (arith, is.reads, cost);
+        drawn = is.drawn ++ (left ∷ []);
+        left_all = one-more lefts is.drawn left more (next ∷ later) is.left_all are;
+        passed = is.passed;
+        right_all = is.right_all;
       }
 
       pub ended-left : more ≡ [] → first_together reach lefts rights ≡ None

@@ -41,3 +41,16 @@ meet_cost_of parts (Some left) (Some right) from to reach =
 unfoldable pub meet_cost : Parts → ℕ → ℕ → ℤ → ℤ → ℕ → ℕ
 meet_cost parts left right from to reach =
     meet_cost_of parts (index_in parts.objects left) (index_in parts.objects right) from to reach
+
+-- two objects, by their places: of the periods that the window meets those that begin at an instant or before it
+abbrev pub meet_cost_until_of : Parts → Option ℕ → Option ℕ → ℤ → ℤ → ℕ → ℤ → ℕ
+meet_cost_until_of parts None right from to reach until = 0
+meet_cost_until_of parts (Some left) None from to reach until = 0
+meet_cost_until_of parts (Some left) (Some right) from to reach until =
+    sum_by (period_meet_cost parts left right from to reach)
+    (filter (is_met parts.frame from until) (numbers_in parts.frame))
+
+-- two objects that meet at an instant of the window: each period up to that of the instant
+unfoldable pub meet_cost_until : Parts → ℕ → ℕ → ℤ → ℤ → ℕ → ℤ → ℕ
+meet_cost_until parts left right from to reach until =
+    meet_cost_until_of parts (index_in parts.objects left) (index_in parts.objects right) from to reach until

@@ -1,5 +1,5 @@
 -- Two walks that are drawn side by side.
-use Rattle.std.specs.Prelude.{◌≡◌, ℕ, ◌+◌, ◌<◌, ◌≤◌, ◌<ℤ◌, List, ◌∷◌, length, get_or, All}
+use Rattle.std.specs.Prelude.{◌≡◌, ℕ, ◌+◌, ◌<◌, ◌≤◌, ℤ, ◌<ℤ◌, List, ◌∷◌, ◌++◌, length, get_or, All}
 use Rattle.track_types.specs.Near.{IsCellWithin}
 use Rattle.track_types.specs.declared.stop.Stop.{Stop}
 use Rattle.track_types.specs.Meeting.{first_together}
@@ -9,6 +9,23 @@ pub record IsTrack (stops : List Stop) : Type 0 where
   pub ascending : (i j : ℕ) (d : Stop) → i < j → j < length stops → (get_or stops i d).instant <ℤ (get_or stops j d).instant
   pub near : All (λ stop. IsCellWithin stop.cell) stops
 
+-- of some stops, these are left after one at an instant
+pub record AreAfter (instant : ℤ) (stops left : List Stop) : Type 0 where
+  pub before : List Stop
+  pub stop : Stop
+  pub at : stop.instant ≡ instant
+  pub all : stops ≡ before ++ (stop ∷ left)
+
+module _ {W : Type 0} (left_of : W → List Stop) (budget_of : W → ℕ) where
+  -- Two walks over these stops ended at an instant: of either no later stop was drawn, and what is left to read of it was not
+  -- read.
+  pub record EndAt (instant : ℤ) (lefts rights : List Stop) (most steps : ℕ) : Type 0 where
+    pub one : W
+    pub other : W
+    pub left : AreAfter instant lefts (left_of one)
+    pub right : AreAfter instant rights (left_of other)
+    pub reads : steps + (budget_of one + budget_of other) ≤ most
+
 -- What two walks have done: the two stops that were drawn last, and those that are left, have the first meeting of both
 -- walks, for reads from their budgets.
 pub record AreWalked (reach : ℕ) (lefts rights : List Stop) (budget : ℕ) (left right : Stop) (more others : List Stop)
@@ -17,3 +34,7 @@ pub record AreWalked (reach : ℕ) (lefts rights : List Stop) (budget : ℕ) (le
   pub left_is : IsTrack (left ∷ more)
   pub right_is : IsTrack (right ∷ others)
   pub reads : steps + rest ≤ budget
+  pub drawn : List Stop
+  pub left_all : lefts ≡ drawn ++ (left ∷ more)
+  pub passed : List Stop
+  pub right_all : rights ≡ passed ++ (right ∷ others)

@@ -1,4 +1,10 @@
-ghost use Rattle.std.specs.Prelude.{◌≡◌};
+ghost use Rattle.std.specs.Prelude.{◌≡◌, ◌+◌, ◌≤◌, IfOk, IfSome};
+ghost use Rattle.track_types.specs.Meeting.{meeting_of};
+ghost use Rattle.track_types.specs.Near.{IsAsked};
+ghost use Rattle.track_types.specs.declared.limit.TheConstants.{MAX_REACH};
+ghost use Rattle.track_types.specs.declared.meeting.Meeting.{Meeting as MeetingView};
+ghost use Rattle.snapshots.specs.Parts.{chart_in};
+ghost use Rattle.encounter.specs.MeetCost.{meet_cost, meet_cost_until};
 
 use crate::search::meet;
 use crate::window::Window;
@@ -92,7 +98,17 @@ impl<'a> Meets for IndexMeets<'a> {
         to: i64,
         reach: u64,
         steps: &mut Steps<L>,
-    ) -> Result<Option<Meeting>, Memory> {
+    ) -> Result<Option<Meeting>, Memory>
+        requires from { IsAsked from }
+        requires to { IsAsked to }
+        requires reach { reach ≤ MAX_REACH }
+        ensures ok { IfOk result (λ found. found
+            ≡ meeting_of (chart_in self.entry.view.index.now).rows left right from to reach) }
+        ensures cost { steps.new ≤ steps.old + meet_cost self.entry.view.index.now left right from to reach }
+        ensures sooner { IfOk result (λ found. IfSome found (λ (meeting : MeetingView). steps.new
+            ≤ steps.old + meet_cost_until self.entry.view.index.now left right from to reach
+            meeting.instant)) }
+    {
         let window = Window { from, to, reach };
         meet(alloc, self.view.index.stores(), left, right, &window, steps)
     }

@@ -1,10 +1,11 @@
-ghost use Rattle.std.specs.Prelude.{◌≡◌, ◌+◌, ◌<◌, ◌≤◌, length, option_map, IfOk};
+ghost use Rattle.std.specs.Prelude.{◌≡◌, ◌+◌, ◌<◌, ◌≤◌, length, option_map, IfOk, IfSome};
 ghost use Rattle.track_types.specs.Frame.{periods_of};
 ghost use Rattle.track_types.specs.Meeting.{meeting_at, meeting_of};
 ghost use Rattle.track_types.specs.declared.limit.TheConstants.{MAX_REACH};
+ghost use Rattle.track_types.specs.declared.meeting.Meeting.{Meeting as MeetingView};
 ghost use Rattle.snapshots.specs.Parts.{chart_in, stops_in};
-ghost use Rattle.encounter.specs.MeetCost.{meet_cost, period_meet_cost};
-ghost use Rattle.encounter.specs.Seeking.{meet_cost_between, meeting_between};
+ghost use Rattle.encounter.specs.MeetCost.{meet_cost, meet_cost_until, period_meet_cost};
+ghost use Rattle.encounter.specs.Seeking.{EndsAt, meet_cost_between, meeting_between};
 ghost use Rattle.encounter.specs.Window.{meeting_among};
 
 use crate::pairing::first_meeting;
@@ -36,6 +37,9 @@ pub fn meet<L: Ledger>(
         window.now.from window.now.to window.now.reach) }
     ensures cost { steps.new ≤ steps.old + meet_cost stores.now left right
         window.now.from window.now.to window.now.reach }
+    ensures sooner { IfOk result (λ found. IfSome found (λ (meeting : MeetingView). steps.new
+        ≤ steps.old + meet_cost_until stores.now left right
+        window.now.from window.now.to window.now.reach meeting.instant)) }
 {
     let _ = stores.frame(); // says what holds of every index
     let Some(one) = stores.index_of(left) else {
@@ -77,6 +81,10 @@ fn meet_in_periods<L: Ledger>(
         periods.next periods.end)) }
     ensures cost { steps.new ≤ steps.old + meet_cost_between stores.now places.left places.right
         window.now.from window.now.to window.now.reach periods.next periods.end }
+    ensures sooner { IfOk result (λ found. IfSome found (λ (meeting : MeetingView). EndsAt
+        meeting.instant stores.now places.left places.right
+        window.now.from window.now.to window.now.reach periods.next periods.end
+        steps.old steps.new)) }
 {
     let _ = stores.frame(); // says what holds of every index
     for period in periods.next..periods.end {

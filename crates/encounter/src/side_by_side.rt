@@ -1,15 +1,17 @@
-ghost use Rattle.std.specs.Prelude.{◌≡◌, ◌+◌, ◌*◌, ◌≤◌, option_map};
+ghost use Rattle.std.specs.Prelude.{◌≡◌, ◌+◌, ◌*◌, ◌≤◌, option_map, IfSome};
 ghost use Rattle.track_types.specs.Near.{IsCellWithin};
 ghost use Rattle.track_types.specs.Meeting.{are_together, first_together, meeting_at};
 ghost use Rattle.track_types.specs.declared.limit.TheConstants.{MAX_REACH};
-ghost use Rattle.encounter.specs.Walked.{IsTrack};
+ghost use Rattle.track_types.specs.declared.meeting.Meeting.{Meeting as MeetingView};
+ghost use Rattle.encounter.specs.Walked.{AreAfter, IsTrack};
 
 use std::sync::ledger::Ledger;
 use step_count::Steps;
 use track_types::{Lazy, Meeting, Stop, dist2};
 
 /// The first meeting of two walks, each over the stops of one object. The walk that is at the
-/// earlier instant is drawn from, until both are at one instant within the distance.
+/// earlier instant is drawn from, until both are at one instant within the distance. No stop after
+/// that instant is drawn.
 pub fn first_of_walks<W: Lazy<Item = Stop>, L: Ledger>(
     one: &mut W,
     other: &mut W,
@@ -21,6 +23,11 @@ pub fn first_of_walks<W: Lazy<Item = Stop>, L: Ledger>(
     requires other { IsTrack (W.left other.old) }
     ensures value { result
         ≡ option_map meeting_at (first_together reach (W.left one.old) (W.left other.old)) }
+    ensures ended { IfSome result (λ (meeting : MeetingView).
+        AreAfter meeting.instant (W.left one.old) (W.left one.new)
+        × AreAfter meeting.instant (W.left other.old) (W.left other.new)) }
+    ensures rest { steps.new + (W.budget one.new + W.budget other.new)
+        ≤ steps.old + (W.budget one.old + W.budget other.old) }
     ensures cost { steps.new ≤ steps.old + (W.budget one.old + W.budget other.old) }
 {
     let mut here = one.draw(steps)?;

@@ -1,4 +1,11 @@
-ghost use Rattle.std.specs.Prelude.{◌≡◌, ◌+◌, ◌≤◌, IfOk};
+ghost use Rattle.std.specs.Prelude.{◌≡◌, ◌+◌, ◌≤◌, IfOk, IfSome};
+ghost use Rattle.track_types.specs.ByFilter.{path_of};
+ghost use Rattle.track_types.specs.Meeting.{meeting_of};
+ghost use Rattle.track_types.specs.Near.{IsAsked};
+ghost use Rattle.track_types.specs.declared.limit.TheConstants.{MAX_REACH};
+ghost use Rattle.track_types.specs.declared.meeting.Meeting.{Meeting as MeetingView};
+ghost use Rattle.track_types.specs.declared.question.Question.TheVariants as asked;
+ghost use Rattle.encounter.specs.Walked.{EndAt};
 
 use crate::side_by_side::first_of_walks;
 use std::alloc::Global;
@@ -88,7 +95,21 @@ impl<A: Answerer> Meets for Walked<A> {
         to: i64,
         reach: u64,
         steps: &mut Steps<L>,
-    ) -> Result<Option<Meeting>, Memory> {
+    ) -> Result<Option<Meeting>, Memory>
+        requires from { IsAsked from }
+        requires to { IsAsked to }
+        requires reach { reach ≤ MAX_REACH }
+        ensures ok { IfOk result (λ found. found
+            ≡ meeting_of (A.chart self.answerer).rows left right from to reach) }
+        ensures cost { steps.new ≤ steps.old + (A.cost self.answerer (asked.Path left from to)
+            + A.cost self.answerer (asked.Path right from to)) }
+        ensures ended { IfOk result (λ found. IfSome found (λ (meeting : MeetingView).
+            EndAt A.Walk.left A.Walk.budget meeting.instant
+            (path_of (A.chart self.answerer).rows left from to)
+            (path_of (A.chart self.answerer).rows right from to)
+            (steps.old + (A.cost self.answerer (asked.Path left from to)
+            + A.cost self.answerer (asked.Path right from to))) steps.new)) }
+    {
         let _ = self.answerer.facts(); // says that the chart is a table
         let mut one = self.answerer.walk(alloc, left, from, to)?;
         let mut other = self.answerer.walk(alloc, right, from, to)?;

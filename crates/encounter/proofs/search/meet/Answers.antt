@@ -1,10 +1,12 @@
 use Rattle.std.proofs.Common.{◌≡◌, to_z, of_z, w64, sym, subst, arith}
 use Rattle.std.specs.Prelude.{IfOk}
 use Rattle.std.proofs.lemmas.Int.{ints}
+use Rattle.std.proofs.lemmas.Option.{IfSome_then}
+use Rattle.std.proofs.lemmas.Result.{IfOk-weaker}
 use Rattle.snapshots.specs.SoundParts.{IsValid}
 use Rattle.object_track.specs.Met.{AreMet}
 use Rattle.object_track.proofs.ChartLemmas.{index_in-some}
-use Rattle.encounter.proofs.SeekingLemmas.{meet_cost_between-met, meeting_of-known, meeting_of-unknown_left, meeting_of-unknown_right}
+use Rattle.encounter.proofs.SeekingLemmas.{meet_cost_between-met, meet_cost_until-met, meeting_of-known, meeting_of-unknown_left, meeting_of-unknown_right}
 use Rattle.encounter.proofs.search.meet.Given.{Over}
 use Rattle.encounter.proofs.search.meet.Goals as goal
 use Rattle.encounter.proofs.search.meet.Goals.{After-met-periods}
@@ -60,3 +62,13 @@ returns-clause-cost g c =
     window.from window.to window.reach c.met-periods.result.next c.met-periods.result.end
     (sym c.in-Some.ensures.value) (sym c.in-Some-index_of.ensures.value) met in
     omega (arith, c.meet_in_periods.ensures.cost, most)
+
+pub returns-clause-sooner : goal.returns-clause-sooner
+returns-clause-sooner g c =
+    let window = c.args.window.now in
+    let valid : IsValid c.args.stores.now = record { shaped = c.frame.ensures.shaped; sound = c.frame.ensures.sound } in
+    let met = are_met g (goal.at.returns-clause-sooner g c).After-met-periods in
+    IfOk-weaker c.meet_in_periods.result _ _ (λ found some. IfSome_then found some (λ meeting ends.
+    meet_cost_until-met c.args.stores.now valid c.args.left c.args.right c.in-Some.one c.in-Some-index_of.other
+    window.from window.to window.reach c.met-periods.result.next c.met-periods.result.end _ _ meeting.instant
+    (sym c.in-Some.ensures.value) (sym c.in-Some-index_of.ensures.value) met ends)) c.meet_in_periods.ensures.sooner

@@ -2,43 +2,50 @@ use Rattle.std.proofs.Common.{refl, sym, ap, ◌∙◌, arith}
 use Rattle.std.specs.Option.{option_map}
 use Rattle.track_types.specs.Meeting.{meeting_at}
 use Rattle.snapshots.specs.SoundParts.{IsValid}
-use Rattle.encounter.proofs.SeekingLemmas.{seeking-cost, seeking-found, seeking-next, seeking-none}
+use Rattle.encounter.proofs.SeekingLemmas.{seeking-cost, seeking-ends, seeking-found, seeking-next, seeking-none}
 use Rattle.encounter.proofs.search.meet_in_periods.Goals as goal
 
 pub loop-period-init : goal.loop-period-init
-loop-period-init g c = record { same = refl; reads = omega arith }
+loop-period-init g c = record { same = refl; reads = omega arith; begun = omega arith; past = omega arith }
 
 pub returns-in_err-found-clause-cost : goal.returns-in_err-found-clause-cost
 returns-in_err-found-clause-cost g c =
     let valid : IsValid c.args.stores.now = record { shaped = c.frame.ensures.shaped; sound = c.frame.ensures.sound } in
-    let most = seeking-cost _ _ _ valid _ _ _ _ _ _ _ _ c.loop-period.invariant (omega (arith, c.loop-period-test.true))
+    let most = seeking-cost _ _ _ valid _ _ _ _ _ _ _ _ _ _ c.loop-period.invariant (omega (arith, c.loop-period-test.true))
     c.requires.periods in
     omega (arith, c.meet_in_period.ensures.cost, most)
 
 pub returns-in-Some-clause-ok : goal.returns-in-Some-clause-ok
 returns-in-Some-clause-ok g c =
     let valid : IsValid c.args.stores.now = record { shaped = c.frame.ensures.shaped; sound = c.frame.ensures.sound } in
-    sym (seeking-found _ _ _ valid _ _ _ _ _ _ _ _ c.loop-period.invariant (omega (arith, c.loop-period-test.true))
+    sym (seeking-found _ _ _ valid _ _ _ _ _ _ _ _ _ _ c.loop-period.invariant (omega (arith, c.loop-period-test.true))
     c.requires.periods c.in-Some.meeting (sym c.in_ok-found.ensures.ok ∙ c.in-Some.is))
 
 pub returns-in-Some-clause-cost : goal.returns-in-Some-clause-cost
 returns-in-Some-clause-cost g c =
     let valid : IsValid c.args.stores.now = record { shaped = c.frame.ensures.shaped; sound = c.frame.ensures.sound } in
-    let most = seeking-cost _ _ _ valid _ _ _ _ _ _ _ _ c.loop-period.invariant (omega (arith, c.loop-period-test.true))
+    let most = seeking-cost _ _ _ valid _ _ _ _ _ _ _ _ _ _ c.loop-period.invariant (omega (arith, c.loop-period-test.true))
     c.requires.periods in
     omega (arith, c.meet_in_period.ensures.cost, most)
+
+pub returns-in-Some-clause-sooner : goal.returns-in-Some-clause-sooner
+returns-in-Some-clause-sooner g c =
+    let valid : IsValid c.args.stores.now = record { shaped = c.frame.ensures.shaped; sound = c.frame.ensures.sound } in
+    seeking-ends _ _ _ valid _ _ _ _ _ _ _ _ _ _ c.loop-period.invariant (omega (arith, c.loop-period-test.true))
+    c.requires.periods c.in-Some.meeting c.meet_in_period.new.steps (sym c.in_ok-found.ensures.ok ∙ c.in-Some.is)
+    c.meet_in_period.ensures.cost
 
 pub loop-period-preserved : goal.loop-period-preserved
 loop-period-preserved g c =
     let valid : IsValid c.args.stores.now = record { shaped = c.frame.ensures.shaped; sound = c.frame.ensures.sound } in
-    seeking-next _ _ _ valid _ _ _ _ _ _ _ _ c.loop-period.invariant (omega (arith, c.loop-period-test.true))
+    seeking-next _ _ _ valid _ _ _ _ _ _ _ _ _ _ c.loop-period.invariant (omega (arith, c.loop-period-test.true))
     c.requires.periods c.meet_in_period.new.steps (sym c.in_ok-found.ensures.ok ∙ c.in_default.is)
     c.meet_in_period.ensures.cost
 
 pub returns-clause-ok : goal.returns-clause-ok
 returns-clause-ok g c =
     let valid : IsValid c.args.stores.now = record { shaped = c.frame.ensures.shaped; sound = c.frame.ensures.sound } in
-    sym (ap (option_map meeting_at) (seeking-none _ _ _ valid _ _ _ _ _ _ _ _ c.loop-period.invariant
+    sym (ap (option_map meeting_at) (seeking-none _ _ _ valid _ _ _ _ _ _ _ _ _ _ c.loop-period.invariant
     (omega (arith, c.loop-period-test.false))))
 
 pub returns-clause-cost : goal.returns-clause-cost

@@ -10,4 +10,5 @@ invariant-loop-period g l =
     l.fn.periods.end)
     (l.fn.steps + meet_cost_between l.fn.stores places.left places.right window.from window.to window.reach
     l.fn.periods.next l.fn.periods.end)
-    l.fn.stores places.left places.right window.from window.to window.reach l.period l.fn.periods.end l.steps
+    l.fn.stores places.left places.right window.from window.to window.reach l.fn.periods.next l.fn.steps
+    l.period l.fn.periods.end l.steps

@@ -1,11 +1,11 @@
-use Rattle.std.proofs.Common.{◌≡◌, ◌≤ℤ◌, ◌<ℤ◌, to_z, of_z, w64, ◌∙◌, ap, sym, arith}
+use Rattle.std.proofs.Common.{◌≡◌, ◌≤ℤ◌, ◌<ℤ◌, to_z, of_z, w64, refl, ◌∙◌, ap, sym, arith}
 use Rattle.std.specs.Option.{option_map}
 use Rattle.std.proofs.lemmas.Int.{ints}
 use Rattle.std.proofs.lemmas.List.Elements.{All-head}
 use Rattle.track_types.specs.Near.{IsCellWithin}
 use Rattle.track_types.specs.declared.stop.Stop.{Stop}
 use Rattle.track_types.specs.Meeting.{first_together, meeting_at}
-use Rattle.encounter.proofs.WalkedLemmas.{drawn-found, drawn-left, drawn-right, ended-left, ended-right, none-left, none-right}
+use Rattle.encounter.proofs.WalkedLemmas.{drawn-both, drawn-found, drawn-left, drawn-right, ended-left, ended-right, none-left, none-right, together-instant}
 use Rattle.encounter.proofs.side_by_side.first_of_walks.Goals as goal
 
 pub returns-in_err-here-clause-value : goal.returns-in_err-here-clause-value
@@ -59,3 +59,27 @@ drawn-preserved g c =
     let early : c.drawn.here.instant ≤ℤ c.drawn.there.instant = omega (arith, ints, c.if-there-here.false) in
     drawn-left _ _ _ _ _ _ _ _ _ _ c.drawn.invariant early (sym c.are_together.ensures ∙ c.if-are_together.false) _ _ _ _
     c.in_ok-here-2.ensures.found (omega (arith, c.draw-in-drawn.ensures.cost))
+
+pub drawn-init : goal.drawn-init
+drawn-init g c =
+    drawn-both _ _ _ _ _ _ _ _ _ _ c.requires.one c.requires.other c.in_ok-here.ensures.found c.in_ok-there.ensures.found
+    (omega (arith, c.in_ok-here.ensures.cost, c.in_ok-there.ensures.cost))
+
+pub returns-then-are_together-clause-ended : goal.returns-then-are_together-clause-ended
+returns-then-are_together-clause-ended g c =
+    let kept : to_z w64 (of_z w64 c.drawn.here.instant) ≡ c.drawn.here.instant = omega (arith, ints) in
+    let same = together-instant c.args.reach c.drawn.here c.drawn.there (sym c.are_together.ensures ∙ c.if-are_together.true) in
+    rw kept (
+      record {
+        before = c.drawn.invariant.drawn;
+        stop = c.drawn.here;
+        at = refl;
+        all = c.drawn.invariant.left_all;
+      },
+      record {
+        before = c.drawn.invariant.passed;
+        stop = c.drawn.there;
+        at = same;
+        all = c.drawn.invariant.right_all;
+      },
+    )
