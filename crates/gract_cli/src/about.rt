@@ -20,6 +20,9 @@ Commands
                                           newest version of its format
   gract merge A B OUT                     saves the index of the rows of two
                                           indexes A and B as OUT
+  gract extend INDEX TAIL OUT             saves the index of the rows of an
+                                          index and a CSV file of later rows
+                                          as OUT
   gract --help, gract --version           print this text, and the version
 
 CSV has a row OBJECT,TIME,X,Y in each line, in whole numbers. A first line
@@ -64,9 +67,10 @@ Where a limit is passed
   questions  ask in several runs
   base       an index is none that build has saved
 
-Statuses: 0 done, 2 a faulty command line, 3 a faulty CSV file, 4 a limit,
-5 no index file, 6 a file or a stream that failed, 7 no memory, 8 two indexes
-that differ in CELL, TICK or PERIOD, 9 two that have an object in common.
+Statuses: 0 done, 2 a faulty command line, 3 a faulty CSV file or no row,
+4 a limit, 5 no index file, 6 a file or a stream that failed, 7 no memory,
+8 two indexes that differ in CELL, TICK or PERIOD, 9 two that have an object
+in common.
 ";
 
 /// The text that the command words ask for, if they are `--help` or `--version` alone.

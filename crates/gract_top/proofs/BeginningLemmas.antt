@@ -20,7 +20,7 @@ use Rattle.gract_top.specs.declared.outcome.Outcome.TheVariants as outcome
 module _ (kind : LimitKind) (name : List ℕ) (before now : FilesState) where
   -- a file that is there and not too long is not loaded only out of memory
   NotLoaded-memory : (result : Outcome) → NotLoaded result kind name before now → result ≢ outcome.LoadFailed →
-      (IsLengthRefused kind before.map now.loads name result → ⊥) → result ≡ outcome.Memory
+      (IsLengthRefused kind before.map now.loads now.taken name result → ⊥) → result ≡ outcome.Memory
   NotLoaded-memory outcome.Done is load refused = absurd (refused is)
   NotLoaded-memory (outcome.Words place) is load refused = absurd (refused is)
   NotLoaded-memory outcome.LoadFailed is load refused = absurd (load refl)
@@ -46,11 +46,11 @@ module _ (name : List ℕ) (before now : Progress) (ready : HasIndex before.file
           | inr missing ↦
               file_named-found before.files.map ready.files name ready.bytes ready.told ready.holds missing
         ])
-        (index-kept before.files.map now.files.loads name result ready)
+        (index-kept before.files.map now.files.loads now.files.taken name result ready)
     | inr unopened ↦ elim unopened.unopened [
       | inl memory ↦ memory
       | inr flawed ↦
-          let same : unopened.bytes ≡ ready.bytes = came-whole before.files.map ready.files now.files.loads name ready.bytes
+          let same : unopened.bytes ≡ ready.bytes = came-whole before.files.map ready.files now.files.loads now.files.taken name ready.bytes
           (limit_of limit.Index) unopened.bytes ready.told ready.holds ready.short unopened.loaded.came in
           let none : first_flaw unopened.bytes ≡ None =
           ap first_flaw same ∙ first_flaw-file ready.bytes ready.parts ready.file in
@@ -61,6 +61,6 @@ module _ (name : List ℕ) (before now : Progress) (ready : HasIndex before.file
   -- an index file that is there is opened as its parts
   pub OpensFile-parts : (parts : Parts) → OpensFile name parts before now → parts ≡ ready.parts
   OpensFile-parts parts opens =
-      let same : opens.bytes ≡ ready.bytes = came-whole before.files.map ready.files now.files.loads name ready.bytes
+      let same : opens.bytes ≡ ready.bytes = came-whole before.files.map ready.files now.files.loads now.files.taken name ready.bytes
       (limit_of limit.Index) opens.bytes ready.told ready.holds ready.short opens.loaded.came in
       IsFile-one ready.bytes parts ready.parts (rw same at opens.file) ready.file

@@ -92,11 +92,11 @@ file_named-found (Some others) files name bytes told holds missing =
     absurd (cc)
 
 -- what came of a file that is not too long is all of it
-pub came-whole : (map : Option FileMap) (files : FileMap) (loads : List Load) (name whole : List ℕ) (most : ℕ) (bytes : List ℕ) →
-    map ≡ Some files → file_named files name ≡ Some whole → length whole ≤ most → FileCame map loads name most bytes →
+pub came-whole : (map : Option FileMap) (files : FileMap) (loads : List Load) (taken : ℕ) (name whole : List ℕ) (most : ℕ) (bytes : List ℕ) →
+    map ≡ Some files → file_named files name ≡ Some whole → length whole ≤ most → FileCame map loads taken name most bytes →
     bytes ≡ whole
-came-whole None files loads name whole most bytes told holds short came = absurd (cc)
-came-whole (Some others) files loads name whole most bytes told holds short came =
+came-whole None files loads taken name whole most bytes told holds short came = absurd (cc)
+came-whole (Some others) files loads taken name whole most bytes told holds short came =
     let same : others ≡ files = cc in
     let holds_now : file_named others name ≡ Some whole = ap (λ these. file_named these name) same ∙ holds in
     let front = came.held in
@@ -112,22 +112,22 @@ accepted-short bytes settings accepted = elim (cases_Bool (nat_lt (limit_of limi
 ]
 
 -- an accepted file is not refused
-accepted-kept : (map : Option FileMap) (loads : List Load) (csv : List ℕ) (settings : Settings) (cause : Outcome) →
-    HasAccepted map csv settings → IsRefused map loads csv settings cause → ⊥
-accepted-kept map loads csv settings cause ready refused =
+accepted-kept : (map : Option FileMap) (loads : List Load) (taken : ℕ) (csv : List ℕ) (settings : Settings) (cause : Outcome) →
+    HasAccepted map csv settings → IsRefused map loads taken csv settings cause → ⊥
+accepted-kept map loads taken csv settings cause ready refused =
     let short = accepted-short ready.bytes settings ready.accepted in
     let same : refused.bytes ≡ ready.bytes =
-    came-whole map ready.files loads csv ready.bytes (limit_of limit.Csv) refused.bytes ready.told ready.holds short refused.came in
+    came-whole map ready.files loads taken csv ready.bytes (limit_of limit.Csv) refused.bytes ready.told ready.holds short refused.came in
     let both : Some cause ≡ None =
     sym refused.refusal ∙ ap (λ bytes. file_refusal bytes settings) same ∙ ready.accepted in
     absurd (cc)
 
 -- an index file that is not too long is not refused
-pub index-kept : (map : Option FileMap) (loads : List Load) (index : List ℕ) (cause : Outcome) → HasIndex map index →
-    IsIndexRefused map loads index cause → ⊥
-index-kept map loads index cause ready refused =
+pub index-kept : (map : Option FileMap) (loads : List Load) (taken : ℕ) (index : List ℕ) (cause : Outcome) → HasIndex map index →
+    IsIndexRefused map loads taken index cause → ⊥
+index-kept map loads taken index cause ready refused =
     let same : refused.bytes ≡ ready.bytes =
-    came-whole map ready.files loads index ready.bytes (limit_of limit.Index) refused.bytes ready.told ready.holds
+    came-whole map ready.files loads taken index ready.bytes (limit_of limit.Index) refused.bytes ready.told ready.holds
     ready.short refused.came in
     let none = length_refusal-short limit.Index ready.bytes ready.short in
     let both : Some cause ≡ None = sym refused.refusal ∙ ap (length_refusal limit.Index) same ∙ none in
@@ -177,7 +177,7 @@ once-good result csv settings untouched before now ends ready lines plain words 
       | inr missing ↦ file_named-found before.files.map ready.files csv ready.bytes ready.told ready.holds missing
     ])
     save listen say
-    (λ refusal. accepted-kept before.files.map now.files.loads csv settings result ready (ends.refused refusal))
+    (λ refusal. accepted-kept before.files.map now.files.loads now.files.taken csv settings result ready (ends.refused refusal))
     (λ flaw is.
     let Over : Outcome → Type 0 = λ other. AnswersChart other csv settings untouched before now in
     let late : is_late result ≡ true = ap is_late is in
@@ -210,12 +210,12 @@ ask-good result index untouched before now ends ready lines words save listen sa
       | inr missing ↦ file_named-found before.files.map ready.files index ready.bytes ready.told ready.holds missing
     ])
     save listen say
-    (λ refusal. index-kept before.files.map now.files.loads index result ready (ends.refused refusal))
+    (λ refusal. index-kept before.files.map now.files.loads now.files.taken index result ready (ends.refused refusal))
     (λ flaw is.
     let Over : Outcome → Type 0 = λ other. AnswersFile other index untouched before now in
     let late : is_late result ≡ true = ap is_late is in
     let answers = subst Over is (ends.late late) in
-    let same : answers.bytes ≡ ready.bytes = came-whole before.files.map ready.files now.files.loads index ready.bytes
+    let same : answers.bytes ≡ ready.bytes = came-whole before.files.map ready.files now.files.loads now.files.taken index ready.bytes
     (limit_of limit.Index) answers.bytes ready.told ready.holds ready.short answers.loaded.came in
     let none : first_flaw answers.bytes ≡ None =
     ap first_flaw same ∙ first_flaw-file ready.bytes ready.parts ready.file in
@@ -247,7 +247,7 @@ build-good result csv index settings before now ends ready words save listen say
       | inr missing ↦ file_named-found before.map ready.files csv ready.bytes ready.told ready.holds missing
     ])
     save listen say
-    (λ refusal. accepted-kept before.map now.loads csv settings result ready (ends.refused refusal))
+    (λ refusal. accepted-kept before.map now.loads now.taken csv settings result ready (ends.refused refusal))
     (λ flaw is. let late : is_late result ≡ true = ap is_late is in
     let Saves : Outcome → Type 0 = λ other. Saved other index (written (ends.late late).chart) before now in
     subst Saves is (ends.late late).saved)
@@ -265,13 +265,13 @@ module _ (index name : List ℕ) (before now : FilesState) (steps_before steps_n
   where
     -- such a file ends in no outcome that only its length or its bytes could tell
     upgrade-none : (result : Outcome) → EndsUpgrade result index name before now steps_before steps_now →
-        (NotLoaded result limit.Index index before now → IsIndexRefused before.map now.loads index result) →
+        (NotLoaded result limit.Index index before now → IsIndexRefused before.map now.loads now.taken index result) →
         (NotUpgraded result ready.bytes → ⊥) → ((newest : List ℕ) → Saved result name newest before now → ⊥) → ⊥
     upgrade-none result ends refused unwritten unsaved = elim ends.ended [
-      | inl unloaded ↦ index-kept before.map now.loads index result ready (refused unloaded.0)
+      | inl unloaded ↦ index-kept before.map now.loads now.taken index result ready (refused unloaded.0)
       | inr file ↦ elim file.ended [
         | inl left ↦
-            let same : file.bytes ≡ ready.bytes = came-whole before.map ready.files now.loads index ready.bytes
+            let same : file.bytes ≡ ready.bytes = came-whole before.map ready.files now.loads now.taken index ready.bytes
             (limit_of limit.Index) file.bytes ready.told ready.holds ready.short file.loaded.came in
             unwritten (subst (NotUpgraded result) same left.0)
         | inr saves ↦ unsaved saves.newest saves.saved
@@ -280,7 +280,7 @@ module _ (index name : List ℕ) (before now : FilesState) (steps_before steps_n
 
     -- what is no outcome of an upgrade
     upgrade-other : (result : Outcome) → EndsUpgrade result index name before now steps_before steps_now →
-        (NotLoaded result limit.Index index before now → IsIndexRefused before.map now.loads index result) →
+        (NotLoaded result limit.Index index before now → IsIndexRefused before.map now.loads now.taken index result) →
         (NotUpgraded result ready.bytes → ⊥) → ((newest : List ℕ) → Saved result name newest before now → ⊥) → IsGood result
     upgrade-other result ends refused unwritten unsaved = absurd (upgrade-none result ends refused unwritten unsaved)
 

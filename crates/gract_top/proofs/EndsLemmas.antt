@@ -1,9 +1,10 @@
 -- How a call ends once its file was loaded.
-use Rattle.std.proofs.Common.{◌≡◌, ◌≢◌, ℕ, ◌+◌, ◌<◌, ◌≤◌, true, false, List, length, Result, Ok, Err}
+use Rattle.std.proofs.Common.{◌≡◌, ◌≢◌, ℕ, ◌+◌, ◌<◌, ◌≤◌, true, false, List, length, Option, Result, Ok, Err}
 use Rattle.std.proofs.Common.{inl, inr, refl, sym, ap, ◌∙◌, subst, arith}
 use mathlib.Core.Bool.{false≢true}
 use Rattle.track_types.specs.declared.limit.TheConstants.{MAX_INDEX}
-use Rattle.host_ports.specs.FileMap.{IsMissing}
+use Rattle.history.specs.Loads.{Load}
+use Rattle.host_ports.specs.FileMap.{FileMap, IsMissing}
 use Rattle.host_ports.specs.FilesState.{FilesState}
 use Rattle.host_ports.specs.NumberedCalls.{one_more}
 use Rattle.track_types.specs.Chart.{ChartView}
@@ -58,7 +59,7 @@ EndsLoading-loaded loaded value result name kind before now is missing taken beg
 module _ (result : Outcome) (csv : List ℕ) (settings : Settings) (untouched : Type 0) (before now : OutsideView) where
   -- what the files gave for the bytes of a chart's index was opened and asked
   pub AnswersChart-passed : (chart : ChartView) (bytes passed : List ℕ) →
-      IsAccepted before.files.map now.files.loads csv settings chart → IsFile bytes (parts_of chart) →
+      IsAccepted before.files.map now.files.loads now.files.taken csv settings chart → IsFile bytes (parts_of chart) →
       length bytes < MAX_INDEX → passed ≡ before.given bytes →
       EndsOpened result passed untouched before.talk now.talk →
       ((parts : Parts) → IsFile passed parts → EndsOver result passed parts untouched before.talk now.talk) →
@@ -133,6 +134,12 @@ EndsBuild-late result csv index settings before now loading later saves = record
   late = λ late. saves;
   unsaved = Saved-either index (written saves.chart) before now result saves.saved;
 }
+
+-- what was accepted is, whatever else was done, as long as no file was begun
+pub IsAccepted-kept : (map : Option FileMap) (loads now : List Load) (taken after : ℕ) (csv : List ℕ) (settings : Settings)
+    (chart : ChartView) → now ≡ loads → after ≡ taken → IsAccepted map loads taken csv settings chart →
+    IsAccepted map now after csv settings chart
+IsAccepted-kept map loads now taken after csv settings chart kept also accepted = rw (kept, also) accepted
 
 -- what a save left of files that had only been loaded from before
 pub Saved-loaded : (result : Outcome) (index bytes spelled : List ℕ) (before loaded now : FilesState) →

@@ -84,6 +84,16 @@ form_merge : request_of (words (codes "merge" ∷ codes "t.idx" ∷ codes "u.idx
 unfolding word_values
 form_merge = refl
 
+form_extend : request_of (words (codes "extend" ∷ codes "t.idx" ∷ codes "t.csv" ∷ codes "t.csv" ∷ []))
+    ≡ request.Extend (word (codes "t.idx")) (word (codes "t.csv")) (word (codes "t.csv"))
+unfolding word_values
+form_extend = refl
+
+behind_an_extension : request_of (words (codes "extend" ∷ codes "t.idx" ∷ codes "t.csv" ∷ codes "m.idx" ∷ codes "x" ∷ []))
+    ≡ request.Refused 5
+unfolding word_values
+behind_an_extension = refl
+
 out_missing : request_of (words (codes "merge" ∷ codes "t.idx" ∷ codes "u.idx" ∷ [])) ≡ request.Refused 4
 unfolding word_values
 out_missing = refl

@@ -8,5 +8,7 @@ pub mod SamplingLemmas
 pub mod CompletenessLemmas
 pub mod BeginningLemmas
 pub mod MergingLemmas
+pub mod TailOpeningLemmas
 pub mod TailAskingLemmas
+pub mod ExtendingLemmas
 mod Examples

@@ -42,16 +42,17 @@ short-is : (limit : ℕ) (bytes : List ℕ) → length bytes ≤ limit → not (
 short-is limit bytes short = grind (arith, nat_tests, short)
 
 -- a file of which one byte more came than it may have is refused
-pub IsLengthRefused-past : (kind : LimitKind) (map : Option FileMap) (loads : List Load) (name before piece : List ℕ)
+pub IsLengthRefused-past : (kind : LimitKind) (map : Option FileMap) (loads : List Load) (taken : ℕ) (name before piece : List ℕ)
     (older : List Load) (rest now : Option (List ℕ)) → IsOpened map name (prepend_known before rest) → Consumes rest now piece →
     loads ≡ record { name = name; begun = true; bytes = before ++ piece; ended = is_end piece } ∷ older →
-    length before ≤ limit_of kind → length before + length piece ≡ limit_of kind + 1 →
-    IsLengthRefused kind map loads name (outcome.Limit kind (limit_of kind + 1))
-IsLengthRefused-past kind map loads name before piece older rest now opened came added within past =
+    length before ≤ limit_of kind → length before + length piece ≡ limit_of kind + 1 → taken ≡ limit_of kind + 1 →
+    IsLengthRefused kind map loads taken name (outcome.Limit kind (limit_of kind + 1))
+IsLengthRefused-past kind map loads taken name before piece older rest now opened came added within past counted =
     let all : length (before ++ piece) ≡ limit_of kind + 1 = omega (arith, length-append before piece, past) in
     record {
       bytes = before ++ piece;
       came = record {
+        counted = counted ∙ sym all;
         history = rw (
           added,
           piece-left piece (omega (arith, within, past)),
@@ -76,13 +77,14 @@ HoldsFront-all (Some files) name limit bytes piece (Some next) (Some left) short
     (opened.0, opened.1, sym (rw whole (take_all (limit + 1) bytes (omega (arith, short)))))
 
 -- a file of which all came is loaded
-pub IsLoaded-end : (kind : LimitKind) (map : Option FileMap) (loads older : List Load) (name bytes piece : List ℕ)
-    (rest now : Option (List ℕ)) → length bytes ≤ limit_of kind → piece ≡ [] →
+pub IsLoaded-end : (kind : LimitKind) (map : Option FileMap) (loads : List Load) (taken : ℕ) (older : List Load)
+    (name bytes piece : List ℕ) (rest now : Option (List ℕ)) → taken ≡ length bytes → length bytes ≤ limit_of kind → piece ≡ [] →
     IsOpened map name (prepend_known bytes rest) → Consumes rest now piece → IsAtEnd now →
     loads ≡ record { name = name; begun = true; bytes = bytes ++ piece; ended = is_end piece } ∷ older →
-    IsLoaded kind map loads name bytes
-IsLoaded-end kind map loads older name bytes piece rest now short empty opened came at_end added = record {
+    IsLoaded kind map loads taken name bytes
+IsLoaded-end kind map loads taken older name bytes piece rest now counted short empty opened came at_end added = record {
   came = record {
+    counted = counted;
     history = rw (added, empty, append-nil bytes, short-is (limit_of kind) bytes short) refl;
     held = HoldsFront-all map name (limit_of kind) bytes piece rest now short empty opened came at_end;
   };
@@ -95,10 +97,10 @@ pub length_refusal-short : (kind : LimitKind) (bytes : List ℕ) → length byte
 length_refusal-short kind bytes short = grind (arith, nat_tests, short)
 
 -- a file of which all bytes came is refused for its rows
-pub IsRefused-rows : (map : Option FileMap) (loads : List Load) (csv bytes : List ℕ) (settings : Settings) (fault : RowsFault)
-    (cause : Outcome) → IsLoaded limit.Csv map loads csv bytes → csv_fault bytes ≡ Some fault →
-    rows_refusal (Some fault) (raws_of bytes) settings ≡ Some cause → IsRefused map loads csv settings cause
-IsRefused-rows map loads csv bytes settings fault cause loaded first answered = record {
+pub IsRefused-rows : (map : Option FileMap) (loads : List Load) (taken : ℕ) (csv bytes : List ℕ) (settings : Settings) (fault : RowsFault)
+    (cause : Outcome) → IsLoaded limit.Csv map loads taken csv bytes → csv_fault bytes ≡ Some fault →
+    rows_refusal (Some fault) (raws_of bytes) settings ≡ Some cause → IsRefused map loads taken csv settings cause
+IsRefused-rows map loads taken csv bytes settings fault cause loaded first answered = record {
   bytes = bytes;
   came = loaded.came;
   refusal = rw (length_refusal-short limit.Csv bytes loaded.short, first) answered;

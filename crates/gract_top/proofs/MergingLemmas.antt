@@ -1,9 +1,14 @@
 -- How a merge ends, and that it is done or out of memory where the files are there and have a union and no device fails.
-use Rattle.std.proofs.Common.{◌≡◌, ◌≢◌, ℕ, ◌+◌, ◌≤◌, List, Some, None, ◌⊎◌, inl, inr, refl, sym, ◌∙◌, subst}
+use Rattle.std.proofs.Common.{◌≡◌, ◌≢◌, ℕ, ◌+◌, ◌≤◌, List, Some, None, ◌⊎◌, inl, inr, refl, sym, ap, ◌∙◌, subst}
 use Rattle.host_ports.specs.FilesState.{FilesState}
 use Rattle.host_ports.specs.Faults.{Rose}
 use Rattle.track_types.specs.declared.parts.Parts.{Parts}
+use Rattle.chart_parts.specs.PartsOf.{parts_of}
+use Rattle.index_format.specs.Spelling.{bytes_of_parts}
+use Rattle.snapshots.specs.Parts.{chart_in}
+use Rattle.track_types.specs.Chart.{ChartView}
 use Rattle.index_merge.specs.Cost.{union_cost}
+use Rattle.index_merge.specs.Extension.{IsAsBuilt}
 use Rattle.index_merge.specs.MergeFault.{merge_fault}
 use Rattle.gract_top.specs.Beginning.{OpensFile, Progress, SavesNothing}
 use Rattle.gract_top.specs.Completeness.{HasIndex}
@@ -12,26 +17,18 @@ use Rattle.gract_top.specs.Merging.{NotMerged, union_bytes}
 use Rattle.gract_top.proofs.BeginningLemmas.{OpensFile-parts, StopsAtIndex-memory}
 use Rattle.gract_top.proofs.CompletenessLemmas.{IsGood}
 use Rattle.gract_top.proofs.EndsLemmas.{Saved-done, Saved-loaded}
+use Rattle.gract_top.proofs.TailOpeningLemmas.{unsaved-twice}
 use Rattle.gract_top.specs.declared.outcome.Outcome.{Outcome}
 use Rattle.gract_top.specs.declared.outcome.Outcome.TheVariants as outcome
-
--- nothing was saved twice
-unsaved-twice : (before between now : FilesState) → SavesNothing before between → SavesNothing between now →
-    SavesNothing before now
-unsaved-twice before between now one two = record {
-  map = two.map ∙ one.map;
-  saves = two.saves ∙ one.saves;
-  saved = two.saved ∙ one.saved;
-}
 
 module _ (result : Outcome) (first second : Parts) (left right name : List ℕ) (before between opened now : Progress) where
   -- a merge whose files were both opened ends as what was made of them ended
   pub EndsMerge-opened : OpensFile left first before between → OpensFile right second between opened →
       ((NotMerged result first second × SavesNothing opened.files now.files)
       ⊎ SavesUnion result first second name opened.files now.files) →
-      now.steps ≤ opened.steps + union_cost first second → now.files.loads ≡ opened.files.loads →
+      IsAsBuilt first (chart_in second).rows → now.steps ≤ opened.steps + union_cost first second → now.files.loads ≡ opened.files.loads →
       now.files.begins ≡ opened.files.begins → EndsMerge result left right name before now
-  EndsMerge-opened one two ended cost loads begins =
+  EndsMerge-opened one two ended built cost loads begins =
       let loaded = unsaved-twice before.files between.files opened.files one.unsaved two.unsaved in
       let merges : MergesParts result first second name before.files opened now = record {
         ended = elim ended [
@@ -42,6 +39,8 @@ module _ (result : Outcome) (first second : Parts) (left right name : List ℕ) 
                 now.files union.saved loaded refl;
           })
         ];
+        as_built = λ raws more from others.
+            ap (λ (chart : ChartView). bytes_of_parts (parts_of chart)) (built.from_raw raws more from others);
         cost = cost;
         loads = loads;
         begins = begins;

@@ -33,11 +33,11 @@ refusal-grid [] settings kind value some past = absurd (some refl)
 refusal-grid (raw ∷ raws) settings kind value some past = rw past refl
 
 -- a file of which all rows came is refused for a quantity of their chart
-pub IsRefused-grid : (map : Option FileMap) (loads : List Load) (csv bytes : List ℕ) (raws : List RawRow) (settings : Settings)
-    (kind : LimitKind) (value : ℕ) → IsLoaded limit.Csv map loads csv bytes → AreRowsOf bytes raws → raws ≢ [] →
+pub IsRefused-grid : (map : Option FileMap) (loads : List Load) (taken : ℕ) (csv bytes : List ℕ) (raws : List RawRow) (settings : Settings)
+    (kind : LimitKind) (value : ℕ) → IsLoaded limit.Csv map loads taken csv bytes → AreRowsOf bytes raws → raws ≢ [] →
     grid_limit raws settings.cell settings.tick settings.period ≡ Some (kind, value) →
-    IsRefused map loads csv settings (outcome.Limit kind value)
-IsRefused-grid map loads csv bytes raws settings kind value loaded all some past = record {
+    IsRefused map loads taken csv settings (outcome.Limit kind value)
+IsRefused-grid map loads taken csv bytes raws settings kind value loaded all some past = record {
   bytes = bytes;
   came = loaded.came;
   refusal = rw (length_refusal-short limit.Csv bytes loaded.short, all.accepted, ← all.rows)
@@ -50,11 +50,11 @@ refusal-none [] settings some none = absurd (some refl)
 refusal-none (raw ∷ raws) settings some none = rw none refl
 
 -- a file of which all rows came is accepted where no quantity of their chart passes its limit
-pub IsAccepted-grid : (map : Option FileMap) (loads : List Load) (csv bytes : List ℕ) (raws : List RawRow) (settings : Settings)
-    (chart : ChartView) → IsLoaded limit.Csv map loads csv bytes → AreRowsOf bytes raws → raws ≢ [] →
+pub IsAccepted-grid : (map : Option FileMap) (loads : List Load) (taken : ℕ) (csv bytes : List ℕ) (raws : List RawRow) (settings : Settings)
+    (chart : ChartView) → IsLoaded limit.Csv map loads taken csv bytes → AreRowsOf bytes raws → raws ≢ [] →
     grid_limit raws settings.cell settings.tick settings.period ≡ None →
-    chart ≡ chart_of raws settings.cell settings.tick settings.period → IsAccepted map loads csv settings chart
-IsAccepted-grid map loads csv bytes raws settings chart loaded all some none is = record {
+    chart ≡ chart_of raws settings.cell settings.tick settings.period → IsAccepted map loads taken csv settings chart
+IsAccepted-grid map loads taken csv bytes raws settings chart loaded all some none is = record {
   bytes = bytes;
   came = loaded.came;
   accepted = rw (length_refusal-short limit.Csv bytes loaded.short, all.accepted, ← all.rows)

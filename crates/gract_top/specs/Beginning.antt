@@ -42,7 +42,7 @@ pub record EndsLoading (result : Outcome) (name : List ℕ) (kind : LimitKind) (
 abbrev pub NotLoaded : Outcome → LimitKind → List ℕ → FilesState → FilesState → Type 0
 NotLoaded outcome.LoadFailed kind name before now = ⊤
 NotLoaded outcome.Memory kind name before now = ⊤
-NotLoaded other kind name before now = IsLengthRefused kind before.map now.loads name other
+NotLoaded other kind name before now = IsLengthRefused kind before.map now.loads now.taken name other
 
 -- Why the bytes of a file were not opened: out of memory, or for their first flaw.
 abbrev pub NotOpened : Outcome → List ℕ → Type 0
@@ -61,7 +61,7 @@ progress files steps = record { files = files; steps = steps }
 -- All of an index file was loaded, but its bytes were not opened.
 pub record StopsUnopened (result : Outcome) (name : List ℕ) (before now : Progress) : Type 0 where
   pub bytes : List ℕ
-  pub loaded : IsIndexLoaded before.files.map now.files.loads name bytes
+  pub loaded : IsIndexLoaded before.files.map now.files.loads now.files.taken name bytes
   pub unopened : NotOpened result bytes
   pub cost : now.steps ≤ before.steps + bytes_cost bytes
 
@@ -77,7 +77,7 @@ pub record StopsAtIndex (result : Outcome) (name : List ℕ) (before now : Progr
 -- No device failed, and nothing was saved.
 pub record OpensFile (name : List ℕ) (parts : Parts) (before now : Progress) : Type 0 where
   pub bytes : List ℕ
-  pub loaded : IsIndexLoaded before.files.map now.files.loads name bytes
+  pub loaded : IsIndexLoaded before.files.map now.files.loads now.files.taken name bytes
   pub file : IsFile bytes parts
   pub cost : now.steps ≤ before.steps + bytes_cost bytes
   pub begins : now.files.begins ≡ one_more before.files.begins

@@ -13,9 +13,12 @@ use Rattle.track_index.specs.Opening.{IsFile}
 use Rattle.gract_top.specs.Ends.{OutsideView}
 use Rattle.gract_top.specs.Refusal.{file_refusal}
 use Rattle.gract_top.specs.Sampling.{sample_refusal}
-use Rattle.gract_top.specs.TailAsking.{settings_in}
+use Rattle.gract_top.specs.TailOpening.{settings_in}
 use Rattle.gract_top.specs.Upgrading.{upgrade_bytes}
+use Rattle.index_merge.specs.Extension.{extension_fault}
 use Rattle.index_merge.specs.MergeFault.{merge_fault}
+use Rattle.gridding.specs.ChartOf.{chart_rows}
+use Rattle.row_reader.specs.Rows.{raws_of}
 use Rattle.gract_top.specs.declared.outcome.Outcome.TheVariants as outcome
 use Rattle.gract_top.specs.declared.request.Request.{Request}
 use Rattle.gract_top.specs.declared.request.Request.TheVariants as request
@@ -54,8 +57,8 @@ pub record HasQuestions (rest : Option (List ℕ)) : Type 0 where
   pub short : length bytes ≤ limit_of limit.Questions
 
 -- What a request needs is there: a form, the files that it loads, questions that are not too many where it asks any, files
--- that give what they are handed where it opens what it wrote, an upgrade that is not too long where it saves one, and two
--- indexes that have a union where it merges them.
+-- that give what they are handed where it opens what it wrote, an upgrade that is not too long where it saves one, two
+-- indexes that have a union where it merges them, and an index that has a chart with its tail where it makes them one.
 abbrev pub IsReady : Request → OutsideView → Type 0
 IsReady (request.Once csv settings) before =
     HasAccepted before.files.map csv.now settings × HasQuestions before.talk.rest × IsPlain before.given
@@ -70,6 +73,10 @@ IsReady (request.Upgrade old new) before =
 IsReady (request.Merge left right out) before =
     (first : HasIndex before.files.map left.now) × (second : HasIndex before.files.map right.now)
     × (merge_fault first.parts second.parts ≡ None)
+IsReady (request.Extend index tail out) before =
+    (ready : HasIndex before.files.map index.now) × (later : HasTail before.files.map tail.now (settings_in ready.parts))
+    × (extension_fault ready.parts
+    (chart_rows (raws_of later.bytes) ready.parts.frame.cell ready.parts.frame.tick) ≡ None)
 IsReady (request.Refused place) before = ⊥
 
 -- No count of faults rose, and none has reached the greatest number that it can reach.

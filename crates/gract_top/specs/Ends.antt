@@ -1,5 +1,5 @@
 -- How a call ends, by its command: what came of the file that it loads, what was saved, and what was answered.
-use Rattle.std.specs.Prelude.{◌≡◌, ◌≢◌, ℕ, ◌+◌, ◌*◌, ◌≤◌, ⊤, true, List, ◌∷◌, length, None, ◌⊎◌}
+use Rattle.std.specs.Prelude.{◌≡◌, ◌≢◌, ℕ, ◌+◌, ◌*◌, ◌≤◌, ⊤, true, List, ◌∷◌, length, Option, None, ◌⊎◌}
 use Rattle.host_ports.specs.FileMap.{IsSaved, KeepsOthers}
 use Rattle.host_ports.specs.FilesState.{FilesState, IsPlain}
 use Rattle.host_ports.specs.Meanings.{files_at}
@@ -15,14 +15,18 @@ use Rattle.chart_parts.specs.PartsOf.{parts_of}
 use Rattle.index_format.specs.Spelling.{bytes_of_parts}
 use Rattle.track_index.specs.Opening.{bytes_cost}
 use Rattle.index_merge.specs.Cost.{union_cost}
+use Rattle.index_merge.specs.Extension.{extension_cost, extension_fault}
 use Rattle.index_merge.specs.MergeFault.{merge_fault}
+use Rattle.path_union.specs.Union.{rows_of_tail}
 use Rattle.gract_top.specs.Beginning.{BeginsFirst, BeginsOne, EndsLoading, NotLoaded, Progress, SavesNothing, progress}
-use Rattle.gract_top.specs.Merging.{NotMerged, union_bytes}
+use Rattle.gract_top.specs.Extending.{IsExtendedAsBuilt, NotExtended, extension_bytes}
+use Rattle.gract_top.specs.Merging.{IsMergedAsBuilt, NotMerged, union_bytes}
 use Rattle.gract_top.specs.Outcome.{EndsOpened, EndsOver, Talk, talk_of}
 use Rattle.gract_top.specs.Refusal.{IsAccepted, IsIndexLoaded, IsIndexRefused, IsRefused, is_early}
 use Rattle.gract_top.specs.Refusal.{is_late, is_bytes_refusal}
 use Rattle.gract_top.specs.Sampling.{EndsSample, speech}
 use Rattle.gract_top.specs.TailAsking.{EndsAskTail}
+use Rattle.gract_top.specs.TailOpening.{OpensTailed, StopsAtEither}
 use Rattle.gract_top.specs.Upgrading.{IsUpgrade, NotUpgraded}
 use Rattle.gract_top.specs.declared.outcome.Outcome.{Outcome}
 use Rattle.gract_top.specs.declared.outcome.Outcome.TheVariants as outcome
@@ -54,7 +58,7 @@ StaysSilent untouched before now = untouched × (now.talk.steps ≡ before.talk.
 pub record AnswersChart (result : Outcome) (csv : List ℕ) (settings : Settings) (untouched : Type 0)
     (before now : OutsideView) : Type 0 where
   pub chart : ChartView
-  pub accepted : IsAccepted before.files.map now.files.loads csv settings chart
+  pub accepted : IsAccepted before.files.map now.files.loads now.files.taken csv settings chart
   pub ended : EndsOpened result (before.given (written chart)) untouched before.talk now.talk
   pub plain : IsPlain before.given → EndsOver result (written chart) (parts_of chart) untouched before.talk now.talk
 
@@ -64,7 +68,7 @@ pub record EndsOnce (result : Outcome) (csv : List ℕ) (settings : Settings) (u
   pub loading : EndsLoading result csv limit.Csv before.files now.files
   pub unsaved : SavesNothing before.files now.files
   -- the file was refused for its bytes
-  pub refused : is_bytes_refusal result ≡ true → IsRefused before.files.map now.files.loads csv settings result
+  pub refused : is_bytes_refusal result ≡ true → IsRefused before.files.map now.files.loads now.files.taken csv settings result
   pub early : is_early result ≡ true → StaysSilent untouched before now
   -- the file was accepted
   pub late : is_late result ≡ true → AnswersChart result csv settings untouched before now
@@ -86,7 +90,7 @@ Saved other index bytes before now = ⊥
 pub record SavesChart (result : Outcome) (csv index : List ℕ) (settings : Settings) (before now : FilesState) :
     Type 0 where
   pub chart : ChartView
-  pub accepted : IsAccepted before.map now.loads csv settings chart
+  pub accepted : IsAccepted before.map now.loads now.taken csv settings chart
   pub saved : Saved result index (written chart) before now
 
 -- How a call of `build` ends.
@@ -94,7 +98,7 @@ pub record EndsBuild (result : Outcome) (csv index : List ℕ) (settings : Setti
     Type 0 where
   pub loading : EndsLoading result csv limit.Csv before now
   -- the file was refused for its bytes
-  pub refused : is_bytes_refusal result ≡ true → IsRefused before.map now.loads csv settings result
+  pub refused : is_bytes_refusal result ≡ true → IsRefused before.map now.loads now.taken csv settings result
   -- the file was accepted
   pub late : is_late result ≡ true → SavesChart result csv index settings before now
   pub unsaved : result ≢ outcome.Done → result ≢ outcome.SaveFailed → SavesNothing before now
@@ -102,7 +106,7 @@ pub record EndsBuild (result : Outcome) (csv index : List ℕ) (settings : Setti
 -- The index file was loaded, opened and asked.
 pub record AnswersFile (result : Outcome) (index : List ℕ) (untouched : Type 0) (before now : OutsideView) : Type 0 where
   pub bytes : List ℕ
-  pub loaded : IsIndexLoaded before.files.map now.files.loads index bytes
+  pub loaded : IsIndexLoaded before.files.map now.files.loads now.files.taken index bytes
   pub ended : EndsOpened result bytes untouched before.talk now.talk
 
 -- How a call of `ask` ends.
@@ -111,7 +115,7 @@ pub record EndsAsk (result : Outcome) (index : List ℕ) (untouched : Type 0) (b
   pub unsaved : SavesNothing before.files now.files
   pub given : now.given ≡ before.given
   -- the file was refused for its length
-  pub refused : is_bytes_refusal result ≡ true → IsIndexRefused before.files.map now.files.loads index result
+  pub refused : is_bytes_refusal result ≡ true → IsIndexRefused before.files.map now.files.loads now.files.taken index result
   pub early : is_early result ≡ true → StaysSilent untouched before now
   -- the file was loaded
   pub late : is_late result ≡ true → AnswersFile result index untouched before now
@@ -130,7 +134,7 @@ pub record SavesUpgrade (result : Outcome) (bytes name : List ℕ) (before now :
 pub record UpgradesFile (result : Outcome) (index name : List ℕ) (before now : FilesState) (steps_before steps_now : ℕ) :
     Type 0 where
   pub bytes : List ℕ
-  pub loaded : IsIndexLoaded before.map now.loads index bytes
+  pub loaded : IsIndexLoaded before.map now.loads now.taken index bytes
   pub ended : (NotUpgraded result bytes × SavesNothing before now) ⊎ SavesUpgrade result bytes name before now
   pub cost : steps_now ≤ steps_before + 2 * bytes_cost bytes
 
@@ -152,6 +156,7 @@ pub record MergesParts (result : Outcome) (left right : Parts) (name : List ℕ)
     (opened now : Progress) : Type 0 where
   pub ended : (NotMerged result left right × SavesNothing before now.files)
       ⊎ SavesUnion result left right name before now.files
+  pub as_built : IsMergedAsBuilt left right
   pub cost : now.steps ≤ opened.steps + union_cost left right
   pub loads : now.files.loads ≡ opened.files.loads
   pub begins : now.files.begins ≡ opened.files.begins
@@ -163,6 +168,33 @@ EndsMerge result left right name before now =
     BeginsFirst result left before now (λ first between.
     BeginsFirst result right between now (λ second opened.
     MergesParts result first second name before.files opened now))
+
+-- What an index holds and a tail were saved as one, or the save failed.
+pub record SavesExtension (result : Outcome) (parts : Parts) (tail : Option ChartView) (name : List ℕ)
+    (before now : FilesState) : Type 0 where
+  pub extended : extension_fault parts (rows_of_tail tail) ≡ None
+  pub saved : Saved result name (extension_bytes parts tail) before now
+
+-- An index file was opened as these parts, and then another gave this tail. Both were saved as one or not, within the
+-- reads of making that. No file was begun after them, and none was saved before.
+pub record ExtendsParts (result : Outcome) (index csv name : List ℕ) (before now : Progress) : Type 0 where
+  pub parts : Parts
+  pub tail : Option ChartView
+  pub opened : Progress
+  pub opens : OpensTailed index csv parts tail before opened
+  pub ended : (NotExtended result parts tail × SavesNothing before.files now.files)
+      ⊎ SavesExtension result parts tail name before.files now.files
+  pub as_built : IsExtendedAsBuilt parts tail opens.between.files.map opened.files.loads opened.files.taken csv
+  pub cost : now.steps ≤ opened.steps + extension_cost parts (rows_of_tail tail)
+  pub loads : now.files.loads ≡ opened.files.loads
+  pub begins : now.files.begins ≡ opened.files.begins
+  pub taken : now.files.taken ≡ opened.files.taken
+
+-- How a call of `extend` ends: at one of its files, or over both.
+abbrev pub EndsExtend : Outcome → List ℕ → List ℕ → List ℕ → Progress → Progress → Type 0
+EndsExtend result index csv name before now =
+    (StopsAtEither result index csv before now × SavesNothing before.files now.files)
+    ⊎ ExtendsParts result index csv name before now
 
 -- How the call that a request asks for ends, where it is not refused. `unheard` says that the source is as it was, and
 -- `unsaid` that the sink is.
@@ -184,6 +216,10 @@ Ends (request.Upgrade old new) result unheard unsaid before now =
     × ((unheard × unsaid) × (now.given ≡ before.given))
 Ends (request.Merge left right out) result unheard unsaid before now =
     EndsMerge result left.now right.now out.now (progress before.files before.talk.steps)
+    (progress now.files now.talk.steps)
+    × ((unheard × unsaid) × (now.given ≡ before.given))
+Ends (request.Extend index tail out) result unheard unsaid before now =
+    EndsExtend result index.now tail.now out.now (progress before.files before.talk.steps)
     (progress now.files now.talk.steps)
     × ((unheard × unsaid) × (now.given ≡ before.given))
 Ends (request.Refused place) result unheard unsaid before now = ⊤

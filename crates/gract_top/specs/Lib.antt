@@ -9,7 +9,9 @@ pub mod Sampling
 pub mod Upgrading
 pub mod Beginning
 pub mod Merging
+pub mod TailOpening
 pub mod TailAsking
+pub mod Extending
 pub mod Ends
 pub mod Completeness
 pub mod OutcomeText

@@ -30,8 +30,11 @@ abbrev pub load_of : List ℕ → ℕ → List ℕ → Load
 load_of name limit bytes =
     record { name = name; begun = true; bytes = bytes; ended = not (nat_lt limit (length bytes)) }
 
--- The newest load is that of this file, and these bytes of it came, and no others: those of the file where it is told.
-pub record FileCame (map : Option FileMap) (loads : List Load) (name : List ℕ) (limit : ℕ) (bytes : List ℕ) : Type 0 where
+-- The newest load is that of this file, and these bytes of it came, and no others: those of the file where it is told. They
+-- are as many as were taken.
+pub record FileCame (map : Option FileMap) (loads : List Load) (taken : ℕ) (name : List ℕ) (limit : ℕ) (bytes : List ℕ) :
+    Type 0 where
+  pub counted : taken ≡ length bytes
   pub history : newest_load loads ≡ Some (load_of name limit bytes)
   pub held : HoldsFront map name limit bytes
 
@@ -41,15 +44,15 @@ pub record BeginsFile (name : List ℕ) (before now : List Load) : Type 0 where
   pub older : older_loads now ≡ before
 
 -- The bytes that came of a file are all of it, and no more than its limit.
-pub record IsLoaded (kind : LimitKind) (map : Option FileMap) (loads : List Load) (name bytes : List ℕ) : Type 0 where
-  pub came : FileCame map loads name (limit_of kind) bytes
+pub record IsLoaded (kind : LimitKind) (map : Option FileMap) (loads : List Load) (taken : ℕ) (name bytes : List ℕ) : Type 0 where
+  pub came : FileCame map loads taken name (limit_of kind) bytes
   pub short : length bytes ≤ limit_of kind
 
 -- All bytes of a file were received: `has_taken` says what took them.
-pub record IsReceived (kind : LimitKind) (map : Option FileMap) (loads : List Load) (name : List ℕ)
+pub record IsReceived (kind : LimitKind) (map : Option FileMap) (loads : List Load) (taken : ℕ) (name : List ℕ)
     (has_taken : List ℕ → Type 0) : Type 0 where
   pub bytes : List ℕ
-  pub loaded : IsLoaded kind map loads name bytes
+  pub loaded : IsLoaded kind map loads taken name bytes
   pub received : has_taken bytes
 
 -- What loading a file tells of the files: it was begun and no other, and nothing was saved.

@@ -1,6 +1,8 @@
 -- What two index files are as one, or why they are not.
-use Rattle.std.specs.Prelude.{◌≡◌, ℕ, List, Option, Some, None, ◌⊎◌}
+use Rattle.std.specs.Prelude.{◌≡◌, ℕ, List, ◌++◌, Option, Some, None, ◌⊎◌}
 use Rattle.track_types.specs.declared.parts.Parts.{Parts}
+use Rattle.track_types.specs.declared.raw_row.RawRow.{RawRow}
+use Rattle.gridding.specs.ChartOf.{chart_of, chart_rows}
 use Rattle.chart_parts.specs.PartsOf.{parts_of}
 use Rattle.index_format.specs.Spelling.{bytes_of_parts}
 use Rattle.index_merge.specs.Union.{union_of}
@@ -28,3 +30,16 @@ abbrev pub NotMerged : Outcome → Parts → Parts → Type 0
 NotMerged result left right =
     (result ≡ outcome.Memory)
     ⊎ ((found : MergeFault) × (merge_fault left right ≡ Some found) × (result ≡ merge_outcome found))
+
+-- the bytes of the index of the chart of raw rows, by the settings of an index of these parts
+abbrev pub built_bytes : Parts → List RawRow → List ℕ
+built_bytes parts raws =
+    bytes_of_parts (parts_of (chart_of raws parts.frame.cell parts.frame.tick parts.frame.period))
+
+-- Whatever raw rows two indexes were built from, by one CELL and one TICK: together they are saved as what is built from
+-- all of these.
+abbrev pub IsMergedAsBuilt : Parts → Parts → Type 0
+IsMergedAsBuilt left right = (raws more : List RawRow)
+    → (chart_in left).rows ≡ chart_rows raws left.frame.cell left.frame.tick
+    → (chart_in right).rows ≡ chart_rows more left.frame.cell left.frame.tick
+    → union_bytes left right ≡ built_bytes left (raws ++ more)

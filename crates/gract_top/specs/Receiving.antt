@@ -29,8 +29,8 @@ pub record AreGriddedRowsOf (cell tick : ℕ) (bytes : List ℕ) (rows : Gridded
   pub gridded : HasGridded cell tick raws rows
 
 -- The bytes that came of the CSV file are accepted, and their rows were gridded.
-pub record HasGriddedRows (map : Option FileMap) (loads : List Load) (csv : List ℕ) (settings : Settings) (rows : GriddedRows) :
+pub record HasGriddedRows (map : Option FileMap) (loads : List Load) (taken : ℕ) (csv : List ℕ) (settings : Settings) (rows : GriddedRows) :
     Type 0 where
   pub bytes : List ℕ
-  pub loaded : IsLoaded limit.Csv map loads csv bytes
+  pub loaded : IsLoaded limit.Csv map loads taken csv bytes
   pub gridded : AreGriddedRowsOf settings.cell settings.tick bytes rows

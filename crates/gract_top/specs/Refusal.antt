@@ -39,10 +39,10 @@ length_refusal kind bytes =
     if nat_lt (limit_of kind) (length bytes) then Some (outcome.Limit kind (limit_of kind + 1)) else None
 
 -- The bytes that came of a file are refused for their length.
-pub record IsLengthRefused (kind : LimitKind) (map : Option FileMap) (loads : List Load) (name : List ℕ) (cause : Outcome) :
+pub record IsLengthRefused (kind : LimitKind) (map : Option FileMap) (loads : List Load) (taken : ℕ) (name : List ℕ) (cause : Outcome) :
     Type 0 where
   pub bytes : List ℕ
-  pub came : FileCame map loads name (limit_of kind) bytes
+  pub came : FileCame map loads taken name (limit_of kind) bytes
   pub refusal : length_refusal kind bytes ≡ Some cause
 
 -- The refusal of a file, or none where it is accepted: it is too long, a record is no row or one row too many, there is
@@ -52,26 +52,26 @@ file_refusal bytes settings =
     option_or (length_refusal limit.Csv bytes) (rows_refusal (csv_fault bytes) (raws_of bytes) settings)
 
 -- The bytes that came of the CSV file are refused for this.
-pub record IsRefused (map : Option FileMap) (loads : List Load) (csv : List ℕ) (settings : Settings) (cause : Outcome) :
+pub record IsRefused (map : Option FileMap) (loads : List Load) (taken : ℕ) (csv : List ℕ) (settings : Settings) (cause : Outcome) :
     Type 0 where
   pub bytes : List ℕ
-  pub came : FileCame map loads csv (limit_of limit.Csv) bytes
+  pub came : FileCame map loads taken csv (limit_of limit.Csv) bytes
   pub refusal : file_refusal bytes settings ≡ Some cause
 
 -- The bytes that came of the CSV file are accepted, and have this chart.
-pub record IsAccepted (map : Option FileMap) (loads : List Load) (csv : List ℕ) (settings : Settings) (chart : ChartView) :
+pub record IsAccepted (map : Option FileMap) (loads : List Load) (taken : ℕ) (csv : List ℕ) (settings : Settings) (chart : ChartView) :
     Type 0 where
   pub bytes : List ℕ
-  pub came : FileCame map loads csv (limit_of limit.Csv) bytes
+  pub came : FileCame map loads taken csv (limit_of limit.Csv) bytes
   pub accepted : file_refusal bytes settings ≡ None
   pub gridded : chart ≡ chart_of (raws_of bytes) settings.cell settings.tick settings.period
 
 -- the bytes that came of an index file are refused; its flaws are found when it is opened
-abbrev pub IsIndexRefused : Option FileMap → List Load → List ℕ → Outcome → Type 0
+abbrev pub IsIndexRefused : Option FileMap → List Load → ℕ → List ℕ → Outcome → Type 0
 IsIndexRefused = IsLengthRefused limit.Index
 
 -- the bytes that came of an index file are all of it, and may be opened
-abbrev pub IsIndexLoaded : Option FileMap → List Load → List ℕ → List ℕ → Type 0
+abbrev pub IsIndexLoaded : Option FileMap → List Load → ℕ → List ℕ → List ℕ → Type 0
 IsIndexLoaded = IsLoaded limit.Index
 
 -- an outcome that the bytes of the loaded file decide before anything is made of them

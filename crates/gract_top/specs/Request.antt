@@ -10,7 +10,7 @@ use Rattle.track_types.specs.Bounds.{number_within}
 use Rattle.track_types.specs.declared.bounds.NumberFault.{NumberFault}
 use Rattle.track_types.specs.declared.limit.TheConstants.{MAX_OBJECTS, MAX_PERIOD, MAX_RESOLUTION, MAX_SPAN}
 use Rattle.gract_top.specs.declared.request.Request.{Request}
-use Rattle.gract_top.specs.declared.request.Request.TheVariants.{Ask, AskTail, Build, Merge, Once, Refused, Sample, Upgrade}
+use Rattle.gract_top.specs.declared.request.Request.TheVariants.{Ask, AskTail, Build, Extend, Merge, Once, Refused, Sample, Upgrade}
 use Rattle.gract_top.specs.declared.request.SampleSettings.{SampleSettings}
 use Rattle.gract_top.specs.declared.request.Settings.{Settings}
 
@@ -134,9 +134,17 @@ merge_form = record {
   asks = λ (left, (right, (out, end))). Merge left right out;
 }
 
+-- extend INDEX TAIL OUT
+abbrev pub extend_form : Form
+extend_form = record {
+  name = codes "extend";
+  kinds = File ∷ File ∷ File ∷ [];
+  asks = λ (index, (tail, (out, end))). Extend index tail out;
+}
+
 -- the forms
 abbrev pub forms : List Form
-forms = once_form ∷ build_form ∷ ask_form ∷ sample_form ∷ upgrade_form ∷ merge_form ∷ []
+forms = once_form ∷ build_form ∷ ask_form ∷ sample_form ∷ upgrade_form ∷ merge_form ∷ extend_form ∷ []
 
 -- what values ask for by a form, or the place that is refused
 abbrev pub asked_by : (form : Form) → Result (Values form.kinds) ℕ → Request
@@ -179,4 +187,5 @@ AreInRange (AskTail index tail) = ⊤
 AreInRange (Sample settings) = AreSampleSettings settings
 AreInRange (Upgrade old new) = ⊤
 AreInRange (Merge left right out) = ⊤
+AreInRange (Extend index tail out) = ⊤
 AreInRange (Refused place) = ⊤

@@ -27,12 +27,12 @@ pub(crate) fn load_chart<F: Files>(
     requires tick { IsResolution settings.tick }
     requires period { IsPeriod settings.period }
     ensures chart { IfOk result (λ chart.
-        IsAccepted (F.map files.old) (F.loads files.new) csv.now settings chart) }
+        IsAccepted (F.map files.old) (F.loads files.new) (F.taken files.new) csv.now settings chart) }
     ensures early { IfErr result (λ outcome. is_late outcome ≡ false) }
     ensures words { IfErr result (λ outcome. (place : ℕ) → outcome ≢ Outcome.Words place) }
     ensures loads { LoadsOnly F.Files files.old files.new csv.now (result ≡ Err Outcome.LoadFailed) }
     ensures refused { IfErr result (λ outcome. is_bytes_refusal outcome ≡ true →
-        IsRefused (F.map files.old) (F.loads files.new) csv.now settings outcome) }
+        IsRefused (F.map files.old) (F.loads files.new) (F.taken files.new) csv.now settings outcome) }
     ensures csv_taken { (value : ℕ) → result ≡ Err (Outcome.Limit LimitKind.Csv value) →
         (value ≡ limit_of LimitKind.Csv + 1) × (F.taken files.new ≡ value) }
     ensures taken { F.taken files.new ≤ limit_of LimitKind.Csv + 1 }
@@ -59,12 +59,12 @@ fn load_rows<F: Files>(
     requires cell { IsResolution settings.cell }
     requires tick { IsResolution settings.tick }
     ensures rows { IfOk result
-        (HasGriddedRows (F.map files.old) (F.loads files.new) csv.now settings) }
+        (HasGriddedRows (F.map files.old) (F.loads files.new) (F.taken files.new) csv.now settings) }
     ensures early { IfErr result (λ outcome. is_late outcome ≡ false) }
     ensures words { IfErr result (λ outcome. (place : ℕ) → outcome ≢ Outcome.Words place) }
     ensures loads { LoadsOnly F.Files files.old files.new csv.now (result ≡ Err Outcome.LoadFailed) }
     ensures refused { IfErr result (λ outcome. is_bytes_refusal outcome ≡ true →
-        IsRefused (F.map files.old) (F.loads files.new) csv.now settings outcome) }
+        IsRefused (F.map files.old) (F.loads files.new) (F.taken files.new) csv.now settings outcome) }
     ensures csv_taken { (value : ℕ) → result ≡ Err (Outcome.Limit LimitKind.Csv value) →
         (value ≡ limit_of LimitKind.Csv + 1) × (F.taken files.new ≡ value) }
     ensures taken { F.taken files.new ≤ limit_of LimitKind.Csv + 1 }

@@ -7,6 +7,7 @@ ghost use Rattle.gract_top.specs.Request.{request_of};
 
 use crate::asking::{ask, once};
 use crate::building::build;
+use crate::extending::extend;
 use crate::merging::merge;
 use crate::outcome::Outcome;
 use crate::request::{Request, read_request};
@@ -36,7 +37,9 @@ use track_types::LimitKind;
 /// - `upgrade OLD NEW` loads and opens an index file, and saves the bytes of the same index in the
 ///   newest version of the format under NEW;
 /// - `merge A B OUT` loads and opens two index files, A and then B, and saves the bytes of the index of
-///   the union of what they hold under OUT.
+///   the union of what they hold under OUT;
+/// - `extend INDEX TAIL OUT` opens an index file, then loads and grids TAIL, as `ask INDEX TAIL` does, and
+///   saves the bytes of the index of all their rows under OUT.
 ///
 /// Each outcome comes for its cause alone, which its clause states. `Memory` may come to any words
 /// that have a form: before the first question is listened to, or at a line that takes memory.
@@ -100,5 +103,6 @@ pub fn gract<F: Files, S: Source, K: Sink, L: Ledger>(
         Request::Sample { settings } => sample(alloc, settings, files, sink, steps),
         Request::Upgrade { old, new } => upgrade(alloc, old, new, files, steps),
         Request::Merge { left, right, out } => merge(alloc, left, right, out, files, steps),
+        Request::Extend { index, tail, out } => extend(alloc, index, tail, out, files, steps),
     }
 }

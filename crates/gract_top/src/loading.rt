@@ -24,13 +24,13 @@ pub(crate) fn load<F: Files, R: Receiver>(
     requires early { is_late (Outcome.Limit kind (limit_of kind + 1)) ≡ false }
     requires most { limit_of kind ≤ R.most }
     requires fresh { R.has_taken receiver.old [] receiver.old }
-    ensures came { OnOk result (IsReceived kind (F.map files.old) (F.loads files.new) name.now
+    ensures came { OnOk result (IsReceived kind (F.map files.old) (F.loads files.new) (F.taken files.new) name.now
         (λ bytes. R.has_taken receiver.old bytes receiver.new)) }
     ensures early { IfErr result (λ outcome. is_late outcome ≡ false) }
     ensures words { IfErr result (λ outcome. (place : ℕ) → outcome ≢ Outcome.Words place) }
     ensures loads { LoadsOnly F.Files files.old files.new name.now (result ≡ Err Outcome.LoadFailed) }
     ensures refused { IfErr result (λ outcome. is_bytes_refusal outcome ≡ true →
-        IsLengthRefused kind (F.map files.old) (F.loads files.new) name.now outcome) }
+        IsLengthRefused kind (F.map files.old) (F.loads files.new) (F.taken files.new) name.now outcome) }
     ensures too_long { (other : LimitKind) (value : ℕ) → result ≡ Err (Outcome.Limit other value) →
         (other ≡ kind) × (value ≡ limit_of kind + 1) × (F.taken files.new ≡ value) }
     ensures taken { F.taken files.new ≤ limit_of kind + 1 }

@@ -2,7 +2,9 @@ ghost use Rattle.std.specs.Prelude.{◌≡◌, ◌≢◌, ℕ, ◌+◌, ◌≤�
 ghost use Rattle.host_ports.specs.Counting.{SaveCounts};
 ghost use Rattle.host_ports.specs.Meanings.{files_at};
 ghost use Rattle.index_merge.specs.Cost.{union_cost};
+ghost use Rattle.index_merge.specs.Extension.{IsAsBuilt};
 ghost use Rattle.index_merge.specs.MergeFault.{IsMergeFaultFor, merge_fault};
+ghost use Rattle.snapshots.specs.Parts.{chart_in};
 ghost use Rattle.gract_top.specs.Beginning.{SavesNothing, progress};
 ghost use Rattle.gract_top.specs.Ends.{EndsMerge, SavesUnion};
 ghost use Rattle.gract_top.specs.Merging.{NotMerged, merge_outcome, union_bytes};
@@ -61,6 +63,7 @@ fn save_union<F: Files, L: Ledger>(
         (files_at F.Files files.old) (files_at F.Files files.new))
         ⊎ SavesUnion result left right out.now
         (files_at F.Files files.old) (files_at F.Files files.new) }
+    ensures as_built { IsAsBuilt left (chart_in right).rows }
     ensures cost { steps.new ≤ steps.old + union_cost left right }
     ensures words { (place : ℕ) → result ≢ Outcome.Words place }
     ensures unheard { result ≢ Outcome.ListenFailed }
@@ -89,6 +92,7 @@ fn index_of_union<L: Ledger>(
     ensures ok { IfOk result (λ bytes. bytes.items ≡ union_bytes left right) }
     ensures exact { OnOk result (merge_fault left right ≡ None) }
     ensures fault { IfErr result (IsMergeFaultFor (merge_fault left right)) }
+    ensures as_built { IsAsBuilt left (chart_in right).rows }
     ensures cost { steps.new ≤ steps.old + union_cost left right }
 {
     let chart = union(alloc, &left, &right, steps)?;

@@ -22,7 +22,7 @@ pub enum Outcome {
         field: u32,
         fault: RowFault,
     },
-    /// The CSV file has no data row, or two index files have no row.
+    /// The CSV file has no data row, or two index files have no row, or an index file and its later rows.
     Empty,
     /// The bytes that were opened are not those of an index file; this is their first flaw.
     Flaw(Flaw),

@@ -1,6 +1,6 @@
 ghost use Rattle.std.specs.Prelude.{◌≡◌, IfOk, IfErr};
 ghost use Rattle.gract_top.specs.Request.{AreInRange, ask_form, asked, build_form, once_form, request_of, sample_form};
-ghost use Rattle.gract_top.specs.Request.{merge_form, upgrade_form};
+ghost use Rattle.gract_top.specs.Request.{extend_form, merge_form, upgrade_form};
 ghost use Rattle.gract_top.specs.declared.request.Request.TheVariants.{Refused};
 
 use crate::command_words::CommandWords;
@@ -44,6 +44,13 @@ pub enum Request<'a> {
     Merge {
         left: &'a str,
         right: &'a str,
+        out: &'a str,
+    },
+    /// To save what the index file of one name holds and the later rows of the CSV file of another, its
+    /// tail, as one index under a third name, which may be either of these.
+    Extend {
+        index: &'a str,
+        tail: &'a str,
         out: &'a str,
     },
     /// Nothing: the first bad word stands at this place, counted from 1.
@@ -107,6 +114,7 @@ fn read_form<'a>(words: &'a [&'a str]) -> Result<Request<'a>, u32>
         "sample" => read_sample(words),
         "upgrade" => read_upgrade(words),
         "merge" => read_merge(words),
+        "extend" => read_extend(words),
         _ => Err(1),
     }
 }
@@ -212,4 +220,20 @@ fn read_merge<'a>(mut words: CommandWords<'a>) -> Result<Request<'a>, u32>
     let out = words.file()?;
     words.end()?;
     Ok(Request::Merge { left, right, out })
+}
+
+// extend INDEX TAIL OUT
+fn read_extend<'a>(mut words: CommandWords<'a>) -> Result<Request<'a>, u32>
+    requires { words.place ≡ 2 }
+    ensures ok { IfOk result (λ request.
+        asked extend_form words.entry.rest.now words.entry.place ≡ request) }
+    ensures err { IfErr result (λ place.
+        asked extend_form words.entry.rest.now words.entry.place ≡ Refused place) }
+    ensures ranges { IfOk result AreInRange }
+{
+    let index = words.file()?;
+    let tail = words.file()?;
+    let out = words.file()?;
+    words.end()?;
+    Ok(Request::Extend { index, tail, out })
 }

@@ -15,7 +15,7 @@ returns-clause-ends g c =
     let kept = sym c.pass-bytes.ensures.kept in
     let Loads : FilesState → Type 0 = λ state. EndsLoading c.answer_bytes.result csv limit.Csv before state in
     let Unsaved : FilesState → Type 0 = λ state. SavesNothing before state in
-    let Accepted : FilesState → Type 0 = λ state. IsAccepted before.map state.loads csv c.args.settings c.in-Ok.chart in
+    let Accepted : FilesState → Type 0 = λ state. IsAccepted before.map state.loads state.taken csv c.args.settings c.in-Ok.chart in
     let apply : (List ℕ → List ℕ) → List ℕ = λ given. given c.in-Ok-index_bytes.bytes.items in
     EndsOnce-late c.answer_bytes.result csv c.args.settings _ _ _
     (subst Loads kept (EndsLoading-loaded c.load_chart.result c.in-Ok.chart c.answer_bytes.result csv limit.Csv _ _

@@ -2,6 +2,7 @@ use Rattle.std.proofs.Common.{◌≡◌, ◌∙◌, sym}
 use Rattle.gract_top.specs.Request.{request_of}
 use Rattle.gract_top.specs.declared.request.Request.TheVariants as request
 use Rattle.gract_top.proofs.CompletenessLemmas.{ask-good, build-good, once-good, sample-good, upgrade-good}
+use Rattle.gract_top.proofs.ExtendingLemmas.{extend-good}
 use Rattle.gract_top.proofs.MergingLemmas.{merge-good}
 use Rattle.gract_top.proofs.TailAskingLemmas.{ask_tail-good}
 use Rattle.gract_top.proofs.commands.gract.Goals as goal
@@ -65,6 +66,15 @@ returns-in-Merge-clause-complete g c = λ ready calm.
     let needs = rw asked at ready in
     merge-good c.merge.result c.in-Merge.left.now c.in-Merge.right.now c.in-Merge.out.now _ _ c.merge.ensures.ends needs.0
     needs.1 needs.2 (λ is. calm.save (c.merge.ensures.save_faults.cause is)) calm.load
+
+pub returns-in-Extend-clause-complete : goal.returns-in-Extend-clause-complete
+returns-in-Extend-clause-complete g c = λ ready calm.
+    let asked : request_of c.args.words.now ≡ request.Extend c.in-Extend.index c.in-Extend.tail c.in-Extend.out =
+    sym c.read_request.ensures.value ∙ c.in-Extend.is in
+    let needs = rw asked at ready in
+    extend-good c.extend.result c.in-Extend.index.now c.in-Extend.tail.now c.in-Extend.out.now _ _ needs.0 needs.1 needs.2
+    c.extend.ensures.ends c.extend.ensures.words (λ is. calm.save (c.extend.ensures.save_faults.cause is))
+    c.extend.ensures.unheard c.extend.ensures.unsaid calm.load
 
 pub returns-in-Refused-clause-complete : goal.returns-in-Refused-clause-complete
 returns-in-Refused-clause-complete g c = λ ready calm.

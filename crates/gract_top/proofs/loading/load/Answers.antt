@@ -11,7 +11,7 @@ returns-then-came-eq0-clause-came g c =
     let added = c.in-Ok.ensures.loads ∙ ap (λ (loads : List Load). with_piece loads piece) known.loads in
     record {
       bytes = known.bytes;
-      loaded = IsLoaded-end c.args.kind _ _ _ c.args.name.now known.bytes piece _ _ (search rules)
+      loaded = IsLoaded-end c.args.kind _ _ _ _ c.args.name.now known.bytes piece _ _ (search rules) (search rules)
           (rw c.if-came-eq0.true refl) known.opened c.in-Ok.ensures.read.0
           (c.in-Ok.ensures.read.1 c.if-came-eq0.true room) added;
       received = known.received;
@@ -21,5 +21,6 @@ pub returns-then-count-limit-clause-refused : goal.returns-then-count-limit-clau
 returns-then-count-limit-clause-refused g c = λ refusal.
     let piece = take c.in-Ok.came c.pull.new.buf in
     let added = c.in-Ok.ensures.loads ∙ ap (λ (loads : List Load). with_piece loads piece) c.pieces.invariant.loads in
-    rw c.greatest-limit.ensures (IsLengthRefused-past c.args.kind _ _ _ c.pieces.invariant.bytes piece _ _ _
-    c.pieces.invariant.opened c.in-Ok.ensures.read.0 added (search rules) (search (rules, length-take c.in-Ok.came c.pull.new.buf)))
+    rw c.greatest-limit.ensures (IsLengthRefused-past c.args.kind _ _ _ _ c.pieces.invariant.bytes piece _ _ _
+    c.pieces.invariant.opened c.in-Ok.ensures.read.0 added (search rules) (search (rules, length-take c.in-Ok.came c.pull.new.buf))
+    (search rules))
