@@ -1,6 +1,8 @@
 //! Cases are text: a row of a table, or a line of its own. Adding one adds nothing that is to be proved.
 use crate::script::{Part, first_wrong};
-use crate::{damage, devices, doubling, merging, refusals, replies, samples, tails};
+use crate::{
+    damage, devices, doubling, extending, lines, merging, refusals, replies, samples, tails,
+};
 use std::test::Fail;
 use track_types::Memory;
 
@@ -20,17 +22,19 @@ fn first_of_all(
 
 #[test]
 fn lines_have_their_replies(rt: HostRuntime) -> Result<(), Fail> {
-    assert_eq!(rt; first_wrong(&rt, &replies::SCRIPT)?, None);
+    let scripts: [&[Part]; 2] = [&replies::SCRIPT, &lines::SCRIPT];
+    assert_eq!(rt; first_of_all(&rt, &scripts)?, None);
     Ok(())
 }
 
 #[test]
 fn an_index_is_saved_summed_and_joined(rt: HostRuntime) -> Result<(), Fail> {
-    let scripts: [&[Part]; 4] = [
+    let scripts: [&[Part]; 5] = [
         &samples::SCRIPT,
         &doubling::SCRIPT,
         &tails::SCRIPT,
         &merging::SCRIPT,
+        &extending::SCRIPT,
     ];
     assert_eq!(rt; first_of_all(&rt, &scripts)?, None);
     Ok(())

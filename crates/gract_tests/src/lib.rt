@@ -10,6 +10,10 @@ mod devices;
 #[cfg(test)]
 mod doubling;
 #[cfg(test)]
+mod extending;
+#[cfg(test)]
+mod lines;
+#[cfg(test)]
 mod merging;
 #[cfg(test)]
 mod refusals;

@@ -60,7 +60,11 @@ const BAD_WORDS: Part = (
     merge ; 2
     merge t.idx ; 3
     merge t.idx u.idx ; 4
-    merge t.idx u.idx m.idx x ; 5",
+    merge t.idx u.idx m.idx x ; 5
+    extend ; 2
+    extend t.idx ; 3
+    extend t.idx t.csv ; 4
+    extend t.idx t.csv m.idx x ; 5",
 );
 
 pub const SCRIPT: [Part; 2] = [REFUSED, BAD_WORDS];

@@ -7,8 +7,6 @@ mod file_history;
 mod ghost_loads;
 mod history;
 mod load_history;
-#[cfg(test)]
-mod tests;
 
 pub use file_history::FileHistory;
 pub use history::History;

@@ -24,8 +24,6 @@ mod retrying;
 mod saving;
 mod sink;
 mod source;
-#[cfg(test)]
-mod tests;
 
 pub use disk_files::DiskFiles;
 pub use fault::{Cut, Failed};

@@ -1,4 +1,5 @@
-//! The tests of all that is made of a chart: blocks of movements, parts, files, indexes, unions of two, and meetings.
+//! The tests of all that is made of a chart: blocks of movements, parts, files, indexes, unions of two,
+//! extensions, and meetings.
 #![tactic(auto)]
 
 #[cfg(test)]
@@ -9,6 +10,8 @@ mod charts;
 mod cuts;
 #[cfg(test)]
 mod damage;
+#[cfg(test)]
+mod extensions;
 #[cfg(test)]
 mod file_bytes;
 #[cfg(test)]

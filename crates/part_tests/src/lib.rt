@@ -1,5 +1,5 @@
 //! The tests of the parts that an index is made of: bits, codes, permutations, trees, regions, rules, logs, snapshots,
-//! rows of files, grammars, and files.
+//! rows of files and grammars; and of the devices through which all goes.
 #![tactic(auto)]
 
 #[cfg(test)]
@@ -11,7 +11,11 @@ mod counters;
 #[cfg(test)]
 mod csv_rows;
 #[cfg(test)]
+mod file_ports;
+#[cfg(test)]
 mod grammars;
+#[cfg(test)]
+mod histories;
 #[cfg(test)]
 mod lazy_walks;
 #[cfg(test)]
@@ -38,6 +42,8 @@ mod samples;
 mod spirals;
 #[cfg(test)]
 mod stores;
+#[cfg(test)]
+mod streams;
 #[cfg(test)]
 mod touching;
 #[cfg(test)]

@@ -10,5 +10,4 @@ pub mod DrawingLemmas
 pub mod SlotLemmas
 pub mod SessionLemmas
 pub mod RunLemmas
-pub mod BuoyLemmas
 mod Examples

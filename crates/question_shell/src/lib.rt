@@ -30,8 +30,6 @@ mod shape_reading;
 mod shape_words;
 mod shell;
 mod shell_fault;
-#[cfg(test)]
-mod tests;
 mod time;
 mod turn_fault;
 mod words;

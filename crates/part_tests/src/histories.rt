@@ -1,6 +1,5 @@
-use super::{FileHistory, History, LoadHistory};
+use history::{FileHistory, History, LoadHistory};
 use std::mem::size_of;
-use std::process::Abort;
 use std::test::Fail;
 
 #[test]
@@ -12,8 +11,8 @@ fn a_history_takes_no_bytes(rt: HostRuntime) -> Result<(), Fail> {
     let mut loads = LoadHistory::new();
     loads.open(b"name", true);
     loads.grow(b"bytes");
-    assert_eq!(rt; size_of::<History>(), 0);
-    assert_eq!(rt; size_of::<FileHistory>(), 0);
-    assert_eq!(rt; size_of::<LoadHistory>(), 0);
+    assert!(rt; size_of::<History>() == 0, "of bytes");
+    assert!(rt; size_of::<FileHistory>() == 0, "of files");
+    assert!(rt; size_of::<LoadHistory>() == 0, "of loads");
     Ok(())
 }

@@ -1,4 +1,0 @@
-use Rattle.question_shell.proofs.tests.answer.Given as goal
-
-abbrev pub ghosts-call : goal.ghosts-call
-ghosts-call a = record { name = a.blank.name; parts = a.blank.parts }
