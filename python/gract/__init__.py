@@ -4,8 +4,8 @@
     with gract.open("ships.idx") as ships:
         print(ships.slice(at="2022-06-01 12:00", box=(10.2, 54.1, 11.0, 55.0)).table())
 
-`open` asks an index through the program gract, and `build` makes one; docs/PYTHON.md is the page. None of this package is proved.
-It is tested against the program, whose answers are.
+`open` asks an index through the program gract, `build` makes one, and `extend` adds later rows to it; docs/PYTHON.md is the page. None
+of this package is proved. It is tested against the program, whose answers are.
 """
 
 from . import questions
@@ -32,6 +32,7 @@ from .errors import (
     ManifestError,
     MemoryRefused,
     OtherFileError,
+    OutsideWarning,
     OverwriteError,
     PandasMissing,
     PartsError,
@@ -46,6 +47,7 @@ from .errors import (
     WordsError,
     WorkerLost,
 )
+from .extending import Extended, extend
 from .grid import Circle, Grid, Place, RawRow, Reach
 from .index import Index, open
 from .planes import Degrees, Metres, Projected
@@ -57,10 +59,10 @@ __version__ = "0.1.0"
 
 __all__ = [
     "Answers", "ArgumentError", "BadQuestion", "Built", "BusyError", "Cell", "ChangedError", "ChildDied", "Circle", "ClosedError",
-    "Cursor", "Degrees", "DeviceError", "Disc", "DistributedMissing", "EmptyError", "Facts", "FormatError", "GractError", "Grid",
-    "GridError", "Hit", "Index", "Last", "LibraryMissing", "Life", "LimitError", "ListenError", "LoadError", "ManifestError",
-    "Meeting", "MemoryRefused", "Metres", "Near", "OtherFileError", "OverwriteError", "PandasMissing", "PartsError", "Place",
-    "ProgramError", "ProgramNotFound", "Projected", "Proposal", "RawRow", "Reach", "Rect", "ReplyError", "RowError", "SaveError",
-    "SayError", "Sighting", "SlotsError", "SourceError", "Stop", "Visit", "WordsError", "WorkerLost", "Zone", "build", "disc",
-    "find_program", "open", "program_sum", "propose", "questions", "rect", "zone",
+    "Cursor", "Degrees", "DeviceError", "Disc", "DistributedMissing", "EmptyError", "Extended", "Facts", "FormatError", "GractError",
+    "Grid", "GridError", "Hit", "Index", "Last", "LibraryMissing", "Life", "LimitError", "ListenError", "LoadError", "ManifestError",
+    "Meeting", "MemoryRefused", "Metres", "Near", "OtherFileError", "OutsideWarning", "OverwriteError", "PandasMissing", "PartsError",
+    "Place", "ProgramError", "ProgramNotFound", "Projected", "Proposal", "RawRow", "Reach", "Rect", "ReplyError", "RowError",
+    "SaveError", "SayError", "Sighting", "SlotsError", "SourceError", "Stop", "Visit", "WordsError", "WorkerLost", "Zone", "build",
+    "disc", "extend", "find_program", "open", "program_sum", "propose", "questions", "rect", "zone",
 ]

@@ -4,7 +4,7 @@ import datetime
 import itertools
 from typing import Any, ClassVar, Iterable, Iterator, List, Mapping, Optional, Protocol, Sequence, Tuple, Type, Union
 
-from . import derived, questions
+from . import derived, outside, questions
 from .answers import Answers, Cell, Hit, Last, Life, Meeting, Near, Sighting, Stop, Visit
 from .child import Reply
 from .errors import ArgumentError, BadQuestion, ReplyError
@@ -117,11 +117,23 @@ class Asked:
         return whole(argument, value, *OBJECT)
 
     def window(self, since: Optional[Instant], until: Optional[Instant]) -> Tuple[int, int]:
-        """The first and the last instant of a window; those of the chart where none is given."""
-        return (
-            self.facts.first if since is None else self.instant(since, "since"),
-            self.facts.last if until is None else self.instant(until, "until"),
-        )
+        """The first and the last instant of a window; those of the chart where none is given. A date without a time of day is as `until`
+        the end of that day."""
+        return self._window(since, until)[0]
+
+    def _window(self, since: Optional[Instant], until: Optional[Instant]) -> Tuple[Tuple[int, int], List[str]]:
+        """The same, with a note where it is the end of a day."""
+        first = self.facts.first if since is None else self.instant(since, "since")
+        last, notes = (self.facts.last, []) if until is None else outside.until_of(self, until)
+        return (first, last), notes
+
+    def _has(self, number: int) -> bool:
+        """Whether an object has a row; also where that is not looked for."""
+        return True
+
+    def _cells(self) -> Optional[Tuple[int, int, int, int]]:
+        """The cells that rows are within, or None where that is not looked for."""
+        return None
 
     def instants(self, value: Union[int, Duration], argument: str = "within") -> int:
         """The length of time that an argument means, in instants."""
@@ -152,35 +164,45 @@ class Asked:
             ]
         return (questions.EVERYWHERE if region is None else questions.checked_region("region", region)), []
 
-    def _rows(self, question: Question, notes: Sequence[str] = ()) -> "Answers[Any]":
+    def _rows(self, question: Question, notes: Sequence[str], window: Tuple[int, int], objects: Sequence[int] = (),
+              cells: Optional[Region] = None) -> "Answers[Any]":
+        """The answer to a question of a window, with notes; where it is empty also on objects that have no row, and on cells that are given
+        as such and may be degrees."""
         rows = self._answer(question)
-        region = getattr(question, "region", None)
-        return Answers(rows, question.row, grid=self.grid, asked=question.asked, notes=self._noted(notes), region=region)
+        told = self._noted([*notes, *outside.notes(self, not rows, window, objects, cells)])
+        return Answers(rows, question.row, grid=self.grid, asked=question.asked, notes=told, region=getattr(question, "region", None))
 
     # One question each.
 
     def position(self, object: Object, at: Instant) -> Optional[Cell]:
-        """The cell of an object at an instant, or None where it has no row there. One line."""
+        """The cell of an object at an instant, or None where it has no row there. One line; where it is None a second one, for whether the
+        object has a row at all. Where it has none, and where the instant is outside the index, warns by `OutsideWarning`."""
         question = questions.Position(self.number(object), self.instant(at))
         found: Optional[Cell] = self._answer(question)
-        return None if found is None else found.told_by(self.grid, question.instant)
+        if found is None:
+            outside.warn(self, (question.instant, question.instant), question.object)
+            return None
+        return found.told_by(self.grid, question.instant)
 
     def path(self, object: Object, since: Optional[Instant] = None, until: Optional[Instant] = None) -> "Answers[Stop]":
         """All rows of an object in a window, by time. One line."""
-        return self._rows(questions.Path(self.number(object), *self.window(since, until)))
+        number, (window, notes) = self.number(object), self._window(since, until)
+        return self._rows(questions.Path(number, *window), notes, window, [number])
 
     def slice(self, at: Instant, region: Optional[Region] = None, *, box: Optional[Sequence[Degree]] = None,
               around: Optional[Sequence[Degree]] = None, metres: Optional[Degree] = None) -> "Answers[Sighting]":
         """Who was in a region at an instant, by object. One line."""
         found, notes = self.region(region, box, around, metres)
-        return self._rows(questions.Slice(self.instant(at), found), notes)
+        instant = self.instant(at)
+        return self._rows(questions.Slice(instant, found), notes, (instant, instant), cells=region)
 
     def interval(self, since: Optional[Instant] = None, until: Optional[Instant] = None, region: Optional[Region] = None, *,
                  box: Optional[Sequence[Degree]] = None, around: Optional[Sequence[Degree]] = None,
                  metres: Optional[Degree] = None) -> "Answers[Hit]":
         """Who was in a region at some instant of a window, each with its first row there, by object. One line."""
         found, notes = self.region(region, box, around, metres)
-        return self._rows(questions.Interval(*self.window(since, until), found), notes)
+        window, more = self._window(since, until)
+        return self._rows(questions.Interval(*window, found), [*notes, *more], window, cells=region)
 
     def nearest(self, count: int, at: Instant, cell: Optional[Sequence[int]] = None, *,
                 place: Optional[Sequence[Degree]] = None) -> "Answers[Near]":
@@ -191,24 +213,25 @@ class Asked:
         if place is not None:
             cell = self._needs_grid("place", place).cell_of(*numbers_of("place", place, ("longitude", "latitude")))
         x, y = numbers_of("cell", cell, ("x", "y"))
-        return self._rows(questions.Nearest(count, self.instant(at), x, y))
+        question = questions.Nearest(count, self.instant(at), x, y)
+        cells = Rect(question.x, question.y, question.x, question.y) if place is None else None
+        return self._rows(question, [], (question.instant, question.instant), cells=cells)
 
     def meet(self, left: Object, right: Object, since: Optional[Instant] = None, until: Optional[Instant] = None, *,
              reach: Optional[int] = None, metres: Optional[Degree] = None) -> "Answers[Meeting]":
         """The first instant of a window at which two objects were within a distance of each other, with the cell of each: one row, or
         none. The distance is `reach`, in cells, or with a grid `metres` on the ground, rounded up so that no meeting is missed. One
         line, and with `metres` one line `path` of the left one before it, which tells how wide metres are where it was."""
-        numbers, window = (self.number(left, "left"), self.number(right, "right")), self.window(since, until)
+        numbers, (window, notes) = (self.number(left, "left"), self.number(right, "right")), self._window(since, until)
         if (reach is None) == (metres is None):
             raise ArgumentError("reach" if reach is None else "metres", "either reach=, in cells, or metres= is needed")
-        notes: List[str] = []
         cells: Any = reach
         if metres is not None:
             found = derived.reach_of(self, self._needs_grid("metres", metres), metres, numbers[0], *window)
             cells, far = found.cells, int(found.metres) + 1
             asked = f"{metres} metres are asked as {cells} cells, so that no meeting is missed"
-            notes = [f"{asked}; the two may be up to {far} metres apart", *found.notes]
-        return self._rows(questions.Meet(*numbers, *window, cells), notes)
+            notes += [f"{asked}; the two may be up to {far} metres apart", *found.notes]
+        return self._rows(questions.Meet(*numbers, *window, cells), notes, window, numbers)
 
     # Many questions at once.
 
@@ -255,7 +278,9 @@ class Asked:
         `90 min`), where that row is in the region, by object. It is what 'who is in port now' means where reports come at mixed
         rates. One line `interval`, and one line `path` for each object that was in the region in that time."""
         found, notes = self.region(region, box, around, metres)
-        rows = derived.last_known(self, self.instant(at), self.instants(within), found)
+        instant, length = self.instant(at), self.instants(within)
+        rows = derived.last_known(self, instant, length, found)
+        notes += outside.notes(self, not rows, (instant - length, instant), region=region)
         return Answers(rows, Last, grid=self.grid, notes=self._noted(notes), region=found)
 
     def visits(self, region: Optional[Region] = None, since: Optional[Instant] = None, until: Optional[Instant] = None, *,
@@ -266,7 +291,9 @@ class Asked:
         `interval`, and one line `path` for each object that was there."""
         found, notes = self.region(region, box, around, metres)
         most = None if gap is None else self.instants(gap, "gap")
-        rows = derived.visits(self, found, *self.window(since, until), most)
+        window, more = self._window(since, until)
+        rows = derived.visits(self, found, *window, most)
+        notes += [*more, *outside.notes(self, not rows, window, region=region)]
         return Answers(rows, Visit, grid=self.grid, notes=self._noted(notes), region=found)
 
     def objects(self) -> "Answers[Life]":

@@ -5,6 +5,7 @@ import itertools
 import operator
 import os
 import tempfile
+from contextlib import contextmanager
 from pathlib import Path
 from typing import IO, Any, Iterable, Iterator, Mapping, NamedTuple, Optional, Sequence, Tuple, Union
 
@@ -135,13 +136,13 @@ def of_grid(argument: str, value: Optional[int], grid: Optional[Grid]) -> int:
     return known
 
 
-def refuse_long_name(path: str, may_have_grid: bool) -> None:
+def refuse_long_name(path: str, may_have_grid: bool, argument: str = "path") -> None:
     """Refuses a name that is too long for what is written first, under a name that is longer: the index, and the grid beside it."""
     length = len(os.fsencode(os.path.basename(path)))
     beside = len(os.fsencode(grid_file(path).name)) + MOST_MORE_OF_GRID if may_have_grid else 0
     over = max(length + MORE_OF_INDEX, beside) - MOST_NAME
     if over > 0:
-        raise ArgumentError("path", f"the name of its file has {length} bytes, and {length - over} is the most")
+        raise ArgumentError(argument, f"the name of its file has {length} bytes, and {length - over} is the most")
 
 
 def refuse_other_file(path: str) -> None:
@@ -160,16 +161,21 @@ def refuse_other_file(path: str) -> None:
 
 
 def run_build(program: str, csv_file: str, index: str, numbers: Sequence[int], called: str) -> None:
-    """Runs `gract build`, and raises its outcome, where the CSV file is called so. An interrupt ends it."""
-    process = Process([program, "build", csv_file, index, *map(str, numbers)])
+    """Runs `gract build`, and raises its outcome, where the CSV file is called so."""
+    status, said = run_program(program, ["build", csv_file, index, *map(str, numbers)])
+    if status != 0:
+        raise refusal_of(status, said, index=index, csv_file=called)
+
+
+def run_program(program: str, words: Sequence[str]) -> Tuple[int, str]:
+    """Runs the program with these words, and answers with what it ends with and what it said on standard error. An interrupt ends it."""
+    process = Process([program, *words])
     try:
         with beginning(program):
             process.begin()
-        status, said = process.finish()
+        return process.finish()
     finally:
         process.end()
-    if status != 0:
-        raise refusal_of(status, said, index=index, csv_file=called)
 
 
 # Tables.
@@ -198,8 +204,8 @@ def build_table(program: str, table: Table, index: str, chosen: Chosen, grid: Op
         grid, chosen = proposal.grid, Chosen(proposal.cell, proposal.tick, proposal.period)
     elif grid is None or not grid.names:
         grid = with_names(grid, table, chosen)
-    written = build_rows(program, table_rows(table, grid), index, chosen)
-    return Built(index, written, dict(table.left_out), *chosen.words, grid, proposal)
+    count = build_rows(program, table_rows(table, grid), index, chosen)
+    return Built(index, count, dict(table.left_out), *chosen.words, grid, proposal)
 
 
 def with_names(grid: Optional[Grid], table: Table, chosen: Chosen) -> Optional[Grid]:
@@ -238,24 +244,31 @@ def numbered(argument: str, item: Union[int, str], grid: Optional[Grid]) -> int:
 
 def build_rows(program: str, rows: Any, index: str, chosen: Chosen) -> int:
     """Builds the index of rows, and answers with how many there were."""
+    with written(rows) as (file, count):
+        run_build(program, file, index, chosen.words, "the rows")
+    return count
+
+
+@contextmanager
+def written(rows: Any) -> Iterator[Tuple[str, int]]:
+    """A CSV file of rows, which goes in the end, and how many there are."""
     # The folder goes with what is in it, whatever happens.
     with tempfile.TemporaryDirectory(prefix="gract-") as folder:
         file = Path(folder) / "rows.csv"
         with file.open("w", encoding="ascii", newline="") as lines:
-            written = write_rows(lines, rows)
-        run_build(program, str(file), index, chosen.words, "the rows")
-    return written
+            count = write_rows(lines, rows)
+        yield str(file), count
 
 
 def write_rows(lines: IO[str], rows: Any) -> int:
     """Writes rows as a CSV file, and answers with how many there were. Refuses the first that is none, by its place from 1."""
     lines.write("object,instant,x,y\n")
-    written = 0
+    count = 0
     found = checked_rows(rows_of(rows))
     for piece in iter(lambda: list(itertools.islice(found, PIECE)), []):
         lines.writelines(piece)
-        written += len(piece)
-    return written
+        count += len(piece)
+    return count
 
 
 def rows_of(rows: Any) -> Iterable[Sequence[int]]:

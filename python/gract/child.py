@@ -66,6 +66,7 @@ class Child:
         with beginning(self.program):
             self._process.begin()
         self._stdin, self._stdout, self._stderr = self._process.pipes
+        self._output, self._errors = self._stdout.fileno(), self._stderr.fileno()
         self._ready = select.poll()
         for pipe in (self._stdin, self._stdout, self._stderr):
             os.set_blocking(pipe.fileno(), False)
@@ -107,13 +108,14 @@ class Child:
         return replies.found
 
     def _exchange(self, questions: "_Questions", replies: "_Replies") -> None:
-        is_full = False
+        is_full, most = False, len(questions.lines)
         while True:
-            if replies.size < MOST_BYTES:
+            if questions.asked < most and replies.size < MOST_BYTES:
                 self.sent += questions.take(len(replies.found))
             if len(replies.found) == questions.asked or (replies.found and replies.size > MOST_HELD):
                 return
-            questions.left = self._write(questions.left)
+            if questions.left:
+                questions.left = self._write(questions.left)
             if is_full != bool(questions.left):
                 is_full = not is_full
                 self._watch_room(is_full)
@@ -133,24 +135,26 @@ class Child:
             # A signal handler has forked meanwhile, and this is the copy.
             raise errors.BusyError(f"the index {self.index}")
         for pipe, _ in ready:
-            if pipe == self._stderr.fileno():
-                if not self._hear():
-                    self._ready.unregister(self._stderr)
-            elif pipe == self._stdout.fileno() and not replies.take(self._stdout.read(PIECE), asked):
-                raise self._outcome()
+            if pipe == self._output:
+                if not replies.take(self._stdout.read(PIECE), asked):
+                    raise self._outcome()
+            elif pipe == self._errors and not self._hear():
+                self._ready.unregister(self._stderr)
 
-    def _write(self, data: memoryview) -> memoryview:
+    def _write(self, data: bytes) -> bytes:
         """What is left of the data once the pipe is full. Where the child does not read any more there is nothing left: what it
         says, or that it has ended, tells why."""
         try:
             while data:
-                written = self._stdin.write(data[:PIECE])
+                written = self._stdin.write(data if len(data) <= PIECE else data[:PIECE])
                 if written is None:
                     return data
+                if written == len(data):
+                    break
                 data = data[written:]
         except BrokenPipeError:
-            return data[:0]
-        return data
+            pass
+        return b""
 
     def _hear(self) -> bool:
         """Keeps what the child says on standard error; False at its end."""
@@ -193,14 +197,14 @@ class _Questions:
     """Questions that are written in pieces."""
 
     def __init__(self, lines: Sequence[bytes]):
-        self.lines, self.asked, self.left = lines, 0, memoryview(b"")
+        self.lines, self.asked, self.left = lines, 0, b""
 
     def take(self, answered: int) -> int:
         """Takes the next questions to be written, where few are unanswered; how many bytes they have."""
         if self.left or 2 * (self.asked - answered) > AHEAD:
             return 0
         piece = self.lines[self.asked : answered + AHEAD]
-        self.left = memoryview(b"".join(piece))
+        self.left = b"".join(piece)
         self.asked += len(piece)
         return len(self.left)
 

@@ -8,7 +8,6 @@ from typing import Any, Callable, Dict, List, NamedTuple, Optional, Sequence
 
 from . import building, output, wording
 from .errors import GractError
-from .explorer import command as exploring
 from .grid import Grid
 from .index import Index
 from .index import open as open_index
@@ -48,6 +47,8 @@ OTHERS: Dict[str, Other] = {
     "zone": Other("gract.zones", "make question lines of a zone that is a polygon"),
     "first_hits": Other("gract.pictures.first_hits", "make one reply of the replies to several lines that ask of one zone"),
     "cell": Other("gract.cells", "print the cell of a longitude and a latitude, or with --back those of a cell's corner"),
+    "explore": Other("gract.explorer.command", "look around in an index on a map, in the browser"),
+    "days": Other("gract.archive.command", "build, add to, drop from, list and check an archive of days"),
     "instant": Other("gract.instants", "print the instant of a time, or with --back the time at which an instant begins"),
 }
 
@@ -83,7 +84,6 @@ def parser(words: Sequence[str] = ()) -> argparse.ArgumentParser:
         if name in words:
             importlib.import_module(other.module).add_to(command)
     add_propose(commands)
-    exploring.add_to(commands.add_parser("explore", help="look around in an index on a map, in the browser"))
     return top
 
 
@@ -157,7 +157,7 @@ def run_ask(given: argparse.Namespace) -> int:
 
 
 RUNS: Dict[str, Callable[[argparse.Namespace], int]] = {
-    "ask": run_ask, "build": run_build, "explore": exploring.run, "propose": run_propose,
+    "ask": run_ask, "build": run_build, "propose": run_propose,
 }
 
 

@@ -24,6 +24,10 @@ def again(kind: Type[GractError], args: Tuple[Any, ...], fields: Dict[str, Any])
     return refusal
 
 
+class OutsideWarning(UserWarning):
+    """A position is None since its instant or its object is outside the index, which an answer of rows tells in its notes."""
+
+
 class ArgumentError(GractError, ValueError):
     """An argument that is refused before the program is asked. `argument` is its name, `problem` what is wrong with it."""
 
@@ -44,18 +48,25 @@ class ClosedError(GractError, ValueError):
 
 
 class BusyError(GractError):
-    """What is asked by a signal handler, or by anything else that comes within a question, while the same thread asks it. `what` is it."""
+    """What is asked by a signal handler, or by anything else that comes within a question, while the same thread asks it; or a folder of
+    parts that another process writes. `what` is it."""
 
-    def __init__(self, what: str):
-        super().__init__(f"{what} is being asked by this very thread: a signal handler cannot ask it too, but once it has returned")
+    WITHIN = "is being asked by this very thread: a signal handler cannot ask it too, but once it has returned"
+
+    def __init__(self, what: str, why: str = WITHIN):
+        super().__init__(f"{what} {why}")
         self.what = what
 
 
 class ChangedError(GractError):
-    """An index file that is another one than when it was opened, found where a new child was to open it. `file` is its name."""
+    """An index file that is another one than when it was opened, found where a new child was to open it; or a part that the list of its
+    folder has no more. `file` is its name."""
 
-    def __init__(self, file: str):
-        super().__init__(f"{file} was written since it was opened, and would answer otherwise: open it again")
+    AGAIN = "was written since it was opened, and would answer otherwise: open it again"
+    REFRESH = "was replaced since its list was read: archive.refresh() reads the new list, and goes on with all that is unchanged"
+
+    def __init__(self, file: str, why: str = AGAIN):
+        super().__init__(f"{file} {why}")
         self.file = file
 
 
@@ -138,8 +149,8 @@ class ProgramNotFound(GractError, FileNotFoundError):
 
 
 class OverwriteError(GractError, FileExistsError):
-    """`build` was to write over a file that is no index; or in a folder that has other things in it, or parts that are not to be
-    replaced. `path` is its name."""
+    """`build` or `extend` was to write over a file that is no index; or `build` in a folder that has other things in it, or parts that
+    are not to be replaced. `path` is its name."""
 
     def __init__(self, path: str, there: str = "is there and is no index: it is not written over. Take another name, or remove it"):
         super().__init__(f"{path} {there}")
@@ -253,6 +264,7 @@ LIMITS: Dict[str, Limit] = {
                      f"take a smaller period, where objects are seldom there, or a greater tick, or {PARTS}"),
     "index": Limit(2**30, "bytes of the index file", "is it an index at all? No index that build makes is so long"),
     "questions": Limit(2**32, "bytes of questions", "begin the program anew"),
+    "base": Limit(2**40, "cells from 0 to a row's x or y", "build the index again: none that build makes has such a row"),
 }
 
 

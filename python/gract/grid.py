@@ -20,6 +20,9 @@ from .ranges import whole as whole
 FORM, PROJECTED_FORM = 1, 2
 MOST_UNITS = 2**30
 
+# How many seconds a day has.
+DAY = 86400
+
 # By how much the plane may be longer than the ground, or shorter, where reports are, and from where on answers in metres say it.
 MOST_STRETCH, TOLD_STRETCH = 0.25, 0.05
 
@@ -146,6 +149,13 @@ class Grid:
         """The instant of a time: a text, a datetime (UTC, where it has no offset). Refuses what is no time."""
         try:
             return (times.seconds_of(time) - self.epoch) // (self.tick * self.unit)
+        except (ValueError, ArithmeticError) as fault:
+            raise ArgumentError(argument, str(fault)) from None
+
+    def last_instant(self, date: str, argument: str = "until") -> int:
+        """The last instant of a day, which is a text without a time of day. Refuses what is no date."""
+        try:
+            return (times.seconds_of(date) + DAY - 1 - self.epoch) // (self.tick * self.unit)
         except (ValueError, ArithmeticError) as fault:
             raise ArgumentError(argument, str(fault)) from None
 

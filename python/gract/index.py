@@ -3,16 +3,19 @@
 import os
 import stat
 import weakref
+from pathlib import Path
 from types import TracebackType
-from typing import List, Optional, Sequence, Tuple, Type
+from typing import Any, List, Optional, Sequence, Tuple, Type
 
 from . import questions
-from .answers import Facts
+from .answers import Facts, Hit
+from .archive.given import given
 from .asking import Instant, Object
 from .child import Child, Reply
 from .cursor import Cursor
 from .errors import ArgumentError, ChangedError, ClosedError, GridError, SlotsError
 from .grid import Grid, grid_file
+from .held import Held
 from .overview import Overview
 from .program import Name, file_word, find_program
 from .questions import SLOT
@@ -20,6 +23,9 @@ from .turns import Turn, in_turn
 
 # How high trees are at most.
 MOST_HEIGHT = 24
+
+# What tells a file from another one, in front of the same of its tail.
+FILE_STAMP = ("st_dev", "st_ino", "st_size", "st_mtime_ns")
 
 INFO = questions.Info().line.encode() + b"\n"
 
@@ -35,9 +41,8 @@ class Index(Overview):
 
     facts: Facts
 
-    def __init__(self, path: Name, *, program: Optional[Name] = None, grid: Optional[Grid] = None, tail: Optional[Name] = None):
+    def __init__(self, path: Name, *, program: Optional[Name] = None, grid: Optional[Grid] = None, tail: Any = None):
         self.file = file_word("path", path)
-        self.tail = None if tail is None else file_word("tail", tail)
         if grid is not None and not isinstance(grid, Grid):
             raise ArgumentError("grid", f"{grid!r} is no gract.Grid")
         self.program = find_program(program)
@@ -50,12 +55,42 @@ class Index(Overview):
         self._holders: "List[Optional[weakref.ref[Cursor]]]" = [None] * (SLOT[1] + 1)
         beside = grid_file(self.file)
         self.grid = Grid.load(beside) if grid is None and beside.exists() else grid
+        # The CSV file of the tail, and what keeps it where it was written for this.
+        self.tail: Optional[str] = None
+        self._held: Optional[Held] = None
         try:
+            if tail is not None:
+                self._take_tail(tail)
             self.facts = self._opened()
             self._match(self.grid)
         except BaseException:
             self._drop()
+            self._let_go()
             raise
+
+    def _take_tail(self, rows: Any) -> None:
+        """Takes rows as the tail: the file that they are in, or one that they are written to. New names go into the grid."""
+        if isinstance(rows, (list, tuple)) and rows and isinstance(rows[0], (str, os.PathLike)):
+            raise ArgumentError("tail", "it is one CSV file, a DataFrame, or an iterable of rows")
+        held = Held()
+        try:
+            found = given(rows, held.path, self.grid, self._greatest, "tail")
+            self.tail, self.grid = found.files[0], found.grid
+            if Path(self.tail).parent == held.path:
+                self._held, held = held, Held()
+        finally:
+            held.let_go()
+
+    def _greatest(self) -> int:
+        """The greatest number of an object of the index."""
+        with Index(self.file, program=self.program) as index:
+            hits: List[Hit] = index._answer(questions.Interval(index.facts.first, index.facts.last, questions.EVERYWHERE))
+            return hits[-1].object if hits else 0
+
+    def _let_go(self) -> None:
+        """Takes away the file that was written for the tail."""
+        if self._held is not None:
+            self._held.let_go()
 
     @in_turn
     def _opened(self) -> Facts:
@@ -145,8 +180,11 @@ class Index(Overview):
     def close(self) -> None:
         """Ends the child. A second time it does nothing. Raises its outcome where it had not ended well by itself."""
         self._closed = True
-        if self._child is not None:
-            self._child.close()
+        try:
+            if self._child is not None:
+                self._child.close()
+        finally:
+            self._let_go()
 
     def __enter__(self) -> "Index":
         return self
@@ -156,6 +194,7 @@ class Index(Overview):
             # What went wrong within is told, and not what then becomes of the child.
             self._closed = True
             self._drop()
+            self._let_go()
         else:
             self.close()
 
@@ -172,6 +211,18 @@ class Index(Overview):
         facts: Facts = self._answer(questions.Info())
         return facts
 
+    def with_tail(self, rows: Any) -> "Index":
+        """The same index with rows that came since, as those of today: another `Index`, which is closed by itself. `rows` are those of
+        `gract.build`, in units of the index's CELL and TICK or as reports of its grid; where both have a row of an object and an instant
+        that of the tail counts. Objects that are texts keep their numbers, and new ones get the next. Refuses, by `ChangedError`, where the
+        file was written since it was opened."""
+        found = Index(self.file, program=self.program, grid=self.grid, tail=rows)
+        if self._stamp is not None and (found._stamp or ())[: len(FILE_STAMP)] != self._stamp[: len(FILE_STAMP)]:
+            found._drop()
+            found._let_go()
+            raise ChangedError(self.file)
+        return found
+
     @in_turn
     def held(self, object: Object, since: Optional[Instant] = None, until: Optional[Instant] = None) -> Cursor:
         """A cursor over an object's path in a window. It has one of sixteen slots until its last row was drawn, or until it is closed;
@@ -187,11 +238,12 @@ def stamp_of(file: str, tail: Optional[str] = None) -> Optional[Tuple[int, ...]]
         return None
     if not stat.S_ISREG(found.st_mode):
         return None
-    return (found.st_dev, found.st_ino, found.st_size, found.st_mtime_ns, *((stamp_of(tail) or ()) if tail is not None else ()))
+    return (*(getattr(found, name) for name in FILE_STAMP), *((stamp_of(tail) or ()) if tail is not None else ()))
 
 
-def open(path: Name, *, program: Optional[Name] = None, grid: Optional[Grid] = None, tail: Optional[Name] = None) -> Index:
+def open(path: Name, *, program: Optional[Name] = None, grid: Optional[Grid] = None, tail: Any = None) -> Index:
     """Opens an index: begins `gract ask` and asks for its facts, so that a file that is no index is told at once. The grid is the one
-    given, else that of NAME.grid.json beside it, else none. A tail is a CSV file of rows that came since, which are asked together with
-    it. Refuses by `ProgramNotFound`, by the program's own refusals, and by `GridError` where the grid is not that of the index."""
+    given, else that of NAME.grid.json beside it, else none. A tail is rows that came since, which are asked together with it: what
+    `gract.build` takes, as the name of a CSV file, a DataFrame or an iterable of rows; `Index.with_tail` says how they are read. Refuses by
+    `ProgramNotFound`, by the program's own refusals, and by `GridError` where the grid is not that of the index."""
     return Index(path, program=program, grid=grid, tail=tail)

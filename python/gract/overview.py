@@ -82,6 +82,12 @@ class Overview(Asked):
             return False
         return bool(self._answer(Meet(number, number, self.facts.first, self.facts.last, 0)))
 
+    def _has(self, number: int) -> bool:
+        return number in self
+
+    def _cells(self) -> Optional[Tuple[int, int, int, int]]:
+        return self.bounds
+
     @property
     def names(self) -> Dict[int, str]:
         """The names of objects by their numbers, as the grid has them."""

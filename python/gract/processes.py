@@ -12,7 +12,8 @@ import os
 import subprocess
 import threading
 import weakref
-from typing import IO, Callable, List, Optional, Sequence, Set, Tuple
+from contextlib import contextmanager
+from typing import IO, Callable, Iterator, List, Optional, Sequence, Set, Tuple
 
 from .errors import BusyError
 
@@ -37,7 +38,8 @@ class Process:
     @property
     def is_mine(self) -> bool:
         """Whether this process began it, and is no copy of the one that did."""
-        return self._run.is_mine and self._run.owner == os.getpid()
+        run = self._run
+        return run.is_mine and run.owner == os.getpid()
 
     @property
     def pid(self) -> int:
@@ -132,6 +134,14 @@ class _Run:
 
 # What keeps a fork away from what is just being begun, whose pipes the copy would hold without knowing.
 _BEGINNING = threading.RLock()
+
+
+@contextmanager
+def no_copies() -> Iterator[None]:
+    """Where no thread makes a copy of this process."""
+    with _BEGINNING:
+        yield
+
 
 _RUNS: Set[_Run] = set()
 

@@ -1,24 +1,28 @@
 """`Survey`: what reports are like, found in one pass. Memory is by the number of objects, and not of reports."""
 
-import bisect
 import math
+import operator
 from collections import Counter
-from typing import Dict, Iterable, List, Optional, Sequence, Tuple
+from typing import Collection, Dict, Iterable, List, Optional, Sequence, Tuple
 
 from .planes import METRES_A_DEGREE
 
 # What is nearer than so many metres, or units of x and y, is at the same place.
 LEAST = 1e-3
 
-# Two distances that are told apart differ by a factor of 2 ** (1 / FINENESS), and two times by the third of their digits.
+# Two distances that are told apart differ by a factor of 2 ** (1 / FINENESS), and two times by the third of their digits; those below
+# FULL have no more.
 FINENESS = 8
 DIGITS = 3
+FULL = 10**DIGITS
 
 # Distances are measured at the first reports of an object, and then at each so manieth.
-MEASURED, EACH = 32, 4
+MEASURED, EACH = 32, 8
 
 # An object's number, and the time and the place of a report: degrees of longitude and latitude, or units of a plane.
 Sight = Tuple[int, int, float, float]
+
+time_of = operator.itemgetter(1)
 
 
 class Track:
@@ -45,52 +49,72 @@ class Survey:
         self._gaps: "Counter[int]" = Counter()
         self._steps: "Counter[int]" = Counter()
         self._scatter: "Counter[int]" = Counter()
-        # How many reports are in one instant with the report before, under the tick of that place and all after it.
+        # How many reports are in one instant with the report before, under the tick of that place.
         self._shared = [0] * len(self.ticks)
 
     def take(self, reports: Sequence[Sight]) -> None:
         """Takes one report or more. They are put in their order, so that some that come late do no harm."""
+        found: Dict[int, List[Sight]] = {}
         for report in sorted(reports, key=time_of):
-            track = self.tracks.get(report[0])
+            found.setdefault(report[0], []).append(report)
+        for number, own in found.items():
+            track = self.tracks.get(number)
             if track is None:
-                self.tracks[report[0]] = Track(report)
-            else:
-                self._follow(track, report)
+                self.tracks[number] = track = Track(own.pop(0))
+            if own:
+                self._follow(track, own)
         self.count += len(reports)
         xs, ys = [report[2] for report in reports], [report[3] for report in reports]
         west, south, east, north = self._bounds or [xs[0], ys[0], xs[0], ys[0]]
         self._bounds = [min(west, *xs), min(south, *ys), max(east, *xs), max(north, *ys)]
 
-    def _follow(self, track: Track, report: Sight) -> None:
-        """Takes the next report of an object."""
-        time, then = report[1], track.now[1]
-        track.count += 1
-        if time < then:
-            self.in_order = False
-            track.first = min(track.first, time)
-            return
-        self._share(then, time)
-        if time > then:
-            self._gaps[shortened(time - then)] += 1
-            if track.count <= MEASURED or track.count % EACH == 0:
-                self._measure(track, report)
-            track.before = track.now
-        track.last, track.now = time, report
+    def _follow(self, track: Track, reports: List[Sight]) -> None:
+        """Takes the next reports of an object, by time."""
+        if reports[0][1] < track.now[1]:
+            reports = self._late(track, reports)
+        times = [track.now[1], *map(time_of, reports)]
+        gaps = list(map(operator.sub, times[1:], times))
+        least = min(gaps, default=0)
+        self._gaps.update([gap if gap < FULL else shortened(gap) for gap in gaps])
+        del self._gaps[0]
+        self._share(times, least)
+        way = [track.before, track.now, *reports] if track.before[1] < track.now[1] else [track.now, *reports]
+        known = len(way) - len(reports)
+        if least == 0:
+            # Of reports of one time the last.
+            way = list({report[1]: report for report in way}.values())
+        self._measure(way, known, track.count)
+        track.count += len(reports)
+        track.last, track.now, track.before = times[-1], way[-1], way[-2:][0]
 
-    def _measure(self, track: Track, report: Sight) -> None:
-        """Measures the way to the next report of an object, and how far the one before it is from the line between its neighbours."""
-        count(self._steps, self._distance(track.now, report[2], report[3]))
-        if track.before[1] < track.now[1]:
-            count(self._scatter, self._distance(track.now, *self._between(track.before, report, track.now[1])))
+    def _late(self, track: Track, reports: List[Sight]) -> List[Sight]:
+        """Counts those of some reports that come before the last one of their object, and answers with the others."""
+        late = sum(report[1] < track.now[1] for report in reports)
+        self.in_order = False
+        track.first = min(track.first, reports[0][1])
+        track.count += late
+        return reports[late:]
 
-    def _share(self, one: int, other: int) -> None:
-        """Counts two reports that follow one another by the least tick under which they are in one instant."""
-        place = bisect.bisect(self.ticks, other - one)
-        for tick in self.ticks[place:]:
-            if one // tick == other // tick:
-                self._shared[place] += 1
-                return
-            place += 1
+    def _share(self, times: Collection[int], least: int) -> None:
+        """Counts for each tick the reports that are in one instant with the one before. Each time is at least so much later than the
+        one before."""
+        instants, unit = times, 1
+        for place, tick in enumerate(self.ticks):
+            if tick > least:
+                # Instants are found of those of the tick before, which are fewer than the times.
+                instants, unit = {instant // (tick // unit) for instant in instants}, tick
+                self._shared[place] += len(times) - len(instants)
+
+    def _measure(self, way: Sequence[Sight], known: int, count: int) -> None:
+        """Measures the way to some reports of an object behind those that are known, and how far the one before each is from the line
+        between its neighbours. The object had so many reports before."""
+        for place in range(known, len(way)):
+            nth = count + place - known + 1
+            if nth <= MEASURED or nth % EACH == 0:
+                here, report = way[place - 1], way[place]
+                level(self._steps, self._distance(here, report[2], report[3]))
+                if place > 1:
+                    level(self._scatter, self._distance(here, *self._between(way[place - 2], report, here[1])))
 
     def _between(self, one: Sight, other: Sight, time: int) -> Tuple[float, float]:
         """Where an object is at a time if it goes straight and evenly from one report to another."""
@@ -132,24 +156,19 @@ class Survey:
 
     def lost(self, tick: int) -> int:
         """How many reports are followed by one of the same object and instant; at least so many, where they were not `in_order`."""
-        return sum(self._shared[: self.ticks.index(tick) + 1])
+        return self._shared[self.ticks.index(tick)]
 
     def lives(self, tick: int) -> Iterable[Tuple[int, int, int]]:
         """Of each object how many reports it has, and its first and last instant."""
         return ((track.count, track.first // tick, track.last // tick) for track in self.tracks.values())
 
 
-def time_of(report: Sight) -> int:
-    """The time of a report."""
-    return report[1]
-
-
 def shortened(number: int) -> int:
     """A whole number with its first digits, so that there are few of them."""
-    return number if number < 10**DIGITS else round(number, DIGITS - len(str(number)))
+    return number if number < FULL else round(number, DIGITS - len(str(number)))
 
 
-def count(levels: "Counter[int]", far: float) -> None:
+def level(levels: "Counter[int]", far: float) -> None:
     """Counts a distance by its place on a scale of powers of two."""
     if far >= LEAST:
         levels[round(FINENESS * math.log2(far))] += 1

@@ -49,6 +49,12 @@ def seconds_of(time: Time, form: Optional[str] = None) -> int:
     return 86400 * days + 3600 * hour + 60 * minute + second - (-offset if found.group(7) == "-" else offset)
 
 
+def is_date(time: object) -> bool:
+    """Whether it is a text that has a date and no time of day."""
+    found = ISO_TIME.fullmatch(time.strip()) if isinstance(time, str) else None
+    return found is not None and found.group(4) is None
+
+
 def seconds_of_datetime(time: datetime.datetime) -> int:
     """Seconds since 1970 of a moment; one without an offset is in UTC."""
     passed = (time if time.tzinfo else time.replace(tzinfo=datetime.timezone.utc)) - EPOCH

@@ -3,10 +3,11 @@
 import inspect
 import re
 import shlex
+import warnings
 from typing import Any, Callable, Dict, Iterator, List, NamedTuple, Sequence, Tuple
 
 from .answers import Answers, Cell
-from .errors import ArgumentError
+from .errors import ArgumentError, OutsideWarning
 from .index import Index
 from .questions import Zone, disc, rect, zone
 
@@ -155,12 +156,16 @@ def told(index: Index, words: Sequence[str]) -> Told:
     if not words:
         raise ArgumentError("question", f"there is none: there are {', '.join(ASKED)}")
     arguments = arguments_of(words[0], words[1:])
-    answer = getattr(index, words[0])(**arguments)
+    # What a position warns of is told as notes are.
+    with warnings.catch_warnings(record=True) as warned:
+        warnings.simplefilter("always", OutsideWarning)
+        answer = getattr(index, words[0])(**arguments)
     if words[0] == "info":
         return Told("info", answer._fields, [answer._asdict()])
     if words[0] == "position":
         asked = {"object": index.number(arguments["object"]), "instant": index.instant(arguments["at"])}
-        answer = Answers([answer] if answer else [], Cell, grid=index.grid, asked=asked)
+        notes = [str(warning.message) for warning in warned]
+        answer = Answers([answer] if answer else [], Cell, grid=index.grid, asked=asked, notes=notes)
     return Told(words[0], answer.columns, list(answer.records()), answer.notes)
 
 

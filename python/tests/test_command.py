@@ -72,9 +72,10 @@ class Command(unittest.TestCase):
             {"type": "Feature", "geometry": {"type": "Point", "coordinates": [-89.55, 29.35]}, "properties": row},
         ]})
         self.assertEqual(self.ask(*question)[1].split(), (heading.replace(",", " ") + "278 Katrina 52097 2005-08-29 06:00 -896 293 -89.55 29.35").split())
-        self.assertEqual(self.ask("position", "object=Katrina", "at=0"), (0, "(no rows)\n", ""))
-        self.assertEqual(self.ask("position", "object=Katrina", "at=0", "--format", "json"), (0, "[]\n", ""))
-        self.assertEqual(self.ask("position", "object=Katrina", "at=0", "--format", "csv"), (0, heading, ""))
+        self.assertEqual(self.ask("position", "object=Katrina", "at=52000"), (0, "(no rows)\n", ""))
+        self.assertEqual(self.ask("position", "object=Katrina", "at=52000", "--format", "json"), (0, "[]\n", ""))
+        self.assertIn("there is no row at instant 0", self.ask("position", "object=Katrina", "at=0")[2])
+        self.assertEqual(self.ask("position", "object=Katrina", "at=52000", "--format", "csv"), (0, heading, ""))
 
     def test_answers(self):
         """Each question that can be typed has the answer of its method, in each format."""
@@ -116,7 +117,7 @@ class Command(unittest.TestCase):
         """Without a question they are read from standard input."""
         lines = "position object=Katrina at='2005-08-29 06:00'\n\nposition object=278 at=0\n"
         self.assertEqual(self.ask("--format", "json", stdin=lines)[1].count("\n"), 2)
-        status, out, err = self.ask("--format", "csv", stdin="position object=278 at=0\nposition object=Nobody at=0\ninfo\n")
+        status, out, err = self.ask("--format", "csv", stdin="position object=278 at=52000\nposition object=Nobody at=0\ninfo\n")
         self.assertEqual((status, out.count("\n"), err), (1, 1, "gract: object: no object is called Nobody\n"))
 
     def test_refusals(self):

@@ -14,7 +14,8 @@ from pathlib import Path
 from unittest import mock
 
 import gract
-from gract import days, errors, manifest, parted, shards, zones
+from gract import errors, zones
+from gract.archive import days, manifest, parted, shards
 
 from . import plain
 
@@ -408,11 +409,11 @@ class Errors(unittest.TestCase):
 
     def test_a_lost_worker(self):
         """A shard of which one worker after the other dies is told."""
-        listed = manifest.Manifest(manifest.ByObject(1), 1, 1, 1, {0: manifest.Part("part_0.idx", "", 0, 0)})
+        listed = manifest.Manifest(manifest.ByObject(1), 1, 1, 1, {0: manifest.Part("part_0.idx", "", 0, 0)}).listed(self.folder)
         with mock.patch.dict(sys.modules, {"distributed": Scheduler, "distributed.scheduler": Scheduler}):
-            workers = shards.Workers(Scheduler, self.folder, listed, gract.find_program(), None)
-            with self.refused(gract.WorkerLost, "Is there memory enough?", file=str(self.folder.resolve() / "part_0.idx")):
-                workers.ask({0: [b"info\n"]})
+            workers = shards.Workers(Scheduler, gract.find_program(), None)
+            with self.refused(gract.WorkerLost, "Is there memory enough?", file=str(self.folder / "part_0.idx")):
+                workers.ask(listed, {0: [b"info\n"]})
 
     def test_noise(self):
         """A child that says much on standard error goes on being read."""

@@ -18,7 +18,8 @@ from pathlib import Path
 from unittest import mock
 
 import gract
-from gract import days, questions
+from gract import questions
+from gract.archive import days
 from gract.explorer import asking_by_hand, binary, charts, command, guard, polygons, server, shores, within
 from gract.explorer.explorer import Explorer
 

@@ -10,7 +10,7 @@ import unittest
 from pathlib import Path
 
 import gract
-from gract import days, folders, manifest, parts
+from gract.archive import days, folders, manifest, parts
 
 from . import plain
 from .parted import reply_bytes
@@ -38,8 +38,8 @@ class Folders(unittest.TestCase):
 
     def opened(self):
         """The folder, opened as what its list says."""
-        told = json.loads((self.parts / manifest.LIST).read_text())
-        return days.open(self.parts) if told["by"] == "time" else shards_here(self.parts)
+        is_by_time = '"by": "time"' in (self.parts / manifest.LIST).read_text()
+        return days.open(self.parts) if is_by_time else shards_here(self.parts)
 
     def wanted(self):
         gract.build(ROWS, self.folder / "all.idx")
@@ -49,10 +49,25 @@ class Folders(unittest.TestCase):
     def told(self):
         return json.loads((self.parts / manifest.LIST).read_text())
 
+    def old_text(self):
+        """The list in form 1, which has no sum."""
+        told = self.told()
+        told["form"] = 1
+        for name in ("sum", "replaced"):
+            del told[name]
+        for part in told["parts"].values():
+            for name in set(part) - {"file", "sha256", "first", "last"}:
+                del part[name]
+        return json.dumps(told, indent=1)
+
+    def parts_there(self):
+        """The files of parts in the folder, and those that the list has as parts."""
+        return sorted(file.name for file in self.parts.glob("part_*")), sorted(part["file"] for part in self.told()["parts"].values())
+
     def refused(self, change):
         """What refuses a list that was changed so: when it is read, or when a part is asked."""
         told = self.told()
-        text = change(told) or json.dumps(told)
+        text = change(told) or json.dumps({**told, "sum": manifest.sum_of(told)})
         before = (self.parts / manifest.LIST).read_bytes()
         (self.parts / manifest.LIST).write_text(text)
         with self.assertRaises((gract.ManifestError, gract.PartsError)) as refused:
@@ -82,7 +97,7 @@ class Folders(unittest.TestCase):
 
         common = [twice, exchanged, doubled, of("cell", 2), of("tick", 2), of("period", 60), of("size", 7), of("size", 5), of("size", 0),
                   of("first", 3, "0"), of("last", 7, "1"), of("last", 28, "2"), of("first", 40, "2"), of("sha256", "0" * 64, "1"),
-                  of("cell", True), of("size", 3.0), of("form", 2), of("file", "part_0.idx", "0"), of("parts", {})]
+                  of("cell", True), of("size", 3.0), of("form", 3), of("rows", 0, "0"), of("objects", 8, "0"), of("bytes", 0, "2"), of("file", "part_0.idx", "0"), of("parts", {})]
         for build, others in ((self.by_time, [of("size", 20), of("tick", 3)]), (self.by_object, [of("size", 2), of("size", 6), of("size", 1)])):
             build()
             for nth, change in enumerate([*common, *others]):
@@ -108,7 +123,7 @@ class Folders(unittest.TestCase):
             digest = hashlib.sha256(file.read_bytes()).hexdigest()
 
             def change(told):
-                told["parts"]["0"].update(sha256=digest, file=f"part_0_{digest[:12]}.idx")
+                told["parts"]["0"].update(sha256=digest, file=f"part_0_{digest[:12]}.idx", objects=None, greatest=None)
 
             file.replace(self.parts / f"part_0_{digest[:12]}.idx")
             refusal = self.refused(change)
@@ -119,9 +134,9 @@ class Folders(unittest.TestCase):
     def test_lists_that_are_damaged(self):
         """Answers are those of all rows, or there are none, whatever a digit of the list is made to be."""
         draw, wanted, answered = plain.randomness(5), self.wanted(), 0
-        for build in (self.by_time, self.by_object):
+        for build, form in ((self.by_time, 1), (self.by_object, 1), (self.by_time, 2)):
             build()
-            text = (self.parts / manifest.LIST).read_text()
+            text = self.old_text() if form == 1 else (self.parts / manifest.LIST).read_text()
             places = [place for place, letter in enumerate(text) if letter.isdigit()]
             for _ in range(60):
                 place = draw.choice(places)
@@ -133,12 +148,12 @@ class Folders(unittest.TestCase):
                 except gract.GractError:
                     pass
             shutil.rmtree(self.parts)
-        self.assertLess(answered, 30)
+        self.assertLess(answered, 45)
 
     def test_lists_that_nobody_writes(self):
         """Texts that are no JSON, or that no number and no text holds, are told in words."""
         self.by_time()
-        text = (self.parts / manifest.LIST).read_text()
+        text = self.old_text()
         digits = text.replace('"cell": 1', '"cell": ' + "1" * 5000)
         for told in (
             digits, text.replace('"cell": 1', '"cell": Infinity'), text.replace('"cell": 1', '"cell": NaN'), "[" * 100000 + "]" * 100000,
@@ -170,7 +185,8 @@ class Folders(unittest.TestCase):
         self.by_time(rows=[(1, 31, 0, 0)], replace=True)
         with days.open(self.parts) as asked:
             self.assertEqual(asked.path(1), [(31, 0, 0)])
-        self.assertEqual(len(os.listdir(self.parts)), 2)
+        there, listed = self.parts_there()
+        self.assertEqual((len(there), len(listed)), (4, 1))
 
     def killed(self, step):
         """Builds in a copy of this process, which is killed at a step of it."""
@@ -198,16 +214,17 @@ class Folders(unittest.TestCase):
             self.killed(step)
             self.assertTrue(list(self.parts.glob(f"{folders.WITHIN}*")))
             self.by_time()
-            self.assertEqual(len(os.listdir(self.parts)), 4)
+            self.assertEqual(len(os.listdir(self.parts)), 5)
             self.killed(lambda: step(replace=True))
             with days.open(self.parts) as asked:
                 self.assertEqual(reply_bytes(asked, LINES), self.wanted())
             with self.assertRaises(gract.OverwriteError):
                 self.by_time()
-            self.assertEqual(len(os.listdir(self.parts)), 4)
+            self.assertEqual(len(os.listdir(self.parts)), 5)
             self.killed(lambda: step(replace=True))
             self.by_time(length=30, replace=True)
-            self.assertEqual(len(os.listdir(self.parts)), 2)
+            self.assertEqual(sorted(self.told()["replaced"]), sorted(set(self.parts_there()[0]) - set(self.parts_there()[1])))
+            self.assertEqual(len(os.listdir(self.parts)), 6)
             shutil.rmtree(self.parts)
 
     def test_two_builds(self):
@@ -231,9 +248,9 @@ class Folders(unittest.TestCase):
             thread = threading.Thread(target=first, args=(rows,))
             thread.start()
             begun.wait(60)
-            with self.assertRaises(gract.OverwriteError) as refused:
-                self.by_time()
-            self.assertIn("is being built in", str(refused.exception))
+            with self.assertRaises(gract.BusyError) as refused:
+                self.by_time(wait=0.1)
+            self.assertIn("is being written by another", str(refused.exception))
             done.set()
             thread.join()
             if rows is ROWS:
@@ -242,7 +259,7 @@ class Folders(unittest.TestCase):
                     self.assertEqual(reply_bytes(asked, LINES), self.wanted())
                 shutil.rmtree(self.parts)
         self.assertEqual([type(fault) for fault in faults], [gract.LimitError])
-        self.assertFalse(self.parts.exists())
+        self.assertEqual(os.listdir(self.parts), ["lock"])
         self.by_time()
 
     def test_folders_that_are_none(self):

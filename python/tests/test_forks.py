@@ -11,7 +11,8 @@ import unittest
 from unittest import mock
 
 import gract
-from gract import child, days, processes
+from gract import child, processes
+from gract.archive import days
 
 from . import plain
 from .test_pipe import is_there

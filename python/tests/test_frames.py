@@ -8,6 +8,7 @@ from pathlib import Path
 
 import gract
 from gract import frames, times
+from gract.archive import days
 
 from . import plain
 
@@ -232,6 +233,25 @@ class Frames(Folder):
         frame = self.frame(reports_of(plain.randomness(3)))
         self.assertEqual(gract.propose(frame.set_index("time")), gract.propose(frame))
         self.assertEqual(gract.propose(frame.set_index(["id", "time"])), gract.propose(frame))
+
+    def test_later_rows(self):
+        """A DataFrame of later reports as a tail, and added to an archive: as all reports in one index, with the names that it gives."""
+        reports = reports_of(plain.randomness(5), names=True)
+        first, rest = self.frame(reports[:300]), self.frame([*reports[300:], ("Ship 9", 1654084800 + 9000, 10.5, 54.5)])
+        grid = gract.Grid.metres(55, cell=20, tick=30, unit=1)
+        built = gract.build(first, self.folder / "first.idx", grid=grid)
+        whole = gract.build(self.frame([*reports, ("Ship 9", 1654084800 + 9000, 10.5, 54.5)]), self.folder / "all.idx", grid=grid)
+        days.build(first, self.folder / "parts", length="30 min", grid=grid)
+        self.assertEqual(days.list(self.folder / "parts").columns[:3], ["part", "first", "first_time"])
+        with gract.open(self.folder / "all.idx") as index, gract.open(self.folder / "first.idx") as early:
+            self.assertEqual((len(built.grid.names), len(whole.grid.names)), (7, 8))
+            with early.with_tail(rest) as tailed, days.open(self.folder / "parts", tail=rest) as asked:
+                days.add(rest, self.folder / "parts")
+                with days.open(self.folder / "parts") as grown:
+                    for found in (tailed, asked, grown):
+                        self.assertEqual(found.grid, index.grid)
+                        self.assertEqual(found.interval(), index.interval())
+                        self.assertEqual([found.path(name) for name in whole.grid.names.values()], [index.path(name) for name in whole.grid.names.values()])
 
     def test_exchanged(self):
         """Another frame comes by __dataframe__."""

@@ -1,6 +1,7 @@
 """The package itself: Python 3.9 can read it, it needs the standard library alone, and all that is public is described."""
 
 import ast
+import importlib
 import sys
 import unittest
 
@@ -10,6 +11,12 @@ from . import plain
 
 FILES = sorted((plain.TOP / "python").rglob("*.py"))
 OWN = {"gract", "tests"}
+
+# Whose functions are described and short.
+FOLDERS = {"gract", "archive"}
+
+# What became `gract.archive` keeps its names.
+OLD_NAMES = ["cutting", "days", "folders", "manifest", "parted", "parts", "routes", "shards"]
 
 # What is used only where it is there.
 OPTIONAL = {"pandas", "geopandas", "matplotlib", "pyproj", "readline", "dask", "distributed"}
@@ -35,7 +42,7 @@ class Package(unittest.TestCase):
     def test_described(self):
         kinds = (ast.FunctionDef, ast.ClassDef)
         for file, tree in self.trees():
-            if file.parent.name != "gract":
+            if file.parent.name not in FOLDERS:
                 continue
             self.assertTrue(ast.get_docstring(tree), file.name)
             public = [node for node in tree.body if isinstance(node, kinds)]
@@ -49,10 +56,17 @@ class Package(unittest.TestCase):
         for file, tree in self.trees():
             lines = file.read_text(encoding="utf-8").splitlines()
             self.assertLess(len(lines), 500, file.name)
-            if file.parent.name == "gract":
+            if file.parent.name in FOLDERS:
                 for node in ast.walk(tree):
                     if isinstance(node, ast.FunctionDef):
                         self.assertLessEqual(node.end_lineno - node.lineno + 1, 40, f"{file.name}: {node.name}")
+
+    def test_old_names(self):
+        """A module of `gract.archive` is the one that has its old name, however it is imported."""
+        for name in OLD_NAMES:
+            module = importlib.import_module(f"gract.{name}")
+            self.assertIs(module, importlib.import_module(f"gract.archive.{name}"))
+            self.assertIs(getattr(gract, name), module)
 
     def test_names(self):
         self.assertEqual(sorted(gract.__all__), gract.__all__)

@@ -7,7 +7,7 @@ import unittest
 from pathlib import Path
 
 import gract
-from gract import cutting, days, manifest, parted, parts, shards
+from gract.archive import cutting, days, manifest, parted, parts, shards
 
 from . import plain
 from .parted import Charts, reply_bytes
@@ -18,7 +18,7 @@ CHARTS = 20
 def shards_here(folder, partial=False):
     """Shards without workers."""
     path, listed, program = parted.load(folder, manifest.ByObject, None, None)
-    return shards.Shards(path, listed, days.Here(path, listed, program), program, partial, None)
+    return shards.Shards(path, listed, parted.Here("shards", program), program, partial, None)
 
 
 def build_here(rows, folder, count, **words):
@@ -61,9 +61,9 @@ class Parts(unittest.TestCase):
         days.build(plain.STORMS, self.folder / "parts", length="100 d", period=1461, grid=grid)
         table = plain.storms()
         with days.open(self.folder / "parts") as asked:
-            self.assertGreater(len(asked.manifest.parts), days.MOST_OPEN)
+            self.assertGreater(len(asked.manifest.parts), parted.MOST_OPEN)
             self.assertEqual(asked.interval(), table.interval(table.first, table.last, lambda x, y: True))
-            self.assertLessEqual(len(asked._asker._opener._open), days.MOST_OPEN)
+            self.assertLessEqual(len(asked._asker._opener._open), parted.MOST_OPEN)
             self.assertEqual(asked.path("Katrina"), table.path(278, table.first, table.last))
             self.assertEqual(asked.position("Katrina", "2005-08-29 06:00"), (-896, 293))
             self.assertEqual(asked.nearest(1, 74077, (-802, 258)), [(502, -865, 282, 4545)])
@@ -115,7 +115,7 @@ class Parts(unittest.TestCase):
                 more = 2 if text[0] == "5" else 0
                 where = (str(bad), record + more - (more > 0), line + more, fault, field)
                 self.assertEqual((told.file, told.record, told.line, told.fault, told.field), where)
-        self.assertFalse((self.folder / "parts").exists())
+        self.assertEqual(os.listdir(self.folder / "parts"), ["lock"])
 
     def test_other_refusals(self):
         """What one build refuses, of parts."""
@@ -134,7 +134,7 @@ class Parts(unittest.TestCase):
         for length in ("90 min", "x"):
             with self.assertRaises(gract.ArgumentError):
                 days.build([(1, 0, 0, 0)], self.folder / "parts", length=length, grid=grid)
-        self.assertFalse((self.folder / "parts").exists())
+        self.assertEqual(os.listdir(self.folder / "parts"), ["lock"])
 
     def test_a_folder_that_is_there(self):
         """Parts are built in the place of others, and of nothing else; a build that is refused leaves what was there."""
@@ -147,7 +147,7 @@ class Parts(unittest.TestCase):
             build_here(str(bad), folder, 3, replace=True)
         self.assertEqual(sorted(os.listdir(folder)), before)
         days.build([(item, item, 0, 0) for item in range(9)], folder, length=3, replace=True)
-        self.assertEqual(len(os.listdir(folder)), 4)
+        self.assertEqual([row.part for row in days.list(folder)], [0, 1, 2])
         with self.assertRaises(gract.ArgumentError):
             shards_here(folder)
         (self.folder / "other").mkdir()
@@ -223,7 +223,7 @@ class Parts(unittest.TestCase):
         folder = self.folder / "parts"
         build_here([(1, 0, 0, 0)], folder, 2)
         told = (folder / manifest.LIST).read_text()
-        wrong = [('"form": 1', '"form": 2'), ("object", "colour"), ("sha256", "md5"), ("part_", "../part_"), ('"first": 0', '"first": "x"')]
+        wrong = [('"form": 2', '"form": 3'), ("object", "colour"), ("sha256", "md5"), ("part_", "../part_"), ('"first": 0', '"first": "x"')]
         for text in ("", "[]", '{"form": 1}', *(told.replace(*pair) for pair in wrong)):
             (folder / manifest.LIST).write_text(text)
             with self.assertRaises(gract.ManifestError):

@@ -8,9 +8,10 @@ import threading
 import time
 import unittest
 from pathlib import Path
+from unittest import mock
 
 import gract
-from gract import days, shards
+from gract.archive import days, shards
 
 from . import plain
 from .parted import Charts, reply_bytes
@@ -71,6 +72,41 @@ class Shards(unittest.TestCase):
                 shards.build(chart.sources(), self.folder / "parts", count=3, client=self.client, replace=True, **chart.words)
                 with shards.open(self.folder / "parts", client=self.client) as asked:
                     chart.compared(asked)
+
+    def test_growing(self):
+        """Rows that are added by workers; a reader goes on as before until it is refreshed."""
+        rows = [(item, at, item * at % 50, at) for item in range(30) for at in range(40)]
+        more = [(item, at, item, at) for item in range(25, 35) for at in range(30, 50)]
+        lines = ["interval 0 50 disc 20 20 40", "nearest 9 7 0 0", "position 27 35", "path 33 0 90", "slice 49 rect 0 0 90 90", "meet 3 31 0 50 9"]
+        gract.build([*rows, *more], self.folder / "more.idx")
+        with shards.open(self.built(), client=self.client) as asked:
+            with gract.open(self.folder / "all.idx") as before, gract.open(self.folder / "more.idx") as index:
+                added = shards.add(more, self.folder / "parts", client=self.client)
+                self.assertEqual(added, ([], [0, 1, 2], {}))
+                self.assertEqual(reply_bytes(asked, lines), reply_bytes(before, lines))
+                self.assertTrue(asked.refresh())
+                for _ in range(2):
+                    self.assertEqual(reply_bytes(asked, lines), reply_bytes(index, lines))
+                    self.assertEqual([reply_bytes(asked, [line]) for line in lines], [reply_bytes(index, [line]) for line in lines])
+        self.assertEqual([row.objects for row in shards.list(self.folder / "parts")], [12, 12, 11])
+        self.assertTrue(shards.check(self.folder / "parts").is_whole)
+
+    def test_who_is_asked(self):
+        """A line of one shard is asked here, without the scheduler; of a batch each worker gets one task, and an exchange has 1,024 questions."""
+        with shards.open(self.built(), client=self.client) as asked, gract.open(self.folder / "all.idx") as index:
+            submit, tasks = self.client.submit, []
+            with mock.patch.object(self.client, "submit", lambda *words, **others: tasks.append(words) or submit(*words, **others)):
+                self.assertEqual(asked.position(4, 5), index.position(4, 5))
+                self.assertEqual(asked.path(7), index.path(7))
+                self.assertEqual(tasks, [])
+                lines = [f"slice {at % 40} rect 0 0 50 50" for at in range(2000)]
+                self.assertEqual(list(asked.ask(lines)), list(index.ask(lines)))
+                self.assertEqual([len(words[2][0]) for words in tasks], [1024] * (len(tasks) // 2) + [976] * (len(tasks) // 2))
+                self.assertLessEqual(len(tasks), 2 * 3)
+                tasks.clear()
+                with mock.patch("os.access", lambda *words: False):
+                    self.assertEqual(asked.position(4, 5), index.position(4, 5))
+                self.assertEqual(len(tasks), 1)
 
     def test_storms(self):
         """Names and degrees, questions of several lines, and workers that are begun here and end with what asked them."""

@@ -12,11 +12,11 @@ from pathlib import Path
 from types import TracebackType
 from typing import Any, Callable, List, NamedTuple, Optional, Type, TypeVar, Union
 
-from .. import days
+from ..archive import days
+from ..archive.manifest import LIST
 from ..errors import ChildDied, GractError
 from ..grid import Grid
 from ..index import Index, stamp_of
-from ..manifest import LIST
 
 # How long a question may take, in seconds; how often a request that waits looks whether it was cancelled, and the watch whether one
 # takes too long.

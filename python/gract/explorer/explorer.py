@@ -3,7 +3,7 @@
 from pathlib import Path as File
 from typing import Any, Callable, Dict, List, Optional, Tuple
 
-from ..days import Days
+from ..archive.days import Days
 from ..errors import ArgumentError
 from ..grid import Grid
 from ..planes import Degrees, Metres

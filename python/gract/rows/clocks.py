@@ -1,5 +1,6 @@
 """Times as files write them. What can be meant in two ways is not guessed: it is refused with the option that decides."""
 
+import contextlib
 import datetime
 import re
 from decimal import Decimal
@@ -47,6 +48,19 @@ class Unclear(Exception):
     """Why a text is no time: one of the three causes above."""
 
 
+class Minutes(Dict[str, int]):
+    """The seconds of minutes, as most files write them; some that were met are kept."""
+
+    def has(self, minute: str) -> bool:
+        """Whether there is such a minute, which is then kept."""
+        if minute not in self:
+            if len(self) >= MOST_MINUTES:
+                self.clear()
+            with contextlib.suppress(ValueError):
+                self[minute] = times.seconds_of(minute)
+        return minute in self
+
+
 class Clock:
     """Turns texts into seconds since 1970, and keeps a few that it could not turn."""
 
@@ -59,21 +73,18 @@ class Clock:
         self.clear = self.unclear = 0
         self.strange: List[str] = []
         self.first_unclear: Optional[str] = None
-        # The seconds of minutes that were met, as they are written.
-        self.minutes: Dict[str, int] = {}
+        self.minutes = Minutes()
 
     def seconds(self, text: str) -> int:
         """Raises Unclear with its cause."""
         found = None if self.form else USUAL(text)
-        if found:
-            start = self.minutes.get(found[1])
-            if start is not None:
-                self.clear += 1
-                return start + int(found[2])
-        return self._slowly(text, found[1] if found else None)
+        if found and self.minutes.has(found[1]):
+            self.clear += 1
+            return self.minutes[found[1]] + int(found[2])
+        return self._slowly(text)
 
-    def _slowly(self, text: str, minute: Optional[str]) -> int:
-        """The same of any text; the minute that it begins with, if it does, is kept."""
+    def _slowly(self, text: str) -> int:
+        """The same of any text."""
         text = text.strip()
         if text.lower() in ("", "na", "nan", "nat", "null", "none", "-", "\\n"):
             raise Unclear(MISSING)
@@ -84,10 +95,6 @@ class Clock:
                 self.strange.append(text[:MOST_SIGNS])
             raise Unclear(NOT_KNOWN) from None
         self.clear += 1
-        if minute is not None:
-            if len(self.minutes) >= MOST_MINUTES:
-                self.minutes.clear()
-            self.minutes[minute] = times.seconds_of(minute)
         return seconds
 
     def _seconds(self, text: str) -> int:

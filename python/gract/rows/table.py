@@ -128,11 +128,12 @@ class Table:
             found = plain(line[1])
             if found is not None:
                 name, minute, second, latitude, longitude = found.group(*order)
-                start, number = minutes.get(minute), known.get(name)
-                if start is not None and number is not None:
+                number = known.get(name)
+                if number is not None and (minute in minutes or minutes.has(minute)):
+                    seconds = minutes[minute] + int(second)
                     count += 1
-                    if cuts is None or not cuts.leaves(name, start + int(second), latitude, longitude):
-                        add((start + int(second), number, latitude, longitude))
+                    if cuts is None or not cuts.leaves(name, seconds, latitude, longitude):
+                        add((seconds, number, latitude, longitude))
                     continue
             self.records.waiting.append(line)
             break
