@@ -17,7 +17,7 @@ DIGITS = 3
 FULL = 10**DIGITS
 
 # Distances are measured at the first reports of an object, and then at each so manieth.
-MEASURED, EACH = 32, 8
+MEASURED, EACH = 32, 4
 
 # An object's number, and the time and the place of a report: degrees of longitude and latitude, or units of a plane.
 Sight = Tuple[int, int, float, float]

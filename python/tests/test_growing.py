@@ -21,6 +21,9 @@ from .test_parts import build_here, shards_here
 
 CHARTS = 15
 
+# How long, in seconds, what was begun by one that was killed may go on.
+PATIENCE = 30.0
+
 # Three days of ten instants, and rows of two of them and of one that is new, a part of them in the place of others.
 OLD = [(item, at, item, at) for item in range(9) for at in range(30)]
 NEW = [(item, at, item + 1, at) for item in range(5, 12) for at in range(15, 37)]
@@ -52,9 +55,15 @@ class Archive(unittest.TestCase):
             return reply_bytes(index, LINES)
 
     def is_clean(self, rows=NEW):
-        """That nothing but what is listed is in the folder, once rows were added."""
-        days.add(rows, self.parts)
-        found = days.check(self.parts)
+        """That nothing but what is listed is in the folder, once rows were added. What one that was killed had begun may go on writing for
+        a moment, and is then taken away by the next."""
+        until = time.monotonic() + PATIENCE
+        while True:
+            days.add(rows, self.parts)
+            found = days.check(self.parts)
+            if found.is_whole or time.monotonic() > until:
+                break
+            time.sleep(0.1)
         self.assertTrue(found.is_whole, found.text)
 
 
