@@ -1,0 +1,4 @@
+-- In reading order.
+pub mod Bytes
+pub mod Numbers
+pub mod Answers
