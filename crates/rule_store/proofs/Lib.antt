@@ -6,4 +6,5 @@ pub mod LogLemmas
 pub mod NodeLemmas
 mod PackLemmas
 mod StoredLemmas
+pub mod TableLemmas
 mod Examples

@@ -5,6 +5,7 @@ pub mod Boxes
 pub mod Entry
 pub mod Flaws
 pub mod Stored
+pub mod Table
 pub mod Log
 pub mod Nodes
 pub mod Cost

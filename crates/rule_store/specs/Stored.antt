@@ -34,6 +34,10 @@ pub record AreEntries (view : RulesView) (entries : List PackedEntry) : Type 0 w
   pub each : (symbol : ℕ) (other : PackedEntry) → symbol < length entries →
       IsEntryOf view symbol (get_or entries symbol other)
 
+-- no symbol is deeper than its number
+abbrev pub AreShallow : List PackedEntry → Type 0
+AreShallow entries = (k : ℕ) (other : PackedEntry) → k < length entries → (get_or entries k other).depth ≤ k
+
 -- the lists that are judged
 abbrev pub rules_view : RawRules → RulesView
 rules_view raw = rules_with raw.alphabet.now raw.rules.now raw.symbols.now raw.height raw.period

@@ -7,6 +7,7 @@
 #![tactic(auto)]
 
 mod entry;
+mod entry_table;
 mod fault;
 mod joining;
 mod log_view;
@@ -16,6 +17,7 @@ mod raw_rules;
 mod store;
 
 pub use entry::Entry;
+pub use entry_table::EntryTable;
 pub use fault::RuleFault;
 pub use log_view::LogView;
 pub use store::RuleStore;

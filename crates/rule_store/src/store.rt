@@ -8,6 +8,7 @@ ghost use Rattle.rule_store.specs.Stored.{IsEntryOf, IsReadRule};
 ghost use Rattle.rule_store.specs.Cost.{parts_reads};
 
 use crate::entry::Entry;
+use crate::entry_table::EntryTable;
 use crate::fault::RuleFault;
 use crate::log_view::LogView;
 use crate::packed_entry::PackedEntry;
@@ -81,16 +82,22 @@ impl RuleStore {
             height,
             period,
         };
-        if let Some(index) = raw.find_long() {
+        let mut table = EntryTable::with_room(
+            alloc,
+            height,
+            period,
+            raw.alphabet.len() + raw.rules.len(),
+        )?;
+        if let Some(index) = raw.add_values(&mut table)? {
             return Err(RuleFault::Code { index });
         }
-        let mut entries = raw.terminal_entries(alloc)?;
-        if let Some(rule) = raw.add_rules(&mut entries)? {
+        if let Some(rule) = raw.add_rules(&mut table)? {
             return Err(RuleFault::Rule { rule });
         }
         if let Some(index) = raw.find_unknown() {
             return Err(RuleFault::Symbol { index });
         }
+        let entries = table.into_entries();
         let depth = greatest_depth(entries.as_slice());
         Ok(RuleStore {
             alphabet: CountedList::new(alphabet.into_vec()),

@@ -1,12 +1,15 @@
-use Rattle.std.proofs.Common.{◌≡◌, None, ap, max, subst, sym, ◌∙◌}
+use Rattle.std.proofs.Common.{◌≡◌, None, List, ap, length, max, refl, subst, sym, ◌∙◌}
 use Rattle.std.specs.Prelude.{fold}
 use Rattle.rule_store.specs.declared.packed_entry.PackedEntry.{PackedEntry}
 use Rattle.rule_store.specs.Flaws.{rule_flaw}
-use Rattle.rule_store.specs.Stored.{AreStoredRules}
-use Rattle.rule_store.specs.View.{AreShapedRules, RulesView, rules_with}
+use Rattle.rule_store.specs.Stored.{AreEntries, AreStoredRules}
+use Rattle.rule_store.specs.View.{AreShapedRules, RulesView, rules_with, symbols_in}
 use Rattle.rule_store.proofs.FlawLemmas.{rules_flaw-none}
 use Rattle.rule_store.proofs.StoredLemmas.{depth_in-entries, same_view}
 use Rattle.rule_store.proofs.store.RuleStore.check.Goals as goal
+
+pub add_values-requires-clause-table : goal.add_values-requires-clause-table
+add_values-requires-clause-table c = c.in_ok-table.ensures.entries _ refl refl
 
 pub invariant_of-result : goal.invariant_of-result
 invariant_of-result c =
@@ -18,21 +21,25 @@ invariant_of-result c =
     (c.as_slice-2.ensures ∙ sym c.into_vec-2.ensures ∙ sym c.new-2.ensures)
     (c.as_slice-3.ensures ∙ sym c.into_vec-3.ensures ∙ sym c.new-3.ensures) in
     let none : rule_flaw judged ≡ None = sym c.in_ok-rule.ensures.flaw ∙ c.in_default-2.is in
-    let stored : AreStoredRules judged c.add_rules.new.entries.items c.greatest_depth-depth.result = record {
+    let entries : List PackedEntry = c.into_entries-entries.result.items in
+    let many : length entries ≡ symbols_in judged =
+    ap (λ (xs : List PackedEntry). length xs) c.into_entries-entries.ensures ∙ c.in_ok-rule.ensures.many c.in_default-2.is in
+    let each : AreEntries judged entries =
+    subst (AreEntries judged) (sym c.into_entries-entries.ensures) (c.in_ok-rule.ensures.ok c.in_default-2.is).entries in
+    let stored : AreStoredRules judged entries c.greatest_depth-depth.result = record {
       rules = record {
         shaped = subst AreShapedRules (sym given) c.requires;
         flawless = rules_flaw-none judged (record {
-          codes = sym c.find_long.ensures ∙ c.in_default.is;
+          codes = sym c.in_ok-index.ensures.flaw ∙ c.in_default.is;
           rules = none;
           symbols = sym c.find_unknown.ensures ∙ c.in_default-find_unknown.is;
         });
       };
-      many = c.in_ok-rule.ensures.many c.in_default-2.is;
-      entries_are = c.in_ok-rule.ensures.ok c.in_default-2.is;
+      many = many;
+      entries_are = each;
       depth_is = c.greatest_depth-depth.ensures.value
-          ∙ ap (λ entries. fold (λ deepest (entry : PackedEntry). max deepest entry.depth) 0 entries) c.as_slice-4.ensures.value
-          ∙ depth_in-entries judged c.add_rules.new.entries.items (c.in_ok-rule.ensures.many c.in_default-2.is)
-          (c.in_ok-rule.ensures.ok c.in_default-2.is);
+          ∙ ap (λ all. fold (λ deepest (entry : PackedEntry). max deepest entry.depth) 0 all) c.as_slice-4.ensures.value
+          ∙ depth_in-entries judged entries many each;
       depth_fits = c.greatest_depth-depth.ensures.within;
     } in
-    subst (λ view. AreStoredRules view c.add_rules.new.entries.items c.greatest_depth-depth.result) kept stored
+    subst (λ view. AreStoredRules view entries c.greatest_depth-depth.result) kept stored

@@ -1,0 +1,10 @@
+pub mod LayerLemmas
+pub mod OrderLemmas
+pub mod RankLemmas
+pub mod SettledLemmas
+pub mod PlaceLemmas
+pub mod QueueLemmas
+pub mod StepLemmas
+pub mod ScatterLemmas
+pub mod KeptLemmas
+pub mod Examples

@@ -1,0 +1,10 @@
+-- What a rule store is of, once its rules are settled.
+use Rattle.std.specs.Prelude.{length, map}
+use Rattle.rule_store.specs.View.{RulesView, rules_with}
+use Rattle.rule_order.specs.Order.{new_symbol, settled_rules}
+
+-- the same alphabet, height and period, the rules in order, and the stored symbols by their new numbers
+abbrev pub settled_view : RulesView → RulesView
+settled_view view =
+    rules_with view.alphabet (settled_rules (length view.alphabet) view.rules)
+    (map (new_symbol (length view.alphabet) view.rules) view.symbols) view.height view.period
