@@ -1,5 +1,5 @@
 -- Items one after the other, as a loop reads them.
-use Rattle.std.proofs.Common.{◌≡◌, ℕ, suc, ◌+◌, ◌-◌, ◌<◌, ◌≤◌, true, false, List, [], ◌∷◌, ◌++◌, length, get_or, eqb, ◌⊎◌, inl, inr, Ok, Err, refl, sym, ap, ◌∙◌, arith}
+use Rattle.std.proofs.Common.{◌≡◌, ℕ, suc, ◌+◌, ◌-◌, ◌<◌, ◌≤◌, true, false, List, [], ◌∷◌, ◌++◌, length, get_or, eqb, ◌⊎◌, inl, inr, Result, Ok, Err, refl, sym, ap, ◌∙◌, arith}
 use Rattle.std.specs.Int.{Width, w32}
 use Rattle.std.proofs.lemmas.Bool.{lt-ltb, le-ltb}
 use Rattle.std.proofs.lemmas.Grind.{get_or_default_zero}
@@ -12,16 +12,16 @@ use Rattle.track_types.specs.declared.flaw.Kind.TheVariants.{Short, Order}
 use Rattle.track_types.specs.declared.format_fault.FormatFault.{FormatFault}
 use Rattle.track_types.specs.declared.format_fault.FormatFault.TheVariants as fault
 use Rattle.index_format.specs.Answers.{IsFormatFault}
-use Rattle.index_format.specs.Fields.{Taken, flaw_at, number_at, items_at, short_at, rises, rising_at, rule_at}
+use Rattle.index_format.specs.Fields.{flaw_at, number_at, items_at, short_at, rises, rising_at, rule_at}
 
 -- i of count items were read, and what is left to read gives what the whole does
-pub record IsUnderWay {A : Type 0} (next : List A → List ℕ → Taken A) (count i : ℕ) (seen : List A) (rest bytes : List ℕ) : Type 0 where
+pub record IsUnderWay {A S : Type 0} (next : List A → S → Result (A × S) Flaw) (count i : ℕ) (seen : List A) (rest bytes : S) : Type 0 where
   pub long : length seen ≡ i
   pub read : items_at next (count - i) seen rest ≡ items_at next count [] bytes
 
-module _ {A : Type 0} {next : List A → List ℕ → Taken A} {count i : ℕ} {seen : List A} {rest bytes : List ℕ} (so_far : IsUnderWay next count i seen rest bytes) where
+module _ {A S : Type 0} {next : List A → S → Result (A × S) Flaw} {count i : ℕ} {seen : List A} {rest bytes : S} (so_far : IsUnderWay next count i seen rest bytes) where
   -- one more item was read
-  pub items_at-more : (item : A) (after : List ℕ) (new : List A)
+  pub items_at-more : (item : A) (after : S) (new : List A)
       → i < count → next seen rest ≡ Ok (item, after) → new ≡ seen ++ item ∷ []
       → IsUnderWay next count (i + 1) new after bytes
   unfolding items_at

@@ -11,3 +11,6 @@ mod HeaderLaws
 pub mod PartsLaws
 pub mod LengthLaws
 mod Examples
+mod OutlineLemmas
+pub mod GapLaws
+mod OutlineExamples

@@ -1,5 +1,5 @@
 -- What a function that reads may answer, beside what reading gives.
-use Rattle.std.specs.Prelude.{◌≡◌, Result, Ok, Err}
+use Rattle.std.specs.Prelude.{◌≡◌, Bool, List, Result, Ok, Err}
 use Rattle.track_types.specs.declared.flaw.Flaw.{Flaw}
 use Rattle.track_types.specs.declared.format_fault.FormatFault.{FormatFault}
 use Rattle.track_types.specs.declared.format_fault.FormatFault.TheVariants as fault
@@ -13,3 +13,8 @@ IsFormatFault read fault.Memory = Unit {0}
 abbrev pub Gives : {X Y : Type 0} → (X → Y) → Result X FormatFault → Result Y Flaw → Type 0
 Gives view (Ok x) read = read ≡ Ok (view x)
 Gives view (Err fault) read = IsFormatFault read fault
+
+-- what was answered, seen by view, and the bits that are left are what reading gives, unless memory was refused
+abbrev pub GivesElement : {X Y : Type 0} → (X → Y) → Result X FormatFault → List Bool → Result (Y × List Bool) Flaw → Type 0
+GivesElement view (Ok x) left read = read ≡ Ok (view x, left)
+GivesElement view (Err fault) left read = IsFormatFault read fault

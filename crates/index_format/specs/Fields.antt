@@ -29,11 +29,11 @@ number_at w missing bytes =
     if nat_lt (length bytes) (byte_len w) then Err missing
     else Ok (from_le_bytes w (take (byte_len w) bytes), drop (byte_len w) bytes)
 
--- one item after the other, each read by those before it
-unfoldable pub items_at : {A : Type 0} → (List A → List ℕ → Taken A) → ℕ → List A → List ℕ → Taken (List A)
-items_at next zero seen bytes = Ok (seen, bytes)
-items_at next (suc more) seen bytes = do
-  item ← next seen bytes
+-- one item after the other, each read by those before it from what is left
+unfoldable pub items_at : {A S : Type 0} → (List A → S → Result (A × S) Flaw) → ℕ → List A → S → Result (List A × S) Flaw
+items_at next zero seen rest = Ok (seen, rest)
+items_at next (suc more) seen rest = do
+  item ← next seen rest
   items_at next more (seen ++ item.0 ∷ []) item.1
 
 -- a number of four bytes in a list of a section

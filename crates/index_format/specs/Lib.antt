@@ -4,3 +4,9 @@ pub mod Fields
 pub mod Reading
 pub mod Answers
 pub mod Packing
+pub mod Elements
+pub mod OutlineLists
+pub mod OutlineRules
+pub mod OutlineBlocks
+pub mod OutlineFile
+pub mod IsOutline

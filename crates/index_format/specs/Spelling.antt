@@ -1,9 +1,10 @@
 -- How the parts of an index stand in its bytes: numbers lowest byte first, bits from the lowest of a byte.
-use Rattle.std.specs.Prelude.{ℕ, ℤ, zero, suc, ◌+◌, ◌/◌, nat_lt, Bool, if◌then◌else◌, List, [], ◌∷◌, ◌++◌, length, take, drop}
+use Rattle.std.specs.Prelude.{ℕ, ℤ, ◌+◌, nat_lt, Bool, if◌then◌else◌, List, [], ◌∷◌, ◌++◌, length}
 use Rattle.std.specs.List.{flat_map}
 use Rattle.std.specs.Int.{w32, w64, to_le_bytes, cast_unsigned}
-use Rattle.packed_bits.specs.Bits.{number_of}
 use Rattle.packed_bits.specs.Words.{low_bits}
+unfoldable pub use Rattle.bit_stream.specs.Bytes.{bits_in, bytes_filled, bit_bytes}
+pub use Rattle.bit_stream.specs.Bytes.{bytes_for}
 use Rattle.index_format.specs.declared.header.Header.{Header}
 use Rattle.index_format.specs.declared.header.Sizes.{Sizes}
 use Rattle.track_types.specs.Shape.{symbol_width}
@@ -51,23 +52,6 @@ signed_bytes z = long_bytes (cast_unsigned w64 z)
 -- the two numbers of a rule
 unfoldable pub rule_bytes : ℕ × ℕ → List ℕ
 rule_bytes rule = short_bytes rule.0 ++ short_bytes rule.1
-
--- all bits of the bytes, each byte's lowest first
-unfoldable pub bits_in : List ℕ → List Bool
-bits_in bytes = flat_map (low_bits 8) bytes
-
--- as many bytes of the bits, eight a byte; past the last bit all is 0
-unfoldable pub bytes_filled : ℕ → List Bool → List ℕ
-bytes_filled zero bits = []
-bytes_filled (suc n) bits = number_of (take 8 bits) ∷ bytes_filled n (drop 8 bits)
-
--- how many bytes that many bits take
-abbrev pub bytes_for : ℕ → ℕ
-bytes_for bits = (bits + 7) / 8
-
--- the bytes of a list of bits
-unfoldable pub bit_bytes : List Bool → List ℕ
-bit_bytes bits = bytes_filled (bytes_for (length bits)) bits
 
 -- the bits of numbers of so many bits, each number's lowest first
 unfoldable pub bits_with : ℕ → List ℕ → List Bool

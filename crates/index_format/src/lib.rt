@@ -2,7 +2,7 @@
 //! or names the first flaw by its section, period, index and kind.
 //!
 //! Parts that are shaped have one spelling, and bytes are read if and only if they are the spelling of
-//! shaped parts. The crate stands on track_types, packed_bits and list_laws.
+//! shaped parts. The crate stands on track_types, spiral_code, packed_bits, bit_stream, rule_store and list_laws.
 #![tactic(auto)]
 
 mod decoding;
@@ -12,6 +12,7 @@ mod header;
 mod lengths;
 mod lists;
 mod log;
+mod outline;
 mod packed;
 mod packing;
 mod periods;
@@ -23,4 +24,5 @@ mod width;
 
 pub use decoding::decode;
 pub use encoding::encode;
+pub use outline::{BlockList, Outline, OutlineBlock};
 pub use track_types::FormatFault;

@@ -3,7 +3,8 @@ ghost use Rattle.index_format.specs.Fields.{flaw_at};
 
 use track_types::{Flaw, Kind, Section};
 
-/// A section of one period; the period is 0 outside the sections of periods.
+/// A section of one period. The period is 0 outside the sections of periods: what is read here tells
+/// no flaw of one block's log.
 #[derive(Clone, Copy)]
 pub struct Place {
     pub section: Section,

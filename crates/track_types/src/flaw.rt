@@ -9,7 +9,8 @@ use std::fmt::{self, Display, Formatter, Write};
 pub struct Flaw {
     /// The section in which it is.
     pub section: Section,
-    /// The period, from 0; 0 outside the sections of periods.
+    /// The period, from 0. Outside the sections of periods it is 0, but for `OffGrid`: that has the
+    /// period of its block, though it is in section `Log`.
     pub period: u32,
     /// The element of the section, in its period, from 0. In sections of bits it is a byte. Some
     /// kinds count otherwise, and say how.
@@ -24,7 +25,15 @@ pub enum Section {
     Header,
     Objects,
     Alphabet,
+    /// How many rules each layer of a grammar has.
+    Layers,
     Rules,
+    /// When the first block of each object begins.
+    Starts,
+    /// How far each further block of an object is from the end of the period before.
+    Gaps,
+    /// The cells of the blocks' anchors.
+    Anchors,
     Presence,
     Offsets,
     TreeLen,
@@ -45,6 +54,8 @@ pub enum Kind {
     Magic,
     /// A number is out of its range.
     Field,
+    /// A number has more digits than any of the format.
+    Large,
     /// It is not greater than the one before it.
     Order,
     /// A spare bit is 1.
@@ -86,7 +97,11 @@ impl Section {
             Section::Header => "header",
             Section::Objects => "objects",
             Section::Alphabet => "alphabet",
+            Section::Layers => "layers",
             Section::Rules => "rules",
+            Section::Starts => "starts",
+            Section::Gaps => "gaps",
+            Section::Anchors => "anchors",
             Section::Presence => "presence",
             Section::Offsets => "offsets",
             Section::TreeLen => "treelen",
@@ -109,6 +124,7 @@ impl Kind {
             Kind::Short => "short",
             Kind::Magic => "magic",
             Kind::Field => "field",
+            Kind::Large => "large",
             Kind::Order => "order",
             Kind::Pad => "pad",
             Kind::Extra => "extra",

@@ -1,0 +1,31 @@
+ghost use Rattle.std.specs.Prelude.{◌≡◌, ◌+◌, ◌^◌, ◌≤◌, IfOk};
+ghost use Rattle.index_format.specs.Answers.{GivesElement};
+ghost use Rattle.index_format.specs.Elements.{kind_of_fault, told_at};
+ghost use Rattle.index_format.specs.Fields.{flaw_at};
+
+use crate::place::Place;
+use bit_stream::{BitFault, BitReader};
+use track_types::{FormatFault, Kind};
+
+/// A number that says itself how long it is, as an element of a section.
+#[tactic(auto, unfolding(crate::specs::Elements::told_at))]
+pub fn told(reader: &mut BitReader<'_>, place: Place, index: usize) -> Result<u64, FormatFault>
+    ensures exact { GivesElement (λ number. number) result reader.new
+        (told_at (flaw_at place.section place.period index) reader.old) }
+    ensures within { IfOk result (λ number. number + 2 ≤ 2 ^ 56) }
+{
+    match reader.number() {
+        Ok(number) => Ok(number),
+        Err(fault) => Err(FormatFault::Flaw(place.flaw(index, kind_of(fault)))),
+    }
+}
+
+// What a fault of bits is in an index.
+fn kind_of(fault: BitFault) -> Kind
+    ensures { result ≡ kind_of_fault fault }
+{
+    match fault {
+        BitFault::Short => Kind::Short,
+        BitFault::Large => Kind::Large,
+    }
+}
