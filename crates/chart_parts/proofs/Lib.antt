@@ -26,6 +26,7 @@ pub mod PeriodBlockLemmas
 pub mod BlockStopLemmas
 pub mod ValidLemmas
 pub mod BytesLemmas
+mod CutLemmas
 mod Examples
 pub mod HeaderLemmas
 pub mod ObjectListLemmas

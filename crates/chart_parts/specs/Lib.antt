@@ -3,3 +3,4 @@ pub mod Header
 pub mod LeafOrder
 pub mod PartsOf
 pub mod PeriodWith
+pub mod Cut

@@ -1,9 +1,10 @@
 ghost use Rattle.std.specs.Prelude.{◌≡◌, ◌<◌, length, IfOk};
 ghost use Rattle.std.specs.List.{flat_map};
-ghost use Rattle.track_types.specs.Chart.{IsChart};
+ghost use Rattle.track_types.specs.Chart.{ChartView};
 ghost use Rattle.track_types.specs.declared.limit.TheConstants.{MAX_INDEX};
 ghost use Rattle.snapshots.specs.Parts.{chart_in};
 ghost use Rattle.snapshots.specs.SoundParts.{IsValid};
+ghost use Rattle.chart_parts.specs.Cut.{IsCut, IsCutOf, AreLogs, AreLogsOf};
 ghost use Rattle.chart_parts.specs.PartsOf.{parts_of};
 ghost use Rattle.chart_parts.specs.PeriodWith.{chart_blocks};
 ghost use Rattle.index_format.specs.Spelling.{bytes_of_parts};
@@ -14,7 +15,7 @@ use crate::periods::periods_of;
 use movement_log::{HeadList, RawLogs, cut};
 use repair_grammar::{Grammar, compress};
 use std::alloc::{AllocError, Global};
-use track_types::{Chart, List32, List64, Lists32, Memory, PairList, Parts, PeriodList};
+use track_types::{Chart, Frame, List32, List64, Lists32, Memory, PairList, Parts, PeriodList};
 
 /// The parts that a chart is written as: header, objects, alphabet, Re-Pair's rules over the logs of all
 /// blocks, the parts of each period, and the logs that the rules leave.
@@ -30,14 +31,59 @@ pub fn parts_of(alloc: Global, chart: &Chart) -> Result<Parts, Memory>
     ensures reads_back { IfOk result (λ parts. chart_in parts ≡ chart.now) }
     ensures short { IfOk result (λ parts. length (bytes_of_parts parts) < MAX_INDEX) }
 {
-    let frame = frame_of(chart);
-    let objects = objects_of(alloc, chart.rows())?;
+    let cut = cut_chart(alloc, chart)?;
+    parts_of_cut(alloc, cut)
+}
+
+/// The parts that a chart is written as, as `parts_of` gives them. The chart is let go once it is cut into
+/// blocks, so that its rows take no memory while there are rules to be made.
+pub fn into_parts(alloc: Global, chart: Chart) -> Result<Parts, Memory>
+    ensures ok { IfOk result (λ parts. parts ≡ parts_of chart) }
+    ensures valid { IfOk result (λ parts. IsValid parts) }
+    ensures reads_back { IfOk result (λ parts. chart_in parts ≡ chart) }
+    ensures short { IfOk result (λ parts. length (bytes_of_parts parts) < MAX_INDEX) }
+{
+    let cut = cut_chart(alloc, &chart)?;
+    drop(chart);
+    parts_of_cut(alloc, cut)
+}
+
+// All that is written of a chart, before there are rules.
+#[derive(Drop)]
+pub(crate) struct CutChart {
+    pub(crate) frame: Frame,
+    pub(crate) objects: Vec<u32>,
+    pub(crate) logs: RawLogs,
+}
+
+// Takes from a chart what is written of it.
+fn cut_chart(alloc: Global, chart: &Chart) -> Result<CutChart, Memory>
+    ensures { IfOk result (λ cut. IsCutOf chart.now cut) }
+{
+    Ok(CutChart {
+        frame: frame_of(chart),
+        objects: objects_of(alloc, chart.rows())?,
+        logs: cut(alloc, chart)?,
+    })
+}
+
+// The parts of what was cut from a chart.
+fn parts_of_cut(alloc: Global, chart: CutChart) -> Result<Parts, Memory>
+    requires { IsCut chart }
+    ensures { (whole : ChartView) → IsCutOf whole chart
+        → IfOk result (λ parts. parts ≡ parts_of whole) }
+{
+    let CutChart {
+        frame,
+        objects,
+        logs,
+    } = chart;
     let Blocks {
         alphabet,
         heads,
         rules,
         logs,
-    } = blocks_of(alloc, chart)?;
+    } = blocks_of(alloc, logs)?;
     let count = objects.len() as u32;
     let periods = periods_of(alloc, frame, count, heads.as_slice(), logs.as_slice())?;
     let symbols = joined(alloc, logs.as_slice())?;
@@ -60,16 +106,17 @@ pub(crate) struct Blocks {
     pub(crate) logs: Lists32,
 }
 
-// The blocks of a chart. The terminals are let go when the rules are made.
-fn blocks_of(alloc: Global, chart: &Chart) -> Result<Blocks, Memory>
-    requires { IsChart chart.now }
-    ensures ok { IfOk result (λ blocks. blocks ≡ chart_blocks chart.now) }
+// The blocks with these raw logs. The terminals are let go when the rules are made.
+fn blocks_of(alloc: Global, raw: RawLogs) -> Result<Blocks, Memory>
+    requires { AreLogs raw }
+    ensures { (chart : ChartView) → AreLogsOf chart raw
+        → IfOk result (λ blocks. blocks ≡ chart_blocks chart) }
 {
     let RawLogs {
         alphabet,
         heads,
         terminals,
-    } = cut(alloc, chart)?;
+    } = raw;
     let size = alphabet.as_slice().len() as u32;
     let Grammar { rules, blocks } = compress(alloc, size, &terminals)?;
     Ok(Blocks {

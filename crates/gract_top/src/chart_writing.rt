@@ -3,18 +3,17 @@ ghost use Rattle.chart_parts.specs.PartsOf.{parts_of};
 ghost use Rattle.track_types.specs.declared.limit.TheConstants.{MAX_INDEX};
 ghost use Rattle.track_index.specs.Opening.{IsFile};
 
-use chart_parts::parts_of;
+use chart_parts::into_parts;
 use index_format::encode;
 use std::alloc::Global;
 use track_types::{Chart, Memory};
 
-// The bytes of the index file of a chart, which is let go once there are parts.
+// The bytes of the index file of a chart, which is let go before there are rules.
 pub(crate) fn index_bytes(alloc: Global, chart: Chart) -> Result<Vec<u8>, Memory>
     ensures file { IfOk result (λ bytes. IsFile bytes.items (parts_of chart)) }
     ensures short { IfOk result (λ bytes. length bytes.items < MAX_INDEX) }
 {
-    let parts = parts_of(alloc, &chart)?;
-    drop(chart);
+    let parts = into_parts(alloc, chart)?;
     let bytes = encode(alloc, &parts)?;
     Ok(bytes)
 }

@@ -1,5 +1,5 @@
 -- An alphabet: the place of a value in it, and that sorted values, each kept once, are the alphabet.
-use Rattle.std.proofs.Common.{◌≡◌, ◌≢◌, ℕ, suc, ◌+◌, ◌<◌, ◌≤◌, true, List, [], ◌∷◌, length, get_or, arith, ◌∙◌, ap, eq-eqb, ne_eqb, inl, inr, eqb, zero-add, subst}
+use Rattle.std.proofs.Common.{◌≡◌, ◌≢◌, ℕ, suc, ◌+◌, ◌<◌, ◌≤◌, true, List, [], ◌∷◌, ◌++◌, length, get_or, arith, ◌∙◌, ap, sym, eq-eqb, ne_eqb, inl, inr, eqb, zero-add, subst}
 use Rattle.std.specs.Prelude.{fold, max, ◌==◌}
 use Rattle.std.specs.List.{Contains, dedup, dedup_from, list_any, range_with_len}
 use Rattle.std.specs.List.Sorted.{IsPermutation, IsSorted, IsStrictlyIncreasing}
@@ -8,6 +8,7 @@ use Rattle.std.proofs.lemmas.Bool.Decides.{nat_tests}
 use Rattle.std.proofs.lemmas.Bool.{cases_lt, eqb-true}
 use Rattle.std.proofs.lemmas.Cmp.{nat_cmp_total}
 use Rattle.std.proofs.lemmas.List.{get_or_default}
+use Rattle.std.proofs.lemmas.List.Elements.{Contains-append_cases, Contains-append_left, Contains-append_right}
 use Rattle.std.proofs.lemmas.List.Folds.{Any-from_list_any, list_any_at}
 use Rattle.std.proofs.lemmas.List.FromFn.{get_or-range_with_len, length-range_with_len}
 use Rattle.std.proofs.lemmas.List.Kept.{Contains-dedup_nat, Contains-from_dedup}
@@ -128,3 +129,32 @@ length-ascending_of values =
     let moved : IsPermutation values sorted = IsPermutation-ordered nat_cmp values in
     let is = ascending_of-dedup values sorted moved (IsSortedBy-ordered nat_cmp nat_cmp_total values) in
     omega (arith, ap length is, length-dedup sorted, length_permutation values sorted moved)
+
+-- lists with the same members have one alphabet
+pub ascending_of-same : (xs ys : List ℕ) → ((n : ℕ) → Contains xs n → Contains ys n) → ((n : ℕ) → Contains ys n → Contains xs n)
+    → ascending_of xs ≡ ascending_of ys
+ascending_of-same xs ys into back =
+    same_from_members nat_cmp_total (ascending_of xs) (ascending_of ys)
+    (sorted_from_strictly_increasing (ascending_of xs) (IsStrictlyIncreasing-ascending_of xs))
+    (sorted_from_strictly_increasing (ascending_of ys) (IsStrictlyIncreasing-ascending_of ys))
+    (λ n inside. Contains-ascending_of ys n (into n (member_of_ascending_of xs n inside)))
+    (λ n inside. Contains-ascending_of xs n (back n (member_of_ascending_of ys n inside)))
+
+-- an alphabet's alphabet is itself
+pub ascending_of-twice : (xs : List ℕ) → ascending_of (ascending_of xs) ≡ ascending_of xs
+ascending_of-twice xs = ascending_of-same (ascending_of xs) xs (member_of_ascending_of xs) (Contains-ascending_of xs)
+
+-- members after those of one alphabet
+more_members : (xs ys more : List ℕ) → ascending_of xs ≡ ascending_of ys → (n : ℕ) → Contains (xs ++ more) n
+    → Contains (ys ++ more) n
+more_members xs ys more same n inside = elim (Contains-append_cases xs more n inside) [
+  | inl old ↦ Contains-append_left ys more n
+      (member_of_ascending_of ys n (subst (λ all. Contains all n) same (Contains-ascending_of xs n old)))
+  | inr new ↦ Contains-append_right ys more n new
+]
+
+-- what comes after lists of one alphabet leaves them so
+pub ascending_of-after : (xs ys more : List ℕ) → ascending_of xs ≡ ascending_of ys
+    → ascending_of (xs ++ more) ≡ ascending_of (ys ++ more)
+ascending_of-after xs ys more same =
+    ascending_of-same (xs ++ more) (ys ++ more) (more_members xs ys more same) (more_members ys xs more (sym same))

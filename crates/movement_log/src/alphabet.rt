@@ -6,27 +6,36 @@ ghost use Rattle.movement_log.specs.Logs.{ascending_of, terminal_of};
 use std::alloc::{AllocError, Global};
 use track_types::{List32, List64};
 
-/// The values that logs use, ascending.
+// So many values stand beside each other at least before the ones that come again are let go.
+const LEAST_ROOM: usize = 1 << 16;
+
+/// The values that logs use, ascending. It takes time for one sort of all values, and memory for twice
+/// the different ones and one log.
 pub(crate) fn alphabet_of(alloc: Global, logs: &[List64]) -> Result<Vec<u64>, AllocError>
     ensures ok { IfOk result (λ alphabet. alphabet.items ≡ ascending_of (flat_map (λ values. values) logs.now)) }
     ensures few { IfOk result (λ alphabet. length alphabet.items ≤ sum_by length logs.now) }
     ensures ascending { IfOk result (λ alphabet. IsStrictlyIncreasing alphabet.items) }
 {
-    let mut alphabet = joined(alloc, logs)?;
-    alphabet.sort_unstable();
-    alphabet.dedup();
-    Ok(alphabet)
-}
-
-// The values of all logs, one log after the other.
-fn joined(alloc: Global, logs: &[List64]) -> Result<Vec<u64>, AllocError>
-    ensures { IfOk result (λ values. values.items ≡ flat_map (λ values. values) logs.now) }
-{
     let mut values = Vec::new(alloc);
+    let mut room = LEAST_ROOM;
     for log in logs {
         values.extend_from_slice(log.as_slice())?;
+        if values.len() >= room {
+            keep_each_once(&mut values);
+            // As many must come again before the next time, so all of these times take no longer than one.
+            room = values.len().saturating_mul(2).max(LEAST_ROOM);
+        }
     }
+    keep_each_once(&mut values);
     Ok(values)
+}
+
+// Brings values into ascending order, each once.
+fn keep_each_once(values: &mut Vec<u64>)
+    ensures { values.new.items ≡ ascending_of values.old.items }
+{
+    values.sort_unstable();
+    values.dedup();
 }
 
 /// The logs with each value's place in an alphabet.

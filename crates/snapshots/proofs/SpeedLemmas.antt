@@ -1,7 +1,10 @@
 -- The greatest speed so far: of a log's symbols, and of a period's blocks.
-use Rattle.std.proofs.Common.{◌≡◌, ℕ, ◌+◌, ◌≤◌, List, [], ◌++◌, length, map, max, take, All, Some, None, ap, sym, ◌∙◌}
+use Rattle.std.proofs.Common.{◌≡◌, ℕ, ◌+◌, ◌*◌, ◌<◌, ◌≤◌, arith, List, [], ◌++◌, length, map, max, take, All, Some, None, ap, sym, ◌∙◌}
 use Rattle.std.specs.Prelude.{fold, slice_index}
+use Rattle.std.specs.Int.{div_ceil}
 use Rattle.std.specs.List.{cons_option, filter_map, range_with_len}
+use Rattle.std.proofs.Math.Nat.{lt_of_lt_of_le, lt_of_mul-lt-mul_right}
+use Rattle.std.proofs.lemmas.Grind.{div_ceil_times}
 use Rattle.std.proofs.lemmas.List.{append-nil}
 use Rattle.list_laws.proofs.GreatestLemmas.{fold_max-each, fold_max-more}
 use Rattle.list_laws.proofs.RangeLemmas.{filter_map-range_more, range-more}
@@ -13,6 +16,13 @@ use Rattle.snapshots.specs.View.{SnapshotView, all_blocks, block_of}
 use Rattle.snapshots.specs.JoinFlaws.{cell_before, duration_of_log}
 use Rattle.snapshots.specs.Speed.{block_speed, blocks_speed, hull_speed, log_speed, symbol_speed}
 use Rattle.snapshots.specs.declared.anchored.Anchored.{Anchored}
+
+-- a way that is longer than a speed makes it in so many instants raises the speed
+pub is_raised : (speed far n : ℕ) → 0 < n → speed * n < far → max speed (div_ceil far n) ≡ div_ceil far n
+is_raised speed far n some long =
+    let above : speed * n < div_ceil far n * n = lt_of_lt_of_le long (div_ceil_times far n some).0 in
+    let least : speed < div_ceil far n = lt_of_mul-lt-mul_right n above in
+    omega (arith, least)
 
 module _ (rules : RulesView) (start : Cell) (log : List ℕ) where
   -- the greatest speed of a log's first symbols

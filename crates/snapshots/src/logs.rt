@@ -170,7 +170,7 @@ fn read_log<L: Ledger>(
         if passes_grid(frame, cell, &entry.hull) {
             return Err(place);
         }
-        speed = speed.max(hull_speed(block.cell, cell, duration, &entry.hull));
+        speed = raised(speed, block.cell, cell, duration, &entry.hull);
         area = with_hull(area, cell, &entry.hull);
         cell = Cell {
             x: cell.x + entry.dx,
@@ -185,21 +185,26 @@ fn read_log<L: Ledger>(
     })
 }
 
-// The speed at which an object gets from a cell to the farthest cell of a box, which is moved to another
-// cell, where it does so no sooner than so many instants and one more are over. Where there is no box,
-// it is 0.
-fn hull_speed(from: Cell, cell: Cell, before: u64, hull: &Option<CellBox>) -> u64
+// The greater of a speed and the one at which an object gets from a cell to the farthest cell of a box,
+// which is moved to another cell, where it does so no sooner than so many instants and one more are over.
+// Where there is no box, that one is 0.
+fn raised(speed: u64, from: Cell, cell: Cell, before: u64, hull: &Option<CellBox>) -> u64
     requires from { IsCellWithin from }
     requires column { IsReachable cell.x }
     requires line { IsReachable cell.y }
     requires before { before < 2 ^ 60 }
     requires hull { IfSome hull.now IsBoxWithin }
-    ensures { result ≡ hull_speed from cell before hull.now }
+    ensures { result ≡ max speed (hull_speed from cell before hull.now) }
 {
-    match hull {
-        Some(hull) => far_of(from, cell, hull).div_ceil(before + 1),
-        None => 0,
+    let Some(hull) = hull else {
+        return speed;
+    };
+    let far = far_of(from, cell, hull);
+    // A division takes longer than all else here, so it is made only where the speed rises.
+    if far <= speed.saturating_mul(before + 1) {
+        return speed;
     }
+    far.div_ceil(before + 1)
 }
 
 // How far a cell is from the farthest cell of a box, which is moved to another cell: by columns or by

@@ -198,7 +198,7 @@ impl Stores {
     }
 
     /// What is kept of the blocks of a period, which is one of the header's, in leaf order, for
-    /// searches that go another way over them than `tracks`. `None` if and only if it has no block.
+    /// searches that go another way over them than `tracks`. `None` only where it has no block.
     pub fn kept(&self, period: u32) -> Option<&TrackTree>
         requires { period < periods_of self.now.frame }
         ensures none { IfNone result (blocks_by_leaf (snapshot_in self.now period) ≡ []) }

@@ -1,6 +1,7 @@
 use Rattle.std.proofs.Common.{◌≡◌, ℕ, ℤ, List, ◌+ℤ◌, length, arith, refl, subst, sym, ◌∙◌, to_z, of_z, w64}
 use Rattle.std.proofs.lemmas.Int.{ints}
 use Rattle.snapshots.specs.Parts.{block_log}
+use Rattle.snapshots.specs.Speed.{hull_speed}
 use Rattle.snapshots.proofs.LogsLemmas.{entry-at, length-block_log, off_grid-found, off_grid-none, reading-more}
 use Rattle.snapshots.proofs.LogsLemmas.{reading-none, IsReading}
 use Rattle.snapshots.proofs.SpeedLemmas.{speed-here, speed_before-all, speed_before-more}
@@ -45,10 +46,12 @@ loop-place-preserved g c =
           place.invariant.reading
           (omega (arith, c.loop-place-test.true, length-block_log c.args.rules.now block c.requires.log)) entry its x y c.from-duration.result (sym c.if-passes_grid.false ∙ c.passes_grid.ensures) c.entry-entry.ensures.reach
           (omega (arith, ints)) (omega (arith, ints)) c.from-duration.ensures;
-      fastest = speed_before-more c.args.rules.now block.cell log place.place place.speed c.hull_speed.result
-          c.max-speed.result c.max-speed.ensures place.invariant.fastest
-          (speed-here c.args.rules.now block.cell log place.place place.cell place.duration entry c.hull_speed.result
-          c.hull_speed.ensures place.invariant.reading.stands place.invariant.reading.lasted its);
+      fastest = speed_before-more c.args.rules.now block.cell log place.place place.speed
+          (hull_speed block.cell place.cell place.duration entry.hull) c.raised-speed.result c.raised-speed.ensures
+          place.invariant.fastest
+          (speed-here c.args.rules.now block.cell log place.place place.cell place.duration entry
+          (hull_speed block.cell place.cell place.duration entry.hull) refl place.invariant.reading.stands
+          place.invariant.reading.lasted its);
       boxed = box_before-more c.args.rules.now block.cell log place.place place.cell entry place.area
           c.with_hull-area.result
           c.with_hull-area.ensures place.invariant.boxed place.invariant.reading.stands its;
