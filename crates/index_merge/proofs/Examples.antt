@@ -6,7 +6,10 @@ use Rattle.track_types.specs.declared.frame.Frame.{Frame}
 use Rattle.track_types.specs.declared.row.Row.{Row}
 use Rattle.track_types.specs.declared.setting.Setting.TheVariants as setting
 use Rattle.index_merge.specs.MergeFault.{common_fault, settings_fault}
+use Rattle.track_types.specs.declared.stop.Stop.{Stop}
+use Rattle.path_union.specs.Reads.{first_beyond, up_to}
 use Rattle.path_union.specs.Union.{rows_of_both}
+use Rattle.index_merge.specs.Cost.{first_past, shares_cost}
 use Rattle.index_merge.specs.Union.{extension_of, union_of}
 use Rattle.index_merge.specs.declared.fault.MergeFault.TheVariants as fault
 
@@ -53,6 +56,10 @@ tick_differs = refl
 none_differs : settings_fault (header 1 60 4) (header 1 60 4) ≡ None
 none_differs = refl
 
+-- a stop of an instant
+abbrev stop : ℕ → Stop
+stop instant = record { instant = pos instant; cell = record { x = pos 0; y = pos 0 } }
+
 -- the least of two objects that are in both
 least_common : common_fault (1 ∷ 3 ∷ 5 ∷ 9 ∷ []) (2 ∷ 3 ∷ 9 ∷ []) ≡ Some (fault.Common 3)
 least_common = refl
@@ -72,3 +79,34 @@ extension_of_some : extension_of some (row 7 (negsuc 0) (pos 9) (pos 9) ∷ row 
     }
 unfolding rows_of_both ordered insert_in_order row
 extension_of_some = refl
+
+-- three paths of ten reads each, and three up to any stop: until a row of object 8 is passed those of 7 and three of 8
+shares_to_eight : shares_cost (λ object. 10) (λ object instant. 3) (7 ∷ 8 ∷ 9 ∷ []) (row 8 (pos 5) (pos 0) (pos 0)) ≡ 13
+unfolding shares_cost row
+shares_to_eight = refl
+
+-- where no path is of the row's object those before it
+shares_to_six : shares_cost (λ object. 10) (λ object instant. 3) (5 ∷ 7 ∷ 9 ∷ []) (row 6 (pos 5) (pos 0) (pos 0)) ≡ 10
+unfolding shares_cost row
+shares_to_six = refl
+
+-- of the union of both charts row 3 is one too many where two may be: it is of object 8
+third_of_both : first_beyond 2 (union_of some other).rows ≡ Some (row 8 (negsuc 0) (pos 5) (pos 4))
+unfolding rows_of_both ordered insert_in_order row
+third_of_both = refl
+
+-- so the paths of the first chart's objects are read until it, and where four may be as a whole
+reads_to_third : up_to (shares_cost (λ object. 10) (λ object instant. 3) (7 ∷ 9 ∷ [])) 20 (first_beyond 2 (union_of some other).rows) ≡ 10
+unfolding shares_cost rows_of_both ordered insert_in_order row
+reads_to_third = refl
+
+reads_of_four : up_to (shares_cost (λ object. 10) (λ object instant. 3) (7 ∷ 9 ∷ [])) 20 (first_beyond 4 (union_of some other).rows) ≡ 20
+unfolding shares_cost rows_of_both ordered insert_in_order row
+reads_of_four = refl
+
+-- the first stop at 3 or after it
+past_three : first_past (pos 3) (stop 1 ∷ stop 4 ∷ stop 6 ∷ []) ≡ Some (stop 4)
+past_three = refl
+
+none_past_seven : first_past (pos 7) (stop 1 ∷ stop 4 ∷ stop 6 ∷ []) ≡ None
+none_past_seven = refl

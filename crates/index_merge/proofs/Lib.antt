@@ -1,3 +1,4 @@
+mod ReadsLemmas
 mod RowsLemmas
 mod PathLemmas
 mod UnionLemmas

@@ -139,3 +139,9 @@ object-least_at parts seen its valid place object is =
 pub ok-into : {T E : Type 0} (answer : Result T E) (P Q : T → Type 0) → ((found : T) → P found → Q found) → IfOk answer P → IfOk answer Q
 ok-into (Ok found) P Q into holds = into found holds
 ok-into (Err fault) P Q into holds = tt
+
+-- so of three facts
+pub ok-into_all : {T E : Type 0} (answer : Result T E) (P Q R S : T → Type 0) → ((found : T) → P found → Q found → R found → S found)
+    → IfOk answer P → IfOk answer Q → IfOk answer R → IfOk answer S
+ok-into_all (Ok found) P Q R S into one two three = into found one two three
+ok-into_all (Err fault) P Q R S into one two three = tt

@@ -1,9 +1,17 @@
--- How many reads it takes at most to merge two indexes.
-use Rattle.std.specs.Prelude.{ℕ, ◌+◌}
+-- How many reads it takes at most to draw the paths of an index, as far as they are drawn, and to merge two indexes.
+use Rattle.std.specs.Prelude.{ℕ, ◌+◌, ◌==◌, nat_lt, if◌then◌else◌, ℤ, List, find, Option}
+use Rattle.std.specs.Int.Signed.{le_z}
 use Rattle.std.specs.List.{sum_by}
+use Rattle.track_types.specs.ByFilter.{path_of}
+use Rattle.track_types.specs.Limits.{limit_of}
+use Rattle.track_types.specs.declared.limit.LimitKind.TheVariants.{Rows}
 use Rattle.track_types.specs.declared.parts.Parts.{Parts}
+use Rattle.track_types.specs.declared.row.Row.{Row}
+use Rattle.track_types.specs.declared.stop.Stop.{Stop}
 use Rattle.snapshots.specs.IndexCost.{path_cost}
-use Rattle.snapshots.specs.Parts.{last_in}
+use Rattle.snapshots.specs.Parts.{chart_in, last_in}
+use Rattle.path_union.specs.Reads.{first_beyond, up_to}
+use Rattle.path_union.specs.Union.{rows_of_both}
 
 -- the path of an object from the first instant of an index to the last
 abbrev pub whole_path_cost : Parts → ℕ → ℕ
@@ -13,6 +21,40 @@ whole_path_cost parts object = path_cost parts object parts.frame.first (last_in
 unfoldable pub paths_cost : Parts → ℕ
 paths_cost parts = sum_by (whole_path_cost parts) parts.objects
 
--- those of both indexes
-abbrev pub union_cost : Parts → Parts → ℕ
-union_cost left right = paths_cost left + paths_cost right
+-- the first of stops that is at an instant or after it, if there is one
+abbrev pub first_past : ℤ → List Stop → Option Stop
+first_past instant stops = find (λ stop. le_z instant stop.instant) stops
+
+-- the path of an object up to its first stop at an instant or after it, or as a whole where there is none
+abbrev pub path_cost_past : Parts → ℕ → ℤ → ℕ
+path_cost_past parts object instant =
+    up_to (λ (stop : Stop). path_cost parts object parts.frame.first stop.instant) (whole_path_cost parts object)
+    (first_past instant (path_of (chart_in parts).rows object parts.frame.first (last_in parts.frame)))
+
+-- of the path of an object, until a row is passed: all of it where the row is of a later object, as much as there is up to
+-- the row's instant where it is of this one, and nothing else
+abbrev pub cost_share : (ℕ → ℕ) → (ℕ → ℤ → ℕ) → Row → ℕ → ℕ
+cost_share whole past row object = if nat_lt object row.object then whole object else
+    if object == row.object then past object row.instant else 0
+
+-- the paths of objects until a row is passed
+unfoldable pub shares_cost : (ℕ → ℕ) → (ℕ → ℤ → ℕ) → List ℕ → Row → ℕ
+shares_cost whole past objects row = sum_by (cost_share whole past row) objects
+
+-- the paths of all objects that are listed until a row is passed
+abbrev pub paths_cost_past : Parts → Row → ℕ
+paths_cost_past parts row = shares_cost (whole_path_cost parts) (path_cost_past parts) parts.objects row
+
+-- the paths of an index where rows are drawn that have some of its own among them: all, or where these are more than so
+-- many until the first that is one too many is passed
+abbrev pub drawing_cost_within : ℕ → List Row → Parts → ℕ
+drawing_cost_within limit rows parts = up_to (paths_cost_past parts) (paths_cost parts) (first_beyond limit rows)
+
+-- so for a chart, of which the rows are at most 2^24
+unfoldable pub drawing_cost : List Row → Parts → ℕ
+drawing_cost rows parts = drawing_cost_within (limit_of Rows) rows parts
+
+-- those of two indexes where their union is drawn
+unfoldable pub union_cost : Parts → Parts → ℕ
+union_cost left right = drawing_cost (rows_of_both (chart_in left).rows (chart_in right).rows) left
+    + drawing_cost (rows_of_both (chart_in left).rows (chart_in right).rows) right

@@ -8,7 +8,7 @@ use Rattle.gridding.specs.declared.fault.GridFault.{GridFault}
 use Rattle.snapshots.specs.Parts.{chart_in}
 use Rattle.path_union.specs.Fault.{rows_fault}
 use Rattle.path_union.specs.Union.{rows_of_both}
-use Rattle.index_merge.specs.Cost.{paths_cost}
+use Rattle.index_merge.specs.Cost.{drawing_cost}
 pub use Rattle.index_merge.specs.Union.{extension_of}
 
 -- the first cause for which an index and later rows have no chart
@@ -16,8 +16,8 @@ abbrev pub extension_fault : Parts → List Row → Option GridFault
 extension_fault parts later = rows_fault (rows_of_both (chart_in parts).rows later) parts.frame.period
 
 -- how many reads it takes at most to make that chart: the later rows are at hand
-abbrev pub extension_cost : Parts → List Row → ℕ
-extension_cost parts later = paths_cost parts
+unfoldable pub extension_cost : Parts → List Row → ℕ
+extension_cost parts later = drawing_cost (rows_of_both (chart_in parts).rows later) parts
 
 -- the chart is that of all raw rows, where the index's rows were gridded from some of them, and the later rows from the
 -- others, which come after these

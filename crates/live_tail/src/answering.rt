@@ -11,7 +11,7 @@ use crate::nearest::nearest;
 use crate::slice::slice;
 use crate::tail_walk::TailWalk;
 use crate::tailed::TailRef;
-use path_union::{RowsWalk, UnionWalk};
+use path_union::{RowsWalk, UnionWalk, Untimed};
 use std::alloc::Global;
 use std::sync::ledger::Ledger;
 use step_count::Steps;
@@ -76,7 +76,7 @@ impl<'a> Answerer for TailRef<'a> {
         let _ = tail.rows(); // says that these ascend
         let walk = index.walk(alloc, object, from, to)?;
         let own = RowsWalk::over(tail.track(object, from, to));
-        Ok(UnionWalk::of(Some(own), Some(walk)))
+        Ok(UnionWalk::of(Some(own), Some(Untimed::new(walk))))
     }
 
     fn slice<L: Ledger>(

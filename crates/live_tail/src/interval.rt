@@ -14,7 +14,7 @@ ghost use Rattle.live_tail.specs.Join.{rows_of_tail, rows_of_both};
 
 use crate::objects::{is_among, objects_in};
 use crate::tail::Tail;
-use path_union::{RowsWalk, UnionWalk};
+use path_union::{RowsWalk, UnionWalk, Untimed};
 use std::alloc::Global;
 use std::sync::ledger::Ledger;
 use step_count::Steps;
@@ -115,7 +115,7 @@ impl<'a, A: Answerer> Window<'a, A> {
         let _ = self.tail.rows(); // says that these ascend, in near cells
         let walk = self.answerer.walk(alloc, object, self.from, self.to)?;
         let own = RowsWalk::over(self.tail.track(object, self.from, self.to));
-        let mut walk = UnionWalk::of(Some(own), Some(walk));
+        let mut walk = UnionWalk::of(Some(own), Some(Untimed::new(walk)));
         let Some(stop) = first_in(&mut walk, self.region, steps) else {
             return Ok(None);
         };

@@ -58,7 +58,7 @@ module _ {X : Type 0} {R : X → X → Ordering} (o : IsTotalOrder R) (P Q : X �
       (λ more. rw more (ap (λ zs. y ∷ zs) (merge_of-front (x ∷ xs) us ys vs front behind also.1 later)))
 
 -- rows of one object are ordered as their stops
-same_order : (object : ℕ) (a b : Stop) → stop_order a b ≡ row_order (row_at object a) (row_at object b)
+pub same_order : (object : ℕ) (a b : Stop) → stop_order a b ≡ row_order (row_at object a) (row_at object b)
 same_order object a b =
     ap (λ first. ordering_then first (int_cmp a.instant b.instant)) (sym (tied_itself nat_cmp_total object))
 

@@ -8,6 +8,7 @@ use Rattle.track_types.specs.declared.stop.Stop.{Stop}
 use Rattle.gridding.specs.declared.fault.GridFault.TheVariants.{Limit}
 use Rattle.path_union.specs.Fault.{count_fault}
 use Rattle.path_union.specs.Merge.{merge_of}
+use Rattle.path_union.specs.Reads.{first_beyond, unless_past, up_to}
 use Rattle.path_union.specs.Union.{rows_of_both}
 use Rattle.path_union.specs.Walk.{stops_of_both}
 
@@ -54,3 +55,28 @@ many_more = refl
 
 enough : count_fault 16777216 ≡ None
 enough = refl
+
+-- where two rows may be the third of both is one too many, and where four may be none is
+third_beyond : first_beyond 2 (rows_of_both older later) ≡ Some (row 8 5 (at 1 1))
+unfolding rows_of_both ordered insert_in_order
+third_beyond = refl
+
+none_beyond : first_beyond 4 (rows_of_both older later) ≡ None
+unfolding rows_of_both ordered insert_in_order
+none_beyond = refl
+
+-- so what is read up to a row is read up to that one, or all is read
+read_up_to : up_to (λ (end : Row). end.object) 40 (first_beyond 2 (rows_of_both older later)) ≡ 8
+unfolding rows_of_both ordered insert_in_order
+read_up_to = refl
+
+read_all : up_to (λ (end : Row). end.object) 40 (first_beyond 4 (rows_of_both older later)) ≡ 40
+unfolding rows_of_both ordered insert_in_order
+read_all = refl
+
+-- seven reads until a stop at 5 or after it: none where a stop at 5 is there, and all where one at 4 is
+past_five : unless_past (pos 5) (Some (stop 5 (at 9 9))) 7 ≡ 0
+past_five = refl
+
+before_five : unless_past (pos 5) (Some (stop 4 (at 9 9))) 7 ≡ 7
+before_five = refl

@@ -6,4 +6,5 @@ pub mod WalkLemmas
 pub mod PathLemmas
 pub mod FaultLemmas
 pub mod DrawingLemmas
+pub mod ReadsLemmas
 mod Examples

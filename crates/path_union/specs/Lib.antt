@@ -4,4 +4,5 @@ pub mod Fault
 pub mod AsBuilt
 pub mod Merge
 pub mod Walk
+pub mod Reads
 pub mod Paths

@@ -1,5 +1,6 @@
 -- The stops of an object in two walks, as one.
-use Rattle.std.specs.Prelude.{ℕ, List, [], Option, None, Some}
+use Rattle.std.specs.Prelude.{ℕ, List, [], ◌++◌, Option, None, Some}
+use Rattle.std.specs.Option.{option_to_list}
 use Rattle.std.specs.Ordering.{int_cmp}
 use Rattle.std.specs.declared.cmp.Ordering.{Ordering}
 use Rattle.track_types.specs.declared.row.Row.{Row}
@@ -23,6 +24,10 @@ module _ {W : Type 0} where
   abbrev pub left_of : (W → List Stop) → Option W → List Stop
   left_of left None = []
   left_of left (Some walk) = left walk
+
+  -- those with one that was drawn from it ahead
+  abbrev pub front_left : (W → List Stop) → Option Stop → Option W → List Stop
+  front_left left ahead walk = option_to_list ahead ++ left_of left walk
 
   -- what is still to be read for them
   abbrev pub budget_of : (W → ℕ) → Option W → ℕ

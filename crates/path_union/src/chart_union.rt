@@ -8,6 +8,7 @@ ghost use Rattle.track_types.specs.Row.{IsAscending};
 ghost use Rattle.path_union.specs.AsBuilt.{AreRowsAsBuilt};
 ghost use Rattle.path_union.specs.Fault.{count_fault, rows_fault};
 ghost use Rattle.path_union.specs.Paths.{AreTimely};
+ghost use Rattle.path_union.specs.Reads.{first_beyond, up_to};
 ghost use Rattle.path_union.specs.Union.{rows_of_both};
 
 use crate::paths::Paths;
@@ -43,7 +44,10 @@ pub fn chart_of_both<O: Paths + Drop, P: Paths + Drop, L: Ledger>(
     ensures fault { IfErr result (IsGridFaultFor
         (rows_fault (rows_of_both (O.rows older) (P.rows later)) frame.now.period)) }
     ensures as_built { AreRowsAsBuilt (O.rows older) (P.rows later) frame.now.cell frame.now.tick }
-    ensures cost { steps.new ≤ steps.old + (O.budget older + P.budget later) }
+    ensures cost { steps.new ≤ steps.old + (up_to (O.reads_past older) (O.budget older)
+        (first_beyond (limit_of LimitKind.Rows) (rows_of_both (O.rows older) (P.rows later)))
+        + up_to (P.reads_past later) (P.budget later)
+        (first_beyond (limit_of LimitKind.Rows) (rows_of_both (O.rows older) (P.rows later)))) }
 {
     let rows = drawn_rows(alloc, older, later, steps)?;
     chart(alloc, rows, frame.cell, frame.tick, frame.period)
@@ -63,7 +67,10 @@ fn drawn_rows<O: Paths + Drop, P: Paths + Drop, L: Ledger>(
     ensures few { IfOk result (λ rows. length rows.items ≤ limit_of LimitKind.Rows) }
     ensures fault { IfErr result (IsGridFaultFor
         (count_fault (length (rows_of_both (O.rows older) (P.rows later))))) }
-    ensures cost { steps.new ≤ steps.old + (O.budget older + P.budget later) }
+    ensures cost { steps.new ≤ steps.old + (up_to (O.reads_past older) (O.budget older)
+        (first_beyond (limit_of LimitKind.Rows) (rows_of_both (O.rows older) (P.rows later)))
+        + up_to (P.reads_past later) (P.budget later)
+        (first_beyond (limit_of LimitKind.Rows) (rows_of_both (O.rows older) (P.rows later)))) }
 {
     let mut older = older;
     let mut later = later;

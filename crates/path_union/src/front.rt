@@ -1,18 +1,20 @@
 ghost use Rattle.std.specs.Prelude.{◌≡◌, ◌++◌, ◌+◌, ◌≤◌, [], None, Some, IfNone, option_to_list};
-ghost use Rattle.path_union.specs.Walk.{budget_of, left_of};
+ghost use Rattle.path_union.specs.Reads.{IsDrawnInTime, IsDrawnOnce, front_past, past_of};
+ghost use Rattle.path_union.specs.Walk.{budget_of, front_left, left_of};
 
+use crate::stop_walk::StopWalk;
 use std::sync::ledger::Ledger;
 use step_count::Steps;
-use track_types::{Lazy, Stop};
+use track_types::Stop;
 
 /// What is left of a walk, if there is one: a stop may have been drawn from it that is still to be given.
 #[derive(Drop)]
-pub struct Front<W: Lazy<Item = Stop>> {
+pub struct Front<W: StopWalk> {
     walk: Option<W>,
     ahead: Option<Stop>,
 }
 
-impl<W: Lazy<Item = Stop>> Front<W> {
+impl<W: StopWalk> Front<W> {
     /// A walk of which nothing was drawn yet.
     pub fn of(walk: Option<W>) -> Front<W>
         ensures walk { result.walk ≡ walk }
@@ -21,20 +23,24 @@ impl<W: Lazy<Item = Stop>> Front<W> {
         Front { walk, ahead: None }
     }
 
-    /// Takes the next stop.
+    /// Takes the next stop. It draws from the walk at most once.
     pub fn next<L: Ledger>(&mut self, steps: &mut Steps<L>) -> Option<Stop>
-        ensures next { option_to_list self.old.ahead ++ left_of W.left self.old.walk
+        ensures next { front_left W.left self.old.ahead self.old.walk
             ≡ option_to_list result ++ left_of W.left self.new.walk }
         ensures none { IfNone result (left_of W.left self.new.walk ≡ []) }
         ensures ahead { self.new.ahead ≡ None }
         ensures cost { steps.new + budget_of W.budget self.new.walk
             ≤ steps.old + budget_of W.budget self.old.walk }
+        ensures in_time { IsDrawnInTime
+            (front_past W.reads_past self.old.ahead self.old.walk)
+            (past_of W.reads_past self.new.walk) steps.old steps.new result }
+        ensures once { IsDrawnOnce W.left self.old.walk self.new.walk }
     {
         if let Some(stop) = self.ahead.take() {
             return Some(stop);
         }
         match &mut self.walk {
-            Some(walk) => walk.draw(steps),
+            Some(walk) => walk.next(steps),
             None => None,
         }
     }

@@ -1,23 +1,29 @@
 ghost use Rattle.std.specs.Prelude.{◌≡◌, ◌+◌, ◌<◌, ◌≤◌, ℕ, List, [], All, IfNone, IfOk, IfSome, OnOk, Option, Some};
 ghost use Rattle.path_union.specs.Paths.{IsFirstPath};
+ghost use Rattle.path_union.specs.Reads.{IsTaken};
 ghost use Rattle.track_types.specs.declared.row.Row.{Row};
 
+use crate::stop_walk::StopWalk;
 use std::alloc::Global;
-use track_types::{Lazy, Memory, Stop};
+use track_types::Memory;
 
 /// The paths of all objects of an index or of a chart, by object, each of them by instant.
 ///
 /// They are taken one after the other. `rows` are those of the paths that are still to come, `next` is
-/// the object of the next of them, `budget` bounds the reads that are still to be made for all of them,
-/// and `count` says how many there are. A path may have no stop.
+/// the object of the next of them, and `count` says how many there are. `budget` bounds the reads that
+/// are still to be made for all of them, and `reads_past` those until a row is passed: for the paths of
+/// the objects before its object, and for this object's until a stop at the row's instant or after it is
+/// drawn, or none is left. A path may have no stop.
 pub trait Paths {
-    type Walk: Lazy<Item = Stop> + Drop;
+    type Walk: StopWalk + Drop;
 
     ghost rows: { Self → List Row };
 
     ghost next: { Self → Option ℕ };
 
     ghost budget: { Self → ℕ };
+
+    ghost reads_past: { Self → Row → ℕ };
 
     ghost count: { Self → ℕ };
 
@@ -34,5 +40,7 @@ pub trait Paths {
             IsFirstPath object (Self.Walk.left walk) (rows self.old) (rows self.new)) }
         ensures cost { IfOk result (λ walk.
             Self.Walk.budget walk + budget self.new ≤ budget self.old) }
+        ensures in_time { IfOk result (λ walk. IsTaken object (Self.Walk.budget walk)
+            (Self.Walk.reads_past walk) (reads_past self.old) (reads_past self.new)) }
         ensures fewer { OnOk result (count self.new < count self.old) };
 }

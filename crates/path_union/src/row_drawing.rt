@@ -1,16 +1,20 @@
-ghost use Rattle.std.specs.Prelude.{◌≡◌, ◌⊎◌, ◌++◌, ◌+◌, ◌<◌, ◌≤◌, [], ◌∷◌, None, Some, IfErr, IfNone, IfOk, IfSome, OnOk, length, map};
+ghost use Rattle.std.specs.Prelude.{◌≡◌, ◌⊎◌, ◌++◌, ◌+◌, ◌-◌, ◌<◌, ◌≤◌, [], ◌∷◌, None, Some, IfErr, IfNone, IfOk, IfSome, OnOk, length, map, slice_get};
 ghost use Rattle.gridding.specs.GridLimit.{IsGridFaultFor};
 ghost use Rattle.track_types.specs.Limits.{limit_of};
 ghost use Rattle.path_union.specs.Fault.{count_fault};
 ghost use Rattle.path_union.specs.Paths.{IsFirstPath};
-ghost use Rattle.path_union.specs.Walk.{budget_of, left_of, row_at};
+ghost use Rattle.path_union.specs.Reads.{IsTaken, past_of, up_to};
+ghost use Rattle.path_union.specs.Walk.{budget_of, left_of, row_at, stop_order};
+ghost use Rattle.std.specs.List.Sorted.{IsStrictlySortedBy};
+ghost use Rattle.track_types.specs.declared.stop.Stop.{Stop as StopView};
 
 use crate::paths::Paths;
+use crate::stop_walk::StopWalk;
 use gridding::GridFault;
 use std::alloc::{AllocError, Global};
 use std::sync::ledger::Ledger;
 use step_count::Steps;
-use track_types::{Lazy, LimitKind, MAX_ROWS, Row, Stop};
+use track_types::{LimitKind, MAX_ROWS, Row, Stop};
 
 /// The lesser of two objects, each of which may be missing.
 pub fn least(one: Option<u32>, other: Option<u32>) -> Option<u32>
@@ -38,6 +42,8 @@ pub fn path_if<P: Paths>(
         IsFirstPath object (left_of P.Walk.left walk) (P.rows paths.old) (P.rows paths.new)) }
     ensures cost { IfOk result (λ walk.
         budget_of P.Walk.budget walk + P.budget paths.new ≤ P.budget paths.old) }
+    ensures in_time { IfOk result (λ walk. IsTaken object (budget_of P.Walk.budget walk)
+        (past_of P.Walk.reads_past walk) (P.reads_past paths.old) (P.reads_past paths.new)) }
     ensures count { OnOk result (P.count paths.new ≤ P.count paths.old) }
     ensures fewer { OnOk result (P.next paths.old ≡ Some object → P.count paths.new < P.count paths.old) }
     ensures err { IfErr result (λ fault. fault ≡ GridFault.Memory) }
@@ -57,22 +63,25 @@ pub fn path_if<P: Paths>(
 }
 
 /// Puts the rows of an object's stops after others. More than 2^24 rows are refused as soon as one more
-/// is drawn.
-pub fn append_stops<W: Lazy<Item = Stop> + Drop, L: Ledger>(
+/// is drawn: nothing is read beyond it.
+pub fn append_stops<W: StopWalk + Drop, L: Ledger>(
     object: u32,
     walk: W,
     rows: &mut Vec<Row>,
     steps: &mut Steps<L>,
 ) -> Result<(), GridFault>
     requires few { length rows.old.items ≤ limit_of LimitKind.Rows }
+    requires ascending { IsStrictlySortedBy stop_order (W.left walk) }
     ensures rows { OnOk result (rows.new.items ≡ rows.old.items ++ map (row_at object) (W.left walk)) }
     ensures few { OnOk result (length rows.new.items ≤ limit_of LimitKind.Rows) }
     ensures fault { IfErr result (IsGridFaultFor
         (count_fault (length rows.old.items + length (W.left walk)))) }
-    ensures cost { steps.new ≤ steps.old + W.budget walk }
+    ensures cost { steps.new ≤ steps.old
+        + up_to (λ (stop : StopView). W.reads_past walk stop.instant) (W.budget walk)
+        (slice_get (W.left walk) (limit_of LimitKind.Rows - length rows.old.items)) }
 {
     let mut walk = walk;
-    while let Some(stop) = walk.draw(steps) {
+    while let Some(stop) = walk.next(steps) {
         if rows.len() as u64 >= MAX_ROWS {
             return Err(GridFault::Limit {
                 kind: LimitKind::Rows,

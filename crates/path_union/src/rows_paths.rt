@@ -50,6 +50,8 @@ impl<'a> Paths for RowsPaths<'a> {
 
     ghost budget = { λ p. 0 };
 
+    ghost reads_past = { λ p _. 0 };
+
     ghost count = { λ p. length p };
 
     fn object(&self) -> Option<u32> {

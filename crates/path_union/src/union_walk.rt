@@ -1,8 +1,10 @@
-ghost use Rattle.std.specs.Prelude.{◌≡◌, ◌++◌, ◌+◌, [], ◌∷◌, List, None, IfNone, option_to_list};
-ghost use Rattle.path_union.specs.Walk.{budget_of, left_of, stops_of_both};
+ghost use Rattle.std.specs.Prelude.{◌≡◌, ◌++◌, ◌+◌, ◌≤◌, ℕ, ℤ, [], ◌∷◌, List, None, Some, IfNone, option_to_list};
+ghost use Rattle.path_union.specs.Reads.{IsDrawnInTime, IsDrawnOnce, front_past, past_of, unless_past};
+ghost use Rattle.path_union.specs.Walk.{budget_of, front_left, left_of, stops_of_both};
 ghost use Rattle.track_types.specs.declared.stop.Stop.{Stop as StopView};
 
 use crate::front::Front;
+use crate::stop_walk::StopWalk;
 use std::sync::ledger::Ledger;
 use step_count::Steps;
 use track_types::{Lazy, Stop};
@@ -12,20 +14,24 @@ use track_types::{Lazy, Stop};
 ///
 /// It keeps one stop of each walk, and takes no memory of its own. The reads are those of both walks.
 #[derive(Drop)]
-pub struct UnionWalk<W: Lazy<Item = Stop>, V: Lazy<Item = Stop>> {
+pub struct UnionWalk<W: StopWalk, V: StopWalk> {
     later: Front<W>,
     older: Front<V>,
 }
 
-impl<W: Lazy<Item = Stop>, V: Lazy<Item = Stop>> UnionWalk<W, V> {
+impl<W: StopWalk, V: StopWalk> UnionWalk<W, V> {
     /// The walk over the stops of both, each of which may be missing.
     pub fn of(later: Option<W>, older: Option<V>) -> UnionWalk<W, V>
         ensures left { stops_of_both
-            (option_to_list result.later.ahead ++ left_of W.left result.later.walk)
-            (option_to_list result.older.ahead ++ left_of V.left result.older.walk)
+            (front_left W.left result.later.ahead result.later.walk)
+            (front_left V.left result.older.ahead result.older.walk)
             ≡ stops_of_both (left_of W.left later) (left_of V.left older) }
         ensures budget { budget_of W.budget result.later.walk + budget_of V.budget result.older.walk
             ≡ budget_of W.budget later + budget_of V.budget older }
+        ensures reads_past { (instant : ℤ) →
+            front_past W.reads_past result.later.ahead result.later.walk instant
+            + front_past V.reads_past result.older.ahead result.older.walk instant
+            ≡ past_of W.reads_past later instant + past_of V.reads_past older instant }
     {
         UnionWalk {
             later: Front::of(later),
@@ -34,25 +40,64 @@ impl<W: Lazy<Item = Stop>, V: Lazy<Item = Stop>> UnionWalk<W, V> {
     }
 }
 
-impl<W: Lazy<Item = Stop>, V: Lazy<Item = Stop>> Lazy for UnionWalk<W, V> {
-    ghost use Rattle.std.specs.Prelude.{◌++◌, ◌+◌};
-    ghost use Rattle.std.specs.Option.{option_to_list};
-    ghost use Rattle.path_union.specs.Walk.{budget_of, left_of, stops_of_both};
+impl<W: StopWalk, V: StopWalk> Lazy for UnionWalk<W, V> {
+    ghost use Rattle.std.specs.Prelude.{◌+◌};
+    ghost use Rattle.path_union.specs.Walk.{budget_of, front_left, stops_of_both};
 
     type Item = Stop;
 
-    ghost left = { λ w. stops_of_both (option_to_list w.later.ahead ++ left_of W.left w.later.walk)
-        (option_to_list w.older.ahead ++ left_of V.left w.older.walk) };
+    ghost left = { λ w. stops_of_both (front_left W.left w.later.ahead w.later.walk)
+        (front_left V.left w.older.ahead w.older.walk) };
 
     ghost budget = { λ w. budget_of W.budget w.later.walk + budget_of V.budget w.older.walk };
 
-    fn draw<L: Ledger>(&mut self, steps: &mut Steps<L>) -> Option<Stop> {
+    fn draw<L: Ledger>(&mut self, steps: &mut Steps<L>) -> Option<Stop>
+        ensures found { stops_of_both
+            (front_left W.left self.old.later.ahead self.old.later.walk)
+            (front_left V.left self.old.older.ahead self.old.older.walk)
+            ≡ option_to_list result ++ stops_of_both
+            (front_left W.left self.new.later.ahead self.new.later.walk)
+            (front_left V.left self.new.older.ahead self.new.older.walk) }
+        ensures none { IfNone result (stops_of_both
+            (front_left W.left self.old.later.ahead self.old.later.walk)
+            (front_left V.left self.old.older.ahead self.old.older.walk) ≡ []) }
+        ensures cost { steps.new
+            + (budget_of W.budget self.new.later.walk + budget_of V.budget self.new.older.walk) ≤ steps.old
+            + (budget_of W.budget self.old.later.walk + budget_of V.budget self.old.older.walk) }
+        ensures in_time { IsDrawnInTime
+            (λ instant. front_past W.reads_past self.old.later.ahead self.old.later.walk instant
+            + front_past V.reads_past self.old.older.ahead self.old.older.walk instant)
+            (λ instant. front_past W.reads_past self.new.later.ahead self.new.later.walk instant
+            + front_past V.reads_past self.new.older.ahead self.new.older.walk instant)
+            steps.old steps.new result }
+        ensures later_once { IsDrawnOnce W.left self.old.later.walk self.new.later.walk }
+        ensures older_once { IsDrawnOnce V.left self.old.older.walk self.new.older.walk }
+    {
         let later = self.later.next(steps);
         let older = self.older.next(steps);
         let choice = first_of(later, older);
         self.later.put_back(choice.later);
         self.older.put_back(choice.older);
         choice.first
+    }
+}
+
+impl<W: StopWalk, V: StopWalk> StopWalk for UnionWalk<W, V> {
+    ghost use Rattle.std.specs.Prelude.{◌+◌};
+    ghost use Rattle.path_union.specs.Reads.{front_past};
+    ghost use Rattle.path_union.specs.Walk.{budget_of, front_left, stops_of_both};
+
+    ghost left = { λ w. stops_of_both (front_left W.left w.later.ahead w.later.walk)
+        (front_left V.left w.older.ahead w.older.walk) };
+
+    ghost budget = { λ w. budget_of W.budget w.later.walk + budget_of V.budget w.older.walk };
+
+    ghost reads_past = { λ w instant.
+        front_past W.reads_past w.later.ahead w.later.walk instant
+        + front_past V.reads_past w.older.ahead w.older.walk instant };
+
+    fn next<L: Ledger>(&mut self, steps: &mut Steps<L>) -> Option<Stop> {
+        self.draw(steps)
     }
 }
 
@@ -73,6 +118,9 @@ fn first_of(later: Option<Stop>, older: Option<Stop>) -> Choice
         (option_to_list result.later ++ laters) (option_to_list result.older ++ olders) }
     ensures none { IfNone result.first (later ≡ None) }
     ensures neither { IfNone result.first (older ≡ None) }
+    ensures in_time { (instant : ℤ) (reads more : ℕ) → unless_past instant result.first
+        (unless_past instant result.later reads + unless_past instant result.older more)
+        ≤ unless_past instant later reads + unless_past instant older more }
 {
     match (later, older) {
         (Some(own), Some(other)) => first_of_two(own, other),
@@ -95,6 +143,9 @@ fn first_of_two(own: Stop, other: Stop) -> Choice
         ≡ option_to_list result.first ++ stops_of_both
         (option_to_list result.later ++ laters) (option_to_list result.older ++ olders) }
     ensures some { IfNone result.first ⊥ }
+    ensures in_time { (instant : ℤ) (reads more : ℕ) → unless_past instant result.first
+        (unless_past instant result.later reads + unless_past instant result.older more)
+        ≤ unless_past instant (Some own) reads + unless_past instant (Some other) more }
 {
     if other.instant < own.instant {
         return Choice {

@@ -1,7 +1,11 @@
-use Rattle.std.proofs.Common.{◌≡◌, ◌∙◌, ◌+◌, Err, ap, arith, rules}
+use Rattle.std.proofs.Common.{◌≡◌, ◌∙◌, ◌+◌, Err, List, ap, arith, rules}
 use Rattle.track_types.specs.declared.frame.Frame.{Frame}
 use Rattle.track_types.specs.declared.parts.Parts.{Parts}
+use Rattle.track_types.specs.declared.row.Row.{Row}
 use Rattle.snapshots.specs.Parts.{chart_in}
+use Rattle.path_union.specs.Union.{rows_of_both}
+use Rattle.index_merge.specs.Cost.{union_cost}
+use Rattle.index_merge.proofs.ReadsLemmas.{drawn-cost}
 use Rattle.index_merge.specs.MergeFault.{common_fault, merge_fault, merge_fault_of, settings_fault}
 use Rattle.index_merge.proofs.FaultLemmas.{common_fault-alike, IsMergeFaultFor-is, merge_fault-common, merge_fault-none, merge_fault-rows, merge_fault-settings, settings_fault-alike}
 use Rattle.index_merge.proofs.UnionLemmas.{extension_of-rows}
@@ -65,8 +69,18 @@ returns-in_err-chart_of_both-clause-fault g c =
     (rw (c.of-paths.ensures.rows, c.of-others.ensures.rows, period) at c.in_err-chart_of_both.ensures.fault))
 
 pub returns-in_err-chart_of_both-clause-cost : goal.returns-in_err-chart_of_both-clause-cost
+unfolding union_cost
 returns-in_err-chart_of_both-clause-cost g c =
-    omega (arith, c.in_err-chart_of_both.ensures.cost, c.of-paths.ensures.budget, c.of-others.ensures.budget)
+    let left : Parts = c.args.left.now in
+    let right : Parts = c.args.right.now in
+    let rows : List Row = rows_of_both (chart_in left).rows (chart_in right).rows in
+    let drew = rw (c.of-paths.ensures.rows, c.of-others.ensures.rows) at c.in_err-chart_of_both.ensures.cost in
+    omega (
+      arith,
+      drew,
+      drawn-cost left _ _ rows c.of-paths.ensures.reads_past c.of-paths.ensures.budget,
+      drawn-cost right _ _ rows c.of-others.ensures.reads_past c.of-others.ensures.budget,
+    )
 
 pub returns-clause-ok : goal.returns-clause-ok
 returns-clause-ok g c =
@@ -87,5 +101,15 @@ returns-clause-exact g c =
     (rw (c.of-paths.ensures.rows, c.of-others.ensures.rows, period) at c.in_ok-chart_of_both.ensures.exact)
 
 pub returns-clause-cost : goal.returns-clause-cost
+unfolding union_cost
 returns-clause-cost g c =
-    omega (arith, c.in_ok-chart_of_both.ensures.cost, c.of-paths.ensures.budget, c.of-others.ensures.budget)
+    let left : Parts = c.args.left.now in
+    let right : Parts = c.args.right.now in
+    let rows : List Row = rows_of_both (chart_in left).rows (chart_in right).rows in
+    let drew = rw (c.of-paths.ensures.rows, c.of-others.ensures.rows) at c.in_ok-chart_of_both.ensures.cost in
+    omega (
+      arith,
+      drew,
+      drawn-cost left _ _ rows c.of-paths.ensures.reads_past c.of-paths.ensures.budget,
+      drawn-cost right _ _ rows c.of-others.ensures.reads_past c.of-others.ensures.budget,
+    )

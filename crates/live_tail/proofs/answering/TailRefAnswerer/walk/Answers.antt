@@ -35,7 +35,7 @@ returns-clause-left c =
     ∙ ap (λ z. path_of (chart_in c.view-index.result.index.now).rows c.args.object from z) high
     ∙ ap (λ (p : Parts). path_of (chart_in p).rows c.args.object from to) its in
     c.of.ensures.left
-    ∙ rw (c.over-own.ensures, own, left)
+    ∙ rw (c.over-own.ensures, own, c.new.ensures, left)
     (sym (path_of-joint_chart (chart_in parts) tail table (subst IsAscending rows c.rows.ensures.ascending) c.args.object from to))
 
 -- the tail's rows cost nothing
@@ -49,7 +49,7 @@ returns-clause-budget c =
     let to : ℤ = c.args.to in
     let low : to_z w64 (of_z w64 c.args.from) ≡ from = omega (arith, ints) in
     let high : to_z w64 (of_z w64 c.args.to) ≡ to = omega (arith, ints) in
-    rw (c.of.ensures.budget)
+    rw (c.of.ensures.budget, c.new.ensures)
     (no_more _ _ (subst (λ (p : Parts). c.in_ok-walk.walk.reads ≤ cost_of p (Path c.args.object from to)) (c.view-index.ensures ∙ c.index.ensures)
     (subst (λ z. c.in_ok-walk.walk.reads ≤ cost_of c.view-index.result.index.now (Path c.args.object from z)) high
     (subst (λ z. c.in_ok-walk.walk.reads ≤ cost_of c.view-index.result.index.now (Path c.args.object z (to_z w64 (of_z w64 c.args.to)))) low

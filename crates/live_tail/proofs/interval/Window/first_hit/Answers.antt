@@ -18,7 +18,7 @@ use Rattle.live_tail.proofs.interval.Window.first_hit.Goals.{After-of-walk}
 
 -- the walk is over the path in both
 walked : (g : Over) (c : After-of-walk g)
-    → stops_with c.over-own.result.rows.now (g.A.Walk.Lazy.left c.in_ok-walk.walk)
+    → stops_with c.over-own.result.rows.now (g.A.Walk.Lazy.left c.new.result.walk)
     ≡ path_of (rows_of_both (g.A.Answerer.chart c.args.self.now.answerer).rows (rows_of_tail c.args.self.now.tail.now))
     c.args.object c.args.self.now.from c.args.self.now.to
 walked g c =
@@ -35,7 +35,7 @@ walked g c =
     c.in_ok-walk.ensures.left
     ∙ ap (λ z. path_of rows c.args.object z (to_z w64 (of_z w64 self.to))) low
     ∙ ap (λ z. path_of rows c.args.object self.from z) high in
-    rw (c.over-own.ensures, own, left)
+    rw (c.over-own.ensures, own, c.new.ensures, left)
     (sym (path_of-rows_of_both rows tail c.requires.table.ascending (subst IsAscending c.rows.ensures.value c.rows.ensures.ascending)
     c.args.object self.from self.to))
 

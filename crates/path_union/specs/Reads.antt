@@ -1,0 +1,53 @@
+-- How much is read of walks and of paths until a stop or a row is passed.
+use Rattle.std.specs.Prelude.{◌≡◌, ℕ, ◌+◌, ◌<◌, ◌≤◌, ℤ, Bool, false, if◌then◌else◌, List, ◌++◌, slice_get, Option, None, Some}
+use Rattle.std.specs.Int.Signed.{le_z}
+use Rattle.std.specs.Option.{option_to_list}
+use Rattle.track_types.specs.declared.row.Row.{Row}
+use Rattle.track_types.specs.declared.stop.Stop.{Stop}
+use Rattle.path_union.specs.Walk.{left_of}
+
+-- whether a stop is there that is at an instant or after it
+abbrev pub is_past : ℤ → Option Stop → Bool
+is_past instant None = false
+is_past instant (Some stop) = le_z instant stop.instant
+
+-- the reads that are still to be made for such a stop: none where it is there
+abbrev pub unless_past : ℤ → Option Stop → ℕ → ℕ
+unless_past instant drawn reads = if is_past instant drawn then 0 else reads
+
+-- a stop was drawn, or there was none, by two counts of the reads that are to be made at most until a stop at an instant or
+-- after it is drawn, or none is left, before and now: nothing was read beyond the first count, and as long as no such stop
+-- was drawn the second is still within it
+abbrev pub IsDrawnInTime : (ℤ → ℕ) → (ℤ → ℕ) → ℕ → ℕ → Option Stop → Type 0
+IsDrawnInTime before now begun steps drawn =
+    (instant : ℤ) → steps + unless_past instant drawn (now instant) ≤ begun + before instant
+
+module _ {W : Type 0} where
+  -- what is read of a walk, if there is one, until a stop is passed
+  abbrev pub past_of : (W → ℤ → ℕ) → Option W → ℤ → ℕ
+  past_of past None instant = 0
+  past_of past (Some walk) instant = past walk instant
+
+  -- so where a stop was drawn from it ahead
+  abbrev pub front_past : (W → ℤ → ℕ) → Option Stop → Option W → ℤ → ℕ
+  front_past past ahead walk instant = unless_past instant ahead (past_of past walk instant)
+
+  -- at most one stop was drawn of a walk: those that were left are that one, if it was drawn, and those that are left
+  pub record IsDrawnOnce (left : W → List Stop) (before now : Option W) : Type 0 where
+    pub stop : Option Stop
+    pub all : left_of left before ≡ option_to_list stop ++ left_of left now
+
+-- what is read up to something, and all where that is never met
+abbrev pub up_to : {X : Type 0} → (X → ℕ) → ℕ → Option X → ℕ
+up_to reads all None = all
+up_to reads all (Some end) = reads end
+
+-- the first row that is one too many where so many may be
+abbrev pub first_beyond : ℕ → List Row → Option Row
+first_beyond limit rows = slice_get rows limit
+
+-- the path of an object was taken from others, by what is to be read of it, as a whole and until a stop is passed, and by
+-- what is to be read of all paths until a row is passed, before and now: both are within what was to be read
+pub record IsTaken (object all : ℕ) (past : ℤ → ℕ) (before now : Row → ℕ) : Type 0 where
+  pub own : (row : Row) → row.object ≡ object → past row.instant ≤ before row
+  pub others : (row : Row) → object < row.object → all + now row ≤ before row
