@@ -34,9 +34,9 @@ impl Index {
     /// `RuleStore::check` does (`Code`, `Rule`, `Symbol`); whether the lengths of all logs add up to
     /// the number of stored symbols (`Total`, in the last period at 0); each period in order, as
     /// `Snapshot::check` does; and the logs of all blocks, by period, then object, as `Stores::join`
-    /// does. `Flaw` is the first flaw in this order; its period is 0 outside the sections of
-    /// periods. The parts of an index have none, so they are refused only for `Memory`, which may be
-    /// answered to any parts.
+    /// does. `Flaw` is the first flaw in this order. Outside the sections of periods its period is 0,
+    /// but for `OffGrid`, which has that of its block. The parts of an index have none, so they are
+    /// refused only for `Memory`, which may be answered to any parts.
     ///
     /// The lists of the parts become those of the index. It takes time linear in their lengths, and
     /// at most `open_cost` reads.
