@@ -1,5 +1,6 @@
 """`build`: an index of rows, by the program."""
 
+import argparse
 import dataclasses
 import itertools
 import operator
@@ -7,7 +8,7 @@ import os
 import tempfile
 from contextlib import contextmanager
 from pathlib import Path
-from typing import IO, Any, Iterable, Iterator, Mapping, NamedTuple, Optional, Sequence, Tuple, Union
+from typing import IO, Any, Dict, Iterable, Iterator, Mapping, NamedTuple, Optional, Sequence, Tuple, Union
 
 from .errors import ArgumentError, OverwriteError
 from .frames import Given, Table, csv_table, frame_table, has_degrees, is_frame
@@ -287,3 +288,33 @@ def checked_rows(rows: Iterable[Sequence[int]]) -> Iterator[str]:
         if not isinstance(row, (tuple, list)) or len(row) != len(FIELDS):
             raise ArgumentError("rows", f"row {nth}, {row!r}, is not (object, instant, x, y)")
         yield ",".join(str(whole(f"rows: row {nth}: {name}", value, *span)) for value, (name, span) in zip(row, FIELDS)) + "\n"
+
+
+def add_to(parser: argparse.ArgumentParser) -> None:
+    """Gives the command `build` its words."""
+    parser.add_argument("rows", metavar="CSV")
+    parser.add_argument("index", metavar="INDEX")
+    parser.add_argument("--cell", type=int, default=1, help="how many units of x and y a cell is wide (1)")
+    parser.add_argument("--tick", type=int, default=1, help="how many units of time an instant lasts (1)")
+    parser.add_argument("--period", type=int, default=USUAL_PERIOD, help=f"how many instants a period has ({USUAL_PERIOD})")
+    plane = parser.add_mutually_exclusive_group()
+    plane.add_argument("--middle", type=float, metavar="LATITUDE", help="the rows are metres round this latitude")
+    plane.add_argument("--per-degree", type=int, metavar="N", help="the rows are in degrees, N units to each")
+    parser.add_argument("--unit", type=int, default=1, metavar="SECONDS", help="of a unit of time of the rows (1)")
+    parser.add_argument("--west", type=int, default=-180, metavar="LONGITUDE", help="where the plane is cut (-180)")
+    parser.add_argument("--names", metavar="FILE", help="a CSV file object,name")
+
+
+def run(given: argparse.Namespace) -> int:
+    """Builds an index as the command line says."""
+    others: Dict[str, Any] = {"cell": given.cell, "tick": given.tick, "unit": given.unit, "west": given.west}
+    if given.names:
+        others["names"] = given.names
+    if given.middle is not None:
+        grid = Grid.metres(given.middle, **others)
+    elif given.per_degree is not None:
+        grid = Grid.degrees(given.per_degree, **others)
+    else:
+        grid = Grid(**others)
+    build(given.rows, given.index, period=given.period, grid=grid, program=given.program)
+    return 0

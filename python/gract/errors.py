@@ -6,12 +6,18 @@ too. What the program refuses has the fields that the program tells; docs/QUESTI
 
 from typing import Any, Dict, Mapping, NamedTuple, Optional, Sequence, Tuple, Type
 
+from .advice import ADVICE
 
 class GractError(Exception):
     """Anything that this package or the program refuses. It can be copied, and sent from one process to another."""
 
     def __reduce__(self) -> Tuple[Any, ...]:
         return again, (type(self), self.args, self.__dict__)
+
+    @property
+    def sentence(self) -> str:
+        """Its text without what to do about it."""
+        return str(self).split("\n", 1)[0]
 
 
 def again(kind: Type[GractError], args: Tuple[Any, ...], fields: Dict[str, Any]) -> GractError:
@@ -124,7 +130,7 @@ class PartsError(GractError):
     """Parts that cannot be asked. `parts` has the refusal of each, by its number."""
 
     def __init__(self, parts: Mapping[int, GractError], count: int):
-        told = "; ".join(f"part {number}: {refusal}" for number, refusal in sorted(parts.items()))
+        told = "; ".join(f"part {number}: {refusal.sentence}" for number, refusal in sorted(parts.items()))
         super().__init__(f"{len(parts)} of {count} parts cannot be asked: {told}. With partial=True the others answer what they can")
         self.parts = dict(parts)
 
@@ -188,10 +194,22 @@ class ReplyError(GractError):
 
 class ProgramError(GractError):
     """An outcome of the program other than that all was done. `status` is what it ended with, `last_words` what it said on
-    standard error."""
+    standard error, `advice` what to do about that."""
 
     status: Optional[int] = None
     last_words: str = ""
+
+    # The key of ADVICE for its line, where it has one.
+    _about: str = ""
+
+    @property
+    def advice(self) -> str:
+        """What to do about it, as docs/QUESTIONS.md has it, or nothing where it is none of the program's lines."""
+        return ADVICE[self._about].what if self._about else ""
+
+    def __str__(self) -> str:
+        told = super().__str__()
+        return f"{told}\nWhat to do: {self.advice}" if self.advice and self.advice not in told else told
 
 
 class ChildDied(ProgramError):
@@ -207,6 +225,8 @@ class ChildDied(ProgramError):
 class WordsError(ProgramError):
     """The program does not take its command words. `place` is that of the first bad one, from 1."""
 
+    _about = "words"
+
     def __init__(self, place: int):
         super().__init__(f"the program does not take word {place} of its command: is it of the version of this package?")
         self.place = place
@@ -214,6 +234,8 @@ class WordsError(ProgramError):
 
 class EmptyError(ProgramError, ValueError):
     """There is not a single row."""
+
+    _about = "empty"
 
     def __init__(self, file: str):
         super().__init__(f"{file}: there is no row, and an index needs one")
@@ -239,7 +261,7 @@ class RowError(ProgramError, ValueError):
         shown = f" ({','.join(text)[:80]})" if text else ""
         heading = "; a heading must be object,instant,x,y" if record == 1 and fault != "range" else ""
         super().__init__(f"{file}, {where}{shown}: {why}{heading}")
-        self.file, self.record, self.field, self.fault = file, record, field, fault
+        self.file, self.record, self.field, self.fault, self._about = file, record, field, fault, fault
         self.line, self.text = line, tuple(text)
 
 
@@ -251,20 +273,20 @@ class Limit(NamedTuple):
     advice: str
 
 
-PARTS = "make parts by day, week or month, each with its own index"
-
 LIMITS: Dict[str, Limit] = {
-    "csv": Limit(2**29, "bytes of the CSV file", PARTS),
-    "rows": Limit(2**24, "rows", PARTS),
-    "objects": Limit(2**16, "different objects", "make parts by groups of objects, each with its own index"),
-    "span": Limit(2**22, "instants from the first row to the last", f"take a greater tick, or {PARTS}; is a time wrong?"),
-    "extent": Limit(2**24, "cells along x or y", "take a greater cell, or make parts by region; is a position wrong?"),
-    "blocks": Limit(2**24, "objects times periods", f"take a greater period, or {PARTS}"),
-    "symbols": Limit(2**25, "instants after the first row of each object in each period",
-                     f"take a smaller period, where objects are seldom there, or a greater tick, or {PARTS}"),
-    "index": Limit(2**30, "bytes of the index file", "is it an index at all? No index that build makes is so long"),
-    "questions": Limit(2**32, "bytes of questions", "begin the program anew"),
-    "base": Limit(2**40, "cells from 0 to a row's x or y", "build the index again: none that build makes has such a row"),
+    kind: Limit(most, what, ADVICE[f"limit {kind}"].what)
+    for kind, most, what in (
+        ("csv", 2**29, "bytes of the CSV file"),
+        ("rows", 2**24, "rows"),
+        ("objects", 2**16, "different objects"),
+        ("span", 2**22, "instants from the first row to the last"),
+        ("extent", 2**24, "cells along x or y"),
+        ("blocks", 2**24, "objects times periods"),
+        ("symbols", 2**25, "instants after the first row of each object in each period"),
+        ("index", 2**30, "bytes of the index file"),
+        ("questions", 2**32, "bytes of questions"),
+        ("base", 2**40, "cells from 0 to a row's x or y"),
+    )
 }
 
 
@@ -277,12 +299,14 @@ class LimitError(ProgramError, ValueError):
             f"{f'{file}: ' if file else ''}the limit {kind} is passed: {value:,} {limit.what}, and {limit.most:,} is the most. "
             f"What to do: {limit.advice}"
         )
-        self.kind, self.value, self.limit, self.file = kind, value, limit.most, file
+        self.kind, self.value, self.limit, self.file, self._about = kind, value, limit.most, file, f"limit {kind}"
 
 
 class FormatError(ProgramError, ValueError):
     """A file that is no index. `section`, `period` (from 0), `place` (from 0) and `kind` are its first flaw, as docs/FORMAT.md has
     them."""
+
+    _about = "flaw"
 
     def __init__(self, file: str, section: str, period: int, place: int, kind: str):
         flaw = f"section {section}, period {period}, place {place}: {kind}"
@@ -303,6 +327,8 @@ class DeviceError(ProgramError, OSError):
 class LoadError(DeviceError):
     """A file could not be read. `file` is its name."""
 
+    _about = "load"
+
     def __init__(self, file: str, why: str = "the program could not read it"):
         super().__init__(f"{file} could not be read: {why}")
         self.file = file
@@ -310,6 +336,8 @@ class LoadError(DeviceError):
 
 class SaveError(DeviceError):
     """An index could not be saved. `file` is its name; what it holds now is what it held, or nothing that can be relied on."""
+
+    _about = "save"
 
     def __init__(self, file: str):
         super().__init__(f"{file} could not be saved: is there room, and may its folder be written?")
@@ -319,6 +347,8 @@ class SaveError(DeviceError):
 class ListenError(DeviceError):
     """The program could not read its questions."""
 
+    _about = "listen"
+
     def __init__(self) -> None:
         super().__init__("the program could not read the questions that it was asked")
 
@@ -326,12 +356,16 @@ class ListenError(DeviceError):
 class SayError(DeviceError):
     """The program could not write its replies."""
 
+    _about = "say"
+
     def __init__(self) -> None:
         super().__init__("the program could not write its replies")
 
 
 class MemoryRefused(ProgramError, MemoryError):
     """The program was refused memory."""
+
+    _about = "memory"
 
     def __init__(self) -> None:
         super().__init__("the program was refused memory: ask for less at once, or free some")

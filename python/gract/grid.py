@@ -13,6 +13,7 @@ from .errors import ArgumentError, GridError
 from .frames import Table, frame_table, is_frame
 from .plain_json import read_json
 from .planes import Degree, Degrees, Metres, Plane, Projected
+from .planes import RawRow as RawRow
 from .ranges import real as real
 from .ranges import whole as whole
 
@@ -32,15 +33,6 @@ class Place(NamedTuple):
 
     longitude: float
     latitude: float
-
-
-class RawRow(NamedTuple):
-    """A row as gract reads it: an object's number, a time and a place in a plane, all whole numbers."""
-
-    object: int
-    time: int
-    x: int
-    y: int
 
 
 class Reach(NamedTuple):

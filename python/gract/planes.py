@@ -2,7 +2,7 @@
 
 import math
 from decimal import Decimal, InvalidOperation
-from typing import Any, Dict, List, Optional, Sequence, Tuple, Union
+from typing import Any, Dict, List, NamedTuple, Optional, Sequence, Tuple, Union
 
 from .errors import ArgumentError
 from .libraries import library
@@ -12,6 +12,15 @@ RADIUS = 6371008.8
 METRES_A_DEGREE = RADIUS * math.pi / 180
 
 Degree = Union[int, float, Decimal]
+
+
+class RawRow(NamedTuple):
+    """A row as gract reads it: an object's number, a time and a place in a plane, all whole numbers."""
+
+    object: int
+    time: int
+    x: int
+    y: int
 
 
 def degrees_of(latitude: str, longitude: str, most_longitude: int = 180) -> Optional[Tuple[Decimal, Decimal]]:

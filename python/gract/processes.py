@@ -13,9 +13,17 @@ import subprocess
 import threading
 import weakref
 from contextlib import contextmanager
-from typing import IO, Callable, Iterator, List, Optional, Sequence, Set, Tuple
+from typing import IO, Callable, Dict, Iterator, List, Optional, Sequence, Set, Tuple
 
 from .errors import BusyError
+
+# What has the C library ask for memory in huge pages; glibc does so from 2.35 on, and any other takes no notice.
+HUGE_PAGES = {"GLIBC_TUNABLES": "glibc.malloc.hugetlb=1"}
+
+
+def environment() -> Dict[str, str]:
+    """The environment of what is begun: that of this process, with huge pages unless it tunes the C library itself."""
+    return {**HUGE_PAGES, **os.environ}
 
 
 class Process:
@@ -99,6 +107,7 @@ class _Run:
             # In a session of its own it does not get the interrupt of a terminal, which would end it between questions too.
             self._process = subprocess.Popen(
                 self.words, bufsize=0, stdin=subprocess.PIPE, stdout=subprocess.PIPE, stderr=subprocess.PIPE, start_new_session=True,
+                env=environment(),
             )
             _RUNS.add(self)
 

@@ -1,9 +1,11 @@
 """`Survey`: what reports are like, found in one pass. Memory is by the number of objects, and not of reports."""
 
+import bisect
+import itertools
 import math
 import operator
-from collections import Counter
-from typing import Collection, Dict, Iterable, List, Optional, Sequence, Tuple
+from collections import Counter, defaultdict
+from typing import DefaultDict, Dict, Iterable, List, Optional, Sequence, Tuple
 
 from .planes import METRES_A_DEGREE
 
@@ -49,14 +51,15 @@ class Survey:
         self._gaps: "Counter[int]" = Counter()
         self._steps: "Counter[int]" = Counter()
         self._scatter: "Counter[int]" = Counter()
-        # How many reports are in one instant with the report before, under the tick of that place.
-        self._shared = [0] * len(self.ticks)
+        # How many reports are in one instant with the report before, under the tick of that place and under none before; the last are
+        # those that are not under any.
+        self._shared = [0] * (len(self.ticks) + 1)
 
     def take(self, reports: Sequence[Sight]) -> None:
         """Takes one report or more. They are put in their order, so that some that come late do no harm."""
-        found: Dict[int, List[Sight]] = {}
+        found: DefaultDict[int, List[Sight]] = defaultdict(list)
         for report in sorted(reports, key=time_of):
-            found.setdefault(report[0], []).append(report)
+            found[report[0]].append(report)
         for number, own in found.items():
             track = self.tracks.get(number)
             if track is None:
@@ -66,7 +69,7 @@ class Survey:
         self.count += len(reports)
         xs, ys = [report[2] for report in reports], [report[3] for report in reports]
         west, south, east, north = self._bounds or [xs[0], ys[0], xs[0], ys[0]]
-        self._bounds = [min(west, *xs), min(south, *ys), max(east, *xs), max(north, *ys)]
+        self._bounds = [min(west, min(xs)), min(south, min(ys)), max(east, max(xs)), max(north, max(ys))]
 
     def _follow(self, track: Track, reports: List[Sight]) -> None:
         """Takes the next reports of an object, by time."""
@@ -75,9 +78,9 @@ class Survey:
         times = [track.now[1], *map(time_of, reports)]
         gaps = list(map(operator.sub, times[1:], times))
         least = min(gaps, default=0)
-        self._gaps.update([gap if gap < FULL else shortened(gap) for gap in gaps])
+        self._gaps.update(gaps if max(gaps, default=0) < FULL else map(shortened, gaps))
         del self._gaps[0]
-        self._share(times, least)
+        self._share(times, gaps)
         way = [track.before, track.now, *reports] if track.before[1] < track.now[1] else [track.now, *reports]
         known = len(way) - len(reports)
         if least == 0:
@@ -95,38 +98,34 @@ class Survey:
         track.count += late
         return reports[late:]
 
-    def _share(self, times: Collection[int], least: int) -> None:
-        """Counts for each tick the reports that are in one instant with the one before. Each time is at least so much later than the
-        one before."""
-        instants, unit = times, 1
-        for place, tick in enumerate(self.ticks):
-            if tick > least:
-                # Instants are found of those of the tick before, which are fewer than the times.
-                instants, unit = {instant // (tick // unit) for instant in instants}, tick
-                self._shared[place] += len(times) - len(instants)
+    def _share(self, times: Sequence[int], gaps: Sequence[int]) -> None:
+        """Counts reports by the first tick under which each is in one instant with the one before, of whose time and whose distance in time
+        it is told: so they are under all longer ticks too, which are multiples of it."""
+        ticks, shared, many = self.ticks, self._shared, len(self.ticks)
+        for time, gap in zip(times, gaps):
+            place = bisect.bisect(ticks, gap)
+            while place < many and time // ticks[place] != (time + gap) // ticks[place]:
+                place += 1
+            shared[place] += 1
 
     def _measure(self, way: Sequence[Sight], known: int, count: int) -> None:
         """Measures the way to some reports of an object behind those that are known, and how far the one before each is from the line
-        between its neighbours. The object had so many reports before."""
-        for place in range(known, len(way)):
-            nth = count + place - known + 1
-            if nth <= MEASURED or nth % EACH == 0:
-                here, report = way[place - 1], way[place]
-                level(self._steps, self._distance(here, report[2], report[3]))
-                if place > 1:
-                    level(self._scatter, self._distance(here, *self._between(way[place - 2], report, here[1])))
-
-    def _between(self, one: Sight, other: Sight, time: int) -> Tuple[float, float]:
-        """Where an object is at a time if it goes straight and evenly from one report to another."""
-        part, right = (time - one[1]) / (other[1] - one[1]), other[2] - one[2]
-        return one[2] + (math.remainder(right, 360) if self.degrees else right) * part, one[3] + (other[3] - one[3]) * part
-
-    def _distance(self, one: Sight, x: float, y: float) -> float:
-        """Metres on the ground, or units of a plane, from a report to a place that is not far."""
-        right, up = x - one[2], y - one[3]
-        if not self.degrees:
-            return math.hypot(right, up)
-        return math.hypot(math.remainder(right, 360) * math.cos(math.radians(one[3])), up) * METRES_A_DEGREE
+        between its neighbours. The object had so many reports before. Distances are metres on the ground, or units of a plane."""
+        distance, remainder, once_round = math.hypot, math.remainder, 360.0 if self.degrees else math.inf
+        steps, scatter, narrow, unit = [], [], 1.0, METRES_A_DEGREE if self.degrees else 1.0
+        for place in measured(known, len(way), count + 1):
+            (_, time, x, y), (_, later, right, up) = way[place - 1], way[place]
+            if self.degrees:
+                narrow = math.cos(math.radians(y))
+            steps.append(distance(remainder(right - x, once_round) * narrow, up - y) * unit)
+            if place > 1:
+                # Where the object was if it went straight and evenly from the report before that to this one.
+                _, earlier, left, down = way[place - 2]
+                part = (time - earlier) / (later - earlier)
+                along, north = left + remainder(right - left, once_round) * part, down + (up - down) * part
+                scatter.append(distance(remainder(along - x, once_round) * narrow, north - y) * unit)
+        self._steps.update(levels(steps))
+        self._scatter.update(levels(scatter))
 
     @property
     def bounds(self) -> Tuple[float, float, float, float]:
@@ -156,7 +155,7 @@ class Survey:
 
     def lost(self, tick: int) -> int:
         """How many reports are followed by one of the same object and instant; at least so many, where they were not `in_order`."""
-        return self._shared[self.ticks.index(tick)]
+        return sum(self._shared[:self.ticks.index(tick) + 1])
 
     def lives(self, tick: int) -> Iterable[Tuple[int, int, int]]:
         """Of each object how many reports it has, and its first and last instant."""
@@ -168,10 +167,16 @@ def shortened(number: int) -> int:
     return number if number < FULL else round(number, DIGITS - len(str(number)))
 
 
-def level(levels: "Counter[int]", far: float) -> None:
-    """Counts a distance by its place on a scale of powers of two."""
-    if far >= LEAST:
-        levels[round(FINENESS * math.log2(far))] += 1
+def measured(known: int, end: int, first: int) -> Iterable[int]:
+    """The places of reports, from those that are known on up to an end, at which distances are measured; the one behind those that are
+    known is the object's report of that number."""
+    each = min(end, max(known, known + MEASURED + 1 - first))
+    return itertools.chain(range(known, each), range(each + (known - first - each) % EACH, end, EACH))
+
+
+def levels(distances: Iterable[float]) -> Iterable[int]:
+    """The places of distances on a scale of powers of two, but for those that are none."""
+    return [round(FINENESS * math.log2(far)) for far in distances if far >= LEAST]
 
 
 def distance(level: Optional[int]) -> Optional[float]:

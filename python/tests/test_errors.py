@@ -5,6 +5,7 @@ import inspect
 import json
 import os
 import pickle
+import re
 import signal
 import sys
 import tempfile
@@ -14,7 +15,7 @@ from pathlib import Path
 from unittest import mock
 
 import gract
-from gract import errors, zones
+from gract import advice, errors, program, zones
 from gract.archive import days, manifest, parted, shards
 
 from . import plain
@@ -25,6 +26,12 @@ with suppress(ImportError):
 
 STAND_IN = plain.TOP / "python/tests/stand_in.py"
 ABOVE_OTHERS = {errors.GractError, errors.ProgramError, errors.DeviceError}
+
+
+def page_section(title):
+    """A section of the page of questions."""
+    page = (plain.TOP / "docs/QUESTIONS.md").read_text()
+    return re.search(rf"^## {title}\n(.*?)^## ", page, re.MULTILINE | re.DOTALL).group(1)
 
 
 class Errors(unittest.TestCase):
@@ -267,6 +274,30 @@ class Errors(unittest.TestCase):
                 storms.slice(52097).plot()
 
     # What the program refuses.
+
+    def test_advice(self):
+        """Each line of the page of questions has its advice, in the page's table and in the exception for the line."""
+        outcomes, todo = (page_section(title) for title in ("Outcomes", "What to do"))
+        lines = re.findall(r"\| `gract: ([^`]*)` \|", outcomes)
+        quantities = [line.replace("QUANTITY", name) for line in lines if "QUANTITY" in line
+                      for name in ("objects", "span", "extent", "blocks", "symbols")]
+        wanted = {line for line in lines if "QUANTITY" not in line} | set(quantities)
+        # Of both limits of an index the one line stands for the other.
+        self.assertEqual(wanted - {"limit index passed at 1073741825"}, {told.line for told in advice.ADVICE.values()})
+        self.assertEqual(re.findall(r"^\| `gract: (.*)` \| (.*) \|$", todo, re.MULTILINE), [tuple(told) for told in advice.ADVICE.values()])
+        for key, told in advice.ADVICE.items():
+            line = re.sub(r"\b[A-Z]+\b", lambda word: {"SECTION": "log", "KIND": "symbol"}.get(word[0], "1"), told.line)
+            refusal = program.refusal_of(3, f"gract: {line}\n", index="any.idx", csv_file=None if key == "flaw" else "any.csv")
+            with self.subTest(key=key):
+                if key in ("settings", "common"):
+                    # Of `merge`, which the package does not run.
+                    self.assertEqual((type(refusal), refusal.advice), (errors.ChildDied, ""))
+                else:
+                    self.assertEqual(refusal.advice, told.what)
+                    self.assertTrue(str(refusal).endswith(f"What to do: {told.what}"))
+                    self.assertEqual(str(refusal).count("What to do"), 1)
+                    self.assertTrue(str(refusal).startswith(refusal.sentence) and "\n" not in refusal.sentence)
+                    self.assertEqual(pickle.loads(pickle.dumps(refusal)).advice, told.what)
 
     def test_bad_questions(self):
         with gract.open(plain.STORMS_INDEX) as storms:

@@ -2,8 +2,11 @@
 
 import ast
 import importlib
+import os
+import subprocess
 import sys
 import unittest
+from pathlib import Path
 
 import gract
 
@@ -67,6 +70,23 @@ class Package(unittest.TestCase):
             module = importlib.import_module(f"gract.{name}")
             self.assertIs(module, importlib.import_module(f"gract.archive.{name}"))
             self.assertIs(getattr(gract, name), module)
+
+    def test_what_is_loaded(self):
+        """A name is that of its module, and a command loads what it wants: rows of a table no index, no program and no other format."""
+        tree = ast.parse(Path(gract.__file__).read_text(encoding="utf-8"))
+        block = next(node for node in tree.body if isinstance(node, ast.If))
+        homes = {name.name: node.module or name.name for node in block.body for name in node.names}
+        self.assertEqual(sorted(homes), gract.__all__)
+        for name, module in homes.items():
+            home = importlib.import_module(f"gract.{module}")
+            self.assertIs(getattr(gract, name), home if name == module else getattr(home, name))
+        self.assertFalse(hasattr(gract, "nothing"))
+        code = "import sys; from gract.command import run; run(sys.argv[1:]); print(*(name for name in sys.modules if name.startswith('gract')))"
+        words = ["rows", str(plain.TOP / "examples" / "samples" / "ais.csv"), "--output", os.devnull]
+        done = subprocess.run([sys.executable, "-c", code, *words], cwd=plain.TOP / "python", capture_output=True, text=True, check=True)
+        unwanted = {"gract.index", "gract.child", "gract.processes", "gract.frames", "gract.rows.nmea", "gract.rows.packed", "gract.rows.moves"}
+        self.assertIn("gract.rows.table", done.stdout.split())
+        self.assertFalse(unwanted & set(done.stdout.split()))
 
     def test_names(self):
         self.assertEqual(sorted(gract.__all__), gract.__all__)

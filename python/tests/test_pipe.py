@@ -201,6 +201,23 @@ class Pipe(unittest.TestCase):
                 self.assertTrue(has_gone(int(file.read())))
             self.assertEqual(os.listdir(folder), ["pid"])
 
+    def test_huge_pages(self):
+        """The program is told to ask for memory in huge pages, to answer and to build, unless the user tells its C library anything."""
+        with tempfile.TemporaryDirectory() as folder:
+            program = os.path.join(folder, "gract")
+            with open(program, "w", encoding="ascii") as script:
+                script.write('#!/bin/sh\nprintf %s "$GLIBC_TUNABLES" >&2\nexit 99\n')
+            os.chmod(program, 0o700)
+            for own, wanted in (None, "glibc.malloc.hugetlb=1"), ("glibc.malloc.check=1", "glibc.malloc.check=1"), ("", ""):
+                with self.subTest(own=own), mock.patch.dict(os.environ):
+                    os.environ.pop("GLIBC_TUNABLES", None)
+                    os.environ.update({} if own is None else {"GLIBC_TUNABLES": own})
+                    with self.assertRaises(gract.ChildDied) as asked:
+                        gract.open(plain.STORMS_INDEX, program=program)
+                    with self.assertRaises(gract.ChildDied) as built:
+                        gract.build([(1, 0, 0, 0)], os.path.join(folder, "new.idx"), program=program)
+                    self.assertEqual((asked.exception.last_words, built.exception.last_words), (wanted, wanted))
+
     def test_an_interrupt_is_survived(self):
         """After an interrupt within a question the next one is answered."""
         with gract.open(plain.STORMS_INDEX) as index:

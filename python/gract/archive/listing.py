@@ -42,7 +42,7 @@ class Checked(NamedTuple):
     def text(self) -> str:
         """What was found, in lines."""
         told = [f"{self.parts} parts, {len(self.damaged)} damaged, {len(self.unlisted)} files that are not in the list"]
-        told += [f"part {number}: {refusal}" for number, refusal in sorted(self.damaged.items())]
+        told += [f"part {number}: {refusal.sentence}" for number, refusal in sorted(self.damaged.items())]
         return "\n".join([*told, *(f"{name}: it is not in the list" for name in self.unlisted)])
 
 

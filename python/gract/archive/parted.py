@@ -231,7 +231,7 @@ class Parted(Asked):
         return {number: self._read(Info, found[0]) for number, found in sorted(replies.items())}
 
     def _noted(self, notes: Sequence[str] = ()) -> Sequence[str]:
-        return [*notes, *(f"without part {number}: {refusal}" for number, refusal in sorted(self.damaged.items()))]
+        return [*notes, *(f"without part {number}: {refusal.sentence}" for number, refusal in sorted(self.damaged.items()))]
 
     def _first(self, lines: Sequence[bytes]) -> List[Reply]:
         view = self._view

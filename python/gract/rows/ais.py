@@ -4,7 +4,6 @@ from typing import Optional
 
 from .collecting import Rows
 from .columns import SHIPS
-from .format import Format, Head
 from .sources import Source
 from .table import Table
 
@@ -25,14 +24,6 @@ class Export(Table):
         return STATIONS if self.rows.options.no_stations and is_station(name) else None
 
 
-def is_ais(head: Head) -> bool:
-    """Whether there is a heading with ships."""
-    return bool(head.heading) and head.has_ships
-
-
 def read(source: Source, rows: Rows) -> None:
     """Reads an export."""
     Export(source, rows, SHIPS, 180).read()
-
-
-FORMAT = Format("ais", "an AIS export with a heading", "metres", is_ais, read, ("table",))

@@ -9,21 +9,10 @@ from typing import Optional
 from ..errors import SourceError
 from . import gpx
 from .collecting import Rows
-from .format import Format, Head
 from .sources import HEAD, Source, Stream
 
 # What gpsbabel calls these formats.
 FORMS = {"fit": "garmin_fit", "tcx": "gtrnctr"}
-
-
-def is_fit(head: Head) -> bool:
-    """Whether there is the head of a FIT file."""
-    return head.start[8:12] == b".FIT"
-
-
-def is_tcx(head: Head) -> bool:
-    """Whether the first element is that of a training centre's database."""
-    return head.root == "TrainingCenterDatabase"
 
 
 def read_by(form: str, source: Source, rows: Rows) -> None:
@@ -66,7 +55,3 @@ def read_fit(source: Source, rows: Rows) -> None:
 def read_tcx(source: Source, rows: Rows) -> None:
     """Reads a TCX file."""
     read_by("tcx", source, rows)
-
-
-FIT = Format("fit", "a FIT file, by gpsbabel", "metres", is_fit, read_fit)
-TCX = Format("tcx", "a TCX file, by gpsbabel", "metres", is_tcx, read_tcx)

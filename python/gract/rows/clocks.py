@@ -25,7 +25,8 @@ CLEAR = (("seconds", 10**8), ("milliseconds", 10**11), ("microseconds", 10**14),
 DATE_NUMBER = re.compile(r"(19|20)\d\d(0[1-9]|1[0-2])(0[1-9]|[12]\d|3[01])([01]\d|2[0-3])[0-5]\d([0-5]\d)?")
 
 # What most files write, and a date with its year first and slashes, which is as clear.
-USUAL = re.compile(r"([0-9]{4}-[0-9]{2}-[0-9]{2}[T ](?:[01][0-9]|2[0-3]):[0-5][0-9]):([0-5][0-9])(?:\.[0-9]+)?Z?").fullmatch
+MINUTE = re.compile(r"[0-9]{4}-[0-9]{2}-[0-9]{2}[T ](?:[01][0-9]|2[0-3]):[0-5][0-9]").fullmatch
+USUAL = re.compile(r"(.{16}):([0-5][0-9])(?:\.[0-9]+)?Z?").fullmatch
 SLASHES = re.compile(r"([0-9]{4})/([0-9]{1,2})/([0-9]{1,2})(?=$|[T ])").match
 
 # What files write besides; a day and a month look alike, so which one it is is asked for.
@@ -51,14 +52,17 @@ class Unclear(Exception):
 class Minutes(Dict[str, int]):
     """The seconds of minutes, as most files write them; some that were met are kept."""
 
-    def has(self, minute: str) -> bool:
-        """Whether there is such a minute, which is then kept."""
-        if minute not in self:
-            if len(self) >= MOST_MINUTES:
-                self.clear()
-            with contextlib.suppress(ValueError):
-                self[minute] = times.seconds_of(minute)
-        return minute in self
+    def __missing__(self, minute: str) -> int:
+        if not MINUTE(minute):
+            raise KeyError(minute)
+        try:
+            seconds = times.seconds_of(minute)
+        except ValueError:
+            raise KeyError(minute) from None
+        if len(self) >= MOST_MINUTES:
+            self.clear()
+        self[minute] = seconds
+        return seconds
 
 
 class Clock:
@@ -78,9 +82,11 @@ class Clock:
     def seconds(self, text: str) -> int:
         """Raises Unclear with its cause."""
         found = None if self.form else USUAL(text)
-        if found and self.minutes.has(found[1]):
-            self.clear += 1
-            return self.minutes[found[1]] + int(found[2])
+        if found:
+            with contextlib.suppress(KeyError):
+                seconds = self.minutes[found[1]] + int(found[2])
+                self.clear += 1
+                return seconds
         return self._slowly(text)
 
     def _slowly(self, text: str) -> int:

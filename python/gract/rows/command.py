@@ -5,7 +5,6 @@ import contextlib
 import gc
 import os
 import sys
-import tempfile
 from typing import IO, Iterator, Optional
 
 from . import detecting
@@ -61,6 +60,8 @@ def written(name: Optional[str]) -> Iterator[IO[str]]:
         with open(name, "w", encoding="ascii") as out:
             yield out
         return
+    import tempfile
+
     file = tempfile.NamedTemporaryFile("w", dir=folder or ".", prefix=f".{base[:100]}.", delete=False, encoding="ascii")
     try:
         with file:

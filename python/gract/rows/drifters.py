@@ -12,11 +12,9 @@ from typing import Sequence
 
 from .. import times
 from .collecting import Rows
-from .format import Format, Head
 from .places import position_of
 from .sources import Source
 
-BEGINS = re.compile(r"\s*\d{1,10}\s+(?:[1-9]|1[0-2])\s+\d{1,2}\.\d+\s+(?:19|20)\d\d\s+-?\d{1,3}\.\d+\s+-?\d{1,3}\.\d+(?:\s|$)")
 NUMBER = re.compile(r"\d{1,4}(?:\.\d{1,12})?").fullmatch
 
 
@@ -47,17 +45,9 @@ def add_line(fields: Sequence[str], rows: Rows, where: str, line: str) -> None:
         rows.add(number, seconds, *position, where, line)
 
 
-def are_drifters(head: Head) -> bool:
-    """Whether the first lines all have such columns."""
-    return bool(head.lines) and all(BEGINS.match(line) for line in head.lines[:5])
-
-
 def read(source: Source, rows: Rows) -> None:
     """Reads a file."""
     for number, line in source.lines():
         fields = line.split()
         if fields:
             add_line(fields, rows, f"{source.name} line {number}", line)
-
-
-FORMAT = Format("drifters", "a file of NOAA's drifters", "degrees", are_drifters, read)

@@ -1,6 +1,7 @@
 """What a format is, and what the beginning of a file tells of it."""
 
 import csv
+import importlib
 import re
 from typing import Callable, List, NamedTuple, Optional, Sequence, Tuple
 
@@ -73,15 +74,20 @@ class Head:
 
 
 class Format(NamedTuple):
-    """A format of files: its name, what it is, its usual plane (`metres` or `degrees`), whether a file begins as one, and what reads it.
-    Those `alike` are formats whose files it may be told to read."""
+    """A format of files: its name, what it is, its usual plane (`metres` or `degrees`), whether a file begins as one, and what reads it:
+    a function of a module that is loaded where a file is read. Those `alike` are formats whose files it may be told to read."""
 
     name: str
     what: str
     plane: str
     begins: Callable[[Head], bool]
-    read: Callable[[Source, Rows], None]
+    reader: str
     alike: Sequence[str] = ()
+
+    def read(self, source: Source, rows: Rows) -> None:
+        """Reads a file of it."""
+        module, _, function = self.reader.partition(".")
+        getattr(importlib.import_module(f"{__package__}.{module}"), function)(source, rows)
 
 
 Known = Tuple[bytes, str]

@@ -10,10 +10,8 @@ from typing import Any, Dict, Iterator, Optional, Tuple
 from ..errors import SourceError
 from .collecting import Rows
 from .features import Points
-from .format import Format, Head
 from .sources import MOST_LINE, Source
 
-BEGINS = re.compile(r'\s*\x1e?\{.{0,4096}?"type"\s*:\s*"(?:FeatureCollection|Feature)"', re.DOTALL)
 
 SPACE = re.compile(r"[\s\x1e]*")
 
@@ -123,11 +121,6 @@ def point_of(feature: Any) -> Optional[Tuple[Dict[str, Any], Any, Any]]:
     return properties, place[0], place[1]
 
 
-def is_geojson(head: Head) -> bool:
-    """Whether there is an object with the type of a feature or of features."""
-    return BEGINS.match(head.text) is not None
-
-
 def read(source: Source, rows: Rows) -> None:
     """Reads a document."""
     points: Optional[Points] = None
@@ -140,6 +133,3 @@ def read(source: Source, rows: Rows) -> None:
             points.add_named(*found, where)
     if points is not None:
         points.end()
-
-
-FORMAT = Format("geojson", "GeoJSON", "degrees", is_geojson, read)

@@ -12,7 +12,6 @@ from typing import Iterator, List, Optional, Tuple
 from ..errors import SourceError
 from .collecting import Rows
 from .features import Points
-from .format import Format, Head
 from .sources import MOST_LINE, Source
 
 # Bytes of the rectangle around a geometry, by the flags of its head.
@@ -87,12 +86,6 @@ def read_layer(base: sqlite3.Connection, name: str, table: str, column: str, row
     points.end()
 
 
-def is_geopackage(head: Head) -> bool:
-    """Whether there is the head of a GeoPackage: one of SQLite with its mark, or with its tables named in the first pages."""
-    has_mark = head.start[68:72] in (b"GPKG", b"GP10", b"GP11") or b"gpkg_geometry_columns" in head.start
-    return head.start.startswith(b"SQLite format 3\0") and has_mark
-
-
 def read(source: Source, rows: Rows) -> None:
     """Reads all layers of points. Refuses a file without one."""
     with source.on_disk() as path, opened(path, source.name) as base:
@@ -101,6 +94,3 @@ def read(source: Source, rows: Rows) -> None:
             raise SourceError(f"{source.name} has no layer of points")
         for table, column in layers:
             read_layer(base, source.name, table, column, rows)
-
-
-FORMAT = Format("geopackage", "a GeoPackage", "degrees", is_geopackage, read)

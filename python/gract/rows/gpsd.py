@@ -5,18 +5,14 @@ so it gets the time that was last told before it.
 """
 
 import json
-import re
 from decimal import Decimal
 from typing import Any, Dict
 
 from .. import times
 from .collecting import Rows
-from .format import Format, Head
 from .receivers import Log
 from .sentences import PLACES, ROUGH_UNITS, UNITS, Broken
 from .sources import Source
-
-BEGINS = re.compile(r'\s*\{\s*"class"\s*:\s*"')
 
 
 class Reader:
@@ -84,11 +80,6 @@ def is_number(value: object) -> bool:
     return (is_whole(value) or isinstance(value, Decimal)) and -10**9 < Decimal(str(value)) < 10**9
 
 
-def is_gpsd(head: Head) -> bool:
-    """Whether a line is an object of JSON with a class."""
-    return head.matches(BEGINS)
-
-
 def read(source: Source, rows: Rows) -> None:
     """Reads a log."""
     reader = Reader(Log(rows))
@@ -104,6 +95,3 @@ def read(source: Source, rows: Rows) -> None:
             rows.leave_out("a time that is none", where, line)
     rows.causes.not_used("classes", reader.unread)
     reader.log.end()
-
-
-FORMAT = Format("gpsd", "what gpsd says in JSON", "metres", is_gpsd, read)

@@ -9,7 +9,6 @@ from typing import Dict, Iterable
 
 from .. import times
 from .collecting import Rows
-from .format import Format, Head
 from .markup import Event, Reader
 from .places import position_of
 from .sources import Source
@@ -87,14 +86,6 @@ class Tracks:
         return self.rows.track_name(f"{os.path.basename(self.file)} {self.nth} {self.called}".strip())
 
 
-def is_gpx(head: Head) -> bool:
-    """Whether the first element is that of GPX."""
-    return head.root == "gpx"
-
-
 def read(source: Source, rows: Rows) -> None:
     """Reads a document."""
     Tracks(rows, source.name).read(Reader(source).read())
-
-
-FORMAT = Format("gpx", "a GPX file", "metres", is_gpx, read)

@@ -13,7 +13,6 @@ from typing import Dict, Iterable, Optional
 
 from .. import times
 from .collecting import Rows
-from .format import Format, Head
 from .markup import Event, Reader
 from .places import position_of
 from .sources import Source
@@ -118,15 +117,7 @@ class Tracks:
             self.rows.add(name, seconds, *position, where, line)
 
 
-def is_kml(head: Head) -> bool:
-    """Whether the first element is that of KML."""
-    return head.root == "kml"
-
-
 def read(source: Source, rows: Rows) -> None:
     """Reads a document."""
     with contextlib.closing(Tracks(rows, source.name)) as tracks:
         tracks.read(Reader(source).read())
-
-
-FORMAT = Format("kml", "a KML file with gx:Track", "metres", is_kml, read)

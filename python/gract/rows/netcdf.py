@@ -12,7 +12,6 @@ from typing import Any, Iterator, List, Optional, Sequence
 from .. import times
 from ..errors import SourceError
 from .collecting import Rows
-from .format import Format, Head
 from .layouts import Block, Layout
 from .places import position_of
 from .sources import Source
@@ -170,11 +169,6 @@ def read_file(file: Any, name: str, rows: Rows) -> None:
         read_block(layout, clock, objects, block, rows)
 
 
-def is_netcdf(head: Head) -> bool:
-    """Whether there is the head of a netCDF file, of version 3 or of HDF5."""
-    return head.start[:3] == b"CDF" or head.start[:4] == b"\x89HDF"
-
-
 def read(source: Source, rows: Rows) -> None:
     """Reads a file. Refuses it where the module is not there, or what the library cannot read."""
     try:
@@ -192,6 +186,3 @@ def read(source: Source, rows: Rows) -> None:
             raise
         except FAULTS as fault:
             raise SourceError(f"{source.name} could not be read as a netCDF file: {type(fault).__name__}: {str(fault)[:200]}") from None
-
-
-FORMAT = Format("netcdf", "a netCDF file of trajectories", "degrees", is_netcdf, read)

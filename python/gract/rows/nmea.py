@@ -10,7 +10,6 @@ from typing import Dict, List, Optional, Sequence, Tuple
 
 from .. import times
 from .collecting import Rows
-from .format import Format, Head
 from .receivers import Log
 from .sentences import ROUGH_UNITS, UNITS, Bits, Broken, coordinate, report_of, sentence_of, time_parts
 from .sources import Source
@@ -18,7 +17,6 @@ from .sources import Source
 CLOCK = re.compile(r"(\d\d)(\d\d)(\d\d)(?:\.\d*)?")
 SECONDS = re.compile(r"1\d{9}(?:\.\d+)?")
 TAGGED = re.compile(r"(?:^|,)c:(\d{1,13})(?!\d)")
-BEGINS = re.compile(r".{0,80}[!$](?:[A-Z]{2}(?:VDM|VDO|RMC|ZDA|GGA|GSA|GSV|GLL|VTG|TXT)|PUBX),")
 
 # A message has at most so many parts, and so many messages may be open at once.
 MOST_PARTS, MOST_OPEN = 9, 1000
@@ -109,11 +107,6 @@ class Reader:
             self.log.clock(times.seconds_of(f"{year:0>4}-{month:0>2}-{day:0>2}T{':'.join(found.groups())}"), True)
 
 
-def is_nmea(head: Head) -> bool:
-    """Whether a line is a sentence."""
-    return head.matches(BEGINS)
-
-
 def read(source: Source, rows: Rows) -> None:
     """Reads a log."""
     reader = Reader(Log(rows))
@@ -129,6 +122,3 @@ def read(source: Source, rows: Rows) -> None:
             rows.leave_out("a time that is none", where, line)
     rows.causes.not_used("sentences", reader.unread)
     reader.log.end()
-
-
-FORMAT = Format("nmea", "a log of NMEA sentences", "metres", is_nmea, read)

@@ -3,10 +3,11 @@
 import math
 import re
 from decimal import Decimal, InvalidOperation
-from typing import Callable, Optional, Tuple
+from typing import Callable, List, Optional, Sequence, Tuple
 
 from .. import planes
 from ..planes import Metres, Plane, Projected
+from .spool import Row
 
 # Degrees as most files write them. With no more than so many figures a float is told from 90 and 180 as exactly as the text.
 PLAIN = re.compile(r"[+-]?[0-9]{1,3}(?:\.[0-9]{1,12})?").fullmatch
@@ -21,6 +22,7 @@ MISSING = ("", "na", "nan", "null", "none", "-", "\\n")
 
 Placed = Tuple[str, str]
 Placer = Callable[[str, str], Tuple[int, int]]
+Liner = Callable[[Sequence[Row]], List[str]]
 
 
 def position_of(latitude: str, longitude: str, most_longitude: int = 180) -> Optional[Placed]:
@@ -74,3 +76,16 @@ def placer(plane: Plane, west: int) -> Placer:
         return int(whole + part) * units // TENS[len(part)], int(high + more) * units // TENS[len(more)]
 
     return in_degrees
+
+
+def liner(plane: Plane, west: int, is_turned: bool) -> Liner:
+    """What makes lines of rows, in a plane that is cut at a longitude, from which some of them may have to be turned."""
+    if isinstance(plane, Metres) and not is_turned:
+        wide, high, floor = plane.east, plane.north, math.floor
+
+        def in_metres(rows: Sequence[Row]) -> List[str]:
+            return [f"{item},{seconds},{floor(float(east) * wide)},{floor(float(north) * high)}\n" for seconds, item, north, east in rows]
+
+        return in_metres
+    place = placer(plane, west)
+    return lambda rows: ["%d,%d,%d,%d\n" % (item, seconds, *place(north, east)) for seconds, item, north, east in rows]

@@ -6,17 +6,15 @@ from typing import Iterator, Optional, Sequence, Tuple
 
 from .. import times
 from ..errors import LIMITS, ArgumentError, SourceError
-from ..grid import RawRow
-from ..planes import Plane, turned
-from ..proposals import TICKS, Fitting, Proposal, Settings
+from ..fitting import TICKS, Fit, Fitting, Settings
+from ..planes import Plane, RawRow, turned
 from ..survey import Survey
 from .collecting import Rows
 from .detecting import format_of, usual_plane
 from .ends import Ends
 from .format import Format
-from .moves import thinned, without_jumps, without_still
 from .options import Options
-from .places import placer
+from .places import liner, placer
 from .planing import plane_of, plane_text
 from .sources import sources_of
 from .spool import Spool
@@ -32,7 +30,7 @@ class Found:
 
     def __init__(self, rows: Rows, spool: Spool, formats: Sequence[Format]):
         self.options, self.causes, self.numbers, self.spool, self.formats = rows.options, rows.causes, rows.numbers, spool, formats
-        self.ends, self.survey = Ends(), Survey(TICKS, True)
+        self.ends, self.survey, self.is_turned = Ends(), Survey(TICKS, True), False
         self._look()
         _, south, _, north = self.survey.bounds
         self.bounds = south, north
@@ -50,7 +48,9 @@ class Found:
         for piece in iter(lambda: list(itertools.islice(rows, PIECE)), []):
             self.ends.see([row[0] for row in piece])
             sights = [(number, seconds, float(longitude), float(latitude)) for seconds, number, latitude, longitude in piece]
-            if not all(west <= sight[2] < east for sight in sights):
+            longitudes = [sight[2] for sight in sights]
+            if not west <= min(longitudes) <= max(longitudes) < east:
+                self.is_turned = True
                 sights = [(number, seconds, float(turned(east_of, west)), north) for number, seconds, east_of, north in sights]
             self.survey.take(sights)
 
@@ -62,20 +62,19 @@ class Found:
 
     def texts(self) -> Iterator[str]:
         """The text of a file of rows, a piece at a time."""
-        place, rows = placer(self.plane, self.options.west), self.spool.sorted()
+        lines, rows = liner(self.plane, self.options.west, self.is_turned), self.spool.sorted()
         yield "object,instant,x,y\n"
         for piece in iter(lambda: list(itertools.islice(rows, PIECE)), []):
-            yield "".join(["%d,%d,%d,%d\n" % (number, seconds, *place(north, east)) for seconds, number, north, east in piece])
+            yield "".join(lines(piece))
 
     def reports(self) -> Iterator[Report]:
         """The rows by time, in degrees: object, seconds since 1970, longitude and latitude."""
         for seconds, number, latitude, longitude in self.spool.sorted():
             yield number, seconds, float(longitude), float(latitude)
 
-    def proposal(self) -> Proposal:
-        """Which CELL, TICK and PERIOD the rows would take."""
-        numbers = list(map(str, self.survey.tracks))
-        return Fitting(self.survey, self.plane, self.options.west, Settings(None, None, None), numbers).proposal(True, {})
+    def fit(self) -> Fit:
+        """Which CELL, TICK and PERIOD would suit the rows."""
+        return Fitting(self.survey, self.plane, Settings(None, None, None), list(map(str, self.survey.tracks))).fit()
 
     def told(self) -> Iterator[str]:
         """What is told of the rows, a line each: how many they are, their plane, what was left out of them, and what to build them with."""
@@ -85,19 +84,19 @@ class Found:
         yield f"the plane is {plane_text(self.plane, self.bounds)}"
         yield from self.causes.told()
         yield from self.ends.told()
-        yield from limits_told(self.proposal())
+        yield from limits_told(self.fit())
 
     def close(self) -> None:
         """Gives temporary files up."""
         self.spool.close()
 
 
-def limits_told(proposal: Proposal) -> Iterator[str]:
+def limits_told(fit: Fit) -> Iterator[str]:
     """Which words suit rows, and the limit that they would pass all the same."""
-    yield f"CELL {proposal.cell}, TICK {proposal.tick} and PERIOD {proposal.period} would suit them"
-    if proposal.passed is not None:
-        limit = LIMITS[proposal.passed]
-        yield f"the limit {proposal.passed} would be passed: {limit.most:,} {limit.what} is the most. What to do: {limit.advice}"
+    yield f"CELL {fit.cell}, TICK {fit.tick} and PERIOD {fit.period} would suit them"
+    if fit.passed is not None:
+        limit = LIMITS[fit.passed]
+        yield f"the limit {fit.passed} would be passed: {limit.most:,} {limit.what} is the most. What to do: {limit.advice}"
 
 
 def read(files: Sequence[str], options: Optional[Options] = None) -> Found:
@@ -122,7 +121,11 @@ def read(files: Sequence[str], options: Optional[Options] = None) -> Found:
 def shaped(rows: Rows) -> Spool:
     """The rows without those that the options leave out by the rows around them."""
     options, spool, causes = rows.options, rows.spool, rows.causes
-    if options.max_speed is not None and spool.count:
+    if not spool.count or (options.max_speed, options.min_move, options.every) == (None, None, None):
+        return spool
+    from .moves import thinned, without_jumps, without_still
+
+    if options.max_speed is not None:
         spool = spool.replace(without_jumps(spool, options.max_speed, causes))
     if options.min_move is not None and spool.count:
         spool = spool.replace(without_still(spool, options.min_move, causes))

@@ -5,10 +5,13 @@ import re
 from typing import Iterator, List, Optional, Tuple
 
 from .collecting import Rows
-from .sources import MOST_LINE
+from .sources import MOST_LINE, lines_in
 
 # A quote that is not closed within so many lines is a slip of the pen, and no field of many lines.
 MOST_LINES_QUOTED = 8
+
+# What may separate columns, where nobody says it.
+SEPARATORS = ",;\t|"
 
 csv.field_size_limit(MOST_LINE)
 
@@ -16,23 +19,36 @@ csv.field_size_limit(MOST_LINE)
 def separator_of(line: str) -> str:
     """What separates most columns of a heading."""
     bare = re.sub(r'"[^"]*"', "", line)
-    return max(",;\t|", key=bare.count)
+    return max(SEPARATORS, key=bare.count)
 
 
 class Records:
     """The texts of records, with the number of the line that each begins on. A quote that is open at the end of a line goes on in the
     lines below, unless it is not closed there either."""
 
-    def __init__(self, name: str, lines: Iterator[Tuple[int, str]], rows: Rows):
-        self.name, self.lines, self.rows = name, lines, rows
+    def __init__(self, name: str, pieces: Iterator[str], rows: Rows):
+        self.name, self.pieces, self.rows = name, pieces, rows
         self.waiting: List[Tuple[int, str]] = []
         self.number, self.text = 0, ""
+        # The present piece of the text: how many lines are before it, the place of the next line in it, and how many it has.
+        self.piece, self.before, self.at, self.count = "", 0, 0, 0
+        self.lines: List[str] = []
 
     def next_line(self) -> Optional[Tuple[int, str]]:
         """The next line; None at the end."""
         if self.waiting:
             return self.waiting.pop(0)
-        return next(self.lines, None)
+        if self.at == self.count and not self.next_piece():
+            return None
+        self.lines = self.lines or lines_in(self.piece)
+        self.at += 1
+        return self.before + self.at, self.lines[self.at - 1]
+
+    def next_piece(self) -> bool:
+        """Goes on to the next piece of the text; false at the end."""
+        self.piece, self.before, self.at = next(self.pieces, ""), self.before + self.count, 0
+        self.lines, self.count = [], self.piece.count("\n")
+        return self.count > 0
 
     def __iter__(self) -> Iterator[str]:
         while True:
@@ -41,7 +57,7 @@ class Records:
                 return
             self.number, self.text = line
             if '"' not in self.text:
-                if self.text.strip(" ,;\t|"):
+                if self.text.strip(f" {SEPARATORS}"):
                     yield self.text
             elif self.text.count('"') % 2 == 0 or self.close():
                 yield self.text

@@ -1,18 +1,12 @@
-"""Files of tracks as they are opened: unpacked, within bounds, and as lines. What is damaged, or more than it may be, is refused by its
+"""Files of tracks as they are opened: within bounds, and as lines. What is damaged, or more than it may be, is refused by its
 name and place."""
 
-import bz2
 import codecs
 import contextlib
-import gzip
 import io
-import lzma
-import shutil
+import itertools
 import sys
-import tempfile
-import zipfile
-import zlib
-from typing import IO, Any, Iterator, List, Optional, Tuple
+from typing import Any, Iterator, List, Optional, Tuple, Type
 
 from ..errors import SourceError
 
@@ -20,19 +14,16 @@ from ..errors import SourceError
 MOST_LINE = 1 << 20
 HEAD = 1 << 16
 
-# The most memory that unpacking xz may take, in bytes; its own greatest level takes 65 MiB.
-MOST_XZ = 1 << 27
-
-# What damaged files raise as they are unpacked.
-DAMAGES = (EOFError, OSError, RuntimeError, NotImplementedError, zlib.error, lzma.LZMAError, zipfile.BadZipFile)
+# How files begin that are packed: by zip, gzip, xz and bzip2.
+PACKED = ZIP, GZIP, XZ, BZIP2 = b"PK\x03\x04", b"\x1f\x8b", b"\xfd7zXZ\0", b"BZh"
 
 
 class Stream(io.RawIOBase):
-    """The bytes of a file. Refuses what is damaged, and more bytes than `most`."""
+    """The bytes of a file. Refuses what is damaged, which raises `damages`, and more bytes than `most`."""
 
-    def __init__(self, name: str, file: Any, most: Optional[int] = None):
+    def __init__(self, name: str, file: Any, most: Optional[int] = None, damages: Tuple[Type[Exception], ...] = (OSError,)):
         super().__init__()
-        self.name_of_file, self.file, self.most, self.count = name, file, most, 0
+        self.name_of_file, self.file, self.most, self.damages, self.count = name, file, most, damages, 0
 
     def readable(self) -> bool:
         """It is."""
@@ -42,41 +33,13 @@ class Stream(io.RawIOBase):
         """Fills a buffer, as far as there are bytes."""
         try:
             data: bytes = self.file.read(len(buffer))
-        except DAMAGES as fault:
+        except self.damages as fault:
             raise SourceError(f"{self.name_of_file} is damaged after {self.count:,} bytes: {fault}") from None
         buffer[: len(data)] = data
         self.count += len(data)
         if self.most is not None and self.count > self.most:
             raise SourceError(f"{self.name_of_file} has more than {self.most:,} bytes, unpacked (--most-bytes): is it what it seems to be?")
         return len(data)
-
-
-class Unxz:
-    """A file of xz as it is unpacked, within bounded memory."""
-
-    def __init__(self, packed: IO[bytes]):
-        self.packed, self.unpacker = packed, self.fresh()
-
-    def fresh(self) -> lzma.LZMADecompressor:
-        """What unpacks the next stream of the file."""
-        return lzma.LZMADecompressor(format=lzma.FORMAT_XZ, memlimit=MOST_XZ)
-
-    def read(self, size: int) -> bytes:
-        """At most so many bytes; none at the end."""
-        while True:
-            data = b""
-            if self.unpacker.eof:
-                data = self.unpacker.unused_data.lstrip(b"\0") or self.packed.read(HEAD).lstrip(b"\0")
-                if not data:
-                    return b""
-                self.unpacker = self.fresh()
-            elif self.unpacker.needs_input:
-                data = self.packed.read(HEAD)
-                if not data:
-                    raise EOFError("Compressed file ended before the end-of-stream marker was reached")
-            found = self.unpacker.decompress(data, size)
-            if found:
-                return found
 
 
 class Source:
@@ -87,13 +50,8 @@ class Source:
         self.head = raw.peek(1)[:HEAD]
 
     def lines(self) -> Iterator[Tuple[int, str]]:
-        """The lines of a text with their numbers from 1, without their ends. Marks of byte order, other encodings and bytes 0 do not
-        matter. Refuses a line of more than a megabyte."""
-        number = 0
-        for lines in self.blocks():
-            for line in lines:
-                number += 1
-                yield number, line
+        """The lines of a text with their numbers from 1, without their ends."""
+        return enumerate(itertools.chain.from_iterable(lines_in(text) for text in self.pieces()), 1)
 
     def texts(self) -> Iterator[str]:
         """The text, a piece at a time, each line of which ends with a line feed."""
@@ -107,19 +65,23 @@ class Source:
             block = self.raw.read(HEAD)
         yield decoder.decode(b"", final=True)
 
-    def blocks(self) -> Iterator[List[str]]:
-        """The lines, some at a time."""
+    def pieces(self) -> Iterator[str]:
+        """The lines of a text, some at a time, each of which ends with a line feed. Marks of byte order, other encodings and bytes 0 do not
+        matter. Refuses a line of more than a megabyte."""
         rest, count = "", 0
         for text in self.texts():
-            lines = (rest + text).split("\n")
-            rest = lines.pop()
-            if max(map(len, lines), default=0) > MOST_LINE or len(rest) > MOST_LINE:
-                nth = next((nth for nth, line in enumerate(lines) if len(line) > MOST_LINE), len(lines))
-                raise SourceError(f"{self.name} line {count + nth + 1}: a line of more than {MOST_LINE:,} characters")
-            count += len(lines)
-            yield lines
+            text = rest + text
+            end = text.rfind("\n") + 1
+            if len(text) > MOST_LINE:
+                nth = next((nth for nth, line in enumerate(text.split("\n")) if len(line) > MOST_LINE), None)
+                if nth is not None:
+                    raise SourceError(f"{self.name} line {count + nth + 1}: a line of more than {MOST_LINE:,} characters")
+            rest = text[end:]
+            if end:
+                count += text.count("\n")
+                yield text[:end]
         if rest:
-            yield [rest]
+            yield f"{rest}\n"
 
     @contextlib.contextmanager
     def on_disk(self) -> Iterator[str]:
@@ -127,10 +89,18 @@ class Source:
         if self.path is not None:
             yield self.path
             return
+        import shutil
+        import tempfile
+
         with tempfile.NamedTemporaryFile(prefix="gract-") as copy:
             shutil.copyfileobj(self.raw, copy)
             copy.flush()
             yield copy.name
+
+
+def lines_in(piece: str) -> List[str]:
+    """The lines of a text each of which ends with a line feed, without it."""
+    return piece[:-1].split("\n")
 
 
 def sources_of(name: str, most: int) -> Iterator[Source]:
@@ -138,57 +108,10 @@ def sources_of(name: str, most: int) -> Iterator[Source]:
     with contextlib.ExitStack() as stack:
         file = sys.stdin.buffer if name == "-" else stack.enter_context(open(name, "rb"))
         raw = io.BufferedReader(Stream(name, file), HEAD)
-        if raw.peek(4)[:4] == b"PK\x03\x04":
-            yield from members_of(name, stack.enter_context(seekable(name, raw, most)), most)
+        path = None if name == "-" else name
+        if raw.peek(6).startswith(PACKED):
+            # What unpacks takes time to be loaded.
+            from . import packed
+            yield from packed.sources_of(name, raw, path, most)
         else:
-            yield unpacked(name, raw, None if name == "-" else name, most)
-
-
-@contextlib.contextmanager
-def seekable(name: str, raw: io.BufferedReader, most: int) -> Iterator[IO[bytes]]:
-    """A file that can be read from any place on: itself, or a temporary copy of standard input."""
-    if name != "-":
-        with open(name, "rb") as file:
-            yield file
-        return
-    with tempfile.TemporaryFile(prefix="gract-") as copy:
-        shutil.copyfileobj(io.BufferedReader(Stream(name, raw, most)), copy)
-        copy.seek(0)
-        yield copy
-
-
-def members_of(name: str, file: IO[bytes], most: int) -> Iterator[Source]:
-    """The files of a zip archive; of one with KML, as Google Earth's, those alone."""
-    try:
-        archive = zipfile.ZipFile(file)
-        members = [member for member in archive.infolist() if not member.is_dir() and not member.filename.startswith("__MACOSX/")]
-    except DAMAGES as fault:
-        raise SourceError(f"{name} is a damaged zip archive: {fault}") from None
-    if any(member.filename == "[Content_Types].xml" for member in members):
-        raise SourceError(f"{name} is an Excel workbook or a document of Office: save the table as CSV")
-    if not members:
-        raise SourceError(f"{name} is a zip archive without a file")
-    maps = [member for member in members if member.filename.lower().endswith(".kml")]
-    for member in maps or members:
-        inner = f"{name}/{member.filename}"
-        try:
-            opened = archive.open(member)
-        except DAMAGES as fault:
-            raise SourceError(f"{inner} could not be unpacked: {fault}") from None
-        with opened:
-            yield unpacked(inner, io.BufferedReader(Stream(inner, opened, most), HEAD), None, most)
-
-
-def unpacked(name: str, raw: io.BufferedReader, path: Optional[str], most: int) -> Source:
-    """A file that may be packed, as what it holds."""
-    start = raw.peek(6)[:6]
-    packed: Any = None
-    if start[:2] == b"\x1f\x8b":
-        packed = gzip.GzipFile(fileobj=raw)
-    elif start == b"\xfd7zXZ\0":
-        packed = Unxz(raw)
-    elif start[:3] == b"BZh":
-        packed = bz2.BZ2File(raw)
-    if packed is not None:
-        return Source(name, io.BufferedReader(Stream(name, packed, most), HEAD), None, most)
-    return Source(name, io.BufferedReader(Stream(name, raw, most), HEAD), path, most)
+            yield Source(name, io.BufferedReader(Stream(name, raw, most), HEAD), path, most)

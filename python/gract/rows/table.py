@@ -6,26 +6,21 @@ the heading are read.
 
 import contextlib
 import csv
-import itertools
-import re
 from typing import List, Optional, Sequence, Tuple
 
 from ..errors import SourceError
 from .clocks import Clock, Unclear
 from .collecting import Rows
 from .columns import OBJECTS, Columns
-from .fast import Lines
-from .format import Format, Head
+from .fast import SECONDS, Line, Lines
 from .options import Options
 from .places import position_fault, position_of
 from .records import Records, separator_of
 from .sources import Source
+from .spool import Row
 
 # The heading is among the first so many lines; above it may stand notes.
 MOST_LINES_ABOVE = 40
-
-# So many plain lines are read before rows may leave the memory.
-MOST_LINES_AT_ONCE = 1 << 12
 
 
 def degrees_text(text: str, signs: str) -> str:
@@ -95,7 +90,7 @@ class Table:
 
     def __init__(self, source: Source, rows: Rows, ids: Sequence[str], most_longitude: int):
         self.rows, self.most_longitude, self.name = rows, most_longitude, source.name
-        self.records = Records(source.name, source.lines(), rows)
+        self.records = Records(source.name, source.pieces(), rows)
         self.columns, self.separator = heading_of(source.name, self.records, rows.options, ids)
         self.clock, self.swaps, self.last = Clock(rows.options), Swaps(), 0
 
@@ -112,35 +107,41 @@ class Table:
         self.last, pattern = max(self.columns.used), Lines(self.columns, self.separator, self.clock, self.most_longitude)
         while record is not None:
             self.add(record)
-            while pattern.pattern is not None and self.read_plain(pattern.pattern, pattern.order):
-                pass
+            self.read_plain(pattern)
             record = next(records, None)
         self.clock.check(self.name)
         self.swaps.check(self.name, self.rows.read - before, lat, lon)
 
-    def read_plain(self, pattern: "re.Pattern[str]", order: Sequence[int]) -> int:
-        """Reads some lines, up to one that is not as most are, which is put back. Answers with how many rows were read."""
-        if self.records.waiting:
-            return 0
-        rows, minutes, plain = self.rows, self.clock.minutes, pattern.fullmatch
-        known, add, cuts, count = rows.known, rows.spool.rows.append, rows.cuts if rows.cuts.is_any else None, 0
-        for line in itertools.islice(self.records.lines, MOST_LINES_AT_ONCE):
-            found = plain(line[1])
-            if found is not None:
-                name, minute, second, latitude, longitude = found.group(*order)
-                number = known.get(name)
-                if number is not None and (minute in minutes or minutes.has(minute)):
-                    seconds = minutes[minute] + int(second)
-                    count += 1
-                    if cuts is None or not cuts.leaves(name, seconds, latitude, longitude):
-                        add((seconds, number, latitude, longitude))
-                    continue
-            self.records.waiting.append(line)
-            break
-        rows.spool.limit()
-        rows.read += count
-        self.clock.clear += count
-        return 0 if self.records.waiting else count
+    def read_plain(self, pattern: Lines) -> None:
+        """Reads lines up to one that is not as most are."""
+        records = self.records
+        while pattern.pattern is not None and not records.waiting and (records.at < records.count or records.next_piece()):
+            found = pattern.found_in(records.piece)
+            if not any(found[records.at]):
+                # Before the lines behind it are copied, which would take long where none of many is plain.
+                return
+            lines = found[records.at:]
+            count = self.add_plain(lines, pattern.order)
+            records.at += count
+            if count < len(lines):
+                return
+
+    def add_plain(self, lines: Sequence[Line], order: Sequence[int]) -> int:
+        """Adds the rows of lines, up to one that is not as most are. Answers with how many were read."""
+        rows, known, minutes, cuts = self.rows, self.rows.known, self.clock.minutes, self.rows.cuts
+        item, minute, second, latitude, longitude = order
+        found: List[Row] = []
+        add = found.append
+        with contextlib.suppress(KeyError):
+            for line in lines:
+                add((minutes[line[minute]] + SECONDS[line[second]], known[line[item]], line[latitude], line[longitude]))
+        rows.read += len(found)
+        self.clock.clear += len(found)
+        if cuts.is_any:
+            rows.spool.take([row for row, line in zip(found, lines) if not cuts.leaves(line[item], row[0], row[2], row[3])])
+        else:
+            rows.spool.take(found)
+        return len(found)
 
     def add(self, record: Sequence[str]) -> None:
         """Adds the row of a record, or counts why it is none."""
@@ -175,14 +176,6 @@ class Table:
         return None
 
 
-def is_table(head: Head) -> bool:
-    """Whether there is a heading, and not one of ships alone."""
-    return bool(head.heading) and (head.has_animals or not head.has_ships)
-
-
 def read(source: Source, rows: Rows) -> None:
     """Reads a table."""
     Table(source, rows, OBJECTS, 360).read()
-
-
-FORMAT = Format("table", "a table with a heading", "degrees", is_table, read, ("ais",))
