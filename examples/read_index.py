@@ -4,16 +4,14 @@
     read_index.py FILE             prints the rows
     read_index.py --check FILE     prints nothing where the file is an index
 
-A refusal is printed on standard error as `SECTION period PERIOD place INDEX: KIND`, with status 1.
+All three versions of the format are read; read_bits.py has the third. A refusal is printed on standard error as
+`SECTION period PERIOD place INDEX: KIND`, with status 1.
 """
 
-import math
 import sys
 
-
-class Flaw(Exception):
-    def __init__(self, section, period, index, kind):
-        super().__init__(f"{section} period {period} place {index}: {kind}")
+from index_parts import Flaw, Parts
+from read_bits import Reading
 
 
 class Reader:
@@ -59,21 +57,25 @@ class Reader:
         return [data[p // 8] >> p % 8 & 1 for p in range(count)]
 
 
-# The versions of the format by their first eight bytes, and the greatest height of each.
-VERSIONS = {b"GRACT001": 1, b"GRACT002": 2}
+# The versions of the format by their first eight bytes, and the greatest height of the first two.
+VERSIONS = {b"GRACT001": 1, b"GRACT002": 2, b"GRACT003": 3}
 HEIGHTS = {1: 20, 2: 24}
 
 
-class Index:
+class Index(Parts):
     """The parts of a file, as they are parsed."""
 
     def __init__(self, data):
-        r = Reader(data)
+        super().__init__()
         if len(data) < 8:
             raise Flaw("header", 0, 0, "short")
         if bytes(data[:8]) not in VERSIONS:
             raise Flaw("header", 0, 0, "magic")
         self.version = VERSIONS[bytes(data[:8])]
+        if self.version == 3:
+            Reading(self, data)
+            return
+        r = Reader(data)
         r.at = 8
         self.period = r.field(4, 1, 1, 2**22)
         self.height = r.field(4, 2, 1, HEIGHTS[self.version])
@@ -102,15 +104,6 @@ class Index:
         bits = r.bits(width * count, "log", 0)
         return [sum(bit << place for place, bit in enumerate(bits[at:at + width])) for at in range(0, width * count, width)]
 
-    def symbol_width(self):
-        """In how many bits version 2 keeps a symbol: the least, from 1 on, that tell all symbols apart."""
-        return max(1, (len(self.alphabet) + len(self.rules) - 1).bit_length())
-
-    def level_widths(self):
-        """How many digits of a Morton number each level of a tree takes, from the top."""
-        wide = self.height // 4 if self.version == 2 else 0
-        return [2] * wide + [1] * (self.height - 2 * wide)
-
     def read_period(self, r, b):
         present = r.bits(len(self.objects), "presence", b)
         n = sum(present)
@@ -122,9 +115,6 @@ class Index:
         perm, lengths = r.numbers(n, "perm", b), r.numbers(n, "lengths", b)
         here = [o for o, there in zip(self.objects, present) if there]
         return {"objects": here, "offsets": offsets, "tree": tree, "lasts": lasts, "perm": perm, "lengths": lengths}
-
-    def instants(self, b):
-        return min(self.period, self.span - b * self.period)
 
     # Steps 1 to 4, once all bytes are read.
 
@@ -141,22 +131,10 @@ class Index:
                 start += length
 
     def check_rules(self):
-        far = 2**self.height - 1
-        self.summaries = []          # duration, displacement, bounding box of the cells that are entered, if any
         for index, value in enumerate(self.alphabet):
-            move = move_of(value - 1) if value else (0, 0)
-            if max(abs(move[0]), abs(move[1])) > far:
-                raise Flaw("alphabet", 0, index, "code")
-            self.summaries.append((1, move, move + move if value else None))
+            self.see_value(index, value)
         for index, (left, right) in enumerate(self.rules):
-            symbol = len(self.alphabet) + index
-            if left >= symbol or right >= symbol:
-                raise Flaw("rules", 0, index, "rule")
-            joined = join(self.summaries[left], self.summaries[right])
-            duration, move, box = joined
-            if duration > self.period - 1 or max(map(abs, move + (box or ()))) > far:
-                raise Flaw("rules", 0, index, "rule")
-            self.summaries.append(joined)
+            self.see_rule(index, left, right, len(self.alphabet) + index)
         for index, symbol in enumerate(self.symbols):
             if symbol >= len(self.summaries):
                 raise Flaw("log", 0, index, "symbol")
@@ -199,40 +177,12 @@ class Index:
         return squares
 
     def check_block(self, b, p, place, start, length):
-        (x, y), side, duration = p["anchors"][place], 2**self.height, 0
+        cell, duration = p["anchors"][place], 0
         for index in range(start, start + length):
-            instants, (dx, dy), box = self.summaries[self.symbols[index]]
-            if box and not (0 <= x + box[0] and 0 <= y + box[1] and x + box[2] < side and y + box[3] < side):
-                raise Flaw("log", b, index, "offgrid")
-            x, y, duration = x + dx, y + dy, duration + instants
+            cell = self.moved(b, index, cell, self.symbols[index])
+            duration += self.summaries[self.symbols[index]][0]
         if duration != self.instants(b) - 1 - p["offsets"][place]:
             raise Flaw("lengths", b, place, "duration")
-
-    # Rows.
-
-    def rows(self):
-        start = 0
-        for b, p in enumerate(self.periods):
-            for place, length in enumerate(p["lengths"]):
-                yield from self.rows_of(b, p, place, self.symbols[start:start + length])
-                start += length
-
-    def rows_of(self, b, p, place, symbols):
-        x, y = (p["anchors"][place][axis] + self.base[axis] for axis in (0, 1))
-        instant = self.first + b * self.period + p["offsets"][place]
-        yield p["objects"][place], instant, x, y
-        stack = symbols[::-1]
-        while stack:
-            symbol = stack.pop()
-            if symbol >= len(self.alphabet):
-                stack += self.rules[symbol - len(self.alphabet)][::-1]
-                continue
-            instant += 1
-            value = self.alphabet[symbol]
-            if value:
-                dx, dy = move_of(value - 1)
-                x, y = x + dx, y + dy
-                yield p["objects"][place], instant, x, y
 
 
 def child_of(square, digit, width):
@@ -242,24 +192,6 @@ def child_of(square, digit, width):
         quarter = digit >> 2 * place & 3
         square = 2 * x + quarter % 2, 2 * y + quarter // 2
     return square
-
-
-def move_of(code):
-    """The movement of a spiral code."""
-    r = (math.isqrt(code) + 1) // 2
-    if r == 0:
-        return 0, 0
-    side, i = divmod(code - (2 * r - 1)**2, 2 * r)
-    return ((r, -r + 1 + i), (r - 1 - i, r), (-r, r - 1 - i), (-r + 1 + i, -r))[side]
-
-
-def join(left, right):
-    """The summary of what comes after each other."""
-    (n, (dx, dy), box), (m, (ex, ey), moved) = left, right
-    if moved:
-        moved = (moved[0] + dx, moved[1] + dy, moved[2] + dx, moved[3] + dy)
-        box = moved if not box else (*map(min, box[:2], moved[:2]), *map(max, box[2:], moved[2:]))
-    return n + m, (dx + ex, dy + ey), box
 
 
 def main(words):

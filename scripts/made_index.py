@@ -1,6 +1,7 @@
 """Index files that no chart was built for, section by section, as docs/FORMAT.md says: for scripts/fuzz_files.
 
-A file is a list of sections, each a pair of its name and its bytes, so that whoever damages it knows where sections end.
+A file is a list of sections, each a pair of its name and its bytes, so that whoever damages it knows where sections end. made_bits.py makes
+files of version 3 of what others hold.
 """
 
 import math
@@ -133,8 +134,8 @@ def period_sections(draw, grammar, b, instants, objects, version, height):
 
 
 def header_of(version, period, height, objects, span, alphabet, rules, symbols, first, base, cell, tick):
-    return [("magic", b"GRACT00%d" % version),
-            ("counts", numbers([period, height, objects, span, alphabet, rules, symbols])),
+    counts = [period, height, objects, span, alphabet, rules, symbols]
+    return [("magic", b"GRACT00%d" % version), ("counts", numbers(counts[:6] if version == 3 else counts)),
             ("first", numbers([first, *base, cell, tick], 8))]
 
 
