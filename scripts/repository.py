@@ -1,5 +1,6 @@
 """What the repository's own checks read of it: crates, their definitions, clauses and edits."""
 
+import importlib.util
 import re
 from pathlib import Path
 
@@ -81,6 +82,14 @@ def about(name):
     text = (folder("gract_cli") / "src" / "about.rt").read_text()
     found = re.search(rf'^const {name}: &str = "((?:[^"\\]|\\.)*)";$', text, re.MULTILINE | re.DOTALL)
     return found.group(1).replace("\\\n", "").replace("\\n", "\n").replace('\\"', '"')
+
+
+def advice():
+    """Of each line that the program says on standard error, what to do about it: the table of the package for Python."""
+    file = TOP / "python" / "gract" / "advice.py"
+    module = importlib.util.module_from_spec(spec := importlib.util.spec_from_file_location("advice", file))
+    spec.loader.exec_module(module)
+    return [(told.line, told.what) for told in module.ADVICE.values()]
 
 
 def version():
