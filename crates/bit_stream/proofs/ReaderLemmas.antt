@@ -157,6 +157,17 @@ module _ (window : ℕ) (bits : List Bool) (shows : (n : ℕ) → n ≤ 57 → w
   low_in-window width narrow there =
       rw (le-ltb (length bits) width there) (ap (λ n. Ok (n, drop width bits)) (sym (shows width (omega arith))))
 
+  -- and so is one that stands further on
+  pub low_in-further : (place width : ℕ) → place + width ≤ 57 → place + width ≤ length bits
+      → low_in width (drop place bits) ≡ Ok (window / 2 ^ place % 2 ^ width, drop width (drop place bits))
+  unfolding low_in window_of
+  low_in-further place width narrow there =
+      let same = shows (width + place) (omega arith) ∙ number_of-take (width + place) bits in
+      let field = sym (field_of window width place) ∙ ap (λ n. n / 2 ^ place) same ∙ field_of (number_of bits) width place in
+      let taken = number_of-take width (drop place bits) ∙ ap (λ n. n % 2 ^ width) (number_of-drop place bits) in
+      rw (le-ltb (length (drop place bits)) width (omega (arith, length-drop place bits)))
+      (ap (λ n. Ok (n, drop width (drop place bits))) (taken ∙ sym field))
+
   -- a bit as the window shows it
   shown : (i : ℕ) → i ≤ 56 → number_of bits / 2 ^ i % 2 ≡ bit_at window i
   unfolding window_of
@@ -181,6 +192,26 @@ module _ (window : ℕ) (bits : List Bool) (shows : (n : ℕ) → n ≤ 57 → w
     zeros_in-shown = zeros_in-seen 5 (trailing_zeros w64 window) bits few
         (λ i below. shown i (omega (arith, few)) ∙ lowest.1 i below)
         (shown (trailing_zeros w64 window) (omega (arith, few)) ∙ lowest.0)
+
+    -- a number that ends within the window
+    pub number_in-shown : (z digits : ℕ) → z ≡ trailing_zeros w64 window → digits ≡ 2 ^ z + window / 2 ^ (z + 1) % 2 ^ z
+        → 2 * z + digits ≤ 56 → 2 * z + digits ≤ length bits
+        → number_in bits ≡ Ok (2 ^ (digits - 1) + window / 2 ^ (2 * z + 1) % 2 ^ (digits - 1) - 1, drop (2 * z + digits) bits)
+    number_in-shown z digits z_is digits_is narrow there =
+        let some : 0 < digits = omega (arith, digits_is, pow_pos z) in
+        let next_is : suc z ≡ z + 1 = omega arith in
+        let zeros : zeros_in 5 bits ≡ Ok (z, drop (z + 1) bits) =
+        zeros_in-shown ∙ ap (λ n. Ok (n, drop (suc n) bits)) (sym z_is) ∙ ap (λ n. Ok (z, drop n bits)) next_is in
+        let behind : drop z (drop (z + 1) bits) ≡ drop (2 * z + 1) bits =
+        drop-drop z (z + 1) bits ∙ ap (λ n. drop n bits) (omega arith) in
+        let last : drop (digits - 1) (drop (2 * z + 1) bits) ≡ drop (2 * z + digits) bits =
+        drop-drop (digits - 1) (2 * z + 1) bits ∙ ap (λ n. drop n bits) (omega (arith, some)) in
+        let low = low_in-further (z + 1) z (omega (arith, narrow, some)) (omega (arith, there, some)) in
+        let rest = low_in-further (2 * z + 1) (digits - 1) (omega (arith, narrow, some)) (omega (arith, there, some)) in
+        number_in-whole z bits (drop (z + 1) bits) zeros (window / 2 ^ (z + 1) % 2 ^ z) digits (drop (2 * z + 1) bits)
+        (low ∙ ap (λ left. Ok (window / 2 ^ (z + 1) % 2 ^ z, left)) behind) digits_is (omega (arith, narrow))
+        (window / 2 ^ (2 * z + 1) % 2 ^ (digits - 1)) (drop (2 * z + digits) bits)
+        (rest ∙ ap (λ left. Ok (window / 2 ^ (2 * z + 1) % 2 ^ (digits - 1), left)) last)
 
     pub one-there : trailing_zeros w64 window + 1 ≤ length bits
     one-there = elim (cases_lt (trailing_zeros w64 window) (length bits)) [

@@ -1,4 +1,4 @@
--- Numbers in a string of bits: of a told width, and such as say themselves how long they are (Elias's delta code of the number and 1).
+-- Numbers in a string of bits: of a known width, or in Elias's delta code of the number and 1, which says itself how long it is.
 use Rattle.std.specs.Prelude.{ℕ, zero, suc, ◌+◌, ◌-◌, ◌^◌, Bool, true, false, nat_lt, List, [], ◌∷◌, ◌++◌, length, take, drop, replicate, Result, Ok, Err, if◌then◌else◌}
 use Rattle.std.specs.Int.{w64, leading_zeros}
 use Rattle.packed_bits.specs.Bits.{number_of}

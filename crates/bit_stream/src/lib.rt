@@ -1,7 +1,8 @@
-//! A string of bits, lowest bit of each byte first, which is read from the front and written at the end: numbers
-//! of a told width, and numbers from 0 that say themselves how long they are, the smaller the shorter.
+//! Strings of bits, the lowest bit of each byte first, which are read from the front and written at
+//! the end.
 //!
-//! What is written is read again, and nothing else is read as it. The crate stands on packed_bits.
+//! They hold numbers of a known width, and numbers in Elias's delta code, which says itself how
+//! long it is. What is written is read again, and no other bits are read as it.
 #![tactic(auto)]
 
 mod fault;

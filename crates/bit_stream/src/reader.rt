@@ -14,13 +14,17 @@ const MAX_DIGITS: u32 = 56;
 /// The most bits 0 that a number begins with.
 const MAX_ZEROS: u32 = 5;
 
+/// The most bits that are passed over at once.
+const MAX_WIDTH: u32 = 56;
+
 /// The bits of bytes, read from the front. Contracts see those that are left.
 ///
 /// A read looks at eight bytes at once. Where it fails, nothing is said of the bits that are left.
+#[derive(Drop)]
 pub struct BitReader<'a> {
-    // The bytes from the one in which the next bit stands.
+    // The bytes, from that of the next bit on.
     bytes: &'a [u8],
-    // How many bits of it were read.
+    // How many bits of the first byte were read.
     used: u32,
 }
 
@@ -57,22 +61,28 @@ impl<'a> BitReader<'a> {
         Ok(value)
     }
 
-    /// The number that says itself how long it is, at most `2^56 - 2`: `Large` where more than five bits 0
-    /// come first or it has too many digits, else `Short` where a bit of it is not there.
+    /// The number that says itself how long it is, at most `2^56 - 2`. It is `Large` where more than five
+    /// bits 0 come first or it has too many digits, and else `Short` where the bits end within it.
     pub fn number(&mut self) -> Result<u64, BitFault>
         ensures exact { Takes result self.new (number_in self.old) }
         ensures within { IfOk result (λ value. value + 2 ≤ 2 ^ 56) }
     {
-        let zeros = self.zeros()?;
-        let digits = (1 << zeros) + self.low(zeros)? as u32;
-        if digits > MAX_DIGITS {
-            return Err(BitFault::Large);
+        let word = self.window();
+        let zeros = word.trailing_zeros();
+        if zeros > MAX_ZEROS {
+            return self.long_number();
         }
-        Ok((1 << (digits - 1)) + self.low(digits - 1)? - 1)
+        let digits = (1 << zeros) + ((word >> (zeros + 1)) % (1 << zeros)) as u32;
+        let length = 2 * zeros + digits;
+        if length > MAX_WIDTH || !self.has(length) {
+            return self.long_number();
+        }
+        self.skip(length);
+        let top = 1 << (digits - 1);
+        Ok(top + (word >> (2 * zeros + 1)) % top - 1)
     }
 
-    /// Whether a bit is 1 of those that are left in the byte in which the next bit stands, if bits of it were
-    /// read.
+    /// Whether one of the bits that are left of a byte is 1, where the last read ended within a byte.
     pub fn spare(&self) -> bool
         ensures { result ≡ nat_lt 0 (ones_of (take (length self.now % 8) self.now)) }
     {
@@ -88,6 +98,19 @@ impl<'a> BitReader<'a> {
         } else {
             self.bytes.len()
         }
+    }
+
+    // The same number, a piece at a time, wherever it may end.
+    fn long_number(&mut self) -> Result<u64, BitFault>
+        ensures exact { Takes result self.new (number_in self.old) }
+        ensures within { IfOk result (λ value. value + 2 ≤ 2 ^ 56) }
+    {
+        let zeros = self.zeros()?;
+        let digits = (1 << zeros) + self.low(zeros)? as u32;
+        if digits > MAX_DIGITS {
+            return Err(BitFault::Large);
+        }
+        Ok((1 << (digits - 1)) + self.low(digits - 1)? - 1)
     }
 
     // The bits 0 before the next bit 1, and that one.
@@ -122,7 +145,7 @@ impl<'a> BitReader<'a> {
         first_word(self.bytes) >> self.used
     }
 
-    // So many bits are read.
+    // Passes over so many bits.
     fn skip(&mut self, count: u32)
         requires few { count ≤ 56 }
         requires there { count ≤ length self.old }
@@ -135,7 +158,7 @@ impl<'a> BitReader<'a> {
     }
 }
 
-// Whether a bit of the first byte that was not used is 1, if bits of it were used.
+// Whether one of the bits of the first byte is 1 that were not used, where some were used.
 fn has_spare(bytes: &[u8], used: u32) -> bool
     requires { IsInside used bytes.now }
     ensures { result ≡ nat_lt 0 (ones_of (take (length (drop used (bits_in bytes.now)) % 8) (drop used (bits_in bytes.now)))) }

@@ -10,7 +10,7 @@ use std::marker::Model;
 #[derive(Debug, Drop)]
 pub struct BitWriter {
     bytes: Vec<u8>,
-    // The bits that fill no word yet, as a number, lowest first.
+    // The bits that do not fill a word yet, as a number, lowest first.
     waiting: u64,
     // How many they are.
     filled: u32,
@@ -66,7 +66,7 @@ impl BitWriter {
         Ok(())
     }
 
-    /// Puts a number, at most `2^56 - 2`, so that it says itself how long it is: the smaller the fewer bits.
+    /// Puts a number, at most `2^56 - 2`, so that it says itself how long it is. A smaller one takes fewer bits.
     pub fn put_number(&mut self, value: u64) -> Result<(), AllocError>
         requires { value + 2 ≤ 2 ^ 56 }
         ensures ok { OnOk result (self.new ≡ self.old ++ number_bits value) }
