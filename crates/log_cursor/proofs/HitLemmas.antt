@@ -23,6 +23,7 @@ use Rattle.rule_store.proofs.BoxLemmas.{box_round-bounds, box_round-moved, box_r
 use Rattle.rule_store.proofs.CellLemmas.{present-moved, same_cell}
 use Rattle.rule_store.proofs.ExpansionLemmas.{values_of-terminal}
 use Rattle.track_types.specs.Boxes.{moved_box}
+use Rattle.log_cursor.specs.Opened.{IsOutside}
 use Rattle.log_cursor.specs.Start.{IsHullAsked, start_past}
 use Rattle.log_cursor.specs.Touching.{first_among, touches_at}
 use Rattle.log_cursor.specs.declared.start.Start.{Start}
@@ -99,9 +100,9 @@ module _ (region : Region) where
   ]
 
   -- values whose placed box has no cell of the region lead to no cell of it
-  outside-along : (cell : Cell) (values : List ℕ) (hull : Option CellBox) → hull ≡ bounding_box_of values →
-      touches_at region cell hull ≡ false →
-      All (λ c. in_region region c ≡ false) (present_in (cells_along cell values))
+  pub outside-along : (cell : Cell) (values : List ℕ) (hull : Option CellBox) → hull ≡ bounding_box_of values →
+      touches_at region cell hull ≡ false → IsOutside region cell values
+  unfolding IsOutside
   outside-along cell values None is apart =
       subst (All (λ c. in_region region c ≡ false))
       (sym (box_round-none (present_in (cells_along cell values)) (placed-round cell values None is)))
@@ -154,14 +155,13 @@ module _ (region : Region) where
   held-move cell (suc code) touches = held-box cell code (bounding_box_of (suc code ∷ [])) refl touches
 
   module _ (rules : RulesView) (start : Start) (symbol : ℕ) where
-    -- a symbol whose placed box has no cell of the region has no hit
-    pub own_stops-apart : (from to : ℤ) (hull : Option CellBox) → hull ≡ bounding_box_of (values_of rules symbol) →
-        touches_at region start.cell hull ≡ false → first_among region (own_stops rules from to start symbol) ≡ None
-    unfolding in_window
-    own_stops-apart from to hull is apart =
+    -- a symbol that leads to no cell of the region has no hit
+    pub own_stops-outside : (from to : ℤ) → IsOutside region start.cell (values_of rules symbol) →
+        first_among region (own_stops rules from to start symbol) ≡ None
+    unfolding in_window IsOutside
+    own_stops-outside from to outside =
         no_hit (λ stop. is_between from to stop.instant) (start.instant +ℤ pos 1)
-        (cells_along start.cell (values_of rules symbol))
-        (outside-along start.cell (values_of rules symbol) hull is apart)
+        (cells_along start.cell (values_of rules symbol)) outside
 
     -- a terminal whose placed box has one leads to it
     pub held-terminal : symbol < length rules.alphabet →

@@ -2,6 +2,7 @@ pub mod RuleLemmas
 pub mod StopLemmas
 pub mod WayLemmas
 pub mod HullLemmas
+mod OpenedLemmas
 mod StackLemmas
 mod WalkLemmas
 pub mod TouchLemmas
@@ -9,6 +10,6 @@ pub mod HitLemmas
 pub mod ExtentLemmas
 mod TurnLemmas
 mod InTimeLemmas
-mod SearchLemmas
+pub mod SearchLemmas
 mod SeekLemmas
 mod Examples

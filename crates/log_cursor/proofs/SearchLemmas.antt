@@ -1,8 +1,9 @@
 -- A search for the first hit: the anchor, and else that of the log.
-use Rattle.std.proofs.Common.{◌≡◌, ℕ, ℤ, ◌≤ℤ◌, ◌<ℤ◌, Bool, true, false, List, [], ◌∷◌, Option, Some, None, refl, ap, sym, ◌∙◌, inl, inr}
-use Rattle.std.specs.Option.{is_some, option_or}
+use Rattle.std.proofs.Common.{◌≡◌, ℕ, ℤ, ◌≤ℤ◌, ◌<ℤ◌, Bool, true, false, List, [], ◌∷◌, ◌++◌, Option, Some, None, append_assoc, refl, ap, sym, ◌∙◌, inl, inr}
+use Rattle.std.specs.Option.{is_some, option_or, option_to_list}
 use Rattle.std.specs.Prelude.{filter, find}
 use Rattle.std.proofs.lemmas.Bool.{cases_Bool}
+use Rattle.std.proofs.lemmas.List.{append-nil}
 use Rattle.std.proofs.lemmas.List.Elements.{filter-append}
 use Rattle.std.proofs.lemmas.List.Folds.{find-append}
 use Rattle.list_laws.proofs.FirstLemmas.{option_or-none}
@@ -11,7 +12,7 @@ use Rattle.track_types.specs.declared.region.Region.{Region}
 use Rattle.track_types.specs.declared.stop.Stop.{Stop}
 use Rattle.rule_store.specs.View.{RulesView}
 use Rattle.rule_store.specs.Log.{block_stops, in_window, stop_at, stops_after}
-use Rattle.log_cursor.specs.Touching.{first_among, first_hit_of, hit_left}
+use Rattle.log_cursor.specs.Touching.{IsDrawnIn, first_among, first_hit_of, hit_left}
 use Rattle.log_cursor.specs.declared.start.Start.{Start}
 use Rattle.log_cursor.proofs.WalkLemmas.{in_window-empty, stops_left-over}
 
@@ -76,3 +77,31 @@ module _ (rules : RulesView) (log : List ℕ) (start : Start) (from to : ℤ) (r
   pub first_hit_of-later : is_some anchor ≡ false →
       hit_left rules from to region start log ≡ first_hit_of rules log start from to region
   first_hit_of-later none = sym (either ∙ or-later anchor (hit_left rules from to region start log) none)
+
+-- where no stop is in the region, all are passed
+pub IsDrawnIn-none : (region : Region) (stops : List Stop) → first_among region stops ≡ None →
+    IsDrawnIn region stops [] None
+IsDrawnIn-none region stops none =
+    record { passed = stops; all = sym (append-nil stops); outside = none; inside = tt; end = refl }
+
+-- stops of which none is in the region come first
+pub IsDrawnIn-after : (region : Region) (first stops left : List Stop) (hit : Option Stop) →
+    first_among region first ≡ None → IsDrawnIn region stops left hit → IsDrawnIn region (first ++ stops) left hit
+IsDrawnIn-after region first stops left hit none drawn = record {
+  passed = first ++ drawn.passed;
+  all = ap (λ s. first ++ s) drawn.all ∙ sym (append_assoc first drawn.passed (option_to_list hit ++ left));
+  outside = find-append (λ (stop : Stop). in_region region stop.cell) first drawn.passed ∙ rw (none, drawn.outside) refl;
+  inside = drawn.inside;
+  end = drawn.end;
+}
+
+-- others come after what is left behind a hit
+pub IsDrawnIn-before : (region : Region) (stops left later : List Stop) (hit : Stop) →
+    IsDrawnIn region stops left (Some hit) → IsDrawnIn region (stops ++ later) (left ++ later) (Some hit)
+IsDrawnIn-before region stops left later hit drawn = record {
+  passed = drawn.passed;
+  all = ap (λ s. s ++ later) drawn.all ∙ append_assoc drawn.passed (hit ∷ left) later;
+  outside = drawn.outside;
+  inside = drawn.inside;
+  end = tt;
+}

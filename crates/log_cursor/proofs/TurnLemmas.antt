@@ -106,7 +106,7 @@ module _ {wanted : Stop → Bool} {may : Cell → Option CellBox → Bool} {rule
   abbrev walking : IsWalking wanted may rules stops budget from to old at steps
   walking = turn.walking
 
-  past_is : next ≡ start_past at (values_of rules entry.symbol)
+  pub past_is : next ≡ start_past at (values_of rules entry.symbol)
   past_is = turn.leads ∙ start_after-is rules at entry entry.symbol (taken-is walking turn.taken)
 
   pub turn-hull : entry.hull ≡ bounding_box_of (values_of rules entry.symbol)

@@ -1,11 +1,13 @@
 -- One turn of a walk over a window: a symbol is passed over, is opened, or has the next stop.
-use Rattle.std.proofs.Common.{◌≡◌, ℕ, ◌<◌, ◌≤◌, ℤ, pos, ◌+ℤ◌, ◌≤ℤ◌, ◌<ℤ◌, Bool, true, false, List, [], ◌∷◌, ◌++◌, length, filter, map, Option, Some, None, refl, ap, sym, ◌∙◌, arith}
+use Rattle.std.proofs.Common.{◌≡◌, ℕ, ◌<◌, ◌≤◌, ℤ, pos, ◌+ℤ◌, ◌≤ℤ◌, ◌<ℤ◌, Bool, true, false, List, [], ◌∷◌, ◌++◌, length, filter, map, Option, Some, None, refl, ap, sym, subst, ◌∙◌, arith}
+use Rattle.std.specs.Prelude.{IfSome}
 use Rattle.std.specs.Option.{is_some, option_to_list}
 use Rattle.track_types.specs.declared.cell_box.CellBox.{CellBox}
 use Rattle.std.specs.Int.Signed.{le_z}
 use Rattle.std.proofs.lemmas.Int.{ints}
 use Rattle.std.proofs.lemmas.List.Elements.{filter-append}
 use Rattle.list_laws.proofs.MemberLemmas.{filter-none}
+use Rattle.track_types.specs.Near.{IsCellAsked}
 use Rattle.track_types.specs.Region.{is_between}
 use Rattle.track_types.specs.declared.cell.Cell.{Cell}
 use Rattle.track_types.specs.declared.stop.Stop.{Stop}
@@ -38,6 +40,12 @@ pub window-one : (from to instant : ℤ) (cell : Cell) → is_between from to in
     stop_at instant cell ∷ [] ≡ in_window from to (stop_at instant cell ∷ [])
 unfolding in_window
 window-one from to instant cell between = rw between refl
+
+-- an anchor is as near as the cell where it is
+pub near-anchor : (anchor : Option Stop) (cell : Cell) → IsCellAsked cell → IfSome anchor (λ stop. stop.cell ≡ cell) →
+    IfSome anchor (λ stop. IsCellAsked stop.cell)
+near-anchor None cell near same = tt
+near-anchor (Some stop) cell near same = subst IsCellAsked (sym same) near
 
 -- a walk that was begun over a window with an instant
 pub walk_of-walk_from : (pending : PendingView) (anchor : Option Stop) (start : Start) (from to : ℤ) (log : List ℕ) →

@@ -4,4 +4,5 @@ pub mod Pending
 pub mod Walk
 pub mod Touching
 pub mod Turn
+pub mod Opened
 pub mod Cost

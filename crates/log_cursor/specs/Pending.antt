@@ -20,7 +20,7 @@ pub record PendingView : Type 0 where
 abbrev pub log_from : LogView → ℕ → List ℕ
 log_from view next = drop next (log_of view)
 
--- the parts of opened rules, of which the last one comes first, and then the rest of the log
+-- the parts of opened rules, the last one first, and then the rest of the log
 abbrev pub pending_of : LogView → ℕ → List ℕ → PendingView
 pending_of view next stack = record {
   rules = view.rules.now;
@@ -34,7 +34,7 @@ pub record IsRoomy (rules : RulesView) (place symbol : ℕ) : Type 0 where
   pub known : symbol < symbols_in rules
   pub shallow : place + depth_of rules symbol ≤ depth_in rules
 
--- so are all parts of opened rules
+-- each part of opened rules is known, and shallow enough for its place
 pub record AreRoomy (rules : RulesView) (stack : List ℕ) : Type 0 where
   pub each : (place : ℕ) → place < length stack → IsRoomy rules place (slice_index stack place)
 

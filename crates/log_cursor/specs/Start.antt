@@ -31,12 +31,12 @@ pub record IsBoxAsked (cell : Cell) (hull : CellBox) : Type 0 where
   pub x2 : IsAsked (cell.x +ℤ hull.x2)
   pub y2 : IsAsked (cell.y +ℤ hull.y2)
 
--- so is the box of a symbol, if it has one
+-- the placed box of a symbol, if it has one, is at most `MAX_ASKED` away from 0
 abbrev pub IsHullAsked : Cell → Option CellBox → Type 0
 IsHullAsked cell None = ⊤
 IsHullAsked cell (Some hull) = IsBoxAsked cell hull
 
--- so are the boxes of a log's symbols, each placed where its symbol begins
+-- the boxes of a log's symbols, each placed where its symbol begins, are at most `MAX_ASKED` away from 0
 unfoldable pub AreHullsAsked : RulesView → Cell → List ℕ → Type 0
 AreHullsAsked rules cell [] = ⊤
 AreHullsAsked rules cell (symbol ∷ log) =
@@ -67,6 +67,6 @@ pub record IsWay (start : Start) (values : List ℕ) : Type 0 where
   pub last : (start.instant +ℤ pos (length values)) ≤ℤ pos (2 ^ 62)
   pub cells : All IsCellAsked (present_in (cells_along start.cell values))
 
--- so are the values of a log
+-- the values of a log are walked without leaving the numbers
 abbrev pub IsWayOf : RulesView → Start → List ℕ → Type 0
 IsWayOf rules start log = IsWay start (log_values rules log)

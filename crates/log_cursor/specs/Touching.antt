@@ -1,5 +1,5 @@
 -- What a search for the first stop in a region finds, and how many rules it opens.
-use Rattle.std.specs.Prelude.{◌≡◌, ℕ, ℤ, Bool, false, ◌&&◌, List, ◌∷◌, ◌++◌, length, map, filter, find, slice_index, Option, Some, None}
+use Rattle.std.specs.Prelude.{◌≡◌, ℕ, ◌+◌, ◌≤◌, ℤ, Bool, true, false, ◌&&◌, List, [], ◌++◌, length, map, filter, find, slice_index, option_to_list, Option, Some, None, IfNone, IfSome}
 use Rattle.track_types.specs.Region.{in_region, intersects_region}
 use Rattle.track_types.specs.declared.cell.Cell.{Cell}
 use Rattle.track_types.specs.declared.cell_box.CellBox.{CellBox}
@@ -8,10 +8,12 @@ use Rattle.track_types.specs.declared.stop.Stop.{Stop}
 use Rattle.rule_store.specs.View.{RulesView}
 use Rattle.rule_store.specs.Boxes.{bounding_box_of}
 use Rattle.rule_store.specs.Cells.{displacement_of, moved}
-use Rattle.rule_store.specs.Log.{block_stops, in_window, stops_after}
+use Rattle.rule_store.specs.Log.{block_stops, in_window}
 use Rattle.rule_store.specs.Nodes.{RuleNode, meets, nodes_in}
 use Rattle.track_types.specs.Boxes.{moved_box}
-use Rattle.log_cursor.specs.Walk.{stops_left}
+use Rattle.log_cursor.specs.Pending.{PendingView}
+use Rattle.log_cursor.specs.Start.{IsWayOf, start_at}
+use Rattle.log_cursor.specs.Walk.{opened_left, stops_left}
 use Rattle.log_cursor.specs.declared.start.Start.{Start}
 
 -- the first of some stops in a region
@@ -56,7 +58,25 @@ hit_left rules from to region start symbols = first_among region (stops_left rul
 abbrev pub touching_left : RulesView → ℤ → ℤ → Region → Start → List ℕ → ℕ
 touching_left rules from to region start symbols = touching_count rules start symbols from to region
 
--- one of these stops was hit, and those after it are those of the symbols that are left
-pub record IsHitOf (rules : RulesView) (from to : ℤ) (stops : List Stop) (symbols : List ℕ) (hit : Stop) : Type 0 where
+-- What was drawn of some stops for a region: the first stop that is in it, and those before it were passed; or none, and
+-- then all were passed.
+pub record IsDrawnIn (region : Region) (before now : List Stop) (hit : Option Stop) : Type 0 where
   pub passed : List Stop
-  pub all : stops ≡ passed ++ (hit ∷ in_window from to (stops_after rules hit.instant hit.cell symbols))
+  pub all : before ≡ passed ++ (option_to_list hit ++ now)
+  pub outside : first_among region passed ≡ None
+  pub inside : IfSome hit (λ stop. in_region region stop.cell ≡ true)
+  pub end : IfNone hit (now ≡ [])
+
+-- where a stop leads on
+abbrev pub start_of : Stop → Start
+start_of stop = start_at stop.instant stop.cell
+
+-- A hit among the stops of symbols from a start: the symbols that are left lead on from it, and have the stops after it,
+-- and the reads were those of a walk that draws all stops.
+pub record IsHitOf (region : Region) (from to : ℤ) (start : Start) (before now : PendingView) (begun steps : ℕ) (hit : Stop) :
+    Type 0 where
+  pub drawn : IsDrawnIn region (stops_left before.rules from to start before.symbols)
+      (stops_left before.rules from to (start_of hit) now.symbols) (Some hit)
+  pub way : IsWayOf before.rules (start_of hit) now.symbols
+  pub reads : steps + (now.unread + opened_left before.rules from to (start_of hit) now.symbols)
+      ≤ begun + (before.unread + opened_left before.rules from to start before.symbols)

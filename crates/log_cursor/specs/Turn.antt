@@ -1,4 +1,4 @@
--- What a walk over symbols has done that looks for a stop: the one invariant of drawing stops and of searching a region.
+-- What a walk that looks for a stop has done: the one invariant of drawing stops and of searching a region.
 use Rattle.std.specs.Prelude.{◌≡◌, ℕ, ◌+◌, ◌*◌, ◌≤◌, ℤ, ◌≤ℤ◌, ◌<ℤ◌, Bool, true, ◌&&◌, List, ◌++◌, length, filter, find, Option, None}
 use Rattle.std.specs.Int.{int_min}
 use Rattle.std.specs.Option.{is_some}
@@ -40,8 +40,8 @@ is_opening rules may from to start node =
 unfoldable pub opening_count : RulesView → (Cell → Option CellBox → Bool) → ℤ → ℤ → Start → List ℕ → ℕ
 opening_count rules may from to start symbols = length (filter (is_opening rules may from to start) (nodes_in rules symbols))
 
--- What a walk has done that has come to no wanted stop: it passed stops of which none is wanted, the others are those of
--- the symbols that are left, and its reads, with those that are still to be made, are within a budget.
+-- What a walk that has come to no wanted stop has done. It passed stops, and wants none of them. The others are those of
+-- the symbols that are left. Its reads, with those that are still to be made, are within a budget.
 pub record IsWalking (wanted : Stop → Bool) (may : Cell → Option CellBox → Bool) (rules : RulesView) (stops : List Stop)
     (budget : ℕ) (from to : ℤ) (pending : PendingView) (at : Start) (steps : ℕ) : Type 0 where
   pub passed : List Stop

@@ -1,7 +1,8 @@
 -- What is left of a walk over the stops of a block.
-use Rattle.std.specs.Prelude.{ℕ, ◌+◌, ◌≤◌, ℤ, pos, ◌+ℤ◌, ◌≤ℤ◌, List, [], ◌++◌, filter, length, map, Option, if◌then◌else◌}
+use Rattle.std.specs.Prelude.{ℕ, ◌+◌, ◌≤◌, ℤ, pos, ◌+ℤ◌, ◌≤ℤ◌, List, [], ◌++◌, filter, length, map, Option, IfSome, if◌then◌else◌}
 use Rattle.std.specs.Int.Signed.{le_z}
 use Rattle.std.specs.Option.{option_to_list}
+use Rattle.track_types.specs.Near.{IsCellAsked}
 use Rattle.track_types.specs.declared.stop.Stop.{Stop}
 use Rattle.rule_store.specs.View.{RulesView}
 use Rattle.rule_store.specs.Log.{block_stops, in_window, stops_after}
@@ -10,8 +11,8 @@ use Rattle.log_cursor.specs.Pending.{PendingView}
 use Rattle.log_cursor.specs.Start.{IsWayOf}
 use Rattle.log_cursor.specs.declared.start.Start.{Start}
 
--- the rules, the stops that are left, and how many reads are still to be made for them at most: one for each symbol of
--- the log that is unread, and one for each rule that is opened, of which the first instants are told
+-- the rules, the stops that are left, and how many reads are still to be made for them at most: one for each unread symbol
+-- of the log, and one for each rule that is opened; `begins` has the first instant of each of these rules
 pub record WalkView : Type 0 where
   pub rules : RulesView
   pub stops : List Stop
@@ -38,7 +39,7 @@ at_rest rules = record { rules = rules; stops = []; reads = 0; unread = 0; begin
 abbrev pub begin_of : ℤ → RuleNode → ℤ
 begin_of instant node = instant +ℤ pos (length node.before + 1)
 
--- those of the rules of symbols that a walk opens
+-- the first instants of the rules that a walk opens below symbols
 unfoldable pub begins_left : RulesView → ℤ → ℤ → Start → List ℕ → List ℤ
 begins_left rules from to start symbols =
     map (begin_of start.instant) (filter (is_opened rules start.instant from to) (nodes_in rules symbols))
@@ -71,7 +72,9 @@ walk_of pending anchor start from to = record {
   begins = begins_left pending.rules from to start pending.symbols;
 }
 
--- The symbols that are still to come lead from a start within the numbers, and the window has an instant.
-pub record IsGoing (pending : PendingView) (at : Start) (from to : ℤ) : Type 0 where
+-- The symbols that are still to come lead from a start within the numbers, the anchor is near, and the window has an
+-- instant.
+pub record IsGoing (pending : PendingView) (anchor : Option Stop) (at : Start) (from to : ℤ) : Type 0 where
   pub way : IsWayOf pending.rules at pending.symbols
+  pub near : IfSome anchor (λ stop. IsCellAsked stop.cell)
   pub window : from ≤ℤ to

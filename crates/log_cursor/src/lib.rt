@@ -1,11 +1,11 @@
-//! Cursors over compressed logs: the cell at an instant, the stops of a window, and the first of them
-//! in a region.
+//! Cursors over compressed logs: the cell at an instant, the stops of a window, and the first of
+//! them in a region.
 //!
-//! They answer what a plain look at the expanded log answers (`specs/Seek.antt`, `specs/Walk.antt`,
-//! `specs/Touching.antt`), and open only the rules on their way. The crate stands on `track_types`, `rule_store`, `region_test`,
-//! `spiral_code`, `step_count`, `list_laws` and `smallvec`.
+//! A log is asked without expanding it. Each answer is that of the expanded log (`specs/Seek.antt`,
+//! `specs/Walk.antt`, `specs/Touching.antt`), and only the rules on the way are opened.
 #![tactic(auto)]
 
+mod opened;
 mod pending;
 mod searching;
 mod seeking;

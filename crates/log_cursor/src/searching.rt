@@ -3,7 +3,7 @@ ghost use Rattle.track_types.specs.Near.{IsBoxWithin, IsCellAsked};
 ghost use Rattle.rule_store.specs.Log.{in_window, log_of, stop_at};
 ghost use Rattle.log_cursor.specs.Start.{IsBoxAsked, IsHullAsked, IsPlaced, IsWayOf};
 ghost use Rattle.track_types.specs.Boxes.{moved_box};
-ghost use Rattle.log_cursor.specs.Walk.{stops_left};
+ghost use Rattle.log_cursor.specs.Walk.{opened_left};
 ghost use Rattle.log_cursor.specs.Touching.{
   first_among,
   first_hit_of,
@@ -14,6 +14,7 @@ ghost use Rattle.log_cursor.specs.Touching.{
   touching_left,
 };
 
+use crate::opened::Opened;
 use crate::pending::Pending;
 use crate::start::Start;
 use crate::walk::stop_within;
@@ -24,14 +25,17 @@ use std::sync::ledger::Ledger;
 use step_count::Steps;
 use track_types::{Cell, CellBox, Memory, Stop};
 
+// How many rules a search opens before it remembers any: a short one makes no table.
+const FORGOTTEN: u32 = 64;
+
 /// The first stop of a block in a window, whose ends count, and in a region, the anchor included.
 /// `None` if and only if there is none.
 ///
 /// The instant and the cell of the anchor, and each symbol's box where it is placed, are at most
 /// `MAX_ASKED` away from 0. A symbol whose instants miss the window, or whose placed box has no
-/// cell of the region, is passed over unopened. It makes at most as many reads as the log has
-/// symbols and its parse trees have rule nodes that are not passed over, and none in a window that
-/// ends before it begins. Memory is taken for the parts of opened rules where the grammar is deep.
+/// cell of the region, is passed over unopened. It makes at most one read for each symbol of the log
+/// and for each rule node of its parse trees that is not passed over. In a window that ends before it
+/// begins it makes none. Where the grammar is deep, it takes memory for the parts of opened rules.
 pub fn first_hit<L: Ledger>(
     alloc: Global,
     view: LogView<'_>,
@@ -73,8 +77,9 @@ fn anchor_hit(start: Start, from: i64, to: i64, test: &RegionTest) -> Option<Sto
     Some(anchor)
 }
 
-// The first hit of symbols that begin after a start. No symbol after it is taken off.
-fn hit_after<L: Ledger>(
+/// The first hit of symbols that begin after a start. No symbol after it is taken off. It remembers
+/// the rules that it opens once they are many.
+pub(crate) fn hit_after<L: Ledger>(
     pending: &mut Pending<'_>,
     start: Start,
     from: i64,
@@ -86,12 +91,16 @@ fn hit_after<L: Ledger>(
     requires window { from ≤ℤ to }
     ensures value { result ≡ hit_left pending.old.rules from to test.now.region start
         pending.old.symbols }
-    ensures left { IfSome result (IsHitOf pending.old.rules from to
-        (stops_left pending.old.rules from to start pending.old.symbols) pending.new.symbols) }
+    ensures left { IfSome result (IsHitOf test.now.region from to start pending.old pending.new
+        steps.old steps.new) }
+    ensures rules { pending.new.rules ≡ pending.old.rules }
     ensures cost { steps.new ≤ steps.old + (pending.old.unread + touching_left
         pending.old.rules from to test.now.region start pending.old.symbols) }
+    ensures budget { steps.new ≤ steps.old + (pending.old.unread + opened_left
+        pending.old.rules from to start pending.old.symbols) }
 {
     let mut at = start;
+    let mut opened = 0;
     while at.instant < to {
         let entry = pending.next(steps)?;
         let next = at.after(&entry);
@@ -104,6 +113,58 @@ fn hit_after<L: Ledger>(
                 instant: next.instant,
                 cell: next.cell,
             });
+        }
+        pending.open(entry.symbol, steps);
+        opened += 1;
+        if opened >= FORGOTTEN {
+            return hit_beyond(pending, at, from, to, test, steps);
+        }
+    }
+    None
+}
+
+// The same for a search that opens many rules. It passes over a rule that it meets again at the cell
+// where it was opened within the window.
+fn hit_beyond<L: Ledger>(
+    pending: &mut Pending<'_>,
+    start: Start,
+    from: i64,
+    to: i64,
+    test: &RegionTest,
+    steps: &mut Steps<L>,
+) -> Option<Stop>
+    requires way { IsWayOf pending.old.rules start pending.old.symbols }
+    requires window { from ≤ℤ to }
+    ensures value { result ≡ hit_left pending.old.rules from to test.now.region start
+        pending.old.symbols }
+    ensures left { IfSome result (IsHitOf test.now.region from to start pending.old pending.new
+        steps.old steps.new) }
+    ensures rules { pending.new.rules ≡ pending.old.rules }
+    ensures cost { steps.new ≤ steps.old + (pending.old.unread + touching_left
+        pending.old.rules from to test.now.region start pending.old.symbols) }
+    ensures budget { steps.new ≤ steps.old + (pending.old.unread + opened_left
+        pending.old.rules from to start pending.old.symbols) }
+{
+    let mut at = start;
+    let mut opened = Opened::new();
+    while at.instant < to {
+        let entry = pending.next(steps)?;
+        let next = at.after(&entry);
+        if next.instant < from
+            || !touches(at.cell, entry.hull, test)
+            || opened.has(entry.symbol, at.cell)
+        {
+            at = next;
+            continue;
+        }
+        if !pending.is_rule(entry.symbol) {
+            return Some(Stop {
+                instant: next.instant,
+                cell: next.cell,
+            });
+        }
+        if from <= at.instant {
+            opened.add(entry.symbol, at.cell);
         }
         pending.open(entry.symbol, steps);
     }

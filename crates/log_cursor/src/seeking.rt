@@ -18,8 +18,9 @@ use track_types::Cell;
 ///
 /// The instant and the cell of the anchor, and each symbol's box where it is placed, are at most
 /// `MAX_ASKED` away from 0. It passes over each symbol that ends before the instant, opens one rule
-/// at each depth below the symbol that has it, and takes no memory. It makes at most as many reads
-/// as the log has symbols and the grammar is deep, and none by the anchor's instant.
+/// at each depth below the symbol that has it, and takes no memory. It makes at most one read for
+/// each symbol of the log and one for each depth of the grammar. For an instant up to the anchor's
+/// it makes none.
 pub fn seek<L: Ledger>(
     view: LogView<'_>,
     start: Start,

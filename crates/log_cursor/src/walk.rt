@@ -2,10 +2,13 @@ ghost use Rattle.std.specs.Prelude.{◌≡◌, ◌++◌, ◌+◌, ◌≤◌, ℤ
 ghost use Rattle.rule_store.specs.Log.{in_window, log_of, stop_at};
 ghost use Rattle.rule_store.specs.Nodes.{block_budget};
 ghost use Rattle.log_cursor.specs.Start.{IsPlaced};
+ghost use Rattle.log_cursor.specs.Touching.{IsDrawnIn};
 ghost use Rattle.log_cursor.specs.Walk.{at_rest, IsDrawnInTime, reads_to, walk_from};
 
 use crate::pending::Pending;
+use crate::searching::hit_after;
 use crate::start::Start;
+use region_test::RegionTest;
 use rule_store::{Entry, LogView, RuleStore};
 use std::alloc::Global;
 use std::marker::Model;
@@ -16,10 +19,12 @@ use track_types::{Cell, Lazy, Memory, Stop};
 /// A walk over the stops of a block whose instants are in a window, in their order. One walk serves
 /// one block after the other, of the same rules.
 ///
-/// It passes over each symbol whose instants miss the window, or at all of which the object is absent.
-/// It keeps the parts of rules that are still to come, for which `new` takes all the memory. Contracts
-/// see the rules, the stops that are left, and a bound on the reads that are still to be made for them:
-/// for all of them, and for those up to an instant.
+/// It passes over each symbol whose instants miss the window, and each in which the object is absent
+/// throughout. It keeps the parts of rules that are still to come; `new` takes all the memory for
+/// these.
+///
+/// Contracts see the rules, the stops that are left, and a bound on the reads that are still to be
+/// made: for all these stops, and for those up to an instant.
 #[derive(Drop)]
 pub struct BlockWalk<'a> {
     pending: Pending<'a>,
@@ -37,7 +42,7 @@ impl<'a> Model for BlockWalk<'a> {
 
     ghost view = { λ w. walk_of w.pending w.anchor w.at w.from w.to };
 
-    ghost invariant = { λ w. IsGoing w.pending w.at w.from w.to };
+    ghost invariant = { λ w. IsGoing w.pending w.anchor w.at w.from w.to };
 }
 
 impl<'a> BlockWalk<'a> {
@@ -73,7 +78,7 @@ impl<'a> BlockWalk<'a> {
             ≤ block_budget view.entry.rules.now start.instant (log_of view.entry) from instant }
     {
         if to < from {
-            self.pending.end(); // of a window with no instant nothing is read
+            self.pending.end(); // a window with no instant needs no read
             self.anchor = None;
             return;
         }
@@ -82,6 +87,32 @@ impl<'a> BlockWalk<'a> {
         self.at = start;
         self.from = from;
         self.to = to;
+    }
+
+    /// Draws the stops that are left up to the first one in a region, that one included. Where none is
+    /// in the region, it draws all.
+    ///
+    /// It passes over what `first_hit` does, and takes no memory.
+    pub fn draw_in<L: Ledger>(&mut self, test: &RegionTest, steps: &mut Steps<L>) -> Option<Stop>
+        ensures drawn { IsDrawnIn test.now.region self.old.stops self.new.stops result }
+        ensures cost { steps.new + self.new.reads ≤ steps.old + self.old.reads }
+        ensures rules { self.new.rules ≡ self.old.rules }
+    {
+        if let Some(stop) = self.anchor.take() {
+            if test.holds(stop.cell) {
+                return Some(stop);
+            }
+        }
+        let found = hit_after(&mut self.pending, self.at, self.from, self.to, test, steps);
+        let Some(hit) = found else {
+            self.pending.end();
+            return None;
+        };
+        self.at = Start {
+            instant: hit.instant,
+            cell: hit.cell,
+        };
+        Some(hit)
     }
 }
 
@@ -126,8 +157,9 @@ impl<'a> Lazy for BlockWalk<'a> {
 
 /// The stop at an anchor, if its instant is in a window.
 pub(crate) fn stop_within(start: Start, from: i64, to: i64) -> Option<Stop>
-    ensures { option_to_list result
+    ensures value { option_to_list result
         ≡ in_window from to (stop_at start.instant start.cell ∷ []) }
+    ensures cell { IfSome result (λ stop. stop.cell ≡ start.cell) }
 {
     if start.instant < from || to < start.instant {
         return None;

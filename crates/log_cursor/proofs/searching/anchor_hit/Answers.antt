@@ -15,4 +15,4 @@ returns g c =
     let from : to_z w64 (of_z w64 c.args.from) ≡ c.args.from = omega (arith, ints) in
     let to : to_z w64 (of_z w64 c.args.to) ≡ c.args.to = omega (arith, ints) in
     anchor-held c.args.from c.args.to c.args.test.now.region stop c.in_ok-anchor.anchor
-    (rw (from, to) at c.in_ok-anchor.ensures) (sym c.holds.ensures ∙ c.if-not-holds.false)
+    (rw (from, to) at c.in_ok-anchor.ensures.value) (sym c.holds.ensures ∙ c.if-not-holds.false)

@@ -1,56 +1,83 @@
-use Rattle.std.proofs.Common.{◌≡◌, ◌+◌, ◌<◌, ◌≤ℤ◌, ◌<ℤ◌, length, [], true, refl, sym, ◌∙◌, arith}
+use Rattle.std.proofs.Common.{◌≡◌, ℕ, ◌+◌, ◌<◌, ◌≤◌, ℤ, ◌≤ℤ◌, ◌<ℤ◌, Bool, true, List, [], length, Option, refl, sym, ◌∙◌, arith, ◌⊎◌, inl, inr}
+use Rattle.std.specs.Option.{is_some}
 use Rattle.std.proofs.lemmas.Bool.{leb-false, leb-true}
 use Rattle.std.proofs.lemmas.Int.{ints}
+use Rattle.track_types.specs.declared.cell.Cell.{Cell}
+use Rattle.track_types.specs.declared.cell_box.CellBox.{CellBox}
+use Rattle.track_types.specs.declared.region.Region.{Region}
+use Rattle.track_types.specs.declared.stop.Stop.{Stop}
+use Rattle.rule_store.specs.View.{RulesView}
 use Rattle.rule_store.specs.Log.{stop_at}
+use Rattle.log_cursor.specs.Opened.{IsOutside}
+use Rattle.rule_store.specs.Expansion.{values_of}
+use Rattle.log_cursor.specs.Pending.{PendingView}
+use Rattle.log_cursor.specs.Start.{IsWayOf}
 use Rattle.log_cursor.specs.Touching.{IsHitOf, touches_at, touching_left}
-use Rattle.log_cursor.specs.Turn.{is_hit}
-use Rattle.log_cursor.specs.Walk.{stops_left}
+use Rattle.log_cursor.specs.Turn.{IsWalking, has_hull, is_hit, opening_count}
+use Rattle.log_cursor.specs.Walk.{opened_left, stops_left}
+use Rattle.log_cursor.specs.declared.start.Start.{Start}
 use Rattle.log_cursor.proofs.StopLemmas.{word}
-use Rattle.log_cursor.proofs.HitLemmas.{own_stops-apart, touches_at-some}
-use Rattle.log_cursor.proofs.TouchLemmas.{touching_left-count}
-use Rattle.log_cursor.proofs.TurnLemmas.{IsTurn, find-passed, taken-near, taken-next, turn-before, turn-fewer, turn-held, turn-hull, turn-opened, turn-opened-fewer, turn-over, turn-reads, turn-stop, walking-end, walking-over}
+use Rattle.log_cursor.proofs.HitLemmas.{outside-along, touches_at-some}
+use Rattle.log_cursor.proofs.OpenedLemmas.{is_hit-after, turn-past}
+use Rattle.log_cursor.proofs.TouchLemmas.{opened_left-count, touching_left-count}
+use Rattle.log_cursor.proofs.TurnLemmas.{IsTurn, find-passed, taken-near, taken-next, turn-fewer, turn-held, turn-hull, turn-opened, turn-opened-fewer, turn-reads, turn-rules, turn-stop, turn-way, walking-end, walking-over}
 use Rattle.log_cursor.proofs.searching.hit_after.Given.{Over}
 use Rattle.log_cursor.proofs.searching.hit_after.Goals as goal
 use Rattle.log_cursor.proofs.searching.hit_after.Goals.{After-after-next, After-is_rule}
 use Rattle.log_cursor.proofs.searching.hit_after.Goals.{then-next-from-via-then-next-from, then-next-from-via-else-next-from+then-not-touches}
 
+-- before the first turn nothing has been passed
+begun : (region : Region) (may : Cell → Option CellBox → Bool) (first : PendingView) (budget : ℕ) (from to : ℤ) (start : Start)
+    (steps : ℕ) → IsWayOf first.rules start first.symbols → from ≤ℤ to →
+    steps + (first.unread + opening_count first.rules may from to start first.symbols) ≤ budget →
+    IsWalking (is_hit region) may first.rules (stops_left first.rules from to start first.symbols) budget from to first
+    start steps
+begun region may first budget from to start steps way window reads = record {
+  passed = [];
+  same = refl;
+  window = window;
+  way = way;
+  all = refl;
+  unwanted = refl;
+  reads = reads;
+}
+
 pub loop-at-init : goal.loop-at-init
 loop-at-init g c =
     let first = c.args.pending.now in
-    let same = touching_left-count first.rules (word c.args.from) (word c.args.to) c.args.test.now.region c.args.start
-    first.symbols in
+    let region = c.args.test.now.region in
+    let from = word c.args.from in
+    let to = word c.args.to in
+    let window : from ≤ℤ to = omega (arith, ints, c.requires.window) in
+    let touching = touching_left-count first.rules from to region c.args.start first.symbols in
+    let all = opened_left-count first.rules from to c.args.start first.symbols in
     record {
-      passed = [];
-      same = refl;
-      window = omega (arith, ints, c.requires.window);
-      way = c.requires.way;
-      all = refl;
-      unwanted = refl;
-      reads = omega (arith, same);
+      walking = begun region (touches_at region) first _ from to c.args.start c.args.steps.now c.requires.way window
+          (omega (arith, touching));
+      drawing = begun region has_hull first _ from to c.args.start c.args.steps.now c.requires.way window (omega (arith, all));
+      few = omega arith;
     }
 
 pub returns-in_err-entry-clause-value : goal.returns-in_err-entry-clause-value
 returns-in_err-entry-clause-value g c =
     let from : word c.args.from ≡ c.args.from = omega (arith, ints) in
     let to : word c.args.to ≡ c.args.to = omega (arith, ints) in
-    rw c.from_residual.ensures (rw (from, to) at (sym (walking-end c.loop-at.invariant c.in_err-entry.ensures.none)))
+    rw c.from_residual.ensures (rw (from, to) at (sym (walking-end c.loop-at.invariant.walking c.in_err-entry.ensures.none)))
 
 pub after-next-requires : goal.after-next-requires
-after-next-requires g c = (taken-next c.loop-at.invariant c.in_ok-entry.ensures.found).start_is
+after-next-requires g c = (taken-next c.loop-at.invariant.walking c.in_ok-entry.ensures.found).start_is
 
 pub touches-requires : goal.touches-requires
-touches-requires g c = taken-near c.loop-at.invariant c.in_ok-entry.ensures.found
+touches-requires g c = taken-near c.loop-at.invariant.walking c.in_ok-entry.ensures.found
 
 -- the turn in which a symbol was taken off
-turn : (g : Over) (c : After-after-next g) → IsTurn (is_hit c.args.test.now.region) (touches_at c.args.test.now.region)
-    c.args.pending.now.rules
-    (stops_left c.args.pending.now.rules (word c.args.from) (word c.args.to) c.args.start c.args.pending.now.symbols)
-    (c.args.steps.now + (c.args.pending.now.unread + touching_left c.args.pending.now.rules (word c.args.from)
-    (word c.args.to) c.args.test.now.region c.args.start c.args.pending.now.symbols))
-    (word c.args.from) (word c.args.to) c.loop-at.pending c.next.new.self c.loop-at.at c.after-next.result c.loop-at.steps
-    c.next.new.steps c.in_ok-entry.entry
-turn g c = record {
-  walking = c.loop-at.invariant;
+turn : (g : Over) (c : After-after-next g) {may : Cell → Option CellBox → Bool} {rules : RulesView} {stops : List Stop}
+    {budget : ℕ} {from to : ℤ} →
+    IsWalking (is_hit c.args.test.now.region) may rules stops budget from to c.loop-at.pending c.loop-at.at c.loop-at.steps →
+    IsTurn (is_hit c.args.test.now.region) may rules stops budget from to c.loop-at.pending c.next.new.self c.loop-at.at
+    c.after-next.result c.loop-at.steps c.next.new.steps c.in_ok-entry.entry
+turn g c walking = record {
+  walking = walking;
   taken = c.in_ok-entry.ensures.found;
   same = c.next.ensures.rules;
   cost = c.next.ensures.cost;
@@ -59,36 +86,44 @@ turn g c = record {
 
 pub loop-at-smaller-then-next-from : goal.loop-at-smaller-then-next-from
 loop-at-smaller-then-next-from g c =
-    turn-fewer (turn g (goal.at.loop-at-smaller-then-next-from g c).After-after-next)
+    turn-fewer (turn g (goal.at.loop-at-smaller-then-next-from g c).After-after-next c.loop-at.invariant.walking)
 
 pub loop-at-preserved-then-next-from : goal.loop-at-preserved-then-next-from
 loop-at-preserved-then-next-from g c =
-    let its = turn g (goal.at.loop-at-preserved-then-next-from g c).After-after-next in
-    let entry = c.in_ok-entry.entry in
-    elim c.then-next-from.branch [
+    let at = (goal.at.loop-at-preserved-then-next-from g c).After-after-next in
+    let its = turn g at c.loop-at.invariant.walking in
+    let draw = turn g at c.loop-at.invariant.drawing in
+    let passed : IsOutside c.args.test.now.region c.loop-at.at.cell (values_of c.args.pending.now.rules c.in_ok-entry.entry.symbol)
+    ⊎ (c.after-next.result.instant <ℤ word c.args.from) = elim c.then-next-from.branch [
       | then-next-from-via-then-next-from w ↦
           let ended : c.after-next.result.instant <ℤ word c.args.from = omega (arith, ints, w.if-next-from.true) in
-          turn-before its ended
+          inr ended
       | then-next-from-via-else-next-from+then-not-touches w ↦
-          turn-over its (own_stops-apart c.args.test.now.region c.args.pending.now.rules c.loop-at.at entry.symbol _ _
-          entry.hull (turn-hull its) (sym w.touches.ensures ∙ w.if-not-touches.true))
-    ]
+          inl (outside-along c.args.test.now.region c.loop-at.at.cell _ c.in_ok-entry.entry.hull (turn-hull its)
+          (sym w.touches.ensures ∙ w.if-not-touches.true))
+    ] in
+    record { walking = turn-past c.args.test.now.region its passed; drawing = turn-past c.args.test.now.region draw passed; few = c.loop-at.invariant.few }
 
--- where its entry is not passed over, the window has instants after it and up to its end, and its box touches the region
+-- where its entry is not passed over, the window has instants after it and up to its end, its box touches the region, and
+-- so it has one
 within : (g : Over) (c : After-is_rule g) → (c.loop-at.at.instant <ℤ word c.args.to)
     × (word c.args.from ≤ℤ c.after-next.result.instant)
     × (touches_at c.args.test.now.region c.loop-at.at.cell c.in_ok-entry.entry.hull ≡ true)
-within g c = (
-  omega (arith, ints, c.loop-at-test.true),
-  omega (arith, ints, c.if-next-from.false),
-  sym c.touches.ensures ∙ c.if-not-touches.false,
-)
+    × (is_some c.in_ok-entry.entry.hull ≡ true)
+within g c =
+    let touches : touches_at c.args.test.now.region c.loop-at.at.cell c.in_ok-entry.entry.hull ≡ true =
+    sym c.touches.ensures ∙ c.if-not-touches.false in (
+      omega (arith, ints, c.loop-at-test.true),
+      omega (arith, ints, c.if-next-from.false),
+      touches,
+      touches_at-some c.args.test.now.region c.loop-at.at.cell c.in_ok-entry.entry.hull touches,
+    )
 
 pub returns-then-not-is_rule-clause-value : goal.returns-then-not-is_rule-clause-value
 returns-then-not-is_rule-clause-value g c =
     let at = goal.at.returns-then-not-is_rule-clause-value g c in
     let its = within g at.After-is_rule in
-    let turn = turn g at.After-after-next in
+    let turn = turn g at.After-after-next c.loop-at.invariant.walking in
     let region = c.args.test.now.region in
     let here = c.after-next.result in
     let from : word c.args.from ≡ c.args.from = omega (arith, ints) in
@@ -96,9 +131,8 @@ returns-then-not-is_rule-clause-value g c =
     let kept : word here.instant ≡ here.instant = omega (arith, ints) in
     let terminal : c.in_ok-entry.entry.symbol < length c.next.new.self.rules.alphabet =
     leb-false _ _ (sym c.is_rule.ensures ∙ c.if-not-is_rule.true) in
-    let some = touches_at-some region c.loop-at.at.cell c.in_ok-entry.entry.hull its.2 in
     let held = turn-held turn its.0 its.1 region terminal its.2 in
-    let found = find-passed (is_hit region) _ turn.walking.passed _ (turn-stop turn its.0 its.1 terminal some)
+    let found = find-passed (is_hit region) _ turn.walking.passed _ (turn-stop turn its.0 its.1 terminal its.3)
     turn.walking.unwanted in
     rw kept (sym (rw (from, to) at (rw held at found)))
 
@@ -106,26 +140,44 @@ pub returns-then-not-is_rule-clause-left : goal.returns-then-not-is_rule-clause-
 returns-then-not-is_rule-clause-left g c =
     let at = goal.at.returns-then-not-is_rule-clause-left g c in
     let its = within g at.After-is_rule in
-    let turn = turn g at.After-after-next in
+    let turn = turn g at.After-after-next c.loop-at.invariant.drawing in
     let first = c.args.pending.now in
     let here = c.after-next.result in
+    let region = c.args.test.now.region in
     let from : word c.args.from ≡ c.args.from = omega (arith, ints) in
     let to : word c.args.to ≡ c.args.to = omega (arith, ints) in
     let kept : word here.instant ≡ here.instant = omega (arith, ints) in
     let terminal : c.in_ok-entry.entry.symbol < length c.next.new.self.rules.alphabet =
     leb-false _ _ (sym c.is_rule.ensures ∙ c.if-not-is_rule.true) in
-    let some = touches_at-some c.args.test.now.region c.loop-at.at.cell c.in_ok-entry.entry.hull its.2 in
-    let hit : IsHitOf first.rules (word c.args.from) (word c.args.to)
-    (stops_left first.rules (word c.args.from) (word c.args.to) c.args.start first.symbols) c.next.new.self.symbols
-    (stop_at here.instant here.cell) = record {
-      passed = turn.walking.passed;
-      all = turn-stop turn its.0 its.1 terminal some;
+    let count = opened_left-count first.rules (word c.args.from) (word c.args.to) here c.next.new.self.symbols in
+    let hit : IsHitOf region (word c.args.from) (word c.args.to) c.args.start first c.next.new.self c.args.steps.now
+    c.next.new.steps (stop_at here.instant here.cell) = record {
+      drawn = record {
+        passed = turn.walking.passed;
+        all = turn-stop turn its.0 its.1 terminal its.3;
+        outside = turn.walking.unwanted;
+        inside = turn-held turn its.0 its.1 region terminal its.2;
+        end = tt;
+      };
+      way = turn-way turn;
+      reads = omega (arith, turn-reads turn, count);
     } in
     rw kept (rw (from, to) at hit)
 
+pub returns-then-not-is_rule-clause-rules : goal.returns-then-not-is_rule-clause-rules
+returns-then-not-is_rule-clause-rules g c =
+    turn-rules (turn g (goal.at.returns-then-not-is_rule-clause-rules g c).After-after-next c.loop-at.invariant.walking)
+
 pub returns-then-not-is_rule-clause-cost : goal.returns-then-not-is_rule-clause-cost
 returns-then-not-is_rule-clause-cost g c =
-    let its = turn g (goal.at.returns-then-not-is_rule-clause-cost g c).After-after-next in
+    let its = turn g (goal.at.returns-then-not-is_rule-clause-cost g c).After-after-next c.loop-at.invariant.walking in
+    let from : word c.args.from ≡ c.args.from = omega (arith, ints) in
+    let to : word c.args.to ≡ c.args.to = omega (arith, ints) in
+    omega (arith, rw (from, to) at (turn-reads its))
+
+pub returns-then-not-is_rule-clause-budget : goal.returns-then-not-is_rule-clause-budget
+returns-then-not-is_rule-clause-budget g c =
+    let its = turn g (goal.at.returns-then-not-is_rule-clause-budget g c).After-after-next c.loop-at.invariant.drawing in
     let from : word c.args.from ≡ c.args.from = omega (arith, ints) in
     let to : word c.args.to ≡ c.args.to = omega (arith, ints) in
     omega (arith, rw (from, to) at (turn-reads its))
@@ -134,7 +186,7 @@ pub loop-at-smaller : goal.loop-at-smaller
 loop-at-smaller g c =
     let at = goal.at.loop-at-smaller g c in
     let its = within g at.After-is_rule in
-    turn-opened-fewer (turn g at.After-after-next) its.0 its.1 its.2 c.next.ensures.sound
+    turn-opened-fewer (turn g at.After-after-next c.loop-at.invariant.walking) its.0 its.1 its.2 c.next.ensures.sound
     (leb-true _ _ (sym c.is_rule.ensures ∙ c.if-not-is_rule.false)) c.open.new.self c.open.new.steps
     c.open.ensures.rules c.open.ensures.symbols c.open.ensures.unread c.open.ensures.cost
 
@@ -142,12 +194,99 @@ pub loop-at-preserved : goal.loop-at-preserved
 loop-at-preserved g c =
     let at = goal.at.loop-at-preserved g c in
     let its = within g at.After-is_rule in
-    turn-opened (turn g at.After-after-next) its.0 its.1 its.2 c.next.ensures.sound
-    (leb-true _ _ (sym c.is_rule.ensures ∙ c.if-not-is_rule.false)) c.open.new.self c.open.new.steps
-    c.open.ensures.rules c.open.ensures.symbols c.open.ensures.unread c.open.ensures.cost
+    let turned = turn g at.After-after-next c.loop-at.invariant.walking in
+    let draw = turn g at.After-after-next c.loop-at.invariant.drawing in
+    let rule : length c.next.new.self.rules.alphabet ≤ c.in_ok-entry.entry.symbol =
+    leb-true _ _ (sym c.is_rule.ensures ∙ c.if-not-is_rule.false) in
+    record {
+      walking = turn-opened turned its.0 its.1 its.2 c.next.ensures.sound rule c.open.new.self c.open.new.steps
+          c.open.ensures.rules c.open.ensures.symbols c.open.ensures.unread c.open.ensures.cost;
+      drawing = turn-opened draw its.0 its.1 its.3 c.next.ensures.sound rule c.open.new.self c.open.new.steps
+          c.open.ensures.rules c.open.ensures.symbols c.open.ensures.unread c.open.ensures.cost;
+      few = omega (arith, c.if-opened-ge-FORGOTTEN.false);
+    }
+
+-- the search goes on from where it has come
+pub hit_beyond-requires-clause-way : goal.hit_beyond-requires-clause-way
+hit_beyond-requires-clause-way g c =
+    let at = goal.at.hit_beyond-requires-clause-way g c in
+    let its = within g at.After-is_rule in
+    let rule : length c.next.new.self.rules.alphabet ≤ c.in_ok-entry.entry.symbol =
+    leb-true _ _ (sym c.is_rule.ensures ∙ c.if-not-is_rule.false) in
+    let walking = turn-opened (turn g at.After-after-next c.loop-at.invariant.walking) its.0 its.1 its.2
+    c.next.ensures.sound rule c.open.new.self c.open.new.steps c.open.ensures.rules c.open.ensures.symbols
+    c.open.ensures.unread c.open.ensures.cost in
+    rw walking.same walking.way
+
+pub returns-then-opened-ge-FORGOTTEN-clause-value : goal.returns-then-opened-ge-FORGOTTEN-clause-value
+returns-then-opened-ge-FORGOTTEN-clause-value g c =
+    let at = goal.at.returns-then-opened-ge-FORGOTTEN-clause-value g c in
+    let its = within g at.After-is_rule in
+    let rule : length c.next.new.self.rules.alphabet ≤ c.in_ok-entry.entry.symbol =
+    leb-true _ _ (sym c.is_rule.ensures ∙ c.if-not-is_rule.false) in
+    let walking = turn-opened (turn g at.After-after-next c.loop-at.invariant.walking) its.0 its.1 its.2
+    c.next.ensures.sound rule c.open.new.self c.open.new.steps c.open.ensures.rules c.open.ensures.symbols
+    c.open.ensures.unread c.open.ensures.cost in
+    let from : word c.args.from ≡ c.args.from = omega (arith, ints) in
+    let to : word c.args.to ≡ c.args.to = omega (arith, ints) in
+    let region = c.args.test.now.region in
+    let later = rw walking.same at c.hit_beyond.ensures.value in
+    rw (from, to) at (later ∙ sym (find-passed (is_hit region) _ walking.passed _ walking.all walking.unwanted))
+
+pub returns-then-opened-ge-FORGOTTEN-clause-left : goal.returns-then-opened-ge-FORGOTTEN-clause-left
+returns-then-opened-ge-FORGOTTEN-clause-left g c =
+    let at = goal.at.returns-then-opened-ge-FORGOTTEN-clause-left g c in
+    let its = within g at.After-is_rule in
+    let rule : length c.next.new.self.rules.alphabet ≤ c.in_ok-entry.entry.symbol =
+    leb-true _ _ (sym c.is_rule.ensures ∙ c.if-not-is_rule.false) in
+    let walking = turn-opened (turn g at.After-after-next c.loop-at.invariant.drawing) its.0 its.1 its.3
+    c.next.ensures.sound rule c.open.new.self c.open.new.steps c.open.ensures.rules c.open.ensures.symbols
+    c.open.ensures.unread c.open.ensures.cost in
+    let from : word c.args.from ≡ c.args.from = omega (arith, ints) in
+    let to : word c.args.to ≡ c.args.to = omega (arith, ints) in
+    let found = is_hit-after c.args.test.now.region (word c.args.from) (word c.args.to) c.args.start c.loop-at.at
+    c.args.pending.now c.open.new.self c.hit_beyond.new.pending c.args.steps.now c.open.new.steps c.hit_beyond.new.steps walking
+    c.hit_beyond.result c.hit_beyond.ensures.left in
+    rw (from, to) at found
+
+pub returns-then-opened-ge-FORGOTTEN-clause-cost : goal.returns-then-opened-ge-FORGOTTEN-clause-cost
+returns-then-opened-ge-FORGOTTEN-clause-cost g c =
+    let at = goal.at.returns-then-opened-ge-FORGOTTEN-clause-cost g c in
+    let its = within g at.After-is_rule in
+    let rule : length c.next.new.self.rules.alphabet ≤ c.in_ok-entry.entry.symbol =
+    leb-true _ _ (sym c.is_rule.ensures ∙ c.if-not-is_rule.false) in
+    let walking = turn-opened (turn g at.After-after-next c.loop-at.invariant.walking) its.0 its.1 its.2
+    c.next.ensures.sound rule c.open.new.self c.open.new.steps c.open.ensures.rules c.open.ensures.symbols
+    c.open.ensures.unread c.open.ensures.cost in
+    let from : word c.args.from ≡ c.args.from = omega (arith, ints) in
+    let to : word c.args.to ≡ c.args.to = omega (arith, ints) in
+    let count = touching_left-count c.args.pending.now.rules (word c.args.from) (word c.args.to) c.args.test.now.region c.loop-at.at c.open.new.self.symbols in
+    let first = c.args.pending.now in
+    let more = rw walking.same at c.hit_beyond.ensures.cost in
+    let all : c.hit_beyond.new.steps ≤ c.args.steps.now + (first.unread + touching_left first.rules (word c.args.from) (word c.args.to) c.args.test.now.region c.args.start first.symbols) =
+    omega (arith, more, walking.reads, count) in
+    rw (from, to) at all
+
+pub returns-then-opened-ge-FORGOTTEN-clause-budget : goal.returns-then-opened-ge-FORGOTTEN-clause-budget
+returns-then-opened-ge-FORGOTTEN-clause-budget g c =
+    let at = goal.at.returns-then-opened-ge-FORGOTTEN-clause-budget g c in
+    let its = within g at.After-is_rule in
+    let rule : length c.next.new.self.rules.alphabet ≤ c.in_ok-entry.entry.symbol =
+    leb-true _ _ (sym c.is_rule.ensures ∙ c.if-not-is_rule.false) in
+    let walking = turn-opened (turn g at.After-after-next c.loop-at.invariant.drawing) its.0 its.1 its.3
+    c.next.ensures.sound rule c.open.new.self c.open.new.steps c.open.ensures.rules c.open.ensures.symbols
+    c.open.ensures.unread c.open.ensures.cost in
+    let from : word c.args.from ≡ c.args.from = omega (arith, ints) in
+    let to : word c.args.to ≡ c.args.to = omega (arith, ints) in
+    let count = opened_left-count c.args.pending.now.rules (word c.args.from) (word c.args.to) c.loop-at.at c.open.new.self.symbols in
+    let first = c.args.pending.now in
+    let more = rw walking.same at c.hit_beyond.ensures.budget in
+    let all : c.hit_beyond.new.steps ≤ c.args.steps.now + (first.unread + opened_left first.rules (word c.args.from) (word c.args.to) c.args.start first.symbols) =
+    omega (arith, more, walking.reads, count) in
+    rw (from, to) at all
 
 pub returns-clause-value : goal.returns-clause-value
 returns-clause-value g c =
     let from : word c.args.from ≡ c.args.from = omega (arith, ints) in
     let to : word c.args.to ≡ c.args.to = omega (arith, ints) in
-    rw (from, to) at (sym (walking-over c.loop-at.invariant (omega (arith, ints, c.loop-at-test.false))))
+    rw (from, to) at (sym (walking-over c.loop-at.invariant.walking (omega (arith, ints, c.loop-at-test.false))))

@@ -1,7 +1,7 @@
-use Rattle.std.proofs.Common.{◌+◌}
+use Rattle.std.proofs.Common.{◌+◌, ◌<◌}
 use Rattle.log_cursor.specs.Touching.{touches_at, touching_left}
-use Rattle.log_cursor.specs.Turn.{IsWalking, is_hit, turns_left}
-use Rattle.log_cursor.specs.Walk.{stops_left}
+use Rattle.log_cursor.specs.Turn.{IsWalking, has_hull, is_hit, turns_left}
+use Rattle.log_cursor.specs.Walk.{opened_left, stops_left}
 use Rattle.log_cursor.proofs.searching.hit_after.Given as goal
 
 -- what was taken off has no hit, and what is left has the other stops
@@ -9,10 +9,16 @@ abbrev pub invariant-loop-at : goal.invariant-loop-at
 invariant-loop-at g l =
     let first = l.fn.pending in
     let region = l.fn.test.region in
-    IsWalking (is_hit region) (touches_at region) first.rules
-    (stops_left first.rules l.fn.from l.fn.to l.fn.start first.symbols)
-    (l.fn.steps + (first.unread + touching_left first.rules l.fn.from l.fn.to region l.fn.start first.symbols)) l.fn.from
-    l.fn.to l.pending l.at l.steps
+    let stops = stops_left first.rules l.fn.from l.fn.to l.fn.start first.symbols in
+    record {
+      walking : IsWalking (is_hit region) (touches_at region) first.rules stops
+          (l.fn.steps + (first.unread + touching_left first.rules l.fn.from l.fn.to region l.fn.start first.symbols))
+          l.fn.from l.fn.to l.pending l.at l.steps;
+      drawing : IsWalking (is_hit region) has_hull first.rules stops
+          (l.fn.steps + (first.unread + opened_left first.rules l.fn.from l.fn.to l.fn.start first.symbols))
+          l.fn.from l.fn.to l.pending l.at l.steps;
+      few : l.opened < 64;
+    }
 
 abbrev pub decreases-loop-at : goal.decreases-loop-at
 decreases-loop-at g l =

@@ -6,7 +6,7 @@ use Rattle.rule_store.specs.Nodes.{block_budget}
 use Rattle.log_cursor.specs.Walk.{WalkView, at_rest, reads_to, walk_from, walk_of}
 use Rattle.log_cursor.proofs.ExtentLemmas.{reads_to-walk_from}
 use Rattle.log_cursor.proofs.StopLemmas.{word}
-use Rattle.log_cursor.proofs.WalkLemmas.{walk_from-empty, walk_of-walk_from, walk_of-none}
+use Rattle.log_cursor.proofs.WalkLemmas.{near-anchor, walk_from-empty, walk_of-walk_from, walk_of-none}
 use Rattle.log_cursor.proofs.WayLemmas.{IsWayOf-none, IsWayOf-placed, length-log_of}
 use Rattle.log_cursor.proofs.walk.BlockWalk.begin.Goals as goal
 use Rattle.log_cursor.proofs.walk.BlockWalk.begin.Goals.{After-begin}
@@ -17,6 +17,7 @@ invariant_of-self c =
     let walk = c.self.inside in
     record {
       way = rw c.end.ensures.symbols (IsWayOf-none c.end.new.self.rules walk.at c.self.invariant.way.start_is);
+      near = tt;
       window = c.self.invariant.window;
     }
 
@@ -49,6 +50,8 @@ invariant_of-self-2 c =
     record {
       way = rw (same, c.begin.ensures.symbols)
           (IsWayOf-placed rules c.args.start log sound (length-log_of c.args.view sound) c.requires.placed);
+      near = near-anchor c.stop_within-self-inside.result c.args.start.cell c.requires.placed.cell
+          c.stop_within-self-inside.ensures.cell;
       window = omega (arith, ints, c.if-to-from.false);
     }
 
@@ -61,7 +64,7 @@ returns c =
     let begun : walk_of c.begin.new.self c.stop_within-self-inside.result c.args.start (word c.args.from) (word c.args.to)
     ≡ walk_from c.args.view.rules.now log c.args.start c.args.from c.args.to =
     rw (low, high) (walk_of-walk_from c.begin.new.self c.stop_within-self-inside.result c.args.start c.args.from
-    c.args.to log c.begin.ensures.symbols c.begin.ensures.unread (rw (low, high) at c.stop_within-self-inside.ensures)
+    c.args.to log c.begin.ensures.symbols c.begin.ensures.unread (rw (low, high) at c.stop_within-self-inside.ensures.value)
     (omega (arith, ints, c.if-to-from.false)))
     ∙ ap (λ r. walk_from r log c.args.start c.args.from c.args.to) same in
     record {

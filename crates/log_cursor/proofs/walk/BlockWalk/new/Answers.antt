@@ -23,6 +23,7 @@ invariant_of-result c =
           y = record { low = omega (arith, ints); high = omega (arith, ints) };
         };
       }));
+      near = tt;
       window = omega (arith, ints);
     }
 

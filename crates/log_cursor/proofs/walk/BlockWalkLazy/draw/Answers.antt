@@ -127,7 +127,11 @@ loop-self-preserved g c =
 pub invariant_of-self-in-loop-self-2 : goal.invariant_of-self-in-loop-self-2
 invariant_of-self-in-loop-self-2 g c =
     let its = turn g (goal.at.invariant_of-self-in-loop-self-2 g c).After-after-next in
-    record { way = rw (turn-rules its) (turn-way its); window = c.loop-self.invariant.walking.window }
+    record {
+      way = rw (turn-rules its) (turn-way its);
+      near = rw c.loop-self.invariant.anchor tt;
+      window = c.loop-self.invariant.walking.window;
+    }
 
 pub returns-in-loop-self-clause-found : goal.returns-in-loop-self-clause-found
 returns-in-loop-self-clause-found g c =
