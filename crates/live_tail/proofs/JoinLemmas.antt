@@ -1,10 +1,9 @@
 -- The rows of a chart with those of a tail: they ascend, a search finds the tail's first, and the path of an object is both
 -- paths merged.
-use Rattle.std.proofs.Common.{◌≡◌, ◌≤ℤ◌, ◌⊎◌, ℕ, ℤ, pos, Bool, true, List, [], ◌∷◌, ◌++◌, filter, find, map, Ordering, Option, None, Some, refl, sym, subst, ◌∙◌, ap, arith, inl, inr}
+use Rattle.std.proofs.Common.{◌≡◌, ◌≤ℤ◌, ◌⊎◌, ℕ, ℤ, pos, Bool, true, List, [], ◌∷◌, ◌++◌, filter, find, map, Ordering, Option, None, Some, refl, sym, ◌∙◌, ap, arith, inl, inr}
 use Rattle.std.specs.Prelude.{not, ◌&&◌, ◌==◌, IfSome}
 use Rattle.std.specs.Int.{int_max, int_min}
 use Rattle.std.specs.List.{AllByRecursion, Contains}
-use Rattle.std.specs.List.Sorted.{IsStrictlySortedBy}
 use Rattle.std.specs.Option.{option_map, option_or}
 use Rattle.std.specs.Ordering.{eq_by_cmp, int_cmp, int_eq, nat_cmp, ordering_then}
 use Rattle.std.specs.declared.cmp.Ordering.TheVariants.{Equal}
@@ -12,12 +11,12 @@ use Rattle.std.proofs.lemmas.Bool.{cases_Bool}
 use Rattle.std.proofs.lemmas.Bool.Decides.{nat_tests}
 use Rattle.std.proofs.lemmas.Cmp.{nat_cmp_total, tied_itself}
 use Rattle.std.proofs.lemmas.Int.{clamps, ints}
-use Rattle.std.proofs.lemmas.List.Elements.{All-contains, Contains-append_cases, filter_agree}
+use Rattle.std.proofs.lemmas.List.Elements.{All-contains, Contains-append_cases}
 use Rattle.std.proofs.lemmas.List.Kept.{IsStrictlySortedBy-filter}
 use Rattle.std.proofs.lemmas.List.Sorted.{Contains-permutation, IsPermutation-sym}
 use Rattle.list_laws.specs.Ordered.{ordered}
 use Rattle.list_laws.proofs.AscendingLemmas.{find-agree}
-use Rattle.list_laws.proofs.MemberLemmas.{list_any-agree, member_of_filter}
+use Rattle.list_laws.proofs.MemberLemmas.{member_of_filter}
 use Rattle.list_laws.proofs.OrderedLemmas.{IsPermutation-ordered}
 use Rattle.track_types.specs.ByFilter.{cell_at, is_row_between, path_of, stop_of}
 use Rattle.track_types.specs.Chart.{ChartView, IsChart}
@@ -31,12 +30,11 @@ use Rattle.track_types.proofs.QuantityLemmas.{first_of-below, last_of-above}
 use Rattle.track_types.proofs.RowLemmas.{eq_by_cmp-row_order, row_order_total}
 pub use Rattle.path_union.proofs.RowsLemmas.{IsAscending-rows_of_both, beside-rows, rows_of_both-none, union_of-rows}
 use Rattle.live_tail.specs.Join.{joint_chart, has_place, rows_beside, rows_of_tail, rows_of_both}
-use Rattle.path_union.specs.Merge.{merge_of}
 use Rattle.live_tail.specs.Walk.{stop_order, stops_with}
 use Rattle.live_tail.proofs.CutLemmas.{All-by_members}
 use Rattle.path_union.proofs.MergeLemmas.{map-merge_of, merge_of-union_of}
 use Rattle.live_tail.proofs.RangeLemmas.{asked-near, near-chart, near-greatest, near-least}
-use Rattle.path_union.proofs.UnionLemmas.{IsStrictlySortedBy-union_of, beside, filter-union_of_alike, find-union_of, union_of}
+use Rattle.path_union.proofs.UnionLemmas.{filter-union_of_alike, find-union_of}
 
 find-or : (place : Row) (a b : Option Row) →
     option_map (λ (row : Row). row.cell) (option_or a b)
@@ -72,7 +70,7 @@ alike-window object from to a b tied =
 of-object : (object own : ℕ) (b : Bool) → ((object == own) && b) ≡ true → own ≡ object
 of-object object own b is = grind (arith, nat_tests)
 
-all-window : (object : ℕ) (from to : ℤ) (rows : List Row) →
+pub all-window : (object : ℕ) (from to : ℤ) (rows : List Row) →
     AllByRecursion (λ (row : Row). row.object ≡ object) (filter (is_row_between object from to) rows)
 all-window object from to [] = tt
 all-window object from to (row ∷ rows) = elim (cases_Bool (is_row_between object from to row)) [
@@ -84,7 +82,7 @@ all-window object from to (row ∷ rows) = elim (cases_Bool (is_row_between obje
 then-same : (a b : Ordering) → a ≡ Equal → ordering_then a b ≡ b
 then-same a b is = rw is refl
 
-order-stops : (object : ℕ) (a b : Row) → a.object ≡ object → b.object ≡ object → row_order a b ≡ stop_order (stop_of a) (stop_of b)
+pub order-stops : (object : ℕ) (a b : Row) → a.object ≡ object → b.object ≡ object → row_order a b ≡ stop_order (stop_of a) (stop_of b)
 order-stops object a b one other =
     let same : nat_cmp a.object b.object ≡ Equal = rw (one, other) (tied_itself nat_cmp_total object) in
     then-same (nat_cmp a.object b.object) (int_cmp a.instant b.instant) same

@@ -5,6 +5,7 @@ pub mod JoinLemmas
 pub mod TogetherLemmas
 pub mod InstantLemmas
 pub mod HitLemmas
+mod BothLemmas
 pub mod NearLemmas
 pub mod FewLemmas
 pub mod FactsLemmas

@@ -1,5 +1,5 @@
 -- The rows of an index and a tail are those of all raw rows.
-use Rattle.std.proofs.Common.{◌≡◌, ℕ, List, ◌++◌, Option, sym, subst, ◌∙◌}
+use Rattle.std.proofs.Common.{Option, sym, ◌∙◌}
 use Rattle.track_types.specs.Chart.{ChartView}
 use Rattle.track_types.specs.Row.{IsAscending}
 use Rattle.track_types.specs.declared.parts.Parts.{Parts}
@@ -7,7 +7,7 @@ use Rattle.snapshots.specs.Parts.{chart_in}
 use Rattle.snapshots.specs.SoundParts.{IsValid}
 use Rattle.object_track.proofs.TableLemmas.{IsTable-chart_in}
 use Rattle.path_union.proofs.LawLemmas.{as_built}
-use Rattle.live_tail.specs.Join.{IsAsBuiltTogether, joint_chart, rows_of_both, rows_of_tail}
+use Rattle.live_tail.specs.Join.{IsAsBuiltTogether, rows_of_tail}
 use Rattle.live_tail.proofs.JoinLemmas.{joint_chart-rows}
 
 -- where the chart's rows are in order

@@ -9,7 +9,7 @@ use Rattle.track_types.specs.declared.row.Row.{Row}
 abbrev pub instant_order : Row → Row → Ordering
 instant_order a b = int_cmp a.instant b.instant
 
--- the second are the first by instant, and those of one instant stand as they stood
+-- `sorted` are the rows by instant, and those of one instant stand as they stood
 pub record AreByInstant (rows sorted : List Row) : Type 0 where
   pub moved : IsPermutation rows sorted
   pub order : IsSorted instant_order sorted

@@ -18,20 +18,20 @@ use Rattle.live_tail.specs.Join.{rows_of_tail}
 abbrev pub rows_between : List Row → ℤ → ℤ → List Row
 rows_between rows from to = filter (λ row. is_between from to row.instant) rows
 
--- the objects that have one
+-- the objects that have a row from one instant to another
 abbrev pub objects_between : List Row → ℤ → ℤ → List ℕ
 objects_between rows from to = objects_of (rows_between rows from to)
 
--- an interval: what it costs without the tail, and the path of each object of which the tail has a row in the window
+-- an interval: what it costs without the tail, and the path of each object that has a row of the tail in the window
 unfoldable pub interval_cost_beside : (Question → ℕ) → List Row → ℤ → ℤ → Region → ℕ
 interval_cost_beside cost rows from to region = cost (question.Interval from to region)
     + sum_by (λ object. cost (question.Path object from to)) (objects_between rows from to)
 
--- as many are asked for, and as many again as the tail has rows of the instant
+-- the count that the index is asked for: the count of the question, and one more for each row that the tail has of the instant
 abbrev pub raised_count : List Row → ℕ → ℤ → ℕ
 raised_count rows count instant = min (count + length (filter (is_row_at instant) rows)) (2 ^ 32 - 1)
 
--- the nearest: what they cost for the raised count, where any are asked for
+-- the nearest: what they cost for the raised count, and nothing if none are asked for
 unfoldable pub nearest_cost_beside : (Question → ℕ) → List Row → ℕ → ℤ → Cell → ℕ
 nearest_cost_beside cost rows zero instant cell = 0
 nearest_cost_beside cost rows (suc count) instant cell =

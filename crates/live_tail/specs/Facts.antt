@@ -18,7 +18,7 @@ joint_object_count listed rows = length listed + length (filter (λ object. not 
 pub record IsCount (parts : Parts) (tail : Option ChartView) (count : ℕ) : Type 0 where
   pub is : count ≡ joint_object_count parts.objects (rows_of_tail tail)
 
--- the facts of the index, but with the first and the last instant of both charts, and with the objects of both
+-- the facts of the index, but with the first and the last instant of both charts, and with the number of objects of both
 unfoldable pub facts_with : Parts → Option ChartView → Facts
 facts_with parts tail = record {
   objects = joint_object_count parts.objects (rows_of_tail tail);

@@ -1,5 +1,5 @@
 -- The chart of an index and of a tail, the chart of later rows, as if they had been built together.
-use Rattle.std.specs.Prelude.{◌≡◌, ℕ, List, ◌++◌, Option, None, Some}
+use Rattle.std.specs.Prelude.{◌≡◌, List, ◌++◌, Option, None, Some}
 use Rattle.std.specs.Int.{int_max, int_min}
 use Rattle.track_types.specs.Chart.{ChartView}
 use Rattle.track_types.specs.declared.raw_row.RawRow.{RawRow}

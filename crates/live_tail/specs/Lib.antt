@@ -5,4 +5,3 @@ pub mod Facts
 pub mod Cost
 pub mod ByInstant
 pub mod Walk
-pub mod Behind

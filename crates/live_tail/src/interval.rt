@@ -1,33 +1,38 @@
-ghost use Rattle.std.specs.Prelude.{◌≡◌, ◌++◌, ◌+◌, ◌≤◌, option_to_list, All, IfOk, IfSome, OnOk};
+ghost use Rattle.std.specs.Prelude.{◌≡◌, ◌++◌, ◌+◌, ◌≤◌, option_to_list, All, IfOk, OnOk};
 ghost use Rattle.std.specs.List.{filter_map, sum_by};
+ghost use Rattle.std.specs.List.Sorted.{IsStrictlySortedBy};
 ghost use Rattle.track_types.specs.ByFilter.{hits_of};
-ghost use Rattle.track_types.specs.Near.{IsAsked, IsCellWithin};
+ghost use Rattle.track_types.specs.Near.{IsAsked, IsBoxWithin, IsCellWithin};
+ghost use Rattle.track_types.specs.Region.{in_region, intersects_region};
 ghost use Rattle.track_types.specs.Region.{IsRegionAsked, IsRegionWithin};
 ghost use Rattle.track_types.specs.Table.{IsTable};
 ghost use Rattle.track_types.specs.declared.question.Question.TheVariants as asked;
-ghost use Rattle.track_types.specs.declared.stop.Stop.{Stop as StopView};
+ghost use Rattle.track_types.specs.declared.row.Row.{Row as RowView};
 ghost use Rattle.log_cursor.specs.Touching.{first_among};
+ghost use Rattle.snapshots.specs.Parts.{chart_in};
 ghost use Rattle.interval_search.specs.FirstHits.{hit_in};
-ghost use Rattle.live_tail.specs.Behind.{AreLeftAfter};
+ghost use Rattle.track_index.specs.Cost.{cost_of};
 ghost use Rattle.live_tail.specs.Cost.{interval_cost_beside};
 ghost use Rattle.live_tail.specs.Join.{rows_of_tail, rows_of_both};
+ghost use Rattle.live_tail.specs.Walk.{is_at, is_before, stop_order, stops_with};
 
 use crate::objects::{is_among, objects_in};
 use crate::tail::Tail;
-use path_union::{RowsWalk, UnionWalk, Untimed};
+use region_test::RegionTest;
 use std::alloc::Global;
 use std::sync::ledger::Ledger;
 use step_count::Steps;
-use track_types::{Answerer, Hit, Lazy, Memory, Region, Stop};
+use track_index::{IndexRef, PathWalk};
+use track_types::{Answerer, Cell, CellBox, Hit, Memory, Region, Row, Stop};
 
-/// For each object that is in a region at some instant of a window, whose ends count, the first such
-/// instant and its cell there, by object, of an answerer's chart with a tail.
+/// The interval of an index's chart with a tail. For each object that is in a region at some instant
+/// of a window, whose ends count, it gives the first such instant and the cell there, by object.
 ///
-/// What the answerer finds gives way where the tail has a row of the object in the window: the path of
-/// such an object is walked for its first stop in the region. `Memory` is the only refusal.
-pub fn interval<A: Answerer, L: Ledger>(
+/// If the tail has a row of an object in the window, what the index finds for it gives way: its path
+/// is searched for the first stop in the region. `Memory` is the only refusal.
+pub fn interval<L: Ledger>(
     alloc: Global,
-    answerer: A,
+    index: IndexRef<'_>,
     tail: &Tail,
     from: i64,
     to: i64,
@@ -38,39 +43,96 @@ pub fn interval<A: Answerer, L: Ledger>(
     requires to { IsAsked to }
     requires region { IsRegionAsked region.now }
     ensures ok { IfOk result (λ found. found.items ≡ hits_of
-        (rows_of_both (A.chart answerer).rows (rows_of_tail tail.now)) from to region.now) }
-    ensures cost { steps.new ≤ steps.old + interval_cost_beside (A.cost answerer)
+        (rows_of_both (chart_in index.entry.index.now).rows (rows_of_tail tail.now))
+        from to region.now) }
+    ensures cost { steps.new ≤ steps.old + interval_cost_beside (cost_of index.entry.index.now)
         (rows_of_tail tail.now) from to region.now }
 {
-    let _ = answerer.facts(); // says that the chart is a table
+    let _ = index.facts(); // says that the chart is a table
     let _ = tail.rows(); // says that these ascend
     let objects = objects_in(alloc, tail.rows_between(from, to))?;
-    let mut found = answerer.interval(alloc, from, to, region, steps)?;
+    let mut found = index.interval(alloc, from, to, region, steps)?;
     found.retain(|hit| !is_among(objects.as_slice(), hit.object));
-    let window = Window {
-        answerer,
-        tail,
-        from,
-        to,
-        region,
-    };
-    window.push_first_hits(alloc, objects.as_slice(), &mut found, steps)?;
+    let window = (from, to);
+    let own = objects.as_slice();
+    push_hits_of(alloc, index, tail, window, region, own, &mut found, steps)?;
     found.sort_unstable_by_key(|hit| hit.object);
     Ok(found)
 }
 
-// A window and a region about which an answerer and a tail are asked.
+// Appends the first hits of objects in a window and a region to what was found. (It makes the
+// closures that answer the region, so that none takes them from it.)
+fn push_hits_of<L: Ledger>(
+    alloc: Global,
+    index: IndexRef<'_>,
+    tail: &Tail,
+    window: (i64, i64),
+    region: &Region,
+    objects: &[u32],
+    found: &mut Vec<Hit>,
+    steps: &mut Steps<L>,
+) -> Result<(), Memory>
+    requires table { IsTable (chart_in index.index.now) }
+    requires from { IsAsked window.0 }
+    requires to { IsAsked window.1 }
+    requires region { IsRegionAsked region.now }
+    ensures found { OnOk result (found.new.items ≡ found.old.items ++ filter_map (hit_in
+        (rows_of_both (chart_in index.entry.index.now).rows (rows_of_tail tail.now))
+        window.0 window.1 region.now) objects.now) }
+    ensures cost { steps.new ≤ steps.old + sum_by (λ object. cost_of index.entry.index.now
+        (asked.Path object window.0 window.1)) objects.now }
+{
+    // Each closure has a region of its own, since what one takes is gone for the others.
+    let held = near_region(region);
+    let contains = Box::new(
+        alloc,
+        move |cell: Cell| -> bool
+            requires region { IsRegionWithin held }
+            requires near { IsCellWithin cell }
+            ensures { result ≡ in_region held cell }
+        { held.contains(cell) },
+    )?;
+    let touched = near_region(region);
+    let may_touch = Box::new(
+        alloc,
+        move |area: &CellBox| -> bool
+            requires region { IsRegionWithin touched }
+            requires near { IsBoxWithin area.now }
+            ensures { result ≡ intersects_region touched area.now }
+        { touched.touches(area) },
+    )?;
+    let test = RegionTest::new(near_region(region), contains, may_touch);
+    let window = Window {
+        index,
+        tail,
+        from: window.0,
+        to: window.1,
+        test: &test,
+    };
+    window.push_first_hits(alloc, objects, found, steps)
+}
+
+// The region of a question, shown to be near enough for both of its tests.
+fn near_region(region: &Region) -> Region
+    requires { IsRegionAsked region.now }
+    ensures value { result ≡ region.now }
+    ensures within { IsRegionWithin result }
+{
+    *region
+}
+
+// A window and a region about which an index and a tail are asked.
 #[derive(Clone, Copy)]
-struct Window<'a, A: Answerer> {
-    answerer: A,
+struct Window<'a> {
+    index: IndexRef<'a>,
     tail: &'a Tail,
     from: i64,
     to: i64,
-    region: &'a Region,
+    test: &'a RegionTest,
 }
 
-impl<'a, A: Answerer> Window<'a, A> {
-    // Puts the first hits of objects after what was found.
+impl<'a> Window<'a> {
+    // Appends the first hits of objects to what was found.
     fn push_first_hits<L: Ledger>(
         &self,
         alloc: Global,
@@ -78,14 +140,13 @@ impl<'a, A: Answerer> Window<'a, A> {
         found: &mut Vec<Hit>,
         steps: &mut Steps<L>,
     ) -> Result<(), Memory>
-        requires table { IsTable (A.chart self.now.answerer) }
+        requires table { IsTable (chart_in self.now.index.index.now) }
         requires from { IsAsked self.now.from }
         requires to { IsAsked self.now.to }
-        requires region { IsRegionAsked self.now.region.now }
         ensures found { OnOk result (found.new.items ≡ found.old.items ++ filter_map (hit_in
-            (rows_of_both (A.chart self.now.answerer).rows (rows_of_tail self.now.tail.now))
-            self.now.from self.now.to self.now.region.now) objects.now) }
-        ensures cost { steps.new ≤ steps.old + sum_by (λ object. A.cost self.now.answerer
+            (rows_of_both (chart_in self.now.index.index.now).rows (rows_of_tail self.now.tail.now))
+            self.now.from self.now.to self.now.test.now.region) objects.now) }
+        ensures cost { steps.new ≤ steps.old + sum_by (λ object. cost_of self.now.index.index.now
             (asked.Path object self.now.from self.now.to)) objects.now }
     {
         for object in objects {
@@ -102,21 +163,19 @@ impl<'a, A: Answerer> Window<'a, A> {
         object: u32,
         steps: &mut Steps<L>,
     ) -> Result<Option<Hit>, Memory>
-        requires table { IsTable (A.chart self.now.answerer) }
+        requires table { IsTable (chart_in self.now.index.index.now) }
         requires from { IsAsked self.now.from }
         requires to { IsAsked self.now.to }
-        requires region { IsRegionAsked self.now.region.now }
         ensures ok { IfOk result (λ hit. hit ≡ hit_in
-            (rows_of_both (A.chart self.now.answerer).rows (rows_of_tail self.now.tail.now))
-            self.now.from self.now.to self.now.region.now object) }
-        ensures cost { steps.new ≤ steps.old + A.cost self.now.answerer
+            (rows_of_both (chart_in self.now.index.index.now).rows (rows_of_tail self.now.tail.now))
+            self.now.from self.now.to self.now.test.now.region object) }
+        ensures cost { steps.new ≤ steps.old + cost_of self.now.index.index.now
             (asked.Path object self.now.from self.now.to) }
     {
         let _ = self.tail.rows(); // says that these ascend, in near cells
-        let walk = self.answerer.walk(alloc, object, self.from, self.to)?;
-        let own = RowsWalk::over(self.tail.track(object, self.from, self.to));
-        let mut walk = UnionWalk::of(Some(own), Some(Untimed::new(walk)));
-        let Some(stop) = first_in(&mut walk, self.region, steps) else {
+        let mut walk = self.index.walk(alloc, object, self.from, self.to)?;
+        let own = self.tail.track(object, self.from, self.to);
+        let Some(stop) = first_of_both(&mut walk, own, self.test, steps) else {
             return Ok(None);
         };
         Ok(Some(Hit {
@@ -127,7 +186,7 @@ impl<'a, A: Answerer> Window<'a, A> {
     }
 }
 
-// Puts a hit after what was found, if there is one.
+// Appends a hit to what was found, if there is one.
 fn push_found(found: &mut Vec<Hit>, hit: Option<Hit>) -> Result<(), Memory>
     ensures { OnOk result (found.new.items ≡ found.old.items ++ option_to_list hit) }
 {
@@ -137,23 +196,56 @@ fn push_found(found: &mut Vec<Hit>, hit: Option<Hit>) -> Result<(), Memory>
     Ok(())
 }
 
-// The first stop of a walk that is in a region. No stop after it is drawn.
-fn first_in<W: Lazy<Item = Stop>, L: Ledger>(
-    walk: &mut W,
-    region: &Region,
+// The first stop in a region, of an object's rows and of a walk. If both have an instant, the row
+// counts, be it in the region or not. Beyond the answer the walk is drawn at most to its next stop in
+// the region.
+fn first_of_both<L: Ledger>(
+    walk: &mut PathWalk<'_>,
+    own: &[Row],
+    test: &RegionTest,
     steps: &mut Steps<L>,
 ) -> Option<Stop>
-    requires region { IsRegionWithin region.now }
-    requires near { All (λ (stop : StopView). IsCellWithin stop.cell) (W.left walk.old) }
-    ensures value { result ≡ first_among region.now (W.left walk.old) }
-    ensures left { IfSome result (λ stop. AreLeftAfter region.now stop (W.left walk.old)
-        (W.left walk.new)) }
-    ensures cost { steps.new ≤ steps.old + W.budget walk.old }
+    requires near { All (λ (row : RowView). IsCellWithin row.cell) own.now }
+    requires ascending { IsStrictlySortedBy stop_order walk.old.stops }
+    ensures value { result ≡ first_among test.now.region (stops_with own.now walk.old.stops) }
+    ensures cost { steps.new ≤ steps.old + walk.old.reads }
 {
-    while let Some(stop) = walk.draw(steps) {
-        if region.contains(stop.cell) {
-            return Some(stop);
+    let mut rest = own;
+    let mut hit = walk.draw_in(test, steps);
+    while let Some((row, later)) = rest.split_first() {
+        if comes_before(hit, row.instant) {
+            return hit;
         }
+        if test.holds(row.cell) {
+            return Some(Stop {
+                instant: row.instant,
+                cell: row.cell,
+            });
+        }
+        if stands_at(hit, row.instant) {
+            hit = walk.draw_in(test, steps);
+        }
+        rest = later;
     }
-    None
+    hit
+}
+
+// Whether there is a stop, and it comes before an instant.
+fn comes_before(stop: Option<Stop>, instant: i64) -> bool
+    ensures { result ≡ is_before stop instant }
+{
+    match stop {
+        Some(stop) => stop.instant < instant,
+        None => false,
+    }
+}
+
+// Whether there is a stop, and it is at an instant.
+fn stands_at(stop: Option<Stop>, instant: i64) -> bool
+    ensures { result ≡ is_at stop instant }
+{
+    match stop {
+        Some(stop) => stop.instant == instant,
+        None => false,
+    }
 }

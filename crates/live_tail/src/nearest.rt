@@ -12,11 +12,11 @@ use std::sync::ledger::Ledger;
 use step_count::Steps;
 use track_types::{Answerer, Cell, Memory, Near, Row, dist2};
 
-/// The rows of an instant that are nearest to a cell, of an answerer's chart with a tail: those before
-/// which fewer than `count` others come, in order.
+/// The `count` rows of an instant that are nearest to a cell, of an answerer's chart with a tail, in
+/// order. They are all rows of the instant if there are no more than `count`.
 ///
-/// The answerer is asked for `count` and as many more as the tail has rows of the instant, since so
-/// many of those that it finds may give way to the tail's. `Memory` is the only refusal.
+/// The answerer is asked for `count`, and for one more for each row that the tail has of the instant,
+/// since as many of its rows may give way to the tail's. `Memory` is the only refusal.
 pub fn nearest<A: Answerer, L: Ledger>(
     alloc: Global,
     answerer: A,
@@ -49,14 +49,14 @@ pub fn nearest<A: Answerer, L: Ledger>(
     Ok(found)
 }
 
-// A count and so many more, or the greatest count there is.
+// A count and so many more, or the greatest count that there is.
 fn raised_count(count: u32, more: usize) -> u32
     ensures { result ≡ min (count + more) (2 ^ 32 - 1) }
 {
     count.saturating_add(u32::try_from(more).unwrap_or(u32::MAX))
 }
 
-// Puts how near rows are to a cell after what was found.
+// Appends to what was found how near rows are to a cell.
 fn push_nears(found: &mut Vec<Near>, rows: &[Row], cell: Cell) -> Result<(), Memory>
     requires cell { IsCellWithin cell }
     requires near { All (λ (row : RowView). IsCellWithin row.cell) rows.now }

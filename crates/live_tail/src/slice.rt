@@ -15,8 +15,8 @@ use track_types::{Answerer, Memory, Region, Row, Sighting};
 
 /// The rows of an instant in a region, by object, of an answerer's chart with a tail.
 ///
-/// What the answerer finds gives way where the tail has a row of the object at the instant, be that
-/// in the region or not. `Memory` is the only refusal.
+/// If the tail has a row of an object at the instant, what the answerer finds for it gives way, be the
+/// tail's row in the region or not. `Memory` is the only refusal.
 pub fn slice<A: Answerer, L: Ledger>(
     alloc: Global,
     answerer: A,
@@ -41,7 +41,7 @@ pub fn slice<A: Answerer, L: Ledger>(
     Ok(found)
 }
 
-// Puts the rows in a region after what was found.
+// Appends the rows in a region to what was found.
 fn push_seen(found: &mut Vec<Sighting>, rows: &[Row], region: &Region) -> Result<(), Memory>
     requires region { IsRegionWithin region.now }
     requires near { All (λ (row : RowView). IsCellWithin row.cell) rows.now }

@@ -53,7 +53,7 @@ impl<'a> Tailed<'a> {
         })
     }
 
-    /// Both as what answers questions. It takes no memory.
+    /// The index and the tail as what answers questions. It takes no memory.
     pub fn view(&self) -> TailRef<'_>
         ensures { result.tailed.now ≡ self.now }
     {

@@ -13,6 +13,8 @@ use Rattle.track_types.specs.declared.hit.Hit.{Hit}
 use Rattle.track_types.specs.declared.question.Question.TheVariants.{Interval, Path}
 use Rattle.track_types.specs.declared.region.Region.{Region}
 use Rattle.track_types.specs.declared.row.Row.{Row}
+use Rattle.snapshots.specs.Parts.{chart_in}
+use Rattle.track_index.specs.Cost.{cost_of}
 use Rattle.interval_search.specs.FirstHits.{hit_in}
 use Rattle.live_tail.specs.Cost.{interval_cost_beside, objects_between, rows_between}
 use Rattle.live_tail.specs.Join.{rows_of_tail, rows_of_both}
@@ -20,19 +22,19 @@ use Rattle.live_tail.proofs.HitLemmas.{hits-sorted}
 use Rattle.live_tail.proofs.ObjectLemmas.{objects_of-any}
 use Rattle.live_tail.proofs.interval.interval.Given.{Over}
 use Rattle.live_tail.proofs.interval.interval.Goals as goal
-use Rattle.live_tail.proofs.interval.interval.Goals.{After-interval, After-push_first_hits}
+use Rattle.live_tail.proofs.interval.interval.Goals.{After-interval, After-push_hits_of}
 
 -- what the answerer's interval cost
 asked : (g : Over) (c : After-interval g) → c.interval.new.steps
-    ≤ c.args.steps.now + g.A.Answerer.cost c.args.answerer (Interval c.args.from c.args.to c.args.region.now)
+    ≤ c.args.steps.now + cost_of c.args.index.index.now (Interval c.args.from c.args.to c.args.region.now)
 asked g c =
     let from : ℤ = c.args.from in
     let to : ℤ = c.args.to in
     let low : to_z w64 (of_z w64 c.args.from) ≡ from = omega (arith, ints) in
     let high : to_z w64 (of_z w64 c.args.to) ≡ to = omega (arith, ints) in
-    subst (λ z. c.interval.new.steps ≤ c.args.steps.now + g.A.Answerer.cost c.args.answerer (Interval from z c.args.region.now)) high
+    subst (λ z. c.interval.new.steps ≤ c.args.steps.now + cost_of c.args.index.index.now (Interval from z c.args.region.now)) high
     (subst (λ z. c.interval.new.steps
-    ≤ c.args.steps.now + g.A.Answerer.cost c.args.answerer (Interval z (to_z w64 (of_z w64 c.args.to)) c.args.region.now)) low
+    ≤ c.args.steps.now + cost_of c.args.index.index.now (Interval z (to_z w64 (of_z w64 c.args.to)) c.args.region.now)) low
     c.interval.ensures.cost)
 
 -- the objects of which the tail has a row in the window
@@ -53,47 +55,47 @@ own_are g c =
     ∙ ap (λ z. list_any (λ (row : Row). object == row.object) (rows_between tail from z)) high)
 
 -- what both cost
-all_cost : (g : Over) (c : After-push_first_hits g) → c.interval.new.steps
-    ≤ c.args.steps.now + g.A.Answerer.cost c.args.answerer (Interval c.args.from c.args.to c.args.region.now)
+all_cost : (g : Over) (c : After-push_hits_of g) → c.interval.new.steps
+    ≤ c.args.steps.now + cost_of c.args.index.index.now (Interval c.args.from c.args.to c.args.region.now)
     → c.in_ok-objects.objects.items ≡ objects_between (rows_of_tail c.args.tail.now) c.args.from c.args.to
-    → c.push_first_hits.new.steps ≤ c.args.steps.now
-    + interval_cost_beside (g.A.Answerer.cost c.args.answerer) (rows_of_tail c.args.tail.now) c.args.from c.args.to c.args.region.now
+    → c.push_hits_of.new.steps ≤ c.args.steps.now
+    + interval_cost_beside (cost_of c.args.index.index.now) (rows_of_tail c.args.tail.now) c.args.from c.args.to c.args.region.now
 unfolding interval_cost_beside
 all_cost g c before own =
     let from : ℤ = c.args.from in
     let to : ℤ = c.args.to in
     let low : to_z w64 (of_z w64 c.args.from) ≡ from = omega (arith, ints) in
     let high : to_z w64 (of_z w64 c.args.to) ≡ to = omega (arith, ints) in
-    let reads : ℤ → ℤ → ℕ → ℕ = λ a b object. g.A.Answerer.cost c.args.answerer (Path object a b) in
-    let more : c.push_first_hits.new.steps
+    let reads : ℤ → ℤ → ℕ → ℕ = λ a b object. cost_of c.args.index.index.now (Path object a b) in
+    let more : c.push_hits_of.new.steps
     ≤ c.interval.new.steps + sum_by (reads from to) (objects_between (rows_of_tail c.args.tail.now) from to) =
-    subst (λ objects. c.push_first_hits.new.steps ≤ c.interval.new.steps + sum_by (reads from to) objects) (c.as_slice.ensures.value ∙ own)
-    (subst (λ z. c.push_first_hits.new.steps ≤ c.interval.new.steps + sum_by (reads from z) c.as_slice.result.now) high
-    (subst (λ z. c.push_first_hits.new.steps
-    ≤ c.interval.new.steps + sum_by (reads z (to_z w64 (of_z w64 c.args.to))) c.as_slice.result.now) low
-    c.push_first_hits.ensures.cost)) in
+    subst (λ objects. c.push_hits_of.new.steps ≤ c.interval.new.steps + sum_by (reads from to) objects) (c.as_slice-own.ensures.value ∙ own)
+    (subst (λ z. c.push_hits_of.new.steps ≤ c.interval.new.steps + sum_by (reads from z) c.as_slice-own.result.now) high
+    (subst (λ z. c.push_hits_of.new.steps
+    ≤ c.interval.new.steps + sum_by (reads z (to_z w64 (of_z w64 c.args.to))) c.as_slice-own.result.now) low
+    c.push_hits_of.ensures.cost)) in
     omega (arith, before, more)
 
 pub returns-in_err-found-clause-cost : goal.returns-in_err-found-clause-cost
 unfolding interval_cost_beside
 returns-in_err-found-clause-cost g c = omega (arith, asked g (goal.at.returns-in_err-found-clause-cost g c).After-interval)
 
-pub returns-in_err-push_first_hits-clause-cost : goal.returns-in_err-push_first_hits-clause-cost
-returns-in_err-push_first_hits-clause-cost g c =
-    let at = goal.at.returns-in_err-push_first_hits-clause-cost g c in
-    all_cost g at.After-push_first_hits (asked g at.After-interval) (own_are g at.After-interval)
+pub returns-in_err-push_hits_of-clause-cost : goal.returns-in_err-push_hits_of-clause-cost
+returns-in_err-push_hits_of-clause-cost g c =
+    let at = goal.at.returns-in_err-push_hits_of-clause-cost g c in
+    all_cost g at.After-push_hits_of (asked g at.After-interval) (own_are g at.After-interval)
 
 pub returns-clause-cost : goal.returns-clause-cost
 returns-clause-cost g c =
     let at = goal.at.returns-clause-cost g c in
-    all_cost g at.After-push_first_hits (asked g at.After-interval) (own_are g at.After-interval)
+    all_cost g at.After-push_hits_of (asked g at.After-interval) (own_are g at.After-interval)
 
 pub returns-clause-ok : goal.returns-clause-ok
 returns-clause-ok g c =
     let from : ℤ = c.args.from in
     let to : ℤ = c.args.to in
     let region : Region = c.args.region.now in
-    let rows : List Row = (g.A.Answerer.chart c.args.answerer).rows in
+    let rows : List Row = (chart_in c.args.index.index.now).rows in
     let tail : List Row = rows_of_tail c.args.tail.now in
     let both : List Row = rows_of_both rows tail in
     let objects : List ℕ = c.in_ok-objects.objects.items in
@@ -108,13 +110,13 @@ returns-clause-ok g c =
     ∙ ap (filter (λ (hit : Hit). not (list_any (λ o. hit.object == o) objects)))
     (c.in_ok-found.ensures.ok ∙ ap (λ z. hits_of rows z (to_z w64 (of_z w64 c.args.to)) region) low ∙ ap (λ z. hits_of rows from z region) high)
     ∙ ap (λ objects. filter (λ (hit : Hit). not (list_any (λ o. hit.object == o) objects)) (hits_of rows from to region)) own in
-    let pushed : c.push_first_hits.new.found.items
+    let pushed : c.push_hits_of.new.found.items
     ≡ filter (λ (hit : Hit). not (list_any (λ o. hit.object == o) (objects_between tail from to))) (hits_of rows from to region)
     ++ filter_map (hit_in both from to region) (objects_between tail from to) =
-    c.in_ok-push_first_hits.ensures.found
-    ∙ ap (λ z. c.retain.new.self.items ++ filter_map (hit_in both z (to_z w64 (of_z w64 c.args.to)) region) c.as_slice.result.now) low
-    ∙ ap (λ z. c.retain.new.self.items ++ filter_map (hit_in both from z region) c.as_slice.result.now) high
-    ∙ ap (λ objects. c.retain.new.self.items ++ filter_map (hit_in both from to region) objects) (c.as_slice.ensures.value ∙ own)
+    c.in_ok-push_hits_of.ensures.found
+    ∙ ap (λ z. c.retain.new.self.items ++ filter_map (hit_in both z (to_z w64 (of_z w64 c.args.to)) region) c.as_slice-own.result.now) low
+    ∙ ap (λ z. c.retain.new.self.items ++ filter_map (hit_in both from z region) c.as_slice-own.result.now) high
+    ∙ ap (λ objects. c.retain.new.self.items ++ filter_map (hit_in both from to region) objects) (c.as_slice-own.ensures.value ∙ own)
     ∙ ap (λ hits. hits ++ filter_map (hit_in both from to region) (objects_between tail from to)) left in
     let sorted : List Hit = c.sort_unstable_by_key.new.self.items in
     hits-sorted rows tail c.facts.ensures.table.ascending (subst IsAscending c.rows.ensures.value c.rows.ensures.ascending)
