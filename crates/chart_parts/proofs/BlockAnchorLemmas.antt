@@ -24,7 +24,7 @@ use Rattle.movement_log.specs.Blocks.{no_row, row_at}
 use Rattle.movement_log.specs.Logs.{anchors_in}
 use Rattle.chart_parts.specs.Header.{frame_of}
 use Rattle.chart_parts.specs.LeafOrder.{distinct_codes, ends_of, leaf_codes, leaf_order}
-use Rattle.chart_parts.specs.PartsOf.{anchor_codes, is_present, logged_anchors, parts_of, period_of_chart}
+use Rattle.chart_parts.specs.PartsOf.{anchor_codes, is_present, logged_anchors, compressed_parts_of, period_of_chart}
 use Rattle.chart_parts.proofs.BlockWords.{anchor_of}
 use Rattle.chart_parts.proofs.HeaderLawLemmas.{row-in_grid}
 use Rattle.chart_parts.proofs.LeafEndLemmas.{distinct_codes-at_rank, rank_of-leaf_ends}
@@ -33,7 +33,7 @@ use Rattle.chart_parts.proofs.LogPlaceLemmas.{logged-at}
 use Rattle.chart_parts.proofs.LogSliceLemmas.{periods_of-frame_of, slice_range-log}
 use Rattle.chart_parts.proofs.PeriodAnchorLemmas.{IsAnchorIn-member}
 use Rattle.chart_parts.proofs.PresenceLemmas.{anchor_of-absent, anchor_of-present}
-use Rattle.chart_parts.proofs.SnapshotLemmas.{length-anchor_codes, own_view, snapshot_in-parts_of, tree_in-own}
+use Rattle.chart_parts.proofs.SnapshotLemmas.{length-anchor_codes, own_view, snapshot_in-compressed_parts_of, tree_in-own}
 
 -- a block is that of an object's anchor: it has the anchor's instant within the period, the anchor's cell, and the log
 -- that stands beside the anchor
@@ -41,13 +41,13 @@ pub record IsBlockFor (chart : ChartView) (number i : ℕ) (anchor : Row) (block
   pub index : block.index ≡ i
   pub offset : block.offset ≡ elapsed (first_of chart.rows) anchor % chart.period
   pub cell : block.cell ≡ anchor.cell
-  pub logged : Contains (logged_anchors chart) (anchor, log_in (parts_of chart) block)
+  pub logged : Contains (logged_anchors chart) (anchor, log_in (compressed_parts_of chart) block)
 
 -- an object has this anchor in a period, and this block, which is the anchor's
 pub record HasBlock (chart : ChartView) (number i : ℕ) (anchor : Row) (block : Anchored) : Type 0 where
   pub anchored : anchor_of chart number (slice_index (objects_of chart.rows) i) ≡ Some anchor
   pub among : Contains (anchors_in chart number) anchor
-  pub found : block_of (snapshot_in (parts_of chart) number) i ≡ Some block
+  pub found : block_of (snapshot_in (compressed_parts_of chart) number) i ≡ Some block
   pub its : IsBlockFor chart number i anchor block
 
 module _ (chart : ChartView) (is : IsChart chart) (number : ℕ) (below : number < periods_of (frame_of chart)) where
@@ -129,10 +129,10 @@ module _ (chart : ChartView) (is : IsChart chart) (number : ℕ) (below : number
 
     -- an object has neither anchor nor block, or the block of its anchor
     pub block-anchor :
-        ((anchor_of chart number object ≡ None) × (block_of (snapshot_in (parts_of chart) number) i ≡ None))
+        ((anchor_of chart number object ≡ None) × (block_of (snapshot_in (compressed_parts_of chart) number) i ≡ None))
         ⊎ ((anchor : Row) × (block : Anchored) × HasBlock chart number i anchor block)
     block-anchor =
-        let same = ap (λ view. block_of view i) (snapshot_in-parts_of chart is number below) in
+        let same = ap (λ view. block_of view i) (snapshot_in-compressed_parts_of chart is number below) in
         elim (cases_Bool (is_present chart number object)) [
           | inl on ↦
               let rank : ℕ = rank_of present i in

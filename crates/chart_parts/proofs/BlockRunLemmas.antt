@@ -1,5 +1,5 @@
 -- Blocks by period, one period after the other.
-use Rattle.std.proofs.Common.{◌≡◌, ℕ, ◌+◌, ◌-◌, ◌^◌, ◌<◌, ◌≤◌, List, [], ◌∷◌, drop, length, map, refl, sym, take, ◌∙◌, ap, arith}
+use Rattle.std.proofs.Common.{◌≡◌, ℕ, ◌+◌, ◌-◌, ◌<◌, ◌≤◌, List, [], ◌∷◌, drop, length, map, refl, sym, take, ◌∙◌, ap, arith}
 use Rattle.std.specs.Prelude.{All, ◌==◌}
 use Rattle.std.specs.List.{zip}
 use Rattle.std.proofs.lemmas.List.{drop-drop, drop-map, length-drop, length-map, take-map, take_all}
@@ -13,15 +13,15 @@ use Rattle.chart_parts.specs.PeriodWith.{AreBlocksByPeriod, ArePlaced, Climbs, I
 use Rattle.chart_parts.proofs.RunLemmas.{Climbs-behind_run, filter-behind_run, filter-run, run}
 
 -- the period of a block
-abbrev pub period_in : Head × List ℕ → ℕ
+abbrev pub period_in : Head × ℕ → ℕ
 period_in block = block.0.period
 
 -- the first blocks are those of earlier periods
-pub record IsBehind (blocks : List (Head × List ℕ)) (number start : ℕ) : Type 0 where
+pub record IsBehind (blocks : List (Head × ℕ)) (number start : ℕ) : Type 0 where
   pub by_period : Climbs number (map period_in (drop start blocks))
   pub behind : (k : ℕ) → number ≤ k → blocks_of_period k blocks ≡ blocks_of_period k (drop start blocks)
 
-module _ (blocks : List (Head × List ℕ)) where
+module _ (blocks : List (Head × ℕ)) where
   -- none is of an earlier period than the first
   pub behind_none : Climbs 0 (map period_in blocks) → IsBehind blocks 0 0
   behind_none up = record { by_period = up; behind = λ k low. refl }
@@ -45,48 +45,48 @@ module _ (blocks : List (Head × List ℕ)) where
               ∙ ap (blocks_of_period k) all;
         }
 
-period_run_length-firsts : (number : ℕ) (blocks : List (Head × List ℕ)) →
+period_run_length-firsts : (number : ℕ) (blocks : List (Head × ℕ)) →
     period_run_length number (map (λ block. block.0) blocks) ≡ run period_in number blocks
 period_run_length-firsts number [] = refl
 period_run_length-firsts number (block ∷ blocks) = rw (period_run_length-firsts number blocks) refl
 
-module _ (heads : List Head) (logs : List (List ℕ)) (same : length logs ≡ length heads) where
-  firsts : map (λ (block : Head × List ℕ). block.0) (zip heads logs) ≡ heads
-  firsts = firsts-zip heads logs same
+module _ (heads : List Head) (lengths : List ℕ) (same : length lengths ≡ length heads) where
+  firsts : map (λ (block : Head × ℕ). block.0) (zip heads lengths) ≡ heads
+  firsts = firsts-zip heads lengths same
 
-  seconds : map (λ (block : Head × List ℕ). block.1) (zip heads logs) ≡ logs
-  seconds = seconds-zip heads logs same
+  seconds : map (λ (block : Head × ℕ). block.1) (zip heads lengths) ≡ lengths
+  seconds = seconds-zip heads lengths same
 
   -- as many headers are next as blocks
   pub period_run_length-zip : (number start : ℕ) →
-      period_run_length number (drop start heads) ≡ run period_in number (drop start (zip heads logs))
+      period_run_length number (drop start heads) ≡ run period_in number (drop start (zip heads lengths))
   period_run_length-zip number start =
       ap (λ all. period_run_length number (drop start all)) (sym firsts)
-      ∙ ap (period_run_length number) (drop-map (λ block. block.0) start (zip heads logs))
-      ∙ period_run_length-firsts number (drop start (zip heads logs))
+      ∙ ap (period_run_length number) (drop-map (λ block. block.0) start (zip heads lengths))
+      ∙ period_run_length-firsts number (drop start (zip heads lengths))
 
-  module _ (number start : ℕ) (so_far : IsBehind (zip heads logs) number start) where
+  module _ (number start : ℕ) (so_far : IsBehind (zip heads lengths) number start) where
     -- what is part of each block of a period is next
-    part-run : {A : Type 0} (part : Head × List ℕ → A) (all : List A) → map part (zip heads logs) ≡ all
-        → take (period_run_length number (drop start heads)) (drop start all) ≡ map part (blocks_of_period number (zip heads logs))
+    part-run : {A : Type 0} (part : Head × ℕ → A) (all : List A) → map part (zip heads lengths) ≡ all
+        → take (period_run_length number (drop start heads)) (drop start all) ≡ map part (blocks_of_period number (zip heads lengths))
     part-run part all is =
         ap (λ parts. take (period_run_length number (drop start heads)) (drop start parts)) (sym is)
-        ∙ ap (take (period_run_length number (drop start heads))) (drop-map part start (zip heads logs))
-        ∙ take-map part (period_run_length number (drop start heads)) (drop start (zip heads logs))
-        ∙ ap (λ n. map part (take n (drop start (zip heads logs)))) (period_run_length-zip number start)
-        ∙ ap (map part) (blocks_of_period-run (zip heads logs) number start so_far)
+        ∙ ap (take (period_run_length number (drop start heads))) (drop-map part start (zip heads lengths))
+        ∙ take-map part (period_run_length number (drop start heads)) (drop start (zip heads lengths))
+        ∙ ap (λ n. map part (take n (drop start (zip heads lengths)))) (period_run_length-zip number start)
+        ∙ ap (map part) (blocks_of_period-run (zip heads lengths) number start so_far)
 
-    -- the headers of a period, and their logs
+    -- the headers of a period, and the lengths of its logs
     pub heads-run : take (period_run_length number (drop start heads)) (drop start heads)
-        ≡ map (λ block. block.0) (blocks_of_period number (zip heads logs))
+        ≡ map (λ block. block.0) (blocks_of_period number (zip heads lengths))
     heads-run = part-run (λ block. block.0) heads firsts
 
-    pub logs-run : take (period_run_length number (drop start heads)) (drop start logs)
-        ≡ map (λ block. block.1) (blocks_of_period number (zip heads logs))
-    logs-run = part-run (λ block. block.1) logs seconds
+    pub lengths-run : take (period_run_length number (drop start heads)) (drop start lengths)
+        ≡ map (λ block. block.1) (blocks_of_period number (zip heads lengths))
+    lengths-run = part-run (λ block. block.1) lengths seconds
 
-module _ (heads : List Head) (logs : List (List ℕ)) (same : length logs ≡ length heads) (number start : ℕ)
-    (so_far : IsBehind (zip heads logs) number start) (count : ℕ)
+module _ (heads : List Head) (lengths : List ℕ) (same : length lengths ≡ length heads) (number start : ℕ)
+    (so_far : IsBehind (zip heads lengths) number start) (count : ℕ)
     (counted : count ≡ period_run_length number (take (length heads - start) (drop start heads))) where
   is : count ≡ period_run_length number (drop start heads)
   is = counted ∙ ap (period_run_length number)
@@ -97,18 +97,18 @@ module _ (heads : List Head) (logs : List (List ℕ)) (same : length logs ≡ le
 
   -- the part of the headers that is a period's
   pub heads-next : take (start + count - start) (drop start heads)
-      ≡ map (λ block. block.0) (blocks_of_period number (zip heads logs))
-  heads-next = rw (back, is) (heads-run heads logs same number start so_far)
+      ≡ map (λ block. block.0) (blocks_of_period number (zip heads lengths))
+  heads-next = rw (back, is) (heads-run heads lengths same number start so_far)
 
-  -- the part of the logs that is a period's
-  pub logs-next : take (start + count - start) (drop start logs)
-      ≡ map (λ block. block.1) (blocks_of_period number (zip heads logs))
-  logs-next = rw (back, is) (logs-run heads logs same number start so_far)
+  -- the part of the lengths that is a period's
+  pub lengths-next : take (start + count - start) (drop start lengths)
+      ≡ map (λ block. block.1) (blocks_of_period number (zip heads lengths))
+  lengths-next = rw (back, is) (lengths-run heads lengths same number start so_far)
 
-  pub behind_next : IsBehind (zip heads logs) (number + 1) (start + count)
-  behind_next = rw (is, period_run_length-zip heads logs same number start) (behind_more (zip heads logs) number start so_far)
+  pub behind_next : IsBehind (zip heads lengths) (number + 1) (start + count)
+  behind_next = rw (is, period_run_length-zip heads lengths same number start) (behind_more (zip heads lengths) number start so_far)
 
-module _ (frame : Frame) (objects : ℕ) (blocks : List (Head × List ℕ)) (are : AreBlocksByPeriod frame objects blocks)
+module _ (frame : Frame) (objects : ℕ) (blocks : List (Head × ℕ)) (are : AreBlocksByPeriod frame objects blocks)
     (number : ℕ) where
   each_in : All (IsBlockOf frame objects) (blocks_of_period number blocks)
   each_in = All-filter (λ block. block.0.period == number) (IsBlockOf frame objects) blocks are.each
@@ -125,7 +125,3 @@ module _ (frame : Frame) (objects : ℕ) (blocks : List (Head × List ℕ)) (are
   pub indexes_in : All (λ head. head.index < objects) (map (λ block. block.0) (blocks_of_period number blocks))
   indexes_in = All-map (λ head. head.index < objects) (λ block. block.0) (blocks_of_period number blocks)
       (λ k d within. (each_in k d within).index)
-
-  pub short_in : All (λ log. length log < 2 ^ 32) (map (λ block. block.1) (blocks_of_period number blocks))
-  short_in = All-map (λ log. length log < 2 ^ 32) (λ block. block.1) (blocks_of_period number blocks)
-      (λ k d within. (each_in k d within).short)

@@ -1,18 +1,15 @@
 -- What is cut from a chart is what the chart's parts are made of, and these are those of an index.
-use Rattle.std.proofs.Common.{◌≡◌, ◌<◌, length, Ok, Err, IfOk, subst, sym}
+use Rattle.std.proofs.Common.{◌≡◌, length, Ok, Err, IfOk, subst, sym}
 use Rattle.std.specs.Prelude.{Result}
 use Rattle.track_types.specs.Chart.{ChartView}
-use Rattle.track_types.specs.declared.limit.TheConstants.{MAX_INDEX}
 use Rattle.track_types.specs.declared.parts.Parts.{Parts}
+use Rattle.rule_order.specs.Order.{IsSettled}
 use Rattle.snapshots.specs.Parts.{chart_in}
 use Rattle.snapshots.specs.SoundParts.{IsValid}
-use Rattle.index_format.specs.Spelling.{bytes_of_parts}
 use Rattle.chart_parts.specs.Cut.{IsCutOf}
 use Rattle.chart_parts.specs.PartsOf.{parts_of}
 use Rattle.chart_parts.specs.declared.writing.CutChart.{CutChart}
-use Rattle.chart_parts.proofs.BlockStopLemmas.{chart_in-chart}
-use Rattle.chart_parts.proofs.BytesLemmas.{bytes-short}
-use Rattle.chart_parts.proofs.ValidLemmas.{IsValid-parts_of}
+use Rattle.chart_parts.proofs.PartsLemmas.{IsSettled-parts_of, IsValid-parts_of, chart_in-parts_of}
 
 -- what holds of some parts holds of an answer that is these
 if_these : {E : Type 0} (P : Parts → Type 0) (result : Result Parts E) (these : Parts)
@@ -27,8 +24,11 @@ module _ {E : Type 0} (chart : ChartView) (cut : CutChart) (is : IsCutOf chart c
       if_these IsValid result (parts_of chart) ok (IsValid-parts_of chart is.is (rw is.objects at is.short))
 
   pub cut-reads_back : IfOk result (λ parts. chart_in parts ≡ chart)
-  cut-reads_back = if_these (λ parts. chart_in parts ≡ chart) result (parts_of chart) ok (chart_in-chart chart is.is)
+  cut-reads_back =
+      if_these (λ parts. chart_in parts ≡ chart) result (parts_of chart) ok
+      (chart_in-parts_of chart is.is (rw is.objects at is.short))
 
-  pub cut-short : IfOk result (λ parts. length (bytes_of_parts parts) < MAX_INDEX)
-  cut-short =
-      if_these (λ parts. length (bytes_of_parts parts) < MAX_INDEX) result (parts_of chart) ok (bytes-short chart is.is)
+  pub cut-order : IfOk result (λ parts. IsSettled (length parts.alphabet) parts.rules)
+  cut-order =
+      if_these (λ parts. IsSettled (length parts.alphabet) parts.rules) result (parts_of chart) ok
+      (IsSettled-parts_of chart is.is (rw is.objects at is.short))

@@ -1,11 +1,10 @@
 -- What the header of a chart's index keeps: its grid has the cells of all rows, and its numbers are in their ranges.
-use Rattle.std.proofs.Common.{◌≡◌, ℕ, ◌+◌, ◌-◌, ◌*◌, ◌^◌, ◌<◌, ◌≤◌, List, [], ◌∷◌, length, map, All, arith, refl, ◌∙◌, inl, inr}
-use Rattle.std.specs.Prelude.{ℤ, pos, ◌+ℤ◌, ◌-ℤ◌, ◌≤ℤ◌, unsigned_abs, fold}
-use Rattle.std.specs.Int.{int_max, int_min}
+use Rattle.std.proofs.Common.{◌≡◌, ℕ, ◌+◌, ◌-◌, ◌*◌, ◌^◌, ◌<◌, ◌≤◌, List, length, map, All, arith, ◌∙◌}
+use Rattle.std.specs.Prelude.{ℤ, pos, ◌+ℤ◌, ◌-ℤ◌, ◌≤ℤ◌, unsigned_abs}
 use Rattle.std.specs.List.{Contains}
-use Rattle.std.proofs.lemmas.Int.{fold-int_max_reached, fold-int_min_reached, ints}
+use Rattle.std.proofs.lemmas.Int.{ints}
 use Rattle.std.proofs.lemmas.List.{get_or_default, length-map}
-use Rattle.std.proofs.lemmas.List.Elements.{Contains-get_or, All-contains, All-head, All-map, All-tail, All-weaker}
+use Rattle.std.proofs.lemmas.List.Elements.{Contains-get_or, All-map, All-weaker}
 use Rattle.list_laws.proofs.NumberLemmas.{least_power}
 use Rattle.k2_tree.specs.Morton.{IsInGrid}
 use Rattle.movement_log.specs.Blocks.{no_row, row_at}

@@ -25,7 +25,7 @@ pub mod PeriodShapeLemmas
 pub mod PeriodBlockLemmas
 pub mod BlockStopLemmas
 pub mod ValidLemmas
-pub mod BytesLemmas
+pub mod PartsLemmas
 mod CutLemmas
 mod Examples
 pub mod HeaderLemmas

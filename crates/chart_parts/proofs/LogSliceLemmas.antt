@@ -16,7 +16,7 @@ use Rattle.track_types.specs.Quantities.{period_count}
 use Rattle.snapshots.specs.Parts.{no_period, period_at, start_in, symbols_of}
 use Rattle.movement_log.specs.Logs.{anchors_in}
 use Rattle.chart_parts.specs.Header.{frame_of}
-use Rattle.chart_parts.specs.PartsOf.{logs_in, parts_of, period_of_chart}
+use Rattle.chart_parts.specs.PartsOf.{logs_in, compressed_parts_of, period_of_chart}
 use Rattle.chart_parts.proofs.LogPlaceLemmas.{length-logs_in, symbols-by_period, symbols_in}
 
 module _ (chart : ChartView) where
@@ -26,10 +26,10 @@ module _ (chart : ChartView) where
   periods_of-frame_of = refl
 
   -- the parts of a period are those of the chart's
-  pub period_at-parts_of : (number : ℕ) → number < periods_of (frame_of chart) →
-      period_at (parts_of chart).periods number ≡ period_of_chart chart number
-  unfolding parts_of
-  period_at-parts_of number below =
+  pub period_at-compressed_parts_of : (number : ℕ) → number < periods_of (frame_of chart) →
+      period_at (compressed_parts_of chart).periods number ≡ period_of_chart chart number
+  unfolding compressed_parts_of
+  period_at-compressed_parts_of number below =
       get_or-map-range_with_len (period_of_chart chart) 0 (periods_of (frame_of chart)) number number no_period below
       (omega arith)
 
@@ -43,8 +43,8 @@ module _ (chart : ChartView) where
 
   -- the logs of a period begin after the symbols of those before
   start_in-length : (number : ℕ) →
-      start_in (parts_of chart) number ≡ length (flat_map (symbols_in chart) (take number numbers))
-  unfolding start_in parts_of frame_of
+      start_in (compressed_parts_of chart) number ≡ length (flat_map (symbols_in chart) (take number numbers))
+  unfolding start_in compressed_parts_of frame_of
   start_in-length number =
       ap (sum_by symbols_of) (take-map (period_of_chart chart) number numbers)
       ∙ sum_by-map symbols_of (period_of_chart chart) (take number numbers)
@@ -52,18 +52,18 @@ module _ (chart : ChartView) where
       (take number numbers)
       ∙ sym (length-flat_map (symbols_in chart) (take number numbers))
 
-  symbols-parts_of : (parts_of chart).symbols ≡ flat_map (symbols_in chart) numbers
-  unfolding parts_of
-  symbols-parts_of = symbols-by_period chart
+  symbols-compressed_parts_of : (compressed_parts_of chart).symbols ≡ flat_map (symbols_in chart) numbers
+  unfolding compressed_parts_of
+  symbols-compressed_parts_of = symbols-by_period chart
 
   -- the logs of all periods have all symbols
-  pub total-parts_of : start_in (parts_of chart) (periods_of (frame_of chart)) ≡ length (parts_of chart).symbols
-  total-parts_of =
+  pub total-compressed_parts_of : start_in (compressed_parts_of chart) (periods_of (frame_of chart)) ≡ length (compressed_parts_of chart).symbols
+  total-compressed_parts_of =
       let long = length-range_with_len 0 (period_count chart.rows chart.period) in
       start_in-length (periods_of (frame_of chart))
       ∙ ap (λ ks. length (flat_map (symbols_in chart) ks))
       (take_all (periods_of (frame_of chart)) numbers (omega (arith, periods_of-frame_of)))
-      ∙ ap length (sym symbols-parts_of)
+      ∙ ap length (sym symbols-compressed_parts_of)
 
   module _ (number : ℕ) (below : number < periods_of (frame_of chart)) (place : ℕ)
       (within : place < length (anchors_in chart number)) where
@@ -77,10 +77,10 @@ module _ (chart : ChartView) where
     lengths = map length logs
 
     abbrev from : ℕ
-    from = start_in (parts_of chart) number + sum (take place lengths)
+    from = start_in (compressed_parts_of chart) number + sum (take place lengths)
 
     -- the symbols of a log stand after those of earlier periods and of earlier objects
-    pub slice_range-log : slice_range (parts_of chart).symbols from (from + slice_index lengths place) ≡ log
+    pub slice_range-log : slice_range (compressed_parts_of chart).symbols from (from + slice_index lengths place) ≡ log
     slice_range-log =
         let counted : number < period_count chart.rows chart.period = omega (arith, periods_of-frame_of) in
         let inside : place < length logs = omega (arith, length-logs_in chart number counted) in
@@ -90,8 +90,8 @@ module _ (chart : ChartView) where
         let back : List ℕ = flat_map (λ l. l) (drop (place + 1) logs) in
         let its : get_or numbers number 0 ≡ number =
         get_or-range_with_len 0 (period_count chart.rows chart.period) number 0 counted ∙ omega arith in
-        let parted : (parts_of chart).symbols ≡ (before ++ front) ++ (log ++ (back ++ after)) =
-        symbols-parts_of
+        let parted : (compressed_parts_of chart).symbols ≡ (before ++ front) ++ (log ++ (back ++ after)) =
+        symbols-compressed_parts_of
         ∙ flat_map-parted (symbols_in chart) numbers number 0
         (omega (arith, length-range_with_len 0 (period_count chart.rows chart.period)))
         ∙ ap (λ k. before ++ (symbols_in chart k ++ after)) its

@@ -1,5 +1,5 @@
--- The blocks of a chart by period: few in each, with cells in the grid and logs that are not long.
-use Rattle.std.proofs.Common.{◌≡◌, ℕ, ◌<◌, ◌≤◌, List, get_or, length, map, sym, ◌∙◌, ap, arith, subst}
+-- The blocks of a chart by period: few in each, with cells in the grid, and logs that are not long.
+use Rattle.std.proofs.Common.{◌≡◌, ℕ, ◌^◌, ◌<◌, ◌≤◌, List, get_or, length, map, sym, ◌∙◌, ap, arith, subst}
 use Rattle.std.specs.Prelude.{All}
 use Rattle.std.proofs.lemmas.List.{length-map}
 use Rattle.std.proofs.lemmas.List.Elements.{All-map, Contains-get_or}
@@ -34,8 +34,8 @@ module _ (chart : ChartView) (is : IsChart chart) where
       let rising = IsNonDecreasingBy-by_key (row_period chart) 0 (period_count chart.rows chart.period)
       (anchors_of (first_of chart.rows) chart.period chart.rows) in
       let periods : map (λ block. block.0.period) (own_blocks chart) ≡ map (row_period chart) anchors =
-      ap (map (λ (block : Head × List ℕ). block.0.period)) (own_blocks-headed chart)
-      ∙ map-map (λ (block : Head × List ℕ). block.0.period) (headed chart) (logged_anchors chart)
+      ap (map (λ (block : Head × ℕ). block.0.period)) (own_blocks-headed chart)
+      ∙ map-map (λ (block : Head × ℕ). block.0.period) (headed chart) (logged_anchors chart)
       ∙ sym (map-map (row_period chart) (λ (block : Row × List ℕ). block.0) (logged_anchors chart))
       ∙ ap (map (row_period chart)) (firsts-logged_anchors chart) in
       subst (Climbs 0) (sym periods) (Climbs-rising (row_period chart) 0 anchors (λ k d within. omega arith) rising)
@@ -44,7 +44,7 @@ module _ (chart : ChartView) (is : IsChart chart) where
   unfolding frame_of
   few_in number below =
       let heads = ap length (heads-own chart number below) in
-      let blocks = length-map (blocks_of_period number (own_blocks chart)) (λ (block : Head × List ℕ). block.0) in
+      let blocks = length-map (blocks_of_period number (own_blocks chart)) (λ (block : Head × ℕ). block.0) in
       let anchors = length-map (anchors_in chart number) (head_of chart) in
       let objects = ap length (filter-is_present chart is number) in
       let present = length-map (anchors_in chart number) (λ (anchor : Row). anchor.object) in
@@ -71,22 +71,21 @@ module _ (chart : ChartView) (is : IsChart chart) where
       let among = member_of_zip (block_anchors chart) (grammar_of chart).blocks block.0 block.1
       (Contains-get_or (logged_anchors chart) k d within) in
       let row = Contains-block_anchors chart block.0 among.0 in
-      let log = among.1 in
       record {
         index = (terminal_of-member (objects_of chart.rows) block.0.object
             (Contains-objects_of chart.rows block.0 row)).0;
         inside = row-in_grid chart is block.0 row;
-        short =
-            let low : log.0 < length (grammar_of chart).blocks = log.1 in
-            let at : get_or (grammar_of chart).blocks log.0 block.1 ≡ block.1 = log.2 in
-            omega (
-              arith,
-              ap length at,
-              get_or-le-sum_by length (grammar_of chart).blocks log.0 block.1 low,
-              (IsGrammarOf-chart chart).few,
-              few_terminals chart is,
-            );
       }))
+
+  -- no log of a chart is long
+  pub short_logs : All (λ log. length log < 2 ^ 32) (grammar_of chart).blocks
+  short_logs k d within =
+      omega (
+        arith,
+        get_or-le-sum_by length (grammar_of chart).blocks k d within,
+        (IsGrammarOf-chart chart).few,
+        few_terminals chart is,
+      )
 
   -- the blocks of a chart
   pub AreBlocksByPeriod-own : AreBlocksByPeriod (frame_of chart) (object_count chart.rows) (own_blocks chart)

@@ -1,4 +1,4 @@
--- The parts of a chart's periods, from the headers and logs of its blocks.
+-- The parts of a chart's periods, from the headers of its blocks and the lengths of their logs.
 use Rattle.std.proofs.Common.{◌≡◌, ℕ, suc, ◌<◌, ◌≤◌, List, [], ◌∷◌, filter, length, map, refl, sym, ◌∙◌, ap, arith}
 use Rattle.std.specs.Prelude.{All, ◌==◌}
 use Rattle.std.specs.List.{zip}
@@ -6,7 +6,7 @@ use Rattle.std.specs.List.Sorted.{IsNonDecreasingBy}
 use Rattle.std.proofs.lemmas.List.{length-map}
 use Rattle.std.proofs.lemmas.Simd.{map-map}
 use Rattle.list_laws.proofs.MapLemmas.{filter-map}
-use Rattle.list_laws.proofs.MapLemmas.{map-range_agree, zip-map}
+use Rattle.list_laws.proofs.MapLemmas.{map-range_agree}
 use Rattle.list_laws.proofs.KeyRangeLemmas.{filter-by_key, of_key}
 use Rattle.track_types.specs.Chart.{ChartView, IsChart}
 use Rattle.track_types.specs.Quantities.{anchors_of, first_of, object_count, period_count, period_of}
@@ -31,6 +31,13 @@ Climbs-rising key n (x ∷ xs) low up = (
       (λ i j d before within. up (suc i) (suc j) d (omega arith) (omega arith)),
 )
 
+-- two lists side by side, of each of which something is made
+zip-maps : {X Y U V : Type 0} (f : X → U) (g : Y → V) (xs : List X) (ys : List Y) →
+    zip (map f xs) (map g ys) ≡ map (λ both. (f both.0, g both.1)) (zip xs ys)
+zip-maps f g [] ys = refl
+zip-maps f g (x ∷ xs) [] = refl
+zip-maps f g (x ∷ xs) (y ∷ ys) = ap (λ rest. (f x, g y) ∷ rest) (zip-maps f g xs ys)
+
 module _ (chart : ChartView) where
   abbrev pub row_period : Row → ℕ
   row_period row = period_of (first_of chart.rows) chart.period row
@@ -38,22 +45,28 @@ module _ (chart : ChartView) where
   abbrev count : ℕ
   count = period_count chart.rows chart.period
 
-  -- an anchor's header beside its log
-  abbrev pub headed : Row × List ℕ → Head × List ℕ
-  headed block = (head_of chart block.0, block.1)
+  -- an anchor's header beside the length of its log
+  abbrev pub headed : Row × List ℕ → Head × ℕ
+  headed block = (head_of chart block.0, length block.1)
 
-  -- the headers beside the logs
-  abbrev pub own_blocks : List (Head × List ℕ)
-  own_blocks = zip (logs_of chart).heads (grammar_of chart).blocks
+  -- how many symbols each log has
+  abbrev pub own_lengths : List ℕ
+  own_lengths = map length (grammar_of chart).blocks
+
+  -- the headers beside the logs' lengths
+  abbrev pub own_blocks : List (Head × ℕ)
+  own_blocks = zip (logs_of chart).heads own_lengths
 
   pub own_blocks-headed : own_blocks ≡ map headed (logged_anchors chart)
   unfolding logs_of logged_anchors
-  own_blocks-headed = zip-map (head_of chart) (block_anchors chart) (grammar_of chart).blocks
+  own_blocks-headed = zip-maps (head_of chart) length (block_anchors chart) (grammar_of chart).blocks
 
-  -- there are as many logs as headers
-  pub as_many-logs : length (grammar_of chart).blocks ≡ length (logs_of chart).heads
+  -- there are as many lengths as headers
+  pub as_many-lengths : length own_lengths ≡ length (logs_of chart).heads
   unfolding logs_of
-  as_many-logs = length-blocks chart ∙ sym (length-map (block_anchors chart) (head_of chart))
+  as_many-lengths =
+      length-map (grammar_of chart).blocks length ∙ length-blocks chart
+      ∙ sym (length-map (block_anchors chart) (head_of chart))
 
   module _ (number : ℕ) where
     abbrev logged : List (Row × List ℕ)
@@ -63,10 +76,12 @@ module _ (chart : ChartView) where
     in_period = ap (blocks_of_period number) own_blocks-headed
         ∙ filter-map (λ block. block.0.period == number) headed (logged_anchors chart)
 
-    -- the logs of a period
-    pub logs-own : map (λ block. block.1) (blocks_of_period number own_blocks) ≡ logs_in chart number
+    -- the lengths of a period's logs
+    pub lengths-own : map (λ block. block.1) (blocks_of_period number own_blocks) ≡ map length (logs_in chart number)
     unfolding logs_in
-    logs-own = ap (map (λ block. block.1)) in_period ∙ map-map (λ (block : Head × List ℕ). block.1) headed logged
+    lengths-own =
+        ap (map (λ block. block.1)) in_period ∙ map-map (λ (block : Head × ℕ). block.1) headed logged
+        ∙ sym (map-map length (λ (block : Row × List ℕ). block.1) logged)
 
     -- the headers of a period
     pub heads-own : number < count →
@@ -74,7 +89,7 @@ module _ (chart : ChartView) where
     unfolding block_anchors
     heads-own below =
         ap (map (λ block. block.0)) in_period
-        ∙ map-map (λ (block : Head × List ℕ). block.0) headed logged
+        ∙ map-map (λ (block : Head × ℕ). block.0) headed logged
         ∙ sym (map-map (head_of chart) (λ (block : Row × List ℕ). block.0) logged)
         ∙ ap (map (head_of chart))
         (sym (filter-map (of_key row_period number) (λ (block : Row × List ℕ). block.0) (logged_anchors chart))
@@ -91,7 +106,7 @@ module _ (chart : ChartView) where
         let codes = map-map (λ (head : Head). morton_of (frame_of chart).height (frame_of chart).base head.cell)
         (head_of chart) anchors in
         let offsets = map-map (λ (head : Head). head.offset) (head_of chart) anchors in
-        rw (heads-own below, logs-own, presence_of-heads chart is number, codes, offsets) refl
+        rw (heads-own below, lengths-own, presence_of-heads chart is number, codes, offsets) refl
 
   -- the parts of all periods
   pub periods_are : IsChart chart →

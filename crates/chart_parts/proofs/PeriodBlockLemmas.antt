@@ -15,9 +15,9 @@ use Rattle.snapshots.specs.View.{all_blocks, block_of}
 use Rattle.snapshots.specs.Parts.{snapshot_in}
 use Rattle.snapshots.specs.declared.anchored.Anchored.{Anchored}
 use Rattle.chart_parts.specs.Header.{frame_of}
-use Rattle.chart_parts.specs.PartsOf.{is_present, parts_of, period_of_chart}
+use Rattle.chart_parts.specs.PartsOf.{is_present, compressed_parts_of, period_of_chart}
 use Rattle.chart_parts.proofs.BlockAnchorLemmas.{HasBlock, block-anchor}
-use Rattle.chart_parts.proofs.SnapshotLemmas.{own_view, snapshot_in-parts_of}
+use Rattle.chart_parts.proofs.SnapshotLemmas.{own_view, snapshot_in-compressed_parts_of}
 
 -- a block is that of one of the anchors of a period, by its object's place
 pub record IsAnchored (chart : ChartView) (number : ℕ) (block : Anchored) : Type 0 where
@@ -27,10 +27,10 @@ pub record IsAnchored (chart : ChartView) (number : ℕ) (block : Anchored) : Ty
 
 module _ (chart : ChartView) (is : IsChart chart) (number : ℕ) (below : number < periods_of (frame_of chart)) where
   -- an object that is none has no block
-  none-past : (i : ℕ) → length (objects_of chart.rows) ≤ i → block_of (snapshot_in (parts_of chart) number) i ≡ None
+  none-past : (i : ℕ) → length (objects_of chart.rows) ≤ i → block_of (snapshot_in (compressed_parts_of chart) number) i ≡ None
   unfolding period_of_chart
   none-past i past =
-      ap (λ view. block_of view i) (snapshot_in-parts_of chart is number below) ∙ none-own i past
+      ap (λ view. block_of view i) (snapshot_in-compressed_parts_of chart is number below) ∙ none-own i past
     where
       none-own : (i : ℕ) → length (objects_of chart.rows) ≤ i → block_of (own_view chart is number) i ≡ None
       none-own i past =
@@ -40,7 +40,7 @@ module _ (chart : ChartView) (is : IsChart chart) (number : ℕ) (below : number
           rw off refl
 
   -- a block that an object has is that of its anchor
-  pub IsAnchored-block_of : (i : ℕ) (block : Anchored) → block_of (snapshot_in (parts_of chart) number) i ≡ Some block →
+  pub IsAnchored-block_of : (i : ℕ) (block : Anchored) → block_of (snapshot_in (compressed_parts_of chart) number) i ≡ Some block →
       IsAnchored chart number block
   IsAnchored-block_of i block found = elim (cases_lt i (length (objects_of chart.rows))) [
     | inr past ↦ absurd (none-some block (sym (none-past i past) ∙ found))
@@ -59,8 +59,8 @@ module _ (chart : ChartView) (is : IsChart chart) (number : ℕ) (below : number
   ]
 
   -- each block of a period is that of one of its anchors
-  pub All-all_blocks : All (IsAnchored chart number) (all_blocks (snapshot_in (parts_of chart) number))
+  pub All-all_blocks : All (IsAnchored chart number) (all_blocks (snapshot_in (compressed_parts_of chart) number))
   unfolding all_blocks
   All-all_blocks =
-      All-filter_map (IsAnchored chart number) (block_of (snapshot_in (parts_of chart) number))
-      (range_with_len 0 (length (parts_of chart).objects)) IsAnchored-block_of
+      All-filter_map (IsAnchored chart number) (block_of (snapshot_in (compressed_parts_of chart) number))
+      (range_with_len 0 (length (compressed_parts_of chart).objects)) IsAnchored-block_of

@@ -13,12 +13,12 @@ use Rattle.chart_parts.specs.PeriodWith.{codes_of_heads, block_leaf, period_with
 use Rattle.chart_parts.proofs.LeafListLemmas.{All-leaf_order, code-at}
 
 -- a period without a header has presence bits alone
-pub period_with-none : (frame : Frame) (objects : ℕ) (heads : List Head) (logs : List (List ℕ)) → length heads ≡ 0 →
-    length logs ≡ length heads → without_blocks (presence_of objects heads) ≡ period_with frame objects heads logs
+pub period_with-none : (frame : Frame) (objects : ℕ) (heads : List Head) (lengths : List ℕ) → length heads ≡ 0 →
+    length lengths ≡ length heads → without_blocks (presence_of objects heads) ≡ period_with frame objects heads lengths
 unfolding leaf_order leaf_codes distinct_codes ends_of ordered
 period_with-none frame objects [] [] none same = rw (morton_bits-none (widths_in frame)) refl
-period_with-none frame objects [] (log ∷ logs) none same = absurd (omega arith)
-period_with-none frame objects (head ∷ heads) logs none same = absurd (omega arith)
+period_with-none frame objects [] (long ∷ lengths) none same = absurd (omega arith)
+period_with-none frame objects (head ∷ heads) lengths none same = absurd (omega arith)
 
 module _ (frame : Frame) (heads : List Head) where
   -- the places of leaves

@@ -20,7 +20,7 @@ use Rattle.snapshots.proofs.SoundLemmas.{wide_of-fits}
 use Rattle.movement_log.specs.Logs.{anchors_in}
 use Rattle.chart_parts.specs.Header.{frame_of}
 use Rattle.chart_parts.specs.LeafOrder.{distinct_codes, ends_of, leaf_codes, leaf_order}
-use Rattle.chart_parts.specs.PartsOf.{anchor_codes, grammar_of, is_present, logs_in, parts_of, period_of_chart}
+use Rattle.chart_parts.specs.PartsOf.{anchor_codes, grammar_of, is_present, logs_in, compressed_parts_of, period_of_chart}
 use Rattle.chart_parts.proofs.GrammarLemmas.{IsGrammarOf-chart, few_terminals}
 use Rattle.chart_parts.proofs.HeaderLawLemmas.{IsFrame-frame_of}
 use Rattle.chart_parts.proofs.LeafEndLemmas.{length-ends_of, ones_of-leaf_ends}
@@ -110,8 +110,8 @@ module _ (chart : ChartView) (is : IsChart chart) (number : ℕ) (below : number
 -- what holds of each period holds of all of a chart's parts
 pub All-periods : (chart : ChartView) (P : PeriodParts → Type 0) →
     ((number : ℕ) → number < periods_of (frame_of chart) → P (period_of_chart chart number)) →
-    All P (parts_of chart).periods
-unfolding parts_of
+    All P (compressed_parts_of chart).periods
+unfolding compressed_parts_of
 All-periods chart P each =
     All-map P (period_of_chart chart) (numbers_in (frame_of chart))
     (λ k d within.
@@ -121,5 +121,5 @@ All-periods chart P each =
 
 -- each period of a chart's parts is shaped
 pub shaped-periods : (chart : ChartView) → IsChart chart →
-    All (IsShapedPeriod (length (objects_of chart.rows))) (parts_of chart).periods
+    All (IsShapedPeriod (length (objects_of chart.rows))) (compressed_parts_of chart).periods
 shaped-periods chart is = All-periods chart (IsShapedPeriod (length (objects_of chart.rows))) (IsShapedPeriod-own chart is)

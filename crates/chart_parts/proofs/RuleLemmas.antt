@@ -28,7 +28,7 @@ use Rattle.repair_grammar.proofs.UsedLemmas.{holds_of_rules}
 use Rattle.snapshots.specs.Parts.{rules_in}
 use Rattle.snapshots.specs.SoundParts.{AreSoundRules, IsInReach, IsRule, IsShortEntry}
 use Rattle.chart_parts.specs.Header.{frame_of}
-use Rattle.chart_parts.specs.PartsOf.{grammar_of, parts_of}
+use Rattle.chart_parts.specs.PartsOf.{grammar_of, compressed_parts_of}
 use Rattle.chart_parts.proofs.AlongLemmas.{IsAlong, IsAlong-back, IsAlong-front, IsInFrame}
 use Rattle.chart_parts.proofs.AlongLemmas.{IsBoxInReach-along, IsInReach-along}
 use Rattle.chart_parts.proofs.BlockGridLemmas.{IsAlong-block}
@@ -92,7 +92,7 @@ module _ (frame : Frame) (most : ℕ) where
 
 module _ (chart : ChartView) (is : IsChart chart) where
   abbrev rules : RulesView
-  rules = rules_in (parts_of chart)
+  rules = rules_in (compressed_parts_of chart)
 
   -- the values of a block stay in the grid, and are fewer than the instants of a period
   abbrev IsBlockPart : List ℕ → Type 0
@@ -125,7 +125,7 @@ module _ (chart : ChartView) (is : IsChart chart) where
       IsBlockPart (values_of rules (length (logs_of chart).alphabet + rule)) →
       IsBlockPart (values_of rules (rule_parts (grammar_of chart).rules rule).0)
       × IsBlockPart (values_of rules (rule_parts (grammar_of chart).rules rule).1)
-  unfolding parts_of
+  unfolding compressed_parts_of
   IsBlockPart-parts rule within stay =
       let pair : ℕ × ℕ = rule_parts (grammar_of chart).rules rule in
       let below = (IsGrammarOf-chart chart).parts rule within in
@@ -169,7 +169,7 @@ module _ (chart : ChartView) (is : IsChart chart) where
   period_is = refl
 
   IsRule-chart : (rule : ℕ) → rule < length (grammar_of chart).rules → IsRule rules rule
-  unfolding parts_of entry_of
+  unfolding compressed_parts_of entry_of
   IsRule-chart rule within =
       let below = (IsGrammarOf-chart chart).parts rule within in
       let symbol : ℕ = length (logs_of chart).alphabet + rule in
@@ -182,9 +182,9 @@ module _ (chart : ChartView) (is : IsChart chart) where
       }
 
   -- the rules of the parts are sound
-  pub AreSoundRules-parts_of : AreSoundRules rules
-  unfolding parts_of logs_of
-  AreSoundRules-parts_of = record {
+  pub AreSoundRules-compressed_parts_of : AreSoundRules rules
+  unfolding compressed_parts_of logs_of
+  AreSoundRules-compressed_parts_of = record {
     codes = λ i within.
         IsInReach-alphabet (slice_index (alphabet_of chart) i) (Contains-get_or (alphabet_of chart) i 0 within);
     rules_are = λ j within. IsRule-chart j within;

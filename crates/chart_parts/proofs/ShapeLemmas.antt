@@ -19,7 +19,7 @@ use Rattle.movement_log.specs.Logs.{alphabet_of, logged_values, logs_of}
 use Rattle.movement_log.proofs.AlphabetLemmas.{IsStrictlyIncreasing-ascending_of}
 use Rattle.snapshots.specs.SoundParts.{IsInReach}
 use Rattle.chart_parts.specs.Header.{frame_of}
-use Rattle.chart_parts.specs.PartsOf.{grammar_of, parts_of}
+use Rattle.chart_parts.specs.PartsOf.{grammar_of, compressed_parts_of}
 use Rattle.chart_parts.proofs.GrammarLemmas.{length-alphabet_of, few_terminals, IsGrammarOf-chart}
 use Rattle.chart_parts.proofs.HeaderLawLemmas.{IsFrame-frame_of}
 use Rattle.chart_parts.proofs.RuleLemmas.{IsInReach-alphabet, symbols_below}
@@ -37,15 +37,15 @@ value-long height (suc code) high reach =
 
 module _ (chart : ChartView) where
   -- the alphabet ascends
-  pub IsStrictlyIncreasing-alphabet : IsStrictlyIncreasing (parts_of chart).alphabet
-  unfolding parts_of logs_of alphabet_of
+  pub IsStrictlyIncreasing-alphabet : IsStrictlyIncreasing (compressed_parts_of chart).alphabet
+  unfolding compressed_parts_of logs_of alphabet_of
   IsStrictlyIncreasing-alphabet =
       IsStrictlyIncreasing-ascending_of (flat_map (λ values. values) (logged_values chart))
 
   module _ (is : IsChart chart) where
     -- its values fit 64 bits
-    pub AreLong-alphabet : AreLong (parts_of chart).alphabet
-    unfolding parts_of logs_of
+    pub AreLong-alphabet : AreLong (compressed_parts_of chart).alphabet
+    unfolding compressed_parts_of logs_of
     AreLong-alphabet =
         let high : (frame_of chart).height ≤ MAX_HEIGHT = (IsFrame-frame_of chart is).limit in
         All-weaker (Contains (alphabet_of chart)) (λ value. value < 2 ^ 64)
@@ -53,18 +53,18 @@ module _ (chart : ChartView) where
         (alphabet_of chart) (All-contains_itself (alphabet_of chart))
 
     -- it has no more values than there may be symbols
-    pub few_values : length (parts_of chart).alphabet ≤ limit_of Symbols
-    unfolding parts_of logs_of
+    pub few_values : length (compressed_parts_of chart).alphabet ≤ limit_of Symbols
+    unfolding compressed_parts_of logs_of
     few_values = length-alphabet_of chart is
 
     -- there are no more rules than there may be symbols
-    pub few_rules : length (parts_of chart).rules ≤ limit_of Symbols
-    unfolding parts_of
+    pub few_rules : length (compressed_parts_of chart).rules ≤ limit_of Symbols
+    unfolding compressed_parts_of
     few_rules = omega (arith, (IsGrammarOf-chart chart).few, few_terminals chart is)
 
     -- the parts of rules fit 32 bits
-    pub AreShortPairs-rules : AreShortPairs (parts_of chart).rules
-    unfolding parts_of logs_of
+    pub AreShortPairs-rules : AreShortPairs (compressed_parts_of chart).rules
+    unfolding compressed_parts_of logs_of
     AreShortPairs-rules =
         All-from_get_or (λ pair. (pair.0 < 2 ^ 32) × (pair.1 < 2 ^ 32)) (grammar_of chart).rules (0, 0)
         (λ rule within.
@@ -72,8 +72,8 @@ module _ (chart : ChartView) where
         (omega (arith, below.0, few_values, few_rules), omega (arith, below.1, few_values, few_rules)))
 
     -- the logs have no more symbols than there may be
-    pub few_symbols : length (parts_of chart).symbols ≤ limit_of Symbols
-    unfolding parts_of
+    pub few_symbols : length (compressed_parts_of chart).symbols ≤ limit_of Symbols
+    unfolding compressed_parts_of
     few_symbols =
         omega (
           arith,
@@ -83,8 +83,8 @@ module _ (chart : ChartView) where
         )
 
     -- these fit 32 bits
-    pub AreShort-symbols : AreShort (parts_of chart).symbols
-    unfolding parts_of logs_of
+    pub AreShort-symbols : AreShort (compressed_parts_of chart).symbols
+    unfolding compressed_parts_of logs_of
     AreShort-symbols =
         All-weaker (λ symbol. symbol < length (alphabet_of chart) + length (grammar_of chart).rules)
         (λ symbol. symbol < 2 ^ 32) (λ symbol below. omega (arith, few_values, few_rules))
@@ -92,8 +92,8 @@ module _ (chart : ChartView) where
         (symbols_below chart is)
 
     -- so many bits are enough for each of them
-    pub narrow_symbols : All (λ symbol. symbol < 2 ^ symbol_width (parts_of chart)) (parts_of chart).symbols
-    unfolding parts_of logs_of width_for
+    pub narrow_symbols : All (λ symbol. symbol < 2 ^ symbol_width (compressed_parts_of chart)) (compressed_parts_of chart).symbols
+    unfolding compressed_parts_of logs_of width_for
     narrow_symbols =
         let known : ℕ = length (alphabet_of chart) + length (grammar_of chart).rules in
         let fits = least_power 26 known (omega arith) (omega (arith, few_values, few_rules)) in

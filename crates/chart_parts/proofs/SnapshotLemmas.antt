@@ -25,13 +25,13 @@ use Rattle.snapshots.specs.Parts.{snapshot_in, start_in}
 use Rattle.movement_log.specs.Logs.{anchors_in}
 use Rattle.chart_parts.specs.Header.{frame_of}
 use Rattle.chart_parts.specs.LeafOrder.{distinct_codes, leaf_codes, leaf_order}
-use Rattle.chart_parts.specs.PartsOf.{anchor_codes, parts_of, period_of_chart}
+use Rattle.chart_parts.specs.PartsOf.{anchor_codes, compressed_parts_of, period_of_chart}
 use Rattle.snapshots.proofs.SoundLemmas.{IsGrid-frame, wide_of-fits}
 use Rattle.chart_parts.proofs.HeaderLawLemmas.{IsFrame-frame_of}
 use Rattle.chart_parts.proofs.LeafEndLemmas.{All-distinct_codes, Rises-distinct_codes, distinct_codes-at_rank}
 use Rattle.chart_parts.proofs.LeafEndLemmas.{ends_of-last, ones_of-leaf_ends}
 use Rattle.chart_parts.proofs.LeafOrderLemmas.{PermutesPlaces-leaf_order, leaf_order-before, length-leaf_order}
-use Rattle.chart_parts.proofs.LogSliceLemmas.{period_at-parts_of}
+use Rattle.chart_parts.proofs.LogSliceLemmas.{period_at-compressed_parts_of}
 use Rattle.chart_parts.proofs.PeriodAnchorLemmas.{IsAnchorIn-member}
 
 -- how many instants come before one in its period
@@ -92,15 +92,15 @@ module _ (chart : ChartView) (is : IsChart chart) (number : ℕ) where
 
   -- the snapshot of a period of the chart
   abbrev pub own_view : SnapshotView
-  own_view = view_with (frame_of chart) number (length (parts_of chart).objects) (start_in (parts_of chart) number)
+  own_view = view_with (frame_of chart) number (length (compressed_parts_of chart).objects) (start_in (compressed_parts_of chart) number)
       (period_of_chart chart number)
 
   -- it is that of the chart's parts
-  pub snapshot_in-parts_of : number < periods_of (frame_of chart) → snapshot_in (parts_of chart) number ≡ own_view
-  unfolding parts_of
-  snapshot_in-parts_of below =
-      ap (view_with (frame_of chart) number (length (parts_of chart).objects) (start_in (parts_of chart) number))
-      (period_at-parts_of chart number below)
+  pub snapshot_in-compressed_parts_of : number < periods_of (frame_of chart) → snapshot_in (compressed_parts_of chart) number ≡ own_view
+  unfolding compressed_parts_of
+  snapshot_in-compressed_parts_of below =
+      ap (view_with (frame_of chart) number (length (compressed_parts_of chart).objects) (start_in (compressed_parts_of chart) number))
+      (period_at-compressed_parts_of chart number below)
 
   -- the numbers of a period's anchors
   pub AreCodes-distinct_codes : AreCodes frame.height (distinct_codes codes)
@@ -160,5 +160,5 @@ module _ (chart : ChartView) (is : IsChart chart) (number : ℕ) where
   }
 
   -- each period of a chart's parts is sound
-  pub IsSoundPeriod-period : number < periods_of (frame_of chart) → IsSoundPeriod (snapshot_in (parts_of chart) number)
-  IsSoundPeriod-period below = subst IsSoundPeriod (sym (snapshot_in-parts_of below)) IsSoundPeriod-own
+  pub IsSoundPeriod-period : number < periods_of (frame_of chart) → IsSoundPeriod (snapshot_in (compressed_parts_of chart) number)
+  IsSoundPeriod-period below = subst IsSoundPeriod (sym (snapshot_in-compressed_parts_of below)) IsSoundPeriod-own

@@ -24,13 +24,13 @@ use Rattle.snapshots.specs.Parts.{log_in, rules_in}
 use Rattle.snapshots.specs.SoundParts.{IsSoundLog}
 use Rattle.snapshots.specs.declared.anchored.Anchored.{Anchored}
 use Rattle.chart_parts.specs.Header.{frame_of}
-use Rattle.chart_parts.specs.PartsOf.{logged_anchors, parts_of}
+use Rattle.chart_parts.specs.PartsOf.{logged_anchors, compressed_parts_of}
 use Rattle.chart_parts.proofs.AlongLemmas.{IsAlong, IsAlong-back, IsAlong-front, IsInFrame, IsInGridAt-along}
 use Rattle.chart_parts.proofs.BlockGridLemmas.{IsAlong-block}
 use Rattle.chart_parts.proofs.ValueLemmas.{log-values, logged_anchor}
 
 -- the values of a log's symbol go on from the cell before it
-IsAlong-place : (P : Cell → Type 0) (rules : RulesView) (start : Cell) (log : List ℕ) (place : ℕ) →
+pub IsAlong-place : (P : Cell → Type 0) (rules : RulesView) (start : Cell) (log : List ℕ) (place : ℕ) →
     IsAlong P start (log_values rules log) → place < length log →
     IsAlong P (cell_before rules start log place) (values_of rules (slice_index log place))
 unfolding log_values cell_after
@@ -42,7 +42,7 @@ IsAlong-place P rules start (symbol ∷ log) (suc place) along within =
     (IsAlong-back P start (values_of rules symbol) (log_values rules log) along) (omega arith)
 
 -- a log lasts one instant for each of its values
-duration_of_log-log : (rules : RulesView) (log : List ℕ) → duration_of_log rules log ≡ length (log_values rules log)
+pub duration_of_log-log : (rules : RulesView) (log : List ℕ) → duration_of_log rules log ≡ length (log_values rules log)
 unfolding duration_of_log log_values
 duration_of_log-log rules log =
     sum_by-agree (duration_of rules) (λ symbol. length (values_of rules symbol))
@@ -62,12 +62,12 @@ module _ (chart : ChartView) (is : IsChart chart) (number : ℕ) (anchor : Row) 
     (among : Contains (anchors_in chart number) anchor)
     (offset_is : block.offset ≡ elapsed (first_of chart.rows) anchor % chart.period)
     (cell_is : block.cell ≡ anchor.cell)
-    (logged : Contains (logged_anchors chart) (anchor, log_in (parts_of chart) block)) where
+    (logged : Contains (logged_anchors chart) (anchor, log_in (compressed_parts_of chart) block)) where
   abbrev rules : RulesView
-  rules = rules_in (parts_of chart)
+  rules = rules_in (compressed_parts_of chart)
 
   abbrev log : List ℕ
-  log = log_in (parts_of chart) block
+  log = log_in (compressed_parts_of chart) block
 
   -- from the block's cell the log's values stay in the grid
   IsAlong-log : IsAlong (IsInFrame (frame_of chart)) block.cell (log_values rules log)

@@ -15,7 +15,7 @@ use Rattle.movement_log.specs.Logs.{alphabet_of, block_anchors, logged_values, l
 use Rattle.movement_log.proofs.AlphabetLemmas.{terminal_of-member}
 use Rattle.repair_grammar.specs.GrammarOf.{expanded}
 use Rattle.snapshots.specs.Parts.{rules_in}
-use Rattle.chart_parts.specs.PartsOf.{grammar_of, logged_anchors, parts_of}
+use Rattle.chart_parts.specs.PartsOf.{grammar_of, logged_anchors, compressed_parts_of}
 use Rattle.chart_parts.proofs.GrammarLemmas.{Contains-alphabet_of, IsGrammarOf-chart, seconds-logged_anchors}
 
 -- the values of a log are those of the terminals that its symbols stand for
@@ -71,9 +71,9 @@ module _ (chart : ChartView) where
 
   -- the symbols of a block's log stand for its values
   pub log-values : (anchor : Row) (log : List ℕ) → Contains (logged_anchors chart) (anchor, log) →
-      log_values (rules_in (parts_of chart)) log ≡ values_after chart anchor
-  unfolding parts_of logs_of
+      log_values (rules_in (compressed_parts_of chart)) log ≡ values_after chart anchor
+  unfolding compressed_parts_of logs_of
   log-values anchor log inside =
-      log_values-expanded (rules_in (parts_of chart)) log
+      log_values-expanded (rules_in (compressed_parts_of chart)) log
       ∙ ap (map (slice_index (alphabet_of chart))) (sym (expanded-log anchor log inside))
       ∙ values-placed anchor (logged_anchor anchor log inside).0

@@ -5,7 +5,7 @@ use Rattle.std.specs.Ordering.{nat_cmp}
 use Rattle.std.specs.declared.cmp.Ordering.{Ordering}
 use Rattle.list_laws.specs.Ordered.{ordered}
 
--- the order of places by the number that each of them has
+-- the order of places by the number that each has
 abbrev pub by_code : List ℕ → ℕ → ℕ → Ordering
 by_code codes a b = nat_cmp (slice_index codes a) (slice_index codes b)
 

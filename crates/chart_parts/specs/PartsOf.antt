@@ -13,6 +13,7 @@ use Rattle.repair_grammar.specs.RePair.{re_pair}
 use Rattle.repair_grammar.specs.declared.grammar.Grammar.{Grammar}
 use Rattle.snapshots.specs.Parts.{numbers_in}
 use Rattle.snapshots.specs.View.{widths_in}
+use Rattle.parts_order.specs.SettledParts.{settled_parts}
 use Rattle.chart_parts.specs.Header.{frame_of}
 use Rattle.chart_parts.specs.LeafOrder.{distinct_codes, ends_of, leaf_codes, leaf_order}
 
@@ -49,9 +50,9 @@ period_of_chart chart number = record {
   lengths = map length (logs_in chart number);
 }
 
--- the parts of a chart
-unfoldable pub parts_of : ChartView → Parts
-parts_of chart = record {
+-- the parts of a chart with the rules as Re-Pair makes them
+unfoldable pub compressed_parts_of : ChartView → Parts
+compressed_parts_of chart = record {
   frame = frame_of chart;
   objects = objects_of chart.rows;
   alphabet = (logs_of chart).alphabet;
@@ -59,3 +60,7 @@ parts_of chart = record {
   periods = map (period_of_chart chart) (numbers_in (frame_of chart));
   symbols = flat_map (λ log. log) (grammar_of chart).blocks;
 }
+
+-- the parts of a chart: those with the rules in order
+unfoldable pub parts_of : ChartView → Parts
+parts_of chart = settled_parts (compressed_parts_of chart)

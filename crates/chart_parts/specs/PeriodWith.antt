@@ -1,5 +1,5 @@
--- The parts of a period, by the headers and the logs of its blocks.
-use Rattle.std.specs.Prelude.{◌≡◌, ℕ, ◌+◌, ◌^◌, ◌<◌, ◌≤◌, ◌==◌, Bool, not, ◌||◌, All, List, [], ◌∷◌, length, map, filter, pos, slice_index, slice_index_or}
+-- The parts of a period, by the headers of its blocks and the lengths of their logs.
+use Rattle.std.specs.Prelude.{ℕ, ◌+◌, ◌<◌, ◌≤◌, ◌==◌, Bool, not, ◌||◌, All, List, [], ◌∷◌, length, map, filter, pos, slice_index, slice_index_or}
 use Rattle.std.specs.List.{list_any, prefix_len, range_with_len}
 use Rattle.track_types.specs.Chart.{ChartView}
 use Rattle.track_types.specs.Frame.{periods_of}
@@ -30,19 +30,19 @@ chart_blocks chart = record {
 abbrev pub codes_of_heads : Frame → List Head → List ℕ
 codes_of_heads frame heads = map (λ head. morton_of frame.height frame.base head.cell) heads
 
--- for each of so many objects, whether one of the headers is its
+-- for each of so many objects, whether one of the headers is that of a block of the object
 abbrev pub presence_of : ℕ → List Head → List Bool
 presence_of objects heads = map (λ index. list_any (λ head. head.index == index) heads) (range_with_len 0 objects)
 
--- the parts of a period whose blocks have these headers and logs
-abbrev pub period_with : Frame → ℕ → List Head → List (List ℕ) → PeriodParts
-period_with frame objects heads logs = record {
+-- the parts of a period whose blocks have these headers and logs of these lengths
+abbrev pub period_with : Frame → ℕ → List Head → List ℕ → PeriodParts
+period_with frame objects heads lengths = record {
   present = presence_of objects heads;
   offsets = map (λ head. head.offset) heads;
   tree = morton_bits (widths_in frame) (distinct_codes (codes_of_heads frame heads));
   lasts = ends_of (leaf_codes (codes_of_heads frame heads));
   perm = leaf_order (codes_of_heads frame heads);
-  lengths = map length logs;
+  lengths = lengths;
 }
 
 -- the parts of a period without a block
@@ -50,12 +50,12 @@ abbrev pub without_blocks : List Bool → PeriodParts
 without_blocks present =
     record { present = present; offsets = []; tree = []; lasts = []; perm = []; lengths = [] }
 
--- those of the blocks that are of a period
-abbrev pub blocks_of_period : ℕ → List (Head × List ℕ) → List (Head × List ℕ)
+-- the blocks of a period, among blocks that are each a header and the length of a log
+abbrev pub blocks_of_period : ℕ → List (Head × ℕ) → List (Head × ℕ)
 blocks_of_period number blocks = filter (λ block. block.0.period == number) blocks
 
--- the parts of a period, from the headers and the logs of all blocks
-unfoldable pub period_of_blocks : Frame → ℕ → List (Head × List ℕ) → ℕ → PeriodParts
+-- the parts of a period, from the headers and the logs' lengths of all blocks
+unfoldable pub period_of_blocks : Frame → ℕ → List (Head × ℕ) → ℕ → PeriodParts
 period_of_blocks frame objects blocks number = period_with frame objects
     (map (λ block. block.0) (blocks_of_period number blocks)) (map (λ block. block.1) (blocks_of_period number blocks))
 
@@ -74,14 +74,13 @@ abbrev pub Climbs : ℕ → List ℕ → Type 0
 Climbs n [] = Unit {0}
 Climbs n (x ∷ xs) = (n ≤ x) × Climbs x xs
 
--- a block is of one of so many objects, with a cell in the header's grid and a log that is not long
-pub record IsBlockOf (frame : Frame) (objects : ℕ) (block : Head × List ℕ) : Type 0 where
+-- a block is of one of so many objects, with a cell in the header's grid
+pub record IsBlockOf (frame : Frame) (objects : ℕ) (block : Head × ℕ) : Type 0 where
   pub index : block.0.index < objects
   pub inside : IsInGrid frame.height frame.base block.0.cell
-  pub short : length block.1 < 2 ^ 32
 
 -- the blocks come by period, and there are few in each
-pub record AreBlocksByPeriod (frame : Frame) (objects : ℕ) (blocks : List (Head × List ℕ)) : Type 0 where
+pub record AreBlocksByPeriod (frame : Frame) (objects : ℕ) (blocks : List (Head × ℕ)) : Type 0 where
   pub grid : IsGrid frame.height frame.base
   pub by_period : Climbs 0 (map (λ block. block.0.period) blocks)
   pub few : (number : ℕ) → number < periods_of frame → length (blocks_of_period number blocks) ≤ MAX_OBJECTS
@@ -102,7 +101,7 @@ block_leaf frame heads place = record {
   place = place;
 }
 
--- whether no next number is the one at a place
+-- whether the number at a place differs from the next one, or is the last
 abbrev pub is_end : List ℕ → ℕ → Bool
 is_end codes place =
     (place + 1 == length codes) || not (slice_index codes place == slice_index codes (place + 1))

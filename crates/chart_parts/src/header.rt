@@ -4,8 +4,9 @@ ghost use Rattle.track_types.specs.Limits.{limit_of};
 
 use track_types::{Cell, Chart, Frame, LimitKind, MAX_HEIGHT, MAX_VERSION};
 
-/// The header of a chart's index, in the newest version of the format. The grid's base is the least column and the least line of the
-/// chart's cells, and its height the least whose grid holds them all.
+/// The header of a chart's index, in the newest version of the format.
+///
+/// The grid's base is the least column and the least line of the chart's cells. Its height is the least whose grid holds them all.
 pub(crate) fn frame_of(chart: &Chart) -> Frame
     ensures { result ≡ frame_of chart.now }
 {

@@ -20,7 +20,7 @@ pub(crate) struct Leaf {
     pub(crate) place: u32,
 }
 
-/// The leaves of a period's blocks: by their Morton numbers, then by object.
+/// The leaves of a period's blocks, by Morton number, then by object.
 pub(crate) fn leaves_of(
     alloc: Global,
     frame: Frame,
@@ -73,7 +73,7 @@ pub(crate) fn ends_of(alloc: Global, leaves: &[Leaf]) -> Result<BitList, AllocEr
     BitList::pack(alloc, bits.as_slice())
 }
 
-// Whether no next leaf has the number of the one at a place.
+// Whether the leaf at a place is the last of its cell: the next one has another number, or there is none.
 fn is_end(leaves: &[Leaf], place: usize) -> bool
     requires { place < length leaves.now }
     ensures { result ≡ is_end (map (λ leaf. leaf.code) leaves.now) place }

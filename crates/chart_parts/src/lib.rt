@@ -1,10 +1,8 @@
 //! The parts that a chart is written as: header, objects, alphabet, rules, periods and logs.
 //!
-//! `parts_of` and `into_parts` give exactly the parts of `specs/PartsOf.antt`. They are those of an index, and hold the
-//! very chart that they were made from. The crate stands on `track_types`, `gridding`, `spiral_code`,
-//! `packed_bits`, `k2_tree`, `bit_rank`, `object_perm`, `rule_store`, `snapshots`, `movement_log`,
-//! `repair_grammar`, `index_format`, `step_count` and `list_laws`. (Its tests make their charts by
-//! `gridding`.)
+//! This is the builder of an index. `parts_of` and `into_parts` give exactly the parts of
+//! `specs/PartsOf.antt`. They are the parts of an index, and hold the very chart that they were made
+//! from. `periods_of` makes the parts of the periods from any blocks, as `specs/PeriodWith.antt` says.
 #![tactic(auto)]
 
 mod header;
@@ -14,4 +12,5 @@ mod periods;
 mod presence;
 mod writing;
 
+pub use periods::periods_of;
 pub use writing::{into_parts, parts_of};

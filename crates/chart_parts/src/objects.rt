@@ -7,8 +7,8 @@ ghost use Rattle.track_types.specs.Shape.{AreShort};
 use std::alloc::{AllocError, Global};
 use track_types::Row;
 
-/// The different objects of rows, ascending. An object's rows stand together, and where they end is
-/// searched.
+/// The different objects of rows, ascending. An object's rows stand together, and a search finds where
+/// they end.
 pub(crate) fn objects_of(alloc: Global, rows: &[Row]) -> Result<Vec<u32>, AllocError>
     requires { IsAscending rows.now }
     ensures ok { IfOk result (λ objects. objects.items ≡ objects_of rows.now) }
@@ -23,7 +23,7 @@ pub(crate) fn objects_of(alloc: Global, rows: &[Row]) -> Result<Vec<u32>, AllocE
     Ok(objects)
 }
 
-// The rows after those of the object with which rows in order begin.
+// The rows after those of an object, among rows in order that begin with it.
 fn after_object(rows: &[Row], object: u32) -> &[Row]
     requires { IsAscending rows.now }
     ensures { result.now ≡ drop (prefix_len (λ row. nat_le row.object object) rows.now) rows.now }

@@ -1,4 +1,4 @@
-ghost use Rattle.std.specs.Prelude.{◌≡◌, ◌^◌, ◌<◌, ◌≤◌, All, IfOk, length, map};
+ghost use Rattle.std.specs.Prelude.{◌≡◌, ◌<◌, ◌≤◌, All, IfOk, length, map};
 ghost use Rattle.std.specs.List.{zip};
 ghost use Rattle.chart_parts.specs.PeriodWith.{AreBlocksByPeriod, ArePlaced, period_of_blocks, period_with, period_run_length, without_blocks};
 ghost use Rattle.snapshots.specs.Parts.{numbers_in};
@@ -9,27 +9,36 @@ use movement_log::Head;
 use std::alloc::{AllocError, Global};
 use track_types::{BitList, Frame, List32, Memory, PeriodParts};
 
-/// The parts of each period, from the headers and the logs of all blocks, which come by period, then
-/// object.
-pub(crate) fn periods_of(
+/// The parts of each period, from the headers of all blocks and the lengths of their logs.
+///
+/// The headers come by period. The lists of a period's parts keep the order of its headers, so these
+/// come by object. It takes time for the blocks, the periods' presence bits and one sort of each
+/// period's anchors.
+pub fn periods_of(
     alloc: Global,
     frame: Frame,
     objects: u32,
     heads: &[Head],
-    logs: &[List32],
+    lengths: &[u32],
 ) -> Result<Vec<PeriodParts>, Memory>
     requires period { 0 < frame.period }
-    requires same { length logs.now ≡ length heads.now }
-    requires blocks { AreBlocksByPeriod frame objects (zip heads.now logs.now) }
+    requires same { length lengths.now ≡ length heads.now }
+    requires blocks { AreBlocksByPeriod frame objects (zip heads.now lengths.now) }
     ensures { IfOk result (λ periods. periods.items
-        ≡ map (period_of_blocks frame objects (zip heads.now logs.now)) (numbers_in frame)) }
+        ≡ map (period_of_blocks frame objects (zip heads.now lengths.now)) (numbers_in frame)) }
 {
     let count = frame.span.div_ceil(frame.period);
     let mut periods = Vec::with_capacity(alloc, count as usize)?;
     let mut start = 0;
     for number in 0..count {
         let end = start + run_of(&heads[start..], number);
-        periods.push(period_with(alloc, frame, objects, &heads[start..end], &logs[start..end])?)?;
+        periods.push(period_with(
+            alloc,
+            frame,
+            objects,
+            &heads[start..end],
+            &lengths[start..end],
+        )?)?;
         start = end;
     }
     Ok(periods)
@@ -47,19 +56,18 @@ fn run_of(heads: &[Head], number: u32) -> usize
     run
 }
 
-// The parts of a period whose blocks have these headers and logs.
+// The parts of a period whose blocks have these headers and logs of these lengths.
 fn period_with(
     alloc: Global,
     frame: Frame,
     objects: u32,
     heads: &[Head],
-    logs: &[List32],
+    lengths: &[u32],
 ) -> Result<PeriodParts, Memory>
     requires placed { ArePlaced frame heads.now }
     requires objects { All (λ head. head.index < objects) heads.now }
-    requires short { All (λ log. length log < 2 ^ 32) logs.now }
-    requires same { length logs.now ≡ length heads.now }
-    ensures { IfOk result (λ period. period ≡ period_with frame objects heads.now logs.now) }
+    requires same { length lengths.now ≡ length heads.now }
+    ensures { IfOk result (λ period. period ≡ period_with frame objects heads.now lengths.now) }
 {
     let present = presence_of(alloc, objects, heads)?;
     if heads.is_empty() {
@@ -71,12 +79,12 @@ fn period_with(
         offsets: List32::new(offsets_of(alloc, heads)?),
         lasts: ends_of(alloc, leaves.as_slice())?,
         perm: List32::new(places_of(alloc, leaves.as_slice())?),
-        lengths: List32::new(lengths_of(alloc, logs)?),
+        lengths: List32::new(lengths.to_vec(alloc)?),
         tree: tree_of(alloc, frame, leaves)?,
     })
 }
 
-// The parts of a period without a block, which take no memory beside the presence bits.
+// The parts of a period without a block. They take no memory beside the presence bits.
 fn without_blocks(alloc: Global, present: BitList) -> Result<PeriodParts, Memory>
     ensures { IfOk result (λ period. period ≡ without_blocks present) }
 {
@@ -95,16 +103,4 @@ fn offsets_of(alloc: Global, heads: &[Head]) -> Result<Vec<u32>, AllocError>
     ensures { IfOk result (λ offsets. offsets.items ≡ map (λ head. head.offset) heads.now) }
 {
     heads.iter().map(|head| head.offset).collect(alloc)
-}
-
-// How many symbols each log has.
-fn lengths_of(alloc: Global, logs: &[List32]) -> Result<Vec<u32>, AllocError>
-    requires { All (λ log. length log < 2 ^ 32) logs.now }
-    ensures { IfOk result (λ lengths. lengths.items ≡ map length logs.now) }
-{
-    let mut lengths = Vec::with_capacity(alloc, logs.len())?;
-    for log in logs {
-        lengths.push(log.as_slice().len() as u32)?;
-    }
-    Ok(lengths)
 }

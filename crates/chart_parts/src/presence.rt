@@ -5,7 +5,7 @@ use movement_log::Head;
 use std::alloc::{AllocError, Global};
 use track_types::BitList;
 
-/// A bit for each of so many objects: whether one of the headers is its.
+/// A bit for each of so many objects: whether one of the headers is that of a block of the object.
 pub(crate) fn presence_of(
     alloc: Global,
     objects: u32,

@@ -1,47 +1,48 @@
-ghost use Rattle.std.specs.Prelude.{◌≡◌, ◌<◌, length, IfOk};
+ghost use Rattle.std.specs.Prelude.{◌≡◌, ◌^◌, ◌<◌, All, IfOk, length, map};
 ghost use Rattle.std.specs.List.{flat_map};
 ghost use Rattle.track_types.specs.Chart.{ChartView};
-ghost use Rattle.track_types.specs.declared.limit.TheConstants.{MAX_INDEX};
+ghost use Rattle.rule_order.specs.Order.{IsSettled};
 ghost use Rattle.snapshots.specs.Parts.{chart_in};
 ghost use Rattle.snapshots.specs.SoundParts.{IsValid};
 ghost use Rattle.chart_parts.specs.Cut.{IsCut, IsCutOf, AreLogs, AreLogsOf};
-ghost use Rattle.chart_parts.specs.PartsOf.{parts_of};
+ghost use Rattle.chart_parts.specs.PartsOf.{compressed_parts_of, parts_of};
 ghost use Rattle.chart_parts.specs.PeriodWith.{chart_blocks};
-ghost use Rattle.index_format.specs.Spelling.{bytes_of_parts};
 
 use crate::header::frame_of;
 use crate::objects::objects_of;
 use crate::periods::periods_of;
 use movement_log::{HeadList, RawLogs, cut};
+use parts_order::settled;
 use repair_grammar::{Grammar, compress};
 use std::alloc::{AllocError, Global};
 use track_types::{Chart, Frame, List32, List64, Lists32, Memory, PairList, Parts, PeriodList};
 
 /// The parts that a chart is written as: header, objects, alphabet, Re-Pair's rules over the logs of all
-/// blocks, the parts of each period, and the logs that the rules leave.
+/// blocks, the parts of each period, and the logs that the rules leave, with the rules in order.
 ///
-/// They are those of an index, hold the very chart that they were made from, and take fewer than
-/// `MAX_INDEX` bytes in a file. Beside what `compress` takes, it takes memory for the parts and for
-/// the raw logs, which are let go once there are rules. It takes time for the rows, the terminals
-/// and one sort of each period's anchors; a period without a block costs what its presence bits
+/// They are those of an index, and hold the very chart that they were made from.
+///
+/// Beside what `compress` and `settled` take, it takes memory for the parts and for the raw logs,
+/// which are dropped after the rules are made. It takes time for the rows, the terminals, one sort of
+/// each period's anchors and one of the rules. A period without a block costs what its presence bits
 /// take.
 pub fn parts_of(alloc: Global, chart: &Chart) -> Result<Parts, Memory>
     ensures ok { IfOk result (λ parts. parts ≡ parts_of chart.now) }
     ensures valid { IfOk result (λ parts. IsValid parts) }
     ensures reads_back { IfOk result (λ parts. chart_in parts ≡ chart.now) }
-    ensures short { IfOk result (λ parts. length (bytes_of_parts parts) < MAX_INDEX) }
+    ensures order { IfOk result (λ parts. IsSettled (length parts.alphabet) parts.rules) }
 {
     let cut = cut_chart(alloc, chart)?;
     parts_of_cut(alloc, cut)
 }
 
-/// The parts that a chart is written as, as `parts_of` gives them. The chart is let go once it is cut into
-/// blocks, so that its rows take no memory while there are rules to be made.
+/// The parts that a chart is written as, as `parts_of` gives them. The chart is dropped after it is cut
+/// into blocks, so that its rows take no memory while rules are made.
 pub fn into_parts(alloc: Global, chart: Chart) -> Result<Parts, Memory>
     ensures ok { IfOk result (λ parts. parts ≡ parts_of chart) }
     ensures valid { IfOk result (λ parts. IsValid parts) }
     ensures reads_back { IfOk result (λ parts. chart_in parts ≡ chart) }
-    ensures short { IfOk result (λ parts. length (bytes_of_parts parts) < MAX_INDEX) }
+    ensures order { IfOk result (λ parts. IsSettled (length parts.alphabet) parts.rules) }
 {
     let cut = cut_chart(alloc, &chart)?;
     drop(chart);
@@ -73,6 +74,16 @@ fn parts_of_cut(alloc: Global, chart: CutChart) -> Result<Parts, Memory>
     ensures { (whole : ChartView) → IsCutOf whole chart
         → IfOk result (λ parts. parts ≡ parts_of whole) }
 {
+    let parts = compressed_parts(alloc, chart)?;
+    settled(alloc, parts)
+}
+
+// The parts of what was cut from a chart, with the rules as they were made.
+fn compressed_parts(alloc: Global, chart: CutChart) -> Result<Parts, Memory>
+    requires { IsCut chart }
+    ensures { (whole : ChartView) → IsCutOf whole chart
+        → IfOk result (λ parts. parts ≡ compressed_parts_of whole) }
+{
     let CutChart {
         frame,
         objects,
@@ -85,7 +96,8 @@ fn parts_of_cut(alloc: Global, chart: CutChart) -> Result<Parts, Memory>
         logs,
     } = blocks_of(alloc, logs)?;
     let count = objects.len() as u32;
-    let periods = periods_of(alloc, frame, count, heads.as_slice(), logs.as_slice())?;
+    let lengths = lengths_of(alloc, logs.as_slice())?;
+    let periods = periods_of(alloc, frame, count, heads.as_slice(), lengths.as_slice())?;
     let symbols = joined(alloc, logs.as_slice())?;
     Ok(Parts {
         frame,
@@ -106,7 +118,7 @@ pub(crate) struct Blocks {
     pub(crate) logs: Lists32,
 }
 
-// The blocks with these raw logs. The terminals are let go when the rules are made.
+// The blocks with these raw logs. The terminals are dropped when the rules are made.
 fn blocks_of(alloc: Global, raw: RawLogs) -> Result<Blocks, Memory>
     requires { AreLogs raw }
     ensures { (chart : ChartView) → AreLogsOf chart raw
@@ -125,6 +137,18 @@ fn blocks_of(alloc: Global, raw: RawLogs) -> Result<Blocks, Memory>
         rules,
         logs: blocks,
     })
+}
+
+// How many symbols each log has.
+fn lengths_of(alloc: Global, logs: &[List32]) -> Result<Vec<u32>, AllocError>
+    requires { All (λ log. length log < 2 ^ 32) logs.now }
+    ensures { IfOk result (λ lengths. lengths.items ≡ map length logs.now) }
+{
+    let mut lengths = Vec::with_capacity(alloc, logs.len())?;
+    for log in logs {
+        lengths.push(log.as_slice().len() as u32)?;
+    }
+    Ok(lengths)
 }
 
 // The symbols of all logs, one log after the other.

@@ -1,4 +1,4 @@
--- The order of rules: by layer, then by left part, then by right part, where parts are told by their places in this order.
+-- The order of rules: by layer, then by left part, then by right part, where a part counts by its place in this order.
 use Rattle.std.specs.Prelude.{◌≡◌, ℕ, zero, suc, ◌+◌, ◌<◌, false, List, length, map, filter, drop}
 use Rattle.std.specs.List.{range_with_len}
 use Rattle.std.specs.Ordering.{is_lt, nat_cmp, on, then_cmp}
@@ -7,7 +7,7 @@ use Rattle.list_laws.specs.Ordered.{ordered}
 use Rattle.rule_store.specs.Flaws.{rule_parts}
 use Rattle.rule_order.specs.Layers.{AreBelow, layer_of, parts_of, symbol_count}
 
--- what rules are told apart by: their layer, their left part and their right part
+-- what tells rules apart: their layer, their left part and their right part
 abbrev pub rule_key : ℕ → List (ℕ × ℕ) → ℕ → ℕ × (ℕ × ℕ)
 rule_key alphabet rules j = (layer_of alphabet rules (alphabet + j), rule_parts rules j)
 
@@ -15,15 +15,15 @@ rule_key alphabet rules j = (layer_of alphabet rules (alphabet + j), rule_parts 
 abbrev pub key_order : ℕ × (ℕ × ℕ) → ℕ × (ℕ × ℕ) → Ordering
 key_order = then_cmp (on (λ key. key.0) nat_cmp) (then_cmp (on (λ key. key.1.0) nat_cmp) (on (λ key. key.1.1) nat_cmp))
 
--- rules stand in order: the parts of each are below its own symbol, and none stands behind one that it comes before
+-- rules stand in order: the parts of each are below its own symbol, and none stands after one that it should come before
 pub record IsSettled (alphabet : ℕ) (rules : List (ℕ × ℕ)) : Type 0 where
   pub below : AreBelow alphabet rules
   pub sorted : (i j : ℕ) → i < j → j < length rules →
       is_lt (key_order (rule_key alphabet rules j) (rule_key alphabet rules i)) ≡ false
 
 module _ (alphabet : ℕ) (rules : List (ℕ × ℕ)) where
-  -- the order of symbols, where the layers are at most `depth`: by layer; then as the left parts, and then as the right
-  -- parts, stand in this order, whose layers are lower; then by number, as terminals and equal rules stand
+  -- The order of symbols, where the layers are at most `depth`: by layer; then by left parts and then by right parts in
+  -- this order, whose layers are lower; then by number, as terminals and equal rules stand.
   unfoldable pub order_to : ℕ → ℕ → ℕ → Ordering
   order_to zero = nat_cmp
   order_to (suc depth) =

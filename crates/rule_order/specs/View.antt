@@ -1,9 +1,9 @@
--- What a rule store is of, once its rules are settled.
+-- What a rule store holds once its rules are settled.
 use Rattle.std.specs.Prelude.{length, map}
 use Rattle.rule_store.specs.View.{RulesView, rules_with}
 use Rattle.rule_order.specs.Order.{new_symbol, settled_rules}
 
--- the same alphabet, height and period, the rules in order, and the stored symbols by their new numbers
+-- the view of a rule store whose rules are in order and whose stored symbols have their new numbers; all else stays
 abbrev pub settled_view : RulesView → RulesView
 settled_view view =
     rules_with view.alphabet (settled_rules (length view.alphabet) view.rules)

@@ -25,7 +25,7 @@ impl Grammar<'_> {
         Ok(places)
     }
 
-    // Numbers the layer that begins at a place of the queue, and answers the place behind it.
+    // Numbers the layer that begins at a place of the queue, and answers the place after it.
     fn number_layer(
         &self,
         alloc: Global,
@@ -49,7 +49,7 @@ impl Grammar<'_> {
         Ok(to)
     }
 
-    // The symbols of rules behind the new numbers of their parts, which are told.
+    // The symbols of rules, each after the new numbers of its parts, which are known.
     fn keys(
         &self,
         alloc: Global,

@@ -18,7 +18,7 @@ pub(crate) fn place(keys: &[(u32, u32, u32)], first: u32, places: &mut Vec<u32>)
     }
 }
 
-/// The place behind the pairs that begin as the one at a place does.
+/// The place after the pairs that begin as the one at a place does.
 pub(crate) fn layer_end(queue: &[(u32, u32)], from: usize) -> usize
     requires { from < length queue.now }
     ensures above { from < result }

@@ -22,8 +22,8 @@ pub struct Settled {
 /// for.
 ///
 /// The parts of each rule are below its own symbol, each stored symbol is a terminal or a rule, and
-/// there are fewer than 2^32 of both. The time is linear but for sorting; memory is taken for 28
-/// bytes a rule and 4 bytes a terminal, and is back but for the rules' 8 bytes each.
+/// there are fewer than 2^32 of both. The time is linear but for sorting. While it runs, memory is
+/// taken for 28 bytes a rule and 4 bytes a terminal; what it answers has 8 bytes a rule.
 pub fn settle(
     alloc: Global,
     alphabet: u32,

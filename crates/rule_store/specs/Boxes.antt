@@ -23,7 +23,7 @@ column cell = cell.x
 abbrev pub line : Cell → ℤ
 line cell = cell.y
 
--- the least box round cells, of which there is none round no cells
+-- the least box round cells; round no cells there is none
 unfoldable pub box_round : List Cell → Option CellBox
 box_round [] = None
 box_round (cell ∷ cells) = Some (record {

@@ -12,7 +12,7 @@ pub record RuleNode : Type 0 where
   pub before : List ℕ
   pub inside : List ℕ
 
--- the same node, where more terminals come before it
+-- a rule's node, where more terminals come before it
 abbrev pub after : List ℕ → RuleNode → RuleNode
 after terminals node = record { before = terminals ++ node.before; inside = node.inside }
 

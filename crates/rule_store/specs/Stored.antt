@@ -1,4 +1,4 @@
--- What a rule store keeps of each symbol, packed into 32 bytes, and what its entries are to its rules.
+-- What a rule store keeps of each symbol, packed into 32 bytes, and how its entries follow from its rules.
 use Rattle.std.specs.Prelude.{◌≡◌, ℕ, ◌^◌, ◌<◌, ◌≤◌, ◌<ℤ◌, List, length, get_or, Option, Some, None}
 use Rattle.track_types.specs.declared.cell_box.CellBox.{CellBox}
 use Rattle.rule_store.specs.View.{RulesView, rules_with, symbols_in}

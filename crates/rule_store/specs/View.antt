@@ -14,7 +14,7 @@ pub record RulesView : Type 0 where
   pub height : ℕ
   pub period : ℕ
 
--- these lists, height and period
+-- the view with these lists, height and period
 abbrev pub rules_with : List ℕ → List (ℕ × ℕ) → List ℕ → ℕ → ℕ → RulesView
 rules_with alphabet rules symbols height period =
     record { alphabet = alphabet; rules = rules; symbols = symbols; height = height; period = period }

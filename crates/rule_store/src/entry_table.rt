@@ -15,9 +15,9 @@ use track_types::Memory;
 
 /// The entries of a grammar's symbols, made and judged as its values and rules come.
 ///
-/// First come the values of the alphabet, each of which is a terminal, and then the rules. What is
-/// refused is not added, and nothing that came before changes. Contracts speak of all rules whose
-/// first symbols these are.
+/// First come the values of the alphabet, each a terminal, and then the rules. What is refused is not
+/// added, and nothing that came before changes. Contracts speak of any rules whose first symbols
+/// these are.
 #[derive(Drop)]
 pub struct EntryTable {
     entries: Vec<PackedEntry>,
@@ -76,8 +76,8 @@ impl EntryTable {
         self.entries
     }
 
-    /// Adds a value of the alphabet, of which fewer than 2^26 came before, and answers whether it was
-    /// taken: it is refused where it is a movement whose ring is above `2^height - 1`.
+    /// Adds a value of the alphabet, and answers whether it was taken: it is refused where it is a
+    /// movement whose ring is above `2^height - 1`. Fewer than 2^26 values came before.
     pub fn push_value(&mut self, value: u64) -> Result<bool, Memory>
         requires { symbols_of self.old < 2 ^ 26 }
         ensures judged { IfOk result (λ taken. taken ≡ not (leads_out self.old.height value)) }
@@ -96,9 +96,9 @@ impl EntryTable {
         Ok(true)
     }
 
-    /// Adds a rule of these parts, where fewer than 2^26 symbols came before, and answers whether it
-    /// was taken: it is refused where a part is not below its own symbol, where it lasts longer than
-    /// `period - 1`, or where its displacement or its box passes `2^height - 1`.
+    /// Adds a rule of these parts, and answers whether it was taken. It is refused where a part is
+    /// not below its own symbol, where it lasts longer than `period - 1`, or where its displacement or
+    /// its box passes `2^height - 1`. Fewer than 2^26 symbols came before.
     pub fn push_rule(&mut self, left: u32, right: u32) -> Result<bool, Memory>
         requires { symbols_of self.old < 2 ^ 26 }
         ensures judged { IfOk result (λ taken. (view : RulesView) (j : ℕ) → IsNextRule view self.old j (left, right)
@@ -144,7 +144,7 @@ impl EntryTable {
         Some(PackedEntry::pack(entry, 1 + left.depth.max(right.depth)))
     }
 
-    // Whether an entry lasts longer than what follows an anchor in its period, or goes too far.
+    // Whether an entry lasts longer than a period does after its first instant, or goes too far.
     fn is_far(&self, entry: &Entry) -> bool
         ensures { result ≡ is_far self.now.height self.now.period entry.now }
     {

@@ -12,8 +12,8 @@ pub enum RuleFault {
     /// The value at this place of the alphabet is a movement that leads out of each grid of this
     /// height.
     Code { index: u32 },
-    /// This rule, counted from 0, has a part that is not below its own symbol, or lasts longer than
-    /// a period leaves, or moves too far.
+    /// This rule, counted from 0, has a part that is not below its own symbol, or lasts longer than a
+    /// period does after its first instant, or moves too far.
     Rule { rule: u32 },
     /// The stored symbol at this place is neither a terminal nor a rule.
     Symbol { index: u32 },

@@ -2,8 +2,7 @@
 //!
 //! `RuleStore::check` takes exactly the alphabets, rules and symbols whose sums stay within a grid
 //! and a period. `RuleStore::entry` is the summary of a symbol's expansion (`specs/Entry.antt`).
-//! Rules and stored symbols are read by counted reads alone. The crate stands on `track_types`,
-//! `spiral_code`, `step_count` and `list_laws`.
+//! Reads of rules and of stored symbols are counted.
 #![tactic(auto)]
 
 mod entry;

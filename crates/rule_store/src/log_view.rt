@@ -5,7 +5,7 @@ use crate::store::RuleStore;
 use std::sync::ledger::Ledger;
 use step_count::Steps;
 
-/// The log of a block: a range of a store's symbols, and the rules that they are of.
+/// The log of a block: a range of a store's symbols, with the store's rules.
 #[derive(Clone, Copy)]
 pub struct LogView<'a> {
     rules: &'a RuleStore,
@@ -38,7 +38,7 @@ impl<'a> LogView<'a> {
         self.len
     }
 
-    /// The rules that the symbols are of.
+    /// The rules of the symbols.
     pub fn rules(&self) -> &'a RuleStore
         ensures { result.now ≡ self.now.rules.now }
     {

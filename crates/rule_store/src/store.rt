@@ -50,11 +50,14 @@ impl Model for RuleStore {
 impl RuleStore {
     /// Takes lists as the rules of an index, in time linear in their lengths.
     ///
-    /// It judges in this order: no value of the alphabet is a movement whose ring is above
-    /// `2^height - 1`; of each rule the parts are below its own symbol, the duration is at most
-    /// `period - 1`, and the displacement and the box stay within `2^height - 1` of the start; each
-    /// stored symbol is a terminal or a rule. The fault is the first place that fails. Each rule is
-    /// judged before a later one sums it, so that no sum leaves its type.
+    /// It judges in this order:
+    /// - no value of the alphabet is a movement whose ring is above `2^height - 1`;
+    /// - of each rule the parts are below its own symbol, the duration is at most `period - 1`, and
+    ///   the displacement and the box stay within `2^height - 1` of the start;
+    /// - each stored symbol is a terminal or a rule.
+    ///
+    /// The fault is the first place that fails. Each rule is judged before a later one sums it, so
+    /// that no sum leaves its type.
     ///
     /// The alphabet ascends; it, the rules and the symbols have at most `MAX_SYMBOLS` members each;
     /// `height` is 1 to `MAX_HEIGHT` and `period` 1 to `MAX_PERIOD`. Memory is taken for the entries,

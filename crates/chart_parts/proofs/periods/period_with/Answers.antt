@@ -13,7 +13,7 @@ pub returns-then-is_empty : goal.returns-then-is_empty
 returns-then-is_empty c =
     let none : length c.args.heads.now ≡ 0 = search rules in
     let parts = ap without_blocks c.in_ok-present.ensures
-    ∙ period_with-none c.args.frame c.args.objects c.args.heads.now c.args.logs.now none c.requires.same in
+    ∙ period_with-none c.args.frame c.args.objects c.args.heads.now c.args.lengths.now none c.requires.same in
     rw parts at c.without_blocks.ensures
 
 pub tree_of-requires-clause-ascending : goal.tree_of-requires-clause-ascending
@@ -36,7 +36,7 @@ returns c =
     let perm : c.new-2.result ≡ leaf_order codes =
     c.new-2.ensures ∙ c.in_ok-places_of.ensures ∙ ap (map (λ leaf. leaf.place)) (c.as_slice-2.ensures.value ∙ leaves)
     ∙ places-leaves frame heads (leaf_order codes) in
-    let lengths : c.new-3.result ≡ map length c.args.logs.now = c.new-3.ensures ∙ c.in_ok-lengths_of.ensures in
+    let lengths : c.new-3.result ≡ c.args.lengths.now = c.new-3.ensures ∙ c.in_ok-to_vec.ensures.items_if_clones_equal (λ x y same. same) in
     let tree : c.in_ok-tree_of.field-0 ≡ morton_bits (widths_in frame) (distinct_codes codes) =
     c.in_ok-tree_of.ensures.ok
     ∙ ap (λ all. morton_bits (widths_in frame) (dedup (λ a b. a == b) (map (λ leaf. leaf.code) all))) leaves

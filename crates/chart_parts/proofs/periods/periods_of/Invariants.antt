@@ -7,6 +7,6 @@ use Rattle.chart_parts.proofs.periods.periods_of.Given as goal
 abbrev pub invariant-loop-number : goal.invariant-loop-number
 invariant-loop-number l = record {
   within : l.start ≤ length l.heads;
-  behind : IsBehind (zip l.heads l.logs) l.number l.start;
-  periods : l.periods.items ≡ map (period_of_blocks l.frame l.objects (zip l.heads l.logs)) (range_with_len 0 l.number);
+  behind : IsBehind (zip l.heads l.lengths) l.number l.start;
+  periods : l.periods.items ≡ map (period_of_blocks l.frame l.objects (zip l.heads l.lengths)) (range_with_len 0 l.number);
 }

@@ -1,1 +1,0 @@
-use Rattle.chart_parts.proofs.writing.cut_chart.Goals as goal

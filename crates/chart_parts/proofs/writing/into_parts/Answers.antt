@@ -1,4 +1,4 @@
-use Rattle.chart_parts.proofs.CutLemmas.{cut-reads_back, cut-short, cut-valid}
+use Rattle.chart_parts.proofs.CutLemmas.{cut-order, cut-reads_back, cut-valid}
 use Rattle.chart_parts.proofs.writing.into_parts.Goals as goal
 
 pub returns-clause-valid : goal.returns-clause-valid
@@ -11,7 +11,7 @@ returns-clause-reads_back c =
     cut-reads_back c.args.chart c.in_ok-cut.cut c.in_ok-cut.ensures c.parts_of_cut.result
     (c.parts_of_cut.ensures c.args.chart c.in_ok-cut.ensures)
 
-pub returns-clause-short : goal.returns-clause-short
-returns-clause-short c =
-    cut-short c.args.chart c.in_ok-cut.cut c.in_ok-cut.ensures c.parts_of_cut.result
+pub returns-clause-order : goal.returns-clause-order
+returns-clause-order c =
+    cut-order c.args.chart c.in_ok-cut.cut c.in_ok-cut.ensures c.parts_of_cut.result
     (c.parts_of_cut.ensures c.args.chart c.in_ok-cut.ensures)

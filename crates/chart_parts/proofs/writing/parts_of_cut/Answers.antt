@@ -1,58 +1,19 @@
-use Rattle.std.proofs.Common.{◌≡◌, ◌∙◌, ap, arith, length, map, refl}
-use Rattle.std.specs.List.{flat_map}
-use Rattle.track_types.specs.Chart.{ChartView}
-use Rattle.track_types.specs.Quantities.{object_count, objects_of}
-use Rattle.movement_log.specs.Logs.{logs_of}
-use Rattle.snapshots.specs.Parts.{numbers_in}
-use Rattle.chart_parts.specs.Cut.{IsCutOf}
-use Rattle.chart_parts.specs.Header.{frame_of}
-use Rattle.chart_parts.specs.PartsOf.{grammar_of, parts_of, period_of_chart}
-use Rattle.chart_parts.specs.PeriodWith.{chart_blocks}
-use Rattle.chart_parts.proofs.OwnBlockLemmas.{AreBlocksByPeriod-own}
-use Rattle.chart_parts.proofs.OwnPeriodLemmas.{as_many-logs, periods_are}
+use Rattle.std.proofs.Common.{◌≡◌, IfOk, subst, sym}
+use Rattle.snapshots.specs.SoundParts.{IsValid}
+use Rattle.parts_order.specs.SettledParts.{settled_parts}
+use Rattle.chart_parts.specs.PartsOf.{parts_of}
+use Rattle.chart_parts.proofs.ValidLemmas.{IsValid-compressed_parts_of}
 use Rattle.chart_parts.proofs.writing.parts_of_cut.Goals as goal
-use Rattle.chart_parts.proofs.writing.parts_of_cut.Goals.{After-as_slice-2}
 
-pub periods_of-requires-clause-period : goal.periods_of-requires-clause-period
-unfolding frame_of
-periods_of-requires-clause-period c = rw c.requires.1.frame c.requires.1.is.period.some
-
--- the blocks are the chart's, and so are the heads and the logs that are read
-blocks_are : (c : After-as_slice-2) (chart : ChartView) → IsCutOf chart c.args.chart
-    → c.in_ok-alphabet.field-0 ≡ chart_blocks chart
-blocks_are c chart is = c.in_ok-alphabet.ensures chart (record { is = is.is; logs = is.logs })
-
-read_is : (c : After-as_slice-2) (chart : ChartView) → IsCutOf chart c.args.chart
-    → (c.as_slice.result.now ≡ (logs_of chart).heads) × (c.as_slice-2.result.now ≡ (grammar_of chart).blocks)
-read_is c chart is = (
-  c.as_slice.ensures ∙ ap (λ blocks. blocks.heads) (blocks_are c chart is),
-  c.as_slice-2.ensures ∙ ap (λ blocks. blocks.logs) (blocks_are c chart is),
-)
-
-pub periods_of-requires-clause-same : goal.periods_of-requires-clause-same
-periods_of-requires-clause-same c =
-    let its = read_is (goal.at.periods_of-requires-clause-same c).After-as_slice-2 c.requires.0 c.requires.1 in
-    rw (its.0, its.1) (as_many-logs c.requires.0)
-
-pub periods_of-requires-clause-blocks : goal.periods_of-requires-clause-blocks
-periods_of-requires-clause-blocks c =
+-- the parts are those of some chart, and so those of an index
+pub settled-requires : goal.settled-requires
+settled-requires c =
     let is = c.requires.1 in
-    let its = read_is (goal.at.periods_of-requires-clause-blocks c).After-as_slice-2 c.requires.0 is in
-    let count : c.len-count.result ≡ object_count c.requires.0.rows = omega (arith, ap length is.objects) in
-    rw (is.frame, count, its.0, its.1) (AreBlocksByPeriod-own c.requires.0 is.is)
+    subst IsValid (sym (c.in_ok-parts.ensures c.requires.0 is))
+    (IsValid-compressed_parts_of c.requires.0 is.is (rw is.objects at is.short))
 
 pub returns : goal.returns
 unfolding parts_of
 returns c chart is =
-    let at = (goal.at.returns c).After-as_slice-2 in
-    let its = read_is at chart is in
-    let blocks = blocks_are at chart is in
-    let count : c.len-count.result ≡ object_count chart.rows = omega (arith, ap length is.objects) in
-    let objects : c.new.result ≡ objects_of chart.rows = c.new.ensures ∙ is.objects in
-    let logs : c.as_slice-3.result.now ≡ (grammar_of chart).blocks = c.as_slice-3.ensures ∙ ap (λ b. b.logs) blocks in
-    let symbols : c.new-3.result ≡ flat_map (λ log. log) (grammar_of chart).blocks =
-    c.new-3.ensures ∙ c.in_ok-symbols.ensures ∙ ap (flat_map (λ log. log)) logs in
-    let made = rw (is.frame, count, its.0, its.1) at c.in_ok-periods.ensures in
-    let periods : c.new-2.result ≡ map (period_of_chart chart) (numbers_in (frame_of chart)) =
-    c.new-2.ensures ∙ made ∙ periods_are chart is.is in
-    rw (is.frame, objects, ap (λ b. b.alphabet) blocks, ap (λ b. b.rules) blocks, periods, symbols) refl
+    subst (λ these. IfOk c.settled.result (λ parts. parts ≡ settled_parts these)) (c.in_ok-parts.ensures chart is)
+    c.settled.ensures.ok
