@@ -6,9 +6,11 @@ use Rattle.track_types.specs.declared.flaw.Section.TheVariants.{Header, Presence
 use Rattle.track_types.specs.declared.parts.Parts.{Parts}
 use Rattle.packed_bits.specs.Bits.{number_of, ones_of}
 use Rattle.packed_bits.specs.Words.{low_bits}
-use Rattle.index_format.specs.Spelling.{bytes_of_parts, short_bytes, long_bytes, signed_bytes, rule_bytes, bits_in, bits_with, bytes_filled, bit_bytes, log_bytes, period_bytes, size_bytes, header_bytes}
+use Rattle.index_format.specs.Spelling.{bytes_of_parts, parts_bytes, short_bytes, long_bytes, signed_bytes, rule_bytes, bits_in, bits_with, bytes_filled, bit_bytes, log_bytes, period_bytes, symbols_bytes, size_bytes, fields_bytes, header_bytes}
 use Rattle.index_format.specs.Fields.{flaw_at, number_at, items_at, short_at, rising_at, rule_at, bits_at, numbers_from_bits, packed_at, log_at}
-use Rattle.index_format.specs.Reading.{version_at, field_at, signed_at, sizes_at, header_at, tree_length_at, period_sections_at, parts_in}
+use Rattle.index_format.specs.Reading.{version_at, field_at, signed_at, symbols_at, sizes_at, fields_at, header_at, tree_length_at, period_sections_at, parts_after}
+use Rattle.index_format.specs.Stored.{stored_after, stored_in}
+use Rattle.index_format.specs.declared.stored.Stored.TheVariants as stored
 
 -- object 7 at three instants, in one period
 abbrev whole : ℕ → ℕ → Parts
@@ -62,49 +64,49 @@ are_long : (length (file 2 1) ∷ length (packed_file 2 2) ∷ []) ≡ 123 ∷ 1
 are_long = refl
 
 are_written : (bytes_of_parts (whole 1 2) ≡ file 2 1) × (bytes_of_parts (whole 2 2) ≡ packed_file 2 2)
-unfolding bytes_of_parts short_bytes long_bytes signed_bytes rule_bytes bits_with bytes_filled bit_bytes log_bytes period_bytes size_bytes header_bytes number_of low_bits width_for
+unfolding bytes_of_parts parts_bytes short_bytes long_bytes signed_bytes rule_bytes bits_with bytes_filled bit_bytes log_bytes period_bytes symbols_bytes size_bytes fields_bytes header_bytes number_of low_bits width_for
 are_written = (refl, refl)
 
-is_read : parts_in (file 2 1) ≡ Ok (whole 1 2)
-unfolding number_at items_at short_at rising_at rule_at bits_at numbers_from_bits packed_at log_at version_at field_at signed_at sizes_at header_at tree_length_at period_sections_at parts_in bits_in low_bits number_of ones_of width_for
+is_read : stored_in (file 2 1) ≡ Ok (stored.Parts (whole 1 2))
+unfolding number_at items_at short_at rising_at rule_at bits_at numbers_from_bits packed_at log_at version_at field_at signed_at symbols_at sizes_at fields_at header_at tree_length_at period_sections_at parts_after stored_after stored_in bits_in low_bits number_of ones_of width_for
 is_read = refl
 
-packed_is_read : parts_in (packed_file 2 2) ≡ Ok (whole 2 2)
-unfolding number_at items_at short_at rising_at rule_at bits_at numbers_from_bits packed_at log_at version_at field_at signed_at sizes_at header_at tree_length_at period_sections_at parts_in bits_in low_bits number_of ones_of width_for
+packed_is_read : stored_in (packed_file 2 2) ≡ Ok (stored.Parts (whole 2 2))
+unfolding number_at items_at short_at rising_at rule_at bits_at numbers_from_bits packed_at log_at version_at field_at signed_at symbols_at sizes_at fields_at header_at tree_length_at period_sections_at parts_after stored_after stored_in bits_in low_bits number_of ones_of width_for
 packed_is_read = refl
 
-is_cut : parts_in (take 122 (file 2 1)) ≡ Err (flaw_at Log 0 1 Short)
-unfolding number_at items_at short_at rising_at rule_at bits_at numbers_from_bits packed_at log_at version_at field_at signed_at sizes_at header_at tree_length_at period_sections_at parts_in bits_in low_bits number_of ones_of width_for
+is_cut : stored_in (take 122 (file 2 1)) ≡ Err (flaw_at Log 0 1 Short)
+unfolding number_at items_at short_at rising_at rule_at bits_at numbers_from_bits packed_at log_at version_at field_at signed_at symbols_at sizes_at fields_at header_at tree_length_at period_sections_at parts_after stored_after stored_in bits_in low_bits number_of ones_of width_for
 is_cut = refl
 
-packed_is_cut : parts_in (take 115 (packed_file 2 2)) ≡ Err (flaw_at Log 0 0 Short)
-unfolding number_at items_at short_at rising_at rule_at bits_at numbers_from_bits packed_at log_at version_at field_at signed_at sizes_at header_at tree_length_at period_sections_at parts_in bits_in low_bits number_of ones_of width_for
+packed_is_cut : stored_in (take 115 (packed_file 2 2)) ≡ Err (flaw_at Log 0 0 Short)
+unfolding number_at items_at short_at rising_at rule_at bits_at numbers_from_bits packed_at log_at version_at field_at signed_at symbols_at sizes_at fields_at header_at tree_length_at period_sections_at parts_after stored_after stored_in bits_in low_bits number_of ones_of width_for
 packed_is_cut = refl
 
-packed_is_padded : parts_in (packed_file 2 6) ≡ Err (flaw_at Log 0 0 Pad)
-unfolding number_at items_at short_at rising_at rule_at bits_at numbers_from_bits packed_at log_at version_at field_at signed_at sizes_at header_at tree_length_at period_sections_at parts_in bits_in low_bits number_of ones_of width_for
+packed_is_padded : stored_in (packed_file 2 6) ≡ Err (flaw_at Log 0 0 Pad)
+unfolding number_at items_at short_at rising_at rule_at bits_at numbers_from_bits packed_at log_at version_at field_at signed_at symbols_at sizes_at fields_at header_at tree_length_at period_sections_at parts_after stored_after stored_in bits_in low_bits number_of ones_of width_for
 packed_is_padded = refl
 
-is_high : parts_in (file 21 1) ≡ Err (flaw_at Header 0 2 Field)
-unfolding number_at items_at short_at rising_at rule_at bits_at numbers_from_bits packed_at log_at version_at field_at signed_at sizes_at header_at tree_length_at period_sections_at parts_in bits_in low_bits number_of ones_of width_for
+is_high : stored_in (file 21 1) ≡ Err (flaw_at Header 0 2 Field)
+unfolding number_at items_at short_at rising_at rule_at bits_at numbers_from_bits packed_at log_at version_at field_at signed_at symbols_at sizes_at fields_at header_at tree_length_at period_sections_at parts_after stored_after stored_in bits_in low_bits number_of ones_of width_for
 is_high = refl
 
-packed_is_high : parts_in (packed_file 21 2) ≡ Ok (whole 2 21)
-unfolding number_at items_at short_at rising_at rule_at bits_at numbers_from_bits packed_at log_at version_at field_at signed_at sizes_at header_at tree_length_at period_sections_at parts_in bits_in low_bits number_of ones_of width_for
+packed_is_high : stored_in (packed_file 21 2) ≡ Ok (stored.Parts (whole 2 21))
+unfolding number_at items_at short_at rising_at rule_at bits_at numbers_from_bits packed_at log_at version_at field_at signed_at symbols_at sizes_at fields_at header_at tree_length_at period_sections_at parts_after stored_after stored_in bits_in low_bits number_of ones_of width_for
 packed_is_high = refl
 
-is_empty : parts_in [] ≡ Err (flaw_at Header 0 0 Short)
-unfolding version_at header_at parts_in
+is_empty : stored_in [] ≡ Err (flaw_at Header 0 0 Short)
+unfolding version_at header_at stored_in
 is_empty = refl
 
-is_longer : parts_in (file 2 1 ++ 0 ∷ []) ≡ Err (flaw_at End 0 0 Extra)
-unfolding number_at items_at short_at rising_at rule_at bits_at numbers_from_bits packed_at log_at version_at field_at signed_at sizes_at header_at tree_length_at period_sections_at parts_in bits_in low_bits number_of ones_of width_for
+is_longer : stored_in (file 2 1 ++ 0 ∷ []) ≡ Err (flaw_at End 0 0 Extra)
+unfolding number_at items_at short_at rising_at rule_at bits_at numbers_from_bits packed_at log_at version_at field_at signed_at symbols_at sizes_at fields_at header_at tree_length_at period_sections_at parts_after stored_after stored_in bits_in low_bits number_of ones_of width_for
 is_longer = refl
 
-is_padded : parts_in (file 2 3) ≡ Err (flaw_at Presence 0 0 Pad)
-unfolding number_at items_at short_at rising_at rule_at bits_at numbers_from_bits packed_at log_at version_at field_at signed_at sizes_at header_at tree_length_at period_sections_at parts_in bits_in low_bits number_of ones_of width_for
+is_padded : stored_in (file 2 3) ≡ Err (flaw_at Presence 0 0 Pad)
+unfolding number_at items_at short_at rising_at rule_at bits_at numbers_from_bits packed_at log_at version_at field_at signed_at symbols_at sizes_at fields_at header_at tree_length_at period_sections_at parts_after stored_after stored_in bits_in low_bits number_of ones_of width_for
 is_padded = refl
 
-is_other : parts_in (front 3 2) ≡ Err (flaw_at Header 0 0 Magic)
-unfolding version_at header_at parts_in
+is_other : stored_in (front 4 2) ≡ Err (flaw_at Header 0 0 Magic)
+unfolding version_at header_at stored_in
 is_other = refl

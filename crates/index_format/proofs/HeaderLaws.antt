@@ -1,5 +1,5 @@
 -- The header: what is read is spelled so and in its ranges, and what is in its ranges is read again.
-use Rattle.std.proofs.Common.{◌≡◌, ℕ, ℤ, pos, ◌-◌, ◌*◌, ◌<◌, ◌≤◌, Bool, true, false, ltb, List, ◌++◌, length, take, drop, zero, suc, inl, inr, Ok, refl, sym, ap, FitsSigned, ◌∙◌, append_assoc, arith}
+use Rattle.std.proofs.Common.{Bor, Result, ◌≡◌, ℕ, ℤ, pos, ◌+◌, ◌-◌, ◌*◌, ◌^◌, ◌<◌, ◌≤◌, Bool, true, false, ltb, List, ◌++◌, length, take, drop, zero, suc, inl, inr, Ok, Err, refl, sym, ap, subst, FitsSigned, ◌∙◌, append_assoc, arith}
 use Rattle.std.specs.Prelude.{IfOk, nat_le, neg_ℤ, ◌≤ℤ◌, ◌+ℤ◌}
 use Rattle.std.specs.Int.{Width, w32, w64, cast_signed, cast_unsigned, div_ceil}
 use Rattle.std.specs.Int.Signed.{le_z}
@@ -20,9 +20,12 @@ use Rattle.track_types.specs.declared.flaw.Kind.TheVariants.{Short}
 use Rattle.track_types.proofs.RegionLemmas.{le_z-from, le_z-is}
 use Rattle.index_format.specs.declared.header.Header.{Header}
 use Rattle.index_format.specs.declared.header.Sizes.{Sizes}
-use Rattle.index_format.specs.Spelling.{magic, short_bytes, long_bytes, signed_bytes, size_bytes, header_bytes, sizes_of}
-use Rattle.index_format.specs.Fields.{number_at}
-use Rattle.index_format.specs.Reading.{header_flaw, is_in_range, is_span, is_first, is_near, far, greatest_height, version_at, field_at, signed_at, sizes_at, header_at}
+use Rattle.index_format.specs.Spelling.{magic, short_bytes, long_bytes, signed_bytes, says_symbols, symbols_bytes, size_bytes, fields_bytes, header_bytes, sizes_of}
+use Rattle.track_types.specs.declared.format_fault.FormatFault.{FormatFault}
+use Rattle.index_format.specs.Answers.{Gives}
+use Rattle.index_format.specs.Headers.{AreSizes, IsHeader}
+use Rattle.index_format.specs.Fields.{Taken, number_at}
+use Rattle.index_format.specs.Reading.{header_flaw, is_in_range, is_span, is_first, is_near, far, greatest_height, version_at, field_at, signed_at, symbols_at, sizes_at, long_place, fields_at, header_at}
 use Rattle.index_format.proofs.BitLemmas.{IsBytes, IsBytes-drop}
 use Rattle.index_format.proofs.Laws.{Takes, Takes-then, Takes-text, then_ok, test_ok, guard_ok, else_ok, IsWide, wide32, wide64, number_at-takes, number_at-again}
 
@@ -72,6 +75,13 @@ module _ (index : ℕ) (passes : ℤ → Bool) where
       let back : cast_signed w64 bits ≡ z = to_z-of_z w64 z fits in
       rw (read, back, good) refl
 
+-- the bytes at the front that name a version
+front_named : (bytes : List ℕ) → IsBytes bytes → (version : ℕ) → bytes_eq (take 8 bytes) (magic version) ≡ true
+    → Takes bytes (magic version) (drop 8 bytes)
+front_named bytes fits version same =
+    let front : take 8 bytes ≡ magic version = (bytes_eq-Decides (take 8 bytes) (magic version)).0 same in
+    record { parts = sym (take-append-drop 8 bytes) ∙ ap (λ text. text ++ drop 8 bytes) front; fits = IsBytes-drop 8 bytes fits }
+
 -- the eight bytes at the front
 version_at-takes : (bytes : List ℕ) → IsBytes bytes
     → IfOk (version_at bytes) (λ v. Takes bytes (magic v.0) v.1 × (1 ≤ v.0) × (v.0 ≤ MAX_VERSION))
@@ -79,12 +89,11 @@ unfolding version_at
 version_at-takes bytes fits =
     guard_ok _ _ _ (ltb (length bytes) 8) (λ enough.
     else_ok _ _ _ (bytes_eq (take 8 bytes) (magic 1)) (λ same. (named 1 same, omega arith, omega arith))
-    (test_ok _ _ _ (bytes_eq (take 8 bytes) (magic 2)) (λ same. (named 2 same, omega arith, omega arith))))
+    (else_ok _ _ _ (bytes_eq (take 8 bytes) (magic 2)) (λ same. (named 2 same, omega arith, omega arith))
+    (test_ok _ _ _ (bytes_eq (take 8 bytes) (magic 3)) (λ same. (named 3 same, omega arith, omega arith)))))
   where
     named : (version : ℕ) → bytes_eq (take 8 bytes) (magic version) ≡ true → Takes bytes (magic version) (drop 8 bytes)
-    named version same =
-        let front : take 8 bytes ≡ magic version = (bytes_eq-Decides (take 8 bytes) (magic version)).0 same in
-        record { parts = sym (take-append-drop 8 bytes) ∙ ap (λ text. text ++ drop 8 bytes) front; fits = IsBytes-drop 8 bytes fits }
+    named = front_named bytes fits
 
 version_at-again : (version : ℕ) (rest : List ℕ) → 1 ≤ version → version ≤ MAX_VERSION → version_at (magic version ++ rest) ≡ Ok (version, rest)
 unfolding version_at
@@ -95,7 +104,10 @@ version_at-again (suc zero) rest known newest =
 version_at-again (suc (suc zero)) rest known newest =
     let enough : ltb (length (magic 2 ++ rest)) 8 ≡ false = le-ltb (length (magic 2 ++ rest)) 8 (omega arith) in
     rw enough refl
-version_at-again (suc (suc (suc more))) rest known newest = absurd (omega arith)
+version_at-again (suc (suc (suc zero))) rest known newest =
+    let enough : ltb (length (magic 3 ++ rest)) 8 ≡ false = le-ltb (length (magic 3 ++ rest)) 8 (omega arith) in
+    rw enough refl
+version_at-again (suc (suc (suc (suc more)))) rest known newest = absurd (omega arith)
 
 -- the greatest height of any version
 height_limit : (version height : ℕ) → height ≤ greatest_height version → height ≤ MAX_HEIGHT
@@ -115,20 +127,39 @@ height_within frame is = elim (cases_lt frame.version 2) [
   | inr later ↦ rw (le-ltb frame.version 2 later) is.limit
 ]
 
--- the numbers of four bytes are in their ranges
-pub record AreSizes (version : ℕ) (sizes : Sizes) : Type 0 where
-  pub period : (1 ≤ sizes.period) × (sizes.period ≤ MAX_PERIOD)
-  pub height : (1 ≤ sizes.height) × (sizes.height ≤ greatest_height version)
-  pub objects : (1 ≤ sizes.objects) × (sizes.objects ≤ limit_of limits.Objects)
-  pub span : (1 ≤ sizes.span) × (sizes.span ≤ limit_of limits.Span)
-  pub blocks : sizes.objects * div_ceil sizes.span sizes.period ≤ limit_of limits.Blocks
-  pub alphabet : sizes.alphabet ≤ limit_of limits.Symbols
-  pub rules : sizes.rules ≤ limit_of limits.Symbols
-  pub symbols : sizes.symbols ≤ limit_of limits.Symbols
+-- how many symbols there are, as it was read
+symbols_at-takes : (version : ℕ) (bytes : List ℕ) → IsBytes bytes
+    → IfOk (symbols_at version bytes) (λ n. Takes bytes (symbols_bytes version n.0) n.1
+    × (n.0 ≤ limit_of limits.Symbols) × (says_symbols version ≡ false → n.0 ≡ 0))
+unfolding symbols_at symbols_bytes
+symbols_at-takes version bytes fits = elim (cases_lt version 3) [
+  | inl before ↦ let says = lt-ltb version 3 before in
+      rw says (then_ok_of (field_at w32 7 (is_in_range 0 many) bytes) (field_at-takes wide32 7 (is_in_range 0 many) bytes fits))
+  | inr later ↦ rw (le-ltb version 3 later) (record { parts = refl; fits = fits }, omega arith, λ untold. refl)
+]
+  where
+    many : ℕ
+    many = limit_of limits.Symbols
+
+    then_ok_of : (read : Taken ℕ) → IfOk read (λ n. Takes bytes (short_bytes n.0) n.1 × (n.0 < 2 ^ 32) × (is_in_range 0 many n.0 ≡ true))
+        → IfOk read (λ n. Takes bytes (short_bytes n.0) n.1 × (n.0 ≤ many) × (true ≡ false → n.0 ≡ 0))
+    then_ok_of (Ok n) (taken, small, good) = (taken, (between 0 many n.0 good).1, λ silent. absurd (let e = silent in cc))
+    then_ok_of (Err flaw) given = tt
+
+-- how many symbols there are is read again
+symbols_at-again : (version symbols : ℕ) (rest : List ℕ) → symbols ≤ limit_of limits.Symbols
+    → (says_symbols version ≡ false → symbols ≡ 0) → symbols_at version (symbols_bytes version symbols ++ rest) ≡ Ok (symbols, rest)
+unfolding symbols_at symbols_bytes
+symbols_at-again version symbols rest few untold = elim (cases_lt version 3) [
+  | inl before ↦ let many = limit_of limits.Symbols in
+      rw (lt-ltb version 3 before) (field_at-again wide32 7 (is_in_range 0 many) symbols rest (omega (arith, few))
+      (is_in_range-true 0 many symbols (omega arith) few))
+  | inr later ↦ let silent = le-ltb version 3 later in rw (silent, untold silent) refl
+]
 
 -- sizes that were read are spelled so
 sizes_at-takes : (version : ℕ) (bytes : List ℕ) → IsBytes bytes
-    → IfOk (sizes_at version bytes) (λ s. Takes bytes (size_bytes s.0) s.1 × AreSizes version s.0)
+    → IfOk (sizes_at version bytes) (λ s. Takes bytes (size_bytes version s.0) s.1 × AreSizes version s.0)
 unfolding sizes_at size_bytes
 sizes_at-takes version bytes fits =
     let high = greatest_height version in
@@ -139,7 +170,7 @@ sizes_at-takes version bytes fits =
     then_ok _ _ (field_at w32 4 (is_span objects.0 period.0) objects.1) (field_at-takes wide32 4 (is_span objects.0 period.0) objects.1 t3.0.fits) (λ span t4.
     then_ok _ _ (field_at w32 5 (is_in_range 0 many) span.1) (field_at-takes wide32 5 (is_in_range 0 many) span.1 t4.0.fits) (λ alphabet t5.
     then_ok _ _ (field_at w32 6 (is_in_range 0 many) alphabet.1) (field_at-takes wide32 6 (is_in_range 0 many) alphabet.1 t5.0.fits) (λ rules t6.
-    then_ok _ _ (field_at w32 7 (is_in_range 0 many) rules.1) (field_at-takes wide32 7 (is_in_range 0 many) rules.1 t6.0.fits) (λ symbols t7.
+    then_ok _ _ (symbols_at version rules.1) (symbols_at-takes version rules.1 t6.0.fits) (λ symbols t7.
     let blocks = objects.0 * div_ceil span.0 period.0 in
     let both = and_parts (is_in_range 1 (limit_of limits.Span) span.0) (nat_le blocks (limit_of limits.Blocks)) t4.2 in (
       Takes-text _ (simp append_assoc refl)
@@ -152,24 +183,25 @@ sizes_at-takes version bytes fits =
         blocks = grind (arith, nat_tests, both.1);
         alphabet = (between 0 many alphabet.0 t5.2).1;
         rules = (between 0 many rules.0 t6.2).1;
-        symbols = (between 0 many symbols.0 t7.2).1;
+        symbols = t7.1;
+        untold = t7.2;
       },
     ))))))))
 
 -- sizes that are spelled so are read
 sizes_at-again : (version : ℕ) (sizes : Sizes) (rest : List ℕ) → AreSizes version sizes
-    → sizes_at version (size_bytes sizes ++ rest) ≡ Ok (sizes, rest)
+    → sizes_at version (size_bytes version sizes ++ rest) ≡ Ok (sizes, rest)
 unfolding sizes_at size_bytes
 sizes_at-again version sizes rest are =
     let high = greatest_height version in
     let many = limit_of limits.Symbols in
-    let r7 = short_bytes sizes.symbols ++ rest in
+    let r7 = symbols_bytes version sizes.symbols ++ rest in
     let r6 = short_bytes sizes.rules ++ r7 in
     let r5 = short_bytes sizes.alphabet ++ r6 in
     let r4 = short_bytes sizes.span ++ r5 in
     let r3 = short_bytes sizes.objects ++ r4 in
     let r2 = short_bytes sizes.height ++ r3 in
-    let text : size_bytes sizes ++ rest ≡ short_bytes sizes.period ++ r2 = simp append_assoc refl in
+    let text : size_bytes version sizes ++ rest ≡ short_bytes sizes.period ++ r2 = simp append_assoc refl in
     let blocks = sizes.objects * div_ceil sizes.span sizes.period in
     let few : nat_le blocks (limit_of limits.Blocks) ≡ true = grind (arith, nat_tests, are.blocks) in
     let span = and_from (is_in_range 1 (limit_of limits.Span) sizes.span) (nat_le blocks (limit_of limits.Blocks))
@@ -186,14 +218,8 @@ sizes_at-again version sizes rest are =
           (is_in_range-true 0 many sizes.alphabet (omega arith) are.alphabet),
       field_at-again wide32 6 (is_in_range 0 many) sizes.rules r7 (omega (arith, are.rules))
           (is_in_range-true 0 many sizes.rules (omega arith) are.rules),
-      field_at-again wide32 7 (is_in_range 0 many) sizes.symbols rest (omega (arith, are.symbols))
-          (is_in_range-true 0 many sizes.symbols (omega arith) are.symbols),
+      symbols_at-again version sizes.symbols rest are.symbols are.untold,
     ) refl
-
--- a header in its ranges
-pub record IsHeader (header : Header) : Type 0 where
-  pub frame : IsFrame header.frame
-  pub sizes : AreSizes header.frame.version (sizes_of header)
 
 -- a number at most `far` from 0 fits in eight bytes
 near_fits : (z : ℤ) → neg_ℤ far ≤ℤ z → z ≤ℤ far → FitsSigned w64 z
@@ -211,32 +237,33 @@ near-true z is = and_from (le_z (neg_ℤ far) z) (le_z z far) (le_z-from (neg_�
 first_before : (first : ℤ) (more : ℕ) → (first +ℤ pos more) ≤ℤ far → first ≤ℤ far
 first_before first more ends = omega (arith, ints, ends)
 
--- a header that was read is spelled so
-pub header_at-takes : (bytes : List ℕ) → IsBytes bytes → IfOk (header_at bytes) (λ h. Takes bytes (header_bytes h.0) h.1 × IsHeader h.0)
-unfolding header_at header_bytes
-header_at-takes bytes fits =
+-- fields that were read are spelled so
+pub fields_at-takes : (version : ℕ) → 1 ≤ version → version ≤ MAX_VERSION → (bytes : List ℕ) → IsBytes bytes
+    → IfOk (fields_at version bytes) (λ h. Takes bytes (fields_bytes h.0) h.1 × IsHeader h.0 × (h.0.frame.version ≡ version))
+unfolding fields_at fields_bytes
+fields_at-takes version known newest bytes fits =
     let units = is_in_range 1 MAX_RESOLUTION in
-    then_ok _ _ (version_at bytes) (version_at-takes bytes fits) (λ version t0.
-    then_ok _ _ (sizes_at version.0 version.1) (sizes_at-takes version.0 version.1 t0.0.fits) (λ sizes t1.
-    then_ok _ _ (signed_at 8 (is_first sizes.0.span) sizes.1) (signed_at-takes 8 (is_first sizes.0.span) sizes.1 t1.0.fits) (λ first t2.
-    then_ok _ _ (signed_at 9 is_near first.1) (signed_at-takes 9 is_near first.1 t2.0.fits) (λ x t3.
-    then_ok _ _ (signed_at 10 is_near x.1) (signed_at-takes 10 is_near x.1 t3.0.fits) (λ y t4.
-    then_ok _ _ (field_at w64 11 units y.1) (field_at-takes wide64 11 units y.1 t4.0.fits) (λ cell t5.
-    then_ok _ _ (field_at w64 12 units cell.1) (field_at-takes wide64 12 units cell.1 t5.0.fits) (λ tick t6.
+    let place = long_place version in
+    then_ok _ _ (sizes_at version bytes) (sizes_at-takes version bytes fits) (λ sizes t1.
+    then_ok _ _ (signed_at place (is_first sizes.0.span) sizes.1) (signed_at-takes place (is_first sizes.0.span) sizes.1 t1.0.fits) (λ first t2.
+    then_ok _ _ (signed_at (place + 1) is_near first.1) (signed_at-takes (place + 1) is_near first.1 t2.0.fits) (λ x t3.
+    then_ok _ _ (signed_at (place + 2) is_near x.1) (signed_at-takes (place + 2) is_near x.1 t3.0.fits) (λ y t4.
+    then_ok _ _ (field_at w64 (place + 3) units y.1) (field_at-takes wide64 (place + 3) units y.1 t4.0.fits) (λ cell t5.
+    then_ok _ _ (field_at w64 (place + 4) units cell.1) (field_at-takes wide64 (place + 4) units cell.1 t5.0.fits) (λ tick t6.
     let begin = and_parts (le_z (neg_ℤ far) first.0) (le_z (first.0 +ℤ pos (sizes.0.span - 1)) far) t2.1 in
     let cells = between 1 MAX_RESOLUTION cell.0 t5.2 in
     let ticks = between 1 MAX_RESOLUTION tick.0 t6.2 in
     let are = t1.1 in (
       Takes-text _ (simp append_assoc refl)
-          (Takes-then t0.0 (Takes-then t1.0 (Takes-then t2.0 (Takes-then t3.0 (Takes-then t4.0 (Takes-then t5.0 t6.0)))))),
+          (Takes-then t1.0 (Takes-then t2.0 (Takes-then t3.0 (Takes-then t4.0 (Takes-then t5.0 t6.0))))),
       record {
         frame = record {
           periods = record { some = are.period.0; limit = are.period.1 };
-          known = t0.1;
-          newest = t0.2;
+          known = known;
+          newest = newest;
           some = are.height.0;
-          limit = height_limit version.0 sizes.0.height are.height.1;
-          narrow = height_narrow version.0 sizes.0.height are.height.1;
+          limit = height_limit version sizes.0.height are.height.1;
+          narrow = height_narrow version sizes.0.height are.height.1;
           long = are.span.0;
           short = are.span.1;
           begins = le_z-is (neg_ℤ far) first.0 begin.0;
@@ -248,35 +275,73 @@ header_at-takes bytes fits =
         };
         sizes = are;
       },
-    ))))))))
+      refl,
+    )))))))
 
--- a header in its ranges that is spelled so is read
-pub header_at-again : (header : Header) (rest : List ℕ) → IsHeader header → header_at (header_bytes header ++ rest) ≡ Ok (header, rest)
-unfolding header_at header_bytes
-header_at-again header rest is =
+-- fields in their ranges that are spelled so are read
+pub fields_at-again : (header : Header) (rest : List ℕ) → IsHeader header
+    → fields_at header.frame.version (fields_bytes header ++ rest) ≡ Ok (header, rest)
+unfolding fields_at fields_bytes
+fields_at-again header rest is =
     let frame = header.frame in
     let units = is_in_range 1 MAX_RESOLUTION in
+    let place = long_place frame.version in
     let r6 = long_bytes frame.tick ++ rest in
     let r5 = long_bytes frame.cell ++ r6 in
     let r4 = signed_bytes frame.base.y ++ r5 in
     let r3 = signed_bytes frame.base.x ++ r4 in
     let r2 = signed_bytes frame.first ++ r3 in
-    let r1 = size_bytes (sizes_of header) ++ r2 in
-    let text : header_bytes header ++ rest ≡ magic frame.version ++ r1 = simp append_assoc refl in
+    let text : fields_bytes header ++ rest ≡ size_bytes frame.version (sizes_of header) ++ r2 = simp append_assoc refl in
     let begins = and_from (le_z (neg_ℤ far) frame.first) (le_z (frame.first +ℤ pos (frame.span - 1)) far)
     (le_z-from (neg_ℤ far) frame.first is.frame.begins)
     (le_z-from (frame.first +ℤ pos (frame.span - 1)) far is.frame.ends) in
-    ap header_at text ∙ rw (
-      version_at-again frame.version r1 is.frame.known is.frame.newest,
+    ap (fields_at frame.version) text ∙ rw (
       sizes_at-again frame.version (sizes_of header) r2 is.sizes,
-      signed_at-again 8 (is_first frame.span) frame.first r3
+      signed_at-again place (is_first frame.span) frame.first r3
           (near_fits frame.first is.frame.begins (first_before frame.first (frame.span - 1) is.frame.ends)) begins,
-      signed_at-again 9 is_near frame.base.x r4 (near_fits frame.base.x is.frame.columns.low is.frame.columns.high)
+      signed_at-again (place + 1) is_near frame.base.x r4 (near_fits frame.base.x is.frame.columns.low is.frame.columns.high)
           (near-true frame.base.x is.frame.columns),
-      signed_at-again 10 is_near frame.base.y r5 (near_fits frame.base.y is.frame.lines.low is.frame.lines.high)
+      signed_at-again (place + 2) is_near frame.base.y r5 (near_fits frame.base.y is.frame.lines.low is.frame.lines.high)
           (near-true frame.base.y is.frame.lines),
-      field_at-again wide64 11 units frame.cell r6 (omega (arith, is.frame.cells.limit))
+      field_at-again wide64 (place + 3) units frame.cell r6 (omega (arith, is.frame.cells.limit))
           (is_in_range-true 1 MAX_RESOLUTION frame.cell is.frame.cells.some is.frame.cells.limit),
-      field_at-again wide64 12 units frame.tick rest (omega (arith, is.frame.ticks.limit))
+      field_at-again wide64 (place + 4) units frame.tick rest (omega (arith, is.frame.ticks.limit))
           (is_in_range-true 1 MAX_RESOLUTION frame.tick is.frame.ticks.some is.frame.ticks.limit),
     ) refl
+
+-- a header that was read is spelled so
+pub header_at-takes : (bytes : List ℕ) → IsBytes bytes → IfOk (header_at bytes) (λ h. Takes bytes (header_bytes h.0) h.1 × IsHeader h.0)
+unfolding header_at header_bytes
+header_at-takes bytes fits =
+    then_ok _ _ (version_at bytes) (version_at-takes bytes fits) (λ version t0.
+    named version.0 version.1 t0.0 (fields_at version.0 version.1)
+    (fields_at-takes version.0 t0.1 t0.2 version.1 t0.0.fits))
+  where
+    named : (version : ℕ) (rest : List ℕ) → Takes bytes (magic version) rest → (read : Taken Header)
+        → IfOk read (λ h. Takes rest (fields_bytes h.0) h.1 × IsHeader h.0 × (h.0.frame.version ≡ version))
+        → IfOk read (λ h. Takes bytes (magic h.0.frame.version ++ fields_bytes h.0) h.1 × IsHeader h.0)
+    named version rest before (Err flaw) given = tt
+    named version rest before (Ok h) (taken, is, same) = (
+      subst (λ v. Takes bytes (magic v ++ fields_bytes h.0) h.1) (sym same) (Takes-then before taken),
+      is,
+    )
+
+-- a header in its ranges that is spelled so is read
+pub header_at-again : (header : Header) (rest : List ℕ) → IsHeader header
+    → header_at (header_bytes header ++ rest) ≡ Ok (header, rest)
+unfolding header_at header_bytes
+header_at-again header rest is =
+    let text : header_bytes header ++ rest ≡ magic header.frame.version ++ (fields_bytes header ++ rest) = simp append_assoc refl in
+    ap header_at text ∙ rw (
+      version_at-again header.frame.version (fields_bytes header ++ rest) is.frame.known is.frame.newest,
+      fields_at-again header rest is,
+    ) refl
+
+-- a header that was answered to bytes is in its ranges
+pub given_header : (bytes : List ℕ) (answer : Result (Header × Bor (List ℕ)) FormatFault) → IsBytes bytes
+    → Gives (λ x. (x.0, x.1.now)) answer (header_at bytes) → IfOk answer (λ x. IsHeader x.0)
+given_header bytes (Ok x) fits given = of_ok (header_at bytes) (header_at-takes bytes fits) given
+  where
+    of_ok : (read : Taken Header) → IfOk read (λ h. Takes bytes (header_bytes h.0) h.1 × IsHeader h.0) → read ≡ Ok (x.0, x.1.now) → IsHeader x.0
+    of_ok read holds is = (rw is at holds).1
+given_header bytes (Err fault) fits given = tt

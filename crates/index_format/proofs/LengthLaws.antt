@@ -12,8 +12,8 @@ use Rattle.track_types.specs.Shape.{IsShapedPeriod, width_for, symbol_width}
 use Rattle.track_types.specs.declared.parts.Parts.{Parts}
 use Rattle.track_types.specs.declared.period_parts.PeriodParts.{PeriodParts}
 use Rattle.index_format.specs.declared.header.Header.{Header}
-use Rattle.index_format.specs.Spelling.{bits_with, bytes_for, bytes_of_parts, header_bytes, log_bytes, long_bytes}
-use Rattle.index_format.specs.Spelling.{period_bytes, rule_bytes, short_bytes, signed_bytes, size_bytes}
+use Rattle.index_format.specs.Spelling.{bits_with, bytes_for, bytes_of_parts, header_bytes, log_bytes, long_bytes, parts_bytes}
+use Rattle.index_format.specs.Spelling.{fields_bytes, period_bytes, rule_bytes, says_symbols, short_bytes, signed_bytes, size_bytes, symbols_bytes}
 use Rattle.index_format.proofs.BitLemmas.{length-bit_bytes}
 use Rattle.index_format.proofs.WidthLemmas.{width_for-narrow}
 use Rattle.index_format.proofs.SymbolLemmas.{length-bits_with}
@@ -36,10 +36,28 @@ length-rules rules =
     omega (arith, length-append (short_bytes rule.0) (short_bytes rule.1), wide32.long rule.0, wide32.long rule.1))
     rules
 
--- a header has 76 bytes
-pub length-header_bytes : (header : Header) → length (header_bytes header) ≡ 76
-unfolding header_bytes size_bytes signed_bytes short_bytes long_bytes
-length-header_bytes header = refl
+-- how many bytes the header of a version has
+abbrev pub header_length : ℕ → ℕ
+header_length version = if says_symbols version then 76 else 72
+
+-- these are as many
+pub length-header_bytes : (header : Header) → length (header_bytes header) ≡ header_length header.frame.version
+unfolding header_bytes fields_bytes size_bytes symbols_bytes signed_bytes short_bytes long_bytes
+length-header_bytes header = elim (cases_lt header.frame.version 3) [
+  | inl before ↦ rw (lt-ltb header.frame.version 3 before) refl
+  | inr later ↦ rw (le-ltb header.frame.version 3 later) refl
+]
+
+-- in versions 1 and 2 it has 76
+pub header_length-parts : (version : ℕ) → version ≤ 2 → header_length version ≡ 76
+header_length-parts version old = rw (lt-ltb version 3 (omega (arith, old))) refl
+
+-- at most as many as those of version 1
+header_length-short : (version : ℕ) → header_length version ≤ 76
+header_length-short version = elim (cases_lt version 3) [
+  | inl before ↦ rw (lt-ltb version 3 before) (omega arith)
+  | inr later ↦ rw (le-ltb version 3 later) (omega arith)
+]
 
 -- how many bytes a period takes
 abbrev pub period_length : PeriodParts → ℕ
@@ -83,10 +101,10 @@ log_length-short version symbols count = elim (cases_lt version 2) [
 -- how many bytes the parts take
 pub length-bytes_of_parts : (parts : Parts)
     → length (bytes_of_parts parts)
-    ≡ 76 + 4 * length parts.objects + 8 * length parts.alphabet + 8 * length parts.rules
+    ≡ header_length parts.frame.version + 4 * length parts.objects + 8 * length parts.alphabet + 8 * length parts.rules
     + length (flat_map period_bytes parts.periods)
     + log_length parts.frame.version (symbol_width parts) (length parts.symbols)
-unfolding bytes_of_parts
+unfolding bytes_of_parts parts_bytes
 length-bytes_of_parts parts = simp (
   length-append,
   length-header_bytes,
@@ -124,6 +142,7 @@ length-bytes_of_parts-few parts objects some shallow =
     omega (
       arith,
       length-bytes_of_parts parts,
+      header_length-short parts.frame.version,
       log_length-short parts.frame.version (length parts.alphabet + length parts.rules) (length parts.symbols),
       length-flat_map-within period_bytes (37 * objects) parts.periods
           (All-weaker (IsShallow objects) (λ period. length (period_bytes period) ≤ 37 * objects)

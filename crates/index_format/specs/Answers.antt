@@ -1,4 +1,4 @@
--- What a function that reads may answer, beside what reading gives.
+-- What a function that reads may answer: what reading gives, or that memory was refused.
 use Rattle.std.specs.Prelude.{◌≡◌, Bool, List, Result, Ok, Err}
 use Rattle.track_types.specs.declared.flaw.Flaw.{Flaw}
 use Rattle.track_types.specs.declared.format_fault.FormatFault.{FormatFault}

@@ -11,7 +11,7 @@ use Rattle.track_types.specs.declared.flaw.Kind.TheVariants as kind
 abbrev pub Element : Type 0 → Type 0
 Element A = Result (A × List Bool) Flaw
 
--- what a fault of bits is in an index
+-- the kind of flaw that a fault of bits is in an index
 abbrev pub kind_of_fault : BitFault → Kind
 kind_of_fault bit_fault.Short = kind.Short
 kind_of_fault bit_fault.Large = kind.Large

@@ -23,13 +23,13 @@ abbrev pub ◌>>=◌ : {A B : Type 0} → Result A Flaw → (A → Result B Flaw
 abbrev pub flaw_at : Section → ℕ → ℕ → Kind → Flaw
 flaw_at section period index kind = record { section = section; period = period; index = index; kind = kind }
 
--- a number, lowest byte first; where the bytes do not hold it whole, the flaw
+-- a number, lowest byte first; the flaw, if the bytes do not hold it whole
 unfoldable pub number_at : Width → Flaw → List ℕ → Taken ℕ
 number_at w missing bytes =
     if nat_lt (length bytes) (byte_len w) then Err missing
     else Ok (from_le_bytes w (take (byte_len w) bytes), drop (byte_len w) bytes)
 
--- one item after the other, each read by those before it from what is left
+-- one item after the other; how each is read may depend on those before it
 unfoldable pub items_at : {A S : Type 0} → (List A → S → Result (A × S) Flaw) → ℕ → List A → S → Result (List A × S) Flaw
 items_at next zero seen rest = Ok (seen, rest)
 items_at next (suc more) seen rest = do
@@ -57,7 +57,7 @@ rule_at seen bytes = do
   right ← number_at w32 (flaw_at Rules 0 (length seen) Short) left.1
   Ok ((left.0, right.0), right.1)
 
--- whether a bit of the last byte that the list does not reach is 1
+-- whether one of the last byte's bits past the list is 1
 abbrev pub has_spare : ℕ → List ℕ → Bool
 has_spare count bytes = nat_lt 0 (ones_of (drop count (bits_in bytes)))
 

@@ -1,4 +1,4 @@
--- When an outline is that of an index.
+-- When an outline is the outline of an index.
 use Rattle.std.specs.Prelude.{◌≡◌, ℕ, ◌+◌, ◌*◌, ◌<◌, ◌≤◌, nat_lt, nat_le, true, ◌&&◌, ◌||◌, Bool, List, [], ◌∷◌, length, zip, take, drop, All, None, ◌==◌}
 use Rattle.std.specs.List.{sum_by}
 use Rattle.std.specs.List.Sorted.{IsStrictlyIncreasing}
@@ -19,19 +19,6 @@ use Rattle.index_format.specs.OutlineFile.{frame_rules}
 use Rattle.index_format.specs.declared.outline.Outline.{Outline}
 use Rattle.index_format.specs.declared.outline.OutlineBlock.{OutlineBlock}
 
--- the same frame in version 2, whose ranges version 3 has
-abbrev pub as_version_2 : Frame → Frame
-as_version_2 frame = record {
-  version = 2;
-  first = frame.first;
-  span = frame.span;
-  period = frame.period;
-  height = frame.height;
-  base = frame.base;
-  cell = frame.cell;
-  tick = frame.tick;
-}
-
 -- a rule, known by its layer, may follow another: by layer, then left part, then right part, and equal ones side by side
 abbrev pub may_follow : ℕ × (ℕ × ℕ) → ℕ × (ℕ × ℕ) → Bool
 may_follow before rule = nat_lt before.0 rule.0 || (before.0 == rule.0)
@@ -43,7 +30,7 @@ all_follow follows [] = true
 all_follow follows (first ∷ []) = true
 all_follow follows (first ∷ second ∷ rest) = follows first second && all_follow follows (second ∷ rest)
 
--- rules over so many terminals stand in the order of the format (rule_order's, once that crate stands below)
+-- rules over so many terminals stand in the order of the format
 pub record AreInOrder (terminals : ℕ) (rules : List (ℕ × ℕ)) : Type 0 where
   pub below : (j : ℕ) → j < length rules → are_below (terminals + j) (rule_parts rules j) ≡ true
   pub sorted : all_follow may_follow (zip (layers_of terminals rules) rules) ≡ true
@@ -71,7 +58,7 @@ comes_after before block = nat_lt before.index block.index || (before.index == b
 -- an outline is that of an index
 pub record IsOutline (outline : Outline) : Type 0 where
   pub version : outline.frame.version ≡ 3
-  pub header : IsFrame (as_version_2 outline.frame)
+  pub header : IsFrame outline.frame
   pub some : 1 ≤ length outline.objects
   pub few : length outline.objects ≤ limit_of Objects
   pub periods : length outline.objects * periods_of outline.frame ≤ limit_of Blocks

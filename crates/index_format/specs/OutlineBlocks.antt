@@ -1,4 +1,4 @@
--- The blocks of each object: told by period from the first instant on, and read until the span is told.
+-- The blocks of each object: they stand by period from the first instant on, and are read until the span is told.
 use Rattle.std.specs.Prelude.{ℕ, zero, suc, ◌+◌, ◌-◌, ◌*◌, ◌/◌, ◌^◌, min, nat_lt, nat_le, pos, ◌-ℤ◌, Bool, true, not, ◌&&◌, List, [], ◌∷◌, ◌++◌, length, take, drop, filter, Option, Some, None, Ok, Err, ◌==◌, if◌then◌else◌}
 use Rattle.std.specs.Int.{w64, cast_unsigned}
 use Rattle.std.specs.Int.Signed.{le_z}
@@ -145,7 +145,8 @@ blocks_in (suc more) frame view index told bits = do
 abbrev pub anchor_instant : Frame → OutlineBlock → ℕ
 anchor_instant frame block = block.period * frame.period + block.offset
 
--- when the next block begins: its instant where it is an object's first, else how far it is from the first instant not yet told
+-- when the next block begins: the instant of an object's first block; else 0 at the first instant not yet told, and after it one more
+-- than how far it is from there
 unfoldable pub when_bits : ℕ → ℕ → List Bool
 when_bits next at = number_bits (if next == 0 then at else if at == next then 0 else (at - next + 1))
 
@@ -158,7 +159,7 @@ anchor_bits height (Some last) cell = number_bits (code_of (cell.x -ℤ last.x) 
 abbrev pub cell_after : RulesView → Cell → List ℕ → Cell
 cell_after view cell log = moved cell (displacement_of (log_values view log))
 
--- the end of an object's blocks: the span where there is none, 1 where the span is not yet told, and else nothing
+-- the end of an object's blocks: the span if it has none, 1 if the span is not yet told, and else nothing
 unfoldable pub end_bits : Frame → ℕ → List Bool
 end_bits frame next = if next == 0 then number_bits frame.span else if nat_lt next frame.span then number_bits 1 else []
 

@@ -32,7 +32,7 @@ layer_rules terminals rules layer = map (λ rule. rule.1) (filter (is_in_layer l
 unfoldable pub symbols_under : ℕ → List (ℕ × ℕ) → ℕ → ℕ
 symbols_under terminals rules layer = length (filter (λ depth. nat_lt depth layer) (depths terminals rules))
 
--- the least left part that a rule of a layer may have after the rule before it
+-- the least left part that a rule of a layer may have after the previous rule
 abbrev pub least_left : Option (ℕ × ℕ) → ℕ
 least_left None = 0
 least_left (Some before) = before.0
@@ -41,7 +41,7 @@ least_left (Some before) = before.0
 abbrev pub layer_floor : ℕ → ℕ → ℕ
 layer_floor base left = if nat_lt left base then base else 0
 
--- the least right part that it may have after the rule before it
+-- the least right part that a rule may have after the previous rule of its layer
 abbrev pub least_right : ℕ → Option (ℕ × ℕ) → ℕ → ℕ
 least_right base None left = layer_floor base left
 least_right base (Some before) left = if left == before.0 then before.1 else layer_floor base left
@@ -54,7 +54,7 @@ rule_before start seen = if length seen == start then None else Some (slice_inde
 abbrev pub are_under : ℕ → ℕ × ℕ → Bool
 are_under top rule = nat_lt rule.0 top && nat_lt rule.1 top
 
--- the values, and what an entry may reach: over these the rules are judged
+-- the view with these rules; its values, and what an entry may reach, stay
 abbrev pub with_rules : RulesView → List (ℕ × ℕ) → RulesView
 with_rules view rules = rules_with view.alphabet rules view.symbols view.height view.period
 

@@ -1,4 +1,4 @@
--- The parts that the bytes of an index hold, or the first flaw.
+-- What the bytes of an index hold: the header, and the parts of version 1 or 2, or the first flaw.
 use Rattle.std.specs.Prelude.{bytes_eq, ℕ, ℤ, pos, neg_ℤ, ◌+ℤ◌, ◌+◌, ◌-◌, ◌*◌, Bool, ◌&&◌, List, [], length, take, drop, Result, Ok, Err, nat_lt, nat_le, ◌==◌, if◌then◌else◌}
 use Rattle.std.specs.Int.{Width, w32, w64, div_ceil, cast_signed}
 use Rattle.std.specs.Int.Signed.{le_z}
@@ -16,7 +16,7 @@ use Rattle.track_types.specs.declared.parts.Parts.{Parts}
 use Rattle.track_types.specs.declared.period_parts.PeriodParts.{PeriodParts}
 use Rattle.index_format.specs.declared.header.Sizes.{Sizes}
 use Rattle.index_format.specs.declared.header.Header as headers
-use Rattle.index_format.specs.Spelling.{magic}
+use Rattle.index_format.specs.Spelling.{magic, says_symbols}
 use Rattle.index_format.specs.Fields.{◌>>=◌, Taken, flaw_at, number_at, items_at, short_at, rising_at, rule_at, bits_at, log_at}
 
 -- a field of the header is out of its range
@@ -50,6 +50,7 @@ version_at bytes =
     if nat_lt (length bytes) 8 then Err (header_flaw 0 Short)
     else if bytes_eq (take 8 bytes) (magic 1) then Ok (1, drop 8 bytes)
     else if bytes_eq (take 8 bytes) (magic 2) then Ok (2, drop 8 bytes)
+    else if bytes_eq (take 8 bytes) (magic 3) then Ok (3, drop 8 bytes)
     else Err (header_flaw 0 Magic)
 
 -- the greatest height of a version
@@ -68,6 +69,11 @@ signed_at index passes bytes = do
   n ← number_at w64 (header_flaw index Short) bytes
   if passes (cast_signed w64 n.0) then Ok (cast_signed w64 n.0, n.1) else Err (header_flaw index Field)
 
+-- how many symbols the logs have, where the version says so
+unfoldable pub symbols_at : ℕ → List ℕ → Taken ℕ
+symbols_at version bytes =
+    if says_symbols version then field_at w32 7 (is_in_range 0 (limit_of limits.Symbols)) bytes else Ok (0, bytes)
+
 -- the header's numbers of four bytes, in a version
 unfoldable pub sizes_at : ℕ → List ℕ → Taken Sizes
 sizes_at version bytes = do
@@ -77,7 +83,7 @@ sizes_at version bytes = do
   span ← field_at w32 4 (is_span objects.0 period.0) objects.1
   alphabet ← field_at w32 5 (is_in_range 0 (limit_of limits.Symbols)) span.1
   rules ← field_at w32 6 (is_in_range 0 (limit_of limits.Symbols)) alphabet.1
-  symbols ← field_at w32 7 (is_in_range 0 (limit_of limits.Symbols)) rules.1
+  symbols ← symbols_at version rules.1
   Ok (
     record {
       period = period.0;
@@ -91,20 +97,23 @@ sizes_at version bytes = do
     symbols.1,
   )
 
--- the header
-unfoldable pub header_at : List ℕ → Taken headers.Header
-header_at bytes = do
-  version ← version_at bytes
-  sizes ← sizes_at version.0 version.1
-  first ← signed_at 8 (is_first sizes.0.span) sizes.1
-  x ← signed_at 9 is_near first.1
-  y ← signed_at 10 is_near x.1
-  cell ← field_at w64 11 (is_in_range 1 MAX_RESOLUTION) y.1
-  tick ← field_at w64 12 (is_in_range 1 MAX_RESOLUTION) cell.1
+-- the place of the first field of eight bytes in a version
+abbrev pub long_place : ℕ → ℕ
+long_place version = if says_symbols version then 8 else 7
+
+-- the header of a version, after the eight bytes that name it
+unfoldable pub fields_at : ℕ → List ℕ → Taken headers.Header
+fields_at version bytes = do
+  sizes ← sizes_at version bytes
+  first ← signed_at (long_place version) (is_first sizes.0.span) sizes.1
+  x ← signed_at (long_place version + 1) is_near first.1
+  y ← signed_at (long_place version + 2) is_near x.1
+  cell ← field_at w64 (long_place version + 3) (is_in_range 1 MAX_RESOLUTION) y.1
+  tick ← field_at w64 (long_place version + 4) (is_in_range 1 MAX_RESOLUTION) cell.1
   Ok (
     record {
       frame = record {
-        version = version.0;
+        version = version;
         first = first.0;
         span = sizes.0.span;
         period = sizes.0.period;
@@ -120,6 +129,12 @@ header_at bytes = do
     },
     tick.1,
   )
+
+-- the header
+unfoldable pub header_at : List ℕ → Taken headers.Header
+header_at bytes = do
+  version ← version_at bytes
+  fields_at version.0 version.1
 
 -- how many bits the tree has
 unfoldable pub tree_length_at : ℕ → List ℕ → Taken ℕ
@@ -153,17 +168,16 @@ period_sections_at objects seen bytes = do
 abbrev pub ended : {A : Type 0} → List ℕ → A → Result A Flaw
 ended bytes value = if length bytes == 0 then Ok value else Err (flaw_at End 0 0 Extra)
 
--- all of the bytes
-unfoldable pub parts_in : List ℕ → Result Parts Flaw
-parts_in bytes = do
-  header ← header_at bytes
-  objects ← items_at (rising_at w32 Objects) header.0.objects [] header.1
-  alphabet ← items_at (rising_at w64 Alphabet) header.0.alphabet [] objects.1
-  rules ← items_at rule_at header.0.rules [] alphabet.1
-  periods ← items_at (period_sections_at header.0.objects) (periods_of header.0.frame) [] rules.1
-  symbols ← log_at header.0.frame.version (width_for (header.0.alphabet + header.0.rules)) header.0.symbols periods.1
+-- the parts that all bytes after the header hold, in version 1 or 2
+unfoldable pub parts_after : headers.Header → List ℕ → Result Parts Flaw
+parts_after header bytes = do
+  objects ← items_at (rising_at w32 Objects) header.objects [] bytes
+  alphabet ← items_at (rising_at w64 Alphabet) header.alphabet [] objects.1
+  rules ← items_at rule_at header.rules [] alphabet.1
+  periods ← items_at (period_sections_at header.objects) (periods_of header.frame) [] rules.1
+  symbols ← log_at header.frame.version (width_for (header.alphabet + header.rules)) header.symbols periods.1
   ended symbols.1 (record {
-    frame = header.0.frame;
+    frame = header.frame;
     objects = objects.0;
     alphabet = alphabet.0;
     rules = rules.0;

@@ -33,7 +33,7 @@ header_of parts = record {
   symbols = length parts.symbols;
 }
 
--- the eight bytes that an index of a version begins with: GRACT001, GRACT002
+-- the eight bytes that an index of a version begins with: GRACT001, GRACT002, GRACT003
 abbrev pub magic : ℕ → List ℕ
 magic version = 71 ∷ 82 ∷ 65 ∷ 67 ∷ 84 ∷ 48 ∷ 48 ∷ (48 + version) ∷ []
 
@@ -69,23 +69,38 @@ period_bytes period =
     ++ short_bytes (length period.tree) ++ bit_bytes period.tree ++ bit_bytes period.lasts
     ++ flat_map short_bytes period.perm ++ flat_map short_bytes period.lengths
 
--- the header's numbers of four bytes
-unfoldable pub size_bytes : Sizes → List ℕ
-size_bytes sizes =
-    short_bytes sizes.period ++ short_bytes sizes.height ++ short_bytes sizes.objects ++ short_bytes sizes.span
-    ++ short_bytes sizes.alphabet ++ short_bytes sizes.rules ++ short_bytes sizes.symbols
+-- the versions whose header says how many symbols the logs have; from version 3 on the blocks tell it
+abbrev pub says_symbols : ℕ → Bool
+says_symbols version = nat_lt version 3
 
--- the header: the eight bytes, the numbers of four bytes and those of eight
-unfoldable pub header_bytes : Header → List ℕ
-header_bytes header =
-    magic header.frame.version ++ size_bytes (sizes_of header)
+-- how many symbols the logs have, where the version says so
+unfoldable pub symbols_bytes : ℕ → ℕ → List ℕ
+symbols_bytes version symbols = if says_symbols version then short_bytes symbols else []
+
+-- the header's numbers of four bytes, in a version
+unfoldable pub size_bytes : ℕ → Sizes → List ℕ
+size_bytes version sizes =
+    short_bytes sizes.period ++ short_bytes sizes.height ++ short_bytes sizes.objects ++ short_bytes sizes.span
+    ++ short_bytes sizes.alphabet ++ short_bytes sizes.rules ++ symbols_bytes version sizes.symbols
+
+-- the header after the eight bytes that name the version: the numbers of four bytes and those of eight
+unfoldable pub fields_bytes : Header → List ℕ
+fields_bytes header =
+    size_bytes header.frame.version (sizes_of header)
     ++ signed_bytes header.frame.first ++ signed_bytes header.frame.base.x ++ signed_bytes header.frame.base.y
     ++ long_bytes header.frame.cell ++ long_bytes header.frame.tick
 
--- an index file
-unfoldable pub bytes_of_parts : Parts → List ℕ
-bytes_of_parts parts =
-    header_bytes (header_of parts)
-    ++ flat_map short_bytes parts.objects ++ flat_map long_bytes parts.alphabet
+-- the header
+unfoldable pub header_bytes : Header → List ℕ
+header_bytes header = magic header.frame.version ++ fields_bytes header
+
+-- what follows the header in versions 1 and 2
+unfoldable pub parts_bytes : Parts → List ℕ
+parts_bytes parts =
+    flat_map short_bytes parts.objects ++ flat_map long_bytes parts.alphabet
     ++ flat_map rule_bytes parts.rules ++ flat_map period_bytes parts.periods
     ++ log_bytes parts.frame.version (symbol_width parts) parts.symbols
+
+-- an index file of version 1 or 2
+unfoldable pub bytes_of_parts : Parts → List ℕ
+bytes_of_parts parts = header_bytes (header_of parts) ++ parts_bytes parts

@@ -1,26 +1,68 @@
 ghost use Rattle.std.specs.Prelude.{◌≡◌, ◌≤◌, IfOk, IfErr, Ok, length};
-ghost use Rattle.track_types.specs.Shape.{IsShaped};
 ghost use Rattle.track_types.specs.declared.limit.TheConstants.{MAX_INDEX};
-ghost use Rattle.track_types.specs.declared.parts.Parts as declared;
+ghost use Rattle.index_format.specs.Headers.{IsHeader};
+ghost use Rattle.index_format.specs.declared.stored.Stored as declared;
 ghost use Rattle.index_format.specs.Answers.{Gives, IsFormatFault};
-ghost use Rattle.index_format.specs.Reading.{parts_in};
-ghost use Rattle.index_format.specs.Spelling.{bytes_of_parts};
+ghost use Rattle.index_format.specs.Reading.{parts_after};
+ghost use Rattle.index_format.specs.Stored.{stored_after, stored_in, stored_bytes, IsStored};
 
-use crate::header::header_of;
+use crate::header::{Header, header_of, says_symbols};
 use crate::lists::{alphabet_of, objects_of, rules_of};
 use crate::log::log_of;
+use crate::outline::outline_after;
 use crate::periods::periods_of;
 use crate::place::Place;
+use crate::stored::Stored;
 use std::alloc::Global;
 use track_types::{FormatFault, Kind, Parts, Section};
 
-/// The parts that the bytes hold, all of the bytes.
-#[tactic(auto, unfolding(crate::specs::Reading::parts_in))]
-fn parts_of(alloc: Global, bytes: &[u8]) -> Result<Parts, FormatFault>
-    ensures { Gives (λ parts. parts) result (parts_in bytes.now) }
+/// What the bytes of an index file store. There are at most `MAX_INDEX` bytes, and all are read.
+///
+/// `FormatFault::Flaw` is the first flaw from the front. All that has the form of an index is decoded from its own bytes
+/// alone. Memory is taken only as the bytes warrant: a list is made as long as the bytes that are left can hold, or grows as
+/// its elements are read.
+pub fn decode(alloc: Global, bytes: &[u8]) -> Result<Stored, FormatFault>
+    requires { length bytes.now ≤ MAX_INDEX }
+    ensures ok { IfOk result (λ stored. stored_in bytes.now ≡ Ok stored) }
+    ensures formed { IfOk result (λ stored. IsStored stored) }
+    ensures spelled { IfOk result (λ stored. bytes.now ≡ stored_bytes stored) }
+    ensures one { (stored : declared.Stored) → IsStored stored → bytes.now ≡ stored_bytes stored
+        → Gives (λ found. found) result (Ok stored) }
+    ensures flaw { IfErr result (IsFormatFault (stored_in bytes.now)) }
+{
+    stored_of(alloc, bytes)
+}
+
+// What the bytes store, from the first byte to the last.
+#[tactic(auto, unfolding(crate::specs::Stored::stored_in))]
+fn stored_of(alloc: Global, bytes: &[u8]) -> Result<Stored, FormatFault>
+    ensures { Gives (λ stored. stored) result (stored_in bytes.now) }
 {
     let (header, rest) = header_of(bytes)?;
-    let (objects, rest) = objects_of(alloc, header.objects, rest)?;
+    stored_after(alloc, header, rest)
+}
+
+// What all bytes after the header store.
+#[tactic(auto, unfolding(crate::specs::Stored::stored_after))]
+fn stored_after(alloc: Global, header: Header, bytes: &[u8]) -> Result<Stored, FormatFault>
+    requires { IsHeader header }
+    ensures { Gives (λ stored. stored) result (stored_after header bytes.now) }
+{
+    if says_symbols(header.frame.version) {
+        let parts = parts_after(alloc, header, bytes)?;
+        return Ok(Stored::Parts(parts));
+    }
+    let outline = outline_after(alloc, header, bytes)?;
+    Ok(Stored::Outline(outline))
+}
+
+// The parts that all bytes after the header hold, in version 1 or 2.
+#[tactic(auto, unfolding(crate::specs::Reading::parts_after))]
+fn parts_after(alloc: Global, header: Header, bytes: &[u8]) -> Result<Parts, FormatFault>
+    requires { IsHeader header }
+    ensures { Gives (λ parts. parts) result (parts_after header bytes.now) }
+{
+    let (objects, rest) = objects_of(alloc, header.objects, bytes)?;
     let (alphabet, rest) = alphabet_of(alloc, header.alphabet, rest)?;
     let (rules, rest) = rules_of(alloc, header.rules, rest)?;
     let count = header.frame.span.div_ceil(header.frame.period);
@@ -37,21 +79,4 @@ fn parts_of(alloc: Global, bytes: &[u8]) -> Result<Parts, FormatFault>
         periods,
         symbols,
     })
-}
-
-/// The parts that the bytes of an index file hold: at most `MAX_INDEX` bytes, all of which are read.
-///
-/// `FormatFault::Flaw` is the first flaw from the front. Each parts that have the form of an index
-/// are decoded from their own bytes alone. Memory is taken as the bytes pay for it: a list is made
-/// only as long as the bytes that are left can hold.
-pub fn decode(alloc: Global, bytes: &[u8]) -> Result<Parts, FormatFault>
-    requires { length bytes.now ≤ MAX_INDEX }
-    ensures ok { IfOk result (λ parts. parts_in bytes.now ≡ Ok parts) }
-    ensures shaped { IfOk result (λ parts. IsShaped parts) }
-    ensures spelled { IfOk result (λ parts. bytes.now ≡ bytes_of_parts parts) }
-    ensures one { (parts : declared.Parts) → IsShaped parts → bytes.now ≡ bytes_of_parts parts
-        → Gives (λ found. found) result (Ok parts) }
-    ensures flaw { IfErr result (IsFormatFault (parts_in bytes.now)) }
-{
-    parts_of(alloc, bytes)
 }

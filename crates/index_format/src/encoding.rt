@@ -2,9 +2,10 @@ ghost use Rattle.std.specs.Prelude.{◌≡◌, ◌<◌, ◌≤◌, ◌^◌, ◌+
 ghost use Rattle.std.specs.Int.{w64, cast_unsigned};
 ghost use Rattle.track_types.specs.Shape.{IsShaped};
 ghost use Rattle.track_types.specs.declared.limit.TheConstants.{MAX_VERSION};
-ghost use Rattle.index_format.specs.Spelling.{header_bytes, period_bytes, header_of, bytes_of_parts};
+ghost use Rattle.index_format.specs.Stored.{AreOldParts};
+ghost use Rattle.index_format.specs.Spelling.{header_bytes, period_bytes, size_bytes, header_of, sizes_of, bytes_of_parts};
 
-use crate::header::{Header, magic};
+use crate::header::{Header, magic, says_symbols};
 use crate::lengths::parts_len;
 use crate::log::put_log;
 use crate::putting::{put_bits, put_longs, put_rules, put_short, put_shorts};
@@ -38,10 +39,10 @@ fn places_of(first: i64, x: i64, y: i64, cell: u64, tick: u64) -> [u64; 5]
     ]
 }
 
-/// Appends the header.
-fn put_header(out: &mut Vec<u8>, header: &Header) -> Result<(), Memory>
-    requires { header.now.frame.version ≤ MAX_VERSION }
-    ensures { OnOk result (out.new.items ≡ out.old.items ++ header_bytes header.now) }
+/// Appends the header's numbers of four bytes.
+#[tactic(auto, unfolding(crate::specs::Spelling::size_bytes, crate::specs::Spelling::symbols_bytes))]
+fn put_sizes(out: &mut Vec<u8>, header: &Header) -> Result<(), Memory>
+    ensures { OnOk result (out.new.items ≡ out.old.items ++ size_bytes header.now.frame.version (sizes_of header.now)) }
 {
     let Header {
         frame,
@@ -50,7 +51,6 @@ fn put_header(out: &mut Vec<u8>, header: &Header) -> Result<(), Memory>
         rules,
         symbols,
     } = *header;
-    out.extend_from_slice(&magic(frame.version))?;
     put_shorts(
         out,
         &[
@@ -60,9 +60,22 @@ fn put_header(out: &mut Vec<u8>, header: &Header) -> Result<(), Memory>
             frame.span,
             alphabet,
             rules,
-            symbols,
         ],
     )?;
+    if says_symbols(frame.version) {
+        put_short(out, symbols)?;
+    }
+    Ok(())
+}
+
+/// Appends the header.
+pub fn put_header(out: &mut Vec<u8>, header: &Header) -> Result<(), Memory>
+    requires { header.now.frame.version ≤ MAX_VERSION }
+    ensures { OnOk result (out.new.items ≡ out.old.items ++ header_bytes header.now) }
+{
+    let frame = header.frame;
+    out.extend_from_slice(&magic(frame.version))?;
+    put_sizes(out, header)?;
     put_longs(
         out,
         &places_of(
@@ -90,10 +103,11 @@ fn put_period(out: &mut Vec<u8>, period: &PeriodParts) -> Result<(), Memory>
     put_shorts(out, period.lengths.as_slice())
 }
 
-/// The bytes of an index file that holds these parts, in one pass over them after one over the
-/// periods that tells how many bytes there are. Memory is taken once, for as many.
+/// The bytes of an index file of version 1 or 2 that holds these parts.
+///
+/// A first pass over the periods counts the bytes, and memory is taken once, for as many. A second pass writes them.
 pub fn encode(alloc: Global, parts: &Parts) -> Result<Vec<u8>, Memory>
-    requires { IsShaped parts.now }
+    requires { AreOldParts parts.now }
     ensures ok { IfOk result (λ bytes. bytes.items ≡ bytes_of_parts parts.now) }
 {
     let mut out = Vec::with_capacity(alloc, parts_len(parts))?;

@@ -2,8 +2,9 @@ ghost use Rattle.std.specs.Prelude.{◌≡◌, ◌≤◌, ◌+◌, ◌^◌, IfOk
 ghost use Rattle.std.specs.Int.{w32, w64};
 ghost use Rattle.track_types.specs.declared.limit.TheConstants.{MAX_RESOLUTION, MAX_SYMBOLS, MAX_VERSION};
 ghost use Rattle.index_format.specs.Answers.{Gives};
-ghost use Rattle.index_format.specs.Spelling.{magic};
-ghost use Rattle.index_format.specs.Reading.{header_flaw, is_in_range, is_span, is_first, is_near, greatest_height, version_at, field_at, signed_at, sizes_at, header_at};
+ghost use Rattle.index_format.specs.Headers.{IsHeader};
+ghost use Rattle.index_format.specs.Spelling.{magic, says_symbols};
+ghost use Rattle.index_format.specs.Reading.{header_flaw, is_in_range, is_span, is_first, is_near, greatest_height, version_at, field_at, signed_at, symbols_at, sizes_at, long_place, fields_at, header_at};
 
 use crate::fields::{long_of, short_of};
 use crate::place::Place;
@@ -18,7 +19,7 @@ const MAGIC_LEN: usize = 8;
 /// How far from 0 an instant and a coordinate may be.
 const FAR: i64 = MAX_PLACE as i64;
 
-/// The eight bytes that an index of a version begins with: `GRACT001`, `GRACT002`.
+/// The eight bytes that an index of a version begins with: `GRACT001`, `GRACT002`, `GRACT003`.
 pub fn magic(version: u32) -> [u8; 8]
     requires { version ≤ MAX_VERSION }
     ensures { result ≡ magic version }
@@ -63,6 +64,13 @@ fn header_flaw(index: usize, kind: Kind) -> Flaw
     Place::of(Section::Header, 0).flaw(index, kind)
 }
 
+/// Whether the header of a version says how many symbols the logs have. From version 3 on the blocks tell it.
+pub fn says_symbols(version: u32) -> bool
+    ensures { result ≡ says_symbols version }
+{
+    version < 3
+}
+
 /// The version that the eight bytes at the front name.
 #[tactic(auto, unfolding(crate::specs::Reading::version_at))]
 fn version_of(bytes: &[u8]) -> Result<(u32, &[u8]), FormatFault>
@@ -77,6 +85,9 @@ fn version_of(bytes: &[u8]) -> Result<(u32, &[u8]), FormatFault>
     }
     if front == magic(2).as_slice() {
         return Ok((2, rest));
+    }
+    if front == magic(3).as_slice() {
+        return Ok((3, rest));
     }
     Err(FormatFault::Flaw(header_flaw(0, Kind::Magic)))
 }
@@ -139,14 +150,14 @@ fn span_of(bytes: &[u8], objects: u32, period: u32) -> Result<(u32, &[u8]), Form
 
 /// The first instant of a span.
 #[tactic(auto, unfolding(crate::specs::Reading::signed_at))]
-fn first_of(bytes: &[u8], span: u32) -> Result<(i64, &[u8]), FormatFault>
+fn first_of(bytes: &[u8], index: usize, span: u32) -> Result<(i64, &[u8]), FormatFault>
     requires { 1 ≤ span }
-    ensures { Gives (λ x. (x.0, x.1.now)) result (signed_at 8 (is_first span) bytes.now) }
+    ensures { Gives (λ x. (x.0, x.1.now)) result (signed_at index (is_first span) bytes.now) }
 {
-    let (number, rest) = long_of(bytes, header_flaw(8, Kind::Short))?;
+    let (number, rest) = long_of(bytes, header_flaw(index, Kind::Short))?;
     let first = number.cast_signed();
     if first < -FAR || first > FAR - i64::from(span - 1) {
-        return Err(FormatFault::Flaw(header_flaw(8, Kind::Field)));
+        return Err(FormatFault::Flaw(header_flaw(index, Kind::Field)));
     }
     Ok((first, rest))
 }
@@ -164,14 +175,23 @@ fn coordinate_of(bytes: &[u8], index: usize) -> Result<(i64, &[u8]), FormatFault
     Ok((coordinate, rest))
 }
 
+/// How many symbols the logs have, where the version says so, else 0.
+#[tactic(auto, unfolding(crate::specs::Reading::symbols_at))]
+fn symbols_of(version: u32, bytes: &[u8]) -> Result<(u32, &[u8]), FormatFault>
+    ensures { Gives (λ x. (x.0, x.1.now)) result (symbols_at version bytes.now) }
+{
+    if says_symbols(version) {
+        field_of(bytes, 7, 0, MAX_SYMBOLS)
+    } else {
+        Ok((0, bytes))
+    }
+}
+
 /// The header's numbers of four bytes, in a version.
 #[tactic(auto, unfolding(crate::specs::Reading::sizes_at))]
 fn sizes_of(version: u32, bytes: &[u8]) -> Result<(Sizes, &[u8]), FormatFault>
     ensures exact { Gives (λ x. (x.0, x.1.now)) result (sizes_at version bytes.now) }
     ensures within { IfOk result (λ x. 1 ≤ x.0.span) }
-    ensures some { IfOk result (λ x. 1 ≤ x.0.period) }
-    ensures told { IfOk result (λ x. x.0.alphabet + x.0.rules ≤ 2 ^ 26) }
-    ensures few { IfOk result (λ x. x.0.symbols ≤ MAX_SYMBOLS) }
 {
     let (period, rest) = field_of(bytes, 1, 1, MAX_PERIOD)?;
     let (height, rest) = field_of(rest, 2, 1, greatest_height(version).into())?;
@@ -179,7 +199,7 @@ fn sizes_of(version: u32, bytes: &[u8]) -> Result<(Sizes, &[u8]), FormatFault>
     let (span, rest) = span_of(rest, objects, period)?;
     let (alphabet, rest) = field_of(rest, 5, 0, MAX_SYMBOLS)?;
     let (rules, rest) = field_of(rest, 6, 0, MAX_SYMBOLS)?;
-    let (symbols, rest) = field_of(rest, 7, 0, MAX_SYMBOLS)?;
+    let (symbols, rest) = symbols_of(version, rest)?;
     Ok((
         Sizes {
             period,
@@ -194,16 +214,37 @@ fn sizes_of(version: u32, bytes: &[u8]) -> Result<(Sizes, &[u8]), FormatFault>
     ))
 }
 
+/// The place of the first field of eight bytes in a version.
+fn long_place(version: u32) -> usize
+    ensures { result ≡ long_place version }
+{
+    if says_symbols(version) { 8 } else { 7 }
+}
+
 /// The header at the front, and the bytes after it.
-#[tactic(auto, unfolding(crate::specs::Reading::header_at))]
 pub fn header_of(bytes: &[u8]) -> Result<(Header, &[u8]), FormatFault>
     ensures exact { Gives (λ x. (x.0, x.1.now)) result (header_at bytes.now) }
-    ensures within { IfOk result (λ x. 1 ≤ x.0.frame.period) }
-    ensures told { IfOk result (λ x. x.0.alphabet + x.0.rules ≤ 2 ^ 26) }
-    ensures few { IfOk result (λ x. x.0.symbols ≤ MAX_SYMBOLS) }
+    ensures ranges { IfOk result (λ x. IsHeader x.0) }
+{
+    whole_header(bytes)
+}
+
+// The header at the front, and the bytes after it.
+#[tactic(auto, unfolding(crate::specs::Reading::header_at))]
+fn whole_header(bytes: &[u8]) -> Result<(Header, &[u8]), FormatFault>
+    ensures { Gives (λ x. (x.0, x.1.now)) result (header_at bytes.now) }
 {
     let (version, rest) = version_of(bytes)?;
-    let (sizes, rest) = sizes_of(version, rest)?;
+    fields_of(version, rest)
+}
+
+/// The header of a version, after the eight bytes that name it, and the bytes after it.
+#[tactic(auto, unfolding(crate::specs::Reading::fields_at))]
+fn fields_of(version: u32, bytes: &[u8]) -> Result<(Header, &[u8]), FormatFault>
+    ensures { Gives (λ x. (x.0, x.1.now)) result (fields_at version bytes.now) }
+{
+    let (sizes, rest) = sizes_of(version, bytes)?;
+    let place = long_place(version);
     let Sizes {
         period,
         height,
@@ -213,11 +254,11 @@ pub fn header_of(bytes: &[u8]) -> Result<(Header, &[u8]), FormatFault>
         rules,
         symbols,
     } = sizes;
-    let (first, rest) = first_of(rest, span)?;
-    let (x, rest) = coordinate_of(rest, 9)?;
-    let (y, rest) = coordinate_of(rest, 10)?;
-    let (cell, rest) = units_of(rest, 11)?;
-    let (tick, rest) = units_of(rest, 12)?;
+    let (first, rest) = first_of(rest, place, span)?;
+    let (x, rest) = coordinate_of(rest, place + 1)?;
+    let (y, rest) = coordinate_of(rest, place + 2)?;
+    let (cell, rest) = units_of(rest, place + 3)?;
+    let (tick, rest) = units_of(rest, place + 4)?;
     let frame = Frame {
         version,
         first,

@@ -1,5 +1,6 @@
 ghost use Rattle.std.specs.Prelude.{◌≡◌, ◌≤◌, ◌<◌, ◌^◌, length};
-ghost use Rattle.track_types.specs.Shape.{IsShaped, IsShapedPeriod};
+ghost use Rattle.track_types.specs.Shape.{IsShapedPeriod};
+ghost use Rattle.index_format.specs.Stored.{AreOldParts};
 ghost use Rattle.index_format.specs.Spelling.{bytes_for, bytes_of_parts, period_bytes};
 
 use crate::log::log_len;
@@ -8,7 +9,7 @@ use track_types::{BitList, Parts, PeriodParts};
 /// How many bytes a header has.
 const HEADER_LEN: usize = 76;
 
-/// How many bytes the bits take, of which there are fewer than 2^32.
+/// How many bytes the bits take. There are fewer than 2^32 bits.
 pub fn bits_len(bits: &BitList) -> usize
     ensures exact { result ≡ bytes_for (length bits.now) }
     ensures few { length bits.now < 2 ^ 32 }
@@ -30,9 +31,9 @@ fn period_len(period: &PeriodParts) -> usize
     bits + 4 * (offsets + 1 + perm + lengths)
 }
 
-/// How many bytes the index file of shaped parts has, in one pass over the periods.
+/// How many bytes an index file of version 1 or 2 has for these parts, counted in one pass over the periods.
 pub fn parts_len(parts: &Parts) -> usize
-    requires { IsShaped parts.now }
+    requires { AreOldParts parts.now }
     ensures { result ≡ length (bytes_of_parts parts.now) }
 {
     let mut periods = 0;

@@ -1,8 +1,11 @@
-//! The bytes of an index file, in two versions: `encode` writes the parts of an index, and `decode` reads them again
-//! or names the first flaw by its section, period, index and kind.
+//! The bytes of an index file, in the three versions of the format. `decode` reads what a file stores,
+//! or names the first flaw.
 //!
-//! Parts that are shaped have one spelling, and bytes are read if and only if they are the spelling of
-//! shaped parts. The crate stands on track_types, spiral_code, packed_bits, bit_stream, rule_store and list_laws.
+//! A file of version 1 or 2 stores the parts of an index, and `encode` writes them. A file of version
+//! 3 stores an outline, from which the parts follow, and `encode_outline` writes it. All that has the
+//! form of an index has one spelling, and bytes are read if and only if they are such a spelling.
+//!
+//! A flaw is named by its section, period, index and kind.
 #![tactic(auto)]
 
 mod decoding;
@@ -19,10 +22,12 @@ mod periods;
 mod place;
 mod putting;
 mod room;
+mod stored;
 mod unpacking;
 mod width;
 
 pub use decoding::decode;
 pub use encoding::encode;
-pub use outline::{BlockList, Outline, OutlineBlock};
+pub use outline::{BlockList, Outline, OutlineBlock, encode_outline};
+pub use stored::Stored;
 pub use track_types::FormatFault;

@@ -68,7 +68,7 @@ pub fn alphabet_of(alloc: Global, count: u32, bytes: &[u8]) -> Result<(List64, &
     Ok((List64::new(values), rest))
 }
 
-/// So many rules. One that is cut in its second number is missing as a whole.
+/// So many rules. A rule that is cut off in its second number is missing as a whole.
 #[tactic(auto, unfolding(crate::specs::Fields::rule_at))]
 pub fn rules_of(alloc: Global, count: u32, bytes: &[u8]) -> Result<(PairList, &[u8]), FormatFault>
     ensures { Gives (λ x. (x.0, x.1.now)) result (items_at rule_at count [] bytes.now) }

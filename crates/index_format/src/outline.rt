@@ -1,13 +1,27 @@
+mod anchors;
 mod ascending;
+mod block_putting;
+mod blocks;
+mod ending;
+mod entries;
 mod gaps;
+mod grid;
+mod ground;
+mod layering;
+mod layers;
+mod reading;
+mod table;
 mod told;
+mod writing;
 
+pub use reading::outline_after;
 use std::marker::Model;
 use track_types::{Cell, Frame, List32, List64, PairList};
+pub use writing::encode_outline;
 
 /// What a file of version 3 stores: nothing in it follows from the rest.
 ///
-/// It promises nothing by itself. `IsOutline` in specs/ says when it is that of an index.
+/// It promises nothing by itself. `IsOutline` in specs/ says when it is the outline of an index.
 #[derive(Debug, Drop)]
 pub struct Outline {
     /// The frame, of version 3.
@@ -25,7 +39,7 @@ pub struct Outline {
     pub symbols: List32,
 }
 
-/// A block of an outline: what is told of an object in a period.
+/// A block of an outline: what the file tells of an object in a period.
 #[derive(Clone, Copy, Debug, PartialEq, Eq)]
 pub struct OutlineBlock {
     /// The period, from 0.

@@ -3,8 +3,8 @@ ghost use Rattle.index_format.specs.Fields.{flaw_at};
 
 use track_types::{Flaw, Kind, Section};
 
-/// A section of one period. The period is 0 outside the sections of periods: what is read here tells
-/// no flaw of one block's log.
+/// A section of one period. Outside the sections of periods the period is 0. So it is for the log of a
+/// file of version 1 or 2, whose symbols are read as one list.
 #[derive(Clone, Copy)]
 pub struct Place {
     pub section: Section,

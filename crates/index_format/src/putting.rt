@@ -55,7 +55,7 @@ pub fn put_rules(out: &mut Vec<u8>, rules: &[(u32, u32)]) -> Result<(), Memory>
     Ok(())
 }
 
-/// Appends bits by words: eight bytes each, of the last word those that hold a bit.
+/// Appends bits by words. Each word takes eight bytes; the last one takes only those that hold a bit.
 pub fn put_bits(out: &mut Vec<u8>, bits: &BitList) -> Result<(), Memory>
     ensures { OnOk result (out.new.items ≡ out.old.items ++ bit_bytes bits.now) }
 {

@@ -4,7 +4,7 @@ ghost use Rattle.track_types.specs.Shape.{width_for};
 /// How many bits a symbol takes at most.
 const WIDEST: u32 = 26;
 
-/// In how many bits so many symbols, at most 2^26, can be told apart: 1 to 26.
+/// How many bits it takes to tell so many symbols apart: 1 to 26 for at most 2^26 symbols.
 pub fn width_for(symbols: u32) -> u32
     requires { symbols ≤ 2 ^ 26 }
     ensures exact { result ≡ width_for symbols }

@@ -34,8 +34,8 @@ pub fn objects_in(
     Ok(List32::new(objects))
 }
 
-/// So many values of the alphabet, ascending, each of which leads from some cell of a grid of this height to another
-/// one or the same. Memory is taken as they are read.
+/// So many values of the alphabet, ascending. Each leads from some cell of a grid of this height to a cell of the grid.
+/// Memory is taken as they are read.
 pub fn values_in(
     alloc: Global,
     height: u32,

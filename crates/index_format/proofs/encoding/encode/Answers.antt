@@ -1,10 +1,10 @@
 use Rattle.std.proofs.Common.{◌≡◌, refl, sym, take, append_assoc}
 use Rattle.std.proofs.lemmas.List.{take_all}
-use Rattle.index_format.specs.Spelling.{bytes_of_parts}
+use Rattle.index_format.specs.Spelling.{bytes_of_parts, parts_bytes}
 use Rattle.index_format.proofs.encoding.encode.Goals as goal
 
 pub returns : goal.returns
-unfolding bytes_of_parts
+unfolding bytes_of_parts parts_bytes
 returns c =
     let whole : take c.loop-period.period-index c.args.parts.now.periods ≡ c.args.parts.now.periods =
     take_all c.loop-period.period-index c.args.parts.now.periods

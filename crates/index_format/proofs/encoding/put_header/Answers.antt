@@ -2,17 +2,16 @@ use Rattle.std.proofs.Common.{◌≡◌, ℕ, List, [], ◌∷◌, ◌++◌, ref
 use Rattle.std.specs.Int.{w64, cast_unsigned}
 use Rattle.std.specs.List.{flat_map}
 use Rattle.index_format.specs.declared.header.Header.{Header}
-use Rattle.index_format.specs.Spelling.{magic, short_bytes, long_bytes, header_bytes, size_bytes, signed_bytes}
+use Rattle.index_format.specs.Spelling.{magic, long_bytes, header_bytes, fields_bytes, size_bytes, sizes_of, signed_bytes}
 use Rattle.index_format.proofs.encoding.put_header.Goals as goal
 
 -- the three pieces are the header
 pieces : (out : List ℕ) (h : Header)
-    → ((out ++ magic h.frame.version)
-    ++ flat_map short_bytes (h.frame.period ∷ h.frame.height ∷ h.objects ∷ h.frame.span ∷ h.alphabet ∷ h.rules ∷ h.symbols ∷ []))
+    → ((out ++ magic h.frame.version) ++ size_bytes h.frame.version (sizes_of h))
     ++ flat_map long_bytes (cast_unsigned w64 h.frame.first ∷ cast_unsigned w64 h.frame.base.x
     ∷ cast_unsigned w64 h.frame.base.y ∷ h.frame.cell ∷ h.frame.tick ∷ [])
     ≡ out ++ header_bytes h
-unfolding header_bytes size_bytes signed_bytes
+unfolding header_bytes fields_bytes signed_bytes
 pieces out h = simp (append_assoc, append-nil) refl
 
 pub returns : goal.returns
@@ -20,5 +19,5 @@ returns c =
     let places : c.places_of.result ≡ cast_unsigned w64 c.args.header.now.frame.first
     ∷ cast_unsigned w64 c.args.header.now.frame.base.x ∷ cast_unsigned w64 c.args.header.now.frame.base.y
     ∷ c.args.header.now.frame.cell ∷ c.args.header.now.frame.tick ∷ [] = search rules in
-    rw (c.in_ok-put_longs.ensures, places, c.in_ok-put_shorts.ensures, c.in_ok-extend_from_slice.ensures.items, c.magic.ensures)
+    rw (c.in_ok-put_longs.ensures, places, c.in_ok-put_sizes.ensures, c.in_ok-extend_from_slice.ensures.items, c.magic.ensures)
     (pieces c.args.out.now.items c.args.header.now)

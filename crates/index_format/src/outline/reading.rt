@@ -1,0 +1,46 @@
+ghost use Rattle.std.specs.Prelude.{◌≡◌};
+ghost use Rattle.index_format.specs.Answers.{Gives};
+ghost use Rattle.index_format.specs.Headers.{IsHeader};
+ghost use Rattle.index_format.specs.OutlineFile.{outline_after};
+
+use crate::header::Header;
+use crate::outline::Outline;
+use crate::outline::ascending::{objects_in, values_in};
+use crate::outline::blocks::blocks_in;
+use crate::outline::ending::ended;
+use crate::outline::layers::rules_in;
+use crate::outline::table::values_table;
+use bit_stream::BitReader;
+use std::alloc::Global;
+use track_types::FormatFault;
+
+/// The outline that all bytes after the header hold. Memory is taken as its lists are read.
+#[tactic(auto, unfolding(crate::specs::OutlineFile::outline_after))]
+pub fn outline_after(alloc: Global, header: Header, bytes: &[u8]) -> Result<Outline, FormatFault>
+    requires { IsHeader header }
+    ensures { Gives (λ outline. outline) result (outline_after header bytes.now) }
+{
+    let Header {
+        frame,
+        objects,
+        alphabet,
+        rules,
+        ..
+    } = header;
+    let mut reader = BitReader::new(bytes);
+    let symbols = alphabet + rules;
+    let numbers = objects_in(alloc, objects, &mut reader)?;
+    let values = values_in(alloc, frame.height, alphabet, &mut reader)?;
+    let mut table = values_table(alloc, frame.height, frame.period, values.as_slice())?;
+    let rules = rules_in(alloc, &mut table, alphabet, rules, &mut reader)?;
+    let (blocks, log) = blocks_in(alloc, &frame, &table, symbols, objects, &mut reader)?;
+    ended(&reader)?;
+    Ok(Outline {
+        frame,
+        objects: numbers,
+        alphabet: values,
+        rules,
+        blocks,
+        symbols: log,
+    })
+}
