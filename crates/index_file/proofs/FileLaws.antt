@@ -1,0 +1,74 @@
+-- What is read of a file is formed and spelled so, and what is formed is read again.
+use Rattle.std.proofs.Common.{◌≡◌, ℕ, List, length, Result, Ok, Err, refl, sym, ◌∙◌, inl, inr, arith}
+use Rattle.std.specs.Prelude.{IfOk}
+use Rattle.std.proofs.lemmas.Bool.{cases_lt, lt-ltb, le-ltb}
+use Rattle.track_types.specs.declared.flaw.Flaw.{Flaw}
+use Rattle.track_types.specs.declared.parts.Parts.{Parts}
+use Rattle.track_types.specs.declared.format_fault.FormatFault.{FormatFault}
+use Rattle.index_format.specs.Answers.{Gives}
+use Rattle.index_format.specs.Fields.{◌>>=◌}
+use Rattle.index_format.specs.OutlineFile.{outline_bytes}
+use Rattle.index_format.specs.Stored.{stored_in, stored_bytes, IsStored}
+use Rattle.index_format.specs.declared.stored.Stored.{Stored}
+use Rattle.index_format.specs.declared.stored.Stored.TheVariants as stored
+use Rattle.index_format.proofs.BitLemmas.{IsBytes}
+use Rattle.index_format.proofs.SettledLaws.{in_order-settled, settled-in_order}
+use Rattle.index_format.proofs.StoredLaws.{stored_in-takes, stored_in-again}
+use Rattle.outline_parts.specs.OutlineOf.{outline_of}
+use Rattle.outline_parts.specs.PartsOfOutline.{parts_of_outline}
+use Rattle.outline_parts.proofs.AgainLemmas.{outline_of-parts}
+use Rattle.outline_parts.proofs.OutlineOfLemmas.{IsOutline-outline_of}
+use Rattle.outline_parts.proofs.PartsAgainLemmas.{parts_of_outline-outline_of}
+use Rattle.outline_parts.proofs.ValidLemmas.{IsValid-outline}
+use Rattle.index_file.specs.File.{file_bytes, parts_in, parts_stored, IsFormed, IsNewest}
+
+-- what is stored gives parts that are formed, and the bytes are theirs
+parts_stored-formed : (held : Stored) → IsStored held → IsFormed (parts_stored held) × (stored_bytes held ≡ file_bytes (parts_stored held))
+unfolding file_bytes parts_of_outline
+parts_stored-formed (stored.Parts parts) old =
+    let says = lt-ltb parts.frame.version 3 (omega (arith, old.old)) in
+    (record { shaped = old.shaped; ordered = λ silent. absurd (let e = sym says ∙ silent in cc) }, rw says refl)
+parts_stored-formed (stored.Outline outline) is =
+    let silent = le-ltb outline.frame.version 3 (omega (arith, is.version)) in
+    let valid = IsValid-outline outline is in (
+      record { shaped = valid.shaped; ordered = λ silent. record { valid = valid; order = in_order-settled (length outline.alphabet) outline.rules is.rules } },
+      rw (silent, outline_of-parts outline is) refl,
+    )
+
+-- parts that were read are formed, and the bytes are theirs
+pub parts_in-takes : (bytes : List ℕ) → IsBytes bytes → IfOk (parts_in bytes) (λ parts. IsFormed parts × (bytes ≡ file_bytes parts))
+unfolding parts_in
+parts_in-takes bytes fits = of_stored (stored_in bytes) (stored_in-takes bytes fits)
+  where
+    of_stored : (read : Result Stored Flaw) → IfOk read (λ held. IsStored held × (bytes ≡ stored_bytes held))
+        → IfOk (read >>= (λ held. Ok (parts_stored held))) (λ parts. IsFormed parts × (bytes ≡ file_bytes parts))
+    of_stored (Ok held) (is, spelled) = let formed = parts_stored-formed held is in (formed.0, spelled ∙ formed.1)
+    of_stored (Err flaw) given = tt
+
+-- parts that are formed are read from their bytes
+pub parts_in-again : (parts : Parts) → IsFormed parts → parts_in (file_bytes parts) ≡ Ok parts
+unfolding parts_in file_bytes
+parts_in-again parts formed = elim (cases_lt parts.frame.version 3) [
+  | inl old ↦ let says = lt-ltb parts.frame.version 3 old in
+      rw (says, stored_in-again (stored.Parts parts) (record { shaped = formed.shaped; old = omega (arith, old) })) refl
+  | inr third ↦ let silent = le-ltb parts.frame.version 3 third in
+      let ordered = formed.ordered silent in
+      let newest : parts.frame.version ≡ 3 = omega (arith, third, formed.shaped.header.newest) in
+      let order = settled-in_order (length parts.alphabet) parts.rules ordered.order in
+      rw (silent, stored_in-again (stored.Outline (outline_of parts)) (IsOutline-outline_of parts ordered.valid newest order), parts_of_outline-outline_of parts ordered.valid newest order) refl
+]
+
+-- what was answered to bytes is as reading says
+pub given_takes : (bytes : List ℕ) (answer : Result Parts FormatFault) → IsBytes bytes → Gives (λ parts. parts) answer (parts_in bytes)
+    → IfOk answer (λ parts. IsFormed parts × (bytes ≡ file_bytes parts))
+given_takes bytes (Ok parts) fits given = of_ok (parts_in bytes) (parts_in-takes bytes fits) given
+  where
+    of_ok : (read : Result Parts Flaw) → IfOk read (λ parts. IsFormed parts × (bytes ≡ file_bytes parts)) → read ≡ Ok parts
+        → IsFormed parts × (bytes ≡ file_bytes parts)
+    of_ok read holds is = rw is at holds
+given_takes bytes (Err fault) fits given = tt
+
+-- the file of parts in the newest version is that of their outline
+pub file_bytes-newest : (parts : Parts) → IsNewest parts → file_bytes parts ≡ outline_bytes (outline_of parts)
+unfolding file_bytes
+file_bytes-newest parts is = rw (le-ltb parts.frame.version 3 (omega (arith, is.newest))) refl

@@ -1,0 +1,26 @@
+pub mod KeyBitLemmas
+pub mod PairOrderLemmas
+pub mod CodeOrderLemmas
+pub mod LeafMarkLemmas
+pub mod LoggedLemmas
+pub mod PeriodLemmas
+pub mod OutlineLemmas
+pub mod SymbolLemmas
+pub mod BlockLemmas
+pub mod AgainLemmas
+pub mod LogLemmas
+pub mod ValidLemmas
+pub mod PlacedLemmas
+pub mod SortedLemmas
+pub mod RankLemmas
+pub mod PeriodAgainLemmas
+pub mod PieceLemmas
+pub mod GridLemmas
+pub mod ToldLemmas
+pub mod OutlineOfLemmas
+pub mod PartsAgainLemmas
+pub mod DescentLemmas
+pub mod ScatterLemmas
+pub mod ObjectLemmas
+pub mod ByObjectLemmas
+mod Examples

@@ -1,0 +1,7 @@
+-- In reading order.
+pub mod PartsOfOutline
+pub mod OutlineOf
+pub mod Placed
+pub mod Level
+pub mod Marks
+pub mod Told
