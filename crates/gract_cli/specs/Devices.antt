@@ -14,18 +14,18 @@ use Rattle.gract_top.specs.declared.outcome.Outcome.{Outcome}
 use Rattle.gract_top.specs.declared.outcome.Outcome.TheVariants as outcome
 use Rattle.gract_top.specs.declared.request.Request.TheVariants as request
 
--- The files on disk, standard input and standard output, as their adapters tell them.
+-- The files on disk, standard input and standard output, as their adapters' histories have them.
 pub record Devices : Type 0 where
   pub files : DiskView
   pub source : ReaderView
   pub sink : WriterView
 
--- the three, put together
+-- files, standard input and standard output, put together
 abbrev pub devices : DiskView → ReaderView → WriterView → Devices
 devices files source sink = record { files = files; source = source; sink = sink }
 
--- what `gract` says its end by, of these devices after so many reads of an index: what was loaded and saved, what came and
--- what was said; what is still to come and what files hold are not told, and a pass gives what it is handed
+-- What `gract` says its end by, of these devices after so many reads of an index: what was loaded and saved, what came
+-- and what was said. What is still to come and what files hold are not told, and a pass gives what it is handed.
 abbrev pub outside : Devices → ℕ → OutsideView
 outside here steps =
     record {
@@ -59,7 +59,7 @@ pub record Runs (words : List (Bor (List ℕ))) (result : Outcome) (before now :
   pub listen_untouched : result ≢ outcome.ListenFailed → now.source.counts.faults ≡ before.source.counts.faults
   pub say_cause : result ≡ outcome.SayFailed → Rose before.sink.faults now.sink.faults
   pub say_untouched : result ≢ outcome.SayFailed → now.sink.faults ≡ before.sink.faults
-  -- no byte of questions beyond their limit and one is asked for
+  -- of the questions at most one byte beyond their limit is asked for
   pub within : now.source.counts.taken ≤ before.source.counts.taken + (limit_of limit.Questions + 1)
 
 -- A text was said, or a front of it where saying failed.

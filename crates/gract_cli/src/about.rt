@@ -62,8 +62,7 @@ Where a limit is passed
   blocks     take a greater PERIOD or TICK
   symbols    take a greater TICK, or cut the file into parts; a smaller PERIOD
              helps where objects are often away
-  index      the file is none that build has saved; of upgrade, index parts of
-             the rows apart
+  index      the file is none that build has saved
   questions  ask in several runs
   base       an index is none that build has saved
 

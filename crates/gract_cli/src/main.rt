@@ -38,7 +38,7 @@ fn main(rt: HostRuntime) -> ExitCode {
         Err(outcome) => outcome,
     };
     if outcome != Outcome::Done {
-        // Where standard error is closed the status alone tells the outcome.
+        // Where standard error is closed, the status alone says the outcome.
         let _ = eprintln!(rt; "{}", outcome.text());
     }
     ExitCode::from(outcome.status())

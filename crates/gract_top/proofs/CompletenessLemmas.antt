@@ -26,7 +26,7 @@ use Rattle.gract_top.specs.Refusal.{IsIndexRefused, IsRefused, file_refusal, is_
 use Rattle.gract_top.proofs.LoadingLemmas.{length_refusal-short}
 use Rattle.gract_top.specs.Sampling.{EndsSample, Speech, SumsNothing, SumsSample, Told, sample_chart, sample_refusal}
 use Rattle.gract_top.specs.Summary.{summary_of}
-use Rattle.gract_top.specs.Upgrading.{NotUpgraded, upgrade_bytes}
+use Rattle.gract_top.specs.Upgrading.{NotUpgraded}
 use Rattle.gract_top.proofs.UpgradingLemmas.{IsFile-one}
 use Rattle.chart_parts.specs.PartsOf.{parts_of}
 use Rattle.snapshots.specs.Parts.{chart_in}
@@ -286,57 +286,33 @@ module _ (index name : List ℕ) (before now : FilesState) (steps_before steps_n
 
     -- a call of `upgrade`
     pub upgrade-good : (result : Outcome) → EndsUpgrade result index name before now steps_before steps_now →
-        length (upgrade_bytes ready.parts) ≤ limit_of limit.Index → (result ≢ outcome.SaveFailed) →
+        (result ≢ outcome.SaveFailed) →
         (Rose before.load_faults now.load_faults → ⊥) → IsGood result
-    upgrade-good outcome.Done ends short save calm = inl refl
-    upgrade-good outcome.Memory ends short save calm = inr refl
-    upgrade-good outcome.SaveFailed ends short save calm = absurd (save refl)
-    upgrade-good outcome.LoadFailed ends short save calm = elim (ends.loading.load_failed refl) [
+    upgrade-good outcome.Done ends save calm = inl refl
+    upgrade-good outcome.Memory ends save calm = inr refl
+    upgrade-good outcome.SaveFailed ends save calm = absurd (save refl)
+    upgrade-good outcome.LoadFailed ends save calm = elim (ends.loading.load_failed refl) [
       | inl rose ↦ absurd (calm rose)
       | inr missing ↦ absurd (file_named-found before.map ready.files index ready.bytes ready.told ready.holds missing)
     ]
-    upgrade-good (outcome.Flaw flaw) ends short save calm = upgrade-other _ ends (λ refused. refused)
+    upgrade-good (outcome.Flaw flaw) ends save calm = upgrade-other _ ends (λ refused. refused)
         (λ flawed. let both : Some flaw ≡ None = sym flawed ∙ first_flaw-file ready.bytes ready.parts ready.file in cc)
         (λ newest none. none)
-    upgrade-good (outcome.Limit limit.Index size) ends short save calm = upgrade-other _ ends (λ refused. refused)
-        (λ (newest, upgrade, counted, above).
-        let same : upgrade.parts ≡ ready.parts =
-        IsFile-one ready.bytes upgrade.parts ready.parts upgrade.file ready.file in
-        let lengths : length newest ≡ length (upgrade_bytes ready.parts) =
-        ap length (upgrade.spelled ∙ ap upgrade_bytes same) in
-        omega (arith, lengths, counted, above, short))
-        (λ newest none. none)
-    upgrade-good (outcome.Words place) ends short save calm =
+    upgrade-good (outcome.Words place) ends save calm =
         upgrade-other _ ends (λ refused. refused) (λ none. none) (λ newest none. none)
-    upgrade-good (outcome.Limit limit.Csv size) ends short save calm =
+    upgrade-good (outcome.Limit kind size) ends save calm =
         upgrade-other _ ends (λ refused. refused) (λ none. none) (λ newest none. none)
-    upgrade-good (outcome.Limit limit.Base size) ends short save calm =
+    upgrade-good (outcome.Settings setting left right) ends save calm =
         upgrade-other _ ends (λ refused. refused) (λ none. none) (λ newest none. none)
-    upgrade-good (outcome.Limit limit.Rows size) ends short save calm =
+    upgrade-good (outcome.Common object) ends save calm =
         upgrade-other _ ends (λ refused. refused) (λ none. none) (λ newest none. none)
-    upgrade-good (outcome.Limit limit.Objects size) ends short save calm =
+    upgrade-good (outcome.Row nth field fault) ends save calm =
         upgrade-other _ ends (λ refused. refused) (λ none. none) (λ newest none. none)
-    upgrade-good (outcome.Limit limit.Span size) ends short save calm =
+    upgrade-good outcome.Empty ends save calm =
         upgrade-other _ ends (λ refused. refused) (λ none. none) (λ newest none. none)
-    upgrade-good (outcome.Limit limit.Extent size) ends short save calm =
+    upgrade-good outcome.ListenFailed ends save calm =
         upgrade-other _ ends (λ refused. refused) (λ none. none) (λ newest none. none)
-    upgrade-good (outcome.Limit limit.Blocks size) ends short save calm =
-        upgrade-other _ ends (λ refused. refused) (λ none. none) (λ newest none. none)
-    upgrade-good (outcome.Limit limit.Symbols size) ends short save calm =
-        upgrade-other _ ends (λ refused. refused) (λ none. none) (λ newest none. none)
-    upgrade-good (outcome.Limit limit.Questions size) ends short save calm =
-        upgrade-other _ ends (λ refused. refused) (λ none. none) (λ newest none. none)
-    upgrade-good (outcome.Settings setting left right) ends short save calm =
-        upgrade-other _ ends (λ refused. refused) (λ none. none) (λ newest none. none)
-    upgrade-good (outcome.Common object) ends short save calm =
-        upgrade-other _ ends (λ refused. refused) (λ none. none) (λ newest none. none)
-    upgrade-good (outcome.Row nth field fault) ends short save calm =
-        upgrade-other _ ends (λ refused. refused) (λ none. none) (λ newest none. none)
-    upgrade-good outcome.Empty ends short save calm =
-        upgrade-other _ ends (λ refused. refused) (λ none. none) (λ newest none. none)
-    upgrade-good outcome.ListenFailed ends short save calm =
-        upgrade-other _ ends (λ refused. refused) (λ none. none) (λ newest none. none)
-    upgrade-good outcome.SayFailed ends short save calm =
+    upgrade-good outcome.SayFailed ends save calm =
         upgrade-other _ ends (λ refused. refused) (λ none. none) (λ newest none. none)
 
 module _ (result : Outcome) (settings : SampleSettings) (unsaid : Type 0) (given : List ℕ → List ℕ) (before now : Speech)

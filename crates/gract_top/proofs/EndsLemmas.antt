@@ -75,7 +75,7 @@ module _ (result : Outcome) (csv : List ℕ) (settings : Settings) (untouched : 
         ended = subst Opens given ended;
         plain = λ plain.
             let same : passed ≡ written chart = given ∙ plain (written chart) (omega (arith, short, lengths)) in
-            subst Over same (decides (parts_of chart) (record { valid = file.valid; spelled = same }));
+            subst Over same (decides (parts_of chart) (record { valid = file.valid; formed = file.formed; spelled = same }));
       }
 
   -- the call ended after the file was accepted

@@ -18,7 +18,7 @@ use Rattle.row_reader.specs.declared.fault.RowsFault.TheVariants as rows
 use Rattle.gridding.specs.ChartOf.{chart_rows, last_of_each_instant}
 use Rattle.gridding.specs.GridLimit.{grid_limit}
 use Rattle.chart_parts.specs.PartsOf.{parts_of}
-use Rattle.index_format.specs.Spelling.{bytes_of_parts}
+use Rattle.index_file.specs.File.{file_bytes}
 use Rattle.path_union.specs.Union.{rows_of_tail}
 use Rattle.index_merge.specs.Extension.{extension_cost, extension_fault, IsAsBuilt}
 use Rattle.gract_top.specs.Beginning.{Progress, SavesNothing}
@@ -96,7 +96,7 @@ module _ (map : Option FileMap) (loads : List Load) (taken : ℕ) (csv : List �
   pub extended-as_built : (parts : Parts) (tail : Option ChartView) → IsTail map loads taken csv (settings_in parts) tail →
       IsAsBuilt parts (rows_of_tail tail) → IsExtendedAsBuilt parts tail map loads taken csv
   extended-as_built parts tail is built = λ raws bytes from came.
-      ap (λ (chart : ChartView). bytes_of_parts (parts_of chart))
+      ap (λ (chart : ChartView). file_bytes (parts_of chart))
       (built.from_raw raws (raws_of bytes) from (tail-rows (settings_in parts) tail bytes is came))
 
 module _ (result : Outcome) (index csv name : List ℕ) (before now : Progress) where

@@ -3,6 +3,7 @@ mod ReceivingLemmas
 pub mod OutcomeLemmas
 pub mod EndsLemmas
 pub mod UpgradingLemmas
+mod WritingLemmas
 pub mod SummaryLemmas
 pub mod SamplingLemmas
 pub mod CompletenessLemmas

@@ -4,7 +4,7 @@ use Rattle.host_ports.specs.FilesState.{FilesState}
 use Rattle.host_ports.specs.Faults.{Rose}
 use Rattle.track_types.specs.declared.parts.Parts.{Parts}
 use Rattle.chart_parts.specs.PartsOf.{parts_of}
-use Rattle.index_format.specs.Spelling.{bytes_of_parts}
+use Rattle.index_file.specs.File.{file_bytes}
 use Rattle.snapshots.specs.Parts.{chart_in}
 use Rattle.track_types.specs.Chart.{ChartView}
 use Rattle.index_merge.specs.Cost.{union_cost}
@@ -40,7 +40,7 @@ module _ (result : Outcome) (first second : Parts) (left right name : List ℕ) 
           })
         ];
         as_built = λ raws more from others.
-            ap (λ (chart : ChartView). bytes_of_parts (parts_of chart)) (built.from_raw raws more from others);
+            ap (λ (chart : ChartView). file_bytes (parts_of chart)) (built.from_raw raws more from others);
         cost = cost;
         loads = loads;
         begins = begins;

@@ -7,7 +7,7 @@ use Rattle.track_types.specs.declared.limit.TheConstants.{MAX_INDEX}
 use Rattle.host_ports.specs.FilesState.{FilesState}
 use Rattle.track_types.specs.declared.parts.Parts.{Parts}
 use Rattle.chart_parts.specs.PartsOf.{parts_of}
-use Rattle.index_format.specs.Spelling.{bytes_of_parts}
+use Rattle.index_file.specs.File.{file_bytes}
 use Rattle.snapshots.specs.IndexCost.{open_cost}
 use Rattle.snapshots.specs.Parts.{chart_in}
 use Rattle.track_index.specs.Facts.{facts_of}
@@ -49,7 +49,7 @@ module _ (result : Outcome) (settings : SampleSettings) (unsaid : Type 0) (befor
       SumsSample result settings unsaid given before now
   SumsSample-passed given bytes passed accepted file short is ended decides =
       let parts = parts_of (sample_chart settings) in
-      let written = bytes_of_parts parts in
+      let written = file_bytes parts in
       let lengths : length bytes ≡ length written = ap length file.spelled in
       let gave : passed ≡ given written = is ∙ ap given file.spelled in
       let Ends : List ℕ → Type 0 = λ these. EndsSummed result these settings.instants unsaid before now in
@@ -59,7 +59,7 @@ module _ (result : Outcome) (settings : SampleSettings) (unsaid : Type 0) (befor
         ended = subst Ends gave ended;
         plain = λ plain.
             let same : passed ≡ written = gave ∙ plain written (omega (arith, short, lengths)) in
-            subst Over same (decides parts (record { valid = file.valid; spelled = same }));
+            subst Over same (decides parts (record { valid = file.valid; formed = file.formed; spelled = same }));
       }
 
 -- what an outcome tells of a summary that was said, or why it was not

@@ -1,4 +1,4 @@
--- What a call tells of the files that it begins, one after another.
+-- What an outcome says of the files that a call begins, one after another.
 use Rattle.std.specs.Prelude.{◌≡◌, ℕ, ◌+◌, ◌≤◌, ⊤, List, ◌⊎◌, Some}
 use Rattle.host_ports.specs.FileMap.{IsMissing}
 use Rattle.host_ports.specs.FilesState.{FilesState}
@@ -21,18 +21,18 @@ pub record SavesNothing (before now : FilesState) : Type 0 where
   pub saves : now.saves ≡ before.saves
   pub saved : now.saved ≡ before.saved
 
--- What a call tells of the file that it begins, whose length has a limit: no other file is begun.
+-- What an outcome says of the file that a call begins, whose length has a limit: no other file is begun.
 pub record BeginsOne (result : Outcome) (name : List ℕ) (kind : LimitKind) (before now : FilesState) : Type 0 where
   -- the file was not loaded: its device failed, or there is none
   pub load_failed : result ≡ outcome.LoadFailed →
       Rose before.load_faults now.load_faults ⊎ IsMissing before.map name
   pub missing : IsMissing before.map name → result ≡ outcome.LoadFailed
-  -- no byte of the file beyond its limit and one is asked for
+  -- at most one byte of the file beyond its limit is asked for
   pub taken : now.taken ≤ limit_of kind + 1
   pub begins : now.begins ≡ one_more before.begins
   pub loads : BeginsFile name before.loads now.loads
 
--- The same, where the length of that file is all that has this limit.
+-- What an outcome says of the one file that a call begins, where the length of that file is all that has this limit.
 pub record EndsLoading (result : Outcome) (name : List ℕ) (kind : LimitKind) (before now : FilesState) : Type 0 where
   pub one : BeginsOne result name kind before now
   pub too_long : (value : ℕ) → result ≡ outcome.Limit kind value →
@@ -54,7 +54,7 @@ pub record Progress : Type 0 where
   pub files : FilesState
   pub steps : ℕ
 
--- what is known, put together
+-- what is known of the files, and the reads, put together
 abbrev pub progress : FilesState → ℕ → Progress
 progress files steps = record { files = files; steps = steps }
 
@@ -86,8 +86,8 @@ pub record OpensFile (name : List ℕ) (parts : Parts) (before now : Progress) :
   pub load_faults : now.files.load_faults ≡ before.files.load_faults
   pub save_faults : now.files.save_faults ≡ before.files.save_faults
 
--- What a call tells of an index file that it begins before it begins another or saves anything: it ended there, or it
--- opened the file, and ended so from where it stood then.
+-- What an outcome says of an index file that a call begins before it begins another or saves anything: it ended there,
+-- or it opened the file, and ended so from where it stood then.
 abbrev pub BeginsFirst : Outcome → List ℕ → Progress → Progress → (Parts → Progress → Type 0) → Type 0
 BeginsFirst result name before now EndsBehind =
     StopsAtIndex result name before now

@@ -1,4 +1,5 @@
--- When a call does all that was asked of it, unless it is out of memory.
+-- When a call does all that was asked of it, unless it is out of memory. This is said where files and source tell what they
+-- hold, as those in memory do.
 use Rattle.std.specs.Prelude.{◌≡◌, ℕ, ◌≤◌, List, length, Option, Some, None, ◌⊎◌}
 use Rattle.host_ports.specs.FileMap.{FileMap, file_named}
 use Rattle.host_ports.specs.FilesState.{IsPlain}
@@ -14,7 +15,6 @@ use Rattle.gract_top.specs.Ends.{OutsideView}
 use Rattle.gract_top.specs.Refusal.{file_refusal}
 use Rattle.gract_top.specs.Sampling.{sample_refusal}
 use Rattle.gract_top.specs.TailOpening.{settings_in}
-use Rattle.gract_top.specs.Upgrading.{upgrade_bytes}
 use Rattle.index_merge.specs.Extension.{extension_fault}
 use Rattle.index_merge.specs.MergeFault.{merge_fault}
 use Rattle.gridding.specs.ChartOf.{chart_rows}
@@ -50,15 +50,15 @@ pub record HasIndex (map : Option FileMap) (index : List ℕ) : Type 0 where
   pub parts : Parts
   pub file : IsFile bytes parts
 
--- The bytes of questions are told, and are not too many.
+-- The source tells the bytes of the questions, and these are not too many.
 pub record HasQuestions (rest : Option (List ℕ)) : Type 0 where
   pub bytes : List ℕ
   pub told : rest ≡ Some bytes
   pub short : length bytes ≤ limit_of limit.Questions
 
--- What a request needs is there: a form, the files that it loads, questions that are not too many where it asks any, files
--- that give what they are handed where it opens what it wrote, an upgrade that is not too long where it saves one, two
--- indexes that have a union where it merges them, and an index that has a chart with its tail where it makes them one.
+-- What a request needs is there: a form, and the files that it loads. Where it asks questions, they are not too many.
+-- Where it opens what it wrote, files give what they are handed. Where it merges, both indexes have a union. Where it
+-- extends, the index has a chart with its tail.
 abbrev pub IsReady : Request → OutsideView → Type 0
 IsReady (request.Once csv settings) before =
     HasAccepted before.files.map csv.now settings × HasQuestions before.talk.rest × IsPlain before.given
@@ -68,8 +68,7 @@ IsReady (request.AskTail index tail) before =
     (ready : HasIndex before.files.map index.now)
     × (HasTail before.files.map tail.now (settings_in ready.parts) × HasQuestions before.talk.rest)
 IsReady (request.Sample settings) before = (sample_refusal settings ≡ None) × IsPlain before.given
-IsReady (request.Upgrade old new) before =
-    (ready : HasIndex before.files.map old.now) × (length (upgrade_bytes ready.parts) ≤ limit_of limit.Index)
+IsReady (request.Upgrade old new) before = HasIndex before.files.map old.now
 IsReady (request.Merge left right out) before =
     (first : HasIndex before.files.map left.now) × (second : HasIndex before.files.map right.now)
     × (merge_fault first.parts second.parts ≡ None)

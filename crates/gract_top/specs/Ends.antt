@@ -12,7 +12,7 @@ use Rattle.track_types.specs.Limits.{limit_of}
 use Rattle.track_types.specs.declared.limit.LimitKind.TheVariants as limit
 use Rattle.track_types.specs.declared.parts.Parts.{Parts}
 use Rattle.chart_parts.specs.PartsOf.{parts_of}
-use Rattle.index_format.specs.Spelling.{bytes_of_parts}
+use Rattle.index_file.specs.File.{file_bytes}
 use Rattle.track_index.specs.Opening.{bytes_cost}
 use Rattle.index_merge.specs.Cost.{union_cost}
 use Rattle.index_merge.specs.Extension.{extension_cost, extension_fault}
@@ -47,7 +47,7 @@ moment_of f s k files source sink steps =
 
 -- the bytes that the index of a chart is written as
 abbrev pub written : ChartView → List ℕ
-written chart = bytes_of_parts (parts_of chart)
+written chart = file_bytes (parts_of chart)
 
 -- Source and sink are as they were, and nothing was read of an index.
 abbrev pub StaysSilent : Type 0 → OutsideView → OutsideView → Type 0

@@ -13,7 +13,7 @@ use Rattle.gridding.specs.declared.fault.GridFault.{GridFault}
 use Rattle.gridding.specs.declared.fault.GridFault.TheVariants as fault
 use Rattle.snapshots.specs.Parts.{chart_in}
 use Rattle.chart_parts.specs.PartsOf.{parts_of}
-use Rattle.index_format.specs.Spelling.{bytes_of_parts}
+use Rattle.index_file.specs.File.{file_bytes}
 use Rattle.path_union.specs.Union.{rows_of_tail}
 use Rattle.index_merge.specs.Extension.{extension_fault, extension_of}
 use Rattle.gract_top.specs.Loading.{FileCame}
@@ -29,7 +29,7 @@ extension_outcome fault.Memory = outcome.Memory
 
 -- the bytes of the index file of what an index holds and of a tail
 abbrev pub extension_bytes : Parts → Option ChartView → List ℕ
-extension_bytes parts tail = bytes_of_parts (parts_of (extension_of (chart_in parts) (rows_of_tail tail)))
+extension_bytes parts tail = file_bytes (parts_of (extension_of (chart_in parts) (rows_of_tail tail)))
 
 -- Why an index and a tail were not made one: they have no chart, for that fault, or out of memory.
 abbrev pub NotExtended : Outcome → Parts → Option ChartView → Type 0

@@ -25,12 +25,12 @@ abbrev pub older_loads : List Load → List Load
 older_loads [] = []
 older_loads (load ∷ older) = older
 
--- the file of that name, of which these bytes came; they are all of it unless they are more than the limit
+-- the file of that name after these bytes of it came; they are all of it unless they are more than the limit
 abbrev pub load_of : List ℕ → ℕ → List ℕ → Load
 load_of name limit bytes =
     record { name = name; begun = true; bytes = bytes; ended = not (nat_lt limit (length bytes)) }
 
--- The newest load is that of this file, and these bytes of it came, and no others: those of the file where it is told. They
+-- The newest load is that of this file, and these bytes of it came, and no others: those of the file where files are told. They
 -- are as many as were taken.
 pub record FileCame (map : Option FileMap) (loads : List Load) (taken : ℕ) (name : List ℕ) (limit : ℕ) (bytes : List ℕ) :
     Type 0 where
@@ -55,7 +55,7 @@ pub record IsReceived (kind : LimitKind) (map : Option FileMap) (loads : List Lo
   pub loaded : IsLoaded kind map loads taken name bytes
   pub received : has_taken bytes
 
--- What loading a file tells of the files: it was begun and no other, and nothing was saved.
+-- What loading a file says of the files: it was begun and no other, and nothing was saved.
 pub record LoadsOnly {F : Type 0} (f : OfFiles F) (before now : F) (name : List ℕ) (failed : Type 0) : Type 0 where
   -- it failed where the device did, or where there is no such file
   pub load_failed : failed → Rose (f.load_faults before) (f.load_faults now) ⊎ IsMissing (f.map before) name

@@ -4,7 +4,7 @@ use Rattle.track_types.specs.declared.parts.Parts.{Parts}
 use Rattle.track_types.specs.declared.raw_row.RawRow.{RawRow}
 use Rattle.gridding.specs.ChartOf.{chart_of, chart_rows}
 use Rattle.chart_parts.specs.PartsOf.{parts_of}
-use Rattle.index_format.specs.Spelling.{bytes_of_parts}
+use Rattle.index_file.specs.File.{file_bytes}
 use Rattle.index_merge.specs.Union.{union_of}
 use Rattle.index_merge.specs.MergeFault.{merge_fault}
 use Rattle.index_merge.specs.declared.fault.MergeFault.{MergeFault}
@@ -23,7 +23,7 @@ merge_outcome fault.Memory = outcome.Memory
 
 -- the bytes of the index file of the union of what two indexes hold
 abbrev pub union_bytes : Parts → Parts → List ℕ
-union_bytes left right = bytes_of_parts (parts_of (union_of (chart_in left) (chart_in right)))
+union_bytes left right = file_bytes (parts_of (union_of (chart_in left) (chart_in right)))
 
 -- Why two indexes were not merged: they have no union, for that fault, or out of memory.
 abbrev pub NotMerged : Outcome → Parts → Parts → Type 0
@@ -34,7 +34,7 @@ NotMerged result left right =
 -- the bytes of the index of the chart of raw rows, by the settings of an index of these parts
 abbrev pub built_bytes : Parts → List RawRow → List ℕ
 built_bytes parts raws =
-    bytes_of_parts (parts_of (chart_of raws parts.frame.cell parts.frame.tick parts.frame.period))
+    file_bytes (parts_of (chart_of raws parts.frame.cell parts.frame.tick parts.frame.period))
 
 -- Whatever raw rows two indexes were built from, by one CELL and one TICK: together they are saved as what is built from
 -- all of these.

@@ -1,4 +1,4 @@
--- What an outcome tells of what came, what was said and what was read.
+-- What an outcome says of what came, what was said and what was read.
 use Rattle.std.specs.Prelude.{◌≡◌, ℕ, ◌+◌, ◌≤◌, Bool, List, Option, Some, ◌⊎◌}
 use Rattle.host_ports.specs.declared.sink.Sink.{Ghosts as OfSink}
 use Rattle.host_ports.specs.declared.source.Source.{Ghosts as OfSource}
@@ -54,7 +54,7 @@ Answered outcome.Memory untouched meaning before now =
     (untouched × (now.steps ≡ before.steps)) ⊎ AnswersBefore meaning before now
 Answered other untouched meaning before now = ⊥
 
--- A source's lines were answered from an empty desk, as far as the outcome tells.
+-- A source's lines were answered from an empty desk, as far as the outcome says.
 pub record AnswersSource (result : Outcome) (untouched : Type 0) (meaning : Meaning) (before now : Talk) : Type 0 where
   pub desk : DeskView
   pub answered : Answered result untouched meaning (run_at before empty_desk) (run_at now desk)

@@ -29,7 +29,7 @@ before_field fault.Count = codes " has "
 before_field fault.NotNumber = codes " field "
 before_field fault.Range = codes " field "
 
--- the words after that number
+-- what is wrong with a record: the words after that number
 abbrev pub behind_field : RowFault → List ℕ
 behind_field fault.Count = codes " fields"
 behind_field fault.NotNumber = codes " is not a number"

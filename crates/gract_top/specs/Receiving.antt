@@ -17,7 +17,7 @@ pub record HasReceived (cell tick : ℕ) (bytes : List ℕ) (receiver : RowsRece
   pub taken : HasTaken bytes raws receiver.parser
   pub gridded : HasGridded cell tick raws receiver.rows
 
--- the same by whichever CELL and TICK it began
+-- a receiver has taken these bytes since it was the first one, by whichever CELL and TICK that began
 abbrev pub HasReceivedSince : RowsReceiver → List ℕ → RowsReceiver → Type 0
 HasReceivedSince start bytes receiver =
     (cell : ℕ) × (tick : ℕ) × HasGridded cell tick [] start.rows × HasReceived cell tick bytes receiver

@@ -10,7 +10,7 @@ use Rattle.gridding.specs.ChartOf.{chart_of}
 use Rattle.gridding.specs.GridLimit.{grid_limit}
 use Rattle.sample_rows.specs.Sample.{sample_rows}
 use Rattle.chart_parts.specs.PartsOf.{parts_of}
-use Rattle.index_format.specs.Spelling.{bytes_of_parts}
+use Rattle.index_file.specs.File.{file_bytes}
 use Rattle.snapshots.specs.IndexCost.{open_cost}
 use Rattle.snapshots.specs.Parts.{chart_in}
 use Rattle.track_index.specs.Facts.{facts_of}
@@ -39,7 +39,7 @@ pub record Speech : Type 0 where
   pub said : List ℕ
   pub steps : ℕ
 
--- what is known, put together
+-- what is known of a sink, and the reads, put together
 abbrev pub speech : List ℕ → ℕ → Speech
 speech said steps = record { said = said; steps = steps }
 
@@ -50,7 +50,7 @@ pub record SaysFront (before now : List ℕ) (text : List ℕ) : Type 0 where
   pub split : text ≡ front ++ unsaid
   pub said : Gains before now front
 
--- What an outcome tells of a text: all of it was said, or a front of it.
+-- What an outcome says of a text: all of it was said, or a front of it.
 abbrev pub Told : Outcome → List ℕ → List ℕ → List ℕ → Type 0
 Told outcome.Done text before now = Gains before now text
 Told outcome.SayFailed text before now = SaysFront before now text
@@ -83,9 +83,9 @@ EndsSummedOver result bytes parts instants unsaid before now =
 pub record SumsSample (result : Outcome) (settings : SampleSettings) (unsaid : Type 0) (given : List ℕ → List ℕ)
     (before now : Speech) : Type 0 where
   pub accepted : sample_refusal settings ≡ None
-  pub ended : let written = bytes_of_parts (parts_of (sample_chart settings)) in
+  pub ended : let written = file_bytes (parts_of (sample_chart settings)) in
       EndsSummed result (given written) settings.instants unsaid before now
-  pub plain : let written = bytes_of_parts (parts_of (sample_chart settings)) in
+  pub plain : let written = file_bytes (parts_of (sample_chart settings)) in
       IsPlain given →
       EndsSummedOver result written (parts_of (sample_chart settings)) settings.instants unsaid before now
 

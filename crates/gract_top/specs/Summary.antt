@@ -19,7 +19,7 @@ use Rattle.track_types.specs.declared.region.Region.TheVariants as region
 abbrev pub last_instant : ℕ → ℕ
 last_instant instants = instants - 1
 
--- the middle one: as many as half of them are before it, unless that is past the last
+-- the middle one of so many instants: half of them, rounded down, are before it, unless that is past the last
 abbrev pub middle_instant : ℕ → ℕ
 middle_instant instants = min (instants / 2) (last_instant instants)
 
@@ -45,7 +45,7 @@ counted_questions instants =
 abbrev pub found_by : ChartView → Facts → Question → List Item
 found_by chart facts asked = items_of chart facts (held_of empty_desk) asked
 
--- the last line of the reply to a question, which tells how many items it finds
+-- the last line of the reply to a question, which says how many items it finds
 abbrev pub count_line : ChartView → Facts → Question → List ℕ
 count_line chart facts asked = ok_line (length (found_by chart facts asked))
 
@@ -67,6 +67,6 @@ abbrev pub IsOfNoSlot : Question → SlotPart → Type 0
 IsOfNoSlot asked OfNoSlot = AreAsked asked
 IsOfNoSlot asked other = ⊥
 
--- A question that may be asked, and is of no slot.
+-- A question that may be asked, and is about no slot.
 abbrev pub IsSlotless : Question → Type 0
 IsSlotless asked = IsOfNoSlot asked (slot_part asked)

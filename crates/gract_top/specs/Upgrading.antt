@@ -1,17 +1,15 @@
 -- What the bytes of an index file are in the newest version of the format, or why there are none.
-use Rattle.std.specs.Prelude.{◌≡◌, ℕ, ◌<◌, ⊤, List, length, Some}
-use Rattle.track_types.specs.Limits.{limit_of}
-use Rattle.track_types.specs.declared.limit.LimitKind.TheVariants as limit
+use Rattle.std.specs.Prelude.{◌≡◌, ℕ, ⊤, List, Some}
 use Rattle.track_types.specs.declared.parts.Parts.{Parts}
-use Rattle.index_format.specs.Spelling.{bytes_of_parts}
+use Rattle.index_file.specs.File.{file_bytes}
 use Rattle.track_index.specs.Opening.{first_flaw, IsFile}
-use Rattle.snapshots.specs.Upgrade.{upgrade_of}
+use Rattle.track_index.specs.Newest.{newest_of}
 use Rattle.gract_top.specs.declared.outcome.Outcome.{Outcome}
 use Rattle.gract_top.specs.declared.outcome.Outcome.TheVariants as outcome
 
 -- the bytes of an index file that holds the same in the newest version
 abbrev pub upgrade_bytes : Parts → List ℕ
-upgrade_bytes parts = bytes_of_parts (upgrade_of parts)
+upgrade_bytes parts = file_bytes (newest_of parts)
 
 -- The bytes are those of an index file, and others those of its upgrade.
 pub record IsUpgrade (bytes newest : List ℕ) : Type 0 where
@@ -19,10 +17,8 @@ pub record IsUpgrade (bytes newest : List ℕ) : Type 0 where
   pub file : IsFile bytes parts
   pub spelled : newest ≡ upgrade_bytes parts
 
--- Why bytes were not upgraded: their first flaw, or that the upgrade would be so long, or out of memory.
+-- Why bytes were not upgraded: their first flaw, or out of memory.
 abbrev pub NotUpgraded : Outcome → List ℕ → Type 0
 NotUpgraded (outcome.Flaw flaw) bytes = first_flaw bytes ≡ Some flaw
-NotUpgraded (outcome.Limit limit.Index size) bytes =
-    (newest : List ℕ) × IsUpgrade bytes newest × (size ≡ length newest) × (limit_of limit.Index < size)
 NotUpgraded outcome.Memory bytes = ⊤
 NotUpgraded other bytes = ⊥

@@ -1,7 +1,7 @@
 use crate::request::Settings;
 use track_types::{MAX_PERIOD, MAX_RESOLUTION, number_within};
 
-// The command words that were not read yet.
+// The command words that are not read yet.
 #[derive(Clone, Copy)]
 pub(crate) struct CommandWords<'a> {
     pub(crate) rest: &'a [&'a str],

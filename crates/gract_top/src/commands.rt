@@ -20,20 +20,19 @@ use std::sync::ledger::Ledger;
 use step_count::Steps;
 use track_types::LimitKind;
 
-/// Does what the command words ask, and tells how it ended.
+/// Does what the command words ask, and answers how it ended.
 ///
 /// The words are those after the program's name:
 /// - `once CSV CELL TICK PERIOD` loads the CSV file, grids its rows, writes the index of their chart,
 ///   opens what the files give for its bytes, and answers the source's lines from that;
 /// - `build CSV INDEX CELL TICK PERIOD` saves the bytes of that index under INDEX;
 /// - `ask INDEX` loads and opens an index file, and answers the source's lines from it;
-/// - `ask INDEX TAIL` opens it, then loads the CSV file TAIL and grids its rows as those of the index were,
-///   and answers the source's lines from both: where both have a row of an object and an instant, TAIL's
-///   counts. TAIL may have no row;
-/// - `sample OBJECTS INSTANTS SEED PERIOD` makes rows from a number, grids them with CELL and TICK 1,
-///   writes the index of their chart, opens what the files give for its bytes, and says a summary of it:
-///   the reply to `info`, and the last line of the reply to each of five questions more. Files and
-///   source are left alone;
+/// - `ask INDEX TAIL` opens it, then loads the CSV file TAIL and grids its rows as those of the index were, and answers
+///   the source's lines from both. Where both have a row of an object and an instant, TAIL's counts. TAIL may have no
+///   row;
+/// - `sample OBJECTS INSTANTS SEED PERIOD` makes rows from a number, grids them with CELL and TICK 1, and writes the
+///   index of their chart. It opens what the files give for its bytes, and says a summary: the reply to `info`, and the
+///   last line of the reply to each of five other questions. Files and source are left alone;
 /// - `upgrade OLD NEW` loads and opens an index file, and saves the bytes of the same index in the
 ///   newest version of the format under NEW;
 /// - `merge A B OUT` loads and opens two index files, A and then B, and saves the bytes of the index of
@@ -42,7 +41,7 @@ use track_types::LimitKind;
 ///   saves the bytes of the index of all their rows under OUT.
 ///
 /// Each outcome comes for its cause alone, which its clause states. `Memory` may come to any words
-/// that have a form: before the first question is listened to, or at a line that takes memory.
+/// that have a form, before the first question is listened to or at a line that takes memory.
 pub fn gract<F: Files, S: Source, K: Sink, L: Ledger>(
     alloc: Global,
     words: &[&str],
@@ -83,7 +82,7 @@ pub fn gract<F: Files, S: Source, K: Sink, L: Ledger>(
         IsCalm F.Files S.Source K.Sink files.old files.new source.old source.new sink.old
         sink.new → (result ≡ Outcome.Done) ⊎ (result ≡ Outcome.Memory) }
 
-    // No byte of questions beyond their limit and one is asked for.
+    // Of the questions at most one byte beyond their limit is asked for.
     ensures within { S.taken source.new ≤ S.taken source.old + (limit_of LimitKind.Questions + 1) }
 {
     match read_request(words) {

@@ -19,8 +19,9 @@ use std::alloc::Global;
 use std::sync::ledger::Ledger;
 use step_count::Steps;
 
-// Saves what the index file of one name holds and the rows of the CSV file of another, which count where both have one
-// of an object and an instant, as one index under a third name. The CSV file is begun once the index is open.
+// Saves what the index file of one name holds and the rows of the CSV file of another as one index under a third name.
+// Where both have a row of an object and an instant, the CSV file's counts. The CSV file is begun once the index is
+// open.
 pub(crate) fn extend<F: Files, L: Ledger>(
     alloc: Global,
     index: &str,

@@ -12,8 +12,8 @@ use track_types::LimitKind;
 /// How many bytes are asked for at a time.
 const PIECE: usize = 0x4_0000;
 
-// Loads a file piece by piece into a receiver that took nothing yet, or tells the outcome that this decides. No byte
-// beyond the limit of that kind and one is asked for.
+// Loads a file piece by piece into a receiver that took nothing yet, or answers the outcome that this decides. At most
+// one byte beyond the limit of that kind is asked for.
 pub(crate) fn load<F: Files, R: Receiver>(
     files: &mut F,
     name: &str,

@@ -22,11 +22,11 @@ pub enum Outcome {
         field: u32,
         fault: RowFault,
     },
-    /// The CSV file has no data row, or two index files have no row, or an index file and its later rows.
+    /// There is no row: in the CSV file, in both of two index files, or in an index file and its tail.
     Empty,
     /// The bytes that were opened are not those of an index file; this is their first flaw.
     Flaw(Flaw),
-    /// Two index files differ in a setting, in which they must agree to become one.
+    /// Two index files differ in a setting. They must agree to become one.
     Settings {
         setting: Setting,
         left: u64,

@@ -4,7 +4,7 @@ use std::alloc::AllocError;
 
 /// What takes a file's bytes piece by piece, from the front to the end.
 ///
-/// Its meaning, `has_taken`, tells what a value has become since it was the first one, after these bytes were taken.
+/// Its meaning, `has_taken`, says what a value has become since it was the first one, after these bytes were taken.
 pub(crate) trait Receiver {
     ghost has_taken: { Self → List ℕ → Self → Type 0 };
 

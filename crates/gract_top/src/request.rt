@@ -46,8 +46,8 @@ pub enum Request<'a> {
         right: &'a str,
         out: &'a str,
     },
-    /// To save what the index file of one name holds and the later rows of the CSV file of another, its
-    /// tail, as one index under a third name, which may be either of these.
+    /// To save an index file and its tail, the later rows of a CSV file, as one index under a third name. That may be
+    /// either of the other two.
     Extend {
         index: &'a str,
         tail: &'a str,

@@ -8,7 +8,7 @@ use track_types::RawRow;
 #[derive(Drop)]
 pub(crate) struct RowsReceiver {
     parser: RowParser,
-    // The rows that the parser gave last, in memory that is used again.
+    // The rows that the parser gave last. Their memory is used again.
     batch: Vec<RawRow>,
     rows: GriddedRows,
 }
@@ -21,7 +21,7 @@ impl RowsReceiver {
     ghost use Rattle.gract_top.specs.Receiving.{AreGriddedRowsOf, HasReceived, HasReceivedSince};
     ghost use Rattle.row_reader.specs.Rows.{IsRowsFault};
 
-    // One that took nothing yet, and grids by `cell` and `tick`.
+    // A receiver that took nothing yet, and grids by `cell` and `tick`.
     pub(crate) fn new(alloc: Global, cell: u64, tick: u64) -> Self
         requires cell { IsResolution cell }
         requires tick { IsResolution tick }

@@ -25,8 +25,8 @@ pub(crate) struct IndexAndTail {
     pub(crate) tail: Option<Chart>,
 }
 
-// The index of the index file of one name and the tail of the CSV file of another, which is begun once the index is
-// open; or the outcome that one of the files decides.
+// The index of the index file of one name, and the tail of the CSV file of another; or the outcome that one of the
+// files decides. The CSV file is begun once the index is open.
 pub(crate) fn open_with_tail<F: Files, L: Ledger>(
     alloc: Global,
     index: &str,
@@ -71,7 +71,7 @@ fn settings_of(index: &Index) -> Settings
     }
 }
 
-// The chart of the CSV file of that name, and none where it has no data row; or the outcome that it decides.
+// The chart of the CSV file of that name, or none where it has no data row, or the outcome that it decides.
 fn load_tail<F: Files>(
     alloc: Global,
     csv: &str,

@@ -1,11 +1,12 @@
 ghost use Rattle.std.specs.Prelude.{◌≡◌, ◌≢◌, ℕ, ◌+◌, ◌*◌, ◌≤◌, ◌⊎◌, length, IfOk, IfErr};
 ghost use Rattle.host_ports.specs.Counting.{SaveCounts};
 ghost use Rattle.host_ports.specs.Meanings.{files_at};
-ghost use Rattle.snapshots.specs.SoundParts.{IsValid};
+ghost use Rattle.index_file.specs.File.{IsNewest};
 ghost use Rattle.track_index.specs.Opening.{bytes_cost, first_flaw, IsFile};
-ghost use Rattle.snapshots.specs.Upgrade.{upgrade_of};
+ghost use Rattle.track_index.specs.Newest.{newest_of};
 ghost use Rattle.track_types.specs.Flaws.{IsFormatFaultFor};
 ghost use Rattle.track_types.specs.Limits.{limit_of};
+ghost use Rattle.track_types.specs.declared.limit.TheConstants.{MAX_INDEX};
 ghost use Rattle.track_types.specs.declared.parts.Parts.{Parts as WholeParts};
 ghost use Rattle.gract_top.specs.Beginning.{SavesNothing};
 ghost use Rattle.gract_top.specs.Ends.{EndsUpgrade, SavesUpgrade};
@@ -15,12 +16,13 @@ use crate::building::save_as;
 use crate::loading::load;
 use crate::outcome::Outcome;
 use host_ports::Files;
-use index_format::{FormatFault, decode, encode};
+use index_file::{decode, encode};
+use index_format::FormatFault;
 use std::alloc::Global;
 use std::sync::ledger::Ledger;
 use step_count::Steps;
 use track_index::upgraded;
-use track_types::{LimitKind, MAX_INDEX, Parts};
+use track_types::{LimitKind, Parts};
 
 // Saves the index file of one name in the newest version of the format, under another.
 pub(crate) fn upgrade<F: Files, L: Ledger>(
@@ -91,16 +93,9 @@ fn upgraded_bytes<L: Ledger>(
         Err(FormatFault::Flaw(flaw)) => return Err(Outcome::Flaw(flaw)),
         Err(FormatFault::Memory) => return Err(Outcome::Memory),
     };
-    let Ok(newest) = encode(alloc, &parts) else {
+    let Ok(newest) = encode(alloc, parts) else {
         return Err(Outcome::Memory);
     };
-    let size = newest.len() as u64;
-    if size > MAX_INDEX {
-        return Err(Outcome::Limit {
-            kind: LimitKind::Index,
-            value: size,
-        });
-    }
     Ok(newest)
 }
 
@@ -112,8 +107,8 @@ fn upgraded_parts<L: Ledger>(
 ) -> Result<Parts, FormatFault>
     requires { length bytes.items ≤ MAX_INDEX }
     ensures ok { IfOk result (λ newest.
-        (parts : WholeParts) × IsFile bytes.items parts × (newest ≡ upgrade_of parts)) }
-    ensures valid { IfOk result IsValid }
+        (parts : WholeParts) × IsFile bytes.items parts × (newest ≡ newest_of parts)) }
+    ensures newest { IfOk result IsNewest }
     ensures flaw { IfErr result (λ fault. IsFormatFaultFor (first_flaw bytes.items) fault) }
     ensures cost { steps.new ≤ steps.old + 2 * bytes_cost bytes.items }
 {

@@ -2,17 +2,15 @@
 use Rattle.std.proofs.Common.{◌≡◌, ℕ, List, None, Result, Ok, Err, ap, sym, ◌∙◌}
 use Rattle.std.specs.Prelude.{IfErr, IfOk}
 use Rattle.track_types.specs.Flaws.{IsFormatFaultFor}
-use Rattle.track_types.specs.Shape.{IsShaped}
 use Rattle.track_types.specs.declared.flaw.Flaw.{Flaw}
 use Rattle.track_types.specs.declared.parts.Parts.{Parts}
 use Rattle.snapshots.specs.SoundParts.{IsValid}
 use Rattle.index_format.specs.Answers.{Gives}
 use Rattle.track_types.specs.declared.format_fault.FormatFault.{FormatFault}
 use Rattle.track_types.specs.declared.format_fault.FormatFault.TheVariants as fault
-use Rattle.index_format.specs.Reading.{parts_in}
-use Rattle.index_format.specs.Spelling.{bytes_of_parts}
+use Rattle.index_file.specs.File.{file_bytes, parts_in, IsFormed}
 use Rattle.index_format.proofs.BitLemmas.{IsBytes}
-use Rattle.index_format.proofs.PartsLaws.{parts_in-again, parts_in-takes}
+use Rattle.index_file.proofs.FileLaws.{parts_in-again, parts_in-takes}
 use Rattle.track_index.specs.CheckFlaws.{check_flaw}
 use Rattle.track_index.specs.Opening.{first_flaw, flaw_after, IsFile}
 use Rattle.track_index.proofs.CheckLemmas.{check_flaw-sound, IsSound-unflawed}
@@ -20,7 +18,7 @@ use Rattle.track_index.proofs.OpeningLemmas.{first_flaw-read}
 
 -- the bytes of an index file are read as its parts
 pub parts_in-file : (bytes : List ℕ) (parts : Parts) → IsFile bytes parts → parts_in bytes ≡ Ok parts
-parts_in-file bytes parts file = ap parts_in file.spelled ∙ parts_in-again parts file.valid.shaped
+parts_in-file bytes parts file = ap parts_in file.spelled ∙ parts_in-again parts file.formed
 
 -- they have no flaw
 pub first_flaw-file : (bytes : List ℕ) (parts : Parts) → IsFile bytes parts → first_flaw bytes ≡ None
@@ -45,12 +43,13 @@ pub IsFile-unflawed : (bytes : List ℕ) → IsBytes bytes → first_flaw bytes 
 unfolding flaw_after
 IsFile-unflawed bytes fits none = by_read (parts_in bytes) (parts_in-takes bytes fits) none
   where
-    by_read : (read : Result Parts Flaw) → IfOk read (λ parts. IsShaped parts × (bytes ≡ bytes_of_parts parts))
+    by_read : (read : Result Parts Flaw) → IfOk read (λ parts. IsFormed parts × (bytes ≡ file_bytes parts))
         → flaw_after read ≡ None → (parts : Parts) × IsFile bytes parts
     by_read (Ok parts) taken none = (
       parts,
       record {
-        valid = record { shaped = taken.0; sound = IsSound-unflawed parts taken.0 none };
+        valid = record { shaped = taken.0.shaped; sound = IsSound-unflawed parts taken.0.shaped none };
+        formed = taken.0;
         spelled = taken.1;
       },
     )

@@ -9,5 +9,6 @@ mod UpgradeLemmas
 mod PeriodLemmas
 mod UntilLemmas
 mod PathLemmas
+mod SeekingLemmas
 mod Examples
 mod SearchExamples

@@ -26,7 +26,7 @@ use Rattle.track_types.specs.declared.format_fault.FormatFault.TheVariants as fa
 use Rattle.track_types.specs.declared.flaw.Flaw.{Flaw}
 use Rattle.snapshots.specs.IndexCost.{open_cost}
 use Rattle.index_format.specs.Answers.{IsFormatFault}
-use Rattle.index_format.specs.Reading.{parts_in}
+use Rattle.index_file.specs.File.{parts_in}
 use Rattle.track_index.specs.Opening.{bytes_cost, cost_after, first_flaw, flaw_after}
 use Rattle.track_index.specs.CheckFlaws.{check_flaw, grammar_flaw, lengths_flaw, rule_flaw_of, snapshots_flaw, snapshots_with, total_flaw, AreShapedPeriods}
 

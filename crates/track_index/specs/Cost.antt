@@ -8,8 +8,8 @@ use Rattle.slice_search.specs.Cost.{slice_cost}
 use Rattle.interval_search.specs.Cost.{interval_cost}
 use Rattle.nearest_search.specs.Cost.{nearest_cost}
 
--- what a question costs: a held path what it costs to walk it, and nothing what makes no read of the index; a meeting is
--- nothing here, since an index alone tells none: a reader of meetings has its own cost
+-- What a question costs. A held path costs what it costs to walk it. A question that makes no read of the index costs
+-- nothing. A meeting costs nothing here, since an index alone finds none; a reader of meetings has its own cost.
 unfoldable pub cost_of : Parts → Question → ℕ
 cost_of parts (question.Position object instant) = position_cost parts object instant
 cost_of parts (question.Path object from to) = path_cost parts object from to

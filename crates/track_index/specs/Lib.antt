@@ -5,3 +5,4 @@ pub mod Cost
 pub mod CheckFlaws
 pub mod Opening
 pub mod Path
+pub mod Newest

@@ -4,14 +4,14 @@ use Rattle.track_types.specs.declared.flaw.Flaw.{Flaw}
 use Rattle.track_types.specs.declared.parts.Parts.{Parts}
 use Rattle.snapshots.specs.IndexCost.{open_cost}
 use Rattle.snapshots.specs.SoundParts.{IsValid}
-use Rattle.index_format.specs.Reading.{parts_in}
-use Rattle.index_format.specs.Spelling.{bytes_of_parts}
+use Rattle.index_file.specs.File.{file_bytes, parts_in, IsFormed}
 use Rattle.track_index.specs.CheckFlaws.{check_flaw}
 
 -- the bytes are those of an index file that holds these parts
 pub record IsFile (bytes : List ℕ) (parts : Parts) : Type 0 where
   pub valid : IsValid parts
-  pub spelled : bytes ≡ bytes_of_parts parts
+  pub formed : IsFormed parts
+  pub spelled : bytes ≡ file_bytes parts
 
 -- the first flaw of what was read: that of the reading, else that of the parts
 unfoldable pub flaw_after : Result Parts Flaw → Option Flaw

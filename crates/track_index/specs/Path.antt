@@ -1,11 +1,13 @@
--- What is left of the walk of a path: that of the block which was begun, and the periods after it.
-use Rattle.std.specs.Prelude.{◌≡◌, ℕ, ◌+◌, ◌-◌, ◌<◌, ◌≤◌, ℤ, ◌≤ℤ◌, Bool, ◌&&◌, if◌then◌else◌, List, ◌++◌, All, filter, length, min}
+-- What is left of the walk of a path: the walk over the block that was begun, and the periods after it.
+use Rattle.std.specs.Prelude.{◌≡◌, ℕ, ◌+◌, ◌-◌, ◌<◌, ◌≤◌, ℤ, ◌≤ℤ◌, Bool, ◌&&◌, if◌then◌else◌, List, ◌++◌, All, None, filter, length, min}
 use Rattle.std.specs.Int.Signed.{le_z}
 use Rattle.std.specs.List.{range_with_len, sum_by}
 use Rattle.track_types.specs.Frame.{periods_of}
 use Rattle.track_types.specs.declared.frame.Frame.{Frame}
 use Rattle.track_types.specs.declared.parts.Parts.{Parts}
+use Rattle.track_types.specs.declared.region.Region.{Region}
 use Rattle.track_types.specs.declared.stop.Stop.{Stop}
+use Rattle.log_cursor.specs.Touching.{first_among}
 use Rattle.log_cursor.specs.Walk.{reads_to, WalkView}
 use Rattle.snapshots.specs.IndexCost.{period_cost}
 use Rattle.snapshots.specs.Parts.{first_in, rules_in}
@@ -21,9 +23,9 @@ cost_until parts index from instant next behind =
     sum_by (period_cost parts index from instant)
     (filter (begins_by parts.frame from instant) (range_with_len next (behind - next)))
 
--- the stops that are left, how many reads are still to be made for them at most, and of what these are made: the walk over
--- the block that was begun, of the object at a place, in a window from an instant on, and the periods from one to before
--- another that are still to be looked into
+-- The stops that are left, how many reads are still to be made for them at most, and what these reads are for. They are for
+-- the walk over the block that was begun, and for the periods from `next` to before `behind`, which are still to be looked
+-- into. The object is that at the place `index`, and the window begins at `from`.
 pub record PathView : Type 0 where
   pub stops : List Stop
   pub reads : ℕ
@@ -81,3 +83,14 @@ pub record IsDrawing (first : PathView) (before : ℕ) (stores parts : Parts) (i
   pub in_time : (instant : ℤ) → from ≤ℤ instant → first_in parts.frame (next - 1) ≤ℤ instant
       → steps + path_reads_to (path_walk_of parts index from to next behind block) instant
       ≤ before + path_reads_to first instant
+
+-- what a walk that looks for its first stop in a region has done: it passed stops outside the region, and the others are
+-- left, for reads from its budget
+pub record IsSeekingIn (region : Region) (first : PathView) (before : ℕ) (stores parts : Parts) (index : ℕ) (from to : ℤ)
+    (next behind : ℕ) (block : WalkView) (steps : ℕ) : Type 0 where
+  pub its : parts ≡ stores
+  pub walk : IsPathWalk parts index from next behind block
+  pub passed : List Stop
+  pub all : first.stops ≡ passed ++ (path_walk_of parts index from to next behind block).stops
+  pub outside : first_among region passed ≡ None
+  pub reads : steps + (path_walk_of parts index from to next behind block).reads ≤ before + first.reads

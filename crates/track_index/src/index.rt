@@ -46,8 +46,8 @@ pub struct IndexRef<'a> {
 }
 
 impl<'a> IndexRef<'a> {
-    /// The object at a place among those that are listed, which ascend; the place is in range. It takes
-    /// no memory and makes no read.
+    /// The object at a place among those that are listed, in ascending order. The place is in range. It
+    /// takes no memory and makes no read.
     pub fn object_at(self, i: u32) -> u32
         requires { i < length (self.index.now).objects }
         ensures { result ≡ slice_index (self.entry.index.now).objects i }

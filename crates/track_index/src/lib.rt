@@ -1,12 +1,8 @@
-//! The index of a chart: built from it, checked from parts, and asked.
+//! The index of a chart: built from the chart, checked from parts or opened from bytes, and asked.
 //!
 //! An `Index` keeps the stores of its parts and no rows. `IndexRef` answers questions as filtering
-//! the rows of the parts' chart does, within the reads that `specs/Cost.antt` counts. The crate
-//! stands on `track_types`, `gridding`, `spiral_code`, `packed_bits`, `k2_tree`, `bit_rank`,
-//! `object_perm`, `rule_store`, `log_cursor`, `snapshots`, `object_track`, `region_test`,
-//! `slice_search`, `interval_search`, `nearest_search`, `movement_log`, `repair_grammar`,
-//! `chart_parts`, `index_format`, `step_count` and `list_laws`. (Its tests make their charts by
-//! `gridding`.)
+//! the rows of the parts' chart does, within the reads that `specs/Cost.antt` counts. `upgraded`
+//! brings parts to the newest version of the format.
 #![tactic(auto)]
 
 mod answering;

@@ -16,7 +16,7 @@ ghost use Rattle.track_index.specs.CheckFlaws.{check_flaw, lengths_flaw, snapsho
 
 use crate::index::Index;
 use chart_parts::parts_of;
-use index_format::decode;
+use index_file::decode;
 use rule_store::RuleStore;
 use snapshots::{Header, Snapshot, Stores};
 use std::alloc::Global;
@@ -34,9 +34,11 @@ impl Index {
     /// `RuleStore::check` does (`Code`, `Rule`, `Symbol`); whether the lengths of all logs add up to
     /// the number of stored symbols (`Total`, in the last period at 0); each period in order, as
     /// `Snapshot::check` does; and the logs of all blocks, by period, then object, as `Stores::join`
-    /// does. `Flaw` is the first flaw in this order. Outside the sections of periods its period is 0,
-    /// but for `OffGrid`, which has that of its block. The parts of an index have none, so they are
-    /// refused only for `Memory`, which may be answered to any parts.
+    /// does.
+    ///
+    /// `Flaw` is the first flaw in this order. Outside the sections of periods its period is 0, but
+    /// for `OffGrid`, which has the period of its block. The parts of an index have no flaw, so they
+    /// are refused only for `Memory`. Any parts may be refused for `Memory`.
     ///
     /// The lists of the parts become those of the index. It takes time linear in their lengths, and
     /// at most `open_cost` reads.
@@ -70,8 +72,8 @@ impl Index {
         Ok(Index { stores })
     }
 
-    /// The index of a chart: that of the parts that the chart is written as. Their chart is this one
-    /// again. It takes at most `open_cost` reads of these parts, and `Memory` is its only refusal.
+    /// The index of a chart, made from the parts that the chart is written as. These hold the same
+    /// chart. It makes at most `open_cost` of these parts in reads, and `Memory` is its only refusal.
     pub fn build<L: Ledger>(
         alloc: Global,
         chart: &Chart,
@@ -91,12 +93,12 @@ impl Index {
     }
 }
 
-/// Opens the bytes of an index file, of which there are at most `MAX_INDEX`.
+/// Opens the bytes of an index file. There are at most `MAX_INDEX` bytes.
 ///
 /// `Flaw` is the first flaw of the bytes, as `decode` reads them from the front, or else that of the
 /// parts that they hold, in the order of `Index::check`. So an index is opened only from the bytes of
-/// an index file, and these are refused only for `Memory`. Nothing is read of the index where the
-/// bytes hold no parts.
+/// an index file, and these are refused only for `Memory`. If the bytes hold no parts, it makes no
+/// read.
 pub fn open<L: Ledger>(
     alloc: Global,
     bytes: &[u8],
@@ -117,8 +119,8 @@ pub fn open<L: Ledger>(
     Index::check(alloc, parts, steps)
 }
 
-/// Opens the bytes of an index file as `open` does. They are let go once they are read, before memory is
-/// taken for what searches want.
+/// Opens the bytes of an index file as `open` does. The bytes are dropped after they are decoded, before
+/// it takes memory for the tables that searches use.
 pub fn open_bytes<L: Ledger>(
     alloc: Global,
     bytes: Vec<u8>,
@@ -173,7 +175,7 @@ fn add_up(periods: &[PeriodParts], number: u32) -> bool
     left == 0
 }
 
-// What is left of a number once all of these are taken off it, and none where they are more.
+// What is left of a number after all of these are taken off it; `None` if they are more.
 fn taken_off(number: u32, lengths: &[u32]) -> Option<u32>
     ensures { MatchOption result (number < sum lengths.now)
         (λ rest. rest + sum lengths.now ≡ number) }

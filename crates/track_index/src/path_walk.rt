@@ -1,6 +1,7 @@
 ghost use Rattle.std.specs.Prelude.{◌≡◌, ◌++◌, ◌+◌, ◌≤◌, ◌<◌, ℤ};
 ghost use Rattle.std.specs.Prelude.{[], length, IfNone, IfOk, IfSome, option_to_list};
 ghost use Rattle.track_types.specs.Frame.{periods_of};
+ghost use Rattle.log_cursor.specs.Touching.{IsDrawnIn};
 ghost use Rattle.log_cursor.specs.Walk.{IsDrawnInTime};
 ghost use Rattle.object_track.specs.Between.{cost_between, stops_between};
 ghost use Rattle.track_index.specs.Path.{cost_until, path_reads_to};
@@ -8,6 +9,7 @@ ghost use Rattle.track_index.specs.Path.{cost_until, path_reads_to};
 use crate::index::Index;
 use log_cursor::BlockWalk;
 use object_track::{Periods, Placed};
+use region_test::RegionTest;
 use std::alloc::Global;
 use std::marker::Model;
 use std::sync::ledger::Ledger;
@@ -24,7 +26,7 @@ pub struct PathWalk<'a> {
     index: &'a Index,
     // The place of the object among all objects.
     object: u32,
-    // Those that are still to be looked into.
+    // The periods that are still to be looked into.
     periods: Periods,
     from: i64,
     to: i64,
@@ -72,6 +74,34 @@ impl<'a> PathWalk<'a> {
             to,
             block,
         })
+    }
+
+    /// Draws the stops that are left up to the first one in a region, that one included. Where none is
+    /// in the region, it draws all.
+    ///
+    /// It passes over what has no cell of the region, and over a rule that it meets again at the cell
+    /// where it was opened. It takes no memory.
+    pub fn draw_in<L: Ledger>(&mut self, test: &RegionTest, steps: &mut Steps<L>) -> Option<Stop>
+        ensures drawn { IsDrawnIn test.now.region self.old.stops self.new.stops result }
+        ensures cost { steps.new + self.new.reads ≤ steps.old + self.old.reads }
+    {
+        let index = self.index;
+        let stores = index.stores();
+        loop {
+            if let Some(stop) = self.block.draw_in(test, steps) {
+                return Some(stop);
+            }
+            if self.periods.next >= self.periods.end {
+                return None;
+            }
+            let period = self.periods.next;
+            self.periods.next = period + 1;
+            if let Some(block) = stores.snapshot(period).find(self.object, steps) {
+                let placed = Placed::new(stores, period, &block);
+                self.block
+                    .begin(placed.log, placed.start, self.from, self.to);
+            }
+        }
     }
 }
 

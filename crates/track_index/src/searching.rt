@@ -95,7 +95,7 @@ pub(crate) fn interval_of<L: Ledger>(
     interval(alloc, stores, window.0, window.1, &test, steps)
 }
 
-// A region that is asked for, which is near enough for both of its tests.
+// The region of a question, shown to be near enough for both of its tests.
 fn near_region(region: &Region) -> Region
     requires { IsRegionAsked region.now }
     ensures value { result ≡ region.now }

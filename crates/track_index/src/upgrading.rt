@@ -3,12 +3,13 @@ ghost use Rattle.track_types.specs.Flaws.{IsFormatFaultFor};
 ghost use Rattle.track_types.specs.Shape.{IsShaped};
 ghost use Rattle.snapshots.specs.IndexCost.{open_cost};
 ghost use Rattle.snapshots.specs.Parts.{chart_in};
-ghost use Rattle.snapshots.specs.SoundParts.{IsValid};
-ghost use Rattle.snapshots.specs.Upgrade.{upgrade_of};
+ghost use Rattle.index_file.specs.File.{IsNewest};
+ghost use Rattle.track_index.specs.Newest.{newest_of};
 ghost use Rattle.track_index.specs.CheckFlaws.{check_flaw};
 ghost use Rattle.track_index.specs.Facts.{facts_of};
 
 use crate::index::Index;
+use parts_order::settled;
 use std::alloc::Global;
 use std::sync::ledger::Ledger;
 use step_count::Steps;
@@ -16,10 +17,12 @@ use track_types::{FormatFault, Parts};
 
 /// The same index in the newest version of the format, from parts which have the form of an index.
 ///
-/// The header has that version, the trees of the periods are made anew from their cells, and all
-/// else stays: the parts are valid, and have the same chart and the same facts. Parts that are in
-/// the newest version already come back as they are. `Flaw` is the first flaw of the parts, as
-/// `Index::check` finds it. `Memory` may be answered to any parts.
+/// The header has that version, the trees of the periods are made anew from their cells, and the rules
+/// are brought into the order of the format. All else stays: the parts are those of an index, and have
+/// the same chart and the same facts. Parts of a file of the newest version come back as they are.
+///
+/// `Flaw` is the first flaw of the parts, as `Index::check` finds it. `Memory` may be answered to any
+/// parts.
 ///
 /// The lists of the parts become those of the answer. It takes time linear in their lengths, and at
 /// most twice the reads of opening.
@@ -29,14 +32,15 @@ pub fn upgraded<L: Ledger>(
     steps: &mut Steps<L>,
 ) -> Result<Parts, FormatFault>
     requires { IsShaped parts }
-    ensures ok { IfOk result (λ newest. newest ≡ upgrade_of parts) }
+    ensures ok { IfOk result (λ newest. newest ≡ newest_of parts) }
     ensures exact { OnOk result (check_flaw parts ≡ None) }
-    ensures valid { IfOk result IsValid }
+    ensures newest { IfOk result IsNewest }
     ensures chart { IfOk result (λ newest. chart_in newest ≡ chart_in parts) }
     ensures facts { IfOk result (λ newest. facts_of newest ≡ facts_of parts) }
     ensures flaw { IfErr result (λ fault. IsFormatFaultFor (check_flaw parts) fault) }
     ensures cost { steps.new ≤ steps.old + 2 * open_cost parts }
 {
     let Index { stores } = Index::check(alloc, parts, steps)?;
-    Ok(stores.into_upgraded(alloc, steps)?)
+    let newest = stores.into_upgraded(alloc, steps)?;
+    Ok(settled(alloc, newest)?)
 }

@@ -76,7 +76,7 @@ touches first second = overlaps first.x1 first.x2 second.x1 second.x2 && overlap
 abbrev pub cut : ℤ → ℤ → ℤ → ℤ
 cut low high z = int_max low (int_min z high)
 
--- it keeps the order
+-- cutting two numbers to the same bounds keeps their order
 pub cut-le : (low high a b : ℤ) → a ≤ℤ b → cut low high a ≤ℤ cut low high b
 cut-le low high a b below = omega (arith, ints, clamps)
 

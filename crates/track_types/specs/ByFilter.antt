@@ -84,7 +84,7 @@ nears_at rows instant cell = map (near_of cell) (filter (is_row_at instant) rows
 abbrev pub count_before : List Near → Near → ℕ
 count_before nears near = length (filter (λ other. is_lt (near_order other near)) nears)
 
--- those before which fewer than so many come, in order
+-- the nearest among some, at most so many of them, in order: those before which fewer than so many come
 unfoldable pub nearest_among : ℕ → List Near → List Near
 nearest_among count nears = ordered near_order (filter (λ near. nat_lt (count_before nears near) count) nears)
 

@@ -1,4 +1,4 @@
--- From the least to the greatest of the numbers of rows.
+-- The least and the greatest of the numbers of rows.
 use Rattle.std.specs.Prelude.{◌≡◌, ◌^◌, ◌-◌, ℤ, pos, negsuc, List, fold, map}
 use Rattle.std.specs.Int.{int_max, int_min}
 use Rattle.track_types.specs.Near.{IsNear}
@@ -7,11 +7,11 @@ use Rattle.track_types.specs.declared.row.Row.{Row}
 use Rattle.track_types.specs.declared.extents.Extent.{Extent}
 use Rattle.track_types.specs.declared.extents.Extents.{Extents}
 
--- an extent, and so much more that a number is in it
+-- an extent, widened so that a number is in it
 abbrev pub widened : Extent → ℤ → Extent
 widened extent number = record { least = int_min extent.least number; greatest = int_max extent.greatest number }
 
--- the extent of no numbers, from the greatest of a word to the least: the first number is all of it
+-- the extent of no numbers, from the greatest number of a word to the least: widened by a first number it is that number alone
 abbrev pub no_extent : Extent
 no_extent = record { least = pos (2 ^ 63 - 1); greatest = negsuc (2 ^ 63 - 1) }
 

@@ -28,7 +28,7 @@ instants_of rows = map (λ row. row.instant) rows
 abbrev pub first_of : List Row → ℤ
 first_of rows = least (instants_of rows)
 
--- the last one
+-- the last instant in which there is a row
 abbrev pub last_of : List Row → ℤ
 last_of rows = greatest (instants_of rows)
 
@@ -61,7 +61,7 @@ objects_of rows = distinct (map (λ row. row.object) rows)
 abbrev pub object_count : List Row → ℕ
 object_count rows = length (objects_of rows)
 
--- how many periods there are, the last of which may be shorter
+-- how many periods there are; the last one may be shorter
 abbrev pub period_count : List Row → ℕ → ℕ
 period_count rows period = period_total (span_of rows) period
 
@@ -91,8 +91,8 @@ is_anchor first period rows row =
 unfoldable pub anchors_of : ℤ → ℕ → List Row → List Row
 anchors_of first period rows = filter (is_anchor first period rows) rows
 
--- how many terminals the log of an anchor's block has: one for each later instant of its period, of which
--- the last one ends where the span does
+-- how many terminals the log of an anchor's block has: one for each later instant of its period, where the
+-- last period ends with the span
 abbrev pub log_length : ℤ → ℕ → ℕ → Row → ℕ
 log_length first span period anchor = terminals_from first span period anchor.instant
 

@@ -9,7 +9,7 @@ use Rattle.track_types.specs.declared.row.Row.{Row}
 abbrev pub place_order : ℕ × ℤ → ℕ × ℤ → Ordering
 place_order a b = ordering_then (nat_cmp a.0 b.0) (int_cmp a.1 b.1)
 
--- the object and the instant of a row, of which a chart has each pair at most once
+-- the object and the instant of a row: a chart has each such pair at most once
 abbrev pub place_of : Row → ℕ × ℤ
 place_of row = (row.object, row.instant)
 

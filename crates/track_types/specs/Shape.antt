@@ -30,7 +30,7 @@ width_for symbols = suc (position_or_len (λ width. nat_le symbols (2 ^ width)) 
 abbrev pub symbol_width : Parts → ℕ
 symbol_width parts = width_for (length parts.alphabet + length parts.rules)
 
--- a period's lists are as long as its presence bits say, of which there is one for each object
+-- there is a presence bit for each object, and a period's lists are as long as these bits say
 pub record IsShapedPeriod (objects : ℕ) (period : PeriodParts) : Type 0 where
   pub presence : length period.present ≡ objects
   pub offsets : length period.offsets ≡ ones_of period.present

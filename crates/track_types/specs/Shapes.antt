@@ -9,7 +9,7 @@ use Rattle.track_types.specs.declared.shape.Shape.TheVariants.{Rect}
 abbrev pub no_shape : Shape
 no_shape = Rect (pos 0) (pos 0) (pos 0) (pos 0)
 
--- sixteen places, the first of which have shapes
+-- sixteen places: shapes, and then no shape
 abbrev pub filled : List Shape → List Shape
 filled shapes = shapes ++ replicate (16 - length shapes) no_shape
 

@@ -1,5 +1,5 @@
--- What holds of the chart of whatever answers: less than of a chart that was built from rows, since a chart that was read
--- from a file may have no row, and more rows than can be kept.
+-- What holds of the chart of any answerer. It is less than what holds of a chart that was built from rows: a chart that
+-- was read from a file may have no row, or more rows than can be kept.
 use Rattle.std.specs.Prelude.{◌≤ℤ◌, All}
 use Rattle.track_types.specs.Chart.{ChartView}
 use Rattle.track_types.specs.Near.{IsAsked, IsCellWithin}

@@ -15,7 +15,7 @@ is_spanned first span instant = is_between first (last_from first span) instant
 abbrev pub elapsed_from : ℤ → ℤ → ℕ
 elapsed_from first instant = unsigned_abs (instant -ℤ first)
 
--- how many periods there are, the last of which may be shorter
+-- how many periods there are; the last one may be shorter
 abbrev pub period_total : ℕ → ℕ → ℕ
 period_total span period = div_ceil span period
 

@@ -24,8 +24,8 @@ use step_count::Steps;
 /// Whatever answers questions about a chart.
 ///
 /// Its meaning is a chart, its facts, and for each question a cost. Each answer is the one that
-/// filtering the chart's rows gives, and it makes at most as many reads as its question costs. An
-/// unknown object, an instant outside the chart and an empty window have `None` or the empty list.
+/// filtering the chart's rows gives, and it makes at most as many reads as its question costs. For an
+/// unknown object, an instant outside the chart or an empty window it is `None` or the empty list.
 /// Instants and coordinates that are asked for are at most `MAX_ASKED` away from 0, and a radius is at
 /// most `MAX_REACH`.
 pub trait Answerer: Copy {
@@ -89,8 +89,8 @@ pub trait Answerer: Copy {
             found.items ≡ hits_of (chart self).rows from to region.now) }
         ensures cost { steps.new ≤ steps.old + cost self (asked.Interval from to region.now) };
 
-    /// The rows of an instant that are nearest to a cell, by squared distance, then by object: those
-    /// before which fewer than `count` others come.
+    /// The rows of an instant that are nearest to a cell, by squared distance, then by object: the
+    /// first `count` of them in this order.
     fn nearest<L: Ledger>(
         self,
         alloc: Global,

@@ -60,8 +60,8 @@ impl CellBox {
         }
     }
 
-    /// The box with so many columns more on the left and on the right, and so many lines below and
-    /// above: at most `MAX_REACH`, as its bounds are at most that far from 0.
+    /// The box with so many columns more on the left and on the right, and so many lines more below and above. `width`
+    /// is at most `MAX_REACH`, and its bounds are at most that far from 0.
     pub fn widened(&self, width: u64) -> CellBox
         requires area { IsBoxWithin self.now }
         requires width { width ≤ MAX_REACH }

@@ -11,14 +11,16 @@ use std::marker::Model;
 /// A chart: the table of gridded rows, ascending by object, then instant, with at most one row for each
 /// pair. An object is absent at an instant for which it has no row.
 ///
-/// It has 1 to `MAX_ROWS` rows, whose instants and coordinates lie within `MAX_PLACE` of 0; at most
-/// `MAX_OBJECTS` objects, `MAX_SPAN` instants from the first to the last, `MAX_EXTENT` cells from the
-/// least to the greatest of each axis, `MAX_BLOCKS` blocks (objects times periods), and `MAX_SYMBOLS`
-/// terminals in the logs of all blocks.
+/// It has 1 to `MAX_ROWS` rows, whose instants and coordinates lie within `MAX_PLACE` of 0. It has at most
+/// - `MAX_OBJECTS` objects,
+/// - `MAX_SPAN` instants from the first to the last,
+/// - `MAX_EXTENT` cells from the least to the greatest of each axis,
+/// - `MAX_BLOCKS` blocks (objects times periods), and
+/// - `MAX_SYMBOLS` terminals in the logs of all blocks.
 #[derive(Debug, Drop)]
 pub struct Chart {
     rows: Vec<Row>,
-    // What was found of the rows when the chart was made.
+    // The extents of the rows, as they were found when the chart was made.
     extents: Extents,
     period: u32,
     cell: u64,
@@ -37,9 +39,10 @@ impl Model for Chart {
 }
 
 impl Chart {
-    /// The chart of these rows, of which all that a chart keeps is asked. `cell` is how many units a
-    /// cell is wide, `tick` how many units of time an instant lasts (1 to `MAX_RESOLUTION` each), and
-    /// `period` how many instants lie between two snapshots (1 to `MAX_PERIOD`).
+    /// The chart of these rows. The caller sees to it that all holds which a chart keeps. `cell` is
+    /// how many units a cell is wide, `tick` how many units of time an instant lasts (1 to
+    /// `MAX_RESOLUTION` each), and `period` how many instants lie between two snapshots (1 to
+    /// `MAX_PERIOD`).
     pub fn new(rows: Vec<Row>, cell: u64, tick: u64, period: u32) -> Self
         requires { IsChart (chart_with rows.items cell tick period) }
         ensures { result ≡ chart_with rows.items cell tick period }
@@ -48,7 +51,7 @@ impl Chart {
         Chart::with_extents(rows, extents, cell, tick, period)
     }
 
-    /// The same chart, where the extents of its rows are known: it takes no look at them.
+    /// The same chart, for rows whose extents are known: it does not look at the rows.
     pub fn with_extents(rows: Vec<Row>, extents: Extents, cell: u64, tick: u64, period: u32) -> Self
         requires chart { IsChart (chart_with rows.items cell tick period) }
         requires extents { AreExtentsOf rows.items extents }
@@ -87,7 +90,7 @@ impl Chart {
         self.extents.time.greatest
     }
 
-    /// From the least to the greatest instant, column and line of its rows.
+    /// The least and the greatest instant, column and line of its rows.
     pub fn extents(&self) -> Extents
         ensures value { AreExtentsOf self.now.rows result }
         ensures chart { IsChart self.now }

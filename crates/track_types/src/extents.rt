@@ -5,7 +5,7 @@ ghost use Rattle.track_types.specs.declared.row.Row.{Row};
 
 use crate::row::Row;
 
-/// From the least to the greatest of some numbers.
+/// The least and the greatest of some numbers.
 #[derive(Clone, Copy, Debug, PartialEq, Eq)]
 pub struct Extent {
     pub least: i64,
@@ -25,7 +25,7 @@ impl Extent {
         }
     }
 
-    /// The extent, and so much more that a number is in it.
+    /// The extent, widened so that a number is in it.
     pub fn widened(self, number: i64) -> Self
         ensures { result ≡ widened self number }
     {
@@ -35,8 +35,7 @@ impl Extent {
         }
     }
 
-    /// How many whole numbers there are, the least and the greatest among them. Both are at most 2^40
-    /// away from 0.
+    /// How many whole numbers it has, both ends counted. These are at most 2^40 away from 0.
     pub fn width(self) -> u64
         requires least { IsNear self.least }
         requires greatest { IsNear self.greatest }

@@ -68,7 +68,7 @@ pub enum Kind {
     Rule,
     /// A symbol is neither a terminal nor a rule.
     Symbol,
-    /// The lengths of all blocks do not add up to the log's length. It is told at the last period's
+    /// The lengths of all blocks do not add up to the log's length. Its place is the last period's
     /// first length.
     Total,
     /// An anchor is after its period's end.

@@ -1,12 +1,14 @@
-//! The plain values that all crates of gract speak of: cells, boxes and regions, rows, charts and
-//! their limits, lists and packed bits that contracts see as lists, the parts of an index and their
-//! flaws, walks that find their items one by one, questions and whatever answers them, and whole
-//! numbers in text.
+//! The plain values that all crates of gract speak of, and what they mean.
 //!
-//! `number` is exact: a word is no numeral, or one that is too large, or its value. A `Chart` keeps
-//! in its type all that holds of gridded rows. `Region::touches` is true if and only if a cell of the
-//! box is in the region. The crate stands on packed_bits, step_count and
-//! list_laws.
+//! They are
+//! - cells, boxes and regions;
+//! - rows and charts, with their limits;
+//! - the parts of an index, and their flaws;
+//! - questions, the traits of whatever answers them, and walks that find their items one by one;
+//! - whole numbers in text.
+//!
+//! A `Chart` keeps in its type all that holds of gridded rows. An `Answerer` answers what filtering
+//! its chart's rows gives.
 #![tactic(auto)]
 
 mod answerer;

@@ -36,7 +36,7 @@ pub const MAX_HEIGHT: u32 = 24;
 pub const MAX_NARROW_HEIGHT: u32 = 20;
 
 /// The newest version of the format of an index.
-pub const MAX_VERSION: u32 = 2;
+pub const MAX_VERSION: u32 = 3;
 
 /// The greatest resolution, 2^30: units of a cell, or units of time of an instant.
 pub const MAX_RESOLUTION: u64 = 1_073_741_824;

@@ -13,10 +13,10 @@ use step_count::Steps;
 
 /// An answerer that also tells when two objects first met.
 pub trait Meets: Answerer {
-    /// The first instant from one to another, both counted, at which two objects have a row within
-    /// `reach` cells of each other, and their cells; `None` if and only if there is none, as for an
-    /// unknown object. A distance is that of the centres of cells: its square is at most the square
-    /// of `reach`, which is at most `MAX_REACH`. One object with itself is its first row in the window.
+    /// The first instant from one to another, both counted, at which two objects have a row within `reach` cells of
+    /// each other, and their cells. `None` if and only if there is no such instant, as for an unknown object. A
+    /// distance is that of the centres of cells: its square is at most the square of `reach`, which is at most
+    /// `MAX_REACH`. One object with itself is its first row in the window.
     fn meet<L: Ledger>(
         self,
         alloc: Global,

@@ -30,7 +30,7 @@ pub fn number(word: &[u8]) -> Numeral
     }
 }
 
-// The value of few digits with nothing about them, as most words are.
+// The value of a word that is a few digits and nothing else, as most words are.
 fn bare_number(word: &[u8]) -> Option<i64>
     ensures { IfSome result (λ value. numeral_of word.now ≡ Numeral.Value value) }
 {
@@ -96,8 +96,8 @@ fn signed(is_negative: bool, digits: &[u8]) -> Numeral
     }
 }
 
-// What the digits mean, in one pass, or none where there is no byte or one that is no digit. Many
-// digits at once are the fastest.
+// What the digits mean, in one pass, or none where there is no byte or one that is no digit. It is
+// fastest to take many digits at once.
 fn few_digits(digits: &[u8]) -> Option<i64>
     requires { length digits.now ≤ 18 }
     ensures decimal { IfSome result (λ _. is_decimal digits.now ≡ true) }
@@ -215,7 +215,7 @@ fn one_digit(byte: u8) -> Option<u64>
     }
 }
 
-// Digits of any number, of which leading zeros may be most.
+// Digits of any number. Most of them may be leading zeros.
 fn signed_long(is_negative: bool, digits: &[u8]) -> Numeral
     ensures { result ≡ signed_of is_negative digits.now }
 {

@@ -19,7 +19,7 @@ pub struct RawRow {
 /// Why a record is not a row.
 #[derive(Clone, Copy, Debug, PartialEq, Eq)]
 pub enum RowFault {
-    /// It has not four fields.
+    /// It does not have four fields.
     Count,
     /// A field is no numeral.
     NotNumber,

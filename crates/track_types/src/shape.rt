@@ -5,7 +5,7 @@ ghost use Rattle.track_types.specs.Region.{IsShapeWithin, in_shape, intersects_s
 use crate::cell::Cell;
 use crate::cell_box::CellBox;
 
-/// A simple set of cells, of which regions are made.
+/// A simple set of cells. Regions are made of these.
 #[derive(Clone, Copy, Debug, PartialEq, Eq)]
 pub enum Shape {
     /// The cells of the columns `x1` to `x2` and the lines `y1` to `y2`, all ends counted. None where

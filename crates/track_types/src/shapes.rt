@@ -46,7 +46,7 @@ impl Shapes {
         Shapes { places, count: 1 }
     }
 
-    /// Adds a shape after the others, of which there are fewer than 16.
+    /// Adds a shape after the others, which are fewer than 16.
     pub fn add(&mut self, shape: Shape)
         requires { length self.old < 16 }
         ensures { self.new ≡ self.old ++ shape ∷ [] }

@@ -56,7 +56,7 @@ returns-in-Upgrade-clause-complete g c = λ ready calm.
     let asked : request_of c.args.words.now ≡ request.Upgrade c.in-Upgrade.old c.in-Upgrade.new =
     sym c.read_request.ensures.value ∙ c.in-Upgrade.is in
     let needs = rw asked at ready in
-    upgrade-good c.in-Upgrade.old.now c.in-Upgrade.new.now _ _ _ _ needs.0 c.upgrade.result c.upgrade.ensures.ends needs.1
+    upgrade-good c.in-Upgrade.old.now c.in-Upgrade.new.now _ _ _ _ needs c.upgrade.result c.upgrade.ensures.ends
     (λ is. calm.save (c.upgrade.ensures.save_faults.cause is)) calm.load
 
 pub returns-in-Merge-clause-complete : goal.returns-in-Merge-clause-complete

@@ -15,7 +15,7 @@ returns-in_err-parts-clause-flaw g c =
 pub returns-clause-ok : goal.returns-clause-ok
 returns-clause-ok g c =
     rw (sym c.deref.ensures.value)
-    (upgraded-file c.upgraded.result c.deref.result.now c.in_ok-parts.parts c.in_ok-parts.ensures.shaped
+    (upgraded-file c.upgraded.result c.deref.result.now c.in_ok-parts.parts c.in_ok-parts.ensures.formed
     c.in_ok-parts.ensures.spelled c.upgraded.ensures.exact c.upgraded.ensures.ok)
 
 pub returns-clause-flaw : goal.returns-clause-flaw

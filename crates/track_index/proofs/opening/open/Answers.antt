@@ -26,7 +26,7 @@ returns-clause-exact g c =
 
 pub returns-clause-decides : goal.returns-clause-decides
 returns-clause-decides g c = λ whole file.
-    decided c.in_ok-parts.parts whole c.check.result (c.in_ok-parts.ensures.one whole file.valid.shaped file.spelled)
+    decided c.in_ok-parts.parts whole c.check.result (c.in_ok-parts.ensures.one whole file.formed file.spelled)
     file.valid c.check.ensures.ok c.check.ensures.flaw
 
 pub returns-clause-flaw : goal.returns-clause-flaw

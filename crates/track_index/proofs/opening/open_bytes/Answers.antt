@@ -29,7 +29,7 @@ returns-clause-exact g c =
 pub returns-clause-decides : goal.returns-clause-decides
 returns-clause-decides g c = λ whole file.
     decided c.in_ok-parts.parts whole c.check.result
-    (c.in_ok-parts.ensures.one whole file.valid.shaped (c.as_slice.ensures.value ∙ file.spelled))
+    (c.in_ok-parts.ensures.one whole file.formed (c.as_slice.ensures.value ∙ file.spelled))
     file.valid c.check.ensures.ok c.check.ensures.flaw
 
 pub returns-clause-flaw : goal.returns-clause-flaw
