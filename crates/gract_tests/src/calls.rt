@@ -1,7 +1,8 @@
-//! Cases are text: a row of a table, or a line of its own. Adding one adds nothing that is to be proved.
+//! Cases are text: a row of a table, or a line of its own. A further case adds nothing to prove.
 use crate::script::{Part, first_wrong};
 use crate::{
     damage, devices, doubling, extending, lines, merging, refusals, replies, samples, tails,
+    upgrading,
 };
 use std::test::Fail;
 use track_types::Memory;
@@ -29,8 +30,9 @@ fn lines_have_their_replies(rt: HostRuntime) -> Result<(), Fail> {
 
 #[test]
 fn an_index_is_saved_summed_and_joined(rt: HostRuntime) -> Result<(), Fail> {
-    let scripts: [&[Part]; 5] = [
+    let scripts: [&[Part]; 6] = [
         &samples::SCRIPT,
+        &upgrading::SCRIPT,
         &doubling::SCRIPT,
         &tails::SCRIPT,
         &merging::SCRIPT,

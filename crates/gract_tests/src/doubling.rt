@@ -35,6 +35,23 @@ const FEW: Part = (
     ONCE,
 );
 
+/// Its upgrade answers too.
+const UPGRADED: Part = (
+    "files 20000
+    file t.csv @
+    run upgrade t.csv t.idx
+    ends 0
+    sink 4096
+    asks 4096 position 999 4194303|path 7 4194302 9000000|nearest 2 4194303 1 0|info|
+    run ask t.idx
+    ends 0
+    said 0 0|ok 1|4194302 0 0|4194303 0 0|ok 2|0 0 0 1|1 0 0 1|ok 2|objects 1000|first 0|last 4194303|period 4194304|\
+        cell 1|tick 1|height 1|alphabet 1|rules 21|log 22000|depth 21|ok 11|
+    files 4096
+    file t.csv @",
+    ONCE,
+);
+
 /// The index is opened in place of that of `once` and of `sample`, whatever that was.
 const LAID: Part = (
     "lay @
@@ -84,7 +101,7 @@ const REFUSED: Part = (
 
 /// The index of 1,000 objects that stand still for 2^22 instants: four billion rows, in 104,507 bytes. Its 21 rules
 /// double. Then the same with 22 rules.
-pub const SCRIPT: [Part; 31] = [
+pub const SCRIPT: [Part; 32] = [
     (
         "new
         text GRACT001
@@ -104,6 +121,7 @@ pub const SCRIPT: [Part; 31] = [
     LENGTHS,
     LOGS,
     FEW,
+    UPGRADED,
     LAID,
     ("text # 0 0|", "0..1000"),
     ("text ok 1000|", ONCE),

@@ -1,7 +1,7 @@
 use crate::script::{ONCE, Part};
 
 /// The rows of an object, and later ones: one of an instant that has a row, one before the first instant, and two of
-/// another object, of which one is far away. Then files that are refused, alone or together with the index.
+/// another object, one of them far away. Then files that are refused, alone or together with the index.
 const FILES: Part = (
     "file $0 $1",
     "t.csv ; @rows

@@ -27,3 +27,5 @@ mod script;
 mod stage;
 #[cfg(test)]
 mod tails;
+#[cfg(test)]
+mod upgrading;

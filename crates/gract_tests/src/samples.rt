@@ -22,24 +22,4 @@ const SAMPLES: Part = (
         ok 11|ok 1|ok 60|ok 17|ok 1|ok 5|",
 );
 
-/// What saves the index of t.csv, with one save, and lets it answer.
-const SAVES: Part = (
-    "new
-    file t.csv $1
-    asks 4096 position 7 2|
-    run $0
-    ends 0
-    heard 0
-    said
-    holds t.idx @index
-    holds t.csv $1
-    run ask t.idx
-    ends 0
-    said 12 11|ok 1|
-    free 15",
-    "build t.csv t.idx 1 1 4 ; @rows
-    upgrade t.csv t.idx ; @old
-    upgrade t.csv t.idx ; @index",
-);
-
-pub const SCRIPT: [Part; 2] = [SAMPLES, SAVES];
+pub const SCRIPT: [Part; 1] = [SAMPLES];

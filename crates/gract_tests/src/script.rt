@@ -9,7 +9,7 @@ use track_types::Memory;
 /// from FROM up to but not TO, for which `#` stands.
 pub type Part = (&'static str, &'static str);
 
-/// The table of lines that are done once.
+/// The table for lines that are done once.
 pub const ONCE: &str = "-";
 
 // The first row with a line that is not so, and this line; or none. The stage stays from part to part.

@@ -18,7 +18,12 @@ const TURNS: &[u8] =
 free 1\nmore 1 1\n";
 
 /// The index of `ROWS` under CELL 1, TICK 1 and PERIOD 4.
-const INDEX: &[u8] = b"GRACT002\x04\0\0\0\x02\0\0\0\x01\0\0\0\x03\0\0\0\x02\0\0\0\0\0\0\0\x02\0\0\0\
+const INDEX: &[u8] = b"GRACT003\x04\0\0\0\x02\0\0\0\x01\0\0\0\x03\0\0\0\x02\0\0\0\0\0\0\0\
+\0\0\0\0\0\0\0\0\x0a\0\0\0\0\0\0\0\x0a\0\0\0\0\0\0\0\x01\0\0\0\0\0\0\0\x01\0\0\0\0\0\0\0\x04\x3a\x08";
+
+/// The same index in version 2 of the format.
+const PACKED_INDEX: &[u8] =
+    b"GRACT002\x04\0\0\0\x02\0\0\0\x01\0\0\0\x03\0\0\0\x02\0\0\0\0\0\0\0\x02\0\0\0\
 \0\0\0\0\0\0\0\0\x0a\0\0\0\0\0\0\0\x0a\0\0\0\0\0\0\0\x01\0\0\0\0\0\0\0\x01\0\0\0\0\0\0\0\
 \x07\0\0\0\x02\0\0\0\0\0\0\0\x03\0\0\0\0\0\0\0\x01\0\0\0\0\x08\0\0\0\x11\x01\0\0\0\0\x02\0\0\0\x02";
 
@@ -28,6 +33,11 @@ const OLD_INDEX: &[u8] =
 \0\0\0\0\0\0\0\0\x0a\0\0\0\0\0\0\0\x0a\0\0\0\0\0\0\0\x01\0\0\0\0\0\0\0\x01\0\0\0\0\0\0\0\
 \x07\0\0\0\x02\0\0\0\0\0\0\0\x03\0\0\0\0\0\0\0\x01\0\0\0\0\x08\0\0\0\x11\x01\0\0\0\0\x02\0\0\0\
 \0\0\0\0\x01\0\0\0";
+
+/// The index, with two rules, of object 7 at (10 + t, 10) for t from 0 to 7, and of object 9 at (10, 12) at instant 1 and
+/// at (10, 13) at 6, under the same.
+const PAIR_INDEX: &[u8] = b"GRACT003\x04\0\0\0\x03\0\0\0\x02\0\0\0\x08\0\0\0\x02\0\0\0\x02\0\0\0\
+\0\0\0\0\0\0\0\0\x0a\0\0\0\0\0\0\0\x0a\0\0\0\0\0\0\0\x01\0\0\0\0\0\0\0\x01\0\0\0\0\0\0\0\x04\x52\x8a\x54\x09\x5c\x16\x08\x8c\x01";
 
 /// What is handed to a call, what a script builds it from, and how the last call ended.
 #[derive(Drop)]
@@ -152,7 +162,9 @@ impl Stage {
             "@rows" => ROWS,
             "@turns" => TURNS,
             "@index" => INDEX,
+            "@packed" => PACKED_INDEX,
             "@old" => OLD_INDEX,
+            "@pair" => PAIR_INDEX,
             _ => return Vec::from_slice(alloc, text.replace(alloc, "|", "\n")?.as_bytes()),
         };
         Vec::from_slice(alloc, bytes)

@@ -12,24 +12,28 @@ pub fn bytes_of(alloc: Global, file: &[u8], damage: Damage) -> Result<Vec<u8>, M
     Ok(damaged(alloc, file, len, place, byte)?)
 }
 
-// Whether bytes were refused for the flaw of a damage, in the first period or outside the periods, or were not where it
-// has none.
-pub fn is_told<T>(damage: Damage, answer: Result<T, FormatFault>) -> bool
+// The flaw of a damage, which is in the first period or outside the periods.
+pub fn flaw_of(damage: Damage) -> Option<Flaw> {
+    let (_len, _place, _byte, flaw) = damage;
+    match flaw {
+        Some((section, index, kind)) => Some(Flaw {
+            section,
+            period: 0,
+            index,
+            kind,
+        }),
+        None => None,
+    }
+}
+
+// Whether bytes were refused for a flaw, or were not where it is none.
+pub fn is_told<T>(want: Option<Flaw>, answer: Result<T, FormatFault>) -> bool
 where
     T: Drop,
 {
-    let (_len, _place, _byte, want) = damage;
     match answer {
         Ok(_value) => want.is_none(),
-        Err(FormatFault::Flaw(flaw)) => {
-            let Flaw {
-                section,
-                period,
-                index,
-                kind,
-            } = flaw;
-            period == 0 && want == Some((section, index, kind))
-        }
+        Err(FormatFault::Flaw(flaw)) => want == Some(flaw),
         Err(FormatFault::Memory) => false,
     }
 }

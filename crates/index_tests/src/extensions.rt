@@ -34,7 +34,7 @@ fn extension_of(rt: &HostRuntime, chart: &Chart, later: Option<Chart>) -> Result
     extended_chart::<Brand>(rt, chart, later, Blank::new(1))
 }
 
-// A row in place of one of the index, one before its first instant, and one of an object that it has not.
+// A row in place of one of the index, one before its first instant, and one of an object that it does not have.
 const LATER: [Place; 3] = [(7, -3, 1, 1), (7, 2, 9, 9), (8, 5, 3, 3)];
 
 const ALL: [Place; 5] = [

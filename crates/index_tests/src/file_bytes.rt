@@ -1,16 +1,18 @@
 ghost use Rattle.std.specs.Prelude.{IfOk};
-ghost use Rattle.track_types.specs.Shape.{IsShaped};
+ghost use Rattle.index_format.specs.Stored.{IsStored};
 
-use crate::damage::{Damage, bytes_of, is_told};
-use crate::files::{FILE, four_billion_rows, four_billion_rows_packed, packed_file};
-use index_format::{FormatFault, decode, encode};
+use crate::damage::{Damage, bytes_of, flaw_of, is_told};
+use crate::files::{
+    FILE, NEW_FILE, PAIR_FILE, four_billion_rows, four_billion_rows_packed, packed_file,
+};
+use index_format::{FormatFault, OutlineBlock, Stored, decode, encode, encode_outline};
 use std::alloc::Global;
 use std::test::Fail;
 use track_types::{Kind, Memory, Parts, PeriodParts, Section};
 
-// The parts of bytes that are few enough.
-fn read(alloc: Global, bytes: &[u8]) -> Result<Parts, FormatFault>
-    ensures { IfOk result (λ parts. IsShaped parts) }
+// What bytes store that are few enough.
+fn read(alloc: Global, bytes: &[u8]) -> Result<Stored, FormatFault>
+    ensures { IfOk result (λ stored. IsStored stored) }
 {
     if bytes.len() > 1 << 30 {
         return Err(FormatFault::Memory);
@@ -18,10 +20,20 @@ fn read(alloc: Global, bytes: &[u8]) -> Result<Parts, FormatFault>
     decode(alloc, bytes)
 }
 
+// The bytes of what is stored.
+fn written(alloc: Global, stored: &Stored) -> Result<Vec<u8>, Memory>
+    requires { IsStored stored.now }
+{
+    match stored {
+        Stored::Parts(parts) => encode(alloc, parts),
+        Stored::Outline(outline) => encode_outline(alloc, outline),
+    }
+}
+
 // The bytes that are written of what was read.
 fn again(alloc: Global, bytes: &[u8]) -> Result<Vec<u8>, FormatFault> {
-    let parts = read(alloc, bytes)?;
-    match encode(alloc, &parts) {
+    let stored = read(alloc, bytes)?;
+    match written(alloc, &stored) {
         Ok(bytes) => Ok(bytes),
         Err(Memory) => Err(FormatFault::Memory),
     }
@@ -55,15 +67,64 @@ fn is_of_path(period: &PeriodParts) -> bool {
     sizes == (1, 8, 1) && period.lengths.as_slice() == [2].as_slice()
 }
 
+// Whether the parts of that path are stored.
+fn stores_path(stored: &Stored) -> bool {
+    match stored {
+        Stored::Parts(parts) => are_of_path(parts),
+        Stored::Outline(_) => false,
+    }
+}
+
 #[test]
 fn the_whole_file_is_read_and_written_again(rt: HostRuntime) -> Result<(), Fail> {
-    let parts = read(rt.alloc(), &FILE)?;
-    assert!(rt; are_of_path(&parts), "the parts");
+    assert!(rt; stores_path(&read(rt.alloc(), &FILE)?), "the parts");
     assert!(rt; is_same_again(rt.alloc(), &FILE)?, "the bytes");
     let packed = packed_file(rt.alloc())?;
-    let parts = read(rt.alloc(), &packed)?;
-    assert!(rt; are_of_path(&parts), "the parts of version 2");
+    assert!(rt;
+        stores_path(&read(rt.alloc(), &packed)?),
+        "the parts of version 2"
+    );
     assert!(rt; is_same_again(rt.alloc(), &packed)?, "its bytes");
+    Ok(())
+}
+
+// A block's period, object, offset, cell and length.
+type Told = (u32, u32, u32, (i64, i64), u32);
+
+const BLOCKS: [Told; 4] = [
+    (0, 0, 0, (0, 0), 1),
+    (1, 0, 0, (4, 0), 1),
+    (0, 1, 1, (0, 2), 2),
+    (1, 1, 2, (0, 3), 1),
+];
+
+fn are_blocks(blocks: &[OutlineBlock], told: &[Told]) -> bool {
+    blocks.len() == told.len()
+        && blocks.iter().zip(told).all(|(block, told)| {
+            let cell = (block.cell.x, block.cell.y);
+            (block.period, block.index, block.offset, cell, block.length) == *told
+        })
+}
+
+// Whether the outline of the two objects is stored.
+fn stores_pair(stored: &Stored) -> bool {
+    match stored {
+        Stored::Parts(_) => false,
+        Stored::Outline(outline) => {
+            outline.objects.as_slice() == [7, 9].as_slice()
+                && outline.alphabet.as_slice() == [0, 2].as_slice()
+                && outline.rules.as_slice() == [(1, 1), (2, 1)].as_slice()
+                && are_blocks(outline.blocks.as_slice(), &BLOCKS)
+                && outline.symbols.as_slice() == [3, 3, 0, 0, 0].as_slice()
+        }
+    }
+}
+
+#[test]
+fn the_newest_files_are_read_and_written_again(rt: HostRuntime) -> Result<(), Fail> {
+    assert!(rt; stores_pair(&read(rt.alloc(), &PAIR_FILE)?), "the outline");
+    assert!(rt; is_same_again(rt.alloc(), &PAIR_FILE)?, "its bytes");
+    assert!(rt; is_same_again(rt.alloc(), &NEW_FILE)?, "a path");
     Ok(())
 }
 
@@ -72,7 +133,7 @@ const FIRST: [Damage; 12] = [
     (0, 200, 0, Some((Section::Header, 0, Kind::Short))),
     (75, 200, 0, Some((Section::Header, 12, Kind::Short))),
     (96, 200, 0, Some((Section::Presence, 0, Kind::Short))),
-    (123, 7, b'3', Some((Section::Header, 0, Kind::Magic))),
+    (123, 7, b'4', Some((Section::Header, 0, Kind::Magic))),
     (123, 8, 0, Some((Section::Header, 1, Kind::Field))),
     (123, 12, 21, Some((Section::Header, 2, Kind::Field))),
     (123, 88, 2, Some((Section::Alphabet, 1, Kind::Order))),
@@ -89,7 +150,7 @@ const SECOND: [Damage; 4] = [
     (116, 12, 25, Some((Section::Header, 2, Kind::Field))),
 ];
 
-// The first damage that is not told so, by how many bytes there are and the place.
+// The first damage that is not refused so, by how many bytes there are and the place.
 fn first_untold(
     alloc: Global,
     file: &[u8],
@@ -97,7 +158,7 @@ fn first_untold(
 ) -> Result<Option<(usize, usize)>, Memory> {
     for &damage in cases {
         let bytes = bytes_of(alloc, file, damage)?;
-        if !is_told(damage, read(alloc, bytes.as_slice())) {
+        if !is_told(flaw_of(damage), read(alloc, bytes.as_slice())) {
             let (len, place, ..) = damage;
             return Ok(Some((len, place)));
         }
@@ -121,6 +182,14 @@ fn are_in_turns(symbols: &[u32]) -> bool {
         .all(|(place, symbol)| *symbol as usize == place % 22)
 }
 
+// Whether parts with such symbols are stored.
+fn stores_turns(stored: &Stored) -> bool {
+    match stored {
+        Stored::Parts(parts) => are_in_turns(parts.symbols.as_slice()),
+        Stored::Outline(_) => false,
+    }
+}
+
 #[test]
 fn four_billion_rows_take_a_hundred_thousand_bytes(rt: HostRuntime) -> Result<(), Fail> {
     let bytes = four_billion_rows(rt.alloc(), 21)?;
@@ -133,7 +202,7 @@ fn four_billion_rows_take_a_hundred_thousand_bytes(rt: HostRuntime) -> Result<()
         packed.len() == 30_257 && is_same_again(rt.alloc(), &packed)?,
         "version 2"
     );
-    let parts = read(rt.alloc(), &packed)?;
-    assert!(rt; are_in_turns(parts.symbols.as_slice()), "the same symbols");
+    let stored = read(rt.alloc(), &packed)?;
+    assert!(rt; stores_turns(&stored), "the same symbols");
     Ok(())
 }

@@ -8,6 +8,37 @@ pub const FILE: [u8; 123] = [
     0, 0, 0, 0, 1, 0, 0, 0, 0, 8, 0, 0, 0, 17, 1, 0, 0, 0, 0, 2, 0, 0, 0, 0, 0, 0, 0, 1, 0, 0, 0,
 ];
 
+// The same index in a file of version 3.
+pub const NEW_FILE: [u8; 75] = [
+    71, 82, 65, 67, 84, 48, 48, 51, 4, 0, 0, 0, 2, 0, 0, 0, 1, 0, 0, 0, 3, 0, 0, 0, 2, 0, 0, 0, 0,
+    0, 0, 0, 0, 0, 0, 0, 0, 0, 0, 0, 10, 0, 0, 0, 0, 0, 0, 0, 10, 0, 0, 0, 0, 0, 0, 0, 1, 0, 0, 0,
+    0, 0, 0, 0, 1, 0, 0, 0, 0, 0, 0, 0, 4, 58, 8,
+];
+
+// The index file, in version 3, of object 7 at (10 + t, 10) for t from 0 to 7, and of object 9 at (10, 12) at instant 1
+// and at (10, 13) at 6, in periods of four instants. It has two rules, one in each of two layers.
+pub const PAIR_FILE: [u8; 82] = [
+    71, 82, 65, 67, 84, 48, 48, 51, 4, 0, 0, 0, 3, 0, 0, 0, 2, 0, 0, 0, 8, 0, 0, 0, 2, 0, 0, 0, 2,
+    0, 0, 0, 0, 0, 0, 0, 0, 0, 0, 0, 10, 0, 0, 0, 0, 0, 0, 0, 10, 0, 0, 0, 0, 0, 0, 0, 1, 0, 0, 0,
+    0, 0, 0, 0, 1, 0, 0, 0, 0, 0, 0, 0, 4, 82, 138, 84, 9, 92, 22, 8, 140, 1,
+];
+
+// A file with other bytes from a place on, and so many in all.
+pub fn spliced(
+    alloc: Global,
+    file: &[u8],
+    place: usize,
+    bytes: &[u8],
+    len: usize,
+) -> Result<Vec<u8>, AllocError> {
+    let mut all = Vec::from_slice(alloc, file.get(..place).unwrap_or(&[]))?;
+    all.extend_from_slice(bytes)?;
+    let behind = all.len();
+    all.extend_from_slice(file.get(behind..).unwrap_or(&[]))?;
+    all.truncate(len);
+    Ok(all)
+}
+
 // A file's first bytes, one of them changed, and a byte 0 where more are asked for.
 pub fn damaged(
     alloc: Global,

@@ -58,7 +58,7 @@ fn limit_told(fault: &GridFault) -> Option<(LimitKind, u64)> {
     }
 }
 
-// A name, so many objects at time 0, a further row, the period, and the value that is told as too great, if one is.
+// A name, so many objects at time 0, a further row, the period, and the value that is refused as too great, if one is.
 type Case = (&'static str, u32, Place, u32, u64);
 
 // Whether a file is refused for this limit with the value that is wanted, or not at all.

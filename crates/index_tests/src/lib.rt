@@ -1,5 +1,5 @@
-//! The tests of all that is made of a chart: blocks of movements, parts, files, indexes, unions of two,
-//! extensions, and meetings.
+//! The tests of all that is made of a chart: blocks of movements, parts, files, indexes, unions of
+//! two, extensions, and meetings.
 #![tactic(auto)]
 
 #[cfg(test)]
@@ -20,6 +20,8 @@ mod files;
 mod grids;
 #[cfg(test)]
 mod meetings;
+#[cfg(test)]
+mod newest;
 #[cfg(test)]
 mod opening;
 #[cfg(test)]

@@ -3,21 +3,24 @@ ghost use Rattle.std.specs.Prelude.{◌≡◌, ◌<◌};
 use crate::answers::plain::{Bounds, rect};
 use crate::answers::{PATH, path};
 use crate::charts::chart_of;
-use crate::damage::{Damage, bytes_of, is_told};
-use crate::files::{FILE, four_billion_rows, packed_file};
+use crate::damage::{Damage, bytes_of, flaw_of, is_told};
+use crate::files::{FILE, NEW_FILE, four_billion_rows, packed_file};
 use chart_parts::parts_of;
-use index_format::{FormatFault, encode};
+use index_file::encode;
+use index_format::FormatFault;
 use std::alloc::Global;
 use std::marker::Brand;
 use std::sync::ledger::{Blank, Ledger};
 use std::test::Fail;
 use step_count::Steps;
 use track_index::open;
-use track_types::{Answerer, Cell, Chart, Kind, Memory, Section, Sighting, Stop};
+use track_types::{
+    Answerer, Cell, Chart, Flaw, Kind, MAX_VERSION, Memory, Section, Sighting, Stop,
+};
 
 // The cell of an object at an instant, and the stops of its last three instants up to then, both
 // asked of the index that bytes are opened as.
-fn asked<L: Ledger>(
+pub fn asked<L: Ledger>(
     rt: &HostRuntime,
     bytes: &[u8],
     object: u32,
@@ -45,12 +48,16 @@ fn asked<L: Ledger>(
 }
 
 // The bytes of the index file of a chart.
-fn written(alloc: Global, chart: &Chart) -> Result<Vec<u8>, Memory> {
+pub fn written(alloc: Global, chart: &Chart) -> Result<Vec<u8>, Memory> {
     let parts = parts_of(alloc, chart)?;
-    encode(alloc, &parts)
+    // Never so: a chart is written as parts of the newest version.
+    if parts.frame.version != MAX_VERSION {
+        return Err(Memory);
+    }
+    encode(alloc, parts)
 }
 
-fn stop(instant: i64, x: i64, y: i64) -> Stop {
+pub fn stop(instant: i64, x: i64, y: i64) -> Stop {
     Stop {
         instant,
         cell: Cell { x, y },
@@ -68,7 +75,9 @@ fn has_path(rt: &HostRuntime, bytes: &[u8]) -> Result<bool, FormatFault> {
 fn a_chart_is_written_as_a_file_that_opens(rt: HostRuntime) -> Result<(), Fail> {
     let packed = packed_file(rt.alloc())?;
     let chart = chart_of(rt.alloc(), &PATH, 4)?;
-    assert!(rt; written(rt.alloc(), &chart)? == packed, "the bytes");
+    let bytes = written(rt.alloc(), &chart)?;
+    assert!(rt; bytes.as_slice() == NEW_FILE.as_slice(), "the bytes");
+    assert!(rt; has_path(&rt, &NEW_FILE)?, "version 3");
     assert!(rt; has_path(&rt, packed.as_slice())?, "version 2");
     assert!(rt; has_path(&rt, &FILE)?, "version 1");
     Ok(())
@@ -101,9 +110,9 @@ const CASES: [Damage; 22] = [
     (123, 200, 0, None),
 ];
 
-// Whether bytes are refused so, or answer.
-fn is_refused(rt: &HostRuntime, bytes: &[u8], damage: Damage) -> bool {
-    is_told(damage, asked::<Brand>(rt, bytes, 7, 2, Blank::new(1)))
+// Whether bytes are refused for this flaw, or answer where it is none.
+pub fn is_refused(rt: &HostRuntime, bytes: &[u8], flaw: Option<Flaw>) -> bool {
+    is_told(flaw, asked::<Brand>(rt, bytes, 7, 2, Blank::new(1)))
 }
 
 #[test]
@@ -112,7 +121,7 @@ fn damaged_bytes_are_refused_at_their_first_flaw(rt: HostRuntime) -> Result<(), 
         let bytes = bytes_of(rt.alloc(), &FILE, damage)?;
         let (len, place, ..) = damage;
         assert!(rt;
-            is_refused(&rt, bytes.as_slice(), damage),
+            is_refused(&rt, bytes.as_slice(), flaw_of(damage)),
             "{len} bytes, at {place}"
         );
     }
@@ -181,7 +190,7 @@ fn a_file_for_four_billion_rows_opens(rt: HostRuntime) -> Result<(), Fail> {
     let doubled = four_billion_rows(rt.alloc(), 22)?;
     let too_long = (0, 0, 0, Some((Section::Rules, 21, Kind::Rule)));
     assert!(rt;
-        is_refused(&rt, doubled.as_slice(), too_long),
+        is_refused(&rt, doubled.as_slice(), flaw_of(too_long)),
         "a rule more"
     );
     Ok(())

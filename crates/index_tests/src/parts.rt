@@ -56,7 +56,7 @@ fn are_periods(parts: &Parts, expected: &[Expected]) -> bool {
 // The header of a chart of cells and instants of one unit, from instant 0 on.
 fn frame(span: u32, period: u32, height: u32, x: i64, y: i64) -> Frame {
     Frame {
-        version: 2,
+        version: 3,
         first: 0,
         span,
         period,
@@ -86,7 +86,7 @@ fn is_path(parts: &Parts) -> bool {
         && are_periods(parts, &[whole])
 }
 
-// Three objects, of which two share a cell, then none, then one that is absent, then another.
+// Four periods: with three objects, two of them in one cell; with none; with one that is absent once; with another.
 fn is_sparse(parts: &Parts) -> bool {
     let shared = Expected {
         present: &[1, 1, 1],

@@ -95,7 +95,7 @@ fn cell_of(code: u64) -> CellBox {
     }
 }
 
-// The tree of places at such numbers, of which there are a few.
+// The tree of a few places at such numbers.
 fn tree_of(
     alloc: Global,
     height: u32,
@@ -182,7 +182,7 @@ fn do_searches_agree<L: Ledger>(
     true
 }
 
-// Whether so do those of each place.
+// Whether those of each place do.
 fn do_all_agree<L: Ledger>(host: &HostRuntime, made: &Made, blank: Blank) -> bool
     requires name { blank.name ≡ L.name }
     requires parts { blank.parts ≡ L.parts }

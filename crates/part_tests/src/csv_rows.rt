@@ -12,7 +12,7 @@ fn fault(nth: u64, field: u32, fault: RowFault) -> RowsFault {
     RowsFault::Row { nth, field, fault }
 }
 
-// Gives a parser bytes in pieces of a size, the last of which may be shorter.
+// Gives a parser bytes in pieces of a size. The last one may be shorter.
 fn take_in_pieces(
     parser: &mut RowParser,
     bytes: &[u8],
@@ -54,8 +54,8 @@ fn rows_of(alloc: Global, file: &[u8]) -> Result<Vec<RawRow>, RowsFault> {
     read_rows(alloc, file)
 }
 
-// What a short file has, and whether its pieces, each of which is read where a line ends in it, have the same rows or
-// the same fault.
+// What a short file has, and whether its pieces have the same rows or the same fault. Each piece in which a line ends
+// is read.
 fn read_both(alloc: Global, file: &str) -> (Result<Vec<RawRow>, RowsFault>, bool) {
     let bytes = file.as_bytes();
     let whole = rows_of(alloc, bytes);

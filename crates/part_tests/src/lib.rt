@@ -1,5 +1,5 @@
-//! The tests of the parts that an index is made of: bits, codes, permutations, trees, regions, rules, logs, snapshots,
-//! rows of files and grammars; and of the devices through which all goes.
+//! The tests of the parts that an index is made of: bits, codes, permutations, trees, regions,
+//! rules, logs, snapshots, rows of files and grammars; and of the devices through which all goes.
 #![tactic(auto)]
 
 #[cfg(test)]

@@ -52,7 +52,7 @@ fn is_box_near(cell: Cell, hull: &CellBox) -> bool
     true
 }
 
-// So it is, if there is one.
+// Whether a box is near where it is placed, if there is one.
 fn is_hull_near(cell: Cell, hull: Option<CellBox>) -> bool
     ensures { OnTrue result (IsHullAsked cell hull) }
 {

@@ -43,16 +43,15 @@ const TWO_PERIODS: Frame = Frame {
 // Two objects at (0, 0) and (1, 1), the second one from the fourth instant on.
 const TWO: [&str; 6] = ["11", "0 3", "1000 1001", "11", "0 1", "3 0"];
 
-// The same from the second instant on; of three objects, of which the second one is absent; and
-// both in one cell.
+// The same from the second instant on; three objects, the second one absent; and both in one cell.
 const NEAR: [&str; 6] = ["11", "0 1", "1000 1001", "11", "0 1", "3 0"];
 
 const OUTER: [&str; 6] = ["101", "0 1", "1000 1001", "11", "0 1", "3 0"];
 
 const BOTH: [&str; 6] = ["11", "0 1", "1000 1000", "01", "0 1", "3 0"];
 
-// Four objects, of which the second one is absent and none stands at its own place in leaf order:
-// the last one alone at (2, 1), and the two others at (3, 2).
+// Four objects: the second one is absent, the last one alone at (2, 1), and the two others are at
+// (3, 2). None stands at its own place in leaf order.
 const TURNED: [&str; 6] = ["1011", "1 0 1", "0101 0010 0100", "101", "2 0 1", "2 0 1"];
 
 // No object has a block.

@@ -51,7 +51,7 @@ fn holds_cells(test: &RegionTest, cells: &[CellRow]) -> bool {
     true
 }
 
-// So it does about each box.
+// Whether a borrowed test answers, as a search asks it, about each box.
 fn touches_boxes(test: &RegionTest, boxes: &[BoxRow]) -> bool {
     for &(x, y, columns, lines, touched) in boxes {
         if test.may(&box_from(x, y, columns, lines)) != touched {

@@ -34,7 +34,7 @@ fn is_great_disc_right() -> bool {
     edge && !above
 }
 
-// Discs around a cell below the near box, of which the greater has its corner.
+// Discs around a cell below the near box. The greater one has the box's corner.
 fn do_discs_touch() -> bool {
     let short = Region::Disc { x: 0, y: -1, r: 4 };
     let long = Region::Disc { x: 0, y: -1, r: 5 };

@@ -45,7 +45,7 @@ const CASES: [Case; 6] = [
     ),
 ];
 
-// Rules of which each stands for twice what the one before it does.
+// Rules that each stand for twice what the one before does.
 fn doubling_rules(alloc: Global) -> Result<Vec<(u32, u32)>, Memory> {
     let mut rules = Vec::new(alloc);
     for part in 0..25u32 {
@@ -127,7 +127,7 @@ fn told(entry: Entry) -> Summed {
     (entry.duration as usize, entry.dx, entry.dy, hull)
 }
 
-// What the entry of a symbol tells, if the symbol is in range.
+// What the entry of a symbol says, if the symbol is in range.
 fn told_of(store: &RuleStore, symbol: usize) -> Option<Summed> {
     let (terminals, rules, _symbols) = store.sizes();
     if symbol >= (terminals + rules) as usize {

@@ -33,7 +33,7 @@ const ROWS: [Row; 27] = [
     (27, 3, 0, 3),
 ];
 
-// Whether the row is told both ways.
+// Whether the row holds both ways.
 fn is_told((code, dx, dy, on_ring): Row) -> bool {
     let (code, dx, dy) = (u64::from(code), i64::from(dx), i64::from(dy));
     let movement = decode_move(code);

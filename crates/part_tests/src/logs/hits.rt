@@ -112,7 +112,7 @@ fn agrees(
     Ok(true)
 }
 
-// So it is, in a region of which both closures are made.
+// Whether they agree in a region, for which both closures are made.
 fn agrees_in(
     rt: &HostRuntime,
     store: &RuleStore,
@@ -145,7 +145,7 @@ fn agrees_in(
     agrees(rt, store, windows, stops, &test)
 }
 
-// So it is in four regions: one has the anchor's cell alone, two are about it, and one is far away.
+// Whether they agree in four regions: one has the anchor's cell alone, two are about it, and one is far away.
 pub fn all_agree(
     rt: &HostRuntime,
     store: &RuleStore,
