@@ -1,4 +1,5 @@
-"""Files of version 3 of what an index holds, of whatever version it was read, as docs/FORMAT.md says: for scripts/check_reader.
+"""Files of version 3 of what an index holds, of whatever version it was read, as docs/FORMAT.md says: for scripts/check_reader and
+scripts/fuzz_files.
 
 A file is its header, and elements: a section, a value, and in how many bits it stands, or None for a number. So one can be changed where
 it stands, and is spelt anew with what follows it.
@@ -7,6 +8,9 @@ it stands, and is spelt anew with what follows it.
 from typing import NamedTuple, Optional
 
 from made_index import code_of, header_of, move_of
+
+# Bytes of the header, behind which the elements stand.
+HEADER = 72
 
 
 class Element(NamedTuple):

@@ -1,4 +1,4 @@
-"""Index files that no chart was built for, section by section, as docs/FORMAT.md says: for scripts/fuzz_files.
+"""Index files of the first two versions that no chart was built for, section by section, as docs/FORMAT.md says: for scripts/fuzz_files.
 
 A file is a list of sections, each a pair of its name and its bytes, so that whoever damages it knows where sections end. made_bits.py makes
 files of version 3 of what others hold.
@@ -162,17 +162,16 @@ def index_of(draw):
             ("log", log_of(version, len(grammar.values), len(grammar.rules), symbols))]
 
 
-def sections_of(data, index):
-    """The sections of a whole file, which the second reader has read."""
-    sizes = [("magic", 8), ("counts", 28), ("first", 40), ("objects", 4 * len(index.objects)),
-             ("alphabet", 8 * len(index.alphabet)), ("rules", 8 * len(index.rules))]
+def sections_in(version, index):
+    """The sections of the file of what an index holds, in one of the first two versions."""
+    values, widths = len(index.alphabet), widths_of(version, index.height)
+    sections = header_of(version, index.period, index.height, len(index.objects), index.span, values, len(index.rules), len(index.symbols),
+                         index.first, index.base, index.cell, index.tick)
+    sections += [("objects", numbers(index.objects)), ("alphabet", numbers(index.alphabet, 8)),
+                 ("rules", numbers(part for rule in index.rules for part in rule))]
     for b, part in enumerate(index.periods):
-        count = len(part["objects"])
-        sizes += [(f"presence {b}", -(-len(index.objects) // 8)), (f"offsets {b}", 4 * count), (f"treelen {b}", 4),
-                  (f"tree {b}", -(-len(part["tree"]) // 8)), (f"lasts {b}", -(-count // 8)), (f"perm {b}", 4 * count),
-                  (f"lengths {b}", 4 * count)]
-    sections, at = [], 0
-    for name, size in [*sizes, ("log", len(data) - sum(size for _, size in sizes))]:
-        sections.append((name, data[at:at + size]))
-        at += size
-    return sections
+        tree = tree_of([morton(*cell, index.height) for cell in part["anchors"]], widths)
+        sections += [(f"presence {b}", bits([number in part["objects"] for number in index.objects])),
+                     (f"offsets {b}", numbers(part["offsets"])), (f"treelen {b}", numbers([len(tree)])), (f"tree {b}", bits(tree)),
+                     (f"lasts {b}", bits(part["lasts"])), (f"perm {b}", numbers(part["perm"])), (f"lengths {b}", numbers(part["lengths"]))]
+    return [*sections, ("log", log_of(version, values, len(index.rules), index.symbols))]

@@ -50,7 +50,7 @@ ADVICE: Dict[str, Advice] = {
     "limit symbols": Advice(
         "limit symbols passed at VALUE", f"take a smaller period, where objects are seldom there, or a greater tick, or {PARTS}"
     ),
-    "limit index": Advice("limit index passed at VALUE", "is it an index at all? No index that build makes is so long"),
+    "limit index": Advice("limit index passed at 1073741825", "is it an index at all? No index that build makes is so long"),
     "flaw": Advice(
         "index SECTION period PERIOD place INDEX: KIND",
         "check that INDEX is an index and was copied whole: compare its sha256 with that of the original. "

@@ -108,6 +108,7 @@ def random_rows(draw, far=40):
 TOP = Path(__file__).resolve().parent.parent.parent
 STORMS = TOP / "examples" / "atlantic-storms.csv"
 STORMS_INDEX = TOP / "examples" / "atlantic-storms.idx"
+OLDER_INDEXES = {version: TOP / "examples" / f"atlantic-storms-{version}.idx" for version in (1, 2)}
 NAMES = TOP / "examples" / "storm-names.csv"
 
 

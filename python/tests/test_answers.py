@@ -181,6 +181,18 @@ class Answers(unittest.TestCase):
                 self.assertEqual((built.file, built.rows, built.period), (str(file), len(rows), 1461))
             self.assertEqual(len(list(Path(folder).iterdir())), 5)
 
+    def test_older_indexes(self):
+        """An index in an older version of the format answers as the newest, and is extended to that."""
+        with tempfile.TemporaryDirectory() as folder, gract.open(plain.STORMS_INDEX) as newest:
+            for version, file in plain.OLDER_INDEXES.items():
+                self.assertEqual(file.read_bytes()[:8], b"GRACT00%d" % version)
+                with gract.open(file) as index:
+                    self.assertEqual((index.facts, index.bounds, index.span), (newest.facts, newest.bounds, newest.span))
+                    self.assertEqual(index.path(278), newest.path(278))
+                    self.assertEqual(index.interval(52000, 52200), newest.interval(52000, 52200))
+                gract.extend(file, [], Path(folder) / "it.idx")
+                self.assertEqual((Path(folder) / "it.idx").read_bytes(), plain.STORMS_INDEX.read_bytes())
+
     def test_tail_bounds(self):
         """Rows of a tail may be far from all rows of the index."""
         rows = [(number, at, number, at) for number in range(3) for at in range(20)]
