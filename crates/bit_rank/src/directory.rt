@@ -76,7 +76,7 @@ impl Directory {
     }
 }
 
-// Reads a list of which the first element, 0, is not stored.
+// Reads a list whose first element, 0, is not stored.
 fn entry<L: Ledger>(list: &CountedList<u32>, place: u32, steps: &mut Steps<L>) -> u32
     requires { place ≤ length list.now }
     ensures value { slice_get (0 ∷ list.now) place ≡ Some result }

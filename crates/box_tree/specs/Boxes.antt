@@ -16,7 +16,7 @@ box_with base corner reach = record {
   high = le-more (base.y +ℤ pos corner.1) reach.1;
 }
 
--- the boxes that lists tell
+-- the boxes that lists stand for
 unfoldable pub boxes_of : Cell → List (ℕ × ℕ) → List (ℕ × ℕ) → List CellBox
 boxes_of base [] reaches = []
 boxes_of base (corner ∷ corners) [] = []

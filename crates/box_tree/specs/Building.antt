@@ -24,11 +24,11 @@ use Rattle.box_tree.specs.declared.task.Task.{Task}
 abbrev pub task_levels : ℕ → Task → List ℕ
 task_levels narrow task = levels_below narrow task.below
 
--- its square
+-- the square of a task
 abbrev pub task_square : ℕ → Task → Square
 task_square narrow task = square_with (task_levels narrow task) task.prefix
 
--- a task tells its square and its places
+-- a task has its square and its places
 pub record IsTask (codes : List ℕ) (narrow : ℕ) (task : Task) : Type 0 where
   pub level : digits (task_levels narrow task) ≡ task.level
   pub deep : task.level ≤ MAX_HEIGHT

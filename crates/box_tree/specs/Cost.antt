@@ -5,30 +5,30 @@ use Rattle.std.specs.Prelude.{ℕ, ◌+◌, ◌*◌}
 abbrev pub bucket_limit : ℕ
 bucket_limit = 16
 
--- a box, of a node or of a place
+-- the reads of a box, of a node or of a place
 abbrev pub box_reads : ℕ
 box_reads = 2
 
--- what a node is
+-- the reads of what a node is
 abbrev pub link_reads : ℕ
 link_reads = 1
 
--- a place's cell
+-- the reads of a place's cell
 abbrev pub cell_reads : ℕ
 cell_reads = 1
 
--- all of a place: its box, and its cell
+-- the reads of all of a place: its box, and its cell
 abbrev pub place_reads : ℕ
 place_reads = box_reads + cell_reads
 
--- all of a node: its box, and what it is
+-- the reads of all of a node: its box, and what it is
 abbrev pub node_reads : ℕ
 node_reads = box_reads + link_reads
 
--- the places of a bucket, or the nodes of a branch's children
+-- the reads of the places of a bucket, or of the nodes of a branch's children
 abbrev pub opened_reads : ℕ
 opened_reads = bucket_limit * place_reads
 
--- a square with a node of its own that is opened
+-- the reads of a square with a node of its own that is opened
 abbrev pub opened_square_reads : ℕ
 opened_square_reads = opened_reads + node_reads

@@ -32,7 +32,7 @@ unfoldable pub Stand : (ℕ → ℕ → Type 0) → ℕ → List ℕ → Type 0
 Stand held first [] = Unit {0}
 Stand held first (prefix ∷ prefixes) = held prefix first × Stand held (first + 1) prefixes
 
--- it is a branch, and its children are those that hold a number, one node after another
+-- a node is a branch, and its children are those that hold a number, one node after another
 pub record IsBranch (codes : List ℕ) (n level prefix end mask : ℕ) (held : ℕ → ℕ → Type 0) : Type 0 where
   pub first : ℕ
   pub few : mask < 2 ^ 16

@@ -1,4 +1,4 @@
--- Levels of squares. A level is told by the number of digits to base 4 that it takes: 1 where a square has two columns
+-- Levels of squares. A level is given by the number of digits to base 4 that it takes: 1 where a square has two columns
 -- and two rows of children, 2 where it has four of each. A list of levels goes from the one below a square down to the
 -- cells.
 use Rattle.std.specs.Prelude.{ℕ, ◌+◌, ◌-◌, ◌*◌, ◌^◌, Bool, nat_lt, if◌then◌else◌, List, [], ◌∷◌, filter}
@@ -11,7 +11,7 @@ abbrev pub digits : List ℕ → ℕ
 digits [] = 0
 digits (level ∷ levels) = level + digits levels
 
--- where the numbers of the square with this prefix begin among ascending ones, n digits being below it
+-- where the numbers of the square with this prefix begin among ascending ones; n digits are below it
 unfoldable pub square_start : List ℕ → ℕ → ℕ → ℕ
 square_start codes n prefix = place_among codes (prefix * 4 ^ n)
 

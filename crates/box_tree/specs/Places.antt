@@ -59,11 +59,11 @@ pub record Square : Type 0 where
   pub levels : List ℕ
   pub prefix : ℕ
 
--- the square with these
+-- the square with these levels and this prefix
 abbrev pub square_with : List ℕ → ℕ → Square
 square_with levels prefix = record { levels = levels; prefix = prefix }
 
--- its places
+-- the places of a square
 abbrev pub square_places : Places → Square → List ℕ
 square_places places square = run places.codes (digits square.levels) square.prefix
 

@@ -9,7 +9,7 @@ use Rattle.k2_tree.specs.Squares.{Node}
 abbrev pub IsWider : (CellBox → Bool) → Type 0
 IsWider keep = (inner outer : CellBox) → IsBoxInside inner outer → keep inner ≡ true → keep outer ≡ true
 
--- so are a test of squares, told by their boxes, and a test of boxes
+-- two tests are true of a box where they are true of one in it: a test of squares, given as boxes, and a test of boxes
 pub record AreMonotone (square area : CellBox → Bool) : Type 0 where
   pub squares : IsWider square
   pub boxes : IsWider area
@@ -23,6 +23,6 @@ pub record Tests : Type 0 where
 abbrev pub squares_at : Cell → (CellBox → Bool) → Node → Bool
 squares_at base squares square = squares (area_at base square)
 
--- both tests, over a grid from a base
+-- a test of squares and a test of boxes, over a grid from a base
 abbrev pub tests_at : Cell → (CellBox → Bool) → (CellBox → Bool) → Tests
 tests_at base squares boxes = record { square = squares_at base squares; area = boxes }

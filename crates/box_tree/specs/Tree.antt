@@ -13,7 +13,7 @@ use Rattle.box_tree.specs.Held.{Nodes, Held}
 use Rattle.box_tree.specs.declared.node_ref.NodeRef.{NodeRef}
 use Rattle.box_tree.specs.declared.node_ref.TheConstants.{SLOTS}
 
--- so many levels, of which so many, the lowest, take one digit and the others two
+-- so many levels: so many lowest ones take one digit each, and the others two
 unfoldable pub levels_below : ℕ → ℕ → List ℕ
 levels_below narrow zero = []
 levels_below narrow (suc below) = (if nat_lt below narrow then 1 else 2) ∷ levels_below narrow below
@@ -48,7 +48,7 @@ abbrev pub child_limit : List ℕ → ℕ
 child_limit [] = 0
 child_limit (level ∷ levels) = 4 ^ level
 
--- levels of which the lowest take one digit and the others two, and the digits of all of them
+-- levels, the lowest of one digit and the others of two, and the digits of all of them
 pub record AreLevels (height narrow all : ℕ) : Type 0 where
   pub digits_are : digits (levels_below narrow height) ≡ all
   pub few : all ≤ MAX_HEIGHT

@@ -59,7 +59,7 @@ walk_reads test walk = place_reads * (walk.high - walk.low) + sum_by (square_wor
 abbrev pub turns_in : Places → Square → ℕ
 turns_in places square = squares_in (λ _. true) places.codes square.levels square.prefix
 
--- and in all of them
+-- how many squares are in all that are still to be visited
 abbrev pub walk_turns : NodeWalkView → ℕ
 walk_turns walk = sum_by (turns_in walk.tree.places) walk.pending
 
@@ -98,8 +98,8 @@ pub record IsScanned (tests : Tests) (old new : NodeWalkView) (found : Option �
   pub left : places_left tests old ≡ option_to_list found ++ places_left tests new
   pub reads : steps + walk_reads tests.square new ≤ begun + walk_reads tests.square old
 
--- a branch gave way to its children: they are nodes of the tree, one level lower; their places are its places, in
--- order; the reads that a node is worth pay for theirs and for its own; and there are fewer squares in them
+-- A branch gave way to its children. They are nodes of the tree, one level lower, and their places are its places, in
+-- order. The reads that a node is worth pay for theirs and for its own, and there are fewer squares in them.
 pub record IsGivenWay (tree : TreeView) (parent : NodeRef) (old new : List NodeRef) : Type 0 where
   pub children : List NodeRef
   pub pushed : new ≡ children ++ old

@@ -187,7 +187,7 @@ fn push_child(tasks: &mut Vec<Task>, child: Task, digit: u32, mask: u32) -> Resu
     Ok(mask)
 }
 
-// The least number with a prefix, so many digits being left away.
+// The least number with a prefix that drops so many digits.
 fn bound_of(prefix: u64, level: u32) -> u64
     requires low { level ≤ MAX_HEIGHT }
     requires small { prefix * 4 ^ level ≤ code_limit }

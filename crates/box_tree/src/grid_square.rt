@@ -54,7 +54,7 @@ fn last(base: i64, before: u32, level: u32) -> i64
     first(base, before, level) + (1 << level) - 1
 }
 
-// The column and the row that each of the Morton numbers tells.
+// The column and the row of each of the Morton numbers.
 pub(crate) fn cells_of(alloc: Global, codes: &[u64]) -> Result<Vec<(u32, u32)>, Memory>
     requires { All (λ code. code < code_limit) codes.now }
     ensures codes { IfOk result (λ cells. map code_at cells.items ≡ codes.now) }
@@ -67,7 +67,7 @@ pub(crate) fn cells_of(alloc: Global, codes: &[u64]) -> Result<Vec<(u32, u32)>, 
     Ok(cells)
 }
 
-// The column that the digits of a Morton number tell: the lower bit of each.
+// The column of a Morton number: the lower bit of each digit.
 fn column_in(code: u64) -> u32
     ensures value { result ≡ morton_column MAX_HEIGHT code }
     ensures small { result < 2 ^ MAX_HEIGHT }

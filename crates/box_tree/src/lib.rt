@@ -1,10 +1,9 @@
-//! Places with boxes, and a tree of squares over them that finds those which are sought.
+//! Places with boxes, and a tree of squares over them that finds those which a search wants.
 //!
-//! A `BoxTree` is a list of places, each with a cell of a grid and a box, in Morton order of the
-//! cells. A `BoxWalk` finds the places whose cell and whose box pass two tests. It skips each
-//! square that fails the first and each node whose box fails the second, and its reads are bounded
-//! by the squares and the cells that pass the first. The crate stands on `track_types`, `k2_tree`,
-//! `step_count`, `list_laws` and `arrayvec`.
+//! A `BoxTree` is a list of places in Morton order, each with a cell of a grid and a box. A
+//! `BoxWalk` finds the places whose cell and whose box pass two tests. It skips a square that fails
+//! the first, and a node whose box fails the second. Its reads are bounded by the squares and the
+//! cells that pass the first.
 #![tactic(auto)]
 
 mod boxes;

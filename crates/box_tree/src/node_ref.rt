@@ -1,7 +1,7 @@
 /// How many nodes the stack of a walk has room for.
 pub const SLOTS: usize = 128;
 
-/// A node of a tree, and the square that it is of.
+/// A node of a tree, and its square.
 #[derive(Clone, Copy, Debug, Default)]
 pub struct NodeRef {
     pub(crate) node: u32,

@@ -17,7 +17,7 @@ use std::marker::Model;
 use std::sync::ledger::Ledger;
 use step_count::Steps;
 
-// A way over the nodes of a tree: those that wait, and what is left of an open bucket.
+// A walk over the nodes of a tree: those that wait, and what is left of an open bucket.
 #[derive(Drop)]
 pub(crate) struct NodeWalk<'a> {
     tree: &'a BoxTree,
@@ -37,7 +37,7 @@ impl<'a> Model for NodeWalk<'a> {
 }
 
 impl<'a> NodeWalk<'a> {
-    // The way over a tree from one of its nodes on, if there is one.
+    // The walk over a tree from one of its nodes on, if there is one.
     pub(crate) fn new(tree: &'a BoxTree, first: Option<NodeRef>) -> NodeWalk<'a>
         requires of { IfSome first (λ node. IsNodeOf tree.now node) }
         requires whole { IfSome first (λ node. node_square tree.now.narrow node ≡ whole tree.now) }
@@ -128,7 +128,7 @@ impl<'a> NodeWalk<'a> {
     }
 }
 
-// Pushes the children of a node, of which there are as many as the mask has ones, the last first.
+// Pushes the children of a node, one for each bit of the mask that is 1, the last first.
 pub(crate) fn push_children(
     stack: &mut ArrayVec<NodeRef, SLOTS>,
     parent: &NodeRef,
@@ -165,7 +165,7 @@ pub(crate) fn push_children(
     }
 }
 
-// How many children a square has at most that is split by so many digits.
+// How many children a square has at most, where it is split by so many digits.
 pub(crate) fn fan_of(width: u32) -> u32
     requires some { 1 ≤ width }
     requires few { width ≤ 2 }

@@ -7,8 +7,8 @@ use track_types::CellBox;
 
 /// What a walk asks of squares and of boxes.
 ///
-/// A square is told by its cells, the box that it is. Both tests are true of a box where they are
-/// true of one within it, so that what fails them may be skipped with all that lies in it.
+/// A square is given as the box of its cells. Both tests are true of a box where they are true of one
+/// within it, so that what fails them may be skipped with all that lies in it.
 pub trait Search {
     ghost squares: { Self → CellBox → Bool };
 

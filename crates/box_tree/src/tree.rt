@@ -28,8 +28,8 @@ use std::sync::ledger::Ledger;
 use step_count::{CountedList, Steps};
 use track_types::{Cell, CellBox, Memory};
 
-/// Places in Morton order, each with a cell of a square grid and a box, and a tree of squares over
-/// them whose nodes have the boxes of all places that lie in their square.
+/// Places in Morton order, each with a cell of a square grid and a box. A tree of squares stands
+/// over them, and the box of a node has the boxes of all places in its square.
 ///
 /// A square is split level by level. A level takes one digit of the Morton numbers, and splits a
 /// square into 4, or two digits, and splits it into 16. A square with few places is not split.
@@ -60,9 +60,9 @@ impl Model for BoxTree {
 }
 
 impl BoxTree {
-    /// The tree of places in Morton order, told by the Morton numbers of their cells and by their
-    /// boxes, in the grid from a base. The grid has `height` levels, of which the `narrow` lowest
-    /// take one digit and the others two, `digits` in all. It fails where memory runs out.
+    /// The tree of places in Morton order, given by the Morton numbers of their cells and by their
+    /// boxes, in the grid from a base. The grid has `height` levels: the `narrow` lowest take one
+    /// digit each and the others two, `digits` in all. It fails where memory runs out.
     pub fn build(
         alloc: Global,
         height: u32,

@@ -4,7 +4,7 @@ use Rattle.std.specs.List.{Contains}
 use Rattle.track_types.specs.declared.stop.Stop.{Stop}
 use Rattle.track_types.specs.Meeting.{are_together}
 
--- both are members, they are together, and no two members are together earlier
+-- two stops are members of two lists and together, and no two members are together earlier
 pub record IsEarliest (reach : ℕ) (lefts rights : List Stop) (found : Stop × Stop) : Type 0 where
   pub left : Contains lefts found.0
   pub right : Contains rights found.1

@@ -2,6 +2,6 @@
 use Rattle.encounter.specs.Span.{Span}
 use Rattle.encounter.specs.declared.block_node.BlockNode.{BlockNode}
 
--- its instants and its box
+-- the span of a node: its instants and its box
 abbrev pub span_of_node : BlockNode → Span
 span_of_node part = record { begin = part.begin; end = part.end; area = part.area }

@@ -18,8 +18,9 @@ use Rattle.log_cursor.specs.Start.{IsWayOf, start_after, start_past}
 use Rattle.log_cursor.specs.declared.start.Start.{Start}
 use Rattle.encounter.specs.Span.{Span, BlockTree, span_along, span_at, node_span, spans_in}
 
--- the next node of a block: its span, where it leads, whether it is a rule, its own stops and rule nodes, and what comes
--- after it; how many symbols of the log are still to be read, and a measure of what remains, which each turn makes less
+-- The next node of a block: its span, where it leads, whether it is a rule, its own stops and rule nodes, and what
+-- comes after it. Then how many symbols of the log are still to be read, and a measure of what remains, which each turn
+-- makes less.
 pub record SideView : Type 0 where
   pub top : Span
   pub cell : Cell
@@ -29,7 +30,7 @@ pub record SideView : Type 0 where
   pub unread : ℕ
   pub size : ℕ
 
--- two trees, one after the other
+-- two trees, one after another
 abbrev pub both_trees : BlockTree → BlockTree → BlockTree
 both_trees own later = record { stops = own.stops ++ later.stops; rules = own.rules ++ later.rules }
 
@@ -112,7 +113,7 @@ pub record IsTopOf (top : Span) (nodes : List Span) : Type 0 where
   pub rest : List Span
   pub is : nodes ≡ top ∷ rest
 
--- what the next node tells of the stops that remain
+-- what the next node says of the stops that remain
 pub record Tells (side : SideView) : Type 0 where
   pub ordered : side.top.begin ≤ℤ side.top.end
   pub inside : All (IsStopInside side.top) side.own.stops

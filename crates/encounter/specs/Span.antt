@@ -81,7 +81,7 @@ pub record BlockTree : Type 0 where
   pub stops : List Stop
   pub rules : List Span
 
--- all its nodes: the anchor and the terminals with a cell are its stops
+-- all nodes of a block: the anchor and the terminals with a cell are its stops
 abbrev pub tree_nodes : BlockTree → List Span
 tree_nodes tree = map span_at tree.stops ++ tree.rules
 
@@ -89,7 +89,7 @@ tree_nodes tree = map span_at tree.stops ++ tree.rules
 unfoldable pub count_with : (Span → Span → Bool) → List Span → List Span → ℕ
 count_with test nodes others = length (filter (λ node. list_any (test node) others) nodes)
 
--- the rule nodes of either that are close to some node of the other
+-- how many rule nodes of two blocks are close to some node of the other block
 unfoldable pub close_count : ℤ → ℤ → ℕ → BlockTree → BlockTree → ℕ
 close_count from to reach left right =
     count_with (is_close from to reach) left.rules (tree_nodes right)

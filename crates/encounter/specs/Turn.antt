@@ -1,4 +1,4 @@
--- One turn of the way through two blocks.
+-- One turn while two blocks are gone through.
 use Rattle.std.specs.Prelude.{◌≡◌, ℕ, ◌+◌, ◌<◌, ◌≤◌, ℤ, Option, Some, None}
 use Rattle.track_types.specs.declared.stop.Stop.{Stop}
 use Rattle.track_types.specs.Meeting.{meeting_at}
@@ -24,7 +24,7 @@ pub record Sides : Type 0 where
   pub right : SideView
   pub steps : ℕ
 
--- these two blocks, after so many reads
+-- two blocks, after so many reads
 abbrev pub sides : SideView → SideView → ℕ → Sides
 sides left right steps = record { left = left; right = right; steps = steps }
 

@@ -9,7 +9,7 @@ pub record IsTrack (stops : List Stop) : Type 0 where
   pub ascending : (i j : ℕ) (d : Stop) → i < j → j < length stops → (get_or stops i d).instant <ℤ (get_or stops j d).instant
   pub near : All (λ stop. IsCellWithin stop.cell) stops
 
--- of some stops, these are left after one at an instant
+-- these are left of some stops after one at an instant
 pub record AreAfter (instant : ℤ) (stops left : List Stop) : Type 0 where
   pub before : List Stop
   pub stop : Stop

@@ -9,7 +9,7 @@ pub struct BlockNode {
     pub end: i64,
     /// The cell to which it leads.
     pub cell: Cell,
-    /// The least box round its cells, and none where the object is absent all the while.
+    /// The least box round its cells; none where the object is absent at all of its instants.
     pub area: Option<CellBox>,
     /// Whether it is a rule, which has two parts.
     pub opens: bool,

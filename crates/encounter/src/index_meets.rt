@@ -14,7 +14,7 @@ use step_count::Steps;
 use track_index::{Index, IndexRef, PathWalk};
 use track_types::{Answerer, Cell, Facts, Hit, Meeting, Meets, Memory, Near, Region, Sighting};
 
-/// An index, which also tells meetings: by going through two blocks of each period together. Its
+/// An index that also tells meetings, by going through two blocks of each period together. Its
 /// chart, facts, walks and other costs are those of the index.
 #[derive(Clone, Copy)]
 pub struct IndexMeets<'a> {

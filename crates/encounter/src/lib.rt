@@ -1,10 +1,9 @@
 //! When two objects first came near each other.
 //!
-//! Both types here answer questions and tell meetings (`Meets` of track_types). `IndexMeets` finds a
-//! meeting in an index: it goes through both objects' logs of a period together, and opens only those
-//! rules that may hold a meeting. `Walked` finds it for any answerer, by drawing two paths side by
-//! side. The crate stands on `track_types`, `gridding`, `spiral_code`, `rule_store`,
-//! `log_cursor`, `snapshots`, `object_track`, `track_index`, `step_count` and `list_laws`.
+//! Both types here answer questions and tell meetings (`Meets` of track_types). `IndexMeets` finds
+//! a meeting in an index: it goes through both objects' logs of a period together, and opens only
+//! the rules that may hold one. `Walked` finds it for any answerer, by drawing two paths side by
+//! side.
 #![tactic(auto)]
 
 mod block_node;

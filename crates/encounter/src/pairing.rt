@@ -10,7 +10,7 @@ use std::sync::ledger::Ledger;
 use step_count::Steps;
 use track_types::Meeting;
 
-/// What a turn came to: something is passed or opened, there is no meeting, or this is the first.
+/// What a turn came to: a node was passed or opened, there is no meeting, or this is the first.
 #[derive(Clone, Copy)]
 pub enum Turn {
     GoesOn,
@@ -41,8 +41,8 @@ pub fn first_meeting<L: Ledger>(
     }
 }
 
-// Where the next nodes can't meet, the one that ends first is passed; the left at a tie. Else a rule
-// among them is opened, and two stops are a meeting.
+// Where the next nodes cannot meet, the one that ends first is passed, and at a tie the left. Else a
+// rule among them is opened; two stops are a meeting.
 fn take_turn<L: Ledger>(
     left: &mut Side<'_>,
     right: &mut Side<'_>,

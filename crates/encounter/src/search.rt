@@ -19,7 +19,8 @@ use step_count::Steps;
 use track_types::{Meeting, Memory};
 
 /// The first instant of a window, whose ends count, at which two objects have a row within its
-/// distance, and their cells; `None` if and only if there is none, as for an unknown object.
+/// distance, and their cells. `None` if and only if there is no such instant, as for an unknown
+/// object.
 ///
 /// The distance is at most `MAX_REACH`. Both blocks of each period that the window meets are gone
 /// through together, up to the meeting. `Memory` is the only refusal: memory is taken where the

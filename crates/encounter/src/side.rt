@@ -18,8 +18,8 @@ use track_types::{Cell, CellBox, Memory};
 
 /// One of two blocks that are gone through together: its next node, and what comes after it.
 ///
-/// The anchor is its first node. A node that was looked at is passed, or opened where it is a rule:
-/// then its left part is the next node.
+/// The anchor is its first node. A node is passed, or it is a rule that is opened: then its left part
+/// is the next node.
 #[derive(Drop)]
 pub struct Side<'a> {
     // The symbols after the next node.
@@ -41,8 +41,8 @@ impl<'a> Model for Side<'a> {
 }
 
 impl<'a> Side<'a> {
-    /// A block from its anchor on. Room for the parts of the deepest rule is taken here, and nothing
-    /// is read.
+    /// A block from its anchor on. It takes memory for the parts of the deepest rule, and reads
+    /// nothing.
     pub fn new(alloc: Global, view: LogView<'a>, start: Start) -> Result<Side<'a>, Memory>
         requires { IsPlaced view.rules.now start (log_of view) }
         ensures rest { IfOk result (λ side.

@@ -13,7 +13,7 @@ use std::sync::ledger::Ledger;
 use step_count::Steps;
 use track_types::{Answerer, Cell, Facts, Hit, Meeting, Meets, Memory, Near, Region, Sighting};
 
-/// Any answerer, which also tells meetings: by two paths that are drawn side by side. Its chart,
+/// Any answerer, made to tell meetings too, by two paths that are drawn side by side. Its chart,
 /// facts, costs and walks are those of the answerer.
 #[derive(Clone, Copy)]
 pub struct Walked<A: Answerer> {

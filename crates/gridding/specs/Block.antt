@@ -17,7 +17,7 @@ block_of_row first period row = record { object = row.object; end = first +ℤ p
 abbrev pub is_of_block : Block → Row → Bool
 is_of_block block row = (block.object == row.object) && lt_z row.instant block.end
 
--- rows begin with one of a block's object, and the block ends within so many instants from that row on
+-- the first row is one of the block's object, and the block ends within so many instants from that row on
 abbrev pub BeginsBlock : Block → ℕ → List Row → Type 0
 BeginsBlock block period [] = ⊥
 BeginsBlock block period (anchor ∷ later) =

@@ -35,7 +35,7 @@ IsLastOf object objects None = filter (λ other. other == object) objects ≡ []
 IsLastOf object objects (Some place) =
     (slice_get objects place ≡ Some object) × (filter (λ other. other == object) (drop (suc place) objects) ≡ [])
 
--- so many places of a block, from the first on
+-- the filled places of a block: so many, from the first on
 abbrev pub filled_of : List PackedPlace × ℕ → List PackedPlace
 filled_of block = take block.1 block.0
 

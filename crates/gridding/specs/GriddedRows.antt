@@ -37,7 +37,7 @@ abbrev pub IsOneTooMany : Row → List Row → TrackBlocks → Type 0
 IsOneTooMany row rows tracks = (rows_with row.object rows ≡ []) × (limit_of Objects ≤ hash_map_len tracks.last_of)
 
 -- Blocks have these rows: each object's in the order in which they came. Each block has an object and a length, the
--- last block of each object is told, and no other has room.
+-- last block of each object is noted, and no other has room.
 pub record AreBlocksOf (rows : List Row) (tracks : TrackBlocks) : Type 0 where
   pub objects : length tracks.objects.items ≡ length tracks.blocks.items
   pub lengths : length tracks.lengths.items ≡ length tracks.blocks.items
@@ -61,7 +61,7 @@ HasAdded row old new false =
     HasKept old new × ((rows : List Row) → AreBlocksOf rows old →
     (IsAway row old × IsApart row old) ⊎ IsOneTooMany row rows old)
 
--- These rows came, in this order: those in blocks, and after them those from the first that had no block on.
+-- These rows came, in this order: those in blocks, and then all from the first one on that had no block.
 pub record HoldsRows (rows : List Row) (gridded : GriddedRows) : Type 0 where
   pub front : List Row
   pub all : rows ≡ front ++ gridded.loose.items

@@ -3,7 +3,7 @@ use Rattle.std.specs.Prelude.{◌≡◌, ◌+◌, ◌≤◌, ◌^◌, ℕ, ℤ, 
 use Rattle.track_types.specs.declared.extents.Extent.{Extent}
 use Rattle.gridding.specs.declared.packed_place.TheConstants.{INSTANTS}
 
--- an extent of numbers that are at most 2^42 away from 0, if of any
+-- an extent of no numbers, or of numbers that are at most 2^42 away from 0
 pub record IsExtentWithin (extent : Extent) : Type 0 where
   pub least : neg_ℤ (pos (2 ^ 42)) ≤ℤ extent.least
   pub greatest : extent.greatest ≤ℤ pos (2 ^ 42)

@@ -15,7 +15,7 @@ is_object_of (Some before) object = before == object
 abbrev pub last_object : List Row → Option ℕ
 last_object = fold (λ _ row. Some row.object) None
 
--- What has been found of these rows. Objects are counted of rows in order, of which there are no more than a word counts.
+-- What has been found of these rows. Objects are counted where rows are in order and no more than a word can count.
 pub record IsSurveyOf (rows : List Row) (survey : Survey) : Type 0 where
   pub objects : IsAscending rows → length rows < 2 ^ 64 → survey.objects ≡ object_count rows
   pub last : survey.last ≡ last_object rows

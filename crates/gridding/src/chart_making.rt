@@ -13,9 +13,9 @@ use crate::survey::Survey;
 use std::alloc::Global;
 use track_types::{Chart, LimitKind, RawRow, Row};
 
-/// Makes the chart of raw rows, which may come in any order. A row's instant is its time over `tick`
-/// and its cell its place over `cell`, each rounded towards minus infinity; of an object's rows in one
-/// instant the last in the order of `rows` counts.
+/// Makes the chart of raw rows, which may come in any order. A row's instant is its time over `tick` and its cell its
+/// place over `cell`, each rounded towards minus infinity. Of an object's rows in one instant the last in the order of
+/// `rows` counts.
 ///
 /// Without a row the answer is `Empty`. Else the chart's quantities are judged in the order objects,
 /// span, extent, blocks and symbols, and the first that passes its limit is refused with its value.

@@ -23,11 +23,11 @@ impl Block {
     }
 }
 
-/// How many terminals the logs of all blocks of rows in order have: one for each instant of a block's
+/// How many terminals the logs of all blocks have, for rows in order: one for each instant of a block's
 /// period after the block's first row.
 ///
-/// Rows ascend, so that a block's rows stand together: only its first row takes divisions, and where they end
-/// is searched.
+/// Rows ascend, so that a block's rows stand together. Only its first row takes divisions, and a search finds
+/// where they end.
 pub fn symbol_count(rows: &[Row], timeline: Timeline) -> u64
     requires ascending { IsAscending rows.now }
     requires few { length rows.now ≤ limit_of LimitKind.Rows }
@@ -44,8 +44,8 @@ pub fn symbol_count(rows: &[Row], timeline: Timeline) -> u64
     count
 }
 
-// The rows after those of the block with which rows in order begin. An object has at most one row in an instant,
-// so that the block has no more rows than a period has instants.
+// The rows after the first block of rows in order. An object has at most one row in an instant, so that the block
+// has no more rows than a period has instants.
 fn after_block<'a>(rows: &'a [Row], block: Block, period: u32) -> &'a [Row]
     requires ascending { IsAscending rows.now }
     requires begins { BeginsBlock block period rows.now }

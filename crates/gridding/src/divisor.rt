@@ -8,7 +8,7 @@ ghost use Rattle.track_types.specs.declared.limit.TheConstants.{MAX_PLACE};
 /// numbers up to 2^40 and divisors up to 2^30.
 const SCALE_BITS: u32 = 71;
 
-/// A divisor from 1 to 2^30, with its reciprocal, so that a quotient takes a product and a shift in place of a division
+/// A divisor from 1 to 2^30, with its reciprocal. A quotient then takes a product and a shift in place of a division
 /// (T. Granlund and P. L. Montgomery, "Division by invariant integers using multiplication", 1994).
 #[derive(Clone, Copy)]
 pub struct Divisor {

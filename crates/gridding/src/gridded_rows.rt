@@ -12,12 +12,11 @@ use crate::track_blocks::TrackBlocks;
 use std::alloc::{AllocError, Global};
 use track_types::{Chart, RawRow, Row};
 
-/// Raw rows that are gridded as they come. Where objects have many, they take some 9 bytes a row, and with their chart
-/// 41.
+/// Raw rows that are gridded as they come. Where objects have many rows, a row takes some 9 bytes, and 41 with the chart.
 ///
-/// From the first row on that has no block, rows take 32 bytes each: it is too far from the others, or there are more
-/// objects than a chart may have. Such a file is refused in the end, unless a row that is far gives way to a later one of
-/// its object and instant; all its rows are needed for the count or the extent that is told.
+/// A row has no block where it is too far from the others, or where there are more objects than a chart may have. From
+/// the first such row on, rows take 32 bytes each. Such a file is refused in the end, unless the far row gives way to a
+/// later one of its object and instant. All of its rows are needed to tell the count or the extent.
 #[derive(Drop)]
 pub struct GriddedRows {
     tracks: TrackBlocks,
@@ -51,7 +50,7 @@ impl GriddedRows {
         }
     }
 
-    /// Takes rows that come after those before. After an `Err` the rows in hand are of no more use.
+    /// Takes rows that come after those before. After an `Err` the rows in hand must not be used any more.
     pub fn append(&mut self, rows: &[RawRow]) -> Result<(), AllocError>
         requires { All IsRawInRange rows.now }
         ensures { OnOk result ((cell tick : ℕ) (raws : List RawRow) → HasGridded cell tick raws self.old →
@@ -65,7 +64,7 @@ impl GriddedRows {
         Ok(())
     }
 
-    // Puts a row after those before: into a block, as long as each row had one.
+    // Puts a row after those before: into a block, as long as every row before it has one.
     fn add(&mut self, row: Row) -> Result<(), AllocError>
         requires { IsRowInRange row }
         ensures cell { self.new.cell ≡ self.old.cell }
@@ -81,7 +80,7 @@ impl GriddedRows {
         Ok(())
     }
 
-    /// How many rows have no block: those from the first on that had none.
+    /// How many rows have no block: those from the first one without a block on.
     pub fn loose_count(&self) -> usize
         ensures { result ≡ length self.now.loose.items }
     {

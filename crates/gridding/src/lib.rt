@@ -1,8 +1,8 @@
-//! Raw rows to a chart: each row's cell and instant by floor division, and of an object's rows in one
-//! instant the last.
+//! Raw rows to a chart: each row's cell and instant by floor division, and of an object's rows in
+//! one instant the last.
 //!
-//! `grid` is exact: it answers the chart of the rows, or that there is no row, or the first quantity
-//! that passes its limit. `GriddedRows` take rows piece by piece, and answer the same. `chart` takes rows
+//! `grid` answers exactly the chart of the rows, or that there is no row, or the first quantity
+//! above its limit. `GriddedRows` take rows piece by piece and answer the same. `chart` takes rows
 //! that are gridded already, and judges them by the same limits.
 #![tactic(auto)]
 

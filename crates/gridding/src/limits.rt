@@ -32,7 +32,7 @@ fn distance(cell: Cell) -> u64
     cell.x.unsigned_abs().max(cell.y.unsigned_abs())
 }
 
-/// Refuses the first quantity of rows in order that passes its limit. `survey` is what was found of them.
+/// Refuses the first quantity that passes its limit, for rows in order. `survey` is that of the rows.
 pub fn check_limits(rows: &[Row], survey: Survey, period: u32) -> Result<(), GridFault>
     requires some { 0 < length rows.now }
     requires few { length rows.now ≤ limit_of LimitKind.Rows }

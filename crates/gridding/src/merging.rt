@@ -12,8 +12,8 @@ use crate::track_blocks::Run;
 use std::alloc::{AllocError, Global};
 use track_types::Row;
 
-/// The rows of runs, and the loose ones that came after them, by object, then by instant, and of an object's rows in
-/// one instant the last, with their survey. `count` is how many rows there are.
+/// The rows of runs and the loose ones that came after them, by object, then by instant, with their survey. Of an
+/// object's rows in one instant the last is taken. `count` is how many rows there are.
 pub fn merged_rows(
     alloc: Global,
     origin: Origin,
@@ -126,7 +126,7 @@ impl Merge {
 }
 
 // Puts places after the others, from the last to the first. They are copied at once and then turned: a loop that takes
-// them one by one from their block waits for each of its lines.
+// them one by one would wait for each cache line of their block.
 fn push_from_last(track: &mut Vec<PackedPlace>, places: &[PackedPlace]) -> Result<(), AllocError>
     ensures { OnOk result (track.new.items ≡ track.old.items ++ reverse places.now) }
 {

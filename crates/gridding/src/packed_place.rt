@@ -5,14 +5,14 @@ ghost use Rattle.track_types.specs.Near.{IsNear, IsRowInRange, IsWithin};
 
 use track_types::{Cell, MAX_SPAN, Row};
 
-/// How many instants places tell apart: as many as a chart may have.
+/// How many instants a place has room for: as many as a chart may have.
 pub const INSTANTS: u64 = MAX_SPAN;
 
 /// How many of these come before the first row's. Most files begin with an early row.
 const INSTANTS_BEFORE: i64 = INSTANTS as i64 / 32;
 
-/// How many cells places tell apart along each axis, 2^21: as many as 64 bits have room for beside the instants. A
-/// chart may have more of them.
+/// How many cells a place has room for along each axis, 2^21: what 64 bits leave beside the instants. A chart may have
+/// more of them.
 const CELLS: u64 = 2_097_152;
 
 /// How many of these come before the first row's.
@@ -27,7 +27,7 @@ pub struct PackedPlace {
 impl PackedPlace {
     ghost use Rattle.gridding.specs.PackedPlace.{elapsed_of};
 
-    /// How many instants after its origin's it is.
+    /// How many instants it is after its origin's.
     #[inline]
     pub fn elapsed(self) -> u64
         ensures exact { result ≡ elapsed_of self }

@@ -11,7 +11,7 @@ pub struct SurveyedRows {
     pub survey: Survey,
 }
 
-/// What is found of rows, one after the other.
+/// What is found of rows that are looked at one after another.
 #[derive(Clone, Copy)]
 pub struct Survey {
     /// How many different objects rows in order have.

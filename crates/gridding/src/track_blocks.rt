@@ -26,13 +26,13 @@ pub type Run<'a> = (u32, &'a [PackedPlace]);
 pub struct TrackBlocks {
     // From where places are counted.
     origin: Origin,
-    // The places of each block, which are no row's past its length.
+    // The places of each block. Those past its length are no row's.
     blocks: Vec<[PackedPlace; ROWS]>,
     // The object of each block.
     objects: Vec<u32>,
     // How many places of each block are filled. These and the objects stand apart from the blocks, so that a cache
-    // holds them for all blocks that are written at the same time, one for each object: no row waits for a load of its
-    // block.
+    // holds them for all blocks that are written at the same time, one for each object. So no row waits for a load of
+    // its block.
     lengths: Vec<u8>,
     // The last block of each object.
     last_of: HashMap<u32, usize>,
@@ -57,7 +57,7 @@ impl TrackBlocks {
         TrackBlocks::counted_from(alloc, Origin::around(nowhere))
     }
 
-    // No blocks, of which places are counted from an origin.
+    // No blocks, whose places are to be counted from an origin.
     #[tactic(auto, unfolding(crate::specs::Blocks::runs_of))]
     fn counted_from(alloc: Global, origin: Origin) -> Self
         ensures none { AreBlocksOf [] result }
@@ -81,8 +81,8 @@ impl TrackBlocks {
     }
 
     /// Puts a row after those of its object, and answers whether it could. A row is left out that is too far from the
-    /// others, and one whose object has no block once there are as many objects as a chart may have: so a file in which
-    /// each row has another object does not take a block a row.
+    /// others. So is one whose object has no block, once there are as many objects as a chart may have. So a file in
+    /// which each row has another object does not take a block a row.
     #[inline]
     pub fn add(&mut self, row: Row) -> Result<bool, AllocError>
         requires { IsRowInRange row }
@@ -122,7 +122,7 @@ impl TrackBlocks {
         self.last_of.len() >= MAX_OBJECTS as usize && !self.last_of.contains_key(&object)
     }
 
-    // Has places counted from around a row's, where it is the first.
+    // Has places counted from around this row's, where it is the first row.
     fn begin_around(&mut self, row: Row)
         requires { IsRowInRange row }
         ensures kept { HasKept self.old self.new }
@@ -160,8 +160,8 @@ impl TrackBlocks {
         self.open(object, place)
     }
 
-    // Puts a place into a block, if it is one of the object and has room: so it is the object's last, since no block is
-    // opened before the one before is full. Of the block nothing is read. Where it has an object, it is there with its
+    // Puts a place into a block, if it is one of the object and has room. It is then the object's last, since no block is
+    // opened before the one before is full. Nothing of the block is read. A block that has an object is there with its
     // length, but the type does not say so; `get_mut` costs what an index would.
     #[inline]
     fn put(&mut self, object: u32, guess: usize, place: PackedPlace) -> bool
@@ -187,7 +187,7 @@ impl TrackBlocks {
         }
     }
 
-    // Opens a block of the object, with this place in it. The blocks that the object has are to be full.
+    // Opens a block of the object, with this place in it. All blocks that the object has must be full.
     fn open(&mut self, object: u32, place: PackedPlace) -> Result<(), AllocError>
         ensures opened { OnOk result ((rows : List Row) → AreBlocksOf rows self.old → IsFull object self.old →
             AreBlocksOf (rows ++ (packed_row self.old.origin object place ∷ [])) self.new) }

@@ -1,6 +1,8 @@
 //! What went through a device, as contracts see it.
 //!
-//! A history takes no bytes of memory, and its calls do nothing when the program runs.
+//! With a history a contract can speak of all bytes that were read or written, though the program
+//! keeps none of them. A history takes no bytes of memory, and its calls do nothing when the
+//! program runs.
 #![tactic(auto)]
 
 mod file_history;

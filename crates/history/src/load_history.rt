@@ -29,14 +29,14 @@ impl LoadHistory {
         }
     }
 
-    /// Adds a file of which nothing came yet, which is then the newest; `begun` tells whether it could be begun.
+    /// Adds a file, which is then the newest and has no bytes yet. `begun` says whether it could be begun.
     pub fn open(&mut self, name: &[u8], begun: bool)
         ensures { self.new ≡ new_load name.now begun ∷ self.old }
     {
         self.ghosts.open(name, begun);
     }
 
-    /// Adds a piece that came of the newest file; an empty piece is its end.
+    /// Adds a piece of the newest file. An empty piece is its end.
     pub fn grow(&mut self, piece: &[u8])
         ensures { self.new ≡ with_piece self.old piece.now }
     {

@@ -29,8 +29,8 @@ pub record ReaderView : Type 0 where
   pub ended : Bool
   pub counts : Counts
 
--- the bytes that are left of the file that was begun, where they are told, what was loaded, how many bytes came of that
--- file and the faults of loading, the calls of each kind, the faults of saving, and the files that were saved
+-- The bytes that are left of the file that was begun, where the files are told; what was loaded, how many bytes came of that
+-- file, and the faults of loading; the calls of each kind; the faults of saving, and the files that were saved.
 pub record DiskView : Type 0 where
   pub left : Option (List ℕ)
   pub loads : List Load
@@ -40,7 +40,7 @@ pub record DiskView : Type 0 where
   pub save_faults : ℕ
   pub saved : FileMap
 
--- files of which none was begun and none saved
+-- files before any was begun or saved
 abbrev pub new_disk : DiskView
 new_disk = record { left = Some []; loads = []; counts = no_counts; begins = 0; saves = 0; save_faults = 0; saved = [] }
 

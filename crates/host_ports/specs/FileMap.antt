@@ -1,4 +1,4 @@
--- Files by name, as far as they are told.
+-- Files by name. They are told where an implementation says what they hold: files in memory do so, and those on disk do not.
 use Rattle.std.specs.Prelude.{◌≡◌, ◌≢◌, ℕ, Bool, true, false, List, [], ◌∷◌, Option, Some, None, ⊤}
 use Rattle.std.specs.Io.KnownBytes.{IsAtEnd}
 use Rattle.std.specs.Map.{lookup}
@@ -12,7 +12,7 @@ FileMap = List (List ℕ × List ℕ)
 abbrev pub file_named : FileMap → List ℕ → Option (List ℕ)
 file_named files name = lookup (λ key. bytes_eq key name) files
 
--- the files after a save, of which it is the newest unless it failed
+-- the files after a save, which is the newest of them unless it failed
 abbrev pub with_file : Bool → List ℕ → List ℕ → FileMap → FileMap
 with_file true name bytes files = files
 with_file false name bytes files = (name, bytes) ∷ files
@@ -27,7 +27,7 @@ abbrev pub IsMissing : Option FileMap → List ℕ → Type 0
 IsMissing None name = ⊥
 IsMissing (Some files) name = file_named files name ≡ None
 
--- nothing is left to come, and where it was told what is, it is told still
+-- nothing is left to come, and where an implementation told what is left, it tells that still
 abbrev pub LeavesNothing : Option (List ℕ) → Option (List ℕ) → Type 0
 LeavesNothing None after = IsAtEnd after
 LeavesNothing (Some bytes) after = after ≡ Some []

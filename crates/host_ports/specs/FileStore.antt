@@ -1,4 +1,4 @@
--- How the files in memory lie: their names and bytes one after the other, in the order in which they came.
+-- How the files in memory lie: their names and bytes one after another, in the order in which they came.
 use Rattle.std.specs.Prelude.{ℕ, ◌-◌, ◌≤◌, List, [], length, drop, map, Option, Some, None, ⊤, slice_range, reverse}
 use Rattle.host_ports.specs.FileMap.{FileMap}
 use Rattle.host_ports.specs.declared.file_store.HeldFile.{HeldFile}

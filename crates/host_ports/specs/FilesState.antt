@@ -17,7 +17,7 @@ pub record FilesState : Type 0 where
   pub begins : ℕ
   pub saved : FileMap
 
--- that state, of the meanings of the trait
+-- the state of files, by the meanings of the trait
 abbrev pub state_of : Option FileMap → Option (List ℕ) → List Load → ℕ → ℕ → ℕ → ℕ → ℕ → FileMap → FilesState
 state_of map rest loads taken load_faults save_faults saves begins saved =
     record {

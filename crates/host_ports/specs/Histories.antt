@@ -2,7 +2,7 @@
 use Rattle.std.specs.Prelude.{◌≡◌, ℕ, Bool, List, ◌++◌, take, Ok, Err, Result}
 use Rattle.history.specs.Loads.{Load, is_end, with_piece}
 
--- these bytes went through in between
+-- a history grew by these bytes
 abbrev pub Gains : List ℕ → List ℕ → List ℕ → Type 0
 Gains before now bytes = now ≡ before ++ bytes
 

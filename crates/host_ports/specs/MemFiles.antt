@@ -4,9 +4,9 @@ use Rattle.history.specs.Loads.{Load, new_load, with_piece}
 use Rattle.host_ports.specs.NumberedCalls.{Calls, no_calls, fails_next, counted, numbered, one_more, one_more_if}
 use Rattle.host_ports.specs.FileMap.{FileMap, file_named, with_file}
 
--- the files by name, what is still to come of the one that was begun, what was loaded and how much of that one, the
--- calls and the faults of loading, how many bytes are left for saves, the calls of each kind and the faults of saving, and
--- what the next pass gives in place of its bytes, and what was saved
+-- The files by name; what is still to come of the one that was begun; what was loaded, and how much of that one; the
+-- faults of loading, and the calls. Then how many bytes are left for saves, the calls and the faults of saving, what
+-- the next pass gives in place of its bytes, and what was saved.
 pub record MemFilesView : Type 0 where
   pub files : FileMap
   pub rest : List ℕ

@@ -12,7 +12,7 @@ pub record MemSourceView : Type 0 where
   pub piece : ℕ
   pub calls : Calls
 
--- a source of which nothing came yet
+-- a source before any of its bytes came
 abbrev pub new_source : List ℕ → ℕ → List ℕ → MemSourceView
 new_source bytes piece fails =
     record { rest = bytes; came = []; ended = false; taken = 0; piece = piece; calls = no_calls fails }

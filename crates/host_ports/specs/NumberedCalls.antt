@@ -1,4 +1,4 @@
--- Calls that are numbered from 1, of which some fail by their number.
+-- Calls that are numbered from 1; some of them fail, by their number.
 use Rattle.std.specs.Prelude.{ℕ, ◌+◌, ◌-◌, ◌^◌, ◌==◌, min, Bool, if◌then◌else◌, List}
 use Rattle.std.specs.List.{list_any}
 

@@ -15,10 +15,10 @@ use history::{FileHistory, LoadHistory};
 use std::marker::Model;
 use std::{fs, rt};
 
-/// The files of a runtime. It tells what was loaded and what was saved, and nothing else of what they hold; it is
-/// always plain: a `pass` gives what it is handed.
+/// The files of a runtime. Contracts see what was loaded and what was saved, and nothing else of what the files
+/// hold. A `pass` always gives what it is handed.
 ///
-/// A file that was read to its end is closed, so that nothing that comes later can meet it under its descriptor.
+/// A file that was read to its end is closed, so that nothing later can meet it by its descriptor.
 #[derive(Drop)]
 pub struct DiskFiles<'a, R: rt::Files> {
     rt: &'a R,
@@ -38,7 +38,7 @@ impl<'a, R: rt::Files> Model for DiskFiles<'a, R> {
 
     ghost Value = { DiskView };
 
-    // Nothing is left of no file.
+    // Where no file was begun, nothing is left of it.
     ghost view = { λ f. record {
       left = option_map_or (λ file. R.File.remaining file) f.begun (Some []);
       loads = f.loads;
@@ -51,7 +51,7 @@ impl<'a, R: rt::Files> Model for DiskFiles<'a, R> {
 }
 
 impl<'a, R: rt::Files> DiskFiles<'a, R> {
-    /// The files of that runtime, of which none was begun.
+    /// The files of that runtime, before any was begun.
     pub fn new(rt: &'a R) -> Self
         ensures { result ≡ new_disk }
     {

@@ -22,7 +22,7 @@ pub(crate) struct Begun {
     pub(crate) taken: usize,
 }
 
-/// Names and bytes of files, one after the other. None is let go, since it may be begun.
+/// Names and bytes of files, one after another. None is let go, since it may have been begun.
 #[derive(Drop)]
 pub(crate) struct FileStore {
     stored: Vec<u8>,
@@ -71,7 +71,7 @@ impl FileStore {
         Ok(())
     }
 
-    /// Stores a file, in front of all of its name. It takes no memory.
+    /// Stores a file, which is then found before all others of its name. It takes no memory.
     pub(crate) fn push(&mut self, name: &str, bytes: &[u8])
         requires room { length name.now + length bytes.now ≤ self.old.room }
         requires places { 1 ≤ self.old.places }

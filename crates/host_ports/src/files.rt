@@ -13,8 +13,9 @@ use crate::Failed;
 
 /// Files that are read by name, one at a time, from front to end, and saved by name at once.
 ///
-/// What the files hold is known only where an implementation tells it. Counts of faults never fall,
-/// and all counts stop at 2^64 - 1. A call that does not fail leaves the counts of faults as they were.
+/// Files are told where an implementation says what they hold: those in memory do so, and those on
+/// disk do not. Counts of faults never fall, and all counts stop at 2^64 - 1. A call that does not
+/// fail leaves the counts of faults as they were.
 pub trait Files {
     /// The files by name, where they are told.
     ghost map: { Self → Option FileMap };
@@ -109,8 +110,9 @@ pub trait Files {
     fn taken(&self) -> u64
         ensures { result ≡ taken self.now };
 
-    /// Passes at most 2^30 bytes through, by which written bytes come back to be read: it answers at most
-    /// 2^30 bytes, which the files determine before the call. It takes no memory and does not fail.
+    /// Passes at most 2^30 bytes through, so that bytes which were written come back to be read. It
+    /// answers at most 2^30 bytes, which the files determine before the call. It takes no memory and
+    /// does not fail.
     fn pass(&mut self, bytes: Vec<u8>) -> Vec<u8>
         requires { length bytes.items ≤ MAX_INDEX }
         ensures given { result.items ≡ given self.old bytes.items }

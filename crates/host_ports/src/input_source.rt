@@ -12,7 +12,7 @@ use history::History;
 use std::io::Read;
 use std::marker::Model;
 
-/// A source over std's reading. It tells the bytes that came and whether all did, and none that are still to come.
+/// A source over std's reading. Contracts see the bytes that came and whether all did, but not those to come.
 #[derive(Drop)]
 pub struct InputSource<R: Read> {
     reader: R,

@@ -1,9 +1,12 @@
-//! The outside of the program: files that are loaded, a source of questions, a sink of replies.
+//! The outside of the program: files to load and save, a source of questions, and a sink of
+//! replies.
 //!
-//! Each is a trait whose ghost members say what is known of its contents and how many faults its
-//! device made. A call fails only where that count rose or, at `begin`, where the files are told and
-//! hold no such name, so a caller can hold the device to it.
-//! Objects in memory tell all and fail as they are told; the real ones stand over std.
+//! Each is a trait. Its ghost members say what is known of its contents, and how many faults its
+//! device has counted. A call fails only where that count rises, so a caller can hold the device to
+//! it. `Files::begin` also fails where the files are known and none has the name.
+//!
+//! The objects in memory know all that they hold, and fail at the calls that they are given. The
+//! real ones stand over std.
 #![tactic(auto)]
 
 mod copying;

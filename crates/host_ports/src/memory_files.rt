@@ -17,7 +17,7 @@ use track_types::Memory;
 /// For how many saves places are reserved.
 const MOST_SAVES: usize = 16;
 
-/// Files in memory, which fail at the calls that they are told.
+/// Files in memory, which fail at the calls that they are given.
 #[derive(Drop)]
 pub struct MemFiles {
     store: FileStore,

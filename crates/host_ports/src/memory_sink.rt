@@ -9,7 +9,7 @@ use std::alloc::Global;
 use std::marker::Model;
 use track_types::Memory;
 
-/// A sink in memory with room for so many bytes, which fails at the calls that it is told.
+/// A sink in memory with room for so many bytes, which fails at the calls that it is given.
 #[derive(Drop)]
 pub struct MemSink {
     said: Vec<u8>,
@@ -79,7 +79,7 @@ impl Sink for MemSink {
     }
 }
 
-/// A sink that drops what it is told, and never fails.
+/// A sink that drops what is said to it, and never fails.
 #[derive(Drop)]
 pub struct NullSink {
     history: History,

@@ -72,7 +72,7 @@ impl Source for CalmSource {
     }
 }
 
-/// A source in memory that gives its bytes in small pieces, and fails at the calls that it is told.
+/// A source in memory that gives its bytes in small pieces, and fails at the calls that it is given.
 #[derive(Drop)]
 pub struct MemSource {
     bytes: CalmSource,

@@ -57,7 +57,7 @@ impl Meter {
         self.faults = self.faults.saturating_add(1);
     }
 
-    /// Counts bytes from none on again.
+    /// Counts bytes from 0 again.
     pub(crate) fn forget_taken(&mut self)
         ensures { self.new ≡ record self.old { taken = 0 } }
     {

@@ -9,7 +9,7 @@ use history::History;
 use std::io::Write;
 use std::marker::Model;
 
-/// A sink over std's writing. It tells the bytes that the writer took.
+/// A sink over std's writing. Contracts see the bytes that the writer took.
 #[derive(Drop)]
 pub struct OutputSink<W: Write> {
     writer: W,

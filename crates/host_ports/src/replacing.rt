@@ -7,13 +7,13 @@ use std::io::{ErrorKind, Write};
 use std::os::unix::fs::{OpenOptionsExt, PermissionsExt};
 use std::rt;
 
-/// A path, of which systems take no more bytes.
+/// A path. Systems take none that is longer.
 type PathText = ArrayString<4096>;
 
 /// How many names beside the file are tried before a save gives up.
 const MOST_TRIES: u32 = 100;
 
-/// What a file that is new may be used for, before the process takes off what it grants to nobody.
+/// The permissions of a new file, before the process's mask takes some off.
 const NEW_MODE: u32 = 0o666;
 
 /// Writes the bytes to a new file beside the one of that name, and puts it in that one's place once
@@ -32,7 +32,7 @@ pub(crate) fn replace_file<R: rt::Files>(
     };
     let (path, mut file) = create_beside(rt, name, mode)?;
     if fill(&mut file, old, bytes).is_err() || fs::rename(rt, path.as_str(), name).is_err() {
-        // The file of that name stands, whether or not the new one goes.
+        // The file of that name stands, whether or not the new one is removed.
         let _ = fs::remove_file(rt, path.as_str());
         return Err(Failed);
     }

@@ -5,8 +5,8 @@ use std::fs::{self, File};
 use std::io::ErrorKind;
 use std::rt;
 
-/// Saves the bytes under that name. A file gives way to a new one with its permissions, if it may be
-/// written; a link, a device or a pipe stays, and what it leads to is written.
+/// Saves the bytes under that name. A file that may be written is replaced by a new one with its
+/// permissions. A link, a device or a pipe stays, and what it leads to is written.
 pub(crate) fn save_file<R: rt::Files>(rt: &R, name: &str, bytes: &[u8]) -> Result<(), Failed> {
     match fs::symlink_metadata(rt, name) {
         Ok(old) if old.is_file() => {

@@ -8,7 +8,7 @@ use crate::Failed;
 
 /// Where question lines come from, in pieces of any length.
 pub trait Source {
-    /// The bytes that are still to come, where they are told.
+    /// The bytes that are still to come, where the source tells them, as one in memory does.
     ghost rest: { Self → Option (List ℕ) };
 
     /// The bytes that came, oldest first. Every source tells them.

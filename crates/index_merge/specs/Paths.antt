@@ -14,11 +14,11 @@ object_at parts place = slice_get parts.objects place
 unfoldable pub rows_from : Parts → ℕ → List Row
 rows_from parts place = flat_map (rows_in parts) (range_with_len place (length parts.objects - place))
 
--- what the paths of these objects cost
+-- what the paths of the objects from a place on cost
 unfoldable pub cost_from : Parts → ℕ → ℕ
 cost_from parts place = sum_by (whole_path_cost parts) (drop place parts.objects)
 
--- and what until a row is passed
+-- what the paths of the objects from a place on cost until a row is passed
 abbrev pub cost_past_from : Parts → ℕ → Row → ℕ
 cost_past_from parts place row =
     shares_cost (whole_path_cost parts) (path_cost_past parts) (drop place parts.objects) row

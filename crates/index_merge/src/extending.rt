@@ -16,11 +16,14 @@ use track_types::{Chart, Row};
 
 /// The chart of an index and of later rows, which count where both have one of an object and an instant.
 ///
-/// It refuses, in this order, more than 2^24 rows, by the value 2^24 + 1 (`Limit`); an index without a
-/// row where there is no later one (`Empty`); and the first quantity of the rows that passes its limit,
-/// as `gridding::chart` judges them (`Limit`). `Memory` may be answered to any index and rows.
+/// It refuses, in this order:
+/// - more than 2^24 rows, by the value 2^24 + 1 (`Limit`);
+/// - an index without a row where there is no later one (`Empty`);
+/// - the first quantity of the rows that passes its limit, as `gridding::chart` judges them (`Limit`).
 ///
-/// The paths of all objects are drawn one after the other, and no row is drawn after one too many: an
+/// `Memory` may be answered to any index and rows.
+///
+/// The paths of all objects are drawn one after another, and no row is drawn after one too many: an
 /// index that stands for billions of rows is refused without being expanded. Memory is taken for the
 /// rows of the chart, and for the walk of one path.
 #[tactic(auto, using(crate::proofs::AsBuiltLemmas::is_as_built))]

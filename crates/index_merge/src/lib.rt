@@ -2,9 +2,7 @@
 //!
 //! `union` and `extended` are exact: they answer the chart that has the rows of both
 //! (`specs/Union.antt`), or the first cause for which there is none (`specs/MergeFault.antt`,
-//! `specs/Extension.antt`), within the reads that `specs/Cost.antt` counts. The crate stands on
-//! `track_types`, `gridding`, `rule_store`, `snapshots`, `object_track`, `track_index`, `path_union`,
-//! `step_count` and `list_laws`. (Its tests make their charts by `gridding`.)
+//! `specs/Extension.antt`). Their reads are those that `specs/Cost.antt` counts.
 #![tactic(auto)]
 
 mod comparing;

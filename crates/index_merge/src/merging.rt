@@ -17,13 +17,16 @@ use track_types::Chart;
 
 /// The chart of two indexes together: the rows of both, with the settings of the first.
 ///
-/// It refuses, in this order, the first setting of cell, tick and period in which they differ
-/// (`Settings`); the least object that is listed in both (`Common`), whether it has a row or not; more
-/// than 2^24 rows, by the value 2^24 + 1 (`Limit`); two indexes without a row (`Empty`); and the first
-/// quantity of the rows that passes its limit, as `gridding::chart` judges them (`Limit`). `Memory` may
-/// be answered to any indexes.
+/// It refuses, in this order:
+/// - the first setting of cell, tick and period in which they differ (`Settings`);
+/// - the least object that is listed in both (`Common`), whether it has a row or not;
+/// - more than 2^24 rows, by the value 2^24 + 1 (`Limit`);
+/// - two indexes without a row (`Empty`);
+/// - the first quantity of the rows that passes its limit, as `gridding::chart` judges them (`Limit`).
 ///
-/// The paths of all objects are drawn one after the other, and no row is drawn after one too many: an
+/// `Memory` may be answered to any indexes.
+///
+/// The paths of all objects are drawn one after another, and no row is drawn after one too many: an
 /// index that stands for billions of rows is refused without being expanded. Memory is taken for the
 /// rows of the chart, and for the walk of one path.
 #[tactic(auto, using(crate::proofs::AsBuiltLemmas::is_as_built))]

@@ -8,12 +8,12 @@ use Rattle.snapshots.specs.Parts.{numbers_in}
 use Rattle.slice_search.specs.Cost.{period_search_cost}
 use Rattle.slice_search.specs.Sought.{latest_in}
 
--- a period in which the window's first hits are sought, by the reach at the last instant of the window in the period
+-- the reads of a period in which the window's first hits are sought, by the reach at the window's last instant in it
 abbrev pub window_cost : Parts → ℤ → ℤ → Region → ℕ → ℕ
 window_cost parts from to region number =
     period_search_cost parts number from to region (latest_in parts.frame number to)
 
--- an interval: each period that the window meets
+-- the reads of an interval: of each period that the window meets
 unfoldable pub interval_cost : Parts → ℤ → ℤ → Region → ℕ
 interval_cost parts from to region =
     sum_by (window_cost parts from to region) (filter (is_met parts.frame from to) (numbers_in parts.frame))

@@ -23,7 +23,7 @@ hit_at object stop = record { object = object; instant = stop.instant; cell = st
 abbrev pub hit_in : List Row → ℤ → ℤ → Region → ℕ → Option Hit
 hit_in rows from to region object = option_map (hit_at object) (first_among region (path_of rows object from to))
 
--- an object is told by its place
+-- whether the object at this place is known
 abbrev pub is_known : List Bool → ℕ → Bool
 is_known known place = slice_index_or known place false
 
@@ -41,11 +41,11 @@ module _ (parts : Parts) (from to : ℤ) (region : Region) where
   abbrev pub first_hit : ℕ → Option Hit
   first_hit place = hit_in (chart_in parts).rows from to region (slice_index parts.objects place)
 
-  -- its first stop in the window and the region in a period
+  -- the first stop in the window and the region, in a period, of the object at a place
   abbrev pub first_here : ℕ → ℕ → Option Stop
   first_here number place = first_among region (in_window from to (stops_in parts place number))
 
-  -- the same in the periods before one
+  -- the first stop in the window and the region, in the periods before one, of the object at a place
   unfoldable pub first_before : ℕ → ℕ → Option Stop
   first_before number place =
       first_among region (flat_map (λ j. in_window from to (stops_in parts place j)) (range_with_len 0 number))
@@ -69,7 +69,7 @@ module _ (parts : Parts) (from to : ℤ) (region : Region) where
     pub none : (place : ℕ) → place < length parts.objects → is_known known place ≡ false
         → first_before number place ≡ None
 
-  -- What a search in a period has done but for the blocks that are left: no other object that is not known has a hit in it.
+  -- What a search in a period has done: but for the objects of the blocks that are left, all that have a hit in it are known.
   pub record IsLooking (number : ℕ) (left : List Anchored) (known : List Bool) (found : List Hit) : Type 0 where
     pub first : AreFirst number known found
     pub left_are : All (IsBlock (snapshot_in parts number)) left

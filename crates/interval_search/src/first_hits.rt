@@ -37,8 +37,8 @@ impl FirstHits {
         })
     }
 
-    /// Takes the first hits that the blocks of a walk have, but for objects that are known: those have
-    /// an earlier one, and their logs are not opened.
+    /// Takes the first hits that the blocks of a walk have. It skips the objects that are known: they
+    /// have an earlier hit, and their logs are not opened.
     pub fn look<W: Lazy<Item = Anchored>, L: Ledger>(
         &mut self,
         alloc: Global,

@@ -9,7 +9,7 @@ unfoldable pub levels_bits : List ℕ → ℕ → List ℕ → List Bool
 levels_bits [] n codes = []
 levels_bits (width ∷ widths) n codes = level_bits width (digits_in widths + n) codes ++ levels_bits widths n codes
 
--- the places of a square whose first number is the i-th and leaves so many digits away, and none where the number
+-- the places of a square whose first number is the i-th and whose prefix drops so many digits; none where the number
 -- before is in the square too
 abbrev pub room : ℕ → ℕ → List ℕ → ℕ → List Bool
 room size above codes zero = replicate size false

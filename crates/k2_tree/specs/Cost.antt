@@ -6,10 +6,10 @@ use Rattle.bit_rank.specs.Cost.{rank_reads, select_reads, window_reads}
 abbrev pub child_reads : ℕ
 child_reads = window_reads + rank_reads
 
--- `leaf_cell`: one select for each level, of which there are at most as many as digits
+-- `leaf_cell`: one select for each level; there are at most as many levels as digits
 abbrev pub climb_reads : ℕ → ℕ
 climb_reads height = select_reads * height
 
--- `leaf_of`: one child for each level, of which there are at most as many as digits
+-- `leaf_of`: one child for each level; there are at most as many levels as digits
 abbrev pub descent_reads : ℕ → ℕ
 descent_reads height = child_reads * height

@@ -1,4 +1,4 @@
--- Which of a square's children a number's bits tell.
+-- Which of a square's children the bits of a number stand for.
 use Rattle.std.specs.Prelude.{ℕ, ◌==◌, List, filter}
 use Rattle.std.specs.List.{range_with_len}
 use Rattle.std.specs.Int.{bit_at}

@@ -21,8 +21,8 @@ group_flaw size zero bits = None
 group_flaw size (suc groups) bits =
     if has_group size bits then option_map (λ place. size + place) (group_flaw size groups (drop size bits)) else Some 0
 
--- the place of the first flaw of levels of these widths, of which the first has so many groups, or of what stands
--- after them
+-- the place of the first flaw of levels of these widths, or of what stands after them; the first level has so many
+-- groups
 unfoldable pub level_flaw : List ℕ → ℕ → List Bool → Option ℕ
 level_flaw [] groups [] = None
 level_flaw [] groups (bit ∷ bits) = Some 0

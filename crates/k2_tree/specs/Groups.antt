@@ -25,7 +25,7 @@ digit_at upper place = if nat_lt place (16 * upper) then place % 16 else (place 
 abbrev pub square_width : ℕ → ℕ → ℕ
 square_width upper square = if nat_lt square upper then 2 else 1
 
--- how many squares are split in sixteen, counted from the bits of so many levels, of which the first has so many groups
+-- how many squares are split in sixteen, counted from the bits of so many levels; the first level has so many groups
 unfoldable pub upper_in : ℕ → ℕ → List Bool → ℕ
 upper_in zero groups bits = 0
 upper_in (suc wide) groups bits =

@@ -20,7 +20,7 @@ pub record IsInGrid (height : ℕ) (base cell : Cell) : Type 0 where
   pub below : base.y ≤ℤ cell.y
   pub above : unsigned_abs (cell.y -ℤ base.y) < 2 ^ height
 
--- the number of n digits to base 4, of which each is twice a bit of the row and the same bit of the column
+-- the number of n digits to base 4; each digit is twice a bit of the row and the same bit of the column
 unfoldable pub interleaved : ℕ → ℕ → ℕ → ℕ
 interleaved zero row column = 0
 interleaved (suc n) row column = 4 * interleaved n (row / 2) (column / 2) + (2 * (row % 2) + column % 2)
@@ -30,12 +30,12 @@ unfoldable pub morton_of : ℕ → Cell → Cell → ℕ
 morton_of height base cell =
     interleaved height (unsigned_abs (cell.y -ℤ base.y)) (unsigned_abs (cell.x -ℤ base.x))
 
--- the row that n digits of a Morton number tell
+-- the row of a Morton number of n digits
 unfoldable pub morton_row : ℕ → ℕ → ℕ
 morton_row zero code = 0
 morton_row (suc n) code = 2 * morton_row n (code / 4) + code % 4 / 2
 
--- the column that n digits of a Morton number tell
+-- the column of a Morton number of n digits
 unfoldable pub morton_column : ℕ → ℕ → ℕ
 morton_column zero code = 0
 morton_column (suc n) code = 2 * morton_column n (code / 4) + code % 4 % 2

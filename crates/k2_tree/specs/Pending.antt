@@ -7,7 +7,7 @@ use Rattle.k2_tree.specs.Digits.{digits_of}
 use Rattle.k2_tree.specs.declared.square.Square.{Square}
 use Rattle.k2_tree.specs.declared.pending.Pending.{Pending}
 
--- those children, in order
+-- the pending children, in order
 abbrev pub nodes_of : Pending → List Node
 nodes_of pending =
     map (child_at pending.width (node_of pending.square)) (digits_of (fan_of pending.width) pending.digits)

@@ -44,6 +44,6 @@ module _ {F : Type 0} (keeps : F → CellBox → Bool) where
   abbrev pub pruned_left : Pruned F → List (ℕ × Cell)
   pruned_left pruned = walk_left (keeps pruned.keep) pruned.walk
 
-  -- its budget of reads
+  -- the budget of reads of a pruned walk
   abbrev pub pruned_budget : Pruned F → ℕ
   pruned_budget pruned = walk_budget (keeps pruned.keep) pruned.walk

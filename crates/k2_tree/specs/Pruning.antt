@@ -30,7 +30,7 @@ leaf_of tree code = leaf_with tree.height tree.base (codes_of tree) code
 abbrev pub IsLeafOf : Tree → ℕ × Cell → Type 0
 IsLeafOf tree leaf = slice_get tree.cells leaf.0 ≡ Some leaf.1
 
--- how many digits are left away of the prefixes of the top, and of each of these levels down to the cells
+-- how many digits the prefixes of the top drop, and those of each of these levels down to the cells
 unfoldable pub digits_left : List ℕ → List ℕ
 digits_left [] = 0 ∷ []
 digits_left (width ∷ widths) = (width + digits_in widths) ∷ digits_left widths
@@ -64,7 +64,7 @@ IsKeptFor keep wanted = (area : CellBox) (cell : Cell)
 abbrev pub IsWeaker : (CellBox → Bool) → (CellBox → Bool) → Type 0
 IsWeaker weak strong = (area : CellBox) → IsBoxWithin area → IsTrue (strong area) → IsTrue (weak area)
 
--- those of the leaves whose cells are wanted
+-- the leaves whose cells are wanted
 abbrev pub wanted_of : (Cell → Bool) → List (ℕ × Cell) → List (ℕ × Cell)
 wanted_of wanted leaves = filter (λ leaf. wanted leaf.1) leaves
 
@@ -76,7 +76,7 @@ square_count keep tree = length (filter (on_areas keep tree) (squares_of tree))
 unfoldable pub child_prefixes : ℕ → ℕ → List ℕ → ℕ → List ℕ
 child_prefixes width n codes prefix = filter (is_in (prefixes n codes)) (children_of_prefixes (fan_of width) (prefix ∷ []))
 
--- those children of a square of a tree
+-- the children that hold a cell of a square of a tree
 abbrev pub child_nodes : Tree → Node → List Node
 child_nodes tree square =
     map (node (square.level - node_width tree square))

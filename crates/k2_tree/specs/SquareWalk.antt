@@ -47,7 +47,7 @@ pub record IsOpen (squares : List Node) (base : Cell) (level : ℕ) (pending : P
   pub same : pending.square.base ≡ base
   pub stands : StandsAt squares pending.number (nodes_of pending)
 
--- so are all open squares, each of a lower level than the one before
+-- all open squares are so, each of a lower level than the one before
 abbrev pub AreOpen : List Node → Cell → ℕ → List Pending → Type 0
 AreOpen squares base level [] = Unit {0}
 AreOpen squares base level (pending ∷ later) =

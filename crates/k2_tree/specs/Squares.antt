@@ -3,7 +3,7 @@ use Rattle.std.specs.Prelude.{◌≡◌, ℕ, ◌+◌, ◌*◌, ◌<◌, List, [
 use Rattle.k2_tree.specs.Widths.{digits_in, fan_of}
 use Rattle.k2_tree.specs.TreeBits.{prefixes}
 
--- a square: how many digits are left away of the Morton numbers of its cells, and the prefix that is left
+-- a square: how many digits of its cells' Morton numbers are dropped, and the prefix that is left
 pub record Node : Type 0 where
   pub level : ℕ
   pub prefix : ℕ

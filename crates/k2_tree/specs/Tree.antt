@@ -38,20 +38,20 @@ pub record IsTree (tree : Tree) : Type 0 where
   pub inside : All (IsInGrid tree.height tree.base) tree.cells
   pub codes : AreCodes tree.height (codes_of tree)
 
--- those of the numbers at whose place a bit is 1
+-- the numbers at whose place a bit is 1
 unfoldable pub where_set : List Bool → List ℕ → List ℕ
 where_set [] codes = []
 where_set (bit ∷ bits) [] = []
 where_set (true ∷ bits) (code ∷ codes) = code ∷ where_set bits codes
 where_set (false ∷ bits) (code ∷ codes) = where_set bits codes
 
--- the numbers that the bits of levels of these widths tell below these prefixes
+-- the numbers below these prefixes that the bits of levels of these widths stand for
 unfoldable pub codes_below : List ℕ → List ℕ → List Bool → List ℕ
 codes_below [] prefixes bits = prefixes
 codes_below (width ∷ widths) prefixes bits =
     codes_below widths (where_set bits (children_of_prefixes (fan_of width) prefixes)) (drop (fan_of width * length prefixes) bits)
 
--- the Morton numbers that a tree's bits tell
+-- the Morton numbers that a tree's bits stand for
 unfoldable pub codes_in : List ℕ → List Bool → List ℕ
 codes_in widths [] = []
 codes_in widths (bit ∷ bits) = codes_below widths (0 ∷ []) (bit ∷ bits)
@@ -61,7 +61,7 @@ abbrev pub tree_of : ℕ → ℕ → Cell → List Bool → Tree
 tree_of height wide base bits =
     tree_with height wide base (map (cell_of height base) (codes_in (widths_of height wide) bits))
 
--- the bits are those of the Morton numbers that they tell
+-- the bits are those of the Morton numbers that they stand for
 pub record AreTreeBits (height wide : ℕ) (bits : List Bool) : Type 0 where
   pub fits : 2 * wide ≤ height
   pub codes : AreCodes height (codes_in (widths_of height wide) bits)

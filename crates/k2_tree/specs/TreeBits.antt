@@ -9,7 +9,7 @@ use Rattle.k2_tree.specs.Widths.{fan, fan_of, digits_in}
 abbrev pub is_in : List ℕ → ℕ → Bool
 is_in codes code = list_any (λ other. other == code) codes
 
--- the prefixes of ascending Morton numbers that leave n digits away, each once
+-- the prefixes of ascending Morton numbers that drop n digits, each once
 unfoldable pub prefixes : ℕ → List ℕ → List ℕ
 prefixes n codes = dedup (λ a b. a == b) (map (λ code. code / fan ^ n) codes)
 

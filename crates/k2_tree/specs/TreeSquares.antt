@@ -11,7 +11,7 @@ use Rattle.k2_tree.specs.Areas.{area_at}
 use Rattle.k2_tree.specs.Tree.{Tree, codes_of, tree_widths}
 use Rattle.k2_tree.specs.declared.square.Square.{Square}
 
--- how many digits to base 4 are left away of the Morton numbers of its cells
+-- how many digits to base 4 of its cells' Morton numbers are dropped
 abbrev pub level_of : Square → ℕ
 level_of square = square.level
 
@@ -19,7 +19,7 @@ level_of square = square.level
 abbrev pub prefix_of : Square → ℕ
 prefix_of square = interleaved MAX_HEIGHT square.row square.column
 
--- its number among the squares that hold a cell
+-- a square's number among the squares that hold a cell
 abbrev pub square_number : Square → ℕ
 square_number square = square.number
 
@@ -27,11 +27,11 @@ square_number square = square.number
 abbrev pub node_of : Square → Node
 node_of square = node square.level (prefix_of square)
 
--- its cells
+-- the cells of a square
 abbrev pub area_of : Square → CellBox
 area_of square = area_at square.base (node_of square)
 
--- its least cell
+-- the least cell of a square
 abbrev pub least_cell_of : Square → Cell
 least_cell_of square = record { x = (area_of square).x1; y = (area_of square).y1 }
 

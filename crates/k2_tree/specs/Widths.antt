@@ -1,5 +1,5 @@
--- The levels of a tree, each told by its width: how many digits to base 4 its squares have more than the squares above
--- it. A level of width 1 splits each square in four, one of width 2 in sixteen.
+-- The levels of a tree, each given by its width: how many more digits to base 4 its squares have than the squares above.
+-- A level of width 1 splits each square in four, one of width 2 in sixteen.
 use Rattle.std.specs.Prelude.{ℕ, zero, suc, ◌+◌, ◌-◌, ◌*◌, ◌/◌, ◌^◌, nat_lt, if◌then◌else◌, List, [], ◌∷◌, ◌++◌}
 
 -- a digit splits a square in so many on either side

@@ -9,8 +9,8 @@ use crate::groups::fan_of;
 use std::alloc::Global;
 use track_types::{BitList, Memory};
 
-/// The tree bits of ascending Morton numbers of `height` digits, level by level from the top, of
-/// which the `wide` upper ones take two digits each: the bits of a tree that is only to be written.
+/// The tree bits of ascending Morton numbers of `height` digits, for a tree that is only to be
+/// written. They go level by level from the top, and the `wide` upper levels take two digits each.
 /// There are at most 2^16 numbers, and the height is at most `MAX_HEIGHT`. Each level takes one
 /// pass over the numbers.
 pub fn bits_of_codes(
@@ -90,7 +90,7 @@ fn push_level(bits: &mut Vec<bool>, codes: &[u64], width: u32, level: u32) -> Re
     Ok(())
 }
 
-// Pushes the group of a square, which leaves `above` digits away, where the number at a place is the
+// Pushes the group of a square, whose prefix drops `above` digits, where the number at a place is the
 // first of it.
 fn make_room(
     bits: &mut Vec<bool>,

@@ -11,8 +11,8 @@ use std::sync::ledger::Ledger;
 use step_count::Steps;
 
 /// The Morton number of a leaf: from the leaf to the top, by the place of one bit at each level.
-/// The one of a square's number stands in its parent's group, at the place of its last digit. So
-/// many squares are split in sixteen.
+/// The bit of a square stands in its parent's group, at the place of the square's last digit.
+/// `upper` squares are split in sixteen.
 pub fn code_of_leaf<L: Ledger>(
     bits: &Bits,
     height: u32,

@@ -12,8 +12,9 @@ use bit_rank::Bits;
 use std::sync::ledger::Ledger;
 use step_count::Steps;
 
-/// The place of a Morton number among those that the bits tell, if it is one of them: from the top
-/// to its leaf, by the rank of one bit at each level. So many squares are split in sixteen.
+/// The place of a Morton number among those that the bits stand for, if it is one of them. It goes
+/// from the top to the leaf, by the rank of one bit at each level. `upper` squares are split in
+/// sixteen.
 pub fn find_leaf<L: Ledger>(
     bits: &Bits,
     height: u32,
@@ -47,8 +48,7 @@ pub fn find_leaf<L: Ledger>(
     Some(square - square_at(upper, bits.len()))
 }
 
-/// The number of the square whose bit stands at a place, if that is there: the one at the place is
-/// the one of the square's number.
+/// The number of the square whose bit stands at a place, if that bit is 1: it is the rank of the bit.
 pub fn child_at<L: Ledger>(bits: &Bits, place: u32, steps: &mut Steps<L>) -> Option<u32>
     requires inside { place < length bits.now }
     requires few { length bits.now ≤ MAX_TREE }

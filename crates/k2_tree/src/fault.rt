@@ -4,9 +4,9 @@ use std::fmt::{self, Display, Formatter, Write};
 /// Why bits are not taken as a tree.
 #[derive(Clone, Copy, Debug, PartialEq, Eq)]
 pub enum TreeFault {
-    /// The bits are those of no set of cells: `place` is the start of the first group, of sixteen
-    /// in a wide level and else of four, in order of place, that is not whole or holds no one, or
-    /// else the place after the last level, where bits remain.
+    /// The bits are those of no set of cells. `place` is the start of the first group that is not
+    /// whole or has no bit 1; a group has sixteen bits in a wide level, and else four. Without such
+    /// a group it is the place after the last level, where bits remain.
     Flaw { place: u32 },
     /// Memory was refused. It may be answered to any bits without a flaw.
     Memory,

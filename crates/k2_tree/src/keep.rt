@@ -6,8 +6,7 @@ use track_types::CellBox;
 
 /// A test of boxes, by which a walk over a tree skips squares.
 ///
-/// Its meaning, `keeps`, tells for each box whether it is kept. It is determined by the value and
-/// the box.
+/// Its meaning, `keeps`, says of each box whether it is kept. The value and the box determine it.
 pub trait Keep {
     ghost keeps: { Self → CellBox → Bool };
 

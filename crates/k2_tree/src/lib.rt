@@ -1,9 +1,9 @@
 //! k2-trees: sets of grid cells as bits that answer rank and select.
 //!
-//! A `K2Tree` is a set of cells in a square grid. Its cells are numbered in Morton order, and
-//! `leaf_of` and `leaf_cell` go from a cell to its number and back within a bounded number of
-//! reads. `bits_of_codes` makes a tree's bits alone, to be written. The crate stands on `track_types`, `bit_rank`, `packed_bits`, `step_count`,
-//! `list_laws` and `arrayvec`.
+//! A `K2Tree` is a set of cells of a square grid, numbered in Morton order. `leaf_of` and
+//! `leaf_cell` go from a cell to its number and back in a bounded number of reads, and `pruned`
+//! walks over the cells whose squares pass a test. `bits_of_codes` makes only the bits, for a tree
+//! that is written and not asked.
 #![tactic(auto)]
 
 mod building;

@@ -90,7 +90,7 @@ fn moved(base: i64, by: u64) -> i64
     base + by as i64
 }
 
-// The column that the digits of a Morton number tell.
+// The column of a Morton number, by its digits.
 fn column_at(code: u64, height: u32) -> u64
     requires { height ≤ MAX_HEIGHT }
     ensures value { result ≡ morton_column height code }
@@ -103,7 +103,7 @@ fn column_at(code: u64, height: u32) -> u64
     column
 }
 
-// The row that the digits of a Morton number tell: its bits stand above those of the column.
+// The row of a Morton number, by its digits: its bits stand above those of the column.
 fn row_at(code: u64, height: u32) -> u64
     requires { height ≤ MAX_HEIGHT }
     ensures value { result ≡ morton_row height code }

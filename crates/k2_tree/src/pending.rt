@@ -34,9 +34,9 @@ impl Pending {
     ghost use Rattle.std.specs.Prelude.{[], IfNone, IfSome};
     ghost use Rattle.k2_tree.specs.Pending.{nodes_of, IsNextOf};
 
-    /// Of a square that is no cell the children whose bits are set, with numbers from this one on,
-    /// by the width of their level. Only bits below the level's fan may be set, and all of the
-    /// numbers fit 32 bits.
+    /// The children of a square that is no cell: those whose bits are set, by the width of their
+    /// level, with numbers from this one on. Only bits below the level's fan may be set, and all of
+    /// the numbers fit 32 bits.
     pub fn new(square: Square, width: u32, digits: u32, number: u32) -> Pending
         requires some { 1 ≤ width }
         requires narrow { width ≤ 2 }

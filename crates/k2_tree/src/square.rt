@@ -5,15 +5,15 @@ ghost use Rattle.track_types.specs.declared.limit.TheConstants.{MAX_ASKED, MAX_H
 
 use track_types::{Cell, CellBox};
 
-/// A square of a tree that holds a cell: the whole grid, one of the four or sixteen squares that a
-/// square of the tree is split in, and so on down to a cell.
+/// A square of a tree that holds a cell. It is the whole grid, or one of the four or sixteen
+/// squares that another square of the tree is split in, down to a cell.
 ///
 /// It is a node of the k2-tree. It knows its place in the grid and its number among the squares
 /// that hold a cell, level by level from the top.
 #[derive(Clone, Copy, Debug)]
 pub struct Square {
     base: Cell,
-    // How many digits its cells' Morton numbers have more: its side is 2^level.
+    // How many more digits the Morton numbers of its cells have: its side is 2^level.
     level: u32,
     // How many squares of its size stand to the left of it and below it in the grid.
     column: u32,
@@ -31,7 +31,7 @@ pub struct Square {
 impl Default for Square {
     ghost use Rattle.k2_tree.specs.TreeSquares.{level_of};
 
-    // The whole of the least grid, as in the unused places of a list.
+    // The whole of the least grid, which stands in the unused places of a list.
     fn default() -> Self
         ensures { level_of result ≡ 1 }
     {
@@ -129,7 +129,7 @@ impl Square {
         }
     }
 
-    // How many digits its cells' Morton numbers have more.
+    // How many more digits the Morton numbers of its cells have.
     pub(crate) fn level(&self) -> u32
         ensures value { result ≡ level_of self.now }
         ensures within { result ≤ MAX_HEIGHT }

@@ -19,8 +19,8 @@ use track_types::{Cell, MAX_HEIGHT};
 // One open square for each level above the cells.
 const LEVELS: usize = MAX_HEIGHT as usize;
 
-/// A way over the squares of a tree in Morton order, in which each square is followed by its
-/// children where it is opened, and else by what comes after them.
+/// A walk over the squares of a tree in Morton order. A square that is opened is followed by its
+/// children, and any other by what comes after these.
 ///
 /// It keeps one entry for each level. Contracts see the tree, the squares that are still to be
 /// visited, the next one first, and how many squares are open.
@@ -43,7 +43,7 @@ impl<'a> Model for SquareWalk<'a> {
 }
 
 impl<'a> SquareWalk<'a> {
-    /// The way over all squares of a tree.
+    /// The walk over all squares of a tree.
     pub fn new(tree: &'a K2Tree) -> SquareWalk<'a>
         ensures tree { result.tree ≡ tree.now }
         ensures pending { result.pending ≡ top_nodes tree.now }

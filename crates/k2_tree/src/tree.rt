@@ -35,21 +35,21 @@ use std::sync::ledger::Ledger;
 use step_count::Steps;
 use track_types::{BitList, Cell, Memory};
 
-// A square is split in at most so many.
+// The most squares that a square is split in.
 const MOST_CHILDREN: usize = 16;
 
 /// A set of cells in the grid of side `2^height` whose least corner is a base cell.
 ///
 /// The bits are those of a k2-tree (Brisaboa, Ladra and Navarro, "Compact representation of web
-/// graphs with extended functionality", 2014): level by level from the top, a group of bits for
-/// each square that holds a cell, a bit for each of its children. The upper levels may be wide: they
+/// graphs with extended functionality", 2014). Level by level from the top, each square that holds
+/// a cell has a group of bits, one for each of its children. The upper levels may be wide: they
 /// split a square in sixteen, the others in four. The cells are the tree's leaves, numbered from 0
 /// in Morton order, whatever the levels.
 #[derive(Drop)]
 pub struct K2Tree {
     bits: Bits,
     height: u32,
-    // How many levels are wide: they stand at the top, and take two binary digits of a coordinate.
+    // How many levels are wide. They stand at the top, and take two binary digits of a coordinate.
     wide: u32,
     // How many squares these levels split.
     upper: u32,
@@ -226,8 +226,8 @@ impl K2Tree {
     }
 
     /// The children of a square that hold a cell, by digit: at most 16, in Morton order. Their cells
-    /// lie within the square, which is one of this tree's and no cell. One window of the bits and
-    /// one rank tell all of them, and no memory is taken.
+    /// lie within the square, which is one of this tree's and no cell. All of them are found by one
+    /// window of the bits and one rank, and no memory is taken.
     pub fn children<L: Ledger>(
         &self,
         square: &Square,
@@ -299,8 +299,8 @@ impl K2Tree {
         Pruned::new(SquareWalk::new(self), keep)
     }
 
-    // The children that hold a cell of a square of this tree that is no cell, in order: one window
-    // tells which there are, and one rank their numbers.
+    // The children that hold a cell, in order, of a square of this tree that is no cell. One window
+    // says which there are, and one rank their numbers.
     pub(crate) fn pending_children<L: Ledger>(
         &self,
         square: Square,

@@ -1,5 +1,5 @@
-//! Laws of plain lists that std does not have: lists of lists joined, filters, sums, numbers that
-//! ascend, and places in joined lists.
+//! Laws of plain lists that std does not have.
 //!
-//! All of it is in `specs/` and `proofs/`. The crate stands on std alone.
+//! There is no code: the definitions stand in `specs/`, the laws in `proofs/`. They are about
+//! joined lists, filters, sums, numbers that ascend, and places in joined lists.
 #![tactic(auto)]

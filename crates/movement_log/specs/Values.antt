@@ -1,4 +1,4 @@
--- What a row, or no row, of an object at an instant is in its log.
+-- What a log has for an instant at which its object has a row, or none.
 use Rattle.std.specs.Prelude.{ℕ, suc, ℤ, ◌-ℤ◌, Bool, ◌&&◌, ◌==◌, List, find, reverse, Option, Some, None}
 use Rattle.std.specs.Int.Signed.{lt_z}
 use Rattle.spiral_code.specs.Spiral.{code_of}

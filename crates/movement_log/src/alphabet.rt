@@ -6,11 +6,11 @@ ghost use Rattle.movement_log.specs.Logs.{ascending_of, terminal_of};
 use std::alloc::{AllocError, Global};
 use track_types::{List32, List64};
 
-// So many values stand beside each other at least before the ones that come again are let go.
+// How many values are gathered at least before repeated ones are dropped.
 const LEAST_ROOM: usize = 1 << 16;
 
-/// The values that logs use, ascending. It takes time for one sort of all values, and memory for twice
-/// the different ones and one log.
+/// The values that logs use, ascending. It takes the time of one sort of all values, and memory for
+/// twice the different ones and one log.
 pub(crate) fn alphabet_of(alloc: Global, logs: &[List64]) -> Result<Vec<u64>, AllocError>
     ensures ok { IfOk result (λ alphabet. alphabet.items ≡ ascending_of (flat_map (λ values. values) logs.now)) }
     ensures few { IfOk result (λ alphabet. length alphabet.items ≤ sum_by length logs.now) }
@@ -22,7 +22,7 @@ pub(crate) fn alphabet_of(alloc: Global, logs: &[List64]) -> Result<Vec<u64>, Al
         values.extend_from_slice(log.as_slice())?;
         if values.len() >= room {
             keep_each_once(&mut values);
-            // As many must come again before the next time, so all of these times take no longer than one.
+            // As many again must come before the next sort, so that all sorts together take about as long as one.
             room = values.len().saturating_mul(2).max(LEAST_ROOM);
         }
     }

@@ -115,8 +115,8 @@ fn end_of_period(chart: &Chart, period: u32) -> u64
     (u64::from(period) + 1) * u64::from(chart.period())
 }
 
-/// How many terminals a block's log has: one for each later instant of its period, of which the
-/// last one ends where the chart does.
+/// How many terminals a block's log has: one for each later instant of its period. The last period
+/// ends where the chart does.
 pub(crate) fn log_length(chart: &Chart, anchor: &Row) -> usize
     requires inside { elapsed (first_of chart.now.rows) anchor.now < span_of chart.now.rows }
     ensures { result ≡ log_length_of chart.now anchor.now }

@@ -11,11 +11,11 @@ use track_types::{Chart, List64, Lists32, Memory};
 
 /// Cuts the tracks of a chart into blocks, one for each object and period in which it has a row.
 ///
-/// A block's log tells, for each later instant of its period, that the object is absent, or how it
+/// A block's log says, for each later instant of its period, that the object is absent, or how it
 /// moved from the last cell in which it was present. A period has the chart's number of instants,
-/// and the last one ends at the chart's last instant. It takes time for the rows and terminals, for
-/// one sort of the values and one search of the alphabet for each, and memory for a small multiple
-/// of the rows and terminals.
+/// and the last one ends at the chart's last instant. The time is that of one pass over the rows and
+/// terminals, one sort of the values, and one search of the alphabet for each. The memory is a small
+/// multiple of the rows and terminals.
 pub fn cut(alloc: Global, chart: &Chart) -> Result<RawLogs, Memory>
     ensures ok { IfOk result (λ logs. logs ≡ logs_of chart.now) }
 {

@@ -1,9 +1,8 @@
 //! The logs of a chart: for each object and period in which it has a row, the first one and what
 //! follows it, instant by instant.
 //!
-//! `cut` gives the block headers, the logs and the alphabet of movements that the logs use, as
-//! `specs/Logs.antt` says of the chart's rows. The crate stands on `track_types`, `spiral_code`,
-//! `list_laws` and `gridding`. (Its tests make their charts by the last of these.)
+//! `cut` gives the block headers, the logs and the alphabet of the values that the logs use. What
+//! these are is said of the chart's rows, in `specs/Logs.antt`.
 #![tactic(auto)]
 
 mod alphabet;

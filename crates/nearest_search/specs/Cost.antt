@@ -40,7 +40,7 @@ is_near_enough parts count number instant cell area =
 abbrev pub near_cost : Parts → Anchored → ℕ
 near_cost parts block = block_reads + seek_cost parts (Some block)
 
--- the nearest at an instant of a period: the squares and the blocks whose reach is near enough
+-- the reads of the nearest at an instant of a period: of the squares and the blocks whose reach is near enough
 unfoldable pub period_near_cost : Parts → ℕ → ℕ → ℤ → Cell → ℕ
 period_near_cost parts count number instant cell =
     square_reads * square_count (is_near_enough parts count number instant cell) (tree_in (snapshot_in parts number))
@@ -48,12 +48,12 @@ period_near_cost parts count number instant cell =
     (filter (λ block. is_near_enough parts count number instant cell (cell_box block.cell))
     (all_blocks (snapshot_in parts number)))
 
--- the nearest, so many of them, at an instant of a period, if it is one of the index's
+-- the reads of the nearest, so many of them, at an instant of a period, if it is one of the index's
 abbrev pub nearest_cost_in : Parts → ℕ → ℤ → Cell → Option ℕ → ℕ
 nearest_cost_in parts zero instant cell number = 0
 nearest_cost_in parts (suc count) instant cell None = 0
 nearest_cost_in parts (suc count) instant cell (Some number) = period_near_cost parts (suc count) number instant cell
 
--- the nearest
+-- the reads of the nearest
 unfoldable pub nearest_cost : Parts → ℕ → ℤ → Cell → ℕ
 nearest_cost parts count instant cell = nearest_cost_in parts count instant cell (period_in parts.frame instant)

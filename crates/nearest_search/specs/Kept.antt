@@ -12,7 +12,7 @@ pub record ClosestView : Type 0 where
 abbrev pub entry_near : (ℕ × ℕ) × Cell → Near
 entry_near entry = record { object = entry.0.1; cell = entry.1; dist2 = entry.0.0 }
 
--- those of all entries
+-- the objects of all entries
 abbrev pub kept_nears : List ((ℕ × ℕ) × Cell) → List Near
 kept_nears entries = map entry_near entries
 

@@ -1,4 +1,4 @@
--- How near a cell is to what is within reach of a square, as the search tells it.
+-- How near a cell is to what is within reach of a square, as the search judges it.
 use Rattle.std.specs.Prelude.{ℕ, ◌-◌, ◌^◌, ℤ, max, min}
 use Rattle.track_types.specs.Widening.{widened}
 use Rattle.track_types.specs.declared.cell.Cell.{Cell}

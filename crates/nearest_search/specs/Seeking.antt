@@ -63,7 +63,7 @@ pub record IsQuest (quest : Quest) : Type 0 where
       quest.kept
   pub asked : IsCellAsked quest.cell
 
--- so it is with a search, which knows how far an object gets
+-- a search asks such a thing, and knows how far an object gets
 pub record IsSearch (sought : Sought) : Type 0 where
   pub is : IsQuest (quest_of sought)
   pub width : sought.reach.width ≡ width_in_64_bits sought.stores.now sought.period sought.instant
@@ -86,22 +86,22 @@ module _ (quest : Quest) where
   places_in (AtNode ref) = square_places quest_tree.places (node_square quest_tree.narrow ref)
   places_in (AtPlace place) = place ∷ []
 
-  -- its square: a node's, or the cell of a place
+  -- the square of what waits: a node's, or the cell of a place
   abbrev pub square_in : Waiting → Node
   square_in (AtNode ref) = node_at ref
   square_in (AtPlace place) = node 0 (slice_index quest_tree.places.codes place)
 
-  -- it is one of the tree's
+  -- what waits is one of the tree's
   abbrev pub IsOfTree : Waiting → Type 0
   IsOfTree (AtNode ref) = IsNodeOf quest_tree ref
   IsOfTree (AtPlace place) = place < length quest_tree.places.codes
 
-  -- the reads that it is still worth: a node's box and those of a place were read before
+  -- the reads that what waits is still worth: a node's box and those of a place were read before
   abbrev pub worth_left : (Node → Bool) → Waiting → ℕ
   worth_left test (AtNode ref) = square_worth test quest_tree.places (node_square quest_tree.narrow ref) - box_reads
   worth_left test (AtPlace place) = 0
 
-  -- how often something may be taken that comes of it
+  -- how many elements may be taken that come of what waits
   abbrev pub waiting_turns : Waiting → ℕ
   waiting_turns (AtNode ref) = turns_in quest_tree.places (node_square quest_tree.narrow ref)
       + length (square_places quest_tree.places (node_square quest_tree.narrow ref))
@@ -115,14 +115,14 @@ module _ (quest : Quest) where
     pub reach : box_dist2 quest.cell (reach_of quest.parts quest.number quest.instant
         (area_at quest_tree.base (square_in element.waiting))) ≤ element.key
 
-  -- one was put among what waits
+  -- an element was put among what waits
   pub record IsQueued (waiting : Waiting) (old new : List Element) : Type 0 where
     pub element : Element
     pub is : element.waiting ≡ waiting
     pub its : IsElement element
     pub moved : IsPermutation (element ∷ old) new
 
-  -- these were put among what waits
+  -- some elements were put among what waits
   pub record AreAdded (added : List Waiting) (old new : List Element) : Type 0 where
     pub sums : (f : Waiting → ℕ) → sum_waiting f new ≡ sum_by f added + sum_waiting f old
     pub each : All IsElement old → All IsElement new
@@ -131,7 +131,7 @@ module _ (quest : Quest) where
   abbrev pub seek_reads_at : ℕ → ℕ
   seek_reads_at place = record_reads + seek_cost quest.parts (Some (block_kept quest.kept place))
 
-  -- what a node holds was put among what waits, and it has paid for that
+  -- what a node holds was put among what waits, and the node has paid for that
   pub record OpensWaiting (taken : Waiting) (old new : List Element) : Type 0 where
     pub each : All IsElement old → All IsElement new
     pub places : (weight : ℕ → ℕ) → sum_waiting (λ w. sum_by weight (places_in w)) new
@@ -147,9 +147,9 @@ module _ (quest : Quest) where
   abbrev pub near_squares : ℕ → Node → Bool
   near_squares count = squares_at quest_tree.base (is_near_enough quest.parts count quest.number quest.instant quest.cell)
 
-  -- What is known while nodes and places are taken, the one with the least key first: each place was sought, waits, or
-  -- lies below one node that waits; the nearest of what was sought are kept; what was taken is near enough, and so the
-  -- squares that are have paid for it.
+  -- What is known while nodes and places are taken, the one with the least key first. Each place was sought, waits, or
+  -- lies below one node that waits. The nearest of what was sought are kept. What was taken is near enough, so that the
+  -- squares which are near enough have paid for it.
   pub record AreSeeking (count before : ℕ) (elements : List Element) (closest : ClosestView) (steps : ℕ) : Type 0 where
     pub sought : List ℕ
     pub known : All (λ place. place < length quest_tree.places.codes) sought

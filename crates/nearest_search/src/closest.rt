@@ -62,8 +62,9 @@ impl Closest {
         Ok(())
     }
 
-    /// Whether one at a squared distance may belong to the nearest: fewer are kept than are wanted, or
-    /// the last of them is as far, since of two that are as far the lesser object comes first.
+    /// Whether an object at a squared distance may belong to the nearest: fewer are kept than are
+    /// wanted, or the last of them is at least as far. Of two that are as far the lesser object comes
+    /// first.
     pub(crate) fn has_room_for(&self, dist2: u128) -> bool
         ensures { result ≡ is_no_farther (last_answer self.now.wanted self.now.nears) dist2 }
     {

@@ -9,7 +9,7 @@ use std::alloc::Global;
 use std::collections::BinaryHeap;
 use track_types::Memory;
 
-/// What waits in a search, of which the one with the least key is taken first.
+/// What waits in a search. The element with the least key is taken first.
 #[derive(Drop)]
 pub(crate) struct Queue {
     heap: BinaryHeap<Element>,

@@ -43,7 +43,7 @@ impl Reach {
     }
 }
 
-// The least squared distance from a cell to those of a box that is made wider on all sides.
+// The least squared distance from a cell to those of a box that is widened on all sides.
 fn dist2_to(cell: Cell, area: &CellBox, width: u64) -> u128
     requires cell { IsCellAsked cell }
     requires area { IsBoxWithin area.now }

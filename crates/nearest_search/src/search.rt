@@ -18,9 +18,9 @@ use track_types::{Cell, Memory, Near};
 /// The objects that are nearest to a cell at an instant, at most `count` of them, by squared distance,
 /// then by object.
 ///
-/// An instant outside the index has none. The instant and the cell's coordinates are at most 2^41 away
-/// from 0. `Memory` is the only refusal: no more than `count` objects are kept at any time, and what
-/// waits is taken before what is farther.
+/// There are none at an instant outside the index. The instant and the cell's coordinates are at most
+/// 2^41 away from 0. `Memory` is the only refusal. At no time are more than `count` objects kept, and
+/// what waits is taken before what is farther.
 pub fn nearest<L: Ledger>(
     alloc: Global,
     stores: &Stores,
@@ -56,7 +56,7 @@ pub fn nearest<L: Ledger>(
 }
 
 impl<'a> Sought<'a> {
-    // The nearest, at most `count` of them, of which there is one at least to be found.
+    // The nearest, at most `count` of them, which is at least one.
     fn nearest<L: Ledger>(
         &self,
         alloc: Global,

@@ -16,8 +16,8 @@ pub(crate) enum Waiting {
     Place(u32),
 }
 
-/// What waits, by a number which the squared distance of no answer in it is below. The greatest is the
-/// one with the least key.
+/// What waits, with its key: no answer in it has a squared distance below that. The greatest is the one
+/// with the least key.
 #[derive(Clone, Copy)]
 pub(crate) struct Element {
     pub(crate) key: u128,

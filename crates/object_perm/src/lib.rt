@@ -1,7 +1,7 @@
 //! Permutations of fewer than 2^32 places, which tell where a value stands in at most 33 reads.
 //!
-//! `Perm::check` accepts exactly the permutations; contracts see a `Perm` as the list that it was
-//! made from. The crate stands on `track_types`, `step_count` and `list_laws`.
+//! `Perm::check` accepts exactly the permutations. Contracts see a `Perm` as the list that it was
+//! made from.
 #![tactic(auto)]
 
 mod cycles;

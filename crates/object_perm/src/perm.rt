@@ -16,9 +16,9 @@ use track_types::List32;
 
 /// A permutation of the places 0 to its length - 1, which are fewer than 2^32.
 ///
-/// Shortcuts, the back pointers of Munro, Raman, Raman and Rao ("Succinct representations of
-/// permutations", 2003), let `inverse` find a place without walking its whole cycle: along each cycle
-/// longer than 16 every 16th element, counted from the cycle's least, leads back to the 16th before it.
+/// By shortcuts `inverse` finds a place without walking its whole cycle. They are the back pointers of Munro, Raman,
+/// Raman and Rao ("Succinct representations of permutations", 2003). Along each cycle longer than 16 every 16th
+/// element, counted from the cycle's least, leads back to the 16th before it.
 #[derive(Drop)]
 pub struct Perm {
     values: CountedList<u32>,

@@ -12,7 +12,7 @@ unfoldable pub stops_between : Parts → ℕ → ℤ → ℤ → ℕ → ℕ →
 stops_between parts index from to next behind =
     flat_map (λ number. in_window from to (stops_in parts index number)) (range_with_len next (behind - next))
 
--- the reads that these periods cost
+-- the reads that a path costs in the periods from one to before another
 unfoldable pub cost_between : Parts → ℕ → ℤ → ℤ → ℕ → ℕ → ℕ
 cost_between parts index from to next behind =
     sum_by (period_cost parts index from to) (range_with_len next (behind - next))

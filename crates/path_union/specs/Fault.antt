@@ -8,7 +8,7 @@ use Rattle.gridding.specs.GridLimit.{chart_fault}
 use Rattle.gridding.specs.declared.fault.GridFault.{GridFault}
 use Rattle.gridding.specs.declared.fault.GridFault.TheVariants.{Limit}
 
--- more rows than a chart may have: the least number that is too great is told
+-- more rows than a chart may have: refused by the least number that is too great
 abbrev pub count_fault : ℕ → Option GridFault
 count_fault rows = if nat_lt (limit_of Rows) rows then Some (Limit Rows (limit_of Rows + 1)) else None
 

@@ -11,13 +11,13 @@ abbrev pub is_past : ℤ → Option Stop → Bool
 is_past instant None = false
 is_past instant (Some stop) = le_z instant stop.instant
 
--- the reads that are still to be made for such a stop: none where it is there
+-- the reads that are still to be made for a stop at an instant or after it: none where one is there
 abbrev pub unless_past : ℤ → Option Stop → ℕ → ℕ
 unless_past instant drawn reads = if is_past instant drawn then 0 else reads
 
--- a stop was drawn, or there was none, by two counts of the reads that are to be made at most until a stop at an instant or
--- after it is drawn, or none is left, before and now: nothing was read beyond the first count, and as long as no such stop
--- was drawn the second is still within it
+-- A stop was drawn, or there was none. Two counts bound the reads until a stop at an instant or after it is drawn, or
+-- none is left: before and now. Nothing was read beyond the first count, and as long as no such stop was drawn the
+-- second is still within it.
 abbrev pub IsDrawnInTime : (ℤ → ℕ) → (ℤ → ℕ) → ℕ → ℕ → Option Stop → Type 0
 IsDrawnInTime before now begun steps drawn =
     (instant : ℤ) → steps + unless_past instant drawn (now instant) ≤ begun + before instant
@@ -28,7 +28,7 @@ module _ {W : Type 0} where
   past_of past None instant = 0
   past_of past (Some walk) instant = past walk instant
 
-  -- so where a stop was drawn from it ahead
+  -- what is read of a walk from which a stop was drawn ahead, until a stop is passed
   abbrev pub front_past : (W → ℤ → ℕ) → Option Stop → Option W → ℤ → ℕ
   front_past past ahead walk instant = unless_past instant ahead (past_of past walk instant)
 
@@ -46,8 +46,9 @@ up_to reads all (Some end) = reads end
 abbrev pub first_beyond : ℕ → List Row → Option Row
 first_beyond limit rows = slice_get rows limit
 
--- the path of an object was taken from others, by what is to be read of it, as a whole and until a stop is passed, and by
--- what is to be read of all paths until a row is passed, before and now: both are within what was to be read
+-- The path of an object was taken from others. It is given by what is to be read of it, as a whole and until a stop is
+-- passed, and by what is to be read of all paths until a row is passed, before and now. Both are within what was to be
+-- read.
 pub record IsTaken (object all : ℕ) (past : ℤ → ℕ) (before now : Row → ℕ) : Type 0 where
   pub own : (row : Row) → row.object ≡ object → past row.instant ≤ before row
   pub others : (row : Row) → object < row.object → all + now row ≤ before row

@@ -18,7 +18,7 @@ rows_beside others rows = filter (λ row. not (has_place others row)) rows
 unfoldable pub rows_of_both : List Row → List Row → List Row
 rows_of_both older later = ordered row_order (later ++ rows_beside later older)
 
--- the rows of a chart of later rows, of which there may be none
+-- the rows of a chart of later rows, if there is one
 abbrev pub rows_of_tail : Option ChartView → List Row
 rows_of_tail None = []
 rows_of_tail (Some tail) = tail.rows

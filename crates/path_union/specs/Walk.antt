@@ -25,11 +25,11 @@ module _ {W : Type 0} where
   left_of left None = []
   left_of left (Some walk) = left walk
 
-  -- those with one that was drawn from it ahead
+  -- the stops that are left of a walk, with one that was drawn from it ahead
   abbrev pub front_left : (W → List Stop) → Option Stop → Option W → List Stop
   front_left left ahead walk = option_to_list ahead ++ left_of left walk
 
-  -- what is still to be read for them
+  -- what is still to be read for the stops that are left of a walk
   abbrev pub budget_of : (W → ℕ) → Option W → ℕ
   budget_of budget None = 0
   budget_of budget (Some walk) = budget walk

@@ -23,10 +23,12 @@ use track_types::{Chart, Frame, LimitKind, Row};
 /// The chart of the rows of both, by the settings of a header: where both have a row of an object and an
 /// instant, the later counts.
 ///
-/// It refuses more than 2^24 rows, by the value 2^24 + 1 (`Limit`), as soon as one more is drawn; no row
-/// (`Empty`); and the first quantity of the rows that passes its limit, as `gridding::chart` judges them.
-/// `Memory` may be answered to any rows. Memory is taken for the rows of the chart, and for the walks of
-/// one object.
+/// It refuses, in this order:
+/// - more than 2^24 rows, by the value 2^24 + 1 (`Limit`), as soon as one more is drawn;
+/// - no row (`Empty`);
+/// - the first quantity of the rows that passes its limit, as `gridding::chart` judges them.
+///
+/// `Memory` may be answered to any rows. Memory is taken for the rows of the chart, and for the walks of one object.
 pub fn chart_of_both<O: Paths + Drop, P: Paths + Drop, L: Ledger>(
     alloc: Global,
     older: O,

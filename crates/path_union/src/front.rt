@@ -15,7 +15,7 @@ pub struct Front<W: StopWalk> {
 }
 
 impl<W: StopWalk> Front<W> {
-    /// A walk of which nothing was drawn yet.
+    /// A walk before anything was drawn from it.
     pub fn of(walk: Option<W>) -> Front<W>
         ensures walk { result.walk ≡ walk }
         ensures ahead { result.ahead ≡ None }
@@ -45,7 +45,7 @@ impl<W: StopWalk> Front<W> {
         }
     }
 
-    /// Puts a stop back before all that are left, if there is one, where none was drawn from them.
+    /// Puts a stop back, if there is one, before all that are left. No stop is ahead before.
     pub fn put_back(&mut self, stop: Option<Stop>)
         requires { self.old.ahead ≡ None }
         ensures walk { self.new.walk ≡ self.old.walk }

@@ -1,9 +1,9 @@
 //! The paths of two indexes, or of an index and later rows, as those of one chart.
 //!
-//! `Paths` are the sorted paths of an index or of a chart. `UnionWalk` walks over the stops of an object
-//! in two of them, and `chart_of_both` makes the chart of all their rows: where both have a row of an
-//! object and an instant, the later counts (`specs/Union.antt`). So the chart is the one that all raw
-//! rows have together. The crate stands on `track_types`, `gridding`, `step_count` and `list_laws`.
+//! `Paths` are the sorted paths of an index or of a chart. `UnionWalk` walks over the stops of an
+//! object in two of them. `chart_of_both` makes the chart of all their rows: where both have a row
+//! of an object and an instant, the later counts (`specs/Union.antt`). So the chart is the one that
+//! all raw rows have together.
 #![tactic(auto)]
 
 mod chart_union;

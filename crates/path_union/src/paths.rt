@@ -9,11 +9,11 @@ use track_types::Memory;
 
 /// The paths of all objects of an index or of a chart, by object, each of them by instant.
 ///
-/// They are taken one after the other. `rows` are those of the paths that are still to come, `next` is
-/// the object of the next of them, and `count` says how many there are. `budget` bounds the reads that
-/// are still to be made for all of them, and `reads_past` those until a row is passed: for the paths of
-/// the objects before its object, and for this object's until a stop at the row's instant or after it is
-/// drawn, or none is left. A path may have no stop.
+/// They are taken one after another. `rows` are those of the paths that are still to come, `next` is the object of the
+/// next of them, and `count` says how many there are. `budget` bounds the reads that are still to be made for all of
+/// them. `reads_past` bounds those until a row is passed: all for the paths of the objects before its object, and for
+/// this object's path those until a stop at the row's instant or after it is drawn, or none is left. A path may have no
+/// stop.
 pub trait Paths {
     type Walk: StopWalk + Drop;
 

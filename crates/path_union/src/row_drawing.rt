@@ -62,8 +62,8 @@ pub fn path_if<P: Paths>(
     }
 }
 
-/// Puts the rows of an object's stops after others. More than 2^24 rows are refused as soon as one more
-/// is drawn: nothing is read beyond it.
+/// Puts the rows of an object's stops after others. It refuses more than 2^24 rows as soon as one more
+/// is drawn, and reads nothing beyond it.
 pub fn append_stops<W: StopWalk + Drop, L: Ledger>(
     object: u32,
     walk: W,

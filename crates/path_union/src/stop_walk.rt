@@ -6,10 +6,10 @@ use std::sync::ledger::Ledger;
 use step_count::Steps;
 use track_types::Stop;
 
-/// A walk over stops, as a `Lazy` is one, whose reads are also bounded where it is left early.
+/// A walk over stops, like a `Lazy`, whose reads are also bounded where it is left early.
 ///
-/// `left` are the stops that are still to come, `budget` bounds the reads that are still to be made for
-/// all of them, and `reads_past` those until a stop at an instant or after it is drawn, or none is left.
+/// `left` are the stops that are still to come. `budget` bounds the reads that are still to be made for all of them.
+/// `reads_past` bounds those until a stop at an instant or after it is drawn, or none is left.
 pub trait StopWalk {
     ghost left: { Self → List StopView };
 

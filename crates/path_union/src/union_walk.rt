@@ -101,7 +101,7 @@ impl<W: StopWalk, V: StopWalk> StopWalk for UnionWalk<W, V> {
     }
 }
 
-// Of two next stops the one that is given, and those that are put back.
+// Which of two next stops is given, and which are put back.
 #[derive(Drop)]
 struct Choice {
     first: Option<Stop>,

@@ -5,8 +5,7 @@ use std::sync::ledger::Ledger;
 use step_count::Steps;
 use track_types::{Lazy, Stop};
 
-/// Any walk over stops, where nothing is said of its reads but how many there are at most for all stops
-/// together.
+/// Any walk over stops. Of its reads only the bound for all stops together is known.
 #[derive(Drop)]
 pub struct Untimed<W: Lazy<Item = Stop>> {
     walk: W,

@@ -46,7 +46,7 @@ module _ {W : Type 0} (left : W → List Stop) (budget : W → ℕ) where
   reads_left (answer.Walk walk) desk = budget walk + budget_of desk
   reads_left other desk = budget_of desk
 
-  -- These items were drawn in between, and what was read is taken from what may be read.
+  -- Some items were drawn, and what was read is taken from what may be read.
   pub record GivesItems (before now : Answer W) (desk after : DeskView) (start end : ℕ) (found : List Item) : Type 0 where
     pub slot : IsOfDesk now
     pub items : items_left before desk ≡ found ++ items_left now after

@@ -113,7 +113,7 @@ abbrev pub place_told : Result Unit Bad → Question → Result Question Bad
 place_told (Ok done) place = Ok place
 place_told (Err fault) place = Err fault
 
--- what a line asks whose reading told whether it has a word, and wrote its question into this place
+-- what a line asks, where its reading said whether it has a word, and wrote its question into this place
 abbrev pub line_told : Result Bool Bad → Question → Result (Option Question) Bad
 line_told (Ok true) place = Ok (Some place)
 line_told (Ok false) place = Ok None

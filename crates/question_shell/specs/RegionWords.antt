@@ -29,7 +29,7 @@ abbrev pub shape_texts : ShapeWords → ShapeTexts
 shape_texts (Rect x1 y1 x2 y2) = RectTexts x1.now y1.now x2.now y2.now
 shape_texts (Disc x y r) = DiscTexts x.now y.now r.now
 
--- and of shapes that are laid out
+-- the bytes of the words of shapes that are laid out, which are borrowed
 abbrev pub layout_texts : Layout → List ShapeTexts
 layout_texts layout = shape_texts layout.first ∷ map shape_texts layout.more.items
 
@@ -72,18 +72,18 @@ shapes_cut zero words = if_last words []
 shapes_cut (suc more) words =
     and_then (shape_cut words) (λ cut. and_then (shapes_cut more cut.1) (λ shapes. Ok (cut.0 ∷ shapes)))
 
--- after `any` and a number of shapes
+-- how the words after `any` and a number of shapes are laid out
 abbrev pub any_counted : Option Bad → ℕ → List (List ℕ) → Result RegionTexts Bad
 any_counted (Some fault) count words = Err fault
 any_counted None count words = and_then (shapes_cut count words) (λ shapes. Ok (AnyTexts shapes))
 
--- after `any`, where the next word stands at that place of the line
+-- how the words after `any` are laid out, where the first one stands at that place of the line
 abbrev pub any_layout : ℕ → List (List ℕ) → Result RegionTexts Bad
 any_layout place [] = Err bad.Count
 any_layout place (count ∷ words) =
     any_counted (word_fault shapes_word place count) (unsigned_abs (word_number count)) words
 
--- how the words of a region are laid out, the first of which stands at that place of the line, or what is wrong with that
+-- how the words of a region are laid out, where the first one stands at that place of the line; or what is wrong with that
 abbrev pub layout_of : ℕ → List (List ℕ) → Result RegionTexts Bad
 layout_of place [] = Err bad.Count
 layout_of place (name ∷ words) =
@@ -116,7 +116,7 @@ abbrev pub region_one : Shape → Region
 region_one (shape.Rect x1 y1 x2 y2) = region.Rect x1 y1 x2 y2
 region_one (shape.Disc x y r) = region.Disc x y r
 
--- the region by its words, the first of which stands at that place, or the first fault of its numbers
+-- the region by its words, where the first one stands at that place; or the first fault of its numbers
 abbrev pub region_of : ℕ → RegionTexts → Result Region Bad
 region_of place (OneTexts words) = and_then (shape_of place words) (λ shape. Ok (region_one shape))
 region_of place (AnyTexts shapes) = and_then (shapes_of (place + 2) shapes) (λ shapes. Ok (region.Any shapes))

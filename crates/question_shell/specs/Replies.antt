@@ -1,4 +1,4 @@
--- What is said for lines one after another, the desk after them, and what they cost.
+-- What is said for lines, one after another, the desk after them, and what they cost.
 use Rattle.std.specs.Prelude.{ℕ, ◌+◌, List, [], ◌∷◌, ◌++◌, Option}
 use Rattle.track_types.specs.Chart.{ChartView}
 use Rattle.track_types.specs.declared.facts.Facts.{Facts}

@@ -56,7 +56,7 @@ held_line = said_line (codes "bad held")
 abbrev pub free_line : List ℕ
 free_line = said_line (codes "bad free")
 
--- why nothing is done, by what the slot holds: a held one would be held, or an empty one be drawn from or emptied
+-- why nothing is done, by what the slot holds: a held slot is to be held again, or an empty one drawn from or emptied
 abbrev pub slot_refusal : List (Option (List Stop)) → SlotPart → Option (List ℕ)
 slot_refusal desk (ToHold slot object from to) = if is_some (stops_at desk slot) then Some held_line else None
 slot_refusal desk (ToDraw slot count) = if is_some (stops_at desk slot) then None else Some free_line
@@ -98,7 +98,7 @@ abbrev pub hold_cost : ℕ → Option (List Stop) → ℕ
 hold_cost cost None = cost
 hold_cost cost (Some held) = 0
 
--- what a question costs that is of no slot: nothing for `info`
+-- what a question costs that is about no slot: nothing for `info`
 abbrev pub own_cost : (Question → ℕ) → Question → ℕ
 own_cost cost question.Info = 0
 own_cost cost other = cost other

@@ -7,7 +7,7 @@ pub record Voice : Type 0 where
   pub said : List ℕ
   pub held : List ℕ
 
--- the two, put together
+-- what was said and the text that is held back, put together
 abbrev pub voice : List ℕ → List ℕ → Voice
 voice said held = record { said = said; held = held }
 
@@ -22,7 +22,7 @@ pub record Cuts (before : Voice) (now : List ℕ) (text : List ℕ) : Type 0 whe
   pub unsaid : List ℕ
   pub says : Says before (voice now unsaid) text
 
--- What is told of a text that was put: it was said, or a front of it.
+-- What an answer says of a text that was put: it was said, or a front of it.
 abbrev pub Puts : {T E : Type 0} → Voice → Voice → List ℕ → Result T E → Type 0
 Puts before now text (Ok value) = Says before now text
 Puts before now text (Err fault) = Cuts before now.said text

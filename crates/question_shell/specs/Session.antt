@@ -30,7 +30,7 @@ pub record Meaning : Type 0 where
   pub facts : Facts
   pub cost : Question → ℕ
 
--- the three, put together
+-- a chart, facts and costs as what an answerer means
 abbrev pub meaning_of : ChartView → Facts → (Question → ℕ) → Meaning
 meaning_of chart facts cost = record { chart = chart; facts = facts; cost = cost }
 
@@ -61,7 +61,7 @@ pub record Run : Type 0 where
   pub desk : DeskView
   pub steps : ℕ
 
--- what is known, put together
+-- what is known at a moment, put together
 abbrev pub run_of : Option (List ℕ) → List ℕ → Bool → ℕ → List ℕ → DeskView → ℕ → Run
 run_of rest came ended taken said desk steps =
     record { rest = rest; came = came; ended = ended; taken = taken; said = said; desk = desk; steps = steps }
@@ -84,9 +84,9 @@ AreIndependent meaning desk lines = (slot : ℕ) →
     replies_to_slot meaning.chart meaning.facts desk slot lines
     ≡ replies_to_each meaning.chart meaning.facts desk (lines_of_slot slot lines)
 
--- These lines were answered in between: exactly their replies were said, the desk is the one after them, the replies to
--- each slot's lines are its own, and what was read, with what the desk may still read, is at most what they cost, with
--- what the desk could read before.
+-- These lines were answered in between. Exactly their replies were said, the desk is the one after them, and the
+-- replies to each slot's lines are its own. What was read, with what the desk may still read, is at most what the lines
+-- cost, with what the desk could read before.
 pub record Answers (meaning : Meaning) (before now : Run) (lines : List (List ℕ)) : Type 0 where
   pub said : Gains before.said now.said (replies_by meaning (held_of before.desk) lines)
   pub desk : held_of now.desk ≡ desk_by meaning (held_of before.desk) lines

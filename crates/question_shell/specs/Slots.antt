@@ -10,7 +10,7 @@ use Rattle.question_shell.specs.Replies.{turn_of}
 use Rattle.question_shell.specs.SlotParts.{OfNoSlot, SlotPart, ToDraw, ToEmpty, ToHold, slot_part}
 use Rattle.question_shell.specs.declared.bad.Bad.{Bad}
 
--- whether it is this slot of which something is asked
+-- whether something is asked of this slot
 abbrev pub is_of_slot : ℕ → SlotPart → Bool
 is_of_slot slot (ToHold held object from to) = held == slot
 is_of_slot slot (ToDraw held count) = held == slot

@@ -18,7 +18,7 @@ pub record Moment : Type 0 where
   pub desk : List (Option (List Stop))
   pub due : ℕ
 
--- what is known, put together
+-- what was said and is held back, the walks on the desk and the reads, put together
 abbrev pub moment : List ℕ → List ℕ → DeskView → ℕ → Moment
 moment said held desk steps =
     record { voice = voice said held; desk = held_of desk; due = steps + budget_of desk }
@@ -69,36 +69,36 @@ pub record Heard (meaning : Meaning) (before now : Moment) (came : List ℕ) (li
   pub turns : Turns meaning before now (whole_lines came)
   pub kept : line ≡ kept_of (unended_line came)
 
--- What is told of an answer to what a line asks: it was given, a front of it was said, or memory was refused.
+-- How the answer to what a line asks came out: it was given, a front of it was said, or memory was refused.
 abbrev pub AnswerTold : Meaning → Moment → Moment → Result (Option Question) Bad → Result Unit TurnFault → Type 0
 AnswerTold meaning before now asked (Ok done) = Takes meaning before now asked
 AnswerTold meaning before now asked (Err fault.Say) = TakesFront meaning before now asked
 AnswerTold meaning before now asked (Err fault.Memory) = Refused meaning before now asked
 
--- What is told of a reply of one line: it was said, or a front of it.
+-- How a reply of one line came out: it was said, or a front of it.
 abbrev pub LineTold : Voice → Voice → List ℕ → Result Unit TurnFault → Type 0
 LineTold before now line (Ok done) = Says before now line
 LineTold before now line (Err fault.Say) = Cuts before now.said line
 LineTold before now line (Err fault.Memory) = ⊥
 
--- What is told of bytes that came: they were heard, a front of the replies was said, or memory was refused.
+-- How bytes that came were taken: they were heard, a front of the replies was said, or memory was refused.
 abbrev pub BytesTold : Meaning → Moment → Moment → List ℕ → List ℕ → Result Unit TurnFault → Type 0
 BytesTold meaning before now came line (Ok done) = Heard meaning before now came line
 BytesTold meaning before now came line (Err fault.Say) = TurnsFront meaning before now (whole_lines came)
 BytesTold meaning before now came line (Err fault.Memory) = TurnsBefore meaning before now (whole_lines came)
 
--- What bytes more tell at a moment: with those that were heard before, they were heard, or told of as above.
+-- How more bytes were taken at a moment: with those that were heard before, in one of these ways.
 abbrev pub AnswersBytes : Meaning → Moment → List ℕ → List ℕ → Moment → List ℕ → Result Unit TurnFault → Type 0
 AnswersBytes meaning before coming bytes now line result = (start : Moment) (came : List ℕ) →
     Heard meaning start before came coming → BytesTold meaning start now (came ++ bytes) line result
 
--- What is told of these lines: all were answered, a front of the replies was said, or memory was refused.
+-- How these lines were taken: all were answered, a front of the replies was said, or memory was refused.
 abbrev pub AnswersLines : Meaning → Moment → Moment → List (List ℕ) → Result Unit TurnFault → Type 0
 AnswersLines meaning before now lines (Ok done) = Turns meaning before now lines
 AnswersLines meaning before now lines (Err fault.Say) = TurnsFront meaning before now lines
 AnswersLines meaning before now lines (Err fault.Memory) = TurnsBefore meaning before now lines
 
--- What is told of the rest of the text after an answer: it was said, or a front of it; after the sink failed, nothing
+-- How the rest of the text after an answer came out: it was said, or a front of it; after the sink failed, nothing
 -- more.
 abbrev pub Flushes : Voice → List ℕ → Result Unit TurnFault → Result Unit TurnFault → Type 0
 Flushes before now (Ok done) (Ok still) = Says before (voice now []) []

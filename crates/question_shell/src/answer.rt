@@ -12,7 +12,7 @@ use std::sync::ledger::Ledger;
 use step_count::Steps;
 use track_types::{Hit, Lazy, Near, Sighting, Stop};
 
-/// An answer to a question, of which one item after another is drawn.
+/// An answer to a question. Its items are drawn one after another.
 #[derive(Drop)]
 pub enum Answer<W> {
     /// One item, where there is one.
@@ -38,7 +38,7 @@ pub enum Answer<W> {
 }
 
 impl<W: Lazy<Item = Stop> + Drop> Answer<W> {
-    // Takes the first item off. What is read is taken from the budget of the walk that it is of.
+    // Takes the first item off. What is read is taken from the budget of its walk.
     #[inline(always)]
     pub(crate) fn draw<L: Ledger>(
         &mut self,
@@ -74,7 +74,7 @@ impl<W: Lazy<Item = Stop> + Drop> Answer<W> {
     }
 }
 
-// Takes the first stop off the walk in a slot, of which at most so many are drawn.
+// Takes the first stop off the walk in a slot, while fewer than so many were drawn.
 fn draw_more<W: Lazy<Item = Stop> + Drop, L: Ledger>(
     desk: &mut Desk<W>,
     slot: u8,

@@ -20,7 +20,7 @@ use track_types::{Meets, Question};
 /// Says the reply to a question, as `run` does for its line.
 ///
 /// `Say` comes only where the sink failed, and then a front of the reply was said. At `Memory`
-/// nothing was said, and the desk is as it was. The count of faults is what it was, unless the answer
+/// nothing was said, and the desk is as it was. The count of faults is as it was, unless the answer
 /// is `Say`.
 pub fn say_reply<A: Meets, K: Sink, L: Ledger>(
     alloc: Global,

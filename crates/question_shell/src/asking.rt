@@ -50,7 +50,7 @@ pub(crate) fn ask<A: Meets, L: Ledger>(
     }
 }
 
-// Asks a question of no slot, whatever the desk holds.
+// Asks a question that is about no slot, whatever the desk holds.
 #[inline(always)]
 fn ask_chart<A: Meets, L: Ledger>(
     alloc: Global,
@@ -68,7 +68,7 @@ fn ask_chart<A: Meets, L: Ledger>(
     ensures reads { (desk : DeskView) → OnErr result (steps.new
         ≤ steps.old + asked_cost (A.cost answerer) (held_of desk) (Ok (Some question.now))) }
 {
-    // The rows of what has facts ascend, so that a count of stops fits.
+    // The rows of an answerer ascend, so that a count of stops fits.
     let facts = answerer.facts();
     match question {
         Question::Position { object, instant } => {

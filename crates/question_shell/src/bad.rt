@@ -1,9 +1,8 @@
 use std::error::Error;
 use std::fmt::{self, Display, Formatter, Write};
 
-/// What is wrong with a question line: the first cause that comes. Its length is judged first, then
-/// its first word, how a region's words are laid out, the number of words, and the number words from
-/// the left.
+/// What is wrong with a question line: the first cause. Its length is judged first, then its first
+/// word, how a region's words are laid out, the number of words, and the number words from the left.
 #[derive(Clone, Copy, Debug, PartialEq, Eq)]
 pub enum Bad {
     /// The line has a word, and more than 1,024 bytes.

@@ -13,7 +13,7 @@ use std::sync::ledger::Ledger;
 use step_count::Steps;
 use track_types::{Lazy, Meets, Memory, Question, Stop};
 
-/// How many items a question finds, which are drawn as for its reply and not said.
+/// How many items a question finds. They are drawn as for its reply, but not said.
 ///
 /// Where memory is refused, the desk is as it was.
 pub fn count_found<A: Meets, L: Ledger>(

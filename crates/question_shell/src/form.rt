@@ -67,7 +67,7 @@ impl Form {
 }
 
 // Reads the rest of a line, after its first word, which names that form, into the place of a
-// question: one has room for 16 shapes, so that it would be long on its way from call to call.
+// question. A question has room for 16 shapes, so passing it from call to call would cost much.
 pub(crate) fn read_form(form: Form, line: &[u8], question: &mut Question) -> Result<(), Bad>
     ensures value { place_told result question.new ≡ form_question form (words_of line.now) }
     ensures asked { OnOk result (AreAsked question.new) }

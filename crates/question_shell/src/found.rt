@@ -2,7 +2,7 @@ ghost use Rattle.std.specs.Prelude.{◌≡◌, ◌++◌, ◌<◌, ◌^◌, [], I
 
 use std::marker::Model;
 
-/// A list that was found, of which one item after another is drawn.
+/// A list that was found. Its items are drawn one after another.
 #[derive(Drop)]
 pub struct Found<T> {
     items: Vec<T>,

@@ -9,9 +9,9 @@ use track_types::Question;
 /// How many bytes a question line may have, without its line feed.
 pub(crate) const LONGEST_LINE: usize = 1024;
 
-/// Reads a question line, without its line feed: `Ok(None)` if and only if it has no word, however
-/// long it is, else what it asks, or the first thing that is wrong with it. Whether a slot is held or
-/// empty only a desk can tell, so it is not judged here.
+/// Reads a question line, without its line feed. It answers `Ok(None)` if and only if the line has
+/// no word, however long it is, and else what it asks, or the first thing that is wrong with it.
+/// Only a desk knows whether a slot is held or empty, so that is not judged here.
 pub fn read_question(line: &[u8]) -> Result<Option<Question>, Bad>
     ensures value { result ≡ question_of line.now }
     ensures asked { IfOk result (λ asked. IfSome asked AreAsked) }

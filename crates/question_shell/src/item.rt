@@ -7,7 +7,7 @@ use crate::named_fact::NamedFact;
 use itoa::Buffer;
 use track_types::{Cell, Hit, Meeting, Near, Sighting, Stop};
 
-/// What a question finds, of which its reply has a line for each.
+/// Something that a question finds. Its reply has a line for each.
 #[derive(Drop)]
 pub enum Item {
     Cell(Cell),

@@ -1,9 +1,8 @@
 //! Question lines in, replies out: the shell around whatever answers questions.
 //!
-//! `run` answers the lines of a source one after another and says exactly the replies that
-//! filtering the answerer's chart gives, through a buffer of fixed size. Its `Desk` holds up to 16
-//! walks over paths, which lines draw from in turn. The crate stands on track_types, list_laws,
-//! host_ports, step_count, memchr, arrayvec and itoa.
+//! `run` answers the lines of a source one after another, through a buffer of fixed size. It says
+//! exactly the replies that filtering the answerer's chart gives. Its `Desk` holds up to 16 walks
+//! over paths, which lines draw from in turn.
 #![tactic(auto)]
 
 mod answer;

@@ -56,7 +56,7 @@ impl LineBuffer {
             self.new ≡ kept_of (line ++ byte ∷ []) }
     {
         match self.kept.get_mut(LONGEST_LINE) {
-            // The line is too long already, so that this byte tells no more than whether it has a word.
+            // The line is too long already, so all that this byte can add is that it has a word.
             Some(last) => {
                 if is_gap_byte(*last) {
                     *last = byte;

@@ -28,7 +28,7 @@ use track_types::{Meets, Question};
 #[derive(Drop)]
 pub(crate) struct Talk {
     line: LineBuffer,
-    // Each line's question is written here: it is large, and filled and moved wherever it is made.
+    // Each line's question is written here, since it is large and moving it would cost much.
     question: Question,
     text: HeldText,
 }
@@ -46,7 +46,7 @@ impl Talk {
     }
 }
 
-// Answers a piece more of question input, and says all that was held back.
+// Answers one more piece of question input, and says all that was held back.
 pub(crate) fn take_piece<A: Meets, K: Sink, L: Ledger>(
     alloc: Global,
     answerer: A,
@@ -66,7 +66,7 @@ pub(crate) fn take_piece<A: Meets, K: Sink, L: Ledger>(
     say_rest(answered, &mut talk.text, sink)
 }
 
-// Answers bytes more of question input, line by line.
+// Answers more bytes of question input, line by line.
 fn take_bytes<A: Meets, K: Sink, L: Ledger>(
     alloc: Global,
     answerer: A,

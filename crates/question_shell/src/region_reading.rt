@@ -13,7 +13,7 @@ use crate::words::{cut_word, next_word};
 use track_types::{Question, Region, Shape};
 
 // Reads the rest of a line, a region, whose first word stands at that place of the line, into a
-// question's place. How its words are laid out is judged before the time that was read, and its
+// question's place. It judges how the words are laid out before the time that was read, and the
 // numbers after that.
 #[inline(always)]
 pub(crate) fn read_region(

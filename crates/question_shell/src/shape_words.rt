@@ -24,7 +24,7 @@ pub enum ShapeWords<'a> {
 }
 
 impl<'a> Default for ShapeWords<'a> {
-    // Empty words, as in the unused places of a list.
+    // Empty words, which stand in the unused places of a list.
     fn default() -> Self {
         ShapeWords::Disc {
             x: Default::default(),

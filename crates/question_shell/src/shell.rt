@@ -25,9 +25,8 @@ const PIECE: usize = 4096;
 /// Answers the question lines of a source until its end, and says the replies.
 ///
 /// Every whole line that came is answered before more is listened to. At most 2^32 bytes are
-/// answered, and one byte more is listened to, in pieces of at most 4,096. Memory is taken for the
-/// lines `path`, `slice`, `interval`, `nearest` and `meet` alone, and for a `hold` whose slot is
-/// empty.
+/// answered, and one byte more is listened to, in pieces of at most 4,096. Memory is taken only for
+/// the lines `path`, `slice`, `interval`, `nearest` and `meet`, and for a `hold` whose slot is empty.
 ///
 /// `Listen` comes only where the source failed, and then the whole lines that came were answered.
 /// `Say` comes only where the sink failed, and then a front of the replies was said and nothing

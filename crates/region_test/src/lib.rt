@@ -1,8 +1,7 @@
-//! A region beside two closures that answer it: one for cells, one for boxes of cells.
+//! A region beside two closures that answer for it: one for cells, one for boxes of cells.
 //!
-//! Searches are handed a `RegionTest` and ask its closures. What these answer is kept in the type,
-//! so `holds` is "the region contains the cell" and `may` is "the region touches the box" wherever
-//! a `RegionTest` is. The crate stands on track_types.
+//! Searches are handed a `RegionTest` and ask its closures. What these answer is kept in the type:
+//! `holds` is "the region contains the cell", and `may` is "the region touches the box".
 #![tactic(auto)]
 
 mod region_test;

@@ -25,7 +25,7 @@ unfoldable pub Covers : (ℕ × ℕ → ℕ) → List Key → Type 0
 Covers count keys = (pair : ℕ × ℕ) → 1 < count pair →
     (key : Key) × Contains keys key × (key.pair ≡ pair) × (count pair ≤ key.count)
 
--- the same, but for pairs of a list
+-- each pair that counts two has a key that says at least its count, but for the pairs of a list
 unfoldable pub CoversBut : List (ℕ × ℕ) → (ℕ × ℕ → ℕ) → List Key → Type 0
 CoversBut fresh count keys = (pair : ℕ × ℕ) → 1 < count pair → Contains fresh pair
     ⊎ ((key : Key) × Contains keys key × (key.pair ≡ pair) × (count pair ≤ key.count))

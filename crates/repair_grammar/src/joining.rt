@@ -106,8 +106,8 @@ fn lower_some(pairs: &mut Pairs, pair: Option<(u32, u32)>)
     }
 }
 
-// Whether the pair of the symbol before a place and the new one counts, by whether the new symbol's
-// run there is odd: in a run every second pair overlaps the one before it.
+// Whether the pair of the symbol before a place and the new one counts. `odd` says whether the new
+// symbol's run there is odd: in a run every second pair overlaps the one before it.
 fn counts_next(before: u32, symbol: u32, odd: bool) -> bool
     ensures { result ≡ counts_left odd before symbol }
 {
@@ -115,8 +115,8 @@ fn counts_next(before: u32, symbol: u32, odd: bool) -> bool
 }
 
 /// Puts the symbol in place of the pair at a place, and counts what that changes. Where the symbol
-/// stands before the place, it has to be known whether its run there is odd. It gives whether the run
-/// that ends at the place now is. For no pair more than one place is noted.
+/// stands before the place, `odd` says whether its run there is odd. It answers whether the run that
+/// ends at the place now is odd. For each pair at most one place is noted.
 pub fn join_at(
     alloc: Global,
     text: &mut Text,

@@ -2,9 +2,8 @@
 //! side.
 //!
 //! `compress` gives exactly the rules and blocks of `re_pair` in `specs/RePair.antt`. The method is
-//! Larsson and Moffat's (Off-Line Dictionary-Based Compression, Proceedings of the IEEE 88, 2000);
-//! how ties and overlaps are settled is this project's own. The crate stands on `track_types` and
-//! `list_laws`.
+//! Larsson and Moffat's (Off-Line Dictionary-Based Compression, Proceedings of the IEEE 88, 2000).
+//! How ties and overlaps are settled is this project's own.
 #![tactic(auto)]
 
 mod choosing;

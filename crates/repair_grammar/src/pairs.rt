@@ -10,8 +10,8 @@ use std::alloc::Global;
 use std::collections::HashMap;
 use track_types::Memory;
 
-/// How often a pair counts, and the places at which its left symbol was seen. It may stand at some of
-/// them no more.
+/// How often a pair counts, and the places at which its left symbol was seen. It may have gone from
+/// some of them.
 #[derive(Drop)]
 pub struct Seen {
     pub count: u32,
@@ -83,7 +83,7 @@ impl Pairs {
         Ok(())
     }
 
-    /// Counts a pair once less. One that counts no more is forgotten, with its places.
+    /// Counts a pair once less. One that no longer counts is forgotten, with its places.
     pub fn lower(&mut self, pair: (u32, u32))
         requires some { 0 < count_of self.old pair }
         ensures counts { (other : ℕ × ℕ) → count_of self.new other

@@ -111,8 +111,7 @@ impl Text {
         }
     }
 
-    /// Puts a symbol at a place, and takes its right neighbour out, where it is known what stands
-    /// around them.
+    /// Puts a symbol at a place, and takes its right neighbour out. `around` is what stands around them.
     pub fn join_around(&mut self, place: usize, around: Around, symbol: u32)
         requires threads { AreThreads self.old.symbols.items self.old.next.items self.old.previous.items }
         requires around { IsAround self.old.symbols.items place

@@ -1,4 +1,4 @@
--- How far the reading of a file is, also of one that comes piece by piece.
+-- How far a file was read, also one that comes piece by piece.
 use Rattle.std.specs.Prelude.{◌≡◌, ◌≢◌, ◌+◌, ◌<◌, ◌≤◌, ℕ, true, false, List, [], ◌∷◌, ◌++◌, length, slice_index, All, None}
 use Rattle.track_types.specs.Limits.{limit_of}
 use Rattle.track_types.specs.Near.{IsRawInRange}
@@ -29,7 +29,7 @@ pub record AreRowsAfter (before records : List Fields) (progress : Progress) (mo
   pub rows : rows_of (data_among (before ++ records)) ≡ rows_of (data_among before) ++ more
   pub ranges : All IsRawInRange more
 
--- how many bytes a parser keeps, of which no row was given yet
+-- how many bytes a parser keeps, whose rows were not given yet
 abbrev pub kept_length : RowParser → ℕ
 kept_length parser = length parser.rest.items
 
@@ -52,9 +52,10 @@ pub record HasRefusal (bytes : List ℕ) : Type 0 where
   pub ended : EndsLine lines
   pub refused : csv_fault lines ≢ None
 
--- a parser has taken these bytes and given these rows: however the file goes on, its first records are those whose rows
--- were given, none of them is refused, and the others are those of what the parser keeps with what follows; unless it waits
--- for the end of the file, it keeps little more than a line, and it waits only where the lines up to one that it has taken are refused
+-- A parser has taken these bytes and given these rows. However the file goes on, its first records are those whose rows
+-- were given, and none of them is refused. The others are those of what the parser keeps with what follows. Unless it
+-- waits for the end of the file, it keeps little more than a line. It waits only where the lines up to one that it has
+-- taken are refused.
 pub record HasTaken (bytes : List ℕ) (raws : List RawRow) (parser : RowParser) : Type 0 where
   pub records : List Fields
   pub whole : (more : List ℕ) → records_of (bytes ++ more) ≡ records ++ records_of (parser.rest.items ++ more)
@@ -66,7 +67,7 @@ pub record HasTaken (bytes : List ℕ) (raws : List RawRow) (parser : RowParser)
   pub short : parser.is_waiting ≡ false → HoldsLine parser.rest.items
   pub waits : parser.is_waiting ≡ true → HasRefusal bytes
 
--- these are all rows of a file that is accepted
+-- a file is accepted, and these are all of its rows
 pub record AreRowsOf (bytes : List ℕ) (raws : List RawRow) : Type 0 where
   pub accepted : csv_fault bytes ≡ None
   pub rows : raws ≡ raws_of bytes

@@ -38,7 +38,7 @@ place_fault = field_fault (neg_ℤ (pos MAX_PLACE)) (pos MAX_PLACE)
 abbrev pub fault_at : ℕ → Option RowFault → Option FieldFault
 fault_at field = option_map (λ fault. record { field = field; fault = fault })
 
--- why a record is no row: it has not four fields, or else the first of them that is at fault
+-- why a record is no row: it does not have four fields, or else the first of them that is at fault
 abbrev pub record_fault : Fields → Option FieldFault
 record_fault (object ∷ time ∷ x ∷ y ∷ []) =
     option_or (fault_at 1 (object_fault object))

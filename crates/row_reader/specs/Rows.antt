@@ -41,7 +41,7 @@ record_refusal before nth fields =
 abbrev pub refusals_of : List (ℕ × Fields) → List RowsFault
 refusals_of numbered = filter_map (λ placed. record_refusal placed.0 placed.1.0 placed.1.1) (enumerate_from 0 numbered)
 
--- the first refusal when a file's data records are looked at in order
+-- the refusal of the first data record of a file that has one
 abbrev pub csv_fault : List ℕ → Option RowsFault
 csv_fault bytes = slice_get (refusals_of (data_of bytes)) 0
 

@@ -1,8 +1,8 @@
 //! The rows of a CSV file, or the first place at which it is at fault.
 //!
-//! `read_rows` reads a whole file, and a `RowParser` one that comes piece by piece, without keeping
-//! it. Both are exact: what they answer is what the file's records say, and only want of memory is
-//! free. The crate stands on csv, memchr, track_types and list_laws.
+//! `read_rows` reads a whole file. A `RowParser` reads one that comes piece by piece, and need not
+//! keep it. Both are exact: the bytes alone settle the answer, but for `Memory`, which may be
+//! answered to any file.
 #![tactic(auto)]
 
 mod fault;

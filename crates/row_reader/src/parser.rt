@@ -12,30 +12,30 @@ use std::alloc::{AllocError, Global};
 use std::io::Read;
 use track_types::{LimitKind, RawRow};
 
-/// How many bytes have to be there, kept and in a piece, for lines to be read. Each reading makes a
-/// reader of csv, whose tables cost some 10 µs, and a pipe that gives line by line would pay that
-/// for each line.
+/// How many bytes must be there, kept and in a piece, before lines are read. Each reading makes a
+/// reader of csv, whose tables cost some 10 µs. A pipe that gives line by line would pay that for
+/// each line.
 const LEAST: usize = 0x8000;
 
 /// Reads the rows of a CSV file whose bytes come piece by piece, as `read_rows` reads those of a
 /// whole file.
 ///
-/// What it keeps is the line that has not ended, and before it fewer than 32,768 bytes. A line feed
-/// ends a line, and so a file whose lines end with CR alone is kept whole. From the text on that has
-/// a refused record, and from no other, all is kept up to `finish`.
+/// What it keeps is the line that has not ended, and before it fewer than 32,768 bytes. Only a line
+/// feed ends a line, so a file whose lines end with CR alone is kept whole. Once a text has a refused
+/// record, all from that text on is kept up to `finish`.
 #[derive(Drop)]
 pub struct RowParser {
-    // Bytes of which no record was given yet.
+    // Bytes whose records were not given yet.
     rest: Vec<u8>,
     progress: Progress,
     // Whether a record was refused, so that `rest` is read when all of the file is there.
     is_waiting: bool,
-    // How many bytes have to be there, kept and in a piece, for lines to be read.
+    // How many bytes must be there, kept and in a piece, before lines are read.
     least: usize,
 }
 
 impl RowParser {
-    /// A parser of a file of which nothing came yet.
+    /// A parser of a file before any of it came.
     pub fn new(alloc: Global) -> Self
         ensures { HasTaken [] [] result }
     {
@@ -55,7 +55,7 @@ impl RowParser {
         }
     }
 
-    /// How many bytes are kept, of which no row was given yet.
+    /// How many bytes are kept, whose rows were not given yet.
     pub fn kept_length(&self) -> usize
         ensures { result ≡ kept_length self.now }
     {
@@ -64,7 +64,7 @@ impl RowParser {
 
     /// Takes the next piece of the file, and puts the rows that it then reads after those of `rows`.
     /// Small pieces are read together, and no refusal is told before `finish`. After an `Err` the
-    /// parser is of no more use.
+    /// parser must not be used any more.
     pub fn take(&mut self, piece: &[u8], rows: &mut Vec<RawRow>) -> Result<(), AllocError>
         requires { kept_length self.now + length piece.now ≤ limit_of LimitKind.Csv }
         ensures { OnOk result (

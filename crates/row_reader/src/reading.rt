@@ -22,7 +22,7 @@ pub struct Progress {
 }
 
 impl Progress {
-    /// Of a file of which nothing was read yet.
+    /// Of a file before any of it was read.
     pub fn start() -> Self
         ensures { IsPast [] result }
     {
@@ -67,8 +67,8 @@ pub fn read_on<R: Read + Drop>(
     Err(RowsFault::Memory)
 }
 
-// A reader at the front of a text. It is given a header, of no field, since csv keeps two copies of
-// the first record where it has none, and that record may be the whole text.
+// A reader at the front of a text. It is given a header of no field: without one csv keeps two copies
+// of the first record, which may be the whole text.
 fn reader_of<R: Read + Drop>(alloc: Global, source: R) -> Result<Reader<R>, RowsFault>
     ensures ok { IfOk result (λ reader. (text : List ℕ) → R.remaining source ≡ Some text →
         HasRead R.remaining text [] reader) }
@@ -89,9 +89,9 @@ fn read_next<R: Read>(reader: &mut Reader<R>, fields: &mut ByteRecord) -> Result
         IfOk result (ShowsNext R.remaining bytes seen (fields_of fields.new) reader.new) }
     ensures err { IfErr result (λ fault. fault ≡ RowsFault.Memory) }
 {
-    // Records of any length and any bytes are taken, so what csv refuses is want of memory. Its
-    // contract leaves one more error open, that the source, a slice or two, cannot be read,
-    // and it is answered alike.
+    // Records of any length and any bytes are taken, so that csv refuses for want of memory alone.
+    // Its contract leaves one more error open: that the source, a slice or two, cannot be read. It
+    // is answered alike.
     match reader.read_byte_record(fields) {
         Ok(found) => Ok(found),
         Err(_refused) => Err(RowsFault::Memory),

@@ -8,17 +8,17 @@ use crate::reading::{Progress, read_on};
 use std::alloc::Global;
 use track_types::{LimitKind, RawRow};
 
-/// Reads the rows of a CSV file in file order, or tells the first refusal when its records are
-/// looked at in order.
+/// Reads the rows of a CSV file in file order, or tells the refusal of the first record that has
+/// one.
 ///
-/// One byte order mark at the front is dropped. Fields are parted by commas and may stand in double
-/// quotes, lines end with LF, CR or both, blank lines are no records, and nothing is trimmed. A
+/// One byte order mark at the front is dropped. Fields are separated by commas and may stand in
+/// double quotes. Lines end with LF, CR or both, blank lines are no records, and nothing is trimmed. A
 /// first record `object,instant,x,y` is a heading. Each other record is a row of four numerals: the
 /// object, 0 to 2^32 - 1, and the time, x and y, each -2^40 to 2^40.
 ///
-/// `Limit` comes at the row that is one more than 2^24, whatever it is. A record that has not four
-/// fields is refused as `Count`, whatever they are; else the first field from the left that is no
-/// numeral is refused as `NotNumber`, or as `Range` where its value is out of its range. `Memory`
+/// `Limit` comes at the row that is one more than 2^24, whatever it is. A record that does not have
+/// four fields is refused as `Count`, whatever they are. Else the first field from the left that is
+/// no numeral is refused as `NotNumber`, or as `Range` where its value is out of its range. `Memory`
 /// may be answered to any file.
 pub fn read_rows(alloc: Global, bytes: &[u8]) -> Result<Vec<RawRow>, RowsFault>
     requires { length bytes.now ≤ limit_of LimitKind.Csv }

@@ -5,7 +5,7 @@ use Rattle.std.specs.List.{flat_map, range_with_len}
 use Rattle.track_types.specs.declared.raw_row.RawRow.{RawRow}
 use Rattle.sample_rows.specs.declared.spot.Spot.{Spot}
 
--- the generator's state after a draw, of which 64 bits are kept
+-- the generator's state after a draw; 64 bits of it are kept
 abbrev pub next_state : ℕ → ℕ
 next_state state = (state * 6364136223846793005 + 1442695040888963407) % 2 ^ 64
 

@@ -19,7 +19,7 @@ use Rattle.snapshots.specs.declared.anchored.Anchored.{Anchored}
 abbrev pub is_within_reach : Parts → ℕ → ℤ → Region → CellBox → Bool
 is_within_reach parts number instant region area = intersects_region region (reach_of parts number instant area)
 
--- so may the object of a block
+-- whether the object of a block may be in a region at an instant
 abbrev pub is_block_within_reach : Parts → ℕ → ℤ → Region → Anchored → Bool
 is_block_within_reach parts number instant region block =
     is_within_reach parts number instant region (cell_box block.cell)
@@ -30,20 +30,20 @@ abbrev pub hit_cost : Parts → ℕ → ℤ → ℤ → Region → Anchored → 
 hit_cost parts number from to region block = block_reads + (block.len + touching_count (rules_in parts)
     (start_at (anchored_at parts.frame number block) block.cell) (log_in parts block) from to region)
 
--- a period in which the first hits of a window are sought, by the reach at an instant: the squares and the blocks that
--- may have one
+-- the reads of a period in which the first hits of a window are sought, by the reach at an instant: of the squares and
+-- the blocks that may have one
 unfoldable pub period_search_cost : Parts → ℕ → ℤ → ℤ → Region → ℤ → ℕ
 period_search_cost parts number from to region instant =
     square_reads * square_count (is_within_reach parts number instant region) (tree_in (snapshot_in parts number))
     + sum_by (hit_cost parts number from to region)
     (filter (is_block_within_reach parts number instant region) (all_blocks (snapshot_in parts number)))
 
--- a slice at an instant of a period, if it is one of the index's
+-- the reads of a slice at an instant of a period, if it is one of the index's
 abbrev pub slice_cost_in : Parts → ℤ → Region → Option ℕ → ℕ
 slice_cost_in parts instant region None = 0
 slice_cost_in parts instant region (Some number) =
     period_search_cost parts number instant instant region instant
 
--- a slice
+-- the reads of a slice
 unfoldable pub slice_cost : Parts → ℤ → Region → ℕ
 slice_cost parts instant region = slice_cost_in parts instant region (period_in parts.frame instant)

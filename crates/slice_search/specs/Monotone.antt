@@ -1,4 +1,4 @@
--- That both tests of a reach are true of a box where they are of one in it.
+-- That both tests of a reach are true of a box where they are true of one in it.
 use Rattle.std.specs.Prelude.{ℕ}
 use Rattle.std.proofs.Common.{arith}
 use Rattle.std.proofs.lemmas.Bool.{and_from, and_parts}
@@ -45,7 +45,7 @@ wider-may_reach region grid width inner outer inside holds =
     and_from _ _ (wider-touches grid a b wide tests.0)
     (wider-intersects region (cut_box grid a) (cut_box grid b) (cut-inside grid a b wide) tests.1)
 
--- so both tests of a reach are monotone
+-- both tests of a reach are monotone
 pub monotone-reach : (region : Region) (grid : CellBox) (width : ℕ)
     → AreMonotone (may_reach region grid width) (intersects_region region)
 monotone-reach region grid width = record {

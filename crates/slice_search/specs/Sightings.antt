@@ -18,7 +18,7 @@ unfoldable pub sighting_in : Parts → ℕ → ℤ → ℤ → Region → Anchor
 sighting_in parts number from to region block =
     option_map (seen_at (slice_index parts.objects block.index)) (first_stop_in parts number from to region block)
 
--- What is found of a period at an instant: the sightings of blocks among which each that has one stands once.
+-- What is found of a period at an instant: the sightings of some blocks. Each block that has a sighting is among them once.
 pub record AreSightings (parts : Parts) (number : ℕ) (instant : ℤ) (region : Region) (found : List Sighting)
     : Type 0 where
   pub blocks : List Anchored

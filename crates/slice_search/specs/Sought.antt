@@ -22,16 +22,16 @@ unfoldable pub first_stop_in : Parts → ℕ → ℤ → ℤ → Region → Anch
 first_stop_in parts number from to region block = first_hit_of (rules_in parts) (log_in parts block)
     (start_at (anchored_at parts.frame number block) block.cell) from to region
 
--- whether there is one
+-- whether a block has a stop in a window and a region
 abbrev pub has_stop_in : Parts → ℕ → ℤ → ℤ → Region → Anchored → Bool
 has_stop_in parts number from to region block = is_some (first_stop_in parts number from to region block)
 
--- the reads in a block's log by which it is found
+-- the reads in a block's log by which its first stop in a window and a region is found
 unfoldable pub log_reads : Parts → ℕ → ℤ → ℤ → Region → Anchored → ℕ
 log_reads parts number from to region block = block.len + touching_count (rules_in parts)
     (start_at (anchored_at parts.frame number block) block.cell) (log_in parts block) from to region
 
--- What a search comes to: blocks of the period, among which each with a stop in the window and the region stands once.
+-- What a search comes to: blocks of the period. Each that has a stop in the window and the region is among them once.
 pub record AreSought (parts : Parts) (number : ℕ) (from to : ℤ) (region : Region) (blocks : List Anchored)
     : Type 0 where
   pub are : All (IsBlock (snapshot_in parts number)) blocks

@@ -6,10 +6,10 @@ use Rattle.snapshots.specs.declared.anchored.Anchored.{Anchored}
 use Rattle.snapshots.specs.declared.tracks.Tracks.{Tracks}
 
 module _ {R : Type 0} (tracks : Tracks R) (squares boxes : R → CellBox → Bool) where
-  -- the blocks that are left
+  -- the blocks that are left of a walk over what is sought
   abbrev pub sought_left : List Anchored
   sought_left = tracks_left squares boxes tracks
 
-  -- a bound on the reads that are still to be made for them
+  -- a bound on the reads that are still to be made for the blocks that are left
   abbrev pub sought_budget : ℕ
   sought_budget = tracks_budget squares boxes tracks

@@ -11,14 +11,14 @@ use region_test::RegionTest;
 use snapshots::Stores;
 use track_types::{CellBox, Frame, MAX_REACH};
 
-/// The reach of a period at an instant, as a search tells it: the squares from which an object may get
+/// The reach of a period at an instant, as a search judges it: the squares from which an object may get
 /// into a region by then, and the boxes that the region touches.
 #[derive(Drop)]
 pub struct Reach<'a> {
     test: &'a RegionTest,
     // All cells of the index's grid; no object is outside it.
     grid: CellBox,
-    // By how many cells a square is made wider on each side.
+    // How many cells a square is widened by on each side.
     width: u64,
     ghost near: { IsBoxWithin grid },
     ghost narrow: { width ≤ MAX_REACH },

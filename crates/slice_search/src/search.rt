@@ -16,7 +16,7 @@ use track_types::{Memory, Sighting};
 
 /// The objects that are in the test's region at an instant, by object, each with its cell.
 ///
-/// An instant outside the index has none. The instant and the region's coordinates are at most
+/// There are none at an instant outside the index. The instant and the region's coordinates are at most
 /// `MAX_ASKED` away from 0, and its radius is at most `MAX_REACH`. `Memory` is the only refusal;
 /// nothing is allocated for a square or a block that is passed over.
 pub fn slice<L: Ledger>(

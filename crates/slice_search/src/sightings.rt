@@ -59,7 +59,7 @@ fn sighting<L: Ledger>(
     }))
 }
 
-// Puts a sighting, if there is one, after those before it.
+// Adds a sighting, if there is one, at the end.
 fn push_found(found: &mut Vec<Sighting>, sighting: Option<Sighting>) -> Result<(), Memory>
     ensures { OnOk result (found.new.items ≡ found.old.items ++ option_to_list sighting) }
 {

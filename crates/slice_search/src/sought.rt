@@ -35,10 +35,10 @@ pub struct Sought<'a> {
 }
 
 impl<'a> Sought<'a> {
-    /// The blocks of the period that may have what is sought, in leaf order. Each that has is among
-    /// them once. The reads of the walk, and those of `first_stop` for each block, come to at most
-    /// `period_search_cost`, with the reach at the last instant of the window in the period. It takes no
-    /// memory.
+    /// The blocks of the period that may have what is sought, in leaf order. Each block that has it
+    /// is among them once. The reads of the walk, and those of `first_stop` for each block, come to at
+    /// most `period_search_cost`, with the reach at the last instant of the window in the period. It
+    /// takes no memory.
     pub fn blocks(&self) -> Tracks<'a, Reach<'a>>
         ensures sought { AreSought self.now.stores.now self.now.period self.now.from self.now.to
             self.now.test.now.region (sought_left result

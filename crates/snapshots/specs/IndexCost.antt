@@ -13,7 +13,7 @@ use Rattle.snapshots.specs.Cost.{block_reads, find_reads, square_reads}
 use Rattle.snapshots.specs.Parts.{anchored_at, end_in, first_in, index_in, log_in, numbers_in, period_in, rules_in, snapshot_in}
 use Rattle.snapshots.specs.declared.anchored.Anchored.{Anchored}
 
--- each box is kept
+-- the test that keeps each box
 abbrev pub everywhere : CellBox → Bool
 everywhere area = true
 
@@ -21,7 +21,7 @@ everywhere area = true
 unfoldable pub blocks_reads : SnapshotView → ℕ
 blocks_reads view = square_reads * square_count everywhere (tree_in view) + block_reads * length (all_blocks view)
 
--- opening: each symbol of all logs, and the blocks of all snapshots
+-- the reads of opening: of each symbol of all logs, and of the blocks of all snapshots
 unfoldable pub open_cost : Parts → ℕ
 open_cost parts =
     length parts.symbols + sum_by (λ number. blocks_reads (snapshot_in parts number)) (numbers_in parts.frame)
@@ -31,19 +31,19 @@ abbrev pub seek_cost : Parts → Option Anchored → ℕ
 seek_cost parts None = 0
 seek_cost parts (Some block) = block.len + depth_in (rules_in parts)
 
--- where an object is at an instant of a period
+-- the reads of where an object is at an instant of a period
 abbrev pub position_cost_in : Parts → Option ℕ → Option ℕ → ℕ
 position_cost_in parts None number = 0
 position_cost_in parts (Some index) None = 0
 position_cost_in parts (Some index) (Some number) =
     find_reads parts.frame.height + seek_cost parts (block_of (snapshot_in parts number) index)
 
--- where an object is at an instant
+-- the reads of where an object is at an instant
 unfoldable pub position_cost : Parts → ℕ → ℤ → ℕ
 position_cost parts object instant =
     position_cost_in parts (index_in parts.objects object) (period_in parts.frame instant)
 
--- an instant of the period is in the window
+-- whether an instant of the period is in the window
 abbrev pub is_met : Frame → ℤ → ℤ → ℕ → Bool
 is_met frame from to number = le_z from to && (le_z (first_in frame number) to && le_z from (end_in frame number))
 
@@ -53,17 +53,17 @@ walk_cost parts from to number None = 0
 walk_cost parts from to number (Some block) =
     block_budget (rules_in parts) (anchored_at parts.frame number block) (log_in parts block) from to
 
--- a period of a path
+-- the reads of a period of a path
 abbrev pub period_cost : Parts → ℕ → ℤ → ℤ → ℕ → ℕ
 period_cost parts index from to number = find_reads parts.frame.height
     + walk_cost parts from to number (block_of (snapshot_in parts number) index)
 
--- the stops of an object, by its place, in a window
+-- the reads of an object's stops in a window, by its place
 abbrev pub path_cost_of : Parts → Option ℕ → ℤ → ℤ → ℕ
 path_cost_of parts None from to = 0
 path_cost_of parts (Some index) from to =
     sum_by (period_cost parts index from to) (filter (is_met parts.frame from to) (numbers_in parts.frame))
 
--- the stops of an object in a window
+-- the reads of an object's stops in a window
 unfoldable pub path_cost : Parts → ℕ → ℤ → ℤ → ℕ
 path_cost parts object from to = path_cost_of parts (index_in parts.objects object) from to

@@ -49,7 +49,7 @@ pub record IsReachable (z : ℤ) : Type 0 where
 abbrev pub has_columns : Frame → Cell → CellBox → Bool
 has_columns frame cell hull = is_along frame.height frame.base.x cell.x hull.x1 hull.x2
 
--- its lines are
+-- the lines of a box, moved to a cell, are in the grid
 abbrev pub has_lines : Frame → Cell → CellBox → Bool
 has_lines frame cell hull = is_along frame.height frame.base.y cell.y hull.y1 hull.y2
 
@@ -71,7 +71,7 @@ off_grid_at frame rules cell log = find (is_off_grid frame rules cell log) (rang
 abbrev pub instants_after : Frame → ℕ → Anchored → ℕ
 instants_after frame number block = instants_in frame number - 1 - block.offset
 
--- the flaw of a log which does not last as long as its period, by the block's place among those of the period
+-- the flaw of a log that does not last as long as its period, by the block's place among those of the period
 abbrev pub duration_flaw : Frame → RulesView → ℕ → ℕ → Anchored → Option Flaw
 duration_flaw frame rules number rank block =
     if duration_of_log rules (block_log rules block) == instants_after frame number block then None

@@ -15,7 +15,7 @@ use Rattle.snapshots.specs.declared.objects_in.ObjectsIn.{ObjectsIn}
 abbrev pub blocks_of : SnapshotView → List (ℕ × Cell) → List Anchored
 blocks_of view leaves = flat_map (λ leaf. blocks_in view leaf.0) leaves
 
--- the same, each leaf's found by going through all objects in order
+-- the blocks of leaves, each leaf's found by going through all objects in order
 abbrev pub objects_of_leaves : SnapshotView → List (ℕ × Cell) → List Anchored
 objects_of_leaves view leaves = flat_map (λ leaf. objects_at view leaf.0) leaves
 
@@ -23,7 +23,7 @@ objects_of_leaves view leaves = flat_map (λ leaf. objects_at view leaf.0) leave
 unfoldable pub passing_blocks : (CellBox → Bool) → SnapshotView → List Anchored
 passing_blocks keep view = filter (λ block. passes_at keep (tree_in view) block.cell) (all_blocks view)
 
--- those of the blocks whose cells are wanted
+-- the blocks whose cells are wanted
 abbrev pub wanted_blocks : (Cell → Bool) → List Anchored → List Anchored
 wanted_blocks wanted blocks = filter (λ block. wanted block.cell) blocks
 

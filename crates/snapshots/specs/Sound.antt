@@ -9,9 +9,9 @@ use Rattle.snapshots.specs.View.{SnapshotView, block_of, leaf_at, tree_in}
 use Rattle.snapshots.specs.Flaws.{IsShapedView}
 use Rattle.snapshots.specs.declared.anchored.Anchored.{Anchored}
 
--- each anchor is at one of the period's instants; the tree bits are those of a set of cells; as many objects are the
--- last of their cell as there are cells, and the last one of all is; leaf order is a permutation of the present
--- objects, and those of one cell ascend in it
+-- Each anchor is at one of the period's instants, and the tree bits are those of a set of cells. As many objects are
+-- the last of their cell as there are cells, and the last one of all is. Leaf order is a permutation of the present
+-- objects, and those of one cell ascend in it.
 pub record IsSoundPeriod (view : SnapshotView) : Type 0 where
   pub offsets : All (λ offset. offset < instants_in view.frame view.number) view.parts.offsets
   pub tree : StandsFor view.frame.height (wide_of view.frame) view.frame.base view.parts.tree (tree_in view)
@@ -26,8 +26,8 @@ pub record IsSnapshot (view : SnapshotView) : Type 0 where
   pub shaped : IsShapedView view
   pub sound : IsSoundPeriod view
 
--- what holds of every block that a snapshot gives: it is its object's, which is present; its anchor is at one of the
--- period's instants and in the grid; and its log is one of the period's
+-- What holds of every block that a snapshot gives: it is its object's, which is present. Its anchor is at one of the
+-- period's instants and in the grid, and its log is one of the period's.
 pub record IsBlock (view : SnapshotView) (block : Anchored) : Type 0 where
   pub its : block_of view block.index ≡ Some block
   pub present : slice_get view.parts.present block.index ≡ Some true

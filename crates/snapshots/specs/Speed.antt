@@ -33,12 +33,12 @@ abbrev pub hull_speed : Cell → Cell → ℕ → Option CellBox → ℕ
 hull_speed from cell before None = 0
 hull_speed from cell before (Some hull) = div_ceil (far_of from cell hull) (before + 1)
 
--- that of a log's symbol, from the log's first cell on
+-- the speed of a log's symbol, from the log's first cell on
 abbrev pub symbol_speed : RulesView → Cell → List ℕ → ℕ → ℕ
 symbol_speed rules from log place = hull_speed from (cell_before rules from log place)
     (duration_of_log rules (take place log)) (entry_of rules (slice_index log place)).hull
 
--- the greatest of a log's symbols
+-- the greatest speed of a log's symbols
 unfoldable pub log_speed : RulesView → Cell → List ℕ → ℕ
 log_speed rules from log = fold max 0 (map (symbol_speed rules from log) (range_with_len 0 (length log)))
 
@@ -62,17 +62,17 @@ width_at parts number instant = speed_of parts number * gap instant (first_in pa
 abbrev pub reach_of : Parts → ℕ → ℤ → CellBox → CellBox
 reach_of parts number instant area = widened (width_at parts number instant) area
 
--- a stop is as near to its block's anchor as the speed tells, and in the grid
+-- a stop is as near to its block's anchor as the speed says, and in the grid
 pub record IsReached (parts : Parts) (number : ℕ) (block : Anchored) (stop : Stop) : Type 0 where
   pub column : gap stop.cell.x block.cell.x ≤ width_at parts number stop.instant
   pub line : gap stop.cell.y block.cell.y ≤ width_at parts number stop.instant
   pub inside : IsInGrid parts.frame.height parts.frame.base stop.cell
 
--- so are all stops of a period's blocks
+-- all stops of a period's blocks are so
 abbrev pub AreReached : Parts → ℕ → Type 0
 AreReached parts number =
     All (λ block. All (IsReached parts number block) (stops_of parts number block)) (all_blocks (snapshot_in parts number))
 
--- Within reach: so are all stops of an index.
+-- Within reach: all stops of an index are so.
 abbrev pub IsWithinReach : Parts → Type 0
 IsWithinReach parts = (number : ℕ) → number < periods_of parts.frame → AreReached parts number

@@ -34,7 +34,7 @@ join_of frame objects rules snaps = record {
 abbrev pub snapshots_in : Parts → List SnapshotView
 snapshots_in parts = map (snapshot_in parts) (numbers_in parts.frame)
 
--- rules and snapshots are those of the parts, and the logs stand one after the other to the end of the symbols
+-- rules and snapshots are those of the parts, and the logs stand one after another to the end of the symbols
 pub record AreOf (parts : Parts) (rules : RulesView) (snaps : List SnapshotView) : Type 0 where
   pub shaped : IsShaped parts
   pub rules_are : rules ≡ rules_in parts

@@ -19,15 +19,15 @@ morton_of_block frame block = morton_of frame.height frame.base block.cell
 abbrev pub begin_of : Anchored → ℕ × ℕ
 begin_of block = (block.offset, block.from)
 
--- how long its log is, and of which object
+-- how long a block's log is, and whose it is
 abbrev pub length_and_index : Anchored → ℕ × ℕ
 length_and_index block = (block.len, block.index)
 
--- how many levels a period's tree has, of which the upper ones take two digits of the Morton numbers each
+-- how many levels a period's tree has; the upper ones take two digits of the Morton numbers each
 abbrev pub level_count : Frame → ℕ
 level_count frame = frame.height - wide_of frame
 
--- how many of them, the lowest, take one digit each
+-- how many levels of a period's tree, the lowest ones, take one digit each
 abbrev pub narrow_count : Frame → ℕ
 narrow_count frame = frame.height - 2 * wide_of frame
 
@@ -36,7 +36,7 @@ abbrev pub block_places : Frame → RulesView → List Anchored → Places
 block_places frame rules blocks = places_with (level_count frame) (narrow_count frame) (map (morton_of_block frame) blocks)
     (map (track_box rules) blocks)
 
--- these blocks are kept
+-- what is kept of the tracks is that of these blocks
 pub record AreKept (frame : Frame) (rules : RulesView) (blocks : List Anchored) (kept : TrackTree) : Type 0 where
   pub base : kept.tree.base ≡ frame.base
   pub places : kept.tree.places ≡ block_places frame rules blocks

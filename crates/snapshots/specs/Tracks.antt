@@ -53,6 +53,6 @@ abbrev pub IsOnTrack : Parts → ℕ → Anchored → Type 0
 IsOnTrack parts number block =
     All (λ (stop : Stop). in_box (track_box (rules_in parts) block) stop.cell ≡ true) (stops_of parts number block)
 
--- so are those of all blocks of a period
+-- all stops of a period's blocks are in the boxes of their tracks
 abbrev pub AreOnTracks : Parts → ℕ → Type 0
 AreOnTracks parts number = All (IsOnTrack parts number) (all_blocks (snapshot_in parts number))

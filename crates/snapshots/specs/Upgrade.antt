@@ -24,7 +24,7 @@ newest frame = record {
   tick = frame.tick;
 }
 
--- the tree of the cells that bits of a header's version tell, with the levels of the newest version
+-- the tree of the cells that bits of a header's version stand for, with the levels of the newest version
 abbrev pub newest_tree : Frame → List Bool → Tree
 newest_tree frame bits = tree_with frame.height (wide_of (newest frame)) frame.base
     (tree_of frame.height (wide_of frame) frame.base bits).cells
@@ -40,7 +40,7 @@ upgraded_period frame period = record {
   lengths = period.lengths;
 }
 
--- those of a snapshot
+-- the parts of a snapshot in the newest version
 abbrev pub upgraded_parts : SnapshotView → PeriodParts
 upgraded_parts view = upgraded_period view.frame view.parts
 

@@ -19,7 +19,7 @@ pub record SnapshotView : Type 0 where
   pub start : ℕ
   pub parts : PeriodParts
 
--- these parts with these numbers
+-- the view with these parts and numbers
 abbrev pub view_with : Frame → ℕ → ℕ → ℕ → PeriodParts → SnapshotView
 view_with frame number objects start parts =
     record { frame = frame; number = number; objects = objects; start = start; parts = parts }
@@ -40,7 +40,7 @@ tree_without frame = tree_with frame.height (wide_of frame) frame.base []
 abbrev pub leaf_at : SnapshotView → ℕ → ℕ
 leaf_at view place = rank_of view.parts.lasts place
 
--- the block of an object, of which its place among the present objects and its place in leaf order are known
+-- the block of an object whose place among the present objects and whose place in leaf order are known
 abbrev pub block_with : SnapshotView → ℕ → ℕ → ℕ → Anchored
 block_with view index rank place = record {
   index = index;

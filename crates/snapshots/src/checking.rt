@@ -78,8 +78,8 @@ pub fn find_disorder(lasts: &BitList, perm: &[u32]) -> Option<u32>
     None
 }
 
-/// Takes bits, of which there are at most `MAX_TREE`, as the tree of a period's anchors, or says at
-/// which place they first fail to be a tree's. Memory is taken for the directory.
+/// Takes bits as the tree of a period's anchors, or says at which place they first fail to be a
+/// tree's. There are at most `MAX_TREE` of them. Memory is taken for the directory.
 pub fn check_tree(
     alloc: Global,
     bits: BitList,
@@ -102,8 +102,8 @@ pub fn check_tree(
 }
 
 /// Takes a list as the permutation from leaf order to the present objects, which ascend in each
-/// cell, or says at which place it first fails: whether it is no permutation is asked before the
-/// order in cells. Memory is taken for the shortcuts and for marks while the call runs.
+/// cell, or says at which place it first fails. It judges whether it is a permutation before it
+/// judges the order in cells. Memory is taken for the shortcuts and for marks while the call runs.
 pub fn check_perm(
     alloc: Global,
     list: List32,
@@ -141,8 +141,8 @@ pub fn indexed(alloc: Global, list: BitList) -> Result<Bits, Memory>
     }
 }
 
-/// Where each log begins, of which the first one begins at `start`. All lengths and the start add
-/// up to at most `MAX_SYMBOLS`.
+/// Where each log begins: the first at `start`, each other where the one before ends. All lengths and
+/// the start add up to at most `MAX_SYMBOLS`.
 pub fn starts_of(alloc: Global, start: u32, lengths: &[u32]) -> Result<List32, Memory>
     requires { start + sum lengths.now ≤ MAX_SYMBOLS }
     ensures { IfOk result (λ starts. starts ≡ starts_of start lengths.now) }

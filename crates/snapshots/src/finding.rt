@@ -21,8 +21,8 @@ pub struct FoundBlocks {
     pub by_leaf: Vec<Anchored>,
 }
 
-/// Finds the blocks of a period. A walk over the tree makes fewer reads than a search for each
-/// object, and comes by them in leaf order. Memory is taken for both lists.
+/// Finds the blocks of a period, by a walk over the tree. This makes fewer reads than a search for
+/// each object, and meets the blocks in leaf order. Memory is taken for both lists.
 pub fn find_blocks<L: Ledger>(
     alloc: Global,
     snapshot: &Snapshot,

@@ -100,7 +100,7 @@ fn begins_of(alloc: Global, blocks: &[Anchored]) -> Result<Vec<(u32, u32)>, Memo
     Ok(begins)
 }
 
-// How long their logs are, and of which objects.
+// How long their logs are, and whose they are.
 fn logs_of(alloc: Global, blocks: &[Anchored]) -> Result<Vec<(u32, u32)>, Memory>
     ensures { IfOk result (λ logs. logs.items ≡ map length_and_index blocks.now) }
 {

@@ -1,11 +1,11 @@
 //! Snapshots: where each object stands first in a period, by object and by square.
 //!
 //! A `Snapshot` is checked from the parts of a period. `find` leads from an object to its block in
-//! a bounded number of reads, and `objects_in` gives the blocks whose anchors lie in squares that
-//! pass a test. `Stores` join the snapshots of an index with its rules; their `tracks` are the blocks
-//! of a period that a search may want, told by the boxes of their tracks. The crate stands on
-//! `k2_tree`, `box_tree`, `object_perm`, `bit_rank`, `rule_store`, `track_types`, `packed_bits`,
-//! `spiral_code`, `step_count` and `list_laws`.
+//! a bounded number of reads. `objects_in` gives the blocks whose anchors lie in squares that pass
+//! a test.
+//!
+//! `Stores` join the snapshots of an index with its rules. Their `tracks` finds the blocks of a
+//! period that a search may want, by the boxes of their tracks.
 #![tactic(auto)]
 
 mod anchored;

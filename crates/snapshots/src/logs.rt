@@ -27,7 +27,7 @@ use std::sync::ledger::Ledger;
 use step_count::Steps;
 use track_types::{Cell, CellBox, Frame, Kind, Memory, Section};
 
-/// What the symbols of a log that stays in the grid tell of its block.
+/// What is found of a block by the symbols of its log, which stays in the grid.
 #[derive(Clone, Copy)]
 pub struct LogSummary {
     /// How many instants they stand for.
@@ -38,7 +38,7 @@ pub struct LogSummary {
     pub area: CellBox,
 }
 
-/// What the logs of a period's blocks tell, where all of them stay in the grid to the period's end.
+/// What is found of a period by the logs of its blocks, where all of these stay in the grid to its end.
 #[derive(Drop)]
 pub struct Judged {
     /// The greatest speed of a block, in cells an instant.
@@ -47,8 +47,8 @@ pub struct Judged {
     pub tracks: Option<Box<TrackTree>>,
 }
 
-/// Judges the logs of all blocks of a snapshot, whose period has this number, by object, and answers the
-/// first flaw, or what they tell. It reads each symbol of these logs once, and what leads to the blocks.
+/// Judges the logs of all blocks of a snapshot by object, and answers the first flaw, or what is found of the
+/// period, which has this number. It reads each symbol of these logs once, and what leads to the blocks.
 pub fn judge_snapshot<L: Ledger>(
     alloc: Global,
     rules: &RuleStore,
@@ -101,8 +101,8 @@ fn by_leaf(alloc: Global, blocks: &[Anchored], areas: &[CellBox]) -> Result<Vec<
     Ok(boxes)
 }
 
-// Judges the log of a block, which has this place among those of the period with this number: what
-// it tells, or its first flaw, where a placed box that passes the grid comes before a wrong duration.
+// Judges the log of a block, which has this place among those of the period with this number. It answers
+// what is found of the block, or the first flaw: a placed box that passes the grid comes before a wrong duration.
 fn judge_log<L: Ledger>(
     rules: &RuleStore,
     frame: &Frame,
@@ -137,8 +137,8 @@ fn judge_log<L: Ledger>(
     }
 }
 
-// Reads the symbols of a block's log once, from the cell of its anchor on: what they tell, or the place
-// of the first one whose placed box passes the grid.
+// Reads the symbols of a block's log once, from the cell of its anchor on. It answers what is found of the block,
+// or the place of the first symbol whose placed box passes the grid.
 fn read_log<L: Ledger>(
     rules: &RuleStore,
     frame: &Frame,
@@ -185,9 +185,9 @@ fn read_log<L: Ledger>(
     })
 }
 
-// The greater of a speed and the one at which an object gets from a cell to the farthest cell of a box,
-// which is moved to another cell, where it does so no sooner than so many instants and one more are over.
-// Where there is no box, that one is 0.
+// The greater of two speeds: the given one, and that at which an object gets from a cell to the farthest
+// cell of a box in so many instants and one more. The box is moved to another cell; without one the
+// second speed is 0.
 fn raised(speed: u64, from: Cell, cell: Cell, before: u64, hull: &Option<CellBox>) -> u64
     requires from { IsCellWithin from }
     requires column { IsReachable cell.x }

@@ -63,11 +63,15 @@ impl Model for Snapshot {
 impl Snapshot {
     /// Takes the parts of a period as its snapshot, in time linear in their lengths.
     ///
-    /// It judges in this order: each offset is below the number of the period's instants; the tree
-    /// bits are those of a set of cells; as many objects are the last of their cell as there are
-    /// cells, and the last object of all is one of them; `perm` is a permutation; and the objects
-    /// of each cell ascend. `Flaw` is the first flaw in this order, and of one kind the one at the
-    /// first place. That of the cells stands at the end of `lasts`.
+    /// It judges in this order:
+    /// - each offset is below the number of the period's instants;
+    /// - the tree bits are those of a set of cells;
+    /// - as many objects are the last of their cell as there are cells, and the last object of all is one of them;
+    /// - `perm` is a permutation;
+    /// - the objects of each cell ascend.
+    ///
+    /// `Flaw` is the first flaw in this order, and of one kind the one at the first place. That of the cells stands at
+    /// the end of `lasts`.
     ///
     /// The header is in its ranges, and the number is that of one of its periods. There are 1 to
     /// `MAX_OBJECTS` objects and at most `MAX_TREE` tree bits. `present` has a bit for each object,
@@ -145,11 +149,11 @@ impl Snapshot {
     }
 
     /// The block of an object, and `None` if and only if the object has none in this period. The
-    /// object is told by its place among all objects, which is below their number.
+    /// object is given by its place among all objects, which is below their number.
     ///
-    /// It goes from the object to its place among the present ones, by the inverse permutation to
-    /// its place in leaf order, and climbs the tree from its leaf to the cell, in at most
-    /// `find_reads` of the tree's height. It takes no memory.
+    /// It goes from the object to its place among the present ones, and by the inverse permutation to its place in leaf
+    /// order. Then it climbs the tree from its leaf to the cell. It makes at most `find_reads` of the tree's height. It
+    /// takes no memory.
     pub fn find<L: Ledger>(&self, index: u32, steps: &mut Steps<L>) -> Option<Anchored>
         requires { index < self.now.objects }
         ensures value { result ≡ block_of self.now index }

@@ -64,20 +64,19 @@ impl Model for Stores {
 }
 
 impl Stores {
-    /// Joins what the parts of an index were checked to be, once the log of each block is judged, by
-    /// period, then object.
+    /// Joins the checked parts of an index, once the log of each block is judged, by period, then
+    /// object.
     ///
-    /// The first symbol of a log whose placed box passes the grid is `OffGrid`, at its place among
-    /// all symbols; a box is placed by moving it to the cell in which the object was last present.
-    /// After it comes a log that does not last to the end of its period: `Duration`, at the place of
-    /// the block among those of its period. The flaw is the first one in this order.
+    /// The first symbol of a log whose placed box passes the grid is `OffGrid`, at its place among all symbols. A box
+    /// is placed by moving it to the cell in which the object was last present. After it comes a log that does not last
+    /// to the end of its period: `Duration`, at the place of the block among those of its period. The flaw is the first
+    /// one in this order.
     ///
-    /// The objects ascend, the height and the period of the rules are those of the header, the
-    /// snapshots are those of its periods in order, and their logs stand one after the other to the
-    /// end of the symbols. It reads each stored symbol once, and what leads to the blocks of each
-    /// snapshot. In the same pass it finds the speed of each period, and the box of each block's
-    /// track, which `tracks` goes through. Memory is taken for these, and for the blocks of a period
-    /// while the call runs.
+    /// The objects ascend, and the height and the period of the rules are those of the header. The snapshots are those
+    /// of its periods in order, and their logs stand one after another to the end of the symbols. It reads each stored
+    /// symbol once, and what leads to the blocks of each snapshot. In the same pass it finds the speed of each period,
+    /// and the box of each block's track, which `tracks` goes through. Memory is taken for these, and for the blocks of
+    /// a period while the call runs.
     pub fn join<L: Ledger>(
         alloc: Global,
         frame: Frame,
@@ -172,10 +171,9 @@ impl Stores {
         &self.snaps[period as usize]
     }
 
-    /// The blocks of a period, which is one of the header's, that may hold what is sought, in leaf
-    /// order: those whose anchor's cell passes the search's test of squares, and whose track's box
-    /// passes its test of boxes. The box of a track has the cells of all stops of its block. It takes
-    /// no memory, and reads nothing until it is drawn from.
+    /// The blocks of a period that may hold what is sought, in leaf order. The period is one of the header's. Of such a
+    /// block the anchor's cell passes the search's test of squares, and the track's box its test of boxes. The box of a
+    /// track has the cells of all stops of its block. It takes no memory, and reads nothing until it is drawn from.
     pub fn tracks<S: Search + Drop>(&self, period: u32, search: S) -> Tracks<'_, S>
         requires { period < periods_of self.now.frame }
         ensures left { tracks_left S.squares S.boxes result
@@ -197,8 +195,8 @@ impl Stores {
         }
     }
 
-    /// What is kept of the blocks of a period, which is one of the header's, in leaf order, for
-    /// searches that go another way over them than `tracks`. `None` only where it has no block.
+    /// What is kept of the blocks of a period, which is one of the header's, in leaf order. It is for
+    /// searches that go over them in another way than `tracks`. `None` only where it has no block.
     pub fn kept(&self, period: u32) -> Option<&TrackTree>
         requires { period < periods_of self.now.frame }
         ensures none { IfNone result (blocks_by_leaf (snapshot_in self.now period) ≡ []) }
@@ -211,13 +209,13 @@ impl Stores {
         }
     }
 
-    /// The speed of a period, which is one of the header's, in cells an instant: at so many instants
-    /// after the period's first, each object that has a block in the period is at most so many times
-    /// the speed away from its anchor, by columns and by lines alike.
+    /// The speed of a period, which is one of the header's, in cells an instant. At so many instants after the period's
+    /// first, each object that has a block in it is at most so many times the speed away from its anchor, by columns
+    /// and by lines alike.
     ///
-    /// It is the greatest over the symbols of all logs of the period: how far the symbol's placed box
-    /// gets from the anchor, divided by how many instants after the anchor the symbol begins, rounded up.
-    /// It is 0 where no object leaves its anchor.
+    /// It is the greatest speed of a symbol in the period's logs. That is how far the symbol's placed box gets from the
+    /// anchor, divided by how many instants after the anchor the symbol begins, rounded up. It is 0 where no object
+    /// leaves its anchor.
     pub fn speed(&self, period: u32) -> u64
         requires { period < periods_of self.now.frame }
         ensures value { result ≡ speed_of self.now period }

@@ -2,7 +2,7 @@
 //!
 //! `encode_move` and `decode_move` undo each other, and each code is that of the table in
 //! `specs/Spiral.antt`. The spiral is GraCT's idea (Brisaboa, Gómez-Brandón, Navarro and Paramá,
-//! SPIRE 2016), its order this project's own. The crate stands on std alone.
+//! SPIRE 2016). Its order is this project's own.
 #![tactic(auto)]
 
 mod moves;

@@ -7,8 +7,8 @@ use std::sync::ledger::Ledger;
 
 /// A list each of whose reads is counted. Contracts see it as the list of its items.
 ///
-/// A structure keeps in it what its bounds on reads speak of. While the structure is only lent, `at` is
-/// the one way to an item, and it counts.
+/// A structure keeps in such lists all that its bounds on reads speak of. While the structure is
+/// lent, `at` is the only way to an item, and it counts the read.
 #[derive(Drop)]
 pub struct CountedList<T: OneRead> {
     items: Vec<T>,

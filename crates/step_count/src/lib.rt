@@ -1,8 +1,8 @@
 //! Counted reads.
 //!
-//! A structure that promises how few reads a query makes counts each of them by a call of
-//! `Steps::tick`. A counter takes no bytes and its calls do nothing when the program runs; contracts
-//! see it as a number. The crate stands on std alone.
+//! A structure that promises how few reads a query makes keeps what it reads in a `CountedList`.
+//! Each read there is one step of the caller's `Steps`, and contracts bound the steps. A counter
+//! takes no bytes, and its calls do nothing when the program runs.
 #![tactic(auto)]
 
 mod counted_list;

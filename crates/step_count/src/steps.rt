@@ -5,8 +5,8 @@ use std::sync::ledger::{Blank, Book, Ledger, Share};
 
 /// How many reads were made. Contracts see it as a number, which only `tick` changes.
 ///
-/// One step is one read of a word, a directory entry or a list's place of the structure that was
-/// lent. The count lives in contracts alone: a `Steps` has no bytes.
+/// One step is one read of a word, of a directory entry, or of a place of a list. The count lives in
+/// contracts alone: a `Steps` has no bytes.
 #[derive(Drop)]
 pub struct Steps<L: Ledger> {
     book: Book<L>,

@@ -40,8 +40,8 @@ impl TrackBlocks {
     }
 
     // The same rows with their places counted from an origin from which this row has a place too, or none where there
-    // is no such origin. As many instants are free before the first as after the last, and at most half as many the
-    // next time: so rows are counted anew at most 22 times.
+    // is no such origin. As many instants are free before the first as after the last. The next time at most half as
+    // many are, so that rows are counted anew at most 22 times.
     fn recounted(&self, row: Row) -> Result<Option<TrackBlocks>, AllocError>
         requires { IsRowInRange row }
         ensures kept { IfOk result (λ made. IfSome made (HasKept self.now)) }
@@ -85,7 +85,7 @@ impl TrackBlocks {
             let Some(place) = self.origin.place(origin.row(object, *place)) else {
                 return Ok(false);
             };
-            // The places of a run go to one block, and so nothing is hashed for most of them.
+            // The places of a run go to one block, so that nothing is hashed for most of them.
             if self.put(object, self.recent, place) {
                 continue;
             }
@@ -123,7 +123,7 @@ fn extent_of(origin: Origin, runs: &[Run<'_>]) -> Extent
     extent
 }
 
-// An extent, and so much more that the instants of a run are in it.
+// An extent, widened so that the instants of a run are in it.
 fn extent_with(extent: Extent, origin: Origin, object: u32, places: &[PackedPlace]) -> Extent
     requires near { IsExtentWithin extent }
     ensures exact { result ≡ fold widened extent (instants_of (rows_of_run origin (object, places.now))) }
