@@ -1,4 +1,4 @@
-"""Index files of the first two versions that no chart was built for, section by section, as docs/FORMAT.md says: for scripts/fuzz_files.
+"""Index files of the first two versions that no chart was built for, section by section, as docs/FORMAT.md says.
 
 A file is a list of sections, each a pair of its name and its bytes, so that whoever damages it knows where sections end. made_bits.py makes
 files of version 3 of what others hold.
