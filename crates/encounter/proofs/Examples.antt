@@ -9,7 +9,7 @@ use Rattle.list_laws.specs.Grown.{table_of_rules}
 use Rattle.spiral_code.specs.Spiral.{move_of}
 use Rattle.rule_store.specs.Cells.{cell_with, cells_along, displacement_of}
 use Rattle.log_cursor.specs.Start.{start_at}
-use Rattle.snapshots.specs.Cost.{find_reads}
+use Rattle.snapshots.specs.Cost.{lookup_reads}
 use Rattle.encounter.specs.Span.{BlockTree, close_count, count_with, spans_in, log_tree}
 
 -- two terminals, standing still and one to the right; rule 2 is twice to the right
@@ -81,5 +81,5 @@ unfolding close_count count_with spans_in nodes_in parsed table_of_rules block_s
 by_one_anchor = refl
 
 -- looking for two blocks
-by_height : (height : ℕ) → 2 * find_reads height ≡ 104 + 82 * height
-by_height height = grind arith
+two_lookups : 2 * lookup_reads ≡ 92
+two_lookups = refl

@@ -25,7 +25,7 @@ use Rattle.log_cursor.specs.declared.start.Start.{Start}
 use Rattle.snapshots.specs.IndexCost.{is_met}
 use Rattle.snapshots.specs.Parts.{anchored_at, chart_in, end_in, first_in, index_in, log_in, rules_in, snapshot_in, stops_in}
 use Rattle.snapshots.specs.SoundParts.{IsValid}
-use Rattle.snapshots.specs.View.{SnapshotView, block_of}
+use Rattle.snapshots.specs.View.{block_of}
 use Rattle.snapshots.specs.declared.anchored.Anchored.{Anchored}
 use Rattle.object_track.specs.Between.{stops_between}
 use Rattle.object_track.specs.Met.{AreMet}
@@ -56,22 +56,19 @@ unfolding meeting_among
 meeting_among-right from to reach lefts =
     first_pair-apart (have_met from to reach) lefts [] (λ k d within i e inside. absurd (omega (arith, inside)))
 
-module _ (parts : Parts) (number index : ℕ) (seen : SnapshotView) (at : seen ≡ snapshot_in parts number) where
+module _ (parts : Parts) (number index : ℕ) where
   -- an object without a block in a period
-  pub stops-absent : None ≡ block_of seen index → stops_in parts index number ≡ []
+  pub stops-absent : None ≡ block_of (snapshot_in parts number) index → stops_in parts index number ≡ []
   unfolding stops_in
-  stops-absent absent =
-      let none : None ≡ block_of (snapshot_in parts number) index = absent ∙ ap (λ s. block_of s index) at in
-      rw (← none) refl
+  stops-absent none = rw (← none) refl
 
   -- one with a block, whose parse trees are these
   pub stops-present : (block : Anchored) (rules : RulesView) (log : List ℕ) (start : Start) (tree : BlockTree) →
-      Some block ≡ block_of seen index → rules ≡ rules_in parts → log ≡ log_in parts block →
+      Some block ≡ block_of (snapshot_in parts number) index → rules ≡ rules_in parts → log ≡ log_in parts block →
       start ≡ start_at (anchored_at parts.frame number block) block.cell → tree ≡ log_tree rules start log →
       tree.stops ≡ stops_in parts index number
   unfolding stops_in
-  stops-present block rules log start tree here of its_log its_start is =
-      let present : Some block ≡ block_of (snapshot_in parts number) index = here ∙ ap (λ s. block_of s index) at in
+  stops-present block rules log start tree present of its_log its_start is =
       ap (λ (t : BlockTree). t.stops) is ∙ (rw (of, its_log, its_start, ← present) refl)
 
 -- in a window two stops are together where they have met in it

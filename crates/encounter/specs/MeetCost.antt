@@ -3,7 +3,7 @@ use Rattle.std.specs.Prelude.{ℕ, ◌+◌, ◌*◌, ℤ, filter, Option, Some, 
 use Rattle.std.specs.List.{sum_by}
 use Rattle.track_types.specs.declared.parts.Parts.{Parts}
 use Rattle.log_cursor.specs.Start.{start_at}
-use Rattle.snapshots.specs.Cost.{find_reads}
+use Rattle.snapshots.specs.Cost.{lookup_reads}
 use Rattle.snapshots.specs.IndexCost.{is_met}
 use Rattle.snapshots.specs.Parts.{anchored_at, index_in, log_in, numbers_in, rules_in, snapshot_in}
 use Rattle.snapshots.specs.View.{block_of}
@@ -26,8 +26,7 @@ pair_cost parts from to reach number (Some left) (Some right) =
 -- the reads of a period, in which both blocks are looked for
 abbrev pub period_meet_cost : Parts → ℕ → ℕ → ℤ → ℤ → ℕ → ℕ → ℕ
 period_meet_cost parts left right from to reach number =
-    2 * find_reads parts.frame.height
-    + pair_cost parts from to reach number (block_of (snapshot_in parts number) left)
+    2 * lookup_reads + pair_cost parts from to reach number (block_of (snapshot_in parts number) left)
     (block_of (snapshot_in parts number) right)
 
 -- the reads of a meeting of two objects, by their places: of each period that the window meets, and none where an object

@@ -116,11 +116,10 @@ fn meet_in_period<L: Ledger>(
     ensures cost { steps.new ≤ steps.old + period_meet_cost stores.now places.left places.right
         window.now.from window.now.to window.now.reach period }
 {
-    let snapshot = stores.snapshot(period);
-    let Some(one) = snapshot.find(places.left, steps) else {
+    let Some(one) = stores.find(period, places.left, steps) else {
         return Ok(None);
     };
-    let Some(other) = snapshot.find(places.right, steps) else {
+    let Some(other) = stores.find(period, places.right, steps) else {
         return Ok(None);
     };
     let mine = Placed::new(stores, period, &one);

@@ -35,3 +35,5 @@ mod LowestLemmas
 mod WalkLemmas
 mod PrunedLemmas
 mod Examples
+-- The squares of a level, one after another.
+mod ListingLemmas

@@ -74,7 +74,7 @@ range-moved k s (suc n) =
     ap (λ xs. (k + s) ∷ xs) (range-moved k (s + 1) n ∙ ap (λ z. range_with_len z n) e)
 
 -- the longer prefixes of one
-children_of_prefixes-one : (size q : ℕ) → children_of_prefixes size (q ∷ []) ≡ map (λ d. size * q + d) (range_with_len 0 size)
+pub children_of_prefixes-one : (size q : ℕ) → children_of_prefixes size (q ∷ []) ≡ map (λ d. size * q + d) (range_with_len 0 size)
 unfolding children_of_prefixes
 children_of_prefixes-one size q =
     let e : size * q + 0 ≡ size * q = omega arith in

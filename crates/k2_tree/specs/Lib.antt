@@ -15,4 +15,5 @@ pub mod Checking
 pub mod Pruning
 pub mod Pruned
 pub mod Building
+pub mod Listing
 pub mod Cost

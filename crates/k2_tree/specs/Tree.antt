@@ -1,5 +1,5 @@
 -- A k2-tree: a set of cells, how many of its upper levels are wide, and how it stands in bits.
-use Rattle.std.specs.Prelude.{◌≡◌, ℕ, ◌*◌, ◌^◌, ◌≤◌, Bool}
+use Rattle.std.specs.Prelude.{◌≡◌, ℕ, ◌*◌, ◌≤◌, Bool}
 use Rattle.std.specs.Prelude.{true, false, List, [], ◌∷◌, length, map, drop, All}
 use Rattle.track_types.specs.declared.cell.Cell.{Cell}
 use Rattle.track_types.specs.declared.limit.TheConstants.{MAX_TREE}

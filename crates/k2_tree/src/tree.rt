@@ -5,7 +5,7 @@ ghost use Rattle.k2_tree.specs.Morton.{morton_of, IsGrid, IsInGrid};
 ghost use Rattle.k2_tree.specs.Widths.{widths_of, fan_of};
 ghost use Rattle.k2_tree.specs.Squares.{node};
 ghost use Rattle.k2_tree.specs.Areas.{IsBoxInside};
-ghost use Rattle.k2_tree.specs.Tree.{tree_bits, tree_with, IsTree};
+ghost use Rattle.k2_tree.specs.Tree.{codes_of, tree_bits, tree_with, IsTree};
 ghost use Rattle.k2_tree.specs.TreeSquares.{holds_cell, squares_of, node_width, area_of, child_at, least_cell_of, level_of, node_of, IsSquareOf};
 ghost use Rattle.k2_tree.specs.Pending.{StandsAt, nodes_of};
 ghost use Rattle.k2_tree.specs.Flaws.{tree_flaw, StandsFor, IsTreeFault};
@@ -13,6 +13,7 @@ ghost use Rattle.k2_tree.specs.Pruning.{child_nodes, kept_leaves, leaves_of, pas
 ghost use Rattle.k2_tree.specs.Pruned.{pruned_budget, pruned_left, pruned_tree};
 ghost use Rattle.track_types.specs.declared.cell.Cell.{Cell};
 ghost use Rattle.track_types.specs.declared.limit.TheConstants.{MAX_OBJECTS, MAX_TREE};
+ghost use Rattle.bit_rank.specs.Cost.{window_reads};
 ghost use Rattle.k2_tree.specs.Cost.{child_reads, climb_reads, descent_reads};
 
 use crate::building::split_by_codes;
@@ -22,6 +23,7 @@ use crate::descent::{child_at, find_leaf};
 use crate::fault::TreeFault;
 use crate::groups::{fan_of, group_start, square_at, width_below};
 use crate::keep::Keep;
+use crate::listing::{Listing, cells_of_spots, codes_of_spots, spots_in};
 use crate::morton_code::{cell_at, codes_of_cells, is_in_grid, morton};
 use crate::pending::Pending;
 use crate::pruned::Pruned;
@@ -278,6 +280,19 @@ impl K2Tree {
         ensures inner { result ≤ level_of square.now }
     {
         width_below(self.height - 2 * self.wide, square.level())
+    }
+
+    /// The cells with their Morton numbers, in Morton order. It goes down level by level, by one window of the bits for
+    /// each square, and takes memory for the lists and for the squares of two levels at a time.
+    pub fn listing<L: Ledger>(&self, alloc: Global, steps: &mut Steps<L>) -> Result<Listing, Memory>
+        ensures codes { IfOk result (λ listing. listing.codes.items ≡ codes_of self.now) }
+        ensures cells { IfOk result (λ listing. listing.cells.items ≡ self.now.cells) }
+        ensures cost { steps.new ≤ steps.old + window_reads * length (squares_of self.now) }
+    {
+        let spots = spots_in(alloc, &self.bits, self.height, self.wide, steps)?;
+        let codes = codes_of_spots(alloc, &spots)?;
+        let cells = cells_of_spots(alloc, &spots, self.base)?;
+        Ok(Listing { codes, cells })
     }
 
     /// The leaves for which `keep` is true on every square from the whole grid to the cell itself,

@@ -27,7 +27,7 @@ pub fn cell_in<L: Ledger>(
     ensures cost { steps.new
         ≤ steps.old + position_cost_in stores.now (Some place) (Some period) }
 {
-    let block = stores.snapshot(period).find(place, steps)?;
+    let block = stores.find(period, place, steps)?;
     let placed = Placed::new(stores, period, &block);
     seek(placed.log, placed.start, instant, steps)
 }

@@ -2,7 +2,7 @@
 use Rattle.std.proofs.Common.{◌≡◌, ℕ, ◌+◌, ◌<◌, true, false, List, [], ◌∷◌, ◌++◌, length}
 use Rattle.std.proofs.Common.{map, filter, refl, sym, ap, ◌∙◌, arith}
 use Rattle.std.specs.List.{range_with_len}
-use Rattle.std.specs.Prelude.{◌==◌, Some, slice_index, slice_index_or}
+use Rattle.std.specs.Prelude.{◌==◌, Some, slice_get, slice_index, slice_index_or}
 use Rattle.std.specs.Cmp.{both_ways}
 use Rattle.std.proofs.lemmas.Bool.{and_from, and_parts, eq-eqb, eqb-true}
 use Rattle.std.proofs.lemmas.List.{map-id}
@@ -110,6 +110,18 @@ index_at-place_in view index is within on =
       ap (λ rank. select_of view.parts.present (rank + 1)) stands
           ∙ select_of-from_IsSelected view.parts.present (rank_in view index + 1) index
           (record { one = read; rank = refl }),
+    )
+
+-- so the block of a present object is the one at its place
+pub block_of-place_in : (view : SnapshotView) (index : ℕ) → IsSnapshot view → slice_get view.parts.present index ≡ Some true
+    → (place_in view index < length view.parts.perm) × (block_of view index ≡ Some (block_at view (place_in view index)))
+block_of-place_in view index is present =
+    let inside = slice_get_within view.parts.present index true present in
+    let on = get_or_from_slice_get view.parts.present index true false present in
+    let at = index_at-place_in view index is (omega (arith, inside, is.shaped.presence)) on in (
+      at.0,
+      sym (block_found view index (block_at view (place_in view index)) present
+          (block_back view (place_in view index) is at.0 ∙ ap (present_block view) at.1)),
     )
 
 -- the objects of a leaf in leaf order are those in order that are in it

@@ -1,5 +1,5 @@
 -- The blocks of a period, put where their objects stand.
-use Rattle.std.proofs.Common.{◌≡◌, ◌≢◌, ◌⊎◌, ℕ, ◌+◌, ◌*◌, ◌<◌, ◌≤◌, Bool, true, eqb, List, [], ◌∷◌, length, get_or, set, map, All, Option, None, Some, inl, inr, refl, ap, sym, ◌∙◌, arith, subst}
+use Rattle.std.proofs.Common.{◌≡◌, ◌≢◌, ◌⊎◌, ℕ, ◌+◌, ◌*◌, ◌<◌, ◌≤◌, true, eqb, List, [], ◌∷◌, length, get_or, set, map, All, Option, None, Some, inl, inr, refl, ap, sym, ◌∙◌, arith, subst}
 use Rattle.std.specs.Prelude.{if◌then◌else◌, replicate}
 use Rattle.std.specs.List.{range_with_len, sum_by}
 use Rattle.std.proofs.lemmas.Bool.{cases_Bool}
@@ -13,15 +13,18 @@ use Rattle.list_laws.proofs.SumLemmas.{sum_by-range_some}
 use Rattle.list_laws.proofs.FilterLemmas.{filter-all}
 use Rattle.list_laws.proofs.OptionLemmas.{made_cases}
 use Rattle.list_laws.proofs.SumLemmas.{made_weight, sum_by-filter_map}
-use Rattle.track_types.specs.declared.cell.Cell.{Cell}
-use Rattle.k2_tree.specs.Pruning.{square_count, IsKeptFor}
+use Rattle.bit_rank.specs.Cost.{window_reads}
+use Rattle.k2_tree.specs.Pruning.{on_areas, square_count}
+use Rattle.k2_tree.specs.TreeSquares.{squares_of}
 use Rattle.snapshots.specs.IndexCost.{blocks_reads, everywhere}
-use Rattle.snapshots.specs.Cost.{block_reads, square_reads}
-use Rattle.snapshots.specs.Objects.{wanted_blocks, WeighSame}
+use Rattle.snapshots.specs.Cost.{block_reads}
+use Rattle.snapshots.specs.Objects.{WeighSame}
 use Rattle.snapshots.specs.Sound.{IsBlock, IsSnapshot}
-use Rattle.snapshots.specs.View.{SnapshotView, all_blocks, block_of, tree_in}
+use Rattle.snapshots.specs.Tracks.{blocks_by_leaf}
+use Rattle.snapshots.specs.View.{SnapshotView, all_blocks, block_at, block_of, tree_in}
 use Rattle.snapshots.specs.declared.anchored.Anchored.{Anchored}
 use Rattle.snapshots.proofs.BlockFactsLemmas.{present_block-is}
+use Rattle.snapshots.proofs.LeafOrderLemmas.{by_leaf-weighs}
 
 -- a block counts if it is an object's
 abbrev pub counts : ℕ → Anchored → ℕ
@@ -37,16 +40,6 @@ pub record IsScattering (view : SnapshotView) (left : List Anchored) (table : Li
   pub long : length table ≡ view.objects
   pub settled : (index : ℕ) → index < view.objects → IsSettled view left table index
   pub blocks : All (IsBlock view) left
-
--- where nothing is left out, the same blocks are drawn as there are
-pub WeighSame-all : (view : SnapshotView) (left : List Anchored)
-    → ((wanted : Cell → Bool) → IsKeptFor everywhere wanted
-    → WeighSame (wanted_blocks wanted left) (wanted_blocks wanted (all_blocks view)))
-    → WeighSame left (all_blocks view)
-WeighSame-all view left same =
-    let all = same (λ _. true) (λ area cell near inside wanted. refl) in
-    subst (λ xs. WeighSame xs (all_blocks view)) (filter-all (λ _. true) left (λ _ _ _. refl))
-    (subst (WeighSame (wanted_blocks (λ _. true) left)) (filter-all (λ _. true) (all_blocks view) (λ _ _ _. refl)) all)
 
 -- there are as many of them
 pub length-weighed : (xs ys : List Anchored) → WeighSame xs ys → length xs ≡ length ys
@@ -141,11 +134,15 @@ scattered view table is =
       | inr waits ↦ absurd (omega (arith, waits.1))
     ])
 
--- the reads of a walk over all blocks
-pub blocks_reads-within : (view : SnapshotView) (left : List Anchored) (budget : ℕ) → WeighSame left (all_blocks view)
-    → budget ≤ square_reads * square_count everywhere (tree_in view) + block_reads * length left
-    → budget ≤ blocks_reads view
+-- the reads of a list of all cells, and of all blocks
+pub blocks_reads-listed : (view : SnapshotView) (steps before : ℕ) → IsSnapshot view
+    → steps ≤ before + (window_reads * length (squares_of (tree_in view)) + block_reads * length view.parts.perm)
+    → steps ≤ before + blocks_reads view
 unfolding blocks_reads
-blocks_reads-within view left budget same within =
-    subst (λ n. budget ≤ square_reads * square_count everywhere (tree_in view) + block_reads * n)
-    (length-weighed left (all_blocks view) same) within
+blocks_reads-listed view steps before is reads =
+    let all : square_count everywhere (tree_in view) ≡ length (squares_of (tree_in view)) =
+    ap length (filter-all (on_areas everywhere (tree_in view)) (squares_of (tree_in view)) (λ _ _ _. refl)) in
+    let long : length (blocks_by_leaf view) ≡ length view.parts.perm =
+    length-map-range_with_len (block_at view) 0 (length view.parts.perm) in
+    let same = length-weighed (blocks_by_leaf view) (all_blocks view) (by_leaf-weighs view is) in
+    omega (arith, reads, all, long, same)

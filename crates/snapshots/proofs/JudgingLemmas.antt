@@ -71,6 +71,7 @@ pub record IsTaken (view : SnapshotView) (index : ℕ) (block : Anchored) : Type
   pub index_is : block.index ≡ index
   pub within : rank_in view index < length view.parts.perm
   pub next : rank_in view (index + 1) ≡ rank_in view index + 1
+  pub begins : block.from ≡ view.start + sum (take (rank_in view index) view.parts.lengths)
   pub log : block.len + sum (take (rank_in view index) view.parts.lengths)
       ≡ sum (take (rank_in view index + 1) view.parts.lengths)
   pub rest : sum (take (rank_in view index + 1) view.parts.lengths) ≤ sum view.parts.lengths
@@ -100,6 +101,7 @@ module _ (view : SnapshotView) (is : IsSnapshot view) (index : ℕ) where
       let len = present-len view index block has in
       record {
         index_is = same;
+        begins = sym (ap (λ (b : Anchored). b.from) (present_block-is view index block has).1);
         within = within;
         next = step;
         log = omega (arith, more, len);

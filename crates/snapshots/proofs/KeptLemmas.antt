@@ -146,7 +146,7 @@ both-any false false to from = refl
 
 module _ (view : SnapshotView) (is : IsSnapshot view) where
   -- the Morton number at a place is that of its leaf
-  code-at : (place : ℕ) → place < length view.parts.perm
+  pub code-at : (place : ℕ) → place < length view.parts.perm
       → morton_of_block view.frame (block_at view place) ≡ get_or (codes_of (tree_in view)) (leaf_at view place) 0
   code-at place within =
       sym (get_or-map (morton_of view.frame.height view.frame.base) (tree_in view).cells

@@ -14,6 +14,8 @@ mod BlockLemmas
 mod PlaceLemmas
 mod PlacesLemmas
 mod ObjectsLemmas
+mod OnesLemmas
+mod AheadLemmas
 mod ChosenLemmas
 pub mod LogsLemmas
 mod SpeedLemmas

@@ -13,7 +13,7 @@ use Rattle.snapshots.specs.declared.next.Next.TheVariants.{End, Place}
 use Rattle.snapshots.proofs.PlaceLemmas.{IsFirst, first_behind, first_zero, goes_on, last_ends, place_first}
 
 -- as many objects are in leaf order as are the last of a cell or not
-same_length : (view : SnapshotView) → IsSnapshot view → length view.parts.perm ≡ length view.parts.lasts
+pub same_length : (view : SnapshotView) → IsSnapshot view → length view.parts.perm ≡ length view.parts.lasts
 same_length view is = is.shaped.perm ∙ sym is.shaped.lasts
 
 -- where there is a leaf, there is an object

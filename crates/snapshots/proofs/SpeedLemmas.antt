@@ -1,5 +1,5 @@
 -- The greatest speed so far: of a log's symbols, and of a period's blocks.
-use Rattle.std.proofs.Common.{◌≡◌, ℕ, ◌+◌, ◌*◌, ◌<◌, ◌≤◌, arith, List, [], ◌++◌, length, map, max, take, All, Some, None, ap, sym, ◌∙◌}
+use Rattle.std.proofs.Common.{◌≡◌, ℕ, ◌+◌, ◌*◌, ◌<◌, ◌≤◌, arith, List, [], ◌++◌, length, map, max, take, All, Some, None, ap, refl, sym, ◌∙◌}
 use Rattle.std.specs.Prelude.{fold, slice_index}
 use Rattle.std.specs.Int.{div_ceil}
 use Rattle.std.specs.List.{cons_option, filter_map, range_with_len}
@@ -41,12 +41,19 @@ module _ (rules : RulesView) (start : Cell) (log : List ℕ) where
       its
 
   -- one symbol more
-  pub speed_before-more : (place speed more now : ℕ) → now ≡ max speed more → speed ≡ speed_before place
+  speed_before-more : (place speed more now : ℕ) → now ≡ max speed more → speed ≡ speed_before place
       → more ≡ symbol_speed rules start log place → now ≡ speed_before (place + 1)
   speed_before-more place speed more now greater so_far here =
       greater ∙ ap (λ n. max n more) so_far ∙ ap (max (speed_before place)) here
       ∙ sym (fold_max-more (symbol_speed rules start log) (range_with_len 0 place) place 0)
       ∙ ap (λ ks. fold max 0 (map (symbol_speed rules start log) ks)) (sym (range-more place))
+
+  -- or a given speed, if it is greater
+  pub speed_since-more : (fastest place speed more now : ℕ) → now ≡ max speed more → speed ≡ max fastest (speed_before place)
+      → more ≡ symbol_speed rules start log place → now ≡ max fastest (speed_before (place + 1))
+  speed_since-more fastest place speed more now greater so_far here =
+      let next = speed_before-more place (speed_before place) more (max (speed_before place) more) refl refl here in
+      omega (arith, greater, so_far, next)
 
   -- all symbols
   pub speed_before-all : (place : ℕ) → place ≡ length log → speed_before place ≡ log_speed rules start log

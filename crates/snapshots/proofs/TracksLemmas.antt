@@ -39,11 +39,11 @@ use Rattle.snapshots.specs.Stores.{AreStores}
 use Rattle.snapshots.specs.TrackTree.{begin_of, morton_of_block, length_and_index, AreKept, IsKept}
 use Rattle.snapshots.specs.TrackWalk.{block_kept, corner_of, tracks_budget, tracks_left, blocks_budget, blocks_left}
 use Rattle.snapshots.specs.declared.tracks.Tracks.{Tracks}
-use Rattle.snapshots.specs.View.{SnapshotView, all_blocks, tree_in}
+use Rattle.snapshots.specs.View.{SnapshotView, all_blocks, block_at, tree_in}
 use Rattle.snapshots.specs.declared.anchored.Anchored.{Anchored}
 use Rattle.snapshots.specs.declared.track_tree.TrackTree.{TrackTree}
 use Rattle.snapshots.proofs.BlockLemmas.{same_block}
-use Rattle.snapshots.proofs.KeptLemmas.{by_leaf-inside, same_codes}
+use Rattle.snapshots.proofs.KeptLemmas.{by_leaf-inside, length-by_leaf, same_codes}
 use Rattle.snapshots.proofs.LeafOrderLemmas.{by_leaf-weighs}
 
 -- the square of one cell is the cell's box
@@ -100,6 +100,12 @@ module _ (view : SnapshotView) (is : IsSnapshot view) (rules : RulesView) (kept 
   -- there are as many places
   pub count_is : length kept.tree.places.codes ≡ length (blocks_by_leaf view)
   count_is = ap (λ (p : Places). length p.codes) are.places ∙ length-map (blocks_by_leaf view) (morton_of_block view.frame)
+
+  -- the one that is kept at a place is the block there
+  pub block_kept-at : (place : ℕ) → place < length view.parts.perm → block_kept kept place ≡ block_at view place
+  block_kept-at place within =
+      (kept-at place (block_at view place) (omega (arith, within, length-by_leaf view))).same
+      ∙ get_or-map-range_with_len (block_at view) 0 (length view.parts.perm) place place (block_at view place) within (omega arith)
 
   -- all of them are the blocks
   pub all-kept : map (block_kept kept) (range_with_len 0 (length kept.tree.places.codes)) ≡ blocks_by_leaf view

@@ -9,7 +9,7 @@ use Rattle.k2_tree.specs.Pruning.{square_count}
 use Rattle.rule_store.specs.Expansion.{depth_in}
 use Rattle.rule_store.specs.Nodes.{block_budget}
 use Rattle.snapshots.specs.View.{SnapshotView, all_blocks, block_of, tree_in}
-use Rattle.snapshots.specs.Cost.{block_reads, find_reads, square_reads}
+use Rattle.snapshots.specs.Cost.{block_reads, lookup_reads, square_reads}
 use Rattle.snapshots.specs.Parts.{anchored_at, end_in, first_in, index_in, log_in, numbers_in, period_in, rules_in, snapshot_in}
 use Rattle.snapshots.specs.declared.anchored.Anchored.{Anchored}
 
@@ -36,7 +36,7 @@ abbrev pub position_cost_in : Parts → Option ℕ → Option ℕ → ℕ
 position_cost_in parts None number = 0
 position_cost_in parts (Some index) None = 0
 position_cost_in parts (Some index) (Some number) =
-    find_reads parts.frame.height + seek_cost parts (block_of (snapshot_in parts number) index)
+    lookup_reads + seek_cost parts (block_of (snapshot_in parts number) index)
 
 -- the reads of where an object is at an instant
 unfoldable pub position_cost : Parts → ℕ → ℤ → ℕ
@@ -55,8 +55,8 @@ walk_cost parts from to number (Some block) =
 
 -- the reads of a period of a path
 abbrev pub period_cost : Parts → ℕ → ℤ → ℤ → ℕ → ℕ
-period_cost parts index from to number = find_reads parts.frame.height
-    + walk_cost parts from to number (block_of (snapshot_in parts number) index)
+period_cost parts index from to number =
+    lookup_reads + walk_cost parts from to number (block_of (snapshot_in parts number) index)
 
 -- the reads of an object's stops in a window, by its place
 abbrev pub path_cost_of : Parts → Option ℕ → ℤ → ℤ → ℕ

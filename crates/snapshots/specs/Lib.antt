@@ -1,5 +1,6 @@
 -- In reading order.
 pub mod Cost
+pub mod Ones
 pub mod View
 pub mod Flaws
 pub mod Sound
@@ -15,4 +16,5 @@ pub mod TrackTree
 pub mod TrackWalk
 pub mod IndexCost
 pub mod Stores
+pub mod Ahead
 pub mod Upgrade

@@ -1,6 +1,5 @@
 ghost use Rattle.std.specs.Prelude.{◌≡◌, ◌+◌, ◌^◌, ◌<◌, ◌≤◌, length, map, All, IfOk};
 ghost use Rattle.track_types.specs.Frame.{IsFrame};
-ghost use Rattle.k2_tree.specs.Morton.{IsInGrid};
 ghost use Rattle.box_tree.specs.Boxes.{IsFrom};
 ghost use Rattle.box_tree.specs.Places.{ArePlaces};
 ghost use Rattle.box_tree.specs.Tree.{places_with};
@@ -13,26 +12,26 @@ ghost use Rattle.snapshots.specs.Tracks.{track_box};
 use crate::anchored::Anchored;
 use crate::track_tree::TrackTree;
 use box_tree::BoxTree;
-use k2_tree::morton;
 use std::alloc::Global;
 use std::sync::ledger::Ledger;
 use step_count::{CountedList, Steps};
 use track_types::{Cell, CellBox, Frame, Memory};
 
 impl TrackTree {
-    /// Keeps blocks in leaf order with the boxes of their tracks, and nothing where there is none.
+    /// Keeps blocks in leaf order with the Morton numbers of their cells and the boxes of their tracks, and nothing
+    /// where there is none.
     pub fn store(
         alloc: Global,
         frame: &Frame,
         blocks: &[Anchored],
+        codes: &[u64],
         boxes: &[CellBox],
     ) -> Result<Option<Box<TrackTree>>, Memory>
         requires header { IsFrame frame.now }
         requires places { ArePlaces (places_with (level_count frame.now) (narrow_count frame.now)
             (map (morton_of_block frame.now) blocks.now) boxes.now) }
-        requires inside { All
-            (λ block. IsInGrid frame.now.height frame.now.base block.cell) blocks.now }
         requires from { All (IsFrom frame.now.base) boxes.now }
+        requires codes { codes.now ≡ map (morton_of_block frame.now) blocks.now }
         requires few { length blocks.now < 2 ^ 31 }
         ensures { IfOk result (λ kept. (rules : RulesView)
             → boxes.now ≡ map (track_box rules) blocks.now
@@ -45,8 +44,7 @@ impl TrackTree {
         let wide = frame.wide_levels();
         let levels = height - wide;
         let narrow = height - 2 * wide;
-        let codes = codes_of(alloc, frame, blocks)?;
-        let tree = BoxTree::build(alloc, levels, narrow, height, frame.base, &codes, boxes)?;
+        let tree = BoxTree::build(alloc, levels, narrow, height, frame.base, codes, boxes)?;
         let begins = CountedList::new(begins_of(alloc, blocks)?);
         let logs = CountedList::new(logs_of(alloc, blocks)?);
         let kept = TrackTree { tree, begins, logs };
@@ -73,20 +71,6 @@ impl TrackTree {
             len,
         }
     }
-}
-
-// The Morton numbers of the blocks' cells.
-fn codes_of(alloc: Global, frame: &Frame, blocks: &[Anchored]) -> Result<Vec<u64>, Memory>
-    requires header { IsFrame frame.now }
-    requires inside { All
-        (λ block. IsInGrid frame.now.height frame.now.base block.cell) blocks.now }
-    ensures { IfOk result (λ codes. codes.items ≡ map (morton_of_block frame.now) blocks.now) }
-{
-    let mut codes = Vec::with_capacity(alloc, blocks.len())?;
-    for block in blocks {
-        codes.push(morton(block.cell, frame.height, frame.base))?;
-    }
-    Ok(codes)
 }
 
 // Where the blocks and their logs begin.

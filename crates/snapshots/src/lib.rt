@@ -8,6 +8,7 @@
 //! period that a search may want, by the boxes of their tracks.
 #![tactic(auto)]
 
+mod ahead;
 mod anchored;
 mod blocks;
 mod checking;
@@ -21,6 +22,7 @@ mod logs;
 mod members;
 mod next;
 mod objects_in;
+mod ones;
 mod period_store;
 mod placing;
 mod snapshot;

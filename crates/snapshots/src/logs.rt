@@ -3,6 +3,7 @@ ghost use Rattle.std.specs.Prelude.{map, max, sum, slice_index_or, All, pos, ◌
 ghost use Rattle.track_types.specs.Frame.{instants_in, periods_of, IsFrame};
 ghost use Rattle.track_types.specs.Near.{IsBoxWithin, IsCellWithin, IsNear, IsWithin};
 ghost use Rattle.track_types.specs.declared.limit.TheConstants.{MAX_HEIGHT, MAX_SYMBOLS};
+ghost use Rattle.snapshots.specs.Ahead.{IsReadOn};
 ghost use Rattle.snapshots.specs.Flaws.{IsSnapFaultFor};
 ghost use Rattle.snapshots.specs.Parts.{block_log};
 ghost use Rattle.snapshots.specs.Sound.{IsSnapshot};
@@ -14,6 +15,7 @@ ghost use Rattle.box_tree.specs.Places.{no_box};
 ghost use Rattle.snapshots.specs.Tracks.{blocks_by_leaf, track_box};
 ghost use Rattle.snapshots.specs.Speed.{block_speed, blocks_speed, far_of, gap, hull_speed};
 
+use crate::ahead::Ahead;
 use crate::anchored::Anchored;
 use crate::checking::{flaw, instants_in};
 use crate::fault::SnapFault;
@@ -32,7 +34,7 @@ use track_types::{Cell, CellBox, Frame, Kind, Memory, Section};
 pub struct LogSummary {
     /// How many instants they stand for.
     pub duration: u64,
-    /// How many cells an instant its object gets away from its anchor at most.
+    /// How many cells an instant its object gets away from its anchor at most, or a greater number that was given.
     pub speed: u64,
     /// The box of its track.
     pub area: CellBox,
@@ -70,21 +72,23 @@ pub fn judge_snapshot<L: Ledger>(
 {
     let found = find_blocks(alloc, snapshot, steps)?;
     let frame = snapshot.frame();
+    let (from, len) = snapshot.logs();
+    let mut ahead = Ahead::new(rules, from, len);
     let mut rank = 0;
     let mut speed = 0u64;
     let mut areas = Vec::with_capacity(alloc, snapshot.objects() as usize)?;
     for slot in &found.by_object {
         let mut area = no_box();
         if let Some(block) = slot {
-            let log = judge_log(rules, frame, number, rank, block, steps)?;
-            speed = speed.max(log.speed);
+            let log = judge_log(&mut ahead, frame, number, rank, block, speed, steps)?;
+            speed = log.speed;
             area = log.area;
             rank += 1;
         }
         areas.push_reserved(area);
     }
     let boxes = by_leaf(alloc, &found.by_leaf, &areas)?;
-    let tracks = TrackTree::store(alloc, frame, &found.by_leaf, &boxes)?;
+    let tracks = TrackTree::store(alloc, frame, &found.by_leaf, &found.codes, &boxes)?;
     Ok(Judged { speed, tracks })
 }
 
@@ -101,30 +105,36 @@ fn by_leaf(alloc: Global, blocks: &[Anchored], areas: &[CellBox]) -> Result<Vec<
     Ok(boxes)
 }
 
-// Judges the log of a block, which has this place among those of the period with this number. It answers
-// what is found of the block, or the first flaw: a placed box that passes the grid comes before a wrong duration.
+// Judges the log of a block, which has this place among those of the period with this number. It answers what is
+// found of the block, with the greater of its speed and the given one, or the first flaw: a placed box that passes the
+// grid comes before a wrong duration.
 fn judge_log<L: Ledger>(
-    rules: &RuleStore,
+    ahead: &mut Ahead<'_>,
     frame: &Frame,
     number: u32,
     rank: u32,
     block: &Anchored,
+    fastest: u64,
     steps: &mut Steps<L>,
 ) -> Result<LogSummary, SnapFault>
     requires header { IsFrame frame.now }
     requires period { number < periods_of frame.now }
     requires offset { block.now.offset < instants_in frame.now number }
     requires cell { IsCellWithin block.now.cell }
-    requires log { block.now.from + block.now.len ≤ length rules.now.symbols }
+    requires log { block.now.from + block.now.len ≤ length ahead.old.rules.symbols }
+    requires at { ahead.old.place ≡ block.now.from }
+    requires end { block.now.from + block.now.len ≤ ahead.old.end }
+    requires read { ahead.old.read ≤ ahead.old.end }
     requires long { block.now.from + block.now.len ≤ MAX_SYMBOLS }
-    ensures exact { OnOk result (log_flaw frame.now rules.now number rank block.now ≡ None) }
+    ensures exact { OnOk result (log_flaw frame.now ahead.old.rules number rank block.now ≡ None) }
     ensures flaw { IfErr result (λ fault.
-        IsSnapFaultFor (log_flaw frame.now rules.now number rank block.now) fault) }
-    ensures speed { IfOk result (λ log. log.speed ≡ block_speed rules.now block.now) }
-    ensures area { IfOk result (λ log. log.area ≡ track_box rules.now block.now) }
-    ensures cost { steps.new ≤ steps.old + block.now.len }
+        IsSnapFaultFor (log_flaw frame.now ahead.old.rules number rank block.now) fault) }
+    ensures speed { IfOk result (λ log. log.speed ≡ max fastest (block_speed ahead.old.rules block.now)) }
+    ensures area { IfOk result (λ log. log.area ≡ track_box ahead.old.rules block.now) }
+    ensures place { OnOk result (ahead.new.place ≡ block.now.from + block.now.len) }
+    ensures read { IsReadOn ahead.old ahead.new steps.old steps.new }
 {
-    match read_log(rules, frame, block, steps) {
+    match read_log(ahead, frame, block, fastest, steps) {
         Err(place) => Err(flaw(number, Section::Log, Kind::OffGrid, block.from + place)),
         Ok(summary) => {
             let lasting = instants_in(frame, number) - 1 - block.offset;
@@ -137,36 +147,41 @@ fn judge_log<L: Ledger>(
     }
 }
 
-// Reads the symbols of a block's log once, from the cell of its anchor on. It answers what is found of the block,
-// or the place of the first symbol whose placed box passes the grid.
+// Reads the symbols of a block's log once, from the cell of its anchor on. It answers what is found of the block, with
+// the greater of its speed and the given one, or the place of the first symbol whose placed box passes the grid.
 fn read_log<L: Ledger>(
-    rules: &RuleStore,
+    ahead: &mut Ahead<'_>,
     frame: &Frame,
     block: &Anchored,
+    fastest: u64,
     steps: &mut Steps<L>,
 ) -> Result<LogSummary, u32>
     requires header { IsFrame frame.now }
     requires cell { IsCellWithin block.now.cell }
-    requires log { block.now.from + block.now.len ≤ length rules.now.symbols }
+    requires log { block.now.from + block.now.len ≤ length ahead.old.rules.symbols }
+    requires at { ahead.old.place ≡ block.now.from }
+    requires end { block.now.from + block.now.len ≤ ahead.old.end }
+    requires read { ahead.old.read ≤ ahead.old.end }
     requires long { block.now.from + block.now.len ≤ MAX_SYMBOLS }
     ensures inside { OnOk result
-        (off_grid_at frame.now rules.now block.now.cell (block_log rules.now block.now) ≡ None) }
+        (off_grid_at frame.now ahead.old.rules block.now.cell (block_log ahead.old.rules block.now) ≡ None) }
     ensures ok { IfOk result (λ summary.
-        summary.duration ≡ duration_of_log rules.now (block_log rules.now block.now)) }
-    ensures speed { IfOk result (λ summary. summary.speed ≡ block_speed rules.now block.now) }
-    ensures area { IfOk result (λ summary. summary.area ≡ track_box rules.now block.now) }
+        summary.duration ≡ duration_of_log ahead.old.rules (block_log ahead.old.rules block.now)) }
+    ensures speed { IfOk result (λ summary.
+        summary.speed ≡ max fastest (block_speed ahead.old.rules block.now)) }
+    ensures area { IfOk result (λ summary. summary.area ≡ track_box ahead.old.rules block.now) }
     ensures err { IfErr result (λ place.
-        off_grid_at frame.now rules.now block.now.cell (block_log rules.now block.now) ≡ Some place) }
+        off_grid_at frame.now ahead.old.rules block.now.cell (block_log ahead.old.rules block.now) ≡ Some place) }
     ensures within { IfErr result (λ place. place < block.now.len) }
-    ensures cost { steps.new ≤ steps.old + block.now.len }
+    ensures place { OnOk result (ahead.new.place ≡ block.now.from + block.now.len) }
+    ensures read { IsReadOn ahead.old ahead.new steps.old steps.new }
 {
-    let log = rules.block(block.from, block.len);
     let mut cell = block.cell;
     let mut duration = 0;
-    let mut speed = 0u64;
+    let mut speed = fastest;
     let mut area = CellBox::of(block.cell);
     for place in 0..block.len {
-        let entry = log.entry(place, steps);
+        let entry = ahead.next(steps);
         if passes_grid(frame, cell, &entry.hull) {
             return Err(place);
         }

@@ -1,5 +1,5 @@
 ghost use Rattle.std.specs.Prelude.{◌≡◌, ◌+◌, ◌*◌, ◌<◌, ◌≤◌, ◌^◌, ◌∷◌, false, if◌then◌else◌, length, take, sum, Some, slice_get, slice_index};
-ghost use Rattle.std.specs.Prelude.{All, Bool, None, map, IfErr, IfOk, IfSome, OnOk};
+ghost use Rattle.std.specs.Prelude.{All, Bool, None, map, IfErr, IfNone, IfOk, IfSome, OnOk};
 ghost use Rattle.snapshots.specs.View.{all_blocks, block_at, block_of, blocks_in, leaf_at, objects_at, tree_in, view_with};
 ghost use Rattle.snapshots.specs.Flaws.{flaw_of, IsSnapFaultFor, IsShapedView};
 ghost use Rattle.snapshots.specs.Sound.{IsBlock, IsSnapshot, IsSoundPeriod};
@@ -12,7 +12,8 @@ ghost use Rattle.k2_tree.specs.Pruning.{kept_leaves, square_count, IsKeptFor};
 ghost use Rattle.track_types.specs.declared.cell.Cell.{Cell};
 ghost use Rattle.bit_rank.specs.Cost.{get_reads, select_reads};
 ghost use Rattle.object_perm.specs.Cost.{at_reads};
-ghost use Rattle.snapshots.specs.Cost.{block_reads, find_reads, first_reads, square_reads};
+ghost use Rattle.snapshots.specs.Ones.{first_ones};
+ghost use Rattle.snapshots.specs.Cost.{block_reads, find_reads, first_reads, place_reads, square_reads};
 ghost use Rattle.snapshots.specs.declared.next.Next.TheVariants.{End, Place};
 
 use crate::anchored::Anchored;
@@ -22,6 +23,7 @@ use crate::fault::SnapFault;
 use crate::header::Header;
 use crate::members::Members;
 use crate::objects_in::ObjectsIn;
+use crate::ones::places_of_ones;
 use crate::period_store::PeriodStore;
 use k2_tree::{K2Tree, Keep};
 use std::alloc::Global;
@@ -171,6 +173,23 @@ impl Snapshot {
         Some(self.block(index, rank, cell))
     }
 
+    // The place of an object's block in leaf order, and `None` if and only if the object has none in this period.
+    pub(crate) fn place_of<L: Ledger>(&self, index: u32, steps: &mut Steps<L>) -> Option<u32>
+        requires { index < self.now.objects }
+        ensures none { IfNone result (block_of self.now index ≡ None) }
+        ensures within { IfSome result (λ place. place < length self.now.parts.perm) }
+        ensures some { IfSome result (λ place. block_of self.now index ≡ Some (block_at self.now place)) }
+        ensures snapshot { IsSnapshot self.now }
+        ensures cost { steps.new ≤ steps.old + place_reads }
+    {
+        if !self.is_present(index, steps) {
+            return None;
+        }
+        let blocks = self.blocks();
+        let rank = blocks.present.rank1(index, steps);
+        Some(blocks.perm.inverse(rank, steps))
+    }
+
     /// The header.
     pub(crate) fn frame(&self) -> &Frame
         ensures value { result.now ≡ self.now.frame }
@@ -288,10 +307,65 @@ impl Snapshot {
         self.block(index, rank, cell)
     }
 
+    // Where the logs of the period begin, if it has a block, and how many symbols they have together.
+    pub(crate) fn logs(&self) -> (u32, u32)
+        ensures from { 0 < length self.now.parts.perm → result.0 ≡ self.now.start }
+        ensures len { result.1 ≡ sum self.now.parts.lengths }
+        ensures none { length self.now.parts.perm ≡ 0 → result.0 ≡ 0 }
+        ensures snapshot { IsSnapshot self.now }
+    {
+        match &self.store {
+            PeriodStore::Empty { .. } => (0, 0),
+            PeriodStore::Filled { blocks, .. } => {
+                let len = total(blocks.lengths.as_slice());
+                match blocks.starts.as_slice().first() {
+                    Some(from) => (*from, len),
+                    None => (0, len),
+                }
+            }
+        }
+    }
+
+    // The places of the present objects among all, ascending.
+    pub(crate) fn present<L: Ledger>(
+        &self,
+        alloc: Global,
+        steps: &mut Steps<L>,
+    ) -> Result<Vec<u32>, Memory>
+        ensures ok { IfOk result (λ places. places.items
+            ≡ first_ones self.now.parts.present (length self.now.parts.perm)) }
+        ensures snapshot { IsSnapshot self.now }
+        ensures cost { steps.new ≤ steps.old + select_reads * length self.now.parts.perm }
+    {
+        match &self.store {
+            PeriodStore::Empty { .. } => Ok(Vec::new(alloc)),
+            PeriodStore::Filled { blocks, .. } => places_of_ones(alloc, &blocks.present, steps),
+        }
+    }
+
+    // The block at a place in leaf order, in whose leaf's cell its anchor is, by the places of the present objects.
+    pub(crate) fn block_among<L: Ledger>(
+        &self,
+        present: &[u32],
+        place: u32,
+        cell: Cell,
+        steps: &mut Steps<L>,
+    ) -> Anchored
+        requires within { place < length self.now.parts.perm }
+        requires cell { slice_get (tree_in self.now).cells (leaf_at self.now place) ≡ Some cell }
+        requires present { present.now ≡ first_ones self.now.parts.present (length self.now.parts.perm) }
+        ensures value { result ≡ block_at self.now place }
+        ensures cost { steps.new ≤ steps.old + at_reads }
+    {
+        let rank = self.blocks().perm.at(place, steps);
+        self.block(present[rank as usize], rank, cell)
+    }
+
     // Whether the object at a place in leaf order is the last of its cell.
     pub(crate) fn is_last<L: Ledger>(&self, place: u32, steps: &mut Steps<L>) -> bool
         requires { place < length self.now.parts.perm }
         ensures room { place + 1 < 2 ^ 32 }
+        ensures next { leaf_at self.now (place + 1) ≡ leaf_at self.now place + (if result then 1 else 0) }
         ensures more { result ≡ false → IsAt self.now (leaf_at self.now place) (Place (place + 1)) }
         ensures left { blocks_from self.now (leaf_at self.now place) place
             ≡ block_at self.now place ∷ members_left self.now (leaf_at self.now place)
@@ -345,4 +419,12 @@ impl Snapshot {
             PeriodStore::Filled { blocks, .. } => blocks,
         }
     }
+}
+
+// The sum of numbers, which fits 32 bits.
+fn total(numbers: &[u32]) -> u32
+    requires { sum numbers.now < 2 ^ 32 }
+    ensures { result ≡ sum numbers.now }
+{
+    numbers.iter().sum()
 }

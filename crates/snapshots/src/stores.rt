@@ -12,14 +12,15 @@ ghost use Rattle.std.specs.Prelude.{◌*◌, filter, map, All};
 ghost use Rattle.std.specs.List.{sum_by};
 ghost use Rattle.snapshots.specs.Upgrade.{tree_reads, upgrade_of, upgraded_parts};
 ghost use Rattle.k2_tree.specs.Pruning.{square_count};
-ghost use Rattle.snapshots.specs.Cost.{block_reads, square_reads};
+ghost use Rattle.snapshots.specs.Cost.{block_reads, lookup_reads, square_reads};
 ghost use Rattle.snapshots.specs.Objects.{WeighSame};
 ghost use Rattle.snapshots.specs.Sound.{IsBlock};
 ghost use Rattle.snapshots.specs.TrackTree.{AreKept};
 ghost use Rattle.snapshots.specs.TrackWalk.{tracks_budget, tracks_left};
 ghost use Rattle.snapshots.specs.Tracks.{blocks_by_leaf, cell_box, may_hold, AreOnTracks};
-ghost use Rattle.snapshots.specs.View.{all_blocks, tree_in};
+ghost use Rattle.snapshots.specs.View.{all_blocks, block_of, tree_in};
 
+use crate::anchored::Anchored;
 use crate::fault::SnapFault;
 use crate::kept_walk::KeptWalk;
 use crate::logs::judge_snapshot;
@@ -169,6 +170,25 @@ impl Stores {
         ensures value { result.now ≡ snapshot_in self.now period }
     {
         &self.snaps[period as usize]
+    }
+
+    /// The block of an object in a period, and `None` if and only if the object has none there. The period is one of the
+    /// header's, and the object is given by its place among all objects, which is below their number.
+    ///
+    /// It goes from the object to its place among the present ones, by the inverse permutation to its place in leaf
+    /// order, and takes what is kept there for searches: at most `lookup_reads`. It takes no memory.
+    pub fn find<L: Ledger>(&self, period: u32, index: u32, steps: &mut Steps<L>) -> Option<Anchored>
+        requires period { period < periods_of self.now.frame }
+        requires index { index < length self.now.objects }
+        ensures value { result ≡ block_of (snapshot_in self.now period) index }
+        ensures block { IfSome result (IsBlock (snapshot_in self.now period)) }
+        ensures cost { steps.new ≤ steps.old + lookup_reads }
+    {
+        let place = self.snapshot(period).place_of(index, steps)?;
+        let Some(kept) = self.kept(period) else {
+            unreachable!(); // where no block is kept, no object has one
+        };
+        Some(kept.block(place, steps))
     }
 
     /// The blocks of a period that may hold what is sought, in leaf order. The period is one of the header's. Of such a

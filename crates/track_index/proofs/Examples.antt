@@ -210,26 +210,26 @@ opening_reads = refl
 abbrev reads : List (ℕ × ℕ)
 reads =
     -- a position
-    (position_cost path 7 (pos 2), 136) ∷
+    (position_cost path 7 (pos 2), 48) ∷
     -- a position of no object reads nothing
     (position_cost path 8 (pos 2), 0) ∷
     -- a position after the last instant reads nothing
     (position_cost path 7 (pos 3), 0) ∷
     -- a path
-    (path_cost path 7 (pos 0) (pos 9), 136) ∷
+    (path_cost path 7 (pos 0) (pos 9), 48) ∷
     -- a path with an absence
-    (path_cost absent 9 (pos 0) (pos 2), 95) ∷
+    (path_cost absent 9 (pos 0) (pos 2), 48) ∷
     -- a position by a rule
-    (position_cost repeated 1 (pos 3), 178) ∷
+    (position_cost repeated 1 (pos 3), 49) ∷
     -- a path of which one rule meets the window
-    (path_cost repeated 1 (pos 2) (pos 3), 179) ∷
+    (path_cost repeated 1 (pos 2) (pos 3), 50) ∷
     -- the same rules up to an instant, of which none, one and both begin by then
-    (cost_until repeated 0 (pos 0) (pos 0) 0 1, 177) ∷
-    (cost_until repeated 0 (pos 0) (pos 2) 0 1, 178) ∷
-    (cost_until repeated 0 (pos 0) (pos 3) 0 1, 179) ∷
+    (cost_until repeated 0 (pos 0) (pos 0) 0 1, 48) ∷
+    (cost_until repeated 0 (pos 0) (pos 2) 0 1, 49) ∷
+    (cost_until repeated 0 (pos 0) (pos 3) 0 1, 50) ∷
     -- two periods up to the last instant of the first, and up to the first of the second
-    (cost_until twice 0 (pos 0) (pos 1) 0 2, 135) ∷
-    (cost_until twice 0 (pos 0) (pos 2) 0 2, 270) ∷
+    (cost_until twice 0 (pos 0) (pos 1) 0 2, 47) ∷
+    (cost_until twice 0 (pos 0) (pos 2) 0 2, 94) ∷
     []
 
 each_reads_so : map (λ row. row.0) reads ≡ map (λ row. row.1) reads

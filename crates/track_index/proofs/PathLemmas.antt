@@ -13,12 +13,12 @@ use Rattle.rule_store.specs.Log.{in_window}
 use Rattle.log_cursor.specs.Start.{start_at}
 use Rattle.log_cursor.specs.declared.start.Start.{Start}
 use Rattle.log_cursor.specs.Walk.{reads_to, walk_from, IsDrawnInTime, WalkView}
-use Rattle.snapshots.specs.Cost.{find_reads}
+use Rattle.snapshots.specs.Cost.{lookup_reads}
 use Rattle.snapshots.specs.IndexCost.{period_cost, walk_cost}
 use Rattle.snapshots.specs.Parts.{anchored_at, first_in, log_in, rules_in, snapshot_in, stops_in}
 use Rattle.snapshots.specs.Sound.{IsBlock}
 use Rattle.snapshots.specs.SoundParts.{IsValid}
-use Rattle.snapshots.specs.View.{block_of, SnapshotView}
+use Rattle.snapshots.specs.View.{block_of}
 use Rattle.snapshots.specs.declared.anchored.Anchored.{Anchored}
 use Rattle.object_track.specs.Between.{stops_between}
 use Rattle.object_track.proofs.BetweenLemmas.{cost_between-step, stops_between-step}
@@ -66,35 +66,32 @@ module _ (parts : Parts) (valid : IsValid parts) (index : ℕ) (from to : ℤ) w
               );
         }
 
-    -- nothing is left, and the object's block was looked for in the snapshot of the next period
-    module _ (stores : Parts) (first : PathView) (now after : WalkView) (before steps drawn looked : ℕ) (seen : SnapshotView)
+    -- nothing is left, and the object's block was looked for in the next period
+    module _ (stores : Parts) (first : PathView) (now after : WalkView) (before steps drawn looked : ℕ)
         (is : IsDrawing first before stores parts index from to next behind now steps) (empty : now.stops ≡ [])
         (rules_are : after.rules ≡ now.rules) (cost : drawn + after.reads ≤ steps + now.reads)
-        (at : seen ≡ snapshot_in stores next) (found : looked ≤ drawn + find_reads seen.frame.height) where
-      here : seen ≡ snapshot_in parts next
-      here = at ∙ ap (λ p. snapshot_in p next) (sym is.its)
-
-      found_here : looked ≤ drawn + find_reads parts.frame.height
-      found_here = subst (λ (s : SnapshotView). looked ≤ drawn + find_reads s.frame.height) here found
+        (found : looked ≤ drawn + lookup_reads) where
+      here : snapshot_in stores next ≡ snapshot_in parts next
+      here = ap (λ p. snapshot_in p next) (sym is.its)
 
       -- there is none
-      pub drawing-absent : now.stops ≡ after.stops → None ≡ block_of seen index
+      pub drawing-absent : now.stops ≡ after.stops → None ≡ block_of (snapshot_in stores next) index
           → IsDrawing first before stores parts index from to (next + 1) behind after looked
       unfolding stops_in in_window
       drawing-absent left absent =
           let none : None ≡ block_of (snapshot_in parts next) index = absent ∙ ap (λ s. block_of s index) here in
-          let own : (end : ℤ) → period_cost parts index from end next ≡ find_reads parts.frame.height + 0 =
+          let own : (end : ℤ) → period_cost parts index from end next ≡ lookup_reads + 0 =
           λ end. rw (← none) refl in
           drawing-next stores first now after before steps looked is empty rules_are
-          (rw (← none) (sym left ∙ empty)) (omega (arith, cost, found_here, own to))
+          (rw (← none) (sym left ∙ empty)) (omega (arith, cost, found, own to))
           (λ instant window. elim (cases_Bool (le_z (first_in parts.frame (next + 1)) instant)) [
-            | inl begins ↦ rw begins (omega (arith, cost, found_here, own instant))
-            | inr before ↦ rw before (omega (arith, cost, found_here, own instant))
+            | inl begins ↦ rw begins (omega (arith, cost, found, own instant))
+            | inr before ↦ rw before (omega (arith, cost, found, own instant))
           ])
 
       -- there is one, over which a walk is begun
       pub drawing-walk_from : (block : Anchored) (walk : WalkView) (rules : RulesView) (log : List ℕ) (start : Start)
-          (low high : ℤ) → Some block ≡ block_of seen index → IsBlock seen block → rules ≡ rules_in stores
+          (low high : ℤ) → Some block ≡ block_of (snapshot_in stores next) index → IsBlock (snapshot_in stores next) block → rules ≡ rules_in stores
           → log ≡ log_in stores block → start ≡ start_at (anchored_at stores.frame next block) block.cell → low ≡ from
           → high ≡ to → walk ≡ walk_from rules log start low high
           → IsDrawing first before stores parts index from to (next + 1) behind walk looked
@@ -102,7 +99,7 @@ module _ (parts : Parts) (valid : IsValid parts) (index : ℕ) (from to : ℤ) w
       drawing-walk_from block walk rules log start low high some is_block of its_log its_start is_from is_to is_begun =
           let one : Some block ≡ block_of (snapshot_in parts next) index = some ∙ ap (λ s. block_of s index) here in
           let own : (end : ℤ) → period_cost parts index from end next
-          ≡ find_reads parts.frame.height + walk_cost parts from end next (Some block) = λ end. rw (← one) refl in
+          ≡ lookup_reads + walk_cost parts from end next (Some block) = λ end. rw (← one) refl in
           let same : walk ≡ walk_from (rules_in parts) (log_in parts block)
           (start_at (anchored_at parts.frame next block) block.cell) from to =
           is_begun ∙ (rw (of, its_log, its_start, is_from, is_to)
@@ -112,12 +109,12 @@ module _ (parts : Parts) (valid : IsValid parts) (index : ℕ) (from to : ℤ) w
           drawing-next stores first now walk before steps looked is empty
           (ap (λ (w : WalkView). w.rules) same ∙ sym is.walk.rules_are)
           (rw (← one) (ap (λ (w : WalkView). w.stops) same))
-          (omega (arith, cost, found_here, own to, ap (λ (w : WalkView). w.reads) same))
+          (omega (arith, cost, found, own to, ap (λ (w : WalkView). w.reads) same))
           (λ instant window.
           let its : IsBlock (snapshot_in parts next) block = subst (λ s. IsBlock s block) here is_block in
           let begun = walk_cost-until parts valid next within block its from to instant window in
           let reads = ap (λ (w : WalkView). block_reads_to parts.frame (next + 1) w instant) same in
-          omega (arith, cost, found_here, own instant, begun, reads))
+          omega (arith, cost, found, own instant, begun, reads))
 
 -- a stop was drawn from the block that was begun
 module _ (parts : Parts) (index : ℕ) (from to : ℤ) (next behind : ℕ) (stores : Parts) (first : PathView) (block after : WalkView)

@@ -79,8 +79,9 @@ impl<'a> PathWalk<'a> {
     /// Draws the stops that are left up to the first one in a region, that one included. Where none is
     /// in the region, it draws all.
     ///
-    /// It passes over what has no cell of the region, and over a rule that it meets again at the cell
-    /// where it was opened. It takes no memory.
+    /// It passes over what has no cell of the region. Of a block of which it has opened many rules, it
+    /// passes over a rule that it meets again at the cell where it was opened, as long as it remembers
+    /// that. It takes no memory.
     pub fn draw_in<L: Ledger>(&mut self, test: &RegionTest, steps: &mut Steps<L>) -> Option<Stop>
         ensures drawn { IsDrawnIn test.now.region self.old.stops self.new.stops result }
         ensures cost { steps.new + self.new.reads ≤ steps.old + self.old.reads }
@@ -96,7 +97,7 @@ impl<'a> PathWalk<'a> {
             }
             let period = self.periods.next;
             self.periods.next = period + 1;
-            if let Some(block) = stores.snapshot(period).find(self.object, steps) {
+            if let Some(block) = stores.find(period, self.object, steps) {
                 let placed = Placed::new(stores, period, &block);
                 self.block
                     .begin(placed.log, placed.start, self.from, self.to);
@@ -130,7 +131,7 @@ impl<'a> Lazy for PathWalk<'a> {
             }
             let period = self.periods.next;
             self.periods.next += 1;
-            if let Some(block) = stores.snapshot(period).find(self.object, steps) {
+            if let Some(block) = stores.find(period, self.object, steps) {
                 let placed = Placed::new(stores, period, &block);
                 self.block
                     .begin(placed.log, placed.start, self.from, self.to);

@@ -14,7 +14,7 @@ returns-in_default-clause-ok g c =
     let window = c.args.window.now in
     let rights = stops_in c.args.stores.now c.args.places.right c.args.period in
     sym (ap (option_map meeting_at) (ap (λ stops. meeting_among window.from window.to window.reach stops rights)
-    (stops-absent c.args.stores.now c.args.period c.args.places.left c.snapshot-snapshot.result.now c.snapshot-snapshot.ensures.value
+    (stops-absent c.args.stores.now c.args.period c.args.places.left
     c.in_default.ensures.value) ∙ meeting_among-left window.from window.to window.reach rights))
 
 pub returns-in_default-find-clause-ok : goal.returns-in_default-find-clause-ok
@@ -22,7 +22,7 @@ returns-in_default-find-clause-ok g c =
     let window = c.args.window.now in
     let lefts = stops_in c.args.stores.now c.args.places.left c.args.period in
     sym (ap (option_map meeting_at) (ap (meeting_among window.from window.to window.reach lefts)
-    (stops-absent c.args.stores.now c.args.period c.args.places.right c.snapshot-snapshot.result.now c.snapshot-snapshot.ensures.value
+    (stops-absent c.args.stores.now c.args.period c.args.places.right
     c.in_default-find.ensures.value) ∙ meeting_among-right window.from window.to window.reach lefts))
 
 pub returns-clause-ok : goal.returns-clause-ok
@@ -30,12 +30,12 @@ returns-clause-ok g c =
     let window = c.args.window.now in
     let mine = c.new-mine.ensures in
     let theirs = c.new-theirs.ensures in
-    let one = stops-present c.args.stores.now c.args.period c.args.places.left c.snapshot-snapshot.result.now
-    c.snapshot-snapshot.ensures.value c.in-Some.one c.new-mine.result.log.rules.now (log_of c.new-mine.result.log)
+    let one = stops-present c.args.stores.now c.args.period c.args.places.left
+    c.in-Some.one c.new-mine.result.log.rules.now (log_of c.new-mine.result.log)
     c.new-mine.result.start (remaining c.in_ok-left.left) c.in-Some.ensures.value mine.rules mine.log mine.start
     c.in_ok-left.ensures.rest in
-    let other = stops-present c.args.stores.now c.args.period c.args.places.right c.snapshot-snapshot.result.now
-    c.snapshot-snapshot.ensures.value c.in-Some-find.other c.new-theirs.result.log.rules.now (log_of c.new-theirs.result.log)
+    let other = stops-present c.args.stores.now c.args.period c.args.places.right
+    c.in-Some-find.other c.new-theirs.result.log.rules.now (log_of c.new-theirs.result.log)
     c.new-theirs.result.start (remaining c.in_ok-right.right) c.in-Some-find.ensures.value theirs.rules theirs.log
     theirs.start c.in_ok-right.ensures.rest in
     c.first_meeting.ensures.value

@@ -9,14 +9,13 @@ use Rattle.object_track.proofs.position.cell_in.Goals as goal
 pub returns-in_err-block-clause-value : goal.returns-in_err-block-clause-value
 returns-in_err-block-clause-value g c =
     c.from_residual.ensures ∙ sym (cell_among-absent c.args.stores.now c.args.place c.args.period c.args.instant
-    c.snapshot.result.now c.snapshot.ensures.value c.in_err-block.ensures.value)
+    c.in_err-block.ensures.value)
 
 pub returns-clause-value : goal.returns-clause-value
 returns-clause-value g c =
     let same : to_z w64 (of_z w64 c.args.instant) ≡ c.args.instant = omega (arith, ints) in
     c.seek.ensures.value
-    ∙ cell_among-present c.args.stores.now c.args.place c.args.period _ c.snapshot.result.now
-    c.snapshot.ensures.value c.in_ok-block.block c.new-placed.result.log.rules.now (log_of c.new-placed.result.log)
+    ∙ cell_among-present c.args.stores.now c.args.place c.args.period _ c.in_ok-block.block c.new-placed.result.log.rules.now (log_of c.new-placed.result.log)
     c.new-placed.result.start c.in_ok-block.ensures.value c.new-placed.ensures.rules c.new-placed.ensures.log
     c.new-placed.ensures.start
     ∙ ap (cell_among (stops_in c.args.stores.now c.args.place c.args.period)) same
@@ -24,7 +23,7 @@ returns-clause-value g c =
 pub returns-clause-cost : goal.returns-clause-cost
 returns-clause-cost g c =
     let most = position_cost_in-present c.args.stores.now c.args.place c.args.period c.args.instant
-    c.snapshot.result.now c.snapshot.ensures.value c.in_ok-block.block c.new-placed.result.log.rules.now
+    c.in_ok-block.block c.new-placed.result.log.rules.now
     (log_of c.new-placed.result.log) c.new-placed.result.start c.in_ok-block.ensures.value
     c.new-placed.ensures.rules c.new-placed.ensures.log c.new-placed.ensures.start in
     omega (arith, most, c.find.ensures.cost, c.seek.ensures.cost)

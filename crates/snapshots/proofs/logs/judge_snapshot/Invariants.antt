@@ -1,4 +1,4 @@
-use Rattle.std.proofs.Common.{◌≡◌, ℕ, ◌+◌, ◌<◌, ◌≤◌, None, take, vec_capacity, vec_len}
+use Rattle.std.proofs.Common.{◌≡◌, ℕ, ◌+◌, ◌<◌, ◌≤◌, None, length, take, vec_capacity, vec_len}
 use Rattle.std.specs.Prelude.{sum}
 use Rattle.list_laws.proofs.FirstLemmas.{made_first}
 use Rattle.snapshots.specs.IndexCost.{blocks_reads}
@@ -16,5 +16,11 @@ invariant-loop-slot g l = record {
   areas : l.areas.items ≡ boxes_before l.fn.rules l.fn.snapshot l.slot-index;
   filled : vec_len l.areas ≡ l.slot-index;
   room : l.fn.snapshot.objects ≤ vec_capacity l.areas;
-  reads : l.steps ≤ l.fn.steps + (blocks_reads l.fn.snapshot + sum (take l.rank l.fn.snapshot.parts.lengths));
+  from : ℕ;
+  begins : 0 < length l.fn.snapshot.parts.perm → from ≡ l.fn.snapshot.start;
+  rules_are : l.ahead.rules ≡ l.fn.rules;
+  at : l.ahead.place ≡ from + sum (take l.rank l.fn.snapshot.parts.lengths);
+  end_is : l.ahead.end ≡ from + sum l.fn.snapshot.parts.lengths;
+  within : l.ahead.read ≤ l.ahead.end;
+  reads : l.steps + from ≤ l.fn.steps + (blocks_reads l.fn.snapshot + l.ahead.read);
 }

@@ -1,4 +1,4 @@
-use Rattle.std.proofs.Common.{◌≡◌, ℕ, ◌+◌, ◌*◌, ◌<◌, max, arith, ap, sym, ◌∙◌}
+use Rattle.std.proofs.Common.{ℕ, ◌+◌, ◌*◌, ◌<◌, max, arith, ap, sym, ◌∙◌}
 use Rattle.std.specs.Int.{div_ceil}
 use Rattle.snapshots.specs.Speed.{hull_speed}
 use Rattle.snapshots.proofs.SpeedLemmas.{is_raised}

@@ -1,4 +1,5 @@
-use Rattle.std.proofs.Common.{◌≡◌, ◌+◌, ◌≤◌}
+use Rattle.std.proofs.Common.{◌≡◌, ◌+◌, max}
+use Rattle.snapshots.specs.Ahead.{IsReadOn}
 use Rattle.snapshots.specs.Parts.{block_log}
 use Rattle.snapshots.proofs.LogsLemmas.{IsReading}
 use Rattle.snapshots.proofs.SpeedLemmas.{speed_before}
@@ -7,8 +8,11 @@ use Rattle.snapshots.proofs.logs.read_log.Given as goal
 
 abbrev pub invariant-loop-place : goal.invariant-loop-place
 invariant-loop-place g l = record {
-  reading : IsReading l.fn.frame l.fn.rules l.fn.block.cell (block_log l.fn.rules l.fn.block) l.place l.cell l.duration;
-  fastest : l.speed ≡ speed_before l.fn.rules l.fn.block.cell (block_log l.fn.rules l.fn.block) l.place;
-  boxed : l.area ≡ box_before l.fn.rules l.fn.block.cell (block_log l.fn.rules l.fn.block) l.place;
-  reads : l.steps ≤ l.fn.steps + l.place;
+  reading : IsReading l.fn.frame l.fn.ahead.rules l.fn.block.cell (block_log l.fn.ahead.rules l.fn.block) l.place l.cell
+      l.duration;
+  fastest : l.speed ≡ max l.fn.fastest (speed_before l.fn.ahead.rules l.fn.block.cell
+      (block_log l.fn.ahead.rules l.fn.block) l.place);
+  boxed : l.area ≡ box_before l.fn.ahead.rules l.fn.block.cell (block_log l.fn.ahead.rules l.fn.block) l.place;
+  at : l.ahead.place ≡ l.fn.block.from + l.place;
+  read : IsReadOn l.fn.ahead l.ahead l.fn.steps l.steps;
 }

@@ -1,6 +1,8 @@
-use Rattle.std.proofs.Common.{◌≡◌, false, get_or, sym, ap, ◌∙◌, arith}
+use Rattle.std.proofs.Common.{◌≡◌, ◌+◌, cond, false, get_or, sym, ap, ◌∙◌, arith}
 use Rattle.std.proofs.lemmas.Option.{get_or_from_slice_get}
-use Rattle.snapshots.proofs.PlacesLemmas.{few_places, goes_on_at, place_left}
+use Rattle.bit_rank.proofs.RankLemmas.{rank_of-step}
+use Rattle.snapshots.specs.View.{leaf_at}
+use Rattle.snapshots.proofs.PlacesLemmas.{few_places, goes_on_at, place_left, same_length}
 use Rattle.snapshots.proofs.snapshot.Snapshot.is_last.Goals as goal
 
 pub returns-clause-room : goal.returns-clause-room
@@ -19,3 +21,12 @@ returns-clause-left g c =
     sym (ap (λ bits. get_or bits c.args.place false) c.blocks-2.ensures.blocks.lasts)
     ∙ get_or_from_slice_get c.blocks-2.result.now.lasts c.args.place c.get.result false c.get.ensures.value in
     place_left c.args.self.now c.args.place c.get.result c.blocks-2.ensures.snapshot c.requires bit
+
+pub returns-clause-next : goal.returns-clause-next
+returns-clause-next g c =
+    let view = c.args.self.now in
+    let bit : get_or view.parts.lasts c.args.place false ≡ c.get.result =
+    sym (ap (λ bits. get_or bits c.args.place false) c.blocks-2.ensures.blocks.lasts)
+    ∙ get_or_from_slice_get c.blocks-2.result.now.lasts c.args.place c.get.result false c.get.ensures.value in
+    rank_of-step view.parts.lasts c.args.place (omega (arith, c.requires, same_length view c.blocks-2.ensures.snapshot))
+    ∙ ap (λ b. leaf_at view c.args.place + cond b 1 0) bit

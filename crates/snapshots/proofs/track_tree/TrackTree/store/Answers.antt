@@ -1,5 +1,4 @@
-use Rattle.std.proofs.Common.{◌≡◌, ◌∙◌, map, arith}
-use Rattle.snapshots.specs.TrackTree.{morton_of_block}
+use Rattle.std.proofs.Common.{arith}
 use Rattle.snapshots.proofs.KeptLemmas.{are_levels}
 use Rattle.snapshots.proofs.SoundLemmas.{wide_of-fits}
 use Rattle.snapshots.proofs.track_tree.TrackTree.store.Goals as goal
@@ -16,6 +15,4 @@ build-requires-clause-levels c =
 
 pub build-requires-clause-places : goal.build-requires-clause-places
 build-requires-clause-places c =
-    let codes : c.deref.result.now ≡ map (morton_of_block c.args.frame.now) c.args.blocks.now =
-    c.deref.ensures.value ∙ c.in_ok-codes.ensures in
-    rw (c.wide_levels-wide.ensures, codes) c.requires.places
+    rw (c.wide_levels-wide.ensures, c.requires.codes) c.requires.places

@@ -61,10 +61,10 @@ loop-stop-preserved-in-Some-find g c =
     seeking-on seeking (drawing-walk_from walk.index.now (valid_here c.stores-stores.result.now walk.index.now _
     seeking.its c.stores-stores.ensures.value c.stores-stores.ensures.valid) walk.object walk.from walk.to walk.periods.next
     walk.periods.end (omega (arith, c.if-self.false)) c.stores-stores.result.now _ c.draw_in.new.self c.draw_in.new.self
-    c.draw_in.new.steps c.draw_in.new.steps c.draw_in.new.steps c.find.new.steps c.snapshot.result.now
+    c.draw_in.new.steps c.draw_in.new.steps c.draw_in.new.steps c.find.new.steps
     (drawing-here c.stores-stores.result.now walk.index.now walk.object walk.from walk.to walk.periods.next walk.periods.end
     c.draw_in.new.self c.draw_in.new.steps seeking.its seeking.walk)
-    c.in_default.ensures.drawn.end refl (omega arith) c.snapshot.ensures.value
+    c.in_default.ensures.drawn.end refl (omega arith)
     c.find.ensures.cost c.in-Some-find.block c.begin.new.self c.new-placed.result.log.rules.now
     (log_of c.new-placed.result.log) c.new-placed.result.start (to_z w64 (of_z w64 walk.from))
     (to_z w64 (of_z w64 walk.to)) c.in-Some-find.ensures.value c.in-Some-find.ensures.block placed.rules placed.log placed.start low high
@@ -77,8 +77,8 @@ loop-stop-preserved g c =
     seeking-on seeking (drawing-absent walk.index.now (valid_here c.stores-stores.result.now walk.index.now _
     seeking.its c.stores-stores.ensures.value c.stores-stores.ensures.valid) walk.object walk.from walk.to walk.periods.next
     walk.periods.end (omega (arith, c.if-self.false)) c.stores-stores.result.now _ c.draw_in.new.self c.draw_in.new.self
-    c.draw_in.new.steps c.draw_in.new.steps c.draw_in.new.steps c.find.new.steps c.snapshot.result.now
+    c.draw_in.new.steps c.draw_in.new.steps c.draw_in.new.steps c.find.new.steps
     (drawing-here c.stores-stores.result.now walk.index.now walk.object walk.from walk.to walk.periods.next walk.periods.end
     c.draw_in.new.self c.draw_in.new.steps seeking.its seeking.walk)
-    c.in_default.ensures.drawn.end refl (omega arith) c.snapshot.ensures.value
+    c.in_default.ensures.drawn.end refl (omega arith)
     c.find.ensures.cost refl c.in_default-find.ensures.value)

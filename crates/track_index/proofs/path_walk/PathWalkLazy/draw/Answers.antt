@@ -46,8 +46,8 @@ loop-stop-preserved-in-Some-find g c =
     drawing-walk_from walk.index.now (valid_here c.stores-stores.result.now walk.index.now _ c.loop-stop.invariant.its
     c.stores-stores.ensures.value c.stores-stores.ensures.valid) walk.object walk.from walk.to walk.periods.next walk.periods.end
     (omega (arith, c.if-self.false)) c.stores-stores.result.now c.args.self.now walk.block c.draw.new.self
-    c.args.steps.now c.loop-stop.steps c.draw.new.steps c.find.new.steps c.snapshot.result.now c.loop-stop.invariant
-    c.in_default.ensures.none c.in_default.ensures.rules c.in_default.ensures.cost c.snapshot.ensures.value
+    c.args.steps.now c.loop-stop.steps c.draw.new.steps c.find.new.steps c.loop-stop.invariant
+    c.in_default.ensures.none c.in_default.ensures.rules c.in_default.ensures.cost
     c.find.ensures.cost c.in-Some-find.block c.begin.new.self c.new-placed.result.log.rules.now
     (log_of c.new-placed.result.log) c.new-placed.result.start (to_z w64 (of_z w64 walk.from))
     (to_z w64 (of_z w64 walk.to)) c.in-Some-find.ensures.value c.in-Some-find.ensures.block placed.rules placed.log placed.start low high
@@ -59,6 +59,6 @@ loop-stop-preserved g c =
     drawing-absent walk.index.now (valid_here c.stores-stores.result.now walk.index.now _ c.loop-stop.invariant.its
     c.stores-stores.ensures.value c.stores-stores.ensures.valid) walk.object walk.from walk.to walk.periods.next walk.periods.end
     (omega (arith, c.if-self.false)) c.stores-stores.result.now c.args.self.now walk.block c.draw.new.self
-    c.args.steps.now c.loop-stop.steps c.draw.new.steps c.find.new.steps c.snapshot.result.now c.loop-stop.invariant
-    c.in_default.ensures.none c.in_default.ensures.rules c.in_default.ensures.cost c.snapshot.ensures.value
+    c.args.steps.now c.loop-stop.steps c.draw.new.steps c.find.new.steps c.loop-stop.invariant
+    c.in_default.ensures.none c.in_default.ensures.rules c.in_default.ensures.cost
     c.find.ensures.cost c.in_default.ensures.found c.in_default-find.ensures.value
