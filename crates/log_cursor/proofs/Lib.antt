@@ -13,3 +13,4 @@ mod InTimeLemmas
 pub mod SearchLemmas
 mod SeekLemmas
 mod Examples
+mod DescentLemmas

@@ -5,6 +5,7 @@
 //! `specs/Walk.antt`, `specs/Touching.antt`), and only the rules on the way are opened.
 #![tactic(auto)]
 
+mod descent;
 mod opened;
 mod pending;
 mod searching;
@@ -12,6 +13,7 @@ mod seeking;
 mod start;
 mod walk;
 
+pub use descent::{Descent, Stage};
 pub use pending::Pending;
 pub use searching::{first_hit, placed};
 pub use seeking::seek;

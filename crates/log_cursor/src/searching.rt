@@ -65,7 +65,7 @@ pub fn first_hit<L: Ledger>(
 }
 
 // The anchor of a block, if it is in a window and in a region.
-fn anchor_hit(start: Start, from: i64, to: i64, test: &RegionTest) -> Option<Stop>
+pub(crate) fn anchor_hit(start: Start, from: i64, to: i64, test: &RegionTest) -> Option<Stop>
     requires { IsCellAsked start.cell }
     ensures { result ≡ first_among test.now.region
         (in_window from to (stop_at start.instant start.cell ∷ [])) }
@@ -124,7 +124,7 @@ pub(crate) fn hit_after<L: Ledger>(
 }
 
 // The same for a search that opens many rules. It passes over a rule that it meets again at the cell
-// where it was opened within the window.
+// where it was opened within the window, as long as it remembers that.
 fn hit_beyond<L: Ledger>(
     pending: &mut Pending<'_>,
     start: Start,
@@ -172,7 +172,7 @@ fn hit_beyond<L: Ledger>(
 }
 
 // Whether a symbol's box, moved to the cell where the symbol begins, has a cell of a region.
-fn touches(cell: Cell, hull: Option<CellBox>, test: &RegionTest) -> bool
+pub(crate) fn touches(cell: Cell, hull: Option<CellBox>, test: &RegionTest) -> bool
     requires { IsHullAsked cell hull }
     ensures { result ≡ touches_at test.now.region cell hull }
 {

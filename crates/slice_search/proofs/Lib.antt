@@ -4,5 +4,6 @@ pub mod SoughtLemmas
 mod SightingLemmas
 mod SliceLemmas
 mod HitLemmas
+mod SeekerLemmas
 mod WalkLemmas
 mod Examples

@@ -1,5 +1,5 @@
 -- Whether a region is within reach of a box, by the cells of an index's grid alone.
-use Rattle.std.specs.Prelude.{ℕ, ◌^◌, ℤ, min, Bool, ◌&&◌}
+use Rattle.std.specs.Prelude.{ℕ, ℤ, min, Bool, ◌&&◌}
 use Rattle.track_types.specs.Boxes.{cut_box, touches}
 use Rattle.track_types.specs.Frame.{grid_of}
 use Rattle.track_types.specs.Region.{intersects_region}

@@ -8,6 +8,7 @@
 
 mod reach;
 mod search;
+mod seekers;
 mod sightings;
 mod sought;
 

@@ -1,18 +1,26 @@
-ghost use Rattle.std.specs.Prelude.{◌≡◌, ◌+◌, ◌++◌, ◌≤◌, option_to_list, All, IfOk, OnOk};
+ghost use Rattle.std.specs.Prelude.{◌≡◌, ◌+◌, ◌++◌, ◌≤◌, ℤ, [], length, option_to_list, vec_capacity, All, IfOk, OnOk};
 ghost use Rattle.std.specs.List.{filter_map, sum_by};
-ghost use Rattle.snapshots.specs.Parts.{snapshot_in};
+ghost use Rattle.track_types.specs.declared.region.Region.{Region};
+ghost use Rattle.rule_store.specs.View.{RulesView};
+ghost use Rattle.snapshots.specs.Parts.{rules_in, snapshot_in};
 ghost use Rattle.snapshots.specs.Sound.{IsBlock};
 ghost use Rattle.slice_search.specs.Sightings.{sighting_in};
+ghost use Rattle.slice_search.specs.Seekers.{reads_in, rest_in, seen_by, IsSeeker};
 ghost use Rattle.slice_search.specs.Sought.{log_reads};
 
+use crate::seekers::{Seeker, search_all};
 use crate::sought::Sought;
+use arrayvec::ArrayVec;
 use snapshots::Anchored;
 use std::alloc::Global;
 use std::sync::ledger::Ledger;
 use step_count::Steps;
 use track_types::{Lazy, Memory, Sighting};
 
-// The sightings of the blocks of a walk, in its order.
+// How many blocks are searched side by side.
+const GROUP: usize = 16;
+
+// The sightings of the blocks of a walk at the first instant of a window, in the walk's order.
 pub fn sightings<W: Lazy<Item = Anchored>, L: Ledger>(
     alloc: Global,
     sought: &Sought,
@@ -22,41 +30,118 @@ pub fn sightings<W: Lazy<Item = Anchored>, L: Ledger>(
     requires { All (IsBlock (snapshot_in sought.now.stores.now sought.now.period))
         (W.left blocks.old) }
     ensures ok { IfOk result (λ found. found.items ≡ filter_map (sighting_in sought.now.stores.now
-        sought.now.period sought.now.from sought.now.to sought.now.test.now.region)
+        sought.now.period sought.now.from sought.now.from sought.now.test.now.region)
         (W.left blocks.old)) }
     ensures cost { steps.new ≤ steps.old + (W.budget blocks.old + sum_by (log_reads
-        sought.now.stores.now sought.now.period sought.now.from sought.now.to
+        sought.now.stores.now sought.now.period sought.now.from sought.now.from
         sought.now.test.now.region) (W.left blocks.old)) }
 {
     let mut found = Vec::new(alloc);
+    let mut group = Vec::with_capacity(alloc, GROUP)?;
+    let mut seekers: ArrayVec<Seeker, GROUP> = ArrayVec::new();
     while let Some(block) = blocks.draw(steps) {
-        let sighting = sighting(alloc, sought, &block, steps)?;
-        push_found(&mut found, sighting)?;
+        group.push_reserved(block);
+        if group.len() == GROUP {
+            push_group(sought, &mut group, &mut seekers, &mut found, steps)?;
+        }
     }
+    push_group(sought, &mut group, &mut seekers, &mut found, steps)?;
     Ok(found)
 }
 
-// The sighting of a block's object, if it has one.
-fn sighting<L: Ledger>(
-    alloc: Global,
+// Puts the sightings of some blocks at the end, in their order, and leaves none of the blocks.
+fn push_group<L: Ledger>(
     sought: &Sought,
-    block: &Anchored,
+    group: &mut Vec<Anchored>,
+    seekers: &mut ArrayVec<Seeker, GROUP>,
+    found: &mut Vec<Sighting>,
     steps: &mut Steps<L>,
-) -> Result<Option<Sighting>, Memory>
-    requires { IsBlock (snapshot_in sought.now.stores.now sought.now.period) block.now }
-    ensures value { IfOk result (λ found. found ≡ sighting_in sought.now.stores.now
-        sought.now.period sought.now.from sought.now.to sought.now.test.now.region block.now) }
-    ensures cost { steps.new ≤ steps.old + log_reads sought.now.stores.now sought.now.period
-        sought.now.from sought.now.to sought.now.test.now.region block.now }
+) -> Result<(), Memory>
+    requires few { length group.old.items ≤ 16 }
+    requires none { seekers.old.items ≡ [] }
+    requires blocks { All (IsBlock (snapshot_in sought.now.stores.now sought.now.period))
+        group.old.items }
+    ensures found { OnOk result (found.new.items ≡ found.old.items ++ filter_map (sighting_in
+        sought.now.stores.now sought.now.period sought.now.from sought.now.from
+        sought.now.test.now.region) group.old.items) }
+    ensures none { OnOk result (seekers.new.items ≡ []) }
+    ensures empty { OnOk result (group.new.items ≡ []) }
+    ensures room { vec_capacity group.new ≡ vec_capacity group.old }
+    ensures cost { steps.new ≤ steps.old + sum_by (log_reads sought.now.stores.now
+        sought.now.period sought.now.from sought.now.from sought.now.test.now.region)
+        group.old.items }
 {
-    let found = sought.first_stop(alloc, block, steps)?;
-    let Some(stop) = found else {
-        return Ok(None);
-    };
-    Ok(Some(Sighting {
-        object: sought.stores.object_at(block.index),
-        cell: stop.cell,
-    }))
+    begin_all(sought, group.as_slice(), seekers, steps);
+    push_seen(sought, seekers, found, steps)?;
+    group.clear();
+    Ok(())
+}
+
+// Begins the searches of some blocks, one straight after another.
+fn begin_all<L: Ledger>(
+    sought: &Sought,
+    group: &[Anchored],
+    seekers: &mut ArrayVec<Seeker, GROUP>,
+    steps: &mut Steps<L>,
+)
+    requires few { length group.now ≤ 16 }
+    requires none { seekers.old.items ≡ [] }
+    requires blocks { All (IsBlock (snapshot_in sought.now.stores.now sought.now.period))
+        group.now }
+    ensures sound { All (IsSeeker (rules_in sought.now.stores.now) sought.now.from)
+        seekers.new.items }
+    ensures seen { filter_map (seen_by (rules_in sought.now.stores.now) sought.now.from
+        sought.now.test.now.region) seekers.new.items ≡ filter_map (sighting_in
+        sought.now.stores.now sought.now.period sought.now.from sought.now.from
+        sought.now.test.now.region) group.now }
+    ensures cost { steps.new + sum_by (reads_in (rules_in sought.now.stores.now) sought.now.from
+        sought.now.test.now.region) seekers.new.items ≤ steps.old + sum_by (log_reads
+        sought.now.stores.now sought.now.period sought.now.from sought.now.from
+        sought.now.test.now.region) group.now }
+{
+    for i in 0..group.len() {
+        seekers.push(Seeker::begin(sought, &group[i], steps));
+    }
+}
+
+// Puts what some searches come to at the end, in their order, and leaves none of them.
+fn push_seen<L: Ledger>(
+    sought: &Sought,
+    seekers: &mut ArrayVec<Seeker, GROUP>,
+    found: &mut Vec<Sighting>,
+    steps: &mut Steps<L>,
+) -> Result<(), Memory>
+    requires { All (IsSeeker (rules_in sought.now.stores.now) sought.now.from) seekers.old.items }
+    ensures found { OnOk result (found.new.items ≡ found.old.items ++ filter_map (seen_by
+        (rules_in sought.now.stores.now) sought.now.from sought.now.test.now.region)
+        seekers.old.items) }
+    ensures none { OnOk result (seekers.new.items ≡ []) }
+    ensures cost { steps.new ≤ steps.old + sum_by (reads_in (rules_in sought.now.stores.now)
+        sought.now.from sought.now.test.now.region) seekers.old.items }
+{
+    let rules = sought.stores.rules();
+    search_all(
+        seekers.as_mut_slice(),
+        rules,
+        sought.from,
+        sought.test,
+        steps,
+    );
+    push_all(seekers.as_slice(), found)?;
+    seekers.clear();
+    Ok(())
+}
+
+// Puts what some searches have found at the end.
+fn push_all(seekers: &[Seeker], found: &mut Vec<Sighting>) -> Result<(), Memory>
+    requires { sum_by rest_in seekers.now ≡ 0 }
+    ensures { OnOk result ((rules : RulesView) (instant : ℤ) (region : Region) → found.new.items
+        ≡ found.old.items ++ filter_map (seen_by rules instant region) seekers.now) }
+{
+    for i in 0..seekers.len() {
+        push_found(found, seekers[i].sighting())?;
+    }
+    Ok(())
 }
 
 // Adds a sighting, if there is one, at the end.

@@ -1,10 +1,9 @@
-use Rattle.std.proofs.Common.{◌≡◌, w64, to_z, of_z, arith, ap, subst, sym, ◌∙◌, List, filter, ℤ, length, ◌+◌, ◌*◌, ◌≤◌, Bool}
+use Rattle.std.proofs.Common.{◌≡◌, w64, to_z, of_z, arith, ap, ◌∙◌, List, filter, length, Bool}
 use Rattle.std.proofs.lemmas.Int.{ints}
 use Rattle.track_types.specs.Region.{intersects_region}
 use Rattle.track_types.specs.declared.cell_box.CellBox.{CellBox}
 use Rattle.track_types.specs.declared.frame.Frame.{Frame}
 use Rattle.k2_tree.specs.Pruning.{square_count}
-use Rattle.snapshots.specs.Cost.{block_reads, square_reads}
 use Rattle.snapshots.specs.Parts.{rules_in, snapshot_in}
 use Rattle.snapshots.specs.SoundParts.{IsValid}
 use Rattle.snapshots.specs.Tracks.{blocks_by_leaf, cell_box, may_hold}
