@@ -1,9 +1,9 @@
 -- Rows in order, cut where a test begins to fail: the rows of a window, and those of an object.
-use Rattle.std.proofs.Common.{◌≡◌, ℕ, ℤ, zero, suc, ◌+◌, ◌-◌, ◌<◌, ◌≤◌, Bool, true, false, List, [], ◌∷◌, length, get_or, filter, take, drop, All, refl, sym, ◌∙◌, ap, arith, inl, inr}
-use Rattle.std.specs.Prelude.{not, ◌&&◌, ◌==◌, nat_le, nat_lt}
+use Rattle.std.proofs.Common.{◌≡◌, ℕ, ℤ, zero, suc, ◌+◌, ◌-◌, ◌<◌, ◌≤◌, Bool, true, false, List, [], ◌∷◌, length, get_or, filter, min, take, drop, All, refl, sym, ◌∙◌, ap, arith, inl, inr}
+use Rattle.std.specs.Prelude.{not, ◌&&◌, ◌==◌, ◌↔◌, nat_le, nat_lt}
 use Rattle.std.specs.Int.Signed.{le_z, lt_z}
 use Rattle.std.specs.List.{Contains, list_any}
-use Rattle.std.specs.List.Sorted.{IsPartitionPoint, IsPartitionedBy, IsSorted, ties}
+use Rattle.std.specs.List.Sorted.{IsPartitionPoint, IsPartitionedBy, IsPermutation, IsSorted, ties}
 use Rattle.std.specs.Ordering.{is_lt}
 use Rattle.std.specs.declared.cmp.Ordering.TheVariants.{Less}
 use Rattle.std.proofs.lemmas.Bool.Decides.{nat_tests}
@@ -14,11 +14,11 @@ use Rattle.std.proofs.lemmas.List.{get_or-take, length-take}
 use Rattle.std.proofs.lemmas.List.Elements.{All-contains, Contains-get_or, filter_agree, filter_passes}
 use Rattle.std.proofs.lemmas.List.Kept.{IsStrictlySortedBy-filter}
 use Rattle.std.proofs.lemmas.List.MinMax.{ranks_by}
-use Rattle.std.proofs.lemmas.List.Sorted.{list_any-IsPermutation, sorted_far}
+use Rattle.std.proofs.lemmas.List.Sorted.{Contains-permutation, IsPermutation-sym, sorted_far}
 use Rattle.std.proofs.lemmas.Map.Keys.{Less-from_sorted}
 use Rattle.std.proofs.Math.Bool.{and_comm}
 use Rattle.list_laws.proofs.FilterLemmas.{filter-all, filter_and}
-use Rattle.list_laws.proofs.MemberLemmas.{filter-none, member_of_filter}
+use Rattle.list_laws.proofs.MemberLemmas.{Contains-filter, filter-none, member_of_filter}
 use Rattle.list_laws.proofs.SliceLemmas.{take-rest}
 use Rattle.list_laws.proofs.StableLemmas.{filter-stable}
 use Rattle.track_types.specs.ByFilter.{is_row_at, is_row_between}
@@ -180,17 +180,25 @@ window-instant rows sorted instant are =
     filter_agree _ _ (λ row. at-tests instant row.instant) sorted
     ∙ filter-stable (λ c d. is_lt (instant_order c d)) rows sorted are.stable (is_row_at instant) (tied_instants instant)
 
--- as many of a window pass a test, however the rows stand
+-- a member of two tests passes both
 pub any-both : {X : Type 0} (p q : X → Bool) (xs : List X) → list_any p (filter q xs) ≡ list_any (λ x. p x && q x) xs
 any-both p q [] = refl
 any-both p q (x ∷ xs) = grind (arith, any-both p q xs)
 
-pub any-window : (rows sorted : List Row) → AreByInstant rows sorted → (from to : ℤ) (test : Row → Bool) →
-    list_any test (rows_between sorted from to) ≡ list_any test (rows_between rows from to)
-any-window rows sorted are from to test =
-    any-both test (λ row. is_between from to row.instant) sorted
-    ∙ sym (list_any-IsPermutation (λ row. test row && is_between from to row.instant) rows sorted are.moved)
-    ∙ sym (any-both test (λ row. is_between from to row.instant) rows)
+-- the rows of a window are the same, however the rows stand
+window-member : (rows sorted : List Row) → IsPermutation rows sorted → (from to : ℤ) (row : Row) →
+    Contains (rows_between rows from to) row → Contains (rows_between sorted from to) row
+window-member rows sorted moved from to row inside =
+    let test : Row → Bool = λ row. is_between from to row.instant in
+    let member = member_of_filter test rows row inside in
+    Contains-filter test sorted row member.1 (Contains-permutation rows sorted row moved member.0)
+
+pub window-members : (rows sorted : List Row) → IsPermutation rows sorted → (from to : ℤ) (row : Row) →
+    Contains (rows_between sorted from to) row ↔ Contains (rows_between rows from to) row
+window-members rows sorted moved from to row = (
+  window-member sorted rows (IsPermutation-sym rows sorted moved) from to row,
+  window-member rows sorted moved from to row,
+)
 
 pub All-by_members : {X : Type 0} (P : X → Type 0) (xs : List X) → ((x : X) → Contains xs x → P x) → All P xs
 All-by_members P xs each k d below = each (get_or xs k d) (Contains-get_or xs k d below)
@@ -199,3 +207,21 @@ All-by_members P xs each k d below = each (get_or xs k d) (Contains-get_or xs k 
 pub All-filter : {X : Type 0} (P : X → Type 0) (p : X → Bool) (xs : List X) → All P xs → All P (filter p xs)
 All-filter P p xs all =
     All-by_members P (filter p xs) (λ x inside. All-contains P xs x all (member_of_filter p xs x inside).0)
+
+-- no element is left
+pub no_more : {X : Type 0} (xs : List X) → length xs ≡ 0 → xs ≡ []
+no_more [] none = refl
+no_more (x ∷ xs) none = absurd (omega (arith, none))
+
+-- what is behind the first of a list, of which there may be fewer
+pub drop_min : {X : Type 0} (n : ℕ) (xs : List X) → drop (min (length xs) n) xs ≡ drop n xs
+drop_min zero [] = refl
+drop_min {X} (suc n) [] =
+    let on : min (length {A = X} []) (suc n) ≡ 0 = omega arith in
+    ap (λ k. drop {A = X} k []) on
+drop_min zero (x ∷ xs) =
+    let on : min (length (x ∷ xs)) 0 ≡ 0 = omega arith in
+    ap (λ k. drop k (x ∷ xs)) on
+drop_min (suc n) (x ∷ xs) =
+    let on : min (length (x ∷ xs)) (suc n) ≡ suc (min (length xs) n) = omega arith in
+    ap (λ k. drop k (x ∷ xs)) on ∙ drop_min n xs

@@ -6,7 +6,11 @@ pub mod TogetherLemmas
 pub mod InstantLemmas
 pub mod HitLemmas
 mod BothLemmas
+pub mod FirstLemmas
+pub mod StandingLemmas
+pub mod ChunkLemmas
 pub mod NearLemmas
 pub mod FewLemmas
 pub mod FactsLemmas
 mod Examples
+mod CoverLemmas

@@ -21,7 +21,7 @@ use Rattle.track_types.specs.declared.row.Row.{Row}
 use Rattle.track_types.proofs.RowLemmas.{object_le}
 
 -- a test passes for some element where a search finds one
-any_find : {X : Type 0} (p : X → Bool) (xs : List X) → list_any p xs ≡ is_some (find p xs)
+pub any_find : {X : Type 0} (p : X → Bool) (xs : List X) → list_any p xs ≡ is_some (find p xs)
 any_find p [] = refl
 any_find p (x ∷ xs) = grind (arith, any_find p xs)
 

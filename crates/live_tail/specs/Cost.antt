@@ -1,17 +1,19 @@
 -- How many reads each question costs at most: none for the rows of the tail, which are at hand.
-use Rattle.std.specs.Prelude.{ℕ, zero, suc, ◌+◌, ◌-◌, ◌^◌, min, ℤ, List, length, filter, Option}
+use Rattle.std.specs.Prelude.{ℕ, zero, suc, ◌+◌, ◌-◌, ◌^◌, min, ℤ, if◌then◌else◌, List, length, filter, Option}
 use Rattle.std.specs.List.{sum_by}
 use Rattle.track_types.specs.ByFilter.{is_row_at}
 use Rattle.track_types.specs.Chart.{ChartView}
 use Rattle.track_types.specs.Quantities.{objects_of}
 use Rattle.track_types.specs.Region.{is_between}
 use Rattle.track_types.specs.declared.cell.Cell.{Cell}
+use Rattle.track_types.specs.declared.hit.Hit.{Hit}
 use Rattle.track_types.specs.declared.parts.Parts.{Parts}
 use Rattle.track_types.specs.declared.question.Question.{Question}
 use Rattle.track_types.specs.declared.question.Question.TheVariants as question
 use Rattle.track_types.specs.declared.region.Region.{Region}
 use Rattle.track_types.specs.declared.row.Row.{Row}
 use Rattle.track_index.specs.Cost.{cost_of}
+use Rattle.live_tail.specs.Hits.{is_overridden}
 use Rattle.live_tail.specs.Join.{rows_of_tail}
 
 -- the rows from one instant to another, both counted
@@ -26,6 +28,10 @@ objects_between rows from to = objects_of (rows_between rows from to)
 unfoldable pub interval_cost_beside : (Question → ℕ) → List Row → ℤ → ℤ → Region → ℕ
 interval_cost_beside cost rows from to region = cost (question.Interval from to region)
     + sum_by (λ object. cost (question.Path object from to)) (objects_between rows from to)
+
+-- what stands of a hit: the path of its object where a tail of these rows has its instant, and else nothing
+abbrev pub standing_cost : (Question → ℕ) → List Row → ℤ → ℤ → Hit → ℕ
+standing_cost cost rows from to hit = if is_overridden rows hit then cost (question.Path hit.object from to) else 0
 
 -- the count that the index is asked for: the count of the question, and one more for each row that the tail has of the instant
 abbrev pub raised_count : List Row → ℕ → ℤ → ℕ

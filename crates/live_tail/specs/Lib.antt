@@ -2,6 +2,8 @@
 pub mod Join
 pub mod View
 pub mod Facts
+pub mod Hits
 pub mod Cost
 pub mod ByInstant
 pub mod Walk
+pub mod Chunks

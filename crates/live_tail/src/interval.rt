@@ -12,11 +12,11 @@ ghost use Rattle.log_cursor.specs.Touching.{first_among};
 ghost use Rattle.snapshots.specs.Parts.{chart_in};
 ghost use Rattle.interval_search.specs.FirstHits.{hit_in};
 ghost use Rattle.track_index.specs.Cost.{cost_of};
-ghost use Rattle.live_tail.specs.Cost.{interval_cost_beside};
+ghost use Rattle.live_tail.specs.Cost.{interval_cost_beside, standing_cost};
+ghost use Rattle.live_tail.specs.Hits.{standing};
 ghost use Rattle.live_tail.specs.Join.{rows_of_tail, rows_of_both};
 ghost use Rattle.live_tail.specs.Walk.{is_at, is_before, stop_order, stops_with};
 
-use crate::objects::{is_among, objects_in};
 use crate::tail::Tail;
 use region_test::RegionTest;
 use std::alloc::Global;
@@ -28,8 +28,9 @@ use track_types::{Answerer, Cell, CellBox, Hit, Memory, Region, Row, Stop};
 /// The interval of an index's chart with a tail. For each object that is in a region at some instant
 /// of a window, whose ends count, it gives the first such instant and the cell there, by object.
 ///
-/// If the tail has a row of an object in the window, what the index finds for it gives way: its path
-/// is searched for the first stop in the region. `Memory` is the only refusal.
+/// What the index finds stands unless the tail has a row of the object at that instant: then its path is
+/// searched in both. Of this and of the tail's hits the first of each object is the answer. `Memory` is
+/// the only refusal.
 pub fn interval<L: Ledger>(
     alloc: Global,
     index: IndexRef<'_>,
@@ -50,25 +51,33 @@ pub fn interval<L: Ledger>(
 {
     let _ = index.facts(); // says that the chart is a table
     let _ = tail.rows(); // says that these ascend
-    let objects = objects_in(alloc, tail.rows_between(from, to))?;
-    let mut found = index.interval(alloc, from, to, region, steps)?;
-    found.retain(|hit| !is_among(objects.as_slice(), hit.object));
+    let mut found = tail.hits(alloc, from, to, region)?;
+    let hits = index.interval(alloc, from, to, region, steps)?;
     let window = (from, to);
-    let own = objects.as_slice();
-    push_hits_of(alloc, index, tail, window, region, own, &mut found, steps)?;
-    found.sort_unstable_by_key(|hit| hit.object);
+    push_standing(
+        alloc,
+        index,
+        tail,
+        window,
+        region,
+        hits.as_slice(),
+        &mut found,
+        steps,
+    )?;
+    found.sort_unstable_by_key(|hit| (hit.object, hit.instant));
+    found.dedup_by_key(|hit| hit.object);
     Ok(found)
 }
 
-// Appends the first hits of objects in a window and a region to what was found. (It makes the
+// Appends to what was found what stands of the index's hits in a window and a region. (It makes the
 // closures that answer the region, so that none takes them from it.)
-fn push_hits_of<L: Ledger>(
+fn push_standing<L: Ledger>(
     alloc: Global,
     index: IndexRef<'_>,
     tail: &Tail,
     window: (i64, i64),
     region: &Region,
-    objects: &[u32],
+    hits: &[Hit],
     found: &mut Vec<Hit>,
     steps: &mut Steps<L>,
 ) -> Result<(), Memory>
@@ -76,11 +85,11 @@ fn push_hits_of<L: Ledger>(
     requires from { IsAsked window.0 }
     requires to { IsAsked window.1 }
     requires region { IsRegionAsked region.now }
-    ensures found { OnOk result (found.new.items ≡ found.old.items ++ filter_map (hit_in
-        (rows_of_both (chart_in index.entry.index.now).rows (rows_of_tail tail.now))
-        window.0 window.1 region.now) objects.now) }
-    ensures cost { steps.new ≤ steps.old + sum_by (λ object. cost_of index.entry.index.now
-        (asked.Path object window.0 window.1)) objects.now }
+    ensures found { OnOk result (found.new.items ≡ found.old.items ++ filter_map (standing
+        (chart_in index.entry.index.now).rows (rows_of_tail tail.now) window.0 window.1 region.now)
+        hits.now) }
+    ensures cost { steps.new ≤ steps.old + sum_by (standing_cost (cost_of index.entry.index.now)
+        (rows_of_tail tail.now) window.0 window.1) hits.now }
 {
     // Each closure has a region of its own, since what one takes is gone for the others.
     let held = near_region(region);
@@ -109,7 +118,7 @@ fn push_hits_of<L: Ledger>(
         to: window.1,
         test: &test,
     };
-    window.push_first_hits(alloc, objects, found, steps)
+    window.push_standing(alloc, hits, found, steps)
 }
 
 // The region of a question, shown to be near enough for both of its tests.
@@ -132,28 +141,51 @@ struct Window<'a> {
 }
 
 impl<'a> Window<'a> {
-    // Appends the first hits of objects to what was found.
-    fn push_first_hits<L: Ledger>(
+    // Appends to what was found what stands of the index's hits.
+    fn push_standing<L: Ledger>(
         &self,
         alloc: Global,
-        objects: &[u32],
+        hits: &[Hit],
         found: &mut Vec<Hit>,
         steps: &mut Steps<L>,
     ) -> Result<(), Memory>
         requires table { IsTable (chart_in self.now.index.index.now) }
         requires from { IsAsked self.now.from }
         requires to { IsAsked self.now.to }
-        ensures found { OnOk result (found.new.items ≡ found.old.items ++ filter_map (hit_in
-            (rows_of_both (chart_in self.now.index.index.now).rows (rows_of_tail self.now.tail.now))
-            self.now.from self.now.to self.now.test.now.region) objects.now) }
-        ensures cost { steps.new ≤ steps.old + sum_by (λ object. cost_of self.now.index.index.now
-            (asked.Path object self.now.from self.now.to)) objects.now }
+        ensures found { OnOk result (found.new.items ≡ found.old.items ++ filter_map (standing
+            (chart_in self.now.index.index.now).rows (rows_of_tail self.now.tail.now)
+            self.now.from self.now.to self.now.test.now.region) hits.now) }
+        ensures cost { steps.new ≤ steps.old + sum_by (standing_cost (cost_of self.now.index.index.now)
+            (rows_of_tail self.now.tail.now) self.now.from self.now.to) hits.now }
     {
-        for object in objects {
-            let hit = self.first_hit(alloc, *object, steps)?;
-            push_found(found, hit)?;
+        for hit in hits {
+            let stands = self.standing(alloc, *hit, steps)?;
+            push_found(found, stands)?;
         }
         Ok(())
+    }
+
+    // What stands of a hit of the index: if the tail has a row of its object and instant, the object's
+    // first hit in both.
+    fn standing<L: Ledger>(
+        &self,
+        alloc: Global,
+        hit: Hit,
+        steps: &mut Steps<L>,
+    ) -> Result<Option<Hit>, Memory>
+        requires table { IsTable (chart_in self.now.index.index.now) }
+        requires from { IsAsked self.now.from }
+        requires to { IsAsked self.now.to }
+        ensures ok { IfOk result (λ stands. stands ≡ standing
+            (chart_in self.now.index.index.now).rows (rows_of_tail self.now.tail.now)
+            self.now.from self.now.to self.now.test.now.region hit) }
+        ensures cost { steps.new ≤ steps.old + standing_cost (cost_of self.now.index.index.now)
+            (rows_of_tail self.now.tail.now) self.now.from self.now.to hit }
+    {
+        if self.tail.has_row(hit.object, hit.instant) {
+            return self.first_hit(alloc, hit.object, steps);
+        }
+        Ok(Some(hit))
     }
 
     // The first hit of an object, if it has one.

@@ -7,10 +7,12 @@
 #![tactic(auto)]
 
 mod answering;
+mod chunk;
 mod interval;
 mod nearest;
 mod objects;
 mod slice;
+mod sought;
 mod tail;
 mod tail_walk;
 mod tailed;

@@ -38,11 +38,3 @@ pub fn has_object(rows: &[Row], object: u32) -> bool
 {
     rows.binary_search_by_key(&object, |row| row.object).is_ok()
 }
-
-/// Whether a number is among numbers in strict order.
-pub fn is_among(objects: &[u32], object: u32) -> bool
-    requires { IsStrictlySortedBy nat_cmp objects.now }
-    ensures { result ≡ list_any (λ o. object == o) objects.now }
-{
-    objects.binary_search(&object).is_ok()
-}

@@ -36,7 +36,8 @@ impl<'a> Model for Tailed<'a> {
 impl<'a> Tailed<'a> {
     /// An index with a tail, or with none. The tail was gridded by the index's cell, tick and period.
     ///
-    /// Memory is taken for the tail's rows once more, by instant, and for its objects. It makes no read.
+    /// Memory is taken for the tail's rows once more, by instant, for bounds of each 16 of them, and for
+    /// its objects. It makes no read.
     #[tactic(auto, using(crate::proofs::TogetherLemmas::together))]
     pub fn join(alloc: Global, index: &'a Index, tail: Option<Chart>) -> Result<Tailed<'a>, Memory>
         requires { IfSome tail (IsOfFrame index.now.frame) }

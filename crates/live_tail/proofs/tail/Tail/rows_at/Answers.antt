@@ -19,7 +19,7 @@ found c =
     let sorted : List Row = c.self.inside.by_instant.items in
     let same : to_z w64 (of_z w64 c.args.instant) ≡ at = omega (arith, ints) in
     let are : AreByInstant (rows_of_tail c.args.self.now) sorted =
-    subst (λ tail. AreByInstant (rows_of_tail tail) sorted) c.self.view_is c.self.invariant in
+    subst (λ tail. AreByInstant (rows_of_tail tail) sorted) c.self.view_is c.self.invariant.0 in
     c.window.ensures
     ∙ ap (λ rows. rows_between rows (to_z w64 (of_z w64 c.args.instant)) (to_z w64 (of_z w64 c.args.instant))) c.as_slice.ensures.value
     ∙ ap (λ z. rows_between sorted z z) same

@@ -1,0 +1,9 @@
+use Rattle.std.proofs.Common.{◌++◌, List, take}
+use Rattle.track_types.specs.declared.row.Row.{Row}
+use Rattle.live_tail.specs.Hits.{HaveFirst}
+use Rattle.live_tail.proofs.sought.Sought.push_hits_of.Given as goal
+
+abbrev pub invariant-loop-row : goal.invariant-loop-row
+invariant-loop-row l =
+    (before : List Row) → HaveFirst before l.self.from l.self.to l.self.region.now l.initial.found.items
+    → HaveFirst (before ++ take l.row-index l.rows) l.self.from l.self.to l.self.region.now l.found.items
