@@ -1,6 +1,7 @@
 -- The bytes of index files, and of those that are upgraded.
-use Rattle.std.proofs.Common.{◌≡◌, ◌∙◌, ℕ, List, Result, Ok, Err, None, sym}
+use Rattle.std.proofs.Common.{◌≡◌, ◌∙◌, ℕ, List, Result, Ok, Err, None, ap, sym, arith}
 use Rattle.std.specs.Prelude.{IfOk, OnOk}
+use Rattle.std.proofs.lemmas.Bool.{le-ltb}
 use Rattle.track_types.specs.declared.flaw.Flaw.{Flaw}
 use Rattle.track_types.specs.declared.parts.Parts.{Parts}
 use Rattle.index_file.specs.File.{file_bytes, IsFormed}
@@ -10,6 +11,8 @@ use Rattle.track_index.specs.Opening.{IsFile}
 use Rattle.track_index.specs.Newest.{newest_of}
 use Rattle.track_index.proofs.CheckLemmas.{IsSound-unflawed}
 use Rattle.track_index.proofs.DecidingLemmas.{parts_in-file}
+use Rattle.track_index.proofs.NewestLemmas.{newest_of-newest}
+use Rattle.gract_top.specs.Upgrading.{upgrade_bytes, IsUpgrade}
 
 -- parts that were read and upgraded are those of an index file
 pub upgraded-file : (result : Result Parts FormatFault) (bytes : List ℕ) (parts : Parts) → IsFormed parts →
@@ -32,3 +35,15 @@ pub IsFile-one : (bytes : List ℕ) (first second : Parts) → IsFile bytes firs
 IsFile-one bytes first second one two =
     let both : ◌≡◌ {A = Result Parts Flaw} (Ok first) (Ok second) =
     sym (parts_in-file bytes first one) ∙ parts_in-file bytes second two in cc
+
+-- the bytes of an index file and of its upgrade; a file of the newest version comes back as it is
+pub IsUpgrade-file : (bytes newest : List ℕ) (parts : Parts) → IsFile bytes parts → newest ≡ upgrade_bytes parts →
+    IsUpgrade bytes newest
+IsUpgrade-file bytes newest parts file spelled = record {
+  parts = parts;
+  file = file;
+  spelled = spelled;
+  same = λ last.
+      let ordered = file.formed.ordered (le-ltb parts.frame.version 3 (omega (arith, last))) in
+      spelled ∙ ap file_bytes (newest_of-newest parts (record { newest = last; ordered = ordered })) ∙ sym file.spelled;
+}

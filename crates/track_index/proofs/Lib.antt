@@ -5,6 +5,7 @@ pub mod OpeningLemmas
 pub mod DecidingLemmas
 -- The newest version of the format.
 mod UpgradeLemmas
+pub mod NewestLemmas
 -- The steps of a check.
 mod PeriodLemmas
 mod UntilLemmas

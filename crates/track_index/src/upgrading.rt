@@ -19,7 +19,8 @@ use track_types::{FormatFault, Parts};
 ///
 /// The header has that version, the trees of the periods are made anew from their cells, and the rules
 /// are brought into the order of the format. All else stays: the parts are those of an index, and have
-/// the same chart and the same facts. Parts of a file of the newest version come back as they are.
+/// the same chart and the same facts. Parts in the newest version, with their rules in order, come back
+/// as they are.
 ///
 /// `Flaw` is the first flaw of the parts, as `Index::check` finds it. `Memory` may be answered to any
 /// parts.
@@ -35,6 +36,7 @@ pub fn upgraded<L: Ledger>(
     ensures ok { IfOk result (λ newest. newest ≡ newest_of parts) }
     ensures exact { OnOk result (check_flaw parts ≡ None) }
     ensures newest { IfOk result IsNewest }
+    ensures same { IfOk result (λ newest. IsNewest parts → newest ≡ parts) }
     ensures chart { IfOk result (λ newest. chart_in newest ≡ chart_in parts) }
     ensures facts { IfOk result (λ newest. facts_of newest ≡ facts_of parts) }
     ensures flaw { IfErr result (λ fault. IsFormatFaultFor (check_flaw parts) fault) }

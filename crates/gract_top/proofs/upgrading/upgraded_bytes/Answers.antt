@@ -1,0 +1,10 @@
+use Rattle.std.proofs.Common.{ap, ◌∙◌}
+use Rattle.index_file.specs.File.{file_bytes}
+use Rattle.gract_top.proofs.UpgradingLemmas.{IsUpgrade-file}
+use Rattle.gract_top.proofs.upgrading.upgraded_bytes.Goals as goal
+
+pub returns-clause-ok : goal.returns-clause-ok
+returns-clause-ok g c =
+    let held = c.in-Ok.ensures.ok in
+    IsUpgrade-file c.args.bytes.items c.in-Ok-encode.newest.items held.0 held.1
+    (c.in-Ok-encode.ensures.ok ∙ ap file_bytes held.2)
