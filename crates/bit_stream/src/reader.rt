@@ -138,7 +138,7 @@ impl<'a> BitReader<'a> {
         self.bytes.len() >= (self.used + count).div_ceil(8) as usize
     }
 
-    // At least the next 57 bits, or those that are left, as a number, lowest first.
+    // The next bits as a number, lowest first: at least 57, or those that are left.
     fn window(&self) -> u64
         ensures { (n : ℕ) → n ≤ 57 → result % 2 ^ n ≡ window_of self.now 0 n }
     {

@@ -1,8 +1,8 @@
 //! Cases are text: a row of a table, or a line of its own. A further case adds nothing to prove.
 use crate::script::{Part, first_wrong};
 use crate::{
-    damage, devices, doubling, extending, lines, merging, refusals, replies, samples, tails,
-    upgrading,
+    damage, devices, doubling, extending, limits, lines, merging, refusals, replies, samples,
+    tails, upgrading,
 };
 use std::test::Fail;
 use track_types::Memory;
@@ -44,7 +44,12 @@ fn an_index_is_saved_summed_and_joined(rt: HostRuntime) -> Result<(), Fail> {
 
 #[test]
 fn a_call_is_refused_for_its_cause(rt: HostRuntime) -> Result<(), Fail> {
-    let scripts: [&[Part]; 3] = [&refusals::SCRIPT, &damage::SCRIPT, &devices::SCRIPT];
+    let scripts: [&[Part]; 4] = [
+        &refusals::SCRIPT,
+        &limits::SCRIPT,
+        &damage::SCRIPT,
+        &devices::SCRIPT,
+    ];
     assert_eq!(rt; first_of_all(&rt, &scripts)?, None);
     Ok(())
 }

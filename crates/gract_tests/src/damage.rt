@@ -88,6 +88,8 @@ const CHANGES: Part = (
     said
     free 16",
     "0 ; 88 ; header ; 0 ; magic
+    7 ; 52 ; header ; 0 ; magic
+    8 ; 0 ; header ; 1 ; field
     12 ; 0 ; header ; 2 ; field
     12 ; 21 ; header ; 2 ; field
     20 ; 0 ; header ; 4 ; field
@@ -97,6 +99,7 @@ const CHANGES: Part = (
     96 ; 3 ; presence ; 0 ; pad
     97 ; 3 ; offsets ; 0 ; offset
     97 ; 1 ; lengths ; 0 ; duration
+    104 ; 128 ; treelen ; 0 ; field
     105 ; 16 ; tree ; 0 ; tree
     105 ; 1 ; tree ; 4 ; tree
     106 ; 0 ; lasts ; 1 ; cells
@@ -122,15 +125,24 @@ const DAMAGES: Part = (
     "ask t.csv ; @old ; 123 ; put 1 0 ; end period 0 place 0: extra
     ask t.csv ; @packed ; 115 ; put 1 6 ; log period 0 place 0: pad
     ask t.csv ; @packed ; 115 ; cut 115 ; log period 0 place 0: short
+    ask t.csv ; @packed ; 116 ; byte 12 21 ; tree period 0 place 0: tree
+    ask t.csv ; @packed ; 116 ; byte 12 25 ; header period 0 place 2: field
     upgrade t.csv t.idx ; @old ; 122 ; cut 122 ; log period 0 place 1: short
     upgrade t.csv t.idx ; @packed ; 115 ; cut 115 ; log period 0 place 0: short
     upgrade t.csv t.idx ; @index ; 74 ; cut 74 ; anchors period 0 place 0: short
+    ask t.csv ; @index ; 75 ; cut 0 ; header period 0 place 0: short
+    ask t.csv ; @index ; 75 ; cut 71 ; header period 0 place 11: short
+    ask t.csv ; @index ; 75 ; cut 72 ; objects period 0 place 0: short
+    ask t.csv ; @index ; 75 ; cut 74 ; anchors period 0 place 0: short
+    ask t.csv ; @index ; 75 ; byte 7 52 ; header period 0 place 0: magic
+    ask t.csv ; @index ; 75 ; byte 12 25 ; header period 0 place 2: field
     ask t.csv ; @index ; 7 ; put 1 52 ; header period 0 place 0: magic
     ask t.csv ; @index ; 12 ; put 4 25 ; header period 0 place 2: field
     ask t.csv ; @index ; 75 ; byte 20 2 ; end period 0 place 0: pad
     ask t.csv ; @index ; 75 ; byte 28 1 ; rules period 0 place 0: short
     ask t.csv ; @index ; 72 ; put 1 0 ; objects period 0 place 0: large
     ask t.csv ; @index ; 72 ; put 1 96 254 255 255 255 255 255 255 255 7 ; objects period 0 place 0: large
+    ask t.csv ; @index ; 72 ; put 1 96 254 255 255 255 255 255 255 255 255 255 7 ; objects period 0 place 0: large
     ask t.csv ; @index ; 72 ; put 1 96 8 0 0 0 208 65 ; objects period 0 place 0: field
     ask t.csv ; @index ; 72 ; put 1 4 74 97 16 ; alphabet period 0 place 1: code
     ask t.csv ; @pair ; 72 ; put 1 4 82 84 164 74 224 178 64 96 12 ; layers period 0 place 0: field

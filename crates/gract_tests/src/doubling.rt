@@ -28,10 +28,12 @@ const FEW: Part = (
     "long 104507
     file t.csv @
     asks 4096 position 999 4194303|position 1000 4194303|slice 4194303 rect 5 5 6 6|\
-        interval 0 4194303 rect 5 5 6 6|nearest 2 4194303 1 0|path 7 4194302 9000000|
+        interval 0 4194303 rect 5 5 6 6|nearest 2 4194303 1 0|path 7 4194302 9000000|\
+        path 999 4194301 4194303|
     run ask t.csv
     ends 0
-    said 0 0|ok 1|ok 0|ok 0|ok 0|0 0 0 1|1 0 0 1|ok 2|4194302 0 0|4194303 0 0|ok 2|",
+    said 0 0|ok 1|ok 0|ok 0|ok 0|0 0 0 1|1 0 0 1|ok 2|4194302 0 0|4194303 0 0|ok 2|\
+        4194301 0 0|4194302 0 0|4194303 0 0|ok 3|",
     ONCE,
 );
 

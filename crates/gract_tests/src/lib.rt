@@ -12,6 +12,8 @@ mod doubling;
 #[cfg(test)]
 mod extending;
 #[cfg(test)]
+mod limits;
+#[cfg(test)]
 mod lines;
 #[cfg(test)]
 mod merging;

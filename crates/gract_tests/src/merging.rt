@@ -10,6 +10,16 @@ const FILES: Part = (
     empty.idx ;",
 );
 
+/// The index of the first, 2^40 - 10 columns to the right.
+const FAR: Part = (
+    "text @old
+    byte 44 0
+    byte 49 1
+    file base.idx @
+    cut 0",
+    ONCE,
+);
+
 /// Commands in turn, and how each ends.
 const STEPS: Part = (
     "run $0
@@ -34,6 +44,7 @@ const STEPS: Part = (
     merge wide.idx t.idx m.idx ; 8 gract: the files differ in cell: 2 and 1
     merge t.idx all.idx m.idx ; 9 gract: object 7 is in both files
     merge far.idx t.idx m.idx ; 4 gract: limit extent passed at 16777217
+    merge base.idx u.idx m.idx ; 4 gract: limit base passed at 1099511627778
     merge t.idx u.idx m.idx ; 0
     merge u.idx t.idx u.idx ; 0",
 );
@@ -53,9 +64,10 @@ const UNIONS: Part = (
     ONCE,
 );
 
-pub const SCRIPT: [Part; 4] = [
+pub const SCRIPT: [Part; 5] = [
     ("new\nasks 4096 path 9 -5 5|position 7 2|info|", ONCE),
     FILES,
+    FAR,
     STEPS,
     UNIONS,
 ];

@@ -1,5 +1,19 @@
 use crate::script::{ONCE, Part};
 
+/// The index answers in each version.
+const OPENED: Part = (
+    "new
+    file t.csv $0
+    asks 4096 position 7 2|path 7 0 2|
+    run ask t.csv
+    ends 0
+    said 12 11|ok 1|0 10 10|1 11 10|2 12 11|ok 3|
+    free 16",
+    "@index
+    @packed
+    @old",
+);
+
 /// What saves the index of t.csv, with one save, and lets it answer.
 const SAVES: Part = (
     "new
@@ -25,7 +39,7 @@ const SAVES: Part = (
 const PAIR: Part = (
     "new
     file t.csv 7,0,10,10|7,1,11,10|7,2,12,10|7,3,13,10|7,4,14,10|7,5,15,10|7,6,16,10|7,7,17,10|9,1,10,12|9,6,10,13|
-    asks 4096 path 7 3 6|path 9 0 9|slice 6 rect 10 10 16 13|info|
+    asks 4096 position 7 6|position 9 6|path 7 3 6|path 9 0 9|slice 6 rect 10 10 16 13|info|
     run build t.csv t.idx 1 1 4
     ends 0
     holds t.idx @pair
@@ -34,7 +48,7 @@ const PAIR: Part = (
     holds u.idx @pair
     run ask u.idx
     ends 0
-    said 3 13 10|4 14 10|5 15 10|6 16 10|ok 4|1 10 12|6 10 13|ok 2|7 16 10|9 10 13|ok 2|objects 2|first 0|last 7|\
+    said 16 10|ok 1|10 13|ok 1|3 13 10|4 14 10|5 15 10|6 16 10|ok 4|1 10 12|6 10 13|ok 2|7 16 10|9 10 13|ok 2|objects 2|first 0|last 7|\
         period 4|cell 1|tick 1|height 3|alphabet 2|rules 2|log 5|depth 2|ok 11|
     free 14",
     ONCE,
@@ -85,4 +99,4 @@ const SETTLED: Part = (
     t.idx",
 );
 
-pub const SCRIPT: [Part; 4] = [SAVES, PAIR, UNSETTLED, SETTLED];
+pub const SCRIPT: [Part; 5] = [OPENED, SAVES, PAIR, UNSETTLED, SETTLED];

@@ -57,7 +57,7 @@ pub fn chart_of(alloc: Global, places: &[Place], period: u32) -> Result<Chart, G
     gridded(alloc, places, (1, 1), period)
 }
 
-pub fn cell(x: i32, y: i32) -> Cell {
+fn cell(x: i32, y: i32) -> Cell {
     Cell {
         x: i64::from(x),
         y: i64::from(y),
@@ -81,21 +81,4 @@ pub fn has_rows(chart: &Chart, places: &[Place]) -> bool {
             .iter()
             .zip(places)
             .all(|(found, place)| *found == row(*place))
-}
-
-// The cell of an object at an instant, by a look at all rows.
-pub fn cell_at(places: &[Place], object: u32, instant: i32) -> Option<Cell> {
-    for &(other, at, x, y) in places {
-        if other == object && at == instant {
-            return Some(cell(x, y));
-        }
-    }
-    None
-}
-
-// The next state of a linear congruential generator with the constants of Knuth's MMIX.
-pub fn next_number(state: u64) -> u64 {
-    state
-        .wrapping_mul(6_364_136_223_846_793_005)
-        .wrapping_add(1_442_695_040_888_963_407)
 }

@@ -1,14 +1,13 @@
 ghost use Rattle.std.specs.Prelude.{IfOk};
 ghost use Rattle.index_format.specs.Stored.{IsStored};
 
-use crate::damage::{Damage, bytes_of, flaw_of, is_told};
 use crate::files::{
-    FILE, NEW_FILE, PAIR_FILE, four_billion_rows, four_billion_rows_packed, packed_file,
+    FILE, NEW_FILE, PACKED_FILE, PAIR_FILE, four_billion_rows, four_billion_rows_packed,
 };
 use index_format::{FormatFault, OutlineBlock, Stored, decode, encode, encode_outline};
 use std::alloc::Global;
 use std::test::Fail;
-use track_types::{Kind, Memory, Parts, PeriodParts, Section};
+use track_types::{Memory, Parts, PeriodParts};
 
 // What bytes store that are few enough.
 fn read(alloc: Global, bytes: &[u8]) -> Result<Stored, FormatFault>
@@ -28,20 +27,6 @@ fn written(alloc: Global, stored: &Stored) -> Result<Vec<u8>, Memory>
         Stored::Parts(parts) => encode(alloc, parts),
         Stored::Outline(outline) => encode_outline(alloc, outline),
     }
-}
-
-// The bytes that are written of what was read.
-fn again(alloc: Global, bytes: &[u8]) -> Result<Vec<u8>, FormatFault> {
-    let stored = read(alloc, bytes)?;
-    match written(alloc, &stored) {
-        Ok(bytes) => Ok(bytes),
-        Err(Memory) => Err(FormatFault::Memory),
-    }
-}
-
-// Whether bytes are what is written of what they say.
-fn is_same_again(alloc: Global, bytes: &[u8]) -> Result<bool, FormatFault> {
-    Ok(again(alloc, bytes)?.as_slice() == bytes)
 }
 
 // Whether parts are those of the path of object 7.
@@ -73,19 +58,6 @@ fn stores_path(stored: &Stored) -> bool {
         Stored::Parts(parts) => are_of_path(parts),
         Stored::Outline(_) => false,
     }
-}
-
-#[test]
-fn the_whole_file_is_read_and_written_again(rt: HostRuntime) -> Result<(), Fail> {
-    assert!(rt; stores_path(&read(rt.alloc(), &FILE)?), "the parts");
-    assert!(rt; is_same_again(rt.alloc(), &FILE)?, "the bytes");
-    let packed = packed_file(rt.alloc())?;
-    assert!(rt;
-        stores_path(&read(rt.alloc(), &packed)?),
-        "the parts of version 2"
-    );
-    assert!(rt; is_same_again(rt.alloc(), &packed)?, "its bytes");
-    Ok(())
 }
 
 // A block's period, object, offset, cell and length.
@@ -120,60 +92,6 @@ fn stores_pair(stored: &Stored) -> bool {
     }
 }
 
-#[test]
-fn the_newest_files_are_read_and_written_again(rt: HostRuntime) -> Result<(), Fail> {
-    assert!(rt; stores_pair(&read(rt.alloc(), &PAIR_FILE)?), "the outline");
-    assert!(rt; is_same_again(rt.alloc(), &PAIR_FILE)?, "its bytes");
-    assert!(rt; is_same_again(rt.alloc(), &NEW_FILE)?, "a path");
-    Ok(())
-}
-
-const FIRST: [Damage; 12] = [
-    (122, 200, 0, Some((Section::Log, 1, Kind::Short))),
-    (0, 200, 0, Some((Section::Header, 0, Kind::Short))),
-    (75, 200, 0, Some((Section::Header, 12, Kind::Short))),
-    (96, 200, 0, Some((Section::Presence, 0, Kind::Short))),
-    (123, 7, b'4', Some((Section::Header, 0, Kind::Magic))),
-    (123, 8, 0, Some((Section::Header, 1, Kind::Field))),
-    (123, 12, 21, Some((Section::Header, 2, Kind::Field))),
-    (123, 88, 2, Some((Section::Alphabet, 1, Kind::Order))),
-    (123, 96, 3, Some((Section::Presence, 0, Kind::Pad))),
-    (123, 104, 128, Some((Section::TreeLen, 0, Kind::Field))),
-    (123, 200, 0, None),
-    (124, 200, 0, Some((Section::End, 0, Kind::Extra))),
-];
-
-const SECOND: [Damage; 4] = [
-    (115, 200, 0, Some((Section::Log, 0, Kind::Short))),
-    (116, 115, 6, Some((Section::Log, 0, Kind::Pad))),
-    (116, 12, 21, None),
-    (116, 12, 25, Some((Section::Header, 2, Kind::Field))),
-];
-
-// The first damage that is not refused so, by how many bytes there are and the place.
-fn first_untold(
-    alloc: Global,
-    file: &[u8],
-    cases: &[Damage],
-) -> Result<Option<(usize, usize)>, Memory> {
-    for &damage in cases {
-        let bytes = bytes_of(alloc, file, damage)?;
-        if !is_told(flaw_of(damage), read(alloc, bytes.as_slice())) {
-            let (len, place, ..) = damage;
-            return Ok(Some((len, place)));
-        }
-    }
-    Ok(None)
-}
-
-#[test]
-fn damage_is_named_by_its_place(rt: HostRuntime) -> Result<(), Fail> {
-    assert_eq!(rt; first_untold(rt.alloc(), &FILE, &FIRST)?, None);
-    let packed = packed_file(rt.alloc())?;
-    assert_eq!(rt; first_untold(rt.alloc(), packed.as_slice(), &SECOND)?, None);
-    Ok(())
-}
-
 // Whether symbols are those from 0 to 21, over and over.
 fn are_in_turns(symbols: &[u32]) -> bool {
     symbols
@@ -190,19 +108,58 @@ fn stores_turns(stored: &Stored) -> bool {
     }
 }
 
+// What a file stores: the parts of the path, the outline of the two objects, parts with symbols in turns, or any outline.
+#[derive(Clone, Copy)]
+enum Held {
+    Path,
+    Pair,
+    Turns,
+    Outline,
+}
+
+fn holds(stored: &Stored, held: Held) -> bool {
+    match held {
+        Held::Path => stores_path(stored),
+        Held::Pair => stores_pair(stored),
+        Held::Turns => stores_turns(stored),
+        Held::Outline => match stored {
+            Stored::Outline(_) => true,
+            Stored::Parts(_) => false,
+        },
+    }
+}
+
+// Whether bytes store this, and are those that are written of it.
+fn is_read_and_written(alloc: Global, bytes: &[u8], held: Held) -> Result<bool, FormatFault> {
+    let stored = read(alloc, bytes)?;
+    match written(alloc, &stored) {
+        Ok(again) => Ok(holds(&stored, held) && again.as_slice() == bytes),
+        Err(Memory) => Err(FormatFault::Memory),
+    }
+}
+
+const FILES: [(&str, &[u8], Held); 4] = [
+    ("version 1", &FILE, Held::Path),
+    ("version 2", &PACKED_FILE, Held::Path),
+    ("version 3", &NEW_FILE, Held::Outline),
+    ("two rules", &PAIR_FILE, Held::Pair),
+];
+
+#[test]
+fn each_version_is_read_and_written_again(rt: HostRuntime) -> Result<(), Fail> {
+    for (name, bytes, held) in FILES {
+        assert!(rt; is_read_and_written(rt.alloc(), bytes, held)?, "{name}");
+    }
+    Ok(())
+}
+
 #[test]
 fn four_billion_rows_take_a_hundred_thousand_bytes(rt: HostRuntime) -> Result<(), Fail> {
-    let bytes = four_billion_rows(rt.alloc(), 21)?;
-    assert!(rt;
-        bytes.len() == 104_507 && is_same_again(rt.alloc(), &bytes)?,
-        "version 1"
-    );
+    let bytes = four_billion_rows(rt.alloc())?;
+    assert!(rt; bytes.len() == 104_507, "version 1");
+    assert!(rt; is_read_and_written(rt.alloc(), &bytes, Held::Turns)?);
     let packed = four_billion_rows_packed(rt.alloc())?;
-    assert!(rt;
-        packed.len() == 30_257 && is_same_again(rt.alloc(), &packed)?,
-        "version 2"
-    );
-    let stored = read(rt.alloc(), &packed)?;
-    assert!(rt; stores_turns(&stored), "the same symbols");
+    assert!(rt; packed.len() == 30_257, "version 2");
+    assert!(rt; is_read_and_written(rt.alloc(), &packed, Held::Turns)?);
     Ok(())
 }

@@ -8,7 +8,15 @@ pub const FILE: [u8; 123] = [
     0, 0, 0, 0, 1, 0, 0, 0, 0, 8, 0, 0, 0, 17, 1, 0, 0, 0, 0, 2, 0, 0, 0, 0, 0, 0, 0, 1, 0, 0, 0,
 ];
 
-// The same index in a file of version 3.
+// The same index in a file of version 2: one byte has both symbols.
+pub const PACKED_FILE: [u8; 116] = [
+    71, 82, 65, 67, 84, 48, 48, 50, 4, 0, 0, 0, 2, 0, 0, 0, 1, 0, 0, 0, 3, 0, 0, 0, 2, 0, 0, 0, 0,
+    0, 0, 0, 2, 0, 0, 0, 0, 0, 0, 0, 0, 0, 0, 0, 10, 0, 0, 0, 0, 0, 0, 0, 10, 0, 0, 0, 0, 0, 0, 0,
+    1, 0, 0, 0, 0, 0, 0, 0, 1, 0, 0, 0, 0, 0, 0, 0, 7, 0, 0, 0, 2, 0, 0, 0, 0, 0, 0, 0, 3, 0, 0, 0,
+    0, 0, 0, 0, 1, 0, 0, 0, 0, 8, 0, 0, 0, 17, 1, 0, 0, 0, 0, 2, 0, 0, 0, 2,
+];
+
+// And in one of version 3.
 pub const NEW_FILE: [u8; 75] = [
     71, 82, 65, 67, 84, 48, 48, 51, 4, 0, 0, 0, 2, 0, 0, 0, 1, 0, 0, 0, 3, 0, 0, 0, 2, 0, 0, 0, 0,
     0, 0, 0, 0, 0, 0, 0, 0, 0, 0, 0, 10, 0, 0, 0, 0, 0, 0, 0, 10, 0, 0, 0, 0, 0, 0, 0, 1, 0, 0, 0,
@@ -23,108 +31,42 @@ pub const PAIR_FILE: [u8; 82] = [
     0, 0, 0, 0, 1, 0, 0, 0, 0, 0, 0, 0, 4, 82, 138, 84, 9, 92, 22, 8, 140, 1,
 ];
 
-// A file with other bytes from a place on, and so many in all.
-pub fn spliced(
-    alloc: Global,
-    file: &[u8],
-    place: usize,
-    bytes: &[u8],
-    len: usize,
-) -> Result<Vec<u8>, AllocError> {
-    let mut all = Vec::from_slice(alloc, file.get(..place).unwrap_or(&[]))?;
-    all.extend_from_slice(bytes)?;
-    let behind = all.len();
-    all.extend_from_slice(file.get(behind..).unwrap_or(&[]))?;
-    all.truncate(len);
-    Ok(all)
-}
+// A text, how often it stands one after another, and how often its number, from 0 on, comes after it in four bytes.
+type Piece = (&'static [u8], u32, u32);
 
-// A file's first bytes, one of them changed, and a byte 0 where more are asked for.
-pub fn damaged(
-    alloc: Global,
-    file: &[u8],
-    len: usize,
-    place: usize,
-    byte: u8,
-) -> Result<Vec<u8>, AllocError> {
-    let mut bytes = Vec::new(alloc);
-    for (i, &old) in file.iter().chain([0u8].iter()).enumerate() {
-        if i < len {
-            bytes.push(if i == place { byte } else { old })?;
-        }
-    }
-    Ok(bytes)
-}
+// The counts of a file of a thousand objects, of one period, one value, 21 rules and 22,000 symbols, and its settings.
+const COUNTS: [u8; 28] = [
+    0, 0, 64, 0, 1, 0, 0, 0, 232, 3, 0, 0, 0, 0, 64, 0, 1, 0, 0, 0, 21, 0, 0, 0, 240, 85, 0, 0,
+];
 
-// The same index in a file of version 2: one byte has both symbols.
-pub fn packed_file(alloc: Global) -> Result<Vec<u8>, AllocError> {
-    let mut bytes = damaged(alloc, &FILE, 115, 7, b'2')?;
-    bytes.push(2)?;
-    Ok(bytes)
-}
+const SETTINGS: [u8; 40] = [
+    0, 0, 0, 0, 0, 0, 0, 0, 0, 0, 0, 0, 0, 0, 0, 0, 0, 0, 0, 0, 0, 0, 0, 0, 1, 0, 0, 0, 0, 0, 0, 0,
+    1, 0, 0, 0, 0, 0, 0, 0,
+];
 
-// The same file with its object 2^40 - 10 columns to the right.
-pub fn far_file(alloc: Global) -> Result<Vec<u8>, AllocError> {
-    let mut bytes = damaged(alloc, &FILE, 123, 44, 0)?;
-    if let Some(byte) = bytes.get_mut(49) {
-        *byte = 1;
-    }
-    Ok(bytes)
-}
+// What stands in that file between its magic and its log: also the objects, the alphabet, the rules, presence, offsets,
+// the tree of one cell, the last object of the cell, the objects in leaf order, and how long the logs are.
+const BEFORE_LOG: [Piece; 12] = [
+    (&COUNTS, 1, 0),
+    (&SETTINGS, 1, 0),
+    (&[], 1000, 1),
+    (&[1, 0, 0, 0, 0, 0, 0, 0], 1, 0),
+    (&[], 21, 2),
+    (&[255], 125, 0),
+    (&[0], 4000, 0),
+    (&[4, 0, 0, 0, 1], 1, 0),
+    (&[0], 124, 0),
+    (&[128], 1, 0),
+    (&[], 1000, 1),
+    (&[22, 0, 0, 0], 1000, 0),
+];
 
-// Pushes numbers of four bytes from 0 on.
-fn push_shorts(bytes: &mut Vec<u8>, many: u32) -> Result<(), AllocError> {
-    for number in 0..many {
-        bytes.extend_from_slice(&number.to_le_bytes())?;
-    }
-    Ok(())
-}
-
-// The header, the objects, the alphabet and the rules of the file below.
-fn front(alloc: Global, magic: &[u8], rules: u32) -> Result<Vec<u8>, AllocError> {
-    let mut bytes = Vec::new(alloc);
-    bytes.extend_from_slice(magic)?;
-    for number in [1u32 << 22, 1, 1000, 1 << 22, 1, rules, 22_000] {
-        bytes.extend_from_slice(&number.to_le_bytes())?;
-    }
-    // First instant, base, CELL and TICK.
-    for number in [0u64, 0, 0, 1, 1] {
-        bytes.extend_from_slice(&number.to_le_bytes())?;
-    }
-    push_shorts(&mut bytes, 1000)?;
-    bytes.extend_from_slice(&1u64.to_le_bytes())?;
-    for rule in 0..rules {
-        bytes.extend_from_slice(&rule.to_le_bytes())?;
-        bytes.extend_from_slice(&rule.to_le_bytes())?;
-    }
-    Ok(bytes)
-}
-
-// What stands before the log of that file: presence, offsets, the tree of one cell, the last object of the cell, the
-// objects in leaf order, and how long the logs are.
-fn before_log(alloc: Global, magic: &[u8], rules: u32) -> Result<Vec<u8>, AllocError> {
-    let mut bytes = front(alloc, magic, rules)?;
-    bytes.extend_from_slice(&[255; 125])?;
-    bytes.extend_from_slice(&[0; 4000])?;
-    bytes.extend_from_slice(&[4, 0, 0, 0, 1])?;
-    bytes.extend_from_slice(&[0; 124])?;
-    bytes.push(128)?;
-    push_shorts(&mut bytes, 1000)?;
-    for _block in 0..1000u32 {
-        bytes.extend_from_slice(&22u32.to_le_bytes())?;
-    }
-    Ok(bytes)
-}
-
-// The index file of a thousand objects that stand still at (0, 0) from instant 0 to 2^22 - 1. Each rule
-// lasts twice as long as the one before it, and the first 21 are all that is needed.
-pub fn four_billion_rows(alloc: Global, rules: u32) -> Result<Vec<u8>, AllocError> {
-    let mut bytes = before_log(alloc, b"GRACT001", rules)?;
-    for _block in 0..1000u32 {
-        push_shorts(&mut bytes, 22)?;
-    }
-    Ok(bytes)
-}
+// The symbols from 0 to 21, of four bytes each.
+const LOG: [u8; 88] = [
+    0, 0, 0, 0, 1, 0, 0, 0, 2, 0, 0, 0, 3, 0, 0, 0, 4, 0, 0, 0, 5, 0, 0, 0, 6, 0, 0, 0, 7, 0, 0, 0,
+    8, 0, 0, 0, 9, 0, 0, 0, 10, 0, 0, 0, 11, 0, 0, 0, 12, 0, 0, 0, 13, 0, 0, 0, 14, 0, 0, 0, 15, 0,
+    0, 0, 16, 0, 0, 0, 17, 0, 0, 0, 18, 0, 0, 0, 19, 0, 0, 0, 20, 0, 0, 0, 21, 0, 0, 0,
+];
 
 // 88 symbols of five bits each: those from 0 to 21, four times.
 const PACKED: [u8; 55] = [
@@ -133,11 +75,40 @@ const PACKED: [u8; 55] = [
     130, 32, 6, 41, 230, 160, 164, 22, 107, 238, 193, 40, 39, 173,
 ];
 
+// Pushes a number so often.
+fn push_number(bytes: &mut Vec<u8>, number: u32, often: u32) -> Result<(), AllocError> {
+    for _ in 0..often {
+        bytes.extend_from_slice(&number.to_le_bytes())?;
+    }
+    Ok(())
+}
+
+fn push_piece(bytes: &mut Vec<u8>, piece: Piece) -> Result<(), AllocError> {
+    let (text, times, numbers) = piece;
+    for number in 0..times {
+        bytes.extend_from_slice(text)?;
+        push_number(bytes, number, numbers)?;
+    }
+    Ok(())
+}
+
+// That file with this magic and this log.
+fn with_log(alloc: Global, magic: &[u8], log: Piece) -> Result<Vec<u8>, AllocError> {
+    let mut bytes = Vec::from_slice(alloc, magic)?;
+    for piece in BEFORE_LOG {
+        push_piece(&mut bytes, piece)?;
+    }
+    push_piece(&mut bytes, log)?;
+    Ok(bytes)
+}
+
+// The index file of a thousand objects that stand still at (0, 0) from instant 0 to 2^22 - 1. Each rule lasts twice as
+// long as the one before it.
+pub fn four_billion_rows(alloc: Global) -> Result<Vec<u8>, AllocError> {
+    with_log(alloc, b"GRACT001", (&LOG, 1000, 0))
+}
+
 // The same in version 2: 22 symbols are told apart in five bits.
 pub fn four_billion_rows_packed(alloc: Global) -> Result<Vec<u8>, AllocError> {
-    let mut bytes = before_log(alloc, b"GRACT002", 21)?;
-    for _blocks in 0..250u32 {
-        bytes.extend_from_slice(&PACKED)?;
-    }
-    Ok(bytes)
+    with_log(alloc, b"GRACT002", (&PACKED, 250, 0))
 }

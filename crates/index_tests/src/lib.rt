@@ -1,17 +1,10 @@
-//! The tests of all that is made of a chart: blocks of movements, parts, files, indexes, unions of
-//! two, extensions, and meetings.
+//! The tests of what makes a chart and its index: gridding, parts, and the bytes of files.
 #![tactic(auto)]
 
 #[cfg(test)]
-mod answers;
+mod building;
 #[cfg(test)]
 mod charts;
-#[cfg(test)]
-mod cuts;
-#[cfg(test)]
-mod damage;
-#[cfg(test)]
-mod extensions;
 #[cfg(test)]
 mod file_bytes;
 #[cfg(test)]
@@ -19,14 +12,4 @@ mod files;
 #[cfg(test)]
 mod grids;
 #[cfg(test)]
-mod meetings;
-#[cfg(test)]
-mod newest;
-#[cfg(test)]
-mod opening;
-#[cfg(test)]
 mod parts;
-#[cfg(test)]
-mod samples;
-#[cfg(test)]
-mod unions;

@@ -1,7 +1,8 @@
-use crate::charts::chart_of;
+use crate::charts::{Place, chart_of};
 use chart_parts::parts_of;
+use std::alloc::Global;
 use std::test::Fail;
-use track_types::{BitList, Cell, Frame, List32, Parts, PeriodParts};
+use track_types::{BitList, Cell, Frame, List32, Memory, Parts, PeriodParts};
 
 // What a period's parts are expected to be; bits as digits 0 and 1.
 #[derive(Drop)]
@@ -149,22 +150,33 @@ fn is_wide(parts: &Parts) -> bool {
         && are_periods(parts, &[whole])
 }
 
+const PATH: [Place; 3] = [(7, 0, 10, 10), (7, 1, 11, 10), (7, 2, 12, 11)];
+
+const SPARSE: [Place; 5] = [
+    (3, 0, 0, 0),
+    (5, 0, -2, -1),
+    (5, 4, -2, -1),
+    (9, 1, -2, -1),
+    (9, 6, -1, 0),
+];
+
+const WIDE: [Place; 2] = [(1, 0, 0, 0), (2, 0, 15, 15)];
+
+// The parts that a chart is written as.
+fn written(alloc: Global, places: &[Place], period: u32) -> Result<Parts, Memory> {
+    let Ok(chart) = chart_of(alloc, places, period) else {
+        return Err(Memory);
+    };
+    parts_of(alloc, &chart)
+}
+
 #[test]
 fn charts_are_written_as_parts(rt: HostRuntime) -> Result<(), Fail> {
-    let path = [(7, 0, 10, 10), (7, 1, 11, 10), (7, 2, 12, 11)];
-    let parts = parts_of(rt.alloc(), &chart_of(rt.alloc(), &path, 4)?)?;
-    assert!(rt; is_path(&parts), "a path");
-    let sparse = [
-        (3, 0, 0, 0),
-        (5, 0, -2, -1),
-        (5, 4, -2, -1),
-        (9, 1, -2, -1),
-        (9, 6, -1, 0),
-    ];
-    let parts = parts_of(rt.alloc(), &chart_of(rt.alloc(), &sparse, 2)?)?;
-    assert!(rt; is_sparse(&parts), "three objects");
-    let wide = [(1, 0, 0, 0), (2, 0, 15, 15)];
-    let parts = parts_of(rt.alloc(), &chart_of(rt.alloc(), &wide, 4)?)?;
-    assert!(rt; is_wide(&parts), "a wide grid");
+    assert!(rt; is_path(&written(rt.alloc(), &PATH, 4)?), "a path");
+    assert!(rt;
+        is_sparse(&written(rt.alloc(), &SPARSE, 2)?),
+        "three objects"
+    );
+    assert!(rt; is_wide(&written(rt.alloc(), &WIDE, 4)?), "a wide grid");
     Ok(())
 }

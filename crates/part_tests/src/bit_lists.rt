@@ -12,12 +12,23 @@ fn two_of_66(alloc: Global) -> Result<BitList, AllocError> {
     BitList::pack(alloc, bits.as_slice())
 }
 
+// Whether a list has these bits and words.
+fn has_two_of_66(list: &BitList) -> bool {
+    if list.len() != 66 {
+        return false;
+    }
+    let low = list.get(0) || list.get(62);
+    let high = (list.get(63), list.get(64), list.get(65));
+    !low && high == (true, false, true) && (list.word(0), list.word(1)) == (HIGHEST, 2)
+}
+
+// A list is made anew of the words of packed bits: that these fit needs no words to be worked out.
 #[test]
 fn a_bit_list_gives_back_its_bits_and_words(rt: HostRuntime) -> Result<(), Fail> {
-    let list = BitList::new(vec![in rt.alloc(); HIGHEST, 2]?, 66);
-    assert!(rt; list.len() == 66 && list.get(63) && !list.get(64) && list.get(65));
-    assert!(rt; !list.get(0) && !list.get(62), "low bits");
-    assert!(rt; list.word(0) == HIGHEST && list.word(1) == 2, "words");
+    let packed = two_of_66(rt.alloc())?;
+    let len = packed.len();
+    let list = BitList::new(packed.into_words(), len);
+    assert!(rt; has_two_of_66(&list), "bits and words");
     assert!(rt;
         list.into_words().as_slice() == [HIGHEST, 2].as_slice(),
         "all words"

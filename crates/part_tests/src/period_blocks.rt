@@ -77,14 +77,32 @@ fn list_of(alloc: Global, words: &str) -> Result<List32, Memory> {
 // The parts that are spelt so: presence, offsets, tree, lasts, perm and lengths.
 fn parts_of(alloc: Global, spelt: [&str; 6]) -> Result<PeriodParts, Memory> {
     let [present, offsets, tree, lasts, perm, lengths] = spelt;
+    let (present, tree, lasts) = bits_of_three(alloc, [present, tree, lasts])?;
+    let (offsets, perm, lengths) = lists_of_three(alloc, [offsets, perm, lengths])?;
     Ok(PeriodParts {
-        present: bits_of(alloc, present)?,
-        offsets: list_of(alloc, offsets)?,
-        tree: bits_of(alloc, tree)?,
-        lasts: bits_of(alloc, lasts)?,
-        perm: list_of(alloc, perm)?,
-        lengths: list_of(alloc, lengths)?,
+        present,
+        offsets,
+        tree,
+        lasts,
+        perm,
+        lengths,
     })
+}
+
+fn bits_of_three(
+    alloc: Global,
+    [first, second, third]: [&str; 3],
+) -> Result<(BitList, BitList, BitList), Memory> {
+    let (first, second) = (bits_of(alloc, first)?, bits_of(alloc, second)?);
+    Ok((first, second, bits_of(alloc, third)?))
+}
+
+fn lists_of_three(
+    alloc: Global,
+    [first, second, third]: [&str; 3],
+) -> Result<(List32, List32, List32), Memory> {
+    let (first, second) = (list_of(alloc, first)?, list_of(alloc, second)?);
+    Ok((first, second, list_of(alloc, third)?))
 }
 
 // How many ones there are.

@@ -85,14 +85,21 @@ fn few_places_are_read_both_ways(rt: HostRuntime) -> Result<(), Fail> {
     Ok(())
 }
 
-// Seven places on, and with neighbours exchanged.
+// Seven places on, in one cycle.
+fn one_cycle(alloc: Global) -> Result<Vec<u32>, Memory> {
+    Ok((0..100_000u32).map(|i| (i + 7) % 100_000).collect(alloc)?)
+}
+
+// With neighbours exchanged.
+fn pairs(alloc: Global) -> Result<Vec<u32>, Memory> {
+    Ok((0..100_000u32).map(|i| i ^ 1).collect(alloc)?)
+}
+
 #[test]
 fn a_hundred_thousand_places_are_read_both_ways(rt: HostRuntime) -> Result<(), Fail> {
-    let one_cycle: Vec<u32> = (0..100_000u32)
-        .map(|i| (i + 7) % 100_000)
-        .collect(rt.alloc())?;
-    assert!(rt; are_read(&rt, one_cycle.as_slice())?, "one cycle");
-    let pairs: Vec<u32> = (0..100_000u32).map(|i| i ^ 1).collect(rt.alloc())?;
+    let cycle = one_cycle(rt.alloc())?;
+    assert!(rt; are_read(&rt, cycle.as_slice())?, "one cycle");
+    let pairs = pairs(rt.alloc())?;
     assert!(rt; are_read(&rt, pairs.as_slice())?, "pairs");
     Ok(())
 }

@@ -132,21 +132,23 @@ fn has_flaw(alloc: Global, (_what, bits, levels, want): Case) -> Result<bool, Tr
     }
 }
 
+// Whether checked bits stay as they are.
+fn do_bits_stay(alloc: Global) -> Result<bool, TreeFault> {
+    let bits = [I, I, O, O, I, O, O, I, O, I, O, O];
+    let tree = checked(alloc, &bits, (2, 0))?;
+    Ok(are_bits(tree, 3, 12, &[0b0010_1001_0011]))
+}
+
 #[test]
 fn bits_are_a_tree_or_have_their_first_flaw(rt: HostRuntime) -> Result<(), Fail> {
     for case in CASES {
         let (what, ..) = case;
         assert!(rt; has_flaw(rt.alloc(), case)?, "{what}");
     }
+    assert!(rt; do_bits_stay(rt.alloc())?, "checked bits stay");
     let text = format!(in rt.alloc(); "{}", TreeFault::Flaw { place: 4 })?;
     let want = "no tree has these bits: the first flaw is at place 4";
     assert!(rt; text.as_str() == want, "a flaw's text");
-    let bits = [I, I, O, O, I, O, O, I, O, I, O, O];
-    let tree = checked(rt.alloc(), &bits, (2, 0))?;
-    assert!(rt;
-        are_bits(tree, 3, 12, &[0b0010_1001_0011]),
-        "checked bits stay"
-    );
     Ok(())
 }
 
@@ -167,30 +169,30 @@ fn no_cell(alloc: Global) -> Result<K2Tree, Memory> {
     K2Tree::build(alloc, [].as_slice(), 2, 0, BASE)
 }
 
+// Whether the bits of a corner, a diagonal, a wide level and no cell are these.
+fn have_sets_their_bits(alloc: Global) -> Result<bool, Memory> {
+    let is_corner = are_bits(corner(alloc)?, 1, 8, &[0b0010_0010]);
+    let is_diagonal = are_bits(diagonal(alloc)?, 2, 4, &[0b1001]);
+    let words = [0b0010_0001_0000_0000_0000_0010];
+    let is_wide = are_bits(wide_level(alloc)?, 1, 24, &words);
+    Ok(is_corner && is_diagonal && is_wide && are_bits(no_cell(alloc)?, 0, 0, &[]))
+}
+
+// Whether the row's bit is above the column's.
+fn is_row_above() -> bool {
+    let above = morton(Cell { x: 10, y: -19 }, 2, BASE);
+    above == 2 && morton(Cell { x: 13, y: -20 }, 2, BASE) == 5
+}
+
 #[test]
 fn sets_have_their_bits(rt: HostRuntime) -> Result<(), Fail> {
-    let above = morton(Cell { x: 10, y: -19 }, 2, BASE);
-    let right = morton(Cell { x: 13, y: -20 }, 2, BASE);
-    assert!(rt; above == 2 && right == 5, "the row's bit above");
+    assert!(rt; is_row_above(), "the row's bit above");
     let tree = three_cells(rt.alloc())?;
     assert!(rt;
         are_leaves_found::<Brand>(&rt, &tree, Blank::new(1)),
         "leaves"
     );
     assert!(rt; are_bits(tree, 3, 12, &[0b0010_1001_0011]), "three cells");
-    assert!(rt;
-        are_bits(corner(rt.alloc())?, 1, 8, &[0b0010_0010]),
-        "a corner"
-    );
-    assert!(rt;
-        are_bits(diagonal(rt.alloc())?, 2, 4, &[0b1001]),
-        "a diagonal"
-    );
-    let words = [0b0010_0001_0000_0000_0000_0010];
-    assert!(rt;
-        are_bits(wide_level(rt.alloc())?, 1, 24, &words),
-        "a wide level"
-    );
-    assert!(rt; are_bits(no_cell(rt.alloc())?, 0, 0, &[]), "no cell");
+    assert!(rt; have_sets_their_bits(rt.alloc())?, "other sets");
     Ok(())
 }

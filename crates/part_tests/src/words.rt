@@ -10,16 +10,3 @@ pub fn numbers_of(alloc: Global, words: &str) -> Result<Vec<u32>, Memory> {
         .collect(alloc)?;
     Ok(numbers)
 }
-
-// The lists of numbers between slashes; `-` is the list of none.
-pub fn lists_of(alloc: Global, words: &str) -> Result<Vec<Vec<u32>>, Memory> {
-    let mut lists = Vec::new(alloc);
-    for part in words.split('/') {
-        match part {
-            "" => {}
-            "-" => lists.push(Vec::new(alloc))?,
-            _ => lists.push(numbers_of(alloc, part)?)?,
-        }
-    }
-    Ok(lists)
-}

@@ -1,9 +1,0 @@
-use Rattle.std.proofs.Common.{◌<◌, ◌≤◌, length}
-use Rattle.std.specs.List.{AllByRecursion}
-use Rattle.part_tests.proofs.grammars.block_of.Given as goal
-
-abbrev pub invariant-loop-symbol : goal.invariant-loop-symbol
-invariant-loop-symbol l = record {
-  below : AllByRecursion (λ symbol. symbol < l.alphabet) l.block.items;
-  few : length l.block.items ≤ l.symbol-index;
-}
