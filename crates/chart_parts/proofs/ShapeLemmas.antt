@@ -25,7 +25,7 @@ use Rattle.chart_parts.proofs.HeaderLawLemmas.{IsFrame-frame_of}
 use Rattle.chart_parts.proofs.RuleLemmas.{IsInReach-alphabet, symbols_below}
 
 -- a movement stays within the greatest grid, so that its value fits 64 bits
-value-long : (height value : ℕ) → height ≤ MAX_HEIGHT → IsInReach height (movement_of value).0 (movement_of value).1 →
+pub value-long : (height value : ℕ) → height ≤ MAX_HEIGHT → IsInReach height (movement_of value).0 (movement_of value).1 →
     value < 2 ^ 64
 value-long height zero high reach = omega arith
 value-long height (suc code) high reach =

@@ -11,9 +11,10 @@ use track_types::{BitList, Frame, List32, Memory, PeriodParts};
 
 /// The parts of each period, from the headers of all blocks and the lengths of their logs.
 ///
-/// The headers come by period. The lists of a period's parts keep the order of its headers, so these
-/// come by object. It takes time for the blocks, the periods' presence bits and one sort of each
-/// period's anchors.
+/// The headers come by period, at most 2^16 of each, with one length each. Each is of one of so many
+/// objects, and its cell is in the grid. The lists of a period's parts keep the order of its headers,
+/// so these come by object. Headers of periods after the frame's last one are left out. It takes time
+/// for the blocks, the periods' presence bits and one sort of each period's anchors.
 pub fn periods_of(
     alloc: Global,
     frame: Frame,

@@ -89,7 +89,7 @@ pub fn put_header(out: &mut Vec<u8>, header: &Header) -> Result<(), Memory>
     Ok(())
 }
 
-/// Appends the sections of a period, whose tree has at most 2^31 bits.
+/// Appends the sections of a period.
 #[tactic(auto, unfolding(crate::specs::Spelling::period_bytes))]
 fn put_period(out: &mut Vec<u8>, period: &PeriodParts) -> Result<(), Memory>
     ensures { OnOk result (out.new.items ≡ out.old.items ++ period_bytes period.now) }

@@ -6,7 +6,7 @@ ghost use Rattle.index_format.specs.Spelling.{bytes_for, bytes_of_parts, period_
 use crate::log::log_len;
 use track_types::{BitList, Parts, PeriodParts};
 
-/// How many bytes a header has.
+/// How many bytes a header of version 1 or 2 has.
 const HEADER_LEN: usize = 76;
 
 /// How many bytes the bits take. There are fewer than 2^32 bits.

@@ -1,46 +1,32 @@
 -- The parts of an outline are those of an index.
-use Rattle.std.proofs.Common.{All, ◌≡◌, ℕ, zero, suc, ◌+◌, ◌*◌, ◌^◌, ◌<◌, ◌≤◌, length, get_or, map}
-use Rattle.std.proofs.Common.{None, sym, arith, lit<, subst}
+use Rattle.std.proofs.Common.{All, ◌≡◌, ℕ, ◌+◌, ◌^◌, ◌<◌, ◌≤◌, length, get_or, map}
+use Rattle.std.proofs.Common.{None, sym, arith, subst}
 use Rattle.std.specs.Prelude.{nat_lt, slice_index}
 use Rattle.std.proofs.lemmas.Bool.{and_parts, lt-leb, ltb-true}
 use Rattle.std.proofs.lemmas.List.Elements.{All-from_get_or, All-get_or, All-map, All-weaker}
 use Rattle.std.proofs.lemmas.List.FromFn.{length-map-range_with_len}
 use Rattle.list_laws.proofs.NumberLemmas.{least_power}
-use Rattle.spiral_code.specs.Spiral.{square}
-use Rattle.spiral_code.proofs.SpiralLemmas.{move_of-below}
 use Rattle.track_types.specs.Frame.{periods_of}
 use Rattle.track_types.specs.Shape.{AreLong, AreShortPairs, IsShaped, IsShapedPeriod, width_for}
-use Rattle.track_types.specs.declared.limit.TheConstants.{MAX_HEIGHT}
 use Rattle.track_types.specs.declared.parts.Parts.{Parts}
-use Rattle.rule_store.specs.Cells.{movement_of}
 use Rattle.rule_store.specs.Entry.{entry_of}
 use Rattle.rule_store.specs.Expansion.{expansion_of, values_of}
-use Rattle.rule_store.specs.Flaws.{is_rule_flawed, reach_limit, rule_flaw, rule_parts}
+use Rattle.rule_store.specs.Flaws.{is_rule_flawed, rule_flaw, rule_parts}
 use Rattle.rule_store.specs.View.{RulesView, symbols_in}
-use Rattle.rule_store.proofs.FlawLemmas.{reach_limit-high, rules_flaw-none, symbol_flaw-none}
+use Rattle.rule_store.proofs.FlawLemmas.{rules_flaw-none, symbol_flaw-none}
 use Rattle.index_format.specs.IsOutline.{IsOutline}
 use Rattle.index_format.specs.declared.outline.Outline.{Outline}
 use Rattle.snapshots.specs.Parts.{numbers_in, rules_in, start_in}
 use Rattle.snapshots.specs.Sound.{IsSoundPeriod}
-use Rattle.snapshots.specs.SoundParts.{AreSoundRules, IsInReach, IsSound, IsValid}
+use Rattle.snapshots.specs.SoundParts.{AreSoundRules, IsSound, IsValid}
 use Rattle.snapshots.proofs.SoundPartsLemmas.{AreSoundRules-flawless}
 use Rattle.chart_parts.specs.PeriodWith.{period_of_blocks}
+use Rattle.chart_parts.proofs.ShapeLemmas.{value-long}
 use Rattle.outline_parts.specs.PartsOfOutline.{headed, parts_of_outline}
 use Rattle.outline_parts.proofs.LogLemmas.{AreSoundLogs-outline, are-of_period, snapshot-outline}
 use Rattle.outline_parts.proofs.OutlineLemmas.{are-mine, heads-mine, heads_of, lengths-mine, lengths_of}
 use Rattle.outline_parts.proofs.PeriodLemmas.{IsShapedPeriod-heads, IsSoundPeriod-heads}
 use Rattle.outline_parts.proofs.SymbolLemmas.{All-symbols, length-symbols, total-outline}
-
--- a movement stays within the greatest grid, so that its value fits 64 bits
-value-long : (height value : ℕ) → height ≤ MAX_HEIGHT → IsInReach height (movement_of value).0 (movement_of value).1 →
-    value < 2 ^ 64
-value-long height zero high reach = omega arith
-value-long height (suc code) high reach =
-    let near = reach_limit-high height high in
-    let below : code < square (2 * reach_limit MAX_HEIGHT + 1) =
-    (move_of-below code (reach_limit MAX_HEIGHT)).1 (omega arith) in
-    let few : suc (square (2 * reach_limit MAX_HEIGHT + 1)) < 2 ^ 64 = lit< tt in
-    omega (arith, below, few)
 
 module _ (outline : Outline) (is : IsOutline outline) where
   abbrev parts : Parts

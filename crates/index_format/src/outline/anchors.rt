@@ -13,7 +13,7 @@ use bit_stream::BitReader;
 use spiral_code::decode_move;
 use track_types::{Cell, FormatFault, Frame, Kind, Section};
 
-/// The codes of movements that are no longer than a grid may be wide.
+/// How many codes movements have that are no longer than a grid may be wide.
 const CODES: u64 = 33_554_431 * 33_554_431;
 
 /// The cell of the anchor of a block in a period of an object, whose last cell is known if a block of it came before.
