@@ -38,8 +38,8 @@ impl Boxes {
         requires from { All (IsFrom base) list.now }
         ensures ok { IfOk result (λ boxes. boxes ≡ list.now) }
     {
-        let mut corners = Vec::new(alloc);
-        let mut reaches = Vec::new(alloc);
+        let mut corners = Vec::with_capacity(alloc, list.len())?;
+        let mut reaches = Vec::with_capacity(alloc, list.len())?;
         for area in list {
             corners.push((offset(area.x1, base.x), offset(area.y1, base.y)))?;
             reaches.push((offset(area.x2, area.x1), offset(area.y2, area.y1)))?;

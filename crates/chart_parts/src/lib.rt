@@ -2,7 +2,7 @@
 //!
 //! This is the builder of an index. `parts_of` and `into_parts` give exactly the parts of
 //! `specs/PartsOf.antt`. They are the parts of an index, and hold the very chart that they were made
-//! from. `periods_of` makes the parts of the periods from any blocks, as `specs/PeriodWith.antt` says.
+//! from. `period_with` makes the parts of a period from any blocks, as `specs/PeriodWith.antt` says.
 #![tactic(auto)]
 
 mod header;
@@ -12,5 +12,5 @@ mod periods;
 mod presence;
 mod writing;
 
-pub use periods::periods_of;
+pub use periods::{period_with, periods_of};
 pub use writing::{into_parts, parts_of};

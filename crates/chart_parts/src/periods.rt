@@ -57,8 +57,11 @@ fn run_of(heads: &[Head], number: u32) -> usize
     run
 }
 
-// The parts of a period whose blocks have these headers and logs of these lengths.
-fn period_with(
+/// The parts of a period whose blocks have these headers and logs of these lengths.
+///
+/// The headers come by object, and the cell of each is in the grid. It takes time for the blocks, the presence bits and a sort
+/// of the anchors.
+pub fn period_with(
     alloc: Global,
     frame: Frame,
     objects: u32,

@@ -1,4 +1,5 @@
-ghost use Rattle.std.specs.Prelude.{◌≡◌, ◌+◌, ◌-◌, ◌*◌, ◌<◌, ◌≤◌, None, Some, length, drop, IfErr, IfOk, OnOk};
+ghost use Rattle.std.specs.Prelude.{◌≡◌, ◌+◌, ◌-◌, ◌*◌, ◌<◌, ◌≤◌, None, Some, length, take, drop, IfErr, IfOk, OnOk};
+ghost use Rattle.packed_bits.specs.Bits.{ones_of};
 ghost use Rattle.k2_tree.specs.Widths.{widths_of};
 ghost use Rattle.k2_tree.specs.Groups.{upper_in};
 ghost use Rattle.k2_tree.specs.Flaws.{group_flaw, tree_flaw};
@@ -65,6 +66,7 @@ fn ones_of_level(bits: &BitList, start: u32, groups: u32, fan: u32) -> Result<u3
     requires within { start ≤ length bits.now }
     requires few { length bits.now ≤ MAX_TREE }
     requires some { 1 ≤ fan }
+    requires narrow { fan ≤ 16 }
     ensures whole { IfOk result (λ ones. IsLevel fan bits.now start groups ones) }
     ensures flaw { IfErr result (λ place.
         flaw_from start (group_flaw fan groups (drop start bits.now)) ≡ Some place) }
@@ -86,11 +88,27 @@ fn ones_of_level(bits: &BitList, start: u32, groups: u32, fan: u32) -> Result<u3
 fn ones_of_group(bits: &BitList, place: u32, fan: u32) -> u32
     requires within { place ≤ length bits.now }
     requires few { length bits.now ≤ MAX_TREE }
+    requires some { 1 ≤ fan }
+    requires narrow { fan ≤ 16 }
     ensures { result ≡ group_ones fan (drop place bits.now) }
 {
     if bits.len() - place < fan {
         return 0;
     }
+    let skipped = place % 64;
+    if skipped + fan > 64 {
+        return ones_between(bits, place, fan);
+    }
+    let group = (bits.word(place / 64) >> skipped) % (1 << fan);
+    group.count_ones()
+}
+
+// How many of so many bits from a place on are ones.
+fn ones_between(bits: &BitList, place: u32, fan: u32) -> u32
+    requires within { place + fan ≤ length bits.now }
+    requires few { length bits.now ≤ MAX_TREE }
+    ensures { result ≡ ones_of (take fan (drop place bits.now)) }
+{
     let mut ones = 0;
     for i in place..place + fan {
         ones += u32::from(bits.get(i));

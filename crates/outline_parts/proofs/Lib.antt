@@ -11,7 +11,7 @@ pub mod AgainLemmas
 pub mod LogLemmas
 pub mod ValidLemmas
 pub mod PlacedLemmas
-pub mod SortedLemmas
+pub mod RowLemmas
 pub mod RankLemmas
 pub mod PeriodAgainLemmas
 pub mod PieceLemmas

@@ -1,4 +1,4 @@
-ghost use Rattle.std.specs.Prelude.{◌≡◌, ◌+◌, ◌-◌, ◌^◌, ◌<◌, ◌≤◌};
+ghost use Rattle.std.specs.Prelude.{◌≡◌, ◌+◌, ◌*◌, ◌-◌, ◌^◌, ◌<◌, ◌≤◌};
 ghost use Rattle.spiral_code.specs.Spiral.{ring_of, move_of, first_code, square};
 
 /// The ring of a code: the greater of the two distances, in cells, that its movement goes.
@@ -12,7 +12,19 @@ pub fn ring(code: u64) -> u64
     ensures begins { first_code result ≤ code }
     ensures ends { code < first_code (result + 1) }
 {
-    (code.isqrt() + 1) / 2
+    (root(code) + 1) / 2
+}
+
+// The whole square root of a number. Most codes are small, and the root of a small number is found in fewer steps.
+fn root(number: u64) -> u64
+    ensures square_le { result * result ≤ number }
+    ensures next_square_gt { number < (result + 1) * (result + 1) }
+    ensures bound { result < 2 ^ 32 }
+{
+    match u16::try_from(number) {
+        Ok(small) => u64::from(small.isqrt()),
+        Err(_) => number.isqrt(),
+    }
 }
 
 /// The first code of a ring from 1 on.

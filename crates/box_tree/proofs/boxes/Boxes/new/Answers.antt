@@ -15,8 +15,8 @@ use Rattle.box_tree.proofs.boxes.Boxes.new.Goals.{After-area-item}
 pub loop-area-init : goal.loop-area-init
 unfolding boxes_of
 loop-area-init c = record {
-  made = ap (λ cs. boxes_of c.args.base cs c.new-reaches.result.items) c.new-corners.ensures.items;
-  same = ap length c.new-reaches.ensures.items ∙ sym (ap length c.new-corners.ensures.items);
+  made = ap (λ cs. boxes_of c.args.base cs c.in_ok-reaches.reaches.items) c.in_ok-corners.ensures.items;
+  same = ap length c.in_ok-reaches.ensures.items ∙ sym (ap length c.in_ok-corners.ensures.items);
 }
 
 near : (c : After-area-item) → IsBoxWithin c.area-item.result
@@ -54,6 +54,11 @@ offset-requires-in-loop-area-3-clause-high c =
     let a = c.area-item.result in
     let n = near at in let f = from at in
     omega (arith, ints, word_kept a.y1 n.y1, word_kept a.y2 n.y2, f.below, f.above)
+
+pub offset-requires-in-loop-area-3-clause-near : goal.offset-requires-in-loop-area-3-clause-near
+offset-requires-in-loop-area-3-clause-near c =
+    let n = near (goal.at.offset-requires-in-loop-area-3-clause-near c).After-area-item in
+    rw (word_kept c.area-item.result.y1 n.y1) n.y1
 
 pub loop-area-preserved : goal.loop-area-preserved
 loop-area-preserved c =
