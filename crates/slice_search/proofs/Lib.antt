@@ -5,5 +5,6 @@ mod SightingLemmas
 mod SliceLemmas
 mod HitLemmas
 mod SeekerLemmas
+mod LiveLemmas
 mod WalkLemmas
 mod Examples

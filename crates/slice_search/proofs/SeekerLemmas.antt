@@ -1,5 +1,5 @@
 -- Searches side by side: one goes on, and the others stay.
-use Rattle.std.proofs.Common.{◌≡◌, ℕ, ◌+◌, ◌<◌, ℤ, List, [], ◌∷◌, ◌++◌, All, length, map, take, get_or, set, refl, ap, sym, ◌∙◌, append_assoc, arith, pos}
+use Rattle.std.proofs.Common.{◌≡◌, ℕ, ◌+◌, ◌<◌, ℤ, List, [], ◌∷◌, ◌++◌, All, length, map, take, get_or, set, refl, ap, sym, ◌∙◌, append_assoc, arith}
 use Rattle.std.specs.Prelude.{option_to_list, Option}
 use Rattle.std.specs.List.{cons_option, filter_map, refill, sum_by}
 use Rattle.std.proofs.lemmas.List.{append-nil, drop_all, length-map, take_all, take_more, take_more_set}
@@ -10,9 +10,6 @@ use Rattle.list_laws.proofs.OptionLemmas.{append-option}
 use Rattle.track_types.specs.declared.region.Region.{Region}
 use Rattle.track_types.specs.declared.sighting.Sighting.{Sighting}
 use Rattle.rule_store.specs.View.{RulesView}
-use Rattle.rule_store.specs.Cells.{cell_with}
-use Rattle.log_cursor.specs.Start.{start_at}
-use Rattle.log_cursor.specs.declared.descent.Stage.TheVariants.{Within}
 use Rattle.slice_search.specs.Seekers.{AreTurned, IsSeeker, rest_in, seen_by}
 use Rattle.slice_search.specs.declared.seekers.Seeker.{Seeker}
 
@@ -35,10 +32,6 @@ module _ (rules : RulesView) (instant : ℤ) (region : Region) where
   pub turned-again : (before now later : List Seeker) → AreTurned rules instant region before now →
       AreTurned rules instant region now later → AreTurned rules instant region before later
   turned-again before now later turned more = record { sound = more.sound; seen = more.seen ∙ turned.seen }
-
--- a search of no object
-abbrev pub blank : Seeker
-blank = record { object = 0; descent = record { at = start_at (pos 0) (cell_with (pos 0) (pos 0)); stage = Within 0 } }
 
 -- what is written back in the place of searches
 pub refill-same : (xs ws : List Seeker) → length ws ≡ length xs → refill (length xs) xs ws ≡ ws

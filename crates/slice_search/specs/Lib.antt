@@ -3,6 +3,7 @@ pub mod Cost
 pub mod Sought
 pub mod Sightings
 pub mod Seekers
+pub mod Live
 pub mod Reach
 pub mod Monotone
 pub mod Walk

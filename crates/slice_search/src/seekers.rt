@@ -1,10 +1,11 @@
-ghost use Rattle.std.specs.Prelude.{◌≡◌, ◌+◌, ◌≤◌, ℤ, All};
+ghost use Rattle.std.specs.Prelude.{◌≡◌, ◌+◌, ◌<◌, ◌≤◌, ℤ, length, All};
 ghost use Rattle.std.specs.List.{sum_by};
 ghost use Rattle.track_types.specs.declared.region.Region.{Region};
 ghost use Rattle.rule_store.specs.View.{RulesView};
 ghost use Rattle.log_cursor.specs.Descent.{rest_of};
 ghost use Rattle.snapshots.specs.Parts.{rules_in, snapshot_in};
 ghost use Rattle.snapshots.specs.Sound.{IsBlock};
+ghost use Rattle.slice_search.specs.Live.{first_of, AreLive};
 ghost use Rattle.slice_search.specs.Seekers.{
   parted_in,
   reads_in,
@@ -27,6 +28,9 @@ use snapshots::Anchored;
 use std::sync::ledger::Ledger;
 use step_count::Steps;
 use track_types::Sighting;
+
+/// How many blocks are searched side by side.
+pub(crate) const GROUP: usize = 16;
 
 /// An object, and the search for it in its block.
 #[derive(Clone, Copy, Default)]
@@ -73,7 +77,8 @@ impl Seeker {
 }
 
 /// Goes on with all searches side by side, level by level, until each is over: what one waits for in
-/// memory comes while the others go on.
+/// memory comes while the others go on. A list of those that go on spares each level a look at the
+/// others.
 pub(crate) fn search_all<L: Ledger>(
     seekers: &mut [Seeker],
     rules: &RuleStore,
@@ -81,58 +86,78 @@ pub(crate) fn search_all<L: Ledger>(
     test: &RegionTest,
     steps: &mut Steps<L>,
 )
-    requires { All (IsSeeker rules.now instant) seekers.old }
+    requires few { length seekers.old ≤ 16 }
+    requires sound { All (IsSeeker rules.now instant) seekers.old }
     ensures turned { AreTurned rules.now instant test.now.region seekers.old seekers.new }
     ensures over { sum_by rest_in seekers.new ≡ 0 }
     ensures cost { steps.new ≤ steps.old
         + sum_by (reads_in rules.now instant test.now.region) seekers.old }
 {
-    while judge_all(seekers, rules, instant, test) > 0 {
-        open_all(seekers, rules, instant, steps);
-        turn_all(seekers, rules, instant);
+    let mut live: [u32; GROUP] = [0, 1, 2, 3, 4, 5, 6, 7, 8, 9, 10, 11, 12, 13, 14, 15];
+    let mut count = seekers.len();
+    while count > 0 {
+        count = judge_all(seekers, &mut live, count, rules, instant, test);
+        open_all(seekers, &live, count, rules, instant, steps);
+        turn_all(seekers, &live, count, rules, instant);
     }
 }
 
-// Asks the box of each search's symbol. How many are not over then, each at a rule to be opened.
-fn judge_all(seekers: &mut [Seeker], rules: &RuleStore, instant: i64, test: &RegionTest) -> usize
-    requires { All (IsSeeker rules.now instant) seekers.old }
+// Asks the box of the symbol of each search in a list, and takes those out of the list that are over
+// then. How many are left, each at a rule to be opened.
+fn judge_all(
+    seekers: &mut [Seeker],
+    live: &mut [u32; GROUP],
+    count: usize,
+    rules: &RuleStore,
+    instant: i64,
+    test: &RegionTest,
+) -> usize
+    requires few { count ≤ 16 }
+    requires live { AreLive live.old count seekers.old }
+    requires sound { All (IsSeeker rules.now instant) seekers.old }
     ensures turned { AreTurned rules.now instant test.now.region seekers.old seekers.new }
-    ensures turning { result ≡ sum_by turning_in seekers.new }
-    ensures rest { result ≡ sum_by rest_in seekers.new }
+    ensures few { result ≤ count }
+    ensures live { AreLive live.new result seekers.new }
+    ensures first { 0 < count
+        → result + 1 ≤ count + turning_in (first_of live.new seekers.new) }
     ensures weight { sum_by weight_in seekers.new ≤ sum_by weight_in seekers.old }
     ensures cost { sum_by (reads_in rules.now instant test.now.region) seekers.new
         ≤ sum_by (reads_in rules.now instant test.now.region) seekers.old }
 {
-    let mut count = 0usize;
-    for i in 0..seekers.len() {
-        if seekers[i].descent.is_over() {
-            continue;
-        }
+    let mut left = 0usize;
+    for k in 0..count {
+        let place = live[k];
+        let i = place as usize;
         let descent = seekers[i].descent.judged(rules, instant, test);
         seekers[i].descent = descent;
-        count += rest_of(descent);
+        live[left] = place; // without a branch: where the search is over, the next is put here
+        left += rest_of(descent);
     }
-    count
+    left
 }
 
-// Opens the rule of each search that is at one.
+// Opens the rule of each search in a list that is at one.
 fn open_all<L: Ledger>(
     seekers: &mut [Seeker],
+    live: &[u32; GROUP],
+    count: usize,
     rules: &RuleStore,
     instant: i64,
     steps: &mut Steps<L>,
 )
-    requires { All (IsSeeker rules.now instant) seekers.old }
+    requires few { count ≤ 16 }
+    requires live { AreLive live.now count seekers.old }
+    requires sound { All (IsSeeker rules.now instant) seekers.old }
     ensures turned { (region : Region) → AreTurned rules.now instant region seekers.old seekers.new }
-    ensures parted { sum_by parted_in seekers.new ≡ sum_by turning_in seekers.old }
+    ensures live { AreLive live.now count seekers.new }
+    ensures first { 0 < count → turning_in (first_of live.now seekers.old)
+        ≤ parted_in (first_of live.now seekers.new) }
     ensures weight { sum_by weight_in seekers.new ≤ sum_by weight_in seekers.old }
     ensures cost { (region : Region) → steps.new + sum_by (reads_in rules.now instant region)
         seekers.new ≤ steps.old + sum_by (reads_in rules.now instant region) seekers.old }
 {
-    for i in 0..seekers.len() {
-        if seekers[i].descent.is_over() {
-            continue;
-        }
+    for k in 0..count {
+        let i = live[k] as usize;
         seekers[i].descent = seekers[i].descent.opened(rules, instant, steps);
     }
 }
@@ -145,19 +170,27 @@ fn rest_of(descent: Descent) -> usize
     if descent.is_over() { 0 } else { 1 }
 }
 
-// Turns each search to the part that has the instant.
-fn turn_all(seekers: &mut [Seeker], rules: &RuleStore, instant: i64)
-    requires { All (IsSeeker rules.now instant) seekers.old }
+// Turns each search in a list to the part that has the instant.
+fn turn_all(
+    seekers: &mut [Seeker],
+    live: &[u32; GROUP],
+    count: usize,
+    rules: &RuleStore,
+    instant: i64,
+)
+    requires few { count ≤ 16 }
+    requires live { AreLive live.now count seekers.old }
+    requires sound { All (IsSeeker rules.now instant) seekers.old }
     ensures turned { (region : Region) → AreTurned rules.now instant region seekers.old seekers.new }
-    ensures weight { sum_by weight_in seekers.new + sum_by parted_in seekers.old
-        ≤ sum_by weight_in seekers.old }
+    ensures live { AreLive live.now count seekers.new }
+    ensures weight { sum_by weight_in seekers.new ≤ sum_by weight_in seekers.old }
+    ensures less { 0 < count → sum_by weight_in seekers.new
+        + parted_in (first_of live.now seekers.old) ≤ sum_by weight_in seekers.old }
     ensures cost { (region : Region) → sum_by (reads_in rules.now instant region) seekers.new
         ≤ sum_by (reads_in rules.now instant region) seekers.old }
 {
-    for i in 0..seekers.len() {
-        if seekers[i].descent.is_over() {
-            continue;
-        }
+    for k in 0..count {
+        let i = live[k] as usize;
         seekers[i].descent = seekers[i].descent.turned(rules, instant);
     }
 }

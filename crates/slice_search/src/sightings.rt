@@ -8,7 +8,7 @@ ghost use Rattle.slice_search.specs.Sightings.{sighting_in};
 ghost use Rattle.slice_search.specs.Seekers.{reads_in, rest_in, seen_by, IsSeeker};
 ghost use Rattle.slice_search.specs.Sought.{log_reads};
 
-use crate::seekers::{Seeker, search_all};
+use crate::seekers::{GROUP, Seeker, search_all};
 use crate::sought::Sought;
 use arrayvec::ArrayVec;
 use snapshots::Anchored;
@@ -16,9 +16,6 @@ use std::alloc::Global;
 use std::sync::ledger::Ledger;
 use step_count::Steps;
 use track_types::{Lazy, Memory, Sighting};
-
-// How many blocks are searched side by side.
-const GROUP: usize = 16;
 
 // The sightings of the blocks of a walk at the first instant of a window, in the walk's order.
 pub fn sightings<W: Lazy<Item = Anchored>, L: Ledger>(

@@ -1,41 +1,56 @@
-use Rattle.std.proofs.Common.{◌≡◌, ◌<◌, get_or, length, ap, arith}
+use Rattle.std.proofs.Common.{◌≡◌, ◌<◌, ◌≤◌, get_or, length, ap, sym, ◌∙◌, arith}
+use Rattle.std.specs.Prelude.{slice_index}
 use Rattle.std.specs.Option.{option_map}
 use Rattle.std.proofs.lemmas.Int.{ints}
 use Rattle.std.proofs.lemmas.List.Elements.{All-set}
 use Rattle.std.proofs.lemmas.List.Sums.{sum_by-set}
 use Rattle.log_cursor.proofs.StopLemmas.{word}
+use Rattle.slice_search.specs.Live.{blank, first_of}
 use Rattle.slice_search.specs.Seekers.{IsSeeker, parted_in, reads_in, turning_in, weight_in}
 use Rattle.slice_search.specs.Sightings.{seen_at}
 use Rattle.slice_search.specs.declared.seekers.Seeker.{Seeker}
-use Rattle.slice_search.proofs.SeekerLemmas.{blank, sum-more, turned-next}
+use Rattle.slice_search.proofs.LiveLemmas.{first-set, later-place, live-set}
+use Rattle.slice_search.proofs.SeekerLemmas.{turned-next}
 use Rattle.slice_search.proofs.seekers.open_all.Goals as goal
+
+pub bounds-seekers-i : goal.bounds-seekers-i
+bounds-seekers-i g c = c.loop-k.invariant.live.below c.loop-k.k c.loop-k-test.true
+
+pub bounds-seekers-i-in-loop-k : goal.bounds-seekers-i-in-loop-k
+bounds-seekers-i-in-loop-k g c = c.loop-k.invariant.live.below c.loop-k.k c.loop-k-test.true
 
 pub opened-requires : goal.opened-requires
 opened-requires g c =
-    let within : c.loop-i.i < length c.loop-i.seekers = omega (arith, c.loop-i-test.true) in
-    c.loop-i.invariant.sound c.loop-i.i blank within
+    c.loop-k.invariant.sound (slice_index c.args.live.now c.loop-k.k) blank
+    (c.loop-k.invariant.live.below c.loop-k.k c.loop-k-test.true)
 
-pub loop-i-preserved : goal.loop-i-preserved
-loop-i-preserved g c =
+pub loop-k-preserved : goal.loop-k-preserved
+loop-k-preserved g c =
     let rules = c.args.rules.now in
     let instant = word c.args.instant in
-    let now = c.loop-i.seekers in
-    let i = c.loop-i.i in
+    let now = c.loop-k.seekers in
+    let live = c.args.live.now in
+    let k = c.loop-k.k in
+    let its = c.loop-k.invariant in
+    let i = slice_index live k in
     let own : Seeker = get_or now i blank in
     let next : Seeker = record { object = own.object; descent = c.opened.result } in
-    let its = c.loop-i.invariant in
     let opened = c.opened.ensures in
-    let within : i < length now = omega (arith, c.loop-i-test.true) in
-    let parts = sum-more parted_in now i next within in
-    let turns = sum-more turning_in now i next within in
-    let all = sum_by-set turning_in now i next blank within in
+    let within : i < length now = its.live.below k c.loop-k-test.true in
     let weights = sum_by-set weight_in now i next blank within in
+    let before = turning_in (first_of live c.args.seekers.now) in
     record {
+      long = its.long;
       sound = All-set (IsSeeker rules instant) now i next opened.sound its.sound;
       turned = λ region. turned-next rules instant region c.args.seekers.now now i next blank (its.turned region)
           opened.sound (ap (option_map (seen_at own.object)) (opened.hit region));
-      turning = omega (arith, its.turning, all, opened.turn);
-      parted = omega (arith, its.parted, parts, turns, opened.opened);
+      live = live-set live c.args.count k now next its.live c.loop-k-test.true;
+      turning = first-set (λ s. turning_in s ≡ before) live now i next within
+          (λ same. opened.turn ∙ sym (ap (λ p. turning_in (get_or now p blank)) same) ∙ its.turning)
+          (λ other. its.turning);
+      parted = λ some. first-set (λ s. turning_in s ≤ parted_in s) live now i next within
+          (λ same. omega (arith, opened.opened))
+          (λ other. its.parted (later-place live k other));
       weight = omega (arith, its.weight, weights, opened.weight);
       cost = λ region. omega (
         arith,
@@ -48,9 +63,9 @@ loop-i-preserved g c =
 pub returns-clause-turned : goal.returns-clause-turned
 returns-clause-turned g c region =
     let kept : word c.args.instant ≡ c.args.instant = omega (arith, ints) in
-    rw kept at (c.loop-i.invariant.turned region)
+    rw kept at (c.loop-k.invariant.turned region)
 
 pub returns-clause-cost : goal.returns-clause-cost
 returns-clause-cost g c region =
     let kept : word c.args.instant ≡ c.args.instant = omega (arith, ints) in
-    rw kept at (c.loop-i.invariant.cost region)
+    rw kept at (c.loop-k.invariant.cost region)

@@ -1,6 +1,7 @@
 use Rattle.std.proofs.Common.{◌<◌, ◌≤◌, length, arith}
 use Rattle.std.proofs.lemmas.List.{take_all}
-use Rattle.slice_search.proofs.SeekerLemmas.{blank, pushed-next, rest-none}
+use Rattle.slice_search.specs.Live.{blank}
+use Rattle.slice_search.proofs.SeekerLemmas.{pushed-next, rest-none}
 use Rattle.slice_search.proofs.sightings.push_all.Goals as goal
 
 pub loop-i-preserved : goal.loop-i-preserved
