@@ -1,6 +1,8 @@
 -- Two walks side by side: the stop that comes first may be let go, where it is no meeting.
-use Rattle.std.proofs.Common.{◌≡◌, ℕ, suc, ◌+◌, ◌*◌, ◌<◌, ◌≤◌, ℤ, ◌≤ℤ◌, ◌<ℤ◌, Bool, true, false, List, [], ◌∷◌, ◌++◌, append_assoc, length, map, filter, get_or, Some, None, refl, ap, sym, subst, ◌∙◌, arith, All, inl, inr}
+use Rattle.std.proofs.Common.{◌≡◌, ℕ, suc, ◌+◌, ◌*◌, ◌<◌, ◌≤◌, ℤ, ◌≤ℤ◌, ◌<ℤ◌, Bool, true, false, List, [], ◌∷◌, ◌++◌, append_assoc, length, map, filter, get_or, Option, Some, None, refl, ap, sym, subst, ◌∙◌, arith, All, inl, inr}
 use Rattle.std.specs.Prelude.{nat_le}
+use Rattle.std.specs.Int.Signed.{le_z}
+use Rattle.std.specs.Option.{IfSome}
 use Rattle.std.specs.Ordering.{int_eq}
 use Rattle.std.proofs.lemmas.Bool.{and_parts, cases_Bool}
 use Rattle.std.proofs.lemmas.Bool.Decides.{nat_tests}
@@ -15,11 +17,13 @@ use Rattle.track_types.specs.Chart.{ChartView}
 use Rattle.track_types.specs.Near.{IsCellWithin}
 use Rattle.track_types.specs.Region.{squared_distance}
 use Rattle.track_types.specs.Row.{row_order}
+use Rattle.track_types.specs.StopWalk.{IsDrawnInTime}
 use Rattle.track_types.specs.Table.{IsTable}
+use Rattle.track_types.specs.declared.meeting.Meeting.{Meeting}
 use Rattle.track_types.specs.declared.row.Row.{Row}
 use Rattle.track_types.specs.declared.stop.Stop.{Stop}
 use Rattle.track_types.specs.Meeting.{are_together, first_together, pairs_of}
-use Rattle.encounter.specs.Walked.{AreWalked, IsTrack}
+use Rattle.encounter.specs.Walked.{AreReadInTime, AreWalked, IsTrack}
 use Rattle.encounter.proofs.PairLemmas.{first_pair-apart, first_pair-found, first_pair-left, first_pair-right}
 
 -- what a test keeps passes it
@@ -201,3 +205,59 @@ module _ (reach : ℕ) where
 
     pub drawn-found : are_together reach left right ≡ true → first_together reach lefts rights ≡ Some (left, right)
     drawn-found met = is.same ∙ both-found left right more others is.left_is is.right_is met
+
+-- a stop before an instant is not at it or after it
+not-past : (instant : ℤ) (stop : Stop) → stop.instant <ℤ instant → le_z instant stop.instant ≡ false
+not-past instant stop before = grind (arith, ints)
+
+-- the next stop of a track comes after the first
+pub next-after : (stop next : Stop) (more later : List Stop) → IsTrack (stop ∷ more) → more ≡ next ∷ later →
+    stop.instant <ℤ next.instant
+next-after stop next more later is are =
+    let track = subst IsTrack (ap (λ stops. stop ∷ stops) are) is in track.ascending 0 1 stop (omega arith) (omega arith)
+
+-- what both walks have read by their first draws
+pub in_time-both : (begun middle steps : ℕ) (one other mine theirs : ℤ → ℕ) (left right : Stop)
+    → IsDrawnInTime one mine begun middle (Some left) → IsDrawnInTime other theirs middle steps (Some right)
+    → AreReadInTime begun (λ instant. one instant + other instant) left right mine theirs steps
+in_time-both begun middle steps one other mine theirs left right first second = record {
+  until = λ instant _ _. omega (arith, first instant, second instant);
+}
+
+module _ (begun steps : ℕ) (before mine theirs : ℤ → ℕ) (left right : Stop)
+    (is : AreReadInTime begun before left right mine theirs steps) where
+  -- and by one more draw
+  module _ (now : ℕ) (later : ℤ → ℕ) (next : Stop) where
+    pub in_time-right : right.instant <ℤ left.instant → IsDrawnInTime theirs later steps now (Some next)
+        → AreReadInTime begun before left next mine later now
+    in_time-right early drawn = record {
+      until = λ instant here there.
+          let so_far = rw (not-past instant right (omega (arith, ints, early, here))) at
+          (is.until instant here (omega (arith, ints, early, here))) in
+          omega (arith, so_far, drawn instant);
+    }
+
+    pub in_time-left : left.instant <ℤ next.instant → IsDrawnInTime mine later steps now (Some next)
+        → AreReadInTime begun before next right later theirs now
+    in_time-left early drawn = record {
+      until = λ instant here there.
+          let so_far = rw (not-past instant left (omega (arith, ints, early, here))) at
+          (is.until instant (omega (arith, ints, early, here)) there) in
+          omega (arith, so_far, drawn instant);
+    }
+
+  -- no more was read than until the instant at which both are
+  pub in_time-found : right.instant ≡ left.instant → steps ≤ begun + before left.instant
+  in_time-found same =
+      let here : left.instant ≤ℤ left.instant = omega (arith, ints) in
+      let there : right.instant ≤ℤ left.instant = omega (arith, ints, same) in
+      omega (arith, is.until left.instant here there)
+
+-- where less is read up to each instant, less is read up to a meeting
+pub sooner-found : (found : Option Meeting) (steps begun : ℕ) (one other mine theirs : ℤ → ℕ)
+    → IfSome found (λ (meeting : Meeting). steps ≤ begun + (one meeting.instant + other meeting.instant))
+    → ((instant : ℤ) → one instant ≤ mine instant) → ((instant : ℤ) → other instant ≤ theirs instant)
+    → IfSome found (λ (meeting : Meeting). steps ≤ begun + (mine meeting.instant + theirs meeting.instant))
+sooner-found None steps begun one other mine theirs reads first second = tt
+sooner-found (Some meeting) steps begun one other mine theirs reads first second =
+    omega (arith, reads, first meeting.instant, second meeting.instant)

@@ -1,8 +1,9 @@
 -- Two walks that are drawn side by side.
-use Rattle.std.specs.Prelude.{◌≡◌, ℕ, ◌+◌, ◌<◌, ◌≤◌, ℤ, ◌<ℤ◌, List, ◌∷◌, ◌++◌, length, get_or, All}
+use Rattle.std.specs.Prelude.{◌≡◌, ℕ, ◌+◌, ◌<◌, ◌≤◌, ℤ, ◌≤ℤ◌, ◌<ℤ◌, List, ◌∷◌, ◌++◌, length, get_or, All, Some}
 use Rattle.track_types.specs.Near.{IsCellWithin}
 use Rattle.track_types.specs.declared.stop.Stop.{Stop}
 use Rattle.track_types.specs.Meeting.{first_together}
+use Rattle.track_types.specs.StopWalk.{unless_past}
 
 -- the stops of one object: in strict order of their instants, in near cells
 pub record IsTrack (stops : List Stop) : Type 0 where
@@ -38,3 +39,10 @@ pub record AreWalked (reach : ℕ) (lefts rights : List Stop) (budget : ℕ) (le
   pub left_all : lefts ≡ drawn ++ (left ∷ more)
   pub passed : List Stop
   pub right_all : rights ≡ passed ++ (right ∷ others)
+
+-- What two walks have read, where these two stops were drawn last: until a stop at an instant that is not before them, or
+-- after it, is drawn of either, no more than both counts, which were known of them before they were drawn from.
+pub record AreReadInTime (begun : ℕ) (before : ℤ → ℕ) (left right : Stop) (mine theirs : ℤ → ℕ) (steps : ℕ) : Type 0 where
+  pub until : (instant : ℤ) → left.instant ≤ℤ instant → right.instant ≤ℤ instant
+      → steps + (unless_past instant (Some left) (mine instant) + unless_past instant (Some right) (theirs instant))
+      ≤ begun + before instant

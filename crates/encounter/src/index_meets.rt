@@ -33,6 +33,7 @@ impl<'a> IndexMeets<'a> {
 impl<'a> Answerer for IndexMeets<'a> {
     ghost use Rattle.encounter.specs.IndexCost.{meets_cost};
     ghost use Rattle.snapshots.specs.Parts.{chart_in};
+    ghost use Rattle.track_index.specs.Cost.{path_cost_until};
     ghost use Rattle.track_index.specs.Facts.{facts_of};
 
     type Walk = PathWalk<'a>;
@@ -42,6 +43,8 @@ impl<'a> Answerer for IndexMeets<'a> {
     ghost facts = { λ m. facts_of m.view.index.now };
 
     ghost cost = { λ m. meets_cost m.view.index.now };
+
+    ghost path_cost_until = { λ m. path_cost_until m.view.index.now };
 
     fn facts(self) -> Facts {
         self.view.facts()

@@ -7,12 +7,12 @@ ghost use Rattle.encounter.specs.Walked.{AreAfter, IsTrack};
 
 use std::sync::ledger::Ledger;
 use step_count::Steps;
-use track_types::{Lazy, Meeting, Stop, dist2};
+use track_types::{Meeting, Stop, StopWalk, dist2};
 
 /// The first meeting of two walks, each over the stops of one object. The walk that is at the
 /// earlier instant is drawn from, until both are at one instant within the distance. No stop after
-/// that instant is drawn.
-pub fn first_of_walks<W: Lazy<Item = Stop>, L: Ledger>(
+/// that instant is drawn, and no more is read than until both walks give one there.
+pub fn first_of_walks<W: StopWalk, L: Ledger>(
     one: &mut W,
     other: &mut W,
     reach: u64,
@@ -29,12 +29,14 @@ pub fn first_of_walks<W: Lazy<Item = Stop>, L: Ledger>(
     ensures rest { steps.new + (W.budget one.new + W.budget other.new)
         ≤ steps.old + (W.budget one.old + W.budget other.old) }
     ensures cost { steps.new ≤ steps.old + (W.budget one.old + W.budget other.old) }
+    ensures sooner { IfSome result (λ (meeting : MeetingView). steps.new ≤ steps.old
+        + (W.reads_past one.old meeting.instant + W.reads_past other.old meeting.instant)) }
 {
-    let mut here = one.draw(steps)?;
-    let mut there = other.draw(steps)?;
+    let mut here = one.next(steps)?;
+    let mut there = other.next(steps)?;
     'drawn: loop {
         if there.instant < here.instant {
-            there = other.draw(steps)?;
+            there = other.next(steps)?;
             continue;
         }
         if are_together(here, there, reach) {
@@ -44,7 +46,7 @@ pub fn first_of_walks<W: Lazy<Item = Stop>, L: Ledger>(
                 right: there.cell,
             });
         }
-        here = one.draw(steps)?;
+        here = one.next(steps)?;
     }
 }
 

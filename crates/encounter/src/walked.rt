@@ -40,6 +40,8 @@ impl<A: Answerer> Answerer for Walked<A> {
 
     ghost cost = { λ w. walked_cost (A.cost w.answerer) };
 
+    ghost path_cost_until = { λ w. A.path_cost_until w.answerer };
+
     fn facts(self) -> Facts {
         self.answerer.facts()
     }
@@ -109,6 +111,9 @@ impl<A: Answerer> Meets for Walked<A> {
             (path_of (A.chart self.answerer).rows right from to)
             (steps.old + (A.cost self.answerer (asked.Path left from to)
             + A.cost self.answerer (asked.Path right from to))) steps.new)) }
+        ensures sooner { IfOk result (λ found. IfSome found (λ (meeting : MeetingView). steps.new
+            ≤ steps.old + (A.path_cost_until self.answerer left from to meeting.instant
+            + A.path_cost_until self.answerer right from to meeting.instant))) }
     {
         let _ = self.answerer.facts(); // says that the chart is a table
         let mut one = self.answerer.walk(alloc, left, from, to)?;

@@ -7,9 +7,10 @@ use Rattle.track_types.specs.declared.row.Row.{Row}
 use Rattle.track_types.specs.declared.setting.Setting.TheVariants as setting
 use Rattle.index_merge.specs.MergeFault.{common_fault, settings_fault}
 use Rattle.track_types.specs.declared.stop.Stop.{Stop}
-use Rattle.path_union.specs.Reads.{first_beyond, up_to}
+use Rattle.track_types.specs.StopWalk.{first_past, up_to}
+use Rattle.path_union.specs.Reads.{first_beyond}
 use Rattle.path_union.specs.Union.{rows_of_both}
-use Rattle.index_merge.specs.Cost.{first_past, shares_cost}
+use Rattle.index_merge.specs.Cost.{shares_cost}
 use Rattle.index_merge.specs.Union.{extension_of, union_of}
 use Rattle.index_merge.specs.declared.fault.MergeFault.TheVariants as fault
 

@@ -12,7 +12,7 @@ use Rattle.track_types.proofs.RegionLemmas.{is_between-from}
 use Rattle.rule_store.specs.Log.{in_window}
 use Rattle.snapshots.specs.Parts.{chart_in, last_in, numbers_in, row_of, rows_in, stops_in}
 use Rattle.snapshots.specs.SoundParts.{IsValid}
-use Rattle.track_index.specs.Cost.{cost_of}
+use Rattle.track_index.specs.Cost.{cost_of, path_cost_until}
 use Rattle.track_index.specs.Facts.{facts_of}
 use Rattle.track_types.specs.declared.facts.Facts.{Facts}
 use Rattle.track_types.specs.declared.question.Question.TheVariants as question
@@ -20,10 +20,7 @@ use Rattle.object_track.proofs.ChartLemmas.{path_of-known}
 use Rattle.object_track.proofs.MetLemmas.{period-inside}
 use Rattle.object_track.proofs.StopsLemmas.{All-stops_in}
 use Rattle.object_track.proofs.TableLemmas.{index_in-own}
-use Rattle.snapshots.specs.IndexCost.{path_cost}
-use Rattle.path_union.specs.Reads.{up_to}
-use Rattle.index_merge.specs.Cost.{first_past, path_cost_past, whole_path_cost}
-use Rattle.index_merge.proofs.ReadsLemmas.{up_to-less}
+use Rattle.index_merge.specs.Cost.{path_cost_past, whole_path_cost}
 
 module _ (parts : Parts) (valid : IsValid parts) where
   -- all stops of a period are from the first instant to the last
@@ -77,14 +74,6 @@ module _ (parts seen : Parts) (place object : ℕ) (from to : ℤ) (its : seen �
   drawn-reads reads within = rw (from_is, to_is, its) at within
 
   -- and until a stop is passed for what its path costs so far
-  pub drawn-past : (stops : List Stop) (reads_to : ℤ → ℕ) (reads : ℕ) → stops ≡ path_of (chart_in seen).rows object from to
-      → reads ≤ cost_of seen (question.Path object from to)
-      → ((instant : ℤ) → reads_to instant ≤ path_cost seen object from instant)
-      → (instant : ℤ) → up_to (λ (stop : Stop). reads_to stop.instant) reads (first_past instant stops) ≤ path_cost_past parts object instant
-  drawn-past stops reads_to reads are within each instant =
-      let all : stops ≡ path_of (chart_in parts).rows object parts.frame.first (last_in parts.frame) =
-      are ∙ rw (from_is, to_is, its) refl in
-      rw all
-      (up_to-less (λ (stop : Stop). reads_to stop.instant) (λ (stop : Stop). path_cost parts object parts.frame.first stop.instant) reads
-      (whole_path_cost parts object) (first_past instant (path_of (chart_in parts).rows object parts.frame.first (last_in parts.frame)))
-      (λ stop. rw (from_is, its) at each stop.instant) (drawn-reads reads within))
+  pub drawn-past : (past : ℤ → ℕ) → ((instant : ℤ) → past instant ≤ path_cost_until seen object from to instant)
+      → (instant : ℤ) → past instant ≤ path_cost_past parts object instant
+  drawn-past past each instant = rw (from_is, to_is, its) at each instant

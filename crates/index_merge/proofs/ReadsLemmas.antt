@@ -1,72 +1,19 @@
 -- What is read of the paths of an index until a row is passed.
-use Rattle.std.proofs.Common.{◌≡◌, ℕ, ℤ, ◌≤ℤ◌, suc, ◌+◌, ◌<◌, ◌≤◌, true, false, List, [], ◌∷◌, ◌++◌, length, drop, Option, None, Some, refl, sym, ap, ◌∙◌, arith, inl, inr}
+use Rattle.std.proofs.Common.{◌≡◌, ℕ, ℤ, suc, ◌+◌, ◌<◌, ◌≤◌, true, false, List, length, drop, Option, None, Some, refl, sym, ap, ◌∙◌, arith}
 use Rattle.std.specs.Prelude.{◌==◌, nat_lt, slice_index}
-use Rattle.std.specs.Int.Signed.{le_z}
 use Rattle.std.specs.List.{sum_by}
-use Rattle.std.specs.Option.{IfNone, IfSome, option_to_list}
-use Rattle.std.proofs.lemmas.Bool.{cases_Bool}
 use Rattle.std.proofs.lemmas.Bool.Decides.{nat_tests}
-use Rattle.std.proofs.lemmas.Int.{ints}
 use Rattle.std.proofs.lemmas.List.Sums.{sum_by-cons}
 use Rattle.std.proofs.Math.Seq.{drop-cons}
 use Rattle.track_types.specs.declared.parts.Parts.{Parts}
 use Rattle.track_types.specs.declared.row.Row.{Row}
-use Rattle.track_types.specs.declared.stop.Stop.{Stop}
 use Rattle.track_types.specs.Limits.{limit_of}
 use Rattle.track_types.specs.declared.limit.LimitKind.TheVariants.{Rows}
-use Rattle.path_union.specs.Reads.{IsDrawnInTime, IsTaken, first_beyond, up_to}
-use Rattle.index_merge.specs.Cost.{cost_share, drawing_cost, first_past, path_cost_past, paths_cost, paths_cost_past, shares_cost, whole_path_cost}
+use Rattle.path_union.specs.Reads.{IsTaken, first_beyond, up_to}
+use Rattle.index_merge.specs.Cost.{cost_share, drawing_cost, path_cost_past, paths_cost, paths_cost_past, shares_cost, whole_path_cost}
 use Rattle.index_merge.specs.Paths.{cost_past_from}
 
--- a stop of an index's walk was drawn by no read that is made for later stops alone
-abbrev pub IsSoonDrawn : (ℤ → ℕ) → (ℤ → ℕ) → ℕ → ℕ → Stop → Type 0
-IsSoonDrawn before now begun steps stop =
-    (instant : ℤ) → stop.instant ≤ℤ instant → steps + now instant ≤ begun + before instant
-
-later_from : (instant : ℤ) (stop other : Stop) → le_z instant stop.instant ≡ false → le_z instant other.instant ≡ true
-    → stop.instant ≤ℤ other.instant
-later_from instant stop other before past = grind (arith, ints)
-
--- the first stop at an instant or after it is such a one
-past-first_past : (instant : ℤ) (stops : List Stop) → IfSome (first_past instant stops) (λ stop. le_z instant stop.instant ≡ true)
-past-first_past instant [] = tt
-past-first_past instant (stop ∷ stops) = elim (cases_Bool (le_z instant stop.instant)) [
-  | inl past ↦ rw past past
-  | inr before ↦ rw before (past-first_past instant stops)
-]
-
--- a stop of an index's walk was drawn, by what is read up to an instant
-module _ (to to_now : ℤ → ℕ) (all left begun steps : ℕ) (cost : steps + left ≤ begun + all) where
-  -- it is before the instant, and the first that is not is still to come
-  drawn-before : (instant : ℤ) (stop : Stop) (end : Option Stop) → IsSoonDrawn to to_now begun steps stop
-      → le_z instant stop.instant ≡ false → IfSome end (λ other. le_z instant other.instant ≡ true)
-      → steps + up_to (λ (other : Stop). to_now other.instant) left end ≤ begun + up_to (λ (other : Stop). to other.instant) all end
-  drawn-before instant stop None soon before past = cost
-  drawn-before instant stop (Some other) soon before past = soon other.instant (later_from instant stop other before past)
-
-  pub drawn-in_time : (result : Option Stop) (stops now : List Stop) → stops ≡ option_to_list result ++ now → IfNone result (stops ≡ [])
-      → IfSome result (IsSoonDrawn to to_now begun steps)
-      → IsDrawnInTime (λ instant. up_to (λ (stop : Stop). to stop.instant) all (first_past instant stops))
-      (λ instant. up_to (λ (stop : Stop). to_now stop.instant) left (first_past instant now)) begun steps result
-  drawn-in_time None stops now found none soon instant =
-      let nothing : now ≡ [] = sym found ∙ none in
-      rw (none, nothing) cost
-  drawn-in_time (Some stop) stops now found none soon instant = elim (cases_Bool (le_z instant stop.instant)) [
-    | inl past ↦
-        let same : stop.instant ≤ℤ stop.instant = omega (arith, ints) in
-        let its = soon stop.instant same in
-        rw (found, past) (omega (arith, its))
-    | inr before ↦
-        rw (found, before)
-        (drawn-before instant stop (first_past instant now) soon before (past-first_past instant now))
-  ]
-
--- where less is read up to each stop, less is read up to any
-pub up_to-less : {X : Type 0} (reads more : X → ℕ) (all most : ℕ) (end : Option X) → ((x : X) → reads x ≤ more x) → all ≤ most
-    → up_to reads all end ≤ up_to more most end
-up_to-less reads more all most None each least = least
-up_to-less reads more all most (Some x) each least = each x
-
+-- where as much is read up to each place, as much is read up to any
 pub up_to-alike : {X : Type 0} (reads others : X → ℕ) (all whole : ℕ) (end : Option X) → ((x : X) → reads x ≡ others x) → all ≡ whole
     → up_to reads all end ≡ up_to others whole end
 up_to-alike reads others all whole None each same = same

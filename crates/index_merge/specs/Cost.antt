@@ -1,15 +1,13 @@
 -- How many reads it takes at most to draw the paths of an index, as far as they are drawn, and to merge two indexes.
-use Rattle.std.specs.Prelude.{ℕ, ◌+◌, ◌==◌, nat_lt, if◌then◌else◌, ℤ, List, find, Option}
-use Rattle.std.specs.Int.Signed.{le_z}
+use Rattle.std.specs.Prelude.{ℕ, ◌+◌, ◌==◌, nat_lt, if◌then◌else◌, ℤ, List}
 use Rattle.std.specs.List.{sum_by}
-use Rattle.track_types.specs.ByFilter.{path_of}
 use Rattle.track_types.specs.Limits.{limit_of}
 use Rattle.track_types.specs.declared.limit.LimitKind.TheVariants.{Rows}
 use Rattle.track_types.specs.declared.parts.Parts.{Parts}
 use Rattle.track_types.specs.declared.row.Row.{Row}
-use Rattle.track_types.specs.declared.stop.Stop.{Stop}
 use Rattle.snapshots.specs.IndexCost.{path_cost}
 use Rattle.snapshots.specs.Parts.{chart_in, last_in}
+use Rattle.track_index.specs.Cost.{path_cost_until}
 use Rattle.path_union.specs.Reads.{first_beyond, up_to}
 use Rattle.path_union.specs.Union.{rows_of_both}
 
@@ -21,15 +19,9 @@ whole_path_cost parts object = path_cost parts object parts.frame.first (last_in
 unfoldable pub paths_cost : Parts → ℕ
 paths_cost parts = sum_by (whole_path_cost parts) parts.objects
 
--- the first of stops that is at an instant or after it, if there is one
-abbrev pub first_past : ℤ → List Stop → Option Stop
-first_past instant stops = find (λ stop. le_z instant stop.instant) stops
-
 -- the reads of an object's path up to its first stop at an instant or after it, or of all of it where there is none
 abbrev pub path_cost_past : Parts → ℕ → ℤ → ℕ
-path_cost_past parts object instant =
-    up_to (λ (stop : Stop). path_cost parts object parts.frame.first stop.instant) (whole_path_cost parts object)
-    (first_past instant (path_of (chart_in parts).rows object parts.frame.first (last_in parts.frame)))
+path_cost_past parts object instant = path_cost_until parts object parts.frame.first (last_in parts.frame) instant
 
 -- what is read of an object's path until a row is passed: all where the row is of a later object, what there is up to
 -- the row's instant where it is of this one, and else nothing

@@ -1,14 +1,12 @@
 ghost use Rattle.std.specs.Prelude.{◌≡◌, ◌+◌, ◌≤◌, IfOk, Some, length};
 ghost use Rattle.snapshots.specs.Parts.{chart_in};
 ghost use Rattle.path_union.specs.Paths.{AreTimely, IsFirstPath};
-ghost use Rattle.track_index.specs.Path.{path_reads_to};
+ghost use Rattle.track_index.specs.Path.{path_reads_past};
 ghost use Rattle.track_types.specs.declared.row.Row.{Row as RowView};
-ghost use Rattle.path_union.specs.Reads.{IsTaken, up_to};
-ghost use Rattle.track_types.specs.declared.stop.Stop.{Stop as StopView};
-ghost use Rattle.index_merge.specs.Cost.{first_past, paths_cost, paths_cost_past};
+ghost use Rattle.path_union.specs.Reads.{IsTaken};
+ghost use Rattle.index_merge.specs.Cost.{paths_cost, paths_cost_past};
 ghost use Rattle.index_merge.specs.Paths.{cost_from, cost_past_from, object_at, rows_from};
 
-use crate::index_walk::IndexWalk;
 use path_union::Paths;
 use std::alloc::Global;
 use track_index::{Index, PathWalk};
@@ -39,7 +37,7 @@ impl<'a> IndexPaths<'a> {
 impl<'a> Paths for IndexPaths<'a> {
     ghost use Rattle.index_merge.specs.Paths.{count_from, cost_from, cost_past_from, object_at, rows_from};
 
-    type Walk = IndexWalk<'a>;
+    type Walk = PathWalk<'a>;
 
     ghost rows = { λ p. rows_from p.index.now p.place };
 
@@ -60,11 +58,11 @@ impl<'a> Paths for IndexPaths<'a> {
         }
     }
 
-    fn take_path(&mut self, alloc: Global, object: u32) -> Result<IndexWalk<'a>, Memory> {
+    fn take_path(&mut self, alloc: Global, object: u32) -> Result<PathWalk<'a>, Memory> {
         let walk = whole_path(alloc, self.index, self.place, object)?;
         let _ = self.index.stores().objects(); // says that there is a number for the next place
         self.place += 1;
-        Ok(IndexWalk { walk })
+        Ok(walk)
     }
 }
 
@@ -82,8 +80,7 @@ fn whole_path<'a>(
     ensures cost { IfOk result (λ walk. walk.reads + cost_from index.now (place + 1)
         ≤ cost_from index.now place) }
     ensures in_time { IfOk result (λ walk. IsTaken object walk.reads
-        (λ instant. up_to (λ (stop : StopView). path_reads_to walk stop.instant) walk.reads
-        (first_past instant walk.stops))
+        (path_reads_past walk)
         (cost_past_from index.now place) (cost_past_from index.now (place + 1))) }
 {
     let _ = index.stores(); // says that the parts are valid

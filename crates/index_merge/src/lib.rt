@@ -9,7 +9,6 @@ mod comparing;
 mod extending;
 mod fault;
 mod index_paths;
-mod index_walk;
 mod merging;
 
 pub use extending::extended;

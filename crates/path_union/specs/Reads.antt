@@ -1,26 +1,10 @@
 -- How much is read of walks and of paths until a stop or a row is passed.
-use Rattle.std.specs.Prelude.{◌≡◌, ℕ, ◌+◌, ◌<◌, ◌≤◌, ℤ, Bool, false, if◌then◌else◌, List, ◌++◌, slice_get, Option, None, Some}
-use Rattle.std.specs.Int.Signed.{le_z}
+use Rattle.std.specs.Prelude.{◌≡◌, ℕ, ◌+◌, ◌<◌, ◌≤◌, ℤ, List, ◌++◌, slice_get, Option, None, Some}
 use Rattle.std.specs.Option.{option_to_list}
 use Rattle.track_types.specs.declared.row.Row.{Row}
 use Rattle.track_types.specs.declared.stop.Stop.{Stop}
+pub use Rattle.track_types.specs.StopWalk.{IsDrawnInTime, is_past, unless_past, up_to}
 use Rattle.path_union.specs.Walk.{left_of}
-
--- whether a stop is there that is at an instant or after it
-abbrev pub is_past : ℤ → Option Stop → Bool
-is_past instant None = false
-is_past instant (Some stop) = le_z instant stop.instant
-
--- the reads that are still to be made for a stop at an instant or after it: none where one is there
-abbrev pub unless_past : ℤ → Option Stop → ℕ → ℕ
-unless_past instant drawn reads = if is_past instant drawn then 0 else reads
-
--- A stop was drawn, or there was none. Two counts bound the reads until a stop at an instant or after it is drawn, or
--- none is left: before and now. Nothing was read beyond the first count, and as long as no such stop was drawn the
--- second is still within it.
-abbrev pub IsDrawnInTime : (ℤ → ℕ) → (ℤ → ℕ) → ℕ → ℕ → Option Stop → Type 0
-IsDrawnInTime before now begun steps drawn =
-    (instant : ℤ) → steps + unless_past instant drawn (now instant) ≤ begun + before instant
 
 module _ {W : Type 0} where
   -- what is read of a walk, if there is one, until a stop is passed
@@ -36,11 +20,6 @@ module _ {W : Type 0} where
   pub record IsDrawnOnce (left : W → List Stop) (before now : Option W) : Type 0 where
     pub stop : Option Stop
     pub all : left_of left before ≡ option_to_list stop ++ left_of left now
-
--- what is read up to something, and all where that is never met
-abbrev pub up_to : {X : Type 0} → (X → ℕ) → ℕ → Option X → ℕ
-up_to reads all None = all
-up_to reads all (Some end) = reads end
 
 -- the first row that is one too many where so many may be
 abbrev pub first_beyond : ℕ → List Row → Option Row

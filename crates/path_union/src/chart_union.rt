@@ -5,10 +5,11 @@ ghost use Rattle.track_types.specs.Frame.{IsFrame};
 ghost use Rattle.track_types.specs.Limits.{limit_of};
 ghost use Rattle.track_types.specs.Near.{IsNear};
 ghost use Rattle.track_types.specs.Row.{IsAscending};
+ghost use Rattle.track_types.specs.StopWalk.{up_to};
 ghost use Rattle.path_union.specs.AsBuilt.{AreRowsAsBuilt};
 ghost use Rattle.path_union.specs.Fault.{count_fault, rows_fault};
 ghost use Rattle.path_union.specs.Paths.{AreTimely};
-ghost use Rattle.path_union.specs.Reads.{first_beyond, up_to};
+ghost use Rattle.path_union.specs.Reads.{first_beyond};
 ghost use Rattle.path_union.specs.Union.{rows_of_both};
 
 use crate::paths::Paths;

@@ -1,11 +1,11 @@
 ghost use Rattle.std.specs.Prelude.{◌≡◌, ◌++◌, ◌+◌, ◌≤◌, [], None, Some, IfNone, option_to_list};
-ghost use Rattle.path_union.specs.Reads.{IsDrawnInTime, IsDrawnOnce, front_past, past_of};
+ghost use Rattle.path_union.specs.Reads.{IsDrawnOnce, front_past, past_of};
 ghost use Rattle.path_union.specs.Walk.{budget_of, front_left, left_of};
+ghost use Rattle.track_types.specs.StopWalk.{IsDrawnInTime};
 
-use crate::stop_walk::StopWalk;
 use std::sync::ledger::Ledger;
 use step_count::Steps;
-use track_types::Stop;
+use track_types::{Stop, StopWalk};
 
 /// What is left of a walk, if there is one: a stop may have been drawn from it that is still to be given.
 #[derive(Drop)]

@@ -12,14 +12,11 @@ mod paths;
 mod row_drawing;
 mod rows_paths;
 mod rows_walk;
-mod stop_walk;
 mod union_walk;
-mod untimed;
 
 pub use chart_union::chart_of_both;
 pub use paths::Paths;
 pub use rows_paths::RowsPaths;
 pub use rows_walk::RowsWalk;
-pub use stop_walk::StopWalk;
+pub use track_types::StopWalk;
 pub use union_walk::UnionWalk;
-pub use untimed::Untimed;

@@ -3,9 +3,8 @@ ghost use Rattle.path_union.specs.Paths.{IsFirstPath};
 ghost use Rattle.path_union.specs.Reads.{IsTaken};
 ghost use Rattle.track_types.specs.declared.row.Row.{Row};
 
-use crate::stop_walk::StopWalk;
 use std::alloc::Global;
-use track_types::Memory;
+use track_types::{Memory, StopWalk};
 
 /// The paths of all objects of an index or of a chart, by object, each of them by instant.
 ///

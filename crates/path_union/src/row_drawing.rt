@@ -3,18 +3,18 @@ ghost use Rattle.gridding.specs.GridLimit.{IsGridFaultFor};
 ghost use Rattle.track_types.specs.Limits.{limit_of};
 ghost use Rattle.path_union.specs.Fault.{count_fault};
 ghost use Rattle.path_union.specs.Paths.{IsFirstPath};
-ghost use Rattle.path_union.specs.Reads.{IsTaken, past_of, up_to};
+ghost use Rattle.path_union.specs.Reads.{IsTaken, past_of};
 ghost use Rattle.path_union.specs.Walk.{budget_of, left_of, row_at, stop_order};
 ghost use Rattle.std.specs.List.Sorted.{IsStrictlySortedBy};
+ghost use Rattle.track_types.specs.StopWalk.{up_to};
 ghost use Rattle.track_types.specs.declared.stop.Stop.{Stop as StopView};
 
 use crate::paths::Paths;
-use crate::stop_walk::StopWalk;
 use gridding::GridFault;
 use std::alloc::{AllocError, Global};
 use std::sync::ledger::Ledger;
 use step_count::Steps;
-use track_types::{LimitKind, MAX_ROWS, Row, Stop};
+use track_types::{LimitKind, MAX_ROWS, Row, Stop, StopWalk};
 
 /// The lesser of two objects, each of which may be missing.
 pub fn least(one: Option<u32>, other: Option<u32>) -> Option<u32>

@@ -1,9 +1,8 @@
 ghost use Rattle.std.specs.Prelude.{◌≡◌};
 
-use crate::stop_walk::StopWalk;
 use std::sync::ledger::Ledger;
 use step_count::Steps;
-use track_types::{Row, Stop};
+use track_types::{Lazy, Row, Stop, StopWalk};
 
 /// A walk over the stops of an object's rows, which are at hand: it makes no read.
 #[derive(Drop)]
@@ -20,22 +19,30 @@ impl<'a> RowsWalk<'a> {
     }
 }
 
-impl<'a> StopWalk for RowsWalk<'a> {
+impl<'a> Lazy for RowsWalk<'a> {
     ghost use Rattle.std.specs.Prelude.{map};
     ghost use Rattle.track_types.specs.ByFilter.{stop_of};
+
+    type Item = Stop;
 
     ghost left = { λ w. map stop_of w.rows.now };
 
     ghost budget = { λ w. 0 };
 
-    ghost reads_past = { λ w _. 0 };
-
-    fn next<L: Ledger>(&mut self, _steps: &mut Steps<L>) -> Option<Stop> {
+    fn draw<L: Ledger>(&mut self, _steps: &mut Steps<L>) -> Option<Stop> {
         let (row, rest) = self.rows.split_first()?;
         self.rows = rest;
         Some(Stop {
             instant: row.instant,
             cell: row.cell,
         })
+    }
+}
+
+impl<'a> StopWalk for RowsWalk<'a> {
+    ghost reads_past = { λ w _. 0 };
+
+    fn next<L: Ledger>(&mut self, steps: &mut Steps<L>) -> Option<Stop> {
+        self.draw(steps)
     }
 }

@@ -1,13 +1,13 @@
 ghost use Rattle.std.specs.Prelude.{◌≡◌, ◌++◌, ◌+◌, ◌≤◌, ℕ, ℤ, [], ◌∷◌, List, None, Some, IfNone, option_to_list};
-ghost use Rattle.path_union.specs.Reads.{IsDrawnInTime, IsDrawnOnce, front_past, past_of, unless_past};
+ghost use Rattle.path_union.specs.Reads.{IsDrawnOnce, front_past, past_of};
 ghost use Rattle.path_union.specs.Walk.{budget_of, front_left, left_of, stops_of_both};
+ghost use Rattle.track_types.specs.StopWalk.{IsDrawnInTime, unless_past};
 ghost use Rattle.track_types.specs.declared.stop.Stop.{Stop as StopView};
 
 use crate::front::Front;
-use crate::stop_walk::StopWalk;
 use std::sync::ledger::Ledger;
 use step_count::Steps;
-use track_types::{Lazy, Stop};
+use track_types::{Lazy, Stop, StopWalk};
 
 /// A walk over the stops of an object in two walks, by instant: where both have an instant, the later
 /// walk's stop is given.
@@ -85,12 +85,6 @@ impl<W: StopWalk, V: StopWalk> Lazy for UnionWalk<W, V> {
 impl<W: StopWalk, V: StopWalk> StopWalk for UnionWalk<W, V> {
     ghost use Rattle.std.specs.Prelude.{◌+◌};
     ghost use Rattle.path_union.specs.Reads.{front_past};
-    ghost use Rattle.path_union.specs.Walk.{budget_of, front_left, stops_of_both};
-
-    ghost left = { λ w. stops_of_both (front_left W.left w.later.ahead w.later.walk)
-        (front_left V.left w.older.ahead w.older.walk) };
-
-    ghost budget = { λ w. budget_of W.budget w.later.walk + budget_of V.budget w.older.walk };
 
     ghost reads_past = { λ w instant.
         front_past W.reads_past w.later.ahead w.later.walk instant

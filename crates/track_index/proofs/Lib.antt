@@ -9,6 +9,7 @@ pub mod NewestLemmas
 -- The steps of a check.
 mod PeriodLemmas
 mod UntilLemmas
+mod PastLemmas
 mod PathLemmas
 mod SeekingLemmas
 mod Examples

@@ -1,9 +1,13 @@
 -- How many reads each question costs at most.
-use Rattle.std.specs.Prelude.{ℕ}
+use Rattle.std.specs.Prelude.{ℕ, ℤ}
+use Rattle.track_types.specs.ByFilter.{path_of}
+use Rattle.track_types.specs.StopWalk.{first_past, up_to}
 use Rattle.track_types.specs.declared.parts.Parts.{Parts}
 use Rattle.track_types.specs.declared.question.Question.{Question}
 use Rattle.track_types.specs.declared.question.Question.TheVariants as question
+use Rattle.track_types.specs.declared.stop.Stop.{Stop}
 use Rattle.snapshots.specs.IndexCost.{path_cost, position_cost}
+use Rattle.snapshots.specs.Parts.{chart_in}
 use Rattle.slice_search.specs.Cost.{slice_cost}
 use Rattle.interval_search.specs.Cost.{interval_cost}
 use Rattle.nearest_search.specs.Cost.{nearest_cost}
@@ -18,3 +22,11 @@ cost_of parts (question.Interval from to region) = interval_cost parts from to r
 cost_of parts (question.Nearest count instant cell) = nearest_cost parts count instant cell
 cost_of parts (question.Hold slot object from to) = path_cost parts object from to
 cost_of parts other = 0
+
+-- What is read of an object's path in a window until a stop at an instant or after it is drawn: what the path costs up to
+-- the first such stop, or all of it where there is none. So it is what the path costs up to an instant at which the object
+-- has a row.
+unfoldable pub path_cost_until : Parts → ℕ → ℤ → ℤ → ℤ → ℕ
+path_cost_until parts object from to instant =
+    up_to (λ (stop : Stop). path_cost parts object from stop.instant) (path_cost parts object from to)
+    (first_past instant (path_of (chart_in parts).rows object from to))

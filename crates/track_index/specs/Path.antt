@@ -3,6 +3,7 @@ use Rattle.std.specs.Prelude.{◌≡◌, ℕ, ◌+◌, ◌-◌, ◌<◌, ◌≤�
 use Rattle.std.specs.Int.Signed.{le_z}
 use Rattle.std.specs.List.{range_with_len, sum_by}
 use Rattle.track_types.specs.Frame.{periods_of}
+use Rattle.track_types.specs.StopWalk.{first_past, up_to}
 use Rattle.track_types.specs.declared.frame.Frame.{Frame}
 use Rattle.track_types.specs.declared.parts.Parts.{Parts}
 use Rattle.track_types.specs.declared.region.Region.{Region}
@@ -59,6 +60,11 @@ block_reads_to frame next block instant =
 abbrev pub path_reads_to : PathView → ℤ → ℕ
 path_reads_to path instant = block_reads_to path.parts.frame path.next path.block instant
     + cost_until path.parts path.index path.from instant path.next path.behind
+
+-- how many reads are made at most until a stop at an instant or after it is drawn, or none is left
+abbrev pub path_reads_past : PathView → ℤ → ℕ
+path_reads_past path instant =
+    up_to (λ (stop : Stop). path_reads_to path stop.instant) path.reads (first_past instant path.stops)
 
 -- a stop is in the window, and not before the period that was looked into last
 pub record IsOfLast (frame : Frame) (from : ℤ) (next : ℕ) (stop : Stop) : Type 0 where

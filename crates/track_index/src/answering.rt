@@ -15,9 +15,9 @@ use track_types::{Answerer, Cell, Facts, Hit, Memory, Near, Region, Sighting, St
 
 impl<'a> Answerer for IndexRef<'a> {
     ghost use Rattle.snapshots.specs.Parts.{chart_in};
-    ghost use Rattle.track_index.specs.Cost.{cost_of};
+    ghost use Rattle.track_index.specs.Cost.{cost_of, path_cost_until};
     ghost use Rattle.track_index.specs.Facts.{facts_of};
-    ghost use Rattle.track_index.specs.Path.{path_reads_to};
+    ghost use Rattle.track_index.specs.Path.{path_reads_past, path_reads_to};
 
     type Walk = PathWalk<'a>;
 
@@ -26,6 +26,8 @@ impl<'a> Answerer for IndexRef<'a> {
     ghost facts = { λ a. facts_of a.index.now };
 
     ghost cost = { λ a. cost_of a.index.now };
+
+    ghost path_cost_until = { λ a. path_cost_until a.index.now };
 
     fn facts(self) -> Facts {
         let stores = self.index.stores();
@@ -61,6 +63,8 @@ impl<'a> Answerer for IndexRef<'a> {
             walk.reads ≤ cost_of self.entry.index.now (asked.Path object from to)) }
         ensures budget_to { IfOk result (λ walk. (instant : ℤ) →
             path_reads_to walk instant ≤ path_cost self.entry.index.now object from instant) }
+        ensures in_time { IfOk result (λ walk. (instant : ℤ) → path_reads_past walk instant
+            ≤ path_cost_until self.entry.index.now object from to instant) }
     {
         let stores = self.index.stores();
         let Some(place) = stores.index_of(object) else {

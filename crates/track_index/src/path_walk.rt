@@ -14,7 +14,7 @@ use std::alloc::Global;
 use std::marker::Model;
 use std::sync::ledger::Ledger;
 use step_count::Steps;
-use track_types::{Lazy, Memory, Stop};
+use track_types::{Lazy, Memory, Stop, StopWalk};
 
 /// A walk over the stops of an object in a window, period by period.
 ///
@@ -137,5 +137,15 @@ impl<'a> Lazy for PathWalk<'a> {
                     .begin(placed.log, placed.start, self.from, self.to);
             }
         }
+    }
+}
+
+impl<'a> StopWalk for PathWalk<'a> {
+    ghost use Rattle.track_index.specs.Path.{path_reads_past};
+
+    ghost reads_past = { λ w. path_reads_past w };
+
+    fn next<L: Ledger>(&mut self, steps: &mut Steps<L>) -> Option<Stop> {
+        self.draw(steps)
     }
 }

@@ -13,6 +13,7 @@ pub mod Region
 pub mod Widening
 pub mod Boxes
 pub mod Lazy
+pub mod StopWalk
 pub mod Bounds
 pub mod FaultText
 pub mod FlawText

@@ -1,4 +1,4 @@
-ghost use Rattle.std.specs.Prelude.{◌≡◌, ℕ, ◌+◌, ◌≤◌, IfOk};
+ghost use Rattle.std.specs.Prelude.{◌≡◌, ℕ, ℤ, ◌+◌, ◌≤◌, IfOk};
 ghost use Rattle.track_types.specs.ByFilter.{cell_at, hits_of, nears_of, path_of, sightings_of};
 ghost use Rattle.track_types.specs.Chart.{ChartView};
 ghost use Rattle.track_types.specs.Near.{IsAsked, IsCellAsked};
@@ -11,12 +11,11 @@ ghost use Rattle.track_types.specs.declared.question.Question.TheVariants as ask
 use crate::cell::Cell;
 use crate::facts::Facts;
 use crate::hit::Hit;
-use crate::lazy::Lazy;
 use crate::memory::Memory;
 use crate::near::Near;
 use crate::region::Region;
 use crate::sighting::Sighting;
-use crate::stop::Stop;
+use crate::stop_walk::StopWalk;
 use std::alloc::Global;
 use std::sync::ledger::Ledger;
 use step_count::Steps;
@@ -24,18 +23,21 @@ use step_count::Steps;
 /// Whatever answers questions about a chart.
 ///
 /// Its meaning is a chart, its facts, and for each question a cost. Each answer is the one that
-/// filtering the chart's rows gives, and it makes at most as many reads as its question costs. For an
-/// unknown object, an instant outside the chart or an empty window it is `None` or the empty list.
-/// Instants and coordinates that are asked for are at most `MAX_ASKED` away from 0, and a radius is at
-/// most `MAX_REACH`.
+/// filtering the chart's rows gives, and it makes at most as many reads as its question costs. A path
+/// that is left early costs what `path_cost_until` says of its object, its window and an instant: until
+/// a stop at that instant or after it is drawn, or none is left. For an unknown object, an instant
+/// outside the chart or an empty window it is `None` or the empty list. Instants and coordinates that
+/// are asked for are at most `MAX_ASKED` away from 0, and a radius is at most `MAX_REACH`.
 pub trait Answerer: Copy {
-    type Walk: Lazy<Item = Stop> + Drop;
+    type Walk: StopWalk + Drop;
 
     ghost chart: { Self → ChartView };
 
     ghost facts: { Self → FactsView };
 
     ghost cost: { Self → Asked → ℕ };
+
+    ghost path_cost_until: { Self → ℕ → ℤ → ℤ → ℤ → ℕ };
 
     /// The facts. It takes no memory and makes no read.
     fn facts(self) -> Facts
@@ -56,7 +58,9 @@ pub trait Answerer: Copy {
         ensures left { IfOk result (λ walk.
             Self.Walk.left walk ≡ path_of (chart self).rows object from to) }
         ensures budget { IfOk result (λ walk.
-            Self.Walk.budget walk ≤ cost self (asked.Path object from to)) };
+            Self.Walk.budget walk ≤ cost self (asked.Path object from to)) }
+        ensures in_time { IfOk result (λ walk. (instant : ℤ) →
+            Self.Walk.reads_past walk instant ≤ path_cost_until self object from to instant) };
 
     /// The rows of an instant in a region, by object.
     fn slice<L: Ledger>(

@@ -41,6 +41,7 @@ mod shape;
 mod shapes;
 mod sighting;
 mod stop;
+mod stop_walk;
 mod timeline;
 
 pub use answerer::Answerer;
@@ -79,4 +80,5 @@ pub use shape::{Shape, dist2};
 pub use shapes::Shapes;
 pub use sighting::Sighting;
 pub use stop::Stop;
+pub use stop_walk::StopWalk;
 pub use timeline::Timeline;

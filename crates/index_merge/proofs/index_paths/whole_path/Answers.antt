@@ -4,7 +4,7 @@ use Rattle.std.proofs.lemmas.Int.{ints}
 use Rattle.track_types.specs.declared.parts.Parts.{Parts}
 use Rattle.index_merge.proofs.PathLemmas.{drawn-past, drawn-reads, drawn-rows, facts-first, facts-last}
 use Rattle.index_merge.proofs.ReadsLemmas.{taken}
-use Rattle.track_index.specs.Path.{path_reads_to}
+use Rattle.track_index.specs.Path.{path_reads_past}
 use Rattle.index_merge.proofs.RowsLemmas.{first-cost, first-path, object-is, object-within, ok-into, ok-into_all}
 use Rattle.index_merge.proofs.index_paths.whole_path.Goals as goal
 
@@ -58,6 +58,5 @@ returns-clause-in_time c =
     ok-into_all c.walk.result _ _ _ _ (λ walk are within each.
     taken parts c.args.place (object-within parts valid c.args.place c.args.object c.requires) c.args.object walk.reads _ own
     (drawn-reads parts seen c.args.place c.args.object _ _ c.view-view.ensures is first last walk.reads within)
-    (drawn-past parts seen c.args.place c.args.object _ _ c.view-view.ensures is first last walk.stops (path_reads_to walk) walk.reads
-    are within each))
-    c.walk.ensures.left c.walk.ensures.budget c.walk.ensures.budget_to
+    (drawn-past parts seen c.args.place c.args.object _ _ c.view-view.ensures is first last (path_reads_past walk) each))
+    c.walk.ensures.left c.walk.ensures.budget c.walk.ensures.in_time

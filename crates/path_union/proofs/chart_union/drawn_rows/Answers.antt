@@ -19,7 +19,7 @@ use Rattle.path_union.proofs.chart_union.drawn_rows.Goals.{After-of}
 
 -- the stops of the next object
 abbrev next_stops : (g : Over) (c : After-of g) → List Stop
-next_stops g c = stops_of_both (left_of g.P.Walk.StopWalk.left c.in_ok-own.own) (left_of g.O.Walk.StopWalk.left c.in_ok-other.other)
+next_stops g c = stops_of_both (left_of g.P.Walk.Lazy.left c.in_ok-own.own) (left_of g.O.Walk.Lazy.left c.in_ok-other.other)
 
 -- with their rows, and those that are left
 moved : (g : Over) (c : After-of g)

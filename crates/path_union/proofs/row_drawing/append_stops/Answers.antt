@@ -17,8 +17,8 @@ loop-stop-preserved g c =
     let begun : List Row = c.args.rows.now.items in
     let drawn : List Stop = c.loop-stop.invariant.drawn in
     let stop : Stop = c.in-Some.stop in
-    let left : List Stop = g.W.StopWalk.left c.next.new.self in
-    let stops : g.W.StopWalk.left c.args.walk ≡ drawn ++ stop ∷ left =
+    let left : List Stop = g.W.Lazy.left c.next.new.self in
+    let stops : g.W.Lazy.left c.args.walk ≡ drawn ++ stop ∷ left =
     c.loop-stop.invariant.stops ∙ ap (λ xs. drawn ++ xs) c.in-Some.ensures.found in
     let rows = ap length c.loop-stop.invariant.all in
     let long = length-append begun (map (row_at c.args.object) drawn) in
@@ -26,11 +26,11 @@ loop-stop-preserved g c =
     let up : IsStrictlySortedBy stop_order (drawn ++ stop ∷ left) = subst (IsStrictlySortedBy stop_order) stops c.requires.ascending in
     let before : length drawn < limit_of Rows - length begun =
     omega (arith, rows, long, many, c.if-len-ge-MAX_ROWS.false, c.len.ensures) in
-    let unmet : IfSome (slice_get (g.W.StopWalk.left c.args.walk) (limit_of Rows - length begun)) (λ end. is_past end.instant (Some stop) ≡ false) =
+    let unmet : IfSome (slice_get (g.W.Lazy.left c.args.walk) (limit_of Rows - length begun)) (λ end. is_past end.instant (Some stop) ≡ false) =
     rw stops (before-place drawn left stop (limit_of Rows - length begun) up before) in
-    let drew = drawn-before (slice_get (g.W.StopWalk.left c.args.walk) (limit_of Rows - length begun)) (Some stop)
+    let drew = drawn-before (slice_get (g.W.Lazy.left c.args.walk) (limit_of Rows - length begun)) (Some stop)
     (g.W.StopWalk.reads_past c.loop-stop.walk) (g.W.StopWalk.reads_past c.next.new.self)
-    (g.W.StopWalk.budget c.loop-stop.walk) (g.W.StopWalk.budget c.next.new.self) c.loop-stop.steps c.next.new.steps
+    (g.W.Lazy.budget c.loop-stop.walk) (g.W.Lazy.budget c.next.new.self) c.loop-stop.steps c.next.new.steps
     c.in-Some.ensures.in_time c.in-Some.ensures.cost unmet in
     let again : c.loop-stop.rows.items ++ row_at c.args.object stop ∷ [] ≡ begun ++ map (row_at c.args.object) (drawn ++ stop ∷ []) =
     ap (λ xs. xs ++ row_at c.args.object stop ∷ []) c.loop-stop.invariant.all

@@ -11,14 +11,14 @@ use Rattle.path_union.proofs.row_drawing.append_stops.Given as goal
 abbrev pub invariant-loop-stop : goal.invariant-loop-stop
 invariant-loop-stop g l = record {
   drawn : List Stop;
-  stops : g.W.StopWalk.left l.fn.walk ≡ drawn ++ g.W.StopWalk.left l.walk;
+  stops : g.W.Lazy.left l.fn.walk ≡ drawn ++ g.W.Lazy.left l.walk;
   all : l.rows.items ≡ l.fn.rows.items ++ map (row_at l.object) drawn;
   few : length l.rows.items ≤ limit_of Rows;
-  cost : l.steps + up_to (λ (stop : Stop). g.W.StopWalk.reads_past l.walk stop.instant) (g.W.StopWalk.budget l.walk)
-      (slice_get (g.W.StopWalk.left l.fn.walk) (limit_of Rows - length l.fn.rows.items))
-      ≤ l.fn.steps + up_to (λ (stop : Stop). g.W.StopWalk.reads_past l.fn.walk stop.instant) (g.W.StopWalk.budget l.fn.walk)
-      (slice_get (g.W.StopWalk.left l.fn.walk) (limit_of Rows - length l.fn.rows.items));
+  cost : l.steps + up_to (λ (stop : Stop). g.W.StopWalk.reads_past l.walk stop.instant) (g.W.Lazy.budget l.walk)
+      (slice_get (g.W.Lazy.left l.fn.walk) (limit_of Rows - length l.fn.rows.items))
+      ≤ l.fn.steps + up_to (λ (stop : Stop). g.W.StopWalk.reads_past l.fn.walk stop.instant) (g.W.Lazy.budget l.fn.walk)
+      (slice_get (g.W.Lazy.left l.fn.walk) (limit_of Rows - length l.fn.rows.items));
 }
 
 abbrev pub decreases-loop-stop : goal.decreases-loop-stop
-decreases-loop-stop g l = length (g.W.StopWalk.left l.walk)
+decreases-loop-stop g l = length (g.W.Lazy.left l.walk)

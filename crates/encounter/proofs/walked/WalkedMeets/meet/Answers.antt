@@ -4,7 +4,7 @@ use Rattle.track_types.specs.ByFilter.{path_of}
 use Rattle.track_types.specs.declared.row.Row.{Row}
 use Rattle.track_types.specs.Meeting.{meeting_of}
 use Rattle.encounter.specs.Walked.{IsTrack}
-use Rattle.encounter.proofs.WalkedLemmas.{IsTrack-path}
+use Rattle.encounter.proofs.WalkedLemmas.{IsTrack-path, sooner-found}
 use Rattle.encounter.proofs.walked.WalkedMeets.meet.Goals as goal
 
 pub first_of_walks-requires-clause-one : goal.first_of_walks-requires-clause-one
@@ -29,3 +29,19 @@ returns-clause-ok g c =
     ∙ ap (path_of rows object c.args.from) high in
     c.first_of_walks.ensures.value
     ∙ rw (c.in_ok-one.ensures.left ∙ path c.args.left, c.in_ok-other.ensures.left ∙ path c.args.right) refl
+
+pub returns-clause-sooner : goal.returns-clause-sooner
+returns-clause-sooner g c =
+    let low : to_z w64 (of_z w64 c.args.from) ≡ c.args.from = omega (arith, ints) in
+    let high : to_z w64 (of_z w64 c.args.to) ≡ c.args.to = omega (arith, ints) in
+    let cost : (object : _) (instant : _)
+    → g.A.Answerer.path_cost_until c.args.self.answerer object (to_z w64 (of_z w64 c.args.from)) (to_z w64 (of_z w64 c.args.to)) instant
+    ≡ g.A.Answerer.path_cost_until c.args.self.answerer object c.args.from c.args.to instant =
+    λ object instant.
+    ap (λ z. g.A.Answerer.path_cost_until c.args.self.answerer object z (to_z w64 (of_z w64 c.args.to)) instant) low
+    ∙ ap (λ z. g.A.Answerer.path_cost_until c.args.self.answerer object c.args.from z instant) high in
+    sooner-found c.first_of_walks.result _ _ _ _
+    (g.A.Answerer.path_cost_until c.args.self.answerer c.args.left c.args.from c.args.to)
+    (g.A.Answerer.path_cost_until c.args.self.answerer c.args.right c.args.from c.args.to) c.first_of_walks.ensures.sooner
+    (λ instant. omega (arith, c.in_ok-one.ensures.in_time instant, cost c.args.left instant))
+    (λ instant. omega (arith, c.in_ok-other.ensures.in_time instant, cost c.args.right instant))

@@ -9,6 +9,7 @@ use Rattle.track_index.specs.Cost.{cost_of}
 use Rattle.track_index.specs.Path.{path_reads_to, PathView}
 use Rattle.object_track.proofs.ChartLemmas.{index_in-some, path_of-unknown}
 use Rattle.object_track.proofs.BetweenLemmas.{cost_between-none, cost_between-path, stops_between-path, stops_between-none}
+use Rattle.track_index.proofs.PastLemmas.{until-made}
 use Rattle.track_index.proofs.UntilLemmas.{cost_until-none, cost_until-path}
 use Rattle.track_index.proofs.answering.IndexRefAnswerer.walk.Goals as goal
 
@@ -90,3 +91,15 @@ returns-clause-budget_to c =
     _ _ c.args.from instant low c.met-periods.result.next c.met-periods.result.end c.in-Some.ensures.value
     c.met-periods.ensures in
     omega (arith, budget instant, cost)) c.new-2.ensures.budget_to
+
+pub returns-in_default-clause-in_time : goal.returns-in_default-clause-in_time
+unfolding cost_of
+returns-in_default-clause-in_time c =
+    until-made c.args.self.index.now c.args.object c.args.from c.args.to c.new.result
+    (returns-in_default-clause-left c) (returns-in_default-clause-budget c) (returns-in_default-clause-budget_to c)
+
+pub returns-clause-in_time : goal.returns-clause-in_time
+unfolding cost_of
+returns-clause-in_time c =
+    until-made c.args.self.index.now c.args.object c.args.from c.args.to c.new-2.result
+    (returns-clause-left c) (returns-clause-budget c) (returns-clause-budget_to c)
