@@ -14,3 +14,5 @@ pub mod FewLemmas
 pub mod FactsLemmas
 mod Examples
 mod CoverLemmas
+pub mod SmallLemmas
+pub mod PackLemmas

@@ -9,9 +9,9 @@ ghost use Rattle.live_tail.specs.Join.{joint_chart, rows_of_tail};
 use crate::interval::interval;
 use crate::nearest::nearest;
 use crate::slice::slice;
-use crate::tail_walk::TailWalk;
+use crate::tail_walk::{TailWalk, TrackWalk};
 use crate::tailed::TailRef;
-use path_union::{RowsWalk, UnionWalk, Untimed};
+use path_union::UnionWalk;
 use std::alloc::Global;
 use std::sync::ledger::Ledger;
 use step_count::Steps;
@@ -23,6 +23,7 @@ impl<'a> Answerer for TailRef<'a> {
     ghost use Rattle.live_tail.specs.Cost.{cost_with};
     ghost use Rattle.live_tail.specs.Facts.{facts_with};
     ghost use Rattle.live_tail.specs.Join.{joint_chart};
+    ghost use Rattle.track_index.specs.Cost.{path_cost_until};
 
     type Walk = TailWalk<'a, PathWalk<'a>>;
 
@@ -32,16 +33,18 @@ impl<'a> Answerer for TailRef<'a> {
 
     ghost cost = { λ a. cost_with a.tailed.now.parts a.tailed.now.tail };
 
+    ghost path_cost_until = { λ a. path_cost_until a.tailed.now.parts };
+
     fn facts(self) -> Facts {
         let facts = self.tailed.index().view().facts();
         let objects = self.tailed.objects();
-        let Some(chart) = self.tailed.tail().chart() else {
+        let Some(time) = self.tailed.tail().time() else {
             return Facts { objects, ..facts };
         };
         Facts {
             objects,
-            first: facts.first.min(chart.first()),
-            last: facts.last.max(chart.last()),
+            first: facts.first.min(time.least),
+            last: facts.last.max(time.greatest),
             ..facts
         }
     }
@@ -75,8 +78,8 @@ impl<'a> Answerer for TailRef<'a> {
         let tail = self.tailed.tail();
         let _ = tail.rows(); // says that these ascend
         let walk = index.walk(alloc, object, from, to)?;
-        let own = RowsWalk::over(tail.track(object, from, to));
-        Ok(UnionWalk::of(Some(own), Some(Untimed::new(walk))))
+        let own = TrackWalk::over(tail.track(object, from, to));
+        Ok(UnionWalk::of(Some(own), Some(walk)))
     }
 
     fn slice<L: Ledger>(

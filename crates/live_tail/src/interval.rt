@@ -15,15 +15,17 @@ ghost use Rattle.track_index.specs.Cost.{cost_of};
 ghost use Rattle.live_tail.specs.Cost.{interval_cost_beside, standing_cost};
 ghost use Rattle.live_tail.specs.Hits.{standing};
 ghost use Rattle.live_tail.specs.Join.{rows_of_tail, rows_of_both};
+ghost use Rattle.live_tail.specs.SmallRows.{rows_in};
 ghost use Rattle.live_tail.specs.Walk.{is_at, is_before, stop_order, stops_with};
 
+use crate::small_rows::SmallRows;
 use crate::tail::Tail;
 use region_test::RegionTest;
 use std::alloc::Global;
 use std::sync::ledger::Ledger;
 use step_count::Steps;
 use track_index::{IndexRef, PathWalk};
-use track_types::{Answerer, Cell, CellBox, Hit, Memory, Region, Row, Stop};
+use track_types::{Answerer, Cell, CellBox, Hit, Memory, Region, Stop};
 
 /// The interval of an index's chart with a tail. For each object that is in a region at some instant
 /// of a window, whose ends count, it gives the first such instant and the cell there, by object.
@@ -233,18 +235,18 @@ fn push_found(found: &mut Vec<Hit>, hit: Option<Hit>) -> Result<(), Memory>
 // the region.
 fn first_of_both<L: Ledger>(
     walk: &mut PathWalk<'_>,
-    own: &[Row],
+    own: SmallRows<'_>,
     test: &RegionTest,
     steps: &mut Steps<L>,
 ) -> Option<Stop>
-    requires near { All (λ (row : RowView). IsCellWithin row.cell) own.now }
+    requires near { All (λ (row : RowView). IsCellWithin row.cell) (rows_in own) }
     requires ascending { IsStrictlySortedBy stop_order walk.old.stops }
-    ensures value { result ≡ first_among test.now.region (stops_with own.now walk.old.stops) }
+    ensures value { result ≡ first_among test.now.region (stops_with (rows_in own.entry) walk.old.stops) }
     ensures cost { steps.new ≤ steps.old + walk.old.reads }
 {
     let mut rest = own;
     let mut hit = walk.draw_in(test, steps);
-    while let Some((row, later)) = rest.split_first() {
+    while let Some(row) = rest.take_first() {
         if comes_before(hit, row.instant) {
             return hit;
         }
@@ -257,7 +259,6 @@ fn first_of_both<L: Ledger>(
         if stands_at(hit, row.instant) {
             hit = walk.draw_in(test, steps);
         }
-        rest = later;
     }
     hit
 }

@@ -11,11 +11,15 @@ mod chunk;
 mod interval;
 mod nearest;
 mod objects;
+mod outline;
+mod packing;
 mod slice;
+mod small_row;
+mod small_rows;
 mod sought;
 mod tail;
 mod tail_walk;
 mod tailed;
 
-pub use tail_walk::TailWalk;
+pub use tail_walk::{TailWalk, TrackWalk};
 pub use tailed::{TailRef, Tailed};

@@ -4,13 +4,14 @@ ghost use Rattle.track_types.specs.Near.{IsAsked, IsCellAsked, IsCellWithin};
 ghost use Rattle.track_types.specs.declared.row.Row.{Row as RowView};
 ghost use Rattle.live_tail.specs.Cost.{nearest_cost_beside};
 ghost use Rattle.live_tail.specs.Join.{rows_of_tail, rows_of_both};
+ghost use Rattle.live_tail.specs.SmallRows.{rows_in};
 
-use crate::objects::has_object;
+use crate::small_rows::SmallRows;
 use crate::tail::Tail;
 use std::alloc::Global;
 use std::sync::ledger::Ledger;
 use step_count::Steps;
-use track_types::{Answerer, Cell, Memory, Near, Row, dist2};
+use track_types::{Answerer, Cell, Memory, Near, dist2};
 
 /// The `count` rows of an instant that are nearest to a cell, of an answerer's chart with a tail, in
 /// order. They are all rows of the instant if there are no more than `count`.
@@ -42,7 +43,7 @@ pub fn nearest<A: Answerer, L: Ledger>(
     let own = tail.rows_at(instant);
     let raised = raised_count(count, own.len());
     let mut found = answerer.nearest(alloc, raised, instant, cell, steps)?;
-    found.retain(|near| !has_object(own, near.object));
+    found.retain(|near| !own.has_object(near.object));
     push_nears(&mut found, own, cell)?;
     found.sort_unstable_by_key(|near| (near.dist2, near.object));
     found.truncate(count as usize);
@@ -57,12 +58,13 @@ fn raised_count(count: u32, more: usize) -> u32
 }
 
 // Appends to what was found how near rows are to a cell.
-fn push_nears(found: &mut Vec<Near>, rows: &[Row], cell: Cell) -> Result<(), Memory>
+fn push_nears(found: &mut Vec<Near>, rows: SmallRows<'_>, cell: Cell) -> Result<(), Memory>
     requires cell { IsCellWithin cell }
-    requires near { All (λ (row : RowView). IsCellWithin row.cell) rows.now }
-    ensures { OnOk result (found.new.items ≡ found.old.items ++ map (near_of cell) rows.now) }
+    requires near { All (λ (row : RowView). IsCellWithin row.cell) (rows_in rows) }
+    ensures { OnOk result (found.new.items ≡ found.old.items ++ map (near_of cell) (rows_in rows.entry)) }
 {
-    for row in rows {
+    for small in rows.rows {
+        let row = rows.origin.row(small);
         found.push(Near {
             object: row.object,
             cell: row.cell,

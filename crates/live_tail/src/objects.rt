@@ -1,18 +1,20 @@
-ghost use Rattle.std.specs.Prelude.{◌≡◌, ◌==◌, ℕ, IfOk, map};
+ghost use Rattle.std.specs.Prelude.{◌≡◌, ◌==◌, ◌||◌, ℕ, true, IfOk, OnOk};
 ghost use Rattle.std.specs.List.{list_any};
 ghost use Rattle.std.specs.List.Sorted.{IsStrictlySortedBy};
 ghost use Rattle.std.specs.Ordering.{nat_cmp};
-ghost use Rattle.track_types.specs.Row.{IsAscending};
 ghost use Rattle.track_types.specs.declared.row.Row.{Row as RowView};
+ghost use Rattle.live_tail.specs.SmallRows.{rows_in};
 
+use crate::small_rows::SmallRows;
 use std::alloc::Global;
-use track_types::{Memory, Row};
+use track_types::Memory;
 
-/// The different objects of rows, ascending.
-pub fn objects_in(alloc: Global, rows: &[Row]) -> Result<Vec<u32>, Memory>
+/// The different objects of rows, ascending. Where the rows of an object stand together, it takes memory for its
+/// objects alone.
+pub fn objects_in(alloc: Global, rows: SmallRows<'_>) -> Result<Vec<u32>, Memory>
     ensures rising { IfOk result (λ objects. IsStrictlySortedBy nat_cmp objects.items) }
     ensures members { IfOk result (λ objects. (object : ℕ) → list_any (λ o. object == o) objects.items
-        ≡ list_any (λ (row : RowView). object == row.object) rows.now) }
+        ≡ list_any (λ (row : RowView). object == row.object) (rows_in rows.entry)) }
 {
     let mut objects = objects_of(alloc, rows)?;
     objects.sort_unstable();
@@ -20,21 +22,35 @@ pub fn objects_in(alloc: Global, rows: &[Row]) -> Result<Vec<u32>, Memory>
     Ok(objects)
 }
 
-// The objects of rows, row by row.
-fn objects_of(alloc: Global, rows: &[Row]) -> Result<Vec<u32>, Memory>
-    ensures { IfOk result (λ objects. objects.items ≡ map (λ (row : RowView). row.object) rows.now) }
+// The objects of rows, one for those of one object that stand together.
+fn objects_of(alloc: Global, rows: SmallRows<'_>) -> Result<Vec<u32>, Memory>
+    ensures { IfOk result (λ objects. (object : ℕ) → list_any (λ o. object == o) objects.items
+        ≡ list_any (λ (row : RowView). object == row.object) (rows_in rows.entry)) }
 {
     let mut objects = Vec::new(alloc);
-    for row in rows {
-        objects.push(row.object)?;
+    for small in rows.rows {
+        push_new(&mut objects, small.object)?;
     }
     Ok(objects)
 }
 
-/// Whether one of rows by object is of an object.
-pub fn has_object(rows: &[Row], object: u32) -> bool
-    requires { IsAscending rows.now }
-    ensures { result ≡ list_any (λ (row : RowView). object == row.object) rows.now }
+// Puts an object behind others, unless it is the last of them.
+fn push_new(objects: &mut Vec<u32>, object: u32) -> Result<(), Memory>
+    ensures { OnOk result ((other : ℕ) → list_any (λ o. other == o) objects.new.items
+        ≡ (list_any (λ o. other == o) objects.old.items || (other == object))) }
 {
-    rows.binary_search_by_key(&object, |row| row.object).is_ok()
+    if !ends_with(objects.as_slice(), object) {
+        objects.push(object)?;
+    }
+    Ok(())
+}
+
+// Whether an object is the last of some.
+fn ends_with(objects: &[u32], object: u32) -> bool
+    ensures { result ≡ true → list_any (λ o. object == o) objects.now ≡ true }
+{
+    match objects.last() {
+        Some(last) => *last == object,
+        None => false,
+    }
 }

@@ -5,13 +5,14 @@ ghost use Rattle.track_types.specs.Region.{IsRegionAsked, IsRegionWithin, in_reg
 ghost use Rattle.track_types.specs.declared.question.Question.TheVariants as asked;
 ghost use Rattle.track_types.specs.declared.row.Row.{Row as RowView};
 ghost use Rattle.live_tail.specs.Join.{rows_of_tail, rows_of_both};
+ghost use Rattle.live_tail.specs.SmallRows.{rows_in};
 
-use crate::objects::has_object;
+use crate::small_rows::SmallRows;
 use crate::tail::Tail;
 use std::alloc::Global;
 use std::sync::ledger::Ledger;
 use step_count::Steps;
-use track_types::{Answerer, Memory, Region, Row, Sighting};
+use track_types::{Answerer, Memory, Region, Sighting};
 
 /// The rows of an instant in a region, by object, of an answerer's chart with a tail.
 ///
@@ -35,20 +36,21 @@ pub fn slice<A: Answerer, L: Ledger>(
     let _ = tail.rows(); // says that these ascend
     let own = tail.rows_at(instant);
     let mut found = answerer.slice(alloc, instant, region, steps)?;
-    found.retain(|sighting| !has_object(own, sighting.object));
+    found.retain(|sighting| !own.has_object(sighting.object));
     push_seen(&mut found, own, region)?;
     found.sort_unstable_by_key(|sighting| sighting.object);
     Ok(found)
 }
 
 // Appends the rows in a region to what was found.
-fn push_seen(found: &mut Vec<Sighting>, rows: &[Row], region: &Region) -> Result<(), Memory>
+fn push_seen(found: &mut Vec<Sighting>, rows: SmallRows<'_>, region: &Region) -> Result<(), Memory>
     requires region { IsRegionWithin region.now }
-    requires near { All (λ (row : RowView). IsCellWithin row.cell) rows.now }
+    requires near { All (λ (row : RowView). IsCellWithin row.cell) (rows_in rows) }
     ensures { OnOk result (found.new.items ≡ found.old.items
-        ++ map sighting_of (filter (λ (row : RowView). in_region region.now row.cell) rows.now)) }
+        ++ map sighting_of (filter (λ (row : RowView). in_region region.now row.cell) (rows_in rows.entry))) }
 {
-    for row in rows {
+    for small in rows.rows {
+        let row = rows.origin.row(small);
         if region.contains(row.cell) {
             found.push(Sighting {
                 object: row.object,

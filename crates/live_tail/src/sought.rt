@@ -6,8 +6,10 @@ ghost use Rattle.track_types.specs.Region.{IsRegionWithin, overlaps};
 ghost use Rattle.track_types.specs.declared.row.Row.{Row as RowView};
 ghost use Rattle.live_tail.specs.Chunks.{AreChunksOf, may_have};
 ghost use Rattle.live_tail.specs.Hits.{HaveFirst, is_passed};
+ghost use Rattle.live_tail.specs.SmallRows.{rows_in};
 
-use crate::chunk::{CHUNK_ROWS, Chunk, cut};
+use crate::chunk::{CHUNK_ROWS, Chunk};
+use crate::small_rows::SmallRows;
 use track_types::{Extent, Hit, Memory, Region, Row};
 
 /// A window, whose ends count, and a region in which rows are sought.
@@ -24,19 +26,19 @@ impl<'a> Sought<'a> {
     pub fn push_hits(
         &self,
         chunks: &[Chunk],
-        rows: &[Row],
+        rows: SmallRows<'_>,
         found: &mut Vec<Hit>,
     ) -> Result<(), Memory>
         requires region { IsRegionWithin self.now.region.now }
-        requires chunks { AreChunksOf rows.now chunks.now }
+        requires chunks { AreChunksOf (rows_in rows) chunks.now }
         ensures { OnOk result ((before : List RowView)
             → HaveFirst before self.now.from self.now.to self.now.region.now found.old.items
-            → HaveFirst (before ++ rows.now) self.now.from self.now.to self.now.region.now found.new.items) }
+            → HaveFirst (before ++ rows_in rows.entry) self.now.from self.now.to self.now.region.now found.new.items) }
     {
         let mut left = chunks;
         let mut rest = rows;
         while let Some((chunk, others)) = left.split_first() {
-            let (own, behind) = cut(rest, CHUNK_ROWS);
+            let (own, behind) = rest.cut(CHUNK_ROWS);
             if self.may_have(chunk) {
                 self.push_hits_of(own, found)?;
             }
@@ -47,16 +49,17 @@ impl<'a> Sought<'a> {
     }
 
     /// The same for rows that are looked at one by one.
-    pub fn push_hits_of(&self, rows: &[Row], found: &mut Vec<Hit>) -> Result<(), Memory>
+    pub fn push_hits_of(&self, rows: SmallRows<'_>, found: &mut Vec<Hit>) -> Result<(), Memory>
         requires region { IsRegionWithin self.now.region.now }
-        requires near { All (λ (row : RowView). IsCellWithin row.cell) rows.now }
+        requires near { All (λ (row : RowView). IsCellWithin row.cell) (rows_in rows) }
         ensures { OnOk result ((before : List RowView)
             → HaveFirst before self.now.from self.now.to self.now.region.now found.old.items
-            → HaveFirst (before ++ rows.now) self.now.from self.now.to self.now.region.now found.new.items) }
+            → HaveFirst (before ++ rows_in rows.entry) self.now.from self.now.to self.now.region.now found.new.items) }
     {
-        for row in rows {
-            if self.has(row) && !is_passed(row, found.last()) {
-                found.push(hit_of(row))?;
+        for small in rows.rows {
+            let row = rows.origin.row(small);
+            if self.has(&row) && !is_passed(&row, found.last()) {
+                found.push(hit_of(&row))?;
             }
         }
         Ok(())

@@ -1,6 +1,5 @@
-ghost use Rattle.std.specs.Prelude.{◌≡◌, ◌==◌, ◌↔◌, ◌≤◌, ℕ, false, filter, All, IfNone, IfOk, IfSome, None, Some};
+ghost use Rattle.std.specs.Prelude.{◌≡◌, ◌↔◌, ◌≤◌, filter, All, IfNone, IfOk, IfSome, None, Some};
 ghost use Rattle.std.specs.List.{Contains, list_any};
-ghost use Rattle.std.specs.List.Sorted.{IsSorted};
 ghost use Rattle.track_types.specs.ByFilter.{cell_at, is_row_at, is_row_between};
 ghost use Rattle.track_types.specs.Limits.{limit_of};
 ghost use Rattle.track_types.specs.Near.{IsCellWithin};
@@ -9,29 +8,37 @@ ghost use Rattle.track_types.specs.Region.{IsRegionWithin};
 ghost use Rattle.track_types.specs.Row.{IsAscending, is_row_of};
 ghost use Rattle.track_types.specs.declared.limit.LimitKind.TheVariants as LimitKind;
 ghost use Rattle.track_types.specs.declared.row.Row.{Row as RowView};
-ghost use Rattle.live_tail.specs.ByInstant.{instant_order, AreByInstant};
+ghost use Rattle.live_tail.specs.ByInstant.{AreByInstant};
 ghost use Rattle.live_tail.specs.Cost.{rows_between};
 ghost use Rattle.live_tail.specs.Hits.{HaveFirst};
 ghost use Rattle.live_tail.specs.Join.{rows_of_tail};
+ghost use Rattle.live_tail.specs.SmallRows.{rows_in};
 
 use crate::chunk::{Chunk, chunks_of};
+use crate::outline::Outline;
+use crate::packing::{by_instant, small_rows};
+use crate::small_row::{Origin, SmallRow, distance};
+use crate::small_rows::SmallRows;
 use crate::sought::Sought;
 use std::alloc::Global;
 use std::marker::Model;
-use track_types::{Cell, Chart, Hit, Memory, Region, Row};
+use track_types::{Cell, Chart, Extent, Hit, Memory, Region};
 
 // While one row of an instant is looked at, about so many chunks are passed over.
 const CHUNKS_FOR_A_ROW: usize = 16;
 
 /// The chart of later rows, if there are any, with its rows by instant, and their chunks.
 ///
-/// Contracts see the chart. None but `new` and `hits` takes memory.
+/// Contracts see the chart. It is kept in 35 bytes a row. None but `new` and `hits` takes memory.
 #[derive(Drop)]
 pub struct Tail {
-    chart: Option<Chart>,
-    // The chart's rows by instant, those of one instant by object: the rows of an instant are found
-    // without a look at all others.
-    by_instant: Vec<Row>,
+    outline: Option<Outline>,
+    origin: Origin,
+    // The chart's rows.
+    by_object: Vec<SmallRow>,
+    // The same by instant, those of one instant by object: the rows of an instant are found without a
+    // look at all others, and stand together.
+    by_instant: Vec<SmallRow>,
     // The chunks of the chart's rows: a search for hits passes over those that cannot have one.
     chunks: Vec<Chunk>,
 }
@@ -39,52 +46,94 @@ pub struct Tail {
 impl Model for Tail {
     ghost use Rattle.std.specs.Prelude.{Option};
     ghost use Rattle.track_types.specs.Chart.{ChartView};
-    ghost use Rattle.live_tail.specs.ByInstant.{AreByInstant};
-    ghost use Rattle.live_tail.specs.Chunks.{AreChunksOf};
-    ghost use Rattle.live_tail.specs.Join.{rows_of_tail};
+    ghost use Rattle.live_tail.specs.SmallRows.{rows_from};
+    ghost use Rattle.live_tail.specs.Tail.{IsKept, chart_from};
 
     ghost Value = { Option ChartView };
 
-    ghost view = { λ t. t.chart };
+    ghost view = { λ t. chart_from t.outline (rows_from t.origin t.by_object.items) };
 
-    ghost invariant = { λ t. AreByInstant (rows_of_tail t.chart) t.by_instant.items
-        × AreChunksOf (rows_of_tail t.chart) t.chunks.items };
+    ghost invariant = { λ t. IsKept t.outline t.origin (rows_from t.origin t.by_object.items)
+        (rows_from t.origin t.by_instant.items) t.chunks.items };
 }
 
 impl Tail {
-    /// The tail of this chart. It takes memory for the rows once more, for sorting them, and for their
-    /// chunks.
+    ghost use Rattle.live_tail.specs.Tail.{IsTimeOf};
+
+    /// The tail of this chart, which is let go before the rows are taken once more, by instant. It takes
+    /// memory for both lists, for sorting one, and for the chunks.
     pub fn new(alloc: Global, chart: Option<Chart>) -> Result<Tail, Memory>
         ensures ok { IfOk result (λ tail. tail ≡ chart) }
     {
-        let by_instant = by_instant(alloc, rows_of(&chart))?;
-        let chunks = chunks_of(alloc, rows_of(&chart))?;
+        match chart {
+            Some(chart) => Tail::of(alloc, chart),
+            None => Ok(Tail::empty(alloc)),
+        }
+    }
+
+    // The tail of a chart.
+    fn of(alloc: Global, chart: Chart) -> Result<Tail, Memory>
+        ensures ok { IfOk result (λ tail. tail ≡ Some chart) }
+    {
+        let outline = Outline::of(&chart);
+        let origin = Origin::of(chart.extents());
+        let chunks = chunks_of(alloc, chart.rows())?;
+        let by_object = small_rows(alloc, origin, chart.rows())?;
+        drop(chart);
+        let by_instant = by_instant(alloc, origin, by_object.as_slice())?;
         Ok(Tail {
-            chart,
+            outline: Some(outline),
+            origin,
+            by_object,
             by_instant,
             chunks,
         })
     }
 
-    /// The chart, if there is one.
-    pub fn chart(&self) -> Option<&Chart>
-        ensures some { IfSome result (λ chart. self.now ≡ Some chart.now) }
-        ensures none { IfNone result (self.now ≡ None) }
+    // The tail without a row.
+    fn empty(alloc: Global) -> Tail
+        ensures { result ≡ None }
     {
-        match &self.chart {
-            Some(chart) => Some(chart),
-            None => None,
+        Tail {
+            outline: None,
+            origin: Origin::zero(),
+            by_object: Vec::new(alloc),
+            by_instant: Vec::new(alloc),
+            chunks: Vec::new(alloc),
         }
     }
 
-    /// The rows, by object, then instant.
-    pub fn rows(&self) -> &[Row]
-        ensures value { result.now ≡ rows_of_tail self.now }
-        ensures ascending { IsAscending result.now }
-        ensures near { All (λ (row : RowView). IsCellWithin row.cell) result.now }
-        ensures few { object_count result.now ≤ limit_of LimitKind.Objects }
+    /// The first and the last instant, if there is a row.
+    pub fn time(&self) -> Option<Extent>
+        ensures some { IfSome result (IsTimeOf self.now) }
+        ensures none { IfNone result (self.now ≡ None) }
     {
-        rows_of(&self.chart)
+        let outline = self.outline?;
+        Some(outline.time)
+    }
+
+    /// The rows, by object, then instant.
+    pub fn rows(&self) -> SmallRows<'_>
+        ensures value { rows_in result ≡ rows_of_tail self.now }
+        ensures ascending { IsAscending (rows_in result) }
+        ensures near { All (λ (row : RowView). IsCellWithin row.cell) (rows_in result) }
+        ensures few { object_count (rows_in result) ≤ limit_of LimitKind.Objects }
+        ensures first { IfSome self.now (λ chart. result.origin.instant ≡ chart.first) }
+    {
+        SmallRows {
+            origin: self.origin,
+            rows: self.by_object.as_slice(),
+        }
+    }
+
+    // The same by instant.
+    fn sorted(&self) -> SmallRows<'_>
+        ensures { AreByInstant (rows_of_tail self.now) (rows_in result) }
+    {
+        SmallRows {
+            origin: self.origin,
+            rows: self.by_instant.as_slice(),
+        }
     }
 
     /// Hits of the rows in a window and a region, the first of each object among them.
@@ -113,105 +162,51 @@ impl Tail {
     }
 
     // The rows from one instant to another, both counted, by instant.
-    fn rows_between(&self, from: i64, to: i64) -> &[Row]
-        ensures members { (row : RowView)
-            → Contains result.now row ↔ Contains (rows_between (rows_of_tail self.now) from to) row }
-        ensures near { All (λ (row : RowView). IsCellWithin row.cell) result.now }
+    fn rows_between(&self, from: i64, to: i64) -> SmallRows<'_>
+        ensures members { (row : RowView) → Contains (rows_in result) row
+            ↔ Contains (rows_between (rows_of_tail self.now) from to) row }
+        ensures near { All (λ (row : RowView). IsCellWithin row.cell) (rows_in result) }
     {
         let _ = self.rows(); // says that their cells are near
-        window(self.by_instant.as_slice(), from, to)
+        self.sorted().between(from, to)
     }
 
     /// The rows of an instant, by object.
-    pub fn rows_at(&self, instant: i64) -> &[Row]
-        ensures value { result.now ≡ filter (is_row_at instant) (rows_of_tail self.now) }
-        ensures ascending { IsAscending result.now }
-        ensures near { All (λ (row : RowView). IsCellWithin row.cell) result.now }
+    pub fn rows_at(&self, instant: i64) -> SmallRows<'_>
+        ensures value { rows_in result ≡ filter (is_row_at instant) (rows_of_tail self.now) }
+        ensures ascending { IsAscending (rows_in result) }
+        ensures near { All (λ (row : RowView). IsCellWithin row.cell) (rows_in result) }
     {
         let _ = self.rows(); // says that they ascend, in near cells
-        window(self.by_instant.as_slice(), instant, instant)
+        self.sorted().between(instant, instant)
     }
 
     /// The rows of an object from one instant to another, both counted, by instant.
-    pub fn track(&self, object: u32, from: i64, to: i64) -> &[Row]
-        ensures { result.now ≡ filter (is_row_between object from to) (rows_of_tail self.now) }
+    pub fn track(&self, object: u32, from: i64, to: i64) -> SmallRows<'_>
+        ensures { rows_in result ≡ filter (is_row_between object from to) (rows_of_tail self.now) }
     {
-        window(rows_of_object(self.rows(), object), from, to)
+        self.rows().of_object(object).between(from, to)
     }
 
-    /// Whether there is a row of an object and an instant. Where the instant is not one of the tail's, as
-    /// those of most hits of an index are not, it looks for none.
+    /// Whether there is a row of an object and an instant.
     pub fn has_row(&self, object: u32, instant: i64) -> bool
         ensures { result ≡ list_any (is_row_of object instant) (rows_of_tail self.now) }
     {
-        if !self.covers(instant) {
-            return false;
-        }
         self.cell_at(object, instant).is_some()
     }
 
-    // Whether an instant is one from the tail's first to its last.
-    fn covers(&self, instant: i64) -> bool
-        ensures { result ≡ false → (object : ℕ)
-            → list_any (is_row_of object instant) (rows_of_tail self.now) ≡ false }
-    {
-        match &self.chart {
-            Some(chart) => chart.first() <= instant && instant <= chart.last(),
-            None => false,
-        }
-    }
-
-    /// The cell of the row of an object and an instant, and none if and only if there is no such row.
+    /// The cell of the row of an object and an instant, and none if and only if there is no such row. Where the
+    /// instant is not one of the tail's, as those of most hits of an index are not, it looks for none.
     pub fn cell_at(&self, object: u32, instant: i64) -> Option<Cell>
         ensures { result ≡ cell_at (rows_of_tail self.now) object instant }
     {
-        let rows = self.rows();
-        match rows.binary_search_by_key(&(object, instant), |row| (row.object, row.instant)) {
-            Ok(place) => Some(rows[place].cell),
-            Err(_place) => None,
+        let time = self.time()?;
+        if instant < time.least {
+            return None;
         }
+        if time.greatest < instant {
+            return None;
+        }
+        self.rows().cell_at(object, distance(time.least, instant))
     }
-}
-
-// The rows of a chart, if there is one.
-fn rows_of(chart: &Option<Chart>) -> &[Row]
-    ensures value { result.now ≡ rows_of_tail chart.now }
-    ensures ascending { IsAscending result.now }
-    ensures near { All (λ (row : RowView). IsCellWithin row.cell) result.now }
-    ensures few { object_count result.now ≤ limit_of LimitKind.Objects }
-{
-    match chart {
-        Some(chart) => chart.rows(),
-        None => &[],
-    }
-}
-
-// The rows by instant, those of one instant in their order.
-fn by_instant(alloc: Global, rows: &[Row]) -> Result<Vec<Row>, Memory>
-    ensures { IfOk result (λ sorted. AreByInstant rows.now sorted.items) }
-{
-    let mut sorted = Vec::with_capacity(alloc, rows.len())?;
-    sorted.extend_from_slice(rows)?;
-    sorted.sort_by_key(|row| row.instant)?;
-    Ok(sorted)
-}
-
-// The rows of an object, among rows by object.
-fn rows_of_object(rows: &[Row], object: u32) -> &[Row]
-    requires { IsAscending rows.now }
-    ensures { result.now ≡ filter (λ row. object == row.object) rows.now }
-{
-    let behind = rows.partition_point(|row| row.object <= object);
-    let before = &rows[..behind];
-    &before[before.partition_point(|row| row.object < object)..]
-}
-
-// The rows from one instant to another, both counted, among rows by instant.
-fn window(rows: &[Row], from: i64, to: i64) -> &[Row]
-    requires { IsSorted instant_order rows.now }
-    ensures { result.now ≡ rows_between rows.now from to }
-{
-    let behind = rows.partition_point(|row| row.instant <= to);
-    let before = &rows[..behind];
-    &before[before.partition_point(|row| row.instant < from)..]
 }

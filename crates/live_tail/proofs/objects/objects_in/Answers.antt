@@ -6,8 +6,7 @@ use Rattle.std.specs.Ordering.{nat_cmp}
 use Rattle.std.proofs.lemmas.List.Filters.{dedup_is}
 use Rattle.std.proofs.lemmas.List.Sorted.{list_any-IsPermutation}
 use Rattle.std.proofs.lemmas.Map.Keys.{IsStrictlyIncreasing-dedup, sorted_from_strictly_increasing}
-use Rattle.track_types.specs.declared.row.Row.{Row}
-use Rattle.live_tail.proofs.ObjectLemmas.{any-dedup, any-map}
+use Rattle.live_tail.proofs.ObjectLemmas.{any-dedup}
 use Rattle.live_tail.proofs.objects.objects_in.Goals as goal
 
 pub returns-clause-rising : goal.returns-clause-rising
@@ -21,5 +20,4 @@ returns-clause-members c = λ object.
     let kept = dedup_is eqb c.sort_unstable.new.self.items c.dedup.new.self.items c.dedup.ensures.filtered in
     ap (list_any (λ o. object == o)) kept ∙ any-dedup object c.sort_unstable.new.self.items
     ∙ sym (list_any-IsPermutation (λ o. object == o) c.in_ok-objects.objects.items c.sort_unstable.new.self.items c.sort_unstable.ensures.permutation)
-    ∙ ap (list_any (λ o. object == o)) c.in_ok-objects.ensures
-    ∙ any-map (λ o. object == o) (λ (row : Row). row.object) c.args.rows.now
+    ∙ c.in_ok-objects.ensures object

@@ -12,6 +12,7 @@ use Rattle.track_types.specs.declared.row.Row.{Row}
 use Rattle.track_types.specs.declared.sighting.Sighting.{Sighting}
 use Rattle.track_types.proofs.AskedLemmas.{IsRegionWithin-asked}
 use Rattle.live_tail.specs.Join.{rows_of_tail}
+use Rattle.live_tail.specs.SmallRows.{rows_in}
 use Rattle.live_tail.proofs.InstantLemmas.{found-sorted, has_object}
 use Rattle.live_tail.proofs.slice.slice.Goals as goal
 
@@ -25,7 +26,7 @@ returns-clause-ok g c =
     let region : Region = c.args.region.now in
     let rows : List Row = (g.A.Answerer.chart c.args.answerer).rows in
     let tail : List Row = rows_of_tail c.args.tail.now in
-    let own : List Row = c.rows_at-own.result.now in
+    let own : List Row = (rows_in c.rows_at-own.result) in
     let same : to_z w64 (of_z w64 c.args.instant) ≡ at = omega (arith, ints) in
     let its : own ≡ filter (is_row_at at) tail = c.rows_at-own.ensures.value ∙ ap (λ z. filter (is_row_at z) tail) same in
     let q : Row → Bool = λ row. in_region region row.cell in
@@ -42,6 +43,6 @@ returns-clause-ok g c =
     ++ map sighting_of (filter q own)) its in
     let sorted : List Sighting = c.sort_unstable_by_key.new.self.items in
     found-sorted at sighting_of (λ (sighting : Sighting). sighting.object) (λ row. refl) q rows tail
-    c.facts.ensures.table.ascending (subst IsAscending c.rows.ensures.value c.rows.ensures.ascending) sorted
+    c.facts.ensures.table.ascending (subst IsAscending c.rows-own.ensures.value c.rows-own.ensures.ascending) sorted
     (subst (λ zs. IsPermutation zs sorted) pushed c.sort_unstable_by_key.ensures.permutation)
     (c.sort_unstable_by_key.ensures.sorted (λ (sighting : Sighting). sighting.object) (answers_always _ _ _ (λ f a r g h. search rules)))

@@ -8,14 +8,15 @@ use Rattle.track_index.specs.Facts.{facts_of}
 use Rattle.track_index.specs.Listed.{is_listed}
 use Rattle.live_tail.specs.Facts.{joint_object_count}
 use Rattle.live_tail.specs.Join.{rows_of_tail}
+use Rattle.live_tail.specs.SmallRows.{rows_in}
 use Rattle.live_tail.proofs.ObjectLemmas.{objects_of-any}
 use Rattle.live_tail.proofs.tailed.object_count.Goals as goal
 use Rattle.live_tail.proofs.tailed.object_count.Goals.{After-len}
 
 -- the objects of the tail's rows
-objects : (c : After-len) → c.in_ok-objects.objects.items ≡ objects_of c.rows.result.now
+objects : (c : After-len) → c.in_ok-objects.objects.items ≡ objects_of (rows_in c.rows.result)
 objects c =
-    objects_of-any c.in_ok-objects.objects.items c.rows.result.now c.in_ok-objects.ensures.rising c.rows.ensures.ascending
+    objects_of-any c.in_ok-objects.objects.items (rows_in c.rows.result) c.in_ok-objects.ensures.rising c.rows.ensures.ascending
     c.in_ok-objects.ensures.members
 
 -- how many are listed

@@ -36,23 +36,24 @@ returns-clause-value c =
     let parts : Parts = c.args.self.tailed.now.parts in
     let tail : Option ChartView = c.args.self.tailed.now.tail in
     let facts : Facts = c.facts-facts.result in
-    let chart : ChartView = c.in-Some.chart.now in
+    let its = c.in-Some.ensures.some in
+    let chart : ChartView = its.chart in
     let is : facts ≡ facts_of parts = c.facts-facts.ensures.value ∙ ap facts_of (c.view.ensures ∙ c.index.ensures) in
-    let some : tail ≡ Some chart = sym c.tail.ensures ∙ c.in-Some.ensures.some in
+    let some : tail ≡ Some chart = sym c.tail.ensures ∙ c.in-Some.ensures.some.is in
     let first : to_z w64 (of_z w64 c.facts-facts.result.first) ≡ facts.first = search rules in
     let last : to_z w64 (of_z w64 c.facts-facts.result.last) ≡ facts.last = search rules in
     let least_fits : to_z w64 (of_z w64 c.min.result) ≡ c.min.result = search rules in
     let greatest_fits : to_z w64 (of_z w64 c.max.result) ≡ c.max.result = search rules in
-    let first_fits : to_z w64 (of_z w64 c.first.result) ≡ c.first.result = search rules in
-    let last_fits : to_z w64 (of_z w64 c.last.result) ≡ c.last.result = search rules in
+    let first_fits : to_z w64 (of_z w64 c.in-Some.time.least) ≡ c.in-Some.time.least = search rules in
+    let last_fits : to_z w64 (of_z w64 c.in-Some.time.greatest) ≡ c.in-Some.time.greatest = search rules in
     let least : to_z w64 (of_z w64 c.min.result) ≡ int_min facts.first chart.first =
     least_fits ∙ c.min.ensures.value
-    ∙ ap (λ z. int_min z (to_z w64 (of_z w64 c.first.result))) first
-    ∙ ap (int_min facts.first) (first_fits ∙ c.first.ensures.value) in
+    ∙ ap (λ z. int_min z (to_z w64 (of_z w64 c.in-Some.time.least))) first
+    ∙ ap (int_min facts.first) (first_fits ∙ sym its.first) in
     let greatest : to_z w64 (of_z w64 c.max.result) ≡ int_max facts.last chart.last =
     greatest_fits ∙ c.max.ensures.value
-    ∙ ap (λ z. int_max z (to_z w64 (of_z w64 c.last.result))) last
-    ∙ ap (int_max facts.last) (last_fits ∙ c.last.ensures.value) in
+    ∙ ap (λ z. int_max z (to_z w64 (of_z w64 c.in-Some.time.greatest))) last
+    ∙ ap (int_max facts.last) (last_fits ∙ sym its.last) in
     facts-made parts tail facts is c.objects-objects.result _ _ c.objects-objects.ensures
     (least ∙ first-some parts tail facts is chart some) (greatest ∙ last-some parts tail facts is chart some)
 
@@ -60,6 +61,6 @@ pub returns-clause-table : goal.returns-clause-table
 returns-clause-table c =
     let parts : Parts = c.args.self.tailed.now.parts in
     let tail : Option ChartView = c.args.self.tailed.now.tail in
-    let some : tail ≡ Some c.in-Some.chart.now = sym c.tail.ensures ∙ c.in-Some.ensures.some in
+    let some : tail ≡ Some c.in-Some.ensures.some.chart = sym c.tail.ensures ∙ c.in-Some.ensures.some.is in
     let table : IsTable (chart_in parts) = subst (λ (p : Parts). IsTable (chart_in p)) (c.view.ensures ∙ c.index.ensures) c.facts-facts.ensures.table in
-    IsTable-joint_chart (chart_in parts) tail table (subst (λ t. IfSome t IsChart) (sym some) c.first.ensures.chart)
+    IsTable-joint_chart (chart_in parts) tail table (subst (λ t. IfSome t IsChart) (sym some) c.in-Some.ensures.some.sound)

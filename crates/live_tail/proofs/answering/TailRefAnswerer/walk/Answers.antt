@@ -7,9 +7,10 @@ use Rattle.track_types.specs.Table.{IsTable}
 use Rattle.track_types.specs.declared.parts.Parts.{Parts}
 use Rattle.track_types.specs.declared.question.Question.TheVariants.{Path}
 use Rattle.snapshots.specs.Parts.{chart_in}
-use Rattle.track_index.specs.Cost.{cost_of}
+use Rattle.track_index.specs.Cost.{cost_of, path_cost_until}
 use Rattle.live_tail.specs.Cost.{cost_beside}
 use Rattle.live_tail.specs.Join.{rows_of_tail}
+use Rattle.live_tail.specs.SmallRows.{rows_in}
 use Rattle.live_tail.proofs.JoinLemmas.{path_of-joint_chart}
 use Rattle.live_tail.proofs.answering.TailRefAnswerer.walk.Goals as goal
 
@@ -23,8 +24,8 @@ returns-clause-left c =
     let high : to_z w64 (of_z w64 c.args.to) ≡ to = omega (arith, ints) in
     let its : c.view-index.result.index.now ≡ parts = c.view-index.ensures ∙ c.index.ensures in
     let table : IsTable (chart_in parts) = subst (λ (p : Parts). IsTable (chart_in p)) its c.facts.ensures.table in
-    let rows : c.rows.result.now ≡ rows_of_tail tail = c.rows.ensures.value ∙ ap rows_of_tail c.tail-tail.ensures in
-    let own : c.track.result.now ≡ filter (is_row_between c.args.object from to) (rows_of_tail tail) =
+    let rows : rows_in c.rows.result ≡ rows_of_tail tail = c.rows.ensures.value ∙ ap rows_of_tail c.tail-tail.ensures in
+    let own : rows_in c.track.result ≡ filter (is_row_between c.args.object from to) (rows_of_tail tail) =
     c.track.ensures
     ∙ ap (λ z. filter (is_row_between c.args.object z (to_z w64 (of_z w64 c.args.to))) (rows_of_tail c.tail-tail.result.now)) low
     ∙ ap (λ z. filter (is_row_between c.args.object from z) (rows_of_tail c.tail-tail.result.now)) high
@@ -35,7 +36,7 @@ returns-clause-left c =
     ∙ ap (λ z. path_of (chart_in c.view-index.result.index.now).rows c.args.object from z) high
     ∙ ap (λ (p : Parts). path_of (chart_in p).rows c.args.object from to) its in
     c.of.ensures.left
-    ∙ rw (c.over-own.ensures, own, c.new.ensures, left)
+    ∙ rw (c.over-own.ensures, own, left)
     (sym (path_of-joint_chart (chart_in parts) tail table (subst IsAscending rows c.rows.ensures.ascending) c.args.object from to))
 
 -- the tail's rows cost nothing
@@ -49,8 +50,22 @@ returns-clause-budget c =
     let to : ℤ = c.args.to in
     let low : to_z w64 (of_z w64 c.args.from) ≡ from = omega (arith, ints) in
     let high : to_z w64 (of_z w64 c.args.to) ≡ to = omega (arith, ints) in
-    rw (c.of.ensures.budget, c.new.ensures)
+    rw c.of.ensures.budget
     (no_more _ _ (subst (λ (p : Parts). c.in_ok-walk.walk.reads ≤ cost_of p (Path c.args.object from to)) (c.view-index.ensures ∙ c.index.ensures)
     (subst (λ z. c.in_ok-walk.walk.reads ≤ cost_of c.view-index.result.index.now (Path c.args.object from z)) high
     (subst (λ z. c.in_ok-walk.walk.reads ≤ cost_of c.view-index.result.index.now (Path c.args.object z (to_z w64 (of_z w64 c.args.to)))) low
     c.in_ok-walk.ensures.budget))))
+
+-- the tail's rows cost nothing until then, and the index's walk costs what it does without them
+pub returns-clause-in_time : goal.returns-clause-in_time
+returns-clause-in_time c = λ instant.
+    let parts : Parts = c.args.self.tailed.now.parts in
+    let from : ℤ = c.args.from in
+    let to : ℤ = c.args.to in
+    let low : to_z w64 (of_z w64 c.args.from) ≡ from = omega (arith, ints) in
+    let high : to_z w64 (of_z w64 c.args.to) ≡ to = omega (arith, ints) in
+    let its = ap (λ (p : Parts). path_cost_until p c.args.object from to instant) (c.view-index.ensures ∙ c.index.ensures) in
+    let late = ap (λ z. path_cost_until c.view-index.result.index.now c.args.object from z instant) high in
+    let early = ap (λ z. path_cost_until c.view-index.result.index.now c.args.object z (to_z w64 (of_z w64 c.args.to)) instant)
+    low in
+    omega (arith, c.of.ensures.reads_past instant, c.in_ok-walk.ensures.in_time instant, early, late, its)

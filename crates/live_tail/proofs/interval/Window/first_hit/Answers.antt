@@ -8,6 +8,7 @@ use Rattle.track_types.specs.Row.{IsAscending}
 use Rattle.track_types.specs.declared.row.Row.{Row}
 use Rattle.interval_search.specs.FirstHits.{hit_at}
 use Rattle.live_tail.specs.Join.{rows_of_tail, rows_of_both}
+use Rattle.live_tail.specs.SmallRows.{rows_in}
 use Rattle.std.specs.List.Sorted.{IsStrictlySortedBy}
 use Rattle.std.proofs.lemmas.List.Elements.{All-filter, All-same}
 use Rattle.track_types.specs.declared.question.Question.TheVariants.{Path}
@@ -21,7 +22,7 @@ use Rattle.live_tail.proofs.interval.Window.first_hit.Goals as goal
 use Rattle.live_tail.proofs.interval.Window.first_hit.Goals.{After-track-own}
 
 -- the tail's rows and the walk have the path in both
-walked : (g : Over) (c : After-track-own g) → stops_with c.track-own.result.now c.in_ok-walk.walk.stops
+walked : (g : Over) (c : After-track-own g) → stops_with (rows_in c.track-own.result) c.in_ok-walk.walk.stops
     ≡ path_of (rows_of_both (chart_in c.args.self.now.index.index.now).rows (rows_of_tail c.args.self.now.tail.now))
     c.args.object c.args.self.now.from c.args.self.now.to
 walked g c =
@@ -30,7 +31,7 @@ walked g c =
     let tail : List Row = rows_of_tail self.tail.now in
     let low : to_z w64 (of_z w64 self.from) ≡ self.from = omega (arith, ints) in
     let high : to_z w64 (of_z w64 self.to) ≡ self.to = omega (arith, ints) in
-    let own : c.track-own.result.now ≡ filter (is_row_between c.args.object self.from self.to) tail =
+    let own : (rows_in c.track-own.result) ≡ filter (is_row_between c.args.object self.from self.to) tail =
     c.track-own.ensures
     ∙ ap (λ z. filter (is_row_between c.args.object z (to_z w64 (of_z w64 self.to))) tail) low
     ∙ ap (λ z. filter (is_row_between c.args.object self.from z) tail) high in
@@ -45,7 +46,7 @@ walked g c =
 pub first_of_both-requires-clause-near : goal.first_of_both-requires-clause-near
 first_of_both-requires-clause-near g c =
     let near : Row → Type 0 = λ row. IsCellWithin row.cell in
-    All-same near c.track-own.result.now _ c.track-own.ensures
+    All-same near (rows_in c.track-own.result) _ c.track-own.ensures
     (All-filter _ near (rows_of_tail c.args.self.now.tail.now) (subst (All near) c.rows.ensures.value c.rows.ensures.near))
 
 pub first_of_both-requires-clause-ascending : goal.first_of_both-requires-clause-ascending
@@ -69,11 +70,18 @@ returns-clause-ok g c =
     ∙ ap (option_map (hit_at c.args.object))
     (c.in-Some.ensures.value ∙ ap (first_among c.args.self.now.test.now.region) (walked g at))
 
-pub returns-clause-cost : goal.returns-clause-cost
-returns-clause-cost g c =
+-- the walk has no more reads to give than the path costs
+bounded : (g : Over) (c : After-track-own g) → c.in_ok-walk.walk.reads ≤ cost_of c.args.self.now.index.index.now
+    (Path c.args.object c.args.self.now.from c.args.self.now.to)
+bounded g c =
     let self = c.args.self.now in
     let low : to_z w64 (of_z w64 self.from) ≡ self.from = omega (arith, ints) in
     let high : to_z w64 (of_z w64 self.to) ≡ self.to = omega (arith, ints) in
-    let budget : c.in_ok-walk.walk.reads ≤ cost_of self.index.index.now (Path c.args.object self.from self.to) =
-    rw (low, high) at c.in_ok-walk.ensures.budget in
-    omega (arith, budget, c.in-Some.ensures.cost)
+    rw (low, high) at c.in_ok-walk.ensures.budget
+
+pub returns-in_default-clause-cost : goal.returns-in_default-clause-cost
+returns-in_default-clause-cost g c =
+    omega (arith, bounded g (goal.at.returns-in_default-clause-cost g c).After-track-own, c.in_default.ensures.cost)
+
+pub returns-clause-cost : goal.returns-clause-cost
+returns-clause-cost g c = omega (arith, bounded g (goal.at.returns-clause-cost g c).After-track-own, c.in-Some.ensures.cost)

@@ -1,9 +1,10 @@
 use Rattle.std.proofs.Common.{◌++◌, List, take}
 use Rattle.track_types.specs.declared.row.Row.{Row}
 use Rattle.live_tail.specs.Hits.{HaveFirst}
+use Rattle.live_tail.specs.SmallRows.{rows_in}
 use Rattle.live_tail.proofs.sought.Sought.push_hits_of.Given as goal
 
-abbrev pub invariant-loop-row : goal.invariant-loop-row
-invariant-loop-row l =
+abbrev pub invariant-loop-small : goal.invariant-loop-small
+invariant-loop-small l =
     (before : List Row) → HaveFirst before l.self.from l.self.to l.self.region.now l.initial.found.items
-    → HaveFirst (before ++ take l.row-index l.rows) l.self.from l.self.to l.self.region.now l.found.items
+    → HaveFirst (before ++ take l.small-index (rows_in l.rows)) l.self.from l.self.to l.self.region.now l.found.items

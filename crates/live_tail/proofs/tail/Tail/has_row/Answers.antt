@@ -1,6 +1,5 @@
-use Rattle.std.proofs.Common.{◌≡◌, false, Option, None, Some, to_z, of_z, w64, refl, sym, ap, subst, ◌∙◌, arith}
+use Rattle.std.proofs.Common.{◌≡◌, Option, None, Some, to_z, of_z, w64, refl, sym, ap, ◌∙◌, arith}
 use Rattle.std.specs.Prelude.{is_some}
-use Rattle.std.specs.List.{list_any}
 use Rattle.std.specs.Option.{option_map}
 use Rattle.std.proofs.lemmas.Int.{ints}
 use Rattle.track_types.specs.ByFilter.{cell_at}
@@ -12,12 +11,6 @@ use Rattle.live_tail.proofs.tail.Tail.has_row.Goals as goal
 made : {X Y : Type 0} (f : X → Y) (found : Option X) → is_some (option_map f found) ≡ is_some found
 made f None = refl
 made f (Some x) = refl
-
-pub returns-then-not-covers : goal.returns-then-not-covers
-returns-then-not-covers c =
-    let same : to_z w64 (of_z w64 c.args.instant) ≡ c.args.instant = omega (arith, ints) in
-    sym (subst (λ instant. list_any (is_row_of c.args.object instant) (rows_of_tail c.args.self.now) ≡ false) same
-    (c.covers.ensures c.if-not-covers.true c.args.object))
 
 pub returns : goal.returns
 returns c =

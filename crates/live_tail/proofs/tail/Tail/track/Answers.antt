@@ -6,13 +6,14 @@ use Rattle.track_types.specs.declared.row.Row.{Row}
 use Rattle.live_tail.specs.ByInstant.{instant_order}
 use Rattle.live_tail.specs.Cost.{rows_between}
 use Rattle.live_tail.specs.Join.{rows_of_tail}
+use Rattle.live_tail.specs.SmallRows.{rows_in}
 use Rattle.live_tail.proofs.CutLemmas.{IsSorted-object, window-object}
 use Rattle.live_tail.proofs.tail.Tail.track.Goals as goal
 
-pub window-requires : goal.window-requires
-window-requires c =
-    subst (IsSorted instant_order) (sym c.rows_of_object.ensures)
-    (IsSorted-object c.args.object c.rows.result.now c.rows.ensures.ascending)
+pub between-requires : goal.between-requires
+between-requires c =
+    subst (IsSorted instant_order) (sym c.of_object.ensures)
+    (IsSorted-object c.args.object (rows_in c.rows.result) c.rows.ensures.ascending)
 
 pub returns : goal.returns
 returns c =
@@ -21,10 +22,10 @@ returns c =
     let to : ℤ = c.args.to in
     let low : to_z w64 (of_z w64 c.args.from) ≡ from = omega (arith, ints) in
     let high : to_z w64 (of_z w64 c.args.to) ≡ to = omega (arith, ints) in
-    let own : c.rows_of_object.result.now ≡ filter (λ (row : Row). c.args.object == row.object) rows =
-    c.rows_of_object.ensures ∙ ap (filter (λ (row : Row). c.args.object == row.object)) c.rows.ensures.value in
-    c.window.ensures
-    ∙ ap (λ z. rows_between c.rows_of_object.result.now z (to_z w64 (of_z w64 c.args.to))) low
-    ∙ ap (rows_between c.rows_of_object.result.now from) high
+    let own : rows_in c.of_object.result ≡ filter (λ (row : Row). c.args.object == row.object) rows =
+    c.of_object.ensures ∙ ap (filter (λ (row : Row). c.args.object == row.object)) c.rows.ensures.value in
+    c.between.ensures
+    ∙ ap (λ z. rows_between (rows_in c.of_object.result) z (to_z w64 (of_z w64 c.args.to))) low
+    ∙ ap (rows_between (rows_in c.of_object.result) from) high
     ∙ ap (λ own. rows_between own from to) own
     ∙ window-object c.args.object rows from to
