@@ -46,6 +46,18 @@ module _ {W : Type 0} {left : W → List Stop} {budget : W → ℕ} where
     reads = omega (arith, gives.reads, more.reads);
   }
 
+  -- a stop of a walk was drawn
+  pub gives-stop : {walk now : W} {steps end : ℕ} (stop : Stop) → left walk ≡ stop ∷ left now →
+      end + budget now ≤ steps + budget walk →
+      GivesItems left budget (answer.Walk walk) (answer.Walk now) [] [] steps end (item.Stop stop ∷ [])
+  gives-stop stop found cost = record {
+    slot = tt;
+    items = ap (map item.Stop) found;
+    refusal = refl;
+    held = refl;
+    reads = omega (arith, cost);
+  }
+
   -- an answer that was drawn whole brings what its question does
   module _ {meaning : Meaning} {asked : Question} {before desk : DeskView} {start end : ℕ} {answer : Answer W}
       (is : IsAnswer left budget meaning asked before start answer desk end) (said0 : List ℕ) (text0 : List ℕ)

@@ -10,7 +10,7 @@ use Rattle.question_shell.specs.Desk.{held_of}
 use Rattle.question_shell.specs.Lines.{input_lines, unended_line, whole_lines}
 use Rattle.question_shell.specs.Session.{AnswersAll, AnswersBefore, AnswersFirst, AnswersFront, AnswersToPiece}
 use Rattle.question_shell.specs.Session.{AnswersWhole, AreTaken, Came, HasEnded, Meaning, Run}
-use Rattle.question_shell.specs.Turns.{BytesTold, Heard, AnswersLines, Moment, AnswersBytes, Turns, TurnsFront, moment}
+use Rattle.question_shell.specs.Turns.{BytesTold, Heard, AnswersLines, Moment, AnswersBytes, Turns, TurnsFront}
 use Rattle.question_shell.specs.declared.turn_fault.TurnFault.{TurnFault}
 use Rattle.question_shell.specs.declared.turn_fault.TurnFault.TheVariants as fault
 use Rattle.question_shell.proofs.SlotLemmas.{slots-independent}

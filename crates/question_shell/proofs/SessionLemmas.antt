@@ -12,7 +12,7 @@ use Rattle.host_ports.specs.Histories.{Gains}
 use Rattle.host_ports.specs.Faults.{Rose}
 use Rattle.track_types.specs.Limits.{limit_of}
 use Rattle.track_types.specs.declared.limit.LimitKind.TheVariants.{Questions}
-use Rattle.question_shell.specs.Desk.{DeskView, held_of}
+use Rattle.question_shell.specs.Desk.{held_of}
 use Rattle.question_shell.specs.Grammar.{question_of}
 use Rattle.question_shell.specs.LineKept.{kept_of}
 use Rattle.question_shell.specs.Lines.{if_any, is_line_feed, input_lines, unended_line, whole_lines}

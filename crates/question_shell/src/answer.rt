@@ -7,7 +7,8 @@ use crate::desk::Desk;
 use crate::found::Found;
 use crate::item::Item;
 use crate::named_fact::NamedFacts;
-use crate::reply::{ReplyLine, free_line, held_line, ok_line};
+use crate::reply::{free_line, held_line, ok_line};
+use crate::reply_line::ReplyLine;
 use std::sync::ledger::Ledger;
 use step_count::Steps;
 use track_types::{Hit, Lazy, Near, Sighting, Stop};
@@ -64,7 +65,7 @@ impl<W: Lazy<Item = Stop> + Drop> Answer<W> {
 
     // The last line of its reply, which has so many lines before it.
     pub(crate) fn last_line(&self, count: u64) -> ReplyLine
-        ensures { result.bytes ≡ last_line (refusal_left self.now) count }
+        ensures { result ≡ last_line (refusal_left self.now) count }
     {
         match self {
             Answer::Held => held_line(),

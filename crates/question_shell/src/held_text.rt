@@ -1,24 +1,20 @@
-ghost use Rattle.std.specs.Prelude.{true, is_err, ◌≡◌, ◌+◌, ◌<◌, ◌++◌, [], OnOk, codes, length};
+ghost use Rattle.std.specs.Prelude.{true, is_err, ◌≡◌, ◌+◌, ◌≤◌, ◌++◌, [], OnOk, length};
 ghost use Rattle.host_ports.specs.Counting.{SinkCounts};
 ghost use Rattle.question_shell.specs.Items.{line_of};
 ghost use Rattle.question_shell.specs.Says.{Puts, voice};
 
 use crate::item::Item;
-use crate::reply::{LONGEST_REPLY, ReplyLine};
-use arrayvec::ArrayString;
+use crate::reply_line::{LONGEST_REPLY, ReplyLine};
+use crate::room::Room;
 use host_ports::{Cut, Sink};
 use std::marker::Model;
-
-/// How many bytes of replies are held back at most.
-const ROOM: usize = 4096;
-
-/// Room for text of replies, to which lines are written at once.
-pub(crate) type Room = ArrayString<ROOM>;
 
 /// Text of replies that is held back until there is more of it, so that one `say` takes many lines.
 #[derive(Drop)]
 pub(crate) struct HeldText {
-    bytes: Room,
+    room: Room,
+    // Each item's line is put together here, since a new place would first be filled.
+    line: ReplyLine,
 }
 
 impl Model for HeldText {
@@ -26,7 +22,7 @@ impl Model for HeldText {
 
     ghost Value = { List ℕ };
 
-    ghost view = { λ text. text.bytes.bytes };
+    ghost view = { λ text. text.room };
 }
 
 impl HeldText {
@@ -34,34 +30,37 @@ impl HeldText {
         ensures { result ≡ [] }
     {
         HeldText {
-            bytes: ArrayString::new(),
+            room: Room::new(),
+            line: ReplyLine::new(),
         }
     }
 
     // Holds a line back; what was held before is said first where there is no room.
     pub(crate) fn put<K: Sink>(&mut self, line: &ReplyLine, sink: &mut K) -> Result<(), Cut>
         ensures told { Puts (voice (K.said sink.old) self.old)
-            (voice (K.said sink.new) self.new) line.now.bytes result }
+            (voice (K.said sink.new) self.new) line.now result }
         ensures faults { SinkCounts K.Sink sink.old sink.new (is_err result ≡ true) }
     {
-        if self.bytes.remaining_capacity() < line.len() {
+        let line = line.as_bytes();
+        if self.room.left() < line.len() {
             self.say(sink)?;
         }
-        self.bytes.push_str(line.as_str());
+        self.room.push(line);
         Ok(())
     }
 
-    // The same for the line of an item, which is written where it is held.
+    // The same for the line of an item.
     #[inline(always)]
     pub(crate) fn put_item<K: Sink>(&mut self, item: &Item, sink: &mut K) -> Result<(), Cut>
         ensures told { Puts (voice (K.said sink.old) self.old)
             (voice (K.said sink.new) self.new) (line_of item.now) result }
         ensures faults { SinkCounts K.Sink sink.old sink.new (is_err result ≡ true) }
     {
-        if self.bytes.remaining_capacity() < LONGEST_REPLY {
+        if self.room.left() < LONGEST_REPLY {
             self.say(sink)?;
         }
-        item.write(&mut self.bytes);
+        item.write(&mut self.line);
+        self.room.push(self.line.as_bytes());
         Ok(())
     }
 
@@ -72,21 +71,11 @@ impl HeldText {
             (voice (K.said sink.new) []) [] result }
         ensures faults { SinkCounts K.Sink sink.old sink.new (is_err result ≡ true) }
     {
-        if self.bytes.is_empty() {
+        if self.room.is_empty() {
             return Ok(());
         }
-        sink.say(self.bytes.as_str().as_bytes())?;
-        self.bytes.clear();
+        sink.say(self.room.as_bytes())?;
+        self.room.clear();
         Ok(())
     }
-}
-
-// Goes on with a word, and a space after it.
-#[inline(always)]
-pub(crate) fn push_word(text: &mut Room, word: &str)
-    requires { length text.old.bytes + length word.now < 4096 }
-    ensures { text.new.bytes ≡ text.old.bytes ++ word.now ++ codes " " }
-{
-    text.push_str(word);
-    text.push_str(" ");
 }

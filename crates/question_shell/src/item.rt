@@ -1,9 +1,9 @@
-ghost use Rattle.std.specs.Prelude.{◌≡◌, ◌≤◌, ◌++◌, length};
-ghost use Rattle.question_shell.specs.Items.{cell_line, line_of, stop_line};
+ghost use Rattle.std.specs.Prelude.{◌≡◌};
+ghost use Rattle.question_shell.specs.Items.{line_of};
 ghost use Rattle.question_shell.specs.declared.item.Item.TheVariants as item;
 
-use crate::held_text::{Room, push_word};
 use crate::named_fact::NamedFact;
+use crate::reply_line::ReplyLine;
 use itoa::Buffer;
 use track_types::{Cell, Hit, Meeting, Near, Sighting, Stop};
 
@@ -20,87 +20,74 @@ pub enum Item {
 }
 
 impl Item {
-    // Writes its line of the reply to the end of a text with room for one.
+    // Puts its line of the reply together, in the place of a line.
     #[inline(always)]
-    pub(crate) fn write(&self, text: &mut Room)
-        requires { length text.old.bytes ≤ 3984 }
-        ensures { text.new.bytes ≡ text.old.bytes ++ line_of self.now }
+    pub(crate) fn write(&self, line: &mut ReplyLine)
+        ensures { line.new ≡ line_of self.now }
     {
         match self {
-            Item::Cell(cell) => push_cell(text, *cell),
-            Item::Stop(stop) => write_stop(text, *stop),
-            Item::Sighting(sighting) => write_sighting(text, *sighting),
-            Item::Hit(hit) => write_hit(text, *hit),
-            Item::Near(near) => write_near(text, *near),
-            Item::Meeting(meeting) => write_meeting(text, *meeting),
-            Item::Fact(fact) => fact.write(text),
+            Item::Cell(cell) => line.begin_cell(*cell),
+            Item::Stop(stop) => write_stop(line, *stop),
+            Item::Sighting(sighting) => write_sighting(line, *sighting),
+            Item::Hit(hit) => write_hit(line, *hit),
+            Item::Near(near) => write_near(line, *near),
+            Item::Meeting(meeting) => write_meeting(line, *meeting),
+            Item::Fact(fact) => fact.write(line),
         }
     }
 }
 
-// Ends a line with X Y.
-#[inline(always)]
-fn push_cell(text: &mut Room, cell: Cell)
-    requires { length text.old.bytes ≤ 4054 }
-    ensures { text.new.bytes ≡ text.old.bytes ++ cell_line cell }
-{
-    let mut digits = Buffer::new();
-    push_word(text, digits.format(cell.x));
-    text.push_str(digits.format(cell.y));
-    text.push_str("\n");
-}
-
 // T X Y
 #[inline(always)]
-fn write_stop(text: &mut Room, stop: Stop)
-    requires { length text.old.bytes ≤ 3984 }
-    ensures { text.new.bytes ≡ text.old.bytes ++ stop_line stop }
+fn write_stop(line: &mut ReplyLine, stop: Stop)
+    ensures { line.new ≡ line_of (item.Stop stop) }
 {
-    push_word(text, Buffer::new().format(stop.instant));
-    push_cell(text, stop.cell);
+    line.begin_cell(stop.cell);
+    line.put_space();
+    line.put_number(stop.instant);
 }
 
 // O X Y
-fn write_sighting(text: &mut Room, sighting: Sighting)
-    requires { length text.old.bytes ≤ 3984 }
-    ensures { text.new.bytes ≡ text.old.bytes ++ line_of (item.Sighting sighting) }
+fn write_sighting(line: &mut ReplyLine, sighting: Sighting)
+    ensures { line.new ≡ line_of (item.Sighting sighting) }
 {
-    push_word(text, Buffer::new().format(sighting.object));
-    push_cell(text, sighting.cell);
+    line.begin_cell(sighting.cell);
+    line.put_space();
+    line.put_count(sighting.object as u64);
 }
 
 // O T X Y
-fn write_hit(text: &mut Room, hit: Hit)
-    requires { length text.old.bytes ≤ 3984 }
-    ensures { text.new.bytes ≡ text.old.bytes ++ line_of (item.Hit hit) }
+fn write_hit(line: &mut ReplyLine, hit: Hit)
+    ensures { line.new ≡ line_of (item.Hit hit) }
 {
-    let mut digits = Buffer::new();
-    push_word(text, digits.format(hit.object));
-    push_word(text, digits.format(hit.instant));
-    push_cell(text, hit.cell);
+    line.begin_cell(hit.cell);
+    line.put_space();
+    line.put_number(hit.instant);
+    line.put_space();
+    line.put_count(hit.object as u64);
 }
 
 // O X Y D2
-fn write_near(text: &mut Room, near: Near)
-    requires { length text.old.bytes ≤ 3984 }
-    ensures { text.new.bytes ≡ text.old.bytes ++ line_of (item.Near near) }
+fn write_near(line: &mut ReplyLine, near: Near)
+    ensures { line.new ≡ line_of (item.Near near) }
 {
-    let mut digits = Buffer::new();
-    push_word(text, digits.format(near.object));
-    push_word(text, digits.format(near.cell.x));
-    push_word(text, digits.format(near.cell.y));
-    text.push_str(digits.format(near.dist2));
-    text.push_str("\n");
+    line.begin();
+    line.put_text(Buffer::new().format(near.dist2));
+    line.put_space();
+    line.put_number(near.cell.y);
+    line.put_space();
+    line.put_number(near.cell.x);
+    line.put_space();
+    line.put_count(near.object as u64);
 }
 
 // T XA YA XB YB
-fn write_meeting(text: &mut Room, meeting: Meeting)
-    requires { length text.old.bytes ≤ 3984 }
-    ensures { text.new.bytes ≡ text.old.bytes ++ line_of (item.Meeting meeting) }
+fn write_meeting(line: &mut ReplyLine, meeting: Meeting)
+    ensures { line.new ≡ line_of (item.Meeting meeting) }
 {
-    let mut digits = Buffer::new();
-    push_word(text, digits.format(meeting.instant));
-    push_word(text, digits.format(meeting.left.x));
-    push_word(text, digits.format(meeting.left.y));
-    push_cell(text, meeting.right);
+    line.begin_cell(meeting.right);
+    line.put_space();
+    line.put_cell(meeting.left);
+    line.put_space();
+    line.put_number(meeting.instant);
 }

@@ -24,6 +24,8 @@ mod named_fact;
 mod number_word;
 mod region_reading;
 mod reply;
+mod reply_line;
+mod room;
 mod saying;
 mod shape_reading;
 mod shape_words;

@@ -1,7 +1,7 @@
 ghost use Rattle.std.specs.Prelude.{◌≡◌, ◌≤◌, ◌+◌, ◌++◌, ◌∷◌, [], IfNone, IfSome, drop, option_to_list, length};
 ghost use Rattle.question_shell.specs.Items.{fact_line, named_facts};
 
-use crate::held_text::{Room, push_word};
+use crate::reply_line::ReplyLine;
 use itoa::Buffer;
 use std::marker::Model;
 use track_types::Facts;
@@ -26,13 +26,17 @@ impl Model for NamedFact {
 impl NamedFact {
     // NAME N
     #[inline(always)]
-    pub(crate) fn write(&self, text: &mut Room)
-        requires { length text.old.bytes ≤ 3984 }
-        ensures { text.new.bytes ≡ text.old.bytes ++ fact_line self.now }
+    pub(crate) fn write(&self, line: &mut ReplyLine)
+        ensures { line.new ≡ fact_line self.now }
     {
-        push_word(text, self.name);
-        text.push_str(Buffer::new().format(self.number));
-        text.push_str("\n");
+        line.begin();
+        // Nearly every number fits 64 bits, and is then written in its place at once.
+        match i64::try_from(self.number) {
+            Ok(number) => line.put_number(number),
+            Err(_) => line.put_text(Buffer::new().format(self.number)),
+        }
+        line.put_space();
+        line.put_text(self.name);
     }
 }
 

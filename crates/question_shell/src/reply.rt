@@ -4,34 +4,26 @@ ghost use Rattle.question_shell.specs.Items.{said_line};
 ghost use Rattle.question_shell.specs.Reply.{bad_line, free_line, held_line, ok_line};
 
 use crate::bad::Bad;
-use arrayvec::ArrayString;
-use itoa::Buffer;
-
-/// No line of a reply is longer; that of `meet` has up to 105 bytes.
-pub(crate) const LONGEST_REPLY: usize = 112;
-
-/// A line of a reply, with its line feed.
-pub(crate) type ReplyLine = ArrayString<LONGEST_REPLY>;
+use crate::reply_line::ReplyLine;
 
 // ok N
 pub(crate) fn ok_line(count: u64) -> ReplyLine
-    ensures { result.bytes ≡ ok_line count }
+    ensures { result ≡ ok_line count }
 {
-    let mut line = ArrayString::new();
-    line.push_str("ok ");
-    line.push_str(Buffer::new().format(count));
-    line.push_str("\n");
+    let mut line = ReplyLine::new();
+    line.put_count(count);
+    line.put_text("ok ");
     line
 }
 
 // bad CAUSE
 pub(crate) fn bad_line(bad: Bad) -> ReplyLine
-    ensures { result.bytes ≡ bad_line bad }
+    ensures { result ≡ bad_line bad }
 {
     match bad {
-        Bad::Long => plain_line("bad long\n"),
-        Bad::Word => plain_line("bad word\n"),
-        Bad::Count => plain_line("bad count\n"),
+        Bad::Long => plain_line("bad long"),
+        Bad::Word => plain_line("bad word"),
+        Bad::Count => plain_line("bad count"),
         Bad::Number(place) => placed_line("bad number ", place),
         Bad::Range(place) => placed_line("bad range ", place),
     }
@@ -39,34 +31,33 @@ pub(crate) fn bad_line(bad: Bad) -> ReplyLine
 
 // bad held
 pub(crate) fn held_line() -> ReplyLine
-    ensures { result.bytes ≡ held_line }
+    ensures { result ≡ held_line }
 {
-    plain_line("bad held\n")
+    plain_line("bad held")
 }
 
 // bad free
 pub(crate) fn free_line() -> ReplyLine
-    ensures { result.bytes ≡ free_line }
+    ensures { result ≡ free_line }
 {
-    plain_line("bad free\n")
+    plain_line("bad free")
 }
 
 fn plain_line(text: &str) -> ReplyLine
     requires { length text.now ≤ 20 }
-    ensures { result.bytes ≡ text.now }
+    ensures { result ≡ said_line text.now }
 {
-    let mut line = ArrayString::new();
-    line.push_str(text);
+    let mut line = ReplyLine::new();
+    line.put_text(text);
     line
 }
 
 fn placed_line(text: &str, place: u32) -> ReplyLine
     requires { length text.now ≤ 20 }
-    ensures { result.bytes ≡ said_line (text.now ++ decimal place) }
+    ensures { result ≡ said_line (text.now ++ decimal place) }
 {
-    let mut line = ArrayString::new();
-    line.push_str(text);
-    line.push_str(Buffer::new().format(place));
-    line.push_str("\n");
+    let mut line = ReplyLine::new();
+    line.put_count(place as u64);
+    line.put_text(text);
     line
 }

@@ -1,16 +1,19 @@
-ghost use Rattle.std.specs.Prelude.{true, is_err, ◌≡◌, ◌+◌, ◌<◌, ◌^◌, ◌≤◌, Err, OnOk, length};
+ghost use Rattle.std.specs.Prelude.{true, is_err, ◌≡◌, ◌+◌, ◌<◌, ◌^◌, ◌≤◌, Err, None, OnOk, length, map};
 ghost use Rattle.host_ports.specs.Counting.{SinkCounts};
 ghost use Rattle.question_shell.specs.Desk.{budget_of, held_of};
 ghost use Rattle.question_shell.specs.Drawing.{IsOfDesk, desk_left, items_left, reads_left, refusal_left};
 ghost use Rattle.question_shell.specs.Reply.{listed};
 ghost use Rattle.question_shell.specs.Says.{Puts, voice};
 ghost use Rattle.question_shell.specs.Turns.{LineTold};
+ghost use Rattle.question_shell.specs.declared.item.Item.TheVariants as item;
 ghost use Rattle.question_shell.specs.declared.turn_fault.TurnFault.TheVariants as fault;
 
 use crate::answer::Answer;
 use crate::desk::Desk;
 use crate::held_text::HeldText;
-use crate::reply::ReplyLine;
+use crate::item::Item;
+use crate::reply::ok_line;
+use crate::reply_line::ReplyLine;
 use crate::turn_fault::TurnFault;
 use host_ports::{Cut, Sink};
 use std::sync::ledger::Ledger;
@@ -24,7 +27,7 @@ pub(crate) fn answer_line<K: Sink>(
     sink: &mut K,
 ) -> Result<(), TurnFault>
     ensures told { LineTold (voice (K.said sink.old) text.old)
-        (voice (K.said sink.new) text.new) line.now.bytes result }
+        (voice (K.said sink.new) text.new) line.now result }
     ensures faults { SinkCounts K.Sink sink.old sink.new (result ≡ Err fault.Say) }
 {
     let Ok(()) = text.put(line, sink) else {
@@ -35,6 +38,51 @@ pub(crate) fn answer_line<K: Sink>(
 
 // Says an answer: a line for each item, as it is drawn, and then the last line.
 pub(crate) fn say_answer<W: Lazy<Item = Stop> + Drop, K: Sink, L: Ledger>(
+    answer: &mut Answer<W>,
+    desk: &mut Desk<W>,
+    text: &mut HeldText,
+    sink: &mut K,
+    steps: &mut Steps<L>,
+) -> Result<(), Cut>
+    requires slot { IsOfDesk answer.old }
+    requires few { length (items_left W.left W.budget answer.old desk.old) < 2 ^ 64 }
+    ensures told { Puts (voice (K.said sink.old) text.old) (voice (K.said sink.new) text.new)
+        (listed (items_left W.left W.budget answer.old desk.old) (refusal_left answer.old)) result }
+    ensures desk { OnOk result (
+        held_of desk.new ≡ desk_left W.left W.budget answer.old desk.old) }
+    ensures reads { steps.new + budget_of desk.new
+        ≤ steps.old + reads_left W.left W.budget answer.old desk.old }
+    ensures faults { SinkCounts K.Sink sink.old sink.new (is_err result ≡ true) }
+{
+    match answer {
+        Answer::Walk(walk) => say_stops(walk, text, sink, steps),
+        _ => say_items(answer, desk, text, sink, steps),
+    }
+}
+
+// Says the stops of a walk. A path can have many, so its loop tells no kinds of items apart.
+fn say_stops<W: Lazy<Item = Stop> + Drop, K: Sink, L: Ledger>(
+    walk: &mut W,
+    text: &mut HeldText,
+    sink: &mut K,
+    steps: &mut Steps<L>,
+) -> Result<(), Cut>
+    requires few { length (W.left walk.old) < 2 ^ 64 }
+    ensures told { Puts (voice (K.said sink.old) text.old) (voice (K.said sink.new) text.new)
+        (listed (map item.Stop (W.left walk.old)) None) result }
+    ensures reads { steps.new + W.budget walk.new ≤ steps.old + W.budget walk.old }
+    ensures faults { SinkCounts K.Sink sink.old sink.new (is_err result ≡ true) }
+{
+    let mut count = 0u64;
+    while let Some(stop) = walk.draw(steps) {
+        text.put_item(&Item::Stop(stop), sink)?;
+        count += 1;
+    }
+    text.put(&ok_line(count), sink)
+}
+
+// Says the items of any answer.
+fn say_items<W: Lazy<Item = Stop> + Drop, K: Sink, L: Ledger>(
     answer: &mut Answer<W>,
     desk: &mut Desk<W>,
     text: &mut HeldText,

@@ -9,4 +9,4 @@ returns-in_err-say-clause-told g c =
     let exit = err_from_is_err_and c.from_residual.result c.from_residual.ensures.1 in
     rw exit.1
     (cuts-more (voice (g.K.Sink.said c.args.sink.now) c.args.self.now) (g.K.Sink.said c.say.new.sink) []
-    c.args.line.now.bytes c.in_err-say.ensures.told)
+    c.args.line.now c.in_err-say.ensures.told)

@@ -4,7 +4,7 @@ use Rattle.question_shell.specs.Drawing.{GivesItems, items_left}
 use Rattle.question_shell.specs.Items.{line_of}
 use Rattle.question_shell.specs.Says.{Says, voice}
 use Rattle.question_shell.specs.declared.item.Item.{Item}
-use Rattle.question_shell.proofs.saying.say_answer.Given as goal
+use Rattle.question_shell.proofs.saying.say_items.Given as goal
 
 abbrev pub invariant-loop-item : goal.invariant-loop-item
 invariant-loop-item g l = record {

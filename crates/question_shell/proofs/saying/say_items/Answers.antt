@@ -6,7 +6,7 @@ use Rattle.question_shell.specs.Reply.{last_line}
 use Rattle.question_shell.specs.Says.{voice}
 use Rattle.question_shell.proofs.DrawingLemmas.{cuts-next, gives-more, gives-nothing, says-next, told-last}
 use Rattle.question_shell.proofs.SaysLemmas.{says-nothing}
-use Rattle.question_shell.proofs.saying.say_answer.Goals as goal
+use Rattle.question_shell.proofs.saying.say_items.Goals as goal
 
 pub loop-item-init : goal.loop-item-init
 loop-item-init g c = record {
@@ -52,7 +52,7 @@ returns-clause-told g c =
     (voice (g.K.Sink.said c.loop-item.sink) c.loop-item.text) (voice (g.K.Sink.said c.put.new.sink) c.put.new.self)
     read.done (items_left g.W.Lazy.left g.W.Lazy.budget c.args.answer.now c.args.desk.now)
     (items_left g.W.Lazy.left g.W.Lazy.budget c.loop-item.answer c.loop-item.desk)
-    (refusal_left c.args.answer.now) c.last_line.result.bytes c.put.result read.gives.items
+    (refusal_left c.args.answer.now) c.last_line.result c.put.result read.gives.items
     (last.gives.items ∙ last.none.items)
     (c.last_line.ensures ∙ (ap (λ refusal. last_line refusal c.loop-item.count) refusal
     ∙ ap (last_line (refusal_left c.args.answer.now)) read.count))
